@@ -9,15 +9,15 @@ use Rattle.model.specs.declared.types.image.Form.TheVariants.{One, Two}
 use Rattle.model.specs.Layout.{form_of}
 use Rattle.model.specs.Places.{address_in}
 use Rattle.wal.specs.Joint.{seen}
-use Rattle.wal.specs.Volume.{VolumeState}
+use Rattle.wal.specs.Volume.{VolumeState, GetsFor}
 use Rattle.blockmap.specs.Bmap.{EntryState, IsReady, LooksUp}
 use Rattle.blockmap.specs.Branch.{LiesOnWay, branch_of}
-use Rattle.blockmap.specs.Getting.{GetsFor, HoldsWhereGot}
+use Rattle.blockmap.specs.Getting.{HoldsWhereGot}
 use Rattle.blockmap.specs.Map.{mapped, address_or_zero}
 use Rattle.blockmap.specs.declared.mapping.Mapped.{Mapped}
 use Rattle.blockmap.specs.declared.mapping.Mapped.TheVariants as mapped_as
-use Rattle.blockmap.specs.declared.progress.Progress.{Progress}
-use Rattle.blockmap.specs.declared.progress.Progress.TheVariants as progress
+use Rattle.model.specs.declared.types.progress.Progress.{Progress}
+use Rattle.model.specs.declared.types.progress.Progress.TheVariants as progress
 use Rattle.blockmap.specs.declared.target.Target.{Target}
 use Rattle.blockmap.specs.declared.target.Target.TheVariants as target
 

@@ -4,9 +4,7 @@ ghost use Rattle.blockmap.specs.Branch.{block_limit};
 ghost use Rattle.blockmap.specs.Map.{address_or_zero};
 ghost use Rattle.blockmap.specs.Target.{is_entry, target_for, IsSought, Seeks};
 
-use crate::getting::get_block;
-use crate::progress::Progress;
-use crate::{Bmap, Mapped, map};
+use crate::{Bmap, Mapped, Progress, map};
 use blocks::Disk;
 use model::types::{Dinode, Form};
 use wal::Volume;
@@ -51,7 +49,7 @@ pub fn seek<D: Disk>(volume: &mut Volume<D>, pid: u32, target: &mut Target) -> P
         return look_up(volume, pid, target);
     };
     let mut slot = None;
-    let progress = get_block(volume, pid, block, &mut slot);
+    let progress = volume.get(pid, block, &mut slot);
     *target = Target::Block { block, slot };
     progress
 }

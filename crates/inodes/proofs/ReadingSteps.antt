@@ -18,22 +18,21 @@ use Rattle.model.specs.Layout.{form_of}
 use Rattle.model.specs.Operations.{part_of}
 use Rattle.model.specs.Tasks.{FilesThen, reply_at_turn}
 use Rattle.model.specs.Lemmas.Bytes.{part_in_two}
-use Rattle.wal.specs.Volume.{fault_of_task}
+use Rattle.wal.specs.Volume.{fault_of_task, VolumeState, GetsFor, progress_of}
 use Rattle.bcache.specs.Buffers.{Buffers}
 use Rattle.wal.specs.Held.{LocksAfter, WaitsFor}
 use Rattle.wal.specs.Joint.{Joint}
 use Rattle.wal.specs.Machine.{LogState}
-use Rattle.wal.specs.Volume.{VolumeState}
-use Rattle.wal.specs.declared.types.Get.{Get}
-use Rattle.wal.specs.declared.types.Get.TheVariants as get
+use Rattle.wal.specs.Get.{Get}
+use Rattle.wal.specs.Get as get
 use Rattle.blockmap.specs.Bmap.{EntryState, Ends, GoesBelow, LooksUp, with_slot}
 use Rattle.blockmap.specs.Branch.{named_by}
 use Rattle.blockmap.specs.Lemmas.Targets.{first_slot}
-use Rattle.blockmap.specs.Getting.{GetsFor, Releases, progress_of}
+use Rattle.blockmap.specs.Getting.{Releases}
 use Rattle.blockmap.specs.Lemmas.Reading.{length-bytes, part_cut}
 use Rattle.blockmap.specs.Target.{LeadsToBlock, LooksUpFor, block_of, progress_behind, slot_in, steps_at, target_behind, target_for}
-use Rattle.blockmap.specs.declared.progress.Progress.{Progress}
-use Rattle.blockmap.specs.declared.progress.Progress.TheVariants as machine
+use Rattle.model.specs.declared.types.progress.Progress.{Progress}
+use Rattle.model.specs.declared.types.progress.Progress.TheVariants as machine
 use Rattle.blockmap.specs.declared.target.Target.{Target}
 use Rattle.blockmap.specs.declared.target.Target.TheVariants as target
 use Rattle.blockmap.specs.Lemmas.Others.{StaysForOthers}
@@ -137,7 +136,7 @@ module _ (ts us vs : List TaskState) (p : ℕ) (a : Stage) (g : GatheredBytes) (
       ∙ ap (λ (t : TaskState). set (set ts p without) p (record t { gathered = Some g })) (get_or-set_same ts p without no_task inside)
       ∙ set-set ts p without with_others
 
-  -- it goes on to a place
+  -- it goes on to a stage
   pub goes_with : (now : List TaskState) → now ≡ set vs p (record (task vs p) { place = a }) → now ≡ set ts p (record (task ts p) { place = a; gathered = Some g })
   goes_with now go = go ∙ ap (λ (l : List TaskState). set l p (record (task l p) { place = a })) put_in
       ∙ ap (λ (t : TaskState). set (set ts p with_others) p (record t { place = a })) (get_or-set_same ts p with_others no_task inside)

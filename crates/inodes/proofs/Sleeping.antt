@@ -10,9 +10,9 @@ use Rattle.model.specs.declared.types.operations.TaskProgress.{TaskProgress}
 use Rattle.model.specs.declared.types.operations.TaskProgress.TheVariants as progress
 use Rattle.model.specs.declared.types.operations.Why.{Why}
 use Rattle.model.specs.Layout.{inode_block, inode_of}
-use Rattle.wal.specs.declared.types.Get.{Get}
-use Rattle.wal.specs.declared.types.Get.TheVariants as get
-use Rattle.wal.specs.Volume.{VolumeState, UnlessFault, OnFault, FailsToFill, get_answer, get_answer_by, cause_of_get, cause_to_get}
+use Rattle.wal.specs.Get.{Get}
+use Rattle.wal.specs.Get as get
+use Rattle.wal.specs.Volume.{VolumeState, UnlessFault, OnFault, FailsToFill, get_answer, get_answer_by, cause_of_get, cause_to_get, GetsFor, progress_of}
 use Rattle.blockmap.specs.Balloc.{AllocState, Allocs}
 use Rattle.blockmap.specs.Bmap.{EntryState, LooksUp}
 use Rattle.blockmap.specs.BmapAlloc.{MapState, MapSteps, TakesOne}
@@ -20,11 +20,10 @@ use Rattle.blockmap.specs.declared.balloc.AllocAt.{AllocAt}
 use Rattle.blockmap.specs.declared.balloc.AllocAt.TheVariants as alloc_at
 use Rattle.blockmap.specs.declared.bmap_alloc.MapAt.{MapAt}
 use Rattle.blockmap.specs.declared.bmap_alloc.MapAt.TheVariants as map_at
-use Rattle.blockmap.specs.declared.progress.Progress.{Progress}
-use Rattle.blockmap.specs.declared.progress.Progress.TheVariants as machine
+use Rattle.model.specs.declared.types.progress.Progress.{Progress}
+use Rattle.model.specs.declared.types.progress.Progress.TheVariants as machine
 use Rattle.blockmap.specs.declared.target.Target.{Target}
 use Rattle.blockmap.specs.declared.target.Target.TheVariants as target
-use Rattle.blockmap.specs.Getting.{GetsFor, progress_of}
 use Rattle.blockmap.specs.Target.{block_of, slot_in, progress_behind}
 use Rattle.blockmap.specs.Driver.{Drives}
 use Rattle.blockmap.specs.Lemmas.Others.{never_sleeps}

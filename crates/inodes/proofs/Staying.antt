@@ -8,14 +8,13 @@ use Rattle.model.specs.Gathered.{GatheredBytes}
 use Rattle.model.specs.declared.types.image.Dinode.{Dinode}
 use Rattle.bcache.specs.Buffers.{Buffers}
 use Rattle.wal.specs.Joint.{seen}
-use Rattle.wal.specs.Volume.{VolumeState}
-use Rattle.wal.specs.declared.types.Get.TheVariants as get
-use Rattle.wal.specs.declared.types.Get.{Get}
+use Rattle.wal.specs.Volume.{VolumeState, GetsFor, progress_of, slot_of}
+use Rattle.wal.specs.Get as get
+use Rattle.wal.specs.Get.{Get}
 use Rattle.blockmap.specs.Driver.{Drives, over_with, progress_of_over, when_got}
-use Rattle.blockmap.specs.Getting.{GetsFor, progress_of, slot_of}
 use Rattle.blockmap.specs.declared.driving.Got.{Got}
-use Rattle.blockmap.specs.declared.progress.Progress.TheVariants as machine
-use Rattle.blockmap.specs.declared.progress.Progress.{Progress}
+use Rattle.model.specs.declared.types.progress.Progress.TheVariants as machine
+use Rattle.model.specs.declared.types.progress.Progress.{Progress}
 use Rattle.blockmap.specs.Balloc.{AllocState, Allocs, TakesLowest, lowest_in}
 use Rattle.blockmap.specs.Bmap.{Ends, EntryState, GoesBelow, LooksUp, some_address, with_slot}
 use Rattle.blockmap.specs.BmapAlloc.{FindsEntry, MapState, MapSteps, SetsEntry, after_address, address_at, after_behind, behind_at, naming}

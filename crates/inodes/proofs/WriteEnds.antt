@@ -25,15 +25,15 @@ use Rattle.in_flight.specs.Lemmas.HeldFrames.{growing_of}
 use Rattle.in_flight.specs.Lemmas.HeldMarks.{growth_keeps}
 use Rattle.wal.specs.Joint.{Joint}
 use Rattle.wal.specs.Machine.{LogState, SameGroups}
-use Rattle.wal.specs.Volume.{VolumeState}
+use Rattle.wal.specs.Volume.{VolumeState, progress_of}
 use Rattle.blockmap.specs.BmapAlloc.{MapState, MapSteps}
 use Rattle.blockmap.specs.Branch.{named_by}
 use Rattle.blockmap.specs.Bmap.{some_address}
-use Rattle.blockmap.specs.Getting.{WritesBlock, progress_of}
+use Rattle.blockmap.specs.Getting.{WritesBlock}
 use Rattle.blockmap.specs.declared.bmap_alloc.MapAt.{MapAt}
 use Rattle.blockmap.specs.declared.bmap_alloc.MapAt.TheVariants as map_at
-use Rattle.blockmap.specs.declared.progress.Progress.{Progress}
-use Rattle.blockmap.specs.declared.progress.Progress.TheVariants as machine
+use Rattle.model.specs.declared.types.progress.Progress.{Progress}
+use Rattle.model.specs.declared.types.progress.Progress.TheVariants as machine
 use Rattle.blockmap.specs.Lemmas.Others.{StaysForOthers, groups_noted, stays_noted}
 use Rattle.inodes.specs.declared.tasks.Stage.TheVariants as stage
 use Rattle.inodes.specs.declared.writei.WriteAt.{WriteAt}
@@ -63,8 +63,8 @@ use Rattle.inodes.proofs.WriteFiles.{answers_written}
 use Rattle.inodes.proofs.WriteMoves.{DoesSo, bytes, grown, here, its, logs, works}
 use Rattle.inodes.proofs.Writing as of
 use Rattle.model.specs.Places.{address_in}
-use Rattle.wal.specs.declared.types.Get.{Get}
-use Rattle.wal.specs.declared.types.Get.TheVariants as get
+use Rattle.wal.specs.Get.{Get}
+use Rattle.wal.specs.Get as get
 
 -- with the last step inode and count stay
 never_mapped : (q : Progress (Option ℕ)) → progress_mapped q ≡ machine.Over tt → ⊥

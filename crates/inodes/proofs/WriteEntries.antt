@@ -25,9 +25,9 @@ use Rattle.in_flight.specs.Lemmas.Ways.{entries_way_to, led_further}
 use Rattle.wal.specs.Joint.{Joint}
 use Rattle.wal.specs.Held.{GetsLock}
 use Rattle.wal.specs.Machine.{LogState, noted}
-use Rattle.wal.specs.Volume.{VolumeState}
-use Rattle.wal.specs.declared.types.Get.{Get}
-use Rattle.wal.specs.declared.types.Get.TheVariants as get
+use Rattle.wal.specs.Volume.{VolumeState, GetsFor, progress_of, slot_of}
+use Rattle.wal.specs.Get.{Get}
+use Rattle.wal.specs.Get as get
 use Rattle.blockmap.specs.Balloc.{first_alloc}
 use Rattle.blockmap.specs.Bmap.{some_address}
 use Rattle.blockmap.specs.BmapAlloc.{FindsEntry, MapState, SetsEntry, with_entry_under}
@@ -38,9 +38,8 @@ use Rattle.blockmap.specs.declared.bmap_alloc.MapAt.{MapAt}
 use Rattle.blockmap.specs.declared.bmap_alloc.MapAt.TheVariants as map_at
 use Rattle.blockmap.specs.declared.branch.Branch.{Branch}
 use Rattle.blockmap.specs.declared.branch.Node.{Node}
-use Rattle.blockmap.specs.Getting.{GetsFor, progress_of, slot_of}
-use Rattle.blockmap.specs.declared.progress.Progress.{Progress}
-use Rattle.blockmap.specs.declared.progress.Progress.TheVariants as machine
+use Rattle.model.specs.declared.types.progress.Progress.{Progress}
+use Rattle.model.specs.declared.types.progress.Progress.TheVariants as machine
 use Rattle.inodes.specs.declared.tasks.Stage.TheVariants as stage
 use Rattle.inodes.specs.declared.writei.WriteAt.{WriteAt}
 use Rattle.inodes.specs.declared.writei.WriteAt.TheVariants as write_at

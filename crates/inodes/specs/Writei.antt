@@ -8,14 +8,14 @@ use Rattle.model.specs.Format.{inode_start}
 use Rattle.model.specs.declared.types.image.Dinode.{Dinode}
 use Rattle.model.specs.Operations.{part_of}
 use Rattle.wal.specs.Joint.{seen}
-use Rattle.wal.specs.Volume.{VolumeState}
+use Rattle.wal.specs.Volume.{VolumeState, GetsFor}
 use Rattle.blockmap.specs.BmapAlloc.{MapState, MayMap, MapSteps, LeadsThere}
-use Rattle.blockmap.specs.Getting.{GetsFor, HoldsWhereGot, WritesBlock}
+use Rattle.blockmap.specs.Getting.{HoldsWhereGot, WritesBlock}
 use Rattle.blockmap.specs.Map.{mapped_for_writing}
 use Rattle.blockmap.specs.declared.mapping.MappedForWriting.{MappedForWriting}
 use Rattle.blockmap.specs.declared.mapping.MappedForWriting.TheVariants as for_writing
-use Rattle.blockmap.specs.declared.progress.Progress.{Progress}
-use Rattle.blockmap.specs.declared.progress.Progress.TheVariants as progress
+use Rattle.model.specs.declared.types.progress.Progress.{Progress}
+use Rattle.model.specs.declared.types.progress.Progress.TheVariants as progress
 use Rattle.inodes.specs.Iupdate.{UpdateState, MayUpdate, Updates, first_update}
 use Rattle.inodes.specs.declared.writei.Extent.{Extent}
 use Rattle.inodes.specs.declared.writei.WriteAt.{WriteAt}

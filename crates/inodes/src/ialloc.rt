@@ -11,7 +11,6 @@ ghost use Rattle.inodes.specs.Creation.{AreUsed, is_free_in, lowest_free};
 ghost use Rattle.inodes.specs.Ialloc.{MayStep, SearchSteps, is_last_block, at_next_block, with_new_inode};
 
 use crate::Progress;
-use blockmap::get_block;
 use blocks::{Block, Disk};
 use layout::{INODE_START, INODES_PER_BLOCK, inode, inode_block, inode_offset};
 use model::types::Dinode;
@@ -97,7 +96,7 @@ impl Ialloc {
         ensures { SearchSteps D.Disk None volume.old volume.new pid
             self.old self.new result }
     {
-        get_block(volume, pid, self.block, &mut self.slot)
+        volume.get(pid, self.block, &mut self.slot)
     }
 
     // Claims the lowest free number of the block, if there is one, and releases the block.

@@ -6,7 +6,7 @@ ghost use Rattle.inodes.specs.Writei.{MayWrite, WriteSteps, MapsOn, GetsNext, Wr
 ghost use Rattle.inodes.specs.declared.writei.WriteAt.TheVariants as write_at;
 
 use crate::Iupdate;
-use blockmap::{BmapAlloc, MappedForWriting, Progress, get_block, map_for_writing, put_block};
+use blockmap::{BmapAlloc, MappedForWriting, Progress, map_for_writing, put_block};
 use blocks::{BLOCK_SIZE, Disk};
 use model::types::{Dinode, Form};
 use std::marker::Model;
@@ -185,7 +185,7 @@ impl Writei {
         ensures { GetsNext D.Disk volume.old pid self.old block result self.new volume.new }
     {
         let mut slot = None;
-        let progress = get_block(volume, pid, block, &mut slot);
+        let progress = volume.get(pid, block, &mut slot);
         self.at = WriteAt::Block { block, slot };
         progress
     }

@@ -16,7 +16,7 @@ mod printed;
 mod refusal;
 mod told;
 
-pub use events::{Event, Progress};
+pub use events::Event;
 pub use faults::{CopyFault, KernelFault, PutFault, RunFault, StopsFault};
 pub use lines::{AccountLine, AnswerLine};
 pub use output::{

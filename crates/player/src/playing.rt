@@ -11,9 +11,10 @@ ghost use Rattle.player.specs.Refusal.{OnRefusal};
 
 use crate::player::Player;
 use blocks::{Disk, FaultyDisk, NoMemory};
+use kernel::Step;
 use scripts::Word;
 use std::io::Write;
-use messages::{Event, Progress, Refusal, print_counts, print_event};
+use messages::{Event, Refusal, print_counts, print_event};
 
 /// Makes the turns of the words over a disk that had counted `base` writes before them, and prints
 /// what they came to. The write of number `stop` isn't made. The processes that the words name are
@@ -67,7 +68,7 @@ pub fn make_turns<D: Disk + Drop>(
 {
     for word in words {
         let event = player.turn(*word, stop);
-        if matches!(event, Event::Stepped(_, Progress::NoMemory)) {
+        if matches!(event, Event::Stepped(_, Step::NoMemory)) {
             return Err(NoMemory);
         }
         if event.is_last() {

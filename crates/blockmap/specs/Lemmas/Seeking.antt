@@ -8,12 +8,12 @@ use Rattle.model.specs.declared.types.image.Dinode.{Dinode}
 use Rattle.model.specs.declared.types.operations.Why.{Why}
 use Rattle.model.specs.Layout.{form_of}
 use Rattle.wal.specs.Joint.{seen}
-use Rattle.wal.specs.Volume.{VolumeState, Gets, ReadsFor}
-use Rattle.wal.specs.declared.types.Get.{Get}
-use Rattle.wal.specs.declared.types.Get.TheVariants as get
-use Rattle.blockmap.specs.Getting.{GetsFor, Releases, progress_of, slot_of}
-use Rattle.blockmap.specs.declared.progress.Progress.{Progress}
-use Rattle.blockmap.specs.declared.progress.Progress.TheVariants as progress
+use Rattle.wal.specs.Volume.{VolumeState, Gets, ReadsFor, GetsFor, progress_of, slot_of}
+use Rattle.wal.specs.Get.{Get}
+use Rattle.wal.specs.Get as get
+use Rattle.blockmap.specs.Getting.{Releases}
+use Rattle.model.specs.declared.types.progress.Progress.{Progress}
+use Rattle.model.specs.declared.types.progress.Progress.TheVariants as progress
 use Rattle.blockmap.specs.Bmap.{EntryState, Ends, GoesBelow, IsNode, LooksUp, below, some_address, with_slot}
 use Rattle.blockmap.specs.Branch.{LiesOnWay, branch_of, named_by, node_at, rest_under}
 use Rattle.blockmap.specs.Map.{address_or_zero}

@@ -19,8 +19,8 @@ use Rattle.blockmap.specs.Driver.{Drives}
 use Rattle.blockmap.specs.Lemmas.Others.{drives_fails, gets_fails}
 use Rattle.blockmap.specs.Next.{block_of_next, used_now}
 use Rattle.blockmap.specs.Target.{block_of, progress_behind}
-use Rattle.blockmap.specs.declared.progress.Progress.{Progress}
-use Rattle.blockmap.specs.declared.progress.Progress.TheVariants as machine
+use Rattle.model.specs.declared.types.progress.Progress.{Progress}
+use Rattle.model.specs.declared.types.progress.Progress.TheVariants as machine
 use Rattle.blockmap.specs.declared.target.Target.{Target}
 use Rattle.blockmap.specs.declared.target.Target.TheVariants as target
 use Rattle.inodes.specs.declared.ilock.LockAt.{LockAt}
@@ -34,19 +34,17 @@ use Rattle.inodes.specs.Iupdate.{UpdateState, Updates}
 use Rattle.inodes.specs.LockState.{LockState, place_of}
 use Rattle.inodes.specs.Looks.{CanTake, LooksAt}
 use Rattle.inodes.specs.Places.{is_over, owes_reply, is_unturned, block_at_place}
-use Rattle.inodes.specs.Readi.{ReadState, Works}
+use Rattle.inodes.specs.Readi.{ReadState, Works, first_read}
 use Rattle.inodes.specs.Store.{StoreState, CanBegin, Stands, current_of}
 use Rattle.inodes.specs.Table.{TableState, holder_at, copy_at}
 use Rattle.inodes.specs.Tasks.{task}
 use Rattle.inodes.specs.Turning.{write_refusal, if_used, reply_when_taken, place_when_taken, place_of_read, place_by_refusal}
-use Rattle.inodes.specs.Readi.{first_read}
-use Rattle.blockmap.specs.BmapAlloc.{after_address, address_at, come_to, FindsEntry, behind_at}
+use Rattle.blockmap.specs.BmapAlloc.{after_address, address_at, come_to, FindsEntry, behind_at, MapState, after_behind, MapSteps, TakesOne, naming}
 use Rattle.blockmap.specs.Branch.{named_by}
 use Rattle.blockmap.specs.declared.branch.Branch.{Branch}
 use Rattle.inodes.specs.declared.writei.Extent.{Extent}
 use Rattle.inodes.specs.Writing.{extent_of, block_on_way, block_of_write, block_of_alloc}
 use Rattle.blockmap.specs.declared.balloc.AllocAt.{AllocAt}
-use Rattle.blockmap.specs.BmapAlloc.{MapState, after_behind, MapSteps, TakesOne, naming}
 use Rattle.blockmap.specs.declared.bmap_alloc.MapAt.{MapAt}
 use Rattle.inodes.specs.declared.writei.WriteAt.{WriteAt}
 use Rattle.blockmap.specs.Balloc.{AllocState, Allocs, TakesLowest, lowest_in}
@@ -348,7 +346,7 @@ module _ {D N : Type 0} (disk : Ghosts D N) (s : StoreState D) (p : ℕ) (op : O
   writing_fails (write_at.Block b (Some i)) m x bytes writes = let no = writes.0 in absurd (cc no)
   writing_fails (write_at.Updating u) m x bytes writes = updates_fails u.slot u writes.0 m.inode writes.1
 
-  -- the block at which a task's step fails is that which its place names
+  -- the block at which a task's step fails is that which its stage names
   pub fails_at : (a : Stage) → Goes disk a s p op (progress.Fault fault) t → fault.0 ≡ block_at_place a
   fails_at stage.Nowhere goes = let no = goes.0 in absurd (cc no)
   fails_at (stage.Creating m) goes = by_slot m.slot goes.0

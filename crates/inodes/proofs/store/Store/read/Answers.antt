@@ -1,8 +1,8 @@
 use Rattle.std.proofs.Common.{rules, ◌≡◌, ◌<◌, length, set, sym, ap, subst, Some, None}
 use Rattle.model.specs.declared.types.operations.TaskProgress.TheVariants as task_progress
 use Rattle.model.specs.declared.types.operations.TaskProgress.{TaskProgress}
-use Rattle.blockmap.specs.declared.progress.Progress.TheVariants as progress
-use Rattle.blockmap.specs.declared.progress.Progress.{Progress}
+use Rattle.model.specs.declared.types.progress.Progress.TheVariants as progress
+use Rattle.model.specs.declared.types.progress.Progress.{Progress}
 use Rattle.inodes.specs.declared.tasks.Stage.TheVariants as stage
 use Rattle.inodes.specs.declared.tasks.Stage.{Stage}
 use Rattle.inodes.specs.Goes.{place_of_reading, progress_of_read}

@@ -3,8 +3,8 @@ use Rattle.std.specs.Prelude.{Some}
 use Rattle.model.specs.declared.types.operations.Reply.{Reply}
 use Rattle.model.specs.declared.types.operations.TaskProgress.TheVariants as task_progress
 use Rattle.model.specs.declared.types.operations.TaskProgress.{TaskProgress}
-use Rattle.blockmap.specs.declared.progress.Progress.TheVariants as progress
-use Rattle.blockmap.specs.declared.progress.Progress.{Progress}
+use Rattle.model.specs.declared.types.progress.Progress.TheVariants as progress
+use Rattle.model.specs.declared.types.progress.Progress.{Progress}
 use Rattle.inodes.specs.Ialloc.{SearchSteps}
 use Rattle.inodes.specs.Steps.{Steps}
 use Rattle.inodes.specs.Store.{StoreState, IsStore, reply_of}

@@ -5,8 +5,8 @@ use Rattle.model.specs.declared.types.operations.TaskProgress.TheVariants as tas
 use Rattle.model.specs.declared.types.operations.TaskProgress.{TaskProgress}
 use Rattle.blockmap.specs.Driver.{Drives}
 use Rattle.blockmap.specs.Next.{used_now}
-use Rattle.blockmap.specs.declared.progress.Progress.TheVariants as progress
-use Rattle.blockmap.specs.declared.progress.Progress.{Progress}
+use Rattle.model.specs.declared.types.progress.Progress.TheVariants as progress
+use Rattle.model.specs.declared.types.progress.Progress.{Progress}
 use Rattle.inodes.specs.declared.tasks.Stage.{Stage}
 use Rattle.inodes.specs.declared.tasks.Stage.TheVariants as stage
 use Rattle.inodes.specs.InPlace.{freeing_at}

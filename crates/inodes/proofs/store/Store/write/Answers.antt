@@ -4,8 +4,8 @@ use Rattle.model.specs.declared.types.image.Dinode.{Dinode}
 use Rattle.model.specs.declared.types.operations.Reply.TheVariants.{Wrote}
 use Rattle.model.specs.declared.types.operations.TaskProgress.TheVariants as task_progress
 use Rattle.model.specs.declared.types.operations.TaskProgress.{TaskProgress}
-use Rattle.blockmap.specs.declared.progress.Progress.TheVariants as progress
-use Rattle.blockmap.specs.declared.progress.Progress.{Progress}
+use Rattle.model.specs.declared.types.progress.Progress.TheVariants as progress
+use Rattle.model.specs.declared.types.progress.Progress.{Progress}
 use Rattle.inodes.specs.declared.tasks.Stage.TheVariants as stage
 use Rattle.inodes.specs.Lemmas.Faults.{where_none}
 use Rattle.inodes.specs.Growing.{bytes_by, bytes_of}

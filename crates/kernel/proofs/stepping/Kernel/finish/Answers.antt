@@ -17,7 +17,7 @@ use Rattle.kernel.specs.Invariant.{Inv, IsRight, ArePorts, LeavesSince}
 use Rattle.kernel.specs.Next.{step_behind, step_of, step_of_last, step_of_told, world_behind, world_of_last, world_of_told}
 use Rattle.kernel.specs.Ports.{KeepsOthers}
 use Rattle.kernel.specs.State.{State}
-use Rattle.kernel.specs.declared.types.Step.{Step}
+use Rattle.model.specs.declared.types.operations.Step.{Step}
 use Rattle.kernel.specs.Acts.{Acts}
 use Rattle.kernel.proofs.Acting.{acts_finished, sides_same}
 use Rattle.kernel.proofs.Answering.{IsThere, is_there, op_is, mine_is, answer_over, answer_told, some_reply}

@@ -15,7 +15,7 @@ use Rattle.history.specs.Processes.{World, process, turned}
 use Rattle.kernel.specs.Invariant.{Inv, IsRight, ArePorts, LeavesSince, TaskStands}
 use Rattle.kernel.specs.Next.{step_of, world_after}
 use Rattle.kernel.specs.State.{State}
-use Rattle.kernel.specs.declared.types.Step.{Step}
+use Rattle.model.specs.declared.types.operations.Step.{Step}
 use Rattle.kernel.specs.Acts.{Acts}
 use Rattle.kernel.proofs.Acting.{acts_worked}
 use Rattle.kernel.proofs.Ports.{ports_turned}

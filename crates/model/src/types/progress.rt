@@ -1,9 +1,9 @@
 // What a step comes to.
 ghost use Rattle.std.specs.Prelude.{◌≡◌};
-ghost use Rattle.blockmap.specs.Progress.{ended};
+ghost use Rattle.model.specs.Progress.{ended};
 
+use crate::types::Why;
 use blocks::DiskFault;
-use model::types::Why;
 
 /// What a step of a machine answers.
 #[derive(Clone, Copy)]
