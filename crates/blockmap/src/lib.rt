@@ -29,15 +29,13 @@
 //! inode itself. Where they are over with a block, the inode leads to it in the image as it is then.
 //!
 //! `Balloc` takes a block: it sets the lowest clear bit of the bitmap, and then zeroes the block of
-//! that bit. Which bit is the lowest clear one is said by a law (`laws`). `Bfree` is the machine
-//! that clears the bit of a block in the bitmap.
+//! that bit. Which bit is the lowest clear one is said by a law (`laws`).
 //!
 //! What is said of a file's bytes asks that the file may be read (`MayRead`). Where an image stands
 //! for files, that of each used number which no task holds may (`laws`).
 #![tactic(auto)]
 
 mod balloc;
-mod bfree;
 mod bmap;
 mod bmap_alloc;
 mod branch;
@@ -51,7 +49,6 @@ mod mapping;
 mod target;
 
 pub use balloc::{AllocAt, Balloc};
-pub use bfree::Bfree;
 pub use bmap::Bmap;
 pub use bmap_alloc::{BmapAlloc, MapAt};
 pub use branch::{Branch, Node, branch_of};

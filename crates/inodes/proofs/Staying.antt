@@ -14,12 +14,13 @@ use Rattle.wal.specs.Get.{Get}
 use Rattle.blockmap.specs.Driver.{Drives, over_with, progress_of_over, when_got}
 use Rattle.blockmap.specs.declared.driving.Got.{Got}
 use Rattle.model.specs.declared.types.progress.Progress.TheVariants as machine
+use Rattle.model.specs.Progress.{one_more}
 use Rattle.model.specs.declared.types.progress.Progress.{Progress}
 use Rattle.blockmap.specs.Balloc.{AllocState, Allocs, TakesLowest, lowest_in}
 use Rattle.blockmap.specs.Bmap.{Ends, EntryState, GoesBelow, LooksUp, some_address, with_slot}
 use Rattle.blockmap.specs.BmapAlloc.{FindsEntry, MapState, MapSteps, SetsEntry, after_address, address_at, after_behind, behind_at, naming}
 use Rattle.blockmap.specs.Branch.{named_by}
-use Rattle.blockmap.specs.Target.{progress_behind, target_behind}
+use Rattle.blockmap.specs.Target.{target_behind}
 use Rattle.blockmap.specs.declared.balloc.AllocAt.TheVariants as alloc_at
 use Rattle.blockmap.specs.declared.balloc.AllocAt.{AllocAt}
 use Rattle.blockmap.specs.declared.bmap_alloc.MapAt.TheVariants as map_at
@@ -43,7 +44,7 @@ use Rattle.inodes.specs.LockState.{LockState}
 use Rattle.inodes.specs.Table.{TableState, copy_at, holder_at}
 use Rattle.inodes.specs.Readi.{IsMade, ReadState, ReadSteps, Works}
 use Rattle.inodes.specs.Tasks.{TaskState, no_task, task}
-use Rattle.inodes.specs.Writei.{WriteState, WriteSteps, progress_mapped, write_mapped}
+use Rattle.inodes.specs.Writei.{WriteState, WriteSteps, write_mapped}
 use Rattle.inodes.proofs.Gripping.{same_task}
 
 -- nothing was done
@@ -52,6 +53,13 @@ Rests machine.Moved = ⊥
 Rests (machine.Sleeping why) = Unit {0}
 Rests (machine.Over out) = ⊥
 Rests (machine.Fault fault) = Unit {0}
+
+-- one step among others rests where its machine does
+one_rests : {T : Type 0} (q : Progress T) → Rests (one_more q) → Rests q
+one_rests machine.Moved rests = rests
+one_rests (machine.Sleeping why) rests = tt
+one_rests (machine.Over out) rests = absurd rests
+one_rests (machine.Fault fault) rests = tt
 
 -- then no slot was got
 none_got : (T : Type 0) (a : Get) (s : Option ℕ) → Rests (progress_of {T = T} a) → s ≡ slot_of a → s ≡ None
@@ -146,13 +154,7 @@ module _ {D N : Type 0} (disk : Ghosts D N) (v w : VolumeState D) (p : ℕ) wher
   updates u n d None r at does rests = does.0 ∙ ap (λ (x : Option ℕ). record u { slot = x }) (gets does.1 rests ∙ sym at)
   updates u n d (Some i) r at does rests = absurd (subst (λ (q : Progress (Unit {0})). Rests q) does.0 rests)
 
-  -- a writing rests where its way does, and stands on that way
-  mapped : (q : Progress (Option ℕ)) → Rests (progress_mapped q) → Rests q
-  mapped machine.Moved rests = rests
-  mapped (machine.Sleeping why) rests = tt
-  mapped (machine.Over found) rests = absurd rests
-  mapped (machine.Fault fault) rests = tt
-
+  -- a writing whose way rests stands on that way
   at_mapped : (m : WriteState) (way : MapState) (d : Dinode) (q : Progress (Option ℕ)) → Rests q → write_mapped m way d q ≡ record m { inode = d }
   at_mapped m way d machine.Moved rests = absurd rests
   at_mapped m way d (machine.Sleeping why) rests = refl
@@ -161,7 +163,7 @@ module _ {D N : Type 0} (disk : Ghosts D N) (v w : VolumeState D) (p : ℕ) wher
 
   pub writes : (m n : WriteState) (a : WriteAt) (bytes : List ℕ) (r : Progress (Unit {0})) → m.at ≡ a → WriteSteps disk a v p m bytes r n w → Rests r → n ≡ m
   writes m n (write_at.Mapping way) bytes r at does rests =
-      let still = mapped does.answer (subst (λ (q : Progress (Unit {0})). Rests q) does.gives rests) in
+      let still = one_rests does.answer (subst (λ (q : Progress (Unit {0})). Rests q) does.gives rests) in
       does.next ∙ at_mapped m does.now does.inode does.answer still ∙ ap (λ (d : Dinode). record m { inode = d }) (maps way does.now m.inode does.inode way.at does.answer refl does.steps still).1
   writes m n (write_at.Block b None) bytes r at does rests = does.2 ∙ ap (λ (x : WriteAt). record m { at = x }) (ap (write_at.Block b) (gets does.1 rests) ∙ sym at)
   writes m n (write_at.Block b (Some i)) bytes r at does rests = absurd (subst (λ (q : Progress (Unit {0})). Rests q) does.0 rests)
@@ -177,13 +179,7 @@ entry_stays disk v w p e n (Some i) r at does rests = absurd (⊎_elim
     (λ (goes : GoesBelow (named_by (seen (disk.image v.device) v.buffers) e.node) e r n). subst (λ (q : Progress (Option ℕ)). Rests q) goes.moved rests)
     does.0)
 
--- and so does what it is for
-behind_rests : (q : Progress (Option ℕ)) → Rests (progress_behind q) → Rests q
-behind_rests machine.Moved rests = rests
-behind_rests (machine.Sleeping why) rests = tt
-behind_rests (machine.Over found) rests = rests
-behind_rests (machine.Fault fault) rests = tt
-
+-- and what it is for stands there
 entry_there : (q : Progress (Option ℕ)) (e : EntryState) → Rests q → target_behind q e ≡ target.Entry e
 entry_there machine.Moved e rests = refl
 entry_there (machine.Sleeping why) e rests = refl
@@ -199,7 +195,7 @@ never_made (machine.Fault fault) made rests = made
 works_stay : {D N : Type 0} (disk : Ghosts D N) (v w : VolumeState D) (p : ℕ) (m n : ReadState) (t : Target) (r : Progress (Unit {0})) → m.target ≡ t → Works disk t v p m r w n → Rests r → n ≡ m
 works_stay disk v w p m n (target.Entry e) r at does rests =
     let seeks = does.1 in
-    let still = behind_rests seeks.answer (subst (λ (q : Progress (Unit {0})). Rests q) seeks.gives rests) in
+    let still = one_rests seeks.answer (subst (λ (q : Progress (Unit {0})). Rests q) seeks.gives rests) in
     let same = entry_stays disk v w p e seeks.entry e.slot seeks.answer refl seeks.looks still in
     does.0 ∙ ap (λ (x : Target). record m { target = x }) (seeks.target ∙ entry_there seeks.answer seeks.entry still ∙ ap target.Entry same ∙ sym at)
 works_stay disk v w p m n (target.Block b None) r at does rests =

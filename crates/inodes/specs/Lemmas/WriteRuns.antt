@@ -27,6 +27,7 @@ use Rattle.blockmap.specs.declared.bmap_alloc.MapAt.TheVariants as map_at
 use Rattle.blockmap.specs.declared.branch.Branch.{Branch}
 use Rattle.blockmap.specs.declared.branch.Node.{Node}
 use Rattle.blockmap.specs.declared.mapping.MappedForWriting.TheVariants as for_writing
+use Rattle.model.specs.Progress.{one_more}
 use Rattle.model.specs.declared.types.progress.Progress.{Progress}
 use Rattle.model.specs.declared.types.progress.Progress.TheVariants as machine
 use Rattle.inodes.specs.declared.tasks.Stage.TheVariants as stage
@@ -39,7 +40,7 @@ use Rattle.inodes.specs.Iupdate.{first_update}
 use Rattle.inodes.specs.Lemmas.Runs.{IsAt, goes_from, nothing_behind, seen_first, seen_later}
 use Rattle.inodes.specs.Runs.{StepMade, IsRun, EndsWith}
 use Rattle.inodes.specs.Store.{StoreState, current_of}
-use Rattle.inodes.specs.Writei.{WriteState, WriteSteps, first_write, next_byte, next_place, piece, place_of_mapped, progress_mapped, with_piece, write_mapped}
+use Rattle.inodes.specs.Writei.{WriteState, WriteSteps, first_write, next_byte, next_place, piece, place_of_mapped, with_piece, write_mapped}
 use Rattle.inodes.specs.WriteRuns.{IsFull, LooksAtBitmap, LooksIn, LooksOnWay, SeesFull, ShortSawFull}
 
 -- ---- a writing that goes on takes blocks in its extent, and has not come to the end of them
@@ -121,7 +122,7 @@ never_over (get.Got i) out over = cc over
 never_over (get.Sleeping cause) out over = cc over
 never_over (get.Fault fault) out over = cc over
 
-mapped_over : (q : Progress (Option ℕ)) (out : Unit {0}) → progress_mapped q ≡ machine.Over out → ⊥
+mapped_over : (q : Progress (Option ℕ)) (out : Unit {0}) → one_more q ≡ machine.Over out → ⊥
 mapped_over machine.Moved out over = cc over
 mapped_over (machine.Sleeping why) out over = cc over
 mapped_over (machine.Over found) out over = cc over
