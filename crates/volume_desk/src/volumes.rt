@@ -3,8 +3,8 @@ use bcache::Cache;
 use blocks::Disk;
 use desk::{Faulty, block_of, disk_of, done};
 use layout::{Super, superblock};
-use std::alloc::Global;
 use model::types::Progress;
+use std::alloc::Global;
 use wal::{Commit, Committed, Log, Volume, recover};
 
 /// A volume over a disk of which a call may fail.
