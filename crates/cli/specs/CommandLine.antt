@@ -4,7 +4,7 @@ use Rattle.clap.specs.Words.{App, HasKind, Kinds, Row, Rule, new_app, new_rule, 
 use Rattle.clap.specs.declared.error.Error.{Error}
 use Rattle.clap.specs.declared.error.kind.ErrorKind.TheVariants as kind
 use Rattle.cli.specs.declared.words.Request.{Request}
-use Rattle.cli.specs.declared.words.Request.TheVariants.{Mkfs, Check, Recover, Cat, Ls, Show, Put, Copy, Replay, Run, Stops}
+use Rattle.cli.specs.declared.words.Request.TheVariants.{Mkfs, Check, Recover, Cat, Ls, Df, Show, Put, Copy, Replay, Run, Stops}
 use Rattle.clap.specs.declared.builder.command.Command.{Command}
 use Rattle.clap.specs.declared.builder.command.Command.TheViews.{out-Command}
 use Rattle.clap.specs.declared.builder.action.ArgAction.TheVariants.{SetTrue}
@@ -102,8 +102,8 @@ abbrev pub xvfs_app : App
 xvfs_app =
     with_subcommand (with_subcommand (with_subcommand (with_subcommand (with_subcommand
     (with_subcommand (with_subcommand (with_subcommand (with_subcommand (with_subcommand
-    (with_subcommand bare_app mkfs_app.top) (image_app (codes "check")).top)
-    (image_app (codes "ls")).top) cat_app.top) show_app.top) put_app.top) copy_app.top)
+    (with_subcommand (with_subcommand bare_app mkfs_app.top) (image_app (codes "check")).top)
+    (image_app (codes "ls")).top) (image_app (codes "df")).top) cat_app.top) show_app.top) put_app.top) copy_app.top)
     recover_app.top) replay_app.top) run_app.top) stops_app.top
 
 -- a command of this shape, whose arguments are its own
@@ -150,6 +150,8 @@ AsksBy name rows (Recover image sync) = (name ≡ codes "recover")
 AsksBy name rows (Cat image inum) = (name ≡ codes "cat")
     × (first_of (codes "IMAGE") rows ≡ Some image.now)
 AsksBy name rows (Ls image) = (name ≡ codes "ls")
+    × (first_of (codes "IMAGE") rows ≡ Some image.now)
+AsksBy name rows (Df image) = (name ≡ codes "df")
     × (first_of (codes "IMAGE") rows ≡ Some image.now)
 AsksBy name rows (Show image inum) = (name ≡ codes "show")
     × (first_of (codes "IMAGE") rows ≡ Some image.now) × HasChoice (codes "INUM") rows inum

@@ -67,7 +67,7 @@ const IMAGE_KEPT: Word = Word {
     help: "The path of the image's file, which is not changed",
 };
 
-pub(crate) static LINES: [Line; 11] = [
+pub(crate) static LINES: [Line; 12] = [
     Line {
         name: "mkfs",
         about: "Makes an image in a new file, or in place of an old one",
@@ -105,6 +105,12 @@ pub(crate) static LINES: [Line; 11] = [
         name: "ls",
         about: "Lists the files of an image: number, type, bytes and blocks",
         example: "Example: xvfs ls fs.img",
+        words: &[IMAGE_KEPT],
+    },
+    Line {
+        name: "df",
+        about: "Counts the blocks and the inodes of an image, used and free ones",
+        example: "Example: xvfs df fs.img",
         words: &[IMAGE_KEPT],
     },
     Line {

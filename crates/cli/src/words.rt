@@ -58,6 +58,11 @@ pub enum Request<'a> {
         /// The path of the image's file.
         image: &'a str,
     },
+    /// How much of an image is used.
+    Df {
+        /// The path of the image's file.
+        image: &'a str,
+    },
     /// The blocks of an image, or of one of its files.
     Show {
         /// The path of the image's file.
@@ -254,6 +259,7 @@ fn request_over<'a>(name: &str, values: &ArgMatches<'a>) -> Option<Request<'a>>
             inum: values.get_one("INUM")?,
         }),
         "ls" => Some(Request::Ls { image }),
+        "df" => Some(Request::Df { image }),
         "show" => Some(Request::Show {
             image,
             inum: values.get_one("INUM"),
