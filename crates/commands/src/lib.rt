@@ -1,5 +1,5 @@
 //! The commands that fill an image in a file or copy it: each opens the files that it names, hands the
-//! disk and what was read to `putting` or `copying`, and does nothing else.
+//! disk and what was read to `transfer`, and does nothing else.
 //!
 //! The commands over image files: each opens the files that it names, hands the disk and what was
 //! read to `player` or `runner`, and does nothing else.

@@ -1,6 +1,6 @@
 //! What the program's commands do, as functions over any disk and any output: an image is made,
 //! checked or recovered, the bytes of one of its files are written, and a script's operations are
-//! made in the turns of a schedule. Each prints its answer, by the texts of `texts`; a refusal names
+//! made in the turns of a schedule. Each prints its answer, by the texts of `messages`; a refusal names
 //! the layer, and that layer's fault.
 //!
 //! No function here opens a file, and none reads the words of a command line.

@@ -22,7 +22,7 @@ use crate::stopping::stops_files;
 use blocks::{Disk, FaultyDisk, FileDisk};
 use cmd::{OverFile, end, perform};
 use commands::{make_file, replay_files, run_files};
-use inspect::{Ls, Show};
+use inspect::{Df, Ls, Show};
 use model::types::Form;
 use player::{Cat, Check, Recover};
 use cli::{Explanation, Request, parse};
@@ -149,6 +149,7 @@ where
         }
         Request::Cat { image, inum } => perform(rt, OverFile(image, false, Cat(inum)), out, err),
         Request::Ls { image } => perform(rt, OverFile(image, false, Ls), out, err),
+        Request::Df { image } => perform(rt, OverFile(image, false, Df), out, err),
         Request::Show { image, inum } => perform(rt, OverFile(image, false, Show(inum)), out, err),
         Request::Put { image, file, inum } => end(put_file(rt, image, file, inum, out), err),
         Request::Copy { old, new, size } => end(

@@ -62,6 +62,7 @@ pub fn lock_image<L: Locks>(locks: &L, request: &Request<'_>) -> Result<Option<L
     match request {
         Request::Check { image } => locks.lock(image, Share::Lookers),
         Request::Ls { image } => locks.lock(image, Share::Lookers),
+        Request::Df { image } => locks.lock(image, Share::Lookers),
         Request::Show { image, .. } => locks.lock(image, Share::Lookers),
         Request::Copy { old, .. } => locks.lock(old, Share::Lookers),
         Request::Mkfs { image, .. } => locks.lock(image, Share::Nobody),
