@@ -22,7 +22,7 @@ use Rattle.blockmap.specs.Lemmas.Bitmap.{lowest_clear_found}
 use Rattle.blockmap.specs.Lemmas.Putting.{writes_put}
 use Rattle.blockmap.specs.declared.balloc.AllocAt.{AllocAt}
 use Rattle.blockmap.specs.declared.balloc.AllocAt.TheVariants as alloc_at
-use Rattle.blockmap.specs.declared.progress.Progress.TheVariants as progress
+use Rattle.model.specs.declared.types.progress.Progress.TheVariants as progress
 
 -- ---- the search
 

@@ -8,12 +8,12 @@ use Rattle.model.specs.Format.{inode_start, bits_per_block}
 use Rattle.model.specs.Codec.{with_bit}
 use Rattle.model.specs.Fields.{has_bit}
 use Rattle.wal.specs.Joint.{seen}
-use Rattle.wal.specs.Volume.{VolumeState}
-use Rattle.blockmap.specs.Getting.{GetsFor, HoldsWhereGot, Releases, WritesBlock}
+use Rattle.wal.specs.Volume.{VolumeState, GetsFor}
+use Rattle.blockmap.specs.Getting.{HoldsWhereGot, Releases, WritesBlock}
 use Rattle.blockmap.specs.declared.balloc.AllocAt.{AllocAt}
 use Rattle.blockmap.specs.declared.balloc.AllocAt.TheVariants as alloc_at
-use Rattle.blockmap.specs.declared.progress.Progress.{Progress}
-use Rattle.blockmap.specs.declared.progress.Progress.TheVariants as progress
+use Rattle.model.specs.declared.types.progress.Progress.{Progress}
+use Rattle.model.specs.declared.types.progress.Progress.TheVariants as progress
 
 -- Where the taking of a block stands.
 pub record AllocState : Type 0 where

@@ -6,12 +6,12 @@ use Rattle.model.specs.Format.{inode_start}
 use Rattle.model.specs.Layout.{reach}
 use Rattle.model.specs.Places.{address_under}
 use Rattle.wal.specs.Joint.{seen}
-use Rattle.wal.specs.Volume.{VolumeState}
+use Rattle.wal.specs.Volume.{VolumeState, GetsFor}
 use Rattle.blockmap.specs.Branch.{named_by, node_at, rest_under}
 use Rattle.blockmap.specs.declared.branch.Node.{Node}
-use Rattle.blockmap.specs.declared.progress.Progress.{Progress}
-use Rattle.blockmap.specs.declared.progress.Progress.TheVariants as progress
-use Rattle.blockmap.specs.Getting.{GetsFor, Releases, HoldsWhereGot}
+use Rattle.model.specs.declared.types.progress.Progress.{Progress}
+use Rattle.model.specs.declared.types.progress.Progress.TheVariants as progress
+use Rattle.blockmap.specs.Getting.{Releases, HoldsWhereGot}
 
 -- Where the seeking stands.
 pub record EntryState : Type 0 where

@@ -5,17 +5,17 @@ use Rattle.blocks.specs.declared.disk.Disk.{Ghosts}
 use Rattle.model.specs.declared.types.image.Dinode.{Dinode}
 use Rattle.in_flight.specs.Held.{with_address}
 use Rattle.wal.specs.Joint.{seen}
-use Rattle.wal.specs.Volume.{VolumeState, Holds}
+use Rattle.wal.specs.Volume.{VolumeState, Holds, GetsFor}
 use Rattle.blockmap.specs.Balloc.{AllocState, Allocs, MayAlloc, first_alloc}
 use Rattle.blockmap.specs.Bmap.{IsNode, some_address}
 use Rattle.blockmap.specs.Branch.{LiesOnWay, address_on, entry_under, named_by, node_at, rest_under}
-use Rattle.blockmap.specs.Getting.{GetsFor, HoldsWhereGot, Releases, WritesBlock}
+use Rattle.blockmap.specs.Getting.{HoldsWhereGot, Releases, WritesBlock}
 use Rattle.blockmap.specs.declared.bmap_alloc.MapAt.{MapAt}
 use Rattle.blockmap.specs.declared.bmap_alloc.MapAt.TheVariants as map_at
 use Rattle.blockmap.specs.declared.branch.Branch.{Branch}
 use Rattle.blockmap.specs.declared.branch.Node.{Node}
-use Rattle.blockmap.specs.declared.progress.Progress.{Progress}
-use Rattle.blockmap.specs.declared.progress.Progress.TheVariants as progress
+use Rattle.model.specs.declared.types.progress.Progress.{Progress}
+use Rattle.model.specs.declared.types.progress.Progress.TheVariants as progress
 
 -- Where a writer's way to a block of a file stands.
 pub record MapState : Type 0 where

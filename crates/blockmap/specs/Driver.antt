@@ -4,9 +4,8 @@ use Rattle.blocks.specs.Disk.{Image, block_at}
 use Rattle.blocks.specs.declared.disk.Disk.{Ghosts}
 use Rattle.bcache.specs.Buffers.{Buffers}
 use Rattle.wal.specs.Joint.{seen}
-use Rattle.wal.specs.Volume.{VolumeState, Holds}
+use Rattle.wal.specs.Volume.{VolumeState, Holds, GetsFor}
 use Rattle.blockmap.specs.Deeds.{CarriesOut, DeedFits}
-use Rattle.blockmap.specs.Getting.{GetsFor}
 use Rattle.blockmap.specs.Next.{KeepsApart, MayGet, beside, block_of_next, kept_and, kept_then, no_block_kept, used_now, wanted_by}
 use Rattle.blockmap.specs.declared.deed.Deed.{Deed}
 use Rattle.blockmap.specs.declared.driving.Driven.{Driven}
@@ -14,8 +13,8 @@ use Rattle.blockmap.specs.declared.driving.Got.{Got}
 use Rattle.blockmap.specs.declared.machine.Machine.{Ghosts as Pure}
 use Rattle.blockmap.specs.declared.machine.Next.{Next}
 use Rattle.blockmap.specs.declared.machine.Next.TheVariants as next
-use Rattle.blockmap.specs.declared.progress.Progress.{Progress}
-use Rattle.blockmap.specs.declared.progress.Progress.TheVariants as progress
+use Rattle.model.specs.declared.types.progress.Progress.{Progress}
+use Rattle.model.specs.declared.types.progress.Progress.TheVariants as progress
 
 -- a machine that has got no block yet
 abbrev pub first_driven : {M : Type 0} → M → Driven M

@@ -4,37 +4,10 @@ use Rattle.blocks.specs.Block.{overwritten}
 use Rattle.blocks.specs.Disk.{Image, block_at}
 use Rattle.blocks.specs.declared.disk.Disk.{Ghosts}
 use Rattle.bcache.specs.Buffers.{Buffers, buffer, block_or_zero, changed, released}
-use Rattle.wal.specs.Held.{LocksAfter, GivesUpLock}
+use Rattle.wal.specs.Held.{GivesUpLock}
 use Rattle.wal.specs.Joint.{seen}
 use Rattle.wal.specs.Machine.{LogState, noted, noted_cache}
-use Rattle.wal.specs.Volume.{VolumeState, Holds, Gets, ReadsFor, after_change}
-use Rattle.wal.specs.declared.types.Get.{Get}
-use Rattle.wal.specs.declared.types.Get.TheVariants as get
-use Rattle.blockmap.specs.declared.progress.Progress.{Progress}
-use Rattle.blockmap.specs.declared.progress.Progress.TheVariants as progress
-
--- what the volume's answer is to a machine
-abbrev pub progress_of : {T : Type 0} → Get → Progress T
-progress_of (get.Got i) = progress.Moved
-progress_of (get.Sleeping why) = progress.Sleeping why
-progress_of (get.Fault fault) = progress.Fault fault
-
--- the slot that was got
-abbrev pub slot_of : Get → Option ℕ
-slot_of (get.Got i) = Some i
-slot_of (get.Sleeping why) = None
-slot_of (get.Fault fault) = None
-
--- A machine of process p gets block b, and has it in slot s; or it has to wait, or the disk fails,
--- and it has none.
-pub record GetsFor {D N T : Type 0} (disk : Ghosts D N) (v : VolumeState D) (p b : ℕ)
-    (r : Progress T) (s : Option ℕ) (w : VolumeState D) : Type 0 where
-  pub answer : Get
-  pub gives : r ≡ progress_of answer
-  pub slot : s ≡ slot_of answer
-  pub gets : Gets disk v p b answer w
-  pub reads : ReadsFor disk v answer w
-  pub locks : LocksAfter answer v.buffers w.buffers p b
+use Rattle.wal.specs.Volume.{VolumeState, Holds, after_change}
 
 -- the block of slot i is released, and nothing else changes
 pub record Releases {D : Type 0} (image : D → Image) (v : VolumeState D) (p i : ℕ)

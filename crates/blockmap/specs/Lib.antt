@@ -4,7 +4,6 @@ pub mod Getting
 pub mod Holds
 pub mod Lemmas
 pub mod Next
-pub mod Bfree
 pub mod Balloc
 pub mod Bmap
 pub mod Branch

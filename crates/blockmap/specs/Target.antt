@@ -9,15 +9,16 @@ use Rattle.model.specs.declared.types.image.Form.TheVariants.{One, Two}
 use Rattle.model.specs.Layout.{form_of}
 use Rattle.model.specs.Places.{address_in}
 use Rattle.wal.specs.Joint.{seen}
-use Rattle.wal.specs.Volume.{VolumeState}
+use Rattle.wal.specs.Volume.{VolumeState, GetsFor}
 use Rattle.blockmap.specs.Bmap.{EntryState, IsReady, LooksUp}
 use Rattle.blockmap.specs.Branch.{LiesOnWay, branch_of}
-use Rattle.blockmap.specs.Getting.{GetsFor, HoldsWhereGot}
+use Rattle.blockmap.specs.Getting.{HoldsWhereGot}
 use Rattle.blockmap.specs.Map.{mapped, address_or_zero}
 use Rattle.blockmap.specs.declared.mapping.Mapped.{Mapped}
 use Rattle.blockmap.specs.declared.mapping.Mapped.TheVariants as mapped_as
-use Rattle.blockmap.specs.declared.progress.Progress.{Progress}
-use Rattle.blockmap.specs.declared.progress.Progress.TheVariants as progress
+use Rattle.model.specs.Progress.{one_more}
+use Rattle.model.specs.declared.types.progress.Progress.{Progress}
+use Rattle.model.specs.declared.types.progress.Progress.TheVariants as progress
 use Rattle.blockmap.specs.declared.target.Target.{Target}
 use Rattle.blockmap.specs.declared.target.Target.TheVariants as target
 
@@ -71,13 +72,6 @@ abbrev pub IsSought : {D : Type 0} → (D → Image) → VolumeState D → ℕ �
 IsSought image v p (target.Entry entry) = IsReady image v p entry
 IsSought image v p (target.Block b slot) = (slot ≡ None) × (inode_start ≤ b) × (b < v.log.size)
 
--- what a step of an entry's reading is to the machine that seeks the block
-abbrev pub progress_behind : Progress (Option ℕ) → Progress (Unit {0})
-progress_behind progress.Moved = progress.Moved
-progress_behind (progress.Sleeping why) = progress.Sleeping why
-progress_behind (progress.Over found) = progress.Moved
-progress_behind (progress.Fault fault) = progress.Fault fault
-
 -- the target then: the block, once the entry was seen
 abbrev pub target_behind : Progress (Option ℕ) → EntryState → Target
 target_behind progress.Moved entry = target.Entry entry
@@ -91,7 +85,7 @@ pub record LooksUpFor {D N : Type 0} (disk : Ghosts D N) (v : VolumeState D) (p 
   pub answer : Progress (Option ℕ)
   pub entry : EntryState
   pub looks : LooksUp disk e.slot v p e answer entry w
-  pub gives : r ≡ progress_behind answer
+  pub gives : r ≡ one_more answer
   pub target : t ≡ target_behind answer entry
 
 -- a step that seeks a target's block: one of the entry's reading, or it gets the block

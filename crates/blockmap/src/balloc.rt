@@ -7,9 +7,9 @@ ghost use Rattle.wal.specs.Volume.{Holds};
 ghost use Rattle.blockmap.specs.Balloc.{MayAlloc, Allocs, AreFull, Zeroes, byte_with, lowest_clear};
 ghost use Rattle.blockmap.specs.declared.balloc.AllocAt.TheVariants as alloc_at;
 
+use crate::Progress;
+use crate::getting::{put_block, release_block};
 use blocks::{BLOCK_SIZE, Block, Disk};
-use crate::progress::Progress;
-use crate::getting::{get_block, put_block, release_block};
 use std::marker::Model;
 use wal::Volume;
 
@@ -83,14 +83,14 @@ impl Balloc {
         match self.at {
             AllocAt::Looking(None) => {
                 let mut slot = None;
-                let progress = get_block(volume, pid, self.bitmap, &mut slot);
+                let progress = volume.get(pid, self.bitmap, &mut slot);
                 self.at = AllocAt::Looking(slot);
                 progress
             }
             AllocAt::Looking(Some(slot)) => self.take_lowest(volume, pid, slot),
             AllocAt::Zeroing { block, slot: None } => {
                 let mut slot = None;
-                let progress = get_block(volume, pid, block, &mut slot);
+                let progress = volume.get(pid, block, &mut slot);
                 self.at = AllocAt::Zeroing { block, slot };
                 progress
             }

@@ -2,10 +2,9 @@
 ghost use Rattle.std.specs.Prelude.{◌≡◌, ◌<◌, ◌≤◌, ◌≢◌, None};
 ghost use Rattle.blockmap.specs.Bmap.{below, first_entry, some_address, IsReady, LooksUp};
 
-use crate::Node;
+use crate::getting::release_block;
+use crate::{Node, Progress};
 use blocks::Disk;
-use crate::progress::Progress;
-use crate::getting::{get_block, release_block};
 use layout::entries::entry;
 use std::marker::Model;
 use wal::Volume;
@@ -49,7 +48,7 @@ impl Bmap {
         ensures { LooksUp D.Disk self.old.slot volume.old pid self.old result self.new volume.new }
     {
         let Some(slot) = self.slot else {
-            return get_block(volume, pid, self.node.block, &mut self.slot);
+            return volume.get(pid, self.node.block, &mut self.slot);
         };
         let address = entry(volume.data(slot), self.node.entry());
         release_block(volume, pid, slot);

@@ -10,10 +10,9 @@ ghost use Rattle.blockmap.specs.Branch.{named_by, node_at};
 ghost use Rattle.blockmap.specs.BmapAlloc.{MayMap, MapSteps, FindsEntry, SetsEntry, LeadsThere, come_to, place_in};
 ghost use Rattle.blockmap.specs.declared.bmap_alloc.MapAt.TheVariants as map_at;
 
-use crate::{Balloc, Branch, Node};
+use crate::getting::{put_block, release_block};
+use crate::{Balloc, Branch, Node, Progress};
 use blocks::Disk;
-use crate::progress::Progress;
-use crate::getting::{get_block, put_block, release_block};
 use layout::entries::{bytes, entry};
 use model::types::Dinode;
 use std::marker::Model;
@@ -191,7 +190,7 @@ impl BmapAlloc {
             (map_at.Entry node None) d volume.new }
     {
         let mut slot = None;
-        let progress = get_block(volume, pid, node.block, &mut slot);
+        let progress = volume.get(pid, node.block, &mut slot);
         self.at = MapAt::Entry { node, slot };
         progress
     }

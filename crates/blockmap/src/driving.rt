@@ -5,7 +5,7 @@ ghost use Rattle.blockmap.specs.Next.{used_now, beside, kept_and, kept_then, no_
 ghost use Rattle.blockmap.specs.Driver.{MayDrive, Drives, first_driven, progress_of_over, taken};
 
 use crate::carrying::carry_out;
-use crate::{Machine, Next, Progress, get_block};
+use crate::{Machine, Next, Progress};
 use blocks::{Block, Disk};
 use wal::Volume;
 
@@ -123,7 +123,7 @@ impl<M: Machine> Driven<M> {
             self.new volume.new }
     {
         let mut slot = None;
-        let progress = get_block(volume, pid, block_of_next(next), &mut slot);
+        let progress = volume.get(pid, block_of_next(next), &mut slot);
         if let Some(slot) = slot {
             self.take(volume.data(slot), next, slot);
         }

@@ -1,40 +1,14 @@
-// The steps in which a machine gets a block, and is done with it.
+// The steps in which a machine is done with a block that it got.
 ghost use Rattle.std.specs.Prelude.{◌≡◌, ◌<◌, ◌≤◌, ◌+◌, length, Some, None};
 ghost use Rattle.blocks.specs.Block.{block_size};
-ghost use Rattle.model.specs.Format.{inode_start};
 ghost use Rattle.bcache.specs.Buffers.{buffer};
 ghost use Rattle.wal.specs.Joint.{seen};
 ghost use Rattle.wal.specs.Machine.{HasRoom, used_by};
 ghost use Rattle.wal.specs.Volume.{Holds};
-ghost use Rattle.blockmap.specs.Getting.{GetsFor, Releases, Puts, block_at_slot};
+ghost use Rattle.blockmap.specs.Getting.{Releases, Puts, block_at_slot};
 
-use crate::Progress;
 use blocks::Disk;
-use wal::{Get, Volume};
-
-/// Gets a block for a machine of a process, as the volume's `get`; where it was got, the machine
-/// keeps its slot.
-pub fn get_block<D: Disk, T>(
-    volume: &mut Volume<D>,
-    pid: u32,
-    block: u32,
-    slot: &mut Option<u32>,
-) -> Progress<T>
-    requires fault { volume.old.fault ≡ None }
-    requires behind { inode_start ≤ block }
-    requires within { block < volume.old.log.size }
-    requires none { slot.old ≡ None }
-    ensures { GetsFor D.Disk volume.old pid block result slot.new volume.new }
-{
-    match volume.get(pid, block) {
-        Get::Got(got) => {
-            *slot = Some(got);
-            Progress::Moved
-        }
-        Get::Sleeping(why) => Progress::Sleeping(why),
-        Get::Fault(fault) => Progress::Fault(fault),
-    }
-}
+use wal::Volume;
 
 /// Releases the block of a slot that a process holds, as the volume's `release`.
 pub fn release_block<D: Disk>(volume: &mut Volume<D>, pid: u32, slot: u32)

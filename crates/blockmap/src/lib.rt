@@ -8,14 +8,11 @@
 //! given back first, by a step of its own.
 //! The driver alone knows slots. A step that has to wait changes nothing.
 //!
-//! The same steps without a machine (`get_block`, `put_block`, `release_block`) serve those that
-//! handle the volume themselves. What a step comes to is a `Progress`, and a step that gets a block
-//! promises what the volume's `get` does (`GetsFor`).
+//! The same steps without a machine (the volume's `get`, `put_block`, `release_block`) serve those
+//! that handle the volume themselves. What a step comes to is a `Progress`.
 //!
 //! From the blocks of a file to those of the image (the xv6 book, the chapter "File system": "Code:
 //! Inode content").
-//!
-//! What is done here to blocks is done by machines, over the steps of the crate `driver`.
 //!
 //! An inode has the addresses of its file's first blocks, and behind them those of blocks of
 //! addresses, through which the others are found: one block of addresses in an image of the first
@@ -32,15 +29,13 @@
 //! inode itself. Where they are over with a block, the inode leads to it in the image as it is then.
 //!
 //! `Balloc` takes a block: it sets the lowest clear bit of the bitmap, and then zeroes the block of
-//! that bit. Which bit is the lowest clear one is said by a law (`laws`). `Bfree` is the machine
-//! that clears the bit of a block in the bitmap.
+//! that bit. Which bit is the lowest clear one is said by a law (`laws`).
 //!
 //! What is said of a file's bytes asks that the file may be read (`MayRead`). Where an image stands
 //! for files, that of each used number which no task holds may (`laws`).
 #![tactic(auto)]
 
 mod balloc;
-mod bfree;
 mod bmap;
 mod bmap_alloc;
 mod branch;
@@ -51,19 +46,16 @@ mod getting;
 pub mod laws;
 mod machine;
 mod mapping;
-mod progress;
 mod target;
 
 pub use balloc::{AllocAt, Balloc};
-pub use bfree::Bfree;
 pub use bmap::Bmap;
 pub use bmap_alloc::{BmapAlloc, MapAt};
 pub use branch::{Branch, Node, branch_of};
 pub use deed::{Deed, Patch};
 pub use driving::{Driven, Got, Kept};
-pub use getting::{get_block, put_block, release_block};
+pub use getting::{put_block, release_block};
 pub use machine::{Machine, Next};
 pub use mapping::{Mapped, MappedForWriting, map, map_for_writing};
-pub use model::types::Why;
-pub use progress::Progress;
+pub use model::types::{Progress, Why};
 pub use target::{Target, seek, target_for};

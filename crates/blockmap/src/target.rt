@@ -4,10 +4,8 @@ ghost use Rattle.blockmap.specs.Branch.{block_limit};
 ghost use Rattle.blockmap.specs.Map.{address_or_zero};
 ghost use Rattle.blockmap.specs.Target.{is_entry, target_for, IsSought, Seeks};
 
-use crate::{Bmap, Mapped, map};
+use crate::{Bmap, Mapped, Progress, map};
 use blocks::Disk;
-use crate::progress::Progress;
-use crate::getting::get_block;
 use model::types::{Dinode, Form};
 use wal::Volume;
 
@@ -51,7 +49,7 @@ pub fn seek<D: Disk>(volume: &mut Volume<D>, pid: u32, target: &mut Target) -> P
         return look_up(volume, pid, target);
     };
     let mut slot = None;
-    let progress = get_block(volume, pid, block, &mut slot);
+    let progress = volume.get(pid, block, &mut slot);
     *target = Target::Block { block, slot };
     progress
 }
@@ -64,18 +62,16 @@ fn look_up<D: Disk>(volume: &mut Volume<D>, pid: u32, target: &mut Target) -> Pr
     ensures { Seeks D.Disk target.old volume.old pid result target.new volume.new }
 {
     let mut entry = entry_of(*target);
-    match entry.step(volume, pid) {
-        Progress::Moved => {
-            *target = Target::Entry(entry);
-            Progress::Moved
-        }
-        Progress::Sleeping(why) => Progress::Sleeping(why),
-        Progress::Over(found) => {
+    match entry.step(volume, pid).ended() {
+        Ok(found) => {
             let block = address_or_zero(found);
             *target = Target::Block { block, slot: None };
             Progress::Moved
         }
-        Progress::Fault(fault) => Progress::Fault(fault),
+        Err(progress) => {
+            *target = Target::Entry(entry);
+            progress
+        }
     }
 }
 

@@ -36,8 +36,8 @@ use Rattle.kernel.specs.Lemmas.Turns.{runs_on_none, runs_on_step, runs_on_then}
 use Rattle.kernel.specs.Lemmas.Moves.{steps_keep}
 use Rattle.kernel.specs.Runs.{RunsOn}
 use Rattle.kernel.specs.State.{kind_of}
-use Rattle.kernel.specs.declared.types.Step.{Step}
-use Rattle.kernel.specs.declared.types.Step.TheVariants as step
+use Rattle.model.specs.declared.types.operations.Step.{Step}
+use Rattle.model.specs.declared.types.operations.Step.TheVariants as step
 use Rattle.kernel.specs.declared.waiting.Waiting.TheVariants as waiting_as
 use Rattle.kernel.specs.Moves.{MakesSteps}
 use Rattle.calls.specs.Calls.{Rests, call_count, is_look, is_own}

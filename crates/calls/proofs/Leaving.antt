@@ -17,7 +17,7 @@ use Rattle.model.specs.Lemmas.Frames.{form_same}
 use Rattle.history.specs.Keeps.{KeepsBetween}
 use Rattle.history.specs.Most.{most_of}
 use Rattle.history.specs.Lemmas.Kept.{kept-append}
-use Rattle.kernel.specs.declared.types.Step.{Step}
+use Rattle.model.specs.declared.types.operations.Step.{Step}
 use Rattle.calls.specs.declared.fault.CallFault.{CallFault}
 use Rattle.calls.specs.Calls.{KeepsCall, MayReply, image_on}
 use Rattle.calls.specs.Stepping.{Plain}

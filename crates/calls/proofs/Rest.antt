@@ -25,8 +25,8 @@ use Rattle.history.specs.Most.{most_of}
 use Rattle.history.specs.Lemmas.Kept.{kept_up_to}
 use Rattle.history.specs.Processes.{process}
 use Rattle.kernel.specs.Known.{Known}
-use Rattle.kernel.specs.declared.types.Step.{Step}
-use Rattle.kernel.specs.declared.types.Step.TheVariants as step
+use Rattle.model.specs.declared.types.operations.Step.{Step}
+use Rattle.model.specs.declared.types.operations.Step.TheVariants as step
 use Rattle.calls.specs.Calls.{Calls, IsWhole, KeepsFiles, image_on}
 use Rattle.calls.specs.Stepping.{Plain, plain_herald, plain_queues}
 use Rattle.calls.proofs.Idle.{all_idle, current, long, super}

@@ -30,8 +30,8 @@ use Rattle.inodes.specs.declared.tasks.Stage.{Stage}
 use Rattle.inodes.specs.declared.tasks.Stage.TheVariants as stage
 use Rattle.inodes.specs.declared.writei.Extent.{Extent}
 use Rattle.kernel.specs.State.{kind_of, waiting_of}
-use Rattle.kernel.specs.declared.types.Step.{Step}
-use Rattle.kernel.specs.declared.types.Step.TheVariants as step
+use Rattle.model.specs.declared.types.operations.Step.{Step}
+use Rattle.model.specs.declared.types.operations.Step.TheVariants as step
 use Rattle.kernel.specs.declared.waiting.Waiting.TheVariants as waiting_as
 use Rattle.calls.specs.Calls.{ShortIsFull, image_on}
 use Rattle.calls.specs.Stepping.{Plain}

@@ -32,8 +32,8 @@ use Rattle.history.specs.Grows.{Becomes, Extends}
 use Rattle.history.specs.Journal.{Entries, entry_in, entry_of, journal_told, journal_with, no_entry, reserved}
 use Rattle.history.specs.Open.{told}
 use Rattle.history.specs.Processes.{World, idle, process, refusal, turned_from}
-use Rattle.kernel.specs.declared.types.Step.{Step}
-use Rattle.kernel.specs.declared.types.Step.TheVariants as step
+use Rattle.model.specs.declared.types.operations.Step.{Step}
+use Rattle.model.specs.declared.types.operations.Step.TheVariants as step
 use Rattle.kernel.specs.declared.waiting.Waiting.{Waiting}
 use Rattle.kernel.specs.declared.waiting.Waiting.TheVariants as waiting_as
 use Rattle.kernel.specs.Next.{BeginsNext, BeginsWith, IsNotTaken, NextAt, NextIf, step_behind, step_of, step_of_end, step_of_write, world_after, world_behind, world_ended, world_written}

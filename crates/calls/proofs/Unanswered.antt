@@ -15,8 +15,8 @@ use Rattle.history.specs.declared.types.Phase.TheVariants as at
 use Rattle.history.specs.Processes.{World, process}
 use Rattle.kernel.specs.Known.{Known}
 use Rattle.kernel.specs.Sleeping.{SoleWaitsForAnswers}
-use Rattle.kernel.specs.declared.types.Step.{Step}
-use Rattle.kernel.specs.declared.types.Step.TheVariants as step
+use Rattle.model.specs.declared.types.operations.Step.{Step}
+use Rattle.model.specs.declared.types.operations.Step.TheVariants as step
 use Rattle.calls.specs.Calls.{Rests, call_count, is_own}
 use Rattle.calls.specs.Stepping.{Plain, plain_herald, plain_queues}
 use Rattle.calls.proofs.Called.{IsCall, Quiet, all_given, call_opening, call_stage, call_then, counts, quiet_kept}

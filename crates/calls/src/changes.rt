@@ -22,7 +22,7 @@ use std::alloc::Global;
 ///
 /// # Errors
 ///
-/// Those of `sole::call`.
+/// Those of `call`.
 pub fn create<D: Disk>(kernel: &mut Sole<D>, kind: u16) -> Result<Option<u32>, CallFault>
     requires rests { Rests D.fault_count kernel.old }
     requires few { call_count kernel.old < 2 ^ 32 }
@@ -46,7 +46,7 @@ pub fn create<D: Disk>(kernel: &mut Sole<D>, kind: u16) -> Result<Option<u32>, C
 ///
 /// # Errors
 ///
-/// Those of `sole::call`.
+/// Those of `call`.
 pub fn remove<D: Disk>(kernel: &mut Sole<D>, i: u32) -> Result<(), CallFault>
     requires rests { Rests D.fault_count kernel.old }
     requires few { call_count kernel.old < 2 ^ 32 }
@@ -69,7 +69,7 @@ pub fn remove<D: Disk>(kernel: &mut Sole<D>, i: u32) -> Result<(), CallFault>
 ///
 /// # Errors
 ///
-/// Those of `sole::call`.
+/// Those of `call`.
 pub fn empty<D: Disk>(kernel: &mut Sole<D>, i: u32) -> Result<(), CallFault>
     requires rests { Rests D.fault_count kernel.old }
     requires few { call_count kernel.old < 2 ^ 32 }
@@ -93,7 +93,7 @@ pub fn empty<D: Disk>(kernel: &mut Sole<D>, i: u32) -> Result<(), CallFault>
 ///
 /// # Errors
 ///
-/// Those of `sole::call`; `NoMemory` also where memory for a copy of the bytes was refused.
+/// Those of `call`; `NoMemory` also where memory for a copy of the bytes was refused.
 pub fn append<D: Disk>(
     kernel: &mut Sole<D>,
     alloc: Global,

@@ -1,7 +1,6 @@
 -- The command line, word by word, and what a parse of it says.
 use Rattle.std.proofs.Common.{◌≡◌, ◌∙◌, ℕ, List, [], Bool, true, false, ◌||◌, Option, Some, None, Ok, Err, refl, sym, ap, ap₂, subst, inl}
-use Rattle.std.specs.Prelude.{⊤, codes, IfOk, MatchOption, Result, option_map}
-use Rattle.std.proofs.lemmas.Result.{IfOk-weaker}
+use Rattle.std.specs.Prelude.{⊤, codes, MatchOption, option_map}
 use Rattle.std.proofs.lemmas.Option.{same_Some}
 use Rattle.clap.specs.Built.{AddsArg, AddsSubcommand}
 use Rattle.clap.specs.Words.{one_text, App, FailsBy, HasKind, HasMatchesOf, Row, Rule, fault_of, first_of, first_value, is_simple, is_simple_and_free, rows_of, rule_of, subcommand_of, subcommand_rows_of, with_rule, with_subcommand}
@@ -13,16 +12,12 @@ use Rattle.clap.specs.declared.parser.matches.Found.{Found}
 use Rattle.clap.proofs.OnLiterals.{clap_on_literals}
 use Rattle.clap.proofs.WalkLemmas.{first_value-rows, one_text-rows}
 use Rattle.cli.specs.declared.words.Request.{Request}
-use Rattle.cli.specs.declared.words.Request.TheVariants.{Mkfs, Check, Recover, Cat, Ls, Show, Put, Copy, Replay, Run, Stops}
-use Rattle.cli.specs.CommandLine.{AskFor, AskToWait, Asks, AsksBy, HasApp, HasChoice, HasFewWorkers, HasFlag, HasWord, IsMistakeIn, Waits, mistakes_in, xvfs_app}
+use Rattle.cli.specs.declared.words.Request.TheVariants.{Mkfs, Check, Recover, Cat, Ls, Df, Show, Put, Copy, Replay, Run, Stops}
+use Rattle.cli.specs.CommandLine.{AskFor, AskToWait, Asks, AsksBy, HasApp, HasChoice, HasFewWorkers, HasFlag, IsMistakeIn, Waits, mistakes_in, xvfs_app}
 
 pub one_word : (app : App) (rule : Rule) (old : Command) (word : Arg) (new : Command) → HasApp app old → rule_of word ≡ rule → word.global ≡ false → AddsArg old word new → HasApp (with_rule app rule) new
 one_word app rule old word new has is local adds =
     (adds.shape local ∙ ap₂ with_rule has.0 is, adds.globals ∙ ap₂ (λ (a b : Bool). a || b) has.1 local)
-
--- a command that was handed on got one more word
-pub next_word : {E F : Type 0} (app : App) (rule : Rule) (old : Result Command E) (word : Arg) (new : Result Command F) → IfOk old (HasApp app) → rule_of word ≡ rule → word.global ≡ false → IfOk new (HasWord old word) → IfOk new (HasApp (with_rule app rule))
-next_word app rule old word new has is local more = IfOk-weaker new _ _ (λ r adds. adds app rule has is local) more
 
 pub one_command : (app sub : App) (old added new : Command) → HasApp app old → HasApp sub added → AddsSubcommand old added new → HasApp (with_subcommand app sub.top) new
 one_command app sub old added new has own adds =
@@ -97,6 +92,7 @@ few_by name rows (Check image) asks = tt
 few_by name rows (Recover image sync) asks = tt
 few_by name rows (Cat image inum) asks = tt
 few_by name rows (Ls image) asks = tt
+few_by name rows (Df image) asks = tt
 few_by name rows (Show image inum) asks = tt
 few_by name rows (Put image file inum) asks = tt
 few_by name rows (Copy old new size) asks = tt

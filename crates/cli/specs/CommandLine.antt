@@ -1,11 +1,10 @@
 -- The command line, as clap is told it.
 use Rattle.std.specs.Prelude.{◌≡◌, ◌⊎◌, ◌≤◌, ⊤, ℕ, List, [], Bool, IfOk, Option, Result, Some, None, true, false, codes, pos}
-use Rattle.clap.specs.Words.{App, HasKind, Kinds, Row, Rule, new_app, new_rule, app_of, fault_of, first_of, kind_of, one_of, rule_of, subcommand_of, with_rule, with_subcommand}
+use Rattle.clap.specs.Words.{App, HasKind, Kinds, Row, Rule, new_app, new_rule, app_of, fault_of, first_of, kind_of, one_of, subcommand_of, with_rule, with_subcommand}
 use Rattle.clap.specs.declared.error.Error.{Error}
 use Rattle.clap.specs.declared.error.kind.ErrorKind.TheVariants as kind
 use Rattle.cli.specs.declared.words.Request.{Request}
-use Rattle.cli.specs.declared.words.Request.TheVariants.{Mkfs, Check, Recover, Cat, Ls, Show, Put, Copy, Replay, Run, Stops}
-use Rattle.clap.specs.declared.builder.arg.Arg.{Arg}
+use Rattle.cli.specs.declared.words.Request.TheVariants.{Mkfs, Check, Recover, Cat, Ls, Df, Show, Put, Copy, Replay, Run, Stops}
 use Rattle.clap.specs.declared.builder.command.Command.{Command}
 use Rattle.clap.specs.declared.builder.command.Command.TheViews.{out-Command}
 use Rattle.clap.specs.declared.builder.action.ArgAction.TheVariants.{SetTrue}
@@ -31,15 +30,12 @@ stop_rule = record (new_rule (codes "stop")) {
 abbrev pub flag_rule : List ℕ → Rule
 flag_rule id = record (new_rule id) { long = Some id; action = Some SetTrue }
 
--- a command with one word
-abbrev pub first_app : List ℕ → List ℕ → App
-first_app name word = with_rule (new_app name) (required_rule word)
-
--- the same over an image, which waits for it where that is asked for
+-- a command whose first word is a path of an image, and which waits for it where that is asked for
 abbrev pub waiting_app : List ℕ → List ℕ → App
-waiting_app name word = with_rule (first_app name word) (flag_rule (codes "wait"))
+waiting_app name word =
+    with_rule (with_rule (new_app name) (required_rule word)) (flag_rule (codes "wait"))
 
--- a command over the image at a path
+-- a command over an image
 abbrev pub image_app : List ℕ → App
 image_app name = waiting_app name (codes "IMAGE")
 
@@ -93,8 +89,8 @@ run_app = with_rule (with_rule (with_rule (image_app (codes "run"))
     (required_rule (codes "SCRIPT"))) workers_rule) (flag_rule (codes "sync"))
 
 abbrev pub stops_app : App
-stops_app = with_rule (with_rule (first_app (codes "stops") (codes "SCRIPT"))
-    (required_rule (codes "SCHEDULE"))) (flag_rule (codes "held"))
+stops_app = with_rule (with_rule (with_rule (new_app (codes "stops"))
+    (required_rule (codes "SCRIPT"))) (required_rule (codes "SCHEDULE"))) (flag_rule (codes "held"))
 
 -- the program, with no command yet
 abbrev pub bare_app : App
@@ -106,21 +102,14 @@ bare_app = record (new_app (codes "xvfs")) {
   };
 }
 
--- with those that make an image and read it
-abbrev pub files_app : App
-files_app =
-    with_subcommand (with_subcommand (with_subcommand (with_subcommand bare_app mkfs_app.top)
-    (image_app (codes "check")).top) (image_app (codes "ls")).top) cat_app.top
-
--- and with those over an image that need no script
-abbrev pub images_app : App
-images_app = with_subcommand (with_subcommand (with_subcommand (with_subcommand files_app
-    show_app.top) put_app.top) copy_app.top) recover_app.top
-
+-- with its commands, in the order of help
 abbrev pub xvfs_app : App
 xvfs_app =
     with_subcommand (with_subcommand (with_subcommand (with_subcommand (with_subcommand
-    (with_subcommand (with_subcommand files_app show_app.top) put_app.top) copy_app.top)
+    (with_subcommand (with_subcommand (with_subcommand (with_subcommand (with_subcommand
+    (with_subcommand (with_subcommand bare_app mkfs_app.top) (image_app (codes "check")).top)
+    (image_app (codes "ls")).top) (image_app (codes "df")).top) cat_app.top) show_app.top)
+    put_app.top) copy_app.top)
     recover_app.top) replay_app.top) run_app.top) stops_app.top
 
 -- a command of this shape, whose arguments are its own
@@ -131,11 +120,6 @@ HasApp app c = (app_of c ≡ app) × ((out-Command c).has_globals ≡ false)
 abbrev pub HasMore : {E : Type 0} → Command → Result Command E → Command → Type 0
 HasMore old more new = (app sub : App) → HasApp app old → IfOk more (HasApp sub)
     → HasApp (with_subcommand app sub.top) new
-
--- a command that has one more word than another had
-abbrev pub HasWord : {E : Type 0} → Result Command E → Arg → Command → Type 0
-HasWord old word new = (app : App) (rule : Rule) → IfOk old (HasApp app) → rule_of word ≡ rule
-    → word.global ≡ false → HasApp (with_rule app rule) new
 
 -- the kinds of mistake in these words, and of answers about the program; none where they make a
 -- command
@@ -172,6 +156,8 @@ AsksBy name rows (Recover image sync) = (name ≡ codes "recover")
 AsksBy name rows (Cat image inum) = (name ≡ codes "cat")
     × (first_of (codes "IMAGE") rows ≡ Some image.now)
 AsksBy name rows (Ls image) = (name ≡ codes "ls")
+    × (first_of (codes "IMAGE") rows ≡ Some image.now)
+AsksBy name rows (Df image) = (name ≡ codes "df")
     × (first_of (codes "IMAGE") rows ≡ Some image.now)
 AsksBy name rows (Show image inum) = (name ≡ codes "show")
     × (first_of (codes "IMAGE") rows ≡ Some image.now) × HasChoice (codes "INUM") rows inum

@@ -1,2 +1,3 @@
 pub mod CommandLine
 pub mod Told
+pub mod Table

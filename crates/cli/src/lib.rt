@@ -5,6 +5,8 @@
 #![tactic(auto)]
 
 mod explanation;
+mod program;
+mod table;
 mod words;
 
 pub use explanation::Explanation;

@@ -10,5 +10,5 @@ mod operations;
 
 pub use bench::{Bench, Faulty, block_of, blocks_of, disk_of, done, text_of};
 pub use fault::LineFault;
-pub use commands::call;
+pub use images::call;
 pub use operations::{filled, operation, told_answer};

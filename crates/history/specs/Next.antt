@@ -59,7 +59,7 @@ IsOver n form p group k e s t es fs a =
     ReadOver form p group k e s t es fs a
     ⊎ (ChangeOver n p group k e s t es fs a ⊎ LookOver p group k e s t es fs a)
 
--- WHAT A STEP OF PROCESS p's TASK MAKES of store, journal and place; none is made where it has to
+-- WHAT A STEP OF PROCESS p's TASK MAKES of store, journal and phase; none is made where it has to
 -- wait, or the disk failed.
 abbrev pub TaskNext : Phase → TaskProgress → ℕ → Form → ℕ → ℕ → View → List Entry → View → List Entry
     → Phase → Type 0

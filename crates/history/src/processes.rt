@@ -4,7 +4,7 @@ ghost use Rattle.history.specs.Processes.{World, process, fresh_world, with_plac
 ghost use Rattle.history.specs.Journal.{plain_reply, FitsRoom};
 ghost use Rattle.history.specs.Processes.{turned, decided, over, entry_place, operation_at, HasEntryPlace, committing, answered, is_before, last_answer, refusal_answer};
 
-use crate::{Phase, Journal, Process};
+use crate::{Journal, Phase, Process};
 use blocks::NoMemory;
 use model::gathered::Gathered;
 use model::types::{Answer, Entry, Op, Reply};
@@ -260,8 +260,8 @@ fn entry_place(at: &Phase) -> Option<usize>
 {
     match at {
         Phase::Idle | Phase::BeforeTurn { .. } => None,
-        Phase::AfterTurn { entry, .. } | Phase::Ending { entry, .. } | Phase::Committing { entry, .. } => {
-            Some(*entry)
-        }
+        Phase::AfterTurn { entry, .. }
+        | Phase::Ending { entry, .. }
+        | Phase::Committing { entry, .. } => { Some(*entry) }
     }
 }

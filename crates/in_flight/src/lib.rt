@@ -39,5 +39,3 @@
 #![tactic(auto)]
 
 pub mod laws;
-
-

@@ -1,4 +1,4 @@
--- A step of a process whose place has a driven machine, of any kind: what it makes of disk, buffers and log, for whom it
+-- A step of a process whose stage has a driven machine, of any kind: what it makes of disk, buffers and log, for whom it
 -- waits, and what a step that was not made leaves.
 use Rattle.std.proofs.Common.{◌≡◌, ◌≢◌, ℕ, ◌<◌, List, length, refl, sym, ◌∙◌, ap, subst, arith, Option, Some, None}
 use Rattle.std.proofs.lemmas.Bool.{false≢true}
@@ -27,8 +27,8 @@ use Rattle.blockmap.specs.Next.{KeepsApart, block_of_next, used_now}
 use Rattle.blockmap.specs.declared.driving.Driven.{Driven}
 use Rattle.blockmap.specs.declared.driving.Got.{Got}
 use Rattle.blockmap.specs.declared.machine.Machine.{Ghosts as Pure}
-use Rattle.blockmap.specs.declared.progress.Progress.{Progress}
-use Rattle.blockmap.specs.declared.progress.Progress.TheVariants as machine
+use Rattle.model.specs.declared.types.progress.Progress.{Progress}
+use Rattle.model.specs.declared.types.progress.Progress.TheVariants as machine
 use Rattle.inodes.specs.declared.tasks.Stage.{Stage}
 use Rattle.inodes.specs.Grips.{KeepsTable, locked_grip}
 use Rattle.inodes.specs.Holding.{claim_by, claims_of}

@@ -1,4 +1,4 @@
--- A task by its place: whether its next step uses what it has got, what it keeps while it gets
+-- A task by its stage: whether its next step uses what it has got, what it keeps while it gets
 -- another block, and that it waits for this alone.
 use Rattle.std.proofs.Common.{◌≡◌, ◌≢◌, ℕ, ◌+◌, ◌≤◌, Bool, true, false, List, [], ◌∷◌, ◌++◌, length, map, refl, sym, ap, inl, inr, ◌⊎◌, arith, Option, Some, None}
 use Rattle.std.specs.Prelude.{is_none, is_some, not}

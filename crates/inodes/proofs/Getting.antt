@@ -8,16 +8,14 @@ use Rattle.wal.specs.declared.types.DeviceFault.TheVariants.{Block}
 use Rattle.model.specs.declared.types.operations.TaskProgress.{TaskProgress}
 use Rattle.model.specs.declared.types.operations.Why.{Why}
 use Rattle.model.specs.declared.types.operations.Why.TheVariants as why
-use Rattle.wal.specs.Volume.{fault_of_task}
+use Rattle.wal.specs.Volume.{fault_of_task, VolumeState, OnSleeping, fault_of_get, faults_after, GetsFor, progress_of, slot_of}
 use Rattle.bcache.specs.Buffers.{Buffers}
-use Rattle.wal.specs.declared.types.Get.{Get}
-use Rattle.wal.specs.declared.types.Get.TheVariants as get
+use Rattle.wal.specs.Get.{Get}
+use Rattle.wal.specs.Get as get
 use Rattle.wal.specs.Held.{HasLock, IsLocked, LocksAfter, GetsLock, GivesUpLock}
 use Rattle.wal.specs.Machine.{LogState}
-use Rattle.wal.specs.Volume.{VolumeState, OnSleeping, fault_of_get, faults_after}
-use Rattle.blockmap.specs.declared.progress.Progress.{Progress}
-use Rattle.blockmap.specs.declared.progress.Progress.TheVariants as machine
-use Rattle.blockmap.specs.Getting.{GetsFor, progress_of, slot_of}
+use Rattle.model.specs.declared.types.progress.Progress.{Progress}
+use Rattle.model.specs.declared.types.progress.Progress.TheVariants as machine
 use Rattle.inodes.specs.Goes.{ShowsSame}
 use Rattle.inodes.specs.Places.{HasSlot}
 use Rattle.inodes.specs.Steps.{Reads, IsHeldByAnother}

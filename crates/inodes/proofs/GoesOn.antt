@@ -51,7 +51,7 @@ locked_gets (stage.Truncating l m) j k i has = refl
 locked_gets (stage.Writing l m) j k i has = refl
 locked_gets (stage.Leaving l) j k i has = refl
 
--- a task that neither is over nor gets a block waits for a lock at that place, if anybody has it
+-- a task that neither is over nor gets a block waits for a lock at that stage, if anybody has it
 abbrev WaitsForLock : Buffers → TableState → Stage → Type 0
 WaitsForLock c t a = (k : ℕ) × (cause_at c t a ≡ cause_of_holder (holder_at t.places k))
 

@@ -47,4 +47,5 @@ mod NoneFree
 mod FreePlaces
 mod KeptBlocks
 mod GoesOn
+mod GoingOn
 pub mod Sleeping

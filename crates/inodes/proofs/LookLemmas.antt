@@ -6,19 +6,16 @@ use Rattle.blocks.specs.Disk.{Image, block_at}
 use Rattle.blocks.specs.declared.disk.Disk.{Ghosts}
 use Rattle.model.specs.Codec.{new_inode, with_inode}
 use Rattle.model.specs.Layout.{inode_in, inode_bytes_in, inode_block, inode_of}
-use Rattle.bcache.specs.Buffers.{Buffers, buffer}
-use Rattle.wal.specs.Volume.{Holds}
+use Rattle.bcache.specs.Buffers.{Buffers, buffer, block_or_zero}
+use Rattle.wal.specs.Volume.{Holds, VolumeState}
 use Rattle.blockmap.specs.Getting.{HoldsWhereGot}
-use Rattle.inodes.specs.Ialloc.{SearchState}
-use Rattle.blockmap.specs.declared.progress.Progress.{Progress}
-use Rattle.blockmap.specs.declared.progress.Progress.TheVariants as progress
+use Rattle.inodes.specs.Ialloc.{SearchState, IsReady, MayStep, OnMore, IsFree, SeesNoneFree, SearchSteps, finds, is_last_block, at_next_block, with_released, with_new_inode}
+use Rattle.model.specs.declared.types.progress.Progress.{Progress}
+use Rattle.model.specs.declared.types.progress.Progress.TheVariants as progress
 use Rattle.inodes.specs.Creation.{lowest_free}
-use Rattle.bcache.specs.Buffers.{block_or_zero}
 use Rattle.wal.specs.Held.{GivesUpLock}
 use Rattle.wal.specs.Joint.{seen}
 use Rattle.wal.specs.Machine.{noted}
-use Rattle.wal.specs.Volume.{VolumeState}
-use Rattle.inodes.specs.Ialloc.{IsReady, MayStep, OnMore, IsFree, SeesNoneFree, SearchSteps, finds, is_last_block, at_next_block, with_released, with_new_inode}
 use Rattle.inodes.specs.Lemmas.Looks.{found_number, taken_by_look}
 
 -- the process holds the block that it looks at

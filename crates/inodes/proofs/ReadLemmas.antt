@@ -23,8 +23,8 @@ use Rattle.blockmap.specs.Lemmas.Seeking.{SeeksOn, seeks_on}
 use Rattle.blockmap.specs.Lemmas.Targets.{few_at, leads_for, needed_within, steps_enough, steps_grow, steps_more}
 use Rattle.blockmap.specs.Reading.{MayRead}
 use Rattle.blockmap.specs.Target.{IsSought, LeadsTo, Seeks, got_slot, steps_at, steps_for, target_for}
-use Rattle.blockmap.specs.declared.progress.Progress.{Progress}
-use Rattle.blockmap.specs.declared.progress.Progress.TheVariants as progress
+use Rattle.model.specs.declared.types.progress.Progress.{Progress}
+use Rattle.model.specs.declared.types.progress.Progress.TheVariants as progress
 use Rattle.blockmap.specs.declared.target.Target.{Target}
 use Rattle.blockmap.specs.declared.target.Target.TheVariants as target
 use Rattle.inodes.specs.Lemmas.ReadRuns.{Begins, begins}

@@ -18,22 +18,22 @@ use Rattle.model.specs.Layout.{form_of}
 use Rattle.model.specs.Operations.{part_of}
 use Rattle.model.specs.Tasks.{FilesThen, reply_at_turn}
 use Rattle.model.specs.Lemmas.Bytes.{part_in_two}
-use Rattle.wal.specs.Volume.{fault_of_task}
+use Rattle.wal.specs.Volume.{fault_of_task, VolumeState, GetsFor, progress_of}
 use Rattle.bcache.specs.Buffers.{Buffers}
 use Rattle.wal.specs.Held.{LocksAfter, WaitsFor}
 use Rattle.wal.specs.Joint.{Joint}
 use Rattle.wal.specs.Machine.{LogState}
-use Rattle.wal.specs.Volume.{VolumeState}
-use Rattle.wal.specs.declared.types.Get.{Get}
-use Rattle.wal.specs.declared.types.Get.TheVariants as get
+use Rattle.wal.specs.Get.{Get}
+use Rattle.wal.specs.Get as get
 use Rattle.blockmap.specs.Bmap.{EntryState, Ends, GoesBelow, LooksUp, with_slot}
 use Rattle.blockmap.specs.Branch.{named_by}
 use Rattle.blockmap.specs.Lemmas.Targets.{first_slot}
-use Rattle.blockmap.specs.Getting.{GetsFor, Releases, progress_of}
+use Rattle.blockmap.specs.Getting.{Releases}
 use Rattle.blockmap.specs.Lemmas.Reading.{length-bytes, part_cut}
-use Rattle.blockmap.specs.Target.{LeadsToBlock, LooksUpFor, block_of, progress_behind, slot_in, steps_at, target_behind, target_for}
-use Rattle.blockmap.specs.declared.progress.Progress.{Progress}
-use Rattle.blockmap.specs.declared.progress.Progress.TheVariants as machine
+use Rattle.blockmap.specs.Target.{LeadsToBlock, LooksUpFor, block_of, slot_in, steps_at, target_behind, target_for}
+use Rattle.model.specs.Progress.{one_more}
+use Rattle.model.specs.declared.types.progress.Progress.{Progress}
+use Rattle.model.specs.declared.types.progress.Progress.TheVariants as machine
 use Rattle.blockmap.specs.declared.target.Target.{Target}
 use Rattle.blockmap.specs.declared.target.Target.TheVariants as target
 use Rattle.blockmap.specs.Lemmas.Others.{StaysForOthers}
@@ -56,10 +56,10 @@ use Rattle.inodes.proofs.Taking.{none_of_zero}
 use Rattle.inodes.proofs.Reading.{agrees, looking, at_read, has, slot_is, may, room}
 
 -- what the volume says to the reading of an entry, it says to the machine that seeks the block
-as_get : (r : Progress (Option ℕ)) (a : Get) → r ≡ progress_of a → progress_behind r ≡ progress_of a
-as_get r (get.Got i) gives = ap progress_behind gives
-as_get r (get.Sleeping cause) gives = ap progress_behind gives
-as_get r (get.Fault fault) gives = ap progress_behind gives
+as_get : (r : Progress (Option ℕ)) (a : Get) → r ≡ progress_of a → one_more r ≡ progress_of a
+as_get r (get.Got i) gives = ap one_more gives
+as_get r (get.Sleeping cause) gives = ap one_more gives
+as_get r (get.Fault fault) gives = ap one_more gives
 
 -- it seeks the entry still
 entry_still : (r : Progress (Option ℕ)) (e : EntryState) (a : Get) → r ≡ progress_of a → target_behind r e ≡ target.Entry e
@@ -137,7 +137,7 @@ module _ (ts us vs : List TaskState) (p : ℕ) (a : Stage) (g : GatheredBytes) (
       ∙ ap (λ (t : TaskState). set (set ts p without) p (record t { gathered = Some g })) (get_or-set_same ts p without no_task inside)
       ∙ set-set ts p without with_others
 
-  -- it goes on to a place
+  -- it goes on to a stage
   pub goes_with : (now : List TaskState) → now ≡ set vs p (record (task vs p) { place = a }) → now ≡ set ts p (record (task ts p) { place = a; gathered = Some g })
   goes_with now go = go ∙ ap (λ (l : List TaskState). set l p (record (task l p) { place = a })) put_in
       ∙ ap (λ (t : TaskState). set (set ts p with_others) p (record t { place = a })) (get_or-set_same ts p with_others no_task inside)
@@ -273,9 +273,9 @@ module _ {D N : Type 0} (disk : Ghosts D N) (s : StoreState D) (p k : ℕ) (m : 
     uses_entry : (e : EntryState) (i : ℕ) → m.target ≡ target.Entry e → e.slot ≡ Some i → (f : LooksUpFor disk s.volume p e q n.target w) → LooksUp disk (Some i) s.volume p e f.answer f.entry w → Does
     uses_entry e i at got f looks =
         ⊎_elim
-        (λ (over : Ends (named_by cur e.node) e f.answer f.entry). frees (f.gives ∙ ap progress_behind over.over)
+        (λ (over : Ends (named_by cur e.node) e f.answer f.entry). frees (f.gives ∙ ap one_more over.over)
         (ap slot_in (f.target ∙ ap (λ (r : Progress (Option ℕ)). target_behind r f.entry) over.over)))
-        (λ (on : GoesBelow (named_by cur e.node) e f.answer f.entry). frees (f.gives ∙ ap progress_behind on.moved)
+        (λ (on : GoesBelow (named_by cur e.node) e f.answer f.entry). frees (f.gives ∙ ap one_more on.moved)
         (ap slot_in (f.target ∙ ap (λ (r : Progress (Option ℕ)). target_behind r f.entry) on.moved) ∙ ap (λ (o : EntryState). o.slot) on.now))
         looks.0
       where

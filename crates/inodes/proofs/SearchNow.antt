@@ -3,19 +3,17 @@ use Rattle.std.proofs.Common.{◌≡◌, ◌<◌, ◌≤◌, ℕ, leb, length, L
 use Rattle.std.specs.Prelude.{IfNone}
 use Rattle.std.proofs.lemmas.Bool.{leb-true}
 use Rattle.std.proofs.lemmas.List.{get_or-set_same}
-use Rattle.blocks.specs.Disk.{IsImage}
+use Rattle.blocks.specs.Disk.{IsImage, Image}
 use Rattle.blocks.specs.declared.disk.Disk.{Ghosts}
-use Rattle.blocks.specs.Disk.{Image}
 use Rattle.wal.specs.declared.types.DeviceFault.{DeviceFault}
 use Rattle.model.specs.declared.types.operations.Op.{Op}
 use Rattle.model.specs.declared.types.operations.Op.TheVariants.{Create}
 use Rattle.model.specs.Lemmas.Log.{both_of}
-use Rattle.wal.specs.Volume.{fault_of_task}
+use Rattle.wal.specs.Volume.{fault_of_task, VolumeState, faults_after}
 use Rattle.wal.specs.Joint.{Joint}
 use Rattle.wal.specs.Machine.{LogState, SameGroups}
-use Rattle.wal.specs.Volume.{VolumeState, faults_after}
-use Rattle.blockmap.specs.declared.progress.Progress.TheVariants as machine
-use Rattle.blockmap.specs.declared.progress.Progress.{Progress}
+use Rattle.model.specs.declared.types.progress.Progress.TheVariants as machine
+use Rattle.model.specs.declared.types.progress.Progress.{Progress}
 use Rattle.inodes.specs.declared.tasks.Stage.{Stage}
 use Rattle.inodes.specs.declared.tasks.Stage.TheVariants as stage
 use Rattle.inodes.specs.Goes.{Goes, GoesFrom, progress_of_search, shown_of}

@@ -10,9 +10,9 @@ use Rattle.model.specs.declared.types.operations.TaskProgress.{TaskProgress}
 use Rattle.model.specs.declared.types.operations.TaskProgress.TheVariants as progress
 use Rattle.model.specs.declared.types.operations.Why.{Why}
 use Rattle.model.specs.Layout.{inode_block, inode_of}
-use Rattle.wal.specs.declared.types.Get.{Get}
-use Rattle.wal.specs.declared.types.Get.TheVariants as get
-use Rattle.wal.specs.Volume.{VolumeState, UnlessFault, OnFault, FailsToFill, get_answer, get_answer_by, cause_of_get, cause_to_get}
+use Rattle.wal.specs.Get.{Get}
+use Rattle.wal.specs.Get as get
+use Rattle.wal.specs.Volume.{VolumeState, UnlessFault, OnFault, FailsToFill, get_answer, get_answer_by, cause_of_get, cause_to_get, GetsFor, progress_of}
 use Rattle.blockmap.specs.Balloc.{AllocState, Allocs}
 use Rattle.blockmap.specs.Bmap.{EntryState, LooksUp}
 use Rattle.blockmap.specs.BmapAlloc.{MapState, MapSteps, TakesOne}
@@ -20,12 +20,12 @@ use Rattle.blockmap.specs.declared.balloc.AllocAt.{AllocAt}
 use Rattle.blockmap.specs.declared.balloc.AllocAt.TheVariants as alloc_at
 use Rattle.blockmap.specs.declared.bmap_alloc.MapAt.{MapAt}
 use Rattle.blockmap.specs.declared.bmap_alloc.MapAt.TheVariants as map_at
-use Rattle.blockmap.specs.declared.progress.Progress.{Progress}
-use Rattle.blockmap.specs.declared.progress.Progress.TheVariants as machine
+use Rattle.model.specs.Progress.{one_more}
+use Rattle.model.specs.declared.types.progress.Progress.{Progress}
+use Rattle.model.specs.declared.types.progress.Progress.TheVariants as machine
 use Rattle.blockmap.specs.declared.target.Target.{Target}
 use Rattle.blockmap.specs.declared.target.Target.TheVariants as target
-use Rattle.blockmap.specs.Getting.{GetsFor, progress_of}
-use Rattle.blockmap.specs.Target.{block_of, slot_in, progress_behind}
+use Rattle.blockmap.specs.Target.{block_of, slot_in}
 use Rattle.blockmap.specs.Driver.{Drives}
 use Rattle.blockmap.specs.Lemmas.Others.{never_sleeps}
 use Rattle.blockmap.specs.Next.{block_of_next, used_now, wanted_by}
@@ -53,7 +53,7 @@ use Rattle.inodes.specs.Store.{current_of}
 use Rattle.inodes.specs.Table.{TableState, copy_at, holder_at}
 use Rattle.inodes.specs.Tasks.{task}
 use Rattle.inodes.specs.Waiting.{WaitsWithCause, cause_at, cause_of_holder, cause_to_lock, unless_got, wanted_by_alloc, wanted_by_write, wanted_on_way}
-use Rattle.inodes.specs.Writei.{WriteState, WriteSteps, progress_mapped}
+use Rattle.inodes.specs.Writei.{WriteState, WriteSteps}
 use Rattle.inodes.specs.Writing.{block_of_alloc, slot_of_alloc}
 
 asleep : (a : Get) (cause : Why) → cause_of_get a ≡ Some cause → a ≡ get.Sleeping cause
@@ -106,7 +106,7 @@ module _ {D N : Type 0} (disk : Ghosts D N) (v w : VolumeState D) (p : ℕ) (cau
   -- ---- and those that they are part of
 
   reads : (m n : ReadState) (t : Target) (r : Progress (Unit {0})) → HasCause (unless_got (slot_in t) (block_of t)) → Works disk t v p m r w n → r ≡ machine.Sleeping cause
-  reads m n (target.Entry entry) r e does = does.1.gives ∙ ap progress_behind (looks entry does.1.entry entry.slot does.1.answer e does.1.looks)
+  reads m n (target.Entry entry) r e does = does.1.gives ∙ ap one_more (looks entry does.1.entry entry.slot does.1.answer e does.1.looks)
   reads m n (target.Block b None) r e does = gets e does.1.2
   reads m n (target.Block b (Some i)) r e does = absurd (cc e)
 
@@ -133,7 +133,7 @@ module _ {D N : Type 0} (disk : Ghosts D N) (v w : VolumeState D) (p : ℕ) (cau
   maps m n d f (map_at.Setting k i found) r e does = absurd (cc e)
 
   writes : (m n : WriteState) (a : WriteAt) (bytes : List ℕ) (r : Progress (Unit {0})) → HasCause (wanted_by_write a) → WriteSteps disk a v p m bytes r n w → r ≡ machine.Sleeping cause
-  writes m n (write_at.Mapping way) bytes r e does = does.gives ∙ ap progress_mapped (maps way does.now m.inode does.inode way.at does.answer e does.steps)
+  writes m n (write_at.Mapping way) bytes r e does = does.gives ∙ ap one_more (maps way does.now m.inode does.inode way.at does.answer e does.steps)
   writes m n (write_at.Block b None) bytes r e does = gets e does.1
   writes m n (write_at.Block b (Some i)) bytes r e does = absurd (cc e)
   writes m n (write_at.Updating u) bytes r e does = updates u does.0 m.inode u.slot r e does.1

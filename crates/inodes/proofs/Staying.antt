@@ -8,19 +8,19 @@ use Rattle.model.specs.Gathered.{GatheredBytes}
 use Rattle.model.specs.declared.types.image.Dinode.{Dinode}
 use Rattle.bcache.specs.Buffers.{Buffers}
 use Rattle.wal.specs.Joint.{seen}
-use Rattle.wal.specs.Volume.{VolumeState}
-use Rattle.wal.specs.declared.types.Get.TheVariants as get
-use Rattle.wal.specs.declared.types.Get.{Get}
+use Rattle.wal.specs.Volume.{VolumeState, GetsFor, progress_of, slot_of}
+use Rattle.wal.specs.Get as get
+use Rattle.wal.specs.Get.{Get}
 use Rattle.blockmap.specs.Driver.{Drives, over_with, progress_of_over, when_got}
-use Rattle.blockmap.specs.Getting.{GetsFor, progress_of, slot_of}
 use Rattle.blockmap.specs.declared.driving.Got.{Got}
-use Rattle.blockmap.specs.declared.progress.Progress.TheVariants as machine
-use Rattle.blockmap.specs.declared.progress.Progress.{Progress}
+use Rattle.model.specs.declared.types.progress.Progress.TheVariants as machine
+use Rattle.model.specs.Progress.{one_more}
+use Rattle.model.specs.declared.types.progress.Progress.{Progress}
 use Rattle.blockmap.specs.Balloc.{AllocState, Allocs, TakesLowest, lowest_in}
 use Rattle.blockmap.specs.Bmap.{Ends, EntryState, GoesBelow, LooksUp, some_address, with_slot}
 use Rattle.blockmap.specs.BmapAlloc.{FindsEntry, MapState, MapSteps, SetsEntry, after_address, address_at, after_behind, behind_at, naming}
 use Rattle.blockmap.specs.Branch.{named_by}
-use Rattle.blockmap.specs.Target.{progress_behind, target_behind}
+use Rattle.blockmap.specs.Target.{target_behind}
 use Rattle.blockmap.specs.declared.balloc.AllocAt.TheVariants as alloc_at
 use Rattle.blockmap.specs.declared.balloc.AllocAt.{AllocAt}
 use Rattle.blockmap.specs.declared.bmap_alloc.MapAt.TheVariants as map_at
@@ -34,12 +34,17 @@ use Rattle.inodes.specs.declared.tasks.Stage.{Stage}
 use Rattle.inodes.specs.declared.writei.WriteAt.TheVariants as write_at
 use Rattle.inodes.specs.declared.writei.WriteAt.{WriteAt}
 use Rattle.inodes.specs.Ialloc.{SearchGoes, SearchState}
+use Rattle.inodes.specs.declared.ilock.LockAt.TheVariants as lock_at
+use Rattle.inodes.specs.declared.ilock.LockAt.{LockAt}
+use Rattle.inodes.specs.Ilock.{LockSteps, Locks, at_lock}
 use Rattle.inodes.specs.InPlace.{SearchesInPlace}
 use Rattle.inodes.specs.Itrunc.{Freeing, itrunc, trunc_next}
 use Rattle.inodes.specs.Iupdate.{UpdateState, Updates}
+use Rattle.inodes.specs.LockState.{LockState}
+use Rattle.inodes.specs.Table.{TableState, copy_at, holder_at}
 use Rattle.inodes.specs.Readi.{IsMade, ReadState, ReadSteps, Works}
 use Rattle.inodes.specs.Tasks.{TaskState, no_task, task}
-use Rattle.inodes.specs.Writei.{WriteState, WriteSteps, progress_mapped, write_mapped}
+use Rattle.inodes.specs.Writei.{WriteState, WriteSteps, write_mapped}
 use Rattle.inodes.proofs.Gripping.{same_task}
 
 -- nothing was done
@@ -48,6 +53,13 @@ Rests machine.Moved = ⊥
 Rests (machine.Sleeping why) = Unit {0}
 Rests (machine.Over out) = ⊥
 Rests (machine.Fault fault) = Unit {0}
+
+-- one step among others rests where its machine does
+one_rests : {T : Type 0} (q : Progress T) → Rests (one_more q) → Rests q
+one_rests machine.Moved rests = rests
+one_rests (machine.Sleeping why) rests = tt
+one_rests (machine.Over out) rests = absurd rests
+one_rests (machine.Fault fault) rests = tt
 
 -- then no slot was got
 none_got : (T : Type 0) (a : Get) (s : Option ℕ) → Rests (progress_of {T = T} a) → s ≡ slot_of a → s ≡ None
@@ -142,13 +154,7 @@ module _ {D N : Type 0} (disk : Ghosts D N) (v w : VolumeState D) (p : ℕ) wher
   updates u n d None r at does rests = does.0 ∙ ap (λ (x : Option ℕ). record u { slot = x }) (gets does.1 rests ∙ sym at)
   updates u n d (Some i) r at does rests = absurd (subst (λ (q : Progress (Unit {0})). Rests q) does.0 rests)
 
-  -- a writing rests where its way does, and stands on that way
-  mapped : (q : Progress (Option ℕ)) → Rests (progress_mapped q) → Rests q
-  mapped machine.Moved rests = rests
-  mapped (machine.Sleeping why) rests = tt
-  mapped (machine.Over found) rests = absurd rests
-  mapped (machine.Fault fault) rests = tt
-
+  -- a writing whose way rests stands on that way
   at_mapped : (m : WriteState) (way : MapState) (d : Dinode) (q : Progress (Option ℕ)) → Rests q → write_mapped m way d q ≡ record m { inode = d }
   at_mapped m way d machine.Moved rests = absurd rests
   at_mapped m way d (machine.Sleeping why) rests = refl
@@ -157,7 +163,7 @@ module _ {D N : Type 0} (disk : Ghosts D N) (v w : VolumeState D) (p : ℕ) wher
 
   pub writes : (m n : WriteState) (a : WriteAt) (bytes : List ℕ) (r : Progress (Unit {0})) → m.at ≡ a → WriteSteps disk a v p m bytes r n w → Rests r → n ≡ m
   writes m n (write_at.Mapping way) bytes r at does rests =
-      let still = mapped does.answer (subst (λ (q : Progress (Unit {0})). Rests q) does.gives rests) in
+      let still = one_rests does.answer (subst (λ (q : Progress (Unit {0})). Rests q) does.gives rests) in
       does.next ∙ at_mapped m does.now does.inode does.answer still ∙ ap (λ (d : Dinode). record m { inode = d }) (maps way does.now m.inode does.inode way.at does.answer refl does.steps still).1
   writes m n (write_at.Block b None) bytes r at does rests = does.2 ∙ ap (λ (x : WriteAt). record m { at = x }) (ap (write_at.Block b) (gets does.1 rests) ∙ sym at)
   writes m n (write_at.Block b (Some i)) bytes r at does rests = absurd (subst (λ (q : Progress (Unit {0})). Rests q) does.0 rests)
@@ -173,13 +179,7 @@ entry_stays disk v w p e n (Some i) r at does rests = absurd (⊎_elim
     (λ (goes : GoesBelow (named_by (seen (disk.image v.device) v.buffers) e.node) e r n). subst (λ (q : Progress (Option ℕ)). Rests q) goes.moved rests)
     does.0)
 
--- and so does what it is for
-behind_rests : (q : Progress (Option ℕ)) → Rests (progress_behind q) → Rests q
-behind_rests machine.Moved rests = rests
-behind_rests (machine.Sleeping why) rests = tt
-behind_rests (machine.Over found) rests = rests
-behind_rests (machine.Fault fault) rests = tt
-
+-- and what it is for stands there
 entry_there : (q : Progress (Option ℕ)) (e : EntryState) → Rests q → target_behind q e ≡ target.Entry e
 entry_there machine.Moved e rests = refl
 entry_there (machine.Sleeping why) e rests = refl
@@ -195,7 +195,7 @@ never_made (machine.Fault fault) made rests = made
 works_stay : {D N : Type 0} (disk : Ghosts D N) (v w : VolumeState D) (p : ℕ) (m n : ReadState) (t : Target) (r : Progress (Unit {0})) → m.target ≡ t → Works disk t v p m r w n → Rests r → n ≡ m
 works_stay disk v w p m n (target.Entry e) r at does rests =
     let seeks = does.1 in
-    let still = behind_rests seeks.answer (subst (λ (q : Progress (Unit {0})). Rests q) seeks.gives rests) in
+    let still = one_rests seeks.answer (subst (λ (q : Progress (Unit {0})). Rests q) seeks.gives rests) in
     let same = entry_stays disk v w p e seeks.entry e.slot seeks.answer refl seeks.looks still in
     does.0 ∙ ap (λ (x : Target). record m { target = x }) (seeks.target ∙ entry_there seeks.answer seeks.entry still ∙ ap target.Entry same ∙ sym at)
 works_stay disk v w p m n (target.Block b None) r at does rests =
@@ -205,6 +205,21 @@ works_stay disk v w p m n (target.Block b (Some i)) r at does rests = absurd (ne
 
 pub reads_stay : {D N : Type 0} (disk : Ghosts D N) (v w : VolumeState D) (p : ℕ) (m n : ReadState) (g h : GatheredBytes) (r : Progress (Unit {0})) → ReadSteps disk v p m g r w n h → Rests r → n ≡ m
 reads_stay disk v w p m n g h r steps rests = works_stay disk v w p m n m.target r refl steps.works rests
+
+-- ---- the taking of an inode
+
+-- the step that takes the lock, or leaves it to who has it
+lock_stays : (o : Option ℕ) (copy : Option Dinode) (t u : TableState) (p k : ℕ) (m n : LockState) (r : Progress Bool) → Locks o copy t p k m r u n → Rests r → n ≡ m
+lock_stays (Some q) copy t u p k m n r does rests = does.2
+lock_stays None (Some d) t u p k m n r does rests = does.2
+lock_stays None None t u p k m n r does rests = absurd (subst (λ (q : Progress Bool). Rests q) does.0 rests)
+
+pub locks_stay : {D N : Type 0} (disk : Ghosts D N) (v w : VolumeState D) (t u : TableState) (p : ℕ) (m n : LockState) (a : LockAt) (r : Progress Bool) → m.at ≡ a → LockSteps disk a t v p m r u w n → Rests r → n ≡ m
+locks_stay disk v w t u p m n lock_at.Reference r at does rests = absurd (subst (λ (q : Progress Bool). Rests q) does.0.2 rests)
+locks_stay disk v w t u p m n (lock_at.Lock k) r at does rests = lock_stays (holder_at t.places k) (copy_at t.places k) t u p k m n r does.0 rests
+locks_stay disk v w t u p m n (lock_at.Read k None) r at does rests =
+    does.0.2 ∙ ap (at_lock m) (ap (lock_at.Read k) (gets disk v w p does.0.1 rests) ∙ sym at)
+locks_stay disk v w t u p m n (lock_at.Read k (Some i)) r at does rests = does.1
 
 -- ---- the freeing of a file's blocks
 

@@ -25,12 +25,11 @@ use Rattle.wal.specs.Volume.{VolumeState}
 use Rattle.wal.specs.Lemmas.Held.{none_locked}
 use Rattle.wal.specs.Lemmas.Log.{is_open, quiet_of}
 use Rattle.wal.specs.Lemmas.Rooms.{GrowsHomes, begun_grows, ended_grows, noted_grows, used_begun, used_noted, used_ended, used_first}
-use Rattle.inodes.specs.Ialloc.{SearchState}
-use Rattle.blockmap.specs.declared.progress.Progress.{Progress}
-use Rattle.blockmap.specs.declared.progress.Progress.TheVariants as search
+use Rattle.inodes.specs.Ialloc.{SearchState, SearchSteps, SearchGoes, SearchLocks, IsFree, current_after, log_after, fault_in, at_slot}
+use Rattle.model.specs.declared.types.progress.Progress.{Progress}
+use Rattle.model.specs.declared.types.progress.Progress.TheVariants as search
 use Rattle.inodes.specs.declared.tasks.Stage.{Stage}
 use Rattle.inodes.specs.declared.tasks.Stage.TheVariants as stage
-use Rattle.inodes.specs.Ialloc.{SearchSteps, SearchGoes, SearchLocks, IsFree, current_after, log_after, fault_in, at_slot}
 use Rattle.inodes.specs.Tasks.{TaskState, task, no_task}
 use Rattle.inodes.specs.Holding.{claim_by, claims_of}
 use Rattle.inodes.specs.Lemmas.Holding.{claim_stays}
@@ -53,7 +52,7 @@ geometry_kept x y size same g = record {
 pub count_kept : (x y : Image) → block_at y 1 ≡ block_at x 1 → inode_count_of y ≡ inode_count_of x
 count_kept x y same = ap (λ (b : List ℕ). (super_in b).ninodes) same
 
--- process p's task goes on to a place
+-- process p's task goes on to a stage
 abbrev TaskGoes : Buffers → Buffers → LogState → LogState → ℕ → ℕ → List TaskState → Stage → Type 0
 TaskGoes c d l k n p ts a = TaskIsNow c d l k n p ts (record (task ts p) { place = a })
 

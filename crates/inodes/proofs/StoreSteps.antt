@@ -26,16 +26,15 @@ use Rattle.in_flight.specs.Lemmas.HeldFrames.{held_alike}
 use Rattle.in_flight.specs.Lemmas.HeldLooks.{free_tells}
 use Rattle.in_flight.specs.Lemmas.WriteBacks.{claim_fits}
 use Rattle.wal.specs.Machine.{LogState, SameGroups}
-use Rattle.wal.specs.Volume.{VolumeState}
+use Rattle.wal.specs.Volume.{VolumeState, fault_of_task}
 use Rattle.blockmap.specs.Lemmas.Others.{groups_noted, groups_same}
-use Rattle.inodes.specs.Ialloc.{SearchState}
-use Rattle.blockmap.specs.declared.progress.Progress.{Progress}
-use Rattle.blockmap.specs.declared.progress.Progress.TheVariants as search
+use Rattle.inodes.specs.Ialloc.{SearchState, BuffersAfter, SearchGoes, SearchLocks, IsFree, current_after, log_after, fault_in}
+use Rattle.model.specs.declared.types.progress.Progress.{Progress}
+use Rattle.model.specs.declared.types.progress.Progress.TheVariants as search
 use Rattle.model.specs.declared.types.operations.TaskProgress.TheVariants as progress
 use Rattle.inodes.specs.declared.tasks.Stage.{Stage}
 use Rattle.inodes.specs.declared.tasks.Stage.TheVariants as stage
 use Rattle.inodes.specs.Creation.{lowest_free}
-use Rattle.inodes.specs.Ialloc.{BuffersAfter, SearchGoes, SearchLocks, IsFree, current_after, log_after, fault_in}
 use Rattle.inodes.specs.Tasks.{TaskState, task}
 use Rattle.inodes.specs.Goes.{Shown, shown_of, FindsNone, GetsBlock, LooksAtBlock, GoesFrom, progress_of_search}
 use Rattle.inodes.specs.Looks.{AreLooking, LooksAt}
@@ -51,7 +50,6 @@ use Rattle.inodes.proofs.Gripping.{same_task}
 use Rattle.inodes.proofs.LooksKept.{KeepsUsed, keeps_claimed, keeps_same}
 use Rattle.inodes.proofs.Searching.{search as searching}
 use Rattle.model.specs.Tasks.{FilesThen, Answers, reply_at_turn, Marks}
-use Rattle.wal.specs.Volume.{fault_of_task}
 use Rattle.inodes.specs.Steps.{IsHeldByAnother, LeavesNumber, LeavesLate, is_made}
 use Rattle.inodes.specs.Lemmas.Unclaimed.{late_used}
 

@@ -18,12 +18,11 @@ use Rattle.model.specs.Tasks.{FilesThen, reply_at_turn}
 use Rattle.wal.specs.Held.{HasLock, LocksAfter, WaitsFor}
 use Rattle.wal.specs.Joint.{Joint}
 use Rattle.wal.specs.Machine.{LogState}
-use Rattle.wal.specs.Volume.{VolumeState}
-use Rattle.wal.specs.declared.types.Get.{Get}
-use Rattle.wal.specs.declared.types.Get.TheVariants as get
-use Rattle.blockmap.specs.declared.progress.Progress.{Progress}
-use Rattle.blockmap.specs.declared.progress.Progress.TheVariants as machine
-use Rattle.blockmap.specs.Getting.{GetsFor, progress_of, slot_of as got_slot_of}
+use Rattle.wal.specs.Volume.{VolumeState, GetsFor, progress_of, slot_of as got_slot_of}
+use Rattle.wal.specs.Get.{Get}
+use Rattle.wal.specs.Get as get
+use Rattle.model.specs.declared.types.progress.Progress.{Progress}
+use Rattle.model.specs.declared.types.progress.Progress.TheVariants as machine
 use Rattle.blockmap.specs.Lemmas.Others.{StaysForOthers}
 use Rattle.inodes.specs.declared.ilock.LockAt.{LockAt}
 use Rattle.inodes.specs.declared.ilock.LockAt.TheVariants as lock_at

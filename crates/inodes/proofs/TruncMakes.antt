@@ -43,8 +43,8 @@ use Rattle.blockmap.specs.declared.deed.Patch.TheVariants as patch
 use Rattle.blockmap.specs.declared.driving.Got.{Got}
 use Rattle.blockmap.specs.declared.driving.Kept.{Kept}
 use Rattle.blockmap.specs.declared.machine.Next.TheVariants as next
-use Rattle.blockmap.specs.declared.progress.Progress.{Progress}
-use Rattle.blockmap.specs.declared.progress.Progress.TheVariants as machine
+use Rattle.model.specs.declared.types.progress.Progress.{Progress}
+use Rattle.model.specs.declared.types.progress.Progress.TheVariants as machine
 use Rattle.inodes.specs.declared.itrunc.Itrunc.{Itrunc}
 use Rattle.inodes.specs.declared.itrunc.TruncAt.{TruncAt}
 use Rattle.inodes.specs.declared.itrunc.TruncAt.TheVariants as trunc_at

@@ -7,14 +7,12 @@ use Rattle.bcache.specs.Buffers.{Buffers, buffer}
 use Rattle.model.specs.declared.types.operations.TaskProgress.{TaskProgress}
 use Rattle.model.specs.declared.types.operations.Why.{Why}
 use Rattle.model.specs.declared.types.operations.Why.TheVariants as why
-use Rattle.wal.specs.Volume.{fault_of_task}
-use Rattle.wal.specs.declared.types.Get.{Get}
-use Rattle.wal.specs.declared.types.Get.TheVariants as get
+use Rattle.wal.specs.Volume.{fault_of_task, OnSleeping, fault_of_get, faults_after, GetsFor, progress_of, slot_of}
+use Rattle.wal.specs.Get.{Get}
+use Rattle.wal.specs.Get as get
 use Rattle.wal.specs.Held.{HasLock, HoldsBlock, IsLocked, LocksAfter, WaitsFor, GetsLock, GivesUpLock}
-use Rattle.wal.specs.Volume.{OnSleeping, fault_of_get, faults_after}
-use Rattle.blockmap.specs.declared.progress.Progress.{Progress}
-use Rattle.blockmap.specs.declared.progress.Progress.TheVariants as machine
-use Rattle.blockmap.specs.Getting.{GetsFor, progress_of, slot_of}
+use Rattle.model.specs.declared.types.progress.Progress.{Progress}
+use Rattle.model.specs.declared.types.progress.Progress.TheVariants as machine
 use Rattle.inodes.specs.Steps.{Reads, IsHeldByAnother}
 use Rattle.inodes.specs.Store.{StoreState, HoldsAt, Agrees}
 use Rattle.inodes.proofs.Getting.{fault_of}

@@ -13,20 +13,19 @@ use Rattle.model.specs.Fields.{words_of}
 use Rattle.model.specs.Journal.{is_number}
 use Rattle.model.specs.Lemmas.Frames.{form_same}
 use Rattle.in_flight.specs.Held.{Claim, Claims, IsClaimedNow, frees}
-use Rattle.wal.specs.declared.types.Get.{Get}
-use Rattle.wal.specs.declared.types.Get.TheVariants as get
+use Rattle.wal.specs.Get.{Get}
+use Rattle.wal.specs.Get as get
 use Rattle.wal.specs.Held.{HasLock}
 use Rattle.wal.specs.Joint.{Joint, seen}
-use Rattle.wal.specs.Volume.{VolumeState}
+use Rattle.wal.specs.Volume.{VolumeState, progress_of}
 use Rattle.blockmap.specs.Driver.{Drives, progress_of_over}
-use Rattle.blockmap.specs.Getting.{progress_of}
 use Rattle.blockmap.specs.Holds.{IsKept, slot_kept, slot_used}
 use Rattle.blockmap.specs.Lemmas.Slots.{HasGot, no_slot}
 use Rattle.blockmap.specs.Next.{beside, used_now}
 use Rattle.blockmap.specs.declared.driving.Got.{Got}
 use Rattle.blockmap.specs.declared.machine.Next.{Next}
-use Rattle.blockmap.specs.declared.progress.Progress.{Progress}
-use Rattle.blockmap.specs.declared.progress.Progress.TheVariants as machine
+use Rattle.model.specs.declared.types.progress.Progress.{Progress}
+use Rattle.model.specs.declared.types.progress.Progress.TheVariants as machine
 use Rattle.inodes.specs.declared.itrunc.Itrunc.{Itrunc}
 use Rattle.inodes.specs.declared.itrunc.TruncAt.{TruncAt}
 use Rattle.inodes.specs.declared.itrunc.TruncAt.TheVariants as trunc_at

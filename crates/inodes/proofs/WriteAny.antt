@@ -17,9 +17,9 @@ use Rattle.in_flight.specs.Trees.{way_to}
 use Rattle.in_flight.specs.Lemmas.HeldFrames.{held_alike}
 use Rattle.wal.specs.Joint.{Joint}
 use Rattle.wal.specs.Machine.{LogState, noted}
-use Rattle.wal.specs.Volume.{VolumeState}
-use Rattle.wal.specs.declared.types.Get.{Get}
-use Rattle.wal.specs.declared.types.Get.TheVariants as get
+use Rattle.wal.specs.Volume.{VolumeState, progress_of}
+use Rattle.wal.specs.Get.{Get}
+use Rattle.wal.specs.Get as get
 use Rattle.blockmap.specs.Bmap.{some_address}
 use Rattle.blockmap.specs.BmapAlloc.{MapState}
 use Rattle.blockmap.specs.Branch.{branch_of}
@@ -31,8 +31,8 @@ use Rattle.blockmap.specs.declared.bmap_alloc.MapAt.{MapAt}
 use Rattle.blockmap.specs.declared.bmap_alloc.MapAt.TheVariants as map_at
 use Rattle.blockmap.specs.declared.branch.Branch.{Branch}
 use Rattle.blockmap.specs.declared.branch.Node.{Node}
-use Rattle.blockmap.specs.Getting.{progress_of}
-use Rattle.blockmap.specs.declared.progress.Progress.{Progress}
+use Rattle.model.specs.Progress.{one_more}
+use Rattle.model.specs.declared.types.progress.Progress.{Progress}
 use Rattle.inodes.specs.declared.tasks.Stage.TheVariants as stage
 use Rattle.inodes.specs.declared.writei.WriteAt.{WriteAt}
 use Rattle.inodes.specs.declared.writei.WriteAt.TheVariants as write_at
@@ -41,7 +41,7 @@ use Rattle.inodes.specs.Holding.{claims_of}
 use Rattle.inodes.specs.Iupdate.{first_update}
 use Rattle.inodes.specs.Store.{StoreState, IsStore, current_of}
 use Rattle.inodes.specs.Tasks.{TaskState, task}
-use Rattle.inodes.specs.Writei.{WriteState, progress_mapped}
+use Rattle.inodes.specs.Writei.{WriteState}
 use Rattle.inodes.specs.Writing.{IsWriting, at_hand, block_of_write, blocks_left, counted, counted_of, homes_beside, kept_by_write, node_of_write, used_by_write, writes_left, writes_left_at, alloc_left}
 use Rattle.inodes.specs.Lemmas.Bounds.{some_uses}
 use Rattle.inodes.proofs.TruncSlots.{Slots, slots_none}
@@ -74,7 +74,7 @@ some_found a b is = by_zero (eqb a 0) refl is
         let same : a ≡ b = cc found in
         (same, λ none. eqb-false a 0 some (same ∙ none))
 
-pub mapped_get : (a : Get) → (let q : Progress (Option ℕ) = progress_of a in progress_mapped q) ≡ progress_of a
+pub mapped_get : (a : Get) → (let q : Progress (Option ℕ) = progress_of a in one_more q) ≡ progress_of a
 mapped_get (get.Got i) = refl
 mapped_get (get.Sleeping cause) = refl
 mapped_get (get.Fault fault) = refl

@@ -27,8 +27,9 @@ use Rattle.blockmap.specs.declared.bmap_alloc.MapAt.{MapAt}
 use Rattle.blockmap.specs.declared.bmap_alloc.MapAt.TheVariants as map_at
 use Rattle.blockmap.specs.declared.branch.Branch.{Branch}
 use Rattle.blockmap.specs.declared.branch.Node.{Node}
-use Rattle.blockmap.specs.declared.progress.Progress.{Progress}
-use Rattle.blockmap.specs.declared.progress.Progress.TheVariants as machine
+use Rattle.model.specs.Progress.{one_more}
+use Rattle.model.specs.declared.types.progress.Progress.{Progress}
+use Rattle.model.specs.declared.types.progress.Progress.TheVariants as machine
 use Rattle.inodes.specs.declared.tasks.Stage.TheVariants as stage
 use Rattle.inodes.specs.declared.writei.WriteAt.{WriteAt}
 use Rattle.inodes.specs.declared.writei.WriteAt.TheVariants as write_at
@@ -37,7 +38,7 @@ use Rattle.inodes.specs.Holding.{claims_of}
 use Rattle.inodes.specs.Iupdate.{first_update}
 use Rattle.inodes.specs.Store.{StoreState, IsStore, current_of}
 use Rattle.inodes.specs.Tasks.{TaskState, task}
-use Rattle.inodes.specs.Writei.{MapsOn, WriteState, progress_mapped, write_mapped}
+use Rattle.inodes.specs.Writei.{MapsOn, WriteState, write_mapped}
 use Rattle.inodes.specs.Writing.{IsWriting, routes_of}
 use Rattle.inodes.proofs.TruncFiles.{same_claims}
 use Rattle.inodes.proofs.TruncSlots.{Slots, slots_none}
@@ -46,7 +47,7 @@ use Rattle.inodes.proofs.WriteFiles.{zeroes_named, zeroes_taken}
 use Rattle.inodes.proofs.WriteLogged.{KeepsWays, beside_grow, counts_on, first_gains, on_routes}
 use Rattle.inodes.proofs.WriteMoves.{DoesSo, GoesOn, bytes, grown}
 use Rattle.inodes.proofs.Routes.{IsRouteIn, KeepsTo, route}
-use Rattle.inodes.proofs.WriteTakes.{Ends, IsTakingPlace, does_take, next_taken, progress_taken}
+use Rattle.inodes.proofs.WriteTakes.{Ends, IsTakingPlace, does_take, next_taken}
 use Rattle.inodes.proofs.Writing as of
 use Rattle.inodes.proofs.WriteAny.{mapped_get, slots_any, some_found, some_none, some_way, some_alloc, then_alike}
 use Rattle.inodes.proofs.WriteAny as on
@@ -263,16 +264,16 @@ module _ {D N : Type 0} (disk : Ghosts D N) (s : StoreState D) (p k : ℕ) (m : 
 
         pub does_address : TakesOne disk s.volume p way t (after_address b) (address_at b) (naming m.inode b.index) maps.answer maps.now maps.inode w → Answers q
         does_address takes = does_take disk s p k m is well stood inside joint way t map_at.Address at (at_address b) n w ts q takes.answer takes.now ended gone_on ends_address
-            (maps.gives ∙ ap progress_mapped takes.gives ∙ same_answer takes.answer)
+            (maps.gives ∙ ap one_more takes.gives ∙ same_answer takes.answer)
             (maps.next ∙ ap (write_mapped m maps.now maps.inode) takes.gives ∙ ap (λ (o : MapState). write_mapped m o maps.inode (after_address b takes.answer)) takes.next
             ∙ ap (λ (d : Dinode). write_mapped m (record way { at = address_at b takes.answer takes.now }) d (after_address b takes.answer)) takes.named ∙ same_next takes.answer takes.now)
             takes.allocs
           where
-            come_answer : (e : Bool) (a : ℕ) → progress_mapped (cond e (machine.Over (Some a)) machine.Moved) ≡ machine.Moved
+            come_answer : (e : Bool) (a : ℕ) → one_more (cond e (machine.Over (Some a)) machine.Moved) ≡ machine.Moved
             come_answer true a = refl
             come_answer false a = refl
 
-            same_answer : (a : Progress (Option ℕ)) → progress_mapped (after_address b a) ≡ progress_taken a
+            same_answer : (a : Progress (Option ℕ)) → one_more (after_address b a) ≡ one_more a
             same_answer machine.Moved = refl
             same_answer (machine.Sleeping why) = refl
             same_answer (machine.Over None) = refl
@@ -352,12 +353,12 @@ module _ {D N : Type 0} (disk : Ghosts D N) (s : StoreState D) (p k : ℕ) (m : 
 
         pub does_behind : TakesOne disk s.volume p way t after_behind (behind_at c i) (λ answer. m.inode) maps.answer maps.now maps.inode w → Answers q
         does_behind takes = does_take disk s p k m is well stood inside joint way t (map_at.Behind c i) at (at_behind way.branch c i) n w ts q takes.answer takes.now (setting None) (λ a. setting (Some a)) ends_behind
-            (maps.gives ∙ ap progress_mapped takes.gives ∙ same_answer takes.answer)
+            (maps.gives ∙ ap one_more takes.gives ∙ same_answer takes.answer)
             (maps.next ∙ ap (write_mapped m maps.now maps.inode) takes.gives ∙ ap (λ (o : MapState). write_mapped m o maps.inode (after_behind takes.answer)) takes.next
             ∙ ap (λ (d : Dinode). write_mapped m (record way { at = behind_at c i takes.answer takes.now }) d (after_behind takes.answer)) takes.named ∙ same_next takes.answer takes.now)
             takes.allocs
           where
-            same_answer : (a : Progress (Option ℕ)) → progress_mapped (after_behind a) ≡ progress_taken a
+            same_answer : (a : Progress (Option ℕ)) → one_more (after_behind a) ≡ one_more a
             same_answer machine.Moved = refl
             same_answer (machine.Sleeping why) = refl
             same_answer (machine.Over o) = refl

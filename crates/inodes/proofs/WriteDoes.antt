@@ -15,13 +15,11 @@ use Rattle.in_flight.specs.Loose.{LiesInData}
 use Rattle.in_flight.specs.Lemmas.HeldMarks.{data_keeps}
 use Rattle.wal.specs.Joint.{Joint}
 use Rattle.wal.specs.Machine.{noted}
-use Rattle.wal.specs.Volume.{VolumeState}
-use Rattle.blockmap.specs.Branch.{branch_of}
+use Rattle.wal.specs.Volume.{VolumeState, GetsFor}
 use Rattle.blockmap.specs.Branch.{branch_of}
 use Rattle.blockmap.specs.Lemmas.Branches.{same_keeps, within_limit}
-use Rattle.blockmap.specs.Getting.{GetsFor}
-use Rattle.blockmap.specs.declared.progress.Progress.{Progress}
-use Rattle.blockmap.specs.declared.progress.Progress.TheVariants as machine
+use Rattle.model.specs.declared.types.progress.Progress.{Progress}
+use Rattle.model.specs.declared.types.progress.Progress.TheVariants as machine
 use Rattle.inodes.specs.declared.tasks.Stage.TheVariants as stage
 use Rattle.inodes.specs.declared.writei.WriteAt.TheVariants as write_at
 use Rattle.inodes.specs.Growing.{HasComeTo, growth_of, next_block, taken_by}

@@ -25,15 +25,16 @@ use Rattle.in_flight.specs.Lemmas.HeldFrames.{growing_of}
 use Rattle.in_flight.specs.Lemmas.HeldMarks.{growth_keeps}
 use Rattle.wal.specs.Joint.{Joint}
 use Rattle.wal.specs.Machine.{LogState, SameGroups}
-use Rattle.wal.specs.Volume.{VolumeState}
+use Rattle.wal.specs.Volume.{VolumeState, progress_of}
 use Rattle.blockmap.specs.BmapAlloc.{MapState, MapSteps}
 use Rattle.blockmap.specs.Branch.{named_by}
 use Rattle.blockmap.specs.Bmap.{some_address}
-use Rattle.blockmap.specs.Getting.{WritesBlock, progress_of}
+use Rattle.blockmap.specs.Getting.{WritesBlock}
 use Rattle.blockmap.specs.declared.bmap_alloc.MapAt.{MapAt}
 use Rattle.blockmap.specs.declared.bmap_alloc.MapAt.TheVariants as map_at
-use Rattle.blockmap.specs.declared.progress.Progress.{Progress}
-use Rattle.blockmap.specs.declared.progress.Progress.TheVariants as machine
+use Rattle.model.specs.Progress.{one_more}
+use Rattle.model.specs.declared.types.progress.Progress.{Progress}
+use Rattle.model.specs.declared.types.progress.Progress.TheVariants as machine
 use Rattle.blockmap.specs.Lemmas.Others.{StaysForOthers, groups_noted, stays_noted}
 use Rattle.inodes.specs.declared.tasks.Stage.TheVariants as stage
 use Rattle.inodes.specs.declared.writei.WriteAt.{WriteAt}
@@ -48,7 +49,7 @@ use Rattle.inodes.specs.Steps.{Steps}
 use Rattle.inodes.specs.Store.{StoreState, IsStore, current_of}
 use Rattle.inodes.specs.Table.{renewed}
 use Rattle.inodes.specs.Tasks.{TaskState, task, no_task}
-use Rattle.inodes.specs.Writei.{MapsOn, WriteState, WriteSteps, progress_mapped}
+use Rattle.inodes.specs.Writei.{MapsOn, WriteState, WriteSteps}
 use Rattle.inodes.specs.Writing.{IsWriting, block_of_write, kept_by_write, node_of_write, used_by_write, writes_left, writes_left_at}
 use Rattle.inodes.specs.Lemmas.Grips.{kept_by_renew}
 use Rattle.inodes.proofs.AtWork.{steps_worked, store_then, store_worked}
@@ -63,11 +64,11 @@ use Rattle.inodes.proofs.WriteFiles.{answers_written}
 use Rattle.inodes.proofs.WriteMoves.{DoesSo, bytes, grown, here, its, logs, works}
 use Rattle.inodes.proofs.Writing as of
 use Rattle.model.specs.Places.{address_in}
-use Rattle.wal.specs.declared.types.Get.{Get}
-use Rattle.wal.specs.declared.types.Get.TheVariants as get
+use Rattle.wal.specs.Get.{Get}
+use Rattle.wal.specs.Get as get
 
 -- with the last step inode and count stay
-never_mapped : (q : Progress (Option ℕ)) → progress_mapped q ≡ machine.Over tt → ⊥
+never_mapped : (q : Progress (Option ℕ)) → one_more q ≡ machine.Over tt → ⊥
 never_mapped machine.Moved over = cc over
 never_mapped (machine.Sleeping cause) over = cc over
 never_mapped (machine.Over found) over = cc over

@@ -25,9 +25,9 @@ use Rattle.in_flight.specs.Lemmas.Ways.{entries_way_to, led_further}
 use Rattle.wal.specs.Joint.{Joint}
 use Rattle.wal.specs.Held.{GetsLock}
 use Rattle.wal.specs.Machine.{LogState, noted}
-use Rattle.wal.specs.Volume.{VolumeState}
-use Rattle.wal.specs.declared.types.Get.{Get}
-use Rattle.wal.specs.declared.types.Get.TheVariants as get
+use Rattle.wal.specs.Volume.{VolumeState, GetsFor, progress_of, slot_of}
+use Rattle.wal.specs.Get.{Get}
+use Rattle.wal.specs.Get as get
 use Rattle.blockmap.specs.Balloc.{first_alloc}
 use Rattle.blockmap.specs.Bmap.{some_address}
 use Rattle.blockmap.specs.BmapAlloc.{FindsEntry, MapState, SetsEntry, with_entry_under}
@@ -38,9 +38,9 @@ use Rattle.blockmap.specs.declared.bmap_alloc.MapAt.{MapAt}
 use Rattle.blockmap.specs.declared.bmap_alloc.MapAt.TheVariants as map_at
 use Rattle.blockmap.specs.declared.branch.Branch.{Branch}
 use Rattle.blockmap.specs.declared.branch.Node.{Node}
-use Rattle.blockmap.specs.Getting.{GetsFor, progress_of, slot_of}
-use Rattle.blockmap.specs.declared.progress.Progress.{Progress}
-use Rattle.blockmap.specs.declared.progress.Progress.TheVariants as machine
+use Rattle.model.specs.Progress.{one_more}
+use Rattle.model.specs.declared.types.progress.Progress.{Progress}
+use Rattle.model.specs.declared.types.progress.Progress.TheVariants as machine
 use Rattle.inodes.specs.declared.tasks.Stage.TheVariants as stage
 use Rattle.inodes.specs.declared.writei.WriteAt.{WriteAt}
 use Rattle.inodes.specs.declared.writei.WriteAt.TheVariants as write_at
@@ -49,7 +49,7 @@ use Rattle.inodes.specs.Holding.{claims_of}
 use Rattle.inodes.specs.Iupdate.{first_update}
 use Rattle.inodes.specs.Store.{StoreState, IsStore, current_of}
 use Rattle.inodes.specs.Tasks.{TaskState, task}
-use Rattle.inodes.specs.Writei.{MapsOn, WriteState, progress_mapped, write_mapped}
+use Rattle.inodes.specs.Writei.{MapsOn, WriteState, write_mapped}
 use Rattle.inodes.specs.Writing.{IsWriting, at_hand, block_of_write, counted, first_branch, kept_by_write, last_branch, routes_of, used_by_write}
 use Rattle.inodes.proofs.TruncSlots.{Slots, slots_kept, slots_left, slots_none}
 use Rattle.inodes.proofs.WriteLogged.{KeepsWays, counts_on, new_gains, node_gains, on_routes}
@@ -114,7 +114,7 @@ module _ {D N : Type 0} (disk : Ghosts D N) (s : StoreState D) (p k : ℕ) (m : 
           same_gets : GetsFor disk s.volume p c.block q slot w
           same_gets = record {
             answer = gets.answer;
-            gives = maps.gives ∙ ap progress_mapped gets.gives ∙ mapped_get gets.answer;
+            gives = maps.gives ∙ ap one_more gets.gives ∙ mapped_get gets.answer;
             slot = gets.slot;
             gets = gets.gets;
             reads = gets.reads;
@@ -140,8 +140,8 @@ module _ {D N : Type 0} (disk : Ghosts D N) (s : StoreState D) (p k : ℕ) (m : 
             passes = on.passes_on disk s p k m is well stood inside joint (entering (Some i)) (sym (on.taken_is disk s p k m is well stood inside joint (at_way way (map_at.Entry c None)) at));
           })
 
-      moved_by : (r : Progress (Option ℕ)) → maps.answer ≡ r → progress_mapped r ≡ machine.Moved → q ≡ machine.Moved
-      moved_by r answer moved = maps.gives ∙ ap progress_mapped answer ∙ moved
+      moved_by : (r : Progress (Option ℕ)) → maps.answer ≡ r → one_more r ≡ machine.Moved → q ≡ machine.Moved
+      moved_by r answer moved = maps.gives ∙ ap one_more answer ∙ moved
 
       becomes : (r : Progress (Option ℕ)) (now : MapState) → maps.answer ≡ r → maps.now ≡ now → maps.inode ≡ m.inode → n ≡ write_mapped m now m.inode r
       becomes r now answer now_is inode_is = maps.next ∙ ap (λ (o : MapState). write_mapped m o maps.inode maps.answer) now_is ∙ ap (λ (d : Dinode). write_mapped m now d maps.answer) inode_is ∙ ap (write_mapped m now m.inode) answer
@@ -150,7 +150,7 @@ module _ {D N : Type 0} (disk : Ghosts D N) (s : StoreState D) (p k : ℕ) (m : 
       abbrev below : ℕ → Node
       below a = node_at c.level (rest_under c) a
 
-      come_moved : (e : Bool) (a : ℕ) → progress_mapped (cond e (machine.Over (Some a)) machine.Moved) ≡ machine.Moved
+      come_moved : (e : Bool) (a : ℕ) → one_more (cond e (machine.Over (Some a)) machine.Moved) ≡ machine.Moved
       come_moved true a = refl
       come_moved false a = refl
 

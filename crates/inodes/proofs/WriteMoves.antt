@@ -25,10 +25,10 @@ use Rattle.in_flight.specs.Lemmas.Looks.{between}
 use Rattle.wal.specs.Joint.{Joint}
 use Rattle.wal.specs.Held.{GetsLock, HasLock}
 use Rattle.wal.specs.Machine.{LogState, SameGroups}
-use Rattle.wal.specs.Volume.{VolumeState}
-use Rattle.blockmap.specs.Getting.{GetsFor, Releases, WritesBlock}
-use Rattle.blockmap.specs.declared.progress.Progress.{Progress}
-use Rattle.blockmap.specs.declared.progress.Progress.TheVariants as machine
+use Rattle.wal.specs.Volume.{VolumeState, GetsFor}
+use Rattle.blockmap.specs.Getting.{Releases, WritesBlock}
+use Rattle.model.specs.declared.types.progress.Progress.{Progress}
+use Rattle.model.specs.declared.types.progress.Progress.TheVariants as machine
 use Rattle.blockmap.specs.Lemmas.Others.{StaysForOthers, groups_noted, groups_same, stays_got, stays_left, stays_noted, stays_same}
 use Rattle.inodes.specs.declared.tasks.Stage.{Stage}
 use Rattle.inodes.specs.declared.tasks.Stage.TheVariants as stage

@@ -17,21 +17,22 @@ use Rattle.in_flight.specs.Lemmas.HeldMarks.{data_keeps, set_bit_keeps}
 use Rattle.in_flight.specs.Lemmas.KeptTrees.{SameInside}
 use Rattle.wal.specs.Joint.{Joint}
 use Rattle.wal.specs.Machine.{LogState, noted}
-use Rattle.wal.specs.Volume.{VolumeState}
-use Rattle.wal.specs.declared.types.Get.{Get}
-use Rattle.wal.specs.declared.types.Get.TheVariants as get
+use Rattle.wal.specs.Volume.{VolumeState, GetsFor, progress_of, slot_of}
+use Rattle.wal.specs.Get.{Get}
+use Rattle.wal.specs.Get as get
 use Rattle.blockmap.specs.Balloc.{AllocState, Allocs, IsLowestClear, TakesLowest, lowest_in, with_taken}
 use Rattle.blockmap.specs.BmapAlloc.{MapState}
 use Rattle.blockmap.specs.Branch.{LiesOnWay}
 use Rattle.blockmap.specs.declared.branch.Branch.{Branch}
 use Rattle.blockmap.specs.declared.branch.Node.{Node}
-use Rattle.blockmap.specs.Getting.{GetsFor, WritesBlock, progress_of, slot_of}
+use Rattle.blockmap.specs.Getting.{WritesBlock}
 use Rattle.blockmap.specs.Lemmas.Bitmap.{lowest_clear_is_lowest}
 use Rattle.blockmap.specs.declared.balloc.AllocAt.{AllocAt}
 use Rattle.blockmap.specs.declared.balloc.AllocAt.TheVariants as alloc_at
 use Rattle.blockmap.specs.declared.bmap_alloc.MapAt.{MapAt}
-use Rattle.blockmap.specs.declared.progress.Progress.{Progress}
-use Rattle.blockmap.specs.declared.progress.Progress.TheVariants as machine
+use Rattle.model.specs.Progress.{one_more}
+use Rattle.model.specs.declared.types.progress.Progress.{Progress}
+use Rattle.model.specs.declared.types.progress.Progress.TheVariants as machine
 use Rattle.inodes.specs.declared.tasks.Stage.TheVariants as stage
 use Rattle.inodes.specs.declared.writei.Extent.{Extent}
 use Rattle.inodes.specs.declared.writei.WriteAt.TheVariants as write_at
@@ -50,14 +51,7 @@ use Rattle.wal.specs.Held.{GetsLock, GivesUpLock}
 use Rattle.inodes.proofs.WriteComes.{on_way_still}
 use Rattle.std.proofs.lemmas.List.{get_or-set_other}
 
--- what a taking at work is to the writing: with its last step it goes on elsewhere
-abbrev pub progress_taken : Progress (Option ℕ) → Progress (Unit {0})
-progress_taken machine.Moved = machine.Moved
-progress_taken (machine.Sleeping why) = machine.Sleeping why
-progress_taken (machine.Over found) = machine.Moved
-progress_taken (machine.Fault fault) = machine.Fault fault
-
-among_get : (a : Get) → (let q : Progress (Option ℕ) = progress_of a in progress_taken q) ≡ progress_of a
+among_get : (a : Get) → (let q : Progress (Option ℕ) = progress_of a in one_more q) ≡ progress_of a
 among_get (get.Got i) = refl
 among_get (get.Sleeping cause) = refl
 among_get (get.Fault fault) = refl
@@ -185,7 +179,7 @@ module _ {D N : Type 0} (disk : Ghosts D N) (s : StoreState D) (p k : ℕ) (m : 
     next_taken n0 n1 (machine.Fault fault) now = m
 
     module _ (q : Progress (Unit {0})) (answer : Progress (Option ℕ)) (now : AllocState) (n0 : WriteState) (n1 : ℕ → WriteState) (ends : Ends n0 n1)
-        (gives : q ≡ progress_taken answer) (next : n ≡ next_taken n0 n1 answer now) where
+        (gives : q ≡ one_more answer) (next : n ≡ next_taken n0 n1 answer now) where
       -- a block is got
       takes_get : (b : ℕ) (a : Option ℕ → AllocAt) (slot : Option ℕ) → t.at ≡ a None → now ≡ record t { at = a slot } → ((o : Option ℕ) → slot_of_alloc (a o) ≡ o) → ((o : Option ℕ) → block_of_alloc t (a o) ≡ b)
           → ((o : Option ℕ) → taken_at (a o) ≡ taken_at (a None)) → ((j : ℕ) → alloc_left (a (Some j)) < alloc_left (a None)) → ((j : ℕ) → taking_at.kept ≡ Some j → own ≢ b)
@@ -199,7 +193,7 @@ module _ {D N : Type 0} (disk : Ghosts D N) (s : StoreState D) (p k : ℕ) (m : 
           same_gets : GetsFor disk s.volume p b q slot w
           same_gets = record {
             answer = gets.answer;
-            gives = gives ∙ ap progress_taken gets.gives ∙ among_get gets.answer;
+            gives = gives ∙ ap one_more gets.gives ∙ among_get gets.answer;
             slot = gets.slot;
             gets = gets.gets;
             reads = gets.reads;
@@ -239,7 +233,7 @@ module _ {D N : Type 0} (disk : Ghosts D N) (s : StoreState D) (p k : ℕ) (m : 
       takes_bit i b looking lowest answer_is now_is writes =
           let v : AllocState = record t { at = alloc_at.Zeroing b None } in
           let n_is : n ≡ to v = next ∙ ap (λ (r : Progress (Option ℕ)). next_taken n0 n1 r now) answer_is ∙ ap to now_is in
-          let q_is : q ≡ machine.Moved = gives ∙ ap progress_taken answer_is in
+          let q_is : q ≡ machine.Moved = gives ∙ ap one_more answer_is in
           let map_is : t.bitmap ≡ (super_of cur).bmapstart = inside_extent.bitmap ∙ of.bitmap disk s p k m is well stood in
           let map = of.map disk s p k m is well stood in
           let map_low = map.behind in
@@ -287,7 +281,7 @@ module _ {D N : Type 0} (disk : Ghosts D N) (s : StoreState D) (p k : ℕ) (m : 
           by_lowest : (o : Option ℕ) → lowest_in cur t ≡ o → TakesLowest disk o s.volume p i t answer now w → Answers q
           by_lowest None lowest takes =
               let n_is : n ≡ n0 = next ∙ ap (λ (r : Progress (Option ℕ)). next_taken n0 n1 r now) takes.0 in
-              let q_is : q ≡ machine.Moved = gives ∙ ap progress_taken takes.0 in
+              let q_is : q ≡ machine.Moved = gives ∙ ap one_more takes.0 in
               subst Answers (sym q_is)
               (subst (λ (o : WriteState). DoesSo disk s p k m is well stood inside joint o w ts machine.Moved) (sym n_is)
               (does_release disk s p k m is well stood inside joint n0 w ts i takes.2
@@ -298,7 +292,7 @@ module _ {D N : Type 0} (disk : Ghosts D N) (s : StoreState D) (p k : ℕ) (m : 
       takes_by (alloc_at.Zeroing b (Some i)) zeroing allocs =
           let taken : its_growth.taken ≡ Some b = growth_is ∙ ap taken_at zeroing in
           let n_is : n ≡ n1 b = next ∙ ap (λ (r : Progress (Option ℕ)). next_taken n0 n1 r now) allocs.0 in
-          let q_is : q ≡ machine.Moved = gives ∙ ap progress_taken allocs.0 in
+          let q_is : q ≡ machine.Moved = gives ∙ ap one_more allocs.0 in
           let lies = of.taken_lies disk s p k m is well stood b taken in
           let from = lies.0 in
           let before = (of.map disk s p k m is well stood).before_data in

@@ -1,5 +1,5 @@
 -- Where a step of a task goes, and what it makes of table, current image and log.
-use Rattle.std.specs.Prelude.{◌≡◌, ℕ, ◌-◌, Bool, Option, Some, None}
+use Rattle.std.specs.Prelude.{◌≡◌, ℕ, ◌-◌, Bool, Option, Some, None, Result, Ok, Err}
 use Rattle.blocks.specs.Disk.{Image, block_at}
 use Rattle.blocks.specs.declared.disk.Disk.{Ghosts}
 use Rattle.model.specs.declared.types.image.Dinode.{Dinode}
@@ -15,11 +15,11 @@ use Rattle.model.specs.Layout.{inode_block, inode_of, HasNoFreeInode}
 use Rattle.bcache.specs.Buffers.{Buffers}
 use Rattle.wal.specs.Machine.{LogState, noted}
 use Rattle.wal.specs.Volume.{VolumeState, get_answer}
-use Rattle.wal.specs.declared.types.Get.TheVariants as get
+use Rattle.wal.specs.Get as get
 use Rattle.blockmap.specs.Driver.{Drives}
 use Rattle.blockmap.specs.Next.{used_now}
-use Rattle.blockmap.specs.declared.progress.Progress.{Progress}
-use Rattle.blockmap.specs.declared.progress.Progress.TheVariants as machine
+use Rattle.model.specs.declared.types.progress.Progress.{Progress}
+use Rattle.model.specs.declared.types.progress.Progress.TheVariants as machine
 use Rattle.inodes.specs.declared.tasks.Stage.{Stage}
 use Rattle.inodes.specs.declared.tasks.Stage.TheVariants as stage
 use Rattle.inodes.specs.Creation.{lowest_free}
@@ -114,12 +114,37 @@ abbrev pub GoesFrom : Option ℕ → ℕ → ℕ → SearchState → Buffers →
 GoesFrom None n p m c r next before now = GetsBlock c m r next × (now ≡ before)
 GoesFrom (Some i) n p m c r next before now = LooksAtBlock n p m r next before now
 
+-- what came of a machine's last step; else what its step is to the task
+abbrev pub over : {T : Type 0} → Progress T → Result T TaskProgress
+over machine.Moved = Err progress.Moved
+over (machine.Sleeping why) = Err (progress.Sleeping why)
+over (machine.Over out) = Ok out
+over (machine.Fault fault) = Err (progress.Fault fault)
+
+-- what its step is to the task, by what its last step is
+abbrev pub progress_by : {T : Type 0} → (T → TaskProgress) → Progress T → TaskProgress
+progress_by last machine.Moved = progress.Moved
+progress_by last (machine.Sleeping why) = progress.Sleeping why
+progress_by last (machine.Over out) = last out
+progress_by last (machine.Fault fault) = progress.Fault fault
+
+-- where the task stands then: with the machine as it was, as it is, or where its last step leads
+abbrev pub place_by : {T : Type 0} → Stage → Stage → (T → Stage) → Progress T → Stage
+place_by was now last machine.Moved = now
+place_by was now last (machine.Sleeping why) = was
+place_by was now last (machine.Over out) = last out
+place_by was now last (machine.Fault fault) = was
+
+-- and the table, which only its last step changes
+abbrev pub table_by : {T : Type 0} → TableState → (T → TableState) → Progress T → TableState
+table_by t last machine.Moved = t
+table_by t last (machine.Sleeping why) = t
+table_by t last (machine.Over out) = last out
+table_by t last (machine.Fault fault) = t
+
 -- what a step of a search is to the task
 abbrev pub progress_of_search : Progress (Option ℕ) → TaskProgress
-progress_of_search machine.Moved = progress.Moved
-progress_of_search (machine.Sleeping why) = progress.Sleeping why
-progress_of_search (machine.Over found) = progress.Turned (Some (reply_of found))
-progress_of_search (machine.Fault fault) = progress.Fault fault
+progress_of_search r = progress_by (λ found. progress.Turned (Some (reply_of found))) r
 
 -- what a step of a search makes of the buffers
 pub record SearchesIn {D N : Type 0} (disk : Ghosts D N) (v : VolumeState D) (p : ℕ)
@@ -131,19 +156,13 @@ pub record SearchesIn {D N : Type 0} (disk : Ghosts D N) (v : VolumeState D) (p 
 -- what a step of taking an inode is to the task, where the current image, of that form, has this
 -- inode
 abbrev pub progress_of_lock : Form → Dinode → Op → Progress Bool → TaskProgress
-progress_of_lock form d op machine.Moved = progress.Moved
-progress_of_lock form d op (machine.Sleeping why) = progress.Sleeping why
-progress_of_lock form d op (machine.Over used) =
-    progress.Turned (reply_when_taken form (if_used used d) op)
-progress_of_lock form d op (machine.Fault fault) = progress.Fault fault
+progress_of_lock form d op r =
+    progress_by (λ used. progress.Turned (reply_when_taken form (if_used used d) op)) r
 
 -- and where the task stands then
 abbrev pub place_of_lock : Extent → Dinode → Op → LockState → LockState → Progress Bool → Stage
-place_of_lock e d op m n machine.Moved = stage.Taking n
-place_of_lock e d op m n (machine.Sleeping why) = stage.Taking m
-place_of_lock e d op m n (machine.Over used) =
-    place_when_taken e (if_used used d) (place_of n.at) op
-place_of_lock e d op m n (machine.Fault fault) = stage.Taking m
+place_of_lock e d op m n r = place_by (stage.Taking m) (stage.Taking n)
+    (λ used. place_when_taken e (if_used used d) (place_of n.at) op) r
 
 -- A step that takes the inode of an operation: with the last one it has its turn, and knows the
 -- inode that the current image has.
@@ -161,17 +180,12 @@ pub record TakesInode {D N : Type 0} (disk : Ghosts D N) (s : StoreState D) (p :
 
 -- what a step of a reading is to the task
 abbrev pub progress_of_read : Progress (Unit {0}) → TaskProgress
-progress_of_read machine.Moved = progress.Moved
-progress_of_read (machine.Sleeping why) = progress.Sleeping why
-progress_of_read (machine.Over out) = progress.Moved
-progress_of_read (machine.Fault fault) = progress.Fault fault
+progress_of_read r = progress_by (λ out. progress.Moved) r
 
 -- and where the task stands then
 abbrev pub place_of_reading : ℕ → ReadState → ReadState → Progress (Unit {0}) → Stage
-place_of_reading k m n machine.Moved = stage.Reading k n
-place_of_reading k m n (machine.Sleeping why) = stage.Reading k m
-place_of_reading k m n (machine.Over out) = stage.Delivering k
-place_of_reading k m n (machine.Fault fault) = stage.Reading k m
+place_of_reading k m n r =
+    place_by (stage.Reading k m) (stage.Reading k n) (λ out. stage.Delivering k) r
 
 -- a step of a reading, whose inode stands at place k of the table
 pub record ReadsOn {D N : Type 0} (disk : Ghosts D N) (s : StoreState D) (p k : ℕ) (m : ReadState)
@@ -189,24 +203,16 @@ pub record ReadsOn {D N : Type 0} (disk : Ghosts D N) (s : StoreState D) (p k : 
 
 -- what a step of freeing a file's blocks is to the task
 abbrev pub progress_of_trunc : Progress (Unit {0}) → TaskProgress
-progress_of_trunc machine.Moved = progress.Moved
-progress_of_trunc (machine.Sleeping why) = progress.Sleeping why
-progress_of_trunc (machine.Over out) = progress.Moved
-progress_of_trunc (machine.Fault fault) = progress.Fault fault
+progress_of_trunc r = progress_by (λ out. progress.Moved) r
 
 -- where the task stands then
 abbrev pub place_of_trunc : ℕ → Freeing → Freeing → Progress (Unit {0}) → Stage
-place_of_trunc k m n machine.Moved = stage.Truncating k n
-place_of_trunc k m n (machine.Sleeping why) = stage.Truncating k m
-place_of_trunc k m n (machine.Over out) = stage.Leaving k
-place_of_trunc k m n (machine.Fault fault) = stage.Truncating k m
+place_of_trunc k m n r =
+    place_by (stage.Truncating k m) (stage.Truncating k n) (λ out. stage.Leaving k) r
 
 -- and the table: with the last step the inode is read no more from it, or is what was written
 abbrev pub table_of_trunc : TableState → ℕ → Freeing → Progress (Unit {0}) → TableState
-table_of_trunc t k m machine.Moved = t
-table_of_trunc t k m (machine.Sleeping why) = t
-table_of_trunc t k m (machine.Over out) = renewed t k (inode_left m.machine)
-table_of_trunc t k m (machine.Fault fault) = t
+table_of_trunc t k m r = table_by t (λ out. renewed t k (inode_left m.machine)) r
 
 -- a step of freeing a file's blocks, whose inode stands at place k of the table
 pub record Truncates {D N : Type 0} (disk : Ghosts D N) (s : StoreState D) (p k : ℕ)
@@ -222,24 +228,16 @@ pub record Truncates {D N : Type 0} (disk : Ghosts D N) (s : StoreState D) (p k 
 
 -- what a step of writing a file's bytes is to the task: with the last one so many were written
 abbrev pub progress_of_write : ℕ → Progress (Unit {0}) → TaskProgress
-progress_of_write done machine.Moved = progress.Moved
-progress_of_write done (machine.Sleeping why) = progress.Sleeping why
-progress_of_write done (machine.Over out) = progress.Decided (Wrote done)
-progress_of_write done (machine.Fault fault) = progress.Fault fault
+progress_of_write done r = progress_by (λ out. progress.Decided (Wrote done)) r
 
 -- where the task stands then
 abbrev pub place_of_writing : ℕ → WriteState → WriteState → Progress (Unit {0}) → Stage
-place_of_writing k m n machine.Moved = stage.Writing k n
-place_of_writing k m n (machine.Sleeping why) = stage.Writing k m
-place_of_writing k m n (machine.Over out) = stage.Leaving k
-place_of_writing k m n (machine.Fault fault) = stage.Writing k m
+place_of_writing k m n r =
+    place_by (stage.Writing k m) (stage.Writing k n) (λ out. stage.Leaving k) r
 
 -- and the table: with the last step it has the inode that was written
 abbrev pub table_of_writing : TableState → ℕ → WriteState → Progress (Unit {0}) → TableState
-table_of_writing t k m machine.Moved = t
-table_of_writing t k m (machine.Sleeping why) = t
-table_of_writing t k m (machine.Over out) = renewed t k (Some m.inode)
-table_of_writing t k m (machine.Fault fault) = t
+table_of_writing t k m r = table_by t (λ out. renewed t k (Some m.inode)) r
 
 -- a step of writing the operation's bytes into a file, whose inode stands at place k of the table
 pub record WritesOn {D N : Type 0} (disk : Ghosts D N) (s : StoreState D) (p k : ℕ) (op : Op)

@@ -33,7 +33,7 @@ held_of m = record {
   last_kind = if m.removes then 0 else m.inode.kind;
 }
 
--- what a task with this operation holds of number i, by its place
+-- what a task with this operation holds of number i, by its stage
 abbrev pub claim_by : Option Op → Stage → ℕ → Option Claim
 claim_by op stage.Nowhere i = None
 claim_by op (stage.Creating m) i = None

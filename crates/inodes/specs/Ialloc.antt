@@ -15,10 +15,10 @@ use Rattle.wal.specs.Held.{GetsLock, GetsUnread, GivesUpLock, WaitsFor}
 use Rattle.wal.specs.Joint.{seen}
 use Rattle.wal.specs.Machine.{LogState, noted}
 use Rattle.wal.specs.Volume.{VolumeState, get_answer, after_get, after_change, FailsToFill, faults_after}
-use Rattle.wal.specs.declared.types.Get.TheVariants as get
+use Rattle.wal.specs.Get as get
 use Rattle.blockmap.specs.Getting.{HoldsWhereGot}
-use Rattle.blockmap.specs.declared.progress.Progress.{Progress}
-use Rattle.blockmap.specs.declared.progress.Progress.TheVariants as progress
+use Rattle.model.specs.declared.types.progress.Progress.{Progress}
+use Rattle.model.specs.declared.types.progress.Progress.TheVariants as progress
 use Rattle.inodes.specs.Creation.{lowest_free}
 
 -- Where a creation's search stands.

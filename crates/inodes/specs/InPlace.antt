@@ -4,7 +4,7 @@ use Rattle.blocks.specs.declared.disk.Disk.{Ghosts}
 use Rattle.model.specs.Gathered.{GatheredBytes}
 use Rattle.blockmap.specs.Driver.{Drives}
 use Rattle.blockmap.specs.Next.{used_now}
-use Rattle.blockmap.specs.declared.progress.Progress.{Progress}
+use Rattle.model.specs.declared.types.progress.Progress.{Progress}
 use Rattle.wal.specs.Volume.{VolumeState}
 use Rattle.inodes.specs.declared.tasks.Stage.{Stage}
 use Rattle.inodes.specs.declared.tasks.Stage.TheVariants as stage

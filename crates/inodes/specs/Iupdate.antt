@@ -6,10 +6,10 @@ use Rattle.model.specs.declared.types.image.Dinode.{Dinode}
 use Rattle.model.specs.Codec.{with_inode}
 use Rattle.model.specs.Layout.{inode_block}
 use Rattle.wal.specs.Joint.{seen}
-use Rattle.wal.specs.Volume.{VolumeState}
-use Rattle.blockmap.specs.Getting.{GetsFor, HoldsWhereGot, WritesBlock}
-use Rattle.blockmap.specs.declared.progress.Progress.{Progress}
-use Rattle.blockmap.specs.declared.progress.Progress.TheVariants as progress
+use Rattle.wal.specs.Volume.{VolumeState, GetsFor}
+use Rattle.blockmap.specs.Getting.{HoldsWhereGot, WritesBlock}
+use Rattle.model.specs.declared.types.progress.Progress.{Progress}
+use Rattle.model.specs.declared.types.progress.Progress.TheVariants as progress
 
 -- Where the writing of an inode stands.
 pub record UpdateState : Type 0 where

@@ -114,7 +114,7 @@ pub record WasAnswered (n : ℕ) (t : TaskState) : Type 0 where
   pub is : t.op ≡ Some op
   pub can : CanTake n op
 
--- what is true of a task by its place, beside what it holds
+-- what is true of a task by its stage, beside what it holds
 abbrev pub LooksAt : Image → TableState → TaskState → Stage → Type 0
 LooksAt cur i t stage.Nowhere = Unit {0}
 LooksAt cur i t (stage.Creating m) = Unit {0}

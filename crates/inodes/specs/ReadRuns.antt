@@ -9,7 +9,7 @@ use Rattle.model.specs.Layout.{form_of}
 use Rattle.model.specs.Operations.{part_of}
 use Rattle.wal.specs.Joint.{seen}
 use Rattle.wal.specs.Volume.{VolumeState}
-use Rattle.blockmap.specs.declared.progress.Progress.{Progress}
+use Rattle.model.specs.declared.types.progress.Progress.{Progress}
 use Rattle.blockmap.specs.Reading.{MayRead}
 use Rattle.inodes.specs.Readi.{ReadState, IsReading, ReadSteps, first_read, is_done}
 

@@ -14,8 +14,8 @@ use Rattle.wal.specs.Joint.{seen}
 use Rattle.wal.specs.Volume.{VolumeState}
 use Rattle.blockmap.specs.Getting.{Releases}
 use Rattle.blockmap.specs.Reading.{MayRead}
-use Rattle.blockmap.specs.declared.progress.Progress.{Progress}
-use Rattle.blockmap.specs.declared.progress.Progress.TheVariants as progress
+use Rattle.model.specs.declared.types.progress.Progress.{Progress}
+use Rattle.model.specs.declared.types.progress.Progress.TheVariants as progress
 use Rattle.blockmap.specs.declared.target.Target.{Target}
 use Rattle.blockmap.specs.declared.target.Target.TheVariants as target
 use Rattle.blockmap.specs.Target.{LeadsTo, Seeks, target_for, steps_at, steps_for}

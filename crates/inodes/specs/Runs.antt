@@ -45,7 +45,7 @@ EndsWith [] r = ⊥
 EndsWith (step ∷ []) r = step.answer ≡ r
 EndsWith (step ∷ next ∷ rest) r = EndsWith (next ∷ rest) r
 
--- THE RUN OF A SEARCH: a creation's steps, from its first place to the turn that gives its reply
+-- THE RUN OF A SEARCH: a creation's steps, from its first stage to the turn that gives its reply
 pub record IsSearchRun {D N : Type 0} (disk : Ghosts D N) (p kind : ℕ) (s : StoreState D)
     (steps : List (StepMade D)) (reply : Reply) : Type 0 where
   pub begins : (task s.tasks p).place ≡ first_place (Create kind) s.table.inode_count

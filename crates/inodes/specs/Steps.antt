@@ -44,7 +44,7 @@ pub record IsInodeHeld {D : Type 0} (s : StoreState D) (p : ℕ) : Type 0 where
   pub wanted : grip_of (task s.tasks p) ≡ Some (unlocked_grip place number)
   pub locked : grip_of (task s.tasks other) ≡ Some (locked_grip place number)
 
--- a step of process p changes the place of its own task alone
+-- a step of process p changes the stage of its own task alone
 pub record LeavesTasks {D : Type 0} (old : StoreState D) (p : ℕ) (new : StoreState D) : Type 0 where
   pub op_stays : (task new.tasks p).op ≡ (task old.tasks p).op
   pub others : (q : ℕ) → q ≢ p → task new.tasks q ≡ task old.tasks q

@@ -59,7 +59,7 @@ with_volume s v = record s { volume = v }
 abbrev pub with_log : {D : Type 0} → StoreState D → LogState → StoreState D
 with_log s l = with_volume s (record s.volume { log = l })
 
--- a process's task goes on to a place
+-- a process's task goes on to a stage
 abbrev pub with_place : {D : Type 0} → StoreState D → ℕ → Stage → StoreState D
 with_place s p a = record s { tasks = slice_set s.tasks p (record (task s.tasks p) { place = a }) }
 
@@ -82,7 +82,7 @@ CanBegin n (Trunc i) = IsTrue (is_number n i)
 CanBegin n (Remove i) = IsTrue (is_number n i)
 CanBegin n (Stat i) = ⊥
 
--- the place of an operation that takes the inode of a number
+-- the stage of an operation that takes the inode of a number
 abbrev pub first_taking : ℕ → Stage
 first_taking i = stage.Taking (record { number = i; at = lock_at.Reference })
 

@@ -8,14 +8,15 @@ use Rattle.model.specs.Format.{inode_start}
 use Rattle.model.specs.declared.types.image.Dinode.{Dinode}
 use Rattle.model.specs.Operations.{part_of}
 use Rattle.wal.specs.Joint.{seen}
-use Rattle.wal.specs.Volume.{VolumeState}
+use Rattle.wal.specs.Volume.{VolumeState, GetsFor}
 use Rattle.blockmap.specs.BmapAlloc.{MapState, MayMap, MapSteps, LeadsThere}
-use Rattle.blockmap.specs.Getting.{GetsFor, HoldsWhereGot, WritesBlock}
+use Rattle.blockmap.specs.Getting.{HoldsWhereGot, WritesBlock}
 use Rattle.blockmap.specs.Map.{mapped_for_writing}
 use Rattle.blockmap.specs.declared.mapping.MappedForWriting.{MappedForWriting}
 use Rattle.blockmap.specs.declared.mapping.MappedForWriting.TheVariants as for_writing
-use Rattle.blockmap.specs.declared.progress.Progress.{Progress}
-use Rattle.blockmap.specs.declared.progress.Progress.TheVariants as progress
+use Rattle.model.specs.Progress.{one_more}
+use Rattle.model.specs.declared.types.progress.Progress.{Progress}
+use Rattle.model.specs.declared.types.progress.Progress.TheVariants as progress
 use Rattle.inodes.specs.Iupdate.{UpdateState, MayUpdate, Updates, first_update}
 use Rattle.inodes.specs.declared.writei.Extent.{Extent}
 use Rattle.inodes.specs.declared.writei.WriteAt.{WriteAt}
@@ -93,13 +94,6 @@ abbrev pub place_found : ℕ → Option ℕ → WriteAt
 place_found number None = write_at.Updating (first_update number)
 place_found number (Some b) = write_at.Block b None
 
--- a step on the way is to the writing one step among others
-abbrev pub progress_mapped : Progress (Option ℕ) → Progress (Unit {0})
-progress_mapped progress.Moved = progress.Moved
-progress_mapped (progress.Sleeping why) = progress.Sleeping why
-progress_mapped (progress.Over found) = progress.Moved
-progress_mapped (progress.Fault fault) = progress.Fault fault
-
 -- where the writing stands then, with the way and the inode as they are then
 abbrev pub write_mapped : WriteState → MapState → Dinode → Progress (Option ℕ) → WriteState
 write_mapped m way d progress.Moved = record m { inode = d; at = write_at.Mapping way }
@@ -116,7 +110,7 @@ pub record MapsOn {D N : Type 0} (disk : Ghosts D N) (v : VolumeState D) (p : �
   pub inode : Dinode
   pub steps : MapSteps disk way.at v p way m.inode answer now inode w
   pub there : LeadsThere disk.image answer way.branch way.at inode w
-  pub gives : r ≡ progress_mapped answer
+  pub gives : r ≡ one_more answer
   pub next : n ≡ write_mapped m now inode answer
 
 -- the next bytes were written: the size grows to their end

@@ -15,7 +15,7 @@ use blocks::{Block, Disk};
 use layout::{INODE_START, INODES_PER_BLOCK, inode, inode_block, inode_offset};
 use model::types::Dinode;
 use std::marker::Model;
-use wal::{Get, Volume};
+use wal::Volume;
 
 /// The steps in which a creation claims an inode number (`ialloc`; the xv6 book, the chapter "File
 /// system": "Code: Inodes"): it looks at the inode blocks in order, from the one of number 1 on,
@@ -96,14 +96,7 @@ impl Ialloc {
         ensures { SearchSteps D.Disk None volume.old volume.new pid
             self.old self.new result }
     {
-        match volume.get(pid, self.block) {
-            Get::Got(slot) => {
-                self.slot = Some(slot);
-                Progress::Moved
-            }
-            Get::Sleeping(why) => Progress::Sleeping(why),
-            Get::Fault(fault) => Progress::Fault(fault),
-        }
+        volume.get(pid, self.block, &mut self.slot)
     }
 
     // Claims the lowest free number of the block, if there is one, and releases the block.

@@ -9,8 +9,8 @@ ghost use Rattle.inodes.specs.Ilock.{MayLock, IsAt, LockSteps, Refers, Locks, Ge
 ghost use Rattle.inodes.specs.declared.ilock.LockAt.TheVariants as lock_at;
 
 use crate::{Inodes, Progress};
+use blockmap::release_block;
 use blocks::Disk;
-use blockmap::{get_block, release_block};
 use layout::{inode, inode_block};
 use model::types::Why;
 use std::marker::Model;
@@ -126,7 +126,7 @@ impl Ilock {
         ensures { GetsInode D.Disk volume.old pid place self.old result volume.new self.new }
     {
         let mut slot = None;
-        let progress = get_block(volume, pid, inode_block(self.number), &mut slot);
+        let progress = volume.get(pid, inode_block(self.number), &mut slot);
         self.at = LockAt::Read { place, slot };
         progress
     }

@@ -4,8 +4,8 @@ ghost use Rattle.model.specs.Format.{addresses_per_block};
 ghost use Rattle.model.specs.Fields.{words_of};
 ghost use Rattle.inodes.specs.Itrunc.{address_left, at_address, at_branches, at_entries, block_in_hand, block_left, first_trunc, inode_left, last_inode_of, leads_to_data, present_from, IsBelow};
 
-use blocks::Block;
 use blockmap::{Deed, Machine, Next, Patch};
+use blocks::Block;
 use layout::entries::entry;
 use layout::{ADDRESSES_PER_BLOCK, depths, direct_count, inode_block};
 use model::types::{Dinode, Form};

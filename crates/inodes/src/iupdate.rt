@@ -3,8 +3,8 @@ ghost use Rattle.std.specs.Prelude.{◌≡◌, ◌<◌, None, length};
 ghost use Rattle.wal.specs.Machine.{HasRoom, used_by};
 ghost use Rattle.inodes.specs.Iupdate.{MayUpdate, Updates};
 
+use blockmap::{Progress, put_block};
 use blocks::Disk;
-use blockmap::{Progress, get_block, put_block};
 use layout::{inode, inode_block, inode_offset};
 use model::types::Dinode;
 use std::marker::Model;
@@ -55,7 +55,7 @@ impl Iupdate {
             result self.new volume.new }
     {
         let Some(slot) = self.slot else {
-            return get_block(volume, pid, inode_block(self.number), &mut self.slot);
+            return volume.get(pid, inode_block(self.number), &mut self.slot);
         };
         let at = inode_offset(self.number);
         put_block(volume, pid, slot, at, &inode::bytes(dinode));

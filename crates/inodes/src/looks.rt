@@ -14,9 +14,10 @@ ghost use Rattle.inodes.specs.Tasks.{task};
 ghost use Rattle.inodes.specs.Turning.{IsReadable, place_of_read, place_of_write, place_when_taken, reply_when_taken, write_refusal};
 ghost use Rattle.inodes.specs.declared.tasks.Stage.TheVariants as stands_at;
 
-use crate::{Extent, Ilock, Inodes, Itrunc, Stage, Progress, Readi, Store, Writei};
-use blocks::Disk;
+use crate::store::over;
+use crate::{Extent, Ilock, Inodes, Itrunc, Readi, Stage, Store, Writei};
 use blockmap::Driven;
+use blocks::Disk;
 use layout::{bitmap_block, greatest_size};
 use model::gathered::Gathered;
 use model::types::{Dinode, Form, Op, Reply, TaskProgress};
@@ -47,13 +48,8 @@ impl<D: Disk> Store<D> {
         ensures step { Steps D.Disk self.old pid op.now result self.new }
     {
         self.volume.known();
-        match lock.step(&mut self.inodes, &mut self.volume, pid) {
-            Progress::Moved => {
-                self.tasks.go_taking(pid, lock);
-                TaskProgress::Moved
-            }
-            Progress::Sleeping(why) => TaskProgress::Sleeping(why),
-            Progress::Over(is_used) => {
+        match over(lock.step(&mut self.inodes, &mut self.volume, pid)) {
+            Ok(is_used) => {
                 let place = lock.place();
                 let inode = inode_at(&self.inodes, place, is_used);
                 let form = self.inodes.form();
@@ -62,7 +58,10 @@ impl<D: Disk> Store<D> {
                     .go(pid, place_when_taken(&inode, place, op, extent));
                 TaskProgress::Turned(reply_when_taken(form, &inode, op))
             }
-            Progress::Fault(fault) => TaskProgress::Fault(fault),
+            Err(progress) => {
+                self.tasks.go_taking(pid, lock);
+                progress
+            }
         }
     }
 
@@ -80,14 +79,12 @@ impl<D: Disk> Store<D> {
             .tasks
             .read_on(&mut self.volume, pid, &mut bytes, place, reading);
         self.tasks.keep_bytes(pid, bytes);
-        match progress {
-            Progress::Moved => TaskProgress::Moved,
-            Progress::Sleeping(why) => TaskProgress::Sleeping(why),
-            Progress::Over(()) => {
+        match over(progress) {
+            Ok(()) => {
                 self.tasks.go(pid, Stage::Delivering { place });
                 TaskProgress::Moved
             }
-            Progress::Fault(fault) => TaskProgress::Fault(fault),
+            Err(progress) => progress,
         }
     }
 
@@ -119,15 +116,13 @@ impl<D: Disk> Store<D> {
             → Steps D.Disk self.old pid op result self.new }
     {
         self.volume.known();
-        match self.tasks.trunc_on(&mut self.volume, pid, place, trunc) {
-            Progress::Moved => TaskProgress::Moved,
-            Progress::Sleeping(why) => TaskProgress::Sleeping(why),
-            Progress::Over(()) => {
+        match over(self.tasks.trunc_on(&mut self.volume, pid, place, trunc)) {
+            Ok(()) => {
                 self.inodes.renew(place, self.tasks.left(pid));
                 self.tasks.go(pid, Stage::Leaving { place });
                 TaskProgress::Moved
             }
-            Progress::Fault(fault) => TaskProgress::Fault(fault),
+            Err(progress) => progress,
         }
     }
 
@@ -146,19 +141,17 @@ impl<D: Disk> Store<D> {
         ensures step { Steps D.Disk self.old pid op.now result self.new }
     {
         self.volume.known();
-        match self
+        let progress = self
             .tasks
-            .write_on(&mut self.volume, pid, bytes_of(op), place, writing)
-        {
-            Progress::Moved => TaskProgress::Moved,
-            Progress::Sleeping(why) => TaskProgress::Sleeping(why),
-            Progress::Over(()) => {
+            .write_on(&mut self.volume, pid, bytes_of(op), place, writing);
+        match over(progress) {
+            Ok(()) => {
                 let (inode, done) = self.tasks.written(pid);
                 self.inodes.renew(place, Some(inode));
                 self.tasks.go(pid, Stage::Leaving { place });
                 TaskProgress::Decided(Reply::Wrote(done))
             }
-            Progress::Fault(fault) => TaskProgress::Fault(fault),
+            Err(progress) => progress,
         }
     }
 

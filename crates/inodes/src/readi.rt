@@ -6,9 +6,8 @@ ghost use Rattle.blockmap.specs.Target.{got_slot};
 ghost use Rattle.inodes.specs.Readi.{first_read, IsReading, HasRoomLeft, ReadSteps};
 
 use crate::Progress;
-use blockmap::{Target, seek, target_for};
+use blockmap::{Target, release_block, seek, target_for};
 use blocks::{BLOCK_SIZE, Disk};
-use blockmap::release_block;
 use model::gathered::Gathered;
 use model::types::{Dinode, Form};
 use std::marker::Model;

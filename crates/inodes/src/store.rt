@@ -10,13 +10,14 @@ ghost use Rattle.model.specs.Soundness.{IsSound};
 ghost use Rattle.wal.specs.Machine.{used_by, is_quiet, begun, ended, end_answer};
 ghost use Rattle.inodes.specs.Tasks.{task, no_task};
 ghost use Rattle.inodes.specs.Store.{IsStore, MayBegin, FitsFiles, KeepsFiles, fresh_volume, with_begun, with_log, first_place, reply_of, CanBegin};
+ghost use Rattle.inodes.specs.Goes.{over};
 ghost use Rattle.inodes.specs.Steps.{Steps, Commits};
 ghost use Rattle.inodes.specs.Places.{is_over};
 ghost use Rattle.inodes.specs.Table.{new_table};
 ghost use Rattle.inodes.specs.Waiting.{NobodyWaitsForEver};
 ghost use Rattle.inodes.specs.declared.tasks.Stage.TheVariants as stage;
 
-use crate::{Ialloc, Ilock, Inodes, Stage, Progress, Tasks};
+use crate::{Ialloc, Ilock, Inodes, Progress, Stage, Tasks};
 use blocks::Disk;
 use layout::{Form, Super};
 use model::types::{Op, Reply, TaskProgress};
@@ -207,14 +208,12 @@ impl<D: Disk> Store<D> {
     {
         self.volume.known();
         self.volume.image_known();
-        match self.tasks.search_on(&mut self.volume, pid, search) {
-            Progress::Moved => TaskProgress::Moved,
-            Progress::Sleeping(why) => TaskProgress::Sleeping(why),
-            Progress::Over(made) => {
+        match over(self.tasks.search_on(&mut self.volume, pid, search)) {
+            Ok(made) => {
                 self.tasks.go(pid, Stage::Nowhere);
                 TaskProgress::Turned(Some(reply_of(made)))
             }
-            Progress::Fault(fault) => TaskProgress::Fault(fault),
+            Err(progress) => progress,
         }
     }
 
@@ -226,6 +225,18 @@ impl<D: Disk> Store<D> {
     {
         self.volume.known();
         self.volume.commit_step()
+    }
+}
+
+// What came of a machine's last step; else what its step is to the task.
+pub(crate) fn over<T>(progress: Progress<T>) -> Result<T, TaskProgress>
+    ensures { result ≡ over progress }
+{
+    match progress {
+        Progress::Moved => Err(TaskProgress::Moved),
+        Progress::Sleeping(why) => Err(TaskProgress::Sleeping(why)),
+        Progress::Over(out) => Ok(out),
+        Progress::Fault(fault) => Err(TaskProgress::Fault(fault)),
     }
 }
 

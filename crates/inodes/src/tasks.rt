@@ -11,8 +11,8 @@ ghost use Rattle.inodes.specs.Tasks.{no_task, task};
 ghost use Rattle.inodes.specs.Writei.{MayWrite};
 
 use crate::{Ialloc, Ilock, Itrunc, Progress, Readi, Writei};
-use blocks::{Disk, NoMemory};
 use blockmap::Driven;
+use blocks::{Disk, NoMemory};
 use model::gathered::Gathered;
 use model::types::{Dinode, Op};
 use std::alloc::Global;
@@ -234,7 +234,7 @@ impl Tasks {
         (writing.inode(), writing.done())
     }
 
-    /// A process begins the task of this operation, at that place, with room for the bytes that it
+    /// A process begins the task of this operation, at that stage, with room for the bytes that it
     /// asks for.
     pub fn begin(&mut self, pid: u32, op: &Op, place: Stage, room: Option<Gathered>)
         requires { pid < length self.old }
@@ -248,7 +248,7 @@ impl Tasks {
         };
     }
 
-    /// Its task goes on to that place.
+    /// Its task goes on to that stage.
     pub fn go(&mut self, pid: u32, place: Stage)
         requires { pid < length self.old }
         ensures { self.new ≡ slice_set self.old pid (record (task self.old pid) { place = place }) }

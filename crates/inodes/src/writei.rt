@@ -6,9 +6,8 @@ ghost use Rattle.inodes.specs.Writei.{MayWrite, WriteSteps, MapsOn, GetsNext, Wr
 ghost use Rattle.inodes.specs.declared.writei.WriteAt.TheVariants as write_at;
 
 use crate::Iupdate;
-use blockmap::{BmapAlloc, MappedForWriting, map_for_writing};
+use blockmap::{BmapAlloc, MappedForWriting, Progress, map_for_writing, put_block};
 use blocks::{BLOCK_SIZE, Disk};
-use blockmap::{Progress, get_block, put_block};
 use model::types::{Dinode, Form};
 use std::marker::Model;
 use std::snapshot::Snapshot;
@@ -167,17 +166,15 @@ impl Writei {
         let WriteAt::Mapping(way) = &mut self.at else {
             unreachable!();
         };
-        match way.step(volume, pid, &mut self.inode) {
-            Progress::Moved => Progress::Moved,
-            Progress::Sleeping(why) => Progress::Sleeping(why),
-            Progress::Over(found) => {
+        match way.step(volume, pid, &mut self.inode).ended() {
+            Ok(found) => {
                 self.at = match found {
                     Some(block) => WriteAt::Block { block, slot: None },
                     None => WriteAt::Updating(Iupdate::new(self.number)),
                 };
                 Progress::Moved
             }
-            Progress::Fault(fault) => Progress::Fault(fault),
+            Err(progress) => progress,
         }
     }
 
@@ -188,7 +185,7 @@ impl Writei {
         ensures { GetsNext D.Disk volume.old pid self.old block result self.new volume.new }
     {
         let mut slot = None;
-        let progress = get_block(volume, pid, block, &mut slot);
+        let progress = volume.get(pid, block, &mut slot);
         self.at = WriteAt::Block { block, slot };
         progress
     }

@@ -5,6 +5,8 @@ use Rattle.offline.specs.Cause.{IsCause}
 use Rattle.model.specs.Files.{file_in, files_of}
 use Rattle.model.specs.Log.{recovered}
 use Rattle.model.specs.Verdict.{verdict}
+use Rattle.inspect.specs.declared.refused.DfRefusal.{DfRefusal}
+use Rattle.inspect.specs.declared.refused.DfRefusal.TheVariants as df
 use Rattle.inspect.specs.declared.refused.LsRefusal.{LsRefusal}
 use Rattle.inspect.specs.declared.refused.LsRefusal.TheVariants as ls
 use Rattle.inspect.specs.declared.refused.ShowRefusal.{ShowRefusal}
@@ -37,3 +39,10 @@ abbrev pub IsHidden : {D N : Type 0} → Ghosts D N → Option ℕ → D → D �
     → Type 0
 IsHidden disk None d e none r = IsUndrawn disk d e none r
 IsHidden disk (Some i) d e none r = IsUnshown disk i d e none r
+
+-- the same of how much of it is used
+abbrev pub IsUncounted : {D N : Type 0} → Ghosts D N → D → D → Type 0 → DfRefusal → Type 0
+IsUncounted disk d e none (df.Check fault) =
+    IsCause (verdict (disk.image d)) (disk.fault_count d) (disk.fault_count e) fault × none
+IsUncounted disk d e none df.NoMemory = (verdict (disk.image d) ≡ None) × none
+IsUncounted disk d e none df.Output = verdict (disk.image d) ≡ None

@@ -8,6 +8,8 @@ use Rattle.offline.specs.Recovered.{IsRecoveredOf, LiesBehindLog}
 use Rattle.offline.specs.declared.recovered.Recovered.{Recovered}
 use Rattle.inspect.specs.declared.fault.GatherFault.{GatherFault}
 use Rattle.inspect.specs.declared.fault.GatherFault.TheVariants.{Disk, NoMemory}
+use Rattle.inspect.specs.declared.refused.DfRefusal.{DfRefusal}
+use Rattle.inspect.specs.declared.refused.DfRefusal.TheVariants as df
 use Rattle.inspect.specs.declared.refused.LsRefusal.{LsRefusal}
 use Rattle.inspect.specs.declared.refused.LsRefusal.TheVariants as ls
 use Rattle.inspect.specs.declared.refused.ShowRefusal.{ShowRefusal}
@@ -38,3 +40,7 @@ ls_refusal_of NoMemory = ls.NoMemory
 abbrev pub show_refusal_of : GatherFault → ShowRefusal
 show_refusal_of Disk = show.Check check.Disk
 show_refusal_of NoMemory = show.NoMemory
+
+abbrev pub df_refusal_of : GatherFault → DfRefusal
+df_refusal_of Disk = df.Check check.Disk
+df_refusal_of NoMemory = df.NoMemory

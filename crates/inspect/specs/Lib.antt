@@ -8,3 +8,4 @@ pub mod Signs
 pub mod Drawing
 pub mod Looks
 pub mod Laws
+pub mod Usage

@@ -8,6 +8,7 @@ use Rattle.model.specs.Verdict.{verdict}
 use Rattle.inspect.specs.Drawing.{drawing_of}
 use Rattle.inspect.specs.Listing.{listing_of}
 use Rattle.inspect.specs.Showing.{file_text}
+use Rattle.inspect.specs.Usage.{usage_text}
 
 -- it was checked, and its files were listed
 abbrev pub HasListed : {D N : Type 0} → Ghosts D N → D → D → Option (List ℕ) → Option (List ℕ)
@@ -33,3 +34,9 @@ abbrev pub HasShown : {D N : Type 0} → Ghosts D N → Option ℕ → D → D �
     → Option (List ℕ) → Type 0
 HasShown disk None d e old new = HasDrawn disk d e old new
 HasShown disk (Some i) d e old new = HasFileShown disk i d e old new
+
+-- it was checked, and how much of it is used was told
+abbrev pub HasCounted : {D N : Type 0} → Ghosts D N → D → D → Option (List ℕ) → Option (List ℕ)
+    → Type 0
+HasCounted disk d e old new = (disk.image e ≡ disk.image d) × (verdict (disk.image d) ≡ None)
+    × Appends old new (usage_text (disk.image d))

@@ -1,7 +1,7 @@
 // Why blocks aren't gathered from a disk whose image was checked.
 ghost use Rattle.std.specs.Prelude.{◌≡◌};
 
-use crate::refused::{LsRefusal, ShowRefusal};
+use crate::refused::{DfRefusal, LsRefusal, ShowRefusal};
 use blocks::{DiskFault, NoMemory};
 use layout::CheckFault;
 use std::alloc::{AllocError, AllocFailed};
@@ -37,6 +37,19 @@ impl From<GatherFault> for ShowRefusal {
         match fault {
             GatherFault::Disk => ShowRefusal::Check(CheckFault::Disk),
             GatherFault::NoMemory => ShowRefusal::NoMemory,
+        }
+    }
+}
+
+impl From<GatherFault> for DfRefusal {
+    ghost use Rattle.inspect.specs.Gathering.{df_refusal_of};
+
+    ghost from_gives = { λ fault r. r ≡ df_refusal_of fault };
+
+    fn from(fault: GatherFault) -> DfRefusal {
+        match fault {
+            GatherFault::Disk => DfRefusal::Check(CheckFault::Disk),
+            GatherFault::NoMemory => DfRefusal::NoMemory,
         }
     }
 }

@@ -1,5 +1,5 @@
 //! What an image has, as a user sees it: a list of its files, a drawing of its blocks with a sign
-//! for each, and the blocks of one file. Each is that of the image which recovery would leave, read
+//! for each, the blocks of one file, and how much is used. Each is that of the image which recovery would leave, read
 //! without writing it, behind a check of the disk.
 #![tactic(auto)]
 
@@ -12,10 +12,12 @@ mod owned;
 mod refused;
 mod showing;
 mod signs;
+mod usage;
 
 pub use drawing::show_disk;
 pub use listing::list_disk;
-pub use looks::{Ls, Show};
+pub use looks::{Df, Ls, Show};
 pub use owned::Owned;
-pub use refused::{LsRefusal, ShowRefusal};
+pub use refused::{DfRefusal, LsRefusal, ShowRefusal};
 pub use showing::show_file;
+pub use usage::count_disk;

@@ -1,11 +1,12 @@
 // The commands that look at a disk, and leave its image as it is.
-ghost use Rattle.inspect.specs.Causes.{IsHidden, IsUnlisted};
-ghost use Rattle.inspect.specs.Looks.{HasListed, HasShown};
+ghost use Rattle.inspect.specs.Causes.{IsHidden, IsUncounted, IsUnlisted};
+ghost use Rattle.inspect.specs.Looks.{HasCounted, HasListed, HasShown};
 
 use crate::drawing::show_disk;
 use crate::listing::list_disk;
-use crate::refused::{LsRefusal, ShowRefusal};
+use crate::refused::{DfRefusal, LsRefusal, ShowRefusal};
 use crate::showing::show_file;
+use crate::usage::count_disk;
 use blocks::Disk;
 use cmd::DiskCommand;
 use std::alloc::Global;
@@ -57,6 +58,29 @@ impl DiskCommand for Show {
             None => show_disk(alloc, &mut disk, out),
             Some(number) => show_file(alloc, &mut disk, number, out),
         };
+        (ended, disk)
+    }
+}
+
+/// Tells how much of an image is used, as `count_disk`.
+#[derive(Clone, Copy, Drop)]
+pub struct Df;
+
+impl DiskCommand for Df {
+    type Refusal = DfRefusal;
+
+    ghost done = { λ df c. HasCounted c.disk c.was c.now };
+
+    ghost refused = { λ df c old new. IsUncounted c.disk c.was c.now };
+
+    fn run_on<D: Disk + Drop, O: Write>(
+        self,
+        alloc: Global,
+        disk: D,
+        out: &mut O,
+    ) -> (Result<(), DfRefusal>, D) {
+        let mut disk = disk;
+        let ended = count_disk(alloc, &mut disk, out);
         (ended, disk)
     }
 }

@@ -1,6 +1,6 @@
 // Why what an image has isn't printed: a refusal for each command.
 ghost use Rattle.std.specs.Prelude.{◌≡◌};
-ghost use Rattle.inspect.specs.Refusals.{ls_telling, show_telling};
+ghost use Rattle.inspect.specs.Refusals.{df_telling, ls_telling, show_telling};
 
 use layout::CheckFault;
 use messages::{Reason, Told, Unwritten};
@@ -50,6 +50,29 @@ impl Reason for ShowRefusal {
             ShowRefusal::NoFile => Told::new("show", 1, "NoFile"),
             ShowRefusal::NoMemory => Told::new("show", 2, "NoMemory"),
             ShowRefusal::Output => Unwritten.told(),
+        }
+    }
+}
+
+/// Why how much of an image is used isn't told.
+#[derive(Clone, Copy, Debug)]
+pub enum DfRefusal {
+    /// A fault of the image or of its check.
+    Check(CheckFault),
+    /// Memory was refused after the check.
+    NoMemory,
+    /// The output can't be written.
+    Output,
+}
+
+impl Reason for DfRefusal {
+    ghost telling = { df_telling };
+
+    fn told(&self) -> Told {
+        match self {
+            DfRefusal::Check(fault) => fault.told(),
+            DfRefusal::NoMemory => Told::new("df", 1, "NoMemory"),
+            DfRefusal::Output => Unwritten.told(),
         }
     }
 }

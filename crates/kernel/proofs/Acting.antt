@@ -12,7 +12,7 @@ use Rattle.blocks.specs.declared.errors.DiskFault.{DiskFault}
 use Rattle.model.specs.declared.types.operations.Op.{Op}
 use Rattle.model.specs.declared.types.operations.TaskProgress.{TaskProgress}
 use Rattle.model.specs.declared.types.operations.TaskProgress.TheVariants as progress
-use Rattle.wal.specs.Volume.{fault_of_task}
+use Rattle.wal.specs.Volume.{fault_of_task, faults_after, fault_of_step}
 use Rattle.ports.specs.declared.herald.Herald as herald_trait
 use Rattle.ports.specs.declared.intake.Intake as intake_trait
 use Rattle.ports.specs.History.{Side, first_in}
@@ -29,7 +29,6 @@ use Rattle.wal.specs.declared.types.Commit.TheVariants as commit
 use Rattle.wal.specs.declared.types.DeviceFault.{DeviceFault}
 use Rattle.wal.specs.declared.types.DeviceFault.TheVariants.{Block, Sync}
 use Rattle.wal.specs.declared.types.Part.{Part}
-use Rattle.wal.specs.Volume.{faults_after, fault_of_step}
 use Rattle.inodes.specs.Goes.{Goes}
 use Rattle.inodes.specs.Lemmas.StepEnds.{fails_at}
 use Rattle.inodes.specs.Places.{block_at_place, is_over}
@@ -42,8 +41,8 @@ use Rattle.history.specs.Alone.{is_committing_at}
 use Rattle.history.specs.Bound.{is_busy_at}
 use Rattle.history.specs.Journal.{entry_in}
 use Rattle.history.specs.Processes.{World, process}
-use Rattle.kernel.specs.declared.types.Step.{Step}
-use Rattle.kernel.specs.declared.types.Step.TheVariants as step
+use Rattle.model.specs.declared.types.operations.Step.{Step}
+use Rattle.model.specs.declared.types.operations.Step.TheVariants as step
 use Rattle.kernel.specs.Device.{UsesDisk, CountsItsFault, FailsSo, UsesOnce, block_at_step, counts_of}
 use Rattle.std.specs.Option.{option_map}
 use Rattle.kernel.specs.declared.waiting.Waiting.{Waiting}

@@ -40,8 +40,8 @@ use Rattle.history.specs.Lemmas.Bounds.{some_write}
 use Rattle.history.specs.Journal.{entry_in}
 use Rattle.history.specs.Processes.{World, process, idle}
 use Rattle.history.specs.Views.{StandsAt}
-use Rattle.kernel.specs.declared.types.Step.{Step}
-use Rattle.kernel.specs.declared.types.Step.TheVariants as step
+use Rattle.model.specs.declared.types.operations.Step.{Step}
+use Rattle.model.specs.declared.types.operations.Step.TheVariants as step
 use Rattle.kernel.specs.declared.waiting.Waiting.{Waiting}
 use Rattle.kernel.specs.declared.waiting.Waiting.TheVariants as waiting
 use Rattle.kernel.specs.Awake.{AreIdle, IsAwake, IsBusy, OneGoesOn, cause_by, cause_of}

@@ -17,7 +17,7 @@ use Rattle.history.specs.declared.types.Phase.TheVariants as at
 use Rattle.history.specs.declared.types.Process.{Process}
 use Rattle.history.specs.Lemmas.Places.{there_now}
 use Rattle.history.specs.Processes.{World, process, idle, with_process, with_place, turned_from, decided, told_at, entry_place, refused, over, committing, answered}
-use Rattle.kernel.specs.declared.types.Step.{Step}
+use Rattle.model.specs.declared.types.operations.Step.{Step}
 use Rattle.kernel.specs.declared.waiting.Waiting.{Waiting}
 use Rattle.kernel.specs.Next.{BeginsWith, NextAt, NextIf, world_after, world_behind, world_of_last, world_of_told, world_ended, world_written}
 

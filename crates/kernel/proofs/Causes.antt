@@ -44,7 +44,7 @@ use Rattle.kernel.specs.Next.{BeginsWith, NextAt, NextIf, Works, world_after}
 use Rattle.kernel.specs.Runs.{Session, with_ports, with_shutdown}
 use Rattle.kernel.specs.State.{State, ats_of, waiting_of}
 use Rattle.kernel.specs.Steps.{MakesStep}
-use Rattle.kernel.specs.declared.types.Step.{Step}
+use Rattle.model.specs.declared.types.operations.Step.{Step}
 use Rattle.kernel.specs.declared.types.Turn.{Turn}
 use Rattle.kernel.specs.declared.types.Turn.TheVariants.{Proc, Shut}
 use Rattle.kernel.specs.declared.waiting.Waiting.{Waiting}

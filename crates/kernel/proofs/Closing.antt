@@ -50,7 +50,7 @@ use Rattle.history.specs.Lemmas.Places.{there_now, others_stay}
 use Rattle.kernel.proofs.Lasting.{lasts_unwritten}
 use Rattle.kernel.proofs.Right.{right_well, right_failed}
 
--- process p goes from one place to another behind its turn, and nothing else of the processes changes
+-- process p goes from one phase to another behind its turn, and nothing else of the processes changes
 pub record GoesTo (w z : World) (p : ℕ) (a b : Phase) : Type 0 where
   pub stands : (process w p).at ≡ a
   pub was : is_before a ≡ false

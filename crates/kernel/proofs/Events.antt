@@ -56,8 +56,8 @@ use Rattle.history.specs.Lemmas.Growing.{grows_goes, grows_none}
 use Rattle.history.specs.Processes.{World, process, idle, answered, at_place, committing, committing_at, decided, entry_place, over as goes_to_end, over_at, place_behind, refusal, told_at, turned, turned_from}
 use Rattle.kernel.specs.declared.waiting.Waiting.{Waiting}
 use Rattle.kernel.specs.declared.waiting.Waiting.TheVariants as waiting
-use Rattle.kernel.specs.declared.types.Step.{Step}
-use Rattle.kernel.specs.declared.types.Step.TheVariants as step
+use Rattle.model.specs.declared.types.operations.Step.{Step}
+use Rattle.model.specs.declared.types.operations.Step.TheVariants as step
 use Rattle.kernel.specs.Bound.{step_bound, task_left}
 use Rattle.kernel.specs.Next.{IsNotTaken, BeginsWith, Works, Finishes, Ends, Writes, NextAt, NextIf, step_of, world_after, step_behind, world_behind, step_of_last, world_of_last, step_of_told, world_of_told, step_of_end, world_ended, step_of_write, world_written}
 use Rattle.kernel.specs.Progress.{commits, CountsCommitted}
@@ -179,7 +179,7 @@ module _ {D N : Type 0} (disk : Ghosts D N) (opening : Image) (p : ℕ) (s t : S
     counted_at : (a : Phase) (r : Step) → (process w p).at ≡ a → CountsCommitted holds r a s.volume.log t.volume.log → CountsCommitted holds r (process w p).at s.volume.log t.volume.log
     counted_at a r stands counted = subst (λ (b : Phase). CountsCommitted holds r b s.volume.log t.volume.log) (sym stands) counted
 
-    -- from place to place
+    -- from phase to phase
     fewer : (u : Process) (a b : Phase) → (process w p).at ≡ a → u.at ≡ b → all_steps_left b (task_left disk.image t p) t.volume.log < all_steps_left a (task_left disk.image s p) s.volume.log → 0 < all_steps_left b (task_left disk.image t p) t.volume.log → HasFewer disk.image (form_of opening) p s w t u
     fewer u a b stands to less some =
         let lt : all_steps_left u.at (task_left disk.image t p) t.volume.log < all_steps_left (process w p).at (task_left disk.image s p) s.volume.log

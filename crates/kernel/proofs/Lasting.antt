@@ -13,8 +13,8 @@ use Rattle.model.specs.Agreement.{IsSameOutsideLog}
 use Rattle.model.specs.declared.types.image.Form.{Form}
 use Rattle.model.specs.Layout.{form_of, inode_of}
 use Rattle.wal.specs.Machine.{LogState}
-use Rattle.blockmap.specs.declared.progress.Progress.{Progress}
-use Rattle.blockmap.specs.declared.progress.Progress.TheVariants as machine
+use Rattle.model.specs.declared.types.progress.Progress.{Progress}
+use Rattle.model.specs.declared.types.progress.Progress.TheVariants as machine
 use Rattle.inodes.specs.declared.ilock.LockAt.{LockAt}
 use Rattle.inodes.specs.declared.ilock.LockAt.TheVariants as lock_at
 use Rattle.inodes.specs.declared.tasks.Stage.{Stage}

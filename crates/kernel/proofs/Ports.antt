@@ -23,7 +23,7 @@ use Rattle.history.specs.Lemmas.Histories.{history_new, history_more, history_ta
 use Rattle.kernel.specs.Invariant.{HasHistory, ArePorts}
 use Rattle.wal.specs.Machine.{LogState}
 use Rattle.kernel.specs.declared.beginning.Rooms.{Rooms}
-use Rattle.kernel.specs.declared.types.Step.{Step}
+use Rattle.model.specs.declared.types.operations.Step.{Step}
 use Rattle.kernel.specs.declared.waiting.Waiting.{Waiting}
 use Rattle.kernel.specs.Begins.{TakesFirst, LeavesFirst}
 use Rattle.kernel.specs.Ports.{Gives}
@@ -210,7 +210,7 @@ module _ {I M H : Type 0} (intake : intake_trait.Ghosts I M) (herald : herald_tr
       behind true f history = history_turned_over w.journal.list (process w p).begun group p (entry_of p (process w p).begun op group reply) f refl refl history
       behind false f history = history_turned w.journal.list (process w p).begun group p (entry_of p (process w p).begun op group reply) f refl refl history
 
-  -- one under way goes on to another place, with the same history
+  -- one under way goes on to another phase, with the same history
   ports_placed : (i : I) (h : H) (c : ℕ) (w z : World) (p : ℕ) (a b : Phase) → ArePorts intake herald i h c w → p < length w.processes → (process w p).at ≡ a → is_busy_at a ≡ true → z ≡ at_place w p b
       → ((f : History) → IsHistory w.journal.list a (process w p).begun p f → IsHistory w.journal.list b (process w p).begun p f) → ArePorts intake herald i h c z
   ports_placed i h c w z p a b had lt stands busy is goes = ports_go i i h h c c w z p (record (process w p) { at = b }) had

@@ -18,8 +18,8 @@ use Rattle.history.specs.Most.{most_of}
 use Rattle.history.specs.Lemmas.Bounds.{left_same}
 use Rattle.history.specs.Lemmas.Leaving.{leaves_between, leaves_on}
 use Rattle.history.specs.Processes.{process}
-use Rattle.kernel.specs.declared.types.Step.{Step}
-use Rattle.kernel.specs.declared.types.Step.TheVariants as step
+use Rattle.model.specs.declared.types.operations.Step.{Step}
+use Rattle.model.specs.declared.types.operations.Step.TheVariants as step
 use Rattle.kernel.specs.Awake.{IsAwake}
 use Rattle.kernel.specs.Bound.{TakesOne, GivesNone, left_of, step_bound, task_left}
 use Rattle.kernel.specs.Invariant.{Inv, IsRight, LeavesSince}

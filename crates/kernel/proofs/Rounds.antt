@@ -30,8 +30,8 @@ use Rattle.history.specs.declared.types.Phase.TheVariants as at
 use Rattle.history.specs.declared.types.Process.{Process}
 use Rattle.history.specs.Bound.{is_busy_at, all_steps_left}
 use Rattle.history.specs.Processes.{World, process, idle, answered, decided}
-use Rattle.kernel.specs.declared.types.Step.{Step}
-use Rattle.kernel.specs.declared.types.Step.TheVariants as step
+use Rattle.model.specs.declared.types.operations.Step.{Step}
+use Rattle.model.specs.declared.types.operations.Step.TheVariants as step
 use Rattle.kernel.specs.declared.types.Turn.{Turn}
 use Rattle.kernel.specs.declared.types.Turn.TheVariants.{Proc, Shut}
 use Rattle.kernel.specs.Awake.{AreIdle, IsAwake, IsBusy, cause_by, cause_of}
@@ -87,7 +87,7 @@ none_left f (suc n) none = let rest = none_left f n none in let here = none n in
 
 -- ---- what a turn makes
 
--- store and places stay
+-- store and phases stay
 record Stays {D I H : Type 0} (k m : State D I H) : Type 0 where
   store : m.store ≡ k.store
   ats : (q : ℕ) → ats_of m.world q ≡ ats_of k.world q

@@ -46,7 +46,7 @@ use Rattle.kernel.specs.Runs.{Session, with_ports, with_shutdown}
 use Rattle.kernel.specs.State.{State, ats_of, waiting_of}
 use Rattle.std.specs.Option.{option_map}
 use Rattle.kernel.specs.Steps.{MakesStep}
-use Rattle.kernel.specs.declared.types.Step.{Step}
+use Rattle.model.specs.declared.types.operations.Step.{Step}
 use Rattle.kernel.specs.declared.types.Turn.{Turn}
 use Rattle.kernel.specs.declared.types.Turn.TheVariants.{Proc, Shut}
 use Rattle.kernel.proofs.Causes.{Added, added, becomes_now, extends_entry, last_same, none_past, reply_before, runs_extend, same_op, same_pid, turned}

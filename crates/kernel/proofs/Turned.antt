@@ -32,7 +32,7 @@ use Rattle.history.specs.Journal.{entry_in, entry_of}
 use Rattle.history.specs.Lemmas.Groups.{ended_keeps}
 use Rattle.history.specs.Open.{told}
 use Rattle.history.specs.Processes.{World, process, idle, entry_place, place_behind, refusal, turned_from, decided, told_at, over_at, committing_at, with_place}
-use Rattle.kernel.specs.declared.types.Step.{Step}
+use Rattle.model.specs.declared.types.operations.Step.{Step}
 use Rattle.kernel.specs.declared.waiting.Waiting.{Waiting}
 use Rattle.kernel.specs.Next.{BeginsWith, Ends, Finishes, NextAt, NextIf, Works, Writes, world_after, world_behind, world_ended, world_written}
 use Rattle.kernel.specs.State.{room_for, waiting_of}

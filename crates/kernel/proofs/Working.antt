@@ -331,6 +331,10 @@ module _ {D N : Type 0} (disk : Ghosts D N) (opening : D) (s : StoreState D) (w 
     pub right_fault_behind : (fault : DiskFault) → StillSurvives → Steps disk s p op (progress.Fault fault) t → IsRight disk opening t w
     right_fault_behind fault survives steps = fails_with (at.AfterTurn group k) stands refl fault survives steps (behind_goes group k (progress.Fault fault) steps behind (ends_now (progress.Fault fault) its.unfinished steps))
 
+    -- it has no turn again
+    pub not_turned : (reply : Option Reply) → Steps disk s p op (progress.Turned reply) t → ⊥
+    not_turned reply steps = false≢true (sym its.turned ∙ (ends_now (progress.Turned reply) its.unfinished steps).0)
+
     -- its reading is over, and answered
     pub right_decided : group ≡ 0 → (reply : Reply) → Steps disk s p op (progress.Decided reply) t → HasAgreed disk.image t → IsRight disk opening t (answered (decided w p reply) p)
     right_decided none reply steps agreed =

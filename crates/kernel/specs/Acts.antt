@@ -6,8 +6,8 @@ use Rattle.ports.specs.declared.herald.Herald as herald_trait
 use Rattle.ports.specs.declared.intake.Intake as intake_trait
 use Rattle.history.specs.Bound.{is_busy_at}
 use Rattle.history.specs.Processes.{process}
-use Rattle.kernel.specs.declared.types.Step.{Step}
-use Rattle.kernel.specs.declared.types.Step.TheVariants as step
+use Rattle.model.specs.declared.types.operations.Step.{Step}
+use Rattle.model.specs.declared.types.operations.Step.TheVariants as step
 use Rattle.kernel.specs.Device.{UsesDisk}
 use Rattle.kernel.specs.Heralds.{IsUnasked}
 use Rattle.kernel.specs.Next.{Next, StepFrom, StepTo}

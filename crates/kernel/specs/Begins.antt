@@ -9,7 +9,7 @@ use Rattle.history.specs.Processes.{World, with_place}
 use Rattle.kernel.specs.declared.beginning.Rooms.{Rooms}
 use Rattle.kernel.specs.declared.waiting.Waiting.{Waiting}
 use Rattle.kernel.specs.declared.waiting.Waiting.TheVariants as waiting
-use Rattle.kernel.specs.declared.types.Step.{Step}
+use Rattle.model.specs.declared.types.operations.Step.{Step}
 use Rattle.kernel.specs.Next.{BeginsWith, IsNotTaken}
 use Rattle.kernel.specs.Ports.{KeepsOthers}
 use Rattle.kernel.specs.State.{State, room_for}

@@ -12,8 +12,8 @@ use Rattle.inodes.specs.Places.{block_at_place}
 use Rattle.inodes.specs.Tasks.{task}
 use Rattle.history.specs.declared.types.Phase.{Phase}
 use Rattle.history.specs.declared.types.Phase.TheVariants as at
-use Rattle.kernel.specs.declared.types.Step.{Step}
-use Rattle.kernel.specs.declared.types.Step.TheVariants as step
+use Rattle.model.specs.declared.types.operations.Step.{Step}
+use Rattle.model.specs.declared.types.operations.Step.TheVariants as step
 use Rattle.history.specs.Alone.{is_committing_at}
 
 -- the counts of a disk that its use raises

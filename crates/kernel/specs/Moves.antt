@@ -7,8 +7,8 @@ use Rattle.ports.specs.declared.intake.Intake.{Ghosts as Intakes}
 use Rattle.kernel.specs.Bound.{step_bound}
 use Rattle.kernel.specs.State.{State}
 use Rattle.kernel.specs.Steps.{MakesStep}
-use Rattle.kernel.specs.declared.types.Step.{Step}
-use Rattle.kernel.specs.declared.types.Step.TheVariants as step
+use Rattle.model.specs.declared.types.operations.Step.{Step}
+use Rattle.model.specs.declared.types.operations.Step.TheVariants as step
 
 -- n steps, each of which moves, make m of k, where one step does as `steps` says
 unfoldable pub Moves : {K : Type 0} → (Step → K → K → Type 0) → ℕ → K → K → Type 0

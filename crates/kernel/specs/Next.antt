@@ -28,8 +28,8 @@ use Rattle.history.specs.Journal.{entry_in}
 use Rattle.history.specs.Processes.{World, process, with_place, taken, turned, decided, refused, over, committing, answered}
 use Rattle.kernel.specs.declared.waiting.Waiting.{Waiting}
 use Rattle.kernel.specs.declared.waiting.Waiting.TheVariants as waiting
-use Rattle.kernel.specs.declared.types.Step.{Step}
-use Rattle.kernel.specs.declared.types.Step.TheVariants as step
+use Rattle.model.specs.declared.types.operations.Step.{Step}
+use Rattle.model.specs.declared.types.operations.Step.TheVariants as step
 use Rattle.kernel.specs.State.{waiting_of, room_for}
 
 -- store and processes stay

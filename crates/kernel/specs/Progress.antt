@@ -9,8 +9,8 @@ use Rattle.history.specs.declared.types.Phase.TheVariants as at
 use Rattle.history.specs.Bound.{is_durable}
 use Rattle.history.specs.Grows.{Grows}
 use Rattle.history.specs.Processes.{World, process}
-use Rattle.kernel.specs.declared.types.Step.{Step}
-use Rattle.kernel.specs.declared.types.Step.TheVariants as step
+use Rattle.model.specs.declared.types.operations.Step.{Step}
+use Rattle.model.specs.declared.types.operations.Step.TheVariants as step
 use Rattle.kernel.specs.Awake.{IsAwake}
 use Rattle.kernel.specs.Bound.{TakesOne, GivesNone}
 use Rattle.kernel.specs.State.{State}

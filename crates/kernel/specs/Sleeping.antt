@@ -6,8 +6,8 @@ use Rattle.model.specs.declared.types.operations.Why.TheVariants as why
 use Rattle.ports.specs.declared.herald.Herald as herald_trait
 use Rattle.ports.specs.declared.intake.Intake as intake_trait
 use Rattle.history.specs.declared.types.Phase.TheVariants as at
-use Rattle.kernel.specs.declared.types.Step.{Step}
-use Rattle.kernel.specs.declared.types.Step.TheVariants as step
+use Rattle.model.specs.declared.types.operations.Step.{Step}
+use Rattle.model.specs.declared.types.operations.Step.TheVariants as step
 use Rattle.kernel.specs.Awake.{IsBusy, cause_of}
 use Rattle.kernel.specs.State.{State, ats_of}
 use Rattle.kernel.specs.Steps.{MakesStep}

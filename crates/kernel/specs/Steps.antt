@@ -3,7 +3,7 @@ use Rattle.std.specs.Prelude.{ℕ}
 use Rattle.blocks.specs.declared.disk.Disk as disk_trait
 use Rattle.ports.specs.declared.herald.Herald as herald_trait
 use Rattle.ports.specs.declared.intake.Intake as intake_trait
-use Rattle.kernel.specs.declared.types.Step.{Step}
+use Rattle.model.specs.declared.types.operations.Step.{Step}
 use Rattle.kernel.specs.Acts.{Acts}
 use Rattle.kernel.specs.Progress.{MakesProgress}
 use Rattle.kernel.specs.State.{State, StopsIn}

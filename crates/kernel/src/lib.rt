@@ -48,7 +48,8 @@ mod types;
 mod visiting;
 mod waiting;
 
+pub use model::types::Step;
 pub use runs::run;
 pub use stepping::Kernel;
-pub use types::{OpenFault, Step, Turn};
+pub use types::{OpenFault, Turn};
 pub use visiting::{Visit, VisitWith};

@@ -1,9 +1,12 @@
 // The kernel, and one step of a process.
+ghost use Rattle.std.specs.Prelude.{◌≡◌};
+ghost use Rattle.kernel.specs.Next.{step_of};
+
 use crate::Step;
 use crate::telling::{give, tell};
 use blocks::Disk;
-use inodes::Store;
 use history::{Phase, Processes};
+use inodes::Store;
 use model::types::TaskProgress;
 use ports::{Herald, Intake};
 use std::alloc::Global;
@@ -118,16 +121,12 @@ impl<D: Disk, I: Intake, H: Herald> Kernel<D, I, H> {
         let progress = self.store.step(pid, op);
         self.store.known();
         match progress {
-            TaskProgress::Moved => Step::Moved,
             TaskProgress::Turned(reply) => {
                 let is_over = self.store.is_over(pid);
                 self.processes.turn(pid, reply, is_over);
                 Step::Moved
             }
-            TaskProgress::Sleeping(why) => Step::Sleeping(why),
-            TaskProgress::Fault(_) => Step::Halted,
-            // What comes behind a turn.
-            TaskProgress::Decided(_) | TaskProgress::Over => unreachable!(),
+            progress => step_of(progress),
         }
     }
 
@@ -149,7 +148,6 @@ impl<D: Disk, I: Intake, H: Herald> Kernel<D, I, H> {
         let progress = self.store.step(pid, op);
         self.store.known();
         match progress {
-            TaskProgress::Moved => Step::Moved,
             TaskProgress::Decided(reply) => {
                 self.processes.decide(pid, reply);
                 if group > 0 {
@@ -167,10 +165,7 @@ impl<D: Disk, I: Intake, H: Herald> Kernel<D, I, H> {
                 self.processes.go_to_end(pid);
                 Step::Moved
             }
-            // It had its turn.
-            TaskProgress::Turned(_) => unreachable!(),
-            TaskProgress::Sleeping(why) => Step::Sleeping(why),
-            TaskProgress::Fault(..) => Step::Halted,
+            progress => step_of(progress),
         }
     }
 
@@ -224,5 +219,19 @@ impl<D: Disk, I: Intake, H: Herald> Kernel<D, I, H> {
             }
             Committed::Fault(_) => Step::Halted,
         }
+    }
+}
+
+// What a step of a process comes to whose task made this one, where it is not answered with it.
+fn step_of(progress: TaskProgress) -> Step
+    ensures { result ≡ step_of progress }
+{
+    match progress {
+        TaskProgress::Moved
+        | TaskProgress::Turned(_)
+        | TaskProgress::Decided(_)
+        | TaskProgress::Over => Step::Moved,
+        TaskProgress::Sleeping(why) => Step::Sleeping(why),
+        TaskProgress::Fault(_) => Step::Halted,
     }
 }

@@ -1,26 +1,7 @@
 // Plain data of the kernel.
-use model::types::{CheckFault, Why};
+use model::types::CheckFault;
 use thiserror::Error;
 use wal::RecoverFault;
-
-/// What a step of a process answers.
-#[derive(Clone, Copy, Debug, PartialEq, Eq)]
-pub enum Step {
-    /// The step was made, and the operation goes on.
-    Moved,
-    /// The step was made, and the operation was answered.
-    Answered,
-    /// Nothing was changed, and the process has to wait.
-    Sleeping(Why),
-    /// No operation waits.
-    Idle,
-    /// Memory for the operation was refused. It stays waiting.
-    NoMemory,
-    /// No operation begins any more.
-    ShutDown,
-    /// The disk failed, in this step or in one before it.
-    Halted,
-}
 
 /// One item of a schedule.
 #[derive(Clone, Copy)]

@@ -4,12 +4,12 @@ use Rattle.hex.specs.Hex.{encode_lower}
 use Rattle.model.specs.declared.types.operations.Answer.{Answer}
 use Rattle.model.specs.declared.types.operations.Reply.{Reply}
 use Rattle.model.specs.declared.types.operations.Reply.TheVariants.{Made, NoInode, Wrote, Bytes, Done, StatOf, NoFile, BadOffset, TooBig, TooLong, BadType}
+use Rattle.model.specs.declared.types.operations.Step.{Step}
+use Rattle.model.specs.declared.types.operations.Step.TheVariants as step
 use Rattle.model.specs.declared.types.operations.Why.{Why}
 use Rattle.model.specs.declared.types.operations.Why.TheVariants as why
 use Rattle.messages.specs.declared.events.Event.{Event}
 use Rattle.messages.specs.declared.events.Event.TheVariants.{Stepped, Answered, Shut, Stopped}
-use Rattle.messages.specs.declared.events.Progress.{Progress}
-use Rattle.messages.specs.declared.events.Progress.TheVariants as progress
 
 -- the number of what a step waits for
 abbrev pub number_of : Why → ℕ
@@ -29,14 +29,14 @@ name_of why.NoBuffer = codes "NoBuffer"
 name_of why.AnswersFull = codes "AnswersFull"
 
 -- what a step came to
-abbrev pub progress_text : Progress → List ℕ
-progress_text progress.Moved = codes "moved"
-progress_text progress.Answered = codes "answered"
-progress_text (progress.Sleeping w) = codes "sleeping " ++ decimal (number_of w) ++ codes " " ++ name_of w
-progress_text progress.Idle = codes "idle"
-progress_text progress.NoMemory = codes "nomemory"
-progress_text progress.ShutDown = codes "shutdown"
-progress_text progress.Halted = codes "halted"
+abbrev pub step_text : Step → List ℕ
+step_text step.Moved = codes "moved"
+step_text step.Answered = codes "answered"
+step_text (step.Sleeping w) = codes "sleeping " ++ decimal (number_of w) ++ codes " " ++ name_of w
+step_text step.Idle = codes "idle"
+step_text step.NoMemory = codes "nomemory"
+step_text step.ShutDown = codes "shutdown"
+step_text step.Halted = codes "halted"
 
 -- bytes as hexadecimal digits of lower case, or a dash where there are none
 abbrev pub bytes_text : List ℕ → List ℕ
@@ -62,19 +62,19 @@ answer_text a =
 
 -- what a turn came to
 abbrev pub event_text : Event → List ℕ
-event_text (Stepped pid s) = decimal pid ++ codes " " ++ progress_text s
+event_text (Stepped pid s) = decimal pid ++ codes " " ++ step_text s
 event_text (Answered pid a) = decimal pid ++ codes " " ++ answer_text a
 event_text Shut = codes "shut"
 event_text (Stopped n) = codes "stopped before write " ++ decimal n
 
-abbrev pub is_halt : Progress → Bool
-is_halt progress.Moved = false
-is_halt progress.Answered = false
-is_halt (progress.Sleeping _) = false
-is_halt progress.Idle = false
-is_halt progress.NoMemory = false
-is_halt progress.ShutDown = false
-is_halt progress.Halted = true
+abbrev pub is_halt : Step → Bool
+is_halt step.Moved = false
+is_halt step.Answered = false
+is_halt (step.Sleeping _) = false
+is_halt step.Idle = false
+is_halt step.NoMemory = false
+is_halt step.ShutDown = false
+is_halt step.Halted = true
 
 -- the disk failed in the turn, or was made to, and none comes behind it
 abbrev pub is_last : Event → Bool

@@ -1,37 +1,18 @@
 // What a turn of a schedule came to, and its line.
 ghost use Rattle.std.specs.Prelude.{◌≡◌, ◌++◌, Some, codes};
-ghost use Rattle.messages.specs.Events.{progress_text, bytes_text, reply_text, answer_text, event_text, is_last};
-ghost use Rattle.messages.specs.declared.events.Progress.TheVariants.{Sleeping};
+ghost use Rattle.messages.specs.Events.{step_text, bytes_text, reply_text, answer_text, event_text, is_last};
+ghost use Rattle.model.specs.declared.types.operations.Step.TheVariants.{Sleeping};
 
 use crate::hex_digits::{PIECE, digits_as_text};
 use itoa::Buffer;
-use model::types::{Answer, Reply, Why};
+use model::types::{Answer, Reply, Step, Why};
 use std::fmt;
-
-/// What a step of a process came to.
-#[derive(Clone, Copy)]
-pub enum Progress {
-    /// The operation goes on.
-    Moved,
-    /// The operation was answered.
-    Answered,
-    /// The process has to wait.
-    Sleeping(Why),
-    /// No operation waits.
-    Idle,
-    /// Memory for the operation was refused.
-    NoMemory,
-    /// No operation begins any more.
-    ShutDown,
-    /// The disk failed.
-    Halted,
-}
 
 /// What a turn came to.
 #[derive(Drop)]
 pub enum Event {
     /// The last step of this process came to this.
-    Stepped(u32, Progress),
+    Stepped(u32, Step),
     /// An operation of this process was answered.
     Answered(u32, Answer),
     /// No operation begins from now on.
@@ -47,7 +28,7 @@ impl Event {
     {
         match self {
             Event::Stopped(_) => true,
-            Event::Stepped(_, progress) => matches!(progress, Progress::Halted),
+            Event::Stepped(_, step) => matches!(step, Step::Halted),
             Event::Answered(..) | Event::Shut => false,
         }
     }
@@ -60,9 +41,9 @@ impl fmt::Display for Event {
     fn fmt<W: fmt::Write>(&self, f: &mut fmt::Formatter<W>) -> fmt::Result {
         let mut digits = Buffer::new();
         match self {
-            Event::Stepped(pid, progress) => {
+            Event::Stepped(pid, step) => {
                 f.write_str(digits.format(*pid))?;
-                let end = end_of_line(*progress);
+                let end = end_of_line(*step);
                 f.write_str(&end[..end.len() - 1])
             }
             Event::Answered(pid, answer) => {
@@ -80,23 +61,23 @@ impl fmt::Display for Event {
 }
 
 // The end of a line after the process, with its line feed: what its step came to.
-pub(crate) fn end_of_line(progress: Progress) -> &'static str
-    ensures { result.now ≡ codes " " ++ progress_text progress ++ codes "\n" }
+pub(crate) fn end_of_line(step: Step) -> &'static str
+    ensures { result.now ≡ codes " " ++ step_text step ++ codes "\n" }
 {
-    match progress {
-        Progress::Moved => " moved\n",
-        Progress::Answered => " answered\n",
-        Progress::Sleeping(why) => sleeping_end(why),
-        Progress::Idle => " idle\n",
-        Progress::NoMemory => " nomemory\n",
-        Progress::ShutDown => " shutdown\n",
-        Progress::Halted => " halted\n",
+    match step {
+        Step::Moved => " moved\n",
+        Step::Answered => " answered\n",
+        Step::Sleeping(why) => sleeping_end(why),
+        Step::Idle => " idle\n",
+        Step::NoMemory => " nomemory\n",
+        Step::ShutDown => " shutdown\n",
+        Step::Halted => " halted\n",
     }
 }
 
 // The same of a step that waits for this.
 fn sleeping_end(why: Why) -> &'static str
-    ensures { result.now ≡ codes " " ++ progress_text (Sleeping why) ++ codes "\n" }
+    ensures { result.now ≡ codes " " ++ step_text (Sleeping why) ++ codes "\n" }
 {
     match why {
         Why::Committing => " sleeping 1 Committing\n",

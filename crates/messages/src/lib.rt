@@ -15,7 +15,7 @@ mod output;
 mod printed;
 mod told;
 
-pub use events::{Event, Progress};
+pub use events::Event;
 pub use lines::{AccountLine, AnswerLine};
 pub use output::{
     pass_on, print, print_copied, print_counts, print_event, print_files, print_images, print_last,

@@ -7,10 +7,11 @@ ghost use Rattle.messages.specs.Telling.{telling_line};
 ghost use Rattle.messages.specs.Output.{copied_text, counts_text, files_text, images_text, number_text, numbers_text, report_text};
 
 use crate::answers::print_answer;
-use crate::events::{Event, Progress, end_of_line};
+use crate::events::{Event, end_of_line};
 use crate::told::{Reason, Unwritten};
 use itoa::Buffer;
 use layout::Super;
+use model::types::Step;
 use offline::Report;
 use std::fmt::Display;
 use std::io::Write;
@@ -48,19 +49,19 @@ pub fn print_event<O: Write>(out: &mut O, event: &Event) -> Result<(), Unwritten
         (event_line event.now)) }
 {
     match event {
-        Event::Stepped(pid, progress) => print_step(out, *pid, *progress),
+        Event::Stepped(pid, step) => print_step(out, *pid, *step),
         Event::Answered(pid, answer) => print_answer(out, *pid, answer),
         _ => print(out, format_args!("{event}\n")),
     }
 }
 
 // Writes the line of a turn without an answer. Most are, so it goes by no `Formatter`.
-fn print_step<O: Write>(out: &mut O, pid: u32, progress: Progress) -> Result<(), Unwritten>
+fn print_step<O: Write>(out: &mut O, pid: u32, step: Step) -> Result<(), Unwritten>
     ensures ok { OnOk result (Appends (O.contents out.old) (O.contents out.new)
-        (event_line (Stepped pid progress))) }
+        (event_line (Stepped pid step))) }
 {
     print_process(out, pid)?;
-    write_bytes(out, end_of_line(progress).as_bytes())
+    write_bytes(out, end_of_line(step).as_bytes())
 }
 
 // Writes the number of a process. Most have one digit.

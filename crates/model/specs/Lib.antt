@@ -13,6 +13,7 @@ pub mod Operations
 pub mod Journal
 pub mod Crash
 pub mod Tasks
+pub mod Progress
 pub mod Codec
 pub mod Reservations
 pub mod Agreement

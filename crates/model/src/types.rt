@@ -2,7 +2,9 @@
 mod fault;
 mod image;
 mod operations;
+mod progress;
 
 pub use fault::CheckFault;
 pub use image::{Dinode, File, Form, Pointer, Super};
-pub use operations::{Answer, Entry, Op, Reply, TRANSFER_LIMIT, TaskProgress, Why};
+pub use operations::{Answer, Entry, Op, Reply, Step, TRANSFER_LIMIT, TaskProgress, Why};
+pub use progress::Progress;

@@ -15,8 +15,8 @@ use Rattle.history.specs.Keeps.{KeepsBetween}
 use Rattle.history.specs.Most.{most_of}
 use Rattle.history.specs.Own.{KeepsOwn}
 use Rattle.clients.specs.Backlogs.{ops_of}
-use Rattle.kernel.specs.declared.types.Step.{Step}
-use Rattle.kernel.specs.declared.types.Step.TheVariants as step
+use Rattle.model.specs.declared.types.operations.Step.{Step}
+use Rattle.model.specs.declared.types.operations.Step.TheVariants as step
 use Rattle.kernel.specs.Lemmas.Turns.{Keeps, runs_on_none, runs_on_step, runs_on_then}
 use Rattle.kernel.specs.Runs.{RunsOn}
 use Rattle.kernel.specs.Moves.{MakesSteps, Moves}

@@ -3,7 +3,7 @@ use Rattle.std.proofs.Common.{◌≡◌, ℕ, List, Option}
 use Rattle.blocks.specs.FaultyDisk.{has_fired}
 use Rattle.blocks.specs.declared.faulty.FaultyDisk.{FaultyDisk}
 use Rattle.model.specs.declared.types.operations.Answer.{Answer}
-use Rattle.kernel.specs.declared.types.Step.{Step}
+use Rattle.model.specs.declared.types.operations.Step.{Step}
 use Rattle.clients.specs.declared.source.Source.{Source}
 use Rattle.messages.specs.declared.events.Event.{Event}
 use Rattle.player.specs.declared.player.Player.{Player}

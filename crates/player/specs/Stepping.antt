@@ -21,7 +21,7 @@ use Rattle.scripts.specs.declared.schedule.Word.TheVariants as word
 use Rattle.clients.specs.Backlogs.{backlog_of}
 use Rattle.clients.specs.Sources.{HasHandedIn, HaveSourceRings, source_ops}
 use Rattle.clients.specs.declared.source.Source.{Source}
-use Rattle.kernel.specs.declared.types.Step.{Step}
+use Rattle.model.specs.declared.types.operations.Step.{Step}
 use Rattle.model.specs.Layout.{inode_count_of}
 use Rattle.model.specs.declared.types.operations.Op.{Op}
 use Rattle.history.specs.Own.{KeepsFirst, KeepsOwn}

@@ -17,7 +17,6 @@ mod refusals;
 mod replaying;
 mod showing;
 mod stepping;
-mod told;
 mod turns;
 
 pub use checking::check_disk;

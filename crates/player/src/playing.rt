@@ -9,7 +9,8 @@ ghost use Rattle.kernel.specs.Runs.{RunsOn};
 use crate::player::Player;
 use crate::refusals::ReplayRefusal;
 use blocks::{Disk, FaultyDisk, NoMemory};
-use messages::{Event, Progress, Unwritten, print_counts, print_event};
+use kernel::Step;
+use messages::{Event, Unwritten, print_counts, print_event};
 use scripts::Word;
 use std::io::Write;
 
@@ -65,7 +66,7 @@ pub fn make_turns<D: Disk + Drop>(
 {
     for word in words {
         let event = player.turn(*word, stop);
-        if matches!(event, Event::Stepped(_, Progress::NoMemory)) {
+        if matches!(event, Event::Stepped(_, Step::NoMemory)) {
             return Err(NoMemory);
         }
         if event.is_last() {

@@ -31,7 +31,6 @@ ghost use Rattle.player.specs.Turns.{event_of};
 use crate::meeting::Meeting;
 use crate::player::Player;
 use crate::stepping::make_steps;
-use crate::told::progress_of;
 use blocks::{Disk, FaultyDisk, Kind};
 use clients::sources;
 use kernel::{Kernel, OpenFault, Step};
@@ -312,6 +311,6 @@ fn event_of(fired: bool, stop: u64, pid: u32, step: Step, answer: Option<Answer>
     }
     match answer {
         Some(answer) => Event::Answered(pid, answer),
-        None => Event::Stepped(pid, progress_of(step)),
+        None => Event::Stepped(pid, step),
     }
 }

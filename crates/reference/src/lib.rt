@@ -17,5 +17,3 @@ pub mod places;
 pub mod recovery;
 pub mod report;
 pub mod superblock;
-
-

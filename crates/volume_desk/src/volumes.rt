@@ -3,8 +3,9 @@ use bcache::Cache;
 use blocks::Disk;
 use desk::{Faulty, block_of, disk_of, done};
 use layout::{Super, superblock};
+use model::types::Progress;
 use std::alloc::Global;
-use wal::{Commit, Committed, Get, Log, Volume, recover};
+use wal::{Commit, Committed, Log, Volume, recover};
 
 /// A volume over a disk of which a call may fail.
 pub type Opened = Volume<Faulty>;
@@ -34,7 +35,7 @@ fn call_open(alloc: Global, volume: &mut Opened, words: &[&str]) -> anyhow::Resu
         ["may"] => may(alloc, volume),
         ["begin", pid] => begin(alloc, volume, pid),
         ["end", pid] => end(alloc, volume, pid),
-        ["get", pid, block] => told_get(alloc, volume, pid, block),
+        ["get", pid, block] => get(alloc, volume, pid, block),
         ["release", pid, slot] => release(alloc, volume, pid, slot),
         ["change", pid, block, at, hex] => change(alloc, volume, pid, block, at, hex),
         ["commit", count] => commit(alloc, volume, count),
@@ -165,15 +166,8 @@ fn end(alloc: Global, volume: &mut Opened, pid: &str) -> anyhow::Result<Option<S
     Ok(Some(format!(in alloc; "{answer:?}")?))
 }
 
-// A block's slot, if the volume may be asked for it.
-fn get(volume: &mut Opened, pid: u32, block: u32) -> Option<Get> {
-    if block < 33 || block >= volume.log().size() || volume.fault().is_some() {
-        return None;
-    }
-    Some(volume.get(pid, block))
-}
-
-fn told_get(
+// Asks for a block's slot, if the volume may be asked for it.
+fn get(
     alloc: Global,
     volume: &mut Opened,
     pid: &str,
@@ -181,10 +175,23 @@ fn told_get(
 ) -> anyhow::Result<Option<String>> {
     let pid: u32 = pid.parse()?;
     let block: u32 = block.parse()?;
-    match get(volume, pid, block) {
-        Some(answer) => Ok(Some(format!(in alloc; "{answer:?}")?)),
-        None => Ok(None),
+    if block < 33 || block >= volume.log().size() || volume.fault().is_some() {
+        return Ok(None);
     }
+    let mut slot = None;
+    let progress = volume.get(pid, block, &mut slot);
+    Ok(Some(got_text(alloc, progress, slot)?))
+}
+
+// What the volume answers that was asked for a slot.
+fn got_text(alloc: Global, progress: Progress<()>, slot: Option<u32>) -> anyhow::Result<String> {
+    let text = match (progress, slot) {
+        (Progress::Sleeping(why), _) => format!(in alloc; "Sleeping({why:?})")?,
+        (Progress::Fault(fault), _) => format!(in alloc; "Fault({fault:?})")?,
+        (_, Some(slot)) => format!(in alloc; "Got({slot})")?,
+        (_, None) => format!(in alloc; "None")?,
+    };
+    Ok(text)
 }
 
 fn release(
@@ -221,12 +228,14 @@ fn change(
     if block < 33 || block >= volume.log().size() || volume.fault().is_some() {
         return Ok(None);
     }
-    let answer = volume.get(pid, block);
-    if let Get::Got(slot) = answer {
+    let mut slot = None;
+    let progress = volume.get(pid, block, &mut slot);
+    let text = got_text(alloc, progress, slot)?;
+    if let Some(slot) = slot {
         volume.change(pid, slot, at, bytes.as_slice());
         volume.release(pid, slot);
     }
-    Ok(Some(format!(in alloc; "{answer:?}")?))
+    Ok(Some(text))
 }
 
 // Makes so many steps of a commit, but none behind a fault or where no commit is under way.

@@ -20,7 +20,7 @@ use Rattle.wal.specs.Floats.{IsVolume}
 use Rattle.blocks.specs.declared.disk.Disk.{Ghosts}
 use Rattle.model.specs.Codec.{header_block}
 use Rattle.wal.specs.declared.types.Part.{Part}
-use Rattle.wal.specs.Step.{CommitSteps, CommitStepsAt, CommitSyncs, CommitWrites, Stepped, Faulted, Synced, Unsynced, CommitsTo, answer_at, answer_synced}
+use Rattle.wal.specs.Step.{CommitSteps, CommitSyncs, CommitWrites, Stepped, Faulted, Synced, Unsynced, CommitsTo, answer_at, answer_synced}
 use Rattle.wal.specs.Volume.{fault_of_step}
 use Rattle.wal.specs.Lemmas.Volume.{fresh_slot, image_seen}
 

@@ -15,8 +15,8 @@ use Rattle.wal.specs.declared.types.Commit.{Commit}
 use Rattle.wal.specs.declared.types.Commit.TheVariants as commit
 use Rattle.wal.specs.declared.types.Committed.{Committed}
 use Rattle.wal.specs.declared.types.Committed.TheVariants as committed
-use Rattle.wal.specs.declared.types.Get.{Get}
-use Rattle.wal.specs.declared.types.Get.TheVariants as get
+use Rattle.wal.specs.Get.{Get}
+use Rattle.wal.specs.Get as get
 use Rattle.wal.specs.Machine.{LogState, is_among, noted_cache}
 use Rattle.wal.specs.Joint.{Joint, seen, unpinned_found, written_cache}
 use Rattle.blocks.specs.declared.disk.Disk.{Ghosts}

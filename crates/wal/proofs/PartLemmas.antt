@@ -1,5 +1,5 @@
 -- A part of a commit waits for its sync, and goes on after it.
-use Rattle.std.proofs.Common.{◌≡◌, ℕ, ◌+◌, ◌==◌, Bool, true, false, cond, List, [], length, refl, sym, ◌∙◌, ap, subst, arith}
+use Rattle.std.proofs.Common.{◌≡◌, ℕ, ◌+◌, ◌==◌, Bool, true, false, cond, List, [], length, refl, sym, ◌∙◌, ap, arith}
 use Rattle.std.proofs.Math.Seq.{drop-length}
 use Rattle.blocks.specs.Disk.{Image}
 use Rattle.bcache.specs.Buffers.{Buffers, buffer}

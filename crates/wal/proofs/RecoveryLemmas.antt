@@ -6,10 +6,10 @@ use Rattle.std.proofs.lemmas.Option.{get_or_from_slice_get}
 use Rattle.blocks.specs.Block.{zero_block, IsBlock}
 use Rattle.blocks.specs.Disk.{Image, block_at, IsOldOrNew, LeavesOldOrNew, IsSettled, AddsNone, Elapses, LeavesOnly, Rose, counted}
 use Rattle.blocks.specs.Lemmas.Moments.{started, stays, goes_on, joined, adds_after, only_added, turned}
-use Rattle.model.specs.Log.{logged_in, homes_in, logged_count, homes_of, is_lawful_log, are_in_place, are_distinct, recovered}
+use Rattle.model.specs.Log.{logged_count, homes_of, is_lawful_log, are_in_place, are_distinct, recovered}
 use Rattle.model.specs.Lemmas.Log.{both_of, recovered_empty, none_cleared}
 use Rattle.model.specs.Lemmas.Recovery.{few_homes}
-use Rattle.wal.specs.Recovery.{HasCopied, IsCalm, IsRecoveredInPart, Looks, MayStop, OnBadLog, OnDisk, OnNoMemory, OnSync, Recovers, RecoversAs, RecoversBy, RefusesToRecover, Rests, Settles, StopsAlike, syncs_to_restore, syncs_to_settle, writes_to_recover}
+use Rattle.wal.specs.Recovery.{HasCopied, IsRecoveredInPart, Looks, MayStop, OnBadLog, OnDisk, OnNoMemory, OnSync, Recovers, RecoversAs, RecoversBy, RefusesToRecover, Rests, Settles, StopsAlike, syncs_to_restore, syncs_to_settle, writes_to_recover}
 use Rattle.wal.specs.declared.faults.RecoverFault.{RecoverFault}
 use Rattle.wal.specs.declared.faults.RecoverFault.TheVariants as fault
 use Rattle.blocks.specs.Calls.{OnlyReads}

@@ -26,8 +26,8 @@ use Rattle.model.specs.Codec.{header_block}
 use Rattle.wal.specs.declared.types.Commit.TheVariants as commit
 use Rattle.wal.specs.declared.types.Part.{Part}
 use Rattle.wal.specs.Step.{CommitSteps, CommitStepsAt, CommitSyncs, CommitWrites, Stepped, Faulted, Synced, Unsynced, CommitsTo, answer_at, answer_synced}
-use Rattle.wal.specs.declared.types.Get.{Get}
-use Rattle.wal.specs.declared.types.Get.TheVariants as get
+use Rattle.wal.specs.Get.{Get}
+use Rattle.wal.specs.Get as get
 use Rattle.wal.specs.Volume.{VolumeState, Holds, OnGot, UnlessFault}
 use Rattle.wal.proofs.CommitLemmas.{write_current, unpinned_current}
 use Rattle.wal.proofs.CacheCallLemmas.{clean_shows, joint_filled}

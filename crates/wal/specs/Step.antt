@@ -1,5 +1,5 @@
 -- One step of a commit.
-use Rattle.std.specs.Prelude.{◌≡◌, ℕ, Bool, true, List, slice_set, if◌then◌else◌, IsTrue}
+use Rattle.std.specs.Prelude.{◌≡◌, ℕ, Bool, List, slice_set, if◌then◌else◌, IsTrue}
 use Rattle.blocks.specs.declared.disk.Disk.{Ghosts}
 use Rattle.wal.specs.declared.types.DeviceFault.{DeviceFault}
 use Rattle.wal.specs.declared.types.DeviceFault.TheVariants.{Block, Sync}

@@ -1,5 +1,5 @@
 -- A disk with its buffers and its log, and what each call makes of them.
-use Rattle.std.specs.Prelude.{◌≡◌, ◌<◌, ℕ, true, false, List, if◌then◌else◌, Option, Some, None, ⊤}
+use Rattle.std.specs.Prelude.{◌≡◌, ◌<◌, ℕ, true, false, List, if◌then◌else◌, Option, Some, None, Result, Ok, Err, ⊤}
 use Rattle.blocks.specs.declared.errors.DiskFault.{DiskFault}
 use Rattle.wal.specs.declared.types.DeviceFault.{DeviceFault}
 use Rattle.wal.specs.declared.types.DeviceFault.TheVariants.{Block}
@@ -12,6 +12,8 @@ use Rattle.model.specs.declared.types.operations.TaskProgress.{TaskProgress}
 use Rattle.model.specs.declared.types.operations.TaskProgress.TheVariants as task
 use Rattle.model.specs.declared.types.operations.Why.{Why}
 use Rattle.model.specs.declared.types.operations.Why.TheVariants as why
+use Rattle.model.specs.declared.types.progress.Progress.{Progress}
+use Rattle.model.specs.declared.types.progress.Progress.TheVariants as machine
 use Rattle.bcache.specs.declared.types.Busy.{Busy}
 use Rattle.bcache.specs.declared.types.Busy.TheVariants as busy
 use Rattle.bcache.specs.declared.types.Acquired.{Acquired}
@@ -19,12 +21,12 @@ use Rattle.bcache.specs.declared.types.Acquired.TheVariants as acquired
 use Rattle.bcache.specs.Buffers.{Buffers, buffer, block_or_zero, fresh_buffers, acquire_answer, after_acquire, filled, changed, EndsUnfilled}
 use Rattle.wal.specs.declared.types.Committed.{Committed}
 use Rattle.wal.specs.declared.types.Committed.TheVariants as committed
-use Rattle.wal.specs.declared.types.Get.{Get}
-use Rattle.wal.specs.declared.types.Get.TheVariants as get
+use Rattle.wal.specs.Get.{Get}
+use Rattle.wal.specs.Get as get
 use Rattle.wal.specs.Machine.{LogState, new_log, noted, noted_cache, MayLog, HasSlot}
 use Rattle.wal.specs.Joint.{seen}
 use Rattle.wal.specs.Step.{CommitSteps}
-use Rattle.wal.specs.Held.{LeavesLocks}
+use Rattle.wal.specs.Held.{LeavesLocks, LocksAfter}
 
 pub record VolumeState (D : Type 0) : Type 0 where
   pub device : D
@@ -161,6 +163,34 @@ pub record ReadsFor {D N : Type 0} (disk : Ghosts D N) (old : VolumeState D) (r 
   pub device : OnlyReads disk old.device new.device
   pub faults : disk.fault_count new.device
       ≡ faults_after (fault_of_get r) (disk.fault_count old.device)
+
+-- what `get` answers then, to a machine's step that gets a block
+abbrev pub progress_of : {T : Type 0} → Get → Progress T
+progress_of (get.Got i) = machine.Moved
+progress_of (get.Sleeping why) = machine.Sleeping why
+progress_of (get.Fault fault) = machine.Fault fault
+
+-- the slot that was got
+abbrev pub slot_of : Get → Option ℕ
+slot_of (get.Got i) = Some i
+slot_of (get.Sleeping why) = None
+slot_of (get.Fault fault) = None
+
+-- A machine of process p gets block b, and has it in slot s; or it has to wait, or the disk fails,
+-- and it has none.
+pub record GetsFor {D N T : Type 0} (disk : Ghosts D N) (v : VolumeState D) (p b : ℕ)
+    (r : Progress T) (s : Option ℕ) (w : VolumeState D) : Type 0 where
+  pub answer : Get
+  pub gives : r ≡ progress_of answer
+  pub slot : s ≡ slot_of answer
+  pub gets : Gets disk v p b answer w
+  pub reads : ReadsFor disk v answer w
+  pub locks : LocksAfter answer v.buffers w.buffers p b
+
+-- what the read of a block for slot i came to
+abbrev pub fill_answer : ℕ → Result (Unit {0}) DiskFault → Get
+fill_answer i (Ok done) = get.Got i
+fill_answer i (Err fault) = get.Fault fault
 
 -- the process may change the block of a slot: it may log it, has its lock, and the slot shows it
 pub record MayChange {D : Type 0} (v : VolumeState D) (p i : ℕ) : Type 0 where

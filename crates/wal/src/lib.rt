@@ -38,5 +38,5 @@ mod volume;
 pub use faults::RecoverFault;
 pub use log::Log;
 pub use recovery::recover;
-pub use types::{Began, Commit, Committed, DeviceFault, Ended, Get, Part};
+pub use types::{Began, Commit, Committed, DeviceFault, Ended, Part};
 pub use volume::Volume;

@@ -74,14 +74,3 @@ pub enum DeviceFault {
     /// A sync.
     Sync(SyncFault),
 }
-
-/// What `get` answers.
-#[derive(Clone, Copy, Debug)]
-pub enum Get {
-    /// The process has the lock of this slot, from 0 to 39, which is valid.
-    Got(u32),
-    /// Nothing was changed, and the caller has to wait.
-    Sleeping(Why),
-    /// The disk failed.
-    Fault(DiskFault),
-}

@@ -8,13 +8,13 @@ ghost use Rattle.model.specs.Log.{logged_count};
 ghost use Rattle.bcache.specs.Buffers.{buffer, block_or_zero, filled, fresh_buffers, released, EndsUnfilled};
 ghost use Rattle.wal.specs.Machine.{is_quiet, new_log, begin_cause, begin_answer, after_begin, used_by, ended, end_answer};
 ghost use Rattle.wal.specs.Joint.{Joint, seen};
-ghost use Rattle.wal.specs.Held.{HoldsBlock, LeavesLocks, GivesUpLock, LocksAfter};
-ghost use Rattle.wal.specs.Volume.{Holds, IsNewMemory, MayChange, LacksBlock, Gets, ReadsFor, VolumeCommits, why_busy, after_change, fault_of_step, OnFault, UnlessFault};
+ghost use Rattle.wal.specs.Held.{HoldsBlock, LeavesLocks, GivesUpLock};
+ghost use Rattle.wal.specs.Volume.{Holds, IsNewMemory, MayChange, LacksBlock, GetsFor, ReadsFor, VolumeCommits, why_busy, after_change, fault_of_step, OnFault, UnlessFault, fill_answer, progress_of, slot_of};
 
-use crate::{Began, Committed, DeviceFault, Ended, Get, Log};
+use crate::{Began, Committed, DeviceFault, Ended, Log};
 use bcache::{Acquired, Busy, Cache};
-use blocks::{Block, Disk};
-use model::types::Why;
+use blocks::{Block, Disk, DiskFault};
+use model::types::{Progress, Why};
 use std::marker::Model;
 
 /// A disk with its buffer cache and its log (the xv6 book, the chapter "File system": "Buffer cache
@@ -162,45 +162,48 @@ impl<D: Disk> Volume<D> {
         self.log.end(pid)
     }
 
-    /// Gets the lock of a block's slot for a process (`bread`): `Got` with a valid slot, for which
+    /// Gets the lock of a block's slot for a process (`bread`): `Moved` with a valid slot, for which
     /// the block was read where no buffer showed it; `Sleeping` with `BufferHeld` or `NoBuffer`
     /// where the cache's `acquire` has to wait, and nothing is changed. `Fault` where that read
-    /// failed; the slot then keeps the process's lock.
-    pub fn get(&mut self, pid: u32, block: u32) -> Get
+    /// failed; the slot then keeps the process's lock. No other lock is taken, and what is held
+    /// stays so; who waits for a held buffer waits for its lock.
+    pub fn get<T>(&mut self, pid: u32, block: u32, slot: &mut Option<u32>) -> Progress<T>
         requires fault { self.old.fault ≡ None }
         requires behind { inode_start ≤ block }
         requires within { block < self.old.log.size }
-        ensures gets { Gets D.Disk self.old pid block result self.new }
-        ensures reads { ReadsFor D.Disk self.old result self.new }
-
-        // No other lock is taken, and what is held stays so; who waits for a held buffer waits for
-        // its lock.
-        ensures locks { LocksAfter result self.old.buffers self.new.buffers pid block }
+        requires none { slot.old ≡ None }
+        ensures { GetsFor D.Disk self.old pid block result slot.new self.new }
     {
         match self.cache.acquire(pid, block) {
-            Acquired::Sleeping(busy) => Get::Sleeping(why(busy)),
-            Acquired::Got { slot, valid: true } => Get::Got(slot),
-            Acquired::Got { slot, valid: false } => self.fill(block, slot),
+            Acquired::Sleeping(busy) => Progress::Sleeping(why(busy)),
+            Acquired::Got {
+                slot: got,
+                valid: true,
+            } => keep(Ok(()), got, slot),
+            Acquired::Got {
+                slot: got,
+                valid: false,
+            } => keep(self.fill(block, got), got, slot),
         }
     }
 
     // Reads the block of a slot that isn't valid.
-    fn fill(&mut self, block: u32, slot: u32) -> Get
+    fn fill(&mut self, block: u32, slot: u32) -> Result<(), DiskFault>
         requires fault { self.old.fault ≡ None }
         requires lacks { LacksBlock self.old.buffers block slot }
-        ensures answer { UnlessFault result (result ≡ Get.Got slot) }
-        ensures buffers { UnlessFault result
+        ensures buffers { UnlessFault (fill_answer slot result)
             (self.new.buffers ≡ filled self.old.buffers slot
             (block_at (D.image self.old.device) block)) }
-        ensures place { OnFault result (λ fault. fault.0 ≡ block) }
-        ensures failed { OnFault result (λ _. EndsUnfilled self.old.buffers slot self.new.buffers) }
-        ensures reads { ReadsFor D.Disk self.old result self.new }
+        ensures place { OnFault (fill_answer slot result) (λ fault. fault.0 ≡ block) }
+        ensures failed { OnFault (fill_answer slot result)
+            (λ _. EndsUnfilled self.old.buffers slot self.new.buffers) }
+        ensures reads { ReadsFor D.Disk self.old (fill_answer slot result) self.new }
     {
         match self.cache.fill(slot, &mut self.disk) {
-            Ok(()) => Get::Got(slot),
+            Ok(()) => Ok(()),
             Err(fault) => {
                 self.fault = Some(DeviceFault::Block(fault));
-                Get::Fault(fault)
+                Err(fault)
             }
         }
     }
@@ -260,6 +263,21 @@ impl<D: Disk> Volume<D> {
         let answer = self.log.commit_step(&mut self.cache, &mut self.disk);
         self.fault = fault_of(answer);
         answer
+    }
+}
+
+// Keeps a slot that was got, unless its block could not be read.
+fn keep<T>(filled: Result<(), DiskFault>, got: u32, slot: &mut Option<u32>) -> Progress<T>
+    requires { slot.old ≡ None }
+    ensures progress { result ≡ progress_of (fill_answer got filled) }
+    ensures slot { slot.new ≡ slot_of (fill_answer got filled) }
+{
+    match filled {
+        Ok(()) => {
+            *slot = Some(got);
+            Progress::Moved
+        }
+        Err(fault) => Progress::Fault(fault),
     }
 }
 

@@ -8,12 +8,12 @@ use Rattle.cli.specs.Told.{AskForHelp, IsToldOf}
 use Rattle.cli.specs.declared.explanation.Explanation.{Explanation}
 use Rattle.cli.specs.declared.explanation.Explanation.TheVariants.{Help, Mistake, NoMemory}
 use Rattle.cli.specs.declared.words.Request.{Request}
-use Rattle.cli.specs.declared.words.Request.TheVariants.{Mkfs, Check, Recover, Cat, Ls, Show, Put, Copy, Replay, Run, Stops}
+use Rattle.cli.specs.declared.words.Request.TheVariants.{Mkfs, Check, Recover, Cat, Ls, Df, Show, Put, Copy, Replay, Run, Stops}
 use Rattle.cmd.specs.Lemmas.Disks.{file_disk}
 use Rattle.cmd.specs.Opened.{OpensDisk}
 use Rattle.cmd.specs.Over.{IsRefusedOn}
-use Rattle.inspect.specs.Causes.{IsHidden, IsUnlisted}
-use Rattle.inspect.specs.Looks.{HasListed, HasShown as HasBlocksShown}
+use Rattle.inspect.specs.Causes.{IsHidden, IsUncounted, IsUnlisted}
+use Rattle.inspect.specs.Looks.{HasCounted, HasListed, HasShown as HasBlocksShown}
 use Rattle.player.specs.Causes.{IsNotRecovered, IsUnchecked}
 use Rattle.player.specs.Looks.{HasRecovered, HasReported, HasShown}
 use Rattle.player.specs.Showing.{IsNotShown}
@@ -42,6 +42,8 @@ Answers file (Cat image inum) old new =
     OpensDisk file.remaining file_disk false (λ d e. HasShown file_disk inum d e old new)
 Answers file (Ls image) old new =
     OpensDisk file.remaining file_disk false (λ d e. HasListed file_disk d e old new)
+Answers file (Df image) old new =
+    OpensDisk file.remaining file_disk false (λ d e. HasCounted file_disk d e old new)
 Answers file (Show image inum) old new =
     OpensDisk file.remaining file_disk false (λ d e. HasBlocksShown file_disk inum d e old new)
 Answers file (Put image path inum) old new = HasPut file.remaining inum old new
@@ -70,6 +72,8 @@ OnRefused file (Cat image inum) old new none = Refuses
     (IsRefusedOn file.remaining false none (λ d e. IsNotShown file_disk d e inum old new none))
 OnRefused file (Ls image) old new none =
     Refuses (IsRefusedOn file.remaining false none (λ d e. IsUnlisted file_disk d e none))
+OnRefused file (Df image) old new none =
+    Refuses (IsRefusedOn file.remaining false none (λ d e. IsUncounted file_disk d e none))
 OnRefused file (Show image inum) old new none =
     Refuses (IsRefusedOn file.remaining false none (λ d e. IsHidden file_disk inum d e none))
 OnRefused file (Put image path inum) old new none =

@@ -23,7 +23,7 @@ use blocks::{Disk, FaultyDisk, FileDisk};
 use cli::{Asked, Explanation, Request, parse};
 use cmd::{Access, OverFile, end, perform};
 use commands::{Copy, Mkfs, Put, replay_files, run_files};
-use inspect::{Ls, Show};
+use inspect::{Df, Ls, Show};
 use messages::print_last;
 use model::types::Form;
 use player::{Cat, Check, Recover};
@@ -166,6 +166,7 @@ where
             err,
         ),
         Request::Ls { image } => perform(rt, OverFile(image, Access::Look, Ls), out, err),
+        Request::Df { image } => perform(rt, OverFile(image, Access::Look, Df), out, err),
         Request::Show { image, inum } => perform(
             rt,
             OverFile(image, Access::Look, Show(inum)),

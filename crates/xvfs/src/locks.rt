@@ -85,6 +85,7 @@ pub fn lock_image<L: Locks>(
     match request {
         Request::Check { image } => locks.lock(image, Share::Lookers, wait),
         Request::Ls { image } => locks.lock(image, Share::Lookers, wait),
+        Request::Df { image } => locks.lock(image, Share::Lookers, wait),
         Request::Show { image, .. } => locks.lock(image, Share::Lookers, wait),
         Request::Copy { old, .. } => locks.lock(old, Share::Lookers, wait),
         Request::Mkfs { image, .. } => locks.lock(image, Share::Nobody, wait),

@@ -13,7 +13,7 @@ use Rattle.blockmap.specs.Branch.{address_on}
 use Rattle.blockmap.specs.BmapAlloc.{IsLed, LeadsThere, come_to}
 use Rattle.blockmap.specs.declared.bmap_alloc.MapAt.{MapAt}
 use Rattle.blockmap.specs.declared.branch.Branch.{Branch}
-use Rattle.blockmap.specs.declared.progress.Progress.TheVariants as progress
+use Rattle.model.specs.declared.types.progress.Progress.TheVariants as progress
 
 -- a block that was come to is the file's, where it is one of data
 pub leads_on : {D : Type 0} (image : D → Image) (depth a : ℕ) (b : Branch) (at : MapAt) (d : Dinode) (w : VolumeState D) →

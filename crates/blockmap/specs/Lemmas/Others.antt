@@ -7,23 +7,22 @@ use Rattle.blocks.specs.declared.disk.Disk.{Ghosts}
 use Rattle.blocks.specs.declared.errors.DiskFault.{DiskFault}
 use Rattle.bcache.specs.Buffers.{Buffers}
 use Rattle.model.specs.declared.types.operations.Why.{Why}
-use Rattle.wal.specs.declared.types.Get.{Get}
-use Rattle.wal.specs.declared.types.Get.TheVariants as get
+use Rattle.wal.specs.Get.{Get}
+use Rattle.wal.specs.Get as get
 use Rattle.wal.specs.Held.{HasLock, HoldsBlock, LocksAfter, GetsLock, GivesUpLock, WaitsFor}
 use Rattle.wal.specs.Machine.{LogState, SameGroups, used_by, is_among, noted, appended, one_used}
-use Rattle.wal.specs.Volume.{VolumeState, FailsToFill, OnFault, OnSleeping}
+use Rattle.wal.specs.Volume.{VolumeState, FailsToFill, OnFault, OnSleeping, GetsFor, progress_of, slot_of}
 use Rattle.wal.specs.Lemmas.Rooms.{noted_grows, used_noted}
 use Rattle.blockmap.specs.Deeds.{CarriesOut}
 use Rattle.blockmap.specs.Driver.{Drives, progress_of_over, when_got}
-use Rattle.blockmap.specs.Getting.{GetsFor, progress_of, slot_of}
 use Rattle.blockmap.specs.Next.{block_of_next}
 use Rattle.blockmap.specs.declared.deed.Deed.{Deed}
 use Rattle.blockmap.specs.declared.deed.Deed.TheVariants as deed
 use Rattle.blockmap.specs.declared.driving.Driven.{Driven}
 use Rattle.blockmap.specs.declared.driving.Got.{Got}
 use Rattle.blockmap.specs.declared.machine.Machine.{Ghosts as Pure}
-use Rattle.blockmap.specs.declared.progress.Progress.{Progress}
-use Rattle.blockmap.specs.declared.progress.Progress.TheVariants as progress
+use Rattle.model.specs.declared.types.progress.Progress.{Progress}
+use Rattle.model.specs.declared.types.progress.Progress.TheVariants as progress
 
 -- ---- what the others hold
 

@@ -8,17 +8,18 @@ use Rattle.model.specs.declared.types.image.Dinode.{Dinode}
 use Rattle.model.specs.declared.types.operations.Why.{Why}
 use Rattle.model.specs.Layout.{form_of}
 use Rattle.wal.specs.Joint.{seen}
-use Rattle.wal.specs.Volume.{VolumeState, Gets, ReadsFor}
-use Rattle.wal.specs.declared.types.Get.{Get}
-use Rattle.wal.specs.declared.types.Get.TheVariants as get
-use Rattle.blockmap.specs.Getting.{GetsFor, Releases, progress_of, slot_of}
-use Rattle.blockmap.specs.declared.progress.Progress.{Progress}
-use Rattle.blockmap.specs.declared.progress.Progress.TheVariants as progress
+use Rattle.wal.specs.Volume.{VolumeState, Gets, ReadsFor, GetsFor, progress_of, slot_of}
+use Rattle.wal.specs.Get.{Get}
+use Rattle.wal.specs.Get as get
+use Rattle.blockmap.specs.Getting.{Releases}
+use Rattle.model.specs.Progress.{one_more}
+use Rattle.model.specs.declared.types.progress.Progress.{Progress}
+use Rattle.model.specs.declared.types.progress.Progress.TheVariants as progress
 use Rattle.blockmap.specs.Bmap.{EntryState, Ends, GoesBelow, IsNode, LooksUp, below, some_address, with_slot}
 use Rattle.blockmap.specs.Branch.{LiesOnWay, branch_of, named_by, node_at, rest_under}
 use Rattle.blockmap.specs.Map.{address_or_zero}
 use Rattle.blockmap.specs.Reading.{MayRead}
-use Rattle.blockmap.specs.Target.{HoldsTarget, LeadsTo, LeadsToBlock, LooksUpFor, Seeks, got_slot, progress_behind, steps_at, target_behind}
+use Rattle.blockmap.specs.Target.{HoldsTarget, LeadsTo, LeadsToBlock, LooksUpFor, Seeks, got_slot, steps_at, target_behind}
 use Rattle.blockmap.specs.Lemmas.Addresses.{address_or_zero_of}
 use Rattle.blockmap.specs.Lemmas.Branches.{lies_next}
 use Rattle.blockmap.specs.Lemmas.Targets.{address_there_now, lies_ends, node_there}
@@ -103,11 +104,11 @@ module _ {D N : Type 0} (disk : Ghosts D N) (v w : VolumeState D) (p k : ℕ) (d
           by_answer (get.Got i) gives slot gets reads =
               let now : u ≡ target.Entry (with_slot e (Some i)) = f.target ∙ ap (λ (q : Progress (Option ℕ)). target_behind q f.entry) gives ∙ ap target.Entry (stays ∙ ap (with_slot e) slot) in
               let node = node_still e.node (ap (λ l. l.size) reads.log) lies in
-              moves (target.Entry e) (target.Entry (with_slot e (Some i))) (f.gives ∙ ap progress_behind gives) now reads.current lies (record { node = node; holds = gets.got }) (omega (arith, steps))
+              moves (target.Entry e) (target.Entry (with_slot e (Some i))) (f.gives ∙ ap one_more gives) now reads.current lies (record { node = node; holds = gets.got }) (omega (arith, steps))
           by_answer (get.Sleeping why) gives slot gets reads =
-              slept (target.Entry e) why (f.gives ∙ ap progress_behind gives) gets.sleeping
+              slept (target.Entry e) why (f.gives ∙ ap one_more gives) gets.sleeping
               (f.target ∙ ap (λ (q : Progress (Option ℕ)). target_behind q f.entry) gives ∙ ap target.Entry (stays ∙ ap (with_slot e) (slot ∙ sym none)))
-          by_answer (get.Fault fault) gives slot gets reads = failed (target.Entry e) fault (f.gives ∙ ap progress_behind gives)
+          by_answer (get.Fault fault) gives slot gets reads = failed (target.Entry e) fault (f.gives ∙ ap one_more gives)
 
       -- the entry is read in the slot that holds its block
       module _ (f : LooksUpFor disk v p e r u w) (i : ℕ) (got : e.slot ≡ Some i) (releases : Releases disk.image v p i w) where
@@ -121,7 +122,7 @@ module _ {D N : Type 0} (disk : Ghosts D N) (v w : VolumeState D) (p k : ℕ) (d
         uses_entry ends =
             let now : u ≡ target.Block (address_or_zero (some_address named)) None = f.target ∙ ap (λ (q : Progress (Option ℕ)). target_behind q f.entry) ends.over in
             let is = lies_ends x d k e.node lies e refl ends.ends in
-            moves (target.Entry e) (target.Block (address_or_zero (some_address named)) None) (f.gives ∙ ap progress_behind ends.over) now releases.current
+            moves (target.Entry e) (target.Block (address_or_zero (some_address named)) None) (f.gives ∙ ap one_more ends.over) now releases.current
             (address_or_zero_of named ∙ sym (address_there_now disk.image v p k d may size low ∙ is)) tt (omega (arith, steps))
 
         goes_below : GoesBelow named e f.answer f.entry → SeeksOn disk v p d k (target.Entry e) r u w
@@ -131,7 +132,7 @@ module _ {D N : Type 0} (disk : Ghosts D N) (v w : VolumeState D) (p k : ℕ) (d
             let deep : e.node.level ≢ 0 = eqb-false e.node.level 0 parts.1 in
             let next = lies_next x d at e.node lies deep (eqb-false named 0 parts.0) in
             let node = node_still (node_at e.node.level (rest_under e.node) named) (ap (λ (o : VolumeState D). o.log.size) releases.volume) next in
-            moves (target.Entry e) (target.Entry (below e named)) (f.gives ∙ ap progress_behind on.moved) now releases.current next (record { node = node; holds = tt }) (omega (arith, deep, steps))
+            moves (target.Entry e) (target.Entry (below e named)) (f.gives ∙ ap one_more on.moved) now releases.current next (record { node = node; holds = tt }) (omega (arith, deep, steps))
 
     pub seeks_on : (t : Target) → LeadsTo disk.image v p d k t → got_slot t ≡ None → Seeks disk t v p r u w → SeeksOn disk v p d k t r u w
     seeks_on (target.Block b None) leads none seeks = gets_block b seeks.0 leads.block seeks.1 seeks.2

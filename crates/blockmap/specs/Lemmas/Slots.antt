@@ -3,14 +3,13 @@ use Rattle.std.proofs.Common.{◌≡◌, ◌≢◌, inl, inr, ⊎_elim, ℕ, ref
 use Rattle.blocks.specs.Disk.{Image, block_at}
 use Rattle.blocks.specs.declared.disk.Disk.{Ghosts}
 use Rattle.bcache.specs.Buffers.{Buffers, buffer}
-use Rattle.wal.specs.declared.types.Get.{Get}
-use Rattle.wal.specs.declared.types.Get.TheVariants as get
+use Rattle.wal.specs.Get.{Get}
+use Rattle.wal.specs.Get as get
 use Rattle.wal.specs.Held.{HasLock, HoldsBlock, LocksAfter, GetsLock, GivesUpLock}
 use Rattle.wal.specs.Joint.{seen}
-use Rattle.wal.specs.Volume.{VolumeState, Holds}
+use Rattle.wal.specs.Volume.{VolumeState, Holds, progress_of, slot_of}
 use Rattle.blockmap.specs.Deeds.{CarriesOut}
 use Rattle.blockmap.specs.Driver.{Drives, HoldsGot, after_with, deed_with, taken, when_got}
-use Rattle.blockmap.specs.Getting.{progress_of, slot_of}
 use Rattle.blockmap.specs.Holds.{HasKept, HasOne, HasUsed, HoldsBlocks, IsGot, IsKept, slot_kept, slot_used}
 use Rattle.blockmap.specs.Next.{IsBeside, IsThere, KeepsApart, block_of_next, kept_and, kept_then, no_block_kept, used_now}
 use Rattle.blockmap.specs.declared.deed.Deed.{Deed}
@@ -21,8 +20,8 @@ use Rattle.blockmap.specs.declared.driving.Kept.{Kept}
 use Rattle.blockmap.specs.declared.machine.Machine.{Ghosts as Pure}
 use Rattle.blockmap.specs.declared.machine.Next.{Next}
 use Rattle.blockmap.specs.declared.machine.Next.TheVariants as next
-use Rattle.blockmap.specs.declared.progress.Progress.{Progress}
-use Rattle.blockmap.specs.declared.progress.Progress.TheVariants as progress
+use Rattle.model.specs.declared.types.progress.Progress.{Progress}
+use Rattle.model.specs.declared.types.progress.Progress.TheVariants as progress
 
 -- Process p holds what its machine has got, and no other lock.
 pub record HasGot (c : Buffers) (p : ℕ) (a : Next) (kept : Kept) (used : Option ℕ) : Type 0 where

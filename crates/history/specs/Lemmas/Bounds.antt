@@ -103,7 +103,7 @@ module _ (p : ℕ) (ats new : ℕ → Phase) (old left : ℕ → ℕ) (l : LogSt
     others = λ q other. subst (λ (a : Phase). all_steps_left a (left q) m ≤ all_steps_left (ats q) (old q) l) (sym (others_at q other)) (left_same (ats q) (old q) (left q) l m (others_left q other) (same q other));
   }
 
-  -- process p goes from one place to another
+  -- process p goes from one phase to another
   from_to : (m : LogState) (a b : Phase) → ats p ≡ a → new p ≡ b → all_steps_left b (left p) m < all_steps_left a (old p) l → all_steps_left (new p) (left p) m < all_steps_left (ats p) (old p) l
   from_to m a b was now falls = subst (λ (c : Phase). all_steps_left c (left p) m < all_steps_left (ats p) (old p) l) (sym now) (subst (λ (c : Phase). all_steps_left b (left p) m < all_steps_left c (old p) l) (sym was) falls)
 

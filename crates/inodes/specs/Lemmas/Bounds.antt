@@ -1,4 +1,4 @@
--- How many steps a task has left at most, by its place.
+-- How many steps a task has left at most, by its stage.
 use Rattle.std.proofs.Common.{◌≡◌, ℕ, ◌+◌, ◌-◌, ◌*◌, ◌/◌, ◌<◌, ◌≤◌, false, refl, Option, Some, None, ap, sym, arith}
 use Rattle.std.proofs.lemmas.Bool.{false≢true}
 use Rattle.blocks.specs.Disk.{Image}
@@ -74,7 +74,7 @@ pub few_frees : (cur : Image) (m : Freeing) → blocks_left cur (held_of m.machi
     truncs_left cur m ≤ most_behind (form_of cur)
 few_frees cur m few = omega (arith, few)
 
--- and no other place behind the turn has more
+-- and no other stage behind the turn has more
 pub most_elsewhere : (form : Form) → 1080 ≤ most_behind form
 most_elsewhere One = omega arith
 most_elsewhere Two = omega arith

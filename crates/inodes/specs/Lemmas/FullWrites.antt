@@ -19,8 +19,9 @@ use Rattle.blockmap.specs.Lemmas.Bitmap.{lowest_clear_found}
 use Rattle.blockmap.specs.declared.balloc.AllocAt.{AllocAt}
 use Rattle.blockmap.specs.declared.bmap_alloc.MapAt.{MapAt}
 use Rattle.blockmap.specs.declared.bmap_alloc.MapAt.TheVariants as map_at
-use Rattle.blockmap.specs.declared.progress.Progress.{Progress}
-use Rattle.blockmap.specs.declared.progress.Progress.TheVariants as machine
+use Rattle.model.specs.Progress.{one_more}
+use Rattle.model.specs.declared.types.progress.Progress.{Progress}
+use Rattle.model.specs.declared.types.progress.Progress.TheVariants as machine
 use Rattle.inodes.specs.declared.tasks.Stage.{Stage}
 use Rattle.inodes.specs.declared.tasks.Stage.TheVariants as stage
 use Rattle.inodes.specs.declared.writei.Extent.{Extent}
@@ -33,7 +34,7 @@ use Rattle.inodes.specs.Lemmas.Runs.{IsAt}
 use Rattle.inodes.specs.Runs.{StepMade}
 use Rattle.inodes.specs.Steps.{Steps}
 use Rattle.inodes.specs.Store.{StoreState, current_of}
-use Rattle.inodes.specs.Writei.{WriteState, WriteSteps, progress_mapped, write_mapped}
+use Rattle.inodes.specs.Writei.{WriteState, WriteSteps, write_mapped}
 use Rattle.inodes.specs.WriteRuns.{IsFull, LooksAtBitmap, LooksIn, LooksOnWay, SeesFull}
 
 -- the way comes to no block
@@ -133,12 +134,12 @@ module _ {D N : Type 0} (disk : Ghosts D N) (p i : ℕ) (e : Extent) (v w : Volu
             ⊎ ((step.answer ≡ machine.Moved) × EndsOnWay step.now.at) →
             (r ≡ machine.Moved) × GoesToEnd n
         by_end (inl is) = (
-          step.gives ∙ ap progress_mapped is,
+          step.gives ∙ ap one_more is,
           mapped_none step.now step.inode full come.same
               (step.next ∙ ap (write_mapped m step.now step.inode) is),
         )
         by_end (inr is) = (
-          step.gives ∙ ap progress_mapped is.0,
+          step.gives ∙ ap one_more is.0,
           subst GoesToEnd (sym (step.next ∙ ap (write_mapped m step.now step.inode) is.0))
               (record {
                 number = number;

@@ -26,7 +26,7 @@ sought test none (x ∷ xs) fails = by (test x) refl (sought test none xs fails)
     by false is (inl found) = inl (suc found.0, found.1)
     by false is (inr rest) = inr (each is rest)
 
--- a task at a place that passes a test is under way
+-- a task at a stage that passes a test is under way
 pub passes_busy : (test : Stage → Bool) → test stage.Nowhere ≡ false → (a : Stage) →
     test a ≡ true → is_over a ≡ false
 passes_busy test fails stage.Nowhere is = absurd (both_ways _ fails is)

@@ -18,9 +18,10 @@ use Rattle.blockmap.specs.Bmap.{EntryState, LooksUp, some_address}
 use Rattle.blockmap.specs.Driver.{Drives}
 use Rattle.blockmap.specs.Lemmas.Others.{drives_fails, gets_fails}
 use Rattle.blockmap.specs.Next.{block_of_next, used_now}
-use Rattle.blockmap.specs.Target.{block_of, progress_behind}
-use Rattle.blockmap.specs.declared.progress.Progress.{Progress}
-use Rattle.blockmap.specs.declared.progress.Progress.TheVariants as machine
+use Rattle.blockmap.specs.Target.{block_of}
+use Rattle.model.specs.Progress.{one_more}
+use Rattle.model.specs.declared.types.progress.Progress.{Progress}
+use Rattle.model.specs.declared.types.progress.Progress.TheVariants as machine
 use Rattle.blockmap.specs.declared.target.Target.{Target}
 use Rattle.blockmap.specs.declared.target.Target.TheVariants as target
 use Rattle.inodes.specs.declared.ilock.LockAt.{LockAt}
@@ -34,23 +35,21 @@ use Rattle.inodes.specs.Iupdate.{UpdateState, Updates}
 use Rattle.inodes.specs.LockState.{LockState, place_of}
 use Rattle.inodes.specs.Looks.{CanTake, LooksAt}
 use Rattle.inodes.specs.Places.{is_over, owes_reply, is_unturned, block_at_place}
-use Rattle.inodes.specs.Readi.{ReadState, Works}
+use Rattle.inodes.specs.Readi.{ReadState, Works, first_read}
 use Rattle.inodes.specs.Store.{StoreState, CanBegin, Stands, current_of}
 use Rattle.inodes.specs.Table.{TableState, holder_at, copy_at}
 use Rattle.inodes.specs.Tasks.{task}
 use Rattle.inodes.specs.Turning.{write_refusal, if_used, reply_when_taken, place_when_taken, place_of_read, place_by_refusal}
-use Rattle.inodes.specs.Readi.{first_read}
-use Rattle.blockmap.specs.BmapAlloc.{after_address, address_at, come_to, FindsEntry, behind_at}
+use Rattle.blockmap.specs.BmapAlloc.{after_address, address_at, come_to, FindsEntry, behind_at, MapState, after_behind, MapSteps, TakesOne, naming}
 use Rattle.blockmap.specs.Branch.{named_by}
 use Rattle.blockmap.specs.declared.branch.Branch.{Branch}
 use Rattle.inodes.specs.declared.writei.Extent.{Extent}
 use Rattle.inodes.specs.Writing.{extent_of, block_on_way, block_of_write, block_of_alloc}
 use Rattle.blockmap.specs.declared.balloc.AllocAt.{AllocAt}
-use Rattle.blockmap.specs.BmapAlloc.{MapState, after_behind, MapSteps, TakesOne, naming}
 use Rattle.blockmap.specs.declared.bmap_alloc.MapAt.{MapAt}
 use Rattle.inodes.specs.declared.writei.WriteAt.{WriteAt}
 use Rattle.blockmap.specs.Balloc.{AllocState, Allocs, TakesLowest, lowest_in}
-use Rattle.inodes.specs.Writei.{WriteState, WriteSteps, first_write, progress_mapped}
+use Rattle.inodes.specs.Writei.{WriteState, WriteSteps, first_write}
 use Rattle.inodes.specs.Growing.{bytes_of}
 use Rattle.blockmap.specs.declared.bmap_alloc.MapAt.TheVariants as map_at
 use Rattle.inodes.specs.declared.writei.WriteAt.TheVariants as write_at
@@ -255,15 +254,15 @@ module _ {D N : Type 0} (disk : Ghosts D N) (s : StoreState D) (p : ℕ) (op : O
 
 module _ {D N : Type 0} (disk : Ghosts D N) (s : StoreState D) (p : ℕ) (op : Op) (fault : DiskFault) (t : StoreState D) where
   -- a machine that reads an entry
-  entry_fails : (e : EntryState) (x : Progress (Option ℕ)) (e2 : EntryState) → LooksUp disk e.slot s.volume p e x e2 t.volume → machine.Fault fault ≡ progress_behind x → fault.0 ≡ e.node.block
+  entry_fails : (e : EntryState) (x : Progress (Option ℕ)) (e2 : EntryState) → LooksUp disk e.slot s.volume p e x e2 t.volume → machine.Fault fault ≡ one_more x → fault.0 ≡ e.node.block
   entry_fails e x e2 looks is = by_slot e.slot x looks is
     where
-      by_slot : (o : Option ℕ) (x : Progress (Option ℕ)) → LooksUp disk o s.volume p e x e2 t.volume → machine.Fault fault ≡ progress_behind x → fault.0 ≡ e.node.block
+      by_slot : (o : Option ℕ) (x : Progress (Option ℕ)) → LooksUp disk o s.volume p e x e2 t.volume → machine.Fault fault ≡ one_more x → fault.0 ≡ e.node.block
       by_slot None machine.Moved looks is = absurd (cc is)
       by_slot None (machine.Sleeping why) looks is = absurd (cc is)
       by_slot None (machine.Over found) looks is = absurd (cc is)
       by_slot None (machine.Fault other) looks is = let same : fault ≡ other = cc is in ap (λ (f : DiskFault). f.0) same ∙ gets_fails disk s.volume p e.node.block other e2.slot t.volume looks.1
-      by_slot (Some i) x looks is = absurd (⊎_elim (λ ends. let no = is ∙ ap progress_behind ends.over in cc no) (λ on. let no = is ∙ ap progress_behind on.moved in cc no) looks.0)
+      by_slot (Some i) x looks is = absurd (⊎_elim (λ ends. let no = is ∙ ap one_more ends.over in cc no) (λ on. let no = is ∙ ap one_more on.moved in cc no) looks.0)
 
   reading_fails : (a : Target) (m x : ReadState) → Works disk a s.volume p m (machine.Fault fault) t.volume x → fault.0 ≡ block_of a
   reading_fails (target.Entry e) m x works = entry_fails e works.1.answer works.1.entry works.1.looks works.1.gives
@@ -338,7 +337,7 @@ module _ {D N : Type 0} (disk : Ghosts D N) (s : StoreState D) (p : ℕ) (op : O
   writing_fails : (a : WriteAt) (m x : WriteState) (bytes : List ℕ) → WriteSteps disk a s.volume p m bytes (machine.Fault fault) x t.volume → fault.0 ≡ block_of_write a
   writing_fails (write_at.Mapping way) m x bytes writes = by_answer writes.answer writes.gives writes.steps
     where
-      by_answer : (q : Progress (Option ℕ)) → machine.Fault fault ≡ progress_mapped q → MapSteps disk way.at s.volume p way m.inode q writes.now writes.inode t.volume → fault.0 ≡ block_on_way way.at
+      by_answer : (q : Progress (Option ℕ)) → machine.Fault fault ≡ one_more q → MapSteps disk way.at s.volume p way m.inode q writes.now writes.inode t.volume → fault.0 ≡ block_on_way way.at
       by_answer machine.Moved is maps = absurd (cc is)
       by_answer (machine.Sleeping why) is maps = absurd (cc is)
       by_answer (machine.Over found) is maps = absurd (cc is)
@@ -348,7 +347,7 @@ module _ {D N : Type 0} (disk : Ghosts D N) (s : StoreState D) (p : ℕ) (op : O
   writing_fails (write_at.Block b (Some i)) m x bytes writes = let no = writes.0 in absurd (cc no)
   writing_fails (write_at.Updating u) m x bytes writes = updates_fails u.slot u writes.0 m.inode writes.1
 
-  -- the block at which a task's step fails is that which its place names
+  -- the block at which a task's step fails is that which its stage names
   pub fails_at : (a : Stage) → Goes disk a s p op (progress.Fault fault) t → fault.0 ≡ block_at_place a
   fails_at stage.Nowhere goes = let no = goes.0 in absurd (cc no)
   fails_at (stage.Creating m) goes = by_slot m.slot goes.0

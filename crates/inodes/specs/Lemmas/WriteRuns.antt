@@ -11,14 +11,13 @@ use Rattle.model.specs.declared.types.operations.Reply.TheVariants.{Wrote}
 use Rattle.model.specs.declared.types.operations.TaskProgress.{TaskProgress}
 use Rattle.model.specs.declared.types.operations.TaskProgress.TheVariants as progress
 use Rattle.model.specs.Fields.{has_bit}
-use Rattle.wal.specs.Volume.{VolumeState}
-use Rattle.wal.specs.declared.types.Get.{Get}
-use Rattle.wal.specs.declared.types.Get.TheVariants as get
+use Rattle.wal.specs.Volume.{VolumeState, progress_of}
+use Rattle.wal.specs.Get.{Get}
+use Rattle.wal.specs.Get as get
 use Rattle.blockmap.specs.Balloc.{AllocState, Allocs, IsLowestClear, TakesLowest, first_alloc, lowest_in}
 use Rattle.blockmap.specs.Bmap.{some_address}
 use Rattle.blockmap.specs.BmapAlloc.{ComesBelow, FindsEntry, MapState, MapSteps, TakesOne, address_at, after_address, after_behind, behind_at, come_to, place_in}
 use Rattle.blockmap.specs.Branch.{branch_of, named_by, node_at, rest_under}
-use Rattle.blockmap.specs.Getting.{progress_of}
 use Rattle.blockmap.specs.Lemmas.Bitmap.{lowest_clear_is_lowest}
 use Rattle.blockmap.specs.Map.{mapped_for_writing}
 use Rattle.blockmap.specs.declared.balloc.AllocAt.{AllocAt}
@@ -28,8 +27,9 @@ use Rattle.blockmap.specs.declared.bmap_alloc.MapAt.TheVariants as map_at
 use Rattle.blockmap.specs.declared.branch.Branch.{Branch}
 use Rattle.blockmap.specs.declared.branch.Node.{Node}
 use Rattle.blockmap.specs.declared.mapping.MappedForWriting.TheVariants as for_writing
-use Rattle.blockmap.specs.declared.progress.Progress.{Progress}
-use Rattle.blockmap.specs.declared.progress.Progress.TheVariants as machine
+use Rattle.model.specs.Progress.{one_more}
+use Rattle.model.specs.declared.types.progress.Progress.{Progress}
+use Rattle.model.specs.declared.types.progress.Progress.TheVariants as machine
 use Rattle.inodes.specs.declared.tasks.Stage.TheVariants as stage
 use Rattle.inodes.specs.declared.writei.Extent.{Extent}
 use Rattle.inodes.specs.declared.writei.WriteAt.{WriteAt}
@@ -40,7 +40,7 @@ use Rattle.inodes.specs.Iupdate.{first_update}
 use Rattle.inodes.specs.Lemmas.Runs.{IsAt, goes_from, nothing_behind, seen_first, seen_later}
 use Rattle.inodes.specs.Runs.{StepMade, IsRun, EndsWith}
 use Rattle.inodes.specs.Store.{StoreState, current_of}
-use Rattle.inodes.specs.Writei.{WriteState, WriteSteps, first_write, next_byte, next_place, piece, place_of_mapped, progress_mapped, with_piece, write_mapped}
+use Rattle.inodes.specs.Writei.{WriteState, WriteSteps, first_write, next_byte, next_place, piece, place_of_mapped, with_piece, write_mapped}
 use Rattle.inodes.specs.WriteRuns.{IsFull, LooksAtBitmap, LooksIn, LooksOnWay, SeesFull, ShortSawFull}
 
 -- ---- a writing that goes on takes blocks in its extent, and has not come to the end of them
@@ -122,7 +122,7 @@ never_over (get.Got i) out over = cc over
 never_over (get.Sleeping cause) out over = cc over
 never_over (get.Fault fault) out over = cc over
 
-mapped_over : (q : Progress (Option ℕ)) (out : Unit {0}) → progress_mapped q ≡ machine.Over out → ⊥
+mapped_over : (q : Progress (Option ℕ)) (out : Unit {0}) → one_more q ≡ machine.Over out → ⊥
 mapped_over machine.Moved out over = cc over
 mapped_over (machine.Sleeping why) out over = cc over
 mapped_over (machine.Over found) out over = cc over

@@ -11,7 +11,7 @@ use Rattle.history.specs.Most.{most_of}
 use Rattle.history.specs.Lemmas.Growing.{grows_then, grows_none}
 use Rattle.history.specs.Lemmas.Leaving.{leaves_then}
 use Rattle.history.specs.Processes.{World}
-use Rattle.kernel.specs.declared.types.Step.{Step}
+use Rattle.model.specs.declared.types.operations.Step.{Step}
 use Rattle.kernel.specs.Progress.{KeepsShutdown, StaysShut}
 use Rattle.kernel.specs.declared.types.Turn.{Turn}
 use Rattle.kernel.specs.declared.types.Turn.TheVariants.{Proc, Shut}

@@ -107,3 +107,22 @@ pub enum TaskProgress {
     /// The disk failed.
     Fault(DiskFault),
 }
+
+/// What a step of a process answers.
+#[derive(Clone, Copy, Debug, PartialEq, Eq)]
+pub enum Step {
+    /// The step was made, and the operation goes on.
+    Moved,
+    /// The step was made, and the operation was answered.
+    Answered,
+    /// Nothing was changed, and the process has to wait.
+    Sleeping(Why),
+    /// No operation waits.
+    Idle,
+    /// Memory for the operation was refused. It stays waiting.
+    NoMemory,
+    /// No operation begins any more.
+    ShutDown,
+    /// The disk failed, in this step or in one before it.
+    Halted,
+}

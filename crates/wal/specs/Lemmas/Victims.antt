@@ -1,6 +1,6 @@
 -- There is always a buffer for who needs one, where nobody holds a buffer but such processes as
 -- have an operation open in the log, and each of these two.
-use Rattle.std.proofs.Common.{◌≡◌, ◌≢◌, ℕ, zero, suc, ◌+◌, ◌*◌, ◌<◌, ◌≤◌, Bool, true, false, List, [], ◌∷◌, ◌++◌, length, map, get_or, length-drop, length-append, refl, ◌∙◌, ap, subst, arith, Option, Some, None, inl, inr, ◌⊎◌}
+use Rattle.std.proofs.Common.{◌≡◌, ◌≢◌, ℕ, zero, suc, ◌+◌, ◌*◌, ◌<◌, ◌≤◌, Bool, true, false, List, [], ◌∷◌, ◌++◌, length, map, get_or, length-drop, length-append, refl, ◌∙◌, ap, arith, Option, Some, None, inl, inr, ◌⊎◌}
 use Rattle.std.specs.List.{sum_by}
 use Rattle.std.proofs.lemmas.Bool.{cases_eq, eq-eqb, ne_eqb}
 use Rattle.std.proofs.lemmas.List.{length-map}

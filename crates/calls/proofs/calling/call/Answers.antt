@@ -7,8 +7,8 @@ use Rattle.ports.specs.Lanes.{polled_after}
 use Rattle.ports.specs.Queues.{polled, waiting}
 use Rattle.history.specs.Processes.{process}
 use Rattle.kernel.specs.Known.{Known}
-use Rattle.kernel.specs.declared.types.Step.{Step}
-use Rattle.kernel.specs.declared.types.Step.TheVariants as step
+use Rattle.model.specs.declared.types.operations.Step.{Step}
+use Rattle.model.specs.declared.types.operations.Step.TheVariants as step
 use Rattle.kernel.specs.Moves.{MakesSteps}
 use Rattle.calls.specs.declared.fault.CallFault.TheVariants as fault
 use Rattle.calls.specs.Calls.{Calls, KeepsCall, image_on}

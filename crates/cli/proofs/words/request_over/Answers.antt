@@ -15,5 +15,8 @@ returns-in_ok-get_one-in-cat c = (search rules, value_read (found_of c.args.valu
 pub returns-in-ls : goal.returns-in-ls
 returns-in-ls c = (search rules, value_read (found_of c.args.values.now) (codes "IMAGE") _ c.in_ok-image.ensures)
 
+pub returns-in-df : goal.returns-in-df
+returns-in-df c = (search rules, value_read (found_of c.args.values.now) (codes "IMAGE") _ c.in_ok-image.ensures)
+
 pub returns-in-show : goal.returns-in-show
 returns-in-show c = (search rules, value_read (found_of c.args.values.now) (codes "IMAGE") _ c.in_ok-image.ensures, choice_read (found_of c.args.values.now) (codes "INUM") c.get_one-in-show.result c.get_one-in-show.ensures.none)

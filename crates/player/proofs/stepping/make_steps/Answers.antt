@@ -1,7 +1,7 @@
 use Rattle.std.proofs.Common.{◌≡◌, ◌∙◌, rules, subst, arith}
 use Rattle.model.specs.Layout.{form_of}
 use Rattle.kernel.specs.Steps.{MakesStep}
-use Rattle.kernel.specs.declared.types.Step.TheVariants as step
+use Rattle.model.specs.declared.types.operations.Step.TheVariants as step
 use Rattle.kernel.specs.Lemmas.Moves.{most_bound, moves_few, one_moved, stops}
 use Rattle.player.proofs.stepping.make_steps.Goals as goal
 

@@ -1,4 +1,4 @@
-use Rattle.std.proofs.Common.{◌≡◌, refl, sym, ◌∙◌, ap, subst, arith}
+use Rattle.std.proofs.Common.{refl, sym, subst}
 use Rattle.std.specs.Prelude.{length, IsTrue}
 use Rattle.blocks.specs.Disk.{Image}
 use Rattle.model.specs.Layout.{is_lawful_super}

@@ -3,7 +3,7 @@ use Rattle.blockmap.specs.Balloc.{AllocState, MayAlloc, TakesLowest, byte_with, 
 use Rattle.blockmap.specs.Getting.{Puts}
 use Rattle.blockmap.specs.Lemmas.Bitmap.{lowest_clear_below}
 use Rattle.blockmap.specs.declared.balloc.AllocAt.TheVariants as alloc_at
-use Rattle.blockmap.specs.declared.progress.Progress.TheVariants as progress
+use Rattle.model.specs.declared.types.progress.Progress.TheVariants as progress
 use Rattle.blockmap.proofs.Taking.{takes_some}
 use Rattle.wal.specs.Joint.{seen}
 use Rattle.blockmap.proofs.balloc.Balloc.take_lowest.Goals as goal

@@ -9,7 +9,7 @@ use Rattle.blockmap.specs.Lemmas.Branches.{lies_last}
 use Rattle.blockmap.specs.Lemmas.Leading.{leads_on}
 use Rattle.blockmap.specs.declared.bmap_alloc.MapAt.TheVariants as map_at
 use Rattle.blockmap.specs.declared.branch.Node.{Node}
-use Rattle.blockmap.specs.declared.progress.Progress.{Progress}
+use Rattle.model.specs.declared.types.progress.Progress.{Progress}
 use Rattle.blockmap.proofs.bmap_alloc.BmapAlloc.find_entry.Goals as goal
 
 pub returns-clause-there : goal.returns-clause-there

@@ -10,7 +10,7 @@ use Rattle.blockmap.specs.Lemmas.Leading.{entry_set, leads_on}
 use Rattle.blockmap.specs.Lemmas.Putting.{writes_put}
 use Rattle.blockmap.specs.declared.bmap_alloc.MapAt.TheVariants as map_at
 use Rattle.blockmap.specs.declared.branch.Node.{Node}
-use Rattle.blockmap.specs.declared.progress.Progress.{Progress}
+use Rattle.model.specs.declared.types.progress.Progress.{Progress}
 use Rattle.blockmap.proofs.bmap_alloc.BmapAlloc.set_entry.Goals as goal
 
 pub returns-clause-there : goal.returns-clause-there

@@ -1,5 +1,5 @@
 use Rattle.std.proofs.Common.{rules, refl, sym, ap, subst, ◌≡◌, ◌∙◌, Some, None, List}
-use Rattle.blockmap.specs.declared.progress.Progress.TheVariants as progress
+use Rattle.model.specs.declared.types.progress.Progress.TheVariants as progress
 use Rattle.inodes.specs.Creation.{lowest_free}
 use Rattle.inodes.specs.Ialloc.{SearchState, SearchSteps, MayStep, finds}
 use Rattle.inodes.proofs.LookLemmas.{held, held_number, ready_next, look_claims, look_goes_on}

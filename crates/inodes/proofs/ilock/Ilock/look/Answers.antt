@@ -5,7 +5,7 @@ use Rattle.model.specs.declared.types.image.Dinode.{Dinode}
 use Rattle.model.specs.Layout.{inode_in, inode_bytes_in, inode_block, inode_of}
 use Rattle.wal.specs.Joint.{seen}
 use Rattle.wal.specs.Volume.{Holds}
-use Rattle.blockmap.specs.declared.progress.Progress.TheVariants as progress
+use Rattle.model.specs.declared.types.progress.Progress.TheVariants as progress
 use Rattle.bcache.specs.Buffers.{Buffers, buffer}
 use Rattle.inodes.specs.LockState.{LockState}
 use Rattle.inodes.specs.Ilock.{ReadsInode}

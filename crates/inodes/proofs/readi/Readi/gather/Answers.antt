@@ -1,5 +1,5 @@
 use Rattle.std.proofs.Common.{◌≡◌, ◌+◌, ◌-◌, ◌%◌, refl, sym, ap, subst, ◌∙◌, List}
-use Rattle.blockmap.specs.declared.progress.Progress.TheVariants as progress
+use Rattle.model.specs.declared.types.progress.Progress.TheVariants as progress
 use Rattle.blockmap.specs.Target.{got_slot}
 use Rattle.inodes.specs.Readi.{ReadState, IsReading, ReadSteps}
 use Rattle.inodes.proofs.ReadLemmas.{Uses, size_of_log, uses_last, uses_some}

@@ -1,6 +1,6 @@
 use Rattle.std.proofs.Common.{rules, refl, inr, ◌≡◌, false, Some, None, ◌∙◌, ap}
-use Rattle.kernel.specs.declared.types.Step.{Step}
-use Rattle.kernel.specs.declared.types.Step.TheVariants as step
+use Rattle.model.specs.declared.types.operations.Step.{Step}
+use Rattle.model.specs.declared.types.operations.Step.TheVariants as step
 use Rattle.kernel.specs.Begins.{Begins}
 use Rattle.kernel.specs.State.{State}
 use Rattle.kernel.specs.Acts.{Acts}

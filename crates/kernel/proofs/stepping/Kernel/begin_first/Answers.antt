@@ -10,8 +10,8 @@ use Rattle.history.specs.AtOnce.{at_once_reply}
 use Rattle.history.specs.declared.types.Phase.TheVariants as at
 use Rattle.history.specs.Processes.{World, process, with_place, taken, refused, refusal_answer}
 use Rattle.kernel.specs.declared.beginning.Rooms.{Rooms}
-use Rattle.kernel.specs.declared.types.Step.{Step}
-use Rattle.kernel.specs.declared.types.Step.TheVariants as step
+use Rattle.model.specs.declared.types.operations.Step.{Step}
+use Rattle.model.specs.declared.types.operations.Step.TheVariants as step
 use Rattle.kernel.specs.declared.waiting.Waiting.{Waiting}
 use Rattle.kernel.specs.declared.waiting.Waiting.TheVariants as waiting
 use Rattle.kernel.specs.Begins.{Begins, TakesFirst, kept_out, count_of, rooms_for}

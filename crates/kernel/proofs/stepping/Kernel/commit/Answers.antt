@@ -13,7 +13,7 @@ use Rattle.history.specs.Alone.{is_committing_at}
 use Rattle.history.specs.Lemmas.Alone.{goes_on, over_now, same_committed, durable_count}
 use Rattle.history.specs.Lemmas.Answers.{CanAnswer}
 use Rattle.history.specs.Processes.{World, process, last_answer}
-use Rattle.kernel.specs.declared.types.Step.TheVariants as step
+use Rattle.model.specs.declared.types.operations.Step.TheVariants as step
 use Rattle.kernel.specs.Invariant.{IsRight, HasFacts, LeavesSince, TaskStands}
 use Rattle.kernel.specs.Next.{world_written}
 use Rattle.kernel.specs.State.{State}

@@ -7,7 +7,7 @@ use Rattle.inodes.specs.Store.{StoreState, KeepsFiles, with_log}
 use Rattle.history.specs.declared.types.Phase.TheVariants as at
 use Rattle.history.specs.Lemmas.Answers.{CanAnswer}
 use Rattle.history.specs.Processes.{World, process, last_answer, is_ending}
-use Rattle.kernel.specs.declared.types.Step.TheVariants as step
+use Rattle.model.specs.declared.types.operations.Step.TheVariants as step
 use Rattle.kernel.specs.Invariant.{IsRight, LeavesSince}
 use Rattle.kernel.specs.Next.{step_of_end, world_ended}
 use Rattle.kernel.specs.State.{State}

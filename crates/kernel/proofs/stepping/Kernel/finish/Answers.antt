@@ -13,10 +13,11 @@ use Rattle.history.specs.declared.types.Phase.TheVariants as at
 use Rattle.history.specs.Journal.{entry_in}
 use Rattle.history.specs.Lemmas.Answers.{CanAnswer}
 use Rattle.history.specs.Processes.{World, process, is_behind, last_answer, decided, answered}
-use Rattle.kernel.specs.Invariant.{IsRight, ArePorts, LeavesSince}
-use Rattle.kernel.specs.Next.{step_behind, step_of_last, step_of_told, world_behind, world_of_last, world_of_told}
+use Rattle.kernel.specs.Invariant.{Inv, IsRight, ArePorts, LeavesSince}
+use Rattle.kernel.specs.Next.{step_behind, step_of, step_of_last, step_of_told, world_behind, world_of_last, world_of_told}
 use Rattle.kernel.specs.Ports.{KeepsOthers}
 use Rattle.kernel.specs.State.{State}
+use Rattle.model.specs.declared.types.operations.Step.{Step}
 use Rattle.kernel.specs.Acts.{Acts}
 use Rattle.kernel.proofs.Acting.{acts_finished, sides_same}
 use Rattle.kernel.proofs.Answering.{IsThere, is_there, op_is, mine_is, answer_over, answer_told, some_reply}
@@ -24,7 +25,7 @@ use Rattle.kernel.proofs.Ports.{ports_decided, ports_ending, ports_given}
 use Rattle.kernel.proofs.Valid.{HasAgreed, agreed_now}
 use Rattle.kernel.proofs.Promising.{since_step}
 use Rattle.kernel.proofs.Right.{survives_reading}
-use Rattle.kernel.proofs.Working.{ends_now, right_moved_behind, right_fault_behind, right_decided, right_ends, right_over, right_told}
+use Rattle.kernel.proofs.Working.{ends_now, not_turned, right_moved_behind, right_fault_behind, right_decided, right_ends, right_over, right_told}
 use Rattle.kernel.proofs.stepping.Kernel.finish.Given.{Over}
 use Rattle.kernel.proofs.stepping.Kernel.finish.Goals.{After-known-2}
 use Rattle.kernel.proofs.stepping.Kernel.finish.Goals as goal
@@ -111,6 +112,50 @@ can_leave g c is =
     let ends = ends_now g.D.Disk k.opening.value k.store k.processes c.self.invariant.right h.well c.args.pid h.within c.operation-op.result.now h.mine c.known.ensures.store c.step-progress.new.self progress.Over h.there.its.unfinished (h.steps progress.Over is) in
     answer_over g.D.Disk k.opening.value k.store k.processes c.args.pid c.self.invariant.right h.well h.there (some_reply h.there.entry.reply (sym h.there.its.reply ∙ ends.1))
 
+-- with neither reply nor end the processes stay as they are
+stays : (group : ℕ) (r : TaskProgress) (w : World) (p : ℕ) → ((reply : Reply) → r ≡ progress.Decided reply → ⊥) → (r ≡ progress.Over → ⊥) → (w ≡ world_behind group r w p) × (step_behind group r ≡ step_of r)
+stays group progress.Moved w p undecided more = (refl, refl)
+stays group (progress.Turned reply) w p undecided more = (refl, refl)
+stays group (progress.Decided reply) w p undecided more = absurd (undecided reply refl)
+stays group progress.Over w p undecided more = absurd (more refl)
+stays group (progress.Sleeping cause) w p undecided more = (refl, refl)
+stays group (progress.Fault fault) w p undecided more = (refl, refl)
+
+-- what is true of the kernel then
+still : (g : Over) (c : After-known-2 g) (r : TaskProgress) → c.step-progress.result ≡ r → ((reply : Reply) → r ≡ progress.Decided reply → ⊥) → (r ≡ progress.Over → ⊥)
+    → Inv g.D.Disk g.I.Intake g.H.Herald (record { store = c.step-progress.new.self; opening = c.self.inside.opening.value; intake = c.self.inside.intake; herald = c.self.inside.herald; world = c.self.inside.processes })
+still g c progress.Moved is undecided more =
+    let k = c.self.inside in
+    let h = head g c in
+    let steps = h.steps progress.Moved is in
+    let right = right_moved_behind g.D.Disk k.opening.value k.store k.processes c.self.invariant.right h.well c.args.pid h.within c.operation-op.result.now h.mine c.known.ensures.store c.step-progress.new.self h.there.group h.there.k h.there.stands steps (h.agreed progress.Moved is refl) in
+    record {
+      right = right;
+      since = since g c progress.Moved k.processes is refl right;
+      ports = subst (λ (n : ℕ). ArePorts g.I.Intake g.H.Herald k.intake k.herald n k.processes) (sym steps.groups.committed) c.self.invariant.ports;
+    }
+still g c (progress.Turned reply) is undecided more =
+    let k = c.self.inside in
+    let h = head g c in
+    absurd (not_turned g.D.Disk k.opening.value k.store k.processes c.self.invariant.right h.well c.args.pid h.within c.operation-op.result.now h.mine c.known.ensures.store c.step-progress.new.self h.there.group h.there.k h.there.stands reply (h.steps (progress.Turned reply) is))
+still g c (progress.Decided reply) is undecided more = absurd (undecided reply refl)
+still g c progress.Over is undecided more = absurd (more refl)
+still g c (progress.Sleeping cause) is undecided more =
+    let k = c.self.inside in
+    let steps = (head g c).steps (progress.Sleeping cause) is in
+    subst (λ (o : StoreState _). Inv g.D.Disk g.I.Intake g.H.Herald (record { store = o; opening = k.opening.value; intake = k.intake; herald = k.herald; world = k.processes })) (sym (steps.waits.sleeping cause refl)) c.self.invariant
+still g c (progress.Fault fault) is undecided more =
+    let k = c.self.inside in
+    let h = head g c in
+    let steps = h.steps (progress.Fault fault) is in
+    let right = right_fault_behind g.D.Disk k.opening.value k.store k.processes c.self.invariant.right h.well c.args.pid h.within c.operation-op.result.now h.mine c.known.ensures.store c.step-progress.new.self h.there.group h.there.k h.there.stands fault
+    (survives_reading g.D.Disk k.opening.value k.store c.step-progress.new.self g.met.D.Disk.counts_now steps.reads.device h.well c.known.ensures.survives) steps in
+    record {
+      right = right;
+      since = since g c (progress.Fault fault) k.processes is refl right;
+      ports = subst (λ (n : ℕ). ArePorts g.I.Intake g.H.Herald k.intake k.herald n k.processes) (sym steps.groups.committed) c.self.invariant.ports;
+    }
+
 pub step-progress-requires-clause-op : goal.step-progress-requires-clause-op
 step-progress-requires-clause-op g c =
     let k = c.self.inside in
@@ -137,18 +182,6 @@ give-requires-in-Over-clause-over g c = (can_leave g (goal.at.give-requires-in-O
 pub give-requires-in-Over-clause-fits : goal.give-requires-in-Over-clause-fits
 give-requires-in-Over-clause-fits g c = (can_leave g (goal.at.give-requires-in-Over-clause-fits g c).After-known-2 c.in-Over.is).1
 
-pub invariant_of-self : goal.invariant_of-self
-invariant_of-self g c =
-    let k = c.self.inside in
-    let h = head g (goal.at.invariant_of-self g c).After-known-2 in
-    let steps = h.steps progress.Moved c.in-Moved.is in
-    let right = right_moved_behind g.D.Disk k.opening.value k.store k.processes c.self.invariant.right h.well c.args.pid h.within c.operation-op.result.now h.mine c.known.ensures.store c.step-progress.new.self h.there.group h.there.k h.there.stands steps (h.agreed progress.Moved c.in-Moved.is refl) in
-    record {
-      right = right;
-      since = since g (goal.at.invariant_of-self g c).After-known-2 progress.Moved k.processes c.in-Moved.is refl right;
-      ports = subst (λ (n : ℕ). ArePorts g.I.Intake g.H.Herald k.intake k.herald n k.processes) (sym steps.groups.committed) c.self.invariant.ports;
-    }
-
 pub invariant_of-self-in-Decided : goal.invariant_of-self-in-Decided
 invariant_of-self-in-Decided g c =
     let k = c.self.inside in
@@ -169,10 +202,10 @@ invariant_of-self-in-Decided g c =
           inside (can_told g past reply c.decide.new.self none c.in-Decided.is c.decide.ensures).0 c.give.ensures.processes c.give.ensures.gives (c.self.invariant.ports.told ∙ sym steps.groups.committed);
     }
 
-pub invariant_of-self-then-group-gt0 : goal.invariant_of-self-then-group-gt0
-invariant_of-self-then-group-gt0 g c =
+pub invariant_of-self : goal.invariant_of-self
+invariant_of-self g c =
     let k = c.self.inside in
-    let past = (goal.at.invariant_of-self-then-group-gt0 g c).After-known-2 in
+    let past = (goal.at.invariant_of-self g c).After-known-2 in
     let h = head g past in
     let reply = c.in-Decided.reply in
     let steps = h.steps (progress.Decided reply) c.in-Decided.is in
@@ -225,35 +258,6 @@ invariant_of-self-in-Over-2 g c =
           (ports_ending g.I.Intake g.H.Herald k.intake k.herald k.store.volume.log.committed k.processes c.go_to_end.new.self c.args.pid h.there.group h.there.k c.self.invariant.ports h.within h.there.stands c.go_to_end.ensures);
     }
 
-pub invariant_of-self-in-Sleeping : goal.invariant_of-self-in-Sleeping
-invariant_of-self-in-Sleeping g c =
-    let k = c.self.inside in
-    let h = head g (goal.at.invariant_of-self-in-Sleeping g c).After-known-2 in
-    let steps = h.steps (progress.Sleeping c.in-Sleeping.why) c.in-Sleeping.is in
-    let same : c.step-progress.new.self ≡ k.store = steps.waits.sleeping c.in-Sleeping.why refl in
-    let right = subst (λ (s : StoreState _). IsRight g.D.Disk k.opening.value s k.processes) (sym same) c.self.invariant.right in
-    record {
-      right = right;
-      since = subst (λ (s : StoreState _). LeavesSince g.D.Disk k.opening.value s k.processes) (sym same) c.self.invariant.since;
-      ports = subst (λ (s : StoreState _). ArePorts g.I.Intake g.H.Herald k.intake k.herald s.volume.log.committed k.processes) (sym same) c.self.invariant.ports;
-    }
-
-pub invariant_of-self-in-Fault : goal.invariant_of-self-in-Fault
-invariant_of-self-in-Fault g c =
-    let k = c.self.inside in
-    let h = head g (goal.at.invariant_of-self-in-Fault g c).After-known-2 in
-    let steps = h.steps (progress.Fault c.in-Fault.field-0) c.in-Fault.is in
-    let right = right_fault_behind g.D.Disk k.opening.value k.store k.processes c.self.invariant.right h.well c.args.pid h.within c.operation-op.result.now h.mine c.known.ensures.store c.step-progress.new.self h.there.group h.there.k h.there.stands c.in-Fault.field-0
-    (survives_reading g.D.Disk k.opening.value k.store c.step-progress.new.self g.met.D.Disk.counts_now steps.reads.device h.well c.known.ensures.survives) steps in
-    record {
-      right = right;
-      since = since g (goal.at.invariant_of-self-in-Fault g c).After-known-2 (progress.Fault c.in-Fault.field-0) k.processes c.in-Fault.is refl right;
-      ports = subst (λ (n : ℕ). ArePorts g.I.Intake g.H.Herald k.intake k.herald n k.processes) (sym steps.groups.committed) c.self.invariant.ports;
-    }
-
-pub returns-in-Moved : goal.returns-in-Moved
-returns-in-Moved g c = acts g (goal.at.returns-in-Moved g c).After-known-2 progress.Moved c.self.inside.intake c.self.inside.processes c.in-Moved.is refl (sides_same g.I.Intake c.args.pid c.self.inside.intake) refl
-
 -- with the reply of an operation of that group
 acts_told : (g : Over) (c : After-known-2 g) (reply : Reply) (group : ℕ) (j : _) (z : World) → (head g c).there.group ≡ group → c.step-progress.result ≡ progress.Decided reply → z ≡ world_of_told group c.self.inside.processes c.args.pid reply
     → KeepsOthers g.I.Intake c.args.pid c.self.inside.intake j → (g.I.Intake.side j c.args.pid).ahead ≡ (g.I.Intake.side c.self.inside.intake c.args.pid).ahead
@@ -301,8 +305,14 @@ returns-in-Over-2 g c =
     acts_last g past (suc (c.in-AfterTurn.group - 1)) c.self.inside.intake c.go_to_end.new.self (same ∙ sym next) c.in-Over.is
     c.go_to_end.ensures (sides_same g.I.Intake c.args.pid c.self.inside.intake) refl
 
-pub returns-in-Sleeping : goal.returns-in-Sleeping
-returns-in-Sleeping g c = acts g (goal.at.returns-in-Sleeping g c).After-known-2 (progress.Sleeping c.in-Sleeping.why) c.self.inside.intake c.self.inside.processes c.in-Sleeping.is refl (sides_same g.I.Intake c.args.pid c.self.inside.intake) refl
+pub invariant_of-self-in_default-progress : goal.invariant_of-self-in_default-progress
+invariant_of-self-in_default-progress g c = still g (goal.at.invariant_of-self-in_default-progress g c).After-known-2 c.step-progress.result refl c.in_default-progress.not-Decided c.in_default-progress.not-Over
 
-pub returns-in-Fault : goal.returns-in-Fault
-returns-in-Fault g c = acts g (goal.at.returns-in-Fault g c).After-known-2 (progress.Fault c.in-Fault.field-0) c.self.inside.intake c.self.inside.processes c.in-Fault.is refl (sides_same g.I.Intake c.args.pid c.self.inside.intake) refl
+pub returns-in_default-progress : goal.returns-in_default-progress
+returns-in_default-progress g c =
+    let past = (goal.at.returns-in_default-progress g c).After-known-2 in
+    let k = c.self.inside in
+    let r = c.step-progress.result in
+    let same = stays (head g past).there.group r k.processes c.args.pid c.in_default-progress.not-Decided c.in_default-progress.not-Over in
+    subst (λ (a : Step). Acts g.D.Disk g.I.Intake g.H.Herald c.args.pid a c.args.self.now (record { store = c.step-progress.new.self; opening = k.opening.value; intake = k.intake; herald = k.herald; world = k.processes })) (same.1 ∙ sym c.step_of.ensures)
+    (acts g past r k.intake k.processes refl same.0 (sides_same g.I.Intake c.args.pid k.intake) refl)

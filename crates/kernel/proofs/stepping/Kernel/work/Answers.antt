@@ -1,4 +1,4 @@
-use Rattle.std.proofs.Common.{rules, refl, ◌≡◌, ◌<◌, ◌⊎◌, inl, inr, length, None, Some, ◌∙◌, sym, ap, subst, ℕ}
+use Rattle.std.proofs.Common.{rules, refl, ◌≡◌, ◌<◌, length, None, Some, ◌∙◌, sym, ap, subst, ℕ, Bool, Option}
 use Rattle.blocks.specs.declared.disk.Disk.{Ghosts}
 use Rattle.model.specs.declared.types.operations.Op.{Op}
 use Rattle.model.specs.declared.types.operations.Reply.{Reply}
@@ -15,6 +15,7 @@ use Rattle.history.specs.Processes.{World, process, turned}
 use Rattle.kernel.specs.Invariant.{Inv, IsRight, ArePorts, LeavesSince, TaskStands}
 use Rattle.kernel.specs.Next.{step_of, world_after}
 use Rattle.kernel.specs.State.{State}
+use Rattle.model.specs.declared.types.operations.Step.{Step}
 use Rattle.kernel.specs.Acts.{Acts}
 use Rattle.kernel.proofs.Acting.{acts_worked}
 use Rattle.kernel.proofs.Ports.{ports_turned}
@@ -70,22 +71,55 @@ since g c r z is made right =
     since_step g.D.Disk g.I.Intake g.H.Herald c.args.pid _ _ _ c.self.invariant c.known.ensures.store c.known.ensures.survives h.within
     (acts_worked g.D.Disk g.I.Intake g.H.Herald c.args.pid k.store c.step-progress.new.self k.opening.value k.intake k.herald k.processes z h.well c.in-BeforeTurn.group c.in-BeforeTurn.op r h.stands (h.steps r is) made) right c.known-2.ensures.survives
 
+-- it had no turn, and the processes stay as they are
+unturned : (r : TaskProgress) (ends : Bool) (w : World) (p : ℕ) → ((reply : Option Reply) → r ≡ progress.Turned reply → ⊥) → w ≡ world_after r ends w p
+unturned progress.Moved ends w p none = refl
+unturned (progress.Turned reply) ends w p none = absurd (none reply refl)
+unturned (progress.Decided reply) ends w p none = refl
+unturned progress.Over ends w p none = refl
+unturned (progress.Sleeping cause) ends w p none = refl
+unturned (progress.Fault fault) ends w p none = refl
+
+-- what is true of the kernel then
+still : (g : Over) (c : After-known-2 g) (r : TaskProgress) → c.step-progress.result ≡ r → ((reply : Option Reply) → r ≡ progress.Turned reply → ⊥)
+    → Inv g.D.Disk g.I.Intake g.H.Herald (record { store = c.step-progress.new.self; opening = c.self.inside.opening.value; intake = c.self.inside.intake; herald = c.self.inside.herald; world = c.self.inside.processes })
+still g c progress.Moved is none =
+    let k = c.self.inside in
+    let h = head g c in
+    let steps = h.steps progress.Moved is in
+    let right = right_moved g.D.Disk k.opening.value k.store k.processes c.self.invariant.right h.well c.args.pid h.within c.in-BeforeTurn.op h.mine c.known.ensures.store c.step-progress.new.self c.in-BeforeTurn.group h.stands steps (h.agreed progress.Moved is refl) in
+    record {
+      right = right;
+      since = since g c progress.Moved k.processes is refl right;
+      ports = subst (λ (n : ℕ). ArePorts g.I.Intake g.H.Herald k.intake k.herald n k.processes) (sym steps.groups.committed) c.self.invariant.ports;
+    }
+still g c (progress.Turned reply) is none = absurd (none reply refl)
+still g c (progress.Decided reply) is none =
+    let h = head g c in
+    absurd (not_decided g.D.Disk c.self.inside.opening.value c.self.inside.store c.self.inside.processes c.self.invariant.right h.well c.args.pid h.within c.in-BeforeTurn.op h.mine c.known.ensures.store c.step-progress.new.self c.in-BeforeTurn.group h.stands reply (h.steps (progress.Decided reply) is))
+still g c progress.Over is none =
+    let h = head g c in
+    absurd (not_over g.D.Disk c.self.inside.opening.value c.self.inside.store c.self.inside.processes c.self.invariant.right h.well c.args.pid h.within c.in-BeforeTurn.op h.mine c.known.ensures.store c.step-progress.new.self c.in-BeforeTurn.group h.stands (h.steps progress.Over is))
+still g c (progress.Sleeping cause) is none =
+    let k = c.self.inside in
+    let steps = (head g c).steps (progress.Sleeping cause) is in
+    subst (λ (o : StoreState _). Inv g.D.Disk g.I.Intake g.H.Herald (record { store = o; opening = k.opening.value; intake = k.intake; herald = k.herald; world = k.processes })) (sym (steps.waits.sleeping cause refl)) c.self.invariant
+still g c (progress.Fault fault) is none =
+    let k = c.self.inside in
+    let h = head g c in
+    let steps = h.steps (progress.Fault fault) is in
+    let right = right_fault g.D.Disk k.opening.value k.store k.processes c.self.invariant.right h.well c.args.pid h.within c.in-BeforeTurn.op h.mine c.known.ensures.store c.step-progress.new.self c.in-BeforeTurn.group h.stands fault
+    (survives_reading g.D.Disk k.opening.value k.store c.step-progress.new.self g.met.D.Disk.counts_now steps.reads.device h.well c.known.ensures.survives) steps in
+    record {
+      right = right;
+      since = since g c (progress.Fault fault) k.processes is refl right;
+      ports = subst (λ (n : ℕ). ArePorts g.I.Intake g.H.Herald k.intake k.herald n k.processes) (sym steps.groups.committed) c.self.invariant.ports;
+    }
+
 pub invariant_of-self : goal.invariant_of-self
 invariant_of-self g c =
     let k = c.self.inside in
     let h = head g (goal.at.invariant_of-self g c).After-known-2 in
-    let steps = h.steps progress.Moved c.in-Moved.is in
-    let right = right_moved g.D.Disk k.opening.value k.store k.processes c.self.invariant.right h.well c.args.pid h.within c.in-BeforeTurn.op h.mine c.known.ensures.store c.step-progress.new.self c.in-BeforeTurn.group h.stands steps (h.agreed progress.Moved c.in-Moved.is refl) in
-    record {
-      right = right;
-      since = since g (goal.at.invariant_of-self g c).After-known-2 progress.Moved k.processes c.in-Moved.is refl right;
-      ports = subst (λ (n : ℕ). ArePorts g.I.Intake g.H.Herald k.intake k.herald n k.processes) (sym steps.groups.committed) c.self.invariant.ports;
-    }
-
-pub invariant_of-self-in-Turned : goal.invariant_of-self-in-Turned
-invariant_of-self-in-Turned g c =
-    let k = c.self.inside in
-    let h = head g (goal.at.invariant_of-self-in-Turned g c).After-known-2 in
     let t = c.step-progress.new.self in
     let reply = c.in-Turned.reply in
     let steps = h.steps (progress.Turned reply) c.in-Turned.is in
@@ -94,49 +128,22 @@ invariant_of-self-in-Turned g c =
     (right_turned g.D.Disk k.opening.value k.store k.processes c.self.invariant.right h.well c.args.pid h.within c.in-BeforeTurn.op h.mine c.known.ensures.store t c.in-BeforeTurn.group h.stands reply steps (h.agreed (progress.Turned reply) c.in-Turned.is refl)) in
     record {
       right = right;
-      since = since g (goal.at.invariant_of-self-in-Turned g c).After-known-2 (progress.Turned reply) c.turn.new.self c.in-Turned.is made right;
+      since = since g (goal.at.invariant_of-self g c).After-known-2 (progress.Turned reply) c.turn.new.self c.in-Turned.is made right;
       ports = subst (λ (n : ℕ). ArePorts g.I.Intake g.H.Herald k.intake k.herald n c.turn.new.self) (sym steps.groups.committed)
           (ports_turned g.I.Intake g.H.Herald k.intake k.herald k.store.volume.log.committed k.processes c.turn.new.self c.args.pid c.in-BeforeTurn.group c.in-BeforeTurn.op reply (is_over (task t.tasks c.args.pid).place) c.self.invariant.ports h.within h.stands made);
     }
 
-pub invariant_of-self-in-Sleeping : goal.invariant_of-self-in-Sleeping
-invariant_of-self-in-Sleeping g c =
-    let k = c.self.inside in
-    let steps = (head g (goal.at.invariant_of-self-in-Sleeping g c).After-known-2).steps (progress.Sleeping c.in-Sleeping.why) c.in-Sleeping.is in
-    subst (λ (o : StoreState _). Inv g.D.Disk g.I.Intake g.H.Herald (record { store = o; opening = k.opening.value; intake = k.intake; herald = k.herald; world = k.processes })) (sym (steps.waits.sleeping c.in-Sleeping.why refl)) c.self.invariant
-
-pub invariant_of-self-in-Fault : goal.invariant_of-self-in-Fault
-invariant_of-self-in-Fault g c =
-    let k = c.self.inside in
-    let h = head g (goal.at.invariant_of-self-in-Fault g c).After-known-2 in
-    let steps = h.steps (progress.Fault c.in-Fault.field-0) c.in-Fault.is in
-    let right = right_fault g.D.Disk k.opening.value k.store k.processes c.self.invariant.right h.well c.args.pid h.within c.in-BeforeTurn.op h.mine c.known.ensures.store c.step-progress.new.self c.in-BeforeTurn.group h.stands c.in-Fault.field-0
-    (survives_reading g.D.Disk k.opening.value k.store c.step-progress.new.self g.met.D.Disk.counts_now steps.reads.device h.well c.known.ensures.survives) steps in
-    record {
-      right = right;
-      since = since g (goal.at.invariant_of-self-in-Fault g c).After-known-2 (progress.Fault c.in-Fault.field-0) k.processes c.in-Fault.is refl right;
-      ports = subst (λ (n : ℕ). ArePorts g.I.Intake g.H.Herald k.intake k.herald n k.processes) (sym steps.groups.committed) c.self.invariant.ports;
-    }
-
-pub unreachable-requires-in-Decided : goal.unreachable-requires-in-Decided
-unreachable-requires-in-Decided g c = by_end c.in-Decided.is
-  where
-    h : Head g.D.Disk c.self.inside.store c.step-progress.new.self c.self.inside.processes c.args.pid c.in-BeforeTurn.group c.in-BeforeTurn.op c.step-progress.result
-    h = head g (goal.at.unreachable-requires-in-Decided g c).After-known-2
-
-    by_end : ((reply : Reply) × (c.step-progress.result ≡ progress.Decided reply)) ⊎ (c.step-progress.result ≡ progress.Over) → ⊥
-    by_end (inl told) = not_decided g.D.Disk c.self.inside.opening.value c.self.inside.store c.self.inside.processes c.self.invariant.right h.well c.args.pid h.within c.in-BeforeTurn.op h.mine c.known.ensures.store c.step-progress.new.self c.in-BeforeTurn.group h.stands told.0 (h.steps (progress.Decided told.0) told.1)
-    by_end (inr over) = not_over g.D.Disk c.self.inside.opening.value c.self.inside.store c.self.inside.processes c.self.invariant.right h.well c.args.pid h.within c.in-BeforeTurn.op h.mine c.known.ensures.store c.step-progress.new.self c.in-BeforeTurn.group h.stands (h.steps progress.Over over)
-
-pub returns-in-Moved : goal.returns-in-Moved
-returns-in-Moved g c = acts g (goal.at.returns-in-Moved g c).After-known-2 progress.Moved c.self.inside.processes c.in-Moved.is refl
+pub invariant_of-self-in_default-progress : goal.invariant_of-self-in_default-progress
+invariant_of-self-in_default-progress g c = still g (goal.at.invariant_of-self-in_default-progress g c).After-known-2 c.step-progress.result refl c.in_default-progress.not-Turned
 
 pub returns-in-Turned : goal.returns-in-Turned
 returns-in-Turned g c = acts g (goal.at.returns-in-Turned g c).After-known-2 (progress.Turned c.in-Turned.reply) c.turn.new.self c.in-Turned.is
     (c.turn.ensures ∙ ap (λ b. turned c.self.inside.processes c.args.pid c.in-Turned.reply b) c.is_over-is_over.ensures)
 
-pub returns-in-Sleeping : goal.returns-in-Sleeping
-returns-in-Sleeping g c = acts g (goal.at.returns-in-Sleeping g c).After-known-2 (progress.Sleeping c.in-Sleeping.why) c.self.inside.processes c.in-Sleeping.is refl
-
-pub returns-in-Fault : goal.returns-in-Fault
-returns-in-Fault g c = acts g (goal.at.returns-in-Fault g c).After-known-2 (progress.Fault c.in-Fault.field-0) c.self.inside.processes c.in-Fault.is refl
+pub returns-in_default-progress : goal.returns-in_default-progress
+returns-in_default-progress g c =
+    let past = (goal.at.returns-in_default-progress g c).After-known-2 in
+    let k = c.self.inside in
+    let r = c.step-progress.result in
+    subst (λ (a : Step). Acts g.D.Disk g.I.Intake g.H.Herald c.args.pid a c.args.self.now (record { store = c.step-progress.new.self; opening = k.opening.value; intake = k.intake; herald = k.herald; world = k.processes })) (sym c.step_of.ensures)
+    (acts g past r k.processes refl (unturned r (is_over (task c.step-progress.new.self.tasks c.args.pid).place) k.processes c.args.pid c.in_default-progress.not-Turned))

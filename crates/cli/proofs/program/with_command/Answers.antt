@@ -3,7 +3,7 @@ use Rattle.std.specs.Prelude.{IfOk}
 use Rattle.std.proofs.lemmas.Result.{IfOk-weaker}
 use Rattle.cli.specs.CommandLine.{HasApp}
 use Rattle.cli.proofs.CommandLines.{one_command}
-use Rattle.cli.proofs.words.with_command.Goals as goal
+use Rattle.cli.proofs.program.with_command.Goals as goal
 
 pub returns : goal.returns
 returns c =

@@ -1,0 +1,39 @@
+-- The table of commands, as clap is told it.
+use Rattle.std.specs.Prelude.{List, ℕ, [], ◌∷◌, Some, pos}
+use Rattle.clap.specs.Words.{App, Rule, new_app, new_rule, with_rule, with_subcommand}
+use Rattle.clap.specs.declared.builder.value_parser.ValueParser.TheVariants.{Signed, Unsigned}
+use Rattle.cli.specs.CommandLine.{choice_rule, flag_rule, number_rule, required_rule}
+use Rattle.cli.specs.declared.table.Kind.{Kind}
+use Rattle.cli.specs.declared.table.Kind.TheVariants.{Needed, Number, Choice, Flag, Valued, FewValued, LongValued}
+use Rattle.cli.specs.declared.table.Line.{Line}
+use Rattle.cli.specs.declared.table.Word.{Word}
+
+-- a word after `--` that has a value
+abbrev pub valued_rule : List ℕ → Rule → Rule
+valued_rule id rule = record rule { long = Some id; value_names = 1 }
+
+abbrev pub kind_rule : Kind → List ℕ → Rule
+kind_rule Needed id = required_rule id
+kind_rule Number id = number_rule id
+kind_rule Choice id = choice_rule id
+kind_rule Flag id = flag_rule id
+kind_rule Valued id = valued_rule id (choice_rule id)
+kind_rule FewValued id =
+    valued_rule id (record (new_rule id) { parser = Some (Signed (pos 1) (pos 32)) })
+kind_rule LongValued id =
+    valued_rule id (record (new_rule id) { parser = Some (Unsigned 1 18446744073709551615) })
+
+abbrev pub word_rule : Word → Rule
+word_rule word = kind_rule word.kind word.name.now
+
+abbrev pub with_words : App → List Word → App
+with_words app [] = app
+with_words app (word ∷ rest) = with_words (with_rule app (word_rule word)) rest
+
+-- a command with its words
+abbrev pub line_app : Line → App
+line_app line = with_words (new_app line.name.now) line.words.now
+
+abbrev pub with_lines : App → List Line → App
+with_lines app [] = app
+with_lines app (line ∷ rest) = with_lines (with_subcommand app (line_app line).top) rest

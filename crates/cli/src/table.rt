@@ -1,0 +1,246 @@
+// The commands of the program, and their words, as a table: what help prints of each, and in which
+// order clap is told of them.
+
+// What a word of a command line is.
+#[derive(Clone, Copy)]
+pub enum Kind {
+    // It has to be there.
+    Needed,
+    // A number of 32 bits, which has to be there.
+    Number,
+    // The same, where it may be left out.
+    Choice,
+    // A word of this name after `--`, which may be left out.
+    Flag,
+    // The same, with a number of 32 bits behind it.
+    Valued,
+    // The same, from 1 to 32.
+    FewValued,
+    // The same, a number of 64 bits, from 1.
+    LongValued,
+}
+
+// A word of a command line.
+#[derive(Clone, Copy)]
+pub struct Word {
+    pub name: &'static str,
+    pub kind: Kind,
+    pub help: &'static str,
+}
+
+// A command: its name, what it does, an example, and its words in their order.
+#[derive(Clone, Copy)]
+pub struct Line {
+    pub name: &'static str,
+    pub about: &'static str,
+    pub example: &'static str,
+    pub words: &'static [Word],
+}
+
+const SYNC: Word = Word {
+    name: "sync",
+    kind: Kind::Flag,
+    help: "Syncs the image's file where the log needs it, for a system that may lose writes",
+};
+
+const WAIT: Word = Word {
+    name: "wait",
+    kind: Kind::Flag,
+    help: "Waits while another program has the image, in place of being refused",
+};
+
+const SCRIPT: Word = Word {
+    name: "SCRIPT",
+    kind: Kind::Needed,
+    help: "The path of the script, whose lines are the operations of processes",
+};
+
+const SCHEDULE: Word = Word {
+    name: "SCHEDULE",
+    kind: Kind::Needed,
+    help: "The path of the schedule, whose words are turns of the processes",
+};
+
+const IMAGE: Word = Word {
+    name: "IMAGE",
+    kind: Kind::Needed,
+    help: "The path of the image's file",
+};
+
+const IMAGE_KEPT: Word = Word {
+    name: "IMAGE",
+    kind: Kind::Needed,
+    help: "The path of the image's file, which is not changed",
+};
+
+pub(crate) static LINES: [Line; 12] = [
+    Line {
+        name: "mkfs",
+        about: "Makes an image in a new file, or in place of an old one",
+        example: "Example: xvfs mkfs fs.img 2000 200",
+        words: &[
+            Word {
+                name: "IMAGE",
+                kind: Kind::Needed,
+                help: "The path of the image's file, which is made or replaced",
+            },
+            WAIT,
+            Word {
+                name: "SIZE",
+                kind: Kind::Number,
+                help: "Blocks of 1024 bytes, from one more than the blocks before the data up to 8191",
+            },
+            Word {
+                name: "NINODES",
+                kind: Kind::Number,
+                help: "Inode numbers, from 2 to 1024, the unused number 0 included",
+            },
+            Word {
+                name: "large",
+                kind: Kind::Flag,
+                help: "Makes an image for files of up to 65803 blocks, which xv6 itself doesn't read",
+            },
+        ],
+    },
+    Line {
+        name: "check",
+        about: "Says whether an image is sound, and counts its logged blocks and its files",
+        example: "Example: xvfs check fs.img",
+        words: &[IMAGE_KEPT, WAIT],
+    },
+    Line {
+        name: "ls",
+        about: "Lists the files of an image: number, type, bytes and blocks",
+        example: "Example: xvfs ls fs.img",
+        words: &[IMAGE_KEPT, WAIT],
+    },
+    Line {
+        name: "df",
+        about: "Counts the blocks and the inodes of an image, used and free ones",
+        example: "Example: xvfs df fs.img",
+        words: &[IMAGE_KEPT, WAIT],
+    },
+    Line {
+        name: "cat",
+        about: "Recovers an image, and writes the bytes of one of its files",
+        example: "Example: xvfs cat fs.img 1",
+        words: &[
+            IMAGE,
+            WAIT,
+            Word {
+                name: "INUM",
+                kind: Kind::Number,
+                help: "The file's inode number",
+            },
+        ],
+    },
+    Line {
+        name: "show",
+        about: "Draws the blocks of an image, a sign each, or lists those of one file",
+        example: "Examples: xvfs show fs.img, xvfs show fs.img 1",
+        words: &[
+            IMAGE_KEPT,
+            WAIT,
+            Word {
+                name: "INUM",
+                kind: Kind::Choice,
+                help: "A file's inode number, whose blocks are listed in their order",
+            },
+        ],
+    },
+    Line {
+        name: "put",
+        about: "Puts a file into an image, as a new file or in place of one, and prints its number",
+        example: "Examples: xvfs put fs.img notes.txt, xvfs put fs.img notes.txt 1",
+        words: &[
+            IMAGE,
+            WAIT,
+            Word {
+                name: "FILE",
+                kind: Kind::Needed,
+                help: "The path of the file whose bytes are put",
+            },
+            Word {
+                name: "INUM",
+                kind: Kind::Choice,
+                help: "The inode number of the file that gets the bytes in place of its own",
+            },
+        ],
+    },
+    Line {
+        name: "copy",
+        about: "Copies the files of an image into a new one that has room for large files",
+        example: "Example: xvfs copy old.img new.img --size 8191",
+        words: &[
+            Word {
+                name: "OLD",
+                kind: Kind::Needed,
+                help: "The path of the image's file, which is not changed",
+            },
+            WAIT,
+            Word {
+                name: "NEW",
+                kind: Kind::Needed,
+                help: "The path of the file that is made",
+            },
+            Word {
+                name: "size",
+                kind: Kind::Valued,
+                help: "Blocks of the new image; as many as the old one has where it is not given",
+            },
+        ],
+    },
+    Line {
+        name: "recover",
+        about: "Checks an image, and copies the blocks of its log home",
+        example: "Example: xvfs recover fs.img",
+        words: &[IMAGE, WAIT, SYNC],
+    },
+    Line {
+        name: "replay",
+        about: "Recovers an image, and makes a script's operations in the turns of a schedule",
+        example: "Example: xvfs replay fs.img script schedule --stop 3",
+        words: &[
+            IMAGE,
+            WAIT,
+            SCRIPT,
+            SCHEDULE,
+            Word {
+                name: "stop",
+                kind: Kind::LongValued,
+                help: "Stops before this write, counted from 1 once the image is recovered",
+            },
+            SYNC,
+        ],
+    },
+    Line {
+        name: "run",
+        about: "Recovers an image, and makes a script's operations, each process's in order, by threads",
+        example: "Example: xvfs run fs.img script --workers 4",
+        words: &[
+            IMAGE,
+            WAIT,
+            SCRIPT,
+            Word {
+                name: "workers",
+                kind: Kind::FewValued,
+                help: "Threads that make the steps, from 1 to 32; 1 where it is not given",
+            },
+            SYNC,
+        ],
+    },
+    Line {
+        name: "stops",
+        about: "Makes a script's operations up to each of their writes, and checks what each stop leaves",
+        example: "Example: xvfs stops script schedule",
+        words: &[
+            SCRIPT,
+            SCHEDULE,
+            Word {
+                name: "held",
+                kind: Kind::Flag,
+                help: "Makes them over a disk that holds writes back, and loses any of these at each stop",
+            },
+        ],
+    },
+];
