@@ -4,7 +4,7 @@ use Rattle.model.specs.declared.types.image.Dinode.{Dinode}
 use Rattle.model.specs.declared.types.image.Super.{Super}
 use Rattle.model.specs.Layout.{inode_count_of, inode_of}
 use Rattle.model.specs.Log.{recovered}
-use Rattle.trials.proofs.recovered.part_of_file.Goals as goal
+use Rattle.test_commands.proofs.recovered.part_of_file.Goals as goal
 
 pub read-requires-clause-file : goal.read-requires-clause-file
 read-requires-clause-file g c =

@@ -1,15 +1,13 @@
 // Puts into the image whose calls fail in turn.
-use crate::ground::{KINDS, MOST_CALLS, ground};
-use anyhow::{Context, bail, ensure};
+use crate::ground::{KINDS, MOST_CALLS, blocks_of, ground};
+use crate::refusals::{Put, is_disk_of_put};
+use crate::wrong::{Wrong, ensure};
+use anyhow::{Context, bail};
 use blocks::{FaultyDisk, Kind, MemDisk};
-use desk::blocks_of;
-use layout::CheckFault;
 use model::types::File;
 use reference::report::files_after_recovery;
-use transfer::put_disk;
 use std::alloc::Global;
-use messages::Refusal;
-use wal::RecoverFault;
+use transfer::put_disk;
 
 // The bytes that are put: of more blocks than one write has.
 const BYTES: [u8; 4000] = [b'b'; 4000];
@@ -29,24 +27,44 @@ pub fn fail_puts(rt: &impl Print, alloc: Global) -> anyhow::Result<()> {
 // Makes each call of a kind fail in turn, until a put makes no more of them. How many there are.
 fn fail_each(alloc: Global, inum: Option<u32>, kind: Kind) -> anyhow::Result<u64> {
     for nth in 1..MOST_CALLS {
-        let disk = FaultyDisk::new(ground(alloc)?, nth, kind);
-        let mut told = Vec::new(alloc);
-        let (put, disk) = put_disk(alloc, disk, &BYTES, inum, &mut told);
-        let number = inum.unwrap_or(2) as usize;
-        judge(alloc, disk.into_inner(), number, put.is_ok()).context(format_args!("call {nth}"))?;
-        let Err(refusal) = put else {
+        if fail_call(alloc, inum, kind, nth).context(format_args!("call {nth}"))? {
             return Ok(nth.saturating_sub(1));
-        };
-        ensure!(is_of_disk(refusal), "call {nth}: {refusal}");
+        }
     }
     bail!("a put makes too many calls")
+}
+
+// Makes the call of this number fail. Whether the put was done all the same.
+fn fail_call(alloc: Global, inum: Option<u32>, kind: Kind, nth: u64) -> Result<bool, Wrong> {
+    match ground(alloc) {
+        Ok(disk) => {
+            let mut told = Vec::new(alloc);
+            let disk = FaultyDisk::new(disk, nth, kind);
+            let (put, disk) = put_disk(alloc, disk, &BYTES, inum, &mut told);
+            let number = inum.unwrap_or(2) as usize;
+            judge(alloc, &mut disk.into_inner(), number, &put)
+        }
+        Err(wrong) => Err(wrong),
+    }
+}
+
+// Judges the image of a disk, and what was told. Whether the put was done.
+fn judge(alloc: Global, disk: &mut MemDisk, number: usize, put: &Put) -> Result<bool, Wrong> {
+    judge_files(alloc, disk, number, put.is_ok())?;
+    ensure(put.is_ok() || is_disk_of_put(put), "another refusal")?;
+    Ok(put.is_ok())
 }
 
 // Whether the image of a disk is recovered to a sound one, in which the file of a number has the
 // bytes that were put, or where it was not done, the first of them, or is as before; the other file is
 // as before.
-fn judge(alloc: Global, mut disk: MemDisk, number: usize, is_done: bool) -> anyhow::Result<()> {
-    let blocks = blocks_of(alloc, &mut disk)?;
+fn judge_files(
+    alloc: Global,
+    disk: &mut MemDisk,
+    number: usize,
+    is_done: bool,
+) -> Result<(), Wrong> {
+    let blocks = blocks_of(alloc, disk)?;
     let files = files_after_recovery(alloc, blocks.as_slice())?;
     for (i, place) in files.iter().enumerate() {
         let is_right = if i == number {
@@ -54,7 +72,7 @@ fn judge(alloc: Global, mut disk: MemDisk, number: usize, is_done: bool) -> anyh
         } else {
             is_before(place, i == 1)
         };
-        ensure!(is_right, "file {i} is not as it has to be");
+        ensure(is_right, "a file is not as it has to be")?;
     }
     Ok(())
 }
@@ -78,12 +96,4 @@ fn is_put(place: &Option<File>, is_first: bool, is_done: bool) -> bool {
     let bytes = file.bytes.as_slice();
     let is_whole = bytes.len() == BYTES.len() || (!is_done && bytes.len() < BYTES.len());
     file.kind == 2 && is_whole && bytes.iter().all(|byte| *byte == b'b')
-}
-
-// Whether the disk's failure was told.
-fn is_of_disk(refusal: Refusal) -> bool {
-    matches!(
-        refusal,
-        Refusal::Check(CheckFault::Disk) | Refusal::Recover(RecoverFault::Disk) | Refusal::Disk(_)
-    )
 }

@@ -1,12 +1,13 @@
 // Copies of the image whose calls fail in turn.
-use crate::ground::{KINDS, MOST_CALLS, ground, is_ground};
-use anyhow::{bail, ensure};
+use crate::ground::{KINDS, MOST_CALLS, empty_disk, ensure_ground, ground};
+use crate::wrong::{Wrong, ensure};
+use anyhow::{Context, bail};
 use blocks::{FaultyDisk, Kind, MemDisk};
-use transfer::{CopyFault, Progress, copy};
 use layout::CheckFault;
 use offline::check;
 use std::alloc::Global;
 use std::io;
+use transfer::{CopyFault, Progress, copy};
 
 // Which of the two disks fails.
 #[derive(Clone, Copy)]
@@ -68,13 +69,7 @@ fn fail_each(alloc: Global, failing: Failing, kind: Kind) -> anyhow::Result<Fail
         later: 0,
     };
     for nth in 1..MOST_CALLS {
-        let (of_old, of_new) = match failing {
-            Failing::Old => (nth, 0),
-            Failing::New => (0, nth),
-        };
-        let old = FaultyDisk::new(ground(alloc)?, of_old, kind);
-        let new = FaultyDisk::new(MemDisk::new(alloc, 200)?, of_new, kind);
-        match copy_all(alloc, old, new)? {
+        match fail_call(alloc, failing, kind, nth).context(format_args!("call {nth}"))? {
             Some(fault) => failures.count(fault)?,
             None => return Ok(failures),
         }
@@ -82,32 +77,61 @@ fn fail_each(alloc: Global, failing: Failing, kind: Kind) -> anyhow::Result<Fail
     bail!("a copy makes too many calls")
 }
 
-// Makes a copy, and looks whether the old image stays as it was, and the new one is none or whole. Why
-// there is no copy, if there is none.
+// Why there is no copy, if there is none.
+fn fail_call(
+    alloc: Global,
+    failing: Failing,
+    kind: Kind,
+    nth: u64,
+) -> Result<Option<CopyFault>, Wrong> {
+    let (of_old, of_new) = match failing {
+        Failing::Old => (nth, 0),
+        Failing::New => (0, nth),
+    };
+    match (ground(alloc), empty_disk(alloc)) {
+        (Ok(old), Ok(new)) => copy_all(
+            alloc,
+            FaultyDisk::new(old, of_old, kind),
+            FaultyDisk::new(new, of_new, kind),
+        ),
+        (Err(wrong), _) | (_, Err(wrong)) => Err(wrong),
+    }
+}
+
+// Makes a copy, and looks whether the old image stays as it was, and the new one is none or whole.
 fn copy_all(
     alloc: Global,
     mut old: FaultyDisk<MemDisk>,
     new: FaultyDisk<MemDisk>,
-) -> anyhow::Result<Option<CopyFault>> {
-    let copied = copy(alloc, &mut old, new, 200, &mut Nobody);
-    let is_kept = is_ground(alloc, old.into_inner())?;
-    ensure!(is_kept, "the old image is not as it was");
-    match copied {
-        Ok((files, _new)) => {
-            ensure!(files == 1, "{files} files were copied");
-            Ok(None)
-        }
+) -> Result<Option<CopyFault>, Wrong> {
+    match copy(alloc, &mut old, new, 200, &mut Nobody) {
+        Ok((files, _new)) => judge_whole(alloc, &mut old.into_inner(), files),
         Err((fault, new)) => {
-            let is_none = is_none_or_whole(alloc, new.into_inner());
-            ensure!(is_none, "{fault}: the new image is cut short");
-            Ok(Some(fault))
+            judge_failed(alloc, &mut old.into_inner(), &mut new.into_inner(), fault)
         }
     }
 }
 
+fn judge_whole(alloc: Global, old: &mut MemDisk, files: u32) -> Result<Option<CopyFault>, Wrong> {
+    ensure_ground(alloc, old)?;
+    ensure(files == 1, "more than one file was copied, or none")?;
+    Ok(None)
+}
+
+fn judge_failed(
+    alloc: Global,
+    old: &mut MemDisk,
+    new: &mut MemDisk,
+    fault: CopyFault,
+) -> Result<Option<CopyFault>, Wrong> {
+    ensure_ground(alloc, old)?;
+    ensure(is_none_or_whole(alloc, new), "the new image is cut short")?;
+    Ok(Some(fault))
+}
+
 // Whether the disk has no superblock, or the whole copy.
-fn is_none_or_whole(alloc: Global, mut disk: MemDisk) -> bool {
-    match check(alloc, &mut disk) {
+fn is_none_or_whole(alloc: Global, disk: &mut MemDisk) -> bool {
+    match check(alloc, disk) {
         Ok(report) => report.files == 1,
         Err(fault) => matches!(fault, CheckFault::BadMagic),
     }
