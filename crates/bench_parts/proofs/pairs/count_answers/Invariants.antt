@@ -1,7 +1,7 @@
 use Rattle.std.proofs.Common.{◌≡◌}
 use Rattle.rings.specs.Boards.{WatchOf}
 use Rattle.rings.specs.Callers.{intake_count}
-use Rattle.thread_bench.proofs.pairs.Given as goal
+use Rattle.bench_parts.proofs.pairs.count_answers.Given as goal
 
 abbrev pub invariant-loop-pair : goal.invariant-loop-pair
 invariant-loop-pair l = record {
