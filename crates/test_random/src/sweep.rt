@@ -2,8 +2,8 @@
 use crate::bases::stopped_creation;
 use crate::faults::Faults;
 use crate::image::Image;
-use crate::judging::{agreed_fault, judge_opening, judge_recovery};
-use crate::wrong::{Place, What, Wrong};
+use crate::image_judging::{agreed_fault, judge_opening, judge_recovery};
+use crate::image_wrong::{Place, What, Wrong};
 use std::alloc::Global;
 
 // Of the image the superblock, the log's header, the block in the log, its home, which has the

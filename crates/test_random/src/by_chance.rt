@@ -2,11 +2,11 @@
 ghost use Rattle.std.specs.Prelude.{◌<◌};
 
 use crate::bases::{Base, SIZES, put_bases};
+use crate::chance::Chance;
 use crate::faults::Faults;
 use crate::image::Image;
-use crate::judging::agreed_fault;
-use crate::wrong::{Other, Place, What, Wrong};
-use chance::Chance;
+use crate::image_judging::agreed_fault;
+use crate::image_wrong::{Other, Place, What, Wrong};
 use model::types::CheckFault;
 use std::alloc::Global;
 

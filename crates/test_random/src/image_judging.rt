@@ -1,7 +1,7 @@
 // What the program under test says of an image, against the plain program.
 use crate::image::Image;
+use crate::image_wrong::{Other, What, ensure};
 use crate::kernels::opened;
-use crate::wrong::{Other, What, ensure};
 use blocks::{Block, Disk, MemDisk};
 use kernel::OpenFault;
 use layout::superblock;

@@ -1,10 +1,10 @@
 // Scripts that are stopped before their writes.
+use crate::chance::Chance;
 use crate::ground::Ground;
 use crate::judging::{Left, judge_run};
 use crate::playing::{Failure, Outcome, run};
 use crate::tally::{Row, Tally};
 use crate::wrong::{Part, What, Wrong};
-use chance::Chance;
 use std::alloc::Global;
 
 /// Makes the run of a script, in which a call of the disk may fail, and judges what it leaves: the

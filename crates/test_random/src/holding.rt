@@ -1,4 +1,5 @@
 // Scripts over a disk that holds writes back: stops that lose some of these, and each sync failing.
+use crate::chance::Chance;
 use crate::ground::Ground;
 use crate::judging::{Due, judge_disk};
 use crate::playing::{Failure, MOST_TURNS, Outcome, Over, open, opened, run, take_turn};
@@ -7,7 +8,6 @@ use crate::setting::Setting;
 use crate::tally::{Row, Tally};
 use crate::wrong::{Part, What, Wrong};
 use blocks::{Kind, MemDisk, SyncDisk};
-use chance::Chance;
 use kernel::OpenFault;
 use model::types::Entry;
 use offline::check;

@@ -1,41 +1,27 @@
-//! Random scripts of all six operations, each by up to 32 processes in random turns. A script is run
-//! to its end, and then stopped before up to 20 of its writes; what it left is compared each time
-//! with the plain program: after a recovery the image is sound, and its files are those after
-//! exactly the changing operations of the committed groups.
-//!
-//! With no words the program runs the scripts of 200 seeds, and then one in which each of 32
-//! processes in turn creates a file, writes to one, and truncates or removes one, stopped before
-//! each of its writes. Then it runs the scripts of 100 seeds, with at most 24 operations each, once
-//! for each read and twice for each write that they make: that call fails, and a write that fails
-//! leaves its block as it was, and the second time as it was handed in. Where that is the header
-//! that commits a group, the files are those after one group more. Then it runs the scripts of 100
-//! seeds over a disk that holds writes back: a stop at random turns, and wherever writes are held,
-//! loses random ones of these, and each sync fails in turn. It prints what all of these came to.
-//!
-//! Last it does the like over images of the second form, in which the first file grows over the
-//! blocks that its indirect block names, or over those that its first second block does: the
-//! scripts of 60 seeds with their stops, those of 20 in which each fifth call fails, and those of 20
-//! over a disk that holds writes back. Most of these images have the beginning of that file before
-//! the run.
-//!
-//! With two words it runs the scripts of so many seeds from the first word on; with the word `calls`
-//! before these, each call of them fails in turn, and with the word `held` they are run over a disk
-//! that holds writes back. With `large` as the first word of all it does so over images of the
-//! second form. The first script that is not right ends it, with status 1.
-#![tactic(auto)]
-
-mod failing;
-mod ground;
-mod holding;
-mod judging;
-mod lengths;
-mod playing;
-mod script;
-mod setting;
-mod stopping;
-mod tally;
-mod wrong;
-
+// Random scripts of all six operations, each by up to 32 processes in random turns. A script is run
+// to its end, and then stopped before up to 20 of its writes; what it left is compared each time
+// with the plain program: after a recovery the image is sound, and its files are those after
+// exactly the changing operations of the committed groups.
+//
+// With no words it runs the scripts of 200 seeds, and then one in which each of 32
+// processes in turn creates a file, writes to one, and truncates or removes one, stopped before
+// each of its writes. Then it runs the scripts of 100 seeds, with at most 24 operations each, once
+// for each read and twice for each write that they make: that call fails, and a write that fails
+// leaves its block as it was, and the second time as it was handed in. Where that is the header
+// that commits a group, the files are those after one group more. Then it runs the scripts of 100
+// seeds over a disk that holds writes back: a stop at random turns, and wherever writes are held,
+// loses random ones of these, and each sync fails in turn. It prints what all of these came to.
+//
+// Last it does the like over images of the second form, in which the first file grows over the
+// blocks that its indirect block names, or over those that its first second block does: the
+// scripts of 60 seeds with their stops, those of 20 in which each fifth call fails, and those of 20
+// over a disk that holds writes back. Most of these images have the beginning of that file before
+// the run.
+//
+// With two words it runs the scripts of so many seeds from the first word on; with the word `calls`
+// before these, each call of them fails in turn, and with the word `held` they are run over a disk
+// that holds writes back. With `large` as the first word of all it does so over images of the
+// second form. The first script that is not right ends it, with status 1.
 use crate::failing::fail_each;
 use crate::ground::Ground;
 use crate::holding::lose_some;
@@ -46,17 +32,15 @@ use crate::wrong::{Part, Wrong};
 use anyhow::bail;
 use model::types::Form;
 use std::alloc::Global;
-use std::env;
 
-fn main(rt: HostRuntime) -> anyhow::Result<()> {
-    let alloc = rt.alloc();
-    let words: Vec<String> = env::args(&rt)?.skip(1).collect(alloc)?;
-    match words.as_slice() {
-        [] => try_all(&rt, alloc),
+/// The run with words, or with none.
+pub fn try_scripts(rt: &impl Print, alloc: Global, words: &[String]) -> anyhow::Result<()> {
+    match words {
+        [] => try_all(rt, alloc),
         [large, words @ ..] if large.as_str() == "large" => {
-            try_named(&rt, alloc, words, Form::Two)
+            try_named(rt, alloc, words, Form::Two)
         }
-        words => try_named(&rt, alloc, words, Form::One),
+        words => try_named(rt, alloc, words, Form::One),
     }
 }
 

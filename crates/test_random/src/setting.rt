@@ -1,7 +1,7 @@
 // What a script is made for.
 ghost use Rattle.std.specs.Prelude.{◌≤◌, ◌<◌};
 
-use chance::Chance;
+use crate::chance::Chance;
 use model::types::Form;
 
 /// An image, the processes that work on it, and how they do.

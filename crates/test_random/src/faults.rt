@@ -1,5 +1,5 @@
 // How many images had which fault.
-use crate::wrong::What;
+use crate::image_wrong::What;
 use model::types::CheckFault;
 use std::io;
 

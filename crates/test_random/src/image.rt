@@ -1,5 +1,5 @@
 // An image that is hurt and mended.
-use crate::wrong::{Other, What, ensure, if_done};
+use crate::image_wrong::{Other, What, ensure, if_done};
 use blocks::{Block, Disk, MemDisk};
 use std::alloc::Global;
 

@@ -1,9 +1,9 @@
 // Which operations are handed in, and whose turn it is.
 ghost use Rattle.std.specs.Prelude.{◌<◌};
 
+use crate::chance::Chance;
 use crate::lengths::Lengths;
 use crate::setting::Setting;
-use chance::Chance;
 use model::content::Content;
 use model::types::{Entry, Form, Op};
 use std::alloc::{AllocError, Global};

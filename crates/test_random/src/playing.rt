@@ -7,8 +7,8 @@ use crate::wrong::{What, if_done};
 use blocks::{Disk, DiskFault, FaultyDisk, Kind, NoMemory};
 use kernel::{Kernel, OpenFault, Step};
 use model::types::Entry;
-use reference::files::Files;
 use ports::{PlainHerald, QueueIntake};
+use reference::files::Files;
 use std::alloc::Global;
 use wal::DeviceFault;
 

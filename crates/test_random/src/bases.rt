@@ -2,9 +2,9 @@
 ghost use Rattle.std.specs.Prelude.{◌≤◌, ◌<◌};
 
 use crate::image::Image;
-use crate::judging::agreed_fault;
+use crate::image_judging::agreed_fault;
+use crate::image_wrong::{Other, What, ensure};
 use crate::kernels::{Making, made};
-use crate::wrong::{Other, What, ensure};
 use blocks::Disk;
 use layout::inode;
 use std::alloc::Global;

@@ -1,5 +1,5 @@
 // Kernels over images.
-use crate::wrong::{Other, What, ensure, if_done};
+use crate::image_wrong::{Other, What, ensure, if_done};
 use blocks::{FaultyDisk, Kind, MemDisk};
 use kernel::{Kernel, OpenFault, Step};
 use model::content::Content;

@@ -1,6 +1,4 @@
-//! Numbers that look like chance, for programs that try a lot.
-#![tactic(auto)]
-
+// Numbers that look like chance.
 ghost use Rattle.std.specs.Prelude.{◌<◌};
 
 /// A row of numbers that looks like chance, and is the same from the same seed (splitmix64).
