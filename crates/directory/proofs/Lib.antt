@@ -1,5 +1,0 @@
-pub mod Standing
-pub mod Chunks
-pub mod EntryBytes
-pub mod Changes
-pub mod Keeping

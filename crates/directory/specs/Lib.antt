@@ -1,5 +1,0 @@
-pub mod Entries
-pub mod Names
-pub mod Writes
-pub mod Laws
-pub mod Lemmas

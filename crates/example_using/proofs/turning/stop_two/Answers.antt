@@ -1,5 +1,0 @@
-use Rattle.example_using.proofs.turning.stop_two.Goals as goal
-
--- each process's queues are as new
-pub open-requires-clause-fits : goal.open-requires-clause-fits
-open-requires-clause-fits c = λ p low. c.in_ok-intake.ensures.fresh p

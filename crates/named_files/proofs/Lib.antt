@@ -1,2 +1,0 @@
-pub mod Writes
-pub mod Calls

@@ -1,0 +1,7 @@
+pub mod Entries
+pub mod Names
+pub mod Writes
+pub mod Laws
+pub mod Lemmas
+pub mod NamedFiles
+pub mod Stops

@@ -1,0 +1,193 @@
+// The entries of a directory, and the writes that change one.
+ghost use Rattle.std.specs.Prelude.{◌≡◌, ◌<◌, ◌≤◌, ◌/◌, replicate, length, position, Some, None, IfSome, IfNone, IfOk, IfErr};
+ghost use Rattle.std.specs.Str.{bytes_eq};
+ghost use Rattle.names.specs.Entries.{directory_size, most_entries, entry_size, entries_of, entry_bytes, is_for, is_free, lookup, name_in, number_in, place_of, HasOnce};
+ghost use Rattle.names.specs.Writes.{free_place, operation_of, written, IsLinkCause, KeepsOthers, Links, Unlinks};
+
+use crate::name::Name;
+use blocks::NoMemory;
+use byteorder::{ByteOrder, LittleEndian};
+use model::content::Content;
+use model::types::Op;
+use std::alloc::Global;
+use thiserror::Error;
+
+/// The number of the file whose bytes are the directory.
+pub const DIRECTORY: u32 = 1;
+
+/// The bytes of an entry.
+pub const ENTRY_SIZE: usize = 16;
+
+/// The most bytes of a directory: as many as one read brings, those of 192 entries.
+pub const DIRECTORY_SIZE: usize = 3072;
+
+/// A write of one entry, which is all that a change of a directory writes.
+#[derive(Clone, Copy)]
+pub struct EntryWrite {
+    /// Which entry of the directory it is, from 0.
+    pub place: u32,
+    /// The entry.
+    pub entry: [u8; ENTRY_SIZE],
+}
+
+impl EntryWrite {
+    /// The operation that makes this write.
+    ///
+    /// # Errors
+    ///
+    /// `NoMemory` where memory for its 16 bytes was refused.
+    pub fn operation(self, alloc: Global) -> Result<Op, NoMemory>
+        requires { self.place < most_entries }
+        ensures { IfOk result (λ op. op ≡ operation_of self) }
+    {
+        let bytes = Content::copy_of(alloc, &self.entry)?;
+        Ok(Op::Write(DIRECTORY, self.place * 16, bytes))
+    }
+}
+
+/// Why a name can't be linked.
+#[derive(Clone, Copy, Debug, PartialEq, Eq, Error)]
+pub enum LinkFault {
+    #[error("the name is there already")]
+    Exists,
+    #[error("the directory is full")]
+    Full,
+}
+
+/// The number that a name leads to in a directory of these bytes: that of its first entry.
+#[tactic(auto, unfolding(crate::specs::Entries::lookup))]
+pub fn lookup(bytes: &[u8], name: &Name) -> Option<u16>
+    ensures { result ≡ lookup bytes.now name.now }
+{
+    let place = place_of(bytes, name)?;
+    Some(number_in(&entries(bytes)[place]))
+}
+
+/// The write that links a number under a name: into the first free entry, or behind the last.
+///
+/// # Errors
+///
+/// `Exists` where the name leads to a file already, else `Full` where no entry is free and there is
+/// no room for one more.
+pub fn link(bytes: &[u8], name: &Name, number: u16) -> Result<EntryWrite, LinkFault>
+    requires used { 0 < number }
+    requires size { length bytes.now ≤ directory_size }
+    ensures within { IfOk result (λ write. write.place < most_entries) }
+    ensures links { IfOk result (λ write. Links bytes.now name.now number write) }
+    ensures leads { IfOk result (λ write. lookup (written bytes.now write) name.now ≡ Some number) }
+    ensures others { IfOk result (λ write. KeepsOthers
+        name.now bytes.now (written bytes.now write)) }
+    ensures refused { IfErr result (IsLinkCause bytes.now name.now) }
+{
+    if lookup(bytes, name).is_some() {
+        return Err(LinkFault::Exists);
+    }
+    let place = free_place(bytes);
+    if place * ENTRY_SIZE >= DIRECTORY_SIZE {
+        return Err(LinkFault::Full);
+    }
+    Ok(link_at(place as u32, name, number))
+}
+
+/// The write that frees the entry of a name, or none where the name leads nowhere.
+pub fn unlink(bytes: &[u8], name: &Name) -> Option<EntryWrite>
+    requires { length bytes.now ≤ directory_size }
+    ensures within { IfSome result (λ write. write.place < most_entries) }
+    ensures unlinks { IfSome result (λ write. Unlinks bytes.now name.now write) }
+    ensures gone { IfSome result (λ write. HasOnce bytes.now name.now
+        → lookup (written bytes.now write) name.now ≡ None) }
+    ensures others { IfSome result (λ write. KeepsOthers
+        name.now bytes.now (written bytes.now write)) }
+    ensures absent { IfNone result (lookup bytes.now name.now ≡ None) }
+{
+    let place = place_of(bytes, name)?;
+    Some(free_at(place as u32))
+}
+
+// The entries of a directory.
+#[tactic(auto, unfolding(crate::specs::Entries::entries_of))]
+fn entries(bytes: &[u8]) -> &[[u8; ENTRY_SIZE]]
+    ensures value { result.now ≡ entries_of bytes.now }
+    ensures len { length result.now ≡ length bytes.now / entry_size }
+{
+    let (entries, _) = bytes.as_chunks::<ENTRY_SIZE>();
+    entries
+}
+
+// The number of an entry's file.
+#[tactic(auto, unfolding(crate::specs::Entries::number_in))]
+fn number_in(entry: &[u8; ENTRY_SIZE]) -> u16
+    ensures { result ≡ number_in entry.now }
+{
+    LittleEndian::read_u16(entry)
+}
+
+fn is_free(entry: &[u8; ENTRY_SIZE]) -> bool
+    ensures { result ≡ is_free entry.now }
+{
+    number_in(entry) == 0
+}
+
+fn has_name(entry: &[u8; ENTRY_SIZE], name: &Name) -> bool
+    ensures { result ≡ bytes_eq (name_in entry.now) name.now }
+{
+    &entry[2..ENTRY_SIZE] == name.as_slice()
+}
+
+// Whether an entry is used, and has that name.
+fn is_for(entry: &[u8; ENTRY_SIZE], name: &Name) -> bool
+    ensures { result ≡ is_for name.now entry.now }
+{
+    !is_free(entry) && has_name(entry, name)
+}
+
+// The place of the first entry with a name.
+fn place_of(bytes: &[u8], name: &Name) -> Option<usize>
+    ensures place { result ≡ place_of bytes.now name.now }
+    ensures within { IfSome result (λ place. place < length bytes.now / entry_size) }
+{
+    entries(bytes).iter().position(|entry| is_for(entry, name))
+}
+
+// The first free place, or the one behind the last entry.
+fn free_place(bytes: &[u8]) -> usize
+    ensures place { result ≡ free_place bytes.now }
+    ensures within { result ≤ length bytes.now / entry_size }
+{
+    let entries = entries(bytes);
+    match first_free(entries) {
+        Some(place) => place,
+        None => entries.len(),
+    }
+}
+
+fn first_free(entries: &[[u8; ENTRY_SIZE]]) -> Option<usize>
+    ensures place { result ≡ position is_free entries.now }
+    ensures within { IfSome result (λ place. place < length entries.now) }
+{
+    entries.iter().position(|entry| is_free(entry))
+}
+
+// The write of an entry.
+fn link_at(place: u32, name: &Name, number: u16) -> EntryWrite
+    ensures place { result.place ≡ place }
+    ensures entry { result.entry ≡ entry_bytes number name.now }
+    ensures size { length name.now ≡ 14 }
+    ensures fits { number < 65536 }
+{
+    let mut entry = [0; ENTRY_SIZE];
+    LittleEndian::write_u16(&mut entry[..2], number);
+    entry[2..].copy_from_slice(name.as_slice());
+    EntryWrite { place, entry }
+}
+
+// The write of a free entry.
+fn free_at(place: u32) -> EntryWrite
+    ensures place { result.place ≡ place }
+    ensures entry { result.entry ≡ replicate entry_size 0 }
+{
+    EntryWrite {
+        place,
+        entry: [0; ENTRY_SIZE],
+    }
+}

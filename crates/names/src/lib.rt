@@ -1,0 +1,25 @@
+//! Directories over the lower storey: names that stand in the bytes of one file, as in xv6 (the xv6
+//! book, the chapter "File system": "Directory layer").
+//!
+//! A directory is a list of entries of sixteen bytes: the number of a file, two bytes with the lowest
+//! first, and its name, fourteen bytes with zeroes behind it. An entry with number 0 is free. A
+//! change is the write of one entry, and that a write of the lower storey stays whole over a stop
+//! makes a change of a directory stay whole.
+//!
+//! `NamedFiles` are files whose names stand in such a directory, over a kernel of one process: a layer
+//! above the lower storey, by public calls alone.
+#![tactic(auto)]
+
+mod entries;
+mod fault;
+mod files;
+pub mod kernel_laws;
+pub mod laws;
+mod name;
+
+pub use entries::{
+    DIRECTORY, DIRECTORY_SIZE, ENTRY_SIZE, EntryWrite, LinkFault, link, lookup, unlink,
+};
+pub use fault::FilesFault;
+pub use files::NamedFiles;
+pub use name::{NAME_SIZE, Name, NameFault};

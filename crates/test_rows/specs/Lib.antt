@@ -1,0 +1,2 @@
+pub mod Teller
+pub mod Sessions

@@ -1,0 +1,278 @@
+// Kernels that threads share.
+ghost use Rattle.std.specs.Prelude.{◌≡◌, ◌<◌, ℕ, All};
+ghost use Rattle.rings.specs.Boards.{KeeperOf, WatchOf, published};
+ghost use Rattle.ports.specs.History.{nothing_yet};
+ghost use Rattle.rings.specs.Callers.{IntakeFits, intake_count};
+ghost use Rattle.sysring.specs.Frames.{AreWorkers};
+
+use blocks::MemDisk;
+use kernel::Kernel;
+use layout::MkfsFault;
+use model::types::Op;
+use offline::{check, mkfs};
+use std::alloc::{AllocGlobal, Global};
+use std::rt::Clock;
+use std::sync::Wait;
+use std::sync::atomic::{AtomicU64, Ordering};
+use std::thread;
+use std::thread::Threads;
+use sysring::{
+    Board, BoardHerald, Caller, Gate, Keeper, RingIntake, Serving, Watch, rings, serve_while,
+};
+
+// The turns that a process makes until it sees the other one.
+const TURNS: u32 = 100_000_000;
+
+// The processes of which each makes a file.
+const PROCESSES: u32 = 32;
+
+type Opened<'a> = Kernel<MemDisk, RingIntake, BoardHerald<'a>>;
+
+// A place where two processes meet before their steps.
+#[derive(Drop)]
+struct Meeting {
+    here: [AtomicU64; 2],
+    met: [AtomicU64; 2],
+}
+
+impl Meeting {
+    fn new() -> Meeting {
+        Meeting {
+            here: [AtomicU64::new(0), AtomicU64::new(0)],
+            met: [AtomicU64::new(0), AtomicU64::new(0)],
+        }
+    }
+
+    // Whether the process of this number saw the other one.
+    fn has_met(&self, pid: usize) -> bool
+        requires { pid < 2 }
+    {
+        self.met[pid].load(Ordering::SeqCst) == 1
+    }
+}
+
+impl Gate for Meeting {
+    fn before(&self, pid: u32) {
+        let mine = (pid % 2) as usize;
+        self.here[mine].store(1, Ordering::SeqCst);
+        for _turn in 0..TURNS {
+            if self.here[1 - mine].load(Ordering::SeqCst) == 1 {
+                self.met[mine].store(1, Ordering::SeqCst);
+                return;
+            }
+        }
+    }
+
+    fn after(&self, _pid: u32) {}
+}
+
+// No gate.
+struct NoGate;
+
+impl Gate for NoGate {
+    fn before(&self, _pid: u32) {}
+
+    fn after(&self, _pid: u32) {}
+}
+
+fn image(alloc: Global) -> Result<MemDisk, MkfsFault> {
+    let mut disk = MemDisk::new(alloc, 200)?;
+    match mkfs(alloc, &mut disk, 200, 32) {
+        Ok(()) => Ok(disk),
+        Err(fault) => Err(fault),
+    }
+}
+
+// Opens a kernel of so many processes, if its image can be used.
+fn opened<'a>(
+    alloc: Global,
+    disk: MemDisk,
+    intake: RingIntake,
+    board: &'a Board,
+    keeper: Keeper,
+    processes: u32,
+) -> Option<Opened<'a>>
+    requires keeper { KeeperOf board.now keeper × (published keeper ≡ 0) }
+    requires count { intake_count intake ≡ processes }
+    requires fresh { (p : ℕ) → IntakeFits intake p nothing_yet }
+{
+    let herald = BoardHerald::new(board, keeper);
+    match Kernel::open(alloc, disk, intake, herald, processes) {
+        Ok(kernel) => Some(kernel),
+        Err((_fault, _disk)) => None,
+    }
+}
+
+/// Two workers meet, and then 1, 2 and 8 of them serve 32 processes. Prints what came of it.
+pub fn print_sharing<R: Print + AllocGlobal + Threads + Wait + Clock + Sync>(
+    rt: &R,
+) -> anyhow::Result<()> {
+    print_meeting(rt)?;
+    for workers in [1, 2, 8] {
+        let created = created_by(rt, workers)?;
+        println!(rt; "{workers} workers: {created:?}")?;
+    }
+    Ok(())
+}
+
+// Two workers step two processes at one time.
+fn print_meeting<R: Print + AllocGlobal + Threads + Wait + Clock + Sync>(
+    rt: &R,
+) -> anyhow::Result<()> {
+    let gate = Meeting::new();
+    let is_done = meet(rt, &gate)?;
+    let (first, second) = (gate.has_met(0), gate.has_met(1));
+    println!(rt; "two workers: done {is_done}, met {first} and {second}")?;
+    Ok(())
+}
+
+fn meet<R: AllocGlobal + Threads + Wait + Clock + Sync>(
+    rt: &R,
+    gate: &Meeting,
+) -> Result<bool, MkfsFault> {
+    match image(rt.alloc()) {
+        Ok(disk) => Ok(serve_two(rt, disk, gate)),
+        Err(fault) => Err(fault),
+    }
+}
+
+fn created_by<R: AllocGlobal + Threads + Wait + Clock + Sync>(
+    rt: &R,
+    workers: u32,
+) -> Result<Option<Created>, MkfsFault>
+    requires { AreWorkers workers }
+{
+    match image(rt.alloc()) {
+        Ok(disk) => Ok(create_all(rt, disk, workers)),
+        Err(fault) => Err(fault),
+    }
+}
+
+// Serves a kernel of two processes with two workers, whose shutdown is asked for before. Whether
+// that was done.
+fn serve_two<R: AllocGlobal + Threads + Wait + Clock + Sync>(
+    rt: &R,
+    disk: MemDisk,
+    gate: &Meeting,
+) -> bool {
+    let (Ok((intake, _callers)), Ok((board, keeper, watches))) = (
+        rings(rt.alloc(), 2),
+        Board::new(rt.alloc(), 1),
+    ) else {
+        return false;
+    };
+    match opened(rt.alloc(), disk, intake, &board, keeper, 2) {
+        Some(kernel) => {
+            shut(&board, watches);
+            let (done, _kernel) = serve_while(rt, kernel, 2, gate, |_serving| ());
+            done.is_some()
+        }
+        None => false,
+    }
+}
+
+// Asks for a shutdown.
+fn shut(board: &Board, mut watches: Vec<Watch>)
+    requires { All (WatchOf board.now) watches.items }
+{
+    if let Some(mut watch) = watches.pop() {
+        board.ask_shut(&mut watch);
+    }
+}
+
+// Polls answers until there are 32 of them, and then asks for a shutdown.
+fn collect<R: Wait>(
+    rt: &R,
+    board: &Board,
+    watches: Vec<Watch>,
+    mut callers: Vec<Caller>,
+    serving: &Serving,
+) -> u32
+    requires { All (WatchOf board.now) watches.items }
+{
+    let mut answers = 0u32;
+    for _round in rt.forever() {
+        answers = answers.saturating_add(poll_all(&mut callers));
+        if answers >= PROCESSES || serving.has_ended() {
+            break;
+        }
+        thread::yield_now();
+    }
+    shut(board, watches);
+    answers
+}
+
+// Polls each caller once. How many answers there were.
+fn poll_all(callers: &mut Vec<Caller>) -> u32 {
+    let mut answers = 0u32;
+    for caller in callers.iter_mut() {
+        if caller.poll().is_some() {
+            answers = answers.saturating_add(1);
+        }
+    }
+    answers
+}
+
+fn submit_all(callers: &mut Vec<Caller>) {
+    for caller in callers.iter_mut() {
+        let _number = caller.submit(Op::Create(2));
+    }
+}
+
+// What came of the creations: how many answers there were, and of how many the kernel has an entry;
+// and whether the image is sound.
+#[derive(Clone, Copy, Debug)]
+struct Created {
+    answers: Option<u32>,
+    entries: usize,
+    is_sound: bool,
+}
+
+// 32 processes with one creation each, and so many workers.
+fn create_all<R: AllocGlobal + Threads + Wait + Clock + Sync>(
+    rt: &R,
+    disk: MemDisk,
+    workers: u32,
+) -> Option<Created>
+    requires { AreWorkers workers }
+{
+    let (Ok((intake, mut callers)), Ok((board, keeper, watches))) = (
+        rings(rt.alloc(), PROCESSES),
+        Board::new(rt.alloc(), 1),
+    ) else {
+        return None;
+    };
+    submit_all(&mut callers);
+    match opened(rt.alloc(), disk, intake, &board, keeper, PROCESSES) {
+        Some(kernel) => Some(serve_callers(rt, kernel, &board, watches, callers, workers)),
+        None => None,
+    }
+}
+
+// Serves a kernel, while its callers wait for their answers.
+fn serve_callers<R: AllocGlobal + Threads + Wait + Clock + Sync>(
+    rt: &R,
+    kernel: Opened<'_>,
+    board: &Board,
+    watches: Vec<Watch>,
+    callers: Vec<Caller>,
+    workers: u32,
+) -> Created
+    requires workers { AreWorkers workers }
+    requires watches { All (WatchOf board.now) watches.items }
+{
+    let (answers, kernel) = serve_while(
+        rt,
+        kernel,
+        workers,
+        &NoGate,
+        move |serving| -> u32
+            requires { All (WatchOf board.now) watches.items }
+        { collect(rt, board, watches, callers, serving) },
+    );
+    Created {
+        answers,
+        entries: kernel.journal().len(),
+        is_sound: check(rt.alloc(), &mut kernel.into_disk()).is_ok(),
+    }
+}
