@@ -1,41 +1,49 @@
 // What the commands' refusals say.
 use blocks::DiskFault;
 use layout::CheckFault;
-use messages::{Printed, Refusal};
+use kernel::OpenFault;
+use messages::Printed;
 use opening::RecoverRefusal;
-use player::CatRefusal;
+use player::{CatRefusal, ReplayRefusal};
+use runner::RunRefusal;
+use transfer::PutRefusal;
 use wal::{DeviceFault, RecoverFault};
 
 /// How a replay ends.
-pub type Replayed = Result<(), Refusal>;
+pub type Replayed = Result<(), ReplayRefusal>;
 
 /// How a run ends.
-pub type Ran = Result<(), Refusal>;
+pub type Ran = Result<(), RunRefusal>;
 
 /// How a put ends.
-pub type Put = Result<(), Refusal>;
+pub type Put = Result<(), PutRefusal>;
 
 /// How a cat ends.
 pub type Shown = Result<(), CatRefusal>;
 
 /// Whether the block 2 failed in a replay.
 pub fn is_block_of_replay(ended: &Replayed) -> bool {
-    matches!(ended, Err(Refusal::Disk(DeviceFault::Block(DiskFault(2)))))
+    matches!(ended, Err(ReplayRefusal::Disk(DeviceFault::Block(DiskFault(2)))))
 }
 
 /// Whether the block 2 failed in a run.
 pub fn is_block_of_run(ended: &Ran) -> bool {
-    matches!(ended, Err(Refusal::Disk(DeviceFault::Block(DiskFault(2)))))
+    matches!(ended, Err(RunRefusal::Disk(DeviceFault::Block(DiskFault(2)))))
 }
 
 /// Whether the recovery of a replay could not sync.
 pub fn is_sync_of_recovery(ended: &Replayed) -> bool {
-    matches!(ended, Err(Refusal::Recover(RecoverFault::Sync)))
+    matches!(
+        ended,
+        Err(ReplayRefusal::Unrecovered(RecoverRefusal::Recover(
+            RecoverFault::Sync
+        )))
+    )
 }
 
 /// Whether a sync failed in the turns of a replay.
 pub fn is_sync_of_replay(ended: &Replayed) -> bool {
-    matches!(ended, Err(Refusal::Disk(DeviceFault::Sync(_))))
+    matches!(ended, Err(ReplayRefusal::Disk(DeviceFault::Sync(_))))
 }
 
 /// Whether the output was refused to a check.
@@ -53,9 +61,10 @@ pub fn is_disk_of_put(put: &Put) -> bool {
     matches!(
         put,
         Err(
-            Refusal::Check(CheckFault::Disk)
-                | Refusal::Recover(RecoverFault::Disk)
-                | Refusal::Disk(_)
+            PutRefusal::Check(CheckFault::Disk)
+                | PutRefusal::Unopened(OpenFault::Check(CheckFault::Disk))
+                | PutRefusal::Unopened(OpenFault::Recover(RecoverFault::Disk))
+                | PutRefusal::Disk(_)
         )
     )
 }
