@@ -9,12 +9,12 @@ ghost use Rattle.calls.specs.Files.{Appends, Creates, MayAppend, files_on};
 ghost use Rattle.calls.specs.Answered.{IsAnswered};
 ghost use Rattle.calls.specs.Stopped.{AppendsFirst, Empties, LeavesChange, MakesAny, Removes, StaysOver};
 
+use crate::calling::{Sole, call};
+use crate::fault::CallFault;
+use crate::resting::rested;
 use blocks::Disk;
 use model::content::Content;
 use model::types::{Op, Reply};
-use crate::fault::CallFault;
-use crate::calling::{Sole, call};
-use crate::resting::rested;
 use std::alloc::Global;
 
 /// Makes an empty file of this type at the lowest free number, which it answers; none where each

@@ -10,10 +10,10 @@ use crate::refused::ShowRefusal;
 use crate::signs::gather_signs;
 use blocks::Disk;
 use itoa::Buffer;
+use messages::{Unwritten, print, print_last, write_bytes};
 use offline::check;
 use std::alloc::Global;
 use std::io::Write;
-use messages::{Unwritten, print, print_last, write_bytes};
 
 // Blocks in a row.
 const ROW: usize = 64;

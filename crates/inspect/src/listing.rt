@@ -16,10 +16,10 @@ use crate::refused::LsRefusal;
 use blocks::{Block, Disk};
 use itoa::Buffer;
 use layout::Dinode;
+use messages::{Unwritten, pass_on, print};
 use offline::{Recovered, check};
 use std::alloc::Global;
 use std::io::Write;
-use messages::{Unwritten, pass_on, print};
 
 // A file of an image, as a line of the list tells of it.
 #[derive(Clone, Copy)]

@@ -15,10 +15,10 @@ use crate::owned::{Owned, add_owned, open};
 use crate::refused::ShowRefusal;
 use blocks::{Block, Disk};
 use itoa::Buffer;
+use messages::{Unwritten, pass_on, print};
 use offline::check;
 use std::alloc::Global;
 use std::io::Write;
-use messages::{Unwritten, pass_on, print};
 
 /// Checks the image of a disk, and prints the numbers of the blocks that one of its files owns once
 /// the log is copied home, a line for each in the order of the file's places. A block of addresses

@@ -84,12 +84,7 @@ fn print_usage<O: Write>(
     pass_on(out)
 }
 
-fn print_line<O: Write>(
-    out: &mut O,
-    what: &str,
-    all: usize,
-    used: usize,
-) -> Result<(), Unwritten>
+fn print_line<O: Write>(out: &mut O, what: &str, all: usize, used: usize) -> Result<(), Unwritten>
     ensures printed { OnOk result (Appends (O.contents out.old) (O.contents out.new)
         (line_text what.now all used)) }
 {
@@ -97,5 +92,8 @@ fn print_line<O: Write>(
     let count = buffers.0.format(all);
     let taken = buffers.1.format(used);
     let free = buffers.2.format(all.saturating_sub(used));
-    print(out, format_args!("{what} {count} used {taken} free {free}\n"))
+    print(
+        out,
+        format_args!("{what} {count} used {taken} free {free}\n"),
+    )
 }

@@ -17,9 +17,8 @@ mod shared;
 mod workers;
 
 pub use accounting::{Meeting, account};
-pub use rings::{Board, BoardHerald, Keeper, Watch};
 pub use frame::{Frame, Framed};
-pub use rings::{Caller, Finished, RingIntake, rings};
+pub use rings::{Board, BoardHerald, Caller, Finished, Keeper, RingIntake, Watch, rings};
 pub use serving::{Serving, serve_while};
 pub use settling::{Account, Settling, settle};
 pub use shared::Shared;

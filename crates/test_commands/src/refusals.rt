@@ -1,7 +1,7 @@
 // What the commands' refusals say.
 use blocks::DiskFault;
-use layout::CheckFault;
 use kernel::OpenFault;
+use layout::CheckFault;
 use messages::Printed;
 use opening::RecoverRefusal;
 use player::{CatRefusal, ReplayRefusal};
@@ -23,21 +23,25 @@ pub type Shown = Result<(), CatRefusal>;
 
 /// Whether the block 2 failed in a replay.
 pub fn is_block_of_replay(ended: &Replayed) -> bool {
-    matches!(ended, Err(ReplayRefusal::Disk(DeviceFault::Block(DiskFault(2)))))
+    matches!(
+        ended,
+        Err(ReplayRefusal::Disk(DeviceFault::Block(DiskFault(2))))
+    )
 }
 
 /// Whether the block 2 failed in a run.
 pub fn is_block_of_run(ended: &Ran) -> bool {
-    matches!(ended, Err(RunRefusal::Disk(DeviceFault::Block(DiskFault(2)))))
+    matches!(
+        ended,
+        Err(RunRefusal::Disk(DeviceFault::Block(DiskFault(2))))
+    )
 }
 
 /// Whether the recovery of a replay could not sync.
 pub fn is_sync_of_recovery(ended: &Replayed) -> bool {
     matches!(
         ended,
-        Err(ReplayRefusal::Unrecovered(RecoverRefusal::Recover(
-            RecoverFault::Sync
-        )))
+        Err(ReplayRefusal::Unrecovered(RecoverRefusal::Recover(RecoverFault::Sync)))
     )
 }
 
