@@ -4,6 +4,10 @@ ghost use Rattle.std.specs.Prelude.{◌≡◌, true, false, IfErr, IsOk};
 use blocks::FileFault;
 use cli::Request;
 use std::fs::{File, TryLockError, metadata};
+use std::os::unix::fs::MetadataExt;
+
+// How often a file at a path is locked that is another one by then.
+const MOST_TRIES: u32 = 1000;
 
 /// Who may have a file at the same time.
 #[derive(Clone, Copy)]
@@ -35,17 +39,30 @@ impl Locks for HostRuntime {
     type Lock = File;
 
     fn lock(&self, path: &str, share: Share, wait: bool) -> Result<Option<File>, FileFault> {
-        // A pipe that is opened to be read would wait for its writer.
-        if !matches!(metadata(self, path), Ok(found) if found.is_file()) {
-            return Ok(None);
+        for _ in 0..MOST_TRIES {
+            // A pipe that is opened to be read would wait for its writer.
+            if !matches!(metadata(self, path), Ok(found) if found.is_file()) {
+                return Ok(None);
+            }
+            let Ok(file) = File::open(self, path) else {
+                return Ok(None);
+            };
+            if is_taken(&file, share, wait) {
+                return Err(FileFault::Locked);
+            }
+            if is_at(self, &file, path) {
+                return Ok(Some(file));
+            }
         }
-        let Ok(file) = File::open(self, path) else {
-            return Ok(None);
-        };
-        if is_taken(&file, share, wait) {
-            return Err(FileFault::Locked);
-        }
-        Ok(Some(file))
+        Ok(None)
+    }
+}
+
+// Whether a file is still the one at the path: who makes an image anew gives its name to another.
+fn is_at(rt: &HostRuntime, file: &File, path: &str) -> bool {
+    match (file.metadata(), metadata(rt, path)) {
+        (Ok(locked), Ok(found)) => locked.dev() == found.dev() && locked.ino() == found.ino(),
+        _ => false,
     }
 }
 
