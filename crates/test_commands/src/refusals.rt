@@ -37,11 +37,14 @@ pub fn is_block_of_run(ended: &Ran) -> bool {
     )
 }
 
-/// Whether the recovery of a replay could not sync.
+/// Whether a recovery of a replay could not sync: its own, or that of the kernel's opening.
 pub fn is_sync_of_recovery(ended: &Replayed) -> bool {
     matches!(
         ended,
-        Err(ReplayRefusal::Unrecovered(RecoverRefusal::Recover(RecoverFault::Sync)))
+        Err(
+            ReplayRefusal::Unrecovered(RecoverRefusal::Recover(RecoverFault::Sync))
+                | ReplayRefusal::Unopened(OpenFault::Recover(RecoverFault::Sync))
+        )
     )
 }
 
