@@ -1,6 +1,6 @@
 -- A step whose task has a cause to wait does wait: what it asks for are a buffer or an inode's lock,
 -- and these answer by the cause alone.
-use Rattle.std.proofs.Common.{◌≡◌, ℕ, Bool, List, refl, sym, ◌∙◌, ap, subst, Option, Some, None}
+use Rattle.std.proofs.Common.{◌≡◌, ℕ, Bool, List, sym, ◌∙◌, ap, subst, Option, Some, None}
 use Rattle.blocks.specs.declared.disk.Disk.{Ghosts}
 use Rattle.blocks.specs.declared.errors.DiskFault.{DiskFault}
 use Rattle.bcache.specs.Buffers.{Buffers}

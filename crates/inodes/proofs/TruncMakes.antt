@@ -59,7 +59,7 @@ use Rattle.inodes.proofs.InHand.{first_tree, hand_kept, in_hand_kept, root_there
 use Rattle.inodes.proofs.LooksKept.{KeepsUsed, keeps_freed, keeps_same, keeps_written}
 use Rattle.inodes.proofs.TruncFiles.{fits_still, with_claim, with_claim_is}
 use Rattle.inodes.proofs.TruncNext.{ComesTo, address_cursor, address_left_comes, block_comes, branches_come, entries_come, few_for, few_made}
-use Rattle.inodes.proofs.TruncSlots.{gains}
+use Rattle.inodes.proofs.TruncSlots.{Gains, gains}
 use Rattle.inodes.proofs.Truncating as of
 
 -- the bitmap's block counts once
@@ -104,23 +104,26 @@ module _ {D N : Type 0} (disk : Ghosts D N) (s : StoreState D) (p k : ℕ) (m : 
   abbrev count : ℕ
   count = s.table.inode_count
 
-  -- the truncation goes on
-  pub record GoesOn : Type 0 where
-    pub same : n.machine ≡ record mm { inode = n.machine.inode; slot = n.machine.slot; upper = n.machine.upper; given_up = n.machine.given_up; at = n.machine.at }
-    pub slot : n.machine.slot < 13
-    pub given : HasGivenUp now n.machine n.machine.at
-    pub keeps : Keeps now n.kept n.machine n.machine.at
-    pub less : truncs_left now n < truncs_left cur m
-    pub logged : HasLogged w.log p mm.bitmap
+  -- The truncation goes on: it stands so in this image, with that log.
+  pub record GoesOn (x : Image) (u : Freeing) (l : LogState) : Type 0 where
+    pub same : u.machine ≡ record mm { inode = u.machine.inode; slot = u.machine.slot; upper = u.machine.upper; given_up = u.machine.given_up; at = u.machine.at }
+    pub slot : u.machine.slot < 13
+    pub given : HasGivenUp x u.machine u.machine.at
+    pub keeps : Keeps x u.kept u.machine u.machine.at
+    pub less : truncs_left x u < truncs_left cur m
+    pub logged : HasLogged l p mm.bitmap
     -- with its new claim the image stands for the same files
-    pub fits : (new : Claims) → IsClaimedNow claims mm.number (Some (frees (held_of n.machine))) new → (files : Files) → FitsHeld files cur claims → FitsHeld files now new
+    pub fits : (new : Claims) → IsClaimedNow claims mm.number (Some (frees (held_of u.machine))) new → (files : Files) → FitsHeld files cur claims → FitsHeld files x new
+
+  goes_so : (x : Image) (u : Freeing) → now ≡ x → n ≡ u → GoesOn x u w.log → GoesOn now n w.log
+  goes_so x u shown to on = subst (λ (y : Image). GoesOn y n w.log) (sym shown) (subst (λ (o : Freeing). GoesOn x o w.log) (sym to) on)
 
   -- What the step makes of image and table, by what it answers.
   pub record Makes : Type 0 where
     pub marks : Marks None cur now
     pub keeps : KeepsUsed count mm.number claims cur now
     pub table : KeepsTable s.table (table_of_trunc s.table k m q) p gs gs now
-    pub on : q ≡ machine.Moved → GoesOn
+    pub on : q ≡ machine.Moved → GoesOn now n w.log
     -- nothing is kept at the end, and the number is at rest
     pub over : q ≡ machine.Over tt → HasNone n × (1 ≤ truncs_left cur m)
     pub rests : q ≡ machine.Over tt → (new : Claims) → IsClaimedNow claims mm.number None new → (files : Files) → FitsHeld files cur claims → FitsHeld files now new
@@ -159,7 +162,7 @@ module _ {D N : Type 0} (disk : Ghosts D N) (s : StoreState D) (p k : ℕ) (m : 
   -- ---- the image stays
 
   module _ (stays : now ≡ cur) (going : q ≢ machine.Over tt) where
-    still_makes : (q ≡ machine.Moved → GoesOn) → Makes
+    still_makes : (q ≡ machine.Moved → GoesOn now n w.log) → Makes
     still_makes on = record {
       marks = subst (Marks None cur) (sym stays) (marks_same None cur (λ i makes. absurd (false≢true makes)));
       keeps = subst (KeepsUsed count mm.number claims cur) (sym stays) (keeps_same count mm.number claims cur);
@@ -171,73 +174,56 @@ module _ {D N : Type 0} (disk : Ghosts D N) (s : StoreState D) (p k : ℕ) (m : 
       rests = λ over. absurd (going over);
     }
 
-    -- the claim stays too
-    same_claim : n.machine ≡ mm → (new : Claims) → IsClaimedNow claims mm.number (Some (frees (held_of n.machine))) new → (files : Files) → FitsHeld files cur claims → FitsHeld files now new
-    same_claim same new claimed files fits = subst (λ (x : Image). FitsHeld files x new) (sym stays)
-        (fits_still files cur claims new mm.number (held_of mm) (held_in files fits) (subst (λ (o : Itrunc). IsClaimedNow claims mm.number (Some (frees (held_of o))) new) same claimed))
+  -- a block was got that is used next
+  to_use : (i : ℕ) (a : TruncAt) → mm.at ≡ a → m.used ≡ None → made_so_far mm.upper None a < made_so_far mm.upper (Some i) a → GoesOn cur (record m { used = Some i }) s.volume.log
+  to_use i a at none more =
+      let blocks : ℕ = blocks_left cur (held_of mm) in
+      let few = few_made mm.upper (Some i) a in
+      record {
+        same = refl;
+        slot = work.slot;
+        given = work.given;
+        keeps = work.keeps;
+        less = subst (λ (u : Option ℕ). 4 * blocks + stage_left mm.upper (Some i) mm.at < 4 * blocks + stage_left mm.upper u mm.at) (sym none)
+            (subst (λ (o : TruncAt). 4 * blocks + stage_left mm.upper (Some i) o < 4 * blocks + stage_left mm.upper None o) (sym at) (omega (arith, more, few)));
+        logged = logged;
+        fits = λ new claimed files fits. fits_still files cur claims new mm.number (held_of mm) (held_in files fits) claimed;
+      }
 
-    -- a block was got that is used next
-    to_use : (i : ℕ) (a : TruncAt) → mm.at ≡ a → m.used ≡ None → n ≡ record m { used = Some i } → w.log ≡ s.volume.log → made_so_far mm.upper None a < made_so_far mm.upper (Some i) a → GoesOn
-    to_use i a at none to log more =
-        let same : n.machine ≡ mm = ap (λ (o : Freeing). o.machine) to in
-        let blocks : ℕ = blocks_left cur (held_of mm) in
-        let few = few_made mm.upper (Some i) a in
-        record {
-          same = subst (λ (o : Itrunc). o ≡ record mm { inode = o.inode; slot = o.slot; upper = o.upper; given_up = o.given_up; at = o.at }) (sym same) refl;
-          slot = subst (λ (o : Itrunc). o.slot < 13) (sym same) work.slot;
-          given = subst (λ (x : Image). HasGivenUp x n.machine n.machine.at) (sym stays) (subst (λ (o : Itrunc). HasGivenUp cur o o.at) (sym same) work.given);
-          keeps = subst (λ (x : Image). Keeps x n.kept n.machine n.machine.at) (sym stays) (subst (λ (o : Freeing). Keeps cur o.kept o.machine o.machine.at) (sym to) work.keeps);
-          less = subst (λ (x : Image). truncs_left x n < truncs_left cur m) (sym stays) (subst (λ (o : Freeing). truncs_left cur o < truncs_left cur m) (sym to)
-              (subst (λ (u : Option ℕ). 4 * blocks + stage_left mm.upper (Some i) mm.at < 4 * blocks + stage_left mm.upper u mm.at) (sym none)
-              (subst (λ (o : TruncAt). 4 * blocks + stage_left mm.upper (Some i) o < 4 * blocks + stage_left mm.upper None o) (sym at) (omega (arith, more, few)))));
-          logged = subst (λ (l : LogState). HasLogged l p mm.bitmap) (sym log) logged;
-          fits = same_claim same;
-        }
+  -- the block of addresses in hand was got, and is kept
+  to_block : (i b : ℕ) → mm.at ≡ trunc_at.Loading b → GoesOn cur (taken (block_at cur b) i (trunc_at.Loading b) m) s.volume.log
+  to_block i b at = record {
+    same = comes.same ∙ ap (λ (d : Dinode). record mm { inode = d; slot = after.slot; upper = after.upper; given_up = after.given_up; at = after.at }) (sym (ap (λ (o : Itrunc). o.inode) comes.same));
+    slot = comes.slot;
+    given = comes.given;
+    keeps = comes.keeps (taken (block_at cur b) i (trunc_at.Loading b) m).kept (ap Some (sym given.2)) keeps.inner;
+    less = subst (λ (o : TruncAt). 4 * (blocks_left cur (held_of after)) + stage_left after.upper None after.at < 4 * (blocks_left cur (held_of mm)) + stage_left mm.upper m.used o) (sym at)
+        (omega (arith, comes.made, few_for mm.upper, as_many));
+    logged = logged;
+    fits = λ new claimed files fits. entry_passed files cur claims new mm.number (held_of after).cursor (held_of mm) (held_in files fits) alike
+        (subst (λ (c : Option Claim). IsClaimedNow claims mm.number c new) (ap (λ (h : Held). Some (frees h)) claim) claimed);
+  }
+    where
+      given : HasGivenUp cur mm (trunc_at.Loading b)
+      given = subst (HasGivenUp cur mm) at work.given
 
-    -- the block of addresses in hand was got, and is kept
-    to_block : (i b : ℕ) → mm.at ≡ trunc_at.Loading b → n ≡ taken (block_at cur b) i (trunc_at.Loading b) m → w.log ≡ s.volume.log → GoesOn
-    to_block i b at to log = record {
-      same = subst (λ (o : Itrunc). o ≡ record mm { inode = o.inode; slot = o.slot; upper = o.upper; given_up = o.given_up; at = o.at }) (sym same)
-          (comes.same ∙ ap (λ (d : Dinode). record mm { inode = d; slot = after.slot; upper = after.upper; given_up = after.given_up; at = after.at }) (sym inode));
-      slot = subst (λ (o : Itrunc). o.slot < 13) (sym same) comes.slot;
-      given = subst (λ (x : Image). HasGivenUp x n.machine n.machine.at) (sym stays) (subst (λ (o : Itrunc). HasGivenUp cur o o.at) (sym same) comes.given);
-      keeps = subst (λ (x : Image). Keeps x n.kept n.machine n.machine.at) (sym stays) (subst (λ (o : Freeing). Keeps cur o.kept o.machine o.machine.at) (sym to)
-          (comes.keeps (taken (block_at cur b) i (trunc_at.Loading b) m).kept (ap Some (sym given.2)) keeps.inner));
-      less = subst (λ (x : Image). truncs_left x n < truncs_left cur m) (sym stays) (subst (λ (o : Freeing). truncs_left cur o < truncs_left cur m) (sym to)
-          (subst (λ (o : TruncAt). 4 * (blocks_left cur (held_of after)) + stage_left after.upper None after.at < 4 * (blocks_left cur (held_of mm)) + stage_left mm.upper m.used o) (sym at)
-          (omega (arith, comes.made, few_for mm.upper, as_many))));
-      logged = subst (λ (l : LogState). HasLogged l p mm.bitmap) (sym log) logged;
-      fits = λ new claimed files fits. subst (λ (x : Image). FitsHeld files x new) (sym stays)
-          (entry_passed files cur claims new mm.number (held_of after).cursor (held_of mm) (held_in files fits) alike
-          (subst (λ (c : Option Claim). IsClaimedNow claims mm.number c new) (ap (λ (h : Held). Some (frees h)) (ap held_of same ∙ claim)) claimed));
-    }
-      where
-        given : HasGivenUp cur mm (trunc_at.Loading b)
-        given = subst (HasGivenUp cur mm) at work.given
+      keeps : Keeps cur m.kept mm (trunc_at.Loading b)
+      keeps = subst (Keeps cur m.kept mm) at work.keeps
 
-        keeps : Keeps cur m.kept mm (trunc_at.Loading b)
-        keeps = subst (Keeps cur m.kept mm) at work.keeps
+      after : Itrunc
+      after = at_block mm (words_of (block_at cur b))
 
-        after : Itrunc
-        after = at_block mm (words_of (block_at cur b))
+      comes : ComesTo cur mm after (way_of mm ++ 0 ∷ []) (Some (hand_in cur mm)) (above_hand mm) (1 + one_for mm.upper)
+      comes = subst (λ (c : ℕ). ComesTo cur mm (at_block mm (words_of (block_at cur c))) (way_of mm ++ 0 ∷ []) (Some (hand_in cur mm)) (above_hand mm) (1 + one_for mm.upper)) given.2 (block_comes cur mm given.0 work.form)
 
-        same : n.machine ≡ after
-        same = ap (λ (o : Freeing). o.machine) to
+      claim : held_of after ≡ (let h : Held = record (held_of mm) { cursor = (held_of after).cursor } in h)
+      claim = ap held_of comes.same
 
-        comes : ComesTo cur mm after (way_of mm ++ 0 ∷ []) (Some (hand_in cur mm)) (above_hand mm) (1 + one_for mm.upper)
-        comes = subst (λ (c : ℕ). ComesTo cur mm (at_block mm (words_of (block_at cur c))) (way_of mm ++ 0 ∷ []) (Some (hand_in cur mm)) (above_hand mm) (1 + one_for mm.upper)) given.2 (block_comes cur mm given.0 work.form)
+      alike : LeavesAlike cur mm.inode (held_of after).cursor (held_of mm).cursor
+      alike = subst (λ (g : ℕ). LeavesAlike cur mm.inode (held_of after).cursor (way_of mm ++ g ∷ [])) (sym given.1) comes.alike
 
-        inode : after.inode ≡ mm.inode
-        inode = ap (λ (o : Itrunc). o.inode) comes.same
-
-        claim : held_of after ≡ (let h : Held = record (held_of mm) { cursor = (held_of after).cursor } in h)
-        claim = ap held_of comes.same
-
-        alike : LeavesAlike cur mm.inode (held_of after).cursor (held_of mm).cursor
-        alike = subst (λ (g : ℕ). LeavesAlike cur mm.inode (held_of after).cursor (way_of mm ++ g ∷ [])) (sym given.1) comes.alike
-
-        as_many : blocks_left cur (held_of after) ≡ blocks_left cur (held_of mm)
-        as_many = ap (blocks_left cur) claim ∙ leaves_as_many cur (held_of after).cursor (held_of mm) alike
+      as_many : blocks_left cur (held_of after) ≡ blocks_left cur (held_of mm)
+      as_many = ap (blocks_left cur) claim ∙ leaves_as_many cur (held_of after).cursor (held_of mm) alike
 
   gets_makes : (a : TruncAt) → mm.at ≡ a → HasGivenUp cur mm a → Keeps cur m.kept mm a → now_by m a ≡ None → GetsNext disk s.volume p m q n w → Makes
   gets_makes a at given keeps none gets = still_makes gets.gets.reads.current never on
@@ -251,26 +237,21 @@ module _ {D N : Type 0} (disk : Ghosts D N) (s : StoreState D) (p k : ℕ) (m : 
       never : q ≢ machine.Over tt
       never over = Rattle.inodes.proofs.TruncSlots.never_over disk s then_at p b q gets.slot gets.gets tt over
 
-      on : q ≡ machine.Moved → GoesOn
-      on moved =
-          let gain = gains disk s then_at p b q gets.slot gets.gets moved in
-          let to : n ≡ taken (block_at cur (block_by mm a)) gain.at a m =
-          gets.next ∙ ap (λ (o : Option ℕ). when_got cur o m) gain.is ∙ ap (λ (o : TruncAt). taken (block_at cur (block_by mm o)) gain.at o m) at in
-          by_at a at keeps none to
+      on : q ≡ machine.Moved → GoesOn now n w.log
+      on moved = goes_so cur (taken (block_at cur (block_by mm a)) gain.at a m) gets.gets.reads.current
+          (gets.next ∙ ap (λ (o : Option ℕ). when_got cur o m) gain.is ∙ ap (λ (o : TruncAt). taken (block_at cur (block_by mm o)) gain.at o m) at)
+          (subst (GoesOn cur (taken (block_at cur (block_by mm a)) gain.at a m)) (sym gets.gets.reads.log) (by_at gain.at a at keeps none))
         where
-          log : w.log ≡ s.volume.log
-          log = gets.gets.reads.log
+          gain : Gains disk s then_at p b q gets.slot gets.gets
+          gain = gains disk s then_at p b q gets.slot gets.gets moved
 
-          i : ℕ
-          i = (gains disk s then_at p b q gets.slot gets.gets moved).at
-
-          by_at : (a : TruncAt) → mm.at ≡ a → Keeps cur m.kept mm a → now_by m a ≡ None → n ≡ taken (block_at cur (block_by mm a)) i a m → GoesOn
-          by_at trunc_at.Direct at keeps none to = to_use gets.gets.reads.current never i trunc_at.Direct at (not_got mm.bitmap m.used none) to log (omega arith)
-          by_at (trunc_at.Loading c) at keeps none to = to_block gets.gets.reads.current never i c at to log
-          by_at trunc_at.Entry at keeps none to = to_use gets.gets.reads.current never i trunc_at.Entry at (not_got mm.bitmap m.used none) to log (omega arith)
-          by_at trunc_at.Unloading at keeps none to = absurd (let e : None ≡ Some (hand_in cur mm) = sym (ap block_of_got none) ∙ keeps.inner in cc e)
-          by_at trunc_at.Freeing at keeps none to = to_use gets.gets.reads.current never i trunc_at.Freeing at (not_got mm.bitmap m.used none) to log (omega arith)
-          by_at trunc_at.Updating at keeps none to = to_use gets.gets.reads.current never i trunc_at.Updating at (not_got (inode_block mm.number) m.used none) to log (omega arith)
+          by_at : (i : ℕ) (a : TruncAt) → mm.at ≡ a → Keeps cur m.kept mm a → now_by m a ≡ None → GoesOn cur (taken (block_at cur (block_by mm a)) i a m) s.volume.log
+          by_at i trunc_at.Direct at keeps none = to_use i trunc_at.Direct at (not_got mm.bitmap m.used none) (omega arith)
+          by_at i (trunc_at.Loading c) at keeps none = to_block i c at
+          by_at i trunc_at.Entry at keeps none = to_use i trunc_at.Entry at (not_got mm.bitmap m.used none) (omega arith)
+          by_at i trunc_at.Unloading at keeps none = absurd (let e : None ≡ Some (hand_in cur mm) = sym (ap block_of_got none) ∙ keeps.inner in cc e)
+          by_at i trunc_at.Freeing at keeps none = to_use i trunc_at.Freeing at (not_got mm.bitmap m.used none) (omega arith)
+          by_at i trunc_at.Updating at keeps none = to_use i trunc_at.Updating at (not_got (inode_block mm.number) m.used none) (omega arith)
 
   -- ---- a block is used
 
@@ -286,6 +267,13 @@ module _ {D N : Type 0} (disk : Ghosts D N) (s : StoreState D) (p k : ℕ) (m : 
 
     used_none : n.used ≡ None
     used_none = ap (λ (o : Freeing). o.used) uses.next
+
+    -- what is freed next, with what is kept
+    abbrev with_kept : Itrunc → Freeing
+    with_kept u = record { machine = u; kept = n.kept; used = None }
+
+    to_kept : (u : Itrunc) → n.machine ≡ u → n ≡ with_kept u
+    to_kept u to = ap (λ (o : Option ℕ). record n { used = o }) used_none ∙ ap with_kept to
 
     answer_at : (a : TruncAt) → mm.at ≡ a → q ≡ answer_by a
     answer_at a at = uses.answer ∙ ap answer_by at
@@ -334,18 +322,15 @@ module _ {D N : Type 0} (disk : Ghosts D N) (s : StoreState D) (p k : ℕ) (m : 
               table = kept_by_image s.table gs cur (unmarked cur b) (of.looking disk s p k m is well stood).table (used_still 0);
               others = λ q j i other locks. record { number = λ e. refl; holder = refl; copy = refl };
             }));
-        on = λ moved. record {
-          same = subst (λ (o : Itrunc). o ≡ record mm { inode = o.inode; slot = o.slot; upper = o.upper; given_up = o.given_up; at = o.at }) (sym f.to) f.same;
-          slot = subst (λ (o : Itrunc). o.slot < 13) (sym f.to) f.slot;
-          given = subst (λ (x : Image). HasGivenUp x n.machine n.machine.at) (sym shown) (subst (λ (o : Itrunc). HasGivenUp (unmarked cur b) o o.at) (sym f.to) f.given);
-          keeps = subst (λ (x : Image). Keeps x n.kept n.machine n.machine.at) (sym shown) (subst (λ (o : Itrunc). Keeps (unmarked cur b) n.kept o o.at) (sym f.to) f.keeps);
-          less = subst (λ (x : Image). truncs_left x n < truncs_left cur m) (sym shown)
-              (subst (λ (o : Option ℕ). 4 * (blocks_left (unmarked cur b) (held_of n.machine)) + stage_left n.machine.upper o n.machine.at < truncs_left cur m) (sym used_none)
-              (subst (λ (o : Itrunc). 4 * (blocks_left (unmarked cur b) (held_of o)) + stage_left o.upper None o.at < truncs_left cur m) (sym f.to) less_then));
+        on = λ moved. goes_so (unmarked cur b) (with_kept u) shown (to_kept u f.to) (record {
+          same = f.same;
+          slot = f.slot;
+          given = f.given;
+          keeps = f.keeps;
+          less = less_then;
           logged = subst (λ (l : LogState). HasLogged l p mm.bitmap) (sym writes.log) (logged_noted s.volume.log p mm.bitmap logs logged);
-          fits = λ new claimed files fits. subst (λ (x : Image). FitsHeld files x new) (sym shown)
-              (f.event files fits new (subst (λ (o : Itrunc). IsClaimedNow claims mm.number (Some (frees (held_of o))) new) f.to claimed)).then.fits;
-        };
+          fits = λ new claimed files fits. (f.event files fits new claimed).then.fits;
+        });
         over = λ over. absurd (cc (sym f.moved ∙ over));
         rests = λ over. absurd (cc (sym f.moved ∙ over));
       }
@@ -570,21 +555,15 @@ module _ {D N : Type 0} (disk : Ghosts D N) (s : StoreState D) (p k : ℕ) (m : 
     -- ---- the block of addresses is given back
 
     releases_makes : mm.at ≡ trunc_at.Unloading → HasGivenUp cur mm trunc_at.Unloading → Keeps cur m.kept mm trunc_at.Unloading → Makes
-    releases_makes at given keeps = still_makes does.current (λ over. cc (sym (answer_at trunc_at.Unloading at) ∙ over)) (λ moved. record {
-      same = subst (λ (o : Itrunc). o ≡ record mm { inode = o.inode; slot = o.slot; upper = o.upper; given_up = o.given_up; at = o.at }) (sym to) refl;
-      slot = subst (λ (o : Itrunc). o.slot < 13) (sym to) work.slot;
-      given = subst (λ (x : Image). HasGivenUp x n.machine n.machine.at) (sym does.current) (subst (λ (o : Itrunc). HasGivenUp cur o o.at) (sym to)
-          (record { tree = given.0.tree; slot = given.0.slot; before = given.0.before; there = given.0.there; level = given.0.level }, given.1));
-      keeps = subst (λ (x : Image). Keeps x n.kept n.machine n.machine.at) (sym does.current) (subst (λ (o : Itrunc). Keeps cur n.kept o o.at) (sym to)
-          (subst (λ (o : Kept). Keeps cur o freed trunc_at.Freeing) (sym (kept_at trunc_at.Unloading at)) (record { inner = keeps.outer; outer = refl })));
-      less = subst (λ (x : Image). truncs_left x n < truncs_left cur m) (sym does.current)
-          (subst (λ (o : Option ℕ). 4 * (blocks_left cur (held_of n.machine)) + stage_left n.machine.upper o n.machine.at < truncs_left cur m) (sym used_none)
-          (subst (λ (o : Itrunc). 4 * (blocks_left cur (held_of o)) + stage_left o.upper None o.at < truncs_left cur m) (sym to)
-          (subst (λ (a : TruncAt). 4 * blocks + stage_left mm.upper None trunc_at.Freeing < 4 * blocks + stage_left mm.upper m.used a) (sym at) (omega (arith, few_for mm.upper)))));
+    releases_makes at given keeps = still_makes does.current (λ over. cc (sym (answer_at trunc_at.Unloading at) ∙ over)) (λ moved. goes_so cur (with_kept freed) does.current (to_kept freed to) (record {
+      same = refl;
+      slot = work.slot;
+      given = (record { tree = given.0.tree; slot = given.0.slot; before = given.0.before; there = given.0.there; level = given.0.level }, given.1);
+      keeps = subst (λ (o : Kept). Keeps cur o freed trunc_at.Freeing) (sym (kept_at trunc_at.Unloading at)) (record { inner = keeps.outer; outer = refl });
+      less = subst (λ (a : TruncAt). 4 * blocks + stage_left mm.upper None trunc_at.Freeing < 4 * blocks + stage_left mm.upper m.used a) (sym at) (omega (arith, few_for mm.upper));
       logged = subst (λ (l : LogState). HasLogged l p mm.bitmap) (sym (ap (λ (v : VolumeState D). v.log) does.volume)) logged;
-      fits = λ new claimed files fits. subst (λ (x : Image). FitsHeld files x new) (sym does.current) (fits_still files cur claims new mm.number (held_of mm) (held_in files fits)
-          (subst (λ (o : Itrunc). IsClaimedNow claims mm.number (Some (frees (held_of o))) new) to claimed));
-    })
+      fits = λ new claimed files fits. fits_still files cur claims new mm.number (held_of mm) (held_in files fits) claimed;
+    }))
       where
         does : Releases disk.image s.volume p g.slot w
         does = changes_at trunc_at.Unloading at

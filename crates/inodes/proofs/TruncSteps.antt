@@ -42,9 +42,9 @@ use Rattle.inodes.specs.Grips.{KeepsTable, locked_grip}
 use Rattle.inodes.specs.Holding.{IsTruncating, block_of_got, claim_by, claims_of, held_of, trunc_op}
 use Rattle.inodes.specs.Itrunc.{after_trunc, inode_left}
 use Rattle.inodes.specs.Looks.{AreLooking, CanTake, LooksAt}
-use Rattle.inodes.specs.Places.{HasSlot, asked_by, grip_by, grips_of, steps_left}
+use Rattle.inodes.specs.Places.{HasSlot, asked_by, grips_of}
 use Rattle.inodes.specs.Steps.{IsHeldByAnother, Reads, Steps}
-use Rattle.inodes.specs.Store.{StoreState, Agrees, IsStore, HasLogged, LoggedAt, Stands, current_of}
+use Rattle.inodes.specs.Store.{StoreState, Agrees, IsStore, HasLogged, Stands, current_of}
 use Rattle.inodes.specs.Table.{TableState, renewed}
 use Rattle.inodes.specs.Tasks.{TaskState, task, no_task}
 use Rattle.inodes.specs.Lemmas.Freeing.{IsDone, use_done}
@@ -258,96 +258,78 @@ module _ {D N : Type 0} (disk : Ghosts D N) (s : StoreState D) (p k : ℕ) (m : 
                 (has_used s.volume.buffers p m has w.buffers g here left.locks (entries_kept cur m g) (keeps_apart disk s p k m is well stood) (λ h last at. second_apart disk s p k m is well stood h last at));
           }
 
-  -- where it stands then
-  record Moves (next : Stage) (t : TableState) (its : Op) : Type 0 where
-    numbers : t.inode_count ≡ count
-    form : t.form ≡ s.table.form
-    table : KeepsTable s.table t p (grips_of s.tasks) (grips_of s.tasks) now
-    files : (new : Claims) → IsClaimedNow claims i (claim_by op next i) new → (files : Files) → FitsHeld files cur claims → FitsHeld files now new
-    apart_then : (j : ℕ) → j ≢ i → claim_by op next j ≡ None
-    grip : grip_by next (asked_by op) ≡ Some (locked_grip k i)
-    locks : HasGot w.buffers p n → (b j : ℕ) → HasLock w.buffers p b j → HasSlot next j
-    stands : HasGot w.buffers p n → Stands w.buffers w.log count p op next
-    looks : LooksAt now t (record (task s.tasks p) { place = next }) next
-    logged : LoggedAt now w.log p next
-    less : steps_left now next count < steps_left cur here count
-
-  does_move : (next : Stage) (t : TableState) (its : Op) → fault_of q ≡ None → IsDone q → Moves next t its → Does disk s p k i here progress.Moved next w t ts its
-  does_move next t its fine done to =
-      let on = comes done in
-      record {
-        reads = reads progress.Moved t (sym fine);
-        numbers = to.numbers;
-        form = to.form;
-        groups = groups;
-        marks = made.marks;
-        keeps = made.keeps;
-        table = to.table;
-        files = to.files;
-        apart_then = to.apart_then;
-        grip = to.grip;
-        stands = λ fine. record {
-          others = on.others;
-          locks = to.locks on.has_then;
-          stands = to.stands on.has_then;
-          looks = to.looks;
-          logged = to.logged;
-        };
-        late = refl;
-        asleep = λ cause waits. absurd (cc waits);
-        held = λ waits. absurd (cc waits);
-        inode = λ waits. absurd (cc waits);
-        less = λ is. to.less;
-      }
-
   table_then : (r : Progress (Unit {0})) → q ≡ r → KeepsTable s.table (table_of_trunc s.table k m r) p (grips_of s.tasks) (grips_of s.tasks) now
   table_then r is = subst (λ (r : Progress (Unit {0})). KeepsTable s.table (table_of_trunc s.table k m r) p (grips_of s.tasks) (grips_of s.tasks) now) is made.table
 
   -- it goes on
-  goes_on : (its : Op) → q ≡ machine.Moved → Moves (stage.Truncating k n) s.table its
-  goes_on its moved =
+  does_go : (its : Op) → q ≡ machine.Moved → Does disk s p k i here progress.Moved (stage.Truncating k n) w s.table ts its
+  does_go its moved =
+      let to = comes (subst IsDone (sym moved) tt) in
       let on = made.on moved in
       let number : n.machine.number ≡ i = ap (λ (o : Itrunc). o.number) on.same in
       let own : claim_by None (stage.Truncating k n) i ≡ Some (frees (held_of n.machine)) = subst (λ (j : ℕ). claim_by None (stage.Truncating k n) j ≡ Some (frees (held_of n.machine))) number (own_holds k n) in
       let less = on.less in
       record {
+        reads = reads progress.Moved s.table (sym (ap fault_of moved));
         numbers = refl;
         form = refl;
+        groups = groups;
+        marks = made.marks;
+        keeps = made.keeps;
         table = table_then machine.Moved moved;
         files = λ new claimed files fits. on.fits new (subst (λ (c : Option Claim). IsClaimedNow claims i c new) own claimed) files fits;
         apart_then = λ j apart. no_claim k j n (λ same. apart (sym same ∙ number));
         grip = grip_then;
-        locks = λ has. has.locks;
-        stands = λ has. record { logged = subst (HasLogged w.log p) (sym (ap (λ (o : Itrunc). o.bitmap) on.same)) on.logged; holds = has.holds };
-        looks = record {
-          op = working.op ∙ ap (λ (o : Itrunc). Some (trunc_op o)) (sym on.same);
-          number = subst (λ (j : ℕ). IsTrue (is_number count j)) (sym number) working.number;
-          bitmap = ap (λ (o : Itrunc). o.bitmap) on.same ∙ working.bitmap;
-          form = ap (λ (o : Itrunc). o.form) on.same ∙ working.form ∙ sym (form_same cur now made.marks.untouched.super);
-          slot = on.slot;
-          given = on.given;
-          keeps = on.keeps;
+        stands = λ fine. record {
+          others = to.others;
+          locks = to.has_then.locks;
+          stands = record { logged = subst (HasLogged w.log p) (sym (ap (λ (o : Itrunc). o.bitmap) on.same)) on.logged; holds = to.has_then.holds };
+          looks = record {
+            op = working.op ∙ ap (λ (o : Itrunc). Some (trunc_op o)) (sym on.same);
+            number = subst (λ (j : ℕ). IsTrue (is_number count j)) (sym number) working.number;
+            bitmap = ap (λ (o : Itrunc). o.bitmap) on.same ∙ working.bitmap;
+            form = ap (λ (o : Itrunc). o.form) on.same ∙ working.form ∙ sym (form_same cur now made.marks.untouched.super);
+            slot = on.slot;
+            given = on.given;
+            keeps = on.keeps;
+          };
+          logged = tt;
         };
-        logged = tt;
-        less = omega (arith, less);
+        late = refl;
+        asleep = λ cause waits. absurd (cc waits);
+        held = λ waits. absurd (cc waits);
+        inode = λ waits. absurd (cc waits);
+        less = λ is. omega (arith, less);
       }
 
   -- or is at its end
-  ends : (its : Op) → q ≡ machine.Over tt → Moves (stage.Leaving k) (renewed s.table k (inode_left m.machine)) its
-  ends its over =
+  does_end : (its : Op) → q ≡ machine.Over tt → Does disk s p k i here progress.Moved (stage.Leaving k) w (renewed s.table k (inode_left m.machine)) ts its
+  does_end its over =
+      let to = comes (subst IsDone (sym over) tt) in
       let some = (made.over over).1 in
       record {
+        reads = reads progress.Moved (renewed s.table k (inode_left m.machine)) (sym (ap fault_of over));
         numbers = refl;
         form = refl;
+        groups = groups;
+        marks = made.marks;
+        keeps = made.keeps;
         table = table_then (machine.Over tt) over;
         files = made.rests over;
         apart_then = λ j apart. refl;
         grip = grip_then;
-        locks = λ has b j lock. absurd (none_locked w.buffers p n has (made.over over).0 b j lock);
-        stands = λ has. tt;
-        looks = record { op = trunc_op m.machine; is = working.op; can = can_take count i m.machine.removes working.number };
-        logged = tt;
-        less = omega (arith, some);
+        stands = λ fine. record {
+          others = to.others;
+          locks = λ b j lock. absurd (none_locked w.buffers p n to.has_then (made.over over).0 b j lock);
+          stands = tt;
+          looks = record { op = trunc_op m.machine; is = working.op; can = can_take count i m.machine.removes working.number };
+          logged = tt;
+        };
+        late = refl;
+        asleep = λ cause waits. absurd (cc waits);
+        held = λ waits. absurd (cc waits);
+        inode = λ waits. absurd (cc waits);
+        less = λ is. omega (arith, some);
       }
 
   -- ---- it was not
@@ -450,9 +432,9 @@ module _ {D N : Type 0} (disk : Ghosts D N) (s : StoreState D) (p k : ℕ) (m : 
   -- ---- THE STEP
 
   does : (its : Op) (r : Progress (Unit {0})) → q ≡ r → Does disk s p k i here (progress_of_trunc r) (place_of_trunc k m n r) w (table_of_trunc s.table k m r) ts its
-  does its machine.Moved is = does_move (stage.Truncating k n) s.table its (ap fault_of is) (subst IsDone (sym is) tt) (goes_on its is)
+  does its machine.Moved is = does_go its is
   does its (machine.Sleeping cause) is = does_wait cause is its
-  does its (machine.Over out) is = does_move (stage.Leaving k) (renewed s.table k (inode_left m.machine)) its (ap fault_of is) (subst IsDone (sym is) tt) (ends its is)
+  does its (machine.Over out) is = does_end its is
   does its (machine.Fault fault) is = does_fail its fault is
 
   module _ (tasks : ts ≡ set s.tasks p task_then) where

@@ -21,7 +21,7 @@ use Rattle.inodes.specs.declared.freeing.Kept.{Kept}
 use Rattle.inodes.specs.declared.itrunc.Itrunc.{Itrunc}
 use Rattle.inodes.specs.declared.itrunc.TruncAt.{TruncAt}
 use Rattle.inodes.specs.declared.itrunc.TruncAt.TheVariants as trunc_at
-use Rattle.inodes.specs.Itrunc.{Fits, after_trunc, at_block, block_in_hand, freed_by, last_inode_of}
+use Rattle.inodes.specs.Itrunc.{Fits, after_trunc, at_block, freed_by, last_inode_of}
 
 -- no block is kept
 abbrev pub no_block_kept : Kept

@@ -2,14 +2,13 @@
 ghost use Rattle.std.specs.Prelude.{◌≡◌, ◌<◌, None, Some};
 ghost use Rattle.wal.specs.Machine.{HasRoom, used_by};
 ghost use Rattle.inodes.specs.Freeing.{FreesOn, MayFree, block_next, first_freeing, got_or, now_of, taken};
-ghost use Rattle.inodes.specs.Itrunc.{Fits, inode_left};
+ghost use Rattle.inodes.specs.Itrunc.{Fits};
 
 use crate::iupdate::write_inode;
 use crate::{Itrunc, Progress, TruncAt};
 use blockmap::{free_block, release_block};
 use blocks::{Block, Disk};
 use layout::inode_block;
-use model::types::Dinode;
 use wal::Volume;
 
 /// A block that was got.
@@ -56,13 +55,6 @@ impl Freeing {
             },
             used: None,
         }
-    }
-
-    /// What is left of the inode, once it is written back; None where the file is removed.
-    pub fn left(&self) -> Option<Dinode>
-        ensures { result ≡ inode_left self.now.machine }
-    {
-        self.machine.left()
     }
 
     /// Makes the next step. `Over` where the inode is written, and its block logged. `Sleeping`

@@ -192,7 +192,7 @@ impl Tasks {
         let Stage::Truncating { trunc, .. } = &self.tasks[pid as usize].place else {
             unreachable!();
         };
-        trunc.left()
+        trunc.machine.left()
     }
 
     // Makes the next step of a writing in the task.

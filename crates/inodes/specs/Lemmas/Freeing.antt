@@ -1,5 +1,4 @@
 -- A step that uses a block has not to wait, nor does the disk fail.
-use Rattle.std.specs.Prelude.{ℕ}
 use Rattle.model.specs.declared.types.progress.Progress.{Progress}
 use Rattle.model.specs.declared.types.progress.Progress.TheVariants as progress
 use Rattle.inodes.specs.declared.itrunc.TruncAt.{TruncAt}
