@@ -76,11 +76,11 @@ not_got : (b : ℕ) (o : Option ℕ) → got_in b o ≡ None → o ≡ None
 not_got b None none = refl
 not_got b (Some i) none = absurd (cc none)
 
--- nothing is kept, and nothing was got
+-- nothing is kept, and nothing is used next
 pub record HasNone (n : Freeing) : Type 0 where
   pub inner : block_of_got n.kept.inner ≡ None
   pub outer : block_of_got n.kept.outer ≡ None
-  pub used : n.used ≡ None
+  pub now : now_of n ≡ None
 
 -- process p, whose task frees a file's blocks, makes a step
 module _ {D N : Type 0} (disk : Ghosts D N) (s : StoreState D) (p k : ℕ) (m : Freeing) (is : IsStore disk.image s) (well : s.volume.fault ≡ None)
@@ -602,7 +602,7 @@ module _ {D N : Type 0} (disk : Ghosts D N) (s : StoreState D) (p k : ℕ) (m : 
         record {
           inner = subst (λ (o : Kept). block_of_got o.inner ≡ None) (sym (kept_at trunc_at.Updating at)) keeps.inner;
           outer = subst (λ (o : Kept). block_of_got o.outer ≡ None) (sym (kept_at trunc_at.Updating at)) keeps.outer;
-          used = used_none;
+          now = ap (λ (o : Itrunc). now_by n o.at) (machine_at trunc_at.Updating at) ∙ ap (now_by n) at ∙ ap (got_in (inode_block n.machine.number)) used_none;
         },
         subst (λ (a : TruncAt). 1 ≤ 4 * blocks_left cur (held_of mm) + stage_left mm.upper m.used a) (sym at) (omega (arith, few_for m.used)),
       );

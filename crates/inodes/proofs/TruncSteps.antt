@@ -1,5 +1,5 @@
 -- Each step of a truncation keeps what is true of every store, and does what a step promises.
-use Rattle.std.proofs.Common.{◌≡◌, ◌≢◌, inl, ⊎_elim, ℕ, ◌<◌, Bool, true, false, cond, eqb, List, length, set, refl, sym, ◌∙◌, ap, subst, arith, Option, Some, None}
+use Rattle.std.proofs.Common.{◌≡◌, ◌≢◌, ⊎_elim, ℕ, ◌<◌, Bool, true, false, cond, eqb, List, length, set, refl, sym, ◌∙◌, ap, subst, arith, Option, Some, None}
 use Rattle.std.specs.Prelude.{IsTrue}
 use Rattle.std.proofs.lemmas.Bool.{false≢true, ne_eqb, cond-false}
 use Rattle.std.proofs.lemmas.List.{get_or-set_same}
@@ -15,7 +15,6 @@ use Rattle.model.specs.declared.types.operations.Why.{Why}
 use Rattle.model.specs.declared.types.operations.Why.TheVariants as why
 use Rattle.model.specs.Files.{Files}
 use Rattle.model.specs.Journal.{is_number}
-use Rattle.model.specs.Layout.{inode_block}
 use Rattle.model.specs.Tasks.{Marks}
 use Rattle.model.specs.Lemmas.Frames.{form_same}
 use Rattle.in_flight.specs.Held.{Claim, Claims, FitsHeld, IsClaimedNow, frees}
@@ -36,7 +35,7 @@ use Rattle.inodes.specs.declared.itrunc.TruncAt.{TruncAt}
 use Rattle.inodes.specs.declared.itrunc.TruncAt.TheVariants as trunc_at
 use Rattle.inodes.specs.declared.tasks.Stage.{Stage}
 use Rattle.inodes.specs.declared.tasks.Stage.TheVariants as stage
-use Rattle.inodes.specs.Freeing.{Changes, FreesOn, GetsNext, IsKept, answer_by, block_next, entries_kept, got_in, now_by, now_of, slot_kept, when_got}
+use Rattle.inodes.specs.Freeing.{Changes, FreesOn, GetsNext, IsKept, answer_by, block_next, entries_kept, now_of, slot_kept, when_got}
 use Rattle.inodes.specs.Goes.{place_of_trunc, progress_of_trunc, table_of_trunc}
 use Rattle.inodes.specs.Grips.{KeepsTable, locked_grip}
 use Rattle.inodes.specs.Holding.{IsTruncating, block_of_got, claim_by, claims_of, held_of, trunc_op}
@@ -77,26 +76,12 @@ none_slot (Some g) i none has = cc none
 
 none_locked : (c : Buffers) (p : ℕ) (n : Freeing) → HasGot c p n → HasNone n → (b i : ℕ) → HasLock c p b i → ⊥
 none_locked c p n had none b i lock = ⊎_elim
-    (λ (old : IsKept n.kept i). by_kept old)
-    (λ (mine : slot_kept (now_of n) ≡ Some i). by_at n.machine.at mine)
+    (λ (old : IsKept n.kept i). ⊎_elim
+    (λ (one : slot_kept n.kept.inner ≡ Some i). none_slot n.kept.inner i none.inner one)
+    (λ (one : slot_kept n.kept.outer ≡ Some i). none_slot n.kept.outer i none.outer one)
+    old)
+    (λ (mine : slot_kept (now_of n) ≡ Some i). none_slot (now_of n) i (ap block_of_got none.now) mine)
     (had.locks b i lock)
-  where
-    by_kept : IsKept n.kept i → ⊥
-    by_kept old = ⊎_elim
-        (λ (one : slot_kept n.kept.inner ≡ Some i). none_slot n.kept.inner i none.inner one)
-        (λ (one : slot_kept n.kept.outer ≡ Some i). none_slot n.kept.outer i none.outer one)
-        old
-
-    own : (e : ℕ) → slot_kept (got_in e n.used) ≡ Some i → ⊥
-    own e mine = let never : None ≡ Some i = subst (λ (o : Option ℕ). slot_kept (got_in e o) ≡ Some i) none.used mine in cc never
-
-    by_at : (a : TruncAt) → slot_kept (now_by n a) ≡ Some i → ⊥
-    by_at trunc_at.Direct mine = own n.machine.bitmap mine
-    by_at (trunc_at.Loading e) mine = cc mine
-    by_at trunc_at.Entry mine = own n.machine.bitmap mine
-    by_at trunc_at.Unloading mine = by_kept (inl mine)
-    by_at trunc_at.Freeing mine = own n.machine.bitmap mine
-    by_at trunc_at.Updating mine = own (inode_block n.machine.number) mine
 
 -- what the use of a block leaves to the others, and makes of disk and log
 record Leaves {D : Type 0} (v w : VolumeState D) (p i : ℕ) : Type 0 where

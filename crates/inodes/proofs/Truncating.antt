@@ -334,16 +334,16 @@ module _ {D N : Type 0} (disk : Ghosts D N) (s : StoreState D) (p k : ℕ) (m : 
         let room = map.room in
         omega (arith, inside, room)
 
-    bit_at : (g : Got) (a : TruncAt) → HasGivenUp cur m.machine a → Keeps cur m.kept m.machine a → freed_by m.machine (entries_kept cur m g) a < 8192
+    bit_at : (g : Got) (a : TruncAt) → HasGivenUp cur m.machine a → Keeps cur m.kept m.machine a → IsBelow (freed_by m.machine (entries_kept cur m g) a) 8192
     bit_at g trunc_at.Direct given keeps = has_bit (root_of m.machine) (direct_marked given).0
-    bit_at g (trunc_at.Loading b) given keeps = omega arith
+    bit_at g (trunc_at.Loading b) given keeps = tt
     bit_at g trunc_at.Entry given keeps =
         subst (λ (l : List ℕ). get_or l m.machine.given_up 0 < 8192) (sym (kept_words g (hand_in cur m.machine) keeps.inner))
         (has_bit (entry_of cur (hand_in cur m.machine) m.machine.given_up) (entry_marked given).0)
-    bit_at g trunc_at.Unloading given keeps = omega arith
+    bit_at g trunc_at.Unloading given keeps = tt
     bit_at g trunc_at.Freeing given keeps =
         subst (λ (b : ℕ). b < 8192) (sym (hand_is g given.0 keeps)) (has_bit (hand_in cur m.machine) (hand_marked given.0).0)
-    bit_at g trunc_at.Updating given keeps = omega arith
+    bit_at g trunc_at.Updating given keeps = tt
 
     by_used : (o : Option Got) → HasBit cur m o
     by_used None = tt

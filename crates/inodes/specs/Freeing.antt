@@ -1,6 +1,6 @@
 -- The steps in which the blocks of a file are freed: what they get, keep and use, and what they make
 -- of the volume.
-use Rattle.std.specs.Prelude.{◌≡◌, ◌⊎◌, ◌<◌, ◌≤◌, ℕ, List, Option, Some, None}
+use Rattle.std.specs.Prelude.{◌≡◌, ◌⊎◌, ◌<◌, ◌≤◌, ℕ, List, slice_index, Option, Some, None}
 use Rattle.blocks.specs.Disk.{Image, block_at}
 use Rattle.blocks.specs.declared.disk.Disk.{Ghosts}
 use Rattle.bcache.specs.Buffers.{Buffers}
@@ -21,7 +21,7 @@ use Rattle.inodes.specs.declared.freeing.Kept.{Kept}
 use Rattle.inodes.specs.declared.itrunc.Itrunc.{Itrunc}
 use Rattle.inodes.specs.declared.itrunc.TruncAt.{TruncAt}
 use Rattle.inodes.specs.declared.itrunc.TruncAt.TheVariants as trunc_at
-use Rattle.inodes.specs.Itrunc.{Fits, after_trunc, at_block, freed_by, last_inode_of}
+use Rattle.inodes.specs.Itrunc.{Fits, IsBelow, after_trunc, at_block, block_in_hand, freed_by, last_inode_of}
 
 -- no block is kept
 abbrev pub no_block_kept : Kept
@@ -146,13 +146,12 @@ answer_by trunc_at.Updating = progress.Over tt
 -- where a block of addresses is given back
 abbrev pub image_by : Image → Itrunc → List ℕ → TruncAt → Option Image
 image_by x m entries trunc_at.Direct =
-    Some (with_freed x m.bitmap (freed_by m entries trunc_at.Direct))
+    Some (with_freed x m.bitmap (slice_index m.inode.addrs m.slot))
 image_by x m entries (trunc_at.Loading b) = None
 image_by x m entries trunc_at.Entry =
-    Some (with_freed x m.bitmap (freed_by m entries trunc_at.Entry))
+    Some (with_freed x m.bitmap (slice_index entries m.given_up))
 image_by x m entries trunc_at.Unloading = None
-image_by x m entries trunc_at.Freeing =
-    Some (with_freed x m.bitmap (freed_by m entries trunc_at.Freeing))
+image_by x m entries trunc_at.Freeing = Some (with_freed x m.bitmap (block_in_hand m entries))
 image_by x m entries trunc_at.Updating = Some (with_inode x m.number (last_inode_of m))
 
 -- block b, which slot i holds, is written so that the image is that one, or released as it is
@@ -174,7 +173,7 @@ MayGet b size (Some g) = Unit {0}
 -- a block that is freed has a bit
 abbrev pub HasBit : Image → Freeing → Option Got → Type 0
 HasBit x m None = Unit {0}
-HasBit x m (Some g) = freed_by m.machine (entries_kept x m g) m.machine.at < bits_per_block
+HasBit x m (Some g) = IsBelow (freed_by m.machine (entries_kept x m g) m.machine.at) bits_per_block
 
 -- a step may be made over this volume
 pub record MayFree {D : Type 0} (image : D → Image) (v : VolumeState D) (p : ℕ) (m : Freeing)

@@ -128,24 +128,15 @@ pub record Fits (m : Itrunc) : Type 0 where
   pub slot : m.slot < 13
   pub at : FitsAt m m.at
 
--- it frees a block next
-abbrev pub FreesOne : TruncAt → Type 0
-FreesOne trunc_at.Direct = Unit {0}
-FreesOne (trunc_at.Loading b) = ⊥
-FreesOne trunc_at.Entry = Unit {0}
-FreesOne trunc_at.Unloading = ⊥
-FreesOne trunc_at.Freeing = Unit {0}
-FreesOne trunc_at.Updating = ⊥
-
--- the block that is freed, where the block of addresses that was kept last has these entries; 0
--- where none is
-abbrev pub freed_by : Itrunc → List ℕ → TruncAt → ℕ
-freed_by m entries trunc_at.Direct = slice_index m.inode.addrs m.slot
-freed_by m entries (trunc_at.Loading b) = 0
-freed_by m entries trunc_at.Entry = slice_index entries m.given_up
-freed_by m entries trunc_at.Unloading = 0
-freed_by m entries trunc_at.Freeing = block_in_hand m entries
-freed_by m entries trunc_at.Updating = 0
+-- the block that is freed, if one is, where the block of addresses that was kept last has these
+-- entries
+abbrev pub freed_by : Itrunc → List ℕ → TruncAt → Option ℕ
+freed_by m entries trunc_at.Direct = Some (slice_index m.inode.addrs m.slot)
+freed_by m entries (trunc_at.Loading b) = None
+freed_by m entries trunc_at.Entry = Some (slice_index entries m.given_up)
+freed_by m entries trunc_at.Unloading = None
+freed_by m entries trunc_at.Freeing = Some (block_in_hand m entries)
+freed_by m entries trunc_at.Updating = None
 
 -- what is freed behind a step that used a block
 abbrev pub after_trunc : Itrunc → List ℕ → TruncAt → Itrunc

@@ -1,8 +1,8 @@
 // The blocks of a file are freed.
-ghost use Rattle.std.specs.Prelude.{◌≡◌, ◌<◌, ◌≤◌, length};
+ghost use Rattle.std.specs.Prelude.{◌≡◌, ◌<◌, ◌≤◌, length, IsSome, Some};
 ghost use Rattle.model.specs.Format.{addresses_per_block};
 ghost use Rattle.model.specs.Fields.{words_of};
-ghost use Rattle.inodes.specs.Itrunc.{address_left, after_trunc, at_address, at_block, at_branches, at_entries, block_in_hand, block_left, first_trunc, freed_by, inode_left, last_inode_of, leads_to_data, present_from, Fits, FreesOne, IsBelow};
+ghost use Rattle.inodes.specs.Itrunc.{address_left, after_trunc, at_address, at_block, at_branches, at_entries, block_in_hand, block_left, first_trunc, freed_by, inode_left, last_inode_of, leads_to_data, present_from, Fits, IsBelow};
 
 use blocks::Block;
 use layout::entries::entry;
@@ -215,8 +215,8 @@ impl Itrunc {
     // kept last names it, where the inode does not.
     pub(crate) fn give_up(&mut self, kept: &Block) -> u32
         requires fits { Fits self.old }
-        requires frees { FreesOne self.old.at }
-        ensures freed { result ≡ freed_by self.old (words_of kept.now) self.old.at }
+        requires frees { IsSome (freed_by self.old (words_of kept.now) self.old.at) }
+        ensures freed { Some result ≡ freed_by self.old (words_of kept.now) self.old.at }
         ensures rest { self.new ≡ after_trunc self.old (words_of kept.now) self.old.at }
     {
         match self.at {
