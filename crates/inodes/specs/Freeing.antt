@@ -1,5 +1,5 @@
--- The steps in which the blocks of a file are freed: what they get, keep and use, and what they make
--- of the volume.
+-- The steps in which the blocks of a file are freed: what they get, keep and use, and what they
+-- make of the volume.
 use Rattle.std.specs.Prelude.{◌≡◌, ◌⊎◌, ◌<◌, ◌≤◌, ℕ, List, slice_index, Option, Some, None}
 use Rattle.blocks.specs.Disk.{Image, block_at}
 use Rattle.blocks.specs.declared.disk.Disk.{Ghosts}
@@ -142,8 +142,8 @@ answer_by trunc_at.Unloading = progress.Moved
 answer_by trunc_at.Freeing = progress.Moved
 answer_by trunc_at.Updating = progress.Over tt
 
--- the image in which the block that is used is changed: a bit is cleared, or the inode written; none
--- where a block of addresses is given back
+-- the image in which the block that is used is changed: a bit is cleared, or the inode written;
+-- none where a block of addresses is given back
 abbrev pub image_by : Image → Itrunc → List ℕ → TruncAt → Option Image
 image_by x m entries trunc_at.Direct =
     Some (with_freed x m.bitmap (slice_index m.inode.addrs m.slot))
@@ -200,8 +200,8 @@ pub record UsesBlock {D N : Type 0} (disk : Ghosts D N) (g : Got) (v : VolumeSta
       (image_by (seen (disk.image v.device) v.buffers) m.machine
       (entries_kept (seen (disk.image v.device) v.buffers) m g) m.machine.at) w
 
--- WHAT A STEP DOES, by the block that it uses: it gets one; or with it clears a bit, gives a block of
--- addresses back, or writes the inode.
+-- WHAT A STEP DOES, by the block that it uses: it gets one; or with it clears a bit, gives a block
+-- of addresses back, or writes the inode.
 abbrev pub FreesOn : {D N : Type 0} → Ghosts D N → Option Got → VolumeState D → ℕ → Freeing
     → Progress (Unit {0}) → Freeing → VolumeState D → Type 0
 FreesOn disk None v p m r n w = GetsNext disk v p m r n w

@@ -27,10 +27,10 @@ pub enum TruncAt {
 }
 
 /// How far the freeing of a file's blocks has come (`itrunc`; the xv6 book, the chapter "File
-/// system": "Code: Inodes"): the blocks of the inode's own addresses are freed first, then those that
-/// a block of addresses names, then that block; under a doubly indirect block so is each second
-/// block. An address that isn't there takes no step. At last the inode is written back; where the
-/// file is removed, that is a free one.
+/// system": "Code: Inodes"): the blocks of the inode's own addresses are freed first, then those
+/// that a block of addresses names, then that block; under a doubly indirect block so is each
+/// second block. An address that isn't there takes no step. At last the inode is written back;
+/// where the file is removed, that is a free one.
 #[derive(Clone, Copy)]
 pub struct Itrunc {
     /// The inode's number.
