@@ -3,7 +3,7 @@ use Rattle.std.proofs.Common.{◌≡◌, ℕ, ◌/◌, ◌<◌, List, [], ◌∷
 use Rattle.blocks.specs.Block.{overwritten}
 use Rattle.model.specs.Codec.{without_bit}
 use Rattle.model.specs.Lemmas.Codecs.{overwritten_one}
-use Rattle.blockmap.specs.Deeds.{byte_without}
+use Rattle.blockmap.specs.Bfree.{byte_without}
 
 -- it makes the bits without that one
 pub without_byte : (bits : List ℕ) (b : ℕ) → b / 8 < length bits → overwritten bits (b / 8) (byte_without bits b ∷ []) ≡ without_bit bits b

@@ -1,3 +1,2 @@
 mod Clearing
-pub mod Wanting
 mod Taking

@@ -9,5 +9,4 @@ pub mod Putting
 pub mod Reading
 pub mod Resting
 pub mod Seeking
-pub mod Slots
 pub mod Targets

@@ -1,10 +1,7 @@
-pub mod Deeds
-pub mod Driver
 pub mod Getting
-pub mod Holds
 pub mod Lemmas
-pub mod Next
 pub mod Balloc
+pub mod Bfree
 pub mod Bmap
 pub mod Branch
 pub mod BmapAlloc

@@ -1,15 +1,9 @@
-//! Machines and the one driver that carries them out over a volume.
+//! What operations do to the blocks of a file, in steps over a volume.
 //!
-//! What an operation does to blocks is done by machines. A `Machine` is a plain value that touches
-//! no volume: it says which block its next step uses, and what it does with that block, a `Deed`.
-//! `Driven` carries it out: one step gets the block, the next one does the deed, and between two
-//! steps other processes make theirs. A block that is changed is logged and released. Up to two
-//! blocks may be kept for a while, each from the step on that gets it; the one that was kept last is
-//! given back first, by a step of its own.
-//! The driver alone knows slots. A step that has to wait changes nothing.
-//!
-//! The same steps without a machine (the volume's `get`, `put_block`, `release_block`) serve those
-//! that handle the volume themselves. What a step comes to is a `Progress`.
+//! A machine handles the volume itself: one step gets a block, the next one uses it, and between two
+//! steps other processes make theirs. A block that is changed is logged and released (`put_block`,
+//! `free_block`); another one is released as it is (`release_block`). A step that has to wait
+//! changes nothing. What a step comes to is a `Progress`.
 //!
 //! From the blocks of a file to those of the image (the xv6 book, the chapter "File system": "Code:
 //! Inode content").
@@ -29,33 +23,29 @@
 //! inode itself. Where they are over with a block, the inode leads to it in the image as it is then.
 //!
 //! `Balloc` takes a block: it sets the lowest clear bit of the bitmap, and then zeroes the block of
-//! that bit. Which bit is the lowest clear one is said by a law (`laws`).
+//! that bit. Which bit is the lowest clear one is said by a law (`laws`). `free_block` clears the bit
+//! of a block again.
 //!
 //! What is said of a file's bytes asks that the file may be read (`MayRead`). Where an image stands
 //! for files, that of each used number which no task holds may (`laws`).
 #![tactic(auto)]
 
 mod balloc;
+mod bfree;
 mod bmap;
 mod bmap_alloc;
 mod branch;
-mod carrying;
-mod deed;
-mod driving;
 mod getting;
 pub mod laws;
-mod machine;
 mod mapping;
 mod target;
 
 pub use balloc::{AllocAt, Balloc};
+pub use bfree::free_block;
 pub use bmap::Bmap;
 pub use bmap_alloc::{BmapAlloc, MapAt};
 pub use branch::{Branch, Node, branch_of};
-pub use deed::{Deed, Patch};
-pub use driving::{Driven, Got, Kept};
 pub use getting::{put_block, release_block};
-pub use machine::{Machine, Next};
 pub use mapping::{Mapped, MappedForWriting, map, map_for_writing};
 pub use model::types::{Progress, Why};
 pub use target::{Target, seek, target_for};

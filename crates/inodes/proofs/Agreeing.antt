@@ -8,17 +8,17 @@ use Rattle.wal.specs.Machine.{LogState, is_among, used_by}
 use Rattle.model.specs.declared.types.operations.Op.{Op}
 use Rattle.model.specs.declared.types.operations.Op.TheVariants.{Create, Write, Read, Trunc, Remove, Stat}
 use Rattle.blockmap.specs.Lemmas.Others.{StaysForOthers}
-use Rattle.blockmap.specs.Lemmas.Slots.{holds_still}
 use Rattle.inodes.specs.declared.tasks.Stage.{Stage}
 use Rattle.inodes.specs.declared.tasks.Stage.TheVariants as stage
+use Rattle.inodes.specs.Freeing.{now_of}
 use Rattle.inodes.specs.Tasks.{TaskState, task, no_task}
 use Rattle.inodes.specs.Places.{HasSlot}
-use Rattle.inodes.specs.Itrunc.{trunc_next}
 use Rattle.inodes.specs.Store.{HoldsAt, HasLogged, IsOpenFor, Stands, Agrees}
 use Rattle.inodes.specs.LockState.{slot_of}
 use Rattle.blockmap.specs.Target.{block_of, slot_in}
 use Rattle.model.specs.Layout.{inode_block}
 use Rattle.inodes.specs.Writing.{HasOpen, block_of_write, counted, kept_by_write, node_of_write, used_by_write}
+use Rattle.inodes.proofs.TruncGot.{holds_still}
 
 -- process p's task is t now
 pub record TaskIsNow (c d : Buffers) (l m : LogState) (n p : ℕ) (ts : List TaskState) (t : TaskState) : Type 0 where
@@ -76,7 +76,7 @@ stands_other c d l m n p q t (stage.Reading k reading) stays apart s = holds_oth
 stands_other c d l m n p q t (stage.Delivering k) stays apart s = tt
 stands_other c d l m n p q t (stage.Truncating k trunc) stays apart s = record {
   logged = logged_still l m q trunc.machine.bitmap (stays.used q apart) (λ one has. stays.among trunc.machine.bitmap has) s.logged;
-  holds = holds_still c d q (trunc_next trunc) trunc.kept trunc.used (λ b i has. stays.holds q b i apart has) s.holds;
+  holds = holds_still c d q trunc.kept (now_of trunc) (λ b i has. stays.holds q b i apart has) s.holds;
 }
 stands_other c d l m n p q t (stage.Writing k w) stays apart s = record {
   logged = open_write_still l m q (stays.used q apart) s.logged;
@@ -123,7 +123,7 @@ agrees_still c d l m n ts holds locks used among are = record {
     by_place q t (stage.Delivering k) s = tt
     by_place q t (stage.Truncating k trunc) s = record {
       logged = logged_still l m q trunc.machine.bitmap (used q) (λ one has. among q 1 trunc.machine.bitmap one has) s.logged;
-      holds = holds_still c d q (trunc_next trunc) trunc.kept trunc.used (holds q) s.holds;
+      holds = holds_still c d q trunc.kept (now_of trunc) (holds q) s.holds;
     }
     by_place q t (stage.Writing k w) s = record {
       logged = open_write_still l m q (used q) s.logged;

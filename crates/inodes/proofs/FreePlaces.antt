@@ -1,25 +1,21 @@
 -- A task by its stage: whether its next step uses what it has got, what it keeps while it gets
 -- another block, and that it waits for this alone.
 use Rattle.std.proofs.Common.{◌≡◌, ◌≢◌, ℕ, ◌+◌, ◌≤◌, Bool, true, false, List, [], ◌∷◌, ◌++◌, length, map, refl, sym, ap, inl, inr, ◌⊎◌, arith, Option, Some, None}
-use Rattle.std.specs.Prelude.{is_none, is_some, not}
+use Rattle.std.specs.Prelude.{is_some, not}
 use Rattle.std.proofs.lemmas.Bool.{eq-eqb, not-true}
 use Rattle.bcache.specs.Buffers.{Buffers}
 use Rattle.blockmap.specs.declared.bmap_alloc.MapAt.{MapAt}
 use Rattle.blockmap.specs.declared.bmap_alloc.MapAt.TheVariants as map_at
 use Rattle.blockmap.specs.Target.{slot_in}
-use Rattle.blockmap.specs.Holds.{slot_kept, slot_used}
-use Rattle.blockmap.specs.Next.{wanted_by}
-use Rattle.blockmap.specs.declared.driving.Got.{Got}
-use Rattle.blockmap.specs.declared.driving.Kept.{Kept}
-use Rattle.blockmap.specs.declared.machine.Next.{Next}
-use Rattle.blockmap.specs.declared.machine.Next.TheVariants as next
+use Rattle.inodes.specs.declared.freeing.Kept.{Kept}
+use Rattle.inodes.specs.declared.freeing.Got.{Got}
 use Rattle.inodes.specs.declared.ilock.LockAt.{LockAt}
 use Rattle.inodes.specs.declared.ilock.LockAt.TheVariants as lock_at
 use Rattle.inodes.specs.declared.tasks.Stage.{Stage}
 use Rattle.inodes.specs.declared.tasks.Stage.TheVariants as stage
 use Rattle.inodes.specs.declared.writei.WriteAt.{WriteAt}
 use Rattle.inodes.specs.declared.writei.WriteAt.TheVariants as write_at
-use Rattle.inodes.specs.Itrunc.{trunc_next}
+use Rattle.inodes.specs.Freeing.{now_of, slot_kept}
 use Rattle.inodes.specs.LockState.{slot_of}
 use Rattle.inodes.specs.Places.{HasSlot}
 use Rattle.inodes.specs.Table.{TableState}
@@ -29,9 +25,6 @@ use Rattle.inodes.specs.Waiting.{unless_got, wanted_on_way, wanted_by_write, cau
 use Rattle.wal.specs.Volume.{cause_to_get}
 
 -- ---- whose next step gets nothing
-
-abbrev pub drives_freely : Next → Option ℕ → Bool
-drives_freely a used = is_none (wanted_by a used)
 
 abbrev pub maps_freely : MapAt → Bool
 maps_freely (map_at.Address t) = is_some (slot_of_alloc t.at)
@@ -55,17 +48,13 @@ is_free (stage.Creating m) = is_some m.slot
 is_free (stage.Taking m) = locks_freely m.at
 is_free (stage.Reading k m) = is_some (slot_in m.target)
 is_free (stage.Delivering k) = true
-is_free (stage.Truncating k m) = drives_freely (trunc_next m) m.used
+is_free (stage.Truncating k m) = is_some (slot_kept (now_of m))
 is_free (stage.Writing k m) = writes_freely m.at
 is_free (stage.Leaving k) = true
 
 got_some : (c : Buffers) (o : Option ℕ) (b : ℕ) → is_some o ≡ true → cause_to_get c (unless_got o b) ≡ None
 got_some c None b e = absurd (cc e)
 got_some c (Some i) b e = refl
-
-free_driven : (c : Buffers) (o : Option ℕ) → is_none o ≡ true → cause_to_get c o ≡ None
-free_driven c None e = refl
-free_driven c (Some b) e = absurd (cc e)
 
 free_way : (c : Buffers) (a : MapAt) → maps_freely a ≡ true → cause_to_get c (wanted_on_way a) ≡ None
 free_way c (map_at.Address t) e = got_some c (slot_of_alloc t.at) _ e
@@ -90,7 +79,7 @@ free_goes c t (stage.Creating m) e = got_some c m.slot _ e
 free_goes c t (stage.Taking m) e = free_lock c t m.at m.number e
 free_goes c t (stage.Reading k m) e = got_some c (slot_in m.target) _ e
 free_goes c t (stage.Delivering k) e = refl
-free_goes c t (stage.Truncating k m) e = free_driven c (wanted_by (trunc_next m) m.used) e
+free_goes c t (stage.Truncating k m) e = got_some c (slot_kept (now_of m)) _ e
 free_goes c t (stage.Writing k m) e = free_write c m.at e
 free_goes c t (stage.Leaving k) e = refl
 
@@ -160,12 +149,6 @@ not_got : (o : Option ℕ) (i : ℕ) → is_some o ≡ false → o ≡ Some i �
 not_got None i e has = cc has
 not_got (Some j) i e has = cc e
 
-used_driven : (a : Next) (used : Option ℕ) (i : ℕ) → drives_freely a used ≡ false → slot_used a used ≡ Some i → ⊥
-used_driven (next.Use b) None i e has = cc has
-used_driven (next.Use b) (Some j) i e has = cc e
-used_driven (next.Keep b) used i e has = cc has
-used_driven next.Kept used i e has = cc has
-
 used_way : (a : MapAt) (i : ℕ) → maps_freely a ≡ false → used_on_way a ≡ Some i → ⊥
 used_way (map_at.Address t) i e has = not_got (slot_of_alloc t.at) i e has
 used_way (map_at.Entry n slot) i e has = cc has
@@ -211,7 +194,7 @@ has_kept (stage.Creating m) i e has = absurd (not_got m.slot i e has)
 has_kept (stage.Taking m) i e has = absurd (locks_none m.at i e has)
 has_kept (stage.Reading k m) i e has = absurd (not_got (slot_in m.target) i e has)
 has_kept (stage.Delivering k) i e has = absurd (cc has)
-has_kept (stage.Truncating k m) i e has = kept_in m.kept.inner m.kept.outer i (either has (used_driven (trunc_next m) m.used i e))
+has_kept (stage.Truncating k m) i e has = kept_in m.kept.inner m.kept.outer i (either has (not_got (slot_kept (now_of m)) i e))
 has_kept (stage.Writing k m) i e has = kept_one (node_of_write m.at) (kept_by_write m.at) i (either has (used_write m.at i e))
 has_kept (stage.Leaving k) i e has = absurd (cc has)
 
@@ -242,10 +225,6 @@ pub some_got : (c : Buffers) (o : Option ℕ) (b : ℕ) → is_some o ≡ false 
 some_got c None b e = refl
 some_got c (Some i) b e = absurd (cc e)
 
-driven_waits : (c : Buffers) (o : Option ℕ) → is_none o ≡ false → (b : ℕ) × (cause_to_get c o ≡ cause_to_get c (Some b))
-driven_waits c None e = absurd (cc e)
-driven_waits c (Some b) e = (b, refl)
-
 way_waits : (c : Buffers) (a : MapAt) → maps_freely a ≡ false → (b : ℕ) × (cause_to_get c (wanted_on_way a) ≡ cause_to_get c (Some b))
 way_waits c (map_at.Address t) e = (_, some_got c (slot_of_alloc t.at) _ e)
 way_waits c (map_at.Entry n slot) e = (_, some_got c slot _ e)
@@ -268,6 +247,6 @@ getting_waits c t (stage.Creating m) e is = (_, some_got c m.slot _ e)
 getting_waits c t (stage.Taking m) e is = lock_waits c t m.at m.number e (not-true (is_lock m.at) is)
 getting_waits c t (stage.Reading k m) e is = (_, some_got c (slot_in m.target) _ e)
 getting_waits c t (stage.Delivering k) e is = absurd (cc e)
-getting_waits c t (stage.Truncating k m) e is = driven_waits c (wanted_by (trunc_next m) m.used) e
+getting_waits c t (stage.Truncating k m) e is = (_, some_got c (slot_kept (now_of m)) _ e)
 getting_waits c t (stage.Writing k m) e is = write_waits c m.at e
 getting_waits c t (stage.Leaving k) e is = absurd (cc e)

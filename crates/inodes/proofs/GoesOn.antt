@@ -9,8 +9,8 @@ use Rattle.blocks.specs.Disk.{Image}
 use Rattle.bcache.specs.Buffers.{Buffers, buffer, victim}
 use Rattle.model.specs.Soundness.{count_of}
 use Rattle.wal.specs.Held.{HasLock}
-use Rattle.blockmap.specs.declared.driving.Got.{Got}
 use Rattle.wal.specs.Joint.{Joint}
+use Rattle.inodes.specs.declared.freeing.Got.{Got}
 use Rattle.inodes.specs.declared.ilock.LockAt.{LockAt}
 use Rattle.inodes.specs.declared.ilock.LockAt.TheVariants as lock_at
 use Rattle.inodes.specs.declared.tasks.Stage.{Stage}

@@ -1,7 +1,7 @@
 -- The blocks of addresses that tasks keep: each is its file's own, and nobody who keeps one waits
 -- for one that is kept.
 use Rattle.std.proofs.Common.{◌≡◌, ◌≢◌, ℕ, ◌<◌, ◌≤◌, false, List, [], ◌∷◌, ◌++◌, refl, sym, ◌∙◌, ap, subst, arith, Option, Some, None, inl, inr, ◌⊎◌}
-use Rattle.std.specs.Prelude.{IsTrue}
+use Rattle.std.specs.Prelude.{IsTrue, is_some}
 use Rattle.std.proofs.lemmas.Bool.{cases_eq}
 use Rattle.blocks.specs.Disk.{Image}
 use Rattle.model.specs.declared.types.operations.Op.{Op}
@@ -31,22 +31,19 @@ use Rattle.blockmap.specs.declared.balloc.AllocAt.{AllocAt}
 use Rattle.blockmap.specs.declared.balloc.AllocAt.TheVariants as alloc_at
 use Rattle.blockmap.specs.declared.bmap_alloc.MapAt.{MapAt}
 use Rattle.blockmap.specs.declared.bmap_alloc.MapAt.TheVariants as map_at
-use Rattle.blockmap.specs.Holds.{HasOne}
-use Rattle.blockmap.specs.Next.{wanted_by}
-use Rattle.blockmap.specs.declared.driving.Got.{Got}
-use Rattle.blockmap.specs.declared.machine.Next.{Next}
-use Rattle.blockmap.specs.declared.machine.Next.TheVariants as next
+use Rattle.inodes.specs.declared.freeing.Got.{Got}
+use Rattle.inodes.specs.declared.freeing.Freeing.{Freeing}
 use Rattle.inodes.specs.declared.itrunc.TruncAt.{TruncAt}
 use Rattle.inodes.specs.declared.itrunc.TruncAt.TheVariants as trunc_at
 use Rattle.inodes.specs.declared.tasks.Stage.{Stage}
 use Rattle.inodes.specs.declared.tasks.Stage.TheVariants as stage
 use Rattle.inodes.specs.declared.writei.WriteAt.{WriteAt}
 use Rattle.inodes.specs.declared.writei.WriteAt.TheVariants as write_at
+use Rattle.inodes.specs.Freeing.{HasOne, block_by, now_by, slot_kept}
 use Rattle.inodes.specs.Grips.{locked_grip}
 use Rattle.inodes.specs.Growing.{growth_of, bytes_by, HasComeTo, IsOnWay, next_block, taken_at, taken_on_way, taken_by}
 use Rattle.inodes.specs.declared.writei.Extent.{Extent}
 use Rattle.inodes.specs.Holding.{claims_of, HasGivenUp, IsInHand, IsTruncating, Keeps, above_by, above_hand, block_of_got, first_kept, hand_in, held_of, last_kept, root_of, way_of}
-use Rattle.inodes.specs.Itrunc.{Freeing, next_of_trunc}
 use Rattle.inodes.specs.Looks.{AreLooking, LooksAt}
 use Rattle.inodes.specs.Places.{grip_of}
 use Rattle.inodes.specs.Store.{HoldsAt, HasLogged, Stands}
@@ -57,9 +54,9 @@ use Rattle.inodes.specs.Writing.{IsWriting, slot_of_alloc, block_of_alloc, kept_
 use Rattle.inodes.proofs.WriteNodes.{lies_named}
 use Rattle.inodes.specs.Lemmas.Looks.{trunc_locks, write_locks}
 use Rattle.wal.specs.Volume.{cause_to_get}
-use Rattle.inodes.specs.Waiting.{cause_at, wanted_by_write, wanted_on_way}
+use Rattle.inodes.specs.Waiting.{cause_at, unless_got, wanted_by_write, wanted_on_way}
 use Rattle.inodes.specs.Lemmas.Unclaimed.{one_holder, own_claim, own_growth}
-use Rattle.inodes.proofs.FreePlaces.{IsOneOf, is_free, drives_freely, got_at, gots, gots_kept, kept_by, maps_freely, writes_freely, some_got}
+use Rattle.inodes.proofs.FreePlaces.{IsOneOf, is_free, got_at, gots, gots_kept, kept_by, maps_freely, writes_freely, some_got}
 use Rattle.inodes.proofs.InHand.{first_tree, root_there, two_deep}
 
 -- ---- what is kept
@@ -103,8 +100,8 @@ keeps_open c l n p g o (stage.Truncating k m) has stands =
     let log = some_logged l p m.machine.bitmap stands.logged in
     record {
       holds = elim (in_either g (gots m.kept.inner) (gots m.kept.outer) has) [
-        | inl inner ↦ one_held g m.kept.inner inner stands.holds.has_kept.inner
-        | inr outer ↦ one_held g m.kept.outer outer stands.holds.has_kept.outer
+        | inl inner ↦ one_held g m.kept.inner inner stands.holds.inner
+        | inr outer ↦ one_held g m.kept.outer outer stands.holds.outer
       ];
       used = log.0;
       has = log.1;
@@ -280,23 +277,19 @@ module _ (cur : Image) (t : TableState) (ts : List TaskState) (are : AreLooking 
   module _ (c : Buffers) (p k : ℕ) (m : Freeing) (g : Got) (at : (task ts p).place ≡ stage.Truncating k m) (work : IsTruncating cur t.inode_count (task ts p) m)
       (has : IsOneOf g (gots_kept m.kept)) where
     -- it waits for the bitmap's block
-    for_bitmap : (a : TruncAt) → m.machine.at ≡ a → next_of_trunc m.machine a ≡ next.Use m.machine.bitmap → drives_freely (next_of_trunc m.machine a) m.used ≡ false → WaitsBehind c p
-    for_bitmap a is uses waits = record {
+    for_bitmap : (a : TruncAt) → m.machine.at ≡ a → block_by m.machine a ≡ m.machine.bitmap → is_some (slot_kept (now_by m a)) ≡ false → WaitsBehind c p
+    for_bitmap a is map waits = record {
       block = m.machine.bitmap;
-      cause = ap (cause_at c t) at ∙ ap (λ (o : TruncAt). cause_to_get c (wanted_by (next_of_trunc m.machine o) m.used)) is ∙ ap (λ (n : Next). cause_to_get c (wanted_by n m.used)) uses
-          ∙ by_used m.used (ap (λ (n : Next). drives_freely n m.used) (sym uses) ∙ waits);
+      cause = ap (cause_at c t) at ∙ ap (λ (o : TruncAt). cause_to_get c (unless_got (slot_kept (now_by m o)) (block_by m.machine o))) is
+          ∙ some_got c (slot_kept (now_by m a)) (block_by m.machine a) waits ∙ ap (λ (b : ℕ). cause_to_get c (Some b)) map;
       what = inl (work.bitmap ∙ the_bitmap);
     }
-      where
-        by_used : (o : Option ℕ) → drives_freely (next.Use m.machine.bitmap) o ≡ false → cause_to_get c (wanted_by (next.Use m.machine.bitmap) o) ≡ cause_to_get c (Some m.machine.bitmap)
-        by_used None e = refl
-        by_used (Some i) e = absurd (cc e)
 
     -- or for a second block
     for_second : (b : ℕ) → m.machine.at ≡ trunc_at.Loading b → HasGivenUp cur m.machine (trunc_at.Loading b) → Keeps cur m.kept m.machine (trunc_at.Loading b) → WaitsBehind c p
     for_second b is given keeps = record {
       block = b;
-      cause = ap (cause_at c t) at ∙ ap (λ (o : TruncAt). cause_to_get c (wanted_by (next_of_trunc m.machine o) m.used)) is;
+      cause = ap (cause_at c t) at ∙ ap (λ (o : TruncAt). cause_to_get c (unless_got (slot_kept (now_by m o)) (block_by m.machine o))) is;
       what = inr (record {
         own = subst (IsOwn p) given.2 (hand_own p k m at work.number given.0);
         apart = λ h one same. elim (in_either h (gots m.kept.inner) (gots m.kept.outer) (subst (λ (a : Stage). IsOneOf h (kept_by a)) at one)) [
@@ -312,11 +305,15 @@ module _ (cur : Image) (t : TableState) (ts : List TaskState) (are : AreLooking 
       | inr outer ↦ let none : None ≡ Some g.block = sym (keeps.outer ∙ outer_none) ∙ block_is g m.kept.outer outer in cc none
     ]
 
-    trunc_behind : (a : TruncAt) → m.machine.at ≡ a → HasGivenUp cur m.machine a → Keeps cur m.kept m.machine a → drives_freely (next_of_trunc m.machine a) m.used ≡ false → WaitsBehind c p
+    kept_there : (o : Option Got) (b : ℕ) → block_of_got o ≡ Some b → is_some (slot_kept o) ≡ false → ⊥
+    kept_there None b is none = cc is
+    kept_there (Some h) b is none = cc none
+
+    trunc_behind : (a : TruncAt) → m.machine.at ≡ a → HasGivenUp cur m.machine a → Keeps cur m.kept m.machine a → is_some (slot_kept (now_by m a)) ≡ false → WaitsBehind c p
     trunc_behind trunc_at.Direct is given keeps waits = absurd (nothing_kept trunc_at.Direct keeps refl refl)
     trunc_behind (trunc_at.Loading b) is given keeps waits = for_second b is given keeps
     trunc_behind trunc_at.Entry is given keeps waits = for_bitmap trunc_at.Entry is refl waits
-    trunc_behind trunc_at.Unloading is given keeps waits = absurd (cc waits)
+    trunc_behind trunc_at.Unloading is given keeps waits = absurd (kept_there m.kept.inner (hand_in cur m.machine) keeps.inner waits)
     trunc_behind trunc_at.Freeing is given keeps waits = for_bitmap trunc_at.Freeing is refl waits
     trunc_behind trunc_at.Updating is given keeps waits = absurd (nothing_kept trunc_at.Updating keeps refl refl)
 

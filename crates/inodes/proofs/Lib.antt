@@ -2,6 +2,7 @@ pub mod LookLemmas
 pub mod ReadLemmas
 pub mod Frames
 pub mod Present
+mod TruncGot
 mod Agreeing
 mod Routes
 mod WriteNodes
@@ -13,7 +14,6 @@ mod TruncSlots
 mod Truncating
 mod TruncFiles
 mod AtWork
-mod Driving
 mod TruncMakes
 mod TruncSteps
 mod Searching

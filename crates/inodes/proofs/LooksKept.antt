@@ -46,13 +46,13 @@ use Rattle.in_flight.specs.Lemmas.WriteBacks.{claim_fits, last_fields, write_bac
 use Rattle.blockmap.specs.Lemmas.Resting.{resting_may_be_read}
 use Rattle.blockmap.specs.Lemmas.Targets.{leads_still, needed_within}
 use Rattle.blockmap.specs.Reading.{MayRead}
+use Rattle.inodes.specs.declared.freeing.Freeing.{Freeing}
 use Rattle.inodes.specs.declared.itrunc.TruncAt.{TruncAt}
 use Rattle.inodes.specs.declared.itrunc.TruncAt.TheVariants as trunc_at
 use Rattle.inodes.specs.declared.tasks.Stage.{Stage}
 use Rattle.inodes.specs.declared.tasks.Stage.TheVariants as stage
 use Rattle.inodes.specs.Grips.{Grip, KeepsUsedInodes, TableIs, grip, locked_grip}
 use Rattle.inodes.specs.Holding.{HasGivenUp, IsInHand, Keeps, claim_by, claims_of, hand_in, held_of, claim_of, root_of, way_of}
-use Rattle.inodes.specs.Itrunc.{Freeing}
 use Rattle.inodes.specs.Looks.{AreLooking, HasFiles, LooksAt}
 use Rattle.inodes.specs.Places.{asked_by, grip_by, grip_of, grips_of}
 use Rattle.inodes.specs.Store.{CanBegin, first_place}

@@ -1,6 +1,6 @@
 -- A step whose task has a cause to wait does wait: what it asks for are a buffer or an inode's lock,
 -- and these answer by the cause alone.
-use Rattle.std.proofs.Common.{◌≡◌, ℕ, Bool, List, refl, sym, ◌∙◌, ap, subst, Option, Some, None}
+use Rattle.std.proofs.Common.{◌≡◌, ℕ, Bool, List, sym, ◌∙◌, ap, subst, Option, Some, None}
 use Rattle.blocks.specs.declared.disk.Disk.{Ghosts}
 use Rattle.blocks.specs.declared.errors.DiskFault.{DiskFault}
 use Rattle.bcache.specs.Buffers.{Buffers}
@@ -26,27 +26,21 @@ use Rattle.model.specs.declared.types.progress.Progress.TheVariants as machine
 use Rattle.blockmap.specs.declared.target.Target.{Target}
 use Rattle.blockmap.specs.declared.target.Target.TheVariants as target
 use Rattle.blockmap.specs.Target.{block_of, slot_in}
-use Rattle.blockmap.specs.Driver.{Drives}
-use Rattle.blockmap.specs.Lemmas.Others.{never_sleeps}
-use Rattle.blockmap.specs.Next.{block_of_next, used_now, wanted_by}
-use Rattle.blockmap.specs.declared.driving.Driven.{Driven}
-use Rattle.blockmap.specs.declared.driving.Got.{Got}
-use Rattle.blockmap.specs.declared.driving.Kept.{Kept}
-use Rattle.blockmap.specs.declared.machine.Machine.{Ghosts as Pure}
-use Rattle.blockmap.specs.declared.machine.Next.{Next}
-use Rattle.blockmap.specs.declared.machine.Next.TheVariants as next
+use Rattle.inodes.specs.declared.freeing.Got.{Got}
+use Rattle.inodes.specs.declared.freeing.Freeing.{Freeing}
 use Rattle.inodes.specs.declared.ilock.LockAt.{LockAt}
 use Rattle.inodes.specs.declared.ilock.LockAt.TheVariants as lock_at
 use Rattle.inodes.specs.declared.tasks.Stage.{Stage}
 use Rattle.inodes.specs.declared.tasks.Stage.TheVariants as stage
 use Rattle.inodes.specs.declared.writei.WriteAt.{WriteAt}
 use Rattle.inodes.specs.declared.writei.WriteAt.TheVariants as write_at
+use Rattle.inodes.specs.Freeing.{FreesOn, block_next, now_of, slot_kept}
 use Rattle.inodes.specs.Goes.{Goes, GoesFrom, Shown, progress_of_search, progress_of_lock, progress_of_read, progress_of_trunc, progress_of_write, shown_of}
 use Rattle.inodes.specs.Growing.{bytes_of}
 use Rattle.inodes.specs.Ialloc.{BuffersAfter, SearchState}
 use Rattle.inodes.specs.Ilock.{LockSteps, Locks}
-use Rattle.inodes.specs.Itrunc.{Freeing, itrunc, trunc_next}
 use Rattle.inodes.specs.Iupdate.{UpdateState, Updates}
+use Rattle.inodes.specs.Lemmas.Freeing.{IsDone, use_done}
 use Rattle.inodes.specs.LockState.{LockState}
 use Rattle.inodes.specs.Readi.{ReadState, Works}
 use Rattle.inodes.specs.Store.{current_of}
@@ -110,16 +104,9 @@ module _ {D N : Type 0} (disk : Ghosts D N) (v w : VolumeState D) (p : ℕ) (cau
   reads m n (target.Block b None) r e does = gets e does.1.2
   reads m n (target.Block b (Some i)) r e does = absurd (cc e)
 
-  none_wanted : (a : Next) (kept : Kept) (used : Option ℕ) (g : Got) → used_now a kept used ≡ Some g → wanted_by a used ≡ None
-  none_wanted (next.Use b) kept None g some = absurd (cc some)
-  none_wanted (next.Use b) kept (Some i) g some = refl
-  none_wanted (next.Keep b) kept used g some = absurd (cc some)
-  none_wanted next.Kept kept used g some = refl
-
-  drives : {M : Type 0} (pure : Pure M (Unit {0})) (m n : Driven M) (o : Option Got) (r : Progress (Unit {0})) → used_now (pure.next_of m.machine) m.kept m.used ≡ o → HasCause (wanted_by (pure.next_of m.machine) m.used)
-      → Drives pure disk o v p m r n w → r ≡ machine.Sleeping cause
-  drives pure m n None r here e does = gets (subst HasCause does.wants e) does.gets
-  drives pure m n (Some g) r here e does = absurd (let no : None ≡ Some cause = ap (cause_to_get v.buffers) (sym (none_wanted (pure.next_of m.machine) m.kept m.used g here)) ∙ e in cc no)
+  frees : (m n : Freeing) (o : Option Got) (r : Progress (Unit {0})) → HasCause (unless_got (slot_kept o) (block_next m)) → FreesOn disk o v p m r n w → r ≡ machine.Sleeping cause
+  frees m n None r e does = gets e does.gets
+  frees m n (Some g) r e does = absurd (cc e)
 
   takes_one : {m : MapState} {t : AllocState} {after : Progress (Option ℕ) → Progress (Option ℕ)} {at : Progress (Option ℕ) → AllocState → MapAt} {named : Progress (Option ℕ) → Dinode}
       {r : Progress (Option ℕ)} {n : MapState} {d : Dinode} → HasCause (wanted_by_alloc t) → TakesOne disk v p m t after at named r n d w → r ≡ after (machine.Sleeping cause)
@@ -158,9 +145,9 @@ gets_asleep {T = T} disk v w p b cause slot g = by g.answer g.gives g.gets.answe
     by (get.Sleeping other) is answer = let same : cause ≡ other = cc is in ap cause_of_get (sym answer) ∙ ap Some (sym same)
     by (get.Fault fault) is answer = absurd (cc is)
 
-pub trunc_asleep : {D N : Type 0} (disk : Ghosts D N) (v w : VolumeState D) (p : ℕ) (cause : Why) (m n : Freeing) (o : Option Got) → Drives itrunc disk o v p m (machine.Sleeping cause) n w → cause_to_get v.buffers (wanted_by (trunc_next m) m.used) ≡ Some cause
-trunc_asleep disk v w p cause m n None does = subst (λ (o : Option ℕ). cause_to_get v.buffers o ≡ Some cause) (sym does.wants) (gets_asleep disk v w p (block_of_next (trunc_next m)) cause does.slot does.gets)
-trunc_asleep disk v w p cause m n (Some g) does = absurd (never_sleeps _ cause (sym does.answer))
+pub trunc_asleep : {D N : Type 0} (disk : Ghosts D N) (v w : VolumeState D) (p : ℕ) (cause : Why) (m n : Freeing) (o : Option Got) → FreesOn disk o v p m (machine.Sleeping cause) n w → cause_to_get v.buffers (unless_got (slot_kept o) (block_next m)) ≡ Some cause
+trunc_asleep disk v w p cause m n None does = gets_asleep disk v w p (block_next m) cause does.slot does.gets
+trunc_asleep disk v w p cause m n (Some g) does = absurd (subst IsDone (sym does.answer) (use_done m.machine.at))
 
 pub waits_with_cause : {D N : Type 0} (disk : Ghosts D N) → WaitsWithCause disk
 waits_with_cause {D} {N} disk s t p op r cause waits steps = by (task s.tasks p).place waits steps.goes
@@ -176,6 +163,6 @@ waits_with_cause {D} {N} disk s t p op r cause waits steps = by (task s.tasks p)
         take.gives ∙ ap (progress_of_lock s.table.form (inode_of (current_of disk.image s.volume) m.number) op) (locks disk s.volume t.volume p cause s.table t.table m take.now m.at take.answer e take.locks)
     by (stage.Reading k m) e goes = let read = goes.0 in read.gives ∙ ap progress_of_read (reads disk s.volume t.volume p cause m read.now m.target read.answer e read.reads.works)
     by (stage.Delivering k) e goes = absurd (cc e)
-    by (stage.Truncating k m) e goes = goes.gives ∙ ap progress_of_trunc (drives disk s.volume t.volume p cause itrunc m goes.now (used_now (trunc_next m) m.kept m.used) goes.answer refl e goes.drives)
+    by (stage.Truncating k m) e goes = goes.gives ∙ ap progress_of_trunc (frees disk s.volume t.volume p cause m goes.now (now_of m) goes.answer e goes.steps)
     by (stage.Writing k m) e goes = goes.gives ∙ ap (progress_of_write m.done) (writes disk s.volume t.volume p cause m goes.now m.at (bytes_of op) goes.answer e goes.writes)
     by (stage.Leaving k) e goes = absurd (cc e)

@@ -11,8 +11,6 @@ use Rattle.wal.specs.Joint.{seen}
 use Rattle.wal.specs.Volume.{VolumeState, GetsFor, progress_of, slot_of}
 use Rattle.wal.specs.Get as get
 use Rattle.wal.specs.Get.{Get}
-use Rattle.blockmap.specs.Driver.{Drives, over_with, progress_of_over, when_got}
-use Rattle.blockmap.specs.declared.driving.Got.{Got}
 use Rattle.model.specs.declared.types.progress.Progress.TheVariants as machine
 use Rattle.model.specs.Progress.{one_more}
 use Rattle.model.specs.declared.types.progress.Progress.{Progress}
@@ -29,17 +27,20 @@ use Rattle.blockmap.specs.declared.branch.Branch.{Branch}
 use Rattle.blockmap.specs.declared.branch.Node.{Node}
 use Rattle.blockmap.specs.declared.target.Target.TheVariants as target
 use Rattle.blockmap.specs.declared.target.Target.{Target}
+use Rattle.inodes.specs.declared.freeing.Got.{Got}
+use Rattle.inodes.specs.declared.freeing.Freeing.{Freeing}
 use Rattle.inodes.specs.declared.tasks.Stage.TheVariants as stage
 use Rattle.inodes.specs.declared.tasks.Stage.{Stage}
 use Rattle.inodes.specs.declared.writei.WriteAt.TheVariants as write_at
 use Rattle.inodes.specs.declared.writei.WriteAt.{WriteAt}
+use Rattle.inodes.specs.Freeing.{FreesOn, answer_by, when_got}
 use Rattle.inodes.specs.Ialloc.{SearchGoes, SearchState}
 use Rattle.inodes.specs.declared.ilock.LockAt.TheVariants as lock_at
 use Rattle.inodes.specs.declared.ilock.LockAt.{LockAt}
 use Rattle.inodes.specs.Ilock.{LockSteps, Locks, at_lock}
 use Rattle.inodes.specs.InPlace.{SearchesInPlace}
-use Rattle.inodes.specs.Itrunc.{Freeing, itrunc, trunc_next}
 use Rattle.inodes.specs.Iupdate.{UpdateState, Updates}
+use Rattle.inodes.specs.Lemmas.Freeing.{IsDone, use_done}
 use Rattle.inodes.specs.LockState.{LockState}
 use Rattle.inodes.specs.Table.{TableState, copy_at, holder_at}
 use Rattle.inodes.specs.Readi.{IsMade, ReadState, ReadSteps, Works}
@@ -223,15 +224,16 @@ locks_stay disk v w t u p m n (lock_at.Read k (Some i)) r at does rests = does.1
 
 -- ---- the freeing of a file's blocks
 
-never_over : (o : Option (Unit {0})) → Rests (progress_of_over o) → ⊥
-never_over None rests = rests
-never_over (Some out) rests = rests
+never_rests : (r : Progress (Unit {0})) → IsDone r → Rests r → ⊥
+never_rests machine.Moved done rests = rests
+never_rests (machine.Sleeping why) done rests = done
+never_rests (machine.Over out) done rests = rests
+never_rests (machine.Fault fault) done rests = done
 
-pub truncs_stay : {D N : Type 0} (disk : Ghosts D N) (v w : VolumeState D) (p : ℕ) (m n : Freeing) (o : Option Got) (r : Progress (Unit {0})) → Drives itrunc disk o v p m r n w → Rests r → n ≡ m
-truncs_stay disk v w p m n None r drives rests =
-    drives.next ∙ ap (λ (s : Option ℕ). when_got itrunc (seen (disk.image v.device) v.buffers) (trunc_next m) s m) (gets disk v w p drives.gets rests)
-truncs_stay disk v w p m n (Some g) r drives rests =
-    absurd (never_over (over_with itrunc (seen (disk.image v.device) v.buffers) m g) (subst (λ (q : Progress (Unit {0})). Rests q) drives.answer rests))
+pub truncs_stay : {D N : Type 0} (disk : Ghosts D N) (v w : VolumeState D) (p : ℕ) (m n : Freeing) (o : Option Got) (r : Progress (Unit {0})) → FreesOn disk o v p m r n w → Rests r → n ≡ m
+truncs_stay disk v w p m n None r steps rests = steps.next ∙ ap (λ (s : Option ℕ). when_got (seen (disk.image v.device) v.buffers) s m) (gets disk v w p steps.gets rests)
+truncs_stay disk v w p m n (Some g) r steps rests =
+    absurd (never_rests (answer_by m.machine.at) (use_done m.machine.at) (subst (λ (q : Progress (Unit {0})). Rests q) steps.answer rests))
 
 -- ---- the tasks
 

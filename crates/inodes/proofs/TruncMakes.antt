@@ -33,26 +33,22 @@ use Rattle.wal.specs.Joint.{Joint}
 use Rattle.wal.specs.Machine.{LogState, is_among, noted, used_by}
 use Rattle.wal.specs.Volume.{VolumeState}
 use Rattle.wal.specs.Lemmas.Rooms.{noted_among, noted_home, used_noted_new}
-use Rattle.blockmap.specs.Deeds.{CarriesOut, image_with}
-use Rattle.blockmap.specs.Driver.{Drives, GetsNext, Uses, progress_of_over, taken, when_got}
+use Rattle.blockmap.specs.Bfree.{with_freed}
 use Rattle.blockmap.specs.Getting.{Releases, WritesBlock}
-use Rattle.blockmap.specs.Lemmas.Slots.{not_got}
-use Rattle.blockmap.specs.Next.{beside, block_of_next, kept_and, kept_then, used_now}
-use Rattle.blockmap.specs.declared.deed.Deed.TheVariants as deed
-use Rattle.blockmap.specs.declared.deed.Patch.TheVariants as patch
-use Rattle.blockmap.specs.declared.driving.Got.{Got}
-use Rattle.blockmap.specs.declared.driving.Kept.{Kept}
-use Rattle.blockmap.specs.declared.machine.Next.TheVariants as next
 use Rattle.model.specs.declared.types.progress.Progress.{Progress}
 use Rattle.model.specs.declared.types.progress.Progress.TheVariants as machine
+use Rattle.inodes.specs.declared.freeing.Kept.{Kept}
+use Rattle.inodes.specs.declared.freeing.Got.{Got}
+use Rattle.inodes.specs.declared.freeing.Freeing.{Freeing}
 use Rattle.inodes.specs.declared.itrunc.Itrunc.{Itrunc}
 use Rattle.inodes.specs.declared.itrunc.TruncAt.{TruncAt}
 use Rattle.inodes.specs.declared.itrunc.TruncAt.TheVariants as trunc_at
 use Rattle.inodes.specs.declared.tasks.Stage.TheVariants as stage
+use Rattle.inodes.specs.Freeing.{Changes, FreesOn, GetsNext, UsesBlock, answer_by, block_by, block_next, entries_kept, got_in, image_by, kept_then, now_by, now_of, taken, when_got}
 use Rattle.inodes.specs.Goes.{table_of_trunc}
 use Rattle.inodes.specs.Grips.{Grip, IsCopy, KeepsTable, KeepsUsedInodes}
 use Rattle.inodes.specs.Holding.{AreGivenUp, HasGivenUp, IsAtDirect, IsAtEntry, IsInHand, IsTruncating, Keeps, above_by, above_hand, block_of_got, claims_of, hand_in, held_of, made_so_far, one_for, root_of, stage_left, truncs_left, way_of}
-use Rattle.inodes.specs.Itrunc.{Freeing, IsBelow, address_left, after_trunc, at_block, at_branches, at_entries, deed_of_trunc, inode_left, inode_without, itrunc, last_inode_of, left_by, next_of_trunc, over_of_trunc, trunc_next}
+use Rattle.inodes.specs.Itrunc.{IsBelow, address_left, after_trunc, at_block, at_branches, at_entries, inode_left, inode_without, last_inode_of, left_by}
 use Rattle.inodes.specs.Places.{grips_of}
 use Rattle.inodes.specs.Store.{StoreState, IsStore, HasLogged, current_of}
 use Rattle.inodes.specs.Table.{TableState, renewed}
@@ -63,7 +59,7 @@ use Rattle.inodes.proofs.InHand.{first_tree, hand_kept, in_hand_kept, root_there
 use Rattle.inodes.proofs.LooksKept.{KeepsUsed, keeps_freed, keeps_same, keeps_written}
 use Rattle.inodes.proofs.TruncFiles.{fits_still, with_claim, with_claim_is}
 use Rattle.inodes.proofs.TruncNext.{ComesTo, address_cursor, address_left_comes, block_comes, branches_come, entries_come, few_for, few_made}
-use Rattle.inodes.proofs.TruncSlots.{gains}
+use Rattle.inodes.proofs.TruncSlots.{Gains, gains}
 use Rattle.inodes.proofs.Truncating as of
 
 -- the bitmap's block counts once
@@ -76,20 +72,15 @@ logged_noted l p b lt had = ⊎_elim
     had)
     (cases_Bool (is_among b l.homes))
 
--- the step that gets a block is one less
-less_got : (blocks : ℕ) (upper : Option ℕ) (i : ℕ) (m : Itrunc) (a : TruncAt) (b : ℕ) → next_of_trunc m a ≡ next.Use b → 4 * blocks + stage_left upper (Some i) a < 4 * blocks + stage_left upper None a
-less_got blocks upper i m trunc_at.Direct b is = omega arith
-less_got blocks upper i m (trunc_at.Loading c) b is = absurd (cc is)
-less_got blocks upper i m trunc_at.Entry b is = let one = few_for upper in omega (arith, one)
-less_got blocks upper i m trunc_at.Unloading b is = absurd (cc is)
-less_got blocks upper i m trunc_at.Freeing b is = let one = few_for upper in omega (arith, one)
-less_got blocks upper i m trunc_at.Updating b is = omega arith
+not_got : (b : ℕ) (o : Option ℕ) → got_in b o ≡ None → o ≡ None
+not_got b None none = refl
+not_got b (Some i) none = absurd (cc none)
 
--- nothing is kept, and nothing was got
+-- nothing is kept, and nothing is used next
 pub record HasNone (n : Freeing) : Type 0 where
   pub inner : block_of_got n.kept.inner ≡ None
   pub outer : block_of_got n.kept.outer ≡ None
-  pub used : n.used ≡ None
+  pub now : now_of n ≡ None
 
 -- process p, whose task frees a file's blocks, makes a step
 module _ {D N : Type 0} (disk : Ghosts D N) (s : StoreState D) (p k : ℕ) (m : Freeing) (is : IsStore disk.image s) (well : s.volume.fault ≡ None)
@@ -113,23 +104,26 @@ module _ {D N : Type 0} (disk : Ghosts D N) (s : StoreState D) (p k : ℕ) (m : 
   abbrev count : ℕ
   count = s.table.inode_count
 
-  -- the truncation goes on
-  pub record GoesOn : Type 0 where
-    pub same : n.machine ≡ record mm { inode = n.machine.inode; slot = n.machine.slot; upper = n.machine.upper; given_up = n.machine.given_up; at = n.machine.at }
-    pub slot : n.machine.slot < 13
-    pub given : HasGivenUp now n.machine n.machine.at
-    pub keeps : Keeps now n.kept n.machine n.machine.at
-    pub less : truncs_left now n < truncs_left cur m
-    pub logged : HasLogged w.log p mm.bitmap
+  -- The truncation goes on: it stands so in this image, with that log.
+  pub record GoesOn (x : Image) (u : Freeing) (l : LogState) : Type 0 where
+    pub same : u.machine ≡ record mm { inode = u.machine.inode; slot = u.machine.slot; upper = u.machine.upper; given_up = u.machine.given_up; at = u.machine.at }
+    pub slot : u.machine.slot < 13
+    pub given : HasGivenUp x u.machine u.machine.at
+    pub keeps : Keeps x u.kept u.machine u.machine.at
+    pub less : truncs_left x u < truncs_left cur m
+    pub logged : HasLogged l p mm.bitmap
     -- with its new claim the image stands for the same files
-    pub fits : (new : Claims) → IsClaimedNow claims mm.number (Some (frees (held_of n.machine))) new → (files : Files) → FitsHeld files cur claims → FitsHeld files now new
+    pub fits : (new : Claims) → IsClaimedNow claims mm.number (Some (frees (held_of u.machine))) new → (files : Files) → FitsHeld files cur claims → FitsHeld files x new
+
+  goes_so : (x : Image) (u : Freeing) → now ≡ x → n ≡ u → GoesOn x u w.log → GoesOn now n w.log
+  goes_so x u shown to on = subst (λ (y : Image). GoesOn y n w.log) (sym shown) (subst (λ (o : Freeing). GoesOn x o w.log) (sym to) on)
 
   -- What the step makes of image and table, by what it answers.
   pub record Makes : Type 0 where
     pub marks : Marks None cur now
     pub keeps : KeepsUsed count mm.number claims cur now
     pub table : KeepsTable s.table (table_of_trunc s.table k m q) p gs gs now
-    pub on : q ≡ machine.Moved → GoesOn
+    pub on : q ≡ machine.Moved → GoesOn now n w.log
     -- nothing is kept at the end, and the number is at rest
     pub over : q ≡ machine.Over tt → HasNone n × (1 ≤ truncs_left cur m)
     pub rests : q ≡ machine.Over tt → (new : Claims) → IsClaimedNow claims mm.number None new → (files : Files) → FitsHeld files cur claims → FitsHeld files now new
@@ -168,7 +162,7 @@ module _ {D N : Type 0} (disk : Ghosts D N) (s : StoreState D) (p k : ℕ) (m : 
   -- ---- the image stays
 
   module _ (stays : now ≡ cur) (going : q ≢ machine.Over tt) where
-    still_makes : (q ≡ machine.Moved → GoesOn) → Makes
+    still_makes : (q ≡ machine.Moved → GoesOn now n w.log) → Makes
     still_makes on = record {
       marks = subst (Marks None cur) (sym stays) (marks_same None cur (λ i makes. absurd (false≢true makes)));
       keeps = subst (KeepsUsed count mm.number claims cur) (sym stays) (keeps_same count mm.number claims cur);
@@ -180,78 +174,62 @@ module _ {D N : Type 0} (disk : Ghosts D N) (s : StoreState D) (p k : ℕ) (m : 
       rests = λ over. absurd (going over);
     }
 
-    -- the claim stays too
-    same_claim : n.machine ≡ mm → (new : Claims) → IsClaimedNow claims mm.number (Some (frees (held_of n.machine))) new → (files : Files) → FitsHeld files cur claims → FitsHeld files now new
-    same_claim same new claimed files fits = subst (λ (x : Image). FitsHeld files x new) (sym stays)
-        (fits_still files cur claims new mm.number (held_of mm) (held_in files fits) (subst (λ (o : Itrunc). IsClaimedNow claims mm.number (Some (frees (held_of o))) new) same claimed))
+  -- a block was got that is used next
+  to_use : (i : ℕ) (a : TruncAt) → mm.at ≡ a → m.used ≡ None → made_so_far mm.upper None a < made_so_far mm.upper (Some i) a → GoesOn cur (record m { used = Some i }) s.volume.log
+  to_use i a at none more =
+      let blocks : ℕ = blocks_left cur (held_of mm) in
+      let few = few_made mm.upper (Some i) a in
+      record {
+        same = refl;
+        slot = work.slot;
+        given = work.given;
+        keeps = work.keeps;
+        less = subst (λ (u : Option ℕ). 4 * blocks + stage_left mm.upper (Some i) mm.at < 4 * blocks + stage_left mm.upper u mm.at) (sym none)
+            (subst (λ (o : TruncAt). 4 * blocks + stage_left mm.upper (Some i) o < 4 * blocks + stage_left mm.upper None o) (sym at) (omega (arith, more, few)));
+        logged = logged;
+        fits = λ new claimed files fits. fits_still files cur claims new mm.number (held_of mm) (held_in files fits) claimed;
+      }
 
-    -- a block was got that is used next
-    to_use : (i : ℕ) (a : TruncAt) (b : ℕ) → mm.at ≡ a → next_of_trunc mm a ≡ next.Use b → m.used ≡ None → n ≡ record m { used = Some i } → w.log ≡ s.volume.log → GoesOn
-    to_use i a b at uses none to log =
-        let same : n.machine ≡ mm = ap (λ (o : Freeing). o.machine) to in
-        let blocks : ℕ = blocks_left cur (held_of mm) in
-        record {
-          same = subst (λ (o : Itrunc). o ≡ record mm { inode = o.inode; slot = o.slot; upper = o.upper; given_up = o.given_up; at = o.at }) (sym same) refl;
-          slot = subst (λ (o : Itrunc). o.slot < 13) (sym same) work.slot;
-          given = subst (λ (x : Image). HasGivenUp x n.machine n.machine.at) (sym stays) (subst (λ (o : Itrunc). HasGivenUp cur o o.at) (sym same) work.given);
-          keeps = subst (λ (x : Image). Keeps x n.kept n.machine n.machine.at) (sym stays) (subst (λ (o : Freeing). Keeps cur o.kept o.machine o.machine.at) (sym to) work.keeps);
-          less = subst (λ (x : Image). truncs_left x n < truncs_left cur m) (sym stays) (subst (λ (o : Freeing). truncs_left cur o < truncs_left cur m) (sym to)
-              (subst (λ (u : Option ℕ). 4 * blocks + stage_left mm.upper (Some i) mm.at < 4 * blocks + stage_left mm.upper u mm.at) (sym none)
-              (subst (λ (o : TruncAt). 4 * blocks + stage_left mm.upper (Some i) o < 4 * blocks + stage_left mm.upper None o) (sym at) (less_got blocks mm.upper i mm a b uses))));
-          logged = subst (λ (l : LogState). HasLogged l p mm.bitmap) (sym log) logged;
-          fits = same_claim same;
-        }
+  -- the block of addresses in hand was got, and is kept
+  to_block : (i b : ℕ) → mm.at ≡ trunc_at.Loading b → GoesOn cur (taken (block_at cur b) i (trunc_at.Loading b) m) s.volume.log
+  to_block i b at = record {
+    same = comes.same ∙ ap (λ (d : Dinode). record mm { inode = d; slot = after.slot; upper = after.upper; given_up = after.given_up; at = after.at }) (sym (ap (λ (o : Itrunc). o.inode) comes.same));
+    slot = comes.slot;
+    given = comes.given;
+    keeps = comes.keeps (taken (block_at cur b) i (trunc_at.Loading b) m).kept (ap Some (sym given.2)) keeps.inner;
+    less = subst (λ (o : TruncAt). 4 * (blocks_left cur (held_of after)) + stage_left after.upper None after.at < 4 * (blocks_left cur (held_of mm)) + stage_left mm.upper m.used o) (sym at)
+        (omega (arith, comes.made, few_for mm.upper, as_many));
+    logged = logged;
+    fits = λ new claimed files fits. entry_passed files cur claims new mm.number (held_of after).cursor (held_of mm) (held_in files fits) alike
+        (subst (λ (c : Option Claim). IsClaimedNow claims mm.number c new) (ap (λ (h : Held). Some (frees h)) claim) claimed);
+  }
+    where
+      given : HasGivenUp cur mm (trunc_at.Loading b)
+      given = subst (HasGivenUp cur mm) at work.given
 
-    -- the block of addresses in hand was got, and is kept
-    to_block : (i b : ℕ) → mm.at ≡ trunc_at.Loading b → n ≡ taken itrunc (block_at cur b) (next.Keep b) i m → w.log ≡ s.volume.log → GoesOn
-    to_block i b at to log = record {
-      same = subst (λ (o : Itrunc). o ≡ record mm { inode = o.inode; slot = o.slot; upper = o.upper; given_up = o.given_up; at = o.at }) (sym same)
-          (comes.same ∙ ap (λ (d : Dinode). record mm { inode = d; slot = after.slot; upper = after.upper; given_up = after.given_up; at = after.at }) (sym inode));
-      slot = subst (λ (o : Itrunc). o.slot < 13) (sym same) comes.slot;
-      given = subst (λ (x : Image). HasGivenUp x n.machine n.machine.at) (sym stays) (subst (λ (o : Itrunc). HasGivenUp cur o o.at) (sym same) comes.given);
-      keeps = subst (λ (x : Image). Keeps x n.kept n.machine n.machine.at) (sym stays) (subst (λ (o : Freeing). Keeps cur o.kept o.machine o.machine.at) (sym to)
-          (comes.keeps (kept_and m.kept (record { block = b; slot = i })) (ap Some (sym given.2)) (keeps.inner)));
-      less = subst (λ (x : Image). truncs_left x n < truncs_left cur m) (sym stays) (subst (λ (o : Freeing). truncs_left cur o < truncs_left cur m) (sym to)
-          (subst (λ (o : TruncAt). 4 * (blocks_left cur (held_of after)) + stage_left after.upper None after.at < 4 * (blocks_left cur (held_of mm)) + stage_left mm.upper m.used o) (sym at)
-          (omega (arith, comes.made, few_for mm.upper, as_many))));
-      logged = subst (λ (l : LogState). HasLogged l p mm.bitmap) (sym log) logged;
-      fits = λ new claimed files fits. subst (λ (x : Image). FitsHeld files x new) (sym stays)
-          (entry_passed files cur claims new mm.number (held_of after).cursor (held_of mm) (held_in files fits) alike
-          (subst (λ (c : Option Claim). IsClaimedNow claims mm.number c new) (ap (λ (h : Held). Some (frees h)) (ap held_of same ∙ claim)) claimed));
-    }
-      where
-        given : HasGivenUp cur mm (trunc_at.Loading b)
-        given = subst (HasGivenUp cur mm) at work.given
+      keeps : Keeps cur m.kept mm (trunc_at.Loading b)
+      keeps = subst (Keeps cur m.kept mm) at work.keeps
 
-        keeps : Keeps cur m.kept mm (trunc_at.Loading b)
-        keeps = subst (Keeps cur m.kept mm) at work.keeps
+      after : Itrunc
+      after = at_block mm (words_of (block_at cur b))
 
-        after : Itrunc
-        after = at_block mm (words_of (block_at cur b))
+      comes : ComesTo cur mm after (way_of mm ++ 0 ∷ []) (Some (hand_in cur mm)) (above_hand mm) (1 + one_for mm.upper)
+      comes = subst (λ (c : ℕ). ComesTo cur mm (at_block mm (words_of (block_at cur c))) (way_of mm ++ 0 ∷ []) (Some (hand_in cur mm)) (above_hand mm) (1 + one_for mm.upper)) given.2 (block_comes cur mm given.0 work.form)
 
-        same : n.machine ≡ after
-        same = ap (λ (o : Freeing). o.machine) to
+      claim : held_of after ≡ (let h : Held = record (held_of mm) { cursor = (held_of after).cursor } in h)
+      claim = ap held_of comes.same
 
-        comes : ComesTo cur mm after (way_of mm ++ 0 ∷ []) (Some (hand_in cur mm)) (above_hand mm) (1 + one_for mm.upper)
-        comes = subst (λ (c : ℕ). ComesTo cur mm (at_block mm (words_of (block_at cur c))) (way_of mm ++ 0 ∷ []) (Some (hand_in cur mm)) (above_hand mm) (1 + one_for mm.upper)) given.2 (block_comes cur mm given.0 work.form)
+      alike : LeavesAlike cur mm.inode (held_of after).cursor (held_of mm).cursor
+      alike = subst (λ (g : ℕ). LeavesAlike cur mm.inode (held_of after).cursor (way_of mm ++ g ∷ [])) (sym given.1) comes.alike
 
-        inode : after.inode ≡ mm.inode
-        inode = ap (λ (o : Itrunc). o.inode) comes.same
+      as_many : blocks_left cur (held_of after) ≡ blocks_left cur (held_of mm)
+      as_many = ap (blocks_left cur) claim ∙ leaves_as_many cur (held_of after).cursor (held_of mm) alike
 
-        claim : held_of after ≡ (let h : Held = record (held_of mm) { cursor = (held_of after).cursor } in h)
-        claim = ap held_of comes.same
-
-        alike : LeavesAlike cur mm.inode (held_of after).cursor (held_of mm).cursor
-        alike = subst (λ (g : ℕ). LeavesAlike cur mm.inode (held_of after).cursor (way_of mm ++ g ∷ [])) (sym given.1) comes.alike
-
-        as_many : blocks_left cur (held_of after) ≡ blocks_left cur (held_of mm)
-        as_many = ap (blocks_left cur) claim ∙ leaves_as_many cur (held_of after).cursor (held_of mm) alike
-
-  gets_makes : (a : TruncAt) → mm.at ≡ a → HasGivenUp cur mm a → Keeps cur m.kept mm a → used_now (next_of_trunc mm a) m.kept m.used ≡ None → GetsNext itrunc disk s.volume p m q n w → Makes
+  gets_makes : (a : TruncAt) → mm.at ≡ a → HasGivenUp cur mm a → Keeps cur m.kept mm a → now_by m a ≡ None → GetsNext disk s.volume p m q n w → Makes
   gets_makes a at given keeps none gets = still_makes gets.gets.reads.current never on
     where
       b : ℕ
-      b = block_of_next (trunc_next m)
+      b = block_next m
 
       then_at : StoreState D
       then_at = record s { volume = w }
@@ -259,47 +237,49 @@ module _ {D N : Type 0} (disk : Ghosts D N) (s : StoreState D) (p k : ℕ) (m : 
       never : q ≢ machine.Over tt
       never over = Rattle.inodes.proofs.TruncSlots.never_over disk s then_at p b q gets.slot gets.gets tt over
 
-      on : q ≡ machine.Moved → GoesOn
-      on moved =
-          let gain = gains disk s then_at p b q gets.slot gets.gets moved in
-          let to : n ≡ taken itrunc (block_at cur (block_of_next (next_of_trunc mm a))) (next_of_trunc mm a) gain.at m =
-          gets.next ∙ ap (λ (o : Option ℕ). when_got itrunc cur (trunc_next m) o m) gain.is ∙ ap (λ (o : TruncAt). taken itrunc (block_at cur (block_of_next (next_of_trunc mm o))) (next_of_trunc mm o) gain.at m) at in
-          by_at a at keeps none to
+      on : q ≡ machine.Moved → GoesOn now n w.log
+      on moved = goes_so cur (taken (block_at cur (block_by mm a)) gain.at a m) gets.gets.reads.current
+          (gets.next ∙ ap (λ (o : Option ℕ). when_got cur o m) gain.is ∙ ap (λ (o : TruncAt). taken (block_at cur (block_by mm o)) gain.at o m) at)
+          (subst (GoesOn cur (taken (block_at cur (block_by mm a)) gain.at a m)) (sym gets.gets.reads.log) (by_at gain.at a at keeps none))
         where
-          log : w.log ≡ s.volume.log
-          log = gets.gets.reads.log
+          gain : Gains disk s then_at p b q gets.slot gets.gets
+          gain = gains disk s then_at p b q gets.slot gets.gets moved
 
-          i : ℕ
-          i = (gains disk s then_at p b q gets.slot gets.gets moved).at
-
-          by_at : (a : TruncAt) → mm.at ≡ a → Keeps cur m.kept mm a → used_now (next_of_trunc mm a) m.kept m.used ≡ None → n ≡ taken itrunc (block_at cur (block_of_next (next_of_trunc mm a))) (next_of_trunc mm a) i m → GoesOn
-          by_at trunc_at.Direct at keeps none to = to_use gets.gets.reads.current never i trunc_at.Direct mm.bitmap at refl (not_got mm.bitmap m.kept m.used none) to log
-          by_at (trunc_at.Loading c) at keeps none to = to_block gets.gets.reads.current never i c at to log
-          by_at trunc_at.Entry at keeps none to = to_use gets.gets.reads.current never i trunc_at.Entry mm.bitmap at refl (not_got mm.bitmap m.kept m.used none) to log
-          by_at trunc_at.Unloading at keeps none to = absurd (let e : None ≡ Some (hand_in cur mm) = sym (ap block_of_got none) ∙ keeps.inner in cc e)
-          by_at trunc_at.Freeing at keeps none to = to_use gets.gets.reads.current never i trunc_at.Freeing mm.bitmap at refl (not_got mm.bitmap m.kept m.used none) to log
-          by_at trunc_at.Updating at keeps none to = to_use gets.gets.reads.current never i trunc_at.Updating (inode_block mm.number) at refl (not_got (inode_block mm.number) m.kept m.used none) to log
+          by_at : (i : ℕ) (a : TruncAt) → mm.at ≡ a → Keeps cur m.kept mm a → now_by m a ≡ None → GoesOn cur (taken (block_at cur (block_by mm a)) i a m) s.volume.log
+          by_at i trunc_at.Direct at keeps none = to_use i trunc_at.Direct at (not_got mm.bitmap m.used none) (omega arith)
+          by_at i (trunc_at.Loading c) at keeps none = to_block i c at
+          by_at i trunc_at.Entry at keeps none = to_use i trunc_at.Entry at (not_got mm.bitmap m.used none) (omega arith)
+          by_at i trunc_at.Unloading at keeps none = absurd (let e : None ≡ Some (hand_in cur mm) = sym (ap block_of_got none) ∙ keeps.inner in cc e)
+          by_at i trunc_at.Freeing at keeps none = to_use i trunc_at.Freeing at (not_got mm.bitmap m.used none) (omega arith)
+          by_at i trunc_at.Updating at keeps none = to_use i trunc_at.Updating at (not_got (inode_block mm.number) m.used none) (omega arith)
 
   -- ---- a block is used
 
-  module _ (g : Got) (uses : Uses itrunc disk g s.volume p m q n w) where
+  module _ (g : Got) (uses : UsesBlock disk g s.volume p m q n w) where
     abbrev entries : List ℕ
-    entries = words_of (block_at cur (beside m.kept g).block)
+    entries = entries_kept cur m g
 
     machine_at : (a : TruncAt) → mm.at ≡ a → n.machine ≡ after_trunc mm entries a
     machine_at a at = ap (λ (o : Freeing). o.machine) uses.next ∙ ap (after_trunc mm entries) at
 
-    kept_at : (a : TruncAt) → mm.at ≡ a → n.kept ≡ kept_then (next_of_trunc mm a) m.kept
-    kept_at a at = ap (λ (o : Freeing). o.kept) uses.next ∙ ap (λ (o : TruncAt). kept_then (next_of_trunc mm o) m.kept) at
+    kept_at : (a : TruncAt) → mm.at ≡ a → n.kept ≡ kept_then m.kept a
+    kept_at a at = ap (λ (o : Freeing). o.kept) uses.next ∙ ap (kept_then m.kept) at
 
     used_none : n.used ≡ None
     used_none = ap (λ (o : Freeing). o.used) uses.next
 
-    answer_at : (a : TruncAt) → mm.at ≡ a → q ≡ progress_of_over (over_of_trunc a)
-    answer_at a at = uses.answer ∙ ap (λ (o : TruncAt). progress_of_over (over_of_trunc o)) at
+    -- what is freed next, with what is kept
+    abbrev with_kept : Itrunc → Freeing
+    with_kept u = record { machine = u; kept = n.kept; used = None }
 
-    carries_at : (a : TruncAt) → mm.at ≡ a → CarriesOut disk s.volume p g.slot g.block (deed_of_trunc mm entries a) w
-    carries_at a at = subst (λ (o : TruncAt). CarriesOut disk s.volume p g.slot g.block (deed_of_trunc mm entries o) w) at uses.carries
+    to_kept : (u : Itrunc) → n.machine ≡ u → n ≡ with_kept u
+    to_kept u to = ap (λ (o : Option ℕ). record n { used = o }) used_none ∙ ap with_kept to
+
+    answer_at : (a : TruncAt) → mm.at ≡ a → q ≡ answer_by a
+    answer_at a at = uses.answer ∙ ap answer_by at
+
+    changes_at : (a : TruncAt) → mm.at ≡ a → Changes disk s.volume p g.slot (block_by mm a) (image_by cur mm entries a) w
+    changes_at a at = subst (λ (o : TruncAt). Changes disk s.volume p g.slot (block_by mm o) (image_by cur mm entries o) w) at uses.changes
 
     -- ---- a bit is cleared
 
@@ -315,9 +295,9 @@ module _ {D N : Type 0} (disk : Ghosts D N) (s : StoreState D) (p k : ℕ) (m : 
       keeps : Keeps (unmarked cur b) n.kept u u.at
       made : made_so_far mm.upper m.used mm.at < made_so_far u.upper None u.at + 4
 
-    module _ (b : ℕ) (u : Itrunc) (f : Frees b u) (at : g.block ≡ mm.bitmap) (writes : WritesBlock disk s.volume p g.slot g.block (image_with cur g.block (patch.ClearBit b)) w) where
+    module _ (b : ℕ) (u : Itrunc) (f : Frees b u) (writes : WritesBlock disk s.volume p g.slot mm.bitmap (with_freed cur mm.bitmap b) w) where
       shown : now ≡ unmarked cur b
-      shown = writes.current ∙ ap (λ (c : ℕ). image_with cur c (patch.ClearBit b)) (at ∙ of.bitmap disk s p k m is well stood)
+      shown = writes.current ∙ ap (λ (c : ℕ). with_freed cur c b) (of.bitmap disk s p k m is well stood)
 
       abbrev mid : Claims
       mid = with_claim claims mm.number (Some (frees (held_of u)))
@@ -342,18 +322,15 @@ module _ {D N : Type 0} (disk : Ghosts D N) (s : StoreState D) (p k : ℕ) (m : 
               table = kept_by_image s.table gs cur (unmarked cur b) (of.looking disk s p k m is well stood).table (used_still 0);
               others = λ q j i other locks. record { number = λ e. refl; holder = refl; copy = refl };
             }));
-        on = λ moved. record {
-          same = subst (λ (o : Itrunc). o ≡ record mm { inode = o.inode; slot = o.slot; upper = o.upper; given_up = o.given_up; at = o.at }) (sym f.to) f.same;
-          slot = subst (λ (o : Itrunc). o.slot < 13) (sym f.to) f.slot;
-          given = subst (λ (x : Image). HasGivenUp x n.machine n.machine.at) (sym shown) (subst (λ (o : Itrunc). HasGivenUp (unmarked cur b) o o.at) (sym f.to) f.given);
-          keeps = subst (λ (x : Image). Keeps x n.kept n.machine n.machine.at) (sym shown) (subst (λ (o : Itrunc). Keeps (unmarked cur b) n.kept o o.at) (sym f.to) f.keeps);
-          less = subst (λ (x : Image). truncs_left x n < truncs_left cur m) (sym shown)
-              (subst (λ (o : Option ℕ). 4 * (blocks_left (unmarked cur b) (held_of n.machine)) + stage_left n.machine.upper o n.machine.at < truncs_left cur m) (sym used_none)
-              (subst (λ (o : Itrunc). 4 * (blocks_left (unmarked cur b) (held_of o)) + stage_left o.upper None o.at < truncs_left cur m) (sym f.to) less_then));
-          logged = subst (λ (l : LogState). HasLogged l p mm.bitmap) (sym writes.log) (subst (λ (c : ℕ). HasLogged (noted s.volume.log p c) p mm.bitmap) (sym at) (logged_noted s.volume.log p mm.bitmap logs logged));
-          fits = λ new claimed files fits. subst (λ (x : Image). FitsHeld files x new) (sym shown)
-              (f.event files fits new (subst (λ (o : Itrunc). IsClaimedNow claims mm.number (Some (frees (held_of o))) new) f.to claimed)).then.fits;
-        };
+        on = λ moved. goes_so (unmarked cur b) (with_kept u) shown (to_kept u f.to) (record {
+          same = f.same;
+          slot = f.slot;
+          given = f.given;
+          keeps = f.keeps;
+          less = less_then;
+          logged = subst (λ (l : LogState). HasLogged l p mm.bitmap) (sym writes.log) (logged_noted s.volume.log p mm.bitmap logs logged);
+          fits = λ new claimed files fits. (f.event files fits new claimed).then.fits;
+        });
         over = λ over. absurd (cc (sym f.moved ∙ over));
         rests = λ over. absurd (cc (sym f.moved ∙ over));
       }
@@ -578,24 +555,18 @@ module _ {D N : Type 0} (disk : Ghosts D N) (s : StoreState D) (p k : ℕ) (m : 
     -- ---- the block of addresses is given back
 
     releases_makes : mm.at ≡ trunc_at.Unloading → HasGivenUp cur mm trunc_at.Unloading → Keeps cur m.kept mm trunc_at.Unloading → Makes
-    releases_makes at given keeps = still_makes does.current (λ over. cc (sym (answer_at trunc_at.Unloading at) ∙ over)) (λ moved. record {
-      same = subst (λ (o : Itrunc). o ≡ record mm { inode = o.inode; slot = o.slot; upper = o.upper; given_up = o.given_up; at = o.at }) (sym to) refl;
-      slot = subst (λ (o : Itrunc). o.slot < 13) (sym to) work.slot;
-      given = subst (λ (x : Image). HasGivenUp x n.machine n.machine.at) (sym does.current) (subst (λ (o : Itrunc). HasGivenUp cur o o.at) (sym to)
-          (record { tree = given.0.tree; slot = given.0.slot; before = given.0.before; there = given.0.there; level = given.0.level }, given.1));
-      keeps = subst (λ (x : Image). Keeps x n.kept n.machine n.machine.at) (sym does.current) (subst (λ (o : Itrunc). Keeps cur n.kept o o.at) (sym to)
-          (subst (λ (o : Kept). Keeps cur o freed trunc_at.Freeing) (sym (kept_at trunc_at.Unloading at)) (record { inner = keeps.outer; outer = refl })));
-      less = subst (λ (x : Image). truncs_left x n < truncs_left cur m) (sym does.current)
-          (subst (λ (o : Option ℕ). 4 * (blocks_left cur (held_of n.machine)) + stage_left n.machine.upper o n.machine.at < truncs_left cur m) (sym used_none)
-          (subst (λ (o : Itrunc). 4 * (blocks_left cur (held_of o)) + stage_left o.upper None o.at < truncs_left cur m) (sym to)
-          (subst (λ (a : TruncAt). 4 * blocks + stage_left mm.upper None trunc_at.Freeing < 4 * blocks + stage_left mm.upper m.used a) (sym at) (omega (arith, few_for mm.upper)))));
+    releases_makes at given keeps = still_makes does.current (λ over. cc (sym (answer_at trunc_at.Unloading at) ∙ over)) (λ moved. goes_so cur (with_kept freed) does.current (to_kept freed to) (record {
+      same = refl;
+      slot = work.slot;
+      given = (record { tree = given.0.tree; slot = given.0.slot; before = given.0.before; there = given.0.there; level = given.0.level }, given.1);
+      keeps = subst (λ (o : Kept). Keeps cur o freed trunc_at.Freeing) (sym (kept_at trunc_at.Unloading at)) (record { inner = keeps.outer; outer = refl });
+      less = subst (λ (a : TruncAt). 4 * blocks + stage_left mm.upper None trunc_at.Freeing < 4 * blocks + stage_left mm.upper m.used a) (sym at) (omega (arith, few_for mm.upper));
       logged = subst (λ (l : LogState). HasLogged l p mm.bitmap) (sym (ap (λ (v : VolumeState D). v.log) does.volume)) logged;
-      fits = λ new claimed files fits. subst (λ (x : Image). FitsHeld files x new) (sym does.current) (fits_still files cur claims new mm.number (held_of mm) (held_in files fits)
-          (subst (λ (o : Itrunc). IsClaimedNow claims mm.number (Some (frees (held_of o))) new) to claimed));
-    })
+      fits = λ new claimed files fits. fits_still files cur claims new mm.number (held_of mm) (held_in files fits) claimed;
+    }))
       where
         does : Releases disk.image s.volume p g.slot w
-        does = carries_at trunc_at.Unloading at
+        does = changes_at trunc_at.Unloading at
 
         freed : Itrunc
         freed = record mm { at = trunc_at.Freeing }
@@ -618,8 +589,8 @@ module _ {D N : Type 0} (disk : Ghosts D N) (s : StoreState D) (p k : ℕ) (m : 
           λ free. (of.is_held disk s p k m is well stood).used (sym (ap (λ (t : Bool). cond t 0 mm.inode.kind) stays) ∙ ap (λ (e : Dinode). e.kind) same ∙ free),
         )
 
-    writes_makes : mm.at ≡ trunc_at.Updating → HasGivenUp cur mm trunc_at.Updating → Keeps cur m.kept mm trunc_at.Updating → g.block ≡ inode_block mm.number → Makes
-    writes_makes at bare keeps here = record {
+    writes_makes : mm.at ≡ trunc_at.Updating → HasGivenUp cur mm trunc_at.Updating → Keeps cur m.kept mm trunc_at.Updating → Makes
+    writes_makes at bare keeps = record {
       marks = subst (Marks None cur) (sym shown) (write_back_keeps files_now cur claims mm.number (held_of mm) (held_in files_now fits_now));
       keeps = subst (KeepsUsed count mm.number claims cur) (sym shown) written_keeps;
       table = subst (λ (r : Progress (Unit {0})). KeepsTable s.table (table_of_trunc s.table k m r) p gs gs now) (sym over)
@@ -631,7 +602,7 @@ module _ {D N : Type 0} (disk : Ghosts D N) (s : StoreState D) (p k : ℕ) (m : 
         record {
           inner = subst (λ (o : Kept). block_of_got o.inner ≡ None) (sym (kept_at trunc_at.Updating at)) keeps.inner;
           outer = subst (λ (o : Kept). block_of_got o.outer ≡ None) (sym (kept_at trunc_at.Updating at)) keeps.outer;
-          used = used_none;
+          now = ap (λ (o : Itrunc). now_by n o.at) (machine_at trunc_at.Updating at) ∙ ap (now_by n) at ∙ ap (got_in (inode_block n.machine.number)) used_none;
         },
         subst (λ (a : TruncAt). 1 ≤ 4 * blocks_left cur (held_of mm) + stage_left mm.upper m.used a) (sym at) (omega (arith, few_for m.used)),
       );
@@ -645,7 +616,7 @@ module _ {D N : Type 0} (disk : Ghosts D N) (s : StoreState D) (p k : ℕ) (m : 
         over = answer_at trunc_at.Updating at
 
         shown : now ≡ written
-        shown = (carries_at trunc_at.Updating at).current ∙ ap (λ (c : ℕ). image_with cur c (patch.WriteInode mm.number (last_inode_of mm))) here
+        shown = (changes_at trunc_at.Updating at).current
 
         written_keeps : KeepsUsed count mm.number claims cur written
         written_keeps = subst (λ (c : ℕ). KeepsUsed c mm.number claims cur written) (sym is.numbers)
@@ -657,34 +628,27 @@ module _ {D N : Type 0} (disk : Ghosts D N) (s : StoreState D) (p k : ℕ) (m : 
             inode_of-with_inode cur mm.number (last_inode (held_of mm)) (record { within = a.within; full = fits_now.full (inode_block mm.number) a.behind a.within })
             (last_fields (held_of mm) cur mm.number (file_in files_now mm.number) (of.is_held disk s p k m is well stood))
 
-    -- the block that is used is that which the machine asks for
-    block_is : (b : ℕ) (u : Option ℕ) → used_now (next.Use b) m.kept u ≡ Some g → g.block ≡ b
-    block_is b None none = absurd (cc none)
-    block_is b (Some i) got = let e : (let o : Got = record { block = b; slot = i } in o) ≡ g = cc got in ap (λ (o : Got). o.block) (sym e)
-
-    uses_makes : (a : TruncAt) → mm.at ≡ a → HasGivenUp cur mm a → Keeps cur m.kept mm a → used_now (next_of_trunc mm a) m.kept m.used ≡ Some g → Makes
-    uses_makes trunc_at.Direct at given keeps got =
-        frees_makes (root_of mm) (address_left mm) (direct_freed at given keeps) (block_is mm.bitmap m.used got) (carries_at trunc_at.Direct at)
+    uses_makes : (a : TruncAt) → mm.at ≡ a → HasGivenUp cur mm a → Keeps cur m.kept mm a → now_by m a ≡ Some g → Makes
+    uses_makes trunc_at.Direct at given keeps got = frees_makes (root_of mm) (address_left mm) (direct_freed at given keeps) (changes_at trunc_at.Direct at)
     uses_makes (trunc_at.Loading b) at given keeps got = absurd (cc got)
     uses_makes trunc_at.Entry at given keeps got =
-        frees_makes (entry_of cur (hand_in cur mm) mm.given_up) (at_entries mm (words_of (block_at cur (hand_in cur mm))) (mm.given_up + 1)) (entry_freed at given keeps) (block_is mm.bitmap m.used got)
-        (subst (λ (l : List ℕ). CarriesOut disk s.volume p g.slot g.block (deed_of_trunc mm l trunc_at.Entry) w) (entries_are at given keeps) (carries_at trunc_at.Entry at))
+        frees_makes (entry_of cur (hand_in cur mm) mm.given_up) (at_entries mm (words_of (block_at cur (hand_in cur mm))) (mm.given_up + 1)) (entry_freed at given keeps)
+        (subst (λ (l : List ℕ). Changes disk s.volume p g.slot mm.bitmap (image_by cur mm l trunc_at.Entry) w) (entries_are at given keeps) (changes_at trunc_at.Entry at))
     uses_makes trunc_at.Unloading at given keeps got = releases_makes at given keeps
     uses_makes trunc_at.Freeing at given keeps got = by_upper mm.upper refl
       where
-        carries : CarriesOut disk s.volume p g.slot g.block (deed.Put (patch.ClearBit (hand_in cur mm))) w
-        carries = subst (λ (c : ℕ). CarriesOut disk s.volume p g.slot g.block (deed.Put (patch.ClearBit c)) w) (of.hand_is disk s p k m is well stood g given.0 keeps) (carries_at trunc_at.Freeing at)
+        writes : WritesBlock disk s.volume p g.slot mm.bitmap (with_freed cur mm.bitmap (hand_in cur mm)) w
+        writes = subst (λ (c : ℕ). WritesBlock disk s.volume p g.slot mm.bitmap (with_freed cur mm.bitmap c) w) (of.hand_is disk s p k m is well stood g given.0 keeps) (changes_at trunc_at.Freeing at)
 
         by_upper : (o : Option ℕ) → mm.upper ≡ o → Makes
-        by_upper None upper = frees_makes (hand_in cur mm) (address_left mm) (tree_freed at given.0 given.1 keeps upper) (block_is mm.bitmap m.used got) carries
-        by_upper (Some e) upper =
-            frees_makes (hand_in cur mm) (at_branches mm (words_of (block_at cur (root_of mm))) (e + 1)) (second_freed at given.0 given.1 keeps e upper) (block_is mm.bitmap m.used got) carries
-    uses_makes trunc_at.Updating at given keeps got = writes_makes at given keeps (block_is (inode_block mm.number) m.used got)
+        by_upper None upper = frees_makes (hand_in cur mm) (address_left mm) (tree_freed at given.0 given.1 keeps upper) writes
+        by_upper (Some e) upper = frees_makes (hand_in cur mm) (at_branches mm (words_of (block_at cur (root_of mm))) (e + 1)) (second_freed at given.0 given.1 keeps e upper) writes
+    uses_makes trunc_at.Updating at given keeps got = writes_makes at given keeps
 
-  makes_by : (o : Option Got) → used_now (trunc_next m) m.kept m.used ≡ o → Drives itrunc disk o s.volume p m q n w → Makes
-  makes_by None none drives = gets_makes mm.at refl work.given work.keeps none drives
-  makes_by (Some g) got drives = uses_makes g drives mm.at refl work.given work.keeps got
+  makes_by : (o : Option Got) → now_of m ≡ o → FreesOn disk o s.volume p m q n w → Makes
+  makes_by None none steps = gets_makes mm.at refl work.given work.keeps none steps
+  makes_by (Some g) got steps = uses_makes g steps mm.at refl work.given work.keeps got
 
   -- WHAT A STEP MAKES
-  pub makes : Drives itrunc disk (used_now (trunc_next m) m.kept m.used) s.volume p m q n w → Makes
-  makes drives = makes_by (used_now (trunc_next m) m.kept m.used) refl drives
+  pub makes : FreesOn disk (now_of m) s.volume p m q n w → Makes
+  makes steps = makes_by (now_of m) refl steps

@@ -11,7 +11,7 @@ use Rattle.in_flight.specs.Held.{Held, listed}
 use Rattle.in_flight.specs.Trees.{LeavesAlike, depth_of, entry_of, led_to}
 use Rattle.in_flight.specs.Lemmas.LeftOnWays.{begun_alike, passed_alike}
 use Rattle.in_flight.specs.Lemmas.Wholes.{tree_depth}
-use Rattle.blockmap.specs.declared.driving.Kept.{Kept}
+use Rattle.inodes.specs.declared.freeing.Kept.{Kept}
 use Rattle.inodes.specs.declared.itrunc.TruncAt.{TruncAt}
 use Rattle.inodes.specs.declared.itrunc.TruncAt.TheVariants as trunc_at
 use Rattle.inodes.specs.declared.itrunc.Itrunc.{Itrunc}

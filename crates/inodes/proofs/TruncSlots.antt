@@ -148,7 +148,7 @@ module _ {D N T : Type 0} (disk : Ghosts D N) (s t : StoreState D) (p b : ℕ) (
   pub sleeps : (cause : Why) → r ≡ machine.Sleeping cause → t.volume ≡ s.volume
   sleeps cause waits = subst (λ (a : Get). OnSleeping a (t.volume ≡ s.volume)) (asleep cause waits) gets.gets.sleeping
 
-  waiting : (cause : Why) → r ≡ machine.Sleeping cause → WaitsFor cause s.volume.buffers b
+  pub waiting : (cause : Why) → r ≡ machine.Sleeping cause → WaitsFor cause s.volume.buffers b
   waiting cause waits = (subst (λ (a : Get). LocksAfter a s.volume.buffers t.volume.buffers p b) (asleep cause waits) gets.locks).0
 
   -- nobody waits for an inode there

@@ -28,19 +28,17 @@ use Rattle.wal.specs.Joint.{Joint}
 use Rattle.wal.specs.Held.{HoldsBlock}
 use Rattle.wal.specs.Machine.{HasRoom, used_by}
 use Rattle.wal.specs.Volume.{Holds}
-use Rattle.blockmap.specs.Deeds.{DeedFits}
-use Rattle.blockmap.specs.Driver.{MayDo, MayDrive}
-use Rattle.blockmap.specs.Lemmas.Slots.{HasGot, shows_kept, shows_used}
-use Rattle.blockmap.specs.Next.{IsBeside, IsThere, KeepsApart, MayGet, beside, got_or, used_now}
-use Rattle.blockmap.specs.declared.driving.Got.{Got}
+use Rattle.inodes.specs.declared.freeing.Got.{Got}
+use Rattle.inodes.specs.declared.freeing.Freeing.{Freeing}
 use Rattle.inodes.specs.declared.itrunc.TruncAt.{TruncAt}
 use Rattle.inodes.specs.declared.itrunc.TruncAt.TheVariants as trunc_at
 use Rattle.inodes.specs.declared.table.InMemory.{InMemory}
 use Rattle.inodes.specs.declared.tasks.Stage.{Stage}
 use Rattle.inodes.specs.declared.tasks.Stage.TheVariants as stage
+use Rattle.inodes.specs.Freeing.{HasBit, HasOne, HoldsGot, MayFree, MayGet, block_by, block_next, entries_kept, got_or, now_by, now_of}
 use Rattle.inodes.specs.Grips.{grip, locked_grip}
 use Rattle.inodes.specs.Holding.{HasGivenUp, IsAtDirect, IsAtEntry, IsInHand, IsTruncating, Keeps, above_by, block_of_got, claims_of, hand_in, held_of, root_of, way_of}
-use Rattle.inodes.specs.Itrunc.{FitsAt, Freeing, IsBelow, deed_of_trunc, hand_by, itrunc, next_of_trunc, trunc_next}
+use Rattle.inodes.specs.Itrunc.{FitsAt, IsBelow, freed_by, hand_by}
 use Rattle.inodes.specs.Looks.{AreLooking}
 use Rattle.inodes.specs.Places.{HasSlot, grip_of, grips_of}
 use Rattle.inodes.specs.Store.{StoreState, IsStore, HoldsForFreeing, Stands, Agrees, current_of}
@@ -48,6 +46,7 @@ use Rattle.inodes.specs.Table.{entry_at, is_of}
 use Rattle.inodes.specs.Tasks.{task}
 use Rattle.inodes.specs.Lemmas.Faults.{where_none}
 use Rattle.inodes.specs.Lemmas.Looks.{truncating_is, trunc_locks}
+use Rattle.inodes.proofs.TruncGot.{HasGot, IsBeside, IsNotKept}
 use Rattle.inodes.proofs.Gripping.{grip_is}
 use Rattle.inodes.proofs.InHand.{first_tree, root_there, two_deep}
 use Rattle.inodes.proofs.Searching.{where_got}
@@ -93,7 +92,7 @@ module _ {D N : Type 0} (disk : Ghosts D N) (s : StoreState D) (p k : ℕ) (m : 
   pub holds : HoldsForFreeing s.volume.buffers s.volume.log p m
   holds = subst (λ (a : Stage). Stands s.volume.buffers s.volume.log s.table.inode_count p (task s.tasks p).op a) stood (agrees.stands p)
 
-  pub got : HasGot s.volume.buffers p (trunc_next m) m.kept m.used
+  pub got : HasGot s.volume.buffers p m
   got = record { holds = holds.holds; locks = λ e i lock. subst (λ (a : Stage). HasSlot a i) stood (agrees.holders p e i lock) }
 
   pub number : IsTrue (is_number (inode_count_of cur) m.machine.number)
@@ -207,7 +206,7 @@ module _ {D N : Type 0} (disk : Ghosts D N) (s : StoreState D) (p k : ℕ) (m : 
       holds.logged
 
   -- the entries of the block that was kept last
-  pub kept_words : (g : Got) (b : ℕ) → block_of_got m.kept.inner ≡ Some b → words_of (block_at cur (beside m.kept g).block) ≡ words_of (block_at cur b)
+  pub kept_words : (g : Got) (b : ℕ) → block_of_got m.kept.inner ≡ Some b → entries_kept cur m g ≡ words_of (block_at cur b)
   kept_words g b keeps = ap (λ (c : ℕ). words_of (block_at cur c)) (by_kept m.kept.inner keeps)
     where
       by_kept : (o : Option Got) → block_of_got o ≡ Some b → (got_or o g).block ≡ b
@@ -222,48 +221,67 @@ module _ {D N : Type 0} (disk : Ghosts D N) (s : StoreState D) (p k : ℕ) (m : 
   none_beside : (o : Option Got) (c : ℕ) → block_of_got o ≡ None → IsBeside o c
   none_beside o c none = beside_by o None c none (λ b some. absurd (cc some))
 
-  data_beside : (o : Option Got) (b : ℕ) → block_of_got o ≡ Some b → LiesInData cur b → IsBeside o m.machine.bitmap
-  data_beside o b is lies = beside_by o (Some b) m.machine.bitmap is (λ c same here. let e : b ≡ c = cc same in not_bitmap b lies (e ∙ here))
+  one_beside : (o : Option Got) (b c : ℕ) → block_of_got o ≡ Some b → b ≢ c → IsBeside o c
+  one_beside o b c is apart = beside_by o (Some b) c is (λ a same here. let e : b ≡ a = cc same in apart (e ∙ here))
 
-  above_beside : (h : IsInHand cur m.machine) (o : Option Got) → block_of_got o ≡ above_by m.machine.upper (root_of m.machine) → IsBeside o m.machine.bitmap
-  above_beside h o is = by_upper m.machine.upper is
+  above_beside : (o : Option Got) (c : ℕ) → block_of_got o ≡ above_by m.machine.upper (root_of m.machine) → ((e : ℕ) → m.machine.upper ≡ Some e → root_of m.machine ≢ c) → IsBeside o c
+  above_beside o c is apart = by_upper m.machine.upper refl
     where
-      by_upper : (u : Option ℕ) → block_of_got o ≡ above_by u (root_of m.machine) → IsBeside o m.machine.bitmap
-      by_upper None is = none_beside o m.machine.bitmap is
-      by_upper (Some e) is = data_beside o (root_of m.machine) is (root_marked h).0
+      by_upper : (u : Option ℕ) → m.machine.upper ≡ u → IsBeside o c
+      by_upper None none = none_beside o c (is ∙ ap (λ (u : Option ℕ). above_by u (root_of m.machine)) none)
+      by_upper (Some e) some = one_beside o (root_of m.machine) c (is ∙ ap (λ (u : Option ℕ). above_by u (root_of m.machine)) some) (apart e some)
 
+  -- the block above the one in hand
+  above_apart : (h : IsInHand cur m.machine) (o : Option Got) (c : ℕ) → block_of_got o ≡ above_by m.machine.upper (root_of m.machine) → hand_in cur m.machine ≡ c → IsBeside o c
+  above_apart h o c is hand = above_beside o c is (λ e upper same. hand_apart h e upper (same ∙ sym hand ∙ ap (λ (u : Option ℕ). led_to cur (listed u) (root_of m.machine)) upper))
+
+  apart_at : (a : TruncAt) → HasGivenUp cur m.machine a → Keeps cur m.kept m.machine a → IsNotKept m.kept (block_by m.machine a)
+  apart_at trunc_at.Direct given keeps = (none_beside m.kept.inner m.machine.bitmap keeps.inner, none_beside m.kept.outer m.machine.bitmap keeps.outer)
+  apart_at (trunc_at.Loading b) given keeps = (above_apart given.0 m.kept.inner b keeps.inner given.2, none_beside m.kept.outer b keeps.outer)
+  apart_at trunc_at.Entry given keeps = (
+    one_beside m.kept.inner (hand_in cur m.machine) m.machine.bitmap keeps.inner (not_bitmap (hand_in cur m.machine) (hand_marked given.hand).0),
+    above_beside m.kept.outer m.machine.bitmap keeps.outer (λ e upper. not_bitmap (root_of m.machine) (root_marked given.hand).0),
+  )
+  apart_at trunc_at.Unloading given keeps =
+      (one_beside m.kept.inner (hand_in cur m.machine) 0 keeps.inner given.0.there, above_beside m.kept.outer 0 keeps.outer (λ e upper. root_there cur m.machine given.0))
+  apart_at trunc_at.Freeing given keeps =
+      (above_beside m.kept.inner m.machine.bitmap keeps.inner (λ e upper. not_bitmap (root_of m.machine) (root_marked given.0).0), none_beside m.kept.outer m.machine.bitmap keeps.outer)
+  apart_at trunc_at.Updating given keeps = (none_beside m.kept.inner (inode_block m.machine.number) keeps.inner, none_beside m.kept.outer (inode_block m.machine.number) keeps.outer)
+
+  -- what it keeps it does not get
+  pub keeps_apart : IsNotKept m.kept (block_next m)
+  keeps_apart = apart_at m.machine.at work.given work.keeps
+
+  given_at : (a : TruncAt) → m.machine.at ≡ a → HasGivenUp cur m.machine a × Keeps cur m.kept m.machine a
+  given_at a at = (subst (HasGivenUp cur m.machine) at work.given, subst (Keeps cur m.kept m.machine) at work.keeps)
+
+  -- a block of addresses is given back before the one above it
+  pub second_apart : (g : Got) → m.kept.inner ≡ Some g → m.machine.at ≡ trunc_at.Unloading → IsBeside m.kept.outer g.block
+  second_apart g is at =
+      let unloads = given_at trunc_at.Unloading at in
+      let same : Some g.block ≡ Some (hand_in cur m.machine) = sym (ap block_of_got is) ∙ unloads.1.inner in
+      above_apart unloads.0.0 m.kept.outer g.block unloads.1.outer (sym (cc same))
+
+  -- and is there
+  pub never_gets : now_of m ≡ None → m.machine.at ≢ trunc_at.Unloading
+  never_gets none at =
+      let never : None ≡ Some (hand_in cur m.machine) = sym (ap block_of_got (sym (ap (now_by m) at) ∙ none)) ∙ (given_at trunc_at.Unloading at).1.inner in
+      cc never
+
+  -- beside one that is got, one is kept at most
   is_none : (o : Option Got) → block_of_got o ≡ None → o ≡ None
   is_none None is = refl
   is_none (Some g) is = absurd (cc is)
 
-  apart_at : (a : TruncAt) → HasGivenUp cur m.machine a → Keeps cur m.kept m.machine a → KeepsApart (next_of_trunc m.machine a) m.kept
-  apart_at trunc_at.Direct given keeps = (none_beside m.kept.inner m.machine.bitmap keeps.inner, none_beside m.kept.outer m.machine.bitmap keeps.outer)
-  apart_at (trunc_at.Loading b) given keeps = (is_none m.kept.outer keeps.outer, by_upper m.machine.upper refl)
-    where
-      by_upper : (u : Option ℕ) → m.machine.upper ≡ u → IsBeside m.kept.inner b
-      by_upper None is = none_beside m.kept.inner b (keeps.inner ∙ ap (λ (o : Option ℕ). above_by o (root_of m.machine)) is)
-      by_upper (Some e) is = beside_by m.kept.inner (Some (root_of m.machine)) b (keeps.inner ∙ ap (λ (o : Option ℕ). above_by o (root_of m.machine)) is)
-          (λ c same here. let root : root_of m.machine ≡ c = cc same in
-          hand_apart given.0 e is (root ∙ here ∙ sym given.2 ∙ ap (λ (o : Option ℕ). led_to cur (listed o) (root_of m.machine)) is))
-  apart_at trunc_at.Entry given keeps = (data_beside m.kept.inner (hand_in cur m.machine) keeps.inner (hand_marked given.hand).0, above_beside given.hand m.kept.outer keeps.outer)
-  apart_at trunc_at.Unloading given keeps = by_kept m.kept.inner keeps.inner
-    where
-      by_kept : (o : Option Got) → block_of_got o ≡ Some (hand_in cur m.machine) → IsThere o
-      by_kept None is = absurd (cc is)
-      by_kept (Some g) is = tt
-  apart_at trunc_at.Freeing given keeps = (above_beside given.0 m.kept.inner keeps.inner, none_beside m.kept.outer m.machine.bitmap keeps.outer)
-  apart_at trunc_at.Updating given keeps = (none_beside m.kept.inner (inode_block m.machine.number) keeps.inner, none_beside m.kept.outer (inode_block m.machine.number) keeps.outer)
-
-  -- what it keeps it does not get
-  pub keeps_apart : KeepsApart (trunc_next m) m.kept
-  keeps_apart = apart_at m.machine.at work.given work.keeps
+  pub one_kept : (b : ℕ) → m.machine.at ≡ trunc_at.Loading b → m.kept.outer ≡ None
+  one_kept b at = is_none m.kept.outer (given_at (trunc_at.Loading b) at).1.outer
 
   -- the block in hand, as the machine finds it
   pub hand_is : (g : Got) (h : IsInHand cur m.machine) → Keeps cur m.kept m.machine trunc_at.Freeing
-      → hand_by m.machine.upper m.machine (words_of (block_at cur (beside m.kept g).block)) ≡ hand_in cur m.machine
+      → hand_by m.machine.upper m.machine (entries_kept cur m g) ≡ hand_in cur m.machine
   hand_is g h keeps = by_upper m.machine.upper keeps.inner
     where
-      by_upper : (u : Option ℕ) → block_of_got m.kept.inner ≡ above_by u (root_of m.machine) → hand_by u m.machine (words_of (block_at cur (beside m.kept g).block)) ≡ led_to cur (listed u) (root_of m.machine)
+      by_upper : (u : Option ℕ) → block_of_got m.kept.inner ≡ above_by u (root_of m.machine) → hand_by u m.machine (entries_kept cur m g) ≡ led_to cur (listed u) (root_of m.machine)
       by_upper None is = refl
       by_upper (Some e) is = rw (ne_eqb (root_of m.machine) 0 (root_there cur m.machine h)) (ap (λ (l : List ℕ). get_or l e 0) (kept_words g (root_of m.machine) is))
 
@@ -287,18 +305,27 @@ module _ {D N : Type 0} (disk : Ghosts D N) (s : StoreState D) (p k : ℕ) (m : 
         let same = size in
         (omega (arith, at, behind), omega (arith, at, low, same))
 
-    may_get : (a : TruncAt) → HasGivenUp cur m.machine a → MayGet (next_of_trunc m.machine a) s.volume.log.size
-    may_get trunc_at.Direct given = the_bitmap
-    may_get (trunc_at.Loading b) given =
+    lies_there : (b : ℕ) → (33 ≤ b) × (b < s.volume.log.size) → (o : Option Got) → MayGet b s.volume.log.size o
+    lies_there b lies None = lies
+    lies_there b lies (Some g) = tt
+
+    may_get : (a : TruncAt) → HasGivenUp cur m.machine a → Keeps cur m.kept m.machine a → MayGet (block_by m.machine a) s.volume.log.size (now_by m a)
+    may_get trunc_at.Direct given keeps = lies_there m.machine.bitmap the_bitmap (now_by m trunc_at.Direct)
+    may_get (trunc_at.Loading b) given keeps =
         let lies = subst (LiesInData cur) given.2 (hand_marked given.0).0 in
         let low = lies.0 in
         let behind = map.behind in
         let before = map.before_data in
         (omega (arith, low, behind, before), within b lies.1)
-    may_get trunc_at.Entry given = the_bitmap
-    may_get trunc_at.Unloading given = tt
-    may_get trunc_at.Freeing given = the_bitmap
-    may_get trunc_at.Updating given = (inode_apart.behind, within (inode_block m.machine.number) inode_apart.within)
+    may_get trunc_at.Entry given keeps = lies_there m.machine.bitmap the_bitmap (now_by m trunc_at.Entry)
+    may_get trunc_at.Unloading given keeps = by_kept m.kept.inner keeps.inner
+      where
+        by_kept : (o : Option Got) → block_of_got o ≡ Some (hand_in cur m.machine) → MayGet 0 s.volume.log.size o
+        by_kept None is = absurd (cc is)
+        by_kept (Some g) is = tt
+    may_get trunc_at.Freeing given keeps = lies_there m.machine.bitmap the_bitmap (now_by m trunc_at.Freeing)
+    may_get trunc_at.Updating given keeps =
+        lies_there (inode_block m.machine.number) (inode_apart.behind, within (inode_block m.machine.number) inode_apart.within) (now_by m trunc_at.Updating)
 
     -- a block that is freed has a bit
     has_bit : (b : ℕ) → LiesInData cur b → b < 8192
@@ -307,20 +334,24 @@ module _ {D N : Type 0} (disk : Ghosts D N) (s : StoreState D) (p k : ℕ) (m : 
         let room = map.room in
         omega (arith, inside, room)
 
-    may_do : (g : Got) (a : TruncAt) → HasGivenUp cur m.machine a → Keeps cur m.kept m.machine a → DeedFits (deed_of_trunc m.machine (words_of (block_at cur (beside m.kept g).block)) a)
-    may_do g trunc_at.Direct given keeps = has_bit (root_of m.machine) (direct_marked given).0
-    may_do g (trunc_at.Loading b) given keeps = tt
-    may_do g trunc_at.Entry given keeps =
+    bit_at : (g : Got) (a : TruncAt) → HasGivenUp cur m.machine a → Keeps cur m.kept m.machine a → IsBelow (freed_by m.machine (entries_kept cur m g) a) 8192
+    bit_at g trunc_at.Direct given keeps = has_bit (root_of m.machine) (direct_marked given).0
+    bit_at g (trunc_at.Loading b) given keeps = tt
+    bit_at g trunc_at.Entry given keeps =
         subst (λ (l : List ℕ). get_or l m.machine.given_up 0 < 8192) (sym (kept_words g (hand_in cur m.machine) keeps.inner))
         (has_bit (entry_of cur (hand_in cur m.machine) m.machine.given_up) (entry_marked given).0)
-    may_do g trunc_at.Unloading given keeps = tt
-    may_do g trunc_at.Freeing given keeps =
+    bit_at g trunc_at.Unloading given keeps = tt
+    bit_at g trunc_at.Freeing given keeps =
         subst (λ (b : ℕ). b < 8192) (sym (hand_is g given.0 keeps)) (has_bit (hand_in cur m.machine) (hand_marked given.0).0)
-    may_do g trunc_at.Updating given keeps = long
+    bit_at g trunc_at.Updating given keeps = tt
 
-    by_used : (o : Option Got) → MayDo itrunc cur m o
+    by_used : (o : Option Got) → HasBit cur m o
     by_used None = tt
-    by_used (Some g) = may_do g m.machine.at work.given work.keeps
+    by_used (Some g) = bit_at g m.machine.at work.given work.keeps
+
+    shows_got : (o : Option Got) → HasOne s.volume.buffers p o → HoldsGot cur s.volume.buffers p o
+    shows_got None had = tt
+    shows_got (Some g) had = shows g.block g.slot had
 
     fits_at : (a : TruncAt) → HasGivenUp cur m.machine a → FitsAt m.machine a
     fits_at trunc_at.Direct given = tt
@@ -330,12 +361,11 @@ module _ {D N : Type 0} (disk : Ghosts D N) (s : StoreState D) (p k : ℕ) (m : 
     fits_at trunc_at.Freeing given = upper_within given.0
     fits_at trunc_at.Updating given = tt
 
-    pub may : MayDrive itrunc disk.image s.volume p m
+    pub may : MayFree disk.image s.volume p m
     may = record {
       fits = record { addrs = long; slot = work.slot; at = fits_at m.machine.at work.given };
-      gets = may_get m.machine.at work.given;
-      apart = keeps_apart;
-      used = shows_used cur s.volume.buffers p shows (trunc_next m) m.kept m.used holds.holds;
-      kept = shows_kept cur s.volume.buffers p shows m.kept.inner holds.holds.has_kept.inner;
-      deed = by_used (used_now (trunc_next m) m.kept m.used);
+      gets = may_get m.machine.at work.given work.keeps;
+      used = shows_got (now_of m) holds.holds.used;
+      kept = shows_got m.kept.inner holds.holds.inner;
+      bit = by_used (now_of m);
     }

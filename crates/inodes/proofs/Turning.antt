@@ -28,15 +28,13 @@ use Rattle.bcache.specs.Buffers.{Buffers}
 use Rattle.bcache.specs.Lemmas.Current.{length-current}
 use Rattle.wal.specs.Joint.{Joint}
 use Rattle.wal.specs.Machine.{LogState, used_by}
-use Rattle.blockmap.specs.Driver.{first_driven}
-use Rattle.blockmap.specs.Next.{no_block_kept}
-use Rattle.blockmap.specs.Lemmas.Slots.{holds_none}
 use Rattle.inodes.specs.declared.tasks.Stage.{Stage}
 use Rattle.inodes.specs.declared.tasks.Stage.TheVariants as stage
+use Rattle.inodes.specs.Freeing.{first_freeing, no_block_kept}
 use Rattle.inodes.specs.Grips.{locked_grip}
 use Rattle.inodes.specs.Holding.{IsTruncating, claim_by, claims_of, claim_of, held_of, trunc_op}
 use Rattle.inodes.specs.declared.itrunc.Itrunc.{Itrunc}
-use Rattle.inodes.specs.Itrunc.{first_trunc, trunc_next, unbegun}
+use Rattle.inodes.specs.Itrunc.{first_trunc, unbegun}
 use Rattle.inodes.specs.LockState.{LockState}
 use Rattle.inodes.specs.Lemmas.Holding.{HoldsAlone, claimed_now, none_held, own_grows}
 use Rattle.inodes.specs.Lemmas.ReadRuns.{begins}
@@ -62,6 +60,7 @@ use Rattle.inodes.specs.Lemmas.Bounds.{few_frees, most_elsewhere, next_low, writ
 use Rattle.inodes.specs.Growing.{growth_of, bytes_by, HasComeTo}
 use Rattle.in_flight.specs.Lemmas.GrowthEnds.{resting_refuses}
 use Rattle.in_flight.specs.Lemmas.BlocksTaken.{turn_grows}
+use Rattle.inodes.proofs.TruncGot.{holds_kept}
 
 -- a turn makes no number
 pub makes_none : (form : Form) (d : Dinode) (op : Op) (used : Bool) (i : ℕ) → is_making i (reply_when_taken form (if_used used d) op) ≡ true → ⊥
@@ -113,10 +112,10 @@ left_of_read : (x : Image) (form : Form) (d : Dinode) (k off n c : ℕ) (o : Opt
 left_of_read x form d k off n c None few first = omega arith
 left_of_read x form d k off n c (Some m) few first = let at = few_reads form d off n m few first in omega (arith, at)
 
-left_of_trunc : (x : Image) (form : Form) (b c : ℕ) (d : Dinode) (k j : ℕ) (removes : Bool) → HasFewAtTurn x d → steps_left x (stage.Truncating k (first_driven (first_trunc j d form removes b))) c ≤ most_behind (form_of x) + 1
+left_of_trunc : (x : Image) (form : Form) (b c : ℕ) (d : Dinode) (k j : ℕ) (removes : Bool) → HasFewAtTurn x d → steps_left x (stage.Truncating k (first_freeing (first_trunc j d form removes b))) c ≤ most_behind (form_of x) + 1
 left_of_trunc x form b c d k j removes few =
     let left = ap (blocks_left x) (first_held j d form removes b) in
-    let most = few_frees x (first_driven (first_trunc j d form removes b)) (omega (arith, left, few)) in
+    let most = few_frees x (first_freeing (first_trunc j d form removes b)) (omega (arith, left, few)) in
     omega (arith, most)
 
 left_of_write : (x : Image) (c k i : ℕ) (d : Dinode) (off n : ℕ) (e : Extent) (o : Option Reply) → n ≤ 3072 → steps_left x (place_by_refusal k (first_write i d off n e) o) c ≤ 100
@@ -164,7 +163,7 @@ claims_at_turn o c d k (Trunc i) true j other = none_of_trunc i j c.form d false
 claims_at_turn o c d k (Remove i) true j other = none_of_trunc i j c.form d true c.bitmap other
 claims_at_turn o c d k (Stat i) true j other = refl
 
-claim_at_turn : (form : Form) (b : ℕ) (d : Dinode) (k i : ℕ) (removes : Bool) → claim_by None (stage.Truncating k (first_driven (first_trunc i d form removes b))) i ≡ Some (frees (held_at_turn d removes))
+claim_at_turn : (form : Form) (b : ℕ) (d : Dinode) (k i : ℕ) (removes : Bool) → claim_by None (stage.Truncating k (first_freeing (first_trunc i d form removes b))) i ≡ Some (frees (held_at_turn d removes))
 claim_at_turn form b d k i removes =
     rw (eq-eqb (first_trunc i d form removes b).number i (first_number i d form removes b)) (ap (λ (h : Held). Some (frees h)) (first_held i d form removes b))
 
@@ -191,8 +190,8 @@ stands_at_turn b l n p t c d k op false can open_for = tt
 stands_at_turn b l n p t c d k (Create kind) true can open_for = tt
 stands_at_turn b l n p t c d k (Write i off bytes) true can open_for = stands_of_write b l n p t k i d off (length bytes) c (write_refusal c.form d off (length bytes)) can.1 open_for
 stands_at_turn b l n p t c d k (Read i off count) true can open_for = stands_of_read b l n p t c.form d k off count (first_read c.form d off count) refl
-stands_at_turn b l n p t c d k (Trunc i) true can open_for = record { logged = inl open_for; holds = holds_none b p (trunc_next (first_driven (first_trunc i d c.form false c.bitmap))) }
-stands_at_turn b l n p t c d k (Remove i) true can open_for = record { logged = inl open_for; holds = holds_none b p (trunc_next (first_driven (first_trunc i d c.form true c.bitmap))) }
+stands_at_turn b l n p t c d k (Trunc i) true can open_for = record { logged = inl open_for; holds = holds_kept b p (first_freeing (first_trunc i d c.form false c.bitmap)) refl tt tt }
+stands_at_turn b l n p t c d k (Remove i) true can open_for = record { logged = inl open_for; holds = holds_kept b p (first_freeing (first_trunc i d c.form true c.bitmap)) refl tt tt }
 stands_at_turn b l n p t c d k (Stat i) true can open_for = tt
 
 -- and so it has room in the log
@@ -296,7 +295,7 @@ module _ {D N : Type 0} (disk : Ghosts D N) (s : StoreState D) (p : ℕ) (op : O
     fits_before files fits = fits
 
     -- the number is held now
-    begins_freeing : (removes : Bool) → u.place ≡ stage.Truncating k (first_driven (first_trunc m.number inode s.table.form removes extent.bitmap)) → inode.kind ≢ 0 → (files : Files) → FitsHeld files cur (claims_of s.tasks)
+    begins_freeing : (removes : Bool) → u.place ≡ stage.Truncating k (first_freeing (first_trunc m.number inode s.table.form removes extent.bitmap)) → inode.kind ≢ 0 → (files : Files) → FitsHeld files cur (claims_of s.tasks)
         → FitsFiles disk.image t (set files m.number (file_left (cond removes 0 inode.kind)))
     begins_freeing removes there used files fits =
         let own : claim_of u m.number ≡ Some (frees (held_at_turn inode removes)) = ap (λ (a : Stage). claim_by u.op a m.number) there ∙ claim_at_turn s.table.form extent.bitmap inode k m.number removes in
@@ -369,14 +368,14 @@ module _ {D N : Type 0} (disk : Ghosts D N) (s : StoreState D) (p : ℕ) (op : O
           set files m.number (file_left inode.kind),
           subst (λ (j : ℕ). after (form_of cur) files (Trunc j) Done ≡ Some (set files m.number (file_left inode.kind))) named
               (turn_answers files cur (claims_of s.tasks) m.number before (may_name_now disk s p op m is well stood is_op, used) none).0,
-          begins_freeing false (there ∙ ap (λ (j : ℕ). stage.Truncating k (first_driven (first_trunc j inode s.table.form false extent.bitmap))) (sym named)) used files before,
+          begins_freeing false (there ∙ ap (λ (j : ℕ). stage.Truncating k (first_freeing (first_trunc j inode s.table.form false extent.bitmap))) (sym named)) used files before,
         )
     used_turn (Remove i) allowed named there used files fits =
         let before = fits_before files fits in (
           set files m.number (file_left 0),
           subst (λ (j : ℕ). after (form_of cur) files (Remove j) Done ≡ Some (set files m.number (file_left 0))) named
               (turn_answers files cur (claims_of s.tasks) m.number before (may_name_now disk s p op m is well stood is_op, used) none).1,
-          begins_freeing true (there ∙ ap (λ (j : ℕ). stage.Truncating k (first_driven (first_trunc j inode s.table.form true extent.bitmap))) (sym named)) used files before,
+          begins_freeing true (there ∙ ap (λ (j : ℕ). stage.Truncating k (first_freeing (first_trunc j inode s.table.form true extent.bitmap))) (sym named)) used files before,
         )
     used_turn (Stat i) allowed named there used files fits = (
       files,
@@ -455,7 +454,7 @@ module _ {D N : Type 0} (disk : Ghosts D N) (s : StoreState D) (p : ℕ) (op : O
         }
 
     truncates : (removes : Bool) (i : ℕ) → op ≡ cond removes (Remove i) (Trunc i) → i ≡ asked op → inode.kind ≢ 0 → (u : TaskState) → u.op ≡ Some op
-        → IsTruncating cur tab.inode_count u (first_driven (first_trunc i inode s.table.form removes extent.bitmap))
+        → IsTruncating cur tab.inode_count u (first_freeing (first_trunc i inode s.table.form removes extent.bitmap))
     truncates removes i same named used u has =
         let comes = first_comes i inode s.table.form removes extent.bitmap cur is.form (may used).fit.fields.count in
         let is_so = address_same (unbegun i inode s.table.form removes extent.bitmap) 0 in

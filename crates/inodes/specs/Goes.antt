@@ -16,16 +16,16 @@ use Rattle.bcache.specs.Buffers.{Buffers}
 use Rattle.wal.specs.Machine.{LogState, noted}
 use Rattle.wal.specs.Volume.{VolumeState, get_answer}
 use Rattle.wal.specs.Get as get
-use Rattle.blockmap.specs.Driver.{Drives}
-use Rattle.blockmap.specs.Next.{used_now}
 use Rattle.model.specs.declared.types.progress.Progress.{Progress}
 use Rattle.model.specs.declared.types.progress.Progress.TheVariants as machine
+use Rattle.inodes.specs.declared.freeing.Freeing.{Freeing}
 use Rattle.inodes.specs.declared.tasks.Stage.{Stage}
 use Rattle.inodes.specs.declared.tasks.Stage.TheVariants as stage
+use Rattle.inodes.specs.Freeing.{FreesOn, now_of}
 use Rattle.inodes.specs.Creation.{lowest_free}
 use Rattle.inodes.specs.Ialloc.{SearchState, BuffersAfter, at_slot, at_next_block}
 use Rattle.inodes.specs.Ilock.{LockSteps}
-use Rattle.inodes.specs.Itrunc.{Freeing, inode_left, itrunc, trunc_next}
+use Rattle.inodes.specs.Itrunc.{inode_left}
 use Rattle.inodes.specs.LockState.{LockState, place_of}
 use Rattle.inodes.specs.Readi.{ReadState, ReadSteps}
 use Rattle.inodes.specs.Store.{StoreState, current_of, reply_of}
@@ -219,8 +219,7 @@ pub record Truncates {D N : Type 0} (disk : Ghosts D N) (s : StoreState D) (p k 
     (m : Freeing) (r : TaskProgress) (t : StoreState D) : Type 0 where
   pub answer : Progress (Unit {0})
   pub now : Freeing
-  pub drives : Drives itrunc disk (used_now (trunc_next m) m.kept m.used)
-      s.volume p m answer now t.volume
+  pub steps : FreesOn disk (now_of m) s.volume p m answer now t.volume
   pub gives : r ≡ progress_of_trunc answer
   pub next : (task t.tasks p).place ≡ place_of_trunc k m now answer
   pub table : t.table ≡ table_of_trunc s.table k m answer

@@ -9,14 +9,14 @@ use Rattle.model.specs.declared.types.operations.Op.TheVariants.{Trunc, Remove}
 use Rattle.model.specs.Journal.{is_number}
 use Rattle.in_flight.specs.Held.{Held, Claims, Claim, frees, grows, listed, blocks_left}
 use Rattle.in_flight.specs.Trees.{depth_of, entry_of, led_to}
-use Rattle.blockmap.specs.declared.driving.Got.{Got}
-use Rattle.blockmap.specs.declared.driving.Kept.{Kept}
+use Rattle.inodes.specs.declared.freeing.Kept.{Kept}
+use Rattle.inodes.specs.declared.freeing.Got.{Got}
+use Rattle.inodes.specs.declared.freeing.Freeing.{Freeing}
 use Rattle.inodes.specs.declared.itrunc.TruncAt.{TruncAt}
 use Rattle.inodes.specs.declared.itrunc.TruncAt.TheVariants as trunc_at
 use Rattle.inodes.specs.declared.tasks.Stage.{Stage}
 use Rattle.inodes.specs.declared.tasks.Stage.TheVariants as stage
 use Rattle.inodes.specs.Growing.{bytes_by, growth_of}
-use Rattle.inodes.specs.Itrunc.{Freeing}
 use Rattle.inodes.specs.declared.itrunc.Itrunc.{Itrunc}
 use Rattle.inodes.specs.Table.{or_else}
 use Rattle.inodes.specs.Tasks.{TaskState}

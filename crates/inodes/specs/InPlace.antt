@@ -2,14 +2,13 @@
 use Rattle.std.specs.Prelude.{◌≡◌, ℕ, List, Option, Some, None, slice_set}
 use Rattle.blocks.specs.declared.disk.Disk.{Ghosts}
 use Rattle.model.specs.Gathered.{GatheredBytes}
-use Rattle.blockmap.specs.Driver.{Drives}
-use Rattle.blockmap.specs.Next.{used_now}
 use Rattle.model.specs.declared.types.progress.Progress.{Progress}
 use Rattle.wal.specs.Volume.{VolumeState}
+use Rattle.inodes.specs.declared.freeing.Freeing.{Freeing}
 use Rattle.inodes.specs.declared.tasks.Stage.{Stage}
 use Rattle.inodes.specs.declared.tasks.Stage.TheVariants as stage
+use Rattle.inodes.specs.Freeing.{FreesOn, now_of}
 use Rattle.inodes.specs.Ialloc.{SearchState, SearchSteps}
-use Rattle.inodes.specs.Itrunc.{Freeing, itrunc, trunc_next}
 use Rattle.inodes.specs.Readi.{ReadState, ReadSteps}
 use Rattle.inodes.specs.Tasks.{TaskState, task}
 use Rattle.inodes.specs.Writei.{WriteState, WriteSteps}
@@ -36,7 +35,7 @@ pub record TruncatesInPlace {D N : Type 0} (disk : Ghosts D N) (v : VolumeState 
     (ts : List TaskState) (p k : ℕ) (m : Freeing) (r : Progress (Unit {0}))
     (us : List TaskState) (w : VolumeState D) : Type 0 where
   pub now : Freeing
-  pub drives : Drives itrunc disk (used_now (trunc_next m) m.kept m.used) v p m r now w
+  pub steps : FreesOn disk (now_of m) v p m r now w
   pub tasks : us ≡ slice_set ts p (record (task ts p) { place = stage.Truncating k now })
 
 -- a writing of a file's bytes, whose inode stands at place k of the table

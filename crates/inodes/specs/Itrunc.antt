@@ -1,18 +1,10 @@
--- The machine that frees a file's blocks, and writes its inode back.
+-- How far the freeing of a file's blocks has come, which at last writes its inode back.
 use Rattle.std.specs.Prelude.{◌≡◌, ◌<◌, ℕ, ◌+◌, ◌-◌, ◌==◌, ◌||◌, nat_lt, is_some, not, if◌then◌else◌, Bool, List, find, slice_index, slice_set, length, Option, Some, None}
 use Rattle.std.specs.List.{range_with_len}
 use Rattle.model.specs.Format.{addresses_per_block}
 use Rattle.model.specs.declared.types.image.Form.{Form}
 use Rattle.model.specs.declared.types.image.Dinode.{Dinode}
-use Rattle.model.specs.Fields.{words_of}
-use Rattle.model.specs.Layout.{inode_block, direct_count, depths}
-use Rattle.blockmap.specs.declared.deed.Deed.{Deed}
-use Rattle.blockmap.specs.declared.deed.Deed.TheVariants as deed
-use Rattle.blockmap.specs.declared.deed.Patch.TheVariants as patch
-use Rattle.blockmap.specs.declared.driving.Driven.{Driven}
-use Rattle.blockmap.specs.declared.machine.Machine.{Ghosts as Pure}
-use Rattle.blockmap.specs.declared.machine.Next.{Next}
-use Rattle.blockmap.specs.declared.machine.Next.TheVariants as next
+use Rattle.model.specs.Layout.{direct_count, depths}
 use Rattle.inodes.specs.declared.itrunc.Itrunc.{Itrunc}
 use Rattle.inodes.specs.declared.itrunc.TruncAt.{TruncAt}
 use Rattle.inodes.specs.declared.itrunc.TruncAt.TheVariants as trunc_at
@@ -115,7 +107,7 @@ last_inode_of m = record m.inode { kind = if m.removes then 0 else m.inode.kind;
 abbrev pub inode_left : Itrunc → Option Dinode
 inode_left m = if m.removes then None else Some (last_inode_of m)
 
--- ---- THE MACHINE, by where it stands
+-- ---- A STEP, by where it stands
 
 -- the number, where there is one, is below an end
 abbrev pub IsBelow : Option ℕ → ℕ → Type 0
@@ -136,37 +128,17 @@ pub record Fits (m : Itrunc) : Type 0 where
   pub slot : m.slot < 13
   pub at : FitsAt m m.at
 
--- what its next step does about blocks
-abbrev pub next_of_trunc : Itrunc → TruncAt → Next
-next_of_trunc m trunc_at.Direct = next.Use m.bitmap
-next_of_trunc m (trunc_at.Loading b) = next.Keep b
-next_of_trunc m trunc_at.Entry = next.Use m.bitmap
-next_of_trunc m trunc_at.Unloading = next.Kept
-next_of_trunc m trunc_at.Freeing = next.Use m.bitmap
-next_of_trunc m trunc_at.Updating = next.Use (inode_block m.number)
+-- the block that is freed, if one is, where the block of addresses that was kept last has these
+-- entries
+abbrev pub freed_by : Itrunc → List ℕ → TruncAt → Option ℕ
+freed_by m entries trunc_at.Direct = Some (slice_index m.inode.addrs m.slot)
+freed_by m entries (trunc_at.Loading b) = None
+freed_by m entries trunc_at.Entry = Some (slice_index entries m.given_up)
+freed_by m entries trunc_at.Unloading = None
+freed_by m entries trunc_at.Freeing = Some (block_in_hand m entries)
+freed_by m entries trunc_at.Updating = None
 
--- what it does with the block, where the block that was kept last has these entries
-abbrev pub deed_of_trunc : Itrunc → List ℕ → TruncAt → Deed
-deed_of_trunc m entries trunc_at.Direct =
-    deed.Put (patch.ClearBit (slice_index m.inode.addrs m.slot))
-deed_of_trunc m entries (trunc_at.Loading b) = deed.Release
-deed_of_trunc m entries trunc_at.Entry =
-    deed.Put (patch.ClearBit (slice_index entries m.given_up))
-deed_of_trunc m entries trunc_at.Unloading = deed.Release
-deed_of_trunc m entries trunc_at.Freeing = deed.Put (patch.ClearBit (block_in_hand m entries))
-deed_of_trunc m entries trunc_at.Updating =
-    deed.Put (patch.WriteInode m.number (last_inode_of m))
-
--- with the inode it is over
-abbrev pub over_of_trunc : TruncAt → Option (Unit {0})
-over_of_trunc trunc_at.Direct = None
-over_of_trunc (trunc_at.Loading b) = None
-over_of_trunc trunc_at.Entry = None
-over_of_trunc trunc_at.Unloading = None
-over_of_trunc trunc_at.Freeing = None
-over_of_trunc trunc_at.Updating = Some tt
-
--- and what becomes of it
+-- what is freed behind a step that used a block
 abbrev pub after_trunc : Itrunc → List ℕ → TruncAt → Itrunc
 after_trunc m entries trunc_at.Direct = address_left m
 after_trunc m entries (trunc_at.Loading b) = m
@@ -174,21 +146,3 @@ after_trunc m entries trunc_at.Entry = at_entries m entries (m.given_up + 1)
 after_trunc m entries trunc_at.Unloading = record m { at = trunc_at.Freeing }
 after_trunc m entries trunc_at.Freeing = block_left m entries
 after_trunc m entries trunc_at.Updating = m
-
-abbrev pub itrunc : Pure Itrunc (Unit {0})
-itrunc = record {
-  fits = Fits;
-  next_of = λ m. next_of_trunc m m.at;
-  after_keep = λ m bytes. at_block m (words_of bytes);
-  deed_of = λ m used kept. deed_of_trunc m (words_of kept) m.at;
-  over_of = λ m used kept. over_of_trunc m.at;
-  after_deed = λ m used kept. after_trunc m (words_of kept) m.at;
-}
-
--- the freeing of a file's blocks, with what it has got
-abbrev pub Freeing : Type 0
-Freeing = Driven Itrunc
-
--- what its next step does about blocks
-abbrev pub trunc_next : Freeing → Next
-trunc_next m = next_of_trunc m.machine m.machine.at

@@ -3,6 +3,7 @@
 pub mod Bounds
 pub mod Looks
 pub mod Faults
+pub mod Freeing
 pub mod Sought
 pub mod StepEnds
 pub mod Runs

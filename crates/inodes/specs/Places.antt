@@ -7,15 +7,13 @@ use Rattle.model.specs.declared.types.operations.Op.TheVariants.{Create, Write, 
 use Rattle.model.specs.Layout.{form_of, inode_block}
 use Rattle.in_flight.specs.Held.{most_left}
 use Rattle.blockmap.specs.Target.{block_of, slot_in}
-use Rattle.blockmap.specs.Holds.{IsGot}
-use Rattle.blockmap.specs.Next.{block_of_next}
 use Rattle.inodes.specs.declared.ilock.LockAt.{LockAt}
 use Rattle.inodes.specs.declared.ilock.LockAt.TheVariants as lock_at
 use Rattle.inodes.specs.declared.tasks.Stage.{Stage}
 use Rattle.inodes.specs.declared.tasks.Stage.TheVariants as stage
+use Rattle.inodes.specs.Freeing.{IsGot, block_next, now_of}
 use Rattle.inodes.specs.Grips.{Grip, unlocked_grip, locked_grip}
 use Rattle.inodes.specs.Holding.{truncs_left}
-use Rattle.inodes.specs.Itrunc.{trunc_next}
 use Rattle.inodes.specs.LockState.{slot_of, locks_left}
 use Rattle.inodes.specs.Readi.{reads_left}
 use Rattle.inodes.specs.Tasks.{TaskState}
@@ -63,7 +61,7 @@ HasSlot (stage.Creating m) i = m.slot ≡ Some i
 HasSlot (stage.Taking m) i = slot_of m.at ≡ Some i
 HasSlot (stage.Reading k m) i = slot_in m.target ≡ Some i
 HasSlot (stage.Delivering k) i = None ≡ Some i
-HasSlot (stage.Truncating k m) i = IsGot (trunc_next m) m.kept m.used i
+HasSlot (stage.Truncating k m) i = IsGot m.kept (now_of m) i
 HasSlot (stage.Writing k m) i =
     (kept_by_write m.at ≡ Some i) ⊎ (used_by_write m.at ≡ Some i)
 HasSlot (stage.Leaving k) i = None ≡ Some i
@@ -75,7 +73,7 @@ block_at_place (stage.Creating m) = m.block
 block_at_place (stage.Taking m) = inode_block m.number
 block_at_place (stage.Reading k m) = block_of m.target
 block_at_place (stage.Delivering k) = 0
-block_at_place (stage.Truncating k m) = block_of_next (trunc_next m)
+block_at_place (stage.Truncating k m) = block_next m
 block_at_place (stage.Writing k m) = block_of_write m.at
 block_at_place (stage.Leaving k) = 0
 

@@ -19,13 +19,13 @@ use Rattle.wal.specs.Machine.{LogState, used_by, is_among, begin_cause, begun, n
 use Rattle.wal.specs.Volume.{VolumeState}
 use Rattle.model.specs.Gathered.{GatheredBytes}
 use Rattle.blockmap.specs.Target.{block_of, slot_in}
-use Rattle.blockmap.specs.Holds.{HoldsBlocks}
+use Rattle.inodes.specs.declared.freeing.Freeing.{Freeing}
+use Rattle.inodes.specs.Freeing.{HoldsBlocks, now_of}
 use Rattle.inodes.specs.Ialloc.{SearchState}
 use Rattle.inodes.specs.declared.ilock.LockAt.TheVariants as lock_at
 use Rattle.inodes.specs.declared.tasks.Stage.{Stage}
 use Rattle.inodes.specs.declared.tasks.Stage.TheVariants as stage
 use Rattle.inodes.specs.Holding.{claims_of}
-use Rattle.inodes.specs.Itrunc.{Freeing, trunc_next}
 use Rattle.inodes.specs.LockState.{slot_of}
 use Rattle.inodes.specs.Looks.{AreLooking}
 use Rattle.inodes.specs.Places.{asked, HasSlot}
@@ -166,7 +166,7 @@ HasLogged l p bitmap =
 -- it holds what it has got: the block of addresses, and what it uses next
 pub record HoldsForFreeing (c : Buffers) (l : LogState) (p : ℕ) (m : Freeing) : Type 0 where
   pub logged : HasLogged l p m.machine.bitmap
-  pub holds : HoldsBlocks c p (trunc_next m) m.kept m.used
+  pub holds : HoldsBlocks c p m.kept (now_of m)
 
 -- and so does one that writes a file's bytes
 pub record HoldsForWriting (c : Buffers) (l : LogState) (p : ℕ) (m : WriteState) : Type 0 where

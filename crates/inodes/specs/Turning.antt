@@ -7,10 +7,10 @@ use Rattle.model.specs.declared.types.operations.Op.{Op}
 use Rattle.model.specs.declared.types.operations.Op.TheVariants.{Create, Write, Read, Trunc, Remove, Stat}
 use Rattle.model.specs.declared.types.operations.Reply.{Reply}
 use Rattle.model.specs.declared.types.operations.Reply.TheVariants.{Done, StatOf, NoFile, BadOffset, TooBig}
-use Rattle.blockmap.specs.Driver.{first_driven}
 use Rattle.inodes.specs.declared.tasks.Stage.{Stage}
 use Rattle.inodes.specs.declared.tasks.Stage.TheVariants as stage
 use Rattle.inodes.specs.declared.writei.Extent.{Extent}
+use Rattle.inodes.specs.Freeing.{first_freeing}
 use Rattle.inodes.specs.Itrunc.{first_trunc}
 use Rattle.inodes.specs.Readi.{ReadState, first_read}
 use Rattle.inodes.specs.Writei.{WriteState, first_write}
@@ -64,9 +64,9 @@ place_of_look e d k (Create kind) = stage.Leaving k
 place_of_look e d k (Write i off bytes) = place_of_write k i d off (length bytes) e
 place_of_look e d k (Read i off count) = place_of_read k (first_read e.form d off count)
 place_of_look e d k (Trunc i) =
-    stage.Truncating k (first_driven (first_trunc i d e.form false e.bitmap))
+    stage.Truncating k (first_freeing (first_trunc i d e.form false e.bitmap))
 place_of_look e d k (Remove i) =
-    stage.Truncating k (first_driven (first_trunc i d e.form true e.bitmap))
+    stage.Truncating k (first_freeing (first_trunc i d e.form true e.bitmap))
 place_of_look e d k (Stat i) = stage.Leaving k
 
 -- where it goes, with the inode at that place of the table

@@ -13,14 +13,13 @@ use Rattle.blockmap.specs.Balloc.{AllocState}
 use Rattle.blockmap.specs.Target.{block_of, slot_in}
 use Rattle.blockmap.specs.declared.bmap_alloc.MapAt.{MapAt}
 use Rattle.blockmap.specs.declared.bmap_alloc.MapAt.TheVariants as map_at
-use Rattle.blockmap.specs.Next.{wanted_by}
 use Rattle.inodes.specs.declared.ilock.LockAt.{LockAt}
 use Rattle.inodes.specs.declared.ilock.LockAt.TheVariants as lock_at
 use Rattle.inodes.specs.declared.tasks.Stage.{Stage}
 use Rattle.inodes.specs.declared.tasks.Stage.TheVariants as stage
 use Rattle.inodes.specs.declared.writei.WriteAt.{WriteAt}
 use Rattle.inodes.specs.declared.writei.WriteAt.TheVariants as write_at
-use Rattle.inodes.specs.Itrunc.{trunc_next}
+use Rattle.inodes.specs.Freeing.{block_next, now_of, slot_kept}
 use Rattle.inodes.specs.Places.{is_over}
 use Rattle.inodes.specs.Steps.{Steps}
 use Rattle.inodes.specs.Store.{StoreState}
@@ -68,7 +67,7 @@ cause_at c t (stage.Taking m) = cause_to_lock c t m.at m.number
 cause_at c t (stage.Reading k m) =
     cause_to_get c (unless_got (slot_in m.target) (block_of m.target))
 cause_at c t (stage.Delivering k) = None
-cause_at c t (stage.Truncating k m) = cause_to_get c (wanted_by (trunc_next m) m.used)
+cause_at c t (stage.Truncating k m) = cause_to_get c (unless_got (slot_kept (now_of m)) (block_next m))
 cause_at c t (stage.Writing k m) = cause_to_get c (wanted_by_write m.at)
 cause_at c t (stage.Leaving k) = None
 

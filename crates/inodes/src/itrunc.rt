@@ -1,13 +1,12 @@
 // The blocks of a file are freed.
-ghost use Rattle.std.specs.Prelude.{◌≡◌, ◌<◌, ◌≤◌, length};
+ghost use Rattle.std.specs.Prelude.{◌≡◌, ◌<◌, ◌≤◌, length, IsSome, Some};
 ghost use Rattle.model.specs.Format.{addresses_per_block};
 ghost use Rattle.model.specs.Fields.{words_of};
-ghost use Rattle.inodes.specs.Itrunc.{address_left, at_address, at_branches, at_entries, block_in_hand, block_left, first_trunc, inode_left, last_inode_of, leads_to_data, present_from, IsBelow};
+ghost use Rattle.inodes.specs.Itrunc.{address_left, after_trunc, at_address, at_block, at_branches, at_entries, block_in_hand, block_left, first_trunc, freed_by, inode_left, last_inode_of, leads_to_data, present_from, Fits, IsBelow};
 
-use blockmap::{Deed, Machine, Next, Patch};
 use blocks::Block;
 use layout::entries::entry;
-use layout::{ADDRESSES_PER_BLOCK, depths, direct_count, inode_block};
+use layout::{ADDRESSES_PER_BLOCK, depths, direct_count};
 use model::types::{Dinode, Form};
 
 /// Where the freeing of a file's blocks stands.
@@ -27,12 +26,11 @@ pub enum TruncAt {
     Updating,
 }
 
-/// The machine that frees a file's blocks and writes its inode back (`itrunc`; the xv6 book, the
-/// chapter "File system": "Code: Inodes"): the blocks of the inode's own addresses first, then those
-/// that a block of addresses names, then that block, each in two steps. A block of addresses is kept
-/// while what it names is freed, and given back in a step of its own; under a doubly indirect block
-/// so is each second block. An address that isn't there takes no step. Where the file is removed,
-/// the inode that is written is a free one.
+/// How far the freeing of a file's blocks has come (`itrunc`; the xv6 book, the chapter "File
+/// system": "Code: Inodes"): the blocks of the inode's own addresses are freed first, then those
+/// that a block of addresses names, then that block; under a doubly indirect block so is each
+/// second block. An address that isn't there takes no step. At last the inode is written back;
+/// where the file is removed, that is a free one.
 #[derive(Clone, Copy)]
 pub struct Itrunc {
     /// The inode's number.
@@ -89,7 +87,7 @@ impl Itrunc {
     }
 
     // The inode that is written back: without bytes, and a free one where the file is removed.
-    fn last_inode(&self) -> Dinode
+    pub(crate) fn last_inode(&self) -> Dinode
         ensures { result ≡ last_inode_of self.now }
     {
         Dinode {
@@ -200,36 +198,12 @@ impl Itrunc {
             None => self.leave_address(),
         }
     }
-}
 
-impl Machine for Itrunc {
-    ghost use Rattle.model.specs.Fields.{words_of};
-    ghost use Rattle.inodes.specs.Itrunc.{Fits, after_trunc, at_block, deed_of_trunc, next_of_trunc, over_of_trunc};
-
-    type Out = ();
-
-    ghost fits = { Fits };
-
-    ghost next_of = { λ m. next_of_trunc m m.at };
-
-    ghost after_keep = { λ m bytes. at_block m (words_of bytes) };
-
-    ghost deed_of = { λ m used kept. deed_of_trunc m (words_of kept) m.at };
-
-    ghost over_of = { λ m used kept. over_of_trunc m.at };
-
-    ghost after_deed = { λ m used kept. after_trunc m (words_of kept) m.at };
-
-    fn next(&self) -> Next {
-        match self.at {
-            TruncAt::Direct | TruncAt::Entry | TruncAt::Freeing => Next::Use(self.bitmap),
-            TruncAt::Loading(block) => Next::Keep(block),
-            TruncAt::Unloading => Next::Kept,
-            TruncAt::Updating => Next::Use(inode_block(self.number)),
-        }
-    }
-
-    fn keep(&mut self, block: &Block) {
+    // Goes on behind a block of addresses, which was got.
+    pub(crate) fn load(&mut self, block: &Block)
+        requires { Fits self.old }
+        ensures { self.new ≡ at_block self.old (words_of block.now) }
+    {
         if self.leads_to_data() {
             self.go_to_entry(block, 0);
         } else {
@@ -237,33 +211,31 @@ impl Machine for Itrunc {
         }
     }
 
-    fn step(&mut self, _used: &Block, kept: &Block) -> (Deed, Option<()>) {
+    // Gives up the block that is freed next, and goes on behind it. The block of addresses that was
+    // kept last names it, where the inode does not.
+    pub(crate) fn give_up(&mut self, kept: &Block) -> u32
+        requires fits { Fits self.old }
+        requires frees { IsSome (freed_by self.old (words_of kept.now) self.old.at) }
+        ensures freed { Some result ≡ freed_by self.old (words_of kept.now) self.old.at }
+        ensures rest { self.new ≡ after_trunc self.old (words_of kept.now) self.old.at }
+    {
         match self.at {
             TruncAt::Direct => {
                 let freed = self.inode.addrs[self.slot];
                 self.leave_address();
-                (Deed::Put(Patch::ClearBit(freed)), None)
+                freed
             }
-            TruncAt::Loading(_) => unreachable!(),
             TruncAt::Entry => {
                 let freed = entry(kept, self.given_up);
                 self.go_to_entry(kept, self.given_up + 1);
-                (Deed::Put(Patch::ClearBit(freed)), None)
-            }
-            TruncAt::Unloading => {
-                self.at = TruncAt::Freeing;
-                (Deed::Release, None)
+                freed
             }
             TruncAt::Freeing => {
                 let freed = self.block_in_hand(kept);
                 self.leave_block(kept);
-                (Deed::Put(Patch::ClearBit(freed)), None)
+                freed
             }
-            TruncAt::Updating => {
-                let number = self.number;
-                let inode = self.last_inode();
-                (Deed::Put(Patch::WriteInode { number, inode }), Some(()))
-            }
+            TruncAt::Loading(_) | TruncAt::Unloading | TruncAt::Updating => unreachable!(),
         }
     }
 }

@@ -1,6 +1,11 @@
 // An inode is written back.
 ghost use Rattle.std.specs.Prelude.{◌≡◌, ◌<◌, None, length};
 ghost use Rattle.wal.specs.Machine.{HasRoom, used_by};
+ghost use Rattle.wal.specs.Joint.{seen};
+ghost use Rattle.wal.specs.Volume.{Holds};
+ghost use Rattle.blockmap.specs.Getting.{WritesBlock};
+ghost use Rattle.model.specs.Codec.{with_inode};
+ghost use Rattle.model.specs.Layout.{inode_block};
 ghost use Rattle.inodes.specs.Iupdate.{MayUpdate, Updates};
 
 use blockmap::{Progress, put_block};
@@ -57,8 +62,30 @@ impl Iupdate {
         let Some(slot) = self.slot else {
             return volume.get(pid, inode_block(self.number), &mut self.slot);
         };
-        let at = inode_offset(self.number);
-        put_block(volume, pid, slot, at, &inode::bytes(dinode));
+        write_inode(volume, pid, slot, self.number, dinode);
         Progress::Over(())
     }
+}
+
+// Writes an inode at its number into its block, which that slot holds, logs the block and releases
+// it.
+pub(crate) fn write_inode<D: Disk>(
+    volume: &mut Volume<D>,
+    pid: u32,
+    slot: u32,
+    number: u32,
+    dinode: &Dinode,
+)
+    requires fault { volume.old.fault ≡ None }
+    requires pid { pid < 32 }
+    requires room { HasRoom (used_by volume.old.log pid) }
+    requires addrs { length dinode.now.addrs ≡ 13 }
+    requires holds { Holds (seen (D.image volume.old.device) volume.old.buffers)
+        volume.old.buffers pid (inode_block number) slot }
+    ensures { WritesBlock D.Disk volume.old pid slot (inode_block number)
+        (with_inode (seen (D.image volume.old.device) volume.old.buffers) number dinode.now)
+        volume.new }
+{
+    let at = inode_offset(number);
+    put_block(volume, pid, slot, at, &inode::bytes(dinode));
 }

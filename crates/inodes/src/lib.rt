@@ -16,6 +16,7 @@
 //! in room that it was handed at its beginning. That no step of a task takes memory is tested.
 #![tactic(auto)]
 
+mod freeing;
 mod ialloc;
 mod ilock;
 mod itrunc;
@@ -29,6 +30,7 @@ mod tasks;
 mod writei;
 
 pub use blockmap::Progress;
+pub use freeing::{Freeing, Got, Kept};
 pub use ialloc::Ialloc;
 pub use ilock::{Ilock, LockAt};
 pub use itrunc::{Itrunc, TruncAt};

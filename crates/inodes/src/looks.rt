@@ -15,8 +15,7 @@ ghost use Rattle.inodes.specs.Turning.{IsReadable, place_of_read, place_of_write
 ghost use Rattle.inodes.specs.declared.tasks.Stage.TheVariants as stands_at;
 
 use crate::store::over;
-use crate::{Extent, Ilock, Inodes, Itrunc, Readi, Stage, Store, Writei};
-use blockmap::Driven;
+use crate::{Extent, Freeing, Ilock, Inodes, Itrunc, Readi, Stage, Store, Writei};
 use blocks::Disk;
 use layout::{bitmap_block, greatest_size};
 use model::gathered::Gathered;
@@ -107,7 +106,7 @@ impl<D: Disk> Store<D> {
         &mut self,
         pid: u32,
         place: usize,
-        trunc: Snapshot<Driven<Itrunc>>,
+        trunc: Snapshot<Freeing>,
     ) -> TaskProgress
         requires fault { self.old.volume.fault ≡ None }
         requires pid { pid < length self.old.tasks }
@@ -262,11 +261,11 @@ fn place_when_taken(inode: &Option<Dinode>, place: usize, op: &Op, extent: Exten
             place_of_read(place, Readi::new(inode, form, *offset, *count))
         }
         Op::Trunc(number) => {
-            let trunc = Driven::new(Itrunc::new(*number, inode, form, false, bitmap));
+            let trunc = Freeing::new(Itrunc::new(*number, inode, form, false, bitmap));
             Stage::Truncating { place, trunc }
         }
         Op::Remove(number) => {
-            let trunc = Driven::new(Itrunc::new(*number, inode, form, true, bitmap));
+            let trunc = Freeing::new(Itrunc::new(*number, inode, form, true, bitmap));
             Stage::Truncating { place, trunc }
         }
         Op::Write(number, offset, bytes) => {

@@ -1,17 +1,16 @@
 // What the processes' operations do next.
 ghost use Rattle.std.specs.Prelude.{◌≡◌, ◌<◌, length, replicate, slice_set, Some, None, IsSome, IfSome, IfOk};
 ghost use Rattle.wal.specs.Machine.{HasRoom, used_by};
-ghost use Rattle.blockmap.specs.Driver.{MayDrive};
 ghost use Rattle.inodes.specs.declared.tasks.Stage.TheVariants as stage;
+ghost use Rattle.inodes.specs.Freeing.{MayFree};
 ghost use Rattle.inodes.specs.Ialloc.{MayStep};
 ghost use Rattle.inodes.specs.InPlace.{ReadsInPlace, SearchesInPlace, TruncatesInPlace, WritesInPlace, freeing_at, writing_at};
-ghost use Rattle.inodes.specs.Itrunc.{inode_left, itrunc};
+ghost use Rattle.inodes.specs.Itrunc.{inode_left};
 ghost use Rattle.inodes.specs.Readi.{HasRoomLeft, IsReading};
 ghost use Rattle.inodes.specs.Tasks.{no_task, task};
 ghost use Rattle.inodes.specs.Writei.{MayWrite};
 
-use crate::{Ialloc, Ilock, Itrunc, Progress, Readi, Writei};
-use blockmap::Driven;
+use crate::{Freeing, Ialloc, Ilock, Progress, Readi, Writei};
 use blocks::{Disk, NoMemory};
 use model::gathered::Gathered;
 use model::types::{Dinode, Op};
@@ -35,7 +34,7 @@ pub enum Stage {
     Delivering { place: usize },
     /// The blocks of a file are freed and its inode written back, which stands at that place of the
     /// table; the reply is known.
-    Truncating { place: usize, trunc: Driven<Itrunc> },
+    Truncating { place: usize, trunc: Freeing },
     /// The bytes of a file are written, whose inode stands at that place of the table, and then the
     /// inode is written back. With that the reply is known.
     Writing { place: usize, writing: Writei },
@@ -166,14 +165,14 @@ impl Tasks {
         volume: &mut Volume<D>,
         pid: u32,
         _place: usize,
-        _was: Snapshot<Driven<Itrunc>>,
+        _was: Snapshot<Freeing>,
     ) -> Progress<()>
         requires inside { pid < length self.old }
         requires at { (task self.old pid).place ≡ stage.Truncating _place _was.value }
         requires fault { volume.old.fault ≡ None }
         requires pid { pid < 32 }
         requires room { HasRoom (used_by volume.old.log pid) }
-        requires ready { MayDrive itrunc D.image volume.old pid _was.value }
+        requires ready { MayFree D.image volume.old pid _was.value }
         ensures { TruncatesInPlace D.Disk volume.old self.old pid _place _was.value result
             self.new volume.new }
     {

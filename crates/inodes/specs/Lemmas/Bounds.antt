@@ -8,12 +8,12 @@ use Rattle.model.specs.declared.types.image.Form.TheVariants.{One, Two}
 use Rattle.model.specs.Layout.{form_of, greatest_size}
 use Rattle.in_flight.specs.Held.{blocks_left, most_left}
 use Rattle.blockmap.specs.Lemmas.Targets.{few_at, steps_most}
+use Rattle.inodes.specs.declared.freeing.Freeing.{Freeing}
 use Rattle.inodes.specs.declared.ilock.LockAt.{LockAt}
 use Rattle.inodes.specs.declared.ilock.LockAt.TheVariants as lock_at
 use Rattle.inodes.specs.declared.tasks.Stage.{Stage}
 use Rattle.inodes.specs.declared.tasks.Stage.TheVariants as stage
 use Rattle.inodes.specs.Holding.{held_of, truncs_left, uses_left}
-use Rattle.inodes.specs.Itrunc.{Freeing}
 use Rattle.inodes.specs.LockState.{locks_left}
 use Rattle.inodes.specs.Looks.{LooksAt, IsAtRead}
 use Rattle.inodes.specs.Places.{is_over, looks_left, most_behind, steps_left}

@@ -3,10 +3,10 @@ use Rattle.std.proofs.Common.{◌≡◌, ◌≢◌, ℕ, zero, suc, ◌<◌, Boo
 use Rattle.std.proofs.lemmas.Bool.{eqb-true, eq-eqb}
 use Rattle.std.proofs.lemmas.List.{get_or-set_same, get_or-set_other}
 use Rattle.in_flight.specs.Held.{IsClaimedNow, Claim, frees, grows}
+use Rattle.inodes.specs.declared.freeing.Freeing.{Freeing}
 use Rattle.inodes.specs.declared.tasks.Stage.{Stage}
 use Rattle.inodes.specs.declared.tasks.Stage.TheVariants as stage
 use Rattle.inodes.specs.Holding.{claim_by, claims_of, held_of, claim_of}
-use Rattle.inodes.specs.Itrunc.{Freeing}
 use Rattle.inodes.specs.Table.{or_else}
 use Rattle.inodes.specs.Tasks.{TaskState, task, no_task}
 use Rattle.model.specs.declared.types.operations.Op.{Op}

@@ -13,13 +13,13 @@ use Rattle.model.specs.Journal.{is_number}
 use Rattle.model.specs.Lemmas.Log.{both_of}
 use Rattle.model.specs.Files.{bytes_in}
 use Rattle.model.specs.Gathered.{GatheredBytes}
+use Rattle.inodes.specs.declared.freeing.Freeing.{Freeing}
 use Rattle.inodes.specs.Creation.{is_free_in, lowest_free}
 use Rattle.inodes.specs.declared.tasks.Stage.{Stage}
 use Rattle.inodes.specs.declared.tasks.Stage.TheVariants as stage
 use Rattle.inodes.specs.Grips.{grip, locked_grip}
 use Rattle.inodes.specs.Looks.{AreLooking, LooksAt, HasAllRead, HoldsInode, IsRead, IsLate, IsWrite, CanLook, CanTake}
 use Rattle.inodes.specs.Holding.{IsTruncating, trunc_op}
-use Rattle.inodes.specs.Itrunc.{Freeing}
 use Rattle.inodes.specs.declared.itrunc.Itrunc.{Itrunc}
 use Rattle.inodes.specs.Places.{asked, asked_by, grip_by, grip_of, grips_of, is_over, owes_reply, is_unturned}
 use Rattle.inodes.specs.Table.{TableState, copy_at}

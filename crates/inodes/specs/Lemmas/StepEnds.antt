@@ -15,23 +15,24 @@ use Rattle.model.specs.Layout.{inode_of, inode_block}
 use Rattle.wal.specs.Machine.{used_by}
 use Rattle.wal.specs.Volume.{VolumeState}
 use Rattle.blockmap.specs.Bmap.{EntryState, LooksUp, some_address}
-use Rattle.blockmap.specs.Driver.{Drives}
-use Rattle.blockmap.specs.Lemmas.Others.{drives_fails, gets_fails}
-use Rattle.blockmap.specs.Next.{block_of_next, used_now}
+use Rattle.blockmap.specs.Lemmas.Others.{gets_fails}
 use Rattle.blockmap.specs.Target.{block_of}
 use Rattle.model.specs.Progress.{one_more}
 use Rattle.model.specs.declared.types.progress.Progress.{Progress}
 use Rattle.model.specs.declared.types.progress.Progress.TheVariants as machine
 use Rattle.blockmap.specs.declared.target.Target.{Target}
 use Rattle.blockmap.specs.declared.target.Target.TheVariants as target
+use Rattle.inodes.specs.declared.freeing.Got.{Got}
+use Rattle.inodes.specs.declared.freeing.Freeing.{Freeing}
 use Rattle.inodes.specs.declared.ilock.LockAt.{LockAt}
 use Rattle.inodes.specs.declared.ilock.LockAt.TheVariants as lock_at
 use Rattle.inodes.specs.declared.tasks.Stage.{Stage}
 use Rattle.inodes.specs.declared.tasks.Stage.TheVariants as stage
+use Rattle.inodes.specs.Freeing.{FreesOn, block_next, now_of}
 use Rattle.inodes.specs.Goes.{Goes, GoesFrom, Shown, shown_of, progress_of_lock, place_of_lock, progress_of_read, place_of_reading, progress_of_trunc, place_of_trunc, progress_of_write, place_of_writing}
 use Rattle.inodes.specs.Ilock.{LockSteps, Locks}
-use Rattle.inodes.specs.Itrunc.{itrunc, trunc_next}
 use Rattle.inodes.specs.Iupdate.{UpdateState, Updates}
+use Rattle.inodes.specs.Lemmas.Freeing.{IsDone, use_done}
 use Rattle.inodes.specs.LockState.{LockState, place_of}
 use Rattle.inodes.specs.Looks.{CanTake, LooksAt}
 use Rattle.inodes.specs.Places.{is_over, owes_reply, is_unturned, block_at_place}
@@ -347,6 +348,10 @@ module _ {D N : Type 0} (disk : Ghosts D N) (s : StoreState D) (p : ℕ) (op : O
   writing_fails (write_at.Block b (Some i)) m x bytes writes = let no = writes.0 in absurd (cc no)
   writing_fails (write_at.Updating u) m x bytes writes = updates_fails u.slot u writes.0 m.inode writes.1
 
+  freeing_fails : (o : Option Got) (m n : Freeing) → FreesOn disk o s.volume p m (machine.Fault fault) n t.volume → fault.0 ≡ block_next m
+  freeing_fails None m n steps = gets_fails disk s.volume p (block_next m) fault steps.slot t.volume steps.gets
+  freeing_fails (Some g) m n steps = absurd (subst IsDone (sym steps.answer) (use_done m.machine.at))
+
   -- the block at which a task's step fails is that which its stage names
   pub fails_at : (a : Stage) → Goes disk a s p op (progress.Fault fault) t → fault.0 ≡ block_at_place a
   fails_at stage.Nowhere goes = let no = goes.0 in absurd (cc no)
@@ -372,14 +377,14 @@ module _ {D N : Type 0} (disk : Ghosts D N) (s : StoreState D) (p : ℕ) (op : O
       by_answer (machine.Fault other) is works = let same : fault ≡ other = cc is in
           reading_fails m.target m goes.0.now (subst (λ (f : DiskFault). Works disk m.target s.volume p m (machine.Fault f) t.volume goes.0.now) (sym same) works)
   fails_at (stage.Delivering k) goes = let no = goes.gives in absurd (cc no)
-  fails_at (stage.Truncating k m) goes = by_answer goes.answer goes.gives goes.drives
+  fails_at (stage.Truncating k m) goes = by_answer goes.answer goes.gives goes.steps
     where
-      by_answer : (x : Progress (Unit {0})) → progress.Fault fault ≡ progress_of_trunc x → Drives itrunc disk (used_now (trunc_next m) m.kept m.used) s.volume p m x goes.now t.volume → fault.0 ≡ block_of_next (trunc_next m)
-      by_answer machine.Moved is drives = absurd (cc is)
-      by_answer (machine.Sleeping why) is drives = absurd (cc is)
-      by_answer (machine.Over out) is drives = absurd (cc is)
-      by_answer (machine.Fault other) is drives = let same : fault ≡ other = cc is in
-          ap (λ (f : DiskFault). f.0) same ∙ drives_fails itrunc disk s.volume t.volume p m goes.now (machine.Fault other) (used_now (trunc_next m) m.kept m.used) drives other refl
+      by_answer : (x : Progress (Unit {0})) → progress.Fault fault ≡ progress_of_trunc x → FreesOn disk (now_of m) s.volume p m x goes.now t.volume → fault.0 ≡ block_next m
+      by_answer machine.Moved is steps = absurd (cc is)
+      by_answer (machine.Sleeping why) is steps = absurd (cc is)
+      by_answer (machine.Over out) is steps = absurd (cc is)
+      by_answer (machine.Fault other) is steps = let same : fault ≡ other = cc is in
+          freeing_fails (now_of m) m goes.now (subst (λ (f : DiskFault). FreesOn disk (now_of m) s.volume p m (machine.Fault f) goes.now t.volume) (sym same) steps)
   fails_at (stage.Writing k m) goes = by_answer goes.answer goes.gives goes.writes
     where
       by_answer : (x : Progress (Unit {0})) → progress.Fault fault ≡ progress_of_write m.done x → WriteSteps disk m.at s.volume p m (bytes_of op) x goes.now t.volume → fault.0 ≡ block_of_write m.at

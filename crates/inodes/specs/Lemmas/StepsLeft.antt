@@ -21,15 +21,17 @@ use Rattle.in_flight.specs.Lemmas.FewLeft.{few_left}
 use Rattle.in_flight.specs.Lemmas.GivenUp as given_up
 use Rattle.in_flight.specs.Lemmas.HeldOutsideLog.{held_outside}
 use Rattle.in_flight.specs.Lemmas.Looks.{between}
-use Rattle.blockmap.specs.declared.driving.Got.{Got}
-use Rattle.blockmap.specs.Driver.{Drives, progress_of_over}
-use Rattle.blockmap.specs.Next.{used_now}
+use Rattle.model.specs.declared.types.progress.Progress.{Progress}
+use Rattle.model.specs.declared.types.progress.Progress.TheVariants as machine
+use Rattle.inodes.specs.declared.freeing.Got.{Got}
+use Rattle.inodes.specs.declared.freeing.Freeing.{Freeing}
 use Rattle.inodes.specs.declared.tasks.Stage.{Stage}
 use Rattle.inodes.specs.declared.tasks.Stage.TheVariants as stage
+use Rattle.inodes.specs.Freeing.{FreesOn, now_of}
 use Rattle.inodes.specs.Goes.{Goes, Truncates, progress_of_trunc}
 use Rattle.inodes.specs.Holding.{claims_of, held_of}
-use Rattle.inodes.specs.Itrunc.{Freeing, itrunc, trunc_next}
 use Rattle.inodes.specs.Lemmas.Bounds.{few_steps}
+use Rattle.inodes.specs.Lemmas.Freeing.{IsDone, use_done}
 use Rattle.inodes.specs.Lemmas.Looks.{trunc_locks, trunc_names}
 use Rattle.inodes.specs.Lemmas.Unclaimed.{own_claim}
 use Rattle.inodes.specs.LockState.{locks_left}
@@ -125,13 +127,15 @@ failed_left disk s p op fault t steps =
   where
     -- it got no block, and did nothing
     still : (k : ℕ) (m : Freeing) → Truncates disk s p k m (progress.Fault fault) t → current_of disk.image t.volume ≡ current_of disk.image s.volume
-    still k m goes = by_used (used_now (trunc_next m) m.kept m.used) goes.drives
+    still k m goes = by_used (now_of m) goes.steps
       where
-        never : (o : Option (Unit {0})) → goes.answer ≡ progress_of_over o → ⊥
-        never None is = let no : progress.Fault fault ≡ progress.Moved = goes.gives ∙ ap progress_of_trunc is in cc no
-        never (Some out) is = let no : progress.Fault fault ≡ progress.Moved = goes.gives ∙ ap progress_of_trunc is in cc no
+        never : (r : Progress (Unit {0})) → IsDone r → progress.Fault fault ≡ progress_of_trunc r → ⊥
+        never machine.Moved done is = cc is
+        never (machine.Sleeping cause) done is = done
+        never (machine.Over out) done is = cc is
+        never (machine.Fault other) done is = done
 
-        by_used : (o : Option Got) → Drives itrunc disk o s.volume p m goes.answer goes.now t.volume →
+        by_used : (o : Option Got) → FreesOn disk o s.volume p m goes.answer goes.now t.volume →
             current_of disk.image t.volume ≡ current_of disk.image s.volume
-        by_used None drives = drives.gets.reads.current
-        by_used (Some g) drives = absurd (never _ drives.answer)
+        by_used None steps = steps.gets.reads.current
+        by_used (Some g) steps = absurd (never _ (use_done m.machine.at) (goes.gives ∙ ap progress_of_trunc steps.answer))
