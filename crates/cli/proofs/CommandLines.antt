@@ -88,7 +88,7 @@ met_waiting app words m given is matches wait =
 
 few_by : (name : List ℕ) (rows : List Row) (request : Request) → AsksBy name rows request → HasFewWorkers request
 few_by name rows (Mkfs image size ninodes large) asks = tt
-few_by name rows (Check image) asks = tt
+few_by name rows (Check image all) asks = tt
 few_by name rows (Recover image sync) asks = tt
 few_by name rows (Cat image inum) asks = tt
 few_by name rows (Ls image) asks = tt

@@ -43,6 +43,9 @@ abbrev pub mkfs_app : App
 mkfs_app = with_rule (with_rule (with_rule (image_app (codes "mkfs"))
     (number_rule (codes "SIZE"))) (number_rule (codes "NINODES"))) (flag_rule (codes "large"))
 
+abbrev pub check_app : App
+check_app = with_rule (image_app (codes "check")) (flag_rule (codes "all"))
+
 abbrev pub recover_app : App
 recover_app = with_rule (image_app (codes "recover")) (flag_rule (codes "sync"))
 
@@ -107,7 +110,7 @@ abbrev pub xvfs_app : App
 xvfs_app =
     with_subcommand (with_subcommand (with_subcommand (with_subcommand (with_subcommand
     (with_subcommand (with_subcommand (with_subcommand (with_subcommand (with_subcommand
-    (with_subcommand (with_subcommand bare_app mkfs_app.top) (image_app (codes "check")).top)
+    (with_subcommand (with_subcommand bare_app mkfs_app.top) check_app.top)
     (image_app (codes "ls")).top) (image_app (codes "df")).top) cat_app.top) show_app.top)
     put_app.top) copy_app.top)
     recover_app.top) replay_app.top) run_app.top) stops_app.top
@@ -149,8 +152,8 @@ HasFewWorkers request = ⊤
 abbrev pub AsksBy : List ℕ → List Row → Request → Type 0
 AsksBy name rows (Mkfs image size ninodes large) = (name ≡ codes "mkfs")
     × (first_of (codes "IMAGE") rows ≡ Some image.now) × HasFlag (codes "large") rows large
-AsksBy name rows (Check image) = (name ≡ codes "check")
-    × (first_of (codes "IMAGE") rows ≡ Some image.now)
+AsksBy name rows (Check image all) = (name ≡ codes "check")
+    × (first_of (codes "IMAGE") rows ≡ Some image.now) × HasFlag (codes "all") rows all
 AsksBy name rows (Recover image sync) = (name ≡ codes "recover")
     × (first_of (codes "IMAGE") rows ≡ Some image.now) × HasFlag (codes "sync") rows sync
 AsksBy name rows (Cat image inum) = (name ≡ codes "cat")

@@ -105,8 +105,16 @@ pub(crate) static LINES: [Line; 12] = [
     Line {
         name: "check",
         about: "Says whether an image is sound, and counts its logged blocks and its files",
-        example: "Example: xvfs check fs.img",
-        words: &[IMAGE_KEPT, WAIT],
+        example: "Examples: xvfs check fs.img, xvfs check fs.img --all",
+        words: &[
+            IMAGE_KEPT,
+            WAIT,
+            Word {
+                name: "all",
+                kind: Kind::Flag,
+                help: "Prints all faults of the image, a line each, and how many there are",
+            },
+        ],
     },
     Line {
         name: "ls",

@@ -49,6 +49,8 @@ pub enum Request<'a> {
     Check {
         /// The path of its file.
         image: &'a str,
+        /// Whether all faults are told, not the first alone.
+        all: bool,
     },
     /// A recovery of an image.
     Recover {
@@ -274,7 +276,10 @@ fn request_over<'a>(name: &str, values: &ArgMatches<'a>) -> Option<Request<'a>>
 {
     let image = values.get_str("IMAGE")?;
     match name {
-        "check" => Some(Request::Check { image }),
+        "check" => Some(Request::Check {
+            image,
+            all: values.get_flag("all"),
+        }),
         "recover" => Some(Request::Recover {
             image,
             sync: values.get_flag("sync"),

@@ -3,3 +3,4 @@ pub mod Digits
 pub mod Telling
 pub mod Output
 pub mod Events
+pub mod Lemmas

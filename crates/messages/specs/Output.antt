@@ -1,5 +1,8 @@
 -- What the commands print.
-use Rattle.std.specs.Prelude.{ℕ, List, ◌++◌, codes, decimal}
+use Rattle.std.specs.Prelude.{ℕ, List, ◌++◌, length, codes, decimal}
+use Rattle.std.specs.List.{flat_map}
+use Rattle.messages.specs.Telling.{check_telling, telling_text}
+use Rattle.model.specs.declared.types.fault.CheckFault.{CheckFault}
 use Rattle.model.specs.declared.types.image.Super.{Super}
 
 -- the numbers of a new image
@@ -12,6 +15,15 @@ numbers_text s =
 abbrev pub report_text : ℕ → ℕ → List ℕ
 report_text logged files =
     codes "sound log " ++ decimal logged ++ codes " files " ++ decimal files ++ codes "\n"
+
+-- a fault of an image
+abbrev pub fault_line : CheckFault → List ℕ
+fault_line fault = telling_text (check_telling fault) ++ codes "\n"
+
+-- faults of an image, a line each, and how many there are
+abbrev pub faults_text : List CheckFault → List ℕ
+faults_text faults =
+    flat_map fault_line faults ++ codes "faults " ++ decimal (length faults) ++ codes "\n"
 
 -- how many blocks were copied home
 abbrev pub copied_text : ℕ → List ℕ

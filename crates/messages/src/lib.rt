@@ -18,8 +18,9 @@ mod told;
 pub use events::Event;
 pub use lines::{AccountLine, AnswerLine};
 pub use output::{
-    pass_on, print, print_copied, print_counts, print_event, print_files, print_images, print_last,
-    print_number, print_numbers, print_refusal, print_report, write_bytes,
+    pass_on, print, print_copied, print_counts, print_event, print_faults, print_files,
+    print_images, print_last, print_number, print_numbers, print_refusal, print_report,
+    write_bytes,
 };
 pub use printed::Printed;
 pub use told::{Reason, Told, Unwritten};

@@ -4,13 +4,13 @@ ghost use Rattle.std.specs.Io.KnownBytes.{Appends, Keeps};
 ghost use Rattle.messages.specs.Events.{event_line};
 ghost use Rattle.messages.specs.declared.events.Event.TheVariants.{Stepped};
 ghost use Rattle.messages.specs.Telling.{telling_line};
-ghost use Rattle.messages.specs.Output.{copied_text, counts_text, files_text, images_text, number_text, numbers_text, report_text};
+ghost use Rattle.messages.specs.Output.{copied_text, counts_text, fault_line, faults_text, files_text, images_text, number_text, numbers_text, report_text};
 
 use crate::answers::print_answer;
 use crate::events::{Event, end_of_line};
 use crate::told::{Reason, Unwritten};
 use itoa::Buffer;
-use layout::Super;
+use layout::{CheckFault, Super};
 use model::types::Step;
 use offline::Report;
 use std::fmt::Display;
@@ -115,6 +115,27 @@ pub fn print_report<O: Write>(out: &mut O, report: &Report) -> Result<(), Unwrit
     let logged = buffers.0.format(report.logged);
     let files = buffers.1.format(report.files);
     print_last(out, format_args!("sound log {logged} files {files}\n"))
+}
+
+/// Prints the faults of an image, a line each, and how many there are, as the last text of a command.
+pub fn print_faults<O: Write>(out: &mut O, faults: &[CheckFault]) -> Result<(), Unwritten>
+    ensures ok { OnOk result (Appends (O.contents out.old) (O.contents out.new)
+        (faults_text faults.now)) }
+{
+    for fault in faults {
+        print_fault(out, fault)?;
+    }
+    let mut buffer = Buffer::new();
+    let count = buffer.format(faults.len());
+    print_last(out, format_args!("faults {count}\n"))
+}
+
+fn print_fault<O: Write>(out: &mut O, fault: &CheckFault) -> Result<(), Unwritten>
+    ensures ok { OnOk result (Appends (O.contents out.old) (O.contents out.new)
+        (fault_line fault.now)) }
+{
+    let told = fault.told();
+    print(out, format_args!("{told}\n"))
 }
 
 /// Prints how many blocks were copied home, as the last text of a command.

@@ -1,8 +1,9 @@
 -- Laws over the definitions.
-use Rattle.std.specs.Prelude.{◌≡◌, ◌↔◌, ℕ, ◌+◌, ◌<◌, ◌≤◌, ◌==◌, ◌&&◌, not, nat_lt, IsTrue, IsSome, Bool, true, false, List, ◌++◌, length, slice_set, slice_index, Some, None}
+use Rattle.std.specs.Prelude.{◌≡◌, ◌↔◌, ℕ, ◌+◌, ◌<◌, ◌≤◌, ◌==◌, ◌&&◌, not, nat_lt, IsTrue, IsSome, Bool, true, false, List, [], ◌++◌, length, slice_set, slice_index, Option, Some, None}
 use Rattle.std.specs.List.{list_any}
 use Rattle.blocks.specs.Disk.{Image, block_at}
 use Rattle.model.specs.Format.{bits_per_block}
+use Rattle.model.specs.declared.types.fault.CheckFault.{CheckFault}
 use Rattle.model.specs.declared.types.image.Dinode.{Dinode}
 use Rattle.model.specs.declared.types.operations.Entry.{Entry}
 use Rattle.model.specs.declared.types.image.Form.{Form}
@@ -15,6 +16,7 @@ use Rattle.model.specs.Log.{cleared, is_lawful_log, homes_of, logged_count, reco
 use Rattle.model.specs.Files.{Files, file_in, files_of}
 use Rattle.model.specs.Soundness.{IsLawfulGeometry, IsSound}
 use Rattle.model.specs.Verdict.{verdict}
+use Rattle.model.specs.Faults.{faults, first_in}
 use Rattle.model.specs.Operations.{after, refusal_of}
 use Rattle.model.specs.Journal.{replay, and_then, is_at_once, is_changing}
 use Rattle.model.specs.Codec.{first_bits}
@@ -102,6 +104,15 @@ HomesAreRewritten = (x y : Image) → IsTrue (is_lawful_log x) → length y ≡ 
 abbrev pub VerdictIsSound : Type 0
 VerdictIsSound = (x : Image) →
     (verdict x ≡ None) ↔ (IsLawfulGeometry x × IsTrue (is_lawful_log x) × IsSound (recovered x))
+
+-- what a check answers is the first of an image's faults, so one that it finds sound has none, and
+-- one that has none is found sound
+pub record IsFirstOf (fault : Option CheckFault) (faults : List CheckFault) : Type 0 where
+  pub first : fault ≡ first_in faults
+  pub none : (fault ≡ None) ↔ (faults ≡ [])
+
+abbrev pub VerdictIsFirst : Type 0
+VerdictIsFirst = (x : Image) → IsFirstOf (verdict x) (faults x)
 
 -- images that agree at the superblock and at what an inode names have the same contents of it
 abbrev pub FramesContents : Type 0

@@ -5,6 +5,7 @@ pub mod Steps
 pub mod Log
 pub mod Super
 pub mod Verdict
+pub mod Faults
 pub mod Runs
 pub mod Recovery
 pub mod Counts

@@ -9,6 +9,7 @@ pub mod Files
 pub mod Gathered
 pub mod Soundness
 pub mod Verdict
+pub mod Faults
 pub mod Operations
 pub mod Journal
 pub mod Crash

@@ -1,5 +1,5 @@
 //! Laws over the definitions, each the contract of a function that does nothing.
-ghost use Rattle.model.specs.Laws.{RecoversOnce, ReplaysInParts, RefusalsKeep, CountStays, RefusalsFirst, AtOnceIsNotChanging, AtOnceIsRefused, HomeWritesKeep, HomesAreRewritten, VerdictIsSound, FramesContents, SameOutsideLog, SameWhenRecovered, SameWhenCleared, FirstBits};
+ghost use Rattle.model.specs.Laws.{RecoversOnce, ReplaysInParts, RefusalsKeep, CountStays, RefusalsFirst, AtOnceIsNotChanging, AtOnceIsRefused, HomeWritesKeep, HomesAreRewritten, VerdictIsSound, VerdictIsFirst, FramesContents, SameOutsideLog, SameWhenRecovered, SameWhenCleared, FirstBits};
 
 /// Recovery of what recovery left changes nothing.
 pub fn recovers_once()
@@ -50,6 +50,12 @@ pub fn homes_are_rewritten()
 /// image.
 pub fn verdict_is_sound()
     ensures { VerdictIsSound }
+{}
+
+/// What a check answers is the first of an image's faults, so one that it finds sound has none, and
+/// one that has none is found sound.
+pub fn verdict_is_first()
+    ensures { VerdictIsFirst }
 {}
 
 /// Images that agree at the superblock and at what an inode names have the same contents of it.

@@ -1,8 +1,9 @@
 -- Reading the recovered image block by block.
-use Rattle.std.proofs.Common.{◌≡◌, ◌≢◌, ℕ, ◌<◌, ◌≤◌, true, false, List, [], length, get_or, replicate, Option, Some, None, refl, sym, ap, subst, ◌∙◌, ⊎_elim, arith}
+use Rattle.std.proofs.Common.{◌≡◌, ◌≢◌, ℕ, ◌+◌, ◌<◌, ◌≤◌, true, false, List, [], ◌∷◌, ◌++◌, drop, length, get_or, replicate, Option, Some, None, refl, sym, ap, subst, ◌∙◌, ⊎_elim, arith}
 use Rattle.std.specs.Prelude.{slice_get}
 use Rattle.std.proofs.lemmas.Bool.{ne_eqb, cases_eq, le-ltb, lt-ltb}
-use Rattle.std.proofs.lemmas.List.{get_or-replicate}
+use Rattle.std.proofs.lemmas.List.{append-nil, get_or-replicate, length-append, length-replicate}
+use Rattle.blocks.specs.Block.{IsBlock, overwritten, zero_block}
 use Rattle.std.proofs.lemmas.Option.{get_or_from_slice_get}
 use Rattle.blocks.specs.Disk.{Image, block_at}
 use Rattle.model.specs.Fields.{u32_at}
@@ -15,6 +16,7 @@ use Rattle.model.specs.Log.{homes_of, logged_count, place_among, block_from_log,
 use Rattle.model.specs.Verdict.{or_else, geometry_fault, log_fault, inodes_fault, marks_fault, verdict}
 use Rattle.model.specs.Lemmas.Log.{recovered_empty, recovered_at, recovered_low, length-recovered}
 use Rattle.model.specs.Lemmas.Super.{lawful_geometry, super_of-recovered}
+use Rattle.model.specs.Lemmas.Verdict.{or_else-assoc}
 use Rattle.model.specs.Lemmas.Recovery.{no_homes}
 use Rattle.offline.specs.declared.owners.Owners.{Owners}
 use Rattle.offline.specs.declared.recovered.Recovered.{Recovered}
@@ -22,7 +24,7 @@ use Rattle.offline.specs.Check.{IsGround}
 use Rattle.offline.specs.Recovered.{IsRecoveredOf}
 use Rattle.offline.specs.Owners.{Stand}
 use Rattle.offline.specs.Cause.{source_at, source_among, IsCause}
-use Rattle.offline.proofs.OwnersLemmas.{cause_first, or_else-assoc}
+use Rattle.offline.proofs.OwnersLemmas.{cause_first}
 
 block_from_log-source : (x : Image) (b : ℕ) (place : Option ℕ) → block_from_log x b place ≡ block_at x (source_at place b)
 block_from_log-source x b None = refl
@@ -100,3 +102,12 @@ verdict_short x h = rw (lt-ltb (length x) 2 h) refl
 
 pub opening_short : (x : Image) → length x < 2 → or_else (geometry_fault x) (log_fault x) ≡ Some BadGeometry
 opening_short x h = rw (lt-ltb (length x) 2 h) refl
+
+-- zeroes in the place of a whole block
+pub overwritten_by_zeroes : (old new : List ℕ) → new ≡ overwritten old 0 (replicate 1024 0) → IsBlock new → new ≡ zero_block
+unfolding zero_block
+overwritten_by_zeroes old new put block = put ∙ whole (replicate 1024 0) (drop (0 + length {A = ℕ} (replicate 1024 0)) old) (length-replicate {A = ℕ} 1024 0) (ap length (sym put) ∙ block.size)
+  where
+    whole : (front rest : List ℕ) → length front ≡ 1024 → length (front ++ rest) ≡ 1024 → front ++ rest ≡ front
+    whole front [] size all = append-nil front
+    whole front (a ∷ rest) size all = absurd (omega (arith, length-append front (a ∷ rest), size, all))

@@ -1,8 +1,8 @@
 -- The pointers under addresses, step by step.
-use Rattle.std.proofs.Common.{◌≡◌, ◌≢◌, ℕ, zero, suc, ◌+◌, ◌-◌, ◌<◌, ◌≤◌, List, [], ◌∷◌, ◌++◌, length, get_or, drop, refl}
-use Rattle.std.proofs.lemmas.Bool.{ne_eqb}
+use Rattle.std.proofs.Common.{◌≡◌, ◌≢◌, ℕ, zero, suc, ◌+◌, ◌-◌, ◌<◌, ◌≤◌, List, [], ◌∷◌, ◌++◌, length, get_or, drop, refl, ⊎_elim}
+use Rattle.std.proofs.lemmas.Bool.{ne_eqb, cases_eq}
 use Rattle.std.proofs.Math.Numerals.{sub-one}
-use Rattle.std.proofs.lemmas.List.{at_drop_more, at_drop_all, drop_more, drop_all}
+use Rattle.std.proofs.lemmas.List.{at_drop_more, at_drop_all, drop_more, drop_all, get_or_past}
 use Rattle.blocks.specs.Disk.{Image, block_at}
 use Rattle.model.specs.declared.types.image.Pointer.{Pointer}
 use Rattle.model.specs.Fields.{words_of}
@@ -57,3 +57,12 @@ along_more y size first depths addresses k in_depths in_addresses =
 pub along_all : (y : Image) (size first : ℕ) (depths addresses : List ℕ) (k : ℕ) → length depths ≤ k →
     pointers_along y size first (drop k depths) (drop k addresses) ≡ []
 along_all y size first depths addresses k high = rw (drop_all k depths high) refl
+
+-- a block that the image doesn't have holds no address
+pub under_outside : (y : Image) (size depth first address : ℕ) → length y ≤ address →
+    pointers_under y size depth first address ≡ pointer_of size first address ∷ []
+under_outside y size zero first address high = refl
+under_outside y size (suc depth) first address high =
+    ⊎_elim (λ (e : address ≡ 0). rw e refl)
+    (λ (n : address ≢ 0). rw (ne_eqb address 0 n, get_or_past y address [] high) refl)
+    (cases_eq address 0)

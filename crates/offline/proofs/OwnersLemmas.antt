@@ -1,6 +1,6 @@
 -- Judging pointers one after the other.
-use Rattle.std.proofs.Common.{◌≡◌, ◌≢◌, ℕ, List, [], ◌∷◌, ◌++◌, Option, Some, None, Result, Ok, Err, inl, inr, refl, sym, ap, subst, ◌∙◌}
-use Rattle.std.proofs.lemmas.Bool.{ne_eqb}
+use Rattle.std.proofs.Common.{◌≡◌, ◌≢◌, ℕ, List, [], ◌∷◌, ◌++◌, Option, Some, None, Result, Ok, Err, inl, inr, refl, sym, ap, subst, ◌∙◌, ⊎_elim}
+use Rattle.std.proofs.lemmas.Bool.{ne_eqb, cases_eq}
 use Rattle.std.proofs.lemmas.List.{append_assoc, append-nil}
 use Rattle.blocks.specs.Disk.{Image}
 use Rattle.model.specs.declared.types.fault.CheckFault.{CheckFault}
@@ -8,14 +8,20 @@ use Rattle.model.specs.declared.types.image.Pointer.{Pointer}
 use Rattle.model.specs.Log.{recovered}
 use Rattle.model.specs.Places.{addresses_in}
 use Rattle.model.specs.Lemmas.Names.{addresses_in-append}
+use Rattle.model.specs.Lemmas.Verdict.{or_else-assoc}
 use Rattle.model.specs.Verdict.{or_else, address_fault, pointer_fault, first_pointer_fault}
 use Rattle.offline.specs.declared.owners.Owners.{Owners}
 use Rattle.offline.specs.Cause.{IsCause}
-use Rattle.offline.specs.Owners.{Stand, JudgesOn, JudgesPointers, Judges, JudgesAddress}
+use Rattle.offline.specs.Owners.{Stand, JudgesOn, JudgesPointers, Judges, JudgesAddress, there}
 
-or_none : {A : Type 0} (a : Option A) → or_else a None ≡ a
+pub or_none : {A : Type 0} (a : Option A) → or_else a None ≡ a
 or_none None = refl
 or_none (Some a) = refl
+
+-- the address of a pointer alone
+pub there_is : (p : Pointer) → there p.address ≡ addresses_in (p ∷ [])
+there_is p =
+    ⊎_elim (λ (e : p.address ≡ 0). rw e refl) (λ (n : p.address ≢ 0). rw (ne_eqb p.address 0 n) refl) (cases_eq p.address 0)
 
 -- a pointer to a block is judged by its address
 pub judged : (y : Image) (i : ℕ) (earlier : List ℕ) (p : Pointer) (new : Owners) (result : Result (Unit {0}) CheckFault) →
@@ -26,10 +32,6 @@ judged y i earlier p new (Ok u) some h =
 judged y i earlier p new (Err fault) some h =
     let no = ne_eqb p.address 0 some in
     rw no (or_none (address_fault y i earlier p.address) ∙ h)
-
-pub or_else-assoc : {A : Type 0} (a b c : Option A) → or_else a (or_else b c) ≡ or_else (or_else a b) c
-or_else-assoc None b c = refl
-or_else-assoc (Some x) b c = refl
 
 -- the pointers of two lists are judged one list after the other
 pub first_pointer_fault-append : (y : Image) (i : ℕ) (earlier : List ℕ) (front back : List Pointer) →

@@ -1,5 +1,5 @@
 -- The table of the blocks that inodes own, as `check` fills it.
-use Rattle.std.specs.Prelude.{◌≡◌, ℕ, ◌+◌, ◌<◌, ◌==◌, Bool, false, List, [], ◌∷◌, ◌++◌, length, slice_index_or, Result, MatchResult, Some, None, is_some}
+use Rattle.std.specs.Prelude.{◌≡◌, ℕ, ◌+◌, ◌<◌, ◌==◌, if◌then◌else◌, Bool, false, List, [], ◌∷◌, ◌++◌, length, slice_index_or, Result, MatchResult, Some, None, is_some}
 use Rattle.std.specs.List.{list_any}
 use Rattle.blocks.specs.Disk.{Image, block_at}
 use Rattle.model.specs.declared.types.fault.CheckFault.{CheckFault}
@@ -15,6 +15,10 @@ use Rattle.offline.specs.declared.owners.Owners.{Owners}
 abbrev pub Records : List Bool → List ℕ → Type 0
 Records owned places = (b : ℕ) →
     b < length owned → slice_index_or owned b false ≡ list_any (λ a. a == b) places
+
+-- an address, if there is one
+abbrev pub there : ℕ → List ℕ
+there address = if address == 0 then [] else address ∷ []
 
 -- the limits and the bitmap are those of an image
 pub record AreOf (owners : Owners) (y : Image) : Type 0 where

@@ -33,7 +33,7 @@ pub struct Report {
 }
 
 // Whether a file of that many bytes is larger than any of that form may be.
-fn is_too_large(size: u32, form: Form) -> bool
+pub(crate) fn is_too_large(size: u32, form: Form) -> bool
     ensures { IsTrue result ↔ (greatest_size form < size) }
 {
     size > greatest_size(form)
@@ -75,7 +75,7 @@ fn check_inode<D: Disk>(
 
 // Reads inode i, whose block is there unless i is the first in it.
 #[tactic(auto, unfolding(model::specs::Layout::inode_of))]
-fn load_inode<D: Disk>(
+pub(crate) fn load_inode<D: Disk>(
     disk: &mut D,
     image: &Recovered,
     block: &mut Block,

@@ -20,12 +20,12 @@ use model::types::{CheckFault, Dinode};
 
 // An address of an inode or of a block of addresses.
 #[derive(Clone, Copy)]
-struct Branch {
-    address: u32,
+pub(crate) struct Branch {
+    pub address: u32,
     // How many blocks of addresses one goes through from it to the data.
-    depth: u32,
+    pub depth: u32,
     // The first of the file's blocks that it leads to.
-    first: u32,
+    pub first: u32,
 }
 
 // Notes where the blocks stand that are under an address: the one that it names, and then those

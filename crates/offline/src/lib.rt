@@ -1,14 +1,17 @@
 //! An image that no kernel is open over: made, checked, and read as recovery would leave it.
 #![tactic(auto)]
 
+mod all_faults;
 mod checking;
 mod claims;
 pub mod laws;
 mod making;
 mod new_image;
+mod notes;
 mod owners;
 mod recovered;
 
+pub use all_faults::check_all;
 pub use checking::{Report, check};
 pub use making::{mkfs, mkfs_as};
 pub use recovered::Recovered;

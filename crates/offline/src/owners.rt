@@ -1,7 +1,8 @@
 // Which blocks are owned, block by block: what tells a block at two places, or at none.
-ghost use Rattle.std.specs.Prelude.{◌≡◌, ◌≢◌, ◌≤◌, ◌<◌, ◌^◌, ◌+◌, ◌∷◌, [], List, ℕ, length, slice_index, replicate, false, OnOk, IfOk};
+ghost use Rattle.std.specs.Prelude.{◌≡◌, ◌≢◌, ◌≤◌, ◌<◌, ◌^◌, ◌+◌, ◌∷◌, ◌++◌, [], List, ℕ, length, slice_index, replicate, false, OnErr, OnOk, IfOk};
 ghost use Rattle.blocks.specs.Disk.{Image};
-ghost use Rattle.model.specs.Places.{places_of, pointer_of};
+ghost use Rattle.model.specs.Places.{addresses_in, places_of, pointer_of};
+ghost use Rattle.model.specs.Verdict.{mark_fault, pointer_fault};
 
 use blocks::{BLOCK_SIZE, Block, NoMemory};
 use layout::bitmap::bit;
@@ -33,7 +34,7 @@ pub struct Owners {
 }
 
 impl Owners {
-    ghost use Rattle.offline.specs.Owners.{Stand, SameLimits, Judges, JudgesAddress, JudgesMark, JudgesMarks};
+    ghost use Rattle.offline.specs.Owners.{Stand, SameLimits, Judges, JudgesAddress, JudgesMark, JudgesMarks, there};
 
     /// A table of the blocks of an image, none of them owned yet.
     pub fn new(alloc: Global, first_data: u32, size: u32, bitmap: Block) -> Result<Owners, NoMemory>
@@ -54,6 +55,7 @@ impl Owners {
     /// Notes that inode i has a block at this address.
     fn claim_address(&mut self, i: u32, address: u32) -> Result<(), CheckFault>
         ensures limits { SameLimits self.old self.new }
+        ensures kept { OnErr result (self.new ≡ self.old) }
         ensures inside { OnOk result ((self.old.first_data ≤ address) × (address < self.old.size)) }
         ensures judged { (y : Image) (earlier : List ℕ) →
             Stand self.old y earlier → JudgesAddress y i earlier address self.new result }
@@ -74,6 +76,7 @@ impl Owners {
     /// Notes what a pointer of inode i leads to.
     pub fn claim(&mut self, i: u32, pointer: Pointer) -> Result<(), CheckFault>
         ensures limits { SameLimits self.old self.new }
+        ensures kept { OnErr result (self.new ≡ self.old) }
         ensures inside { OnOk result (pointer.address ≢ 0 →
             (self.old.first_data ≤ pointer.address) × (pointer.address < self.old.size)) }
         ensures judged { (y : Image) (earlier : List ℕ) →
@@ -86,6 +89,33 @@ impl Owners {
             return Err(CheckFault::BadAddress(i));
         }
         Ok(())
+    }
+
+    // Notes that an inode has a block at this address, if there is one.
+    fn place(&mut self, address: u32)
+        ensures limits { SameLimits self.old self.new }
+        ensures stand { (y : Image) (earlier : List ℕ) →
+            Stand self.old y earlier → Stand self.new y (earlier ++ there address) }
+    {
+        if address != 0 && address < self.size {
+            self.owned[address as usize] = true;
+        }
+    }
+
+    /// Notes what a pointer of inode i leads to, whatever is wrong with it. Its fault, if it has one.
+    pub fn note(&mut self, i: u32, pointer: Pointer) -> Option<CheckFault>
+        ensures limits { SameLimits self.old self.new }
+        ensures noted { (y : Image) (earlier : List ℕ) → Stand self.old y earlier →
+            (result ≡ pointer_fault y i earlier pointer)
+            × Stand self.new y (earlier ++ addresses_in (pointer ∷ [])) }
+    {
+        match self.claim(i, pointer) {
+            Ok(()) => None,
+            Err(fault) => {
+                self.place(pointer.address);
+                Some(fault)
+            }
+        }
     }
 
     /// Judges the bit of block b, once all places are noted.
@@ -106,6 +136,17 @@ impl Owners {
             return Err(CheckFault::LostBlock(b));
         }
         Ok(())
+    }
+
+    /// The fault of the bit of block b, once all places are noted, if it has one.
+    pub fn mark_fault(&self, b: u32) -> Option<CheckFault>
+        requires { b < self.now.size }
+        ensures { (y : Image) → Stand self.now y (places_of y) → result ≡ mark_fault y b }
+    {
+        match self.check_mark(b) {
+            Ok(()) => None,
+            Err(fault) => Some(fault),
+        }
     }
 
     /// Judges the bits of all blocks, once all places are noted.

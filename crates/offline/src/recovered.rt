@@ -80,6 +80,29 @@ impl Recovered {
         disk.read(source, into)
     }
 
+    // Reads any block: of the log's header, what recovery leaves of it.
+    pub(crate) fn any_block<D: Disk>(
+        &self,
+        disk: &mut D,
+        b: u32,
+        into: &mut Block,
+    ) -> Result<(), DiskFault>
+        requires recovered { IsRecoveredOf (D.image disk.old) self.now }
+        requires inside { b < length (D.image disk.old) }
+        ensures ok { OnOk result (into.new ≡ block_at (recovered (D.image disk.old)) b) }
+        ensures reads { OnlyReads D.Disk disk.old disk.new }
+        ensures faults { CountsFault result (D.fault_count disk.old) (D.fault_count disk.new) }
+    {
+        if b != LOG_START {
+            return self.block(disk, b, into);
+        }
+        disk.read(b, into)?;
+        if self.header.n != 0 {
+            into.put(0, &[0; BLOCK_SIZE]);
+        }
+        Ok(())
+    }
+
     /// Reads the inode of a number, the unused number 0 included; `block` then holds its block.
     ///
     /// # Errors

@@ -7,3 +7,4 @@ pub mod Keeping
 pub mod Seats
 pub mod Shown
 pub mod Owning
+mod Checked

@@ -1,10 +1,12 @@
 -- Why a command over a disk wasn't done, and how the disk is then.
-use Rattle.std.specs.Prelude.{◌≡◌, ◌&&◌, ◌==◌, ℕ, false, length, None}
+use Rattle.std.specs.Prelude.{◌≡◌, ◌⊎◌, ◌&&◌, ◌==◌, ⊤, ℕ, Bool, true, false, List, length, Option, Some, None}
+use Rattle.std.specs.Io.KnownBytes.{Appends}
 use Rattle.blocks.specs.Disk.{Image, Rose}
 use Rattle.blocks.specs.declared.disk.Disk.{Ghosts}
 use Rattle.offline.specs.Cause.{IsCause}
 use Rattle.layout.specs.declared.geometry.MkfsFault.{MkfsFault}
 use Rattle.layout.specs.declared.geometry.MkfsFault.TheVariants as mkfs
+use Rattle.model.specs.Faults.{faults}
 use Rattle.model.specs.Layout.{is_inode_count, is_size}
 use Rattle.model.specs.Log.{recovered}
 use Rattle.model.specs.Verdict.{verdict}
@@ -12,6 +14,7 @@ use Rattle.model.specs.declared.types.fault.CheckFault.{CheckFault}
 use Rattle.model.specs.declared.types.image.Form.{Form}
 use Rattle.opening.specs.Recoveries.{IsUnrecovered}
 use Rattle.opening.specs.declared.recovering.RecoverRefusal.{RecoverRefusal}
+use Rattle.messages.specs.Output.{faults_text}
 use Rattle.messages.specs.declared.printed.Printed.{Printed}
 use Rattle.messages.specs.declared.printed.Printed.TheVariants as printed
 
@@ -21,6 +24,29 @@ abbrev pub IsUnchecked : {D N : Type 0} → Ghosts D N → D → D → Type 0 �
 IsUnchecked disk d e none (printed.Fault fault) =
     IsCause (verdict (disk.image d)) (disk.fault_count d) (disk.fault_count e) fault × none
 IsUnchecked disk d e none printed.Output = verdict (disk.image d) ≡ None
+
+-- these faults were printed, and the refusal is the first; or they could not be printed
+abbrev pub IsToldWith : Option (List ℕ) → Option (List ℕ) → List CheckFault → CheckFault
+    → Printed CheckFault → Type 0
+IsToldWith old new faults first (printed.Fault fault) =
+    (fault ≡ first) × Appends old new (faults_text faults)
+IsToldWith old new faults first printed.Output = ⊤
+
+-- The image of the disk d, now e, has faults, all of which were printed, and the refusal is the
+-- first; or what was found could not be printed; or a read failed, or memory was refused.
+abbrev pub HasFaultsTold : {D N : Type 0} → Ghosts D N → D → D → Option (List ℕ)
+    → Option (List ℕ) → Type 0 → Printed CheckFault → Type 0
+HasFaultsTold disk d e old new none (printed.Fault fault) =
+    ((verdict (disk.image d) ≡ Some fault)
+    × Appends old new (faults_text (faults (disk.image d))))
+    ⊎ (IsCause None (disk.fault_count d) (disk.fault_count e) fault × none)
+HasFaultsTold disk d e old new none printed.Output = ⊤
+
+-- why a check that tells the first fault, or all of them, was refused
+abbrev pub IsUncheckedBy : {D N : Type 0} → Ghosts D N → Bool → D → D → Option (List ℕ)
+    → Option (List ℕ) → Type 0 → Printed CheckFault → Type 0
+IsUncheckedBy disk false d e old new none r = IsUnchecked disk d e none r
+IsUncheckedBy disk true d e old new none r = HasFaultsTold disk d e old new none r
 
 -- the disk d, now e, was not recovered; or it was, and how many blocks were copied could not be
 -- printed

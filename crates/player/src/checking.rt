@@ -6,12 +6,12 @@ ghost use Rattle.model.specs.Files.{file_count, files_of};
 ghost use Rattle.model.specs.Log.{logged_count, recovered};
 ghost use Rattle.model.specs.Verdict.{verdict};
 ghost use Rattle.messages.specs.Output.{report_text};
-ghost use Rattle.player.specs.Causes.{IsUnchecked};
+ghost use Rattle.player.specs.Causes.{HasFaultsTold, IsToldWith, IsUnchecked};
 
 use blocks::Disk;
-use messages::{Printed, print_report};
+use messages::{Printed, print_faults, print_report};
 use model::types::CheckFault;
-use offline::check;
+use offline::{check, check_all};
 use std::alloc::Global;
 use std::io::Write;
 
@@ -35,4 +35,44 @@ pub fn check_disk<D: Disk, O: Write>(
 {
     let report = check(alloc, disk).map_err(Printed::Fault)?;
     print_report(out, &report).map_err(|_| Printed::Output)
+}
+
+/// Checks the image of a disk as `check_disk`, but that of one with faults it prints them all, a line
+/// each, and how many they are. It writes no block.
+///
+/// # Errors
+///
+/// The first fault of the image, and then all were printed. What else kept it from an answer, and
+/// then nothing was printed; or `Output`.
+pub fn check_disk_all<D: Disk, O: Write>(
+    alloc: Global,
+    disk: &mut D,
+    out: &mut O,
+) -> Result<(), Printed<CheckFault>>
+    ensures sound { OnOk result (verdict (D.image disk.old) ≡ None) }
+    ensures printed { OnOk result (Appends (O.contents out.old) (O.contents out.new)
+        (report_text (logged_count (D.image disk.old))
+        (file_count (files_of (recovered (D.image disk.old)))))) }
+    ensures reads { OnlyReads D.Disk disk.old disk.new }
+    ensures refused { IfErr result (HasFaultsTold D.Disk disk.old disk.new
+        (O.contents out.old) (O.contents out.new) (out.new ≡ out.old)) }
+{
+    let faults = match check_all(alloc, disk) {
+        Ok(faults) => faults,
+        Err(fault) => return Err(Printed::Fault(fault)),
+    };
+    match faults.as_slice().first() {
+        None => check_disk(alloc, disk, out),
+        Some(first) => Err(tell(out, faults.as_slice(), *first)),
+    }
+}
+
+// Prints these faults. The refusal: the first of them, or that they could not be printed.
+fn tell<O: Write>(out: &mut O, faults: &[CheckFault], first: CheckFault) -> Printed<CheckFault>
+    ensures { IsToldWith (O.contents out.old) (O.contents out.new) faults.now first result }
+{
+    match print_faults(out, faults) {
+        Ok(()) => Printed::Fault(first),
+        Err(_) => Printed::Output,
+    }
 }

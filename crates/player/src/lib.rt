@@ -19,7 +19,7 @@ mod showing;
 mod stepping;
 mod turns;
 
-pub use checking::check_disk;
+pub use checking::{check_disk, check_disk_all};
 pub use looks::{Cat, Check, Recover};
 pub use making::make_disk;
 pub use player::Player;

@@ -1,9 +1,9 @@
 // The commands over a disk that need no kernel.
-ghost use Rattle.player.specs.Causes.{IsNotRecovered, IsUnchecked};
+ghost use Rattle.player.specs.Causes.{IsNotRecovered, IsUncheckedBy};
 ghost use Rattle.player.specs.Looks.{HasRecovered, HasReported, HasShown};
 ghost use Rattle.player.specs.Showing.{IsNotShown};
 
-use crate::checking::check_disk;
+use crate::checking::{check_disk, check_disk_all};
 use crate::recovering::recover_disk;
 use crate::refusals::CatRefusal;
 use crate::showing::cat_disk;
@@ -15,16 +15,19 @@ use opening::RecoverRefusal;
 use std::alloc::Global;
 use std::io::Write;
 
-/// Checks an image, as `check_disk`.
+/// Checks an image, as `check_disk`, or as `check_disk_all`.
 #[derive(Clone, Copy, Drop)]
-pub struct Check;
+pub struct Check {
+    /// Whether all faults are told.
+    pub all: bool,
+}
 
 impl DiskCommand for Check {
     type Refusal = Printed<CheckFault>;
 
     ghost done = { λ check c. HasReported c.disk c.was c.now };
 
-    ghost refused = { λ check c old new. IsUnchecked c.disk c.was c.now };
+    ghost refused = { λ check c old new. IsUncheckedBy c.disk check.all c.was c.now old new };
 
     fn run_on<D: Disk + Drop, O: Write>(
         self,
@@ -33,7 +36,11 @@ impl DiskCommand for Check {
         out: &mut O,
     ) -> (Result<(), Printed<CheckFault>>, D) {
         let mut disk = disk;
-        let ended = check_disk(alloc, &mut disk, out);
+        let ended = if self.all {
+            check_disk_all(alloc, &mut disk, out)
+        } else {
+            check_disk(alloc, &mut disk, out)
+        };
         (ended, disk)
     }
 }

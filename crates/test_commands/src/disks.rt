@@ -1,5 +1,6 @@
 // Disks over files, images that are read as recovery would leave them, and what the plain program
 // says of replies.
+use crate::all_faults::print_all_faults;
 use crate::files::{print_makings, print_openings};
 use crate::real_file::print_real_file;
 use crate::recovered::print_readings;
@@ -14,6 +15,7 @@ pub fn print_disks(rt: &HostRuntime) -> anyhow::Result<()> {
     print_real_file(rt)?;
     print_fault_texts(rt)?;
     print_readings(rt, alloc)?;
+    print_all_faults(rt, alloc)?;
     print_replies(rt, alloc)?;
     print_short_writes(rt, alloc)?;
     print_journals(rt, alloc)

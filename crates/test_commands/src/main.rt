@@ -9,6 +9,7 @@
 //! of a kernel's faults.
 #![tactic(auto)]
 
+mod all_faults;
 mod cats;
 mod copies;
 mod disks;

@@ -15,7 +15,7 @@ use Rattle.xvfs.specs.Requests.{OnRefused}
 
 pub locked_out : {F N : Type 0} (file : FileGhosts F N) (request : Request) (old new : Option (List ℕ)) (none : Type 0) → none → OnRefused file request old new none
 locked_out file (Mkfs image size ninodes large) old new none silent = (on.File Locked, silent)
-locked_out file (Check image) old new none silent = (on.File Locked, silent)
+locked_out file (Check image all) old new none silent = (on.File Locked, silent)
 locked_out file (Recover image sync) old new none silent = (on.File Locked, silent)
 locked_out file (Cat image inum) old new none silent = (on.File Locked, silent)
 locked_out file (Ls image) old new none silent = (on.File Locked, silent)

@@ -14,7 +14,7 @@ use Rattle.cmd.specs.Opened.{OpensDisk}
 use Rattle.cmd.specs.Over.{IsRefusedOn}
 use Rattle.inspect.specs.Causes.{IsHidden, IsUncounted, IsUnlisted}
 use Rattle.inspect.specs.Looks.{HasCounted, HasListed, HasShown as HasBlocksShown}
-use Rattle.player.specs.Causes.{IsNotRecovered, IsUnchecked}
+use Rattle.player.specs.Causes.{IsNotRecovered, IsUncheckedBy}
 use Rattle.player.specs.Looks.{HasRecovered, HasReported, HasShown}
 use Rattle.player.specs.Showing.{IsNotShown}
 use Rattle.commands.specs.Runs.{IsNotRun, IsReplayed, IsRun, IsUnreplayed}
@@ -34,7 +34,7 @@ abbrev pub Answers : {F N : Type 0} → FileGhosts F N → Request → Option (L
     → Option (List ℕ) → Type 0
 Answers file (Mkfs image size ninodes large) old new =
     IsMade file.disk (form_asked large) size ninodes old new
-Answers file (Check image) old new =
+Answers file (Check image all) old new =
     OpensDisk file.remaining file_disk false (λ d e. HasReported file_disk d e old new)
 Answers file (Recover image sync) old new =
     OpensDisk file.remaining file_disk sync (λ d e. HasRecovered file_disk d e old new)
@@ -64,8 +64,8 @@ abbrev pub OnRefused : {F N : Type 0} → FileGhosts F N → Request → Option 
     → Option (List ℕ) → Type 0 → Type 0
 OnRefused file (Mkfs image size ninodes large) old new none =
     Refuses (IsNotMade size ninodes none)
-OnRefused file (Check image) old new none =
-    Refuses (IsRefusedOn file.remaining false none (λ d e. IsUnchecked file_disk d e none))
+OnRefused file (Check image all) old new none = Refuses
+    (IsRefusedOn file.remaining false none (λ d e. IsUncheckedBy file_disk all d e old new none))
 OnRefused file (Recover image sync) old new none =
     Refuses (IsRefusedOn file.remaining sync none (λ d e. IsNotRecovered file_disk d e none))
 OnRefused file (Cat image inum) old new none = Refuses

@@ -40,9 +40,9 @@ use std::thread::Threads;
 /// With 0 the words make a command, and `out` has its answer, which is that of the disk that was
 /// opened from a file; or they ask for help or the version, whose text is clap's. With 1 they do
 /// too. Then no disk was opened, or the refusal is that disk's; and nothing was printed, but of a
-/// replay whose disk failed, of a file in whose reading that or memory failed, and of an output
-/// that failed. With 2 nothing is written to `out`, with 0 nothing to `err`. What else `err` gets
-/// no contract tells, since it may fail at any byte.
+/// check that tells all faults, of a replay whose disk failed, of a file in whose reading that or
+/// memory failed, and of an output that failed. With 2 nothing is written to `out`, with 0 nothing
+/// to `err`. What else `err` gets no contract tells, since it may fail at any byte.
 pub fn command<
     R: Files + AllocGlobal + Threads + Wait + Clock + Screen + Locks + Sync,
     S: AsStr,
@@ -150,7 +150,9 @@ where
             out,
             err,
         ),
-        Request::Check { image } => perform(rt, OverFile(image, Access::Look, Check), out, err),
+        Request::Check { image, all } => {
+            perform(rt, OverFile(image, Access::Look, Check { all }), out, err)
+        }
         Request::Recover { image, sync } => {
             perform(
                 rt,

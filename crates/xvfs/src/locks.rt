@@ -100,7 +100,7 @@ pub fn lock_image<L: Locks>(
     ensures waits { wait ≡ true → IsOk result }
 {
     match request {
-        Request::Check { image } => locks.lock(image, Share::Lookers, wait),
+        Request::Check { image, .. } => locks.lock(image, Share::Lookers, wait),
         Request::Ls { image } => locks.lock(image, Share::Lookers, wait),
         Request::Df { image } => locks.lock(image, Share::Lookers, wait),
         Request::Show { image, .. } => locks.lock(image, Share::Lookers, wait),

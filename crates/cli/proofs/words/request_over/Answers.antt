@@ -4,10 +4,10 @@ use Rattle.cli.proofs.CommandLines.{choice_read, flag_read, value_read}
 use Rattle.cli.proofs.words.request_over.Goals as goal
 
 pub returns-in-check : goal.returns-in-check
-returns-in-check c = (search rules, value_read (found_of c.args.values.now) (codes "IMAGE") _ c.in_ok-image.ensures)
+returns-in-check c = (search rules, value_read (found_of c.args.values.now) (codes "IMAGE") _ c.in_ok-image.ensures, flag_read (found_of c.args.values.now) (codes "all") c.get_flag.result c.get_flag.ensures.none c.get_flag.ensures.value c.get_flag.ensures.other)
 
 pub returns-in-recover : goal.returns-in-recover
-returns-in-recover c = (search rules, value_read (found_of c.args.values.now) (codes "IMAGE") _ c.in_ok-image.ensures, flag_read (found_of c.args.values.now) (codes "sync") c.get_flag.result c.get_flag.ensures.none c.get_flag.ensures.value c.get_flag.ensures.other)
+returns-in-recover c = (search rules, value_read (found_of c.args.values.now) (codes "IMAGE") _ c.in_ok-image.ensures, flag_read (found_of c.args.values.now) (codes "sync") c.get_flag-in-recover.result c.get_flag-in-recover.ensures.none c.get_flag-in-recover.ensures.value c.get_flag-in-recover.ensures.other)
 
 pub returns-in_ok-get_one-in-cat : goal.returns-in_ok-get_one-in-cat
 returns-in_ok-get_one-in-cat c = (search rules, value_read (found_of c.args.values.now) (codes "IMAGE") _ c.in_ok-image.ensures)

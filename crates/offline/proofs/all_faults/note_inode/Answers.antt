@@ -1,0 +1,29 @@
+use Rattle.std.proofs.Common.{◌≡◌, Bool, subst}
+use Rattle.std.proofs.lemmas.Result.{on_ok_weaker}
+use Rattle.model.specs.declared.types.image.Dinode.{Dinode}
+use Rattle.model.specs.Layout.{depths}
+use Rattle.model.specs.Log.{recovered}
+use Rattle.model.specs.Places.{pointers_along}
+use Rattle.model.specs.Verdict.{places_below}
+use Rattle.offline.specs.Notes.{HasNoted}
+use Rattle.offline.proofs.NoteLemmas.{is_none_where, noted_free, noted_used}
+use Rattle.offline.proofs.all_faults.note_inode.Goals as goal
+
+pub returns-then-inode-eq0-clause-noted : goal.returns-then-inode-eq0-clause-noted
+returns-then-inode-eq0-clause-noted g c =
+    noted_free (recovered (g.D.Disk.image c.args.disk.now)) c.args.i c.args.owners.now c.args.faults.now.items c.requires.some
+    (subst (λ (d : Dinode). d.kind ≡ 0) c.requires.inode c.if-inode-eq0.true)
+
+pub returns-clause-noted : goal.returns-clause-noted
+returns-clause-noted g c =
+    let y = recovered (g.D.Disk.image c.args.disk.now) in
+    let i = c.args.i in
+    let inode = c.args.inode.now in
+    let form = c.args.image.now.form in
+    on_ok_weaker c.note_pointers.result
+    (λ notes stand.
+    noted_used y i inode form c.note_pointers.new.owners c.early_fault-fault.result c.args.faults.now.items c.add_if_some.new.faults.items c.note_pointers.new.faults.items
+    c.requires.some c.requires.inode c.requires.judging.is_form c.if-inode-eq0.false c.early_fault-fault.ensures c.in_ok-add_if_some.ensures
+    (subst (λ (b : Bool). HasNoted y (record { number = i; size = inode.size; is_judged = b }) (places_below y i) (pointers_along y inode.size 0 (depths form) inode.addrs)
+    c.note_pointers.new.owners c.add_if_some.new.faults.items c.note_pointers.new.faults.items) (is_none_where c.early_fault-fault.result c.is_none.result c.is_none.ensures) (notes (places_below y i) stand)))
+    c.note_pointers.ensures.noted

@@ -1,0 +1,33 @@
+use Rattle.std.proofs.Common.{◌≡◌, ◌∙◌, ◌+◌, ◌-◌, inr, subst, arith, rules}
+use Rattle.blocks.specs.Disk.{Image, block_at}
+use Rattle.blocks.specs.Lemmas.Reads.{reads_then}
+use Rattle.model.specs.Faults.{inode_faults}
+use Rattle.model.specs.Layout.{inode_block}
+use Rattle.model.specs.Log.{recovered}
+use Rattle.model.specs.Verdict.{places_below}
+use Rattle.model.specs.Lemmas.Steps.{flat_mapped_next}
+use Rattle.offline.specs.Notes.{NotesInode}
+use Rattle.offline.specs.Owners.{Stand}
+use Rattle.offline.proofs.NoteLemmas.{found_next}
+use Rattle.offline.proofs.all_faults.note_inodes.Goals as goal
+
+pub loop-i-preserved : goal.loop-i-preserved
+loop-i-preserved g c =
+    let d = g.D.Disk in
+    let i = c.loop-i.i in
+    let y = recovered (d.image c.args.disk.now) in
+    let before = c.loop-i.invariant in
+    let same = before.reads.image in
+    let here = subst (λ (x : Image). Stand c.loop-i.owners (recovered x) (places_below (recovered x) i) →
+    NotesInode (recovered x) i c.note_next.new.owners c.loop-i.faults.items c.note_next.new.faults.items)
+    same c.in_ok-note_next.ensures.noted in
+    record {
+      reads = reads_then d c.args.disk.now c.loop-i.disk c.note_next.new.disk before.reads c.note_next.ensures.reads;
+      counts = c.in_ok-note_next.ensures.counts ∙ before.counts;
+      limits = search rules;
+      loaded = inr (subst (λ (x : Image). c.note_next.new.block ≡ block_at (recovered x) (inode_block (i + 1 - 1))) same
+          (let back : i + 1 - 1 ≡ i = omega arith in rw back c.in_ok-note_next.ensures.block));
+      stand = λ stand. (here (before.stand stand)).stand;
+      found = λ stand. found_next c.args.faults.now.items c.loop-i.faults.items c.note_next.new.faults.items _ (inode_faults y i) _ (before.found stand)
+          (here (before.stand stand)).faults (flat_mapped_next (inode_faults y) i c.loop-i.auto.i);
+    }

@@ -1,0 +1,22 @@
+use Rattle.std.proofs.Common.{◌≡◌, ◌⊎◌, ◌+◌, ◌-◌, ◌++◌, []}
+use Rattle.std.specs.List.{flat_map, range_with_len}
+use Rattle.blocks.specs.Calls.{OnlyReads}
+use Rattle.blocks.specs.Disk.{block_at}
+use Rattle.model.specs.Faults.{inode_faults}
+use Rattle.model.specs.Layout.{inode_block}
+use Rattle.model.specs.Log.{recovered}
+use Rattle.model.specs.Verdict.{places_below}
+use Rattle.offline.specs.Owners.{Stand, SameLimits}
+use Rattle.offline.proofs.all_faults.note_inodes.Given as goal
+
+abbrev pub invariant-loop-i : goal.invariant-loop-i
+invariant-loop-i g l =
+    let y = recovered (g.D.Disk.image l.initial.disk) in
+    record {
+      reads : OnlyReads g.D.Disk l.initial.disk l.disk;
+      counts : g.D.Disk.fault_count l.disk ≡ g.D.Disk.fault_count l.initial.disk;
+      limits : SameLimits l.initial.owners l.owners;
+      loaded : (l.i ≡ 1) ⊎ (l.block ≡ block_at y (inode_block (l.i - 1)));
+      stand : Stand l.initial.owners y [] → Stand l.owners y (places_below y l.i);
+      found : Stand l.initial.owners y [] → l.faults.items ≡ l.initial.faults.items ++ flat_map (inode_faults y) (range_with_len 1 (l.i - 1));
+    }

@@ -1,0 +1,12 @@
+use Rattle.std.proofs.Common.{◌≡◌, ◌++◌}
+use Rattle.std.specs.List.{flat_map, range_with_len}
+use Rattle.blocks.specs.Disk.{Image}
+use Rattle.model.specs.Faults.{listed}
+use Rattle.model.specs.Places.{places_of}
+use Rattle.model.specs.Verdict.{mark_fault}
+use Rattle.offline.specs.Owners.{Stand}
+use Rattle.offline.proofs.all_faults.note_marks.Given as goal
+
+abbrev pub invariant-loop-b : goal.invariant-loop-b
+invariant-loop-b l =
+    (y : Image) → Stand l.owners y (places_of y) → l.faults.items ≡ l.initial.faults.items ++ flat_map (λ b. listed (mark_fault y b)) (range_with_len 0 l.b)

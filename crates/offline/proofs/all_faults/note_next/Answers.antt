@@ -1,0 +1,14 @@
+use Rattle.std.proofs.Common.{subst}
+use Rattle.std.specs.Prelude.{OnOk}
+use Rattle.blocks.specs.Disk.{Image}
+use Rattle.model.specs.Log.{recovered}
+use Rattle.model.specs.Verdict.{places_below}
+use Rattle.offline.specs.Notes.{NotesInode}
+use Rattle.offline.specs.Owners.{Stand}
+use Rattle.offline.proofs.all_faults.note_next.Goals as goal
+
+pub returns-clause-noted : goal.returns-clause-noted
+returns-clause-noted g c =
+    subst (λ (x : Image). OnOk c.note_inode.result (Stand c.args.owners.now (recovered x) (places_below (recovered x) c.args.i) →
+    NotesInode (recovered x) c.args.i c.note_inode.new.owners c.args.faults.now.items c.note_inode.new.faults.items))
+    c.load_inode.ensures.reads.image c.note_inode.ensures.noted

@@ -1,0 +1,19 @@
+use Rattle.std.proofs.Common.{◌≡◌, ℕ, ◌*◌, ◌≤◌, List, drop}
+use Rattle.blocks.specs.Calls.{OnlyReads}
+use Rattle.model.specs.Log.{recovered}
+use Rattle.model.specs.Places.{pointers_along}
+use Rattle.offline.specs.Owners.{Stand, SameLimits}
+use Rattle.offline.proofs.NoteLemmas.{IsNoting}
+use Rattle.offline.proofs.notes.note_pointers.Given as goal
+
+abbrev pub invariant-loop-k : goal.invariant-loop-k
+invariant-loop-k g l =
+    let y = recovered (g.D.Disk.image l.fn.disk) in
+    record {
+      reads : OnlyReads g.D.Disk l.fn.disk l.disk;
+      counts : g.D.Disk.fault_count l.disk ≡ g.D.Disk.fault_count l.fn.disk;
+      limits : SameLimits l.fn.owners l.owners;
+      early : l.first ≤ l.k * 65536;
+      noted : (earlier : List ℕ) → Stand l.fn.owners y earlier →
+          IsNoting y l.owner earlier (pointers_along y l.owner.size 0 l.depths l.inode.addrs) (pointers_along y l.owner.size l.first (drop l.k l.depths) (drop l.k l.inode.addrs)) l.owners l.fn.faults.items l.faults.items;
+    }
