@@ -16,7 +16,7 @@ ghost use Rattle.commands.specs.Copies.{
 
 use crate::refused::CopyRefusal;
 use blocks::{Disk, FileDisk, FileFault};
-use cmd::{Command, open};
+use cmd::{Command, open_to_look};
 use layout::plan;
 use messages::print_files;
 use model::types::Form;
@@ -32,7 +32,7 @@ use transfer::{CopyFault, Progress, copy};
 /// old one where none is given.
 ///
 /// It is refused for the first of these. `Exists` where there is a file at the path `new`; `File`
-/// with a fault of `FileDisk::open` over the old one; `Of` with `Old` and a fault of the old image,
+/// with a fault of `open_to_look` over the old one; `Of` with `Old` and a fault of the old image,
 /// with `NotFirst`, or with `Mkfs` and `SizeRange`: with these no file was made. A fault of
 /// `FileDisk::create_new`, where `Exists` is told as above, and then `Of` with one of the copy: by its
 /// code the new file is taken away.
@@ -77,7 +77,7 @@ fn copy_files<R: Files + AllocGlobal, O: Write, P: Progress>(
     if matches!(exists(rt, new), Ok(true)) {
         return Err(CopyRefusal::Exists);
     }
-    let mut disk = open(rt, old, false)?;
+    let mut disk = open_to_look(rt, old)?;
     copy_from(rt, &mut disk, new, size, progress, out)
 }
 
