@@ -44,6 +44,8 @@ pub struct Copy<'a, P> {
     pub new: &'a str,
     /// How many blocks the new one has.
     pub size: Option<u32>,
+    /// Whether it is synced at the end.
+    pub sync: bool,
     /// Who is told how far the copy is.
     pub progress: P,
 }
@@ -51,13 +53,22 @@ pub struct Copy<'a, P> {
 impl<'a, R: Files + AllocGlobal, P: Progress + Drop> Command<R> for Copy<'a, P> {
     type Refusal = CopyRefusal;
 
-    ghost done = { λ copy. HasCopied R.File.remaining file_disk copy.size };
+    ghost done = { λ copy. HasCopied R.File.remaining file_disk copy.size copy.sync };
 
-    ghost refused = { λ copy old new. OnCopyRefusal R.File.remaining file_disk copy.size };
+    ghost refused = { λ copy old new.
+        OnCopyRefusal R.File.remaining file_disk copy.size copy.sync };
 
     fn run<O: Write>(self, rt: &R, out: &mut O) -> Result<(), CopyRefusal> {
         let mut progress = self.progress;
-        copy_files(rt, self.old, self.new, self.size, &mut progress, out)
+        copy_files(
+            rt,
+            self.old,
+            self.new,
+            self.size,
+            self.sync,
+            &mut progress,
+            out,
+        )
     }
 }
 
@@ -66,19 +77,20 @@ fn copy_files<R: Files + AllocGlobal, O: Write, P: Progress>(
     old: &str,
     new: &str,
     size: Option<u32>,
+    sync: bool,
     progress: &mut P,
     out: &mut O,
 ) -> Result<(), CopyRefusal>
     ensures copied { OnOk result (HasCopied R.File.remaining ⟦<FileDisk<R::File> as Disk>⟧ size
-        (O.contents out.old) (O.contents out.new)) }
+        sync (O.contents out.old) (O.contents out.new)) }
     ensures refused { IfErr result (OnCopyRefusal R.File.remaining
-        ⟦<FileDisk<R::File> as Disk>⟧ size (out.new ≡ out.old)) }
+        ⟦<FileDisk<R::File> as Disk>⟧ size sync (out.new ≡ out.old)) }
 {
     if matches!(exists(rt, new), Ok(true)) {
         return Err(CopyRefusal::Exists);
     }
     let mut disk = open_to_look(rt, old)?;
-    copy_from(rt, &mut disk, new, size, progress, out)
+    copy_from(rt, &mut disk, new, size, sync, progress, out)
 }
 
 // Copies the image on a disk that was opened into a new file at the path. The disk is lent, so that
@@ -88,17 +100,18 @@ fn copy_from<R: Files + AllocGlobal, O: Write, P: Progress>(
     disk: &mut FileDisk<R::File>,
     new: &str,
     size: Option<u32>,
+    sync: bool,
     progress: &mut P,
     out: &mut O,
 ) -> Result<(), CopyRefusal>
     requires { IsOpened R.File.remaining ⟦<FileDisk<R::File> as Disk>⟧ false disk.old }
     ensures copied { OnOk result (HasCopied R.File.remaining ⟦<FileDisk<R::File> as Disk>⟧ size
-        (O.contents out.old) (O.contents out.new)) }
+        sync (O.contents out.old) (O.contents out.new)) }
     ensures refused { IfErr result (OnCopyRefusal R.File.remaining
-        ⟦<FileDisk<R::File> as Disk>⟧ size (out.new ≡ out.old)) }
+        ⟦<FileDisk<R::File> as Disk>⟧ size sync (out.new ≡ out.old)) }
 {
     let size = plan_copy(rt.alloc(), disk, size)?;
-    let files = make_copy(rt, disk, new, size, progress)?;
+    let files = make_copy(rt, disk, new, size, sync, progress)?;
     match print_files(out, files) {
         Ok(()) => Ok(()),
         Err(_) => Err(CopyRefusal::Output),
@@ -111,15 +124,17 @@ fn make_copy<R: Files + AllocGlobal, P: Progress>(
     disk: &mut FileDisk<R::File>,
     new: &str,
     size: u32,
+    sync: bool,
     progress: &mut P,
 ) -> Result<u32, CopyRefusal>
-    ensures filled { IfOk result (HasFilled ⟦<FileDisk<R::File> as Disk>⟧ size disk.old) }
+    ensures filled { IfOk result
+        (HasFilled ⟦<FileDisk<R::File> as Disk>⟧ size sync disk.old) }
     ensures refused { IfErr result
         (IsUnmade ⟦<FileDisk<R::File> as Disk>⟧ size disk.old disk.new) }
 {
     match FileDisk::create_new(rt, new, size) {
         Ok(created) => {
-            let copied = fill(rt.alloc(), disk, created, size, progress);
+            let copied = fill(rt.alloc(), disk, created, size, sync, progress);
             remove_refused(rt, new, &copied);
             match copied {
                 Ok(files) => Ok(files),
@@ -144,12 +159,13 @@ fn fill<D: Disk, E: Disk + Drop, P: Progress>(
     old: &mut D,
     new: E,
     size: u32,
+    sync: bool,
     progress: &mut P,
 ) -> Result<u32, CopyFault>
-    ensures filled { IfOk result (IsFilled D.Disk E.Disk size old.old new) }
+    ensures filled { IfOk result (IsFilled D.Disk E.Disk size sync old.old new) }
     ensures refused { IfErr result (IsUnfilled D.Disk E.Disk size old.old old.new new) }
 {
-    match copy(alloc, old, new, size, progress) {
+    match copy(alloc, old, new, size, sync, progress) {
         Ok((files, _made)) => Ok(files),
         Err((fault, _made)) => Err(fault),
     }

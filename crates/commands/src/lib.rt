@@ -13,7 +13,7 @@ mod runs;
 
 pub use copies::Copy;
 pub use inputs::{schedule_from, script_from};
-pub use making::{Mkfs, make_file};
+pub use making::{Making, Mkfs, make_file};
 pub use puts::Put;
 pub use refused::{CopyRefusal, PutFileRefusal, ReadFault};
 pub use runs::{ReplayFilesRefusal, RunFilesRefusal, replay_files, run_files};

@@ -1,10 +1,13 @@
 // The command that makes an image in a file.
-ghost use Rattle.std.specs.Prelude.{◌≡◌, ◌↔◌, false, IsTrue, IfErr, IfOk, OnOk};
+ghost use Rattle.std.specs.Prelude.{◌≡◌, ◌↔◌, false, true, IsTrue, IfErr, IfOk, OnOk};
 ghost use Rattle.std.specs.Result.{IsErrOf};
 ghost use Rattle.cmd.specs.declared.files.OnFile.TheVariants as on;
 ghost use Rattle.layout.specs.declared.geometry.MkfsFault.TheVariants as fault;
 ghost use Rattle.messages.specs.declared.printed.Printed.TheVariants as printed;
-ghost use Rattle.model.specs.Layout.{is_inode_count, is_size};
+ghost use Rattle.model.specs.Layout.{is_inode_count, is_size, planned_super};
+ghost use Rattle.offline.specs.Making.{MakesAs};
+ghost use Rattle.player.specs.Causes.{IsUnmade};
+ghost use Rattle.player.specs.Looks.{EndsSynced};
 ghost use Rattle.commands.specs.Making.{
   HasMadeIn,
   IsFilledWith,
@@ -20,6 +23,7 @@ use cmd::{Command, OnFile};
 use layout::{MkfsFault, Super, plan};
 use messages::{Printed, print_numbers};
 use model::types::Form;
+use offline::mkfs_as;
 use player::make_disk;
 use std::alloc::Global;
 use std::fs::{OpenOptions, canonicalize, metadata, remove_file, rename, symlink_metadata};
@@ -27,38 +31,45 @@ use std::io;
 use std::io::{ErrorKind, Write};
 use std::rt::Files;
 
-/// Makes an image of that form, of `size` blocks of 1024 bytes and with `ninodes` inode numbers, in a
-/// file at the path `image`, and prints its numbers, as `make_file`.
+/// An image that is to be made.
+#[derive(Clone, Copy, Drop)]
+pub struct Making {
+    /// Its form.
+    pub form: Form,
+    /// How many blocks of 1024 bytes it has.
+    pub size: u32,
+    /// How many inode numbers it has, the unused number 0 among them.
+    pub ninodes: u32,
+    /// Whether it is synced at the end.
+    pub sync: bool,
+}
+
+/// Makes an image in a file at the path `image`, and prints its numbers, as `make_file`.
 #[derive(Clone, Copy, Drop)]
 pub struct Mkfs<'a> {
     /// The path of the image's file.
     pub image: &'a str,
-    /// The form of the image.
-    pub form: Form,
-    /// How many blocks it has.
-    pub size: u32,
-    /// How many inode numbers it has, the unused number 0 among them.
-    pub ninodes: u32,
+    /// The image.
+    pub making: Making,
 }
 
 impl<'a, R: Files + AllocGlobal> Command<R> for Mkfs<'a> {
     type Refusal = OnFile<Printed<MkfsFault>>;
 
-    ghost done = { λ mkfs. IsMade ⟦<FileDisk<R::File> as Disk>⟧ mkfs.form mkfs.size
-        mkfs.ninodes };
+    ghost done = { λ mkfs. IsMade ⟦<FileDisk<R::File> as Disk>⟧ mkfs.making.form
+        mkfs.making.size mkfs.making.ninodes mkfs.making.sync };
 
-    ghost refused = { λ mkfs old new. IsNotMade mkfs.size mkfs.ninodes };
+    ghost refused = { λ mkfs old new. IsNotMade mkfs.making.size mkfs.making.ninodes };
 
     fn run<O: Write>(self, rt: &R, out: &mut O) -> Result<(), OnFile<Printed<MkfsFault>>> {
-        make_file(rt, self.image, self.form, self.size, self.ninodes, out)
+        make_file(rt, self.image, self.making, out)
     }
 }
 
-/// Makes an image of that form, of `size` blocks of 1024 bytes and with `ninodes` inode numbers, in a
-/// file at this path, syncs it, and prints its numbers.
+/// Makes an image in a file at this path, syncs it where that is asked for, and prints its numbers.
 ///
 /// By its code a file that stands at the path, and that a link there leads to, is kept until the new
-/// image is whole: that is made and synced in a new file beside it, `.new` behind its name, which then
+/// image is whole: that is made, and synced, in a new file beside it, `.new` behind its name, which then
 /// takes its name, or is taken away where the image is refused. What is no file, as a device, is
 /// written where it stands.
 ///
@@ -69,23 +80,23 @@ impl<'a, R: Files + AllocGlobal> Command<R> for Mkfs<'a> {
 pub fn make_file<R: Files + AllocGlobal, O: Write>(
     rt: &R,
     image: &str,
-    form: Form,
-    size: u32,
-    ninodes: u32,
+    making: Making,
     out: &mut O,
 ) -> Result<(), OnFile<Printed<MkfsFault>>>
-    ensures made { OnOk result (IsMade ⟦<FileDisk<R::File> as Disk>⟧ form size ninodes
-        (O.contents out.old) (O.contents out.new)) }
-    ensures refused { IfErr result (IsNotMade size ninodes (out.new ≡ out.old)) }
+    ensures made { OnOk result (IsMade ⟦<FileDisk<R::File> as Disk>⟧ making.form making.size
+        making.ninodes making.sync (O.contents out.old) (O.contents out.new)) }
+    ensures refused { IfErr result
+        (IsNotMade making.size making.ninodes (out.new ≡ out.old)) }
     ensures inodes { IsErrOf result (on.Of (printed.Fault fault.InodeRange))
-        ↔ (is_inode_count ninodes ≡ false) }
+        ↔ (is_inode_count making.ninodes ≡ false) }
     ensures size { IsErrOf result (on.Of (printed.Fault fault.SizeRange))
-        ↔ (IsTrue (is_inode_count ninodes) × (is_size size ninodes ≡ false)) }
+        ↔ (IsTrue (is_inode_count making.ninodes)
+        × (is_size making.size making.ninodes ≡ false)) }
 {
-    if let Err(fault) = plan(size, ninodes) {
+    if let Err(fault) = plan(making.size, making.ninodes) {
         return Err(OnFile::Of(Printed::Fault(fault)));
     }
-    match make_image(rt, image, form, size, ninodes) {
+    match make_image(rt, image, making) {
         Ok(fields) => match print_numbers(out, &fields) {
             Ok(()) => Ok(()),
             Err(_) => Err(OnFile::Of(Printed::Output)),
@@ -100,19 +111,17 @@ pub fn make_file<R: Files + AllocGlobal, O: Write>(
 fn make_image<R: Files + AllocGlobal>(
     rt: &R,
     image: &str,
-    form: Form,
-    size: u32,
-    ninodes: u32,
+    making: Making,
 ) -> Result<Super, OnFile<MkfsFault>>
-    requires { IsPlan size ninodes }
-    ensures made { IfOk result
-        (HasMadeIn ⟦<FileDisk<R::File> as Disk>⟧ form size ninodes) }
+    requires { IsPlan making.size making.ninodes }
+    ensures made { IfOk result (HasMadeIn ⟦<FileDisk<R::File> as Disk>⟧ making.form making.size
+        making.ninodes making.sync) }
     ensures refused { IfErr result IsNotMadeIn }
 {
     match home_of(rt, image) {
-        Ok(None) => make_there(rt, image, form, size, ninodes),
+        Ok(None) => make_there(rt, image, making),
         Ok(Some(home)) => match format!(in rt.alloc(); "{home}.new") {
-            Ok(beside) => { make_beside(rt, beside.as_str(), home.as_str(), form, size, ninodes) }
+            Ok(beside) => make_beside(rt, beside.as_str(), home.as_str(), making),
             Err(_) => Err(OnFile::File(FileFault::NoMemory)),
         },
         Err(fault) => Err(OnFile::File(fault)),
@@ -158,17 +167,15 @@ fn fault_of(error: io::Error) -> FileFault {
 fn make_there<R: Files + AllocGlobal>(
     rt: &R,
     path: &str,
-    form: Form,
-    size: u32,
-    ninodes: u32,
+    making: Making,
 ) -> Result<Super, OnFile<MkfsFault>>
-    requires { IsPlan size ninodes }
-    ensures made { IfOk result
-        (HasMadeIn ⟦<FileDisk<R::File> as Disk>⟧ form size ninodes) }
+    requires { IsPlan making.size making.ninodes }
+    ensures made { IfOk result (HasMadeIn ⟦<FileDisk<R::File> as Disk>⟧ making.form making.size
+        making.ninodes making.sync) }
     ensures refused { IfErr result IsNotMadeIn }
 {
-    match FileDisk::create(rt, path, size) {
-        Ok(created) => match fill(rt.alloc(), created, form, size, ninodes) {
+    match FileDisk::create(rt, path, making.size) {
+        Ok(created) => match fill(rt.alloc(), created, making) {
             Ok(fields) => Ok(fields),
             Err(fault) => Err(OnFile::Of(fault)),
         },
@@ -181,17 +188,15 @@ fn make_beside<R: Files + AllocGlobal>(
     rt: &R,
     path: &str,
     home: &str,
-    form: Form,
-    size: u32,
-    ninodes: u32,
+    making: Making,
 ) -> Result<Super, OnFile<MkfsFault>>
-    requires { IsPlan size ninodes }
-    ensures made { IfOk result
-        (HasMadeIn ⟦<FileDisk<R::File> as Disk>⟧ form size ninodes) }
+    requires { IsPlan making.size making.ninodes }
+    ensures made { IfOk result (HasMadeIn ⟦<FileDisk<R::File> as Disk>⟧ making.form making.size
+        making.ninodes making.sync) }
     ensures refused { IfErr result IsNotMadeIn }
 {
-    match FileDisk::create_new(rt, path, size) {
-        Ok(created) => match fill(rt.alloc(), created, form, size, ninodes) {
+    match FileDisk::create_new(rt, path, making.size) {
+        Ok(created) => match fill(rt.alloc(), created, making) {
             Ok(fields) if take_name(rt, path, home) => Ok(fields),
             Ok(_) => Err(OnFile::File(FileFault::Open)),
             Err(fault) => {
@@ -218,15 +223,35 @@ fn take_name<R: Files>(rt: &R, path: &str, name: &str) -> bool {
 }
 
 // Makes an image on a disk, which nobody keeps. The fields of its superblock.
-fn fill<D: Disk + Drop>(
-    alloc: Global,
-    mut disk: D,
-    form: Form,
-    size: u32,
-    ninodes: u32,
-) -> Result<Super, MkfsFault>
-    ensures made { IfOk result (IsFilledWith D.Disk form size ninodes disk) }
-    ensures refused { IfErr result (IsNotFilledWith D.Disk form size ninodes disk) }
+fn fill<D: Disk + Drop>(alloc: Global, mut disk: D, making: Making) -> Result<Super, MkfsFault>
+    ensures made { IfOk result (IsFilledWith D.Disk making.form making.size making.ninodes
+        making.sync disk) }
+    ensures refused { IfErr result
+        (IsNotFilledWith D.Disk making.form making.size making.ninodes disk) }
 {
-    make_disk(alloc, &mut disk, form, size, ninodes)
+    make_on(alloc, &mut disk, making)
+}
+
+// Makes an image on a disk, and syncs that where it is asked for. The fields of its superblock.
+fn make_on<D: Disk>(alloc: Global, disk: &mut D, making: Making) -> Result<Super, MkfsFault>
+    ensures made { OnOk result (MakesAs D.Disk making.form making.size making.ninodes
+        disk.old disk.new) }
+    ensures synced { OnOk result (making.sync ≡ true → EndsSynced D.Disk disk.new) }
+    ensures fields { IfOk result
+        (λ fields. fields ≡ planned_super making.size making.ninodes) }
+    ensures refused { IfErr result (IsUnmade D.image D.fault_count making.form making.size
+        making.ninodes disk.old disk.new) }
+{
+    let Making {
+        form,
+        size,
+        ninodes,
+        sync,
+    } = making;
+    if sync {
+        return make_disk(alloc, disk, form, size, ninodes);
+    }
+    let fields = plan(size, ninodes)?;
+    mkfs_as(alloc, disk, size, ninodes, form)?;
+    Ok(fields)
 }

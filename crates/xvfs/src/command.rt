@@ -22,7 +22,7 @@ use crate::stopping::stops_files;
 use blocks::{Disk, FaultyDisk, FileDisk};
 use cli::{Asked, Explanation, Request, parse};
 use cmd::{Access, OverFile, end, perform};
-use commands::{Copy, Mkfs, Put, replay_files, run_files};
+use commands::{Copy, Making, Mkfs, Put, replay_files, run_files};
 use inspect::{Df, Ls, Show};
 use messages::print_last;
 use model::types::Form;
@@ -139,13 +139,17 @@ where
             size,
             ninodes,
             large,
+            no_sync,
         } => perform(
             rt,
             Mkfs {
                 image,
-                form: form_asked(large),
-                size,
-                ninodes,
+                making: Making {
+                    form: form_asked(large),
+                    size,
+                    ninodes,
+                    sync: !no_sync,
+                },
             },
             out,
             err,
@@ -173,8 +177,30 @@ where
             out,
             err,
         ),
-        Request::Put { image, file, inum } => perform(rt, Put { image, file, inum }, out, err),
-        Request::Copy { old, new, size } => {
+        Request::Put {
+            image,
+            file,
+            inum,
+            sync,
+            no_sync,
+        } => perform(
+            rt,
+            Put {
+                image,
+                file,
+                inum,
+                sync,
+                last: !no_sync,
+            },
+            out,
+            err,
+        ),
+        Request::Copy {
+            old,
+            new,
+            size,
+            no_sync,
+        } => {
             let progress = Meter::new(rt);
             perform(
                 rt,
@@ -182,6 +208,7 @@ where
                     old,
                     new,
                     size,
+                    sync: !no_sync,
                     progress,
                 },
                 out,
