@@ -14,6 +14,7 @@ ghost use Rattle.commands.specs.Copies.{
   OnCopyRefusal,
 };
 
+use crate::holding::Holder;
 use crate::refused::CopyRefusal;
 use blocks::{Disk, FileDisk, FileFault};
 use cmd::{Command, open_to_look};
@@ -34,10 +35,10 @@ use transfer::{CopyFault, Progress, copy};
 /// It is refused for the first of these. `Exists` where there is a file at the path `new`; `File`
 /// with a fault of `open_to_look` over the old one; `Of` with `Old` and a fault of the old image,
 /// with `NotFirst`, or with `Mkfs` and `SizeRange`: with these no file was made. A fault of
-/// `FileDisk::create_new`, where `Exists` is told as above, and then `Of` with one of the copy: by its
-/// code the new file is taken away.
+/// `Holder::hold_new`, where `Exists` and `Locked` are told as above; one of `FileDisk::create`, and then
+/// `Of` with one of the copy: by its code the new file is taken away.
 #[derive(Drop)]
-pub struct Copy<'a, P> {
+pub struct Copy<'a, P, H> {
     /// The path of the old image.
     pub old: &'a str,
     /// The path of the new one.
@@ -48,9 +49,16 @@ pub struct Copy<'a, P> {
     pub sync: bool,
     /// Who is told how far the copy is.
     pub progress: P,
+    /// Who holds the new file.
+    pub holder: H,
 }
 
-impl<'a, R: Files + AllocGlobal, P: Progress + Drop> Command<R> for Copy<'a, P> {
+impl<'a, R, P, H> Command<R> for Copy<'a, P, H>
+where
+    R: Files + AllocGlobal,
+    P: Progress + Drop,
+    H: Holder + Drop,
+{
     type Refusal = CopyRefusal;
 
     ghost done = { λ copy. HasCopied R.File.remaining file_disk copy.size copy.sync };
@@ -60,6 +68,7 @@ impl<'a, R: Files + AllocGlobal, P: Progress + Drop> Command<R> for Copy<'a, P> 
 
     fn run<O: Write>(self, rt: &R, out: &mut O) -> Result<(), CopyRefusal> {
         let mut progress = self.progress;
+        let mut holder = self.holder;
         copy_files(
             rt,
             self.old,
@@ -67,18 +76,20 @@ impl<'a, R: Files + AllocGlobal, P: Progress + Drop> Command<R> for Copy<'a, P> 
             self.size,
             self.sync,
             &mut progress,
+            &mut holder,
             out,
         )
     }
 }
 
-fn copy_files<R: Files + AllocGlobal, O: Write, P: Progress>(
+fn copy_files<R: Files + AllocGlobal, O: Write, P: Progress, H: Holder>(
     rt: &R,
     old: &str,
     new: &str,
     size: Option<u32>,
     sync: bool,
     progress: &mut P,
+    holder: &mut H,
     out: &mut O,
 ) -> Result<(), CopyRefusal>
     ensures copied { OnOk result (HasCopied R.File.remaining ⟦<FileDisk<R::File> as Disk>⟧ size
@@ -90,18 +101,19 @@ fn copy_files<R: Files + AllocGlobal, O: Write, P: Progress>(
         return Err(CopyRefusal::Exists);
     }
     let mut disk = open_to_look(rt, old)?;
-    copy_from(rt, &mut disk, new, size, sync, progress, out)
+    copy_from(rt, &mut disk, new, size, sync, progress, holder, out)
 }
 
 // Copies the image on a disk that was opened into a new file at the path. The disk is lent, so that
 // the proof doesn't repeat its type at each exit.
-fn copy_from<R: Files + AllocGlobal, O: Write, P: Progress>(
+fn copy_from<R: Files + AllocGlobal, O: Write, P: Progress, H: Holder>(
     rt: &R,
     disk: &mut FileDisk<R::File>,
     new: &str,
     size: Option<u32>,
     sync: bool,
     progress: &mut P,
+    holder: &mut H,
     out: &mut O,
 ) -> Result<(), CopyRefusal>
     requires { IsOpened R.File.remaining ⟦<FileDisk<R::File> as Disk>⟧ false disk.old }
@@ -111,7 +123,7 @@ fn copy_from<R: Files + AllocGlobal, O: Write, P: Progress>(
         ⟦<FileDisk<R::File> as Disk>⟧ size sync (out.new ≡ out.old)) }
 {
     let size = plan_copy(rt.alloc(), disk, size)?;
-    let files = make_copy(rt, disk, new, size, sync, progress)?;
+    let files = make_copy(rt, disk, new, size, sync, progress, holder)?;
     match print_files(out, files) {
         Ok(()) => Ok(()),
         Err(_) => Err(CopyRefusal::Output),
@@ -119,7 +131,40 @@ fn copy_from<R: Files + AllocGlobal, O: Write, P: Progress>(
 }
 
 // Copies the image on a disk into a new file at the path, with so many blocks. How many files it has.
-fn make_copy<R: Files + AllocGlobal, P: Progress>(
+fn make_copy<R: Files + AllocGlobal, P: Progress, H: Holder>(
+    rt: &R,
+    disk: &mut FileDisk<R::File>,
+    new: &str,
+    size: u32,
+    sync: bool,
+    progress: &mut P,
+    holder: &mut H,
+) -> Result<u32, CopyRefusal>
+    ensures filled { IfOk result
+        (HasFilled ⟦<FileDisk<R::File> as Disk>⟧ size sync disk.old) }
+    ensures refused { IfErr result
+        (IsUnmade ⟦<FileDisk<R::File> as Disk>⟧ size disk.old disk.new) }
+{
+    match holder.hold_new(new) {
+        Ok(()) => {
+            let copied = fill_file(rt, disk, new, size, sync, progress);
+            remove_refused(rt, new, &copied);
+            copied
+        }
+        Err(FileFault::Exists | FileFault::Locked) => Err(CopyRefusal::Exists),
+        Err(fault) => Err(CopyRefusal::File(fault)),
+    }
+}
+
+// Takes the file at the path away where no copy was made in it.
+fn remove_refused<R: Files>(rt: &R, path: &str, copied: &Result<u32, CopyRefusal>) {
+    if copied.is_err() {
+        let _gone = remove_file(rt, path);
+    }
+}
+
+// Copies the image on a disk into the file at the path, which is held.
+fn fill_file<R: Files + AllocGlobal, P: Progress>(
     rt: &R,
     disk: &mut FileDisk<R::File>,
     new: &str,
@@ -132,24 +177,12 @@ fn make_copy<R: Files + AllocGlobal, P: Progress>(
     ensures refused { IfErr result
         (IsUnmade ⟦<FileDisk<R::File> as Disk>⟧ size disk.old disk.new) }
 {
-    match FileDisk::create_new(rt, new, size) {
-        Ok(created) => {
-            let copied = fill(rt.alloc(), disk, created, size, sync, progress);
-            remove_refused(rt, new, &copied);
-            match copied {
-                Ok(files) => Ok(files),
-                Err(fault) => Err(CopyRefusal::Of(fault)),
-            }
-        }
-        Err(FileFault::Exists) => Err(CopyRefusal::Exists),
+    match FileDisk::create(rt, new, size) {
+        Ok(created) => match fill(rt.alloc(), disk, created, size, sync, progress) {
+            Ok(files) => Ok(files),
+            Err(fault) => Err(CopyRefusal::Of(fault)),
+        },
         Err(fault) => Err(CopyRefusal::File(fault)),
-    }
-}
-
-// Takes the file at the path away where no copy was made in it.
-fn remove_refused<R: Files>(rt: &R, path: &str, copied: &Result<u32, CopyFault>) {
-    if copied.is_err() {
-        let _gone = remove_file(rt, path);
     }
 }
 

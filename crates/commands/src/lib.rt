@@ -5,6 +5,7 @@
 #![tactic(auto)]
 
 mod copies;
+mod holding;
 mod inputs;
 mod making;
 mod puts;
@@ -12,6 +13,7 @@ mod refused;
 mod runs;
 
 pub use copies::Copy;
+pub use holding::Holder;
 pub use inputs::{schedule_from, script_from};
 pub use making::{Making, Mkfs, make_file};
 pub use puts::Put;

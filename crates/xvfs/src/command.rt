@@ -16,7 +16,7 @@ ghost use Rattle.xvfs.specs.Requests.{
 ghost use Rattle.cli.specs.declared.explanation.Explanation.{Explanation as SomeExplanation};
 ghost use Rattle.messages.specs.declared.told.Unwritten.{Unwritten as IsUnwritten};
 
-use crate::locks::{Locks, lock_image};
+use crate::locks::{Keeper, Locks, lock_image};
 use crate::progress::{Meter, Screen};
 use crate::stopping::stops_files;
 use blocks::{Disk, FaultyDisk, FileDisk};
@@ -109,18 +109,17 @@ where
     ensures silent { result ≡ 0 → err.new ≡ err.old }
 {
     match lock_image(rt, &asked.request, asked.wait) {
-        Ok(_lock) => dispatch(rt, asked.request, out, err),
+        Ok(_lock) => dispatch(rt, asked.request, asked.wait, out, err),
         Err(fault) => end(Err(fault), err),
     }
 }
 
 // Does what is asked for, and prints the answer, or why it was refused. The exit status.
-fn dispatch<R: Files + AllocGlobal + Threads + Wait + Clock + Screen + Sync, O: Write, E: Write>(
-    rt: &R,
-    request: Request<'_>,
-    out: &mut O,
-    err: &mut E,
-) -> u8
+fn dispatch<
+    R: Files + AllocGlobal + Threads + Wait + Clock + Screen + Locks + Sync,
+    O: Write,
+    E: Write,
+>(rt: &R, request: Request<'_>, wait: bool, out: &mut O, err: &mut E) -> u8
 where
     R::File: Send,
     requires { HasFewWorkers request }
@@ -150,6 +149,7 @@ where
                     ninodes,
                     sync: !no_sync,
                 },
+                holder: Keeper::new(rt, wait),
             },
             out,
             err,
@@ -210,6 +210,7 @@ where
                     size,
                     sync: !no_sync,
                     progress,
+                    holder: Keeper::new(rt, wait),
                 },
                 out,
                 err,
