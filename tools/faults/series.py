@@ -130,10 +130,10 @@ def places(count):
     return range(1, count + 1, max(1, -(-count // MOST)))
 
 
-def count_calls(words, call, image):
+def count_calls(words, call, image, over="a.img"):
     """How many calls of that kind a run makes, to the nearest at which one that fails shows."""
     low, high = 0, 1
-    shows = lambda n: Trial(image, words, call, n, "eio").status != 0
+    shows = lambda n: Trial(image, words, call, n, "eio", over=over).status != 0
     while shows(high):
         low, high = high, high * 2
     while high - low > 1:
@@ -227,11 +227,12 @@ def mkfs(call, how, old):
         yield at, None if good else f"status {trial.status}: {trial.checked()}"
 
 
-def put(call, how):
-    """A new file beside one that is there: the old one stays, and the new one is a first part."""
-    words = ["put", "a.img", "long"]
+def put(call, how, seed=None):
+    """A new file beside one that is there: the old one stays, and the new one is a first part; with a seed
+    also where it syncs, and the power is cut."""
+    words = ["put", "a.img", "long", *(["--sync"] if seed else [])]
     for at in places(count_calls(words, call, ONE_FILE)):
-        trial = Trial(ONE_FILE, words, call, at, how)
+        trial = Trial(ONE_FILE, words, call, at, how, power=seed and seed * 1000 + at)
         whole = trial.run("recover", "a.img").returncode == 0 and trial.checked().startswith("sound")
         old, new = trial.run("cat", "a.img", "1").stdout, trial.run("cat", "a.img", "2").stdout
         if not whole or old != FILES["short"] or not FILES["long"].startswith(new):
@@ -240,6 +241,18 @@ def put(call, how):
             yield at, f"status 0, {len(new)} of {len(FILES['long'])} bytes"
         else:
             yield at, None
+
+
+def syncs():
+    """How often a command syncs the file that it writes."""
+    for line, over, least, most in [
+            ("put a.img short", "a.img", 1, 1), ("put a.img short --no-sync", "a.img", 0, 0),
+            ("put a.img short --sync", "a.img", 8, 100),
+            ("mkfs a.img 200 32", "a.img.new", 1, 1), ("mkfs a.img 200 32 --no-sync", "a.img.new", 0, 0),
+            ("copy a.img b.img", "b.img", 2, 2), ("copy a.img b.img --sync", "b.img", 2, 2),
+            ("copy a.img b.img --no-sync", "b.img", 1, 1)]:
+        count = count_calls(line.split(), "fdatasync", ONE_FILE, over)
+        yield line, None if least <= count <= most else f"{count} syncs"
 
 
 def judge_copy(trial, expected):
@@ -337,7 +350,8 @@ def waiting():
         ends = [ended(running) for running in [trial.begin(*one) for one in words]]
         files = trial.run("ls", "a.img").stdout.decode()
         right = ends[:2] == [DONE, DONE] and trial.checked().startswith("sound")
-        right = right and ends[2] in [(0, "1\n", ""), *([] if at % 2 else [(1, "", "xvfs: file 1 Open\n"), (1, "", "xvfs: file 2 Length\n")])]
+        early = [] if at % 2 else [(1, "", f"xvfs: file {fault}\n") for fault in ("1 Open", "2 Length")]
+        right = right and ends[2] in [(0, "1\n", ""), *early]
         right = right and (not files or trial.run("cat", "a.img", "1").stdout == FILES["long"])
         yield at, None if right else f"{ends}, files {files!r}, {trial.checked()}"
 
@@ -390,6 +404,7 @@ SERIES += [(at_once, other) for other in ("put", "cat")]
 SERIES += [(replaced, old) for old in (None, BASE)] + [(waiting,), (looked_at,)]
 SERIES += [(copy_cut, seed) for seed in (1, 2, 3)]
 SERIES += [(put, call, how) for call in ("write", "lseek") for how in HOWS[call]]
+SERIES += [(put, "write", "kill", seed) for seed in (1, 2, 3)] + [(syncs,)]
 with concurrent.futures.ThreadPoolExecutor(os.cpu_count()) as pool:
     found = [line for lines in pool.map(lambda one: told_wrong(*one), SERIES) for line in lines]
 print("\n".join(found + [f"faults: {len(SERIES)} series, {len(found)} ends that are not as they should be"]))
