@@ -5,7 +5,8 @@
 //
 // FAULTS_FILE is the path as the program opens it. FAULTS_CALL is `write`, `lseek`, `read`, `fdatasync`
 // or `ftruncate`, FAULTS_AT which of these calls, from 1, and FAULTS_HOW `eio`, `enospc` (this one and
-// each later one), `zero`, `short`, `eintr` or `kill`. FAULTS_LOG is the file of notes.
+// each later one), `zero`, `short`, `eintr`, `kill` or `pause` (it is made later, once the file at
+// FAULTS_UNTIL is there). FAULTS_LOG is the file of notes.
 #define _GNU_SOURCE
 #include <dlfcn.h>
 #include <errno.h>
@@ -56,7 +57,10 @@ static const char *fate(const char *name) {
     if (count == atol(at) || (count > atol(at) && strcmp(how, "enospc") == 0)) {
         if (strcmp(how, "kill") == 0)
             kill(getpid(), SIGKILL);
-        return how;
+        if (strcmp(how, "pause") != 0)
+            return how;
+        for (int n = 0; n < 10000 && access(getenv("FAULTS_UNTIL"), F_OK) != 0; n++)
+            usleep(1000);
     }
     return NULL;
 }

@@ -8,6 +8,7 @@ import signal
 import subprocess
 import sys
 import tempfile
+import time
 
 PROGRAM, WORK = os.path.realpath(sys.argv[1]), sys.argv[2]
 MOST = 10**6 if "--all" in sys.argv[3:] else 60
@@ -32,7 +33,6 @@ class Trial:
             self.put("a.img", image)
         for name, text in FILES.items():
             self.put(name, text)
-        over = over.format(folder=os.path.realpath(self.folder.name))
         env = dict(os.environ, LD_PRELOAD=WORK + "/faults.so", FAULTS_FILE=over)
         if call:
             env.update(FAULTS_CALL=call, FAULTS_AT=str(at), FAULTS_HOW=how)
@@ -42,6 +42,22 @@ class Trial:
         self.status, self.out, self.err = ran.returncode, ran.stdout.decode(), ran.stderr.decode()
         if power is not None:
             subprocess.run([WORK + "/cut", over, "notes", str(power)], cwd=self.folder.name, check=True)
+
+    def begin(self, *words, over=None):
+        """A program that runs beside; over a file at whose third write it waits for the file `go`."""
+        env = dict(os.environ)
+        if over:
+            env.update(LD_PRELOAD=WORK + "/faults.so", FAULTS_FILE=over, FAULTS_CALL="write", FAULTS_AT="3",
+                       FAULTS_HOW="pause", FAULTS_UNTIL="go")
+        running = subprocess.Popen([PROGRAM, *words], cwd=self.folder.name, stdout=subprocess.PIPE,
+                                   stderr=subprocess.PIPE, env=env)
+        while over and running.poll() is None and not self.has_bytes(over):
+            time.sleep(0.001)
+        return running
+
+    def has_bytes(self, name):
+        path = os.path.join(self.folder.name, name)
+        return os.path.exists(path) and os.path.getsize(path) > 0
 
     def put(self, name, text):
         with open(os.path.join(self.folder.name, name), "wb") as file:
@@ -114,10 +130,10 @@ def places(count):
     return range(1, count + 1, max(1, -(-count // MOST)))
 
 
-def count_calls(words, call, image):
+def count_calls(words, call, image, over="a.img"):
     """How many calls of that kind a run makes, to the nearest at which one that fails shows."""
     low, high = 0, 1
-    shows = lambda n: Trial(image, words, call, n, "eio").status != 0
+    shows = lambda n: Trial(image, words, call, n, "eio", over=over).status != 0
     while shows(high):
         low, high = high, high * 2
     while high - low > 1:
@@ -195,9 +211,8 @@ def recover(call, how):
 def mkfs(call, how, old):
     """A new image, or one in place of an old one, which is kept where the new one isn't made."""
     words = ["mkfs", "a.img", "200", "32"]
-    over = "a.img.new" if old is None else "{folder}/a.img.new"
     for at in places(200 if call == "write" else 1):
-        trial = Trial(old, words, call, at, how, over=over)
+        trial = Trial(old, words, call, at, how, over="a.img.new")
         if how in ("short", "eintr"):
             good = trial.status == 0 and trial.bytes() == BASE
         elif old is None:
@@ -206,14 +221,18 @@ def mkfs(call, how, old):
             good = trial.status in (1, -signal.SIGKILL) and trial.bytes() == old
         beside = os.path.exists(trial.image + ".new")
         good = good and beside == (trial.status == -signal.SIGKILL)
+        if beside:
+            good = good and trial.run(*words).returncode == 0 and trial.bytes() == BASE
+            good = good and not os.path.exists(trial.image + ".new")
         yield at, None if good else f"status {trial.status}: {trial.checked()}"
 
 
-def put(call, how):
-    """A new file beside one that is there: the old one stays, and the new one is a first part."""
-    words = ["put", "a.img", "long"]
+def put(call, how, seed=None):
+    """A new file beside one that is there: the old one stays, and the new one is a first part; with a seed
+    also where it syncs, and the power is cut."""
+    words = ["put", "a.img", "long", *(["--sync"] if seed else [])]
     for at in places(count_calls(words, call, ONE_FILE)):
-        trial = Trial(ONE_FILE, words, call, at, how)
+        trial = Trial(ONE_FILE, words, call, at, how, power=seed and seed * 1000 + at)
         whole = trial.run("recover", "a.img").returncode == 0 and trial.checked().startswith("sound")
         old, new = trial.run("cat", "a.img", "1").stdout, trial.run("cat", "a.img", "2").stdout
         if not whole or old != FILES["short"] or not FILES["long"].startswith(new):
@@ -224,13 +243,24 @@ def put(call, how):
             yield at, None
 
 
+def syncs():
+    """How often a command syncs the file that it writes."""
+    for line, over, least, most in [
+            ("put a.img short", "a.img", 1, 1), ("put a.img short --no-sync", "a.img", 0, 0),
+            ("put a.img short --sync", "a.img", 8, 100),
+            ("mkfs a.img 200 32", "a.img.new", 1, 1), ("mkfs a.img 200 32 --no-sync", "a.img.new", 0, 0),
+            ("copy a.img b.img", "b.img", 2, 2), ("copy a.img b.img --sync", "b.img", 2, 2),
+            ("copy a.img b.img --no-sync", "b.img", 1, 1)]:
+        count = count_calls(line.split(), "fdatasync", ONE_FILE, over)
+        yield line, None if least <= count <= most else f"{count} syncs"
+
+
 def judge_copy(trial, expected):
     """A copy that was cut short is no image, one that was refused is gone, and any other is whole."""
     new = os.path.join(trial.folder.name, "b.img")
     if trial.status not in expected:
         return f"status {trial.status}: {trial.err.strip()}"
-    # A new file that can't be given its length stays, without a byte.
-    if not os.path.exists(new) or os.path.getsize(new) == 0:
+    if not os.path.exists(new):
         return None if trial.status == 1 else "there is no copy"
     told = trial.run("check", "b.img")
     if told.returncode == 0:
@@ -280,6 +310,68 @@ def judge_pair(trial, words, ends):
     return None if files == 1 + put else f"{files} files after {put} puts"
 
 
+def ended(running):
+    out, err = running.communicate(timeout=60)
+    return running.returncode, out.decode(), err.decode()
+
+
+LOCKED = (1, "", "xvfs: file 4 Locked\n")
+DONE = (0, "size 200 ninodes 32 nblocks 163\n", "")
+
+
+def replaced(old):
+    """A put and another mkfs while an image is made: both wait for its new file, or are refused."""
+    for at in range(1, 11):
+        trial = Trial(old, ["--version"])
+        first = trial.begin("mkfs", "a.img", "200", "32", over="a.img.new")
+        ends = [ended(trial.begin("mkfs", "a.img", "200", "32"))]
+        waiting = [trial.begin("mkfs", "a.img", "200", "32", "--wait")] if at % 2 == 0 else []
+        waiting += [trial.begin("put", "a.img", "long", "--wait")] if old else []
+        time.sleep(0.02)
+        trial.put("go", b"")
+        ends.append(ended(first))
+        waited = [ended(running) for running in waiting]
+        files = trial.run("ls", "a.img").stdout.decode()
+        right = ends == [LOCKED, DONE] and all(end in (DONE, (0, "1\n", "")) for end in waited)
+        right = right and trial.checked().startswith("sound") and not os.path.exists(trial.image + ".new")
+        if old and files:
+            right = right and files.startswith("1 type 2 size 40000 ") and files.count("\n") == 1
+            right = right and trial.run("cat", "a.img", "1").stdout == FILES["long"]
+        # Only another mkfs may have replaced what was put.
+        right = right and bool(files) == bool(old) if at % 2 else right
+        yield at, None if right else f"{ends}, {waited}, files {files!r}, {trial.checked()}"
+
+
+def waiting():
+    """Two mkfs and a put at once, each of which waits: the image is that of the last of them."""
+    for at in range(1, 21):
+        trial = Trial(BASE if at % 2 else None, ["--version"])
+        words = [["mkfs", "a.img", "200", "32", "--wait"]] * 2 + [["put", "a.img", "long", "--wait"]]
+        ends = [ended(running) for running in [trial.begin(*one) for one in words]]
+        files = trial.run("ls", "a.img").stdout.decode()
+        right = ends[:2] == [DONE, DONE] and trial.checked().startswith("sound")
+        early = [] if at % 2 else [(1, "", f"xvfs: file {fault}\n") for fault in ("1 Open", "2 Length")]
+        right = right and ends[2] in [(0, "1\n", ""), *early]
+        right = right and (not files or trial.run("cat", "a.img", "1").stdout == FILES["long"])
+        yield at, None if right else f"{ends}, files {files!r}, {trial.checked()}"
+
+
+def looked_at():
+    """The new file of a copy, while that is made: nobody else may look at it or make it anew."""
+    for at in range(1, 11):
+        trial = Trial(ONE_FILE, ["--version"])
+        copying = trial.begin("copy", "a.img", "b.img", over="b.img")
+        others = [["check", "b.img"], ["mkfs", "b.img", "200", "32"], ["put", "b.img", "short"], ["ls", "b.img"]]
+        ends = [ended(trial.begin(*words)) for words in others]
+        ends.append(ended(trial.begin("copy", "a.img", "b.img")))
+        looking = trial.begin("check", "b.img", "--wait")
+        trial.put("go", b"")
+        right = ended(copying) == (0, "copied 1\n", "") and ended(looking) == (0, "sound log 0 files 1\n", "")
+        right = right and ends == [LOCKED] * 4 + [(1, "", "xvfs: copy 7 Exists\n")]
+        right = right and trial.run("cat", "b.img", "1").stdout == FILES["short"]
+        yield at, None if right else f"{ends}"
+
+
 def told_wrong(series, *words):
     name = " ".join([series.__name__, *[str(word) for word in words]])
     return [f"{name}: at {at}: {wrong}" for at, wrong in series(*words) if wrong]
@@ -309,8 +401,10 @@ SERIES += [(mkfs, call, how, old) for old in (None, ONE_FILE) for call in ("writ
            for how in HOWS[call]]
 SERIES += [(copy, call, how) for call in ("write", "fdatasync", "ftruncate") for how in HOWS[call]]
 SERIES += [(at_once, other) for other in ("put", "cat")]
+SERIES += [(replaced, old) for old in (None, BASE)] + [(waiting,), (looked_at,)]
 SERIES += [(copy_cut, seed) for seed in (1, 2, 3)]
 SERIES += [(put, call, how) for call in ("write", "lseek") for how in HOWS[call]]
+SERIES += [(put, "write", "kill", seed) for seed in (1, 2, 3)] + [(syncs,)]
 with concurrent.futures.ThreadPoolExecutor(os.cpu_count()) as pool:
     found = [line for lines in pool.map(lambda one: told_wrong(*one), SERIES) for line in lines]
 print("\n".join(found + [f"faults: {len(SERIES)} series, {len(found)} ends that are not as they should be"]))

@@ -87,15 +87,15 @@ met_waiting app words m given is matches wait =
     subst (λ command. Waits command given) ((matches (ap is_simple is ∙ simple)).1 ∙ ap (λ (a : App). subcommand_of a words) is) wait
 
 few_by : (name : List ℕ) (rows : List Row) (request : Request) → AsksBy name rows request → HasFewWorkers request
-few_by name rows (Mkfs image size ninodes large) asks = tt
+few_by name rows (Mkfs image size ninodes large no_sync) asks = tt
 few_by name rows (Check image all) asks = tt
 few_by name rows (Recover image sync) asks = tt
 few_by name rows (Cat image inum) asks = tt
 few_by name rows (Ls image) asks = tt
 few_by name rows (Df image) asks = tt
 few_by name rows (Show image inum) asks = tt
-few_by name rows (Put image file inum) asks = tt
-few_by name rows (Copy old new size) asks = tt
+few_by name rows (Put image file inum sync no_sync) asks = tt
+few_by name rows (Copy old new size no_sync) asks = tt
 few_by name rows (Replay image script schedule stop sync) asks = tt
 few_by name rows (Run image script workers sync) asks = (asks.3.0, asks.3.1)
 few_by name rows (Stops script schedule held) asks = tt

@@ -40,8 +40,9 @@ abbrev pub image_app : List ℕ → App
 image_app name = waiting_app name (codes "IMAGE")
 
 abbrev pub mkfs_app : App
-mkfs_app = with_rule (with_rule (with_rule (image_app (codes "mkfs"))
-    (number_rule (codes "SIZE"))) (number_rule (codes "NINODES"))) (flag_rule (codes "large"))
+mkfs_app = with_rule (with_rule (with_rule (with_rule (image_app (codes "mkfs"))
+    (number_rule (codes "SIZE"))) (number_rule (codes "NINODES"))) (flag_rule (codes "large")))
+    (flag_rule (codes "no-sync"))
 
 abbrev pub check_app : App
 check_app = with_rule (image_app (codes "check")) (flag_rule (codes "all"))
@@ -60,8 +61,9 @@ abbrev pub show_app : App
 show_app = with_rule (image_app (codes "show")) (choice_rule (codes "INUM"))
 
 abbrev pub put_app : App
-put_app = with_rule (with_rule (image_app (codes "put")) (required_rule (codes "FILE")))
-    (choice_rule (codes "INUM"))
+put_app = with_rule (with_rule (with_rule (with_rule (image_app (codes "put"))
+    (required_rule (codes "FILE"))) (choice_rule (codes "INUM"))) (flag_rule (codes "sync")))
+    (flag_rule (codes "no-sync"))
 
 -- `--size N`
 abbrev pub size_rule : Rule
@@ -71,8 +73,9 @@ size_rule = record (choice_rule (codes "size")) {
 }
 
 abbrev pub copy_app : App
-copy_app = with_rule (with_rule (waiting_app (codes "copy") (codes "OLD"))
-    (required_rule (codes "NEW"))) size_rule
+copy_app = with_rule (with_rule (with_rule (with_rule (waiting_app (codes "copy") (codes "OLD"))
+    (required_rule (codes "NEW"))) size_rule) (flag_rule (codes "sync")))
+    (flag_rule (codes "no-sync"))
 
 abbrev pub replay_app : App
 replay_app = with_rule (with_rule (with_rule (with_rule (image_app (codes "replay"))
@@ -150,8 +153,9 @@ HasFewWorkers request = ⊤
 
 -- a command of this name, with these values, asks for the request
 abbrev pub AsksBy : List ℕ → List Row → Request → Type 0
-AsksBy name rows (Mkfs image size ninodes large) = (name ≡ codes "mkfs")
+AsksBy name rows (Mkfs image size ninodes large no_sync) = (name ≡ codes "mkfs")
     × (first_of (codes "IMAGE") rows ≡ Some image.now) × HasFlag (codes "large") rows large
+    × HasFlag (codes "no-sync") rows no_sync
 AsksBy name rows (Check image all) = (name ≡ codes "check")
     × (first_of (codes "IMAGE") rows ≡ Some image.now) × HasFlag (codes "all") rows all
 AsksBy name rows (Recover image sync) = (name ≡ codes "recover")
@@ -164,12 +168,14 @@ AsksBy name rows (Df image) = (name ≡ codes "df")
     × (first_of (codes "IMAGE") rows ≡ Some image.now)
 AsksBy name rows (Show image inum) = (name ≡ codes "show")
     × (first_of (codes "IMAGE") rows ≡ Some image.now) × HasChoice (codes "INUM") rows inum
-AsksBy name rows (Put image file inum) = (name ≡ codes "put")
+AsksBy name rows (Put image file inum sync no_sync) = (name ≡ codes "put")
     × (first_of (codes "IMAGE") rows ≡ Some image.now)
     × (first_of (codes "FILE") rows ≡ Some file.now) × HasChoice (codes "INUM") rows inum
-AsksBy name rows (Copy old new size) = (name ≡ codes "copy")
+    × HasFlag (codes "sync") rows sync × HasFlag (codes "no-sync") rows no_sync
+AsksBy name rows (Copy old new size no_sync) = (name ≡ codes "copy")
     × (first_of (codes "OLD") rows ≡ Some old.now)
     × (first_of (codes "NEW") rows ≡ Some new.now) × HasChoice (codes "size") rows size
+    × HasFlag (codes "no-sync") rows no_sync
 AsksBy name rows (Replay image script schedule stop sync) =
     (name ≡ codes "replay") × (first_of (codes "IMAGE") rows ≡ Some image.now)
     × (first_of (codes "SCRIPT") rows ≡ Some script.now)

@@ -43,6 +43,12 @@ const SYNC: Word = Word {
     help: "Syncs the image's file where the log needs it, for a system that may lose writes",
 };
 
+const NO_SYNC: Word = Word {
+    name: "no-sync",
+    kind: Kind::Flag,
+    help: "Leaves out the sync at the end, for tests",
+};
+
 const WAIT: Word = Word {
     name: "wait",
     kind: Kind::Flag,
@@ -100,6 +106,7 @@ pub(crate) static LINES: [Line; 12] = [
                 kind: Kind::Flag,
                 help: "Makes an image for files of up to 65803 blocks, which xv6 itself doesn't read",
             },
+            NO_SYNC,
         ],
     },
     Line {
@@ -173,6 +180,8 @@ pub(crate) static LINES: [Line; 12] = [
                 kind: Kind::Choice,
                 help: "The inode number of the file that gets the bytes in place of its own",
             },
+            SYNC,
+            NO_SYNC,
         ],
     },
     Line {
@@ -196,6 +205,12 @@ pub(crate) static LINES: [Line; 12] = [
                 kind: Kind::Valued,
                 help: "Blocks of the new image; as many as the old one has where it is not given",
             },
+            Word {
+                name: "sync",
+                kind: Kind::Flag,
+                help: "Changes nothing, since a copy is synced before and after its superblock",
+            },
+            NO_SYNC,
         ],
     },
     Line {

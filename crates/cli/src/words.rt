@@ -44,6 +44,8 @@ pub enum Request<'a> {
         ninodes: u32,
         /// Whether it is of the second form, with large files.
         large: bool,
+        /// Whether the sync at the end is left out.
+        no_sync: bool,
     },
     /// A check of an image.
     Check {
@@ -91,6 +93,10 @@ pub enum Request<'a> {
         file: &'a str,
         /// The number of the image's file that gets them; none for a new one.
         inum: Option<u32>,
+        /// Whether the image's file holds writes back until it is synced.
+        sync: bool,
+        /// Whether the sync at the end is left out.
+        no_sync: bool,
     },
     /// An image of the first form, copied into a new one of the second.
     Copy {
@@ -100,6 +106,8 @@ pub enum Request<'a> {
         new: &'a str,
         /// The blocks of the new image; none for as many as the old one has.
         size: Option<u32>,
+        /// Whether the sync at the end is left out.
+        no_sync: bool,
     },
     /// A script's operations over an image.
     Replay {
@@ -222,6 +230,7 @@ fn copy_request<'a>(values: &ArgMatches<'a>) -> Option<Request<'a>>
         old: values.get_str("OLD")?,
         new: values.get_str("NEW")?,
         size: values.get_one("size"),
+        no_sync: values.get_flag("no-sync"),
     })
 }
 
@@ -245,6 +254,7 @@ fn mkfs_request<'a>(values: &ArgMatches<'a>) -> Option<Request<'a>>
         size: values.get_one("SIZE")?,
         ninodes: values.get_one("NINODES")?,
         large: values.get_flag("large"),
+        no_sync: values.get_flag("no-sync"),
     })
 }
 
@@ -256,6 +266,8 @@ fn put_request<'a>(values: &ArgMatches<'a>) -> Option<Request<'a>>
         image,
         file: values.get_str("FILE")?,
         inum: values.get_one("INUM"),
+        sync: values.get_flag("sync"),
+        no_sync: values.get_flag("no-sync"),
     })
 }
 

@@ -55,14 +55,14 @@ unplanned_size disk asked d e size n r fault sound is_size_of is_count is ok ran
 
 -- why a planned copy was not made
 pub uncopied : {F N : Type 0} (remaining : F → Option (List ℕ)) (disk : Ghosts (FileDisk F) N) (size : Option ℕ) (planned : ℕ) (d e left : FileDisk F) (none : Type 0) → IsOpened remaining disk false d → OnlyReads disk d e
-    → planned ≡ size_asked size (disk.image d) → none → (r : CopyRefusal) → IsUnmade disk planned e left r → OnCopyRefusal remaining disk size none r
-uncopied remaining disk size planned d e left none opened reads asked silent (File fault) why = silent
-uncopied remaining disk size planned d e left none opened reads asked silent Exists why = silent
-uncopied remaining disk size planned d e left none opened reads asked silent (Of cause) why =
+    → planned ≡ size_asked size (disk.image d) → none → (sync : Bool) (r : CopyRefusal) → IsUnmade disk planned e left r → OnCopyRefusal remaining disk size sync none r
+uncopied remaining disk size planned d e left none opened reads asked silent sync (File fault) why = silent
+uncopied remaining disk size planned d e left none opened reads asked silent sync Exists why = silent
+uncopied remaining disk size planned d e left none opened reads asked silent sync (Of cause) why =
     (inr (record { opened = d; read = e; left = left; is = opened; reads = reads; why = subst (λ n. HasNotFilled disk n e left cause) asked why }), silent)
-uncopied remaining disk size planned d e left none opened reads asked silent Output why = absurd why
+uncopied remaining disk size planned d e left none opened reads asked silent sync Output why = absurd why
 
 -- and what is known where it was
-pub has_made : {F N : Type 0} (remaining : F → Option (List ℕ)) (disk : Ghosts (FileDisk F) N) (size : Option ℕ) (planned count : ℕ) (d e : FileDisk F) → IsOpened remaining disk false d → OnlyReads disk d e
-    → planned ≡ size_asked size (disk.image d) → HasFilled disk planned e count → HasMade remaining disk size count
-has_made remaining disk size planned count d e opened reads asked filled = record { opened = d; read = e; is = opened; reads = reads; filled = subst (λ n. HasFilled disk n e count) asked filled }
+pub has_made : {F N : Type 0} (remaining : F → Option (List ℕ)) (disk : Ghosts (FileDisk F) N) (size : Option ℕ) (sync : Bool) (planned count : ℕ) (d e : FileDisk F) → IsOpened remaining disk false d → OnlyReads disk d e
+    → planned ≡ size_asked size (disk.image d) → HasFilled disk planned sync e count → HasMade remaining disk size sync count
+has_made remaining disk size sync planned count d e opened reads asked filled = record { opened = d; read = e; is = opened; reads = reads; filled = subst (λ n. HasFilled disk n sync e count) asked filled }

@@ -1,3 +1,4 @@
 pub mod Copying
 pub mod MakingLemmas
 pub mod Ended
+pub mod Putting

@@ -25,7 +25,7 @@ unfilled_so disk form size n d plan zeroes SizeRange why = not_off (is_size size
 unfilled_so disk form size n d plan zeroes Disk why = tt
 unfilled_so disk form size n d plan zeroes NoMemory why = tt
 
-pub filled_so : {D N : Type 0} (disk : Ghosts D N) (form : Form) (size n : ℕ) (d now : D) (r : Result Super MkfsFault) → OnOk r (MakesAs disk form size n d now) → OnOk r (EndsSynced disk now) → IfOk r (λ fields. fields ≡ planned_super size n)
-    → IfOk r (IsFilledWith disk form size n d)
-filled_so disk form size n d now (Ok fields) makes synced is = record { now = now; makes = makes; synced = synced; told = is }
-filled_so disk form size n d now (Err fault) makes synced is = tt
+pub filled_so : {D N : Type 0} (disk : Ghosts D N) (form : Form) (size n : ℕ) (sync : Bool) (d now : D) (r : Result Super MkfsFault) → OnOk r (MakesAs disk form size n d now) → OnOk r (sync ≡ true → EndsSynced disk now) → IfOk r (λ fields. fields ≡ planned_super size n)
+    → IfOk r (IsFilledWith disk form size n sync d)
+filled_so disk form size n sync d now (Ok fields) makes synced is = record { now = now; makes = makes; synced = synced; told = is }
+filled_so disk form size n sync d now (Err fault) makes synced is = tt

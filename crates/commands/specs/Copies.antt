@@ -1,5 +1,5 @@
 -- What became of the image in a file that was copied into a new one.
-use Rattle.std.specs.Prelude.{◌≡◌, ◌⊎◌, ⊤, ℕ, false, List, replicate, Option, Some, None}
+use Rattle.std.specs.Prelude.{◌≡◌, ◌⊎◌, ⊤, ℕ, Bool, false, List, replicate, Option, Some, None}
 use Rattle.std.specs.Io.KnownBytes.{Appends}
 use Rattle.blocks.specs.Block.{zero_block}
 use Rattle.blocks.specs.Calls.{OnlyReads}
@@ -41,11 +41,12 @@ IsUnplanned disk size d e (fault.Mkfs mkfs.SizeRange) = (verdict (disk.image d) 
     × (is_size (size_asked size (disk.image d)) (inode_count_of (disk.image d)) ≡ false)
 IsUnplanned disk size d e _ = ⊥
 
--- the files of disk d were copied to the disk `new`, and so many there are
-pub record IsFilled {D E M N : Type 0} (old : Ghosts D M) (over : Ghosts E N) (size : ℕ) (d : D)
-    (new : E) (count : ℕ) : Type 0 where
+-- the files of disk d were copied to the disk `new`, and so many there are; that was synced at the end
+-- where `sync` says so, here and below
+pub record IsFilled {D E M N : Type 0} (old : Ghosts D M) (over : Ghosts E N) (size : ℕ)
+    (sync : Bool) (d : D) (new : E) (count : ℕ) : Type 0 where
   pub made : E
-  pub copied : IsCopied old over size d new made count
+  pub copied : IsCopied old over size sync d new made count
 
 -- or they were not, for this reason; d is d' then
 pub record IsUnfilled {D E M N : Type 0} (old : Ghosts D M) (over : Ghosts E N) (size : ℕ)
@@ -54,11 +55,11 @@ pub record IsUnfilled {D E M N : Type 0} (old : Ghosts D M) (over : Ghosts E N) 
   pub why : IsUncopied old over size d d' new made cause
 
 -- a disk of so many blocks of zeroes was created in a new file, and the files of disk d copied to it
-pub record HasFilled {F N : Type 0} (disk : Ghosts (FileDisk F) N) (size : ℕ) (d : FileDisk F)
-    (count : ℕ) : Type 0 where
+pub record HasFilled {F N : Type 0} (disk : Ghosts (FileDisk F) N) (size : ℕ) (sync : Bool)
+    (d : FileDisk F) (count : ℕ) : Type 0 where
   pub created : FileDisk F
   pub zeroes : disk.image created ≡ replicate size zero_block
-  pub filled : IsFilled disk disk size d created count
+  pub filled : IsFilled disk disk size sync d created count
 
 -- or they were not
 pub record HasNotFilled {F N : Type 0} (disk : Ghosts (FileDisk F) N) (size : ℕ)
@@ -70,18 +71,19 @@ pub record HasNotFilled {F N : Type 0} (disk : Ghosts (FileDisk F) N) (size : �
 -- The disk of a file was opened, and only read before its files were copied to that disk. So many
 -- there are.
 pub record HasMade {F N : Type 0} (remaining : F → Option (List ℕ)) (disk : Ghosts (FileDisk F) N)
-    (size : Option ℕ) (count : ℕ) : Type 0 where
+    (size : Option ℕ) (sync : Bool) (count : ℕ) : Type 0 where
   pub opened : FileDisk F
   pub read : FileDisk F
   pub is : IsOpened remaining disk false opened
   pub reads : OnlyReads disk opened read
-  pub filled : HasFilled disk (size_asked size (disk.image opened)) read count
+  pub filled : HasFilled disk (size_asked size (disk.image opened)) sync read count
 
 -- and how many was printed
 pub record HasCopied {F N : Type 0} (remaining : F → Option (List ℕ))
-    (disk : Ghosts (FileDisk F) N) (size : Option ℕ) (old new : Option (List ℕ)) : Type 0 where
+    (disk : Ghosts (FileDisk F) N) (size : Option ℕ) (sync : Bool) (old new : Option (List ℕ))
+    : Type 0 where
   pub count : ℕ
-  pub made : HasMade remaining disk size count
+  pub made : HasMade remaining disk size sync count
   pub printed : Appends old new (files_text count)
 
 -- the disk of a file was opened, and no copy planned, for this reason
@@ -114,9 +116,10 @@ IsUnmade disk size d d' Output = ⊥
 -- Where the command was refused: a path is to blame; or no copy was planned, or none made; or how
 -- many files there are could not be printed. `none` says that nothing was printed.
 abbrev pub OnCopyRefusal : {F N : Type 0} → (F → Option (List ℕ)) → Ghosts (FileDisk F) N
-    → Option ℕ → Type 0 → CopyRefusal → Type 0
-OnCopyRefusal remaining disk size none (File fault) = none
-OnCopyRefusal remaining disk size none Exists = none
-OnCopyRefusal remaining disk size none (Of cause) =
+    → Option ℕ → Bool → Type 0 → CopyRefusal → Type 0
+OnCopyRefusal remaining disk size sync none (File fault) = none
+OnCopyRefusal remaining disk size sync none Exists = none
+OnCopyRefusal remaining disk size sync none (Of cause) =
     (HasNotPlanned remaining disk size cause ⊎ HasNotCopied remaining disk size cause) × none
-OnCopyRefusal remaining disk size none Output = (count : ℕ) × HasMade remaining disk size count
+OnCopyRefusal remaining disk size sync none Output =
+    (count : ℕ) × HasMade remaining disk size sync count

@@ -1,5 +1,5 @@
 -- What became of the disk in a file in which an image was made.
-use Rattle.std.specs.Prelude.{◌≡◌, ⊤, ℕ, false, IsTrue, List, replicate, Option}
+use Rattle.std.specs.Prelude.{◌≡◌, ⊤, ℕ, Bool, true, false, IsTrue, List, replicate, Option}
 use Rattle.std.specs.Io.KnownBytes.{Appends}
 use Rattle.blocks.specs.Block.{zero_block}
 use Rattle.blocks.specs.declared.disk.Disk.{Ghosts}
@@ -18,12 +18,13 @@ use Rattle.offline.specs.Making.{MakesAs}
 use Rattle.player.specs.Causes.{IsUnmade}
 use Rattle.player.specs.Looks.{EndsSynced}
 
--- an image was made on the disk d, and the last call to it was a sync that was done
+-- an image was made on the disk d, and the last call to it, where one is asked for, was a sync that
+-- was done
 pub record IsFilledWith {D N : Type 0} (disk : Ghosts D N) (form : Form) (size inode_count : ℕ)
-    (d : D) (fields : Super) : Type 0 where
+    (sync : Bool) (d : D) (fields : Super) : Type 0 where
   pub now : D
   pub makes : MakesAs disk form size inode_count d now
-  pub synced : EndsSynced disk now
+  pub synced : sync ≡ true → EndsSynced disk now
   pub told : fields ≡ planned_super size inode_count
 
 -- or none was, for this reason
@@ -34,16 +35,16 @@ pub record IsNotFilledWith {D N : Type 0} (disk : Ghosts D N) (form : Form)
 
 -- a disk of so many blocks of zeroes was created in a file, and an image made on it
 pub record HasMadeIn {F N : Type 0} (disk : Ghosts (FileDisk F) N) (form : Form)
-    (size inode_count : ℕ) (fields : Super) : Type 0 where
+    (size inode_count : ℕ) (sync : Bool) (fields : Super) : Type 0 where
   pub created : FileDisk F
   pub zeroes : disk.image created ≡ replicate size zero_block
-  pub filled : IsFilledWith disk form size inode_count created fields
+  pub filled : IsFilledWith disk form size inode_count sync created fields
 
 -- and its numbers were printed
 pub record IsMade {F N : Type 0} (disk : Ghosts (FileDisk F) N) (form : Form)
-    (size inode_count : ℕ) (old new : Option (List ℕ)) : Type 0 where
+    (size inode_count : ℕ) (sync : Bool) (old new : Option (List ℕ)) : Type 0 where
   pub fields : Super
-  pub made : HasMadeIn disk form size inode_count fields
+  pub made : HasMadeIn disk form size inode_count sync fields
   pub printed : Appends old new (numbers_text (planned_super size inode_count))
 
 -- there is an image of that size, with so many inode numbers

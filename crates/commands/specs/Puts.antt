@@ -1,31 +1,48 @@
 -- What became of the disk in a file into which a file of the system was put.
-use Rattle.std.specs.Prelude.{ℕ, false, List, Option}
+use Rattle.std.specs.Prelude.{◌≡◌, ℕ, Bool, List, Option, None}
+use Rattle.blocks.specs.declared.disk.Disk.{Ghosts}
 use Rattle.cmd.specs.Lemmas.Disks.{file_disk}
 use Rattle.cmd.specs.Opened.{OpensDisk}
 use Rattle.cmd.specs.Over.{IsRefusedOn}
 use Rattle.cmd.specs.declared.files.OnFile.{OnFile}
+use Rattle.model.specs.Verdict.{verdict}
 use Rattle.transfer.specs.Putting.{IsPut, IsUnput}
+use Rattle.transfer.specs.Stopped.{StopsPut}
 use Rattle.transfer.specs.declared.refused.PutRefusal.{PutRefusal}
 use Rattle.commands.specs.declared.refused.PutFileRefusal.{PutFileRefusal}
 use Rattle.commands.specs.declared.refused.PutFileRefusal.TheVariants.{Unread, Of}
 
--- the bytes of some file were put
+-- the bytes were put on the disk d, now e, which was synced at the end where `last` says so, here and
+-- below; and what a stop leaves of that at any moment
+pub record PutsOver {D N : Type 0} (disk : Ghosts D N) (inum : Option ℕ) (bytes : List ℕ)
+    (last : Bool) (d e : D) (old new : Option (List ℕ)) : Type 0 where
+  pub put : IsPut disk inum bytes last d e old new
+  pub stops : StopsPut disk inum bytes d e
+
+-- or they were not, for this reason
+pub record IsUnputOver {D N : Type 0} (disk : Ghosts D N) (inum : Option ℕ) (bytes : List ℕ)
+    (last : Bool) (none : Type 0) (d e : D) (r : PutRefusal) : Type 0 where
+  pub why : IsUnput disk inum bytes last d e none r
+  pub stops : verdict (disk.image d) ≡ None → StopsPut disk inum bytes d e
+
+-- the bytes of some file were put on the disk of a file, which holds writes back where `sync` says so
 pub record HasPut {F : Type 0} (remaining : F → Option (List ℕ)) (inum : Option ℕ)
-    (old new : Option (List ℕ)) : Type 0 where
+    (sync last : Bool) (old new : Option (List ℕ)) : Type 0 where
   pub bytes : List ℕ
-  pub put : OpensDisk remaining file_disk false (λ d e. IsPut file_disk inum bytes d e old new)
+  pub put : OpensDisk remaining file_disk sync
+      (λ d e. PutsOver file_disk inum bytes last d e old new)
 
 -- or were not, for this reason
 pub record HasNotPut {F : Type 0} (remaining : F → Option (List ℕ)) (inum : Option ℕ)
-    (none : Type 0) (r : OnFile PutRefusal) : Type 0 where
+    (sync last : Bool) (none : Type 0) (r : OnFile PutRefusal) : Type 0 where
   pub bytes : List ℕ
-  pub refused : IsRefusedOn remaining false none
-      (λ d e. IsUnput file_disk inum bytes d e none) r
+  pub refused : IsRefusedOn remaining sync none
+      (λ d e. IsUnputOver file_disk inum bytes last none d e) r
 
 -- Where the command was refused: the file's bytes could not be had, and then no disk was opened; or
 -- the disk could not be opened, or was, and the bytes were not put. `none` says that nothing was
 -- printed.
-abbrev pub OnPutRefusal : {F : Type 0} → (F → Option (List ℕ)) → Option ℕ → Type 0
+abbrev pub OnPutRefusal : {F : Type 0} → (F → Option (List ℕ)) → Option ℕ → Bool → Bool → Type 0
     → PutFileRefusal → Type 0
-OnPutRefusal remaining inum none (Unread fault) = none
-OnPutRefusal remaining inum none (Of r) = HasNotPut remaining inum none r
+OnPutRefusal remaining inum sync last none (Unread fault) = none
+OnPutRefusal remaining inum sync last none (Of r) = HasNotPut remaining inum sync last none r

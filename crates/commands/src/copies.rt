@@ -14,9 +14,10 @@ ghost use Rattle.commands.specs.Copies.{
   OnCopyRefusal,
 };
 
+use crate::holding::Holder;
 use crate::refused::CopyRefusal;
 use blocks::{Disk, FileDisk, FileFault};
-use cmd::{Command, open};
+use cmd::{Command, open_to_look};
 use layout::plan;
 use messages::print_files;
 use model::types::Form;
@@ -32,73 +33,97 @@ use transfer::{CopyFault, Progress, copy};
 /// old one where none is given.
 ///
 /// It is refused for the first of these. `Exists` where there is a file at the path `new`; `File`
-/// with a fault of `FileDisk::open` over the old one; `Of` with `Old` and a fault of the old image,
+/// with a fault of `open_to_look` over the old one; `Of` with `Old` and a fault of the old image,
 /// with `NotFirst`, or with `Mkfs` and `SizeRange`: with these no file was made. A fault of
-/// `FileDisk::create_new`, where `Exists` is told as above, and then `Of` with one of the copy: by its
-/// code the new file is taken away.
+/// `Holder::hold_new`, where `Exists` and `Locked` are told as above; one of `FileDisk::create`, and then
+/// `Of` with one of the copy: by its code the new file is taken away.
 #[derive(Drop)]
-pub struct Copy<'a, P> {
+pub struct Copy<'a, P, H> {
     /// The path of the old image.
     pub old: &'a str,
     /// The path of the new one.
     pub new: &'a str,
     /// How many blocks the new one has.
     pub size: Option<u32>,
+    /// Whether it is synced at the end.
+    pub sync: bool,
     /// Who is told how far the copy is.
     pub progress: P,
+    /// Who holds the new file.
+    pub holder: H,
 }
 
-impl<'a, R: Files + AllocGlobal, P: Progress + Drop> Command<R> for Copy<'a, P> {
+impl<'a, R, P, H> Command<R> for Copy<'a, P, H>
+where
+    R: Files + AllocGlobal,
+    P: Progress + Drop,
+    H: Holder + Drop,
+{
     type Refusal = CopyRefusal;
 
-    ghost done = { λ copy. HasCopied R.File.remaining file_disk copy.size };
+    ghost done = { λ copy. HasCopied R.File.remaining file_disk copy.size copy.sync };
 
-    ghost refused = { λ copy old new. OnCopyRefusal R.File.remaining file_disk copy.size };
+    ghost refused = { λ copy old new.
+        OnCopyRefusal R.File.remaining file_disk copy.size copy.sync };
 
     fn run<O: Write>(self, rt: &R, out: &mut O) -> Result<(), CopyRefusal> {
         let mut progress = self.progress;
-        copy_files(rt, self.old, self.new, self.size, &mut progress, out)
+        let mut holder = self.holder;
+        copy_files(
+            rt,
+            self.old,
+            self.new,
+            self.size,
+            self.sync,
+            &mut progress,
+            &mut holder,
+            out,
+        )
     }
 }
 
-fn copy_files<R: Files + AllocGlobal, O: Write, P: Progress>(
+fn copy_files<R: Files + AllocGlobal, O: Write, P: Progress, H: Holder>(
     rt: &R,
     old: &str,
     new: &str,
     size: Option<u32>,
+    sync: bool,
     progress: &mut P,
+    holder: &mut H,
     out: &mut O,
 ) -> Result<(), CopyRefusal>
     ensures copied { OnOk result (HasCopied R.File.remaining ⟦<FileDisk<R::File> as Disk>⟧ size
-        (O.contents out.old) (O.contents out.new)) }
+        sync (O.contents out.old) (O.contents out.new)) }
     ensures refused { IfErr result (OnCopyRefusal R.File.remaining
-        ⟦<FileDisk<R::File> as Disk>⟧ size (out.new ≡ out.old)) }
+        ⟦<FileDisk<R::File> as Disk>⟧ size sync (out.new ≡ out.old)) }
 {
     if matches!(exists(rt, new), Ok(true)) {
         return Err(CopyRefusal::Exists);
     }
-    let mut disk = open(rt, old, false)?;
-    copy_from(rt, &mut disk, new, size, progress, out)
+    let mut disk = open_to_look(rt, old)?;
+    copy_from(rt, &mut disk, new, size, sync, progress, holder, out)
 }
 
 // Copies the image on a disk that was opened into a new file at the path. The disk is lent, so that
 // the proof doesn't repeat its type at each exit.
-fn copy_from<R: Files + AllocGlobal, O: Write, P: Progress>(
+fn copy_from<R: Files + AllocGlobal, O: Write, P: Progress, H: Holder>(
     rt: &R,
     disk: &mut FileDisk<R::File>,
     new: &str,
     size: Option<u32>,
+    sync: bool,
     progress: &mut P,
+    holder: &mut H,
     out: &mut O,
 ) -> Result<(), CopyRefusal>
     requires { IsOpened R.File.remaining ⟦<FileDisk<R::File> as Disk>⟧ false disk.old }
     ensures copied { OnOk result (HasCopied R.File.remaining ⟦<FileDisk<R::File> as Disk>⟧ size
-        (O.contents out.old) (O.contents out.new)) }
+        sync (O.contents out.old) (O.contents out.new)) }
     ensures refused { IfErr result (OnCopyRefusal R.File.remaining
-        ⟦<FileDisk<R::File> as Disk>⟧ size (out.new ≡ out.old)) }
+        ⟦<FileDisk<R::File> as Disk>⟧ size sync (out.new ≡ out.old)) }
 {
     let size = plan_copy(rt.alloc(), disk, size)?;
-    let files = make_copy(rt, disk, new, size, progress)?;
+    let files = make_copy(rt, disk, new, size, sync, progress, holder)?;
     match print_files(out, files) {
         Ok(()) => Ok(()),
         Err(_) => Err(CopyRefusal::Output),
@@ -106,35 +131,58 @@ fn copy_from<R: Files + AllocGlobal, O: Write, P: Progress>(
 }
 
 // Copies the image on a disk into a new file at the path, with so many blocks. How many files it has.
-fn make_copy<R: Files + AllocGlobal, P: Progress>(
+fn make_copy<R: Files + AllocGlobal, P: Progress, H: Holder>(
     rt: &R,
     disk: &mut FileDisk<R::File>,
     new: &str,
     size: u32,
+    sync: bool,
     progress: &mut P,
+    holder: &mut H,
 ) -> Result<u32, CopyRefusal>
-    ensures filled { IfOk result (HasFilled ⟦<FileDisk<R::File> as Disk>⟧ size disk.old) }
+    ensures filled { IfOk result
+        (HasFilled ⟦<FileDisk<R::File> as Disk>⟧ size sync disk.old) }
     ensures refused { IfErr result
         (IsUnmade ⟦<FileDisk<R::File> as Disk>⟧ size disk.old disk.new) }
 {
-    match FileDisk::create_new(rt, new, size) {
-        Ok(created) => {
-            let copied = fill(rt.alloc(), disk, created, size, progress);
+    match holder.hold_new(new) {
+        Ok(()) => {
+            let copied = fill_file(rt, disk, new, size, sync, progress);
             remove_refused(rt, new, &copied);
-            match copied {
-                Ok(files) => Ok(files),
-                Err(fault) => Err(CopyRefusal::Of(fault)),
-            }
+            copied
         }
-        Err(FileFault::Exists) => Err(CopyRefusal::Exists),
+        Err(FileFault::Exists | FileFault::Locked) => Err(CopyRefusal::Exists),
         Err(fault) => Err(CopyRefusal::File(fault)),
     }
 }
 
 // Takes the file at the path away where no copy was made in it.
-fn remove_refused<R: Files>(rt: &R, path: &str, copied: &Result<u32, CopyFault>) {
+fn remove_refused<R: Files>(rt: &R, path: &str, copied: &Result<u32, CopyRefusal>) {
     if copied.is_err() {
         let _gone = remove_file(rt, path);
+    }
+}
+
+// Copies the image on a disk into the file at the path, which is held.
+fn fill_file<R: Files + AllocGlobal, P: Progress>(
+    rt: &R,
+    disk: &mut FileDisk<R::File>,
+    new: &str,
+    size: u32,
+    sync: bool,
+    progress: &mut P,
+) -> Result<u32, CopyRefusal>
+    ensures filled { IfOk result
+        (HasFilled ⟦<FileDisk<R::File> as Disk>⟧ size sync disk.old) }
+    ensures refused { IfErr result
+        (IsUnmade ⟦<FileDisk<R::File> as Disk>⟧ size disk.old disk.new) }
+{
+    match FileDisk::create(rt, new, size) {
+        Ok(created) => match fill(rt.alloc(), disk, created, size, sync, progress) {
+            Ok(files) => Ok(files),
+            Err(fault) => Err(CopyRefusal::Of(fault)),
+        },
+        Err(fault) => Err(CopyRefusal::File(fault)),
     }
 }
 
@@ -144,12 +192,13 @@ fn fill<D: Disk, E: Disk + Drop, P: Progress>(
     old: &mut D,
     new: E,
     size: u32,
+    sync: bool,
     progress: &mut P,
 ) -> Result<u32, CopyFault>
-    ensures filled { IfOk result (IsFilled D.Disk E.Disk size old.old new) }
+    ensures filled { IfOk result (IsFilled D.Disk E.Disk size sync old.old new) }
     ensures refused { IfErr result (IsUnfilled D.Disk E.Disk size old.old old.new new) }
 {
-    match copy(alloc, old, new, size, progress) {
+    match copy(alloc, old, new, size, sync, progress) {
         Ok((files, _made)) => Ok(files),
         Err((fault, _made)) => Err(fault),
     }

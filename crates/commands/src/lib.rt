@@ -5,6 +5,7 @@
 #![tactic(auto)]
 
 mod copies;
+mod holding;
 mod inputs;
 mod making;
 mod puts;
@@ -12,8 +13,9 @@ mod refused;
 mod runs;
 
 pub use copies::Copy;
+pub use holding::Holder;
 pub use inputs::{schedule_from, script_from};
-pub use making::{Mkfs, make_file};
+pub use making::{Making, Mkfs, make_file};
 pub use puts::Put;
 pub use refused::{CopyRefusal, PutFileRefusal, ReadFault};
 pub use runs::{ReplayFilesRefusal, RunFilesRefusal, replay_files, run_files};

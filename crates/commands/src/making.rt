@@ -1,10 +1,13 @@
 // The command that makes an image in a file.
-ghost use Rattle.std.specs.Prelude.{◌≡◌, ◌↔◌, false, IsTrue, IfErr, IfOk, OnOk};
+ghost use Rattle.std.specs.Prelude.{◌≡◌, ◌↔◌, false, true, IsTrue, IfErr, IfOk, OnOk};
 ghost use Rattle.std.specs.Result.{IsErrOf};
 ghost use Rattle.cmd.specs.declared.files.OnFile.TheVariants as on;
 ghost use Rattle.layout.specs.declared.geometry.MkfsFault.TheVariants as fault;
 ghost use Rattle.messages.specs.declared.printed.Printed.TheVariants as printed;
-ghost use Rattle.model.specs.Layout.{is_inode_count, is_size};
+ghost use Rattle.model.specs.Layout.{is_inode_count, is_size, planned_super};
+ghost use Rattle.offline.specs.Making.{MakesAs};
+ghost use Rattle.player.specs.Causes.{IsUnmade};
+ghost use Rattle.player.specs.Looks.{EndsSynced};
 ghost use Rattle.commands.specs.Making.{
   HasMadeIn,
   IsFilledWith,
@@ -15,77 +18,95 @@ ghost use Rattle.commands.specs.Making.{
   IsPlan,
 };
 
+use crate::holding::Holder;
 use blocks::{Disk, FileDisk, FileFault};
 use cmd::{Command, OnFile};
 use layout::{MkfsFault, Super, plan};
 use messages::{Printed, print_numbers};
 use model::types::Form;
+use offline::mkfs_as;
 use player::make_disk;
 use std::alloc::Global;
-use std::fs::{OpenOptions, canonicalize, metadata, remove_file, rename, symlink_metadata};
+use std::fs::{
+    File, OpenFile, OpenOptions, canonicalize, metadata, remove_file, rename, set_permissions,
+    symlink_metadata,
+};
 use std::io;
 use std::io::{ErrorKind, Write};
+use std::path::Path;
 use std::rt::Files;
 
-/// Makes an image of that form, of `size` blocks of 1024 bytes and with `ninodes` inode numbers, in a
-/// file at the path `image`, and prints its numbers, as `make_file`.
+/// An image that is to be made.
 #[derive(Clone, Copy, Drop)]
-pub struct Mkfs<'a> {
-    /// The path of the image's file.
-    pub image: &'a str,
-    /// The form of the image.
+pub struct Making {
+    /// Its form.
     pub form: Form,
-    /// How many blocks it has.
+    /// How many blocks of 1024 bytes it has.
     pub size: u32,
     /// How many inode numbers it has, the unused number 0 among them.
     pub ninodes: u32,
+    /// Whether it is synced at the end.
+    pub sync: bool,
 }
 
-impl<'a, R: Files + AllocGlobal> Command<R> for Mkfs<'a> {
+/// Makes an image in a file at the path `image`, and prints its numbers, as `make_file`.
+#[derive(Drop)]
+pub struct Mkfs<'a, H> {
+    /// The path of the image's file.
+    pub image: &'a str,
+    /// The image.
+    pub making: Making,
+    /// Who holds the files that are made.
+    pub holder: H,
+}
+
+impl<'a, R: Files + AllocGlobal, H: Holder + Drop> Command<R> for Mkfs<'a, H> {
     type Refusal = OnFile<Printed<MkfsFault>>;
 
-    ghost done = { λ mkfs. IsMade ⟦<FileDisk<R::File> as Disk>⟧ mkfs.form mkfs.size
-        mkfs.ninodes };
+    ghost done = { λ mkfs. IsMade ⟦<FileDisk<R::File> as Disk>⟧ mkfs.making.form
+        mkfs.making.size mkfs.making.ninodes mkfs.making.sync };
 
-    ghost refused = { λ mkfs old new. IsNotMade mkfs.size mkfs.ninodes };
+    ghost refused = { λ mkfs old new. IsNotMade mkfs.making.size mkfs.making.ninodes };
 
     fn run<O: Write>(self, rt: &R, out: &mut O) -> Result<(), OnFile<Printed<MkfsFault>>> {
-        make_file(rt, self.image, self.form, self.size, self.ninodes, out)
+        let mut holder = self.holder;
+        make_file(rt, self.image, self.making, &mut holder, out)
     }
 }
 
-/// Makes an image of that form, of `size` blocks of 1024 bytes and with `ninodes` inode numbers, in a
-/// file at this path, syncs it, and prints its numbers.
+/// Makes an image in a file at this path, syncs it where that is asked for, and prints its numbers.
 ///
 /// By its code a file that stands at the path, and that a link there leads to, is kept until the new
-/// image is whole: that is made and synced in a new file beside it, `.new` behind its name, which then
-/// takes its name, or is taken away where the image is refused. What is no file, as a device, is
-/// written where it stands.
+/// image is whole: that is made, and synced, in a file beside it, `.new` behind its name, which then
+/// takes its name and its permissions, or is taken away where the image is refused. One that an earlier
+/// run left is taken for that. Each file is held before it is written or replaced. What is no file, as
+/// a device, is written where it stands.
 ///
 /// # Errors
 ///
-/// A fault of `plan`, and then the file at the path is as it was; else one of `FileDisk::create_new`,
+/// A fault of `plan`, and then the file at the path is as it was; else one of `Holder::hold_left`,
 /// `FileDisk::create` or `make_disk`, or `Open` where the file can't be written or replaced.
-pub fn make_file<R: Files + AllocGlobal, O: Write>(
+pub fn make_file<R: Files + AllocGlobal, H: Holder, O: Write>(
     rt: &R,
     image: &str,
-    form: Form,
-    size: u32,
-    ninodes: u32,
+    making: Making,
+    holder: &mut H,
     out: &mut O,
 ) -> Result<(), OnFile<Printed<MkfsFault>>>
-    ensures made { OnOk result (IsMade ⟦<FileDisk<R::File> as Disk>⟧ form size ninodes
-        (O.contents out.old) (O.contents out.new)) }
-    ensures refused { IfErr result (IsNotMade size ninodes (out.new ≡ out.old)) }
+    ensures made { OnOk result (IsMade ⟦<FileDisk<R::File> as Disk>⟧ making.form making.size
+        making.ninodes making.sync (O.contents out.old) (O.contents out.new)) }
+    ensures refused { IfErr result
+        (IsNotMade making.size making.ninodes (out.new ≡ out.old)) }
     ensures inodes { IsErrOf result (on.Of (printed.Fault fault.InodeRange))
-        ↔ (is_inode_count ninodes ≡ false) }
+        ↔ (is_inode_count making.ninodes ≡ false) }
     ensures size { IsErrOf result (on.Of (printed.Fault fault.SizeRange))
-        ↔ (IsTrue (is_inode_count ninodes) × (is_size size ninodes ≡ false)) }
+        ↔ (IsTrue (is_inode_count making.ninodes)
+        × (is_size making.size making.ninodes ≡ false)) }
 {
-    if let Err(fault) = plan(size, ninodes) {
+    if let Err(fault) = plan(making.size, making.ninodes) {
         return Err(OnFile::Of(Printed::Fault(fault)));
     }
-    match make_image(rt, image, form, size, ninodes) {
+    match make_image(rt, image, making, holder) {
         Ok(fields) => match print_numbers(out, &fields) {
             Ok(()) => Ok(()),
             Err(_) => Err(OnFile::Of(Printed::Output)),
@@ -97,22 +118,21 @@ pub fn make_file<R: Files + AllocGlobal, O: Write>(
 
 // Makes an image that can be planned, in place of the file that stands at the path, or where that is
 // no file, there.
-fn make_image<R: Files + AllocGlobal>(
+fn make_image<R: Files + AllocGlobal, H: Holder>(
     rt: &R,
     image: &str,
-    form: Form,
-    size: u32,
-    ninodes: u32,
+    making: Making,
+    holder: &mut H,
 ) -> Result<Super, OnFile<MkfsFault>>
-    requires { IsPlan size ninodes }
-    ensures made { IfOk result
-        (HasMadeIn ⟦<FileDisk<R::File> as Disk>⟧ form size ninodes) }
+    requires { IsPlan making.size making.ninodes }
+    ensures made { IfOk result (HasMadeIn ⟦<FileDisk<R::File> as Disk>⟧ making.form making.size
+        making.ninodes making.sync) }
     ensures refused { IfErr result IsNotMadeIn }
 {
     match home_of(rt, image) {
-        Ok(None) => make_there(rt, image, form, size, ninodes),
+        Ok(None) => make_there(rt, image, making),
         Ok(Some(home)) => match format!(in rt.alloc(); "{home}.new") {
-            Ok(beside) => { make_beside(rt, beside.as_str(), home.as_str(), form, size, ninodes) }
+            Ok(beside) => make_beside(rt, beside.as_str(), home.as_str(), making, holder),
             Err(_) => Err(OnFile::File(FileFault::NoMemory)),
         },
         Err(fault) => Err(OnFile::File(fault)),
@@ -121,23 +141,33 @@ fn make_image<R: Files + AllocGlobal>(
 
 // The name that a new file with an image at this path is given. None where it is made at the path.
 fn home_of<R: Files + AllocGlobal>(rt: &R, path: &str) -> Result<Option<String>, FileFault> {
-    match metadata(rt, path) {
-        Ok(found) if found.is_file() => file_home(rt, path),
+    match symlink_metadata(rt, path) {
+        Ok(found) if found.is_symlink() => linked_home(rt, path),
+        Ok(found) if found.is_file() => {
+            ensure_writable(rt, path)?;
+            named(rt, path)
+        }
         Ok(_) => Ok(None),
-        // A link that leads nowhere is followed by whoever makes a file there.
-        Err(_) if symlink_metadata(rt, path).is_ok() => Ok(None),
         Err(_) => named(rt, path),
     }
 }
 
-// The same where a file is there, which has to be one that can be written.
-fn file_home<R: Files + AllocGlobal>(rt: &R, path: &str) -> Result<Option<String>, FileFault> {
+// The same where a link is there. One that leads nowhere is followed by whoever makes a file there.
+fn linked_home<R: Files + AllocGlobal>(rt: &R, path: &str) -> Result<Option<String>, FileFault> {
+    if !matches!(metadata(rt, path), Ok(found) if found.is_file()) {
+        return Ok(None);
+    }
+    ensure_writable(rt, path)?;
+    let home = canonicalize(rt, path).map_err(|error| fault_of(error))?;
+    named(rt, home.as_str())
+}
+
+fn ensure_writable<R: Files>(rt: &R, path: &str) -> Result<(), FileFault> {
     let _writable = OpenOptions::new()
         .write(true)
         .open(rt, path)
         .map_err(|error| fault_of(error))?;
-    let home = canonicalize(rt, path).map_err(|error| fault_of(error))?;
-    named(rt, home.to_string_lossy())
+    Ok(())
 }
 
 fn named<R: Files + AllocGlobal>(rt: &R, path: &str) -> Result<Option<String>, FileFault> {
@@ -158,17 +188,15 @@ fn fault_of(error: io::Error) -> FileFault {
 fn make_there<R: Files + AllocGlobal>(
     rt: &R,
     path: &str,
-    form: Form,
-    size: u32,
-    ninodes: u32,
+    making: Making,
 ) -> Result<Super, OnFile<MkfsFault>>
-    requires { IsPlan size ninodes }
-    ensures made { IfOk result
-        (HasMadeIn ⟦<FileDisk<R::File> as Disk>⟧ form size ninodes) }
+    requires { IsPlan making.size making.ninodes }
+    ensures made { IfOk result (HasMadeIn ⟦<FileDisk<R::File> as Disk>⟧ making.form making.size
+        making.ninodes making.sync) }
     ensures refused { IfErr result IsNotMadeIn }
 {
-    match FileDisk::create(rt, path, size) {
-        Ok(created) => match fill(rt.alloc(), created, form, size, ninodes) {
+    match FileDisk::create(rt, path, making.size) {
+        Ok(created) => match fill(rt.alloc(), created, making) {
             Ok(fields) => Ok(fields),
             Err(fault) => Err(OnFile::Of(fault)),
         },
@@ -176,57 +204,144 @@ fn make_there<R: Files + AllocGlobal>(
     }
 }
 
-// Makes an image in a new file at the path, which then takes the name `home`.
-fn make_beside<R: Files + AllocGlobal>(
+// Makes an image in a file at the path, which then takes the name `home`. Of the two the first is held
+// first, so that no two programs wait for each other.
+fn make_beside<R: Files + AllocGlobal, H: Holder>(
     rt: &R,
     path: &str,
     home: &str,
-    form: Form,
-    size: u32,
-    ninodes: u32,
+    making: Making,
+    holder: &mut H,
 ) -> Result<Super, OnFile<MkfsFault>>
-    requires { IsPlan size ninodes }
-    ensures made { IfOk result
-        (HasMadeIn ⟦<FileDisk<R::File> as Disk>⟧ form size ninodes) }
+    requires { IsPlan making.size making.ninodes }
+    ensures made { IfOk result (HasMadeIn ⟦<FileDisk<R::File> as Disk>⟧ making.form making.size
+        making.ninodes making.sync) }
     ensures refused { IfErr result IsNotMadeIn }
 {
-    match FileDisk::create_new(rt, path, size) {
-        Ok(created) => match fill(rt.alloc(), created, form, size, ninodes) {
-            Ok(fields) if take_name(rt, path, home) => Ok(fields),
-            Ok(_) => Err(OnFile::File(FileFault::Open)),
-            Err(fault) => {
-                let _gone = remove_file(rt, path);
-                Err(OnFile::Of(fault))
-            }
-        },
-        // The file may have been made, and not given its length.
-        Err(FileFault::Open) => {
-            let _gone = remove_file(rt, path);
-            Err(OnFile::File(FileFault::Open))
-        }
-        Err(fault) => Err(OnFile::File(fault)),
+    if let Err(fault) = holder.hold_left(path) {
+        return Err(OnFile::File(fault));
+    }
+    let made = make_held(rt, path, home, making, holder);
+    remove_refused(rt, path, &made);
+    made
+}
+
+// Takes the file at the path away where no image was made in it.
+fn remove_refused<R: Files>(rt: &R, path: &str, made: &Result<Super, OnFile<MkfsFault>>) {
+    if made.is_err() {
+        let _gone = remove_file(rt, path);
     }
 }
 
-// Gives a file another name, in place of the file that has it; or takes it away. Whether it has it.
-fn take_name<R: Files>(rt: &R, path: &str, name: &str) -> bool {
-    if rename(rt, path, name).is_ok() {
-        return true;
+// Makes an image in a file at the path that is held, and gives that the name `home`.
+fn make_held<R: Files + AllocGlobal, H: Holder>(
+    rt: &R,
+    path: &str,
+    home: &str,
+    making: Making,
+    holder: &mut H,
+) -> Result<Super, OnFile<MkfsFault>>
+    requires { IsPlan making.size making.ninodes }
+    ensures made { IfOk result (HasMadeIn ⟦<FileDisk<R::File> as Disk>⟧ making.form making.size
+        making.ninodes making.sync) }
+    ensures refused { IfErr result IsNotMadeIn }
+{
+    let is_old = match holder.hold_there(home) {
+        Ok(is_old) => is_old,
+        Err(fault) => return Err(OnFile::File(fault)),
+    };
+    match make_there(rt, path, making) {
+        Ok(fields) => match take_name(rt, path, home, is_old, holder) {
+            Ok(()) => {
+                sync_folder(rt, home, making.sync);
+                Ok(fields)
+            }
+            Err(fault) => Err(OnFile::File(fault)),
+        },
+        Err(refusal) => Err(refusal),
     }
-    let _gone = remove_file(rt, path);
-    false
+}
+
+// Gives a file another name, in place of the file that has it, which is held. One that had no file may
+// have one by now.
+fn take_name<R: Files, H: Holder>(
+    rt: &R,
+    path: &str,
+    name: &str,
+    is_held: bool,
+    holder: &mut H,
+) -> Result<(), FileFault> {
+    if is_held {
+        return rename_over(rt, path, name);
+    }
+    match holder.hold_new(name) {
+        Ok(()) => {
+            let taken = rename_over(rt, path, name);
+            if taken.is_err() {
+                let _gone = remove_file(rt, name);
+            }
+            taken
+        }
+        Err(FileFault::Exists | FileFault::Locked) => {
+            holder.hold_left(name)?;
+            rename_over(rt, path, name)
+        }
+        Err(fault) => Err(fault),
+    }
+}
+
+// Gives a file the name of another, and its permissions.
+fn rename_over<R: Files>(rt: &R, path: &str, name: &str) -> Result<(), FileFault> {
+    if let Ok(found) = metadata(rt, name) {
+        let _kept = set_permissions(rt, path, found.permissions());
+    }
+    rename(rt, path, name).map_err(|error| fault_of(error))
+}
+
+// Syncs the folder that has a name where that is asked for, as far as the system does that.
+fn sync_folder<R: Files>(rt: &R, name: &str, sync: bool) {
+    if !sync {
+        return;
+    }
+    let folder = match Path::new(name).parent() {
+        Some(folder) if !folder.as_str().is_empty() => folder.as_str(),
+        _ => ".",
+    };
+    if let Ok(opened) = File::open(rt, folder) {
+        let _synced = opened.sync_all();
+    }
 }
 
 // Makes an image on a disk, which nobody keeps. The fields of its superblock.
-fn fill<D: Disk + Drop>(
-    alloc: Global,
-    mut disk: D,
-    form: Form,
-    size: u32,
-    ninodes: u32,
-) -> Result<Super, MkfsFault>
-    ensures made { IfOk result (IsFilledWith D.Disk form size ninodes disk) }
-    ensures refused { IfErr result (IsNotFilledWith D.Disk form size ninodes disk) }
+fn fill<D: Disk + Drop>(alloc: Global, mut disk: D, making: Making) -> Result<Super, MkfsFault>
+    ensures made { IfOk result (IsFilledWith D.Disk making.form making.size making.ninodes
+        making.sync disk) }
+    ensures refused { IfErr result
+        (IsNotFilledWith D.Disk making.form making.size making.ninodes disk) }
 {
-    make_disk(alloc, &mut disk, form, size, ninodes)
+    make_on(alloc, &mut disk, making)
+}
+
+// Makes an image on a disk, and syncs that where it is asked for. The fields of its superblock.
+fn make_on<D: Disk>(alloc: Global, disk: &mut D, making: Making) -> Result<Super, MkfsFault>
+    ensures made { OnOk result (MakesAs D.Disk making.form making.size making.ninodes
+        disk.old disk.new) }
+    ensures synced { OnOk result (making.sync ≡ true → EndsSynced D.Disk disk.new) }
+    ensures fields { IfOk result
+        (λ fields. fields ≡ planned_super making.size making.ninodes) }
+    ensures refused { IfErr result (IsUnmade D.image D.fault_count making.form making.size
+        making.ninodes disk.old disk.new) }
+{
+    let Making {
+        form,
+        size,
+        ninodes,
+        sync,
+    } = making;
+    if sync {
+        return make_disk(alloc, disk, form, size, ninodes);
+    }
+    let fields = plan(size, ninodes)?;
+    mkfs_as(alloc, disk, size, ninodes, form)?;
+    Ok(fields)
 }

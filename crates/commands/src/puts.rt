@@ -1,6 +1,5 @@
 // The command that puts a file of the system into an image.
-ghost use Rattle.commands.specs.Puts.{HasPut, OnPutRefusal};
-ghost use Rattle.transfer.specs.Putting.{IsPut, IsUnput};
+ghost use Rattle.commands.specs.Puts.{HasPut, IsUnputOver, OnPutRefusal, PutsOver};
 
 use crate::refused::{PutFileRefusal, ReadFault};
 use blocks::Disk;
@@ -28,22 +27,29 @@ pub struct Put<'a> {
     pub file: &'a str,
     /// The number of the image's file that gets them; none for a new one.
     pub inum: Option<u32>,
+    /// Whether the image's file holds writes back until it is synced.
+    pub sync: bool,
+    /// Whether it is synced at the end.
+    pub last: bool,
 }
 
 impl<'a, R: Files + AllocGlobal> Command<R> for Put<'a> {
     type Refusal = PutFileRefusal;
 
-    ghost done = { λ put. HasPut R.File.remaining put.inum };
+    ghost done = { λ put. HasPut R.File.remaining put.inum put.sync put.last };
 
-    ghost refused = { λ put old new. OnPutRefusal R.File.remaining put.inum };
+    ghost refused = { λ put old new.
+        OnPutRefusal R.File.remaining put.inum put.sync put.last };
 
     fn run<O: Write>(self, rt: &R, out: &mut O) -> Result<(), PutFileRefusal> {
         let bytes = bytes_from(rt, self.file)?;
         let put = PutBytes {
             bytes,
             inum: self.inum,
+            last: self.last,
         };
-        match OverFile(self.image, Access::Change { sync: false }, put).run(rt, out) {
+        let access = Access::Change { sync: self.sync };
+        match OverFile(self.image, access, put).run(rt, out) {
             Ok(()) => Ok(()),
             Err(refusal) => Err(PutFileRefusal::Of(refusal)),
         }
@@ -55,14 +61,16 @@ impl<'a, R: Files + AllocGlobal> Command<R> for Put<'a> {
 struct PutBytes {
     bytes: Vec<u8>,
     inum: Option<u32>,
+    last: bool,
 }
 
 impl DiskCommand for PutBytes {
     type Refusal = PutRefusal;
 
-    ghost done = { λ put c. IsPut c.disk put.inum put.bytes.items c.was c.now };
+    ghost done = { λ put c. PutsOver c.disk put.inum put.bytes.items put.last c.was c.now };
 
-    ghost refused = { λ put c old new. IsUnput c.disk put.inum put.bytes.items c.was c.now };
+    ghost refused = { λ put c old new none.
+        IsUnputOver c.disk put.inum put.bytes.items put.last none c.was c.now };
 
     fn run_on<D: Disk + Drop, O: Write>(
         self,
@@ -70,7 +78,14 @@ impl DiskCommand for PutBytes {
         disk: D,
         out: &mut O,
     ) -> (Result<(), PutRefusal>, D) {
-        put_disk(alloc, disk, self.bytes.as_slice(), self.inum, out)
+        put_disk(
+            alloc,
+            disk,
+            self.bytes.as_slice(),
+            self.inum,
+            self.last,
+            out,
+        )
     }
 }
 

@@ -104,7 +104,7 @@ fn copy_all(
     mut old: FaultyDisk<MemDisk>,
     new: FaultyDisk<MemDisk>,
 ) -> Result<Option<CopyFault>, Wrong> {
-    match copy(alloc, &mut old, new, 200, &mut Nobody) {
+    match copy(alloc, &mut old, new, 200, true, &mut Nobody) {
         Ok((files, _new)) => judge_whole(alloc, &mut old.into_inner(), files),
         Err((fault, new)) => {
             judge_failed(alloc, &mut old.into_inner(), &mut new.into_inner(), fault)

@@ -34,7 +34,7 @@ pub fn with_file(alloc: Global, bytes: &[u8]) -> Result<MemDisk, Wrong> {
     match new_image(alloc) {
         Ok(disk) => {
             let mut told = Vec::new(alloc);
-            let (put, disk) = put_disk(alloc, disk, bytes, None, &mut told);
+            let (put, disk) = put_disk(alloc, disk, bytes, None, true, &mut told);
             match put {
                 Ok(()) => Ok(disk),
                 Err(_refusal) => Err(Wrong::Other("the first file was not put")),

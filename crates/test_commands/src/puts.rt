@@ -40,7 +40,7 @@ fn fail_call(alloc: Global, inum: Option<u32>, kind: Kind, nth: u64) -> Result<b
         Ok(disk) => {
             let mut told = Vec::new(alloc);
             let disk = FaultyDisk::new(disk, nth, kind);
-            let (put, disk) = put_disk(alloc, disk, &BYTES, inum, &mut told);
+            let (put, disk) = put_disk(alloc, disk, &BYTES, inum, true, &mut told);
             let number = inum.unwrap_or(2) as usize;
             judge(alloc, &mut disk.into_inner(), number, &put)
         }

@@ -1,5 +1,5 @@
 -- What a copy comes to, by what ended it.
-use Rattle.std.proofs.Common.{◌≡◌, ◌∙◌, ℕ, ◌≤◌, true, false, ◌&&◌, eqb, List, Some, None, length, refl, sym, ap, subst, inl, inr, arith}
+use Rattle.std.proofs.Common.{◌≡◌, ◌∙◌, ℕ, ◌≤◌, Bool, true, false, ◌&&◌, eqb, List, Some, None, length, refl, sym, ap, subst, inl, inr, arith}
 use Rattle.std.proofs.lemmas.Bool.{eq-eqb, le-ltb}
 use Rattle.blocks.specs.Disk.{Image, Rose, counted}
 use Rattle.blocks.specs.declared.disk.Disk.{Ghosts}
@@ -103,9 +103,9 @@ module _ {D E M N : Type 0} (old : Ghosts D M) (new : Ghosts E N) (size : ℕ) (
     unfilled mid Disk same kept why = inl (subst (λ (c : ℕ). Rose c (old.fault_count d')) kept why, refl)
 
     -- it is on the disk
-    pub all_copied : (mid : D) (x : Image) (e : E) (count : ℕ) → old.image mid ≡ old.image d → IsCopyOf size (old.image mid) x → count ≡ file_count (files_of (recovered (old.image d))) →
-        WritesOut new x n e → LeavesIfCalm new n e (IsNoneOr (new.image n) x) → IsCopied old new size d n e count
-    all_copied mid x e count same copy told out stops =
+    pub all_copied : (sync : Bool) (mid : D) (x : Image) (e : E) (count : ℕ) → old.image mid ≡ old.image d → IsCopyOf size (old.image mid) x → count ≡ file_count (files_of (recovered (old.image d))) →
+        WritesOut new x sync n e → LeavesIfCalm new n e (IsNoneOr (new.image n) x) → IsCopied old new size sync d n e count
+    all_copied sync mid x e count same copy told out stops =
         let here : x ≡ new.image e = sym out.image in
         let copied : IsCopyOf size (old.image d) x = subst (λ (y : Image). IsCopyOf size y x) same copy in
         record {

@@ -1,5 +1,5 @@
 -- What calls come to over a disk that was judged, and recovered as its kernel was opened.
-use Rattle.std.proofs.Common.{◌≡◌, ◌∙◌, ◌≤◌, ℕ, List, Option, None, length, refl, sym, ap, subst, inl, inr}
+use Rattle.std.proofs.Common.{◌≡◌, ◌∙◌, ◌≤◌, ℕ, Bool, true, false, List, Option, None, length, refl, sym, ap, subst, inl, inr}
 use Rattle.blocks.specs.Calls.{OnlyReads}
 use Rattle.std.specs.Io.KnownBytes.{Appends}
 use Rattle.std.specs.Prelude.{Result, Ok, Err, IfErr, OnOk}
@@ -20,7 +20,8 @@ use Rattle.calls.specs.Stepping.{Plain}
 use Rattle.wal.specs.Recovery.{IsCalm, LeavesIfCalm, RecoversAs}
 use Rattle.transfer.specs.Judging.{IsFit, IsTold}
 use Rattle.transfer.specs.Stopped.{KeepsPut, StaysPut}
-use Rattle.transfer.specs.Putting.{ComesTo, IsPut, IsUnopenedThen, IsUnput, IsUntold, Syncs}
+use Rattle.transfer.specs.Ending.{SyncsIf}
+use Rattle.transfer.specs.Putting.{ComesTo, IsPut, IsUnopenedThen, IsUnput, IsUntold}
 use Rattle.transfer.specs.PutWriting.{CallsTo, Comes, IsUnwritten, KeepsPart}
 use Rattle.transfer.specs.declared.refused.PutRefusal.{PutRefusal}
 use Rattle.transfer.specs.declared.refused.PutRefusal.TheVariants.{Check, NoFile, NotAFile, TooBig, Full, NoMemory, Unopened, NoInode, Disk, Output}
@@ -28,20 +29,25 @@ use Rattle.transfer.specs.declared.writing.Outcome.{Outcome}
 use Rattle.transfer.specs.declared.writing.Outcome.TheVariants as outcome
 use Rattle.transfer.proofs.CallLemmas.{whole_then}
 
--- what is told before anything is written
-pub told_so : {D N : Type 0} (disk : Ghosts D N) (inum : Option ℕ) (bytes : List ℕ) (d e : D) (none : Type 0) → none → (r : PutRefusal) → IsTold disk inum (length bytes) d e r → IsUnput disk inum bytes d e none r
-told_so disk inum bytes d e none silent (Check fault) why = (why, silent)
-told_so disk inum bytes d e none silent NoFile why = (why, silent)
-told_so disk inum bytes d e none silent NotAFile why = (why, silent)
-told_so disk inum bytes d e none silent TooBig why = (why, silent)
-told_so disk inum bytes d e none silent Full why = (inl why, silent)
-told_so disk inum bytes d e none silent NoMemory why = (inl why, silent)
-told_so disk inum bytes d e none silent (Unopened fault) why = absurd why.cause
-told_so disk inum bytes d e none silent NoInode why = absurd why.cause
-told_so disk inum bytes d e none silent (Disk fault) why = absurd why.cause
-told_so disk inum bytes d e none silent Output why = absurd why.cause
+-- a disk has the same image, and no fault more, whether it was synced or left alone
+left_same : {D N : Type 0} (disk : Ghosts D N) (sync : Bool) (d e : D) → SyncsIf sync disk d e → (disk.image e ≡ disk.image d) × (disk.fault_count e ≡ disk.fault_count d)
+left_same disk true d e syncs = (syncs.image, syncs.faults)
+left_same disk false d e same = (ap disk.image same, ap disk.fault_count same)
 
-module _ {D N : Type 0} (disk : Ghosts D N) (inum : Option ℕ) (bytes : List ℕ) (d mid : D) (fit : IsFit disk inum (length bytes) d mid) where
+-- what is told before anything is written
+pub told_so : {D N : Type 0} (disk : Ghosts D N) (inum : Option ℕ) (bytes : List ℕ) (sync : Bool) (d e : D) (none : Type 0) → none → (r : PutRefusal) → IsTold disk inum (length bytes) d e r → IsUnput disk inum bytes sync d e none r
+told_so disk inum bytes sync d e none silent (Check fault) why = (why, silent)
+told_so disk inum bytes sync d e none silent NoFile why = (why, silent)
+told_so disk inum bytes sync d e none silent NotAFile why = (why, silent)
+told_so disk inum bytes sync d e none silent TooBig why = (why, silent)
+told_so disk inum bytes sync d e none silent Full why = (inl why, silent)
+told_so disk inum bytes sync d e none silent NoMemory why = (inl why, silent)
+told_so disk inum bytes sync d e none silent (Unopened fault) why = absurd why.cause
+told_so disk inum bytes sync d e none silent NoInode why = absurd why.cause
+told_so disk inum bytes sync d e none silent (Disk fault) why = absurd why.cause
+told_so disk inum bytes sync d e none silent Output why = absurd why.cause
+
+module _ {D N : Type 0} (disk : Ghosts D N) (inum : Option ℕ) (bytes : List ℕ) (sync : Bool) (d mid : D) (fit : IsFit disk inum (length bytes) d mid) where
   -- ---- no kernel is opened
 
   pub unopened_then : (e : D) (fault : OpenFault) → IsNotOpenedSole disk mid e fault → IsUnopenedThen disk inum d e fault
@@ -73,7 +79,7 @@ module _ {D N : Type 0} (disk : Ghosts D N) (inum : Option ℕ) (bytes : List �
       faults = calls.faults ∙ faults;
     }
 
-    pub unwritten_so : (e : D) (none : Type 0) → none → (r : PutRefusal) → IsUnwritten disk inum bytes k.store.volume.device e r → IsUnput disk inum bytes d e none r
+    pub unwritten_so : (e : D) (none : Type 0) → none → (r : PutRefusal) → IsUnwritten disk inum bytes k.store.volume.device e r → IsUnput disk inum bytes sync d e none r
     unwritten_so e none silent NoInode why = (comes_to e _ why, silent)
     unwritten_so e none silent Full why = (inr (comes_to e _ why), silent)
     unwritten_so e none silent NoMemory why = (
@@ -91,27 +97,28 @@ module _ {D N : Type 0} (disk : Ghosts D N) (inum : Option ℕ) (bytes : List �
     -- ---- and then a sync
 
     module _ (unsynced e : D) (number : ℕ) (calls : CallsTo disk inum bytes k.store.volume.device unsynced (outcome.Put number)) where
-      synced_so : Syncs disk unsynced e → ComesTo disk inum bytes d e (outcome.Put number)
+      synced_so : SyncsIf sync disk unsynced e → ComesTo disk inum bytes d e (outcome.Put number)
       synced_so syncs =
           let put = comes_to unsynced _ calls in
+          let left = left_same disk sync unsynced e syncs in
           record {
             sound = put.sound;
             plain = put.plain;
-            whole = subst (IsWhole (disk.image d)) (sym syncs.image) put.whole;
-            comes = subst (λ (y : Image). Comes (recovered (disk.image d)) inum bytes y (outcome.Put number)) (sym syncs.image) put.comes;
-            faults = syncs.faults ∙ put.faults;
+            whole = subst (IsWhole (disk.image d)) (sym left.0) put.whole;
+            comes = subst (λ (y : Image). Comes (recovered (disk.image d)) inum bytes y (outcome.Put number)) (sym left.0) put.comes;
+            faults = left.1 ∙ put.faults;
           }
 
-      pub put_so : (r : Result (Unit {0}) PutRefusal) (old new : Option (List ℕ)) → OnOk r (Syncs disk unsynced e) → OnOk r (Appends old new (number_text number)) → OnOk r (IsPut disk inum bytes d e old new)
+      pub put_so : (r : Result (Unit {0}) PutRefusal) (old new : Option (List ℕ)) → OnOk r (SyncsIf sync disk unsynced e) → OnOk r (Appends old new (number_text number)) → OnOk r (IsPut disk inum bytes sync d e old new)
       put_so (Ok _) old new syncs printed = record { number = number; put = synced_so syncs; unsynced = unsynced; syncs = syncs; printed = printed }
       put_so (Err r) old new syncs printed = tt
 
-      untold_so : (none : Type 0) (r : PutRefusal) → IsUntold disk unsynced e none r → IsUnput disk inum bytes d e none r
+      untold_so : (none : Type 0) (r : PutRefusal) → IsUntold disk sync unsynced e none r → IsUnput disk inum bytes sync d e none r
       untold_so none (Disk cause) why = (record { sound = fit.sound; plain = fit.room.plain; faults = subst (λ (n : ℕ). Rose n (disk.fault_count e)) (calls.faults ∙ faults) why.0 }, why.1)
       untold_so none Output why = record { number = number; put = synced_so why; unsynced = unsynced; syncs = why }
       untold_so none r why = absurd why
 
-      pub put_untold : (r : Result (Unit {0}) PutRefusal) (none : Type 0) → IfErr r (IsUntold disk unsynced e none) → IfErr r (IsUnput disk inum bytes d e none)
+      pub put_untold : (r : Result (Unit {0}) PutRefusal) (none : Type 0) → IfErr r (IsUntold disk sync unsynced e none) → IfErr r (IsUnput disk inum bytes sync d e none)
       put_untold (Ok _) none why = tt
       put_untold (Err r) none why = untold_so none r why
 

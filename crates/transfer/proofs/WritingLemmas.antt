@@ -1,5 +1,5 @@
 -- Writes of a whole image, one after the other, and what a stop leaves of them.
-use Rattle.std.proofs.Common.{◌≡◌, ◌≢◌, ◌∙◌, ℕ, suc, ◌+◌, ◌-◌, ◌<◌, ◌≤◌, List, [], length, set, refl, sym, ap, subst, inl, inr, arith}
+use Rattle.std.proofs.Common.{◌≡◌, ◌≢◌, ◌∙◌, ℕ, suc, ◌+◌, ◌-◌, ◌<◌, ◌≤◌, Bool, true, false, List, [], length, set, refl, sym, ap, subst, inl, inr, arith}
 use Rattle.std.specs.Prelude.{Result}
 use Rattle.std.proofs.lemmas.Bool.{cases_eq}
 use Rattle.std.proofs.lemmas.List.{ext_get_or, get_or-set_same, get_or-set_other, length-set}
@@ -9,7 +9,8 @@ use Rattle.blocks.specs.declared.disk.Disk.{Ghosts}
 use Rattle.blocks.specs.Lemmas.Moments.{goes_on, started, stays}
 use Rattle.history.specs.Lemmas.Leaving.{leaves_wider}
 use Rattle.wal.specs.Recovery.{LeavesIfCalm}
-use Rattle.transfer.specs.Writing.{HasWritten, IsNoneOr, KeepsSuperblock}
+use Rattle.transfer.specs.Ending.{SyncsIf}
+use Rattle.transfer.specs.Writing.{HasWritten, IsNoneOr, KeepsSuperblock, SettlesIf}
 
 -- one more write
 pub counted_more : (old b : ℕ) → 1 ≤ b → one_more (counted old (b - 1)) ≡ counted old (b + 1 - 1)
@@ -77,6 +78,16 @@ none_or_whole whole old mid new size some so_far (inl same) = inl (subst (KeepsS
 none_or_whole whole old mid new size some so_far (inr is) = inr (written_all whole old mid new size some so_far is)
 
 module _ {D N : Type 0} (disk : Ghosts D N) where
+  -- the last sync, where one is asked for, behind a first one
+  pub ended : (sync : Bool) (old mid new : D) → disk.sync_count mid ≡ counted (disk.sync_count old) 1 → SyncsIf sync disk mid new → SettlesIf sync disk old new
+  ended true old mid new one syncs = record { settled = syncs.settles.settled; syncs = syncs.settles.syncs ∙ ap one_more one }
+  ended false old mid new one same = ap disk.sync_count same ∙ one
+
+  -- leaves the image, and counts nothing else
+  pub ended_image : (sync : Bool) (mid new : D) → SyncsIf sync disk mid new → (disk.image new ≡ disk.image mid) × (disk.write_count new ≡ disk.write_count mid) × (disk.fault_count new ≡ disk.fault_count mid)
+  ended_image true mid new syncs = (syncs.image, syncs.writes, syncs.faults)
+  ended_image false mid new same = (ap disk.image same, ap disk.write_count same, ap disk.fault_count same)
+
   -- before the first write
   pub stops_before : (d : D) → LeavesIfCalm disk d d (KeepsSuperblock (disk.image d))
   stops_before d calm =

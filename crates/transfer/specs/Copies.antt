@@ -1,5 +1,5 @@
 -- A copy, and why there is none.
-use Rattle.std.specs.Prelude.{◌≡◌, ◌⊎◌, ℕ, ◌==◌, ◌&&◌, ⊤, false, length, replicate, None, Result, Ok, Err}
+use Rattle.std.specs.Prelude.{◌≡◌, ◌⊎◌, ℕ, ◌==◌, ◌&&◌, ⊤, Bool, false, length, replicate, None, Result, Ok, Err}
 use Rattle.blocks.specs.Disk.{Image, Rose, counted}
 use Rattle.blocks.specs.declared.disk.Disk.{Ghosts}
 use Rattle.model.specs.declared.types.image.Form.TheVariants.{One, Two}
@@ -12,9 +12,9 @@ use Rattle.offline.specs.Cause.{IsCause}
 use Rattle.layout.specs.declared.geometry.MkfsFault.{MkfsFault}
 use Rattle.layout.specs.declared.geometry.MkfsFault.TheVariants as mkfs
 use Rattle.calls.specs.Stepping.{Plain}
-use Rattle.wal.specs.Recovery.{LeavesIfCalm, Settles}
+use Rattle.wal.specs.Recovery.{LeavesIfCalm}
 use Rattle.transfer.specs.Holding.{DontFit, Holds}
-use Rattle.transfer.specs.Writing.{IsNoneOr, KeepsSuperblock}
+use Rattle.transfer.specs.Writing.{IsNoneOr, KeepsSuperblock, SettlesIf}
 use Rattle.transfer.specs.declared.fault.CopyFault.{CopyFault}
 use Rattle.transfer.specs.declared.fault.CopyFault.TheVariants.{Old, NotFirst, Mkfs, Full, NoMemory, Disk}
 
@@ -76,16 +76,17 @@ pub record IsCopyOf (size : ℕ) (old x : Image) : Type 0 where
   pub files : files_of x ≡ files_of (recovered old)
 
 -- Such a copy of the image on d was made on e, by one write for each of its blocks and two syncs,
--- and nothing is held. A stop before left block 1 as it was, or this very image.
-pub record IsCopied {D E M N : Type 0} (old : Ghosts D M) (new : Ghosts E N) (size : ℕ) (d : D)
-    (n e : E) (count : ℕ) : Type 0 where
+-- and nothing is held; without a sync at the end by one sync. A stop before left block 1 as it was, or
+-- this very image.
+pub record IsCopied {D E M N : Type 0} (old : Ghosts D M) (new : Ghosts E N) (size : ℕ) (sync : Bool)
+    (d : D) (n e : E) (count : ℕ) : Type 0 where
   pub old_sound : verdict (old.image d) ≡ None
   pub first : form_of (old.image d) ≡ One
   pub copy : IsCopyOf size (old.image d) (new.image e)
   pub told : count ≡ file_count (files_of (recovered (old.image d)))
   pub writes : new.write_count e ≡ counted (new.write_count n) size
   pub faults : new.fault_count e ≡ new.fault_count n
-  pub settles : Settles new 2 n e
+  pub settles : SettlesIf sync new n e
   pub stops : LeavesIfCalm new n e (IsNoneOr (new.image n) (new.image e))
 
 -- what a stop leaves of a copy of image old to a disk with image n: block 1 as it was, or the whole

@@ -3,6 +3,7 @@ pub mod Tellings
 pub mod Source
 pub mod Stages
 pub mod Holding
+pub mod Ending
 pub mod Writing
 pub mod Copies
 pub mod Laws

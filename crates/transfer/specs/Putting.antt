@@ -1,5 +1,5 @@
 -- What putting a file's bytes into an image comes to.
-use Rattle.std.specs.Prelude.{◌≡◌, ◌⊎◌, ℕ, List, length, Option, None}
+use Rattle.std.specs.Prelude.{◌≡◌, ◌⊎◌, ℕ, Bool, List, length, Option, None}
 use Rattle.std.specs.Io.KnownBytes.{Appends}
 use Rattle.blocks.specs.Calls.{OnlyReads}
 use Rattle.blocks.specs.Disk.{Rose}
@@ -8,10 +8,10 @@ use Rattle.model.specs.Files.{files_of}
 use Rattle.model.specs.Log.{recovered}
 use Rattle.model.specs.Verdict.{verdict}
 use Rattle.kernel.specs.declared.types.OpenFault.{OpenFault}
-use Rattle.wal.specs.Recovery.{Settles}
 use Rattle.calls.specs.Calls.{IsWhole}
 use Rattle.calls.specs.Opening.{IsNotOpenedSole}
 use Rattle.messages.specs.Output.{number_text}
+use Rattle.transfer.specs.Ending.{SyncsIf}
 use Rattle.transfer.specs.Judging.{IsTold}
 use Rattle.transfer.specs.Places.{IsPlainOld}
 use Rattle.transfer.specs.PutWriting.{Comes, KeepsPart}
@@ -19,13 +19,6 @@ use Rattle.transfer.specs.declared.refused.PutRefusal.{PutRefusal}
 use Rattle.transfer.specs.declared.refused.PutRefusal.TheVariants.{Check, NoFile, NotAFile, TooBig, Full, NoMemory, Unopened, NoInode, Disk, Output}
 use Rattle.transfer.specs.declared.writing.Outcome.{Outcome}
 use Rattle.transfer.specs.declared.writing.Outcome.TheVariants as outcome
-
--- a sync of the disk d, now e, was done, and nothing is held any more
-pub record Syncs {D N : Type 0} (disk : Ghosts D N) (d e : D) : Type 0 where
-  pub image : disk.image e ≡ disk.image d
-  pub writes : disk.write_count e ≡ disk.write_count d
-  pub faults : disk.fault_count e ≡ disk.fault_count d
-  pub settles : Settles disk 1 d e
 
 -- The disk d, now e, had no fault, and the old file, if one is named, was a plain one. Its image is sound, with nothing logged, of the same size and
 -- superblock, and calls came to this; none failed.
@@ -37,14 +30,14 @@ pub record ComesTo {D N : Type 0} (disk : Ghosts D N) (inum : Option ℕ) (bytes
   pub comes : Comes (recovered (disk.image d)) inum bytes (disk.image e) outcome
   pub faults : disk.fault_count e ≡ disk.fault_count d
 
--- the bytes were put, the last call to the disk was a sync that was done, and the number of their
--- file was printed
-pub record IsPut {D N : Type 0} (disk : Ghosts D N) (inum : Option ℕ) (bytes : List ℕ) (d e : D)
-    (old new : Option (List ℕ)) : Type 0 where
+-- the bytes were put, the last call to the disk was a sync that was done where one is asked for, and
+-- the number of their file was printed
+pub record IsPut {D N : Type 0} (disk : Ghosts D N) (inum : Option ℕ) (bytes : List ℕ) (sync : Bool)
+    (d e : D) (old new : Option (List ℕ)) : Type 0 where
   pub number : ℕ
   pub put : ComesTo disk inum bytes d e (outcome.Put number)
   pub unsynced : D
-  pub syncs : Syncs disk unsynced e
+  pub syncs : SyncsIf sync disk unsynced e
   pub printed : Appends old new (number_text number)
 
 -- no kernel was opened over the disk d, now e, which was only read before
@@ -72,39 +65,39 @@ pub record FailsSound {D N : Type 0} (disk : Ghosts D N) (inum : Option ℕ) (d 
     pub plain : IsPlainOld (files_of (recovered (disk.image d))) inum
     pub faults : Rose (disk.fault_count d) (disk.fault_count e)
 
--- the bytes were put, and synced, but the number of their file could not be printed
+-- the same, but the number of their file could not be printed
 pub record HasPutUntold {D N : Type 0} (disk : Ghosts D N) (inum : Option ℕ) (bytes : List ℕ)
-    (d e : D) : Type 0 where
+    (sync : Bool) (d e : D) : Type 0 where
   pub number : ℕ
   pub put : ComesTo disk inum bytes d e (outcome.Put number)
   pub unsynced : D
-  pub syncs : Syncs disk unsynced e
+  pub syncs : SyncsIf sync disk unsynced e
 
 -- why the number of a file that was put on the disk d, now e, was not printed
-abbrev pub IsUntold : {D N : Type 0} → Ghosts D N → D → D → Type 0 → PutRefusal → Type 0
-IsUntold disk d e none (Disk fault) = Rose (disk.fault_count d) (disk.fault_count e) × none
-IsUntold disk d e none Output = Syncs disk d e
-IsUntold disk d e none r = ⊥
+abbrev pub IsUntold : {D N : Type 0} → Ghosts D N → Bool → D → D → Type 0 → PutRefusal → Type 0
+IsUntold disk sync d e none (Disk fault) = Rose (disk.fault_count d) (disk.fault_count e) × none
+IsUntold disk sync d e none Output = SyncsIf sync disk d e
+IsUntold disk sync d e none r = ⊥
 
 -- Why the bytes were not put into the image of the disk d, now e, or their number was not printed.
 -- Of what is told before anything is written the disk was only read. `none` says that nothing was
 -- printed.
-abbrev pub IsUnput : {D N : Type 0} → Ghosts D N → Option ℕ → List ℕ → D → D → Type 0 → PutRefusal
-    → Type 0
-IsUnput disk inum bytes d e none (Check fault) =
+abbrev pub IsUnput : {D N : Type 0} → Ghosts D N → Option ℕ → List ℕ → Bool → D → D → Type 0
+    → PutRefusal → Type 0
+IsUnput disk inum bytes sync d e none (Check fault) =
     IsTold disk inum (length bytes) d e (Check fault) × none
-IsUnput disk inum bytes d e none NoFile = IsTold disk inum (length bytes) d e NoFile × none
-IsUnput disk inum bytes d e none NotAFile =
+IsUnput disk inum bytes sync d e none NoFile = IsTold disk inum (length bytes) d e NoFile × none
+IsUnput disk inum bytes sync d e none NotAFile =
     IsTold disk inum (length bytes) d e NotAFile × none
-IsUnput disk inum bytes d e none TooBig = IsTold disk inum (length bytes) d e TooBig × none
-IsUnput disk inum bytes d e none Full =
+IsUnput disk inum bytes sync d e none TooBig = IsTold disk inum (length bytes) d e TooBig × none
+IsUnput disk inum bytes sync d e none Full =
     (IsTold disk inum (length bytes) d e Full ⊎ ComesTo disk inum bytes d e outcome.Full) × none
-IsUnput disk inum bytes d e none NoMemory =
+IsUnput disk inum bytes sync d e none NoMemory =
     (IsTold disk inum (length bytes) d e NoMemory ⊎ RunsOut disk inum bytes d e) × none
-IsUnput disk inum bytes d e none (Unopened fault) =
+IsUnput disk inum bytes sync d e none (Unopened fault) =
     IsUnopenedThen disk inum d e fault × none
-IsUnput disk inum bytes d e none NoInode =
+IsUnput disk inum bytes sync d e none NoInode =
     ComesTo disk inum bytes d e outcome.NoInode × none
-IsUnput disk inum bytes d e none (Disk fault) =
+IsUnput disk inum bytes sync d e none (Disk fault) =
     FailsSound disk inum d e × none
-IsUnput disk inum bytes d e none Output = HasPutUntold disk inum bytes d e
+IsUnput disk inum bytes sync d e none Output = HasPutUntold disk inum bytes sync d e

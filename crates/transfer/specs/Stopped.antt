@@ -6,6 +6,7 @@ use Rattle.model.specs.Files.{Files, file_in, files_of}
 use Rattle.model.specs.Log.{is_lawful_log, recovered}
 use Rattle.model.specs.Soundness.{IsSound}
 use Rattle.calls.specs.Stepping.{Plain}
+use Rattle.wal.specs.Recovery.{LeavesIfCalm}
 use Rattle.transfer.specs.Places.{put_at}
 
 -- where a put that is stopped may leave bytes: at the number of the old file, or at a free one
@@ -28,6 +29,11 @@ pub record KeepsPut (x : Image) (inum : Option ℕ) (bytes : List ℕ) (z : Imag
   pub sound : IsSound (recovered z)
   pub files : (files_of (recovered z) ≡ files_of x)
       ⊎ LeavesFirst (files_of x) inum bytes (files_of (recovered z))
+
+-- whatever a stop leaves of a put over the disk d, now e, where nothing was held back on d
+abbrev pub StopsPut : {D N : Type 0} → Ghosts D N → Option ℕ → List ℕ → D → D → Type 0
+StopsPut disk inum bytes d e =
+    LeavesIfCalm disk d e (KeepsPut (recovered (disk.image d)) inum bytes)
 
 -- However a put that begins over k ends, with m: a stop at any moment of it leaves nothing else, and
 -- the disk is the same one. `x` is the image into which the bytes are put.

@@ -1,5 +1,5 @@
 -- How a whole image gets onto a disk, and what a stop leaves of that.
-use Rattle.std.specs.Prelude.{◌≡◌, ◌≢◌, ◌⊎◌, ℕ, ◌-◌, ◌<◌, length}
+use Rattle.std.specs.Prelude.{◌≡◌, ◌≢◌, ◌⊎◌, ℕ, ◌-◌, ◌<◌, Bool, true, false, length}
 use Rattle.blocks.specs.Disk.{Image, Rose, block_at, counted}
 use Rattle.blocks.specs.declared.disk.Disk.{Ghosts}
 use Rattle.wal.specs.Recovery.{Settles}
@@ -28,12 +28,18 @@ pub record WritesRest {E N : Type 0} (disk : Ghosts E N) (whole : Image) (old ne
   pub faults : disk.fault_count new ≡ disk.fault_count old
   pub syncs : disk.sync_count new ≡ disk.sync_count old
 
--- that image is on the disk, by one write for each block and two syncs, and nothing is held
-pub record WritesOut {E N : Type 0} (disk : Ghosts E N) (whole : Image) (old new : E) : Type 0 where
+-- two syncs were made, and nothing is held; or, where none is asked for at the end, one
+abbrev pub SettlesIf : {E N : Type 0} → Bool → Ghosts E N → E → E → Type 0
+SettlesIf true disk old new = Settles disk 2 old new
+SettlesIf false disk old new = disk.sync_count new ≡ counted (disk.sync_count old) 1
+
+-- that image is on the disk, by one write for each block
+pub record WritesOut {E N : Type 0} (disk : Ghosts E N) (whole : Image) (sync : Bool) (old new : E)
+    : Type 0 where
   pub image : disk.image new ≡ whole
   pub writes : disk.write_count new ≡ counted (disk.write_count old) (length whole)
   pub faults : disk.fault_count new ≡ disk.fault_count old
-  pub settles : Settles disk 2 old new
+  pub settles : SettlesIf sync disk old new
 
 -- why it is not all on the disk o, which is e then
 abbrev pub IsNotWrittenOut : {E N : Type 0} → Ghosts E N → E → E → CopyFault → Type 0

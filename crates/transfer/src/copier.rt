@@ -33,7 +33,7 @@ pub trait Progress {
 /// most `TRANSFER_LIMIT` bytes.
 ///
 /// Then it is written to the new disk: block 0, blocks 2 to the last in order, a sync, block 1, the
-/// superblock, and a sync. So where the disk holds no write back at the start, a stop at any moment
+/// superblock, and with `sync` one more. So where the disk holds no write back at the start, a stop at any moment
 /// leaves block 1 as it was, or the whole copy. Answers how many files there are, and hands the new
 /// disk back.
 ///
@@ -55,10 +55,11 @@ pub fn copy<D: Disk, E: Disk + Drop, P: Progress>(
     old: &mut D,
     mut new: E,
     size: u32,
+    sync: bool,
     progress: &mut P,
 ) -> Result<(u32, E), (CopyFault, E)>
     ensures copied { IfOk result (λ copied.
-        IsCopied D.Disk E.Disk size old.old new copied.1 copied.0) }
+        IsCopied D.Disk E.Disk size sync old.old new copied.1 copied.0) }
     ensures refused { IfErr result (λ refused.
         IsUncopied D.Disk E.Disk size old.old old.new new refused.1 refused.0) }
     ensures reads { OnlyReads D.Disk old.old old.new }
@@ -67,7 +68,7 @@ pub fn copy<D: Disk, E: Disk + Drop, P: Progress>(
     ensures whole { LeavesIfCalm E.Disk new (disk_of result)
         (IsNoneOrWhole size (D.image old.old) (E.image new)) }
 {
-    let copied = copy_into(alloc, old, &mut new, size, progress);
+    let copied = copy_into(alloc, old, &mut new, size, sync, progress);
     progress.ended();
     match copied {
         Ok(files) => Ok((files, new)),
@@ -81,10 +82,11 @@ fn copy_into<D: Disk, E: Disk, P: Progress>(
     old: &mut D,
     new: &mut E,
     size: u32,
+    sync: bool,
     progress: &mut P,
 ) -> Result<u32, CopyFault>
     ensures copied { IfOk result (λ count.
-        IsCopied D.Disk E.Disk size old.old new.old new.new count) }
+        IsCopied D.Disk E.Disk size sync old.old new.old new.new count) }
     ensures refused { IfErr result
         (IsUncopied D.Disk E.Disk size old.old old.new new.old new.new) }
     ensures reads { OnlyReads D.Disk old.old old.new }
@@ -96,7 +98,7 @@ fn copy_into<D: Disk, E: Disk, P: Progress>(
     let source = read_source(alloc, old)?;
     check_size(new, size, source.image.sup.ninodes)?;
     let memory = fill_new(alloc, old, &source, size, progress)?;
-    write_out(alloc, memory, new)?;
+    write_out(alloc, memory, new, sync)?;
     Ok(source.files)
 }
 

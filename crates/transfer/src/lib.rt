@@ -8,6 +8,7 @@
 #![tactic(auto)]
 
 mod copier;
+mod ending;
 mod fault;
 mod filling;
 mod judging;

@@ -4,17 +4,17 @@ ghost use Rattle.std.specs.Io.KnownBytes.{Appends};
 ghost use Rattle.blocks.specs.Disk.{AddsNone};
 ghost use Rattle.messages.specs.Output.{number_text};
 ghost use Rattle.model.specs.Layout.{form_of, greatest_size};
-ghost use Rattle.model.specs.Log.{recovered};
 ghost use Rattle.model.specs.Verdict.{verdict};
-ghost use Rattle.wal.specs.Recovery.{LeavesIfCalm};
 ghost use Rattle.calls.specs.Calls.{image_on};
 ghost use Rattle.calls.specs.Files.{files_on};
 ghost use Rattle.transfer.specs.Places.{HasOld};
-ghost use Rattle.transfer.specs.Putting.{IsPut, IsUnput, IsUntold, Syncs};
-ghost use Rattle.transfer.specs.Stopped.{KeepsPut, StaysPut};
+ghost use Rattle.transfer.specs.Ending.{SyncsIf};
+ghost use Rattle.transfer.specs.Putting.{IsPut, IsUnput, IsUntold};
+ghost use Rattle.transfer.specs.Stopped.{StaysPut, StopsPut};
 ghost use Rattle.transfer.specs.PutWriting.{CallsTo, IsUnwritten, MayCall};
 ghost use Rattle.transfer.specs.declared.writing.Outcome.TheVariants as outcome;
 
+use crate::ending::sync_if;
 use crate::judging::judge;
 use crate::refused::PutRefusal;
 use crate::writing::{Outcome, put_bytes};
@@ -27,8 +27,8 @@ use wal::DeviceFault;
 
 /// Puts bytes into the image of a disk, and prints the number of their file: they take the place of
 /// those of the plain file of this number, of type 2, or are those of a new one at the lowest free
-/// number. The image is checked and recovered first, and the disk synced at the end; each call is a
-/// whole operation (the xv6 book, the chapter "File system": "Logging layer"). So a stop at any moment
+/// number. The image is checked and recovered first, and with `sync` the disk is synced at the end; each
+/// call is a whole operation (the xv6 book, the chapter "File system": "Logging layer"). So a stop at any moment
 /// leaves, once recovered, the files as they were, or with the old file, or a new one, in which the
 /// first of the bytes stand.
 ///
@@ -46,20 +46,21 @@ use wal::DeviceFault;
 /// files are as before. `Full` where no block is free for all bytes after all: a new file was removed
 /// again, an old one keeps the first of the bytes. `NoMemory`: the files are as before, or the first
 /// of the bytes are put. `Disk` where the disk failed, in a call or in the sync. With all these nothing
-/// was printed. `Output`: the bytes are put, and the disk is synced.
+/// was printed. `Output`: the bytes are put, and the disk is synced as above.
 pub fn put_disk<D: Disk + Drop, O: Write>(
     alloc: Global,
     disk: D,
     bytes: &[u8],
     inum: Option<u32>,
+    sync: bool,
     out: &mut O,
 ) -> (Result<(), PutRefusal>, D)
-    ensures put { OnOk result.0 (IsPut D.Disk inum bytes.now disk result.1
+    ensures put { OnOk result.0 (IsPut D.Disk inum bytes.now sync disk result.1
         (O.contents out.old) (O.contents out.new)) }
-    ensures refused { IfErr result.0 (IsUnput D.Disk inum bytes.now disk result.1
+    ensures refused { IfErr result.0 (IsUnput D.Disk inum bytes.now sync disk result.1
         (out.new ≡ out.old)) }
-    ensures leaves { verdict (D.image disk) ≡ None → LeavesIfCalm D.Disk disk result.1
-        (KeepsPut (recovered (D.image disk)) inum bytes.now) }
+    ensures leaves { verdict (D.image disk) ≡ None
+        → StopsPut D.Disk inum bytes.now disk result.1 }
     ensures name { D.name result.1 ≡ D.name disk }
 {
     let mut disk = disk;
@@ -73,7 +74,7 @@ pub fn put_disk<D: Disk + Drop, O: Write>(
     match put(alloc, &mut kernel, bytes, inum) {
         Ok(number) => {
             let mut disk = kernel.into_disk();
-            let told = tell(&mut disk, number, out);
+            let told = tell(&mut disk, number, sync, out);
             (told, disk)
         }
         Err(refusal) => (Err(refusal), kernel.into_disk()),
@@ -106,17 +107,22 @@ fn put<D: Disk>(
     }
 }
 
-// Syncs a disk on which bytes were put, and prints the number of their file.
-fn tell<D: Disk, O: Write>(disk: &mut D, number: u32, out: &mut O) -> Result<(), PutRefusal>
-    ensures syncs { OnOk result (Syncs D.Disk disk.old disk.new) }
+// Syncs a disk on which bytes were put, where that is asked for, and prints the number of their file.
+fn tell<D: Disk, O: Write>(
+    disk: &mut D,
+    number: u32,
+    sync: bool,
+    out: &mut O,
+) -> Result<(), PutRefusal>
+    ensures syncs { OnOk result (SyncsIf sync D.Disk disk.old disk.new) }
     ensures printed { OnOk result
         (Appends (O.contents out.old) (O.contents out.new) (number_text number)) }
-    ensures refused { IfErr result (IsUntold D.Disk disk.old disk.new (out.new ≡ out.old)) }
+    ensures refused { IfErr result (IsUntold D.Disk sync disk.old disk.new (out.new ≡ out.old)) }
     ensures name { D.name disk.new ≡ D.name disk.old }
     ensures time { AddsNone (D.moment disk.old) (D.moment disk.new)
         (D.leaves disk.old) (D.leaves disk.new) }
 {
-    if let Err(fault) = disk.sync() {
+    if let Err(fault) = sync_if(sync, disk) {
         return Err(PutRefusal::Disk(DeviceFault::Sync(fault)));
     }
     print_number(out, number).map_err(|_| PutRefusal::Output)

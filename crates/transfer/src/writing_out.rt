@@ -5,13 +5,14 @@ ghost use Rattle.blocks.specs.Disk.{Rose, block_at};
 ghost use Rattle.wal.specs.Recovery.{LeavesIfCalm};
 ghost use Rattle.transfer.specs.Writing.{IsNoneOr, IsNotWrittenOut, KeepsSuperblock, WritesOut, WritesRest};
 
+use crate::ending::sync_if;
 use crate::fault::CopyFault;
 use blocks::{Block, Disk, DiskFault, MemDisk};
 use std::alloc::Global;
 
 /// Writes the image in memory to a disk of its size, without a log: block 0, then blocks 2 to the
-/// last in order, a sync, block 1, the superblock, and a sync. So where it stops before its end,
-/// block 1 is as it was, or all of the image is there.
+/// last in order, a sync, block 1, the superblock, and with `sync` one more. So where it stops before
+/// its end, block 1 is as it was, or all of the image is there.
 ///
 /// # Errors
 ///
@@ -21,30 +22,33 @@ pub(crate) fn write_out<E: Disk>(
     alloc: Global,
     mut memory: MemDisk,
     disk: &mut E,
+    sync: bool,
 ) -> Result<(), CopyFault>
     requires size { length (E.image disk.old) ≡ length (⟦<MemDisk as Disk>⟧.image memory) }
     requires some { 2 ≤ length (⟦<MemDisk as Disk>⟧.image memory) }
     ensures written { OnOk result
-        (WritesOut E.Disk (⟦<MemDisk as Disk>⟧.image memory) disk.old disk.new) }
+        (WritesOut E.Disk (⟦<MemDisk as Disk>⟧.image memory) sync disk.old disk.new) }
     ensures refused { IfErr result (IsNotWrittenOut E.Disk disk.old disk.new) }
     ensures name { E.name disk.new ≡ E.name disk.old }
     ensures stops { LeavesIfCalm E.Disk disk.old disk.new
         (IsNoneOr (E.image disk.old) (⟦<MemDisk as Disk>⟧.image memory)) }
 {
     let mut block = Block::zeroed(alloc)?;
-    write_all(&mut memory, disk, &mut block)
+    write_all(&mut memory, disk, sync, &mut block)
 }
 
-// Writes all blocks, the superblock last, with a sync before it and one after it.
+// Writes all blocks, the superblock last, with a sync before it and, where that is asked for, one after
+// it.
 fn write_all<E: Disk>(
     memory: &mut MemDisk,
     disk: &mut E,
+    sync: bool,
     block: &mut Block,
 ) -> Result<(), CopyFault>
     requires size { length (E.image disk.old) ≡ length (⟦<MemDisk as Disk>⟧.image memory.old) }
     requires some { 2 ≤ length (⟦<MemDisk as Disk>⟧.image memory.old) }
     ensures written { OnOk result
-        (WritesOut E.Disk (⟦<MemDisk as Disk>⟧.image memory.old) disk.old disk.new) }
+        (WritesOut E.Disk (⟦<MemDisk as Disk>⟧.image memory.old) sync disk.old disk.new) }
     ensures refused { IfErr result (IsNotWrittenOut E.Disk disk.old disk.new) }
     ensures name { E.name disk.new ≡ E.name disk.old }
     ensures stops { LeavesIfCalm E.Disk disk.old disk.new
@@ -53,7 +57,7 @@ fn write_all<E: Disk>(
     write_rest(memory, disk, block)?;
     disk.sync()?;
     write_block(memory, disk, 1, block)?;
-    Ok(disk.sync()?)
+    Ok(sync_if(sync, disk)?)
 }
 
 // Writes all blocks but the superblock, in order.

@@ -14,15 +14,15 @@ use Rattle.xvfs.specs.Files.{FileGhosts}
 use Rattle.xvfs.specs.Requests.{OnRefused}
 
 pub locked_out : {F N : Type 0} (file : FileGhosts F N) (request : Request) (old new : Option (List ℕ)) (none : Type 0) → none → OnRefused file request old new none
-locked_out file (Mkfs image size ninodes large) old new none silent = (on.File Locked, silent)
+locked_out file (Mkfs image size ninodes large no_sync) old new none silent = (on.File Locked, silent)
 locked_out file (Check image all) old new none silent = (on.File Locked, silent)
 locked_out file (Recover image sync) old new none silent = (on.File Locked, silent)
 locked_out file (Cat image inum) old new none silent = (on.File Locked, silent)
 locked_out file (Ls image) old new none silent = (on.File Locked, silent)
 locked_out file (Df image) old new none silent = (on.File Locked, silent)
 locked_out file (Show image inum) old new none silent = (on.File Locked, silent)
-locked_out file (Put image path inum) old new none silent = (put.Of (on.File Locked), record { bytes = []; refused = silent })
-locked_out file (Copy from to size) old new none silent = (copy.File Locked, silent)
+locked_out file (Put image path inum sync no_sync) old new none silent = (put.Of (on.File Locked), record { bytes = []; refused = silent })
+locked_out file (Copy from to size no_sync) old new none silent = (copy.File Locked, silent)
 locked_out file (Replay image text schedule stop sync) old new none silent = (replay.File Locked, silent)
 locked_out file (Run image text workers sync) old new none silent = (run.File Locked, silent)
 locked_out file (Stops text schedule held) old new none silent = (stops.Script script.File, silent)

@@ -1,5 +1,5 @@
 -- What a request is answered.
-use Rattle.std.specs.Prelude.{◌≡◌, ◌⊎◌, ⊤, ℕ, Bool, false, if◌then◌else◌, List, [], ◌∷◌, ◌++◌, Option, unwrap_or}
+use Rattle.std.specs.Prelude.{◌≡◌, ◌⊎◌, ⊤, ℕ, Bool, false, not, if◌then◌else◌, List, [], ◌∷◌, ◌++◌, Option, unwrap_or}
 use Rattle.model.specs.declared.types.image.Form.{Form}
 use Rattle.model.specs.declared.types.image.Form.TheVariants.{One, Two}
 use Rattle.messages.specs.declared.told.Unwritten.{Unwritten}
@@ -32,8 +32,8 @@ form_asked large = if large then Two else One
 -- or opened from one.
 abbrev pub Answers : {F N : Type 0} → FileGhosts F N → Request → Option (List ℕ)
     → Option (List ℕ) → Type 0
-Answers file (Mkfs image size ninodes large) old new =
-    IsMade file.disk (form_asked large) size ninodes old new
+Answers file (Mkfs image size ninodes large no_sync) old new =
+    IsMade file.disk (form_asked large) size ninodes (not no_sync) old new
 Answers file (Check image all) old new =
     OpensDisk file.remaining file_disk false (λ d e. HasReported file_disk d e old new)
 Answers file (Recover image sync) old new =
@@ -46,8 +46,10 @@ Answers file (Df image) old new =
     OpensDisk file.remaining file_disk false (λ d e. HasCounted file_disk d e old new)
 Answers file (Show image inum) old new =
     OpensDisk file.remaining file_disk false (λ d e. HasBlocksShown file_disk inum d e old new)
-Answers file (Put image path inum) old new = HasPut file.remaining inum old new
-Answers file (Copy from to size) old new = HasCopied file.remaining file_disk size old new
+Answers file (Put image path inum sync no_sync) old new =
+    HasPut file.remaining inum sync (not no_sync) old new
+Answers file (Copy from to size no_sync) old new =
+    HasCopied file.remaining file_disk size (not no_sync) old new
 Answers file (Replay image script schedule stop sync) old new =
     OpensDisk file.remaining file_disk sync (IsReplayed (unwrap_or stop 0) old new)
 Answers file (Run image script workers sync) old new =
@@ -62,7 +64,7 @@ Refuses {R} why = (r : R) × why r
 -- was
 abbrev pub OnRefused : {F N : Type 0} → FileGhosts F N → Request → Option (List ℕ)
     → Option (List ℕ) → Type 0 → Type 0
-OnRefused file (Mkfs image size ninodes large) old new none =
+OnRefused file (Mkfs image size ninodes large no_sync) old new none =
     Refuses (IsNotMade size ninodes none)
 OnRefused file (Check image all) old new none = Refuses
     (IsRefusedOn file.remaining false none (λ d e. IsUncheckedBy file_disk all d e old new none))
@@ -76,10 +78,10 @@ OnRefused file (Df image) old new none =
     Refuses (IsRefusedOn file.remaining false none (λ d e. IsUncounted file_disk d e none))
 OnRefused file (Show image inum) old new none =
     Refuses (IsRefusedOn file.remaining false none (λ d e. IsHidden file_disk inum d e none))
-OnRefused file (Put image path inum) old new none =
-    Refuses (OnPutRefusal file.remaining inum none)
-OnRefused file (Copy from to size) old new none =
-    Refuses (OnCopyRefusal file.remaining file_disk size none)
+OnRefused file (Put image path inum sync no_sync) old new none =
+    Refuses (OnPutRefusal file.remaining inum sync (not no_sync) none)
+OnRefused file (Copy from to size no_sync) old new none =
+    Refuses (OnCopyRefusal file.remaining file_disk size (not no_sync) none)
 OnRefused file (Replay image script schedule stop sync) old new none =
     Refuses (IsUnreplayed file.remaining sync (unwrap_or stop 0) old new none)
 OnRefused file (Run image script workers sync) old new none =

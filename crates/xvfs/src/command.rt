@@ -16,13 +16,13 @@ ghost use Rattle.xvfs.specs.Requests.{
 ghost use Rattle.cli.specs.declared.explanation.Explanation.{Explanation as SomeExplanation};
 ghost use Rattle.messages.specs.declared.told.Unwritten.{Unwritten as IsUnwritten};
 
-use crate::locks::{Locks, lock_image};
+use crate::locks::{Keeper, Locks, lock_image};
 use crate::progress::{Meter, Screen};
 use crate::stopping::stops_files;
 use blocks::{Disk, FaultyDisk, FileDisk};
 use cli::{Asked, Explanation, Request, parse};
 use cmd::{Access, OverFile, end, perform};
-use commands::{Copy, Mkfs, Put, replay_files, run_files};
+use commands::{Copy, Making, Mkfs, Put, replay_files, run_files};
 use inspect::{Df, Ls, Show};
 use messages::print_last;
 use model::types::Form;
@@ -109,18 +109,17 @@ where
     ensures silent { result ≡ 0 → err.new ≡ err.old }
 {
     match lock_image(rt, &asked.request, asked.wait) {
-        Ok(_lock) => dispatch(rt, asked.request, out, err),
+        Ok(_lock) => dispatch(rt, asked.request, asked.wait, out, err),
         Err(fault) => end(Err(fault), err),
     }
 }
 
 // Does what is asked for, and prints the answer, or why it was refused. The exit status.
-fn dispatch<R: Files + AllocGlobal + Threads + Wait + Clock + Screen + Sync, O: Write, E: Write>(
-    rt: &R,
-    request: Request<'_>,
-    out: &mut O,
-    err: &mut E,
-) -> u8
+fn dispatch<
+    R: Files + AllocGlobal + Threads + Wait + Clock + Screen + Locks + Sync,
+    O: Write,
+    E: Write,
+>(rt: &R, request: Request<'_>, wait: bool, out: &mut O, err: &mut E) -> u8
 where
     R::File: Send,
     requires { HasFewWorkers request }
@@ -139,13 +138,18 @@ where
             size,
             ninodes,
             large,
+            no_sync,
         } => perform(
             rt,
             Mkfs {
                 image,
-                form: form_asked(large),
-                size,
-                ninodes,
+                making: Making {
+                    form: form_asked(large),
+                    size,
+                    ninodes,
+                    sync: !no_sync,
+                },
+                holder: Keeper::new(rt, wait),
             },
             out,
             err,
@@ -175,8 +179,30 @@ where
             out,
             err,
         ),
-        Request::Put { image, file, inum } => perform(rt, Put { image, file, inum }, out, err),
-        Request::Copy { old, new, size } => {
+        Request::Put {
+            image,
+            file,
+            inum,
+            sync,
+            no_sync,
+        } => perform(
+            rt,
+            Put {
+                image,
+                file,
+                inum,
+                sync,
+                last: !no_sync,
+            },
+            out,
+            err,
+        ),
+        Request::Copy {
+            old,
+            new,
+            size,
+            no_sync,
+        } => {
             let progress = Meter::new(rt);
             perform(
                 rt,
@@ -184,7 +210,9 @@ where
                     old,
                     new,
                     size,
+                    sync: !no_sync,
                     progress,
+                    holder: Keeper::new(rt, wait),
                 },
                 out,
                 err,

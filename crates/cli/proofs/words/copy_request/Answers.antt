@@ -1,6 +1,6 @@
 use Rattle.std.proofs.Common.{codes, refl}
 use Rattle.clap.specs.Words.{found_of}
-use Rattle.cli.proofs.CommandLines.{choice_read, value_read}
+use Rattle.cli.proofs.CommandLines.{choice_read, flag_read, value_read}
 use Rattle.cli.proofs.words.copy_request.Goals as goal
 
 pub returns : goal.returns
@@ -10,4 +10,5 @@ returns c =
       value_read found (codes "OLD") _ c.in_ok-get_str.ensures,
       value_read found (codes "NEW") _ c.in_ok-get_str-2.ensures,
       choice_read found (codes "size") c.get_one.result c.get_one.ensures.none,
+      flag_read found (codes "no-sync") c.get_flag.result c.get_flag.ensures.none c.get_flag.ensures.value c.get_flag.ensures.other,
     )

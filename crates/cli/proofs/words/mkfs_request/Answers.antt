@@ -9,4 +9,5 @@ returns c =
       refl,
       value_read found (codes "IMAGE") _ c.in_ok-get_str.ensures,
       flag_read found (codes "large") c.get_flag.result c.get_flag.ensures.none c.get_flag.ensures.value c.get_flag.ensures.other,
+      flag_read found (codes "no-sync") c.get_flag-2.result c.get_flag-2.ensures.none c.get_flag-2.ensures.value c.get_flag-2.ensures.other,
     )

@@ -1,6 +1,6 @@
 use Rattle.std.proofs.Common.{codes, refl}
 use Rattle.clap.specs.Words.{found_of}
-use Rattle.cli.proofs.CommandLines.{choice_read, value_read}
+use Rattle.cli.proofs.CommandLines.{choice_read, flag_read, value_read}
 use Rattle.cli.proofs.words.put_request.Goals as goal
 
 pub returns : goal.returns
@@ -10,4 +10,6 @@ returns c =
       value_read found (codes "IMAGE") _ c.in_ok-image.ensures,
       value_read found (codes "FILE") _ c.in_ok-get_str.ensures,
       choice_read found (codes "INUM") c.get_one.result c.get_one.ensures.none,
+      flag_read found (codes "sync") c.get_flag.result c.get_flag.ensures.none c.get_flag.ensures.value c.get_flag.ensures.other,
+      flag_read found (codes "no-sync") c.get_flag-2.result c.get_flag-2.ensures.none c.get_flag-2.ensures.value c.get_flag-2.ensures.other,
     )

@@ -7,7 +7,7 @@ pub returns-clause-copied : goal.returns-clause-copied
 returns-clause-copied g c =
     let source = c.in_ok-source.ensures.source in
     let out = c.in_ok-write_out.ensures in
-    all_copied g.D.Disk g.E.Disk c.args.size c.args.old.now c.fill_new.new.old c.args.new.now source.sound source.first c.read_source.new.old (ghosts.image c.in_ok-memory.memory) c.write_out.new.disk c.in_ok-source.source.files
+    all_copied g.D.Disk g.E.Disk c.args.size c.args.old.now c.fill_new.new.old c.args.new.now source.sound source.first c.args.sync c.read_source.new.old (ghosts.image c.in_ok-memory.memory) c.write_out.new.disk c.in_ok-source.source.files
     c.read_source.ensures.reads.image c.in_ok-memory.ensures.filled source.files out.written out.stops
 
 pub returns-clause-reads : goal.returns-clause-reads

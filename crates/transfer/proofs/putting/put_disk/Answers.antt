@@ -12,24 +12,24 @@ use Rattle.transfer.proofs.putting.put_disk.Goals as goal
 
 pub returns-in-Err-clause-refused : goal.returns-in-Err-clause-refused
 returns-in-Err-clause-refused g c =
-    told_so g.D.Disk c.args.inum c.args.bytes.now c.args.disk c.judge.new.disk _ refl c.in-Err.refusal c.in-Err.ensures.refused
+    told_so g.D.Disk c.args.inum c.args.bytes.now c.args.sync c.args.disk c.judge.new.disk _ refl c.in-Err.refusal c.in-Err.ensures.refused
 
 pub returns-in-Err-open_sole-clause-refused : goal.returns-in-Err-open_sole-clause-refused
 returns-in-Err-open_sole-clause-refused g c =
-    (unopened_then g.D.Disk c.args.inum c.args.bytes.now c.args.disk c.judge.new.disk c.in_default.ensures.fit c.in-Err-open_sole.disk c.in-Err-open_sole.fault c.in-Err-open_sole.ensures.refused, refl)
+    (unopened_then g.D.Disk c.args.inum c.args.bytes.now c.args.sync c.args.disk c.judge.new.disk c.in_default.ensures.fit c.in-Err-open_sole.disk c.in-Err-open_sole.fault c.in-Err-open_sole.ensures.refused, refl)
 
 pub returns-in-Ok-put-clause-put : goal.returns-in-Ok-put-clause-put
 returns-in-Ok-put-clause-put g c =
     let d = g.D.Disk in
     let contents = g.O.Write.contents in
-    put_so d c.args.inum c.args.bytes.now c.args.disk c.judge.new.disk c.in_default.ensures.fit c.in-Ok.kernel c.in-Ok.ensures.opened c.into_disk-disk.result c.tell-told.new.disk c.in-Ok-put.number
+    put_so d c.args.inum c.args.bytes.now c.args.sync c.args.disk c.judge.new.disk c.in_default.ensures.fit c.in-Ok.kernel c.in-Ok.ensures.opened c.into_disk-disk.result c.tell-told.new.disk c.in-Ok-put.number
     (subst (λ e. CallsTo d c.args.inum c.args.bytes.now c.in-Ok.kernel.store.volume.device e (outcome.Put c.in-Ok-put.number)) (sym c.into_disk-disk.ensures) c.in-Ok-put.ensures.put)
     c.tell-told.result (contents c.args.out.now) (contents c.tell-told.new.out) c.tell-told.ensures.syncs c.tell-told.ensures.printed
 
 pub returns-in-Ok-put-clause-refused : goal.returns-in-Ok-put-clause-refused
 returns-in-Ok-put-clause-refused g c =
     let d = g.D.Disk in
-    put_untold d c.args.inum c.args.bytes.now c.args.disk c.judge.new.disk c.in_default.ensures.fit c.in-Ok.kernel c.in-Ok.ensures.opened c.into_disk-disk.result c.tell-told.new.disk c.in-Ok-put.number
+    put_untold d c.args.inum c.args.bytes.now c.args.sync c.args.disk c.judge.new.disk c.in_default.ensures.fit c.in-Ok.kernel c.in-Ok.ensures.opened c.into_disk-disk.result c.tell-told.new.disk c.in-Ok-put.number
     (subst (λ e. CallsTo d c.args.inum c.args.bytes.now c.in-Ok.kernel.store.volume.device e (outcome.Put c.in-Ok-put.number)) (sym c.into_disk-disk.ensures) c.in-Ok-put.ensures.put)
     c.tell-told.result _ c.tell-told.ensures.refused
 
@@ -37,8 +37,8 @@ pub returns-in-Err-put-clause-refused : goal.returns-in-Err-put-clause-refused
 returns-in-Err-put-clause-refused g c =
     let d = g.D.Disk in
     let none = c.args.out.now ≡ c.args.out.now in
-    subst (λ e. IsUnput d c.args.inum c.args.bytes.now c.args.disk e none c.in-Err-put.refusal) (sym c.into_disk.ensures)
-    (unwritten_so d c.args.inum c.args.bytes.now c.args.disk c.judge.new.disk c.in_default.ensures.fit c.in-Ok.kernel c.in-Ok.ensures.opened
+    subst (λ e. IsUnput d c.args.inum c.args.bytes.now c.args.sync c.args.disk e none c.in-Err-put.refusal) (sym c.into_disk.ensures)
+    (unwritten_so d c.args.inum c.args.bytes.now c.args.sync c.args.disk c.judge.new.disk c.in_default.ensures.fit c.in-Ok.kernel c.in-Ok.ensures.opened
     c.put.new.kernel.store.volume.device none refl c.in-Err-put.refusal c.in-Err-put.ensures.refused)
 
 pub returns-in-Err-clause-leaves : goal.returns-in-Err-clause-leaves

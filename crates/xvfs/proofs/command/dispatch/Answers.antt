@@ -1,5 +1,5 @@
 use Rattle.std.proofs.Common.{subst, sym}
-use Rattle.std.specs.Prelude.{◌≡◌}
+use Rattle.std.specs.Prelude.{◌≡◌, not}
 use Rattle.commands.specs.Making.{IsMade}
 use Rattle.xvfs.specs.Requests.{Answers, OnRefused}
 use Rattle.xvfs.proofs.Disks.{seen_by}
@@ -9,7 +9,7 @@ use Rattle.xvfs.proofs.command.dispatch.Goals as goal
 pub returns-in-Mkfs-clause-done : goal.returns-in-Mkfs-clause-done
 returns-in-Mkfs-clause-done g c =
     let file = seen_by g.R.File.Read.remaining in
-    λ done. subst (λ request. Answers file request (g.O.Write.contents c.args.out.now) (g.O.Write.contents c.perform.new.out)) (sym c.in-Mkfs.is) (subst (λ form. IsMade file.disk form c.in-Mkfs.size c.in-Mkfs.ninodes (g.O.Write.contents c.args.out.now) (g.O.Write.contents c.perform.new.out)) c.form_asked.ensures (c.perform.ensures.done done))
+    λ done. subst (λ request. Answers file request (g.O.Write.contents c.args.out.now) (g.O.Write.contents c.perform.new.out)) (sym c.in-Mkfs.is) (subst (λ form. IsMade file.disk form c.in-Mkfs.size c.in-Mkfs.ninodes (not c.in-Mkfs.no_sync) (g.O.Write.contents c.args.out.now) (g.O.Write.contents c.perform.new.out)) c.form_asked.ensures (c.perform.ensures.done done))
 
 pub returns-in-Mkfs-clause-refused : goal.returns-in-Mkfs-clause-refused
 returns-in-Mkfs-clause-refused g c =
