@@ -40,8 +40,7 @@ pub(crate) fn fill<D: Disk, E: Disk, P: Progress>(
         kernel.old.opening kernel.new.store.volume.device) }
     ensures reads { OnlyReads D.Disk old.old old.new }
     ensures faults { OnOk result (D.fault_count old.new ≡ D.fault_count old.old) }
-    ensures opening { kernel.new.opening ≡ kernel.old.opening }
-    ensures name { E.name kernel.new.store.volume.device ≡ E.name kernel.old.store.volume.device }
+    ensures stays { StaysOver E.Disk kernel.old kernel.new }
 {
     create_numbers(kernel, &source.kinds)?;
     remove_free(kernel, &source.kinds)?;
@@ -60,8 +59,7 @@ fn create_numbers<E: Disk>(kernel: &mut Sole<E>, kinds: &[u16]) -> Result<(), Ca
         kernel.new) }
     ensures refused { IfErr result (IsUnanswered E.Disk
         kernel.old.opening kernel.new.store.volume.device) }
-    ensures opening { kernel.new.opening ≡ kernel.old.opening }
-    ensures name { E.name kernel.new.store.volume.device ≡ E.name kernel.old.store.volume.device }
+    ensures stays { StaysOver E.Disk kernel.old kernel.new }
 {
     for kind in kinds {
         let Some(_number) = create(kernel, kind_or_plain(*kind))? else {
@@ -91,8 +89,7 @@ fn remove_free<E: Disk>(kernel: &mut Sole<E>, kinds: &[u16]) -> Result<(), CallF
         kernel.new) }
     ensures refused { IfErr result (IsUnanswered E.Disk
         kernel.old.opening kernel.new.store.volume.device) }
-    ensures opening { kernel.new.opening ≡ kernel.old.opening }
-    ensures name { E.name kernel.new.store.volume.device ≡ E.name kernel.old.store.volume.device }
+    ensures stays { StaysOver E.Disk kernel.old kernel.new }
 {
     for (k, kind) in kinds.iter().enumerate() {
         if *kind == 0 {
@@ -120,8 +117,7 @@ fn write_files<D: Disk, E: Disk, P: Progress>(
         kernel.old.opening kernel.new.store.volume.device) }
     ensures reads { OnlyReads D.Disk old.old old.new }
     ensures faults { OnOk result (D.fault_count old.new ≡ D.fault_count old.old) }
-    ensures opening { kernel.new.opening ≡ kernel.old.opening }
-    ensures name { E.name kernel.new.store.volume.device ≡ E.name kernel.old.store.volume.device }
+    ensures stays { StaysOver E.Disk kernel.old kernel.new }
 {
     let mut block = Block::zeroed(alloc)?;
     let mut copied = 0;
@@ -137,6 +133,7 @@ fn write_files<D: Disk, E: Disk, P: Progress>(
 
 // Writes the bytes of the old file of a number to the new one, which is empty, piece by piece. The
 // block is room for the old one's: what it holds afterwards is not said.
+#[tactic(auto, using(blocks::specs::Lemmas::Reads::reads_then))]
 fn write_file<D: Disk, E: Disk>(
     alloc: Global,
     old: &mut D,
