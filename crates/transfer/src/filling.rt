@@ -44,7 +44,16 @@ pub(crate) fn fill<D: Disk, E: Disk, P: Progress>(
 {
     create_numbers(kernel, &source.kinds)?;
     remove_free(kernel, &source.kinds)?;
-    write_files(alloc, old, source, kernel, progress)
+    let mut block = Block::zeroed(alloc)?;
+    let mut copied = 0;
+    for (k, kind) in source.kinds.iter().enumerate() {
+        if *kind != 0 {
+            write_file(alloc, old, source, k as u32 + 1, kernel, &mut block)?;
+            copied += 1;
+            progress.copied(copied, source.files);
+        }
+    }
+    Ok(())
 }
 
 // Makes the numbers from 1 on, as many as there are types.
@@ -94,38 +103,6 @@ fn remove_free<E: Disk>(kernel: &mut Sole<E>, kinds: &[u16]) -> Result<(), CallF
     for (k, kind) in kinds.iter().enumerate() {
         if *kind == 0 {
             remove(kernel, k as u32 + 1)?;
-        }
-    }
-    Ok(())
-}
-
-// Writes the bytes of the files, which are all there without them.
-fn write_files<D: Disk, E: Disk, P: Progress>(
-    alloc: Global,
-    old: &mut D,
-    source: &Source,
-    kernel: &mut Sole<E>,
-    progress: &mut P,
-) -> Result<(), CopyFault>
-    requires source { IsSourceOf (D.image old.old) source.now }
-    requires empty { Holds E.Disk (2 * length source.now.kinds.items)
-        (map without_bytes (files_of (recovered (D.image old.old)))) kernel.old }
-    ensures written { OnOk result (Holds E.Disk (92 * length source.now.kinds.items)
-        (files_of (recovered (D.image old.old))) kernel.new) }
-    ensures refused { IfErr result (IsUnwritten D.Disk E.Disk
-        (BreaksOff (files_of (recovered (D.image old.old)))) old.old old.new
-        kernel.old.opening kernel.new.store.volume.device) }
-    ensures reads { OnlyReads D.Disk old.old old.new }
-    ensures faults { OnOk result (D.fault_count old.new ≡ D.fault_count old.old) }
-    ensures stays { StaysOver E.Disk kernel.old kernel.new }
-{
-    let mut block = Block::zeroed(alloc)?;
-    let mut copied = 0;
-    for (k, kind) in source.kinds.iter().enumerate() {
-        if *kind != 0 {
-            write_file(alloc, old, source, k as u32 + 1, kernel, &mut block)?;
-            copied += 1;
-            progress.copied(copied, source.files);
         }
     }
     Ok(())
