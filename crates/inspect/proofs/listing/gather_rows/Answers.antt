@@ -1,6 +1,6 @@
 use Rattle.std.proofs.Common.{◌∙◌, ◌+◌, ◌++◌, ap, subst, sym, arith}
 use Rattle.blocks.specs.Disk.{Image}
-use Rattle.blocks.specs.Lemmas.Reads.{reads_none, reads_then}
+use Rattle.blocks.specs.Lemmas.Reads.{reads_then}
 use Rattle.model.specs.Layout.{inode_count_of}
 use Rattle.model.specs.Log.{recovered}
 use Rattle.inspect.specs.Gathering.{IsCheckedOf}
@@ -10,19 +10,9 @@ use Rattle.inspect.proofs.OwnedLemmas.{all_done, next_done, range_end, range_ste
 use Rattle.inspect.proofs.PlaceLemmas.{count_recovered}
 use Rattle.inspect.proofs.listing.gather_rows.Goals as goal
 
-pub returns-in_err-block-clause-reads : goal.returns-in_err-block-clause-reads
-returns-in_err-block-clause-reads g c = reads_none g.D.Disk c.args.disk.now
-
-pub returns-in_err-entries-clause-reads : goal.returns-in_err-entries-clause-reads
-returns-in_err-entries-clause-reads g c = reads_none g.D.Disk c.args.disk.now
-
 pub add_row-requires-clause-checked : goal.add_row-requires-clause-checked
 add_row-requires-clause-checked g c =
     subst (λ (z : Image). IsCheckedOf z c.in_ok-image.image) (sym c.loop-i.invariant.reads.image) c.in_ok-image.ensures.opened
-
-pub returns-in_err-add_row-clause-reads : goal.returns-in_err-add_row-clause-reads
-returns-in_err-add_row-clause-reads g c =
-    reads_then g.D.Disk c.args.disk.now c.loop-i.disk c.add_row.new.disk c.loop-i.invariant.reads c.add_row.ensures.reads
 
 pub returns-in_err-add_row-clause-faults : goal.returns-in_err-add_row-clause-faults
 returns-in_err-add_row-clause-faults g c =

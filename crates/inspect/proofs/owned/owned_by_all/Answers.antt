@@ -1,6 +1,6 @@
 use Rattle.std.proofs.Common.{◌≡◌, ◌∙◌, ◌+◌, ◌++◌, ap, subst, arith}
 use Rattle.blocks.specs.Disk.{Image}
-use Rattle.blocks.specs.Lemmas.Reads.{reads_none, reads_then}
+use Rattle.blocks.specs.Lemmas.Reads.{reads_then}
 use Rattle.model.specs.Layout.{inode_count_of, inode_of}
 use Rattle.model.specs.Log.{recovered}
 use Rattle.model.specs.declared.types.image.Dinode.{Dinode}
@@ -41,25 +41,10 @@ returns-clause-all g c =
     all_done _ _ _ c.loop-i.invariant.added
     (range_end (owned_of (recovered x)) c.loop-i.i (inode_count_of (recovered x)) (omega (arith, c.loop-i-test.false, count_recovered x c.args.image.now c.requires.checked)))
 
-pub returns-in_err-block-clause-reads : goal.returns-in_err-block-clause-reads
-returns-in_err-block-clause-reads g c = reads_none g.D.Disk c.args.disk.now
-
-pub returns-in_err-entries-clause-reads : goal.returns-in_err-entries-clause-reads
-returns-in_err-entries-clause-reads g c = reads_none g.D.Disk c.args.disk.now
-
-pub returns-in_err-inode-clause-reads : goal.returns-in_err-inode-clause-reads
-returns-in_err-inode-clause-reads g c =
-    reads_then g.D.Disk c.args.disk.now c.loop-i.disk c.inode.new.disk c.loop-i.invariant.reads c.inode.ensures.reads
-
 pub returns-in_err-inode-clause-faults : goal.returns-in_err-inode-clause-faults
 returns-in_err-inode-clause-faults g c =
     let count = g.D.Disk.fault_count in
     failed_on c.from_residual-in_err-inode.result (count c.args.disk.now) (count c.loop-i.disk) (count c.inode.new.disk) c.from_residual-in_err-inode.ensures.1 c.loop-i.invariant.faults c.in_err-inode.ensures.faults
-
-pub returns-in_err-add_owned-clause-reads : goal.returns-in_err-add_owned-clause-reads
-returns-in_err-add_owned-clause-reads g c =
-    let d = g.D.Disk in
-    reads_then d c.args.disk.now c.inode.new.disk c.add_owned.new.disk (reads_then d c.args.disk.now c.loop-i.disk c.inode.new.disk c.loop-i.invariant.reads c.inode.ensures.reads) c.add_owned.ensures.reads
 
 pub returns-in_err-add_owned-clause-faults : goal.returns-in_err-add_owned-clause-faults
 returns-in_err-add_owned-clause-faults g c =
