@@ -100,7 +100,7 @@ judged_none y i earlier whole owners stand = record {
 }
 
 -- the next of them are judged without a fault
-pub judged_next : (y : Image) (i : ℕ) (earlier : List ℕ) (whole rest here next : List Pointer) (old new : ℕ) (owners after : Owners) →
+judged_next : (y : Image) (i : ℕ) (earlier : List ℕ) (whole rest here next : List Pointer) (old new : ℕ) (owners after : Owners) →
     HasJudged y i earlier whole rest owners → rest ≡ here ++ next → JudgesPointers y i here old new owners after (Ok tt) →
     HasJudged y i earlier whole next after
 judged_next y i earlier whole rest here next old new owners after had cut judges =
@@ -113,7 +113,7 @@ judged_next y i earlier whole rest here next old new owners after had cut judges
     }
 
 -- the next of them have a fault, which is the first of all
-pub judged_fault : (y : Image) (i : ℕ) (earlier : List ℕ) (whole rest here next : List Pointer) (old new : ℕ) (owners after : Owners) (fault : CheckFault) →
+judged_fault : (y : Image) (i : ℕ) (earlier : List ℕ) (whole rest here next : List Pointer) (old new : ℕ) (owners after : Owners) (fault : CheckFault) →
     HasJudged y i earlier whole rest owners → rest ≡ here ++ next → JudgesPointers y i here old new owners after (Err fault) →
     IsCause (first_pointer_fault y i earlier whole) old new fault
 judged_fault y i earlier whole rest here next old new owners after fault had cut judges =
@@ -129,9 +129,20 @@ judged_all y i earlier whole rest old new owners had none =
     rw split (had.none, had.stand)
 
 -- a judgement over an image that is the same, from a count of faults that is the same
-pub judged_same : (x z : Image) (i : ℕ) (pointers : Image → List Pointer) (n old new : ℕ) (owners after : Owners) (result : Result (Unit {0}) CheckFault) →
+judged_same : (x z : Image) (i : ℕ) (pointers : Image → List Pointer) (n old new : ℕ) (owners after : Owners) (result : Result (Unit {0}) CheckFault) →
     x ≡ z → n ≡ old → JudgesPointers (recovered x) i (pointers (recovered x)) n new owners after result →
     JudgesPointers (recovered z) i (pointers (recovered z)) old new owners after result
 judged_same x z i pointers n old new owners after result same count judges =
     subst (λ (f : ℕ). JudgesPointers (recovered z) i (pointers (recovered z)) f new owners after result) count
     (subst (λ (y : Image). JudgesPointers (recovered y) i (pointers (recovered y)) n new owners after result) same judges)
+
+-- the next of them, judged over an image that is the same
+module _ (x z : Image) (i : ℕ) (here : Image → List Pointer) (n old new : ℕ) (owners after : Owners) (same : x ≡ z) (count : n ≡ old)
+    (earlier : List ℕ) (whole rest next : List Pointer) (had : HasJudged (recovered z) i earlier whole rest owners) (cut : rest ≡ here (recovered z) ++ next) where
+  pub next_passes : JudgesPointers (recovered x) i (here (recovered x)) n new owners after (Ok tt) → HasJudged (recovered z) i earlier whole next after
+  next_passes judges =
+      judged_next (recovered z) i earlier whole rest (here (recovered z)) next old new owners after had cut (judged_same x z i here n old new owners after (Ok tt) same count judges)
+
+  pub next_fails : (fault : CheckFault) → JudgesPointers (recovered x) i (here (recovered x)) n new owners after (Err fault) → IsCause (first_pointer_fault (recovered z) i earlier whole) old new fault
+  next_fails fault judges =
+      judged_fault (recovered z) i earlier whole rest (here (recovered z)) next old new owners after fault had cut (judged_same x z i here n old new owners after (Err fault) same count judges)

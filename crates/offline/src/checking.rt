@@ -201,7 +201,7 @@ pub fn check<D: Disk>(alloc: Global, disk: &mut D) -> Result<Report, CheckFault>
         return Err(CheckFault::BadGeometry);
     }
     let mut block = Block::zeroed(alloc)?;
-    let image = Recovered::open_long(disk, &mut block)?;
+    let image = Recovered::open(disk, &mut block)?;
     let files = check_contents(alloc, disk, &image, &mut block)?;
     Ok(Report {
         sup: image.sup,

@@ -57,23 +57,6 @@ impl Recovered {
         if disk.size() < 2 {
             return Err(CheckFault::BadGeometry);
         }
-        Recovered::open_long(disk, block)
-    }
-
-    // Opens the image of a disk that has room for a superblock.
-    pub(crate) fn open_long<D: Disk>(
-        disk: &mut D,
-        block: &mut Block,
-    ) -> Result<Recovered, CheckFault>
-        requires long { 2 ≤ length (D.image disk.old) }
-        ensures ok { IfOk result (λ image. IsRecoveredOf (D.image disk.old) image) }
-        ensures fault { IfErr result (λ fault. IsCause
-            (or_else (geometry_fault (D.image disk.old)) (log_fault (D.image disk.old)))
-            (D.fault_count disk.old) (D.fault_count disk.new) fault) }
-        ensures memory { IfErr result (λ fault. fault ≢ CheckFault.NoMemory) }
-        ensures reads { OnlyReads D.Disk disk.old disk.new }
-        ensures faults { KeepsFaults result (D.fault_count disk.old) (D.fault_count disk.new) }
-    {
         let (sup, form) = read_super(disk, block)?;
         let header = read_header(disk, block)?;
         Ok(Recovered { sup, form, header })

@@ -11,10 +11,11 @@ use Rattle.model.specs.Places.{address_in, addresses_in, pointers_in}
 use Rattle.model.specs.Soundness.{count_of}
 use Rattle.model.specs.Lemmas.Counts.{count_of-append}
 use Rattle.model.specs.Lemmas.Wholes.{thirteen_depths}
-use Rattle.in_flight.specs.Held.{Claim, Claims, Growth, IsGrowing, names_claimed, names_held, grows, listed}
+use Rattle.in_flight.specs.Held.{Claim, Claims, Growth, IsClaimedNow, IsGrowing, names_claimed, names_held, grows, listed}
 use Rattle.in_flight.specs.HeldLaws.{IsHeldIn, IsMarkedData}
 use Rattle.in_flight.specs.Trees.{depth_of, led_to, place_along, place_under}
 use Rattle.in_flight.specs.Lemmas.BlocksTaken.{taken_owned}
+use Rattle.in_flight.specs.Lemmas.Growing.{WritesOwn}
 use Rattle.in_flight.specs.Lemmas.HeldFrames.{growing_of, owned_once, whole_names}
 use Rattle.in_flight.specs.Lemmas.HeldLooks.{owned_marked}
 use Rattle.in_flight.specs.Lemmas.Looks.{between}
@@ -50,6 +51,20 @@ module _ (m : Files) (x : Image) (claims : Claims) (i : ℕ) (g : Growth) (h : I
   copy_marked v some =
       let mine = named_mine v in
       owned_marked m x claims i v h.fits h.number (omega (arith, mine, some))
+
+  -- a block that the copy names is written
+  pub writes_named : (new : Claims) (o : Option Claim) (b : ℕ) (bytes : List ℕ) → IsClaimedNow claims i o new → 1 ≤ count_of b named → length bytes ≡ 1024 → WritesOwn m x claims new i b bytes
+  writes_named new o b bytes now has whole =
+      let at = between x i h.number in
+      let mine = named_mine b in
+      record {
+        fits = h.fits;
+        low = at.low;
+        high = at.high;
+        claims_same = now.others;
+        mine = omega (arith, mine, has);
+        whole = whole;
+      }
 
   named_is : named ≡ names_along x ds d.addrs
   named_is = whole_names x d growing.fit.used

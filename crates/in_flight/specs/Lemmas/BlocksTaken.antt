@@ -21,7 +21,7 @@ use Rattle.std.proofs.lemmas.Bool.{false≢true, cases_lt, or_right, cases_eq}
 use Rattle.in_flight.specs.Lemmas.Growing.{WritesOwn, but_own, own_agrees, growing_with, away_own, named_same, writes_own, own_inode}
 use Rattle.model.specs.Lemmas.Bits.{has_bit-with_bit_same, has_bit-with_bit_other, length-with_bit}
 use Rattle.in_flight.specs.Lemmas.Claims.{apart}
-use Rattle.in_flight.specs.Lemmas.Turns.{changes_claim}
+use Rattle.in_flight.specs.Lemmas.Turns.{claim_turned}
 use Rattle.in_flight.specs.Lemmas.GivenUp.{counted_here, counted_other, at_each}
 
 -- ---- the turn
@@ -34,33 +34,20 @@ overwritten_none old at inside =
 
 pub turn_grows : TurnGrows
 turn_grows m x claims new i off f used none inside now =
-    let at = between x i used.0 in
     let d = inode_of x i in
-    let g : Growth = record { copy = d; taken = None; offset = off; written = [] } in
     let its = (resting_tells m x claims i f used none).its in
     let long = its.length in
     let reaches : off ≤ length (bytes_in x d) = omega (arith, long, inside) in
-    changes_claim m x claims i m new (record {
-      fits = f;
-      low = at.low;
-      high = at.high;
-      claims_same = now.others;
-      count = refl;
-      files = λ j ne. refl;
-      alike = λ c.
-          ap (λ (o : Option Claim). count_of c (names_claimed x i o)) now.own
-          ∙ sym (ap (λ (o : Option Claim). count_of c (names_claimed x i o)) none);
-      fine = subst (λ (o : Option Claim). IsFine x i o (file_in m i)) (sym now.own)
-          (record {
-            fit = its.fit;
-            same_kind = refl;
-            labels = refl;
-            old = record { kind = d.kind; bytes = bytes_in x d };
-            was = its.file;
-            kind = refl;
-            reaches = reaches;
-            bytes = sym (overwritten_none (bytes_in x d) off reaches);
-          });
+    claim_turned m x claims new i None _ f (between x i used.0) none now (λ c. refl)
+    (record {
+      fit = its.fit;
+      same_kind = refl;
+      labels = refl;
+      old = record { kind = d.kind; bytes = bytes_in x d };
+      was = its.file;
+      kind = refl;
+      reaches = reaches;
+      bytes = sym (overwritten_none (bytes_in x d) off reaches);
     })
 
 -- ---- a bit is set

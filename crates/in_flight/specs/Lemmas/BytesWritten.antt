@@ -1,5 +1,5 @@
 -- A task writes bytes into a block of its file.
-use Rattle.std.proofs.Common.{◌≡◌, ◌≢◌, ℕ, ◌+◌, ◌-◌, ◌*◌, ◌/◌, ◌%◌, ◌<◌, ◌≤◌, List, [], ◌++◌, length, get_or, set, max, Option, Some, sym, ap, subst, ◌∙◌, ⊎_elim, arith}
+use Rattle.std.proofs.Common.{◌≡◌, ◌≢◌, ℕ, ◌+◌, ◌-◌, ◌*◌, ◌/◌, ◌%◌, ◌<◌, ◌≤◌, List, [], ◌++◌, length, get_or, set, max, Option, Some, refl, sym, ap, subst, ◌∙◌, ⊎_elim, arith}
 use Rattle.in_flight.specs.GrowthLaws.{BytesWritten, WritesNext}
 use Rattle.in_flight.specs.Held.{Claim, Claims, Growth, IsClaimedNow, IsFine, IsGrowing, names_claimed, grows, reaching, listed}
 use Rattle.model.specs.declared.types.image.Dinode.{Dinode}
@@ -16,12 +16,13 @@ use Rattle.model.specs.Lemmas.Frames.{form_agree}
 use Rattle.model.specs.Names.{names_along}
 use Rattle.model.specs.Places.{address_along, address_in, addresses_in, pointers_in}
 use Rattle.std.proofs.lemmas.List.{ext_get_or, get_or-set_other, get_or-set_same}
-use Rattle.in_flight.specs.Lemmas.Apart.{blocks_apart, copy_marked, data_apart, data_named, named_mine}
+use Rattle.in_flight.specs.Lemmas.Apart.{blocks_apart, copy_marked, data_apart, data_named, writes_named}
 use Rattle.std.proofs.lemmas.Bool.{cases_eq, cases_lt}
 use Rattle.in_flight.specs.Lemmas.HeldFrames.{growing_of, labels_same, whole_names}
 use Rattle.in_flight.specs.Lemmas.GrowthBlocks.{copy_full, copy_size, full_block, length-written_over}
 use Rattle.model.specs.Layout.{depths, form_of, greatest_size}
 use Rattle.in_flight.specs.Lemmas.Frames.{geometry_same}
+use Rattle.in_flight.specs.Lemmas.SameBytes.{growing_as}
 use Rattle.model.specs.Lemmas.Codecs.{get_or-overwritten_before, get_or-overwritten_behind, get_or-overwritten_in, length-overwritten, overwritten-join}
 use Rattle.model.specs.Lemmas.Bytes.{IsFullAt, byte_at, length-bytes_in}
 use Rattle.blocks.specs.Block.{overwritten}
@@ -88,19 +89,9 @@ module _ (m : Files) (x : Image) (claims new : Claims) (i k at b : ℕ) (bytes :
 
   writes : WritesOwn m x claims new i b block
   writes =
-      let number = between x i h.held.number in
-      let mine = named_mine m x claims i g h.held b in
-      let has = named in
       let fits = h.next.inside in
       let size = full in
-      record {
-        fits = h.held.fits;
-        low = number.low;
-        high = number.high;
-        claims_same = h.now.others;
-        mine = omega (arith, mine, has);
-        whole = length-overwritten old_block at bytes (omega (arith, fits, size)) ∙ full;
-      }
+      writes_named m x claims i g h.held new _ b block h.now named (length-overwritten old_block at bytes (omega (arith, fits, size)) ∙ full)
 
   geometry : IsLawfulGeometry y
   geometry = geometry_same x y (own_base m x claims new i b block writes) h.held.fits.geometry
@@ -247,31 +238,25 @@ module _ (m : Files) (x : Image) (claims new : Claims) (i k at b : ℕ) (bytes :
       let all = most in
       let old_all = growing.fit.size in
       let room = greatest_small (form_of x) in
-      record {
-        fit = record {
-          fields = record {
-            kind = growing.fit.fields.kind;
-            major = growing.fit.fields.major;
-            minor = growing.fit.fields.minor;
-            nlink = growing.fit.fields.nlink;
-            size = omega (arith, all, old_all, room);
-            count = count;
-            addrs = growing.fit.fields.addrs;
-          };
-          used = growing.fit.used;
-          kind = growing.fit.kind;
-          size = subst (λ (f : Form). t.copy.size ≤ greatest_size f) (sym same_form) (omega (arith, all, old_all));
-          whole = λ j need z. needs j need (sym (leads j) ∙ z);
+      growing_as x y i g t.copy g.taken t.written (file_in m i) growing
+      (record {
+        fields = record {
+          kind = growing.fit.fields.kind;
+          major = growing.fit.fields.major;
+          minor = growing.fit.fields.minor;
+          nlink = growing.fit.fields.nlink;
+          size = omega (arith, all, old_all, room);
+          count = count;
+          addrs = growing.fit.fields.addrs;
         };
-        same_kind = ap (λ (o : Dinode). o.kind) still ∙ growing.same_kind;
-        labels = labels_same x y i (d.major, d.minor, d.nlink) still growing.labels;
-        old = growing.old;
-        was = growing.was;
-        kind = growing.kind;
-        reaches = growing.reaches;
-        bytes = file_now ∙ ap (λ (l : List ℕ). overwritten l q bytes) growing.bytes
-            ∙ overwritten-join growing.old.bytes g.written bytes g.offset q (sym h.next.place) growing.reaches;
-      }
+        used = growing.fit.used;
+        kind = growing.fit.kind;
+        size = subst (λ (f : Form). t.copy.size ≤ greatest_size f) (sym same_form) (omega (arith, all, old_all));
+        whole = λ j need z. needs j need (sym (leads j) ∙ z);
+      })
+      (ap (λ (o : Dinode). o.kind) still ∙ growing.same_kind) (labels_same x y i (d.major, d.minor, d.nlink) still growing.labels) refl
+      (file_now ∙ ap (λ (l : List ℕ). overwritten l q bytes) growing.bytes
+      ∙ overwritten-join growing.old.bytes g.written bytes g.offset q (sym h.next.place) growing.reaches)
 
   same_names : addresses_in (pointers_in y t.copy) ≡ addresses_in (pointers_in x d)
   same_names =

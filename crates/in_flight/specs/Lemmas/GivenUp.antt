@@ -188,16 +188,17 @@ set_below xs k v small each j =
     (λ (ne : j ≢ k). rw (get_or-set_other xs k j v 0 ne) (each j))
     (cases_eq j k)
 
-held_without : (x : Image) (i k : ℕ) (h : Held) (file : Option File) → IsHeld x i h file → IsHeld x i (without_address h k) file
-held_without x i k h file held = record {
+held_as : (x : Image) (i : ℕ) (addrs cursor : List ℕ) (h : Held) (file : Option File) → IsHeld x i h file → length addrs ≡ 13 → ((k : ℕ) → get_or addrs k 0 < 2 ^ 32) →
+    IsHeld x i (record h { copy = record h.copy { addrs = addrs }; cursor = cursor }) file
+held_as x i addrs cursor h file held count small = record {
   fields = record {
     kind = held.fields.kind;
     major = held.fields.major;
     minor = held.fields.minor;
     nlink = held.fields.nlink;
     size = held.fields.size;
-    count = length-set h.copy.addrs k 0 ∙ held.fields.count;
-    addrs = set_below h.copy.addrs k 0 (omega arith) held.fields.addrs;
+    count = count;
+    addrs = small;
   };
   used = held.used;
   kind = held.kind;
@@ -207,17 +208,13 @@ held_without x i k h file held = record {
   told = held.told;
 }
 
+held_without : (x : Image) (i k : ℕ) (h : Held) (file : Option File) → IsHeld x i h file → IsHeld x i (without_address h k) file
+held_without x i k h file held =
+    held_as x i (set h.copy.addrs k 0) h.cursor h file held (length-set h.copy.addrs k 0 ∙ held.fields.count) (set_below h.copy.addrs k 0 (omega arith) held.fields.addrs)
+
 pub held_further : (x : Image) (i : ℕ) (cursor : List ℕ) (h : Held) (file : Option File) → IsHeld x i h file →
     IsHeld x i (record h { cursor = cursor }) file
-held_further x i cursor h file held = record {
-  fields = held.fields;
-  used = held.used;
-  kind = held.kind;
-  same_kind = held.same_kind;
-  labels = held.labels;
-  last = held.last;
-  told = held.told;
-}
+held_further x i cursor h file held = held_as x i h.copy.addrs cursor h file held held.fields.count held.fields.addrs
 
 -- ---- the kinds of block
 

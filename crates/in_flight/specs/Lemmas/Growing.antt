@@ -16,6 +16,7 @@ use Rattle.model.specs.Places.{addresses_in, pointers_in}
 use Rattle.std.proofs.lemmas.Bool.{cases_eq}
 use Rattle.in_flight.specs.Lemmas.Claims.{apart}
 use Rattle.in_flight.specs.HeldLaws.{FitsThen}
+use Rattle.in_flight.specs.Lemmas.SameBytes.{growing_as}
 
 -- the blocks that a copy's addresses lead to are the same where those pass
 pub named_same : (test : ℕ → Bool) (x y : Image) (d : Dinode) → AgreesAt test x y → Passes test (addresses_in (pointers_in x d)) →
@@ -25,16 +26,7 @@ named_same test x y d h there = ap addresses_in (pointers_agree test x y d (agre
 -- what is taken has no part in the file
 pub growing_with : (x : Image) (i : ℕ) (g : Growth) (t : Option ℕ) (file : Option File) → IsGrowing x i g file →
     IsGrowing x i (record g { taken = t }) file
-growing_with x i g t file h = record {
-  fit = h.fit;
-  same_kind = h.same_kind;
-  labels = h.labels;
-  old = h.old;
-  was = h.was;
-  kind = h.kind;
-  reaches = h.reaches;
-  bytes = h.bytes;
-}
+growing_with x i g t file h = growing_as x x i g g.copy t g.written file h h.fit h.same_kind h.labels refl h.bytes
 
 -- ---- a block that its number owns is written
 

@@ -3,16 +3,16 @@ use Rattle.std.proofs.Common.{◌≡◌, ◌≢◌, ℕ, suc, ◌<◌, length, r
 use Rattle.blocks.specs.Disk.{Image}
 use Rattle.model.specs.Agreement.{IsSameOutsideLog, is_outside_log}
 use Rattle.model.specs.Files.{Files, file_in}
-use Rattle.model.specs.Layout.{super_of, inode_count_of}
+use Rattle.model.specs.Layout.{inode_count_of}
 use Rattle.model.specs.Soundness.{count_of}
 use Rattle.model.specs.Lemmas.OutsideLog.{behind_log, inode_agree}
 use Rattle.model.specs.Lemmas.Soundness.{facts_of}
 use Rattle.in_flight.specs.Held.{Claims, FitsHeld, owned, names_claimed}
 use Rattle.in_flight.specs.HeldLaws.{HeldOutsideLog, FitsThen}
 use Rattle.in_flight.specs.Loose.{AreFull}
-use Rattle.in_flight.specs.Lemmas.Frames.{SameSuperAndMap, loose_same}
+use Rattle.in_flight.specs.Lemmas.Frames.{loose_same}
 use Rattle.in_flight.specs.Lemmas.HeldFrames.{ChangesOne, loose_alike, names_same, fine_same, owned_kept, fits_then, same_file, at_data, Passes, data_passes, stays_held}
-use Rattle.in_flight.specs.Lemmas.OutsideLog.{data_outside}
+use Rattle.in_flight.specs.Lemmas.OutsideLog.{base_outside, data_outside}
 
 module _ (m : Files) (x y : Image) (claims : Claims) (same : IsSameOutsideLog x y) (f : FitsHeld m x claims) where
   all_pass : (j : ℕ) → 1 ≤ j → j < inode_count_of x → Passes is_outside_log (names_claimed x j (claims j))
@@ -35,15 +35,6 @@ module _ (m : Files) (x y : Image) (claims : Claims) (same : IsSameOutsideLog x 
   first : ChangesOne is_outside_log m x claims 1 m y claims
   first = change 1 (λ e. omega arith)
 
-  base : SameSuperAndMap x y
-  base =
-      let bitmap = (facts_of x f.geometry).map in
-      record {
-        size = same.size;
-        super = same.agree 1 refl;
-        map = same.agree (super_of x).bmapstart (behind_log (super_of x).bmapstart (omega arith));
-      }
-
   two : 1 < inode_count_of x
   two = let some = (facts_of x f.geometry).some in omega arith
 
@@ -64,7 +55,7 @@ module _ (m : Files) (x y : Image) (claims : Claims) (same : IsSameOutsideLog x 
   fits_outside =
       let inside = two in
       (fits_then is_outside_log m x claims 1 m y claims first full_kept
-      (loose_alike y (owned x claims) (owned y claims) same_owned (loose_same x y (owned x claims) base f.loose))
+      (loose_alike y (owned x claims) (owned y claims) same_owned (loose_same x y (owned x claims) (base_outside x y same f.geometry) f.loose))
       (fine_same is_outside_log x y 1 (claims 1) (file_in m 1) first.agree (inode_agree x y 1 same.agree)
       (all_pass 1 (omega arith) inside) (f.each 1 (omega arith) inside))).fits
 

@@ -3,21 +3,22 @@ use Rattle.std.proofs.Common.{◌≡◌, ◌<◌, length, refl, sym, ap, subst, 
 use Rattle.blocks.specs.Disk.{Image}
 use Rattle.model.specs.declared.types.image.Super.{Super}
 use Rattle.model.specs.Agreement.{Agrees, IsSameOutsideLog, is_outside_log}
-use Rattle.model.specs.Files.{Files, file_in}
+use Rattle.model.specs.Files.{file_in}
 use Rattle.model.specs.Layout.{super_of, inode_count_of}
 use Rattle.model.specs.Log.{cleared}
 use Rattle.model.specs.Places.{places_of}
+use Rattle.model.specs.Soundness.{IsLawfulGeometry}
 use Rattle.model.specs.Lemmas.Log.{none_cleared}
 use Rattle.model.specs.Lemmas.OutsideLog.{behind_log, cleared_outside, inode_agree}
 use Rattle.model.specs.Lemmas.Soundness.{facts_of, long_geometry}
 use Rattle.in_flight.specs.Laws.{FitsOutsideLog, FitsWhenCleared}
-use Rattle.in_flight.specs.Loose.{IsLoose, Fits}
+use Rattle.in_flight.specs.Loose.{IsLoose}
 use Rattle.in_flight.specs.Lemmas.Frames.{AgreesAtData, agrees_for, rest_alike, addresses_alike, SameSuperAndMap, super_same, geometry_same, loose_same, places_same}
 use Rattle.in_flight.specs.Lemmas.Soundly.{sound_quiet}
 
-base_outside : (m : Files) (x y : Image) → IsSameOutsideLog x y → Fits m x → SameSuperAndMap x y
-base_outside m x y same f =
-    let bitmap = (facts_of x f.geometry).map in
+pub base_outside : (x y : Image) → IsSameOutsideLog x y → IsLawfulGeometry x → SameSuperAndMap x y
+base_outside x y same geometry =
+    let bitmap = (facts_of x geometry).map in
     record {
       size = same.size;
       super = same.agree 1 refl;
@@ -35,7 +36,7 @@ pub fits_outside : FitsOutsideLog
 fits_outside m x y same f =
     let agree = same.agree in
     let size = same.size in
-    let base = base_outside m x y same f in
+    let base = base_outside x y same f.geometry in
     let data_same = data_outside x y agree in
     let numbers : inode_count_of y ≡ inode_count_of x = ap (λ (s : Super). s.ninodes) (super_same x y base) in
     let places : places_of y ≡ places_of x = places_same x y base

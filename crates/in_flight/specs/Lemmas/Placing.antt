@@ -19,7 +19,7 @@ use Rattle.in_flight.specs.Held.{Claims, Growth, grows, IsClaimedNow, IsGrowing,
 use Rattle.in_flight.specs.HeldLaws.{FitsThen, IsHeldIn, IsMarkedData}
 use Rattle.in_flight.specs.Loose.{AreFull, LiesInData}
 use Rattle.in_flight.specs.Trees.{place_of}
-use Rattle.in_flight.specs.Lemmas.Apart.{copy_marked, copy_once, data_apart, named_mine, taken_apart, way_inside, way_named}
+use Rattle.in_flight.specs.Lemmas.Apart.{copy_marked, copy_once, data_apart, taken_apart, way_inside, way_named, writes_named}
 use Rattle.in_flight.specs.Lemmas.BlocksTaken.{taken_owned}
 use Rattle.in_flight.specs.Lemmas.GivenUp.{set_below}
 use Rattle.in_flight.specs.Lemmas.Growing.{WritesOwn, but_own, own_agrees, own_inode, writes_own}
@@ -27,8 +27,8 @@ use Rattle.in_flight.specs.Lemmas.HeldFrames.{growing_of, claimed_in_data, label
 use Rattle.in_flight.specs.Lemmas.Looks.{IsBetween, between}
 use Rattle.in_flight.specs.Lemmas.PlacedInTrees.{IsPlaced, entries_kept, entry_now, over, over_is, placed_along, set_along, under_fresh}
 use Rattle.in_flight.specs.Lemmas.Remapped.{mapped}
-use Rattle.in_flight.specs.Lemmas.SameBytes.{bytes_alike, growing_at}
-use Rattle.in_flight.specs.Lemmas.Turns.{changes_claim}
+use Rattle.in_flight.specs.Lemmas.SameBytes.{bytes_alike, growing_as, growing_at}
+use Rattle.in_flight.specs.Lemmas.Turns.{claim_turned}
 use Rattle.in_flight.specs.Lemmas.Ways.{KeepsEntries, address_kept, address_set, along_at, led_further, led_kept}
 
 -- a block that was taken lies among the data
@@ -67,7 +67,6 @@ address_with x d slot b k none some = address_set x k (depths (form_of x)) d.add
 
 pub address_placed : AddressPlaced
 address_placed m x claims new i slot b g held is inside none zeroes now =
-    let at = between x i held.number in
     let growing = growing_of m x claims i g held in
     let small = (lies_small x b held.fits.geometry held.fits.full (taken_lies m x claims i b g held is)).small in
     let addrs = g.copy.addrs in
@@ -75,25 +74,15 @@ address_placed m x claims new i slot b g held is inside none zeroes now =
     let all = thirteen_depths (form_of x) in
     let count = growing.fit.fields.count in
     let fresh = under_fresh x (get_or ds slot 0) b (some_taken m x claims i b g held is) zeroes in
-    (changes_claim m x claims i m new (record {
-      fits = held.fits;
-      low = at.low;
-      high = at.high;
-      claims_same = now.others;
-      count = refl;
-      files = λ j ne. refl;
-      alike = λ c.
-          ap (λ (o : Option Claim). count_of c (names_claimed x i o)) now.own
-          ∙ ap (count_of c) (whole_names x (placing g slot b).copy growing.fit.used)
-          ∙ set_along x ds addrs slot b c (omega (arith, inside, all, count)) inside none fresh
-          ∙ ap (λ (l : List ℕ). count_of c (b ∷ l)) (sym (whole_names x g.copy growing.fit.used))
-          ∙ sym (ap (λ (o : Option Claim). count_of c (names_claimed x i o)) held.holds
-          ∙ ap (λ t. count_of c (listed t ++ addresses_in (pointers_in x g.copy))) is);
-      fine = subst (λ (o : Option Claim). IsFine x i o (file_in m i)) (sym now.own)
-          (growing_at x i g (set addrs slot b) None (file_in m i) growing (length-set addrs slot b ∙ count)
-          (set_below addrs slot b (omega (arith, small)) growing.fit.fields.addrs)
-          (λ k need. address_with x g.copy slot b k none (growing.fit.whole k need)));
-    })).fits
+    (claim_turned m x claims new i _ _ held.fits (between x i held.number) held.holds now
+    (λ c.
+    ap (count_of c) (whole_names x (placing g slot b).copy growing.fit.used)
+    ∙ set_along x ds addrs slot b c (omega (arith, inside, all, count)) inside none fresh
+    ∙ ap (λ (l : List ℕ). count_of c (b ∷ l)) (sym (whole_names x g.copy growing.fit.used))
+    ∙ sym (ap (λ t. count_of c (listed t ++ addresses_in (pointers_in x g.copy))) is))
+    (growing_at x i g (set addrs slot b) None (file_in m i) growing (length-set addrs slot b ∙ count)
+    (set_below addrs slot b (omega (arith, small)) growing.fit.fields.addrs)
+    (λ k need. address_with x g.copy slot b k none (growing.fit.whole k need)))).fits
 
 -- ---- by an entry of a block of addresses
 
@@ -153,16 +142,8 @@ module _ (m : Files) (x : Image) (claims new : Claims) (i slot a e b depth : ℕ
 
   writes : WritesOwn m x claims new i a bytes
   writes =
-      let mine = named_mine m x claims i g h.held a in
-      let has = named in
-      record {
-        fits = h.held.fits;
-        low = number.low;
-        high = number.high;
-        claims_same = h.now.others;
-        mine = omega (arith, mine, has);
-        whole = length-overwritten (block_at x a) (4 * e) _ (let low = h.leads.entry in let size = full in omega (arith, low, size)) ∙ full;
-      }
+      writes_named m x claims i g h.held new _ a bytes h.now named
+      (length-overwritten (block_at x a) (4 * e) _ (let low = h.leads.entry in let size = full in omega (arith, low, size)) ∙ full)
 
   same_form : form_of y ≡ form_of x
   same_form =
@@ -193,22 +174,16 @@ module _ (m : Files) (x : Image) (claims new : Claims) (i slot a e b depth : ℕ
   fine : IsGrowing y i (placed_behind g) (file_in m i)
   fine =
       let still = own_inode m x claims new i a bytes writes i number.high in
-      record {
-        fit = record {
-          fields = growing.fit.fields;
-          used = growing.fit.used;
-          kind = growing.fit.kind;
-          size = subst (λ (f : Form). d.size ≤ greatest_size f) (sym same_form) growing.fit.size;
-          whole = λ k need z. growing.fit.whole k need (sym (leads_same k need) ∙ z);
-        };
-        same_kind = ap (λ (o : Dinode). o.kind) still ∙ growing.same_kind;
-        labels = labels_same x y i (d.major, d.minor, d.nlink) still growing.labels;
-        old = growing.old;
-        was = growing.was;
-        kind = growing.kind;
-        reaches = growing.reaches;
-        bytes = bytes_alike x y d d refl blocks_same ∙ growing.bytes;
-      }
+      growing_as x y i g d None g.written (file_in m i) growing
+      (record {
+        fields = growing.fit.fields;
+        used = growing.fit.used;
+        kind = growing.fit.kind;
+        size = subst (λ (f : Form). d.size ≤ greatest_size f) (sym same_form) growing.fit.size;
+        whole = λ k need z. growing.fit.whole k need (sym (leads_same k need) ∙ z);
+      })
+      (ap (λ (o : Dinode). o.kind) still ∙ growing.same_kind) (labels_same x y i (d.major, d.minor, d.nlink) still growing.labels) refl
+      (bytes_alike x y d d refl blocks_same ∙ growing.bytes)
 
   deep : get_or ds slot 0 ≡ over way (suc depth)
   deep = let is = over_is way (suc depth) in let below = h.leads.below in omega (arith, is, below)

@@ -3,7 +3,11 @@ use Rattle.std.proofs.Common.{◌≡◌, ℕ, ◌*◌, ◌<◌, List, length, ta
 use Rattle.model.specs.Files.{bytes_in, joined, data_at, blocks_for}
 use Rattle.blocks.specs.Disk.{Image}
 use Rattle.model.specs.declared.types.image.Dinode.{Dinode}
+use Rattle.blocks.specs.Block.{overwritten}
 use Rattle.in_flight.specs.Held.{Growth, IsGrowing}
+use Rattle.in_flight.specs.Loose.{IsFit}
+use Rattle.model.specs.Crash.{labels_of}
+use Rattle.model.specs.Layout.{inode_of}
 use Rattle.model.specs.Places.{address_in}
 use Rattle.model.specs.declared.types.image.File.{File}
 use Rattle.std.specs.List.{range_with_len}
@@ -19,32 +23,41 @@ bytes_alike x y d e size each =
     ∙ flat_map_range_same (λ k. data_at x (address_in x d k)) (λ k. data_at y (address_in y e k)) 0 (blocks_for d.size)
     (λ k low high. each k (omega (arith, high))))
 
+-- a task whose copy is another, or of another image, or that wrote more
+pub growing_as : (x y : Image) (i : ℕ) (g : Growth) (d : Dinode) (t : Option ℕ) (written : List ℕ) (file : Option File) (h : IsGrowing x i g file) → IsFit y d → (inode_of y i).kind ≡ d.kind →
+    labels_of y i ≡ (d.major, d.minor, d.nlink) → d.kind ≡ g.copy.kind → bytes_in y d ≡ overwritten h.old.bytes g.offset written →
+    IsGrowing y i (record g { copy = d; taken = t; written = written }) file
+growing_as x y i g d t written file h fit same_kind labels kind bytes = record {
+  fit = fit;
+  same_kind = same_kind;
+  labels = labels;
+  old = h.old;
+  was = h.was;
+  kind = kind ∙ h.kind;
+  reaches = h.reaches;
+  bytes = bytes;
+}
+
 -- a task's copy with other addresses that lead to the same blocks, as far as its size needs them
 pub growing_at : (x : Image) (i : ℕ) (g : Growth) (ws : List ℕ) (t : Option ℕ) (file : Option File) → IsGrowing x i g file → length ws ≡ 13 →
     ((k : ℕ) → slice_index ws k < 2 ^ 32) →
     ((k : ℕ) → k * 1024 < g.copy.size → address_in x (record g.copy { addrs = ws }) k ≡ address_in x g.copy k) →
     IsGrowing x i (record g { copy = record g.copy { addrs = ws }; taken = t }) file
-growing_at x i g ws t file h long small same = record {
-  fit = record {
-    fields = record {
-      kind = h.fit.fields.kind;
-      major = h.fit.fields.major;
-      minor = h.fit.fields.minor;
-      nlink = h.fit.fields.nlink;
-      size = h.fit.fields.size;
-      count = long;
-      addrs = small;
-    };
-    used = h.fit.used;
-    kind = h.fit.kind;
-    size = h.fit.size;
-    whole = λ k need z. h.fit.whole k need (sym (same k need) ∙ z);
-  };
-  same_kind = h.same_kind;
-  labels = h.labels;
-  old = h.old;
-  was = h.was;
-  kind = h.kind;
-  reaches = h.reaches;
-  bytes = bytes_alike x x g.copy (record g.copy { addrs = ws }) refl (λ k need. ap (data_at x) (same k need)) ∙ h.bytes;
-}
+growing_at x i g ws t file h long small same =
+    growing_as x x i g (record g.copy { addrs = ws }) t g.written file h
+    (record {
+      fields = record {
+        kind = h.fit.fields.kind;
+        major = h.fit.fields.major;
+        minor = h.fit.fields.minor;
+        nlink = h.fit.fields.nlink;
+        size = h.fit.fields.size;
+        count = long;
+        addrs = small;
+      };
+      used = h.fit.used;
+      kind = h.fit.kind;
+      size = h.fit.size;
+      whole = λ k need z. h.fit.whole k need (sym (same k need) ∙ z);
+    })
+    h.same_kind h.labels refl (bytes_alike x x g.copy (record g.copy { addrs = ws }) refl (λ k need. ap (data_at x) (same k need)) ∙ h.bytes)

@@ -7,7 +7,7 @@ use Rattle.model.specs.Files.{Files, file_in, file_at, file_of, bytes_in}
 use Rattle.model.specs.Layout.{inode_of, inode_count_of, depths, form_of}
 use Rattle.model.specs.Operations.{after}
 use Rattle.model.specs.Soundness.{count_of}
-use Rattle.in_flight.specs.Held.{Claims, FitsHeld, IsFine, names_claimed, owned, file_left, Claim}
+use Rattle.in_flight.specs.Held.{Claims, FitsHeld, IsClaimedNow, IsFine, names_claimed, owned, file_left, Claim}
 use Rattle.in_flight.specs.HeldLaws.{FitsThen, EntryPassed, TurnHolds, TurnAnswers}
 use Rattle.in_flight.specs.Loose.{IsAtRest}
 use Rattle.in_flight.specs.Looks.{IsUsed}
@@ -15,7 +15,7 @@ use Rattle.in_flight.specs.Lemmas.Frames.{AgreesAtData}
 use Rattle.in_flight.specs.Lemmas.GivenUp.{held_of, held_further}
 use Rattle.in_flight.specs.Lemmas.LeftInTrees.{whole_along}
 use Rattle.in_flight.specs.Lemmas.HeldFrames.{ChangesOne, loose_alike, owned_kept, fits_then, at_data, whole_names}
-use Rattle.in_flight.specs.Lemmas.Looks.{between}
+use Rattle.in_flight.specs.Lemmas.Looks.{IsBetween, between}
 
 agrees_itself : (x : Image) → AgreesAtData (λ _. true) x x
 agrees_itself x = record { agree = λ b pass. refl; one = refl; from_data = λ b from. refl }
@@ -58,13 +58,12 @@ module _ (m : Files) (x : Image) (claims : Claims) (i : ℕ) (n : Files) (new : 
       fits_then (λ _. true) m x claims i n x new change h.fits.full
       (loose_alike x (owned x claims) (owned x new) same_owned h.fits.loose) h.fine
 
--- ---- entries under which nothing is left
-
-pub entry_passed : EntryPassed
-entry_passed m x claims new i cursor h g alike now =
-    let at = between x i g.number in
-    (changes_claim m x claims i m new (record {
-      fits = g.fits;
+-- only the claim of the number is another, and the files stay
+pub claim_turned : (m : Files) (x : Image) (claims new : Claims) (i : ℕ) (was is : Option Claim) → FitsHeld m x claims → IsBetween x i → claims i ≡ was → IsClaimedNow claims i is new →
+    ((c : ℕ) → count_of c (names_claimed x i is) ≡ count_of c (names_claimed x i was)) → IsFine x i is (file_in m i) → FitsThen m x claims i x new
+claim_turned m x claims new i was is fits at had now alike fine =
+    changes_claim m x claims i m new (record {
+      fits = fits;
       low = at.low;
       high = at.high;
       claims_same = now.others;
@@ -72,10 +71,15 @@ entry_passed m x claims new i cursor h g alike now =
       files = λ j ne. refl;
       alike = λ c.
           ap (λ (o : Option Claim). count_of c (names_claimed x i o)) now.own ∙ alike c
-          ∙ sym (ap (λ (o : Option Claim). count_of c (names_claimed x i o)) g.holds);
-      fine = subst (λ (o : Option Claim). IsFine x i o (file_in m i)) (sym now.own)
-          (held_further x i cursor h (file_in m i) (held_of m x claims i h g));
-    })).fits
+          ∙ sym (ap (λ (o : Option Claim). count_of c (names_claimed x i o)) had);
+      fine = subst (λ (o : Option Claim). IsFine x i o (file_in m i)) (sym now.own) fine;
+    })
+
+-- ---- entries under which nothing is left
+
+pub entry_passed : EntryPassed
+entry_passed m x claims new i cursor h g alike now =
+    (claim_turned m x claims new i _ _ g.fits (between x i g.number) g.holds now alike (held_further x i cursor h (file_in m i) (held_of m x claims i h g))).fits
 
 -- ---- a turn
 

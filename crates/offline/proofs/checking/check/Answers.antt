@@ -16,14 +16,14 @@ returns-in_err-image-clause-fault g c =
     let d = g.D.Disk in
     let p = err_from_is_err_and c.from_residual-in_err-image.result c.from_residual-in_err-image.ensures.1 in
     rw (p.1, p.2)
-    (verdict_opening (d.image c.args.disk.now) (d.fault_count c.args.disk.now) (d.fault_count c.open_long.new.disk) c.in_err-image.field-0.0 c.in_err-image.ensures.fault)
+    (verdict_opening (d.image c.args.disk.now) (d.fault_count c.args.disk.now) (d.fault_count c.open.new.disk) c.in_err-image.field-0.0 c.in_err-image.ensures.fault)
 
 pub check_contents-requires-clause-ground : goal.check_contents-requires-clause-ground
 check_contents-requires-clause-ground g c =
     let x = g.D.Disk.image c.args.disk.now in
     let image = c.in_ok-image.image in
     let is = c.in_ok-image.ensures.ok in
-    rw c.open_long.ensures.reads.image (ground x image.sup image.form is.geometry is.header.lawful is.sup is.form)
+    rw c.open.ensures.reads.image (ground x image.sup image.form is.geometry is.header.lawful is.sup is.form)
 
 pub returns-in_err-files-clause-fault : goal.returns-in_err-files-clause-fault
 returns-in_err-files-clause-fault g c =
@@ -32,8 +32,8 @@ returns-in_err-files-clause-fault g c =
     let fault = c.in_err-files.field-0.0 in
     let after = d.fault_count c.check_contents.new.disk in
     let is = c.in_ok-image.ensures.ok in
-    let here = subst (λ (z : Image). IsCause (or_else (inodes_fault (recovered z)) (marks_fault (recovered z))) (d.fault_count c.open_long.new.disk) after fault)
-    c.open_long.ensures.reads.image c.in_err-files.ensures.judged in
+    let here = subst (λ (z : Image). IsCause (or_else (inodes_fault (recovered z)) (marks_fault (recovered z))) (d.fault_count c.open.new.disk) after fault)
+    c.open.ensures.reads.image c.in_err-files.ensures.judged in
     let p = err_from_is_err_and c.from_residual-in_err-files.result c.from_residual-in_err-files.ensures.1 in
     rw (p.1, p.2, verdict_contents x is.geometry is.header.lawful)
     (subst (λ (n : ℕ). IsCause (or_else (inodes_fault (recovered x)) (marks_fault (recovered x))) n after fault) c.in_ok-image.ensures.faults here)
@@ -44,5 +44,5 @@ returns-clause-ok g c =
     let x = d.image c.args.disk.now in
     let is = c.in_ok-image.ensures.ok in
     let here = subst (λ (z : Image). (or_else (inodes_fault (recovered z)) (marks_fault (recovered z)) ≡ None) × (c.in_ok-files.files ≡ file_count (files_of (recovered z))))
-    c.open_long.ensures.reads.image c.in_ok-files.ensures.judged in
+    c.open.ensures.reads.image c.in_ok-files.ensures.judged in
     verdict_contents x is.geometry is.header.lawful ∙ here.0

@@ -6,7 +6,9 @@ use Rattle.model.specs.Layout.{depths, greatest_size}
 use Rattle.model.specs.Log.{recovered}
 use Rattle.model.specs.Places.{pointers_along}
 use Rattle.offline.specs.Owners.{JudgesPointers}
-use Rattle.offline.proofs.InodeLemmas.{bad_type, bad_size, judged_free, judged_used, cause_used}
+use Rattle.offline.proofs.InodeLemmas.{IsUsed, bad_type, bad_size, judged_free, judged_used, cause_used}
+use Rattle.offline.proofs.checking.check_inode.Given.{Over}
+use Rattle.offline.proofs.checking.check_inode.Goals.{After-claim_inode}
 use Rattle.offline.proofs.checking.check_inode.Goals as goal
 
 pub returns-then-inode-gt3-clause-judged : goal.returns-then-inode-gt3-clause-judged
@@ -27,41 +29,35 @@ returns-then-is_too_large-clause-judged g c = λ stand.
     (subst (λ (d : Dinode). d.kind ≢ 0) c.requires.inode c.if-inode-eq0.false)
     (subst (λ (d : Dinode). greatest_size c.args.image.now.form < d.size) c.requires.inode (c.is_too_large.ensures.0 c.if-is_too_large.true)))
 
+-- its pointers were judged
+used : (g : Over) (c : After-claim_inode g) → IsUsed (recovered (g.D.Disk.image c.args.disk.now)) c.args.i c.args.image.now.form
+used g c = record {
+  is_form = c.requires.judging.is_form;
+  kind = subst (λ (d : Dinode). d.kind ≤ 3) c.requires.inode c.if-inode-gt3.false;
+  used = subst (λ (d : Dinode). d.kind ≢ 0) c.requires.inode c.if-inode-eq0.false;
+  size = subst (λ (d : Dinode). d.size ≤ greatest_size c.args.image.now.form) c.requires.inode
+      (ltb-false (greatest_size c.args.image.now.form) c.args.inode.now.size (sym (ltb_from_iff c.is_too_large.ensures) ∙ c.if-is_too_large.false));
+}
+
 pub returns-in_err-claim_inode-clause-judged : goal.returns-in_err-claim_inode-clause-judged
 returns-in_err-claim_inode-clause-judged g c = λ stand.
-    let disk = g.D.Disk in
-    let y = recovered (disk.image c.args.disk.now) in
+    let y = recovered (g.D.Disk.image c.args.disk.now) in
     let form = c.args.image.now.form in
-    let old = disk.fault_count c.args.disk.now in
-    let new = disk.fault_count c.claim_inode.new.disk in
+    let old = g.D.Disk.fault_count c.args.disk.now in
+    let new = g.D.Disk.fault_count c.claim_inode.new.disk in
     let fault = c.in_err-claim_inode.field-0.0 in
     let p = err_from_is_err_and c.from_residual.result c.from_residual.ensures.1 in
-    let size = ltb-false (greatest_size form) c.args.inode.now.size (sym (ltb_from_iff c.is_too_large.ensures) ∙ c.if-is_too_large.false) in
     rw (p.1, p.2)
-    (cause_used y c.args.i form old new c.args.owners.now c.claim_inode.new.owners fault
-    record {
-      is_form = c.requires.judging.is_form;
-      kind = subst (λ (d : Dinode). d.kind ≤ 3) c.requires.inode c.if-inode-gt3.false;
-      used = subst (λ (d : Dinode). d.kind ≢ 0) c.requires.inode c.if-inode-eq0.false;
-      size = subst (λ (d : Dinode). d.size ≤ greatest_size form) c.requires.inode size;
-    }
+    (cause_used y c.args.i form old new c.args.owners.now c.claim_inode.new.owners fault (used g (goal.at.returns-in_err-claim_inode-clause-judged g c).After-claim_inode)
     (subst (λ (d : Dinode). JudgesPointers y c.args.i (pointers_along y d.size 0 (depths form) d.addrs) old new c.args.owners.now c.claim_inode.new.owners (Err fault))
     c.requires.inode c.in_err-claim_inode.ensures.judged) stand)
 
 pub returns-clause-judged : goal.returns-clause-judged
 returns-clause-judged g c = λ stand.
-    let disk = g.D.Disk in
-    let y = recovered (disk.image c.args.disk.now) in
+    let y = recovered (g.D.Disk.image c.args.disk.now) in
     let form = c.args.image.now.form in
-    let old = disk.fault_count c.args.disk.now in
-    let new = disk.fault_count c.claim_inode.new.disk in
-    let size = ltb-false (greatest_size form) c.args.inode.now.size (sym (ltb_from_iff c.is_too_large.ensures) ∙ c.if-is_too_large.false) in
-    judged_used y c.args.i form old new c.args.owners.now c.claim_inode.new.owners c.requires.some
-    record {
-      is_form = c.requires.judging.is_form;
-      kind = subst (λ (d : Dinode). d.kind ≤ 3) c.requires.inode c.if-inode-gt3.false;
-      used = subst (λ (d : Dinode). d.kind ≢ 0) c.requires.inode c.if-inode-eq0.false;
-      size = subst (λ (d : Dinode). d.size ≤ greatest_size form) c.requires.inode size;
-    }
+    let old = g.D.Disk.fault_count c.args.disk.now in
+    let new = g.D.Disk.fault_count c.claim_inode.new.disk in
+    judged_used y c.args.i form old new c.args.owners.now c.claim_inode.new.owners c.requires.some (used g (goal.at.returns-clause-judged g c).After-claim_inode)
     (subst (λ (d : Dinode). JudgesPointers y c.args.i (pointers_along y d.size 0 (depths form) d.addrs) old new c.args.owners.now c.claim_inode.new.owners (Ok tt))
     c.requires.inode c.in_ok-claim_inode.ensures.judged) stand

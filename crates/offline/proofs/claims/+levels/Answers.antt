@@ -1,16 +1,15 @@
-use Rattle.std.proofs.Common.{◌≡◌, ◌∙◌, ◌+◌, ◌-◌, ◌++◌, ℕ, List, [], ◌∷◌, ap, drop, get_or, inl, Ok, Err, refl, subst, arith, rules}
+use Rattle.std.proofs.Common.{◌≡◌, ◌∙◌, ◌-◌, ◌++◌, ℕ, List, [], ◌∷◌, ap, get_or, inl, Ok, Err, refl, subst, arith, rules}
 use Rattle.std.proofs.lemmas.Result.{err_from_is_err_and}
 use Rattle.blocks.specs.Disk.{Image, block_at}
 use Rattle.blocks.specs.Lemmas.Reads.{reads_then}
 use Rattle.model.specs.declared.types.image.Pointer.{Pointer}
 use Rattle.model.specs.Fields.{words_of}
-use Rattle.model.specs.Layout.{reach}
 use Rattle.model.specs.Log.{recovered}
 use Rattle.model.specs.Places.{addresses_in, pointer_of, pointers_under}
 use Rattle.model.specs.Verdict.{first_pointer_fault}
 use Rattle.offline.specs.Cause.{IsCause}
 use Rattle.offline.specs.Owners.{Judges, JudgesOn, entry_pointers}
-use Rattle.offline.proofs.OwnersLemmas.{fault_early, judged_on_more, judged_none, judged_next, judged_fault, judged_all, judged_same}
+use Rattle.offline.proofs.OwnersLemmas.{fault_early, judged_on_more, judged_none, judged_all, next_fails, next_passes}
 use Rattle.offline.proofs.ClaimLemmas.{under_data, under_none, under_first, under_block, entry_more, entry_all}
 use Rattle.offline.proofs.claims.+levels.Goals as goal
 use Rattle.offline.proofs.claims.+levels.Goals.{claim_under-then-branch-eq0-via-then-branch-eq0, claim_under-then-branch-eq0-via-else-branch-eq0+then-branch-eq0-2}
@@ -62,66 +61,39 @@ claim_entries-loop-k-init g t c =
 
 pub claim_entries-returns-in_err-claim_under-clause-judged : goal.claim_entries-returns-in_err-claim_under-clause-judged
 claim_entries-returns-in_err-claim_under-clause-judged g t c = λ earlier stand.
-    let d = g.D.Disk in
-    let y = recovered (d.image c.args.disk.now) in
-    let size = c.args.size in
+    let y = recovered (g.D.Disk.image c.args.disk.now) in
     let depth = c.args.branch.depth - 1 in
     let entries = c.read_all-addresses.result in
-    let k = c.loop-k.k in
-    let first = c.loop-k.first in
-    let entry = get_or entries k 0 in
-    let old = d.fault_count c.args.disk.now in
-    let new = d.fault_count c.claim_under.new.disk in
-    let words : entries ≡ words_of (block_at y c.args.branch.address) = c.read_all-addresses.ensures.value ∙ ap words_of c.in_ok-block.ensures.ok in
-    let fault = c.in_err-claim_under.field-0.0 in
-    let under = judged_same (d.image c.loop-k.disk) (d.image c.args.disk.now) c.args.i (λ (z : Image). pointers_under z size depth first entry) (d.fault_count c.loop-k.disk) old new
-    c.loop-k.owners c.claim_under.new.owners (Err fault) c.loop-k.invariant.reads.image c.loop-k.invariant.faults c.in_err-claim_under.ensures.judged in
+    let loop = c.loop-k in
     let p = err_from_is_err_and c.from_residual-in_err-claim_under.result c.from_residual-in_err-claim_under.ensures.1 in
     rw (p.1, p.2)
-    (subst (λ (ws : List ℕ). IsCause (first_pointer_fault y c.args.i earlier (entry_pointers y size depth c.args.branch.first ws)) old new fault) words
-    (judged_fault y c.args.i earlier (entry_pointers y size depth c.args.branch.first entries) (entry_pointers y size depth first (drop k entries))
-    (pointers_under y size depth first entry) (entry_pointers y size depth (first + reach depth) (drop (k + 1) entries)) old new
-    c.loop-k.owners c.claim_under.new.owners fault (c.loop-k.invariant.judged earlier stand)
-    (entry_more y size depth first entries k (omega (arith, c.read_all-addresses.ensures.len))) under))
+    (subst (λ (ws : List ℕ). IsCause (first_pointer_fault y c.args.i earlier (entry_pointers y c.args.size depth c.args.branch.first ws)) (g.D.Disk.fault_count c.args.disk.now) (g.D.Disk.fault_count c.claim_under.new.disk) c.in_err-claim_under.field-0.0)
+    (c.read_all-addresses.ensures.value ∙ ap words_of c.in_ok-block.ensures.ok)
+    (next_fails _ _ c.args.i (λ (z : Image). pointers_under z c.args.size depth loop.first (get_or entries loop.k 0)) _ _ (g.D.Disk.fault_count c.claim_under.new.disk) _ c.claim_under.new.owners loop.invariant.reads.image loop.invariant.faults
+    earlier _ _ _ (loop.invariant.judged earlier stand) (entry_more y c.args.size depth loop.first entries loop.k (omega (arith, c.read_all-addresses.ensures.len))) c.in_err-claim_under.field-0.0 c.in_err-claim_under.ensures.judged))
 
 pub claim_entries-loop-k-preserved : goal.claim_entries-loop-k-preserved
 claim_entries-loop-k-preserved g t c =
-    let d = g.D.Disk in
-    let y = recovered (d.image c.args.disk.now) in
-    let size = c.args.size in
     let depth = c.args.branch.depth - 1 in
     let entries = c.read_all-addresses.result in
-    let k = c.loop-k.k in
-    let first = c.loop-k.first in
-    let entry = get_or entries k 0 in
-    let old = d.fault_count c.args.disk.now in
-    let new = d.fault_count c.claim_under.new.disk in
-    let under = judged_same (d.image c.loop-k.disk) (d.image c.args.disk.now) c.args.i (λ (z : Image). pointers_under z size depth first entry) (d.fault_count c.loop-k.disk) old new
-    c.loop-k.owners c.claim_under.new.owners (Ok tt) c.loop-k.invariant.reads.image c.loop-k.invariant.faults c.in_ok-claim_under.ensures.judged in
+    let loop = c.loop-k in
     record {
-      reads = reads_then d c.args.disk.now c.loop-k.disk c.claim_under.new.disk c.loop-k.invariant.reads c.claim_under.ensures.reads;
-      faults = c.in_ok-claim_under.ensures.faults ∙ c.loop-k.invariant.faults;
+      reads = reads_then g.D.Disk _ _ _ loop.invariant.reads c.claim_under.ensures.reads;
+      faults = c.in_ok-claim_under.ensures.faults ∙ loop.invariant.faults;
       limits = search rules;
       early = omega (arith, c.requires.deep, c.reach-step.ensures.smaller);
       judged = λ earlier stand. rw c.reach-step.ensures.value
-          (judged_next y c.args.i earlier (entry_pointers y size depth c.args.branch.first entries) (entry_pointers y size depth first (drop k entries))
-          (pointers_under y size depth first entry) (entry_pointers y size depth (first + reach depth) (drop (k + 1) entries)) old new
-          c.loop-k.owners c.claim_under.new.owners (c.loop-k.invariant.judged earlier stand)
-          (entry_more y size depth first entries k (omega (arith, c.read_all-addresses.ensures.len))) under);
+          (next_passes _ _ c.args.i (λ (z : Image). pointers_under z c.args.size depth loop.first (get_or entries loop.k 0)) _ _ (g.D.Disk.fault_count c.claim_under.new.disk) _ c.claim_under.new.owners loop.invariant.reads.image loop.invariant.faults
+          earlier _ _ _ (loop.invariant.judged earlier stand) (entry_more _ c.args.size depth loop.first entries loop.k (omega (arith, c.read_all-addresses.ensures.len))) c.in_ok-claim_under.ensures.judged);
     }
 
 pub claim_entries-returns-clause-judged : goal.claim_entries-returns-clause-judged
 claim_entries-returns-clause-judged g t c = λ earlier stand.
-    let d = g.D.Disk in
-    let y = recovered (d.image c.args.disk.now) in
-    let size = c.args.size in
+    let y = recovered (g.D.Disk.image c.args.disk.now) in
     let depth = c.args.branch.depth - 1 in
-    let entries = c.read_all-addresses.result in
-    let k = c.loop-k.k in
-    let old = d.fault_count c.args.disk.now in
-    let new = d.fault_count c.loop-k.disk in
-    let words : entries ≡ words_of (block_at y c.args.branch.address) = c.read_all-addresses.ensures.value ∙ ap words_of c.in_ok-block.ensures.ok in
-    subst (λ (ws : List ℕ). JudgesOn y c.args.i earlier (entry_pointers y size depth c.args.branch.first ws) old new c.loop-k.owners (Ok tt)) words
-    (judged_all y c.args.i earlier (entry_pointers y size depth c.args.branch.first entries) (entry_pointers y size depth c.loop-k.first (drop k entries))
-    old new c.loop-k.owners (c.loop-k.invariant.judged earlier stand)
-    (entry_all y size depth c.loop-k.first entries k (omega (arith, c.read_all-addresses.ensures.len))))
+    let old = g.D.Disk.fault_count c.args.disk.now in
+    let new = g.D.Disk.fault_count c.loop-k.disk in
+    subst (λ (ws : List ℕ). JudgesOn y c.args.i earlier (entry_pointers y c.args.size depth c.args.branch.first ws) old new c.loop-k.owners (Ok tt))
+    (c.read_all-addresses.ensures.value ∙ ap words_of c.in_ok-block.ensures.ok)
+    (judged_all y c.args.i earlier _ _ old new c.loop-k.owners (c.loop-k.invariant.judged earlier stand)
+    (entry_all y c.args.size depth c.loop-k.first c.read_all-addresses.result c.loop-k.k (omega (arith, c.read_all-addresses.ensures.len))))

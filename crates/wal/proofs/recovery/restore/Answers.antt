@@ -1,15 +1,41 @@
-use Rattle.std.proofs.Common.{Err, rules, ◌≡◌, ◌≤◌, ◌+◌, ℕ, length, sym, ◌∙◌, ap, subst, arith, add-one}
+use Rattle.std.proofs.Common.{Err, rules, ◌≡◌, ◌≢◌, ◌≤◌, ◌+◌, ℕ, length, sym, ◌∙◌, ap, subst, arith, add-one}
 use Rattle.std.proofs.lemmas.Bool.{cond-false, ne_eqb}
 use Rattle.blocks.specs.Disk.{Image, counted, one_more}
 use Rattle.blocks.specs.Lemmas.Moments.{now_stays}
 use Rattle.model.specs.Log.{homes_of, logged_count}
 use Rattle.model.specs.Lemmas.Log.{recovered_empty, none_cleared}
 use Rattle.model.specs.Lemmas.Super.{super_facts}
-use Rattle.wal.specs.Recovery.{HasCopied, OnNoMemory, RefusesToRecover, syncs_to_restore, syncs_to_settle}
+use Rattle.wal.specs.Recovery.{HasCopied, OnNoMemory, RefusesToRecover, StopsAlike, syncs_to_restore, syncs_to_settle}
 use Rattle.layout.specs.declared.header.Header.{Header}
 use Rattle.wal.proofs.CopyLemmas.{cleared}
 use Rattle.wal.proofs.RecoveryLemmas.{homes_counted, none_as, none_late, refuses_late, rests_reading, stops_read, stops_copying, stops_clearing, syncs_none, syncs_some}
+use Rattle.wal.proofs.recovery.restore.Given.{Over}
+use Rattle.wal.proofs.recovery.restore.Goals.{After-clear_header}
 use Rattle.wal.proofs.recovery.restore.Goals as goal
+
+-- the blocks were copied home
+module _ (g : Over) (c : After-clear_header g) where
+  long : 33 ≤ length (g.D.Disk.image c.args.disk.now)
+  long =
+      let lawful = super_facts c.args.sup.now (length (g.D.Disk.image c.args.disk.now)) c.requires.fields in
+      omega (arith, lawful.room, lawful.size)
+
+  homes : c.as_slice.result.now ≡ homes_of (g.D.Disk.image c.args.disk.now)
+  homes = c.as_slice.ensures.value ∙ c.in_ok-header.ensures.ok.homes
+
+  some : logged_count (g.D.Disk.image c.args.disk.now) ≢ 0
+  some none = c.if-header-eq0.false (c.in_ok-header.ensures.ok.count ∙ none)
+
+  copied : HasCopied (length (homes_of (g.D.Disk.image c.args.disk.now))) (g.D.Disk.image c.args.disk.now) (g.D.Disk.image c.bring_home.new.disk)
+  copied =
+      subst (λ (n : ℕ). HasCopied n (g.D.Disk.image c.args.disk.now) (g.D.Disk.image c.bring_home.new.disk)) (ap length homes)
+      (subst (λ (z : Image). HasCopied (length c.as_slice.result.now) z (g.D.Disk.image c.bring_home.new.disk)) c.in_ok-header.ensures.reads.image c.in_ok-bring_home.ensures.ok.copies.copied)
+
+  stops : StopsAlike g.D.Disk c.args.disk.now c.clear_header.new.disk
+  stops =
+      stops_clearing g.D.Disk c.args.disk.now c.read_header.new.disk c.bring_home.new.disk c.clear_header.new.disk c.requires.settled
+      long c.in_ok-header.ensures.ok.lawful some c.in_ok-header.ensures.reads copied c.in_ok-bring_home.ensures.stops c.clear_header.ensures.stops
+      (λ free. c.clear_header.ensures.fails.plain (ap g.D.Disk.holding (c.in_ok-bring_home.ensures.fails.name ∙ c.in_ok-header.ensures.reads.name) ∙ free))
 
 pub returns-in_err-header-clause-stops : goal.returns-in_err-header-clause-stops
 returns-in_err-header-clause-stops g c = stops_read g.D.Disk c.args.disk.now c.read_header.new.disk c.requires.settled c.read_header.ensures.reads
@@ -42,47 +68,31 @@ returns-in_err-bring_home-clause-stops g c =
     stops_copying g.D.Disk c.args.disk.now c.read_header.new.disk c.bring_home.new.disk c.requires.settled c.read_header.ensures.reads c.in_err-bring_home.ensures.stops
 
 pub returns-in_err-clear_header-clause-stops : goal.returns-in_err-clear_header-clause-stops
-returns-in_err-clear_header-clause-stops g c =
-    let d = g.D.Disk in
-    let x = d.image c.args.disk.now in
-    let log = c.in_ok-header.ensures.ok in
-    let reads = c.in_ok-header.ensures.reads in
-    let lawful = super_facts c.args.sup.now (length x) c.requires.fields in
-    let long : 33 ≤ length x = omega (arith, lawful.room, lawful.size) in
-    let homes : c.as_slice.result.now ≡ homes_of x = c.as_slice.ensures.value ∙ log.homes in
-    let same : HasCopied (length c.as_slice.result.now) x (d.image c.bring_home.new.disk) = subst (λ (z : Image). HasCopied (length c.as_slice.result.now) z (d.image c.bring_home.new.disk)) reads.image c.in_ok-bring_home.ensures.ok.copies.copied in
-    let copied : HasCopied (length (homes_of x)) x (d.image c.bring_home.new.disk) = subst (λ (n : ℕ). HasCopied n x (d.image c.bring_home.new.disk)) (ap length homes) same in
-    stops_clearing d c.args.disk.now c.read_header.new.disk c.bring_home.new.disk c.clear_header.new.disk c.requires.settled
-    long log.lawful (λ none. c.if-header-eq0.false (log.count ∙ none)) reads copied c.in_ok-bring_home.ensures.stops c.in_err-clear_header.ensures.stops
-    (λ free. c.in_err-clear_header.ensures.fails.plain (ap d.holding (c.in_ok-bring_home.ensures.fails.name ∙ reads.name) ∙ free))
+returns-in_err-clear_header-clause-stops g c = stops g (goal.at.returns-in_err-clear_header-clause-stops g c).After-clear_header
 
 pub returns-clause-ok : goal.returns-clause-ok
 returns-clause-ok g c =
     let d = g.D.Disk in
+    let at = (goal.at.returns-clause-ok g c).After-clear_header in
     let x = d.image c.args.disk.now in
-    let mid = d.image c.bring_home.new.disk in
     let log = c.in_ok-header.ensures.ok in
     let reads = c.in_ok-header.ensures.reads in
     let copies = c.in_ok-bring_home.ensures.ok.copies in
     let n = c.in_ok-header.header.n in
-    let old = d.write_count c.args.disk.now in
-    let lawful = super_facts c.args.sup.now (length x) c.requires.fields in
-    let long : 33 ≤ length x = omega (arith, lawful.room, lawful.size) in
+    let long = long g at in
+    let copied = copied g at in
     let whole = g.met.D.Disk.is_image c.args.disk.now 2 (omega (arith, long)) in
-    let homes : c.as_slice.result.now ≡ homes_of x = c.as_slice.ensures.value ∙ log.homes in
-    let same : HasCopied (length c.as_slice.result.now) x mid = subst (λ (z : Image). HasCopied (length c.as_slice.result.now) z mid) reads.image copies.copied in
-    let copied : HasCopied (length (homes_of x)) x mid = subst (λ (m : ℕ). HasCopied m x mid) (ap length homes) same in
-    let count : length c.as_slice.result.now ≡ n = ap length homes ∙ homes_counted x log.lawful whole ∙ sym log.count in
+    let count : length c.as_slice.result.now ≡ n = ap length (homes g at) ∙ homes_counted x log.lawful whole ∙ sym log.count in
     let clear = c.in_ok-clear_header.ensures.ok in
     let holds = d.holding (d.name c.args.disk.now) in
     let read = d.sync_count c.read_header.new.disk in
     record {
       lawful = log.lawful;
       count = log.count;
-      image = clear.image ∙ cleared x mid (omega (arith, long)) (λ none. c.if-header-eq0.false (log.count ∙ none)) copied;
-      none = ap logged_count clear.image ∙ none_cleared mid (omega (arith, long, copied.size));
+      image = clear.image ∙ cleared x (d.image c.bring_home.new.disk) (omega (arith, long)) (some g at) copied;
+      none = ap logged_count clear.image ∙ none_cleared (d.image c.bring_home.new.disk) (omega (arith, long, copied.size));
       writes = clear.writes ∙ ap one_more (copies.writes ∙ ap (counted (d.write_count c.read_header.new.disk)) count ∙ ap (λ (w : ℕ). counted w n) reads.writes)
-          ∙ sym (ap (counted old) (cond-false _ 0 (n + 1) (ne_eqb n 0 c.if-header-eq0.false) ∙ add-one n));
+          ∙ sym (ap (counted (d.write_count c.args.disk.now)) (cond-false _ 0 (n + 1) (ne_eqb n 0 c.if-header-eq0.false) ∙ add-one n));
       faults = clear.faults ∙ copies.faults ∙ log.faults;
       unwritten = λ none. absurd (c.if-header-eq0.false none);
       settles = record {
@@ -94,19 +104,7 @@ returns-clause-ok g c =
     }
 
 pub returns-clause-stops : goal.returns-clause-stops
-returns-clause-stops g c =
-    let d = g.D.Disk in
-    let x = d.image c.args.disk.now in
-    let log = c.in_ok-header.ensures.ok in
-    let reads = c.in_ok-header.ensures.reads in
-    let lawful = super_facts c.args.sup.now (length x) c.requires.fields in
-    let long : 33 ≤ length x = omega (arith, lawful.room, lawful.size) in
-    let homes : c.as_slice.result.now ≡ homes_of x = c.as_slice.ensures.value ∙ log.homes in
-    let same : HasCopied (length c.as_slice.result.now) x (d.image c.bring_home.new.disk) = subst (λ (z : Image). HasCopied (length c.as_slice.result.now) z (d.image c.bring_home.new.disk)) reads.image c.in_ok-bring_home.ensures.ok.copies.copied in
-    let copied : HasCopied (length (homes_of x)) x (d.image c.bring_home.new.disk) = subst (λ (n : ℕ). HasCopied n x (d.image c.bring_home.new.disk)) (ap length homes) same in
-    stops_clearing d c.args.disk.now c.read_header.new.disk c.bring_home.new.disk c.clear_header.new.disk c.requires.settled
-    long log.lawful (λ none. c.if-header-eq0.false (log.count ∙ none)) reads copied c.in_ok-bring_home.ensures.stops c.in_ok-clear_header.ensures.stops
-    (λ free. c.in_ok-clear_header.ensures.fails.plain (ap d.holding (c.in_ok-bring_home.ensures.fails.name ∙ reads.name) ∙ free))
+returns-clause-stops g c = stops g (goal.at.returns-clause-stops g c).After-clear_header
 
 pub returns-in_err-header-clause-memory : goal.returns-in_err-header-clause-memory
 returns-in_err-header-clause-memory g c =
