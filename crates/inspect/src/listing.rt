@@ -58,6 +58,7 @@ pub fn list_disk<D: Disk, O: Write>(
 }
 
 // The rows of the files of a disk that was checked.
+#[tactic(auto, using(blocks::specs::Lemmas::Reads::reads_none, blocks::specs::Lemmas::Reads::reads_then))]
 fn gather_rows<D: Disk>(alloc: Global, disk: &mut D) -> Result<Vec<Row>, GatherFault>
     requires { verdict (D.image disk.old) ≡ None }
     ensures rows { IfOk result (λ rows. rows.items ≡ rows_of (recovered (D.image disk.old))) }
@@ -76,6 +77,7 @@ fn gather_rows<D: Disk>(alloc: Global, disk: &mut D) -> Result<Vec<Row>, GatherF
 
 // Adds the row of the file of a number, if there is one. The blocks are room for its inode, and for
 // blocks of addresses.
+#[tactic(auto, using(blocks::specs::Lemmas::Reads::reads_none, blocks::specs::Lemmas::Reads::reads_then))]
 fn add_row<D: Disk>(
     alloc: Global,
     disk: &mut D,

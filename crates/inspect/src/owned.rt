@@ -108,6 +108,7 @@ pub fn add_owned<D: Disk>(
 }
 
 // The blocks that files own, file by file.
+#[tactic(auto, using(blocks::specs::Lemmas::Reads::reads_none, blocks::specs::Lemmas::Reads::reads_then))]
 pub fn owned_by_all<D: Disk>(
     alloc: Global,
     disk: &mut D,

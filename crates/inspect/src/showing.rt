@@ -52,6 +52,7 @@ pub fn show_file<D: Disk, O: Write>(
 }
 
 // The blocks of the file of a number, on a disk that was checked; None where there is no such file.
+#[tactic(auto, using(blocks::specs::Lemmas::Reads::reads_none, blocks::specs::Lemmas::Reads::reads_then))]
 fn blocks_of<D: Disk>(
     alloc: Global,
     disk: &mut D,

@@ -30,7 +30,7 @@ use Rattle.messages.specs.Events.{is_last}
 use Rattle.player.specs.Opening.{IsPlayedOn, IsReadyOver, KeepsSome}
 use Rattle.player.specs.Stepping.{KeepOps, KeepsOfSources, Ringed, MakesRingedStep, MakesTurn, MakesTurns, board_herald, ring_ends}
 use Rattle.player.specs.Turns.{IfLast}
-use Rattle.player.proofs.Disks.{faulty}
+use Rattle.player.specs.Disks.{faulty}
 
 -- no committed group is lost, and the disk is the same one
 pub record KeepsOn {D N : Type 0} (disk : Ghosts D N) (k m : Ringed D) : Type 0 where

@@ -2,7 +2,6 @@ pub mod Plays
 pub mod Refused
 pub mod Openings
 pub mod Steps
-mod Disks
 pub mod Keeping
 pub mod Seats
 pub mod Shown

@@ -25,7 +25,7 @@ use Rattle.player.specs.Opening.{IsOpenedOver}
 use Rattle.player.specs.Stepping.{Ringed}
 use Rattle.kernel.specs.declared.types.OpenFault.{OpenFault}
 use Rattle.player.specs.declared.player.Player.{Player}
-use Rattle.player.proofs.Disks.{faulty}
+use Rattle.player.specs.Disks.{faulty}
 use Rattle.history.specs.Lemmas.Leaving.{leaves_wider}
 use Rattle.player.proofs.Keeping.{recovers_before}
 

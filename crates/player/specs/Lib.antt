@@ -6,3 +6,4 @@ pub mod Opening
 pub mod Showing
 pub mod Refusals
 pub mod Looks
+pub mod Disks

@@ -16,7 +16,6 @@ mod recovering;
 mod refusals;
 mod replaying;
 mod showing;
-mod stepping;
 mod turns;
 
 pub use checking::{check_disk, check_disk_all};

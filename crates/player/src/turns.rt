@@ -30,8 +30,8 @@ ghost use Rattle.player.specs.Turns.{event_of};
 
 use crate::meeting::Meeting;
 use crate::player::Player;
-use crate::stepping::make_steps;
 use blocks::{Disk, FaultyDisk, Kind};
+use calls::make_steps;
 use clients::sources;
 use kernel::{Kernel, OpenFault, Step};
 use messages::Event;

@@ -3,9 +3,13 @@ use Rattle.std.proofs.Common.{◌≡◌, ℕ, ◌∙◌, false, List, Option, Ok
 use Rattle.std.specs.Prelude.{IfErr, IfOk, Result, option_map}
 use Rattle.std.specs.Result.{IsErrAnd, IsOkAnd}
 use Rattle.blocks.specs.contracts.memory.MemDiskDisk.TheImpl.{ghosts}
+use Rattle.blocks.specs.declared.disk.Disk.{Ghosts}
 use Rattle.blocks.specs.declared.errors.NoMemory.{NoMemory as MemoryRefused}
+use Rattle.blocks.specs.declared.faulty.FaultyDisk.{FaultyDisk}
+use Rattle.blocks.specs.declared.faulty.Trap.{Trap}
 use Rattle.blocks.specs.declared.memory.MemDisk.{MemDisk}
 use Rattle.model.specs.Files.{Files}
+use Rattle.player.specs.Afterwards.{IsUnopenedOver}
 use Rattle.player.specs.Opening.{IsArmed, IsOpenedOver}
 use Rattle.scripts.specs.declared.schedule.Word.{Word}
 use Rattle.scripts.specs.declared.script.Task.{Task}
@@ -13,7 +17,7 @@ use Rattle.crash_check.specs.declared.fault.StopsFault.{StopsFault}
 use Rattle.crash_check.specs.declared.fault.StopsFault.TheVariants.{Mismatch}
 use Rattle.kernel.specs.declared.types.OpenFault.{OpenFault}
 use Rattle.crash_check.specs.Images.{HasFiles, is_want_of_memory, kept_files, new_image}
-use Rattle.stops.specs.Trials.{Fails, HasPlayedOn, IsKeptOf, IsTried, Loses, MemoryPlayer, RunsTo, memory}
+use Rattle.stops.specs.Trials.{Fails, HasPlayedOn, IsKeptOf, IsTried, IsUnopenedNew, Loses, MemoryPlayer, RunsTo, memory}
 use Rattle.stops.specs.declared.trial.Played.{Played}
 
 module _ (words : List Word) (stop : ℕ) (player last : MemoryPlayer) (disk : MemDisk) (is_disk : disk ≡ last.kernel.store.volume.device.inner) where
@@ -63,9 +67,16 @@ pub handed_on : {A E F : Type 0} (made : Result A E) (r : Result A F) (P : A →
 handed_on made (Ok x) P is has = subst (λ m. IfOk m P) is has
 handed_on made (Err _) P is has = tt
 
--- a mismatch is a refusal for another cause than want of memory
-pub refused_so : {A D : Type 0} (made : Result A (OpenFault × D)) (r : Result A StopsFault) (U : OpenFault × D → Type 0) (X : Type 0) → IfErr r (λ f. f ≡ Mismatch → IsErrAnd made (λ e. is_want_of_memory e.0 ≡ false))
-    → IfErr made U → ((e : OpenFault × D) → is_want_of_memory e.0 ≡ false → U e → X) → IfErr r (λ f. f ≡ Mismatch → X)
-refused_so made (Ok _) U X other refused so = tt
-refused_so (Ok _) (Err f) U X other refused so = λ mismatch. absurd (other mismatch)
-refused_so (Err e) (Err f) U X other refused so = λ mismatch. so e (other mismatch) refused
+-- over a new image no player was opened: a mismatch is a refusal for another cause than want of memory
+pub unopened_new : {A D N : Type 0} (below : Ghosts D N) (disk : Ghosts (FaultyDisk D) (N × Trap)) (processes : ℕ) (before : D) (made : Result A (OpenFault × D)) (r : Result A StopsFault) → below.image before ≡ new_image
+    → IfErr r (λ f. f ≡ Mismatch → IsErrAnd made (λ e. is_want_of_memory e.0 ≡ false)) → IfErr made (λ e. IsUnopenedOver disk processes before e.1 e.0) → IfErr r (λ f. f ≡ Mismatch → IsUnopenedNew below disk processes)
+unopened_new below disk processes before made (Ok _) new other refused = tt
+unopened_new below disk processes before (Ok _) (Err f) new other refused = λ mismatch. absurd (other mismatch)
+unopened_new below disk processes before (Err e) (Err f) new other refused = λ mismatch. record {
+  before = before;
+  now = e.1;
+  fault = e.0;
+  new = new;
+  unopened = refused;
+  other = other mismatch;
+}

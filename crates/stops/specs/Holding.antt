@@ -1,5 +1,5 @@
 -- The runs of a script over a disk that holds writes back, and the images that their stops may leave.
-use Rattle.std.specs.Prelude.{◌≡◌, ◌⊎◌, ◌+◌, ◌-◌, ℕ, zero, suc, Bool, true, List, length, min, option_map, ◌^◌}
+use Rattle.std.specs.Prelude.{◌≡◌, ◌⊎◌, ◌+◌, ◌-◌, ℕ, zero, suc, Bool, List, length, min, option_map, ◌^◌}
 use Rattle.blocks.specs.FaultyDisk.{inner_of, kind_of, trap_of}
 use Rattle.blocks.specs.SyncDisk.{held_of}
 use Rattle.blocks.specs.contracts.sync.SyncDiskDisk.TheImpl.{ghosts}
@@ -16,7 +16,7 @@ use Rattle.crash_check.specs.Choices.{HasAllDue, IsChoice, choice_count, due_fil
 use Rattle.crash_check.specs.Images.{HasFiles, kept_files}
 use Rattle.crash_check.specs.declared.choices.Due.{Due}
 use Rattle.messages.specs.declared.events.Event.{Event}
-use Rattle.stops.specs.Trials.{HasPlayed, IsUnopenedNew, MakesRun}
+use Rattle.stops.specs.Trials.{HasPlayed, IsUnopenedNew, MakesRun, faulty}
 use Rattle.stops.specs.declared.held_trial.Calls.{Calls}
 use Rattle.stops.specs.declared.held_trial.Calls.TheVariants.{Writes, Syncs}
 use Rattle.stops.specs.declared.held_trial.HeldRun.{HeldRun}
@@ -28,29 +28,11 @@ HeldDisk = FaultyDisk SyncDisk
 
 -- what contracts see of one
 abbrev pub below : Ghosts HeldDisk (Unit {0} × Trap)
-below = record {
-  name = λ d. (tt, d.trap);
-  image = λ d. ghosts.image d.inner;
-  moment = λ d. ghosts.moment d.inner;
-  leaves = λ d. ghosts.leaves d.inner;
-  write_count = λ d. d.writes;
-  fault_count = λ d. d.faults;
-  sync_count = λ d. ghosts.sync_count d.inner;
-  holding = λ n. true;
-}
+below = faulty ghosts
 
 -- and of one over that, of which one write is not made
 abbrev pub over : Ghosts (FaultyDisk HeldDisk) ((Unit {0} × Trap) × Trap)
-over = record {
-  name = λ d. (below.name d.inner, d.trap);
-  image = λ d. below.image d.inner;
-  moment = λ d. below.moment d.inner;
-  leaves = λ d. below.leaves d.inner;
-  write_count = λ d. d.writes;
-  fault_count = λ d. d.faults;
-  sync_count = λ d. below.sync_count d.inner;
-  holding = λ n. true;
-}
+over = faulty below
 
 -- a player over it
 abbrev pub HeldPlayer : Type 0

@@ -18,18 +18,22 @@ use Rattle.player.specs.declared.turns.Outcome.{Outcome}
 use Rattle.crash_check.specs.Images.{HasFiles, is_want_of_memory, kept_files, new_image}
 use Rattle.stops.specs.declared.trial.Played.{Played}
 
--- what contracts see of a disk in memory of which one call fails
-abbrev pub memory : Ghosts (FaultyDisk MemDisk) (Unit {0} × Trap)
-memory = record {
-  name = λ d. (tt, d.trap);
-  image = λ d. ghosts.image d.inner;
-  moment = λ d. ghosts.moment d.inner;
-  leaves = λ d. ghosts.leaves d.inner;
+-- what contracts see of a disk of which one call fails, over another
+abbrev pub faulty : {D N : Type 0} → Ghosts D N → Ghosts (FaultyDisk D) (N × Trap)
+faulty disk = record {
+  name = λ d. (disk.name d.inner, d.trap);
+  image = λ d. disk.image d.inner;
+  moment = λ d. disk.moment d.inner;
+  leaves = λ d. disk.leaves d.inner;
   write_count = λ d. d.writes;
   fault_count = λ d. d.faults;
-  sync_count = λ d. ghosts.sync_count d.inner;
-  holding = λ n. false;
+  sync_count = λ d. disk.sync_count d.inner;
+  holding = λ n. disk.holding n.0;
 }
+
+-- over a disk in memory
+abbrev pub memory : Ghosts (FaultyDisk MemDisk) (Unit {0} × Trap)
+memory = faulty ghosts
 
 -- a player over one
 abbrev pub MemoryPlayer : Type 0

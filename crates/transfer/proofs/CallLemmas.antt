@@ -78,15 +78,19 @@ module _ {D N : Type 0} (disk : Ghosts D N) where
 
   -- ---- behind the call that made the file, or emptied it
 
-  module _ (inum : Option ℕ) (bytes : List ℕ) (k l : Plain D) (i : ℕ) (below : i < length (files_on disk.image k))
-      (place : IsPlace (files_on disk.image k) inum i) (begun : files_on disk.image l ≡ put_at (files_on disk.image k) i []) where
+  pub record Begins (inum : Option ℕ) (k l : Plain D) (i : ℕ) : Type 0 where
+    pub below : i < length (files_on disk.image k)
+    pub place : IsPlace (files_on disk.image k) inum i
+    pub files : files_on disk.image l ≡ put_at (files_on disk.image k) i []
+
+  module _ {inum : Option ℕ} {k l : Plain D} {i : ℕ} (begins : Begins inum k l i) (bytes : List ℕ) where
     -- what was put behind it
-    pub put_behind : (more : List ℕ) (new : Files) → new ≡ put_at (files_on disk.image l) i more → new ≡ put_at (files_on disk.image k) i more
+    put_behind : (more : List ℕ) (new : Files) → new ≡ put_at (files_on disk.image l) i more → new ≡ put_at (files_on disk.image k) i more
     put_behind more new is =
-        is ∙ ap (λ (files : Files). put_at files i more) begun ∙ put_at_again (files_on disk.image k) i [] more below
+        is ∙ ap (λ (files : Files). put_at files i more) begins.files ∙ put_at_again (files_on disk.image k) i [] more begins.below
 
     pub all_behind : (new : Files) → new ≡ put_at (files_on disk.image l) i bytes → PutsAll (files_on disk.image k) inum bytes new i
-    all_behind new is = record { place = place; files = put_behind bytes new is }
+    all_behind new is = record { place = begins.place; files = put_behind bytes new is }
 
     pub part_behind : (y : Image) → PutsPart i bytes (image_on disk.image l) y → PutsPart i bytes (image_on disk.image k) y
     part_behind y part = record {
@@ -97,17 +101,17 @@ module _ {D N : Type 0} (disk : Ghosts D N) where
     }
 
     first_behind : (new : Files) → MayPut (files_on disk.image l) (Some i) bytes new → MayPut (files_on disk.image k) inum bytes new
-    first_behind new (inl same) = inr (record { number = i; place = place; count = 0; files = same ∙ begun })
+    first_behind new (inl same) = inr (record { number = i; place = begins.place; count = 0; files = same ∙ begins.files })
     first_behind new (inr first) = inr (record {
       number = i;
-      place = place;
+      place = begins.place;
       count = first.count;
       files = put_behind (take first.count bytes) new
           (first.files ∙ ap (λ (n : ℕ). put_at (files_on disk.image l) n (take first.count bytes)) first.place.0);
     })
 
     pub part_first : (y : Image) → PutsPart i bytes (image_on disk.image k) y → MayPut (files_on disk.image k) inum bytes (files_of y)
-    part_first y part = inr (record { number = i; place = place; count = part.count; files = part.files })
+    part_first y part = inr (record { number = i; place = begins.place; count = part.count; files = part.files })
 
     pub cut_behind : (e : D) (cause : CallFault) → Rests disk.fault_count k → AreAnswered disk k l → IsCutOff disk (Some i) bytes l.store.volume.device e cause →
         IsCutOff disk inum bytes k.store.volume.device e cause

@@ -40,12 +40,20 @@ pub(crate) fn fill<D: Disk, E: Disk, P: Progress>(
         kernel.old.opening kernel.new.store.volume.device) }
     ensures reads { OnlyReads D.Disk old.old old.new }
     ensures faults { OnOk result (D.fault_count old.new ≡ D.fault_count old.old) }
-    ensures opening { kernel.new.opening ≡ kernel.old.opening }
-    ensures name { E.name kernel.new.store.volume.device ≡ E.name kernel.old.store.volume.device }
+    ensures stays { StaysOver E.Disk kernel.old kernel.new }
 {
     create_numbers(kernel, &source.kinds)?;
     remove_free(kernel, &source.kinds)?;
-    write_files(alloc, old, source, kernel, progress)
+    let mut block = Block::zeroed(alloc)?;
+    let mut copied = 0;
+    for (k, kind) in source.kinds.iter().enumerate() {
+        if *kind != 0 {
+            write_file(alloc, old, source, k as u32 + 1, kernel, &mut block)?;
+            copied += 1;
+            progress.copied(copied, source.files);
+        }
+    }
+    Ok(())
 }
 
 // Makes the numbers from 1 on, as many as there are types.
@@ -60,8 +68,7 @@ fn create_numbers<E: Disk>(kernel: &mut Sole<E>, kinds: &[u16]) -> Result<(), Ca
         kernel.new) }
     ensures refused { IfErr result (IsUnanswered E.Disk
         kernel.old.opening kernel.new.store.volume.device) }
-    ensures opening { kernel.new.opening ≡ kernel.old.opening }
-    ensures name { E.name kernel.new.store.volume.device ≡ E.name kernel.old.store.volume.device }
+    ensures stays { StaysOver E.Disk kernel.old kernel.new }
 {
     for kind in kinds {
         let Some(_number) = create(kernel, kind_or_plain(*kind))? else {
@@ -91,8 +98,7 @@ fn remove_free<E: Disk>(kernel: &mut Sole<E>, kinds: &[u16]) -> Result<(), CallF
         kernel.new) }
     ensures refused { IfErr result (IsUnanswered E.Disk
         kernel.old.opening kernel.new.store.volume.device) }
-    ensures opening { kernel.new.opening ≡ kernel.old.opening }
-    ensures name { E.name kernel.new.store.volume.device ≡ E.name kernel.old.store.volume.device }
+    ensures stays { StaysOver E.Disk kernel.old kernel.new }
 {
     for (k, kind) in kinds.iter().enumerate() {
         if *kind == 0 {
@@ -102,41 +108,9 @@ fn remove_free<E: Disk>(kernel: &mut Sole<E>, kinds: &[u16]) -> Result<(), CallF
     Ok(())
 }
 
-// Writes the bytes of the files, which are all there without them.
-fn write_files<D: Disk, E: Disk, P: Progress>(
-    alloc: Global,
-    old: &mut D,
-    source: &Source,
-    kernel: &mut Sole<E>,
-    progress: &mut P,
-) -> Result<(), CopyFault>
-    requires source { IsSourceOf (D.image old.old) source.now }
-    requires empty { Holds E.Disk (2 * length source.now.kinds.items)
-        (map without_bytes (files_of (recovered (D.image old.old)))) kernel.old }
-    ensures written { OnOk result (Holds E.Disk (92 * length source.now.kinds.items)
-        (files_of (recovered (D.image old.old))) kernel.new) }
-    ensures refused { IfErr result (IsUnwritten D.Disk E.Disk
-        (BreaksOff (files_of (recovered (D.image old.old)))) old.old old.new
-        kernel.old.opening kernel.new.store.volume.device) }
-    ensures reads { OnlyReads D.Disk old.old old.new }
-    ensures faults { OnOk result (D.fault_count old.new ≡ D.fault_count old.old) }
-    ensures opening { kernel.new.opening ≡ kernel.old.opening }
-    ensures name { E.name kernel.new.store.volume.device ≡ E.name kernel.old.store.volume.device }
-{
-    let mut block = Block::zeroed(alloc)?;
-    let mut copied = 0;
-    for (k, kind) in source.kinds.iter().enumerate() {
-        if *kind != 0 {
-            write_file(alloc, old, source, k as u32 + 1, kernel, &mut block)?;
-            copied += 1;
-            progress.copied(copied, source.files);
-        }
-    }
-    Ok(())
-}
-
 // Writes the bytes of the old file of a number to the new one, which is empty, piece by piece. The
 // block is room for the old one's: what it holds afterwards is not said.
+#[tactic(auto, using(blocks::specs::Lemmas::Reads::reads_then))]
 fn write_file<D: Disk, E: Disk>(
     alloc: Global,
     old: &mut D,

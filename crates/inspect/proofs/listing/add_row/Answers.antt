@@ -1,7 +1,6 @@
 use Rattle.std.proofs.Common.{◌∙◌, ◌++◌, length, ap, refl, sym, subst, arith}
 use Rattle.std.proofs.lemmas.List.{append-nil}
 use Rattle.blocks.specs.Disk.{Image}
-use Rattle.blocks.specs.Lemmas.Reads.{reads_then}
 use Rattle.model.specs.Log.{recovered}
 use Rattle.model.specs.Places.{addresses_in, pointers_in}
 use Rattle.inspect.specs.Gathering.{IsCheckedOf}
@@ -31,18 +30,10 @@ count_blocks-requires-clause-behind g c =
     names_at x (g.D.Disk.image c.inode.new.disk) c.args.i c.in_ok-inode.inode c.requires.checked.sound c.inode.ensures.reads.image c.in_ok-inode.ensures.ok c.requires.some
     (omega (arith, c.requires.below, count_recovered x c.args.image.now c.requires.checked))
 
-pub returns-in_err-blocks-clause-reads : goal.returns-in_err-blocks-clause-reads
-returns-in_err-blocks-clause-reads g c =
-    reads_then g.D.Disk c.args.disk.now c.inode.new.disk c.count_blocks.new.disk c.inode.ensures.reads c.count_blocks.ensures.reads
-
 pub returns-in_err-blocks-clause-faults : goal.returns-in_err-blocks-clause-faults
 returns-in_err-blocks-clause-faults g c =
     let count = g.D.Disk.fault_count in
     passed_on c.from_residual-in_err-blocks.result c.in_err-blocks.field-0.0 (count c.args.disk.now) (count c.inode.new.disk) (count c.count_blocks.new.disk) c.from_residual-in_err-blocks.ensures.1 c.in_ok-inode.ensures.faults c.in_err-blocks.ensures.faults
-
-pub returns-in_err-push-clause-reads : goal.returns-in_err-push-clause-reads
-returns-in_err-push-clause-reads g c =
-    reads_then g.D.Disk c.args.disk.now c.inode.new.disk c.count_blocks.new.disk c.inode.ensures.reads c.count_blocks.ensures.reads
 
 pub returns-in_err-push-clause-faults : goal.returns-in_err-push-clause-faults
 returns-in_err-push-clause-faults g c =
@@ -56,10 +47,6 @@ returns-clause-added g c =
     let inode = c.in_ok-inode.inode in
     let counted = c.in_ok-blocks.ensures.count ∙ ap (λ (z : Image). length (addresses_in (pointers_in (recovered z) inode))) c.inode.ensures.reads.image in
     c.in_ok-push.ensures.items ∙ ap (λ l. rows ++ l) (sym (rows_used y c.args.i c.in_ok-blocks.blocks inode c.in_ok-inode.ensures.ok c.if-inode-eq0.false counted))
-
-pub returns-clause-reads : goal.returns-clause-reads
-returns-clause-reads g c =
-    reads_then g.D.Disk c.args.disk.now c.inode.new.disk c.count_blocks.new.disk c.inode.ensures.reads c.count_blocks.ensures.reads
 
 pub returns-clause-faults : goal.returns-clause-faults
 returns-clause-faults g c = c.in_ok-blocks.ensures.faults ∙ c.in_ok-inode.ensures.faults

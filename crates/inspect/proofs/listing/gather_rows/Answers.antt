@@ -1,29 +1,18 @@
-use Rattle.std.proofs.Common.{◌∙◌, ◌+◌, ◌-◌, ◌++◌, ap, subst, sym, arith}
-use Rattle.std.specs.List.{flat_map, range_with_len}
+use Rattle.std.proofs.Common.{◌∙◌, ◌+◌, ◌++◌, ap, subst, sym, arith}
 use Rattle.blocks.specs.Disk.{Image}
-use Rattle.blocks.specs.Lemmas.Reads.{reads_none, reads_then}
+use Rattle.blocks.specs.Lemmas.Reads.{reads_then}
 use Rattle.model.specs.Layout.{inode_count_of}
 use Rattle.model.specs.Log.{recovered}
 use Rattle.inspect.specs.Gathering.{IsCheckedOf}
-use Rattle.inspect.specs.Listing.{rows_at, rows_of}
+use Rattle.inspect.specs.Listing.{rows_at}
 use Rattle.inspect.proofs.CauseLemmas.{passed_on}
 use Rattle.inspect.proofs.OwnedLemmas.{all_done, next_done, range_end, range_step}
 use Rattle.inspect.proofs.PlaceLemmas.{count_recovered}
 use Rattle.inspect.proofs.listing.gather_rows.Goals as goal
 
-pub returns-in_err-block-clause-reads : goal.returns-in_err-block-clause-reads
-returns-in_err-block-clause-reads g c = reads_none g.D.Disk c.args.disk.now
-
-pub returns-in_err-entries-clause-reads : goal.returns-in_err-entries-clause-reads
-returns-in_err-entries-clause-reads g c = reads_none g.D.Disk c.args.disk.now
-
 pub add_row-requires-clause-checked : goal.add_row-requires-clause-checked
 add_row-requires-clause-checked g c =
     subst (λ (z : Image). IsCheckedOf z c.in_ok-image.image) (sym c.loop-i.invariant.reads.image) c.in_ok-image.ensures.opened
-
-pub returns-in_err-add_row-clause-reads : goal.returns-in_err-add_row-clause-reads
-returns-in_err-add_row-clause-reads g c =
-    reads_then g.D.Disk c.args.disk.now c.loop-i.disk c.add_row.new.disk c.loop-i.invariant.reads c.add_row.ensures.reads
 
 pub returns-in_err-add_row-clause-faults : goal.returns-in_err-add_row-clause-faults
 returns-in_err-add_row-clause-faults g c =
@@ -32,26 +21,18 @@ returns-in_err-add_row-clause-faults g c =
 
 pub loop-i-preserved : goal.loop-i-preserved
 loop-i-preserved g c =
-    let d = g.D.Disk in
-    let x = d.image c.args.disk.now in
-    let y = recovered x in
-    let i = c.loop-i.i in
-    let n = inode_count_of y in
-    let rows = c.loop-i.rows.items in
+    let x = g.D.Disk.image c.args.disk.now in
     let before = c.loop-i.invariant in
     record {
-      reads = reads_then d c.args.disk.now c.loop-i.disk c.add_row.new.disk before.reads c.add_row.ensures.reads;
+      reads = reads_then g.D.Disk _ _ _ before.reads c.add_row.ensures.reads;
       faults = c.in_ok-add_row.ensures.faults ∙ before.faults;
-      added = next_done rows c.add_row.new.rows.items (rows_at y i) (flat_map (rows_at y) (range_with_len i (n - i))) (flat_map (rows_at y) (range_with_len (i + 1) (n - (i + 1)))) (rows_of y) before.added
-          (range_step (rows_at y) i n (omega (arith, c.loop-i-test.true, c.loop-i.auto.i-end, count_recovered x c.in_ok-image.image c.in_ok-image.ensures.opened)))
-          (c.in_ok-add_row.ensures.added ∙ ap (λ (z : Image). rows ++ rows_at (recovered z) i) before.reads.image);
+      added = next_done _ _ _ _ _ _ before.added
+          (range_step (rows_at (recovered x)) c.loop-i.i (inode_count_of (recovered x)) (omega (arith, c.loop-i-test.true, c.loop-i.auto.i-end, count_recovered x c.in_ok-image.image c.in_ok-image.ensures.opened)))
+          (c.in_ok-add_row.ensures.added ∙ ap (λ (z : Image). c.loop-i.rows.items ++ rows_at (recovered z) c.loop-i.i) before.reads.image);
     }
 
 pub returns-clause-rows : goal.returns-clause-rows
 returns-clause-rows g c =
     let x = g.D.Disk.image c.args.disk.now in
-    let y = recovered x in
-    let i = c.loop-i.i in
-    let n = inode_count_of y in
-    all_done c.loop-i.rows.items (flat_map (rows_at y) (range_with_len i (n - i))) (rows_of y) c.loop-i.invariant.added
-    (range_end (rows_at y) i n (omega (arith, c.loop-i-test.false, c.loop-i.auto.i-end, count_recovered x c.in_ok-image.image c.in_ok-image.ensures.opened)))
+    all_done _ _ _ c.loop-i.invariant.added
+    (range_end (rows_at (recovered x)) c.loop-i.i (inode_count_of (recovered x)) (omega (arith, c.loop-i-test.false, c.loop-i.auto.i-end, count_recovered x c.in_ok-image.image c.in_ok-image.ensures.opened)))

@@ -1,11 +1,10 @@
-use Rattle.std.proofs.Common.{◌≡◌, ◌∙◌, ◌+◌, ◌-◌, ◌++◌, ap, subst, arith}
-use Rattle.std.specs.List.{flat_map, range_with_len}
+use Rattle.std.proofs.Common.{◌≡◌, ◌∙◌, ◌+◌, ◌++◌, ap, subst, arith}
 use Rattle.blocks.specs.Disk.{Image}
-use Rattle.blocks.specs.Lemmas.Reads.{reads_none, reads_then}
+use Rattle.blocks.specs.Lemmas.Reads.{reads_then}
 use Rattle.model.specs.Layout.{inode_count_of, inode_of}
 use Rattle.model.specs.Log.{recovered}
 use Rattle.model.specs.declared.types.image.Dinode.{Dinode}
-use Rattle.inspect.specs.Owned.{owned_by_all, owned_in, owned_of}
+use Rattle.inspect.specs.Owned.{owned_in, owned_of}
 use Rattle.inspect.proofs.CauseLemmas.{failed_on, passed_on}
 use Rattle.inspect.proofs.OwnedLemmas.{all_done, next_done, range_end, range_step}
 use Rattle.inspect.proofs.PlaceLemmas.{count_recovered, names_at}
@@ -23,54 +22,29 @@ add_owned-requires-clause-behind g c =
 
 pub loop-i-preserved : goal.loop-i-preserved
 loop-i-preserved g c =
-    let d = g.D.Disk in
-    let x = d.image c.args.disk.now in
-    let y = recovered x in
-    let i = c.loop-i.i in
-    let n = inode_count_of y in
+    let x = g.D.Disk.image c.args.disk.now in
     let before = c.loop-i.invariant in
-    let same = before.reads.image in
-    let is = c.in_ok-inode.ensures.ok ∙ ap (λ (z : Image). inode_of (recovered z) i) same in
-    let added = subst (λ (z : Image). c.add_owned.new.owned.items ≡ c.loop-i.owned.items ++ owned_in (recovered z) i c.in_ok-inode.inode)
-    (c.inode.ensures.reads.image ∙ same) c.in_ok-add_owned.ensures.added in
-    let step = added ∙ ap (λ (e : Dinode). c.loop-i.owned.items ++ owned_in y i e) is in
+    let added = subst (λ (z : Image). c.add_owned.new.owned.items ≡ c.loop-i.owned.items ++ owned_in (recovered z) c.loop-i.i c.in_ok-inode.inode)
+    (c.inode.ensures.reads.image ∙ before.reads.image) c.in_ok-add_owned.ensures.added in
     record {
-      reads = reads_then d c.args.disk.now c.inode.new.disk c.add_owned.new.disk (reads_then d c.args.disk.now c.loop-i.disk c.inode.new.disk before.reads c.inode.ensures.reads)
-          c.add_owned.ensures.reads;
+      reads = reads_then g.D.Disk _ _ _ (reads_then g.D.Disk _ _ _ before.reads c.inode.ensures.reads) c.add_owned.ensures.reads;
       faults = c.in_ok-add_owned.ensures.faults ∙ c.in_ok-inode.ensures.faults ∙ before.faults;
-      added = next_done c.loop-i.owned.items c.add_owned.new.owned.items (owned_of y i) (flat_map (owned_of y) (range_with_len i (n - i)))
-          (flat_map (owned_of y) (range_with_len (i + 1) (n - (i + 1)))) (owned_by_all y) before.added
-          (range_step (owned_of y) i n (omega (arith, c.loop-i-test.true, count_recovered x c.args.image.now c.requires.checked))) step;
+      added = next_done _ _ _ _ _ _ before.added
+          (range_step (owned_of (recovered x)) c.loop-i.i (inode_count_of (recovered x)) (omega (arith, c.loop-i-test.true, count_recovered x c.args.image.now c.requires.checked)))
+          (added ∙ ap (λ (e : Dinode). c.loop-i.owned.items ++ owned_in (recovered x) c.loop-i.i e)
+          (c.in_ok-inode.ensures.ok ∙ ap (λ (z : Image). inode_of (recovered z) c.loop-i.i) before.reads.image));
     }
 
 pub returns-clause-all : goal.returns-clause-all
 returns-clause-all g c =
     let x = g.D.Disk.image c.args.disk.now in
-    let y = recovered x in
-    let i = c.loop-i.i in
-    let n = inode_count_of y in
-    all_done c.loop-i.owned.items (flat_map (owned_of y) (range_with_len i (n - i))) (owned_by_all y) c.loop-i.invariant.added
-    (range_end (owned_of y) i n (omega (arith, c.loop-i-test.false, count_recovered x c.args.image.now c.requires.checked)))
-
-pub returns-in_err-block-clause-reads : goal.returns-in_err-block-clause-reads
-returns-in_err-block-clause-reads g c = reads_none g.D.Disk c.args.disk.now
-
-pub returns-in_err-entries-clause-reads : goal.returns-in_err-entries-clause-reads
-returns-in_err-entries-clause-reads g c = reads_none g.D.Disk c.args.disk.now
-
-pub returns-in_err-inode-clause-reads : goal.returns-in_err-inode-clause-reads
-returns-in_err-inode-clause-reads g c =
-    reads_then g.D.Disk c.args.disk.now c.loop-i.disk c.inode.new.disk c.loop-i.invariant.reads c.inode.ensures.reads
+    all_done _ _ _ c.loop-i.invariant.added
+    (range_end (owned_of (recovered x)) c.loop-i.i (inode_count_of (recovered x)) (omega (arith, c.loop-i-test.false, count_recovered x c.args.image.now c.requires.checked)))
 
 pub returns-in_err-inode-clause-faults : goal.returns-in_err-inode-clause-faults
 returns-in_err-inode-clause-faults g c =
     let count = g.D.Disk.fault_count in
     failed_on c.from_residual-in_err-inode.result (count c.args.disk.now) (count c.loop-i.disk) (count c.inode.new.disk) c.from_residual-in_err-inode.ensures.1 c.loop-i.invariant.faults c.in_err-inode.ensures.faults
-
-pub returns-in_err-add_owned-clause-reads : goal.returns-in_err-add_owned-clause-reads
-returns-in_err-add_owned-clause-reads g c =
-    let d = g.D.Disk in
-    reads_then d c.args.disk.now c.inode.new.disk c.add_owned.new.disk (reads_then d c.args.disk.now c.loop-i.disk c.inode.new.disk c.loop-i.invariant.reads c.inode.ensures.reads) c.add_owned.ensures.reads
 
 pub returns-in_err-add_owned-clause-faults : goal.returns-in_err-add_owned-clause-faults
 returns-in_err-add_owned-clause-faults g c =

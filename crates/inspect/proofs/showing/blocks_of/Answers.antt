@@ -1,6 +1,5 @@
 use Rattle.std.proofs.Common.{◌≡◌, ◌∙◌, ◌++◌, ap, subst, arith}
 use Rattle.blocks.specs.Disk.{Image}
-use Rattle.blocks.specs.Lemmas.Reads.{reads_none, reads_then}
 use Rattle.model.specs.Layout.{inode_of}
 use Rattle.model.specs.Log.{recovered}
 use Rattle.model.specs.declared.types.image.Dinode.{Dinode}
@@ -50,28 +49,13 @@ returns-clause-blocks g c =
       all = added ∙ ap (λ l. l ++ owned_in y number c.in_ok-inode.inode) c.new-owned.ensures.items ∙ ap (λ (e : Dinode). owned_in y number e) is;
     }
 
-pub returns-in_err-block-clause-reads : goal.returns-in_err-block-clause-reads
-returns-in_err-block-clause-reads g c = reads_none g.D.Disk c.args.disk.now
-
-pub returns-in_err-inode-clause-reads : goal.returns-in_err-inode-clause-reads
-returns-in_err-inode-clause-reads g c = let d = g.D.Disk in reads_then d c.args.disk.now c.open.new.disk c.inode.new.disk c.open.ensures.reads c.inode.ensures.reads
-
 pub returns-in_err-inode-clause-faults : goal.returns-in_err-inode-clause-faults
 returns-in_err-inode-clause-faults g c =
     let count = g.D.Disk.fault_count in
     failed_on c.from_residual-in_err-inode.result (count c.args.disk.now) (count c.open.new.disk) (count c.inode.new.disk) c.from_residual-in_err-inode.ensures.1 c.in_ok-image.ensures.faults c.in_err-inode.ensures.faults
-
-pub returns-then-inode-eq0-clause-reads : goal.returns-then-inode-eq0-clause-reads
-returns-then-inode-eq0-clause-reads g c = let d = g.D.Disk in reads_then d c.args.disk.now c.open.new.disk c.inode.new.disk c.open.ensures.reads c.inode.ensures.reads
-
-pub returns-in_err-add_owned-clause-reads : goal.returns-in_err-add_owned-clause-reads
-returns-in_err-add_owned-clause-reads g c = let d = g.D.Disk in reads_then d c.args.disk.now c.inode.new.disk c.add_owned.new.disk (reads_then d c.args.disk.now c.open.new.disk c.inode.new.disk c.open.ensures.reads c.inode.ensures.reads) c.add_owned.ensures.reads
 
 pub returns-in_err-add_owned-clause-faults : goal.returns-in_err-add_owned-clause-faults
 returns-in_err-add_owned-clause-faults g c =
     let count = g.D.Disk.fault_count in
     passed_on c.from_residual-in_err-add_owned.result c.in_err-add_owned.field-0.0 (count c.args.disk.now) (count c.inode.new.disk) (count c.add_owned.new.disk) c.from_residual-in_err-add_owned.ensures.1
     (c.in_ok-inode.ensures.faults ∙ c.in_ok-image.ensures.faults) c.in_err-add_owned.ensures.faults
-
-pub returns-clause-reads : goal.returns-clause-reads
-returns-clause-reads g c = let d = g.D.Disk in reads_then d c.args.disk.now c.inode.new.disk c.add_owned.new.disk (reads_then d c.args.disk.now c.open.new.disk c.inode.new.disk c.open.ensures.reads c.inode.ensures.reads) c.add_owned.ensures.reads

@@ -2,7 +2,7 @@ use Rattle.std.proofs.Common.{◌∙◌, None, sym}
 use Rattle.std.proofs.lemmas.List.{drop_all}
 use Rattle.scripts.specs.declared.schedule.Word.TheVariants as word
 use Rattle.player.proofs.Plays.{next_word, one_played, last_played, all_played}
-use Rattle.player.proofs.Disks.{faulty}
+use Rattle.player.specs.Disks.{faulty}
 use Rattle.player.proofs.playing.make_turns.Goals as goal
 
 pub returns-then-is_last : goal.returns-then-is_last

@@ -1,7 +1,7 @@
 use Rattle.std.proofs.Common.{◌≡◌, length, None}
 use Rattle.player.specs.Stepping.{IsSeated}
 use Rattle.player.proofs.Plays.{PlayedSo}
-use Rattle.player.proofs.Disks.{faulty}
+use Rattle.player.specs.Disks.{faulty}
 use Rattle.player.proofs.playing.make_turns.Given as goal
 
 -- where no output is known, nothing is said of it

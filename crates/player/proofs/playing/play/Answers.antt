@@ -2,7 +2,7 @@ use Rattle.std.proofs.Common.{◌∙◌, sym}
 use Rattle.std.proofs.lemmas.List.{drop_all}
 use Rattle.scripts.specs.declared.schedule.Word.TheVariants as word
 use Rattle.player.proofs.Plays.{next_word, one_played, last_played, breaks_here, all_played, all_broken}
-use Rattle.player.proofs.Disks.{faulty}
+use Rattle.player.specs.Disks.{faulty}
 use Rattle.player.proofs.playing.play.Goals as goal
 
 pub returns-in_err-print_event-clause-breaks : goal.returns-in_err-print_event-clause-breaks

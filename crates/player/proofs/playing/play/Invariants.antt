@@ -1,7 +1,7 @@
 use Rattle.std.proofs.Common.{◌≡◌, length}
 use Rattle.player.specs.Stepping.{IsSeated}
 use Rattle.player.proofs.Plays.{PlayedSo}
-use Rattle.player.proofs.Disks.{faulty}
+use Rattle.player.specs.Disks.{faulty}
 use Rattle.player.proofs.playing.play.Given as goal
 
 abbrev pub invariant-loop-word : goal.invariant-loop-word

@@ -7,7 +7,7 @@ use Rattle.player.proofs.Owning.{turns_ops}
 use Rattle.player.proofs.Plays.{counts_printed}
 use Rattle.player.proofs.Refused.{broken_off}
 use Rattle.player.specs.declared.refusals.ReplayRefusal.TheVariants.{Output}
-use Rattle.player.proofs.Disks.{faulty}
+use Rattle.player.specs.Disks.{faulty}
 use Rattle.player.proofs.playing.run.Goals as goal
 
 pub returns-in_err-play-clause-refused : goal.returns-in_err-play-clause-refused

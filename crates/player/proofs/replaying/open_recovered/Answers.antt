@@ -3,7 +3,7 @@ use Rattle.blocks.specs.Disk.{counted}
 use Rattle.model.specs.Log.{logged_count}
 use Rattle.wal.specs.Recovery.{writes_to_recover}
 use Rattle.opening.specs.Recoveries.{IsRecovered}
-use Rattle.player.proofs.Disks.{faulty}
+use Rattle.player.specs.Disks.{faulty}
 use Rattle.player.proofs.Openings.{none_counted, opened_again, over_name, over_only, recovered_then}
 use Rattle.player.proofs.replaying.open_recovered.Goals as goal
 

@@ -3,7 +3,7 @@ use Rattle.std.specs.List.{list_all}
 use Rattle.std.specs.Prelude.{IsTrue}
 use Rattle.scripts.specs.Schedule.{is_word_of}
 use Rattle.std.proofs.lemmas.Result.{IfErr-weaker, on_ok_weaker}
-use Rattle.player.proofs.Disks.{faulty}
+use Rattle.player.specs.Disks.{faulty}
 use Rattle.player.proofs.Keeping.{played_on}
 use Rattle.player.proofs.Seats.{same_inner}
 use Rattle.player.proofs.Refused.{not_begun, replayed, run_refused}

@@ -2,7 +2,7 @@ use Rattle.std.proofs.Common.{◌∙◌, ap, inr, length, subst, sym}
 use Rattle.std.proofs.lemmas.List.{length-replicate}
 use Rattle.clients.specs.Sources.{HaveSourceRings}
 use Rattle.rings.specs.Callers.{intake_names}
-use Rattle.player.proofs.Disks.{faulty}
+use Rattle.player.specs.Disks.{faulty}
 use Rattle.player.proofs.Openings.{opened_name, opened_only, opened_over}
 use Rattle.player.proofs.Seats.{new_seated}
 use Rattle.player.proofs.turns.open_player.Goals as goal

@@ -7,7 +7,7 @@ use Rattle.player.specs.Opening.{IsOpenedOver}
 use Rattle.crash_check.specs.Images.{new_image}
 use Rattle.crash_check.specs.Lemmas.NewImages.{new_empty}
 use Rattle.stops.specs.Holding.{below, over}
-use Rattle.stops.proofs.Runs.{handed_on, refused_so}
+use Rattle.stops.proofs.Runs.{handed_on, unopened_new}
 use Rattle.std.proofs.lemmas.Result.{IfOk-weaker}
 use Rattle.stops.proofs.held_trial.open.Goals as goal
 
@@ -36,11 +36,5 @@ pub returns-clause-seated : goal.returns-clause-seated
 returns-clause-seated c = handed_on c.open_player.result c.opened.result _ c.opened.ensures.player c.open_player.ensures.seated
 
 pub returns-clause-fails : goal.returns-clause-fails
-returns-clause-fails c = refused_so c.open_player.result c.opened.result _ _ c.opened.ensures.fault c.open_player.ensures.refused (λ e other refused. record {
-  before = c.new-disk.result;
-  now = e.1;
-  fault = e.0;
-  new = ap ghosts.image c.new-disk.ensures.inner ∙ c.in_ok-held.ensures.image ∙ c.in_ok-image.ensures;
-  unopened = refused;
-  other = other;
-})
+returns-clause-fails c =
+    unopened_new _ _ _ c.new-disk.result c.open_player.result c.opened.result (ap ghosts.image c.new-disk.ensures.inner ∙ c.in_ok-held.ensures.image ∙ c.in_ok-image.ensures) c.opened.ensures.fault c.open_player.ensures.refused

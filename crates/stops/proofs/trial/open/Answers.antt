@@ -6,7 +6,7 @@ use Rattle.player.specs.Opening.{IsOpenedOver}
 use Rattle.crash_check.specs.Images.{new_image}
 use Rattle.crash_check.specs.Lemmas.NewImages.{new_empty}
 use Rattle.stops.specs.Trials.{memory}
-use Rattle.stops.proofs.Runs.{handed_on, refused_so}
+use Rattle.stops.proofs.Runs.{handed_on, unopened_new}
 use Rattle.stops.proofs.trial.open.Goals as goal
 
 pub returns-clause-opened : goal.returns-clause-opened
@@ -25,11 +25,5 @@ pub returns-clause-seated : goal.returns-clause-seated
 returns-clause-seated c = handed_on c.open_player.result c.opened.result _ c.opened.ensures.player c.open_player.ensures.seated
 
 pub returns-clause-fails : goal.returns-clause-fails
-returns-clause-fails c = refused_so c.open_player.result c.opened.result _ _ c.opened.ensures.fault c.open_player.ensures.refused (λ e other refused. record {
-  before = c.in_ok-disk.disk;
-  now = e.1;
-  fault = e.0;
-  new = c.in_ok-disk.ensures;
-  unopened = refused;
-  other = other;
-})
+returns-clause-fails c =
+    unopened_new _ _ _ c.in_ok-disk.disk c.open_player.result c.opened.result c.in_ok-disk.ensures c.opened.ensures.fault c.open_player.ensures.refused

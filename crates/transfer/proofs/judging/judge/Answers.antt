@@ -1,5 +1,6 @@
 use Rattle.std.proofs.Common.{◌≡◌, ◌∙◌, ℕ, ap, subst, inl, inr, arith}
 use Rattle.std.proofs.lemmas.Result.{err_from_is_err_and}
+use Rattle.blocks.specs.Calls.{OnlyReads}
 use Rattle.blocks.specs.Disk.{Image, Rose}
 use Rattle.blocks.specs.Lemmas.Reads.{reads_then}
 use Rattle.offline.specs.Recovered.{IsRecoveredOf}
@@ -7,10 +8,45 @@ use Rattle.model.specs.Layout.{form_of, greatest_size}
 use Rattle.model.specs.Log.{recovered}
 use Rattle.model.specs.Verdict.{verdict}
 use Rattle.model.specs.declared.types.image.Form.{Form}
-use Rattle.transfer.specs.Judging.{FindsOld, IsCheckedOf}
+use Rattle.transfer.specs.Judging.{FindsOld}
 use Rattle.transfer.specs.Needs.{free_count, needed_blocks}
 use Rattle.transfer.proofs.ImageLemmas.{form_recovered, old_told, open_fault}
+use Rattle.transfer.proofs.judging.judge.Given.{Over}
+use Rattle.transfer.proofs.judging.judge.Goals.{After-greatest_size, After-needed_blocks}
 use Rattle.transfer.proofs.judging.judge.Goals as goal
+
+-- the old file was found
+module _ (g : Over) (c : After-greatest_size g) where
+  abbrev y : Image
+  y = recovered (g.D.Disk.image c.args.disk.now)
+
+  opened : OnlyReads g.D.Disk c.args.disk.now c.open.new.disk
+  opened = reads_then g.D.Disk _ _ _ c.check.ensures.reads c.open.ensures.reads
+
+  reads : OnlyReads g.D.Disk c.args.disk.now c.old_blocks.new.disk
+  reads = reads_then g.D.Disk _ _ _ opened c.old_blocks.ensures.reads
+
+  faults : g.D.Disk.fault_count c.old_blocks.new.disk ≡ g.D.Disk.fault_count c.args.disk.now
+  faults = c.in_ok-old.ensures.faults ∙ c.in_ok-image.ensures.faults ∙ c.in_ok-check.ensures.faults
+
+  form : c.in_ok-image.image.form ≡ form_of y
+  form =
+      form_recovered (g.D.Disk.image c.args.disk.now) c.in_ok-image.image
+      (record { recovered = subst (λ (z : Image). IsRecoveredOf z c.in_ok-image.image) c.check.ensures.reads.image c.in_ok-image.ensures.ok; sound = c.in_ok-check.ensures.ok })
+
+  found : FindsOld y c.args.inum c.in_ok-old.old
+  found = subst (λ (z : Image). FindsOld (recovered z) c.args.inum c.in_ok-old.old) opened.image c.in_ok-old.ensures.found
+
+  greatest : c.greatest_size.result ≡ greatest_size (form_of y)
+  greatest = c.greatest_size.ensures ∙ ap greatest_size form
+
+-- and the free blocks were counted
+module _ (g : Over) (c : After-needed_blocks g) where
+  free : g.D.Disk.image c.old_blocks.new.disk ≡ g.D.Disk.image c.args.disk.now → c.in_ok-free.free ≡ free_count (recovered (g.D.Disk.image c.args.disk.now))
+  free same = c.in_ok-free.ensures.count ∙ ap (λ (z : Image). free_count (recovered z)) same
+
+  need : (told : Form) → c.in_ok-image.image.form ≡ told → c.needed_blocks.result ≡ needed_blocks told c.args.count
+  need told is = c.needed_blocks.ensures.count ∙ ap (λ (f : Form). needed_blocks f c.args.count) is
 
 pub returns-in_err-image-clause-refused : goal.returns-in_err-image-clause-refused
 returns-in_err-image-clause-refused g c =
@@ -38,70 +74,41 @@ returns-in_err-old-clause-refused g c =
 
 pub returns-then-count-greatest_size-clause-refused : goal.returns-then-count-greatest_size-clause-refused
 returns-then-count-greatest_size-clause-refused g c =
-    let d = g.D.Disk in
-    let x = d.image c.args.disk.now in
-    let first = c.check.ensures.reads in
-    let sound = c.in_ok-check.ensures.ok in
-    let read = reads_then d c.args.disk.now c.check.new.disk c.open.new.disk first c.open.ensures.reads in
-    let image = c.in_ok-image.image in
-    let checked : IsCheckedOf x image = record { recovered = subst (λ (z : Image). IsRecoveredOf z image) first.image c.in_ok-image.ensures.ok; sound = sound } in
-    let form : image.form ≡ form_of (recovered x) = form_recovered x image checked in
-    let old : FindsOld (recovered x) c.args.inum c.in_ok-old.old = subst (λ (z : Image). FindsOld (recovered z) c.args.inum c.in_ok-old.old) read.image c.in_ok-old.ensures.found in
-    let read_old = reads_then d c.args.disk.now c.open.new.disk c.old_blocks.new.disk read c.old_blocks.ensures.reads in
-    let faults : d.fault_count c.old_blocks.new.disk ≡ d.fault_count c.args.disk.now = c.in_ok-old.ensures.faults ∙ c.in_ok-image.ensures.faults ∙ c.in_ok-check.ensures.faults in
-    let size : c.greatest_size.result ≡ greatest_size (form_of (recovered x)) = c.greatest_size.ensures ∙ ap greatest_size form in
+    let at = (goal.at.returns-then-count-greatest_size-clause-refused g c).After-greatest_size in
+    let size = greatest g at in
     record {
-      cause = (sound, faults, old.plain, omega (arith, c.if-count-greatest_size.true, size));
-      reads = read_old;
+      cause = (c.in_ok-check.ensures.ok, faults g at, (found g at).plain, omega (arith, c.if-count-greatest_size.true, size));
+      reads = reads g at;
     }
 
 pub returns-then-needed_blocks-free-clause-refused : goal.returns-then-needed_blocks-free-clause-refused
 returns-then-needed_blocks-free-clause-refused g c =
-    let d = g.D.Disk in
-    let x = d.image c.args.disk.now in
-    let first = c.check.ensures.reads in
-    let sound = c.in_ok-check.ensures.ok in
-    let read = reads_then d c.args.disk.now c.check.new.disk c.open.new.disk first c.open.ensures.reads in
-    let image = c.in_ok-image.image in
-    let checked : IsCheckedOf x image = record { recovered = subst (λ (z : Image). IsRecoveredOf z image) first.image c.in_ok-image.ensures.ok; sound = sound } in
-    let form : image.form ≡ form_of (recovered x) = form_recovered x image checked in
-    let old : FindsOld (recovered x) c.args.inum c.in_ok-old.old = subst (λ (z : Image). FindsOld (recovered z) c.args.inum c.in_ok-old.old) read.image c.in_ok-old.ensures.found in
-    let read_old = reads_then d c.args.disk.now c.open.new.disk c.old_blocks.new.disk read c.old_blocks.ensures.reads in
-    let faults : d.fault_count c.old_blocks.new.disk ≡ d.fault_count c.args.disk.now = c.in_ok-old.ensures.faults ∙ c.in_ok-image.ensures.faults ∙ c.in_ok-check.ensures.faults in
-    let size : c.greatest_size.result ≡ greatest_size (form_of (recovered x)) = c.greatest_size.ensures ∙ ap greatest_size form in
-    let free : c.in_ok-free.free ≡ free_count (recovered x) = c.in_ok-free.ensures.count ∙ ap (λ (z : Image). free_count (recovered z)) read_old.image in
-    let need : c.needed_blocks.result ≡ needed_blocks (form_of (recovered x)) c.args.count = c.needed_blocks.ensures.count ∙ ap (λ (f : Form). needed_blocks f c.args.count) form in
-    let read_free = reads_then d c.args.disk.now c.old_blocks.new.disk c.free_blocks.new.disk read_old c.free_blocks.ensures.reads in
+    let at = goal.at.returns-then-needed_blocks-free-clause-refused g c in
+    let old = found g at.After-greatest_size in
+    let before = reads g at.After-greatest_size in
+    let free = free g at.After-needed_blocks before.image in
+    let need = need g at.After-needed_blocks _ (form g at.After-greatest_size) in
     record {
-      cause = (sound, c.in_ok-free.ensures.faults ∙ faults, old.plain, omega (arith, c.if-needed_blocks-free.true, need, free, old.count));
-      reads = read_free;
+      cause = (c.in_ok-check.ensures.ok, c.in_ok-free.ensures.faults ∙ faults g at.After-greatest_size, old.plain, omega (arith, c.if-needed_blocks-free.true, need, free, old.count));
+      reads = reads_then g.D.Disk _ _ _ before c.free_blocks.ensures.reads;
     }
 
 pub returns-clause-fit : goal.returns-clause-fit
 returns-clause-fit g c =
-    let d = g.D.Disk in
-    let x = d.image c.args.disk.now in
-    let first = c.check.ensures.reads in
-    let sound = c.in_ok-check.ensures.ok in
-    let read = reads_then d c.args.disk.now c.check.new.disk c.open.new.disk first c.open.ensures.reads in
-    let image = c.in_ok-image.image in
-    let checked : IsCheckedOf x image = record { recovered = subst (λ (z : Image). IsRecoveredOf z image) first.image c.in_ok-image.ensures.ok; sound = sound } in
-    let form : image.form ≡ form_of (recovered x) = form_recovered x image checked in
-    let old : FindsOld (recovered x) c.args.inum c.in_ok-old.old = subst (λ (z : Image). FindsOld (recovered z) c.args.inum c.in_ok-old.old) read.image c.in_ok-old.ensures.found in
-    let read_old = reads_then d c.args.disk.now c.open.new.disk c.old_blocks.new.disk read c.old_blocks.ensures.reads in
-    let faults : d.fault_count c.old_blocks.new.disk ≡ d.fault_count c.args.disk.now = c.in_ok-old.ensures.faults ∙ c.in_ok-image.ensures.faults ∙ c.in_ok-check.ensures.faults in
-    let size : c.greatest_size.result ≡ greatest_size (form_of (recovered x)) = c.greatest_size.ensures ∙ ap greatest_size form in
-    let free : c.in_ok-free.free ≡ free_count (recovered x) = c.in_ok-free.ensures.count ∙ ap (λ (z : Image). free_count (recovered z)) read_old.image in
-    let need : c.needed_blocks.result ≡ needed_blocks (form_of (recovered x)) c.args.count = c.needed_blocks.ensures.count ∙ ap (λ (f : Form). needed_blocks f c.args.count) form in
-    let read_free = reads_then d c.args.disk.now c.old_blocks.new.disk c.free_blocks.new.disk read_old c.free_blocks.ensures.reads in
+    let at = goal.at.returns-clause-fit g c in
+    let old = found g at.After-greatest_size in
+    let before = reads g at.After-greatest_size in
+    let size = greatest g at.After-greatest_size in
+    let free = free g at.After-needed_blocks before.image in
+    let need = need g at.After-needed_blocks _ (form g at.After-greatest_size) in
     record {
-      sound = sound;
+      sound = c.in_ok-check.ensures.ok;
       room = record {
         old = old.there;
         plain = old.plain;
         size = omega (arith, c.if-count-greatest_size.false, size);
         blocks = omega (arith, c.if-needed_blocks-free.false, need, free, old.count);
       };
-      reads = read_free;
-      faults = c.in_ok-free.ensures.faults ∙ faults;
+      reads = reads_then g.D.Disk _ _ _ before c.free_blocks.ensures.reads;
+      faults = c.in_ok-free.ensures.faults ∙ faults g at.After-greatest_size;
     }

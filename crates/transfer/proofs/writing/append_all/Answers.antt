@@ -1,4 +1,5 @@
-use Rattle.std.proofs.Common.{◌≡◌, ◌∙◌, ◌+◌, ◌-◌, ◌*◌, ◌<◌, ℕ, Bool, length, take, drop, Some, sym, ap, subst, refl, inl, arith}
+use Rattle.std.proofs.Common.{◌≡◌, ◌∙◌, ◌+◌, ◌-◌, ◌*◌, ◌<◌, ◌≢◌, ℕ, Bool, List, length, take, drop, Some, None, sym, ap, subst, refl, inl, arith}
+use Rattle.model.specs.Files.{file_in}
 use Rattle.model.specs.Layout.{form_of}
 use Rattle.model.specs.Lemmas.FileNumbers.{below_there}
 use Rattle.calls.specs.Files.{Appends, files_on}
@@ -12,7 +13,34 @@ use Rattle.transfer.proofs.CallLemmas.{answered_none, answered_then}
 use Rattle.transfer.proofs.PieceLemmas.{piece_inside}
 use Rattle.transfer.proofs.PlaceLemmas.{empty_put}
 use Rattle.transfer.proofs.StopLemmas.{led_by_piece, stays_first, stays_none, stays_then}
+use Rattle.transfer.proofs.writing.append_all.Given.{Over}
+use Rattle.transfer.proofs.writing.append_all.Goals.{After-append}
 use Rattle.transfer.proofs.writing.append_all.Goals as goal
+
+-- a piece, which is inside the bytes
+module _ (g : Over) (c : After-append g) where
+  abbrev from : ℕ
+  from = c.loop-piece.piece * 3072
+
+  abbrev piece : List ℕ
+  piece = take (c.min-to.result - from) (drop from c.args.bytes.now)
+
+  inside : from < length c.args.bytes.now
+  inside = piece_inside (length c.args.bytes.now) 3072 c.loop-piece.piece (omega arith) (omega (arith, c.loop-piece-test.true, c.div_ceil-piece-end.ensures))
+
+  there : file_in (files_on g.D.Disk.image c.args.kernel.now) c.args.number ≢ None
+  there = there_of_size _ 0 c.requires.empty
+
+  below : c.args.number < length (files_on g.D.Disk.image c.args.kernel.now)
+  below = below_there _ _ there
+
+  -- what a stop leaves of it
+  stays : StaysPut g.D.Disk (image_on g.D.Disk.image c.args.kernel.now) (Some c.args.number) c.args.bytes.now c.args.kernel.now c.append.new.kernel
+  stays =
+      stays_then g.D.Disk _ (Some c.args.number) _ _ c.loop-piece.kernel _ c.loop-piece.invariant.stays
+      (stays_first g.D.Disk _ (Some c.args.number) _ (AppendsFirst c.args.number piece) _ _ c.append.ensures.leaves c.append.ensures.stays
+      (λ new. led_by_piece _ (Some c.args.number) c.args.bytes.now c.args.number (refl, there) below _ new from piece c.loop-piece.invariant.files
+      (piece_first (image_on g.D.Disk.image c.args.kernel.now) (image_on g.D.Disk.image c.loop-piece.kernel) c.args.number c.args.bytes.now from c.min-to.result below c.loop-piece.invariant.files (omega (arith, inside)) c.min-to.ensures)))
 
 pub loop-piece-init : goal.loop-piece-init
 loop-piece-init g c =
@@ -39,87 +67,34 @@ append-requires-clause-room g c =
 
 pub returns-then-not-branch-clause-puts : goal.returns-then-not-branch-clause-puts
 returns-then-not-branch-clause-puts g c =
-    let d = g.D.Disk in
-    let k = c.args.kernel.now in
-    let m = c.loop-piece.kernel in
-    let e = c.append.new.kernel in
-    let i = c.args.number in
-    let bytes = c.args.bytes.now in
-    let from = c.loop-piece.piece * 3072 in
-    let to = c.min-to.result in
-    let inside : from < length bytes = piece_inside (length bytes) 3072 c.loop-piece.piece (omega arith) (omega (arith, c.loop-piece-test.true, c.div_ceil-piece-end.ensures)) in
-    part_put (image_on d.image k) (image_on d.image m) i bytes from to
-    (below_there (files_on d.image k) i (there_of_size _ 0 c.requires.empty)) c.loop-piece.invariant.files (omega (arith, inside)) c.min-to.ensures
-    (image_on d.image e)
-    (subst (λ (all : Bool). Appends all i (take (to - from) (drop from bytes)) (image_on d.image m) (image_on d.image e)) c.if-not-branch.true c.in_ok-append.ensures.appends)
+    let at = (goal.at.returns-then-not-branch-clause-puts g c).After-append in
+    let inside = inside g at in
+    part_put (image_on g.D.Disk.image c.args.kernel.now) (image_on g.D.Disk.image c.loop-piece.kernel) c.args.number c.args.bytes.now (from g at) c.min-to.result
+    (below g at) c.loop-piece.invariant.files (omega (arith, inside)) c.min-to.ensures (image_on g.D.Disk.image c.append.new.kernel)
+    (subst (λ (all : Bool). Appends all c.args.number (piece g at) (image_on g.D.Disk.image c.loop-piece.kernel) (image_on g.D.Disk.image c.append.new.kernel)) c.if-not-branch.true c.in_ok-append.ensures.appends)
 
 pub loop-piece-preserved : goal.loop-piece-preserved
 loop-piece-preserved g c =
-    let d = g.D.Disk in
+    let at = (goal.at.loop-piece-preserved g c).After-append in
     let k = c.args.kernel.now in
     let m = c.loop-piece.kernel in
     let e = c.append.new.kernel in
-    let i = c.args.number in
-    let bytes = c.args.bytes.now in
-    let from = c.loop-piece.piece * 3072 in
-    let to = c.min-to.result in
     let before = c.loop-piece.invariant in
     let call = c.in_ok-append.ensures in
-    let inside : from < length bytes = piece_inside (length bytes) 3072 c.loop-piece.piece (omega arith) (omega (arith, c.loop-piece-test.true, c.div_ceil-piece-end.ensures)) in
-    let there = there_of_size _ 0 c.requires.empty in
-    let below = below_there (files_on d.image k) i there in
-    let stays : StaysPut d (image_on d.image k) (Some i) bytes m e =
-    stays_first d (image_on d.image k) (Some i) bytes (AppendsFirst i (take (to - from) (drop from bytes))) m e c.append.ensures.leaves c.append.ensures.stays
-    (λ new. led_by_piece (files_on d.image k) (Some i) bytes i (refl, there) below (files_on d.image m) new from (take (to - from) (drop from bytes)) before.files
-    (piece_first (image_on d.image k) (image_on d.image m) i bytes from to below before.files (omega (arith, inside)) c.min-to.ensures)) in
-    let next : from + 3072 ≡ (c.loop-piece.piece + 1) * 3072 = omega arith in
+    let inside = inside g at in
+    let next : c.loop-piece.piece * 3072 + 3072 ≡ (c.loop-piece.piece + 1) * 3072 = omega arith in
     record {
-      answered = answered_then d k m e before.answered call.answered call.stays.opening;
+      answered = answered_then g.D.Disk k m e before.answered call.answered call.stays.opening;
       calls = omega (arith, call.answered.one_more, before.calls);
-      files = piece_put (image_on d.image k) (image_on d.image m) i bytes from to
-          (below_there (files_on d.image k) i (there_of_size _ 0 c.requires.empty)) before.files (omega (arith, inside)) c.min-to.ensures
-          (image_on d.image e)
-          (subst (λ (all : Bool). Appends all i (take (to - from) (drop from bytes)) (image_on d.image m) (image_on d.image e)) c.if-not-branch.false call.appends)
-          ∙ ap (λ (n : ℕ). put_at (files_on d.image k) i (take n bytes)) next;
-      stays = stays_then d (image_on d.image k) (Some i) bytes k m e before.stays stays;
+      files = piece_put (image_on g.D.Disk.image k) (image_on g.D.Disk.image m) c.args.number c.args.bytes.now (from g at) c.min-to.result
+          (below g at) before.files (omega (arith, inside)) c.min-to.ensures (image_on g.D.Disk.image e)
+          (subst (λ (all : Bool). Appends all c.args.number (piece g at) (image_on g.D.Disk.image m) (image_on g.D.Disk.image e)) c.if-not-branch.false call.appends)
+          ∙ ap (λ (n : ℕ). put_at (files_on g.D.Disk.image k) c.args.number (take n c.args.bytes.now)) next;
+      stays = stays g at;
     }
 
 pub returns-in_err-append-clause-stays : goal.returns-in_err-append-clause-stays
-returns-in_err-append-clause-stays g c =
-    let d = g.D.Disk in
-    let k = c.args.kernel.now in
-    let m = c.loop-piece.kernel in
-    let e = c.append.new.kernel in
-    let i = c.args.number in
-    let bytes = c.args.bytes.now in
-    let from = c.loop-piece.piece * 3072 in
-    let to = c.min-to.result in
-    let before = c.loop-piece.invariant in
-    let inside : from < length bytes = piece_inside (length bytes) 3072 c.loop-piece.piece (omega arith) (omega (arith, c.loop-piece-test.true, c.div_ceil-piece-end.ensures)) in
-    let there = there_of_size _ 0 c.requires.empty in
-    let below = below_there (files_on d.image k) i there in
-    let stays : StaysPut d (image_on d.image k) (Some i) bytes m e =
-    stays_first d (image_on d.image k) (Some i) bytes (AppendsFirst i (take (to - from) (drop from bytes))) m e c.append.ensures.leaves c.append.ensures.stays
-    (λ new. led_by_piece (files_on d.image k) (Some i) bytes i (refl, there) below (files_on d.image m) new from (take (to - from) (drop from bytes)) before.files
-    (piece_first (image_on d.image k) (image_on d.image m) i bytes from to below before.files (omega (arith, inside)) c.min-to.ensures)) in
-    stays_then d (image_on d.image k) (Some i) bytes k m e before.stays stays
+returns-in_err-append-clause-stays g c = stays g (goal.at.returns-in_err-append-clause-stays g c).After-append
 
 pub returns-then-not-branch-clause-stays : goal.returns-then-not-branch-clause-stays
-returns-then-not-branch-clause-stays g c =
-    let d = g.D.Disk in
-    let k = c.args.kernel.now in
-    let m = c.loop-piece.kernel in
-    let e = c.append.new.kernel in
-    let i = c.args.number in
-    let bytes = c.args.bytes.now in
-    let from = c.loop-piece.piece * 3072 in
-    let to = c.min-to.result in
-    let before = c.loop-piece.invariant in
-    let inside : from < length bytes = piece_inside (length bytes) 3072 c.loop-piece.piece (omega arith) (omega (arith, c.loop-piece-test.true, c.div_ceil-piece-end.ensures)) in
-    let there = there_of_size _ 0 c.requires.empty in
-    let below = below_there (files_on d.image k) i there in
-    let stays : StaysPut d (image_on d.image k) (Some i) bytes m e =
-    stays_first d (image_on d.image k) (Some i) bytes (AppendsFirst i (take (to - from) (drop from bytes))) m e c.append.ensures.leaves c.append.ensures.stays
-    (λ new. led_by_piece (files_on d.image k) (Some i) bytes i (refl, there) below (files_on d.image m) new from (take (to - from) (drop from bytes)) before.files
-    (piece_first (image_on d.image k) (image_on d.image m) i bytes from to below before.files (omega (arith, inside)) c.min-to.ensures)) in
-    stays_then d (image_on d.image k) (Some i) bytes k m e before.stays stays
+returns-then-not-branch-clause-stays g c = stays g (goal.at.returns-then-not-branch-clause-stays g c).After-append

@@ -2,28 +2,27 @@ use Rattle.std.proofs.Common.{◌≡◌, ◌∙◌, ap, length, set, subst, arit
 use Rattle.blocks.specs.Calls.{WritesOne}
 use Rattle.blocks.specs.Disk.{Image, block_at, one_more}
 use Rattle.blocks.specs.contracts.memory.MemDiskDisk.TheImpl.{ghosts}
+use Rattle.wal.specs.Recovery.{LeavesIfCalm}
 use Rattle.transfer.specs.Writing.{IsNoneOr}
 use Rattle.transfer.proofs.WritingLemmas.{counted_all, ended, ended_image, stops_after_sync, stops_synced, written_all}
+use Rattle.transfer.proofs.writing_out.write_all.Given.{Over}
+use Rattle.transfer.proofs.writing_out.write_all.Goals.{After-write_block}
 use Rattle.transfer.proofs.writing_out.write_all.Goals as goal
 
-pub returns-in_err-write_block-clause-stops : goal.returns-in_err-write_block-clause-stops
-returns-in_err-write_block-clause-stops g c =
-    let d = g.E.Disk in
-    let whole = ghosts.image c.args.memory.now in
+-- what a stop leaves once block 1 was written, or not
+stopped : (g : Over) (c : After-write_block g) → LeavesIfCalm g.E.Disk c.args.disk.now c.write_block.new.disk (IsNoneOr (g.E.Disk.image c.args.disk.now) (ghosts.image c.args.memory.now))
+stopped g c =
     let rest = c.in_ok-write_rest.ensures in
-    let write = subst (λ (x : Image). WritesOne d 1 (block_at x 1) c.write_block.result c.sync.new.self c.write_block.new.disk) rest.keeps c.write_block.ensures.writes in
-    stops_after_sync d c.write_block.result whole c.args.disk.now c.write_rest.new.disk c.sync.new.self c.write_block.new.disk c.requires.size c.requires.some
-    rest.written.image rest.stops c.sync.ensures.image c.sync.ensures.time c.in_ok-sync.ensures.ok write
+    stops_after_sync g.E.Disk c.write_block.result (ghosts.image c.args.memory.now) c.args.disk.now c.write_rest.new.disk c.sync.new.self c.write_block.new.disk c.requires.size c.requires.some
+    rest.written.image rest.stops c.sync.ensures.image c.sync.ensures.time c.in_ok-sync.ensures.ok
+    (subst (λ (x : Image). WritesOne g.E.Disk 1 (block_at x 1) c.write_block.result c.sync.new.self c.write_block.new.disk) rest.keeps c.write_block.ensures.writes)
+
+pub returns-in_err-write_block-clause-stops : goal.returns-in_err-write_block-clause-stops
+returns-in_err-write_block-clause-stops g c = stopped g (goal.at.returns-in_err-write_block-clause-stops g c).After-write_block
 
 pub returns-in_err-sync_if-clause-stops : goal.returns-in_err-sync_if-clause-stops
 returns-in_err-sync_if-clause-stops g c =
-    let d = g.E.Disk in
-    let whole = ghosts.image c.args.memory.now in
-    let rest = c.in_ok-write_rest.ensures in
-    let write = subst (λ (x : Image). WritesOne d 1 (block_at x 1) c.write_block.result c.sync.new.self c.write_block.new.disk) rest.keeps c.write_block.ensures.writes in
-    stops_synced d (IsNoneOr (d.image c.args.disk.now) whole) c.args.disk.now c.write_block.new.disk c.sync_if.new.disk c.sync_if.ensures.time
-    (stops_after_sync d c.write_block.result whole c.args.disk.now c.write_rest.new.disk c.sync.new.self c.write_block.new.disk c.requires.size c.requires.some
-    rest.written.image rest.stops c.sync.ensures.image c.sync.ensures.time c.in_ok-sync.ensures.ok write)
+    stops_synced g.E.Disk _ c.args.disk.now c.write_block.new.disk c.sync_if.new.disk c.sync_if.ensures.time (stopped g (goal.at.returns-in_err-sync_if-clause-stops g c).After-write_block)
 
 pub returns-clause-written : goal.returns-clause-written
 returns-clause-written g c =
@@ -44,10 +43,4 @@ returns-clause-written g c =
 
 pub returns-clause-stops : goal.returns-clause-stops
 returns-clause-stops g c =
-    let d = g.E.Disk in
-    let whole = ghosts.image c.args.memory.now in
-    let rest = c.in_ok-write_rest.ensures in
-    let write = subst (λ (x : Image). WritesOne d 1 (block_at x 1) c.write_block.result c.sync.new.self c.write_block.new.disk) rest.keeps c.write_block.ensures.writes in
-    stops_synced d (IsNoneOr (d.image c.args.disk.now) whole) c.args.disk.now c.write_block.new.disk c.sync_if.new.disk c.sync_if.ensures.time
-    (stops_after_sync d c.write_block.result whole c.args.disk.now c.write_rest.new.disk c.sync.new.self c.write_block.new.disk c.requires.size c.requires.some
-    rest.written.image rest.stops c.sync.ensures.image c.sync.ensures.time c.in_ok-sync.ensures.ok write)
+    stops_synced g.E.Disk _ c.args.disk.now c.write_block.new.disk c.sync_if.new.disk c.sync_if.ensures.time (stopped g (goal.at.returns-clause-stops g c).After-write_block)

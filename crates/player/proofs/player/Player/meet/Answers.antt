@@ -1,7 +1,7 @@
 use Rattle.std.proofs.Common.{length, refl}
 use Rattle.std.proofs.lemmas.Option.{slice_get_read}
 use Rattle.std.specs.Vec.{with_item}
-use Rattle.player.proofs.Disks.{faulty}
+use Rattle.player.specs.Disks.{faulty}
 use Rattle.player.proofs.Owning.{met_own}
 use Rattle.player.proofs.Seats.{same_many, set_seated}
 use Rattle.player.proofs.player.Player.meet.Goals as goal

@@ -1,5 +1,5 @@
 use Rattle.std.proofs.Common.{arith, below_more}
-use Rattle.player.proofs.Disks.{faulty}
+use Rattle.player.specs.Disks.{faulty}
 use Rattle.player.proofs.Owning.{meets_ops, own_still}
 use Rattle.player.proofs.Seats.{same_still}
 use Rattle.player.proofs.player.Player.meet_all.Goals as goal

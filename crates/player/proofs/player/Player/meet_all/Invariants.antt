@@ -1,5 +1,5 @@
 use Rattle.player.specs.Stepping.{HasSame, IsSeated, KeepOps, KeepsOfSources}
-use Rattle.player.proofs.Disks.{faulty}
+use Rattle.player.specs.Disks.{faulty}
 use Rattle.player.proofs.player.Player.meet_all.Given as goal
 
 -- what is kept of the first processes is a beginning of their operations

@@ -4,7 +4,7 @@ use Rattle.model.specs.Files.{files_of}
 use Rattle.model.specs.Log.{recovered}
 use Rattle.transfer.specs.Holding.{Holds}
 use Rattle.transfer.specs.Stages.{listed, written_at}
-use Rattle.transfer.proofs.filling.write_files.Given as goal
+use Rattle.transfer.proofs.filling.fill.Given as goal
 
 -- the files so far were written, and the old disk was only read
 abbrev pub invariant-loop-k : goal.invariant-loop-k
