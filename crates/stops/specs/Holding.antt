@@ -10,13 +10,14 @@ use Rattle.blocks.specs.declared.faulty.Trap.{Trap}
 use Rattle.blocks.specs.declared.sync.SyncDisk.{SyncDisk}
 use Rattle.scripts.specs.declared.schedule.Word.{Word}
 use Rattle.scripts.specs.declared.script.Task.{Task}
+use Rattle.player.specs.Disks.{faulty}
 use Rattle.player.specs.Stepping.{MakesTurns}
 use Rattle.player.specs.declared.player.Player.{Player}
 use Rattle.crash_check.specs.Choices.{HasAllDue, IsChoice, choice_count, due_files, left_by}
 use Rattle.crash_check.specs.Images.{HasFiles, kept_files}
 use Rattle.crash_check.specs.declared.choices.Due.{Due}
 use Rattle.messages.specs.declared.events.Event.{Event}
-use Rattle.stops.specs.Trials.{HasPlayed, IsUnopenedNew, MakesRun, faulty}
+use Rattle.stops.specs.Trials.{HasPlayed, IsUnopenedNew, MakesRun}
 use Rattle.stops.specs.declared.held_trial.Calls.{Calls}
 use Rattle.stops.specs.declared.held_trial.Calls.TheVariants.{Writes, Syncs}
 use Rattle.stops.specs.declared.held_trial.HeldRun.{HeldRun}

@@ -11,6 +11,7 @@ use Rattle.scripts.specs.declared.script.Task.{Task}
 use Rattle.messages.specs.declared.events.Event.{Event}
 use Rattle.kernel.specs.declared.types.OpenFault.{OpenFault}
 use Rattle.player.specs.Afterwards.{IsUnopenedOver}
+use Rattle.player.specs.Disks.{faulty}
 use Rattle.player.specs.Opening.{IsArmed, IsOpenedOver}
 use Rattle.player.specs.Stepping.{MakesTurns}
 use Rattle.player.specs.declared.player.Player.{Player}
@@ -18,20 +19,7 @@ use Rattle.player.specs.declared.turns.Outcome.{Outcome}
 use Rattle.crash_check.specs.Images.{HasFiles, is_want_of_memory, kept_files, new_image}
 use Rattle.stops.specs.declared.trial.Played.{Played}
 
--- what contracts see of a disk of which one call fails, over another
-abbrev pub faulty : {D N : Type 0} → Ghosts D N → Ghosts (FaultyDisk D) (N × Trap)
-faulty disk = record {
-  name = λ d. (disk.name d.inner, d.trap);
-  image = λ d. disk.image d.inner;
-  moment = λ d. disk.moment d.inner;
-  leaves = λ d. disk.leaves d.inner;
-  write_count = λ d. d.writes;
-  fault_count = λ d. d.faults;
-  sync_count = λ d. disk.sync_count d.inner;
-  holding = λ n. disk.holding n.0;
-}
-
--- over a disk in memory
+-- what contracts see of a disk in memory of which one call fails
 abbrev pub memory : Ghosts (FaultyDisk MemDisk) (Unit {0} × Trap)
 memory = faulty ghosts
 

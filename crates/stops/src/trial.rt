@@ -118,6 +118,7 @@ fn judge(
 }
 
 // A player of these operations over a new image. The hands are of that board.
+#[tactic(auto, using(crate::proofs::Runs::handed_on))]
 fn open<'a>(
     alloc: Global,
     board: &'a Board,

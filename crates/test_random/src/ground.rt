@@ -1,9 +1,10 @@
 // The images over which the scripts of a setting are run.
 use crate::playing::{Failure, Outcome, run};
+use crate::reading::{blocks_of, if_done};
 use crate::script::Script;
 use crate::setting::Setting;
 use crate::tally::Tally;
-use crate::wrong::{What, if_done};
+use crate::wrong::What;
 use blocks::{Block, Disk, MemDisk};
 use model::content::Content;
 use model::types::File;
@@ -130,31 +131,6 @@ fn write_all(disk: &mut MemDisk, blocks: &[Block]) -> Result<(), What> {
         if b < disk.size() {
             disk.write(b, block)?;
         }
-    }
-    Ok(())
-}
-
-/// The blocks of a disk.
-pub fn blocks_of(alloc: Global, disk: &mut MemDisk) -> Result<Vec<Block>, What> {
-    let mut blocks = Vec::new(alloc);
-    if_done(read_all(alloc, disk, &mut blocks), blocks)
-}
-
-fn read_all(alloc: Global, disk: &mut MemDisk, blocks: &mut Vec<Block>) -> Result<(), What> {
-    for b in 0..disk.size() {
-        blocks.push(block_of(alloc, disk, b)?)?;
-    }
-    Ok(())
-}
-
-fn block_of(alloc: Global, disk: &mut MemDisk, b: u32) -> Result<Block, What> {
-    let mut block = Block::zeroed(alloc)?;
-    if_done(read_into(disk, b, &mut block), block)
-}
-
-fn read_into(disk: &mut MemDisk, b: u32, block: &mut Block) -> Result<(), What> {
-    if b < disk.size() {
-        disk.read(b, block)?;
     }
     Ok(())
 }

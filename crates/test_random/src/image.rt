@@ -1,5 +1,6 @@
 // An image that is hurt and mended.
-use crate::image_wrong::{Other, What, ensure, if_done};
+use crate::image_wrong::{Other, What, ensure};
+use crate::reading::{blocks_of, if_done, read_into};
 use blocks::{Block, Disk, MemDisk};
 use std::alloc::Global;
 
@@ -13,9 +14,10 @@ pub struct Image {
 impl Image {
     /// The image of a disk.
     pub fn of(alloc: Global, mut disk: MemDisk) -> Result<Image, What> {
-        let mut blocks = Vec::new(alloc);
-        let done = read_all(alloc, &mut disk, &mut blocks);
-        if_done(done, Image { disk, blocks })
+        match blocks_of(alloc, &mut disk) {
+            Ok(blocks) => Ok(Image { disk, blocks }),
+            Err(what) => Err(what),
+        }
     }
 
     /// The image of so many of the first blocks.
@@ -81,25 +83,6 @@ impl Image {
     }
 }
 
-fn read_all(alloc: Global, disk: &mut MemDisk, blocks: &mut Vec<Block>) -> Result<(), What> {
-    for b in 0..disk.size() {
-        blocks.push(block_of(alloc, disk, b)?)?;
-    }
-    Ok(())
-}
-
-fn block_of(alloc: Global, disk: &mut MemDisk, b: u32) -> Result<Block, What> {
-    let mut block = Block::zeroed(alloc)?;
-    if_done(read_into(disk, b, &mut block), block)
-}
-
-fn read_into(disk: &mut MemDisk, b: u32, block: &mut Block) -> Result<(), What> {
-    if b < disk.size() {
-        disk.read(b, block)?;
-    }
-    Ok(())
-}
-
 fn has_blocks(alloc: Global, disk: &mut MemDisk, blocks: &[Block]) -> Result<bool, What> {
     let mut found = Block::zeroed(alloc)?;
     are_found(disk, blocks, &mut found)
@@ -107,7 +90,7 @@ fn has_blocks(alloc: Global, disk: &mut MemDisk, blocks: &[Block]) -> Result<boo
 
 fn are_found(disk: &mut MemDisk, blocks: &[Block], found: &mut Block) -> Result<bool, What> {
     for (b, block) in (0..disk.size()).zip(blocks.iter()) {
-        read_into(disk, b, found)?;
+        read_into::<What>(disk, b, found)?;
         if found.as_slice() != block.as_slice() {
             return Ok(false);
         }

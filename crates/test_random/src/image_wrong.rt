@@ -126,14 +126,6 @@ impl fmt::Display for Wrong {
     }
 }
 
-/// The value, unless what was done with it went wrong.
-pub fn if_done<T: Drop>(done: Result<(), What>, value: T) -> Result<T, What> {
-    match done {
-        Ok(()) => Ok(value),
-        Err(what) => Err(what),
-    }
-}
-
 /// Whether a thing is so that has to be.
 pub fn ensure(is_so: bool, other: Other) -> Result<(), What> {
     if is_so {

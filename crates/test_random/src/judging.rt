@@ -1,7 +1,8 @@
 // What a run left, against the plain program.
-use crate::ground::{Ground, blocks_of};
+use crate::ground::Ground;
 use crate::playing::{Failure, Outcome, opened};
-use crate::wrong::{What, if_done};
+use crate::reading::{blocks_of, if_done};
+use crate::wrong::What;
 use blocks::{MemDisk, NoMemory};
 use model::types::{CheckFault, Entry, File};
 use offline::check;
@@ -127,7 +128,7 @@ fn judge_image(alloc: Global, disk: &mut MemDisk, files: &[Option<File>]) -> Res
     if check(alloc, disk)?.logged > 0 {
         return Err(What::LogLeft);
     }
-    let image = blocks_of(alloc, disk)?;
+    let image = blocks_of::<What>(alloc, disk)?;
     judge_files(files_after_recovery(alloc, &image), files)
 }
 

@@ -1,5 +1,6 @@
 // Kernels over images.
-use crate::image_wrong::{Other, What, ensure, if_done};
+use crate::image_wrong::{Other, What, ensure};
+use crate::reading::if_done;
 use blocks::{FaultyDisk, Kind, MemDisk};
 use kernel::{Kernel, OpenFault, Step};
 use model::content::Content;

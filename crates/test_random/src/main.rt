@@ -22,6 +22,7 @@ mod judging;
 mod kernels;
 mod lengths;
 mod playing;
+mod reading;
 mod script;
 mod seeds;
 mod setting;

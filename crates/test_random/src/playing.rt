@@ -1,9 +1,10 @@
 // The run of a script, over a kernel.
 use crate::ground::Ground;
 use crate::judging::Due;
+use crate::reading::if_done;
 use crate::script::Script;
 use crate::tally::Tally;
-use crate::wrong::{What, if_done};
+use crate::wrong::What;
 use blocks::{Disk, DiskFault, FaultyDisk, Kind, NoMemory};
 use kernel::{Kernel, OpenFault, Step};
 use model::types::Entry;

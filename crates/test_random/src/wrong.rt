@@ -122,14 +122,6 @@ impl fmt::Display for Wrong {
     }
 }
 
-/// The value, unless what was done with it went wrong.
-pub fn if_done<T: Drop>(done: Result<(), What>, value: T) -> Result<T, What> {
-    match done {
-        Ok(()) => Ok(value),
-        Err(what) => Err(what),
-    }
-}
-
 impl From<NoMemory> for What {
     fn from(_refused: NoMemory) -> What {
         What::NoMemory

@@ -27,7 +27,8 @@ pub fn answer_lines<R: Print + AllocGlobal>(rt: &R, lines: &str) -> anyhow::Resu
     answer_over(rt, lines, count.parse()?, new_image(rt.alloc()))
 }
 
-fn new_image(alloc: Global) -> Result<MemDisk, MkfsFault> {
+/// A disk of 200 blocks with a new image.
+pub fn new_image(alloc: Global) -> Result<MemDisk, MkfsFault> {
     let mut disk = MemDisk::new(alloc, 200)?;
     match mkfs(alloc, &mut disk, 200, 32) {
         Ok(()) => Ok(disk),

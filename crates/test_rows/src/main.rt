@@ -21,6 +21,7 @@ mod pieces;
 mod readings;
 mod ring_rows;
 mod rounds;
+mod rows;
 mod session;
 mod sharing;
 mod teller;

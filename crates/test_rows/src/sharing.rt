@@ -5,11 +5,12 @@ ghost use Rattle.ports.specs.History.{nothing_yet};
 ghost use Rattle.rings.specs.Callers.{IntakeFits, intake_count};
 ghost use Rattle.sysring.specs.Frames.{AreWorkers};
 
+use crate::lines::new_image;
 use blocks::MemDisk;
 use kernel::Kernel;
 use layout::MkfsFault;
 use model::types::Op;
-use offline::{check, mkfs};
+use offline::check;
 use std::alloc::{AllocGlobal, Global};
 use std::rt::Clock;
 use std::sync::Wait;
@@ -75,14 +76,6 @@ impl Gate for NoGate {
     fn after(&self, _pid: u32) {}
 }
 
-fn image(alloc: Global) -> Result<MemDisk, MkfsFault> {
-    let mut disk = MemDisk::new(alloc, 200)?;
-    match mkfs(alloc, &mut disk, 200, 32) {
-        Ok(()) => Ok(disk),
-        Err(fault) => Err(fault),
-    }
-}
-
 // Opens a kernel of so many processes, if its image can be used.
 fn opened<'a>(
     alloc: Global,
@@ -130,7 +123,7 @@ fn meet<R: AllocGlobal + Threads + Wait + Clock + Sync>(
     rt: &R,
     gate: &Meeting,
 ) -> Result<bool, MkfsFault> {
-    match image(rt.alloc()) {
+    match new_image(rt.alloc()) {
         Ok(disk) => Ok(serve_two(rt, disk, gate)),
         Err(fault) => Err(fault),
     }
@@ -142,7 +135,7 @@ fn created_by<R: AllocGlobal + Threads + Wait + Clock + Sync>(
 ) -> Result<Option<Created>, MkfsFault>
     requires { AreWorkers workers }
 {
-    match image(rt.alloc()) {
+    match new_image(rt.alloc()) {
         Ok(disk) => Ok(create_all(rt, disk, workers)),
         Err(fault) => Err(fault),
     }

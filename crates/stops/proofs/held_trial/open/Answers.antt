@@ -29,12 +29,6 @@ returns-clause-trap c = IfOk-weaker c.opened.result _ _ (λ player same. record 
   nth = ap (λ (n : Unit {0} × Trap). n.1.nth) same ∙ ap (λ (t : Trap). t.nth) c.new-disk.ensures.trap;
 }) (handed_on c.open_player.result c.opened.result _ c.opened.ensures.player c.open_player.ensures.name)
 
-pub returns-clause-processes : goal.returns-clause-processes
-returns-clause-processes c = handed_on c.open_player.result c.opened.result _ c.opened.ensures.player c.open_player.ensures.processes
-
-pub returns-clause-seated : goal.returns-clause-seated
-returns-clause-seated c = handed_on c.open_player.result c.opened.result _ c.opened.ensures.player c.open_player.ensures.seated
-
 pub returns-clause-fails : goal.returns-clause-fails
 returns-clause-fails c =
     unopened_new _ _ _ c.new-disk.result c.open_player.result c.opened.result (ap ghosts.image c.new-disk.ensures.inner ∙ c.in_ok-held.ensures.image ∙ c.in_ok-image.ensures) c.opened.ensures.fault c.open_player.ensures.refused

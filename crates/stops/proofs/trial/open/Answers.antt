@@ -18,12 +18,6 @@ returns-clause-opened c =
 pub returns-clause-armed : goal.returns-clause-armed
 returns-clause-armed c = IfOk-weaker c.opened.result _ _ (λ player armed. armed (ap logged_count c.in_ok-disk.ensures ∙ new_empty)) (handed_on c.open_player.result c.opened.result _ c.opened.ensures.player c.open_player.ensures.armed)
 
-pub returns-clause-processes : goal.returns-clause-processes
-returns-clause-processes c = handed_on c.open_player.result c.opened.result _ c.opened.ensures.player c.open_player.ensures.processes
-
-pub returns-clause-seated : goal.returns-clause-seated
-returns-clause-seated c = handed_on c.open_player.result c.opened.result _ c.opened.ensures.player c.open_player.ensures.seated
-
 pub returns-clause-fails : goal.returns-clause-fails
 returns-clause-fails c =
     unopened_new _ _ _ c.in_ok-disk.disk c.open_player.result c.opened.result c.in_ok-disk.ensures c.opened.ensures.fault c.open_player.ensures.refused
