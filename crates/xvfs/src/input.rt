@@ -8,10 +8,10 @@ use std::alloc::AllocError;
 use std::io;
 use std::io::ErrorKind;
 
-/// Why the words that the program was started with, or command lines from a reader, can't be had.
+/// Why command lines from a reader can't be had, or the output.
 #[derive(Clone, Copy, Debug)]
 pub enum InputFault {
-    /// They can't be read, or are no UTF-8.
+    /// They can't be read, or aren't UTF-8.
     Read,
     /// The reader gives more than `LIMIT` bytes.
     TooLarge,
