@@ -1,13 +1,9 @@
 -- The entries of the table allow each slot of a block.
 use Rattle.std.proofs.Common.{◌≡◌, ◌≢◌, inl, inr, ℕ, ◌<◌, ◌≤◌, ◌%◌, ◌==◌, Bool, true, false, List, length, get_or, set, refl, sym, ◌∙◌, ap, subst, arith, Option, Some, None, cond}
-use Rattle.std.proofs.lemmas.List.{get_or-set_other, get_or-set_same, get_or_past, length-set}
-use Rattle.std.proofs.lemmas.Bool.{cases_Bool, cases_eq, cases_lt, eq-eqb, le-leb, lt-leb, both_ways, false≢true}
+use Rattle.std.proofs.lemmas.List.{length-set}
 use Rattle.std.specs.Prelude.{if◌then◌else◌}
-use Rattle.bcache.specs.declared.types.Buffer.{Buffer}
-use Rattle.bcache.specs.Buffers.{Buffers, buffer, empty_buffer, found, fresh_buffers, with_buffer}
-use Rattle.bcache.specs.Current.{is_number_in, is_of}
+use Rattle.bcache.specs.Common.{both_ways, Buffer, buffer, Buffers, cases_Bool, cases_eq, cases_lt, empty_buffer, eq-eqb, false≢true, found, fresh_buffers, get_or-set_other, get_or-set_same, get_or_past, is_number_in, is_of, le-leb, lt-leb, moved_to_front, with_buffer}
 use Rattle.bcache.specs.Entries.{Allows, IsEntered, entry_for, is_shared, shares, with_slot}
-use Rattle.bcache.specs.Order.{moved_to_front}
 use Rattle.bcache.specs.Lemmas.Slots.{block_is, found_at, is_number_some, block_kept, each_buffer, empty_at, cache_fresh, cache_kept, some_found}
 use Rattle.bcache.proofs.SlotLemmas.{cache_taken_from, cache_unheld}
 

@@ -4,13 +4,9 @@ use Rattle.std.specs.Prelude.{reverse}
 use Rattle.std.specs.List.{filter}
 use Rattle.std.proofs.Math.ListN.{drop_of_length-le}
 use Rattle.std.proofs.Math.Seq.{drop-cons}
-use Rattle.std.proofs.lemmas.Bool.{cases_eq, cases_lt, cases_Bool, eq-eqb, ne_eqb}
-use Rattle.std.proofs.lemmas.List.{ext_get_or, get_or-set_same, get_or-set_other, get_or_default, get_or_past, reverse-reverse}
-use Rattle.std.proofs.lemmas.List.FromFn.{get_or-map-range_with_len, length-map-range_with_len}
-use Rattle.model.specs.Soundness.{count_of}
+use Rattle.bcache.specs.Common.{cases_Bool, cases_eq, cases_lt, changed_entries, count_of, differences, eq-eqb, ext_get_or, first_of, first_order, get_or-map-range_with_len, get_or-set_other, get_or-set_same, get_or_default, get_or_past, IsLinks, IsOrder, length-map-range_with_len, linked_in_front, links_of, moved_to_front, ne_eqb, next_of, order_after_release, order_of, reverse-reverse, unlinked, walk}
 use Rattle.bcache.specs.declared.links.Links.{Links}
-use Rattle.bcache.specs.Order.{IsOrder, first_order, moved_to_front, order_after_release}
-use Rattle.bcache.specs.Links.{first_of, next_of, table_of, links_of, walk_of, walk, order_of, IsLinks, differences, changed_entries, unlinked, linked_in_front}
+use Rattle.bcache.specs.Links.{table_of, walk_of}
 use Rattle.bcache.specs.Lemmas.Order.{slot_below, order_moved, count_of-others, count_of-without}
 use Rattle.bcache.proofs.OrderLemmas.{others_absent}
 use Rattle.bcache.proofs.NextLemmas.{IsSlots, slots_of_order, slots_reverse, slots_apart, order_reverse, reverse-cons, count_of-reverse, filter-reverse, first_stays, next_most, next_at, next_stays, next_end, none_next, last_next, next_back, first_without, next_without, next_placed}
@@ -205,9 +201,8 @@ module _ (o : List ℕ) (s a b : ℕ) (is : IsBehind o s a b) where
       at_first =
           let none : next_of r first ≡ 40 = last_next r first back (ap first_of (reverse-reverse o)) first_inside in
           let still : next_of (rest r) first ≡ 40 = next_without s first r is.low is.not_first back ∙ rw (none, ne_eqb 40 s (λ e. omega (arith, e, is.low))) refl in
-          let some : count_of first (rest r) ≢ 0 = λ e. stands_back first first_inside (sym (count_of-others first s r is.not_first) ∙ e) in
           get_or-set_same (set taken_out s 40) first s 0 (omega (arith, length-set taken_out s 40, length-taken_out, first_inside))
-          ∙ sym (next_end (rest r) s first (slots_without s r back) some still)
+          ∙ sym (next_end (rest r) s first (slots_without s r back) (λ e. stands_back first first_inside (sym (count_of-others first s r is.not_first) ∙ e)) still)
 
       itself : get_or (set taken_out s 40) s 0 ≡ next_of (rest r ++ s ∷ []) s
       itself = get_or-set_same taken_out s 40 0 (omega (arith, length-taken_out, is.low)) ∙ sym (next_at (rest r) s [] (count_of-without s r))
@@ -221,14 +216,12 @@ module _ (o : List ℕ) (s a b : ℕ) (is : IsBehind o s a b) where
   last_moved : cond (eqb a 40) b (first_of r) ≡ first_of (reverse (moved_to_front o s))
   last_moved = elim (cases_eq (first_of r) s) [
     | inl last ↦
-        let none : a ≡ 40 = is.after ∙ last_next o s slots last is.low in
         let value : first_of (rest r) ≡ next_of r s = first_without s r is.low back ∙ rw (eq-eqb (first_of r) s last) refl in
-        rw (eq-eqb a 40 none) (is.before ∙ sym value ∙ kept (λ e. has_before (sym value ∙ e)))
+        rw (eq-eqb a 40 (is.after ∙ last_next o s slots last is.low)) (is.before ∙ sym value ∙ kept (λ e. has_before (sym value ∙ e)))
     | inr other ↦
-        let some : a ≢ 40 = λ e. other (none_next o s slots (stands s is.low) (sym is.after ∙ e)) in
         let value : first_of (rest r) ≡ first_of r = first_without s r is.low back ∙ rw (ne_eqb (first_of r) s other) refl in
         let low = first_low r (order_reverse o is.order) in
-        rw (ne_eqb a 40 some) (sym value ∙ kept (λ e. omega (arith, low, sym value ∙ e)))
+        rw (ne_eqb a 40 (λ e. other (none_next o s slots (stands s is.low) (sym is.after ∙ e)))) (sym value ∙ kept (λ e. omega (arith, low, sym value ∙ e)))
   ]
     where
       kept : first_of (rest r) ≢ 40 → first_of (rest r) ≡ first_of (reverse (moved_to_front o s))

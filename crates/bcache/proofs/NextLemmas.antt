@@ -2,13 +2,8 @@
 use Rattle.std.proofs.Common.{◌≡◌, ◌≢◌, inl, inr, ℕ, zero, suc, ◌+◌, ◌<◌, ◌≤◌, ◌==◌, not, cond, eqb, List, [], ◌∷◌, ◌++◌, length, get_or, refl, sym, ◌∙◌, ap, subst, zero-add, arith, append_assoc}
 use Rattle.std.specs.Prelude.{reverse}
 use Rattle.std.specs.List.{filter}
-use Rattle.std.proofs.lemmas.Bool.{cases_eq, cases_lt, eq-eqb, ne_eqb}
-use Rattle.std.proofs.lemmas.List.{append-nil, length-reverse, reverse-append, reverse-reverse}
 use Rattle.std.proofs.lemmas.List.Elements.{filter-append}
-use Rattle.model.specs.Soundness.{count_of}
-use Rattle.model.specs.Lemmas.Counts.{count_of-append}
-use Rattle.bcache.specs.Order.{IsOrder}
-use Rattle.bcache.specs.Links.{first_of, next_of}
+use Rattle.bcache.specs.Common.{append-nil, cases_eq, cases_lt, count_of, count_of-append, eq-eqb, first_of, IsOrder, length-reverse, ne_eqb, next_of, reverse-append, reverse-reverse}
 use Rattle.bcache.specs.Lemmas.Order.{absent, slot_below}
 use Rattle.bcache.proofs.OrderLemmas.{absent_at, others_absent}
 
@@ -144,8 +139,7 @@ none_next (a ∷ p) i is some none = elim (cases_eq a i) [
   | inr ne ↦
       let inner : count_of i p ≢ 0 = λ e. some (rw (ne_eqb a i ne) (zero-add (count_of i p) ∙ e)) in
       let last = none_next p i (slots_rest a p is) inner (rw (ne_eqb a i ne) at none) in
-      let low : first_of (reverse p) ≢ 40 = λ e. inner ((slots_rest a p is).below i (omega (arith, last, e))) in
-      ap first_of (reverse-cons a p) ∙ first_stays (reverse p) (a ∷ []) low ∙ last
+      ap first_of (reverse-cons a p) ∙ first_stays (reverse p) (a ∷ []) (λ e. inner ((slots_rest a p is).below i (omega (arith, last, e)))) ∙ last
 ]
   where
     alone : (p : List ℕ) → IsSlots p → first_of p ≡ 40 → a ≡ i → first_of (reverse (a ∷ p)) ≡ i

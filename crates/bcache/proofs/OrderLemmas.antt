@@ -2,14 +2,8 @@
 use Rattle.std.proofs.Common.{◌≡◌, ◌≢◌, inl, inr, ℕ, zero, suc, ◌+◌, ◌<◌, ◌≤◌, ◌==◌, not, Bool, true, false, cond, eqb, List, [], ◌∷◌, ◌++◌, length, map, get_or, drop, refl, sym, ◌∙◌, ap, subst, arith, Option, Some, None}
 use Rattle.std.specs.Prelude.{reverse}
 use Rattle.std.specs.List.{filter}
-use Rattle.std.proofs.lemmas.Bool.{cases_eq, cases_Bool, eq-eqb, ne_eqb}
 use Rattle.std.proofs.Math.Seq.{drop-cons}
-use Rattle.std.proofs.lemmas.List.{get_or-map, reverse-append}
-use Rattle.model.specs.Soundness.{count_of}
-use Rattle.bcache.specs.declared.types.Buffer.{Buffer}
-use Rattle.bcache.specs.Current.{references_of}
-use Rattle.bcache.specs.Order.{victim_in, later_or}
-use Rattle.model.specs.Lemmas.Counts.{count_of-get_or}
+use Rattle.bcache.specs.Common.{Buffer, cases_Bool, cases_eq, count_of, count_of-get_or, eq-eqb, get_or-map, later_or, ne_eqb, references_of, reverse-append, victim_in}
 use Rattle.bcache.specs.Lemmas.Order.{victim_none}
 
 -- a number that stands nowhere is at no place
@@ -49,8 +43,7 @@ victim_back references (slot ∷ order) =
 pub used_passed : (references rest : List ℕ) (k slot : ℕ) (found : Option ℕ) → k < length rest → slot ≡ get_or rest k 40 → eqb (get_or references slot 0) 0 ≡ false →
     first_unused references (drop k rest) ≡ found → first_unused references (drop (suc k) rest) ≡ found
 used_passed references rest k slot found lt here used so_far =
-    let test : eqb (get_or references (get_or rest k 40) 0) 0 ≡ false = subst (λ (n : ℕ). eqb (get_or references n 0) 0 ≡ false) here used in
-    sym (ap (first_unused references) (drop-cons rest k 40 lt) ∙ rw test refl) ∙ so_far
+    sym (ap (first_unused references) (drop-cons rest k 40 lt) ∙ rw (subst (λ (n : ℕ). eqb (get_or references n 0) 0 ≡ false) here used) refl) ∙ so_far
 
 pub references_read : (buffers : List Buffer) (slot : ℕ) (buffer : Buffer) → slot < length buffers → buffer ≡ get_or buffers slot buffer →
     get_or (map references_of buffers) slot 0 ≡ references_of buffer

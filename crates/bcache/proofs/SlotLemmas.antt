@@ -1,12 +1,8 @@
 -- What stays true of every cache, and of its slots.
 use Rattle.std.proofs.Common.{◌≡◌, ◌≢◌, ℕ, ◌+◌, ◌-◌, ◌<◌, ◌≤◌, Bool, true, false, List, map, replicate, length, get_or, set, refl, sym, ◌∙◌, ap, subst, arith, Option, Some, None}
-use Rattle.std.proofs.lemmas.List.{get_or_default}
-use Rattle.bcache.specs.declared.types.Buffer.{Buffer}
-use Rattle.bcache.specs.Current.{references_of}
-use Rattle.bcache.specs.Order.{IsOrder, first_order, moved_to_front}
-use Rattle.bcache.specs.declared.types.Busy.TheVariants as busy
-use Rattle.bcache.specs.declared.types.Acquired.TheVariants as acquired
-use Rattle.bcache.specs.Buffers.{Buffers, empty_buffer, buffer, with_buffer, found, victim, after_lock, after_take, after_acquire_by, lock_answer, take_answer, answer_by, fresh_buffers, IsCache}
+use Rattle.bcache.specs.Common.{after_acquire_by, after_lock, after_take, answer_by, Buffer, buffer, Buffers, empty_buffer, first_order, found, fresh_buffers, get_or_default, IsCache, IsOrder, lock_answer, moved_to_front, references_of, take_answer, victim, with_buffer}
+use Rattle.bcache.specs.declared.types.Busy.{Busy}
+use Rattle.bcache.specs.declared.types.Acquired.{Acquired}
 use Rattle.bcache.specs.Laws.{AreAllInUse, NoBufferIsFull, IsLastUnused, TakesLastUnused, KeepsCopy, ReferencedIsKept, CallsKeepCache}
 use Rattle.bcache.proofs.OrderLemmas.{victim_last}
 use Rattle.bcache.specs.Lemmas.Order.{order_moved}
@@ -38,22 +34,22 @@ in_use_no_victim c is used (Some i) e = let f = victim_free c i is e in absurd (
 pub no_buffer_full : NoBufferIsFull
 no_buffer_full c b is = (λ answer. full (found c b) refl answer, λ in_use. ap (λ (at : Option ℕ). answer_by at c) in_use.0 ∙ ap take_answer (in_use_no_victim c is in_use.1 (victim c) refl))
   where
-    lock : (holder : Option ℕ) (i : ℕ) (valid : Bool) → lock_answer holder i valid ≢ acquired.Sleeping busy.NoBuffer
+    lock : (holder : Option ℕ) (i : ℕ) (valid : Bool) → lock_answer holder i valid ≢ Acquired.Sleeping Busy.NoBuffer
     lock None i valid e = cc e
     lock (Some pid) i valid e = cc e
 
-    take : (v : Option ℕ) → victim c ≡ v → take_answer v ≡ acquired.Sleeping busy.NoBuffer → victim c ≡ None
+    take : (v : Option ℕ) → victim c ≡ v → take_answer v ≡ Acquired.Sleeping Busy.NoBuffer → victim c ≡ None
     take None e answer = e
     take (Some i) e answer = absurd (cc answer)
 
-    full : (at : Option ℕ) → found c b ≡ at → answer_by at c ≡ acquired.Sleeping busy.NoBuffer → (found c b ≡ None) × AreAllInUse c
+    full : (at : Option ℕ) → found c b ≡ at → answer_by at c ≡ Acquired.Sleeping Busy.NoBuffer → (found c b ≡ None) × AreAllInUse c
     full None e answer = (e, victim_none_in_use c is (take (victim c) refl answer))
     full (Some i) e answer = absurd (lock (buffer c i).holder i (buffer c i).valid answer)
 
 pub last_unused_taken : TakesLastUnused
 last_unused_taken c pid b i valid is none answer = (last, ap (λ (at : Option ℕ). after_acquire_by at c pid b) none ∙ ap (λ (v : Option ℕ). after_take v c pid b) one)
   where
-    take : (v : Option ℕ) → victim c ≡ v → take_answer v ≡ acquired.Got i valid → victim c ≡ Some i
+    take : (v : Option ℕ) → victim c ≡ v → take_answer v ≡ Acquired.Got i valid → victim c ≡ Some i
     take None e got = absurd (cc got)
     take (Some j) e got = let same : j ≡ i = cc got in e ∙ ap (λ (k : ℕ). Some k) same
 

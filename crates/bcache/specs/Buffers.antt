@@ -4,9 +4,8 @@ use Rattle.blocks.specs.Block.{zero_block}
 use Rattle.bcache.specs.declared.types.Buffer.{Buffer}
 use Rattle.bcache.specs.Current.{references_of, is_of}
 use Rattle.bcache.specs.Order.{buffer_count, first_order, IsOrder, order_after_release, victim_in}
-use Rattle.bcache.specs.declared.types.Busy.TheVariants as busy
+use Rattle.bcache.specs.declared.types.Busy.{Busy}
 use Rattle.bcache.specs.declared.types.Acquired.{Acquired}
-use Rattle.bcache.specs.declared.types.Acquired.TheVariants as acquired
 
 -- the 40 slots, and their recency order
 pub record Buffers : Type 0 where
@@ -85,8 +84,8 @@ unpinned c i = with_buffer c i (record (buffer c i) { pins = (buffer c i).pins -
 
 -- the answer where the block has a slot, by its holder
 abbrev pub lock_answer : Option ℕ → ℕ → Bool → Acquired
-lock_answer None i valid = acquired.Got i valid
-lock_answer (Some holder) i valid = acquired.Sleeping busy.Held
+lock_answer None i valid = Acquired.Got i valid
+lock_answer (Some holder) i valid = Acquired.Sleeping Busy.Held
 
 abbrev pub after_lock : Option ℕ → Buffers → ℕ → ℕ → Buffers
 after_lock None c pid i = locked c pid i
@@ -94,8 +93,8 @@ after_lock (Some holder) c pid i = c
 
 -- the answer where the block has none, by the victim
 abbrev pub take_answer : Option ℕ → Acquired
-take_answer (Some i) = acquired.Got i false
-take_answer None = acquired.Sleeping busy.NoBuffer
+take_answer (Some i) = Acquired.Got i false
+take_answer None = Acquired.Sleeping Busy.NoBuffer
 
 abbrev pub after_take : Option ℕ → Buffers → ℕ → ℕ → Buffers
 after_take (Some i) c pid b = taken c pid b i

@@ -5,8 +5,8 @@ use Rattle.bcache.specs.declared.types.Buffer.{Buffer}
 use Rattle.bcache.specs.Current.{references_of, shows, current}
 use Rattle.bcache.specs.Order.{buffer_count}
 use Rattle.bcache.specs.Links.{no_slot, links_of}
-use Rattle.bcache.specs.declared.types.Busy.TheVariants as busy
-use Rattle.bcache.specs.declared.types.Acquired.TheVariants as acquired
+use Rattle.bcache.specs.declared.types.Busy.{Busy}
+use Rattle.bcache.specs.declared.types.Acquired.{Acquired}
 use Rattle.bcache.specs.Buffers.{Buffers, buffer, IsCache, found, acquire_answer, locked, taken, filled, changed, released, pinned, unpinned, after_acquire, fresh_buffers}
 
 -- the same block with the same bytes, and as many pins
@@ -28,7 +28,7 @@ AreAllInUse c = (i : ℕ) → i < buffer_count → references_of (buffer c i) �
 -- no buffer is left exactly where the block has none and all slots have references
 abbrev pub NoBufferIsFull : Type 0
 NoBufferIsFull = (c : Buffers) (b : ℕ) → IsCache c →
-    (acquire_answer c b ≡ acquired.Sleeping busy.NoBuffer) ↔ ((found c b ≡ None) × AreAllInUse c)
+    (acquire_answer c b ≡ Acquired.Sleeping Busy.NoBuffer) ↔ ((found c b ≡ None) × AreAllInUse c)
 
 -- a slot without references, and each behind it in the order has some
 pub record IsLastUnused (c : Buffers) (i : ℕ) : Type 0 where
@@ -42,7 +42,7 @@ pub record IsLastUnused (c : Buffers) (i : ℕ) : Type 0 where
 -- the slot that a block without one gets
 abbrev pub TakesLastUnused : Type 0
 TakesLastUnused = (c : Buffers) (pid b i : ℕ) (valid : Bool) → IsCache c → found c b ≡ None →
-    acquire_answer c b ≡ acquired.Got i valid →
+    acquire_answer c b ≡ Acquired.Got i valid →
     IsLastUnused c i × (after_acquire c pid b ≡ taken c pid b i)
 
 -- a read of a slot's block changes nothing of the current image

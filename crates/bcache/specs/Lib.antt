@@ -5,3 +5,4 @@ pub mod Buffers
 pub mod Entries
 pub mod Laws
 pub mod Lemmas
+pub mod Common

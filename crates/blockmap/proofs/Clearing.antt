@@ -1,8 +1,7 @@
 -- The byte that clears a block's bit.
 use Rattle.std.proofs.Common.{◌≡◌, ℕ, ◌/◌, ◌<◌, List, [], ◌∷◌, length}
-use Rattle.blocks.specs.Block.{overwritten}
+use Rattle.blockmap.specs.Common.{overwritten, overwritten_one}
 use Rattle.model.specs.Codec.{without_bit}
-use Rattle.model.specs.Lemmas.Codecs.{overwritten_one}
 use Rattle.blockmap.specs.Bfree.{byte_without}
 
 -- it makes the bits without that one

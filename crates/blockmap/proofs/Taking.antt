@@ -2,27 +2,15 @@
 use Rattle.std.proofs.Common.{◌≡◌, ◌∙◌, sym, ap, subst, refl, arith, ⊎_elim, ℕ, ◌+◌, ◌*◌, ◌/◌, ◌%◌, ◌<◌, ◌≤◌, ◌≢◌, true, false, not, eqb, List, [], ◌∷◌, length, get_or, set, replicate, Option, Some, None}
 use Rattle.std.specs.Int.{bit_at, trailing_ones}
 use mir.Syntax.{w8}
-use Rattle.std.proofs.lemmas.Bool.{cases_lt, eq-eqb, eqb-true, not-false, not-true}
 use Rattle.std.proofs.lemmas.List.Quantifiers.{position-Some}
 use Rattle.std.specs.List.{position}
 use Rattle.bcache.specs.Lemmas.Order.{none_passes}
 use Rattle.std.proofs.lemmas.Nat.Bits.{bit_at_ones, bit_at-trailing_ones}
-use Rattle.blocks.specs.Block.{overwritten, zero_block}
-use Rattle.blocks.specs.Disk.{block_at}
-use Rattle.blocks.specs.declared.disk.Disk.{Ghosts}
-use Rattle.bcache.specs.Buffers.{buffer}
-use Rattle.model.specs.Codec.{with_bit}
+use Rattle.blockmap.specs.Common.{AllocAt, AllocState, AreFull, block_at, buffer, byte_with, cases_lt, eq-eqb, eqb-true, Ghosts, Holds, lowest_clear, lowest_in, MayAlloc, MayAllocAt, not-false, not-true, overwritten, overwritten_zeroes, Progress, seen, TakesLowest, VolumeState, with_bit, with_bit_written, with_taken, zero_block, Zeroes}
 use Rattle.model.specs.Fields.{has_bit}
-use Rattle.model.specs.Lemmas.Codecs.{overwritten_zeroes, with_bit_written}
-use Rattle.wal.specs.Joint.{seen}
-use Rattle.wal.specs.Volume.{VolumeState, Holds}
-use Rattle.blockmap.specs.Balloc.{AllocState, AreFull, MayAlloc, MayAllocAt, TakesLowest, Zeroes, byte_with, lowest_clear, lowest_in, with_taken}
 use Rattle.blockmap.specs.Getting.{Puts, WritesBlock}
 use Rattle.blockmap.specs.Lemmas.Bitmap.{lowest_clear_found}
 use Rattle.blockmap.specs.Lemmas.Putting.{writes_put}
-use Rattle.blockmap.specs.declared.balloc.AllocAt.{AllocAt}
-use Rattle.blockmap.specs.declared.balloc.AllocAt.TheVariants as alloc_at
-use Rattle.model.specs.declared.types.progress.Progress.TheVariants as progress
 
 -- ---- the search
 
@@ -92,9 +80,6 @@ module _ (bits : List ℕ) (size at : ℕ) (small : (i : ℕ) → get_or bits i 
   first : (at < length bits) × (not (eqb (get_or bits at 0) 255) ≡ true) × ((k : ℕ) → k < at → not (eqb (get_or bits k 0) 255) ≡ false)
   first = position-Some (λ byte. not (eqb byte 255)) bits at 0 (sym found)
 
-  pub place_within : at < length bits
-  place_within = first.0
-
   place : (trailing_ones w8 (get_or bits at 0) < 8) × (bit_at (get_or bits at 0) (trailing_ones w8 (get_or bits at 0)) ≡ 0) × ((i : ℕ) → i < trailing_ones w8 (get_or bits at 0) → bit_at (get_or bits at 0) i ≡ 1)
   place = bit_at-trailing_ones w8 (get_or bits at 0) (omega (arith, small at, some_clear (get_or bits at 0) first.1))
 
@@ -113,14 +98,14 @@ module _ (bits : List ℕ) (size at : ℕ) (small : (i : ℕ) → get_or bits i 
 -- ---- the steps
 
 -- the bitmap's block is held
-held_bitmap : {D N : Type 0} (disk : Ghosts D N) (v : VolumeState D) (p i : ℕ) (m : AllocState) → MayAlloc disk.image v p m → m.at ≡ alloc_at.Looking (Some i) → Holds (seen (disk.image v.device) v.buffers) v.buffers p m.bitmap i
+held_bitmap : {D N : Type 0} (disk : Ghosts D N) (v : VolumeState D) (p i : ℕ) (m : AllocState) → MayAlloc disk.image v p m → m.at ≡ AllocAt.Looking (Some i) → Holds (seen (disk.image v.device) v.buffers) v.buffers p m.bitmap i
 held_bitmap disk v p i m may at = subst (λ (a : AllocAt). MayAllocAt disk.image v p m a) at may.at
 
 -- the lowest clear bit is set
 pub takes_some : {D N : Type 0} (disk : Ghosts D N) (v : VolumeState D) (p i b : ℕ) (m : AllocState) (bits : List ℕ) (w : VolumeState D) →
-    MayAlloc disk.image v p m → m.at ≡ alloc_at.Looking (Some i) → bits ≡ (buffer v.buffers i).bytes → length bits ≡ 1024 → b < 8192 → Some b ≡ lowest_clear bits m.size
+    MayAlloc disk.image v p m → m.at ≡ AllocAt.Looking (Some i) → bits ≡ (buffer v.buffers i).bytes → length bits ≡ 1024 → b < 8192 → Some b ≡ lowest_clear bits m.size
     → Puts disk.image v p i (b / 8) (byte_with bits b ∷ []) w →
-    TakesLowest disk (lowest_in (seen (disk.image v.device) v.buffers) m) v p i m progress.Moved (record m { at = alloc_at.Zeroing b None }) w
+    TakesLowest disk (lowest_in (seen (disk.image v.device) v.buffers) m) v p i m Progress.Moved (record m { at = AllocAt.Zeroing b None }) w
 takes_some disk v p i b m bits w may at are long few some puts =
     let x = seen (disk.image v.device) v.buffers in
     let held = held_bitmap disk v p i m may at in
@@ -131,7 +116,7 @@ takes_some disk v p i b m bits w may at are long few some puts =
     ∙ with_bit_written bits b (omega (arith, long, few))
     ∙ ap (λ (l : List ℕ). with_bit l b) same in
     let writes : WritesBlock disk v p i m.bitmap (with_taken x m.bitmap b) w = writes_put disk v p i m.bitmap (b / 8) (byte_with bits b ∷ []) (with_bit (block_at x m.bitmap) b) w held makes puts in
-    subst (λ (o : Option ℕ). TakesLowest disk o v p i m progress.Moved (record m { at = alloc_at.Zeroing b None }) w) found (refl, refl, writes)
+    subst (λ (o : Option ℕ). TakesLowest disk o v p i m Progress.Moved (record m { at = AllocAt.Zeroing b None }) w) found (refl, refl, writes)
 
 -- the new block is zeroed
 pub zeroes : {D N : Type 0} (disk : Ghosts D N) (v : VolumeState D) (p i b : ℕ) (w : VolumeState D) →

@@ -11,9 +11,7 @@ use Rattle.wal.specs.Joint.{seen}
 use Rattle.wal.specs.Volume.{VolumeState, GetsFor}
 use Rattle.blockmap.specs.Getting.{HoldsWhereGot, Releases, WritesBlock}
 use Rattle.blockmap.specs.declared.balloc.AllocAt.{AllocAt}
-use Rattle.blockmap.specs.declared.balloc.AllocAt.TheVariants as alloc_at
 use Rattle.model.specs.declared.types.progress.Progress.{Progress}
-use Rattle.model.specs.declared.types.progress.Progress.TheVariants as progress
 
 -- Where the taking of a block stands.
 pub record AllocState : Type 0 where
@@ -24,7 +22,7 @@ pub record AllocState : Type 0 where
 
 -- the taking of a block that begins
 abbrev pub first_alloc : ℕ → ℕ → AllocState
-first_alloc bitmap size = record { bitmap = bitmap; size = size; at = alloc_at.Looking None }
+first_alloc bitmap size = record { bitmap = bitmap; size = size; at = AllocAt.Looking None }
 
 -- the lowest bit below a size that is clear
 abbrev pub lowest_clear : List ℕ → ℕ → Option ℕ
@@ -50,9 +48,9 @@ byte_with bits b = bit_or (slice_index bits (b / 8)) (1 * 2 ^ (b % 8) % 2 ^ 8)
 -- what the process holds, by where the taking stands
 abbrev pub MayAllocAt : {D : Type 0} → (D → Image) → VolumeState D → ℕ → AllocState → AllocAt
     → Type 0
-MayAllocAt image v p m (alloc_at.Looking slot) =
+MayAllocAt image v p m (AllocAt.Looking slot) =
     HoldsWhereGot (seen (image v.device) v.buffers) v.buffers p m.bitmap slot
-MayAllocAt image v p m (alloc_at.Zeroing b slot) =
+MayAllocAt image v p m (AllocAt.Zeroing b slot) =
     (inode_start ≤ b) × (b < v.log.size)
     × HoldsWhereGot (seen (image v.device) v.buffers) v.buffers p b slot
 
@@ -77,9 +75,9 @@ lowest_in x m = lowest_clear (block_at x m.bitmap) m.size
 abbrev pub TakesLowest : {D N : Type 0} → Ghosts D N → Option ℕ → VolumeState D → ℕ → ℕ
     → AllocState → Progress (Option ℕ) → AllocState → VolumeState D → Type 0
 TakesLowest disk None v p i m r n w =
-    (r ≡ progress.Over None) × (n ≡ m) × Releases disk.image v p i w
+    (r ≡ Progress.Over None) × (n ≡ m) × Releases disk.image v p i w
 TakesLowest disk (Some b) v p i m r n w =
-    (r ≡ progress.Moved) × (n ≡ record m { at = alloc_at.Zeroing b None })
+    (r ≡ Progress.Moved) × (n ≡ record m { at = AllocAt.Zeroing b None })
     × WritesBlock disk v p i m.bitmap
     (with_taken (seen (disk.image v.device) v.buffers) m.bitmap b) w
 
@@ -93,11 +91,11 @@ Zeroes disk v p i b w =
 -- bit in it, gets the block of that bit, or zeroes it.
 abbrev pub Allocs : {D N : Type 0} → Ghosts D N → AllocAt → VolumeState D → ℕ → AllocState
     → Progress (Option ℕ) → AllocState → VolumeState D → Type 0
-Allocs disk (alloc_at.Looking None) v p m r n w =
-    (s : Option ℕ) × (n ≡ record m { at = alloc_at.Looking s }) × GetsFor disk v p m.bitmap r s w
-Allocs disk (alloc_at.Looking (Some i)) v p m r n w =
+Allocs disk (AllocAt.Looking None) v p m r n w =
+    (s : Option ℕ) × (n ≡ record m { at = AllocAt.Looking s }) × GetsFor disk v p m.bitmap r s w
+Allocs disk (AllocAt.Looking (Some i)) v p m r n w =
     TakesLowest disk (lowest_in (seen (disk.image v.device) v.buffers) m) v p i m r n w
-Allocs disk (alloc_at.Zeroing b None) v p m r n w =
-    (s : Option ℕ) × (n ≡ record m { at = alloc_at.Zeroing b s }) × GetsFor disk v p b r s w
-Allocs disk (alloc_at.Zeroing b (Some i)) v p m r n w =
-    (r ≡ progress.Over (Some b)) × (n ≡ m) × Zeroes disk v p i b w
+Allocs disk (AllocAt.Zeroing b None) v p m r n w =
+    (s : Option ℕ) × (n ≡ record m { at = AllocAt.Zeroing b s }) × GetsFor disk v p b r s w
+Allocs disk (AllocAt.Zeroing b (Some i)) v p m r n w =
+    (r ≡ Progress.Over (Some b)) × (n ≡ m) × Zeroes disk v p i b w

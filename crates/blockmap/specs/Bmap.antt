@@ -10,7 +10,6 @@ use Rattle.wal.specs.Volume.{VolumeState, GetsFor}
 use Rattle.blockmap.specs.Branch.{named_by, node_at, rest_under}
 use Rattle.blockmap.specs.declared.branch.Node.{Node}
 use Rattle.model.specs.declared.types.progress.Progress.{Progress}
-use Rattle.model.specs.declared.types.progress.Progress.TheVariants as progress
 use Rattle.blockmap.specs.Getting.{Releases, HoldsWhereGot}
 
 -- Where the seeking stands.
@@ -59,14 +58,14 @@ with_slot m s = record m { slot = s }
 -- what the entry says is what was sought
 pub record Ends (b : ℕ) (m : EntryState) (r : Progress (Option ℕ)) (n : EntryState) : Type 0 where
   pub ends : ends_at m b ≡ true
-  pub over : r ≡ progress.Over (some_address b)
+  pub over : r ≡ Progress.Over (some_address b)
   pub stays : n ≡ m
 
 -- it names a block of addresses, below which it goes on
 pub record GoesBelow (b : ℕ) (m : EntryState) (r : Progress (Option ℕ)) (n : EntryState) : Type 0
   where
     pub more : ends_at m b ≡ false
-    pub moved : r ≡ progress.Moved
+    pub moved : r ≡ Progress.Moved
     pub now : n ≡ below m b
 
 -- A step that seeks the block, by whether the block of addresses was got: it gets that, or it looks

@@ -11,11 +11,9 @@ use Rattle.blockmap.specs.Bmap.{IsNode, some_address}
 use Rattle.blockmap.specs.Branch.{LiesOnWay, address_on, entry_under, named_by, node_at, rest_under}
 use Rattle.blockmap.specs.Getting.{HoldsWhereGot, Releases, WritesBlock}
 use Rattle.blockmap.specs.declared.bmap_alloc.MapAt.{MapAt}
-use Rattle.blockmap.specs.declared.bmap_alloc.MapAt.TheVariants as map_at
 use Rattle.blockmap.specs.declared.branch.Branch.{Branch}
 use Rattle.blockmap.specs.declared.branch.Node.{Node}
 use Rattle.model.specs.declared.types.progress.Progress.{Progress}
-use Rattle.model.specs.declared.types.progress.Progress.TheVariants as progress
 
 -- Where a writer's way to a block of a file stands.
 pub record MapState : Type 0 where
@@ -30,13 +28,13 @@ pub record MapState : Type 0 where
 
 -- what the process holds, by where the way stands
 abbrev pub MayMapAt : {D : Type 0} → (D → Image) → VolumeState D → ℕ → MapAt → Type 0
-MayMapAt image v p (map_at.Address t) = MayAlloc image v p t
-MayMapAt image v p (map_at.Entry n slot) =
+MayMapAt image v p (MapAt.Address t) = MayAlloc image v p t
+MayMapAt image v p (MapAt.Entry n slot) =
     IsNode v n × HoldsWhereGot (seen (image v.device) v.buffers) v.buffers p n.block slot
-MayMapAt image v p (map_at.Behind n i t) =
+MayMapAt image v p (MapAt.Behind n i t) =
     IsNode v n × MayAlloc image v p t
     × Holds (seen (image v.device) v.buffers) v.buffers p n.block i
-MayMapAt image v p (map_at.Setting n i found) =
+MayMapAt image v p (MapAt.Setting n i found) =
     IsNode v n × Holds (seen (image v.device) v.buffers) v.buffers p n.block i
 
 -- the next step may be made over this volume
@@ -51,10 +49,10 @@ pub record MayMap {D : Type 0} (image : D → Image) (v : VolumeState D) (p : �
 -- A block was come to, from which so many blocks of addresses lead to the data. It is the file's,
 -- or the way goes on with its entry
 abbrev pub come_to : ℕ → ℕ → Progress (Option ℕ)
-come_to depth b = if depth == 0 then progress.Over (Some b) else progress.Moved
+come_to depth b = if depth == 0 then Progress.Over (Some b) else Progress.Moved
 
 abbrev pub place_in : MapAt → ℕ → ℕ → ℕ → MapAt
-place_in at depth rest b = if depth == 0 then at else map_at.Entry (node_at depth rest b) None
+place_in at depth rest b = if depth == 0 then at else MapAt.Entry (node_at depth rest b) None
 
 -- A step of the taking t of a block, by what it answers: `after` says what the way answers, `place`
 -- where it stands then, and `inode` what the inode is.
@@ -71,39 +69,39 @@ pub record TakesOne {D N : Type 0} (disk : Ghosts D N) (v : VolumeState D) (p : 
 
 -- the inode, which names a block at that index once one was taken
 abbrev pub naming : Dinode → ℕ → Progress (Option ℕ) → Dinode
-naming d index progress.Moved = d
-naming d index (progress.Sleeping why) = d
-naming d index (progress.Over None) = d
-naming d index (progress.Over (Some b)) = record d { addrs = slice_set d.addrs index b }
-naming d index (progress.Fault fault) = d
+naming d index Progress.Moved = d
+naming d index (Progress.Sleeping why) = d
+naming d index (Progress.Over None) = d
+naming d index (Progress.Over (Some b)) = record d { addrs = slice_set d.addrs index b }
+naming d index (Progress.Fault fault) = d
 
 -- the block that is taken for the inode itself to name was come to
 abbrev pub after_address : Branch → Progress (Option ℕ) → Progress (Option ℕ)
-after_address b progress.Moved = progress.Moved
-after_address b (progress.Sleeping why) = progress.Sleeping why
-after_address b (progress.Over None) = progress.Over None
-after_address b (progress.Over (Some a)) = come_to b.depth a
-after_address b (progress.Fault fault) = progress.Fault fault
+after_address b Progress.Moved = Progress.Moved
+after_address b (Progress.Sleeping why) = Progress.Sleeping why
+after_address b (Progress.Over None) = Progress.Over None
+after_address b (Progress.Over (Some a)) = come_to b.depth a
+after_address b (Progress.Fault fault) = Progress.Fault fault
 
 abbrev pub address_at : Branch → Progress (Option ℕ) → AllocState → MapAt
-address_at b progress.Moved t = map_at.Address t
-address_at b (progress.Sleeping why) t = map_at.Address t
-address_at b (progress.Over None) t = map_at.Address t
-address_at b (progress.Over (Some a)) t = place_in (map_at.Address t) b.depth b.rest a
-address_at b (progress.Fault fault) t = map_at.Address t
+address_at b Progress.Moved t = MapAt.Address t
+address_at b (Progress.Sleeping why) t = MapAt.Address t
+address_at b (Progress.Over None) t = MapAt.Address t
+address_at b (Progress.Over (Some a)) t = place_in (MapAt.Address t) b.depth b.rest a
+address_at b (Progress.Fault fault) t = MapAt.Address t
 
 -- that for an entry has to be named there first
 abbrev pub after_behind : Progress (Option ℕ) → Progress (Option ℕ)
-after_behind progress.Moved = progress.Moved
-after_behind (progress.Sleeping why) = progress.Sleeping why
-after_behind (progress.Over found) = progress.Moved
-after_behind (progress.Fault fault) = progress.Fault fault
+after_behind Progress.Moved = Progress.Moved
+after_behind (Progress.Sleeping why) = Progress.Sleeping why
+after_behind (Progress.Over found) = Progress.Moved
+after_behind (Progress.Fault fault) = Progress.Fault fault
 
 abbrev pub behind_at : Node → ℕ → Progress (Option ℕ) → AllocState → MapAt
-behind_at n i progress.Moved t = map_at.Behind n i t
-behind_at n i (progress.Sleeping why) t = map_at.Behind n i t
-behind_at n i (progress.Over found) t = map_at.Setting n i found
-behind_at n i (progress.Fault fault) t = map_at.Behind n i t
+behind_at n i Progress.Moved t = MapAt.Behind n i t
+behind_at n i (Progress.Sleeping why) t = MapAt.Behind n i t
+behind_at n i (Progress.Over found) t = MapAt.Setting n i found
+behind_at n i (Progress.Fault fault) t = MapAt.Behind n i t
 
 -- the block that an entry names was come to
 abbrev pub ComesBelow : MapState → Node → ℕ → Progress (Option ℕ) → MapState → Type 0
@@ -115,7 +113,7 @@ ComesBelow m n b r k =
 abbrev pub FindsEntry : {D N : Type 0} → Ghosts D N → Option ℕ → VolumeState D → ℕ → Node → ℕ
     → MapState → Progress (Option ℕ) → MapState → VolumeState D → Type 0
 FindsEntry disk None v p n i m r k w =
-    (r ≡ progress.Moved) × (k ≡ record m { at = map_at.Behind n i (first_alloc m.bitmap m.size) })
+    (r ≡ Progress.Moved) × (k ≡ record m { at = MapAt.Behind n i (first_alloc m.bitmap m.size) })
     × (w ≡ v)
 FindsEntry disk (Some b) v p n i m r k w =
     ComesBelow m n b r k × Releases disk.image v p i w
@@ -129,7 +127,7 @@ with_entry_under x n b = with_address x n.block (entry_under n) b
 abbrev pub SetsEntry : {D N : Type 0} → Ghosts D N → Option ℕ → VolumeState D → ℕ → Node → ℕ
     → MapState → Progress (Option ℕ) → MapState → VolumeState D → Type 0
 SetsEntry disk None v p n i m r k w =
-    (r ≡ progress.Over None) × (k ≡ m) × Releases disk.image v p i w
+    (r ≡ Progress.Over None) × (k ≡ m) × Releases disk.image v p i w
 SetsEntry disk (Some b) v p n i m r k w =
     ComesBelow m n b r k × WritesBlock disk v p i n.block
     (with_entry_under (seen (disk.image v.device) v.buffers) n b) w
@@ -137,36 +135,36 @@ SetsEntry disk (Some b) v p n i m r k w =
 -- WHAT A STEP DOES, by where the way stands. The inode is d before it, and e behind it.
 abbrev pub MapSteps : {D N : Type 0} → Ghosts D N → MapAt → VolumeState D → ℕ → MapState → Dinode
     → Progress (Option ℕ) → MapState → Dinode → VolumeState D → Type 0
-MapSteps disk (map_at.Address t) v p m d r k e w =
+MapSteps disk (MapAt.Address t) v p m d r k e w =
     TakesOne disk v p m t (after_address m.branch) (address_at m.branch)
     (naming d m.branch.index) r k e w
-MapSteps disk (map_at.Entry n None) v p m d r k e w =
+MapSteps disk (MapAt.Entry n None) v p m d r k e w =
     (s : Option ℕ) × GetsFor disk v p n.block r s w
-    × (k ≡ record m { at = map_at.Entry n s }) × (e ≡ d)
-MapSteps disk (map_at.Entry n (Some i)) v p m d r k e w =
+    × (k ≡ record m { at = MapAt.Entry n s }) × (e ≡ d)
+MapSteps disk (MapAt.Entry n (Some i)) v p m d r k e w =
     FindsEntry disk (some_address (named_by (seen (disk.image v.device) v.buffers) n))
     v p n i m r k w × (e ≡ d)
-MapSteps disk (map_at.Behind n i t) v p m d r k e w =
+MapSteps disk (MapAt.Behind n i t) v p m d r k e w =
     TakesOne disk v p m t after_behind (behind_at n i) (λ answer. d) r k e w
-MapSteps disk (map_at.Setting n i found) v p m d r k e w =
+MapSteps disk (MapAt.Setting n i found) v p m d r k e w =
     SetsEntry disk found v p n i m r k w × (e ≡ d)
 
 -- ---- what the way comes to
 
 -- the block of addresses at hand, if there is one, lies on the way to the block at that branch
 abbrev pub IsLed : Image → Dinode → Branch → MapAt → Type 0
-IsLed x d b (map_at.Address t) = Unit {0}
-IsLed x d b (map_at.Entry n slot) = LiesOnWay x d b n
-IsLed x d b (map_at.Behind n i t) = LiesOnWay x d b n
-IsLed x d b (map_at.Setting n i found) = LiesOnWay x d b n
+IsLed x d b (MapAt.Address t) = Unit {0}
+IsLed x d b (MapAt.Entry n slot) = LiesOnWay x d b n
+IsLed x d b (MapAt.Behind n i t) = LiesOnWay x d b n
+IsLed x d b (MapAt.Setting n i found) = LiesOnWay x d b n
 
 -- it is the file's block: the inode leads there in the image as it is then
 abbrev pub LeadsThere : {D : Type 0} → (D → Image) → Progress (Option ℕ) → Branch → MapAt → Dinode
     → VolumeState D → Type 0
-LeadsThere image progress.Moved b at e w = Unit {0}
-LeadsThere image (progress.Sleeping why) b at e w = Unit {0}
-LeadsThere image (progress.Over None) b at e w = Unit {0}
-LeadsThere image (progress.Over (Some a)) b at e w =
+LeadsThere image Progress.Moved b at e w = Unit {0}
+LeadsThere image (Progress.Sleeping why) b at e w = Unit {0}
+LeadsThere image (Progress.Over None) b at e w = Unit {0}
+LeadsThere image (Progress.Over (Some a)) b at e w =
     IsLed (seen (image w.device) w.buffers) e b at
     → address_on (seen (image w.device) w.buffers) e b ≡ a
-LeadsThere image (progress.Fault fault) b at e w = Unit {0}
+LeadsThere image (Progress.Fault fault) b at e w = Unit {0}

@@ -8,3 +8,4 @@ pub mod BmapAlloc
 pub mod Map
 pub mod Target
 pub mod Reading
+pub mod Common

@@ -1,18 +1,9 @@
 -- How what may be held back goes on.
 use Rattle.std.proofs.Common.{◌≡◌, ◌⊎◌, inl, inr, ⊎_elim, ℕ, zero, suc, ◌<◌, ◌≤◌, Bool, true, false, List, [], ◌∷◌, get_or, take, map, ◌+◌, ◌++◌, length, drop, set, length-set, subst, sym, ◌∙◌, ap, refl, arith, length-append}
-use Rattle.std.proofs.lemmas.Bool.{true≢false}
-use Rattle.std.proofs.lemmas.List.{get_or-map, get_or-take, length-map, length-take}
 use Rattle.std.proofs.Math.Nat.{min-eq_left}
 use Rattle.std.proofs.Math.Seq.{drop-cons}
-use Rattle.blocks.specs.declared.held.Held.{Held}
-use Rattle.blocks.specs.declared.held.Holding.{Holding}
-use Rattle.blocks.specs.Held.{held_by}
-use Rattle.blocks.specs.Block.{IsBlock}
-use Rattle.blocks.specs.Disk.{Image, IsImage, IsSettled, Elapses, AddsNone, IsOldOrNew, LeavesOldOrNew}
-use Rattle.blocks.specs.Held.{AreInside, AreWhole, CanFloat, HadLeft, HeldImages, IsNoted, IsSettledOn, IsShadow, LeftSince, Write, applied, chosen, noted_by}
+use Rattle.blocks.specs.Common.{AddsNone, applied, AreInside, AreWhole, CanFloat, chosen, Elapses, Floating, get_or-map, get_or-take, HadLeft, Held, held_by, HeldImages, Holding, Image, IsBlock, IsImage, IsNoted, IsOldOrNew, IsSettled, IsSettledOn, IsShadow, LeavesOldOrNew, LeftSince, length-map, length-take, noted_by, Shadow, true≢false, Write}
 use Rattle.blocks.specs.Lemmas.Held.{chosen_held, held_all, only_left}
-use Rattle.blocks.specs.declared.floating.Floating.{Floating}
-use Rattle.blocks.specs.declared.floating.Shadow.{Shadow}
 use Rattle.blocks.proofs.BlockLemmas.{is_image-set}
 
 keeps : (past : List Floating) (s : Floating) (x : Image) → HadLeft past x → HadLeft (past ++ s ∷ []) x

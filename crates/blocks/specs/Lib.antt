@@ -11,3 +11,4 @@ pub mod File
 pub mod FileDisk
 pub mod SyncDisk
 pub mod Lemmas
+pub mod Common

@@ -38,7 +38,7 @@ use Rattle.kernel.specs.Runs.{RunsOn}
 use Rattle.kernel.specs.State.{kind_of}
 use Rattle.model.specs.declared.types.operations.Step.{Step}
 use Rattle.model.specs.declared.types.operations.Step.TheVariants as step
-use Rattle.kernel.specs.declared.waiting.Waiting.TheVariants as waiting_as
+use Rattle.kernel.specs.declared.class.OpClass.TheVariants as waiting_as
 use Rattle.kernel.specs.Moves.{MakesSteps}
 use Rattle.calls.specs.Calls.{Rests, call_count, is_look, is_own}
 use Rattle.calls.specs.Stepping.{Plain, plain_herald, plain_queues}

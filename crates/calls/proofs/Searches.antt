@@ -30,7 +30,7 @@ use Rattle.inodes.specs.declared.tasks.Stage.TheVariants as stage
 use Rattle.kernel.specs.State.{kind_of}
 use Rattle.model.specs.declared.types.operations.Step.{Step}
 use Rattle.model.specs.declared.types.operations.Step.TheVariants as step
-use Rattle.kernel.specs.declared.waiting.Waiting.TheVariants as waiting_as
+use Rattle.kernel.specs.declared.class.OpClass.TheVariants as waiting_as
 use Rattle.calls.specs.Calls.{MakesLowest, MakesNoneIfFull, image_on}
 use Rattle.calls.specs.Stepping.{Plain}
 use Rattle.calls.proofs.Called.{IsAnswered, IsCall, kept_then}

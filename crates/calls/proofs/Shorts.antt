@@ -29,10 +29,10 @@ use Rattle.inodes.specs.Writing.{extent_of}
 use Rattle.inodes.specs.declared.tasks.Stage.{Stage}
 use Rattle.inodes.specs.declared.tasks.Stage.TheVariants as stage
 use Rattle.inodes.specs.declared.writei.Extent.{Extent}
-use Rattle.kernel.specs.State.{kind_of, waiting_of}
+use Rattle.kernel.specs.State.{kind_of, class_of}
 use Rattle.model.specs.declared.types.operations.Step.{Step}
 use Rattle.model.specs.declared.types.operations.Step.TheVariants as step
-use Rattle.kernel.specs.declared.waiting.Waiting.TheVariants as waiting_as
+use Rattle.kernel.specs.declared.class.OpClass.TheVariants as waiting_as
 use Rattle.calls.specs.Calls.{ShortIsFull, image_on}
 use Rattle.calls.specs.Stepping.{Plain}
 use Rattle.calls.proofs.Called.{IsAnswered, IsCall, call_opening, kept_then}
@@ -164,7 +164,7 @@ module _ {D N : Type 0} (disk : Ghosts D N) (i off done : ℕ) (bytes : List ℕ
   refused_by false is = cc is
 
   -- what begins has a number that operations may name
-  number_of : (s : StoreState D) → waiting_of s.table.inode_count op ≡ waiting_as.Change → HasCounts s → HasNumber
+  number_of : (s : StoreState D) → class_of s.table.inode_count op ≡ waiting_as.Change → HasCounts s → HasNumber
   number_of s change counts =
       let unrefused = (kind_then (is_at_once s.table.inode_count op) (kind_of op) waiting_as.Change (λ e. cc e) change).0 in
       subst (λ (c : ℕ). IsTrue (is_number c i)) counts.numbers (not-false (is_number s.table.inode_count i) (or_parts (ltb transfer_limit (length bytes)) (not (is_number s.table.inode_count i)) unrefused).1)

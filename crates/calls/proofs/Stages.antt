@@ -34,10 +34,10 @@ use Rattle.history.specs.Open.{told}
 use Rattle.history.specs.Processes.{World, idle, process, refusal, turned_from}
 use Rattle.model.specs.declared.types.operations.Step.{Step}
 use Rattle.model.specs.declared.types.operations.Step.TheVariants as step
-use Rattle.kernel.specs.declared.waiting.Waiting.{Waiting}
-use Rattle.kernel.specs.declared.waiting.Waiting.TheVariants as waiting_as
+use Rattle.kernel.specs.declared.class.OpClass.{OpClass}
+use Rattle.kernel.specs.declared.class.OpClass.TheVariants as waiting_as
 use Rattle.kernel.specs.Next.{BeginsNext, BeginsWith, IsNotTaken, NextAt, NextIf, step_behind, step_of, step_of_end, step_of_write, world_after, world_behind, world_ended, world_written}
-use Rattle.kernel.specs.State.{room_for, waiting_of}
+use Rattle.kernel.specs.State.{room_for, class_of}
 use Rattle.kernel.specs.Moves.{MakesSteps, Moves}
 use Rattle.kernel.specs.Lemmas.Moves.{moves_keep}
 use Rattle.calls.specs.Stepping.{MakesPlainStep, Plain, plain_herald, plain_queues}
@@ -65,8 +65,8 @@ IsGoing x = ((reply : Reply) → x ≢ progress.Decided reply) × (x ≢ progres
 -- its answer
 pub record IsKept {D N : Type 0} (disk : Ghosts D N) (op : Op) (P : Where → StoreState D → Type 0) : Type 0 where
   -- it is taken, or refused at once
-  pub begins : (s : StoreState D) → waiting_of s.table.inode_count op ≡ waiting_as.Change → P Waits s → P BeforeTurn (with_begun s 0 op)
-  pub looks : (s : StoreState D) (count : Option ℕ) → waiting_of s.table.inode_count op ≡ waiting_as.Look count → P Waits s → P BeforeTurn (with_look s 0 op (room_for count))
+  pub begins : (s : StoreState D) → class_of s.table.inode_count op ≡ waiting_as.Change → P Waits s → P BeforeTurn (with_begun s 0 op)
+  pub looks : (s : StoreState D) (count : Option ℕ) → class_of s.table.inode_count op ≡ waiting_as.Look count → P Waits s → P BeforeTurn (with_look s 0 op (room_for count))
   pub refused : (s : StoreState D) → P Waits s → P (Over (Some (at_once_reply op))) s
   -- its task makes a step before its turn, with it, and behind it
   pub works : (s t : StoreState D) (x : TaskProgress) → IsUnturned x → Steps disk s 0 op x t → P BeforeTurn s → P BeforeTurn t
@@ -186,7 +186,7 @@ becomes_last [] e f more = more.0
 becomes_last (d ∷ es) e f more = becomes_last es e f more.1
 
 -- an operation that is not refused at once is what its kind says
-pub kind_then : (refused : Bool) (kind what : Waiting) → what ≢ waiting_as.Refused → (if refused then waiting_as.Refused else kind) ≡ what → (refused ≡ false) × (kind ≡ what)
+pub kind_then : (refused : Bool) (kind what : OpClass) → what ≢ waiting_as.Refused → (if refused then waiting_as.Refused else kind) ≡ what → (refused ≡ false) × (kind ≡ what)
 kind_then true kind what other is = absurd (other (sym is))
 kind_then false kind what other is = (refl, is)
 
@@ -214,26 +214,26 @@ module _ {D N : Type 0} (disk : Ghosts D N) (op : Op) (P : Where → StoreState 
     refused r holds is = to_so r step.NoMemory _ _ is refl (holds, list)
 
     -- it is not taken
-    unbegun : (what : Waiting) (l : LogState) (room : Bool) (r : Step) → P Waits t → IsNotTaken (Some what) l room r → To r (lone b at.Idle m j)
+    unbegun : (what : OpClass) (l : LogState) (room : Bool) (r : Step) → P Waits t → IsNotTaken (Some what) l room r → To r (lone b at.Idle m j)
     unbegun waiting_as.Refused l room r holds why = ⊎_elim (λ full. asleep r _ holds full.0) (λ none. refused r holds none.0) why
     unbegun (waiting_as.Look count) l room r holds why = ⊎_elim (λ full. asleep r _ holds full.0) (λ none. refused r holds none.0) why
     unbegun waiting_as.Change l room r holds why = ⊎_elim (λ full. asleep r _ holds full.0) (λ o. ⊎_elim (λ out. asleep r out.0 holds out.1) (λ none. refused r holds none.0.0) o) why
 
     -- by what waits first
-    begins : (r : Step) (z : World) (ahead rest : List Op) → ahead ≡ op ∷ rest → P Waits s → BeginsWith (option_map (waiting_of s.table.inode_count) (first_in ahead)) s (lone b at.Idle m j) 0 ahead side r t z → To r z
+    begins : (r : Step) (z : World) (ahead rest : List Op) → ahead ≡ op ∷ rest → P Waits s → BeginsWith (option_map (class_of s.table.inode_count) (first_in ahead)) s (lone b at.Idle m j) 0 ahead side r t z → To r z
     begins r z ahead rest waits holds (inl made) =
         let same : made.op ≡ op = cc (waits, made.taken.0) in
         to_so r step.Moved z _ made.answer made.world (there (at.BeforeTurn _ made.op) _ None (reserved j) (
           same,
           list,
-          subst (P BeforeTurn) (sym (made.store ∙ ap (with_begun s 0) same)) (keeps.begins s (ap (waiting_of s.table.inode_count) (sym same) ∙ made.taken.1) holds),
+          subst (P BeforeTurn) (sym (made.store ∙ ap (with_begun s 0) same)) (keeps.begins s (ap (class_of s.table.inode_count) (sym same) ∙ made.taken.1) holds),
         ))
     begins r z ahead rest waits holds (inr (inl made)) =
         let same : made.op ≡ op = cc (waits, made.taken.0) in
         to_so r step.Moved z _ made.answer made.world (there (at.BeforeTurn 0 made.op) _ (room_for made.count) (reserved j) (
           same,
           list,
-          subst (P BeforeTurn) (sym (made.store ∙ ap (λ (o : Op). with_look s 0 o (room_for made.count)) same)) (keeps.looks s made.count (ap (waiting_of s.table.inode_count) (sym same) ∙ made.taken.1) holds),
+          subst (P BeforeTurn) (sym (made.store ∙ ap (λ (o : Op). with_look s 0 o (room_for made.count)) same)) (keeps.looks s made.count (ap (class_of s.table.inode_count) (sym same) ∙ made.taken.1) holds),
         ))
     begins r z ahead rest waits holds (inr (inr (inl made))) =
         let same : made.op ≡ op = cc (waits, made.taken.0) in
@@ -242,17 +242,17 @@ module _ {D N : Type 0} (disk : Ghosts D N) (op : Op) (P : Where → StoreState 
         to_so r step.Answered z _ made.answer made.world (over_now (length es) _ m (journal_with (reserved j) e) more
         (subst (λ (o : Op). P (Over (Some (at_once_reply o))) t) (sym same) (subst (P (Over (Some (at_once_reply op)))) (sym made.store) (keeps.refused s holds))))
     begins r z ahead rest waits holds (inr (inr (inr none))) =
-        let why : IsNotTaken (Some (waiting_of s.table.inode_count op)) s.volume.log side.has_room r = subst (λ (o : Option Op). IsNotTaken (option_map (waiting_of s.table.inode_count) o) s.volume.log side.has_room r) (ap first_in waits) none.answer in
-        to_so r r z _ refl none.same.1 (unbegun (waiting_of s.table.inode_count op) s.volume.log side.has_room r (subst (P Waits) (sym none.same.0) holds) why)
+        let why : IsNotTaken (Some (class_of s.table.inode_count op)) s.volume.log side.has_room r = subst (λ (o : Option Op). IsNotTaken (option_map (class_of s.table.inode_count) o) s.volume.log side.has_room r) (ap first_in waits) none.answer in
+        to_so r r z _ refl none.same.1 (unbegun (class_of s.table.inode_count op) s.volume.log side.has_room r (subst (P Waits) (sym none.same.0) holds) why)
 
     begun_now : (r : Step) (z : World) → before ≡ op ∷ [] → P Waits s → BeginsNext s (lone b at.Idle m j) 0 before side false r t z → To r z
     begun_now r z was holds (inl shut) = absurd (⊎_elim (λ e. cc e) (λ e. cc e) shut.heard)
     begun_now r z was holds (inr none) = begins r z none.ahead none.prefix.0 (cc (was, none.prefix.1)) holds none.begins
 
     -- a step of its task before its turn, or with it
-    worked : (group : ℕ) (x : TaskProgress) (o : Op) → o ≡ op → P BeforeTurn s → Steps disk s 0 op x t → To (step_of x) (world_after x (is_over (task t.tasks 0).place) (lone b (at.BeforeTurn group o) m j) 0)
+    worked : (group : ℕ) (x : TaskProgress) (o : Op) → o ≡ op → P BeforeTurn s → Steps disk s 0 op x t → To (step_of x) (world_after x (is_over (task t.tasks 0).stage) (lone b (at.BeforeTurn group o) m j) 0)
     worked group progress.Moved o same holds steps = there (at.BeforeTurn group o) b m j (same, list, keeps.works s t progress.Moved (λ r e. cc e) steps holds)
-    worked group (progress.Turned reply) o same holds steps = turned (is_over (task t.tasks 0).place)
+    worked group (progress.Turned reply) o same holds steps = turned (is_over (task t.tasks 0).stage)
       where
         e : Entry
         e = entry_of 0 b o group reply

@@ -1,4 +1,4 @@
--- Sources that are made of callers and operations, and clients of sources.
+-- Feeders that are made of callers and operations, and clients of feeders.
 use Rattle.std.proofs.Common.{◌≡◌, ℕ, zero, suc, ◌<◌, List, [], ◌∷◌, ◌++◌, length, map, Option, Some, refl, sym, ap, subst, ◌∙◌}
 use Rattle.std.specs.Prelude.{option_map, slice_get}
 use Rattle.std.proofs.lemmas.List.{length-map}
@@ -9,13 +9,13 @@ use Rattle.rings.specs.declared.name.Names.{Names}
 use Rattle.scripts.specs.declared.script.Task.{Task}
 use Rattle.clients.specs.Backlogs.{backlog_at, backlog_of, ops_of}
 use Rattle.clients.specs.Clients.{AreClients}
-use Rattle.clients.specs.Sources.{AreNewSources, ArePaired, IsPaired}
+use Rattle.clients.specs.Feeders.{AreNewFeeders, ArePaired, IsPaired}
 use Rattle.clients.specs.declared.backlog.Backlog.{Backlog}
 use Rattle.clients.specs.declared.client.Client.{Client}
-use Rattle.clients.specs.declared.source.Source.{Source}
+use Rattle.clients.specs.declared.feeder.Feeder.{Feeder}
 
 -- one pair more
-pub one_paired : (ks : List Caller) (bs : List Backlog) (ss : List Source) (k : Caller) (b : Backlog) (s : Source) → ArePaired ks bs ss → IsPaired k b s → ArePaired (ks ++ k ∷ []) (bs ++ b ∷ []) (ss ++ s ∷ [])
+pub one_paired : (ks : List Caller) (bs : List Backlog) (ss : List Feeder) (k : Caller) (b : Backlog) (s : Feeder) → ArePaired ks bs ss → IsPaired k b s → ArePaired (ks ++ k ∷ []) (bs ++ b ∷ []) (ss ++ s ∷ [])
 one_paired [] [] [] k b s had more = (more, tt)
 one_paired [] [] (x ∷ ss) k b s had more = absurd had
 one_paired [] (x ∷ bs) ss k b s had more = absurd had
@@ -23,7 +23,7 @@ one_paired (x ∷ ks) [] ss k b s had more = absurd had
 one_paired (x ∷ ks) (y ∷ bs) [] k b s had more = absurd had
 one_paired (x ∷ ks) (y ∷ bs) (z ∷ ss) k b s had more = (had.0, one_paired ks bs ss k b s had.1 more)
 
-pub many : (ks : List Caller) (bs : List Backlog) (ss : List Source) → ArePaired ks bs ss → length ss ≡ length ks
+pub many : (ks : List Caller) (bs : List Backlog) (ss : List Feeder) → ArePaired ks bs ss → length ss ≡ length ks
 many [] [] [] had = refl
 many [] [] (x ∷ ss) had = absurd had
 many [] (x ∷ bs) ss had = absurd had
@@ -31,15 +31,15 @@ many (x ∷ ks) [] ss had = absurd had
 many (x ∷ ks) (y ∷ bs) [] had = absurd had
 many (x ∷ ks) (y ∷ bs) (z ∷ ss) had = ap suc (many ks bs ss had.1)
 
--- what a source's process has
-record Has (ks : List Caller) (bs : List Backlog) (p : ℕ) (s : Source) : Type 0 where
+-- what a feeder's process has
+record Has (ks : List Caller) (bs : List Backlog) (p : ℕ) (s : Feeder) : Type 0 where
   caller : Caller
   backlog : Backlog
   is : slice_get ks p ≡ Some caller
   ops : backlog_at bs p ≡ backlog_of backlog
   pair : IsPaired caller backlog s
 
-pair_at : (ks : List Caller) (bs : List Backlog) (ss : List Source) → ArePaired ks bs ss → (p : ℕ) (s : Source) → slice_get ss p ≡ Some s → Has ks bs p s
+pair_at : (ks : List Caller) (bs : List Backlog) (ss : List Feeder) → ArePaired ks bs ss → (p : ℕ) (s : Feeder) → slice_get ss p ≡ Some s → Has ks bs p s
 pair_at [] [] [] had p s at = absurd (cc at)
 pair_at [] [] (x ∷ ss) had p s at = absurd had
 pair_at [] (x ∷ bs) ss had p s at = absurd had
@@ -50,9 +50,9 @@ pair_at (x ∷ ks) (y ∷ bs) (z ∷ ss) had (suc p) s at =
     let deeper = pair_at ks bs ss had.1 p s at in record { caller = deeper.caller; backlog = deeper.backlog; is = deeper.is; ops = deeper.ops; pair = deeper.pair }
 
 module _ (names : ℕ → Option Names) (tasks : List Task) (processes : ℕ) where
-  -- pairs of new callers with a script's operations are its sources
-  pub are_sources : (ks : List Caller) (bs : List Backlog) (ss : List Source) → length ks ≡ processes → ((p : ℕ) (k : Caller) → slice_get ks p ≡ Some k → IsNewCaller names p k)
-      → ((p : ℕ) → p < processes → backlog_at bs p ≡ ops_of p tasks) → ArePaired ks bs ss → AreNewSources names tasks processes ss
+  -- pairs of new callers with a script's operations are its feeders
+  pub are_sources : (ks : List Caller) (bs : List Backlog) (ss : List Feeder) → length ks ≡ processes → ((p : ℕ) (k : Caller) → slice_get ks p ≡ Some k → IsNewCaller names p k)
+      → ((p : ℕ) → p < processes → backlog_at bs p ≡ ops_of p tasks) → ArePaired ks bs ss → AreNewFeeders names tasks processes ss
   are_sources ks bs ss count new ops had = record {
     count = many ks bs ss had ∙ count;
     each = λ p s at.
@@ -67,19 +67,19 @@ module _ (names : ℕ → Option Names) (tasks : List Task) (processes : ℕ) wh
         };
   }
 
-  some_source : (o : Option Client) (c : Client) → o ≡ Some c → option_map (λ (d : Client). d.source) o ≡ Some c.source
-  some_source o c is = ap (option_map (λ (d : Client). d.source)) is
+  some_source : (o : Option Client) (c : Client) → o ≡ Some c → option_map (λ (d : Client). d.feeder) o ≡ Some c.feeder
+  some_source o c is = ap (option_map (λ (d : Client). d.feeder)) is
 
-  -- who has the sources are clients
-  pub are_clients : (cs : List Client) (ss : List Source) → map (λ (c : Client). c.source) cs ≡ ss → AreNewSources names tasks processes ss → AreClients names tasks processes cs
-  are_clients cs ss is sources = record {
-    count = sym (length-map cs (λ (c : Client). c.source)) ∙ ap length is ∙ sources.count;
+  -- who has the feeders are clients
+  pub are_clients : (cs : List Client) (ss : List Feeder) → map (λ (c : Client). c.feeder) cs ≡ ss → AreNewFeeders names tasks processes ss → AreClients names tasks processes cs
+  are_clients cs ss is feeders = record {
+    count = sym (length-map cs (λ (c : Client). c.feeder)) ∙ ap length is ∙ feeders.count;
     each = λ p c at.
-        let mine = sources.each p c.source (ap (λ xs. slice_get xs p) (sym is) ∙ slice_get-map (λ (d : Client). d.source) cs p ∙ some_source (slice_get cs p) c at) in
+        let mine = feeders.each p c.feeder (ap (λ xs. slice_get xs p) (sym is) ∙ slice_get-map (λ (d : Client). d.feeder) cs p ∙ some_source (slice_get cs p) c at) in
         record { rings = mine.rings; all = mine.all };
   }
 
--- the source behind others
-pub source_at : (before behind : List Source) (s : Source) → slice_get (before ++ s ∷ behind) (length before) ≡ Some s
-source_at [] behind s = refl
-source_at (x ∷ before) behind s = source_at before behind s
+-- the feeder behind others
+pub feeder_at : (before behind : List Feeder) (s : Feeder) → slice_get (before ++ s ∷ behind) (length before) ≡ Some s
+feeder_at [] behind s = refl
+feeder_at (x ∷ before) behind s = feeder_at before behind s

@@ -5,16 +5,16 @@ use Rattle.rings.specs.Callers.{answers_known, polled}
 use Rattle.rings.specs.declared.name.Names.{Names}
 use Rattle.scripts.specs.declared.script.Task.{Task}
 use Rattle.clients.specs.Backlogs.{ops_of}
-use Rattle.clients.specs.Sources.{HasHandedIn, source_names, source_ops}
+use Rattle.clients.specs.Feeders.{HasHandedIn, feeder_names, feeder_ops}
 use Rattle.clients.specs.declared.client.Client.{Client}
 
 -- the rings that it has
 abbrev pub client_names : Client → Names
-client_names c = source_names c.source
+client_names c = feeder_names c.feeder
 
 -- all its operations
 abbrev pub client_ops : Client → List Op
-client_ops c = source_ops c.source
+client_ops c = feeder_ops c.feeder
 
 -- a client of these rings with these operations
 pub record IsClient (names : Option Names) (ops : List Op) (c : Client) : Type 0 where
@@ -50,12 +50,12 @@ AreSameClients old new = (names : ℕ → Option Names) (tasks : List Task) (pro
 
 -- no answer is known to it, or it has one for each operation
 abbrev pub HasPolled : Client → Type 0
-HasPolled c = (answers_known c.source.caller ≡ 0)
-    ⊎ (length (client_ops c) ≤ length (polled c.source.caller))
+HasPolled c = (answers_known c.feeder.caller ≡ 0)
+    ⊎ (length (client_ops c) ≤ length (polled c.feeder.caller))
 
 -- it has handed in what its ring takes, and polled what there is
 abbrev pub IsCalled : Client → Type 0
-IsCalled c = HasHandedIn c.source × HasPolled c
+IsCalled c = HasHandedIn c.feeder × HasPolled c
 
 abbrev pub AreCalled : List Client → Type 0
 AreCalled cs = (p : ℕ) (c : Client) → slice_get cs p ≡ Some c → IsCalled c

@@ -1,4 +1,4 @@
 pub mod Backlogs
-pub mod Sources
+pub mod Feeders
 pub mod Clients
 pub mod Lemmas

@@ -2,9 +2,9 @@
 ghost use Rattle.std.specs.Prelude.{◌≡◌, ◌≤◌, length};
 ghost use Rattle.rings.specs.Callers.{polled, submitted};
 ghost use Rattle.clients.specs.Backlogs.{backlog_of};
-ghost use Rattle.clients.specs.Sources.{source_ops};
+ghost use Rattle.clients.specs.Feeders.{feeder_ops};
 
-use crate::source::Source;
+use crate::feeder::Feeder;
 use model::types::Answer;
 use rings::Caller;
 use std::alloc::{AllocError, Global};
@@ -12,12 +12,12 @@ use std::alloc::{AllocError, Global};
 /// A process's caller, the operations that it still has to hand in, and the answers that it got.
 #[derive(Drop)]
 pub struct Client {
-    pub(crate) source: Source,
+    pub(crate) feeder: Feeder,
     answers: Vec<Answer>,
     // How many answers it waits for in all.
     wanted: usize,
-    ghost got: { polled source.caller ≡ answers.items },
-    ghost all: { wanted ≡ length (source_ops source) },
+    ghost got: { polled feeder.caller ≡ answers.items },
+    ghost all: { wanted ≡ length (feeder_ops feeder) },
     ghost room: { wanted ≤ answers.cap },
 }
 
@@ -27,17 +27,17 @@ impl Client {
     ghost use Rattle.rings.specs.Callers.{caller_names};
     ghost use Rattle.clients.specs.Backlogs.{backlog_of};
     ghost use Rattle.clients.specs.Clients.{client_names, client_ops, HasPolled, IsCalled, IsSameClient};
-    ghost use Rattle.clients.specs.Sources.{HasHandedIn};
+    ghost use Rattle.clients.specs.Feeders.{HasHandedIn};
 
-    // A source that has done nothing, with places for all its answers.
-    pub(crate) fn new(alloc: Global, source: Source) -> Result<Client, AllocError>
-        requires { (submitted source.caller ≡ []) × (polled source.caller ≡ []) }
-        ensures { IfOk result (λ c. c.source ≡ source) }
+    // A feeder that has done nothing, with places for all its answers.
+    pub(crate) fn new(alloc: Global, feeder: Feeder) -> Result<Client, AllocError>
+        requires { (submitted feeder.caller ≡ []) × (polled feeder.caller ≡ []) }
+        ensures { IfOk result (λ c. c.feeder ≡ feeder) }
     {
-        let wanted = source.backlog.count();
+        let wanted = feeder.backlog.count();
         let answers = Vec::with_capacity(alloc, wanted)?;
         Ok(Client {
-            source,
+            feeder,
             answers,
             wanted,
         })
@@ -49,19 +49,19 @@ impl Client {
         ensures same { IsSameClient self.old self.new }
         ensures called { IsCalled self.new }
     {
-        let handed_in = self.source.hand_in();
+        let handed_in = self.feeder.hand_in();
         self.poll() || handed_in
     }
 
     // Polls the answers that there are. Whether there were any.
     fn poll(&mut self) -> bool
         ensures same { IsSameClient self.old self.new }
-        ensures handed_in { HasHandedIn self.old.source → HasHandedIn self.new.source }
+        ensures handed_in { HasHandedIn self.old.feeder → HasHandedIn self.new.feeder }
         ensures polled { HasPolled self.new }
     {
         let mut moved = false;
         for _answer in self.answers.len()..self.wanted {
-            let Some(answer) = self.source.poll() else {
+            let Some(answer) = self.feeder.poll() else {
                 break;
             };
             self.answers.push_reserved(answer);
@@ -72,7 +72,7 @@ impl Client {
 
     /// Whether it has an answer to each operation.
     pub fn is_done(&self) -> bool
-        ensures { result ≡ nat_le (length (client_ops self.now)) (length (polled self.now.source.caller)) }
+        ensures { result ≡ nat_le (length (client_ops self.now)) (length (polled self.now.feeder.caller)) }
     {
         self.answers.len() >= self.wanted
     }
@@ -84,10 +84,10 @@ impl Client {
         ensures answers { polled result.0 ≡ result.1.items }
     {
         let Client {
-            source,
+            feeder,
             answers,
             ..
         } = self;
-        (source.caller, answers)
+        (feeder.caller, answers)
     }
 }

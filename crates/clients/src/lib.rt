@@ -8,11 +8,11 @@
 mod backlog;
 mod calling;
 mod client;
+mod feeder;
 mod making;
-mod source;
 
 pub use backlog::{Backlog, backlogs_of};
 pub use calling::call_all;
 pub use client::Client;
-pub use making::{clients, sources};
-pub use source::Source;
+pub use feeder::Feeder;
+pub use making::{clients, feeders};

@@ -1,39 +1,39 @@
-// Sources and clients for so many processes.
+// Feeders and clients for so many processes.
 ghost use Rattle.std.specs.Prelude.{◌≡◌, ◌<◌, ℕ, All, IfOk, length};
 ghost use Rattle.ports.specs.History.{nothing_yet};
 ghost use Rattle.rings.specs.Callers.{intake_count, intake_names, IntakeFits};
 ghost use Rattle.clients.specs.Clients.{AreClients};
-ghost use Rattle.clients.specs.Sources.{AreNewSources, ArePaired};
+ghost use Rattle.clients.specs.Feeders.{AreNewFeeders, ArePaired};
 
 use crate::backlog::{Backlog, backlogs_of};
 use crate::client::Client;
-use crate::source::Source;
+use crate::feeder::Feeder;
 use blocks::NoMemory;
 use rings::{Caller, RingIntake, rings};
 use scripts::Task;
 use std::alloc::{AllocError, Global};
 
-/// Sources with the operations of a script for each of so many processes, and the kernel's ends of
+/// Feeders with the operations of a script for each of so many processes, and the kernel's ends of
 /// their rings.
 ///
 /// # Errors
 ///
 /// `NoMemory` where the allocator refuses the places of the operations or of the rings.
-pub fn sources(
+pub fn feeders(
     alloc: Global,
     tasks: Vec<Task>,
     processes: u32,
-) -> Result<(RingIntake, Vec<Source>), NoMemory>
+) -> Result<(RingIntake, Vec<Feeder>), NoMemory>
     requires { All (λ task. task.pid < processes) tasks.items }
     ensures count { IfOk result (λ made. intake_count made.0 ≡ processes) }
     ensures fresh { IfOk result (λ made. (p : ℕ) → IntakeFits made.0 p nothing_yet) }
-    ensures sources { IfOk result (λ made.
-        AreNewSources (intake_names made.0) tasks.items processes made.1.items) }
+    ensures feeders { IfOk result (λ made.
+        AreNewFeeders (intake_names made.0) tasks.items processes made.1.items) }
 {
     let backlogs = backlogs_of(alloc, tasks, processes)?;
     let (intake, callers) = rings(alloc, processes)?;
-    let sources = paired(alloc, callers, backlogs)?;
-    Ok((intake, sources))
+    let feeders = paired(alloc, callers, backlogs)?;
+    Ok((intake, feeders))
 }
 
 /// The same with room for the answers of each.
@@ -53,10 +53,10 @@ pub fn clients(
     ensures clients { IfOk result (λ made.
         AreClients (intake_names made.0) tasks.items processes made.1.items) }
 {
-    let (intake, sources) = sources(alloc, tasks, processes)?;
+    let (intake, feeders) = feeders(alloc, tasks, processes)?;
     let mut clients = Vec::new(alloc);
-    for source in sources {
-        clients.push(Client::new(alloc, source)?)?;
+    for feeder in feeders {
+        clients.push(Client::new(alloc, feeder)?)?;
     }
     Ok((intake, clients))
 }
@@ -66,17 +66,17 @@ fn paired(
     alloc: Global,
     callers: Vec<Caller>,
     backlogs: Vec<Backlog>,
-) -> Result<Vec<Source>, AllocError>
+) -> Result<Vec<Feeder>, AllocError>
     requires many { length callers.items ≡ length backlogs.items }
-    ensures { IfOk result (λ sources. ArePaired callers.items backlogs.items sources.items) }
+    ensures { IfOk result (λ feeders. ArePaired callers.items backlogs.items feeders.items) }
 {
-    let mut sources = Vec::new(alloc);
+    let mut feeders = Vec::new(alloc);
     let mut backlogs = backlogs.into_iter();
     for caller in callers {
         let Some(backlog) = backlogs.next() else {
             unreachable!()
         };
-        sources.push(Source { caller, backlog })?;
+        feeders.push(Feeder { caller, backlog })?;
     }
-    Ok(sources)
+    Ok(feeders)
 }

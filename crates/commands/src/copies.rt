@@ -19,14 +19,14 @@ use crate::refused::CopyRefusal;
 use blocks::{Disk, FileDisk, FileFault};
 use cmd::{Command, open_to_look};
 use layout::plan;
-use messages::print_files;
+use messages::{Meter, print_files};
 use model::types::Form;
 use offline::check;
 use std::alloc::Global;
 use std::fs::{exists, remove_file};
 use std::io::Write;
 use std::rt::Files;
-use transfer::{CopyFault, Progress, copy};
+use transfer::{CopyFault, copy};
 
 /// Copies the image in the file at the path `old` into a new one, in a new file at the path `new`, as
 /// `transfer::copy`, and prints how many files it has. The new image has `size` blocks, as many as the
@@ -56,7 +56,7 @@ pub struct Copy<'a, P, H> {
 impl<'a, R, P, H> Command<R> for Copy<'a, P, H>
 where
     R: Files + AllocGlobal,
-    P: Progress + Drop,
+    P: Meter + Drop,
     H: Holder + Drop,
 {
     type Refusal = CopyRefusal;
@@ -82,7 +82,7 @@ where
     }
 }
 
-fn copy_files<R: Files + AllocGlobal, O: Write, P: Progress, H: Holder>(
+fn copy_files<R: Files + AllocGlobal, O: Write, P: Meter, H: Holder>(
     rt: &R,
     old: &str,
     new: &str,
@@ -106,7 +106,7 @@ fn copy_files<R: Files + AllocGlobal, O: Write, P: Progress, H: Holder>(
 
 // Copies the image on a disk that was opened into a new file at the path. The disk is lent, so that
 // the proof doesn't repeat its type at each exit.
-fn copy_from<R: Files + AllocGlobal, O: Write, P: Progress, H: Holder>(
+fn copy_from<R: Files + AllocGlobal, O: Write, P: Meter, H: Holder>(
     rt: &R,
     disk: &mut FileDisk<R::File>,
     new: &str,
@@ -131,7 +131,7 @@ fn copy_from<R: Files + AllocGlobal, O: Write, P: Progress, H: Holder>(
 }
 
 // Copies the image on a disk into a new file at the path, with so many blocks. How many files it has.
-fn make_copy<R: Files + AllocGlobal, P: Progress, H: Holder>(
+fn make_copy<R: Files + AllocGlobal, P: Meter, H: Holder>(
     rt: &R,
     disk: &mut FileDisk<R::File>,
     new: &str,
@@ -164,7 +164,7 @@ fn remove_refused<R: Files>(rt: &R, path: &str, copied: &Result<u32, CopyRefusal
 }
 
 // Copies the image on a disk into the file at the path, which is held.
-fn fill_file<R: Files + AllocGlobal, P: Progress>(
+fn fill_file<R: Files + AllocGlobal, P: Meter>(
     rt: &R,
     disk: &mut FileDisk<R::File>,
     new: &str,
@@ -187,7 +187,7 @@ fn fill_file<R: Files + AllocGlobal, P: Progress>(
 }
 
 // Copies the image on a disk to another, which nobody keeps. How many files it has.
-fn fill<D: Disk, E: Disk + Drop, P: Progress>(
+fn fill<D: Disk, E: Disk + Drop, P: Meter>(
     alloc: Global,
     old: &mut D,
     new: E,

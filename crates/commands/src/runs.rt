@@ -1,6 +1,6 @@
 // The commands that make a script's operations over the disk in a file, in turns or by threads.
 ghost use Rattle.std.specs.Prelude.{◌≡◌, IfErr, OnOk, unwrap_or};
-ghost use Rattle.sysring.specs.Frames.{AreWorkers};
+ghost use Rattle.sysring.specs.Origins.{AreWorkers};
 ghost use Rattle.cmd.specs.Lemmas.Disks.{file_disk};
 ghost use Rattle.cmd.specs.Opened.{OpensDisk};
 ghost use Rattle.commands.specs.Runs.{IsNotRun, IsReplayed, IsRun, IsUnreplayed, replay_files_telling, run_files_telling};

@@ -2,15 +2,14 @@
 use Rattle.std.specs.Prelude.{◌≡◌, ℕ, Bool, true, false}
 use Rattle.wal.specs.Machine.{LogState, is_quiet}
 use Rattle.history.specs.declared.types.Phase.{Phase}
-use Rattle.history.specs.declared.types.Phase.TheVariants as at
 
 -- a process makes its group's commit
 abbrev pub is_committing_at : Phase → Bool
-is_committing_at at.Idle = false
-is_committing_at (at.BeforeTurn group op) = false
-is_committing_at (at.AfterTurn group k) = false
-is_committing_at (at.Ending group k) = false
-is_committing_at (at.Committing group k) = true
+is_committing_at Phase.Idle = false
+is_committing_at (Phase.BeforeTurn group op) = false
+is_committing_at (Phase.AfterTurn group k) = false
+is_committing_at (Phase.Ending group k) = false
+is_committing_at (Phase.Committing group k) = true
 
 -- One process at most makes a commit, while the log has one under way and no operation is open;
 -- where nobody does, the log has none.

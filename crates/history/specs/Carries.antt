@@ -3,7 +3,6 @@ use Rattle.std.specs.Prelude.{◌≡◌, ℕ, List, Option, Some, None}
 use Rattle.model.specs.declared.types.operations.Entry.{Entry}
 use Rattle.model.specs.declared.types.operations.Op.{Op}
 use Rattle.history.specs.declared.types.Phase.{Phase}
-use Rattle.history.specs.declared.types.Phase.TheVariants as at
 use Rattle.history.specs.Open.{IsEntry}
 
 -- What a store's task of each process tells of itself: its operation, by a snapshot, and the bytes
@@ -20,9 +19,9 @@ pub record Carries (ts : Tasks) (q : ℕ) (op : Op) (read : List ℕ) : Type 0 w
 -- From its beginning to its reply the operation of a process is that of its task, and what was read
 -- is kept beside it.
 abbrev pub CarriesAt : Phase → Tasks → List Entry → ℕ → List ℕ → Type 0
-CarriesAt at.Idle ts es q read = Unit {0}
-CarriesAt (at.BeforeTurn group op) ts es q read = Carries ts q op read
-CarriesAt (at.AfterTurn group k) ts es q read =
+CarriesAt Phase.Idle ts es q read = Unit {0}
+CarriesAt (Phase.BeforeTurn group op) ts es q read = Carries ts q op read
+CarriesAt (Phase.AfterTurn group k) ts es q read =
     (e : Entry) → IsEntry es k e → e.reply ≡ None → Carries ts q e.op read
-CarriesAt (at.Ending group k) ts es q read = Unit {0}
-CarriesAt (at.Committing group k) ts es q read = Unit {0}
+CarriesAt (Phase.Ending group k) ts es q read = Unit {0}
+CarriesAt (Phase.Committing group k) ts es q read = Unit {0}

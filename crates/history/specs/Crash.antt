@@ -8,8 +8,8 @@ use Rattle.model.specs.Journal.{kept, is_number}
 use Rattle.model.specs.Layout.{inode_of, inode_count_of}
 use Rattle.model.specs.Log.{is_lawful_log, recovered, cleared}
 use Rattle.model.specs.Soundness.{IsSound}
-use Rattle.wal.specs.declared.types.Commit.TheVariants as commit
-use Rattle.wal.specs.declared.types.Part.TheVariants as part
+use Rattle.wal.specs.declared.types.Commit.{Commit}
+use Rattle.wal.specs.declared.types.Part.{Part}
 use Rattle.wal.specs.Machine.{LogState, used_by}
 use Rattle.history.specs.Keeps.{HasFilesAfter}
 use Rattle.history.specs.Most.{most_kept}
@@ -28,7 +28,7 @@ in_reads l = most_kept None l.commit l.committed
 
 -- a header was written, and waits for its sync
 abbrev pub AwaitsHeader : LogState → Type 0
-AwaitsHeader l = l.commit ≡ commit.Syncing part.Header
+AwaitsHeader l = l.commit ≡ Commit.Syncing Part.Header
 
 -- What disk and log have of the journal, while the disk has not failed; the current image is what
 -- buffers and disk show together.

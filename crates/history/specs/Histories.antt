@@ -9,7 +9,6 @@ use Rattle.model.specs.declared.types.operations.Reply.{Reply}
 use Rattle.model.specs.Journal.{own}
 use Rattle.ports.specs.History.{History}
 use Rattle.history.specs.declared.types.Phase.{Phase}
-use Rattle.history.specs.declared.types.Phase.TheVariants as at
 use Rattle.history.specs.Open.{IsEntry, IsLast}
 
 -- the answer that an entry tells; none while it has no reply
@@ -19,11 +18,11 @@ entry_answer e =
 
 -- the operation that was taken and has no entry yet
 abbrev pub pending_at : Phase → List Op
-pending_at at.Idle = []
-pending_at (at.BeforeTurn group op) = op ∷ []
-pending_at (at.AfterTurn group k) = []
-pending_at (at.Ending group k) = []
-pending_at (at.Committing group k) = []
+pending_at Phase.Idle = []
+pending_at (Phase.BeforeTurn group op) = op ∷ []
+pending_at (Phase.AfterTurn group k) = []
+pending_at (Phase.Ending group k) = []
+pending_at (Phase.Committing group k) = []
 
 -- Process p's entries are those that were answered and, at this place, the one that is still to be
 -- answered.
@@ -36,11 +35,11 @@ pub record Owes (p k : ℕ) (es given : List Entry) : Type 0 where
 
 -- whether an answer is still to be given, by where the process stands
 abbrev pub Owed : Phase → ℕ → List Entry → List Entry → Type 0
-Owed at.Idle p es given = own p es ≡ given
-Owed (at.BeforeTurn group op) p es given = own p es ≡ given
-Owed (at.AfterTurn group k) p es given = Owes p k es given
-Owed (at.Ending group k) p es given = Owes p k es given
-Owed (at.Committing group k) p es given = Owes p k es given
+Owed Phase.Idle p es given = own p es ≡ given
+Owed (Phase.BeforeTurn group op) p es given = own p es ≡ given
+Owed (Phase.AfterTurn group k) p es given = Owes p k es given
+Owed (Phase.Ending group k) p es given = Owes p k es given
+Owed (Phase.Committing group k) p es given = Owes p k es given
 
 -- The operations that were taken are those of the process's own entries, in their order, and the
 -- one that waits for its turn; the answers that were given are those of its entries, in their

@@ -4,7 +4,6 @@ use Rattle.model.specs.declared.types.operations.Entry.{Entry}
 use Rattle.model.specs.declared.types.operations.Op.{Op}
 use Rattle.model.specs.declared.types.operations.Op.TheVariants.{Create, Write, Read, Trunc, Remove, Stat}
 use Rattle.history.specs.declared.types.Phase.{Phase}
-use Rattle.history.specs.declared.types.Phase.TheVariants as at
 use Rattle.history.specs.Open.{IsEntry}
 
 -- the number whose lock an operation takes
@@ -23,12 +22,12 @@ HasInodeLock lock p (Some i) = lock i ≡ Some p
 
 -- from its turn to its finish
 abbrev pub HasLockAt : (ℕ → Option ℕ) → List Entry → ℕ → Phase → Type 0
-HasLockAt lock es p at.Idle = Unit {0}
-HasLockAt lock es p (at.BeforeTurn group op) = Unit {0}
-HasLockAt lock es p (at.AfterTurn group k) =
+HasLockAt lock es p Phase.Idle = Unit {0}
+HasLockAt lock es p (Phase.BeforeTurn group op) = Unit {0}
+HasLockAt lock es p (Phase.AfterTurn group k) =
     (e : Entry) → IsEntry es k e → HasInodeLock lock p (locks e.op)
-HasLockAt lock es p (at.Ending group k) = Unit {0}
-HasLockAt lock es p (at.Committing group k) = Unit {0}
+HasLockAt lock es p (Phase.Ending group k) = Unit {0}
+HasLockAt lock es p (Phase.Committing group k) = Unit {0}
 
 -- a step of process p takes no lock from another, and lets its own go only where its task is over
 pub record KeepsLocks (p : ℕ) (old new : ℕ → Option ℕ) : Type 0 where

@@ -1,11 +1,9 @@
 -- How many groups recovery may keep at most, by what a commit has come to.
 use Rattle.std.specs.Prelude.{ℕ, ◌+◌, ◌==◌, if◌then◌else◌, Option, Some, None}
 use Rattle.wal.specs.declared.types.Commit.{Commit}
-use Rattle.wal.specs.declared.types.Commit.TheVariants as commit
 use Rattle.wal.specs.declared.types.DeviceFault.{DeviceFault}
 use Rattle.wal.specs.declared.types.DeviceFault.TheVariants.{Block, Sync}
 use Rattle.wal.specs.declared.types.Part.{Part}
-use Rattle.wal.specs.declared.types.Part.TheVariants as part
 use Rattle.wal.specs.Volume.{VolumeState}
 
 -- The groups that recovery may keep at most while a header is still to be written: one more than
@@ -17,19 +15,19 @@ most_headed (Some (Sync fault)) committed = committed
 
 -- and while a part waits for its sync: the header may be on the disk, or not
 abbrev pub most_synced : Part → ℕ → ℕ
-most_synced part.Log committed = committed
-most_synced part.Header committed = committed + 1
-most_synced part.Homes committed = committed
-most_synced part.Clear committed = committed
+most_synced Part.Log committed = committed
+most_synced Part.Header committed = committed + 1
+most_synced Part.Homes committed = committed
+most_synced Part.Clear committed = committed
 
 -- The groups that recovery may keep at most.
 abbrev pub most_kept : Option DeviceFault → Commit → ℕ → ℕ
-most_kept fault commit.Quiet committed = committed
-most_kept fault (commit.Logging j) committed = committed
-most_kept fault commit.Heading committed = most_headed fault committed
-most_kept fault (commit.Homing j) committed = committed
-most_kept fault commit.Clearing committed = committed
-most_kept fault (commit.Syncing part) committed = most_synced part committed
+most_kept fault Commit.Quiet committed = committed
+most_kept fault (Commit.Logging j) committed = committed
+most_kept fault Commit.Heading committed = most_headed fault committed
+most_kept fault (Commit.Homing j) committed = committed
+most_kept fault Commit.Clearing committed = committed
+most_kept fault (Commit.Syncing part) committed = most_synced part committed
 
 -- those of a volume
 abbrev pub most_of : {D : Type 0} → VolumeState D → ℕ

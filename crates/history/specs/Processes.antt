@@ -6,13 +6,12 @@ use Rattle.model.specs.declared.types.operations.Entry.{Entry}
 use Rattle.model.specs.declared.types.operations.Op.{Op}
 use Rattle.model.specs.declared.types.operations.Reply.{Reply}
 use Rattle.history.specs.declared.types.Phase.{Phase}
-use Rattle.history.specs.declared.types.Phase.TheVariants as at
 use Rattle.history.specs.declared.types.Process.{Process}
 pub use Rattle.history.specs.World.{World}
 use Rattle.history.specs.Journal.{reserved, journal_with, journal_told, entry_in, entry_of, answer_of}
 
 abbrev pub idle : Process
-idle = record { begun = 0; at = at.Idle; room = None }
+idle = record { begun = 0; at = Phase.Idle; room = None }
 
 -- a process; one past the last is idle
 abbrev pub process : World → ℕ → Process
@@ -42,7 +41,7 @@ abbrev pub taken : World → ℕ → ℕ → Op → Option GatheredBytes → Wor
 taken w p group op room =
     with_process w p (record {
       begun = (process w p).begun + 1;
-      at = at.BeforeTurn group op;
+      at = Phase.BeforeTurn group op;
       room = room;
     })
 
@@ -61,17 +60,17 @@ refusal_answer w p reply = record { seq = (process w p).begun + 1; reply = reply
 
 -- where an operation stands behind its turn: its task goes on, or is over
 abbrev pub place_behind : Bool → ℕ → ℕ → Phase
-place_behind true group k = at.Ending group k
-place_behind false group k = at.AfterTurn group k
+place_behind true group k = Phase.Ending group k
+place_behind false group k = Phase.AfterTurn group k
 
 abbrev pub turned_from : Phase → World → ℕ → Option Reply → Bool → World
-turned_from at.Idle w p reply over = w
-turned_from (at.BeforeTurn group op) w p reply over =
+turned_from Phase.Idle w p reply over = w
+turned_from (Phase.BeforeTurn group op) w p reply over =
     record (at_place w p (place_behind over group (length w.journal.list)))
     { journal = journal_with w.journal (entry_of p (process w p).begun op group reply) }
-turned_from (at.AfterTurn group k) w p reply over = w
-turned_from (at.Ending group k) w p reply over = w
-turned_from (at.Committing group k) w p reply over = w
+turned_from (Phase.AfterTurn group k) w p reply over = w
+turned_from (Phase.Ending group k) w p reply over = w
+turned_from (Phase.Committing group k) w p reply over = w
 
 -- the turn: the entry is in the journal
 abbrev pub turned : World → ℕ → Option Reply → Bool → World
@@ -79,11 +78,11 @@ turned w p reply over = turned_from (process w p).at w p reply over
 
 -- where the entry of an operation stands that had its turn
 abbrev pub entry_place : Phase → Option ℕ
-entry_place at.Idle = None
-entry_place (at.BeforeTurn group op) = None
-entry_place (at.AfterTurn group k) = Some k
-entry_place (at.Ending group k) = Some k
-entry_place (at.Committing group k) = Some k
+entry_place Phase.Idle = None
+entry_place (Phase.BeforeTurn group op) = None
+entry_place (Phase.AfterTurn group k) = Some k
+entry_place (Phase.Ending group k) = Some k
+entry_place (Phase.Committing group k) = Some k
 
 -- an entry stands there
 abbrev pub HasEntryPlace : World → Option ℕ → Type 0
@@ -103,45 +102,45 @@ abbrev pub decided : World → ℕ → Reply → World
 decided w p reply = told_at (entry_place (process w p).at) w reply
 
 abbrev pub over_at : Phase → Phase
-over_at at.Idle = at.Idle
-over_at (at.BeforeTurn group op) = at.BeforeTurn group op
-over_at (at.AfterTurn group k) = at.Ending group k
-over_at (at.Ending group k) = at.Ending group k
-over_at (at.Committing group k) = at.Committing group k
+over_at Phase.Idle = Phase.Idle
+over_at (Phase.BeforeTurn group op) = Phase.BeforeTurn group op
+over_at (Phase.AfterTurn group k) = Phase.Ending group k
+over_at (Phase.Ending group k) = Phase.Ending group k
+over_at (Phase.Committing group k) = Phase.Committing group k
 
 -- the task of an operation is over behind its turn, and it ends in the log next
 abbrev pub over : World → ℕ → World
 over w p = at_place w p (over_at (process w p).at)
 
 abbrev pub is_before : Phase → Bool
-is_before at.Idle = false
-is_before (at.BeforeTurn group op) = true
-is_before (at.AfterTurn group k) = false
-is_before (at.Ending group k) = false
-is_before (at.Committing group k) = false
+is_before Phase.Idle = false
+is_before (Phase.BeforeTurn group op) = true
+is_before (Phase.AfterTurn group k) = false
+is_before (Phase.Ending group k) = false
+is_before (Phase.Committing group k) = false
 
 -- it had its turn, and goes on
 abbrev pub is_behind : Phase → Bool
-is_behind at.Idle = false
-is_behind (at.BeforeTurn group op) = false
-is_behind (at.AfterTurn group k) = true
-is_behind (at.Ending group k) = false
-is_behind (at.Committing group k) = false
+is_behind Phase.Idle = false
+is_behind (Phase.BeforeTurn group op) = false
+is_behind (Phase.AfterTurn group k) = true
+is_behind (Phase.Ending group k) = false
+is_behind (Phase.Committing group k) = false
 
 -- its operation ends next
 abbrev pub is_ending : Phase → Bool
-is_ending at.Idle = false
-is_ending (at.BeforeTurn group op) = false
-is_ending (at.AfterTurn group k) = false
-is_ending (at.Ending group k) = true
-is_ending (at.Committing group k) = false
+is_ending Phase.Idle = false
+is_ending (Phase.BeforeTurn group op) = false
+is_ending (Phase.AfterTurn group k) = false
+is_ending (Phase.Ending group k) = true
+is_ending (Phase.Committing group k) = false
 
 abbrev pub committing_at : Phase → Phase
-committing_at at.Idle = at.Idle
-committing_at (at.BeforeTurn group op) = at.BeforeTurn group op
-committing_at (at.AfterTurn group k) = at.AfterTurn group k
-committing_at (at.Ending group k) = at.Committing group k
-committing_at (at.Committing group k) = at.Committing group k
+committing_at Phase.Idle = Phase.Idle
+committing_at (Phase.BeforeTurn group op) = Phase.BeforeTurn group op
+committing_at (Phase.AfterTurn group k) = Phase.AfterTurn group k
+committing_at (Phase.Ending group k) = Phase.Committing group k
+committing_at (Phase.Committing group k) = Phase.Committing group k
 
 -- the operation's end was the last of its group
 abbrev pub committing : World → ℕ → World
@@ -153,12 +152,12 @@ answer_in es k = if nat_lt k (length es) then answer_of (entry_in es k) else Non
 
 -- the answer of an operation that had its turn
 abbrev pub last_answer : World → Phase → Option Answer
-last_answer w at.Idle = None
-last_answer w (at.BeforeTurn group op) = None
-last_answer w (at.AfterTurn group k) = answer_in w.journal.list k
-last_answer w (at.Ending group k) = answer_in w.journal.list k
-last_answer w (at.Committing group k) = answer_in w.journal.list k
+last_answer w Phase.Idle = None
+last_answer w (Phase.BeforeTurn group op) = None
+last_answer w (Phase.AfterTurn group k) = answer_in w.journal.list k
+last_answer w (Phase.Ending group k) = answer_in w.journal.list k
+last_answer w (Phase.Committing group k) = answer_in w.journal.list k
 
 -- it was answered
 abbrev pub answered : World → ℕ → World
-answered w p = with_process w p (record (process w p) { at = at.Idle; room = None })
+answered w p = with_process w p (record (process w p) { at = Phase.Idle; room = None })

@@ -12,12 +12,11 @@ use Rattle.model.specs.Layout.{form_of, inode_count_of}
 use Rattle.model.specs.Log.{is_lawful_log, recovered, cleared}
 use Rattle.model.specs.Operations.{after}
 use Rattle.model.specs.Tasks.{Marks}
-use Rattle.wal.specs.declared.types.Commit.TheVariants as commit
+use Rattle.wal.specs.declared.types.Commit.{Commit}
 use Rattle.wal.specs.Joint.{stepped_at}
 use Rattle.wal.specs.Kept.{KeepsCommitted}
 use Rattle.wal.specs.Machine.{LogState, used_by, SameGroups, IsLogAt}
 use Rattle.history.specs.declared.types.Phase.{Phase}
-use Rattle.history.specs.declared.types.Phase.TheVariants as at
 use Rattle.history.specs.Crash.{Survives, StoreLaws}
 use Rattle.history.specs.Follows.{Follows, IsJournal}
 use Rattle.history.specs.Open.{Held, held_by, number_of, is_late, IsEntry, IsLast}
@@ -52,16 +51,16 @@ pub record HasEntry (es : List Entry) (q k group : ℕ) (e : Entry) : Type 0 whe
 
 -- what is true of a process, by where it stands
 abbrev pub StandsAt : ℕ → View → List Entry → ℕ → Phase → Type 0
-StandsAt n s es q at.Idle = (s.holds q ≡ None) × InGroup s.log q 0
-StandsAt n s es q (at.BeforeTurn group op) =
+StandsAt n s es q Phase.Idle = (s.holds q ≡ None) × InGroup s.log q 0
+StandsAt n s es q (Phase.BeforeTurn group op) =
     (s.holds q ≡ None) × InGroup s.log q group × (nat_lt 0 group ≡ is_changing n op)
     × (is_at_once n op ≡ false)
-StandsAt n s es q (at.AfterTurn group k) =
+StandsAt n s es q (Phase.AfterTurn group k) =
     InGroup s.log q group × ((e : Entry) × HasEntry es q k group e)
-StandsAt n s es q (at.Ending group k) =
+StandsAt n s es q (Phase.Ending group k) =
     (s.holds q ≡ None) × IsIn s.log q group
     × ((e : Entry) × HasEntry es q k group e × IsSome e.reply)
-StandsAt n s es q (at.Committing group k) =
+StandsAt n s es q (Phase.Committing group k) =
     (s.holds q ≡ None) × InGroup s.log q 0
     × ((e : Entry) × HasEntry es q k group e × IsSome e.reply)
 
@@ -85,7 +84,7 @@ pub record LastingFacts (opening : Image) (opened : ℕ) (holds : ℕ → Option
     (ats : ℕ → Phase) : Type 0 where
   pub journal : IsJournal (inode_count_of opening) opened es
   pub follows : Follows (form_of opening) (files_of opening) holds (λ m. Unit {0}) es
-  pub behind : (q : ℕ) (h : Held) → holds q ≡ Some h → (g : ℕ) × (k : ℕ) × (ats q ≡ at.AfterTurn g k)
+  pub behind : (q : ℕ) (h : Held) → holds q ≡ Some h → (g : ℕ) × (k : ℕ) × (ats q ≡ Phase.AfterTurn g k)
 
 -- what each step of process p's task leaves of a store in which it made this, or nothing
 pub record LeavesRest (made : Option Reply) (p : ℕ) (s t : View) : Type 0 where
@@ -147,7 +146,7 @@ pub record Writes (holds_back : Bool) (s t : View) : Type 0 where
   pub lawful : IsTrue (is_lawful_log t.disk)
   pub keeps : KeepsCommitted s.log.commit s.disk s.current t.disk
   -- without the header that was written, the image is as it was
-  pub unheaded : s.log.commit ≡ commit.Heading
+  pub unheaded : s.log.commit ≡ Commit.Heading
       → IsSameOutsideLog (recovered s.disk) (cleared t.disk)
   pub same : IsSameOutsideLog s.current t.current
   pub holds : (q : ℕ) → t.holds q ≡ s.holds q

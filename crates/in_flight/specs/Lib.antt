@@ -7,3 +7,4 @@ pub mod Looks
 pub mod HeldLaws
 pub mod GrowthLaws
 pub mod Lemmas
+pub mod Common

@@ -1,23 +1,6 @@
 -- One task goes on, and all of them agree with buffers and log as before.
 use Rattle.std.proofs.Common.{eqb, cond, Bool, false, ◌≡◌, ◌≤◌, ◌≢◌, ℕ, ◌<◌, inl, inr, true, List, length, set, refl, sym, ◌∙◌, subst, ⊎_elim, Option, Some, None, arith, Bool, cond, eqb}
-use Rattle.std.proofs.lemmas.Bool.{cases_eq}
-use Rattle.std.proofs.lemmas.List.{get_or-set_same, get_or-set_other}
-use Rattle.bcache.specs.Buffers.{Buffers}
-use Rattle.wal.specs.Held.{HoldsBlock, HasLock}
-use Rattle.wal.specs.Machine.{LogState, is_among, used_by}
-use Rattle.model.specs.declared.types.operations.Op.{Op}
-use Rattle.model.specs.declared.types.operations.Op.TheVariants.{Create, Write, Read, Trunc, Remove, Stat}
-use Rattle.blockmap.specs.Lemmas.Others.{StaysForOthers}
-use Rattle.inodes.specs.declared.tasks.Stage.{Stage}
-use Rattle.inodes.specs.declared.tasks.Stage.TheVariants as stage
-use Rattle.inodes.specs.Freeing.{now_of}
-use Rattle.inodes.specs.Tasks.{TaskState, task, no_task}
-use Rattle.inodes.specs.Places.{HasSlot}
-use Rattle.inodes.specs.Store.{HoldsAt, HasLogged, IsOpenFor, Stands, Agrees}
-use Rattle.inodes.specs.LockState.{slot_of}
-use Rattle.blockmap.specs.Target.{block_of, slot_in}
-use Rattle.model.specs.Layout.{inode_block}
-use Rattle.inodes.specs.Writing.{HasOpen, block_of_write, counted, kept_by_write, node_of_write, used_by_write}
+use Rattle.inodes.specs.Common.{Agrees, block_of, block_of_write, Buffers, cases_eq, counted, Create, get_or-set_other, get_or-set_same, HasLock, HasLogged, HasOpen, HasSlot, HoldsAt, HoldsBlock, inode_block, is_among, IsOpenFor, kept_by_write, LogState, no_task, node_of_write, now_of, Op, Read, Remove, slot_in, slot_of, Stage, Stands, Stat, StaysForOthers, task, TaskState, Trunc, used_by, used_by_write, Write}
 use Rattle.inodes.proofs.TruncGot.{holds_still}
 
 -- process p's task is t now
@@ -25,8 +8,8 @@ pub record TaskIsNow (c d : Buffers) (l m : LogState) (n p : ℕ) (ts : List Tas
   pub agrees : Agrees c l n ts
   pub inside : p < length ts
   pub others : StaysForOthers c d l m p
-  pub stands : Stands d m n p t.op t.place
-  pub locks : (b i : ℕ) → HasLock d p b i → HasSlot t.place i
+  pub stands : Stands d m n p t.op t.stage
+  pub locks : (b i : ℕ) → HasLock d p b i → HasSlot t.stage i
 
 holds_other : (c d : Buffers) (l m : LogState) (p q b : ℕ) (o : Option ℕ) → StaysForOthers c d l m p → q ≢ p → HoldsAt c q b o → HoldsAt d q b o
 holds_other c d l m p q b None stays apart has = tt
@@ -61,8 +44,8 @@ pub open_write_still : (l m : LogState) (q : ℕ) → used_by m q ≡ used_by l 
 open_write_still l m q used has = record { homes = has.homes; used = used ∙ has.used }
 
 stands_other : (c d : Buffers) (l m : LogState) (n p q : ℕ) (t : TaskState) (a : Stage) → StaysForOthers c d l m p → q ≢ p → Stands c l n q t.op a → Stands d m n q t.op a
-stands_other c d l m n p q t stage.Nowhere stays apart s = tt
-stands_other c d l m n p q t (stage.Creating search) stays apart s = record {
+stands_other c d l m n p q t Stage.Nowhere stays apart s = tt
+stands_other c d l m n p q t (Stage.Creating search) stays apart s = record {
   op = s.op;
   used = stays.used q apart ∙ s.used;
   count = s.count;
@@ -71,29 +54,29 @@ stands_other c d l m n p q t (stage.Creating search) stays apart s = record {
   last = s.last;
   holds = holds_other c d l m p q search.block search.slot stays apart s.holds;
 }
-stands_other c d l m n p q t (stage.Taking lock) stays apart s = (holds_other c d l m p q (inode_block lock.number) (slot_of lock.at) stays apart s.0, open_still l m q t.op (stays.used q apart) s.1)
-stands_other c d l m n p q t (stage.Reading k reading) stays apart s = holds_other c d l m p q (block_of reading.target) (slot_in reading.target) stays apart s
-stands_other c d l m n p q t (stage.Delivering k) stays apart s = tt
-stands_other c d l m n p q t (stage.Truncating k trunc) stays apart s = record {
+stands_other c d l m n p q t (Stage.Taking lock) stays apart s = (holds_other c d l m p q (inode_block lock.number) (slot_of lock.at) stays apart s.0, open_still l m q t.op (stays.used q apart) s.1)
+stands_other c d l m n p q t (Stage.Reading k reading) stays apart s = holds_other c d l m p q (block_of reading.target) (slot_in reading.target) stays apart s
+stands_other c d l m n p q t (Stage.Delivering k) stays apart s = tt
+stands_other c d l m n p q t (Stage.Truncating k trunc) stays apart s = record {
   logged = logged_still l m q trunc.machine.bitmap (stays.used q apart) (λ one has. stays.among trunc.machine.bitmap has) s.logged;
   holds = holds_still c d q trunc.kept (now_of trunc) (λ b i has. stays.holds q b i apart has) s.holds;
 }
-stands_other c d l m n p q t (stage.Writing k w) stays apart s = record {
+stands_other c d l m n p q t (Stage.Writing k w) stays apart s = record {
   logged = open_write_still l m q (stays.used q apart) s.logged;
   kept = holds_other c d l m p q (node_of_write w.at) (kept_by_write w.at) stays apart s.kept;
   used = holds_other c d l m p q (block_of_write w.at) (used_by_write w.at) stays apart s.used;
 }
-stands_other c d l m n p q t (stage.Leaving k) stays apart s = tt
+stands_other c d l m n p q t (Stage.Leaving k) stays apart s = tt
 
 pub agrees_now : (c d : Buffers) (l m : LogState) (n p : ℕ) (ts : List TaskState) (t : TaskState) → TaskIsNow c d l m n p ts t → Agrees d m n (set ts p t)
 agrees_now c d l m n p ts t is = record {
   stands = λ q. ⊎_elim
-      (λ (same : q ≡ p). subst (λ (r : ℕ). Stands d m n r (task (set ts p t) r).op (task (set ts p t) r).place) (sym same) (subst (λ (s : TaskState). Stands d m n p s.op s.place) (sym mine) is.stands))
-      (λ (apart : q ≢ p). subst (λ (s : TaskState). Stands d m n q s.op s.place) (sym (theirs q apart)) (stands_other c d l m n p q (task ts q) (task ts q).place is.others apart (is.agrees.stands q)))
+      (λ (same : q ≡ p). subst (λ (r : ℕ). Stands d m n r (task (set ts p t) r).op (task (set ts p t) r).stage) (sym same) (subst (λ (s : TaskState). Stands d m n p s.op s.stage) (sym mine) is.stands))
+      (λ (apart : q ≢ p). subst (λ (s : TaskState). Stands d m n q s.op s.stage) (sym (theirs q apart)) (stands_other c d l m n p q (task ts q) (task ts q).stage is.others apart (is.agrees.stands q)))
       (cases_eq q p);
   holders = λ q b i has. ⊎_elim
-      (λ (same : q ≡ p). subst (λ (r : ℕ). HasSlot (task (set ts p t) r).place i) (sym same) (subst (λ (s : TaskState). HasSlot s.place i) (sym mine) (is.locks b i (subst (λ (r : ℕ). HasLock d r b i) same has))))
-      (λ (apart : q ≢ p). subst (λ (s : TaskState). HasSlot s.place i) (sym (theirs q apart)) (is.agrees.holders q b i (is.others.locks q b i apart has)))
+      (λ (same : q ≡ p). subst (λ (r : ℕ). HasSlot (task (set ts p t) r).stage i) (sym same) (subst (λ (s : TaskState). HasSlot s.stage i) (sym mine) (is.locks b i (subst (λ (r : ℕ). HasLock d r b i) same has))))
+      (λ (apart : q ≢ p). subst (λ (s : TaskState). HasSlot s.stage i) (sym (theirs q apart)) (is.agrees.holders q b i (is.others.locks q b i apart has)))
       (cases_eq q p);
 }
   where
@@ -107,7 +90,7 @@ agrees_now c d l m n p ts t is = record {
 pub agrees_still : (c d : Buffers) (l m : LogState) (n : ℕ) (ts : List TaskState) → ((q b i : ℕ) → HoldsBlock c q b i → HoldsBlock d q b i) → ((q b i : ℕ) → HasLock d q b i → HasLock c q b i)
     → ((q : ℕ) → used_by m q ≡ used_by l q) → ((q k b : ℕ) → used_by l q ≡ Some k → is_among b l.homes ≡ true → is_among b m.homes ≡ true) → Agrees c l n ts → Agrees d m n ts
 agrees_still c d l m n ts holds locks used among are = record {
-  stands = λ q. by_place q (task ts q) (task ts q).place (are.stands q);
+  stands = λ q. by_place q (task ts q) (task ts q).stage (are.stands q);
   holders = λ q b i has. are.holders q b i (locks q b i has);
 }
   where
@@ -116,18 +99,18 @@ agrees_still c d l m n ts holds locks used among are = record {
     by_slot q b (Some i) has = holds q b i has
 
     by_place : (q : ℕ) (t : TaskState) (a : Stage) → Stands c l n q t.op a → Stands d m n q t.op a
-    by_place q t stage.Nowhere s = tt
-    by_place q t (stage.Creating search) s = record { op = s.op; used = used q ∙ s.used; count = s.count; kind = s.kind; behind = s.behind; last = s.last; holds = by_slot q search.block search.slot s.holds }
-    by_place q t (stage.Taking lock) s = (by_slot q (inode_block lock.number) (slot_of lock.at) s.0, open_still l m q t.op (used q) s.1)
-    by_place q t (stage.Reading k reading) s = by_slot q (block_of reading.target) (slot_in reading.target) s
-    by_place q t (stage.Delivering k) s = tt
-    by_place q t (stage.Truncating k trunc) s = record {
+    by_place q t Stage.Nowhere s = tt
+    by_place q t (Stage.Creating search) s = record { op = s.op; used = used q ∙ s.used; count = s.count; kind = s.kind; behind = s.behind; last = s.last; holds = by_slot q search.block search.slot s.holds }
+    by_place q t (Stage.Taking lock) s = (by_slot q (inode_block lock.number) (slot_of lock.at) s.0, open_still l m q t.op (used q) s.1)
+    by_place q t (Stage.Reading k reading) s = by_slot q (block_of reading.target) (slot_in reading.target) s
+    by_place q t (Stage.Delivering k) s = tt
+    by_place q t (Stage.Truncating k trunc) s = record {
       logged = logged_still l m q trunc.machine.bitmap (used q) (λ one has. among q 1 trunc.machine.bitmap one has) s.logged;
       holds = holds_still c d q trunc.kept (now_of trunc) (holds q) s.holds;
     }
-    by_place q t (stage.Writing k w) s = record {
+    by_place q t (Stage.Writing k w) s = record {
       logged = open_write_still l m q (used q) s.logged;
       kept = by_slot q (node_of_write w.at) (kept_by_write w.at) s.kept;
       used = by_slot q (block_of_write w.at) (used_by_write w.at) s.used;
     }
-    by_place q t (stage.Leaving k) s = tt
+    by_place q t (Stage.Leaving k) s = tt

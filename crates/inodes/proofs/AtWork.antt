@@ -1,38 +1,11 @@
 -- A step of a process that works on its inode behind its turn: what it does, and that it promises so.
 use Rattle.std.proofs.Common.{◌≡◌, ◌≢◌, ℕ, ◌<◌, true, List, length, set, refl, sym, ◌∙◌, ap, subst, Option, Some, None}
-use Rattle.std.proofs.lemmas.List.{set-get_or}
-use Rattle.blocks.specs.Disk.{Image}
-use Rattle.blocks.specs.declared.disk.Disk.{Ghosts}
-use Rattle.model.specs.declared.types.operations.Op.{Op}
-use Rattle.model.specs.declared.types.operations.Reply.{Reply}
-use Rattle.model.specs.declared.types.operations.TaskProgress.{TaskProgress}
-use Rattle.model.specs.declared.types.operations.TaskProgress.TheVariants as progress
-use Rattle.model.specs.declared.types.operations.Why.{Why}
-use Rattle.model.specs.declared.types.operations.Why.TheVariants as why
-use Rattle.model.specs.Files.{Files}
-use Rattle.model.specs.Layout.{form_of, super_in}
-use Rattle.model.specs.Tasks.{FilesThen, Marks, reply_at_turn}
-use Rattle.wal.specs.Volume.{fault_of_task}
-use Rattle.in_flight.specs.Held.{Claims, FitsHeld, IsClaimedNow}
-use Rattle.wal.specs.Held.{HasLock}
-use Rattle.wal.specs.Machine.{SameGroups}
-use Rattle.wal.specs.Volume.{VolumeState}
-use Rattle.blockmap.specs.Lemmas.Others.{StaysForOthers}
-use Rattle.inodes.specs.declared.tasks.Stage.{Stage}
-use Rattle.inodes.specs.Goes.{Goes}
-use Rattle.inodes.specs.Grips.{Grip, KeepsTable, locked_grip, with_grip}
-use Rattle.inodes.specs.Holding.{claim_by, claim_of, claims_of}
-use Rattle.inodes.specs.Looks.{LooksAt}
-use Rattle.inodes.specs.Places.{HasSlot, asked_by, block_at_place, grip_by, grip_of, grips_of, steps_left}
-use Rattle.inodes.specs.Steps.{IsHeldByAnother, LeavesNumber, Reads, Steps, Waits, is_made}
-use Rattle.inodes.specs.Store.{StoreState, IsStore, FitsFiles, LoggedAt, Stands, current_of}
-use Rattle.inodes.specs.Table.{TableState}
-use Rattle.inodes.specs.Tasks.{TaskState, task, no_task}
+use Rattle.inodes.specs.Common.{AreLooking, asked_by, block_at_place, claim_by, claim_of, Claims, claims_of, current_of, fault_of_task, Files, FilesThen, FitsHeld, form_of, Ghosts, Goes, Grip, grip_by, grip_of, grips_of, HasLock, HasSlot, Image, is_made, IsClaimedNow, IsHeldByAnother, IsStore, KeepsTable, LeavesNumber, locked_grip, LoggedAt, LooksAt, Marks, no_task, Op, Reads, Reply, reply_at_turn, SameGroups, set-get_or, Stage, Stands, StaysForOthers, Steps, steps_left, StoreState, super_in, TableState, task, TaskProgress, TaskState, VolumeState, Waits, Why, with_grip}
+use Rattle.inodes.specs.Store.{FitsFiles}
 use Rattle.inodes.specs.Lemmas.Holding.{claimed_now}
 use Rattle.inodes.proofs.Looking.{Stepped, store_stepped, steps_stepped}
 use Rattle.inodes.proofs.LooksKept.{KeepsUsed}
 use Rattle.inodes.specs.Lemmas.Unclaimed.{LocksAlone, holds_alone_of}
-use Rattle.inodes.specs.Looks.{AreLooking}
 use Rattle.inodes.proofs.Gripping.{grip_is}
 
 -- process p, whose task stands at `here`, works on number i, at place k of the table
@@ -54,7 +27,7 @@ module _ {D N : Type 0} (disk : Ghosts D N) (s : StoreState D) (p k i : ℕ) (he
     pub is : IsStore disk.image s
     pub well : s.volume.fault ≡ None
     pub inside : p < length s.tasks
-    pub stood : (task s.tasks p).place ≡ here
+    pub stood : (task s.tasks p).stage ≡ here
     pub looking : AreLooking cur s.table s.tasks
     pub gripped : grip_of (task s.tasks p) ≡ Some (locked_grip k i)
     pub alone : LocksAlone s.tasks p i
@@ -66,7 +39,7 @@ module _ {D N : Type 0} (disk : Ghosts D N) (s : StoreState D) (p k i : ℕ) (he
     now = current_of disk.image w
 
     abbrev pub task_then : TaskState
-    task_then = record (task s.tasks p) { place = next }
+    task_then = record (task s.tasks p) { stage = next }
 
     abbrev pub store_then : StoreState D
     store_then = record { volume = w; tasks = ts; table = tab }
@@ -94,9 +67,9 @@ module _ {D N : Type 0} (disk : Ghosts D N) (s : StoreState D) (p k i : ℕ) (he
       pub grip : grip_by next (asked_by op) ≡ Some (locked_grip k i)
       pub stands : fault_of_task r ≡ None → StandsSo
       pub late : reply_at_turn r ≡ None
-      pub asleep : (cause : Why) → r ≡ progress.Sleeping cause → (w ≡ s.volume) × (tab ≡ s.table) × (next ≡ here)
-      pub held : r ≡ progress.Sleeping why.BufferHeld → IsHeldByAnother s p (block_at_place here)
-      pub inode : r ≡ progress.Sleeping why.InodeHeld → ⊥
+      pub asleep : (cause : Why) → r ≡ TaskProgress.Sleeping cause → (w ≡ s.volume) × (tab ≡ s.table) × (next ≡ here)
+      pub held : r ≡ TaskProgress.Sleeping Why.BufferHeld → IsHeldByAnother s p (block_at_place here)
+      pub inode : r ≡ TaskProgress.Sleeping Why.InodeHeld → ⊥
       pub less : is_made r ≡ true → steps_left now next count < steps_left cur here count
 
     module _ (its : Op) (works : Works) (does : Does its) (tasks : ts ≡ set s.tasks p task_then) where
@@ -151,10 +124,10 @@ module _ {D N : Type 0} (disk : Ghosts D N) (s : StoreState D) (p k i : ℕ) (he
       store_worked = store_stepped disk s p i its r t u works.is works.well works.inside stepped
 
       -- who sleeps changed nothing
-      slept : (cause : Why) → r ≡ progress.Sleeping cause → t ≡ s
+      slept : (cause : Why) → r ≡ TaskProgress.Sleeping cause → t ≡ s
       slept cause waits =
           let same = does.asleep cause waits in
-          let stays : u ≡ task s.tasks p = ap (λ (a : Stage). record (task s.tasks p) { place = a }) (same.2 ∙ sym works.stood) in
+          let stays : u ≡ task s.tasks p = ap (λ (a : Stage). record (task s.tasks p) { stage = a }) (same.2 ∙ sym works.stood) in
           ap (λ (v : VolumeState D). record { volume = v; tasks = ts; table = tab }) same.0
           ∙ ap (λ (b : TableState). record { volume = s.volume; tasks = ts; table = b }) same.1
           ∙ ap (λ (l : List TaskState). record s { tasks = l }) (tasks ∙ ap (set s.tasks p) stays ∙ set-get_or s.tasks p no_task)

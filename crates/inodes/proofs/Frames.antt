@@ -1,15 +1,7 @@
 -- What a step leaves as it was: an image in which nothing is done.
 use Rattle.std.proofs.Common.{◌≡◌, ℕ, ◌<◌, true, ltb, length, refl, arith, Option}
 use Rattle.std.specs.Prelude.{IsTrue}
-use Rattle.std.proofs.lemmas.Bool.{ltb-true}
-use Rattle.blocks.specs.Disk.{Image}
-use Rattle.model.specs.declared.types.operations.Reply.{Reply}
-use Rattle.model.specs.Journal.{is_making, is_number}
-use Rattle.model.specs.Layout.{inode_block, inode_count_of}
-use Rattle.model.specs.Lemmas.Log.{both_of}
-use Rattle.model.specs.Lemmas.Soundness.{facts_of}
-use Rattle.model.specs.Soundness.{IsLawfulGeometry}
-use Rattle.model.specs.Tasks.{Marks}
+use Rattle.inodes.specs.Common.{both_of, facts_of, Image, inode_block, inode_count_of, is_making, is_number, IsLawfulGeometry, ltb-true, Marks, Reply}
 
 -- a number's inode block lies in the image
 pub within_image : (x : Image) (i : ℕ) → IsLawfulGeometry x → IsTrue (is_number (inode_count_of x) i) → inode_block i < length x

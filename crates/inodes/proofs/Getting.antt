@@ -1,27 +1,9 @@
 -- What a look's steps make of buffers and device: a block is got, or released, or nothing is done.
 use Rattle.std.proofs.Common.{◌≡◌, ⊎_elim, ℕ, List, refl, sym, ◌∙◌, ap, subst, arith, Option, Some, None}
-use Rattle.blocks.specs.Calls.{OnlyReads}
-use Rattle.blocks.specs.Disk.{Image}
-use Rattle.blocks.specs.declared.disk.Disk.{Ghosts}
-use Rattle.wal.specs.declared.types.DeviceFault.{DeviceFault}
+use Rattle.inodes.specs.Common.{Agrees, Buffers, current_of, DeviceFault, fault_of_get, fault_of_task, faults_after, Get, GetsFor, GetsLock, Ghosts, GivesUpLock, HasLock, HasSlot, HoldsAt, Image, IsHeldByAnother, IsLocked, LocksAfter, LogState, OnlyReads, OnSleeping, Progress, progress_of, Reads, ShowsSame, stays_got, stays_left, stays_same, StaysForOthers, StoreState, task, TaskProgress, TaskState, VolumeState, Why}
+use Rattle.wal.specs.Volume.{slot_of}
 use Rattle.wal.specs.declared.types.DeviceFault.TheVariants.{Block}
-use Rattle.model.specs.declared.types.operations.TaskProgress.{TaskProgress}
-use Rattle.model.specs.declared.types.operations.Why.{Why}
-use Rattle.model.specs.declared.types.operations.Why.TheVariants as why
-use Rattle.wal.specs.Volume.{fault_of_task, VolumeState, OnSleeping, fault_of_get, faults_after, GetsFor, progress_of, slot_of}
-use Rattle.bcache.specs.Buffers.{Buffers}
-use Rattle.wal.specs.Get.{Get}
 use Rattle.wal.specs.Get as get
-use Rattle.wal.specs.Held.{HasLock, IsLocked, LocksAfter, GetsLock, GivesUpLock}
-use Rattle.wal.specs.Machine.{LogState}
-use Rattle.model.specs.declared.types.progress.Progress.{Progress}
-use Rattle.model.specs.declared.types.progress.Progress.TheVariants as machine
-use Rattle.inodes.specs.Goes.{ShowsSame}
-use Rattle.inodes.specs.Places.{HasSlot}
-use Rattle.inodes.specs.Steps.{Reads, IsHeldByAnother}
-use Rattle.inodes.specs.Store.{StoreState, HoldsAt, Agrees, current_of}
-use Rattle.inodes.specs.Tasks.{TaskState, task}
-use Rattle.blockmap.specs.Lemmas.Others.{StaysForOthers, stays_same, stays_got, stays_left}
 
 -- Process p has block b where it was got, and nothing else; the others have what they had.
 pub record HasOne (c d : Buffers) (l : LogState) (p b : ℕ) (slot : Option ℕ) : Type 0 where
@@ -31,14 +13,14 @@ pub record HasOne (c d : Buffers) (l : LogState) (p b : ℕ) (slot : Option ℕ)
 
 -- the fault of a machine's answer
 abbrev pub fault_of : {T : Type 0} → Progress T → Option DeviceFault
-fault_of machine.Moved = None
-fault_of (machine.Sleeping cause) = None
-fault_of (machine.Over out) = None
-fault_of (machine.Fault fault) = Some (Block fault)
+fault_of Progress.Moved = None
+fault_of (Progress.Sleeping cause) = None
+fault_of (Progress.Over out) = None
+fault_of (Progress.Fault fault) = Some (Block fault)
 
 -- the task of process p has got this slot alone
 abbrev pub HasOnly : List TaskState → ℕ → Option ℕ → Type 0
-HasOnly ts p slot = (i : ℕ) → HasSlot (task ts p).place i → slot ≡ Some i
+HasOnly ts p slot = (i : ℕ) → HasSlot (task ts p).stage i → slot ≡ Some i
 
 module _ (c : Buffers) (l : LogState) (n p : ℕ) (ts : List TaskState) (agrees : Agrees c l n ts) where
   -- it has what its task has
@@ -65,8 +47,7 @@ module _ (c : Buffers) (l : LogState) (n p : ℕ) (ts : List TaskState) (agrees 
   has_left d b i got gives = record {
     others = stays_left c d l p i gives;
     locks = λ a j has.
-        let same : Some i ≡ Some j = has_own (Some i) a j got (gives.none p a j has) in
-        let here : j ≡ i = cc same in
+        let here : j ≡ i = cc (has_own (Some i) a j got (gives.none p a j has)) in
         absurd (gives.free p a (subst (λ (k : ℕ). HasLock d p a k) here has));
     holds = tt;
   }
@@ -77,7 +58,7 @@ pub waits_for : {D : Type 0} (s : StoreState D) (p b : ℕ) → Agrees s.volume.
 waits_for s p b agrees none locked = record {
   other = locked.0;
   slot = locked.1;
-  apart = λ same. let no : None ≡ Some locked.1 = none locked.1 (subst (λ (q : ℕ). HasSlot (task s.tasks q).place locked.1) same (agrees.holders locked.0 b locked.1 locked.2)) in absurd (cc no);
+  apart = λ same. let no : None ≡ Some locked.1 = none locked.1 (subst (λ (q : ℕ). HasSlot (task s.tasks q).stage locked.1) same (agrees.holders locked.0 b locked.1 locked.2)) in absurd (cc no);
   lock = locked.2;
   got = agrees.holders locked.0 b locked.1 locked.2;
 }
@@ -102,19 +83,19 @@ module _ {D N T : Type 0} (disk : Ghosts D N) (s t : StoreState D) (p b : ℕ) (
         faults = gets.reads.faults ∙ ap (λ (o : Option DeviceFault). faults_after o (disk.fault_count s.volume.device)) (sym same);
       }
 
-  asleep : (a : Get) (cause : Why) → r ≡ progress_of a → r ≡ machine.Sleeping cause → a ≡ get.Sleeping cause
+  asleep : (a : Get) (cause : Why) → r ≡ progress_of a → r ≡ Progress.Sleeping cause → a ≡ get.Sleeping cause
   asleep (get.Got i) cause is waits = absurd (cc (sym is ∙ waits))
-  asleep (get.Sleeping other) cause is waits = let same : other ≡ cause = (let e : (let a : Progress T = machine.Sleeping other in a) ≡ machine.Sleeping cause = sym is ∙ waits in cc e) in ap get.Sleeping same
+  asleep (get.Sleeping other) cause is waits = let same : other ≡ cause = (let e : (let a : Progress T = Progress.Sleeping other in a) ≡ Progress.Sleeping cause = sym is ∙ waits in cc e) in ap get.Sleeping same
   asleep (get.Fault fault) cause is waits = absurd (cc (sym is ∙ waits))
 
   -- who has to wait has no slot, and changed nothing
-  pub sleeps_got : (cause : Why) → r ≡ machine.Sleeping cause → (t.volume ≡ s.volume) × (slot ≡ None)
+  pub sleeps_got : (cause : Why) → r ≡ Progress.Sleeping cause → (t.volume ≡ s.volume) × (slot ≡ None)
   sleeps_got cause waits =
       let is = asleep gets.answer cause gets.gives waits in
       (subst (λ (a : Get). OnSleeping a (t.volume ≡ s.volume)) is gets.gets.sleeping, gets.slot ∙ ap slot_of is)
 
-  pub held_got : r ≡ machine.Sleeping why.BufferHeld → IsHeldByAnother s p b
-  held_got waits = waits_for s p b agrees none (subst (λ (a : Get). LocksAfter a s.volume.buffers t.volume.buffers p b) (asleep gets.answer why.BufferHeld gets.gives waits) gets.locks).0
+  pub held_got : r ≡ Progress.Sleeping Why.BufferHeld → IsHeldByAnother s p b
+  held_got waits = waits_for s p b agrees none (subst (λ (a : Get). LocksAfter a s.volume.buffers t.volume.buffers p b) (asleep gets.answer Why.BufferHeld gets.gives waits) gets.locks).0
 
   pub has_then : fault_of r ≡ None → HasOne s.volume.buffers t.volume.buffers s.volume.log p b slot
   has_then well = by_answer gets.answer (sym (same_fault gets.answer) ∙ ap fault_of (sym gets.gives) ∙ well) gets.slot gets.locks gets.gets.sleeping

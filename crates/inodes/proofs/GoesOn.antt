@@ -3,25 +3,7 @@
 -- block; and else any, for nobody has an inode's lock then.
 use Rattle.std.proofs.Common.{◌≡◌, ◌≢◌, ℕ, Bool, true, false, List, [], ◌∷◌, refl, sym, ◌∙◌, ap, subst, Option, Some, None, inl, inr}
 use Rattle.std.specs.Prelude.{IfNone}
-use Rattle.std.proofs.lemmas.Bool.{both_ways, not-false}
-use Rattle.wal.specs.declared.types.DeviceFault.{DeviceFault}
-use Rattle.blocks.specs.Disk.{Image}
-use Rattle.bcache.specs.Buffers.{Buffers, buffer, victim}
-use Rattle.model.specs.Soundness.{count_of}
-use Rattle.wal.specs.Held.{HasLock}
-use Rattle.wal.specs.Joint.{Joint}
-use Rattle.inodes.specs.declared.freeing.Got.{Got}
-use Rattle.inodes.specs.declared.ilock.LockAt.{LockAt}
-use Rattle.inodes.specs.declared.ilock.LockAt.TheVariants as lock_at
-use Rattle.inodes.specs.declared.tasks.Stage.{Stage}
-use Rattle.inodes.specs.declared.tasks.Stage.TheVariants as stage
-use Rattle.inodes.specs.Grips.{Grip, locked_grip}
-use Rattle.inodes.specs.LockState.{LockState}
-use Rattle.inodes.specs.Looks.{AreLooking}
-use Rattle.inodes.specs.Places.{is_over, grip_at, grip_by, asked_by}
-use Rattle.inodes.specs.Store.{StoreState, IsStore, Agrees, current_of}
-use Rattle.inodes.specs.Table.{TableState, holder_at}
-use Rattle.inodes.specs.Tasks.{TaskState, no_task, task}
+use Rattle.inodes.specs.Common.{Agrees, AreLooking, asked_by, both_ways, buffer, Buffers, count_of, current_of, DeviceFault, Got, Grip, grip_at, grip_by, HasLock, holder_at, Image, is_over, IsStore, Joint, LockAt, locked_grip, LockState, no_task, not-false, Stage, StoreState, TableState, task, TaskState, victim}
 use Rattle.inodes.specs.Waiting.{SomeoneGoesOn, NobodyWaitsForEver, cause_at, cause_to_lock, cause_of_holder}
 use Rattle.inodes.specs.Lemmas.Faults.{where_none}
 use Rattle.inodes.specs.Lemmas.Sought.{Sought, sought, passes_busy}
@@ -37,38 +19,38 @@ is_locked_in None = false
 is_locked_in (Some g) = g.is_locked
 
 lock_taken : (m : LockState) (a : LockAt) (k i : ℕ) → grip_at a m.number ≡ Some (locked_grip k i) → is_lock a ≡ false
-lock_taken m lock_at.Reference k i has = refl
-lock_taken m (lock_at.Lock j) k i has = let unlike : false ≡ true = ap is_locked_in has in absurd (cc unlike)
-lock_taken m (lock_at.Read j slot) k i has = refl
+lock_taken m LockAt.Reference k i has = refl
+lock_taken m (LockAt.Lock j) k i has = let unlike : false ≡ true = ap is_locked_in has in absurd (cc unlike)
+lock_taken m (LockAt.Read j slot) k i has = refl
 
 locked_gets : (a : Stage) (j k i : ℕ) → grip_by a j ≡ Some (locked_grip k i) → is_getting a ≡ true
-locked_gets stage.Nowhere j k i has = absurd (cc has)
-locked_gets (stage.Creating m) j k i has = refl
-locked_gets (stage.Taking m) j k i has = rw (lock_taken m m.at k i has) refl
-locked_gets (stage.Reading l m) j k i has = refl
-locked_gets (stage.Delivering l) j k i has = refl
-locked_gets (stage.Truncating l m) j k i has = refl
-locked_gets (stage.Writing l m) j k i has = refl
-locked_gets (stage.Leaving l) j k i has = refl
+locked_gets Stage.Nowhere j k i has = absurd (cc has)
+locked_gets (Stage.Creating m) j k i has = refl
+locked_gets (Stage.Taking m) j k i has = rw (lock_taken m m.at k i has) refl
+locked_gets (Stage.Reading l m) j k i has = refl
+locked_gets (Stage.Delivering l) j k i has = refl
+locked_gets (Stage.Truncating l m) j k i has = refl
+locked_gets (Stage.Writing l m) j k i has = refl
+locked_gets (Stage.Leaving l) j k i has = refl
 
 -- a task that neither is over nor gets a block waits for a lock at that stage, if anybody has it
 abbrev WaitsForLock : Buffers → TableState → Stage → Type 0
 WaitsForLock c t a = (k : ℕ) × (cause_at c t a ≡ cause_of_holder (holder_at t.places k))
 
 at_lock : (c : Buffers) (t : TableState) (a : LockAt) (i : ℕ) → is_lock a ≡ true → (k : ℕ) × (cause_to_lock c t a i ≡ cause_of_holder (holder_at t.places k))
-at_lock c t lock_at.Reference i is = absurd (cc is)
-at_lock c t (lock_at.Lock k) i is = (k, refl)
-at_lock c t (lock_at.Read k slot) i is = absurd (cc is)
+at_lock c t LockAt.Reference i is = absurd (cc is)
+at_lock c t (LockAt.Lock k) i is = (k, refl)
+at_lock c t (LockAt.Read k slot) i is = absurd (cc is)
 
 only_lock : (c : Buffers) (t : TableState) (a : Stage) → is_over a ≡ false → is_getting a ≡ false → WaitsForLock c t a
-only_lock c t stage.Nowhere busy is = absurd (cc busy)
-only_lock c t (stage.Creating m) busy is = absurd (cc is)
-only_lock c t (stage.Taking m) busy is = at_lock c t m.at m.number (not-false (is_lock m.at) is)
-only_lock c t (stage.Reading k m) busy is = absurd (cc is)
-only_lock c t (stage.Delivering k) busy is = absurd (cc is)
-only_lock c t (stage.Truncating k m) busy is = absurd (cc is)
-only_lock c t (stage.Writing k m) busy is = absurd (cc is)
-only_lock c t (stage.Leaving k) busy is = absurd (cc is)
+only_lock c t Stage.Nowhere busy is = absurd (cc busy)
+only_lock c t (Stage.Creating m) busy is = absurd (cc is)
+only_lock c t (Stage.Taking m) busy is = at_lock c t m.at m.number (not-false (is_lock m.at) is)
+only_lock c t (Stage.Reading k m) busy is = absurd (cc is)
+only_lock c t (Stage.Delivering k) busy is = absurd (cc is)
+only_lock c t (Stage.Truncating k m) busy is = absurd (cc is)
+only_lock c t (Stage.Writing k m) busy is = absurd (cc is)
+only_lock c t (Stage.Leaving k) busy is = absurd (cc is)
 
 abbrev has_some : List Got → Bool
 has_some [] = false
@@ -91,11 +73,11 @@ module _ {D : Type 0} (image : D → Image) (s : StoreState D) (store : IsStore 
   c = s.volume.buffers
 
   abbrev at : ℕ → Stage
-  at p = (task s.tasks p).place
+  at p = (task s.tasks p).stage
 
   -- a task passes a test, or none does
-  some_task : (test : Stage → Bool) → test stage.Nowhere ≡ false → Sought (λ (t : TaskState). test t.place) no_task s.tasks
-  some_task test fails = sought (λ (t : TaskState). test t.place) no_task s.tasks fails
+  some_task : (test : Stage → Bool) → test Stage.Nowhere ≡ false → Sought (λ (t : TaskState). test t.stage) no_task s.tasks
+  some_task test fails = sought (λ (t : TaskState). test t.stage) no_task s.tasks fails
 
   agrees : Agrees s.volume.buffers s.volume.log s.table.inode_count s.tasks
   agrees = where_none s.volume.fault unfailed store.agrees

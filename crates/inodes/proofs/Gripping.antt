@@ -1,10 +1,6 @@
 -- What processes have of the table of inodes, by their tasks.
 use Rattle.std.proofs.Common.{◌≡◌, ℕ, zero, suc, List, [], ◌∷◌, set, refl, sym, ◌∙◌, ap, Option}
-use Rattle.std.proofs.lemmas.List.{map-set, set-get_or}
-use Rattle.inodes.specs.Grips.{Grip, with_grip}
-use Rattle.inodes.specs.Places.{grip_of, grips_of}
-use Rattle.inodes.specs.declared.tasks.Stage.{Stage}
-use Rattle.inodes.specs.Tasks.{TaskState, task, no_task}
+use Rattle.inodes.specs.Common.{Grip, grip_of, grips_of, map-set, no_task, set-get_or, Stage, task, TaskState, with_grip}
 -- a process has what its task has
 pub use Rattle.inodes.specs.Lemmas.Looks.{grip_of_task as grip_is}
 
@@ -19,5 +15,5 @@ grips_same (s ∷ ts) zero t same = ap (λ (g : Option Grip). g ∷ grips_of ts)
 grips_same (s ∷ ts) (suc p) t same = ap (λ (gs : List (Option Grip)). grip_of s ∷ gs) (grips_same ts p t same)
 
 -- a task that stays where it stands is the same
-pub same_task : (ts : List TaskState) (p : ℕ) (a : Stage) → (task ts p).place ≡ a → ts ≡ set ts p (record (task ts p) { place = a })
-same_task ts p a stood = sym (ap (λ (b : Stage). set ts p (record (task ts p) { place = b })) (sym stood) ∙ set-get_or ts p no_task)
+pub same_task : (ts : List TaskState) (p : ℕ) (a : Stage) → (task ts p).stage ≡ a → ts ≡ set ts p (record (task ts p) { stage = a })
+same_task ts p a stood = sym (ap (λ (b : Stage). set ts p (record (task ts p) { stage = b })) (sym stood) ∙ set-get_or ts p no_task)

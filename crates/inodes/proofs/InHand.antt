@@ -1,21 +1,7 @@
 -- The block of addresses whose entries a truncation gives up: where it stands, and what the other images have of it.
 use Rattle.std.proofs.Common.{◌≡◌, ◌≢◌, ℕ, suc, ◌+◌, ◌-◌, ◌<◌, ◌≤◌, true, false, ◌||◌, cond, eqb, List, length, get_or, refl, sym, ◌∙◌, ap, subst, arith, Option, Some, None}
 use Rattle.std.specs.Prelude.{is_some}
-use Rattle.std.proofs.lemmas.Bool.{eqb-true, eqb-false}
-use Rattle.blocks.specs.Disk.{Image, block_at}
-use Rattle.model.specs.declared.types.image.Form.{Form}
-use Rattle.model.specs.Fields.{words_of}
-use Rattle.model.specs.Layout.{depths, form_of}
-use Rattle.in_flight.specs.Held.{listed}
-use Rattle.in_flight.specs.Trees.{IsFirstTree, depth_of, entry_of, led_to}
-use Rattle.in_flight.specs.Lemmas.Ways.{led_none}
-use Rattle.in_flight.specs.Lemmas.Wholes.{tree_depth}
-use Rattle.inodes.specs.declared.freeing.Kept.{Kept}
-use Rattle.inodes.specs.declared.itrunc.Itrunc.{Itrunc}
-use Rattle.inodes.specs.declared.itrunc.TruncAt.{TruncAt}
-use Rattle.inodes.specs.declared.itrunc.TruncAt.TheVariants as trunc_at
-use Rattle.inodes.specs.Holding.{HasGivenUp, IsInHand, Keeps, hand_in, last_kept, root_of, way_of}
-use Rattle.inodes.specs.Itrunc.{leads_to_data}
+use Rattle.inodes.specs.Common.{block_at, depth_of, depths, entry_of, eqb-false, eqb-true, Form, form_of, hand_in, HasGivenUp, Image, IsFirstTree, IsInHand, Itrunc, Keeps, Kept, last_kept, leads_to_data, led_none, led_to, listed, root_of, tree_depth, TruncAt, way_of, words_of}
 
 led_root : (x : Image) (way : List ℕ) (a : ℕ) → led_to x way a ≢ 0 → a ≢ 0
 led_root x way a some none = some (ap (led_to x way) none ∙ led_none x way)
@@ -56,19 +42,13 @@ module _ (x : Image) (m : Itrunc) (h : IsInHand x m) where
       where
         by_upper : (o : Option ℕ) → (is_some o || eqb (get_or (depths m.form) m.slot 0) 1) ≡ false → (o ≡ None) × (depth_of x m.slot ≡ 2)
         by_upper None leads =
-            let not_one = eqb-false (get_or (depths m.form) m.slot 0) 1 leads in
-            let same = same_depth in
-            let some = shallow.0 in
-            let few = shallow.1 in
-            (refl, omega (arith, not_one, same, some, few))
+            (refl, omega (arith, (eqb-false (get_or (depths m.form) m.slot 0) 1 leads), same_depth, shallow.0, shallow.1))
         by_upper (Some e) leads = absurd (cc leads)
 
     -- a second block is one of a doubly indirect block's
     pub two_deep : (e : ℕ) → m.upper ≡ Some e → depth_of x m.slot ≡ 2
     two_deep e upper =
-        let two = shallow.1 in
-        let level : 1 < depth_of x m.slot = subst (λ (o : Option ℕ). length (listed o) < depth_of x m.slot) upper h.level in
-        omega (arith, two, level)
+        omega (arith, shallow.1, (subst (λ (o : Option ℕ). length (listed o) < depth_of x m.slot) upper h.level))
 
 -- ---- in another image, with the same blocks of addresses
 
@@ -92,30 +72,30 @@ module _ (x y : Image) (m : Itrunc) (form : form_of y ≡ form_of x) (root : (e 
     level = subst (λ (n : ℕ). length (way_of m) < n) (sym depth_kept) h.level;
   }
 
-  module _ (same : m.at ≡ trunc_at.Entry → block_at y (hand_in x m) ≡ block_at x (hand_in x m)) where
+  module _ (same : m.at ≡ TruncAt.Entry → block_at y (hand_in x m) ≡ block_at x (hand_in x m)) where
     given_at : (a : TruncAt) → m.at ≡ a → HasGivenUp x m a → HasGivenUp y m a
-    given_at trunc_at.Direct at given = given
-    given_at (trunc_at.Loading b) at given = (in_hand_kept given.0, given.1, hand_kept ∙ given.2)
-    given_at trunc_at.Entry at given = record {
+    given_at TruncAt.Direct at given = given
+    given_at (TruncAt.Loading b) at given = (in_hand_kept given.0, given.1, hand_kept ∙ given.2)
+    given_at TruncAt.Entry at given = record {
       hand = in_hand_kept given.hand;
       names_data = depth_kept ∙ given.names_data;
       within = given.within;
       there = subst (λ (n : ℕ). n ≢ 0) (sym (ap (λ (b : ℕ). entry_of y b m.given_up) hand_kept ∙ ap (λ (l : List ℕ). get_or (words_of l) m.given_up 0) (same at))) given.there;
     }
-    given_at trunc_at.Unloading at given = (in_hand_kept given.0, given.1)
-    given_at trunc_at.Freeing at given = (in_hand_kept given.0, given.1)
-    given_at trunc_at.Updating at given = given
+    given_at TruncAt.Unloading at given = (in_hand_kept given.0, given.1)
+    given_at TruncAt.Freeing at given = (in_hand_kept given.0, given.1)
+    given_at TruncAt.Updating at given = given
 
     pub given_kept : HasGivenUp x m m.at → HasGivenUp y m m.at
     given_kept given = given_at m.at refl given
 
   last_at : (a : TruncAt) → last_kept y m a ≡ last_kept x m a
-  last_at trunc_at.Direct = refl
-  last_at (trunc_at.Loading b) = refl
-  last_at trunc_at.Entry = ap Some hand_kept
-  last_at trunc_at.Unloading = ap Some hand_kept
-  last_at trunc_at.Freeing = refl
-  last_at trunc_at.Updating = refl
+  last_at TruncAt.Direct = refl
+  last_at (TruncAt.Loading b) = refl
+  last_at TruncAt.Entry = ap Some hand_kept
+  last_at TruncAt.Unloading = ap Some hand_kept
+  last_at TruncAt.Freeing = refl
+  last_at TruncAt.Updating = refl
 
   pub keeps_kept : (kept : Kept) → Keeps x kept m m.at → Keeps y kept m m.at
   keeps_kept kept keeps = record { inner = keeps.inner ∙ sym (last_at m.at); outer = keeps.outer }

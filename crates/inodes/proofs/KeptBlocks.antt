@@ -2,58 +2,9 @@
 -- for one that is kept.
 use Rattle.std.proofs.Common.{◌≡◌, ◌≢◌, ℕ, ◌<◌, ◌≤◌, false, List, [], ◌∷◌, ◌++◌, refl, sym, ◌∙◌, ap, subst, arith, Option, Some, None, inl, inr, ◌⊎◌}
 use Rattle.std.specs.Prelude.{IsTrue, is_some}
-use Rattle.std.proofs.lemmas.Bool.{cases_eq}
-use Rattle.blocks.specs.Disk.{Image}
-use Rattle.model.specs.declared.types.operations.Op.{Op}
-use Rattle.model.specs.Journal.{is_number}
-use Rattle.model.specs.Layout.{form_of, inode_count_of, first_data_block, bitmap_block}
-use Rattle.model.specs.Places.{addresses_in, pointers_in}
-use Rattle.model.specs.Soundness.{count_of}
-use Rattle.in_flight.specs.Held.{Claim, frees, grows, listed, names_claimed}
-use Rattle.in_flight.specs.Trees.{led_to, names_left}
-use Rattle.in_flight.specs.HeldLaws.{IsHeldIn}
-use Rattle.in_flight.specs.Lemmas.Apart.{named_mine}
-use Rattle.in_flight.specs.Lemmas.GivenUp.{first_left, first_twice}
-use Rattle.in_flight.specs.Lemmas.HeldLooks.{held_has_blocks}
-use Rattle.in_flight.specs.Lemmas.LeftOnWays.{ahead_of}
-use Rattle.in_flight.specs.Lemmas.Ways.{ahead_root, led_step}
-use Rattle.in_flight.specs.Lemmas.BlocksTaken.{taken_owned}
-use Rattle.in_flight.specs.Lemmas.HeldFrames.{claimed_in_data, owned_by_one}
-use Rattle.in_flight.specs.Lemmas.Looks.{between}
-use Rattle.bcache.specs.Buffers.{Buffers}
-use Rattle.wal.specs.Held.{HoldsBlock}
-use Rattle.wal.specs.Machine.{LogState, used_by}
-use Rattle.blockmap.specs.Balloc.{AllocState}
-use Rattle.blockmap.specs.BmapAlloc.{MapState}
-use Rattle.blockmap.specs.Branch.{LiesOnWay, branch_of}
-use Rattle.blockmap.specs.declared.branch.Branch.{Branch}
-use Rattle.blockmap.specs.declared.balloc.AllocAt.{AllocAt}
-use Rattle.blockmap.specs.declared.balloc.AllocAt.TheVariants as alloc_at
-use Rattle.blockmap.specs.declared.bmap_alloc.MapAt.{MapAt}
-use Rattle.blockmap.specs.declared.bmap_alloc.MapAt.TheVariants as map_at
-use Rattle.inodes.specs.declared.freeing.Got.{Got}
-use Rattle.inodes.specs.declared.freeing.Freeing.{Freeing}
-use Rattle.inodes.specs.declared.itrunc.TruncAt.{TruncAt}
-use Rattle.inodes.specs.declared.itrunc.TruncAt.TheVariants as trunc_at
-use Rattle.inodes.specs.declared.tasks.Stage.{Stage}
-use Rattle.inodes.specs.declared.tasks.Stage.TheVariants as stage
-use Rattle.inodes.specs.declared.writei.WriteAt.{WriteAt}
-use Rattle.inodes.specs.declared.writei.WriteAt.TheVariants as write_at
-use Rattle.inodes.specs.Freeing.{HasOne, block_by, now_by, slot_kept}
-use Rattle.inodes.specs.Grips.{locked_grip}
-use Rattle.inodes.specs.Growing.{growth_of, bytes_by, HasComeTo, IsOnWay, next_block, taken_at, taken_on_way, taken_by}
-use Rattle.inodes.specs.declared.writei.Extent.{Extent}
-use Rattle.inodes.specs.Holding.{claims_of, HasGivenUp, IsInHand, IsTruncating, Keeps, above_by, above_hand, block_of_got, first_kept, hand_in, held_of, last_kept, root_of, way_of}
-use Rattle.inodes.specs.Looks.{AreLooking, LooksAt}
-use Rattle.inodes.specs.Places.{grip_of}
-use Rattle.inodes.specs.Store.{HoldsAt, HasLogged, Stands}
-use Rattle.inodes.specs.Table.{TableState}
-use Rattle.inodes.specs.Tasks.{TaskState, task}
-use Rattle.inodes.specs.Writei.{WriteState}
-use Rattle.inodes.specs.Writing.{IsWriting, slot_of_alloc, block_of_alloc, kept_on_way, kept_by_write, node_of_write, node_on_way}
+use Rattle.inodes.specs.Common.{above_by, above_hand, addresses_in, ahead_of, ahead_root, AllocAt, AllocState, AreLooking, between, bitmap_block, block_by, block_of_alloc, block_of_got, Branch, branch_of, Buffers, bytes_by, cases_eq, cause_to_get, Claim, claimed_in_data, claims_of, count_of, Extent, first_data_block, first_kept, first_left, first_twice, form_of, Freeing, frees, Got, grip_of, grows, growth_of, hand_in, HasComeTo, HasGivenUp, HasLogged, HasOne, held_has_blocks, held_of, HoldsAt, HoldsBlock, Image, inode_count_of, is_number, IsHeldIn, IsInHand, IsOnWay, IsTruncating, IsWriting, Keeps, kept_by_write, kept_on_way, last_kept, led_step, led_to, LiesOnWay, listed, locked_grip, LogState, LooksAt, MapAt, MapState, named_mine, names_claimed, names_left, next_block, node_of_write, node_on_way, now_by, Op, owned_by_one, pointers_in, root_of, slot_kept, slot_of_alloc, Stage, Stands, TableState, taken_at, taken_by, taken_on_way, taken_owned, task, TaskState, TruncAt, used_by, way_of, WriteAt, WriteState}
 use Rattle.inodes.proofs.WriteNodes.{lies_named}
 use Rattle.inodes.specs.Lemmas.Looks.{trunc_locks, write_locks}
-use Rattle.wal.specs.Volume.{cause_to_get}
 use Rattle.inodes.specs.Waiting.{cause_at, unless_got, wanted_by_write, wanted_on_way}
 use Rattle.inodes.specs.Lemmas.Unclaimed.{one_holder, own_claim, own_growth}
 use Rattle.inodes.proofs.FreePlaces.{IsOneOf, is_free, got_at, gots, gots_kept, kept_by, maps_freely, writes_freely, some_got}
@@ -91,12 +42,12 @@ slot_held {c} {p} b g (Some i) (inl same) has = subst (λ (o : Got). HoldsBlock 
 slot_held b g (Some i) (inr none) has = absurd none
 
 pub keeps_open : (c : Buffers) (l : LogState) (n p : ℕ) (g : Got) (o : Option Op) (a : Stage) → IsOneOf g (kept_by a) → Stands c l n p o a → KeepsOpen c l p g
-keeps_open c l n p g o stage.Nowhere has stands = absurd has
-keeps_open c l n p g o (stage.Creating m) has stands = absurd has
-keeps_open c l n p g o (stage.Taking m) has stands = absurd has
-keeps_open c l n p g o (stage.Reading k m) has stands = absurd has
-keeps_open c l n p g o (stage.Delivering k) has stands = absurd has
-keeps_open c l n p g o (stage.Truncating k m) has stands =
+keeps_open c l n p g o Stage.Nowhere has stands = absurd has
+keeps_open c l n p g o (Stage.Creating m) has stands = absurd has
+keeps_open c l n p g o (Stage.Taking m) has stands = absurd has
+keeps_open c l n p g o (Stage.Reading k m) has stands = absurd has
+keeps_open c l n p g o (Stage.Delivering k) has stands = absurd has
+keeps_open c l n p g o (Stage.Truncating k m) has stands =
     let log = some_logged l p m.machine.bitmap stands.logged in
     record {
       holds = elim (in_either g (gots m.kept.inner) (gots m.kept.outer) has) [
@@ -106,12 +57,12 @@ keeps_open c l n p g o (stage.Truncating k m) has stands =
       used = log.0;
       has = log.1;
     }
-keeps_open c l n p g o (stage.Writing k m) has stands = record {
+keeps_open c l n p g o (Stage.Writing k m) has stands = record {
   holds = slot_held (node_of_write m.at) g (kept_by_write m.at) has stands.kept;
   used = stands.logged.homes;
   has = stands.logged.used;
 }
-keeps_open c l n p g o (stage.Leaving k) has stands = absurd has
+keeps_open c l n p g o (Stage.Leaving k) has stands = absurd has
 
 module _ (cur : Image) (t : TableState) (ts : List TaskState) (are : AreLooking cur t ts) (numbers : t.inode_count ≡ inode_count_of cur) where
   -- ---- whose block it is
@@ -128,7 +79,7 @@ module _ (cur : Image) (t : TableState) (ts : List TaskState) (are : AreLooking 
   named i is = subst (λ (n : ℕ). IsTrue (is_number n i)) numbers is
 
   -- what the freeing of a file's blocks has still to free is its own
-  left_own : (p k b : ℕ) (m : Freeing) → (task ts p).place ≡ stage.Truncating k m → IsTrue (is_number t.inode_count m.machine.number) →
+  left_own : (p k b : ℕ) (m : Freeing) → (task ts p).stage ≡ Stage.Truncating k m → IsTrue (is_number t.inode_count m.machine.number) →
       1 ≤ count_of b (names_left cur m.machine.inode (held_of m.machine).cursor) → IsOwn p b
   left_own p k b m at number some = record {
     number = m.machine.number;
@@ -138,7 +89,7 @@ module _ (cur : Image) (t : TableState) (ts : List TaskState) (are : AreLooking 
     owned = subst (λ (o : Option Claim). 1 ≤ count_of b (names_claimed cur m.machine.number o)) (sym (own_claim cur t ts are p k m at)) some;
   }
 
-  module _ (p k : ℕ) (m : Freeing) (at : (task ts p).place ≡ stage.Truncating k m) (number : IsTrue (is_number t.inode_count m.machine.number)) (h : IsInHand cur m.machine) where
+  module _ (p k : ℕ) (m : Freeing) (at : (task ts p).stage ≡ Stage.Truncating k m) (number : IsTrue (is_number t.inode_count m.machine.number)) (h : IsInHand cur m.machine) where
     root_own : IsOwn p (root_of m.machine)
     root_own = left_own p k (root_of m.machine) m at number
         (first_left cur m.machine.inode m.machine.slot (held_of m.machine).cursor [] (root_of m.machine) (first_tree cur m.machine h) (omega arith) refl (root_there cur m.machine h) (ahead_root (held_of m.machine).cursor))
@@ -163,29 +114,24 @@ module _ (cur : Image) (t : TableState) (ts : List TaskState) (are : AreLooking 
         by_upper None upper is = cc is
         by_upper (Some e) upper is =
             let above : root ≡ b = cc is in
-            let hand : led_to cur (e ∷ []) root ≡ root = sym (ap (λ (o : Option ℕ). led_to cur (listed o) root) upper) ∙ same ∙ sym above in
-            let step = led_step cur e [] root root hand (root_there cur m.machine h) in
+            let step = led_step cur e [] root root (sym (ap (λ (o : Option ℕ). led_to cur (listed o) root) upper) ∙ same ∙ sym above) (root_there cur m.machine h) in
             let twice = first_twice cur m.machine.inode m.machine.slot e 1 (m.machine.given_up ∷ []) (first_tree cur m.machine h) (two_deep cur m.machine h form e upper) step.1 in
-            let alike = ap (λ (o : Option ℕ). count_of root (names_left cur m.machine.inode (listed o ++ m.machine.given_up ∷ []))) upper in
             let few = (held_has_blocks are.files.0 cur (claims_of ts) m.machine.number (frees (held_of m.machine))
             (record { fits = are.files.1; number = named m.machine.number number; holds = own_claim cur t ts are p k m at })).once root in
-            omega (arith, twice, few, alike)
+            omega (arith, twice, few, (ap (λ (o : Option ℕ). count_of root (names_left cur m.machine.inode (listed o ++ m.machine.given_up ∷ []))) upper))
 
-  held_in : (p k : ℕ) (m : WriteState) → (task ts p).place ≡ stage.Writing k m → IsTrue (is_number t.inode_count m.number) →
+  held_in : (p k : ℕ) (m : WriteState) → (task ts p).stage ≡ Stage.Writing k m → IsTrue (is_number t.inode_count m.number) →
       IsHeldIn are.files.0 cur (claims_of ts) m.number (grows (growth_of m (bytes_by (task ts p).op)))
   held_in p k m at number = record { fits = are.files.1; number = named m.number number; holds = own_growth cur t ts are p k m at }
 
-  write_own : (p k b : ℕ) (m : WriteState) → (task ts p).place ≡ stage.Writing k m → IsTrue (is_number t.inode_count m.number) → 1 ≤ count_of b (addresses_in (pointers_in cur m.inode)) → IsOwn p b
+  write_own : (p k b : ℕ) (m : WriteState) → (task ts p).stage ≡ Stage.Writing k m → IsTrue (is_number t.inode_count m.number) → 1 ≤ count_of b (addresses_in (pointers_in cur m.inode)) → IsOwn p b
   write_own p k b m at number has =
-      let g = growth_of m (bytes_by (task ts p).op) in
-      let h = held_in p k m at number in
-      let mine = named_mine are.files.0 cur (claims_of ts) m.number g h b in
       record {
         number = m.number;
         entry = k;
         locked = write_locks cur t ts are p k m at;
         is = named m.number number;
-        owned = omega (arith, mine, has);
+        owned = omega (arith, (named_mine are.files.0 cur (claims_of ts) m.number (growth_of m (bytes_by (task ts p).op)) (held_in p k m at number) b), has);
       }
 
   -- which block it is that was got
@@ -195,22 +141,22 @@ module _ (cur : Image) (t : TableState) (ts : List TaskState) (are : AreLooking 
   block_is g (Some h) (inr none) = absurd none
 
   -- what the freeing of a file's blocks keeps is its own
-  module _ (p k : ℕ) (m : Freeing) (at : (task ts p).place ≡ stage.Truncating k m) (work : IsTruncating cur t.inode_count (task ts p) m) where
+  module _ (p k : ℕ) (m : Freeing) (at : (task ts p).stage ≡ Stage.Truncating k m) (work : IsTruncating cur t.inode_count (task ts p) m) where
     last_own : (b : ℕ) (a : TruncAt) → HasGivenUp cur m.machine a → last_kept cur m.machine a ≡ Some b → IsOwn p b
-    last_own b trunc_at.Direct given is = absurd (cc is)
-    last_own b (trunc_at.Loading c) given is = above_own p k m at work.number given.0 m.machine.upper b is
-    last_own b trunc_at.Entry given is = let hand : hand_in cur m.machine ≡ b = cc is in subst (IsOwn p) hand (hand_own p k m at work.number given.hand)
-    last_own b trunc_at.Unloading given is = let hand : hand_in cur m.machine ≡ b = cc is in subst (IsOwn p) hand (hand_own p k m at work.number given.0)
-    last_own b trunc_at.Freeing given is = above_own p k m at work.number given.0 m.machine.upper b is
-    last_own b trunc_at.Updating given is = absurd (cc is)
+    last_own b TruncAt.Direct given is = absurd (cc is)
+    last_own b (TruncAt.Loading c) given is = above_own p k m at work.number given.0 m.machine.upper b is
+    last_own b TruncAt.Entry given is = let hand : hand_in cur m.machine ≡ b = cc is in subst (IsOwn p) hand (hand_own p k m at work.number given.hand)
+    last_own b TruncAt.Unloading given is = let hand : hand_in cur m.machine ≡ b = cc is in subst (IsOwn p) hand (hand_own p k m at work.number given.0)
+    last_own b TruncAt.Freeing given is = above_own p k m at work.number given.0 m.machine.upper b is
+    last_own b TruncAt.Updating given is = absurd (cc is)
 
     first_own : (b : ℕ) (a : TruncAt) → HasGivenUp cur m.machine a → first_kept m.machine a ≡ Some b → IsOwn p b
-    first_own b trunc_at.Direct given is = absurd (cc is)
-    first_own b (trunc_at.Loading c) given is = absurd (cc is)
-    first_own b trunc_at.Entry given is = above_own p k m at work.number given.hand m.machine.upper b is
-    first_own b trunc_at.Unloading given is = above_own p k m at work.number given.0 m.machine.upper b is
-    first_own b trunc_at.Freeing given is = absurd (cc is)
-    first_own b trunc_at.Updating given is = absurd (cc is)
+    first_own b TruncAt.Direct given is = absurd (cc is)
+    first_own b (TruncAt.Loading c) given is = absurd (cc is)
+    first_own b TruncAt.Entry given is = above_own p k m at work.number given.hand m.machine.upper b is
+    first_own b TruncAt.Unloading given is = above_own p k m at work.number given.0 m.machine.upper b is
+    first_own b TruncAt.Freeing given is = absurd (cc is)
+    first_own b TruncAt.Updating given is = absurd (cc is)
 
     trunc_own : (g : Got) → IsOneOf g (gots_kept m.kept) → IsOwn p g.block
     trunc_own g has = elim (in_either g (gots m.kept.inner) (gots m.kept.outer) has) [
@@ -219,21 +165,21 @@ module _ (cur : Image) (t : TableState) (ts : List TaskState) (are : AreLooking 
     ]
 
   -- who keeps one in the writing of a file's bytes keeps one that the copy names
-  module _ (p k : ℕ) (m : WriteState) (at : (task ts p).place ≡ stage.Writing k m) (work : IsWriting cur t.inode_count (task ts p) m) where
+  module _ (p k : ℕ) (m : WriteState) (at : (task ts p).stage ≡ Stage.Writing k m) (work : IsWriting cur t.inode_count (task ts p) m) where
     way_kept : (i : ℕ) (b : Branch) (a : MapAt) → b ≡ branch_of m.extent.form (next_block m) → kept_on_way a ≡ Some i → maps_freely a ≡ false → IsOnWay cur m.inode m.extent b a
         → 1 ≤ count_of (node_on_way a) (addresses_in (pointers_in cur m.inode))
-    way_kept i b (map_at.Address s) is has waits on = absurd (cc has)
-    way_kept i b (map_at.Entry n None) is has waits on = absurd (cc has)
-    way_kept i b (map_at.Entry n (Some j)) is has waits on = absurd (cc waits)
-    way_kept i b (map_at.Behind n j s) is has waits on =
+    way_kept i b (MapAt.Address s) is has waits on = absurd (cc has)
+    way_kept i b (MapAt.Entry n None) is has waits on = absurd (cc has)
+    way_kept i b (MapAt.Entry n (Some j)) is has waits on = absurd (cc waits)
+    way_kept i b (MapAt.Behind n j s) is has waits on =
         lies_named are.files.0 cur (claims_of ts) m.number (growth_of m (bytes_by (task ts p).op)) (held_in p k m at work.number) m.extent.form (ap (λ (e : Extent). e.form) work.extent) (next_block m) n
         (subst (λ (c : Branch). LiesOnWay cur m.inode c n) is on.0.0)
-    way_kept i b (map_at.Setting n j found) is has waits on = absurd (cc waits)
+    way_kept i b (MapAt.Setting n j found) is has waits on = absurd (cc waits)
 
     write_kept : (i : ℕ) (a : WriteAt) → kept_by_write a ≡ Some i → writes_freely a ≡ false → HasComeTo cur m a → 1 ≤ count_of (node_of_write a) (addresses_in (pointers_in cur m.inode))
-    write_kept i (write_at.Mapping way) has waits come = way_kept i way.branch way.at come.1.branch has waits come.1.at
-    write_kept i (write_at.Block b slot) has waits come = absurd (cc has)
-    write_kept i (write_at.Updating u) has waits come = absurd (cc has)
+    write_kept i (WriteAt.Mapping way) has waits come = way_kept i way.branch way.at come.1.branch has waits come.1.at
+    write_kept i (WriteAt.Block b slot) has waits come = absurd (cc has)
+    write_kept i (WriteAt.Updating u) has waits come = absurd (cc has)
 
   -- the slot of a block that was got there
   slot_is : (g : Got) (b : ℕ) (o : Option ℕ) → IsOneOf g (got_at b o) → (o ≡ Some g.slot) × (g.block ≡ b)
@@ -242,39 +188,39 @@ module _ (cur : Image) (t : TableState) (ts : List TaskState) (are : AreLooking 
   slot_is g b (Some i) (inr none) = absurd none
 
   -- what is kept is the process's own
-  pub kept_own : (p : ℕ) (g : Got) → IsOneOf g (kept_by (task ts p).place) → is_free (task ts p).place ≡ false → IsOwn p g.block
-  kept_own p g has waits = by_place (task ts p).place refl (are.stand p) has waits
+  pub kept_own : (p : ℕ) (g : Got) → IsOneOf g (kept_by (task ts p).stage) → is_free (task ts p).stage ≡ false → IsOwn p g.block
+  kept_own p g has waits = by_place (task ts p).stage refl (are.stand p) has waits
     where
-      by_place : (a : Stage) → (task ts p).place ≡ a → LooksAt cur t (task ts p) a → IsOneOf g (kept_by a) → is_free a ≡ false → IsOwn p g.block
-      by_place stage.Nowhere at looks has waits = absurd has
-      by_place (stage.Creating m) at looks has waits = absurd has
-      by_place (stage.Taking m) at looks has waits = absurd has
-      by_place (stage.Reading k m) at looks has waits = absurd has
-      by_place (stage.Delivering k) at looks has waits = absurd has
-      by_place (stage.Truncating k m) at looks has waits = trunc_own p k m at looks g has
-      by_place (stage.Writing k m) at looks has waits =
+      by_place : (a : Stage) → (task ts p).stage ≡ a → LooksAt cur t (task ts p) a → IsOneOf g (kept_by a) → is_free a ≡ false → IsOwn p g.block
+      by_place Stage.Nowhere at looks has waits = absurd has
+      by_place (Stage.Creating m) at looks has waits = absurd has
+      by_place (Stage.Taking m) at looks has waits = absurd has
+      by_place (Stage.Reading k m) at looks has waits = absurd has
+      by_place (Stage.Delivering k) at looks has waits = absurd has
+      by_place (Stage.Truncating k m) at looks has waits = trunc_own p k m at looks g has
+      by_place (Stage.Writing k m) at looks has waits =
           let is = slot_is g (node_of_write m.at) (kept_by_write m.at) has in
           subst (IsOwn p) (sym is.1) (write_own p k (node_of_write m.at) m at looks.number (write_kept p k m at looks g.slot m.at is.0 waits looks.come))
-      by_place (stage.Leaving k) at looks has waits = absurd has
+      by_place (Stage.Leaving k) at looks has waits = absurd has
 
   -- ---- what is waited for
 
   -- a block of the process's own that it doesn't keep
   pub record IsTaken (p b : ℕ) : Type 0 where
     pub own : IsOwn p b
-    pub apart : (g : Got) → IsOneOf g (kept_by (task ts p).place) → b ≢ g.block
+    pub apart : (g : Got) → IsOneOf g (kept_by (task ts p).stage) → b ≢ g.block
 
   -- Who keeps a block of addresses waits for the bitmap's block, or for one of its own that it
   -- doesn't keep
   pub record WaitsBehind (c : Buffers) (p : ℕ) : Type 0 where
     pub block : ℕ
-    pub cause : cause_at c t (task ts p).place ≡ cause_to_get c (Some block)
+    pub cause : cause_at c t (task ts p).stage ≡ cause_to_get c (Some block)
     pub what : (block ≡ bitmap_block (inode_count_of cur)) ⊎ IsTaken p block
 
   the_bitmap : bitmap_block t.inode_count ≡ bitmap_block (inode_count_of cur)
   the_bitmap = ap bitmap_block numbers
 
-  module _ (c : Buffers) (p k : ℕ) (m : Freeing) (g : Got) (at : (task ts p).place ≡ stage.Truncating k m) (work : IsTruncating cur t.inode_count (task ts p) m)
+  module _ (c : Buffers) (p k : ℕ) (m : Freeing) (g : Got) (at : (task ts p).stage ≡ Stage.Truncating k m) (work : IsTruncating cur t.inode_count (task ts p) m)
       (has : IsOneOf g (gots_kept m.kept)) where
     -- it waits for the bitmap's block
     for_bitmap : (a : TruncAt) → m.machine.at ≡ a → block_by m.machine a ≡ m.machine.bitmap → is_some (slot_kept (now_by m a)) ≡ false → WaitsBehind c p
@@ -286,7 +232,7 @@ module _ (cur : Image) (t : TableState) (ts : List TaskState) (are : AreLooking 
     }
 
     -- or for a second block
-    for_second : (b : ℕ) → m.machine.at ≡ trunc_at.Loading b → HasGivenUp cur m.machine (trunc_at.Loading b) → Keeps cur m.kept m.machine (trunc_at.Loading b) → WaitsBehind c p
+    for_second : (b : ℕ) → m.machine.at ≡ TruncAt.Loading b → HasGivenUp cur m.machine (TruncAt.Loading b) → Keeps cur m.kept m.machine (TruncAt.Loading b) → WaitsBehind c p
     for_second b is given keeps = record {
       block = b;
       cause = ap (cause_at c t) at ∙ ap (λ (o : TruncAt). cause_to_get c (unless_got (slot_kept (now_by m o)) (block_by m.machine o))) is;
@@ -310,19 +256,18 @@ module _ (cur : Image) (t : TableState) (ts : List TaskState) (are : AreLooking 
     kept_there (Some h) b is none = cc none
 
     trunc_behind : (a : TruncAt) → m.machine.at ≡ a → HasGivenUp cur m.machine a → Keeps cur m.kept m.machine a → is_some (slot_kept (now_by m a)) ≡ false → WaitsBehind c p
-    trunc_behind trunc_at.Direct is given keeps waits = absurd (nothing_kept trunc_at.Direct keeps refl refl)
-    trunc_behind (trunc_at.Loading b) is given keeps waits = for_second b is given keeps
-    trunc_behind trunc_at.Entry is given keeps waits = for_bitmap trunc_at.Entry is refl waits
-    trunc_behind trunc_at.Unloading is given keeps waits = absurd (kept_there m.kept.inner (hand_in cur m.machine) keeps.inner waits)
-    trunc_behind trunc_at.Freeing is given keeps waits = for_bitmap trunc_at.Freeing is refl waits
-    trunc_behind trunc_at.Updating is given keeps waits = absurd (nothing_kept trunc_at.Updating keeps refl refl)
+    trunc_behind TruncAt.Direct is given keeps waits = absurd (nothing_kept TruncAt.Direct keeps refl refl)
+    trunc_behind (TruncAt.Loading b) is given keeps waits = for_second b is given keeps
+    trunc_behind TruncAt.Entry is given keeps waits = for_bitmap TruncAt.Entry is refl waits
+    trunc_behind TruncAt.Unloading is given keeps waits = absurd (kept_there m.kept.inner (hand_in cur m.machine) keeps.inner waits)
+    trunc_behind TruncAt.Freeing is given keeps waits = for_bitmap TruncAt.Freeing is refl waits
+    trunc_behind TruncAt.Updating is given keeps waits = absurd (nothing_kept TruncAt.Updating keeps refl refl)
 
   -- the writing of a file's bytes
-  taken_own : (p k b : ℕ) (m : WriteState) → (task ts p).place ≡ stage.Writing k m → IsTrue (is_number t.inode_count m.number) → 1 ≤ count_of (node_of_write m.at) (addresses_in (pointers_in cur m.inode)) → taken_by m.at ≡ Some b → IsTaken p b
+  taken_own : (p k b : ℕ) (m : WriteState) → (task ts p).stage ≡ Stage.Writing k m → IsTrue (is_number t.inode_count m.number) → 1 ≤ count_of (node_of_write m.at) (addresses_in (pointers_in cur m.inode)) → taken_by m.at ≡ Some b → IsTaken p b
   taken_own p k b m at number has taken =
       let g = growth_of m (bytes_by (task ts p).op) in
-      let h = held_in p k m at number in
-      let owns = taken_owned are.files.0 cur (claims_of ts) m.number b g h taken in
+      let owns = taken_owned are.files.0 cur (claims_of ts) m.number b g (held_in p k m at number) taken in
       let none : count_of b (addresses_in (pointers_in cur m.inode)) ≡ 0 = owns.1 in
       record {
         own = record {
@@ -334,66 +279,62 @@ module _ (cur : Image) (t : TableState) (ts : List TaskState) (are : AreLooking 
         };
         apart = λ g kept same.
             let is = slot_is g (node_of_write m.at) (kept_by_write m.at) (subst (λ (a : Stage). IsOneOf g (kept_by a)) at kept) in
-            let here : count_of (node_of_write m.at) (addresses_in (pointers_in cur m.inode)) ≡ 0 = ap (λ (a : ℕ). count_of a (addresses_in (pointers_in cur m.inode))) (sym is.1 ∙ sym same) ∙ none in
-            omega (arith, has, here);
+            omega (arith, has, (ap (λ (a : ℕ). count_of a (addresses_in (pointers_in cur m.inode))) (sym is.1 ∙ sym same) ∙ none));
       }
 
-  alloc_waits : (c : Buffers) (p k : ℕ) (m : WriteState) (s : AllocState) (a : AllocAt) → (task ts p).place ≡ stage.Writing k m → IsWriting cur t.inode_count (task ts p) m → 1 ≤ count_of (node_of_write m.at) (addresses_in (pointers_in cur m.inode)) →
+  alloc_waits : (c : Buffers) (p k : ℕ) (m : WriteState) (s : AllocState) (a : AllocAt) → (task ts p).stage ≡ Stage.Writing k m → IsWriting cur t.inode_count (task ts p) m → 1 ≤ count_of (node_of_write m.at) (addresses_in (pointers_in cur m.inode)) →
       s.bitmap ≡ m.extent.bitmap → s.at ≡ a → taken_by m.at ≡ taken_at a → (block_of_alloc s a ≡ bitmap_block (inode_count_of cur)) ⊎ IsTaken p (block_of_alloc s a)
-  alloc_waits c p k m s (alloc_at.Looking slot) at work some place_is is taken = inl (place_is ∙ ap (λ (e : Extent). e.bitmap) work.extent ∙ the_bitmap)
-  alloc_waits c p k m s (alloc_at.Zeroing b slot) at work some place_is is taken = inr (taken_own p k b m at work.number some taken)
+  alloc_waits c p k m s (AllocAt.Looking slot) at work some place_is is taken = inl (place_is ∙ ap (λ (e : Extent). e.bitmap) work.extent ∙ the_bitmap)
+  alloc_waits c p k m s (AllocAt.Zeroing b slot) at work some place_is is taken = inr (taken_own p k b m at work.number some taken)
 
-  way_behind : (c : Buffers) (p k i : ℕ) (m : WriteState) (way : MapState) (a : MapAt) → (task ts p).place ≡ stage.Writing k m → m.at ≡ write_at.Mapping way → way.at ≡ a → IsWriting cur t.inode_count (task ts p) m →
+  way_behind : (c : Buffers) (p k i : ℕ) (m : WriteState) (way : MapState) (a : MapAt) → (task ts p).stage ≡ Stage.Writing k m → m.at ≡ WriteAt.Mapping way → way.at ≡ a → IsWriting cur t.inode_count (task ts p) m →
       1 ≤ count_of (node_of_write m.at) (addresses_in (pointers_in cur m.inode)) → IsOnWay cur m.inode m.extent way.branch a → kept_on_way a ≡ Some i → maps_freely a ≡ false → WaitsBehind c p
-  way_behind c p k i m way (map_at.Address s) at is on work named come has waits = absurd (cc has)
-  way_behind c p k i m way (map_at.Entry n None) at is on work named come has waits = absurd (cc has)
-  way_behind c p k i m way (map_at.Entry n (Some j)) at is on work named come has waits = absurd (cc waits)
-  way_behind c p k i m way (map_at.Behind n j s) at is on work named come has waits = record {
+  way_behind c p k i m way (MapAt.Address s) at is on work named come has waits = absurd (cc has)
+  way_behind c p k i m way (MapAt.Entry n None) at is on work named come has waits = absurd (cc has)
+  way_behind c p k i m way (MapAt.Entry n (Some j)) at is on work named come has waits = absurd (cc waits)
+  way_behind c p k i m way (MapAt.Behind n j s) at is on work named come has waits = record {
     block = block_of_alloc s s.at;
     cause = ap (cause_at c t) at ∙ ap (λ (b : WriteAt). cause_to_get c (wanted_by_write b)) is ∙ ap (λ (b : MapAt). cause_to_get c (wanted_on_way b)) on ∙ some_got c (slot_of_alloc s.at) (block_of_alloc s s.at) waits;
     what = alloc_waits c p k m s s.at at work named come.1.bitmap refl (ap taken_by is ∙ ap taken_on_way on);
   }
-  way_behind c p k i m way (map_at.Setting n j found) at is on work named come has waits = absurd (cc waits)
+  way_behind c p k i m way (MapAt.Setting n j found) at is on work named come has waits = absurd (cc waits)
 
-  write_behind : (c : Buffers) (p k i : ℕ) (m : WriteState) (a : WriteAt) → (task ts p).place ≡ stage.Writing k m → m.at ≡ a → IsWriting cur t.inode_count (task ts p) m →
+  write_behind : (c : Buffers) (p k i : ℕ) (m : WriteState) (a : WriteAt) → (task ts p).stage ≡ Stage.Writing k m → m.at ≡ a → IsWriting cur t.inode_count (task ts p) m →
       HasComeTo cur m a → kept_by_write a ≡ Some i → writes_freely a ≡ false → WaitsBehind c p
-  write_behind c p k i m (write_at.Mapping way) at is work come has waits =
-      way_behind c p k i m way way.at at is refl work (subst (λ (a : WriteAt). 1 ≤ count_of (node_of_write a) (addresses_in (pointers_in cur m.inode))) (sym is) (write_kept p k m at work i (write_at.Mapping way) has waits come)) come.1.at has waits
-  write_behind c p k i m (write_at.Block b slot) at is work come has waits = absurd (cc has)
-  write_behind c p k i m (write_at.Updating u) at is work come has waits = absurd (cc has)
+  write_behind c p k i m (WriteAt.Mapping way) at is work come has waits =
+      way_behind c p k i m way way.at at is refl work (subst (λ (a : WriteAt). 1 ≤ count_of (node_of_write a) (addresses_in (pointers_in cur m.inode))) (sym is) (write_kept p k m at work i (WriteAt.Mapping way) has waits come)) come.1.at has waits
+  write_behind c p k i m (WriteAt.Block b slot) at is work come has waits = absurd (cc has)
+  write_behind c p k i m (WriteAt.Updating u) at is work come has waits = absurd (cc has)
 
-  pub kept_waits : (c : Buffers) (p : ℕ) (g : Got) → IsOneOf g (kept_by (task ts p).place) → is_free (task ts p).place ≡ false → WaitsBehind c p
-  kept_waits c p g has waits = by_place (task ts p).place refl (are.stand p) has waits
+  pub kept_waits : (c : Buffers) (p : ℕ) (g : Got) → IsOneOf g (kept_by (task ts p).stage) → is_free (task ts p).stage ≡ false → WaitsBehind c p
+  kept_waits c p g has waits = by_place (task ts p).stage refl (are.stand p) has waits
     where
-      by_place : (a : Stage) → (task ts p).place ≡ a → LooksAt cur t (task ts p) a → IsOneOf g (kept_by a) → is_free a ≡ false → WaitsBehind c p
-      by_place stage.Nowhere at looks has waits = absurd has
-      by_place (stage.Creating m) at looks has waits = absurd has
-      by_place (stage.Taking m) at looks has waits = absurd has
-      by_place (stage.Reading k m) at looks has waits = absurd has
-      by_place (stage.Delivering k) at looks has waits = absurd has
-      by_place (stage.Truncating k m) at looks has waits = trunc_behind c p k m g at looks has m.machine.at refl looks.given looks.keeps waits
-      by_place (stage.Writing k m) at looks has waits = write_behind c p k g.slot m m.at at refl looks looks.come (slot_is g (node_of_write m.at) (kept_by_write m.at) has).0 waits
-      by_place (stage.Leaving k) at looks has waits = absurd has
+      by_place : (a : Stage) → (task ts p).stage ≡ a → LooksAt cur t (task ts p) a → IsOneOf g (kept_by a) → is_free a ≡ false → WaitsBehind c p
+      by_place Stage.Nowhere at looks has waits = absurd has
+      by_place (Stage.Creating m) at looks has waits = absurd has
+      by_place (Stage.Taking m) at looks has waits = absurd has
+      by_place (Stage.Reading k m) at looks has waits = absurd has
+      by_place (Stage.Delivering k) at looks has waits = absurd has
+      by_place (Stage.Truncating k m) at looks has waits = trunc_behind c p k m g at looks has m.machine.at refl looks.given looks.keeps waits
+      by_place (Stage.Writing k m) at looks has waits = write_behind c p k g.slot m m.at at refl looks looks.come (slot_is g (node_of_write m.at) (kept_by_write m.at) has).0 waits
+      by_place (Stage.Leaving k) at looks has waits = absurd has
 
   -- what is waited for so, nobody keeps
-  pub waits_apart : (c : Buffers) (p q : ℕ) (g : Got) (w : WaitsBehind c p) → IsOneOf g (kept_by (task ts q).place) → IsOwn q g.block → w.block ≢ g.block
+  pub waits_apart : (c : Buffers) (p q : ℕ) (g : Got) (w : WaitsBehind c p) → IsOneOf g (kept_by (task ts q).stage) → IsOwn q g.block → w.block ≢ g.block
   waits_apart c p q g w kept own same =
       let mine = between cur own.number own.is in
       elim w.what [
         | inl bitmap ↦
-            let lies = claimed_in_data are.files.0 cur (claims_of ts) own.number g.block are.files.1 mine.low mine.high own.owned in
-            let first : first_data_block cur ≤ g.block = lies.0 in
             let before : bitmap_block (inode_count_of cur) < first_data_block cur = omega arith in
-            omega (arith, first, before, bitmap, same)
+            omega (arith, ((claimed_in_data are.files.0 cur (claims_of ts) own.number g.block are.files.1 mine.low mine.high own.owned).0), before, bitmap, same)
         | inr taken ↦
             let theirs = between cur taken.own.number taken.own.is in
             elim (cases_eq own.number taken.own.number) [
               | inl one ↦
                   let them : p ≡ q = one_holder cur t ts are p q taken.own.entry own.entry own.number (subst (λ (i : ℕ). grip_of (task ts p) ≡ Some (locked_grip taken.own.entry i)) (sym one) taken.own.locked) own.locked in
-                  taken.apart g (subst (λ (r : ℕ). IsOneOf g (kept_by (task ts r).place)) (sym them) kept) same
+                  taken.apart g (subst (λ (r : ℕ). IsOneOf g (kept_by (task ts r).stage)) (sym them) kept) same
               | inr other ↦
                   let none = owned_by_one are.files.0 cur (claims_of ts) taken.own.number own.number w.block are.files.1 theirs.low theirs.high mine.low mine.high other taken.own.owned in
-                  let some : 1 ≤ count_of w.block (names_claimed cur own.number (claims_of ts own.number)) = subst (λ (b : ℕ). 1 ≤ count_of b (names_claimed cur own.number (claims_of ts own.number))) (sym same) own.owned in
-                  omega (arith, none, some)
+                  omega (arith, none, (subst (λ (b : ℕ). 1 ≤ count_of b (names_claimed cur own.number (claims_of ts own.number))) (sym same) own.owned))
             ]
       ]

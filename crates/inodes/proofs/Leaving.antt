@@ -1,48 +1,21 @@
 -- An operation gives up its inode, and is over.
 use Rattle.std.proofs.Common.{◌≡◌, ℕ, ◌<◌, true, List, length, set, refl, sym, ◌∙◌, ap, subst, arith, Some, None}
 use Rattle.std.specs.Prelude.{IsTrue}
-use Rattle.std.proofs.lemmas.Bool.{false≢true}
-use Rattle.std.proofs.lemmas.List.{get_or-set_same, set-set}
-use Rattle.blocks.specs.Disk.{Image}
-use Rattle.blocks.specs.declared.disk.Disk.{Ghosts}
-use Rattle.model.specs.declared.types.image.Dinode.{Dinode}
-use Rattle.model.specs.declared.types.operations.Op.{Op}
-use Rattle.model.specs.declared.types.operations.Op.TheVariants.{Read}
-use Rattle.model.specs.declared.types.operations.Reply.TheVariants.{Bytes}
-use Rattle.model.specs.declared.types.operations.TaskProgress.{TaskProgress}
-use Rattle.model.specs.declared.types.operations.TaskProgress.TheVariants as progress
-use Rattle.model.specs.Files.{Files, bytes_in}
-use Rattle.model.specs.Gathered.{GatheredBytes}
-use Rattle.model.specs.Journal.{is_number}
-use Rattle.model.specs.Layout.{form_of, inode_of, inode_count_of}
-use Rattle.model.specs.Operations.{after, part_of}
-use Rattle.model.specs.Tasks.{Answers}
-use Rattle.wal.specs.Volume.{fault_of_task}
-use Rattle.in_flight.specs.Lemmas.HeldLooks.{resting_tells}
-use Rattle.inodes.specs.declared.tasks.Stage.{Stage}
-use Rattle.inodes.specs.declared.tasks.Stage.TheVariants as stage
-use Rattle.inodes.specs.Goes.{Goes, GivesUp}
-use Rattle.inodes.specs.Grips.{grip, locked_grip}
+use Rattle.inodes.specs.Common.{after, Answers, AreLooking, asked_by, Bytes, bytes_in, claim_by, claim_of, claims_of, copy_at, current_of, Dinode, false≢true, fault_of_task, Files, FitsHeld, form_of, GatheredBytes, get_or-set_same, Ghosts, GivesUp, Goes, grip, grip_by, grips_of, HasAllRead, HasSlot, Image, inode_count_of, is_made, is_number, IsStore, left, locked_grip, LooksAt, no_task, Op, part_of, Read, resting_tells, set-set, Stage, Steps, steps_left, StoreState, task, TaskProgress, TaskState, Waits}
+use Rattle.inodes.specs.Store.{FitsFiles}
+use Rattle.model.specs.Layout.{inode_of}
 use Rattle.inodes.specs.Lemmas.Faults.{where_none}
 use Rattle.inodes.specs.Lemmas.Grips.{kept_by_leave}
 use Rattle.inodes.specs.Lemmas.Looks.{copy_is}
-use Rattle.inodes.specs.Looks.{AreLooking, HasAllRead, LooksAt}
-use Rattle.inodes.specs.Places.{asked_by, HasSlot, grip_by, grips_of, steps_left}
-use Rattle.inodes.specs.Steps.{Steps, Waits, is_made}
-use Rattle.inodes.specs.Store.{StoreState, IsStore, FitsFiles, current_of}
-use Rattle.inodes.specs.Table.{copy_at, left}
-use Rattle.inodes.specs.Tasks.{TaskState, task, no_task}
 use Rattle.inodes.proofs.Getting.{HasOne, has_same, reads_none}
 use Rattle.inodes.proofs.Gripping.{grip_is}
 use Rattle.inodes.proofs.Looking.{Looked, Stepped, files_same, stepped_looked, store_stepped, steps_stepped}
-use Rattle.inodes.specs.Holding.{claim_by, claims_of, claim_of}
 use Rattle.inodes.proofs.Taking.{none_of_zero}
 use Rattle.inodes.specs.Lemmas.Unclaimed.{unclaimed}
-use Rattle.in_flight.specs.Held.{FitsHeld}
 
 -- a task that is over, without bytes
 abbrev pub finished : TaskState → TaskState
-finished t = record t { place = stage.Nowhere; gathered = None }
+finished t = record t { stage = Stage.Nowhere; gathered = None }
 
 -- its bytes are taken from it first
 pub tasks_finished : (ts : List TaskState) (p : ℕ) → p < length ts
@@ -63,7 +36,7 @@ module _ {D N : Type 0} (disk : Ghosts D N) (s : StoreState D) (p k : ℕ) (is :
   looking = where_none s.volume.fault well is.looks
 
   module _ (r : TaskProgress) (ts : List TaskState) (tasks : ts ≡ set s.tasks p (finished (task s.tasks p))) (fine : fault_of_task r ≡ None)
-      (free : (i : ℕ) → HasSlot (task s.tasks p).place i → None ≡ Some i) (holds : (j : ℕ) → claim_of (task s.tasks p) j ≡ None) (has : grip (grips_of s.tasks) p ≡ Some (locked_grip k (asked_by (task s.tasks p).op))) where
+      (free : (i : ℕ) → HasSlot (task s.tasks p).stage i → None ≡ Some i) (holds : (j : ℕ) → claim_of (task s.tasks p) j ≡ None) (has : grip (grips_of s.tasks) p ≡ Some (locked_grip k (asked_by (task s.tasks p).op))) where
     one : HasOne s.volume.buffers s.volume.buffers s.volume.log p 0 None
     one = has_same s.volume.buffers s.volume.log s.table.inode_count p s.tasks (where_none s.volume.fault well is.agrees) 0 None free tt
 
@@ -96,7 +69,7 @@ module _ {D N : Type 0} (disk : Ghosts D N) (s : StoreState D) (p k : ℕ) (is :
 
     gives_up : GivesUp s p k (store_left ts)
     gives_up = record {
-      next = ap (λ (t : TaskState). t.place) over_now;
+      next = ap (λ (t : TaskState). t.stage) over_now;
       gathered = ap (λ (t : TaskState). t.gathered) over_now;
       table = refl;
       volume = refl;
@@ -110,14 +83,14 @@ module _ {D N : Type 0} (disk : Ghosts D N) (s : StoreState D) (p k : ℕ) (is :
     }
 
   -- a reading gives out its bytes
-  module _ (stood : (task s.tasks p).place ≡ stage.Delivering k) where
+  module _ (stood : (task s.tasks p).stage ≡ Stage.Delivering k) where
     pub all_read : HasAllRead cur s.table.inode_count (copy_at s.table.places k) (task s.tasks p)
     all_read = subst (λ (a : Stage). LooksAt cur s.table (task s.tasks p) a) stood (looking.stand p)
 
     has_delivering : grip (grips_of s.tasks) p ≡ Some (locked_grip k (asked_by (task s.tasks p).op))
     has_delivering = grip_is s.tasks p ∙ ap (λ (a : Stage). grip_by a (asked_by (task s.tasks p).op)) stood
 
-    free_delivering : (i : ℕ) → HasSlot (task s.tasks p).place i → None ≡ Some i
+    free_delivering : (i : ℕ) → HasSlot (task s.tasks p).stage i → None ≡ Some i
     free_delivering i got = subst (λ (a : Stage). HasSlot a i) stood got
 
     holds_delivering : (j : ℕ) → claim_of (task s.tasks p) j ≡ None
@@ -125,7 +98,7 @@ module _ {D N : Type 0} (disk : Ghosts D N) (s : StoreState D) (p k : ℕ) (is :
 
     module _ (bytes : GatheredBytes) (had : (task s.tasks p).gathered ≡ Some bytes) (ts : List TaskState) (tasks : ts ≡ set s.tasks p (finished (task s.tasks p))) where
       abbrev answer : TaskProgress
-      answer = progress.Decided (Bytes bytes.bytes)
+      answer = TaskProgress.Decided (Bytes bytes.bytes)
 
       same_bytes : bytes.bytes ≡ part_of (bytes_in cur all_read.dinode) all_read.op.offset all_read.op.count
       same_bytes = let same : bytes ≡ all_read.op.gathered = (let e = sym had ∙ all_read.op.has in cc e) in ap (λ (g : GatheredBytes). g.bytes) same ∙ all_read.bytes
@@ -164,11 +137,11 @@ module _ {D N : Type 0} (disk : Ghosts D N) (s : StoreState D) (p k : ℕ) (is :
           (λ made going. subst (λ (a : Stage). 0 < steps_left cur a s.table.inode_count) (sym stood) (omega arith))
 
   -- an operation that was answered is over
-  module _ (stood : (task s.tasks p).place ≡ stage.Leaving k) where
+  module _ (stood : (task s.tasks p).stage ≡ Stage.Leaving k) where
     has_leaving : grip (grips_of s.tasks) p ≡ Some (locked_grip k (asked_by (task s.tasks p).op))
     has_leaving = grip_is s.tasks p ∙ ap (λ (a : Stage). grip_by a (asked_by (task s.tasks p).op)) stood
 
-    free_leaving : (i : ℕ) → HasSlot (task s.tasks p).place i → None ≡ Some i
+    free_leaving : (i : ℕ) → HasSlot (task s.tasks p).stage i → None ≡ Some i
     free_leaving i got = subst (λ (a : Stage). HasSlot a i) stood got
 
     holds_leaving : (j : ℕ) → claim_of (task s.tasks p) j ≡ None
@@ -178,15 +151,15 @@ module _ {D N : Type 0} (disk : Ghosts D N) (s : StoreState D) (p k : ℕ) (is :
     low_leaving = (looking.table.places p (locked_grip k (asked_by (task s.tasks p).op)) has_leaving).0
 
     module _ (ts : List TaskState) (tasks : ts ≡ set s.tasks p (finished (task s.tasks p))) where
-      over : (op : Op) → Stepped disk s p 0 op progress.Over (store_left ts) (finished (task s.tasks p))
-      over op = stepped_looked disk s p 0 op progress.Over (store_left ts) (finished (task s.tasks p)) is well inside (looked progress.Over ts tasks refl free_leaving holds_leaving has_leaving)
-          (files_left progress.Over ts tasks refl free_leaving holds_leaving has_leaving op) (λ i makes. absurd (cc makes))
+      over : (op : Op) → Stepped disk s p 0 op TaskProgress.Over (store_left ts) (finished (task s.tasks p))
+      over op = stepped_looked disk s p 0 op TaskProgress.Over (store_left ts) (finished (task s.tasks p)) is well inside (looked TaskProgress.Over ts tasks refl free_leaving holds_leaving has_leaving)
+          (files_left TaskProgress.Over ts tasks refl free_leaving holds_leaving has_leaving op) (λ i makes. absurd (cc makes))
 
       pub store_over : IsStore disk.image (store_left ts)
-      store_over = store_stepped disk s p 0 (Read 0 0 0) progress.Over (store_left ts) (finished (task s.tasks p)) is well inside (over (Read 0 0 0))
+      store_over = store_stepped disk s p 0 (Read 0 0 0) TaskProgress.Over (store_left ts) (finished (task s.tasks p)) is well inside (over (Read 0 0 0))
 
-      pub steps_over : (op : Op) → Steps disk s p op progress.Over (store_left ts)
-      steps_over op = steps_stepped disk s p 0 op progress.Over (store_left ts) (finished (task s.tasks p)) is well inside (over op)
-          (subst (λ (a : Stage). Goes disk a s p op progress.Over (store_left ts)) (sym stood) (refl, gives_up progress.Over ts tasks refl free_leaving holds_leaving has_leaving))
-          (no_wait progress.Over ts tasks refl free_leaving holds_leaving has_leaving refl) (λ q other reads. tt)
+      pub steps_over : (op : Op) → Steps disk s p op TaskProgress.Over (store_left ts)
+      steps_over op = steps_stepped disk s p 0 op TaskProgress.Over (store_left ts) (finished (task s.tasks p)) is well inside (over op)
+          (subst (λ (a : Stage). Goes disk a s p op TaskProgress.Over (store_left ts)) (sym stood) (refl, gives_up TaskProgress.Over ts tasks refl free_leaving holds_leaving has_leaving))
+          (no_wait TaskProgress.Over ts tasks refl free_leaving holds_leaving has_leaving refl) (λ q other reads. tt)
           (λ made going. subst (λ (a : Stage). 0 < steps_left cur a s.table.inode_count) (sym stood) (omega arith))

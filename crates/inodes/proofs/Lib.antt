@@ -16,6 +16,8 @@ mod TruncFiles
 mod AtWork
 mod TruncMakes
 mod TruncSteps
+mod Standing
+mod MoreGets
 mod Searching
 mod SearchNow
 mod StoreSteps

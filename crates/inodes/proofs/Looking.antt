@@ -1,55 +1,24 @@
 -- What a step of a task makes of a store.
 use Rattle.std.proofs.Common.{◌≡◌, ◌≢◌, ℕ, ◌<◌, true, false, List, length, length-set, set, refl, sym, ◌∙◌, ap, subst, arith, ⊎_elim, Option, Some, None}
+use Rattle.inodes.specs.Store.{FitsFiles}
 use Rattle.std.specs.Prelude.{IfNone}
-use Rattle.std.proofs.lemmas.Bool.{cases_eq}
-use Rattle.std.proofs.lemmas.List.{get_or-set_same, get_or-set_other}
-use Rattle.blocks.specs.Disk.{Image}
-use Rattle.blocks.specs.declared.disk.Disk.{Ghosts}
-use Rattle.wal.specs.declared.types.DeviceFault.{DeviceFault}
-use Rattle.model.specs.declared.types.operations.Op.{Op}
-use Rattle.model.specs.declared.types.image.Dinode.{Dinode}
-use Rattle.model.specs.declared.types.image.Form.{Form}
-use Rattle.model.specs.declared.types.operations.TaskProgress.{TaskProgress}
-use Rattle.model.specs.declared.types.operations.TaskProgress.TheVariants as progress
-use Rattle.model.specs.Files.{Files}
-use Rattle.model.specs.Journal.{is_making}
-use Rattle.model.specs.Layout.{form_of, inode_count_of}
-use Rattle.model.specs.Tasks.{FilesThen, reply_at_turn, Marks}
-use Rattle.model.specs.Lemmas.Frames.{form_same}
-use Rattle.wal.specs.Volume.{fault_of_task}
-use Rattle.in_flight.specs.Held.{FitsHeld}
-use Rattle.in_flight.specs.Lemmas.HeldFrames.{held_alike}
-use Rattle.wal.specs.Held.{HasLock}
-use Rattle.wal.specs.Machine.{LogState, SameGroups}
-use Rattle.blockmap.specs.Lemmas.Others.{StaysForOthers, groups_same}
-use Rattle.inodes.specs.declared.tasks.Stage.{Stage}
-use Rattle.inodes.specs.declared.tasks.Stage.TheVariants as stage
-use Rattle.inodes.specs.Goes.{Shown, Goes, ShowsSame}
-use Rattle.inodes.specs.Grips.{Grip, KeepsTable, TableIs, locked_grip, with_grip}
+use Rattle.inodes.specs.Common.{Agrees, AreLooking, asked_by, cases_eq, claim_of, claims_of, copy_at, current_of, DeviceFault, Dinode, fault_of_task, Files, FilesThen, FitsHeld, Form, form_of, form_same, get_or-set_other, get_or-set_same, Ghosts, Goes, Grip, grip_by, grip_of, grips_of, groups_same, HasAllRead, HasFiles, HasLock, HasSlot, HaveLogged, held_alike, Image, inode_count_of, is_made, is_making, is_over, IsAtRead, IsStore, IsTaking, IsTruncating, IsWriting, KeepsTable, LeavesLate, locked_grip, LoggedAt, LogState, LooksAt, Marks, no_task, Op, Reads, reply_at_turn, SameGroups, Shown, ShowsSame, Stage, Stands, StaysForOthers, Steps, steps_left, StoreState, TableIs, task, TaskProgress, TaskState, Waits, WasAnswered, with_grip}
 use Rattle.inodes.specs.Lemmas.Holding.{claim_stays}
 use Rattle.inodes.specs.Lemmas.Faults.{where_none, if_none, if_some}
-use Rattle.inodes.specs.Looks.{AreLooking, HasFiles, LooksAt, IsTaking, IsAtRead, HasAllRead, WasAnswered}
-use Rattle.inodes.specs.Holding.{IsTruncating, claims_of, claim_of}
-use Rattle.inodes.specs.Places.{HasSlot, asked_by, grip_by, grip_of, grips_of, is_over, steps_left}
-use Rattle.inodes.specs.Steps.{Steps, Waits, Reads, LeavesLate, is_made}
-use Rattle.inodes.specs.Store.{StoreState, IsStore, FitsFiles, Agrees, HaveLogged, LoggedAt, Stands, current_of}
-use Rattle.inodes.specs.Table.{copy_at}
-use Rattle.inodes.specs.Tasks.{TaskState, task, no_task}
 use Rattle.inodes.proofs.Agreeing.{agrees_now}
 use Rattle.inodes.proofs.Gripping.{grip_is, grips_set}
 use Rattle.inodes.proofs.Frames.{marks_same}
 use Rattle.inodes.proofs.LooksKept.{KeepsUsed, keeps_same, logged_still, stands_still}
 use Rattle.inodes.proofs.Shares.{shares}
-use Rattle.inodes.specs.Writing.{IsWriting}
 
 -- Process p's task is u now, where the disk has not failed.
 pub record IsNow {D : Type 0} (image : D → Image) (s t : StoreState D) (p : ℕ) (u : TaskState) : Type 0 where
   pub others : StaysForOthers s.volume.buffers t.volume.buffers s.volume.log t.volume.log p
-  pub locks : (b i : ℕ) → HasLock t.volume.buffers p b i → HasSlot u.place i
-  pub stands : Stands t.volume.buffers t.volume.log s.table.inode_count p u.op u.place
+  pub locks : (b i : ℕ) → HasLock t.volume.buffers p b i → HasSlot u.stage i
+  pub stands : Stands t.volume.buffers t.volume.log s.table.inode_count p u.op u.stage
   pub table : KeepsTable s.table t.table p (grips_of s.tasks) (with_grip (grips_of s.tasks) p (grip_of u)) (current_of image t.volume)
-  pub looks : LooksAt (current_of image t.volume) t.table u u.place
-  pub logged : LoggedAt (current_of image t.volume) t.volume.log p u.place
+  pub looks : LooksAt (current_of image t.volume) t.table u u.stage
+  pub logged : LoggedAt (current_of image t.volume) t.volume.log p u.stage
 
 -- A step of process p, which has to do with number i, left its task as u.
 pub record Stepped {D N : Type 0} (disk : Ghosts D N) (s : StoreState D) (p i : ℕ) (its : Op) (r : TaskProgress) (t : StoreState D) (u : TaskState) : Type 0 where
@@ -91,13 +60,13 @@ of_fits image s files fits = fits
 
 -- there are files after a step
 files_then : (P : Files → Type 0) (form : Form) (op : Op) (r : TaskProgress) (files : Files) → FilesThen form op r files P → (then : Files) × P then
-files_then P form op progress.Moved files then = (files, then)
-files_then P form op (progress.Turned None) files then = (files, then)
-files_then P form op (progress.Turned (Some reply)) files then = (then.0, then.2)
-files_then P form op (progress.Decided reply) files then = (then.0, then.2)
-files_then P form op progress.Over files then = (files, then)
-files_then P form op (progress.Sleeping why) files then = (files, then)
-files_then P form op (progress.Fault fault) files then = (files, then)
+files_then P form op TaskProgress.Moved files then = (files, then)
+files_then P form op (TaskProgress.Turned None) files then = (files, then)
+files_then P form op (TaskProgress.Turned (Some reply)) files then = (then.0, then.2)
+files_then P form op (TaskProgress.Decided reply) files then = (then.0, then.2)
+files_then P form op TaskProgress.Over files then = (files, then)
+files_then P form op (TaskProgress.Sleeping why) files then = (files, then)
+files_then P form op (TaskProgress.Fault fault) files then = (files, then)
 
 module _ {D N : Type 0} (disk : Ghosts D N) (s : StoreState D) (p i : ℕ) (op : Op) (r : TaskProgress) (t : StoreState D) (u : TaskState)
     (is : IsStore disk.image s) (well : s.volume.fault ≡ None) (inside : p < length s.tasks) where
@@ -130,21 +99,21 @@ module _ {D N : Type 0} (disk : Ghosts D N) (s : StoreState D) (p i : ℕ) (op :
   copy_stays now q k j apart has = (now.table.others q k j apart (grip_is s.tasks q ∙ has)).copy
 
   -- what another has read stays so, with the table as it is now
-  looks_other : (now : IsNow disk.image s t p u) → t.table.inode_count ≡ s.table.inode_count → (q : ℕ) (v : TaskState) (a : Stage) → q ≢ p → task s.tasks q ≡ v → v.place ≡ a → LooksAt new s.table v a → LooksAt new t.table v a
-  looks_other now count q v stage.Nowhere apart is_task at looks = tt
-  looks_other now count q v (stage.Creating m) apart is_task at looks = tt
-  looks_other now count q v (stage.Taking m) apart is_task at looks = subst (λ (n : ℕ). IsTaking n v m) (sym count) looks
-  looks_other now count q v (stage.Reading k m) apart is_task at looks =
+  looks_other : (now : IsNow disk.image s t p u) → t.table.inode_count ≡ s.table.inode_count → (q : ℕ) (v : TaskState) (a : Stage) → q ≢ p → task s.tasks q ≡ v → v.stage ≡ a → LooksAt new s.table v a → LooksAt new t.table v a
+  looks_other now count q v Stage.Nowhere apart is_task at looks = tt
+  looks_other now count q v (Stage.Creating m) apart is_task at looks = tt
+  looks_other now count q v (Stage.Taking m) apart is_task at looks = subst (λ (n : ℕ). IsTaking n v m) (sym count) looks
+  looks_other now count q v (Stage.Reading k m) apart is_task at looks =
       let has : grip_of (task s.tasks q) ≡ Some (locked_grip k (asked_by v.op)) = ap grip_of is_task ∙ ap (λ (a : Stage). grip_by a (asked_by v.op)) at in
       subst (λ (n : ℕ). IsAtRead new n (copy_at t.table.places k) v m) (sym count)
       (subst (λ (c : Option Dinode). IsAtRead new s.table.inode_count c v m) (sym (copy_stays now q k (asked_by v.op) apart has)) looks)
-  looks_other now count q v (stage.Delivering k) apart is_task at looks =
+  looks_other now count q v (Stage.Delivering k) apart is_task at looks =
       let has : grip_of (task s.tasks q) ≡ Some (locked_grip k (asked_by v.op)) = ap grip_of is_task ∙ ap (λ (a : Stage). grip_by a (asked_by v.op)) at in
       subst (λ (n : ℕ). HasAllRead new n (copy_at t.table.places k) v) (sym count)
       (subst (λ (c : Option Dinode). HasAllRead new s.table.inode_count c v) (sym (copy_stays now q k (asked_by v.op) apart has)) looks)
-  looks_other now count q v (stage.Truncating k m) apart is_task at looks = subst (λ (n : ℕ). IsTruncating new n v m) (sym count) looks
-  looks_other now count q v (stage.Writing k m) apart is_task at looks = subst (λ (n : ℕ). IsWriting new n v m) (sym count) looks
-  looks_other now count q v (stage.Leaving k) apart is_task at looks = subst (λ (n : ℕ). WasAnswered n v) (sym count) looks
+  looks_other now count q v (Stage.Truncating k m) apart is_task at looks = subst (λ (n : ℕ). IsTruncating new n v m) (sym count) looks
+  looks_other now count q v (Stage.Writing k m) apart is_task at looks = subst (λ (n : ℕ). IsWriting new n v m) (sym count) looks
+  looks_other now count q v (Stage.Leaving k) apart is_task at looks = subst (λ (n : ℕ). WasAnswered n v) (sym count) looks
 
   module _ (stepped : Stepped disk s p i op r t u) where
     -- the files that it stands for then
@@ -157,25 +126,25 @@ module _ {D N : Type 0} (disk : Ghosts D N) (s : StoreState D) (p i : ℕ) (op :
     same_form = form_same cur new stepped.marks.untouched.super
 
     -- what they logged counts still
-    logged_other : IsNow disk.image s t p u → (q : ℕ) (a : Stage) → q ≢ p → (task s.tasks q).place ≡ a → LooksAt cur s.table (task s.tasks q) a
+    logged_other : IsNow disk.image s t p u → (q : ℕ) (a : Stage) → q ≢ p → (task s.tasks q).stage ≡ a → LooksAt cur s.table (task s.tasks q) a
         → LoggedAt cur s.volume.log q a → LoggedAt new t.volume.log q a
-    logged_other now q stage.Nowhere apart at looks had = tt
-    logged_other now q (stage.Creating m) apart at looks had = tt
-    logged_other now q (stage.Taking m) apart at looks had = tt
-    logged_other now q (stage.Reading k m) apart at looks had = tt
-    logged_other now q (stage.Delivering k) apart at looks had = tt
-    logged_other now q (stage.Truncating k m) apart at looks had = tt
-    logged_other now q (stage.Writing k m) apart at looks had =
+    logged_other now q Stage.Nowhere apart at looks had = tt
+    logged_other now q (Stage.Creating m) apart at looks had = tt
+    logged_other now q (Stage.Taking m) apart at looks had = tt
+    logged_other now q (Stage.Reading k m) apart at looks had = tt
+    logged_other now q (Stage.Delivering k) apart at looks had = tt
+    logged_other now q (Stage.Truncating k m) apart at looks had = tt
+    logged_other now q (Stage.Writing k m) apart at looks had =
         logged_still cur new s.table s.tasks i were is.numbers stepped.keeps q k m (λ j. stepped.alone q j apart) at looks
         s.volume.log t.volume.log now.others.among (now.others.used q apart) had
-    logged_other now q (stage.Leaving k) apart at looks had = tt
+    logged_other now q (Stage.Leaving k) apart at looks had = tt
 
     logged_then : IsNow disk.image s t p u → HaveLogged new t.volume.log (set s.tasks p u)
     logged_then now = λ q. ⊎_elim
-        (λ (same : q ≡ p). subst (λ (r : ℕ). LoggedAt new t.volume.log r (task (set s.tasks p u) r).place) (sym same)
-        (subst (λ (v : TaskState). LoggedAt new t.volume.log p v.place) (sym mine) now.logged))
-        (λ (apart : q ≢ p). subst (λ (v : TaskState). LoggedAt new t.volume.log q v.place) (sym (theirs q apart))
-        (logged_other now q (task s.tasks q).place apart refl (were.stand q) (where_none s.volume.fault well is.logged q)))
+        (λ (same : q ≡ p). subst (λ (r : ℕ). LoggedAt new t.volume.log r (task (set s.tasks p u) r).stage) (sym same)
+        (subst (λ (v : TaskState). LoggedAt new t.volume.log p v.stage) (sym mine) now.logged))
+        (λ (apart : q ≢ p). subst (λ (v : TaskState). LoggedAt new t.volume.log q v.stage) (sym (theirs q apart))
+        (logged_other now q (task s.tasks q).stage apart refl (were.stand q) (where_none s.volume.fault well is.logged q)))
         (cases_eq q p)
 
     looking_then : IsNow disk.image s t p u → AreLooking new t.table (set s.tasks p u)
@@ -183,10 +152,10 @@ module _ {D N : Type 0} (disk : Ghosts D N) (s : StoreState D) (p i : ℕ) (op :
       files = subst (λ (ts : List TaskState). HasFiles new (claims_of ts)) stepped.tasks held_then;
       table = subst (λ (gs : List (Option Grip)). TableIs t.table gs new) (sym (grips_set s.tasks p u)) now.table.table;
       stand = λ q. ⊎_elim
-          (λ (same : q ≡ p). subst (λ (v : TaskState). LooksAt new t.table v v.place) (sym (ap (task (set s.tasks p u)) same ∙ mine)) now.looks)
-          (λ (apart : q ≢ p). subst (λ (v : TaskState). LooksAt new t.table v v.place) (sym (theirs q apart))
-          (looks_other now stepped.count q (task s.tasks q) (task s.tasks q).place apart refl refl
-          (stands_still cur new s.table s.tasks i were is.numbers stepped.keeps q (task s.tasks q).place (λ k. stepped.alone q k apart) refl (were.stand q))))
+          (λ (same : q ≡ p). subst (λ (v : TaskState). LooksAt new t.table v v.stage) (sym (ap (task (set s.tasks p u)) same ∙ mine)) now.looks)
+          (λ (apart : q ≢ p). subst (λ (v : TaskState). LooksAt new t.table v v.stage) (sym (theirs q apart))
+          (looks_other now stepped.count q (task s.tasks q) (task s.tasks q).stage apart refl refl
+          (stands_still cur new s.table s.tasks i were is.numbers stepped.keeps q (task s.tasks q).stage (λ k. stepped.alone q k apart) refl (were.stand q))))
           (cases_eq q p);
     }
 
@@ -216,8 +185,8 @@ module _ {D N : Type 0} (disk : Ghosts D N) (s : StoreState D) (p i : ℕ) (op :
         logged_by (Some f) e = if_some (HaveLogged new t.volume.log t.tasks) t.volume.fault f (stepped.reads.fault ∙ e)
 
     -- THE STEP
-    pub steps_stepped : Goes disk (task s.tasks p).place s p op r t → Waits s p r t → LeavesLate s p op r
-        → (is_made r ≡ true → is_over (task s.tasks p).place ≡ false → steps_left new u.place s.table.inode_count < steps_left cur (task s.tasks p).place s.table.inode_count)
+    pub steps_stepped : Goes disk (task s.tasks p).stage s p op r t → Waits s p r t → LeavesLate s p op r
+        → (is_made r ≡ true → is_over (task s.tasks p).stage ≡ false → steps_left new u.stage s.table.inode_count < steps_left cur (task s.tasks p).stage s.table.inode_count)
         → Steps disk s p op r t
     steps_stepped goes waits apart falls = record {
       files = stepped.files;
@@ -235,7 +204,7 @@ module _ {D N : Type 0} (disk : Ghosts D N) (s : StoreState D) (p i : ℕ) (op :
       reads = stepped.reads;
       apart = apart;
       shares = shares disk.image s t p i u were is.numbers stepped.tasks stepped.alone stepped.claims stepped.keeps;
-      falls = λ made going. subst (λ (v : TaskState). steps_left new v.place s.table.inode_count < steps_left cur (task s.tasks p).place s.table.inode_count)
+      falls = λ made going. subst (λ (v : TaskState). steps_left new v.stage s.table.inode_count < steps_left cur (task s.tasks p).stage s.table.inode_count)
           (sym (ap (λ (ts : List TaskState). task ts p) stepped.tasks ∙ mine)) (falls made going);
     }
 

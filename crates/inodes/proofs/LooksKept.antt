@@ -1,78 +1,24 @@
 -- What is true of operations that look at a file stays, whatever the others do.
-use Rattle.std.proofs.Common.{◌≡◌, ◌≢◌, ℕ, zero, suc, ◌+◌, ◌-◌, ◌*◌, ◌/◌, ◌≤◌, ◌<◌, true, ltb, List, [], ◌∷◌, length, set, replicate, refl, sym, ◌∙◌, ap, subst, ⊎_elim, arith, Option, Some, None}
+use Rattle.std.proofs.Common.{◌≡◌, ◌≢◌, ℕ, zero, suc, ◌-◌, ◌*◌, ◌/◌, ◌≤◌, ◌<◌, true, ltb, List, [], ◌∷◌, length, set, replicate, refl, sym, ◌∙◌, ap, subst, ⊎_elim, arith, Option, Some, None}
 use Rattle.std.specs.Prelude.{IsTrue, slice_index}
-use Rattle.std.proofs.lemmas.Bool.{cases_eq, ltb-true}
-use Rattle.std.proofs.lemmas.List.{length-set, get_or-set_same, get_or-set_other, length-set}
-use Rattle.blocks.specs.Disk.{Image, block_at}
-use Rattle.model.specs.declared.types.image.Dinode.{Dinode}
-use Rattle.model.specs.declared.types.image.Form.{Form}
-use Rattle.model.specs.declared.types.operations.Op.{Op}
-use Rattle.model.specs.declared.types.operations.Op.TheVariants.{Create, Write, Read, Trunc, Remove, Stat}
-use Rattle.model.specs.Agreement.{IsSameOutsideLog}
-use Rattle.model.specs.Codec.{IsDinode, new_inode, with_inode, with_inode_bytes, without_bit}
-use Rattle.model.specs.Files.{Files, bytes_in, file_in}
-use Rattle.model.specs.Journal.{is_number}
-use Rattle.model.specs.Layout.{depths, form_of, inode_block, inode_count_of, inode_of, super_of}
+use Rattle.std.proofs.lemmas.List.{length-set}
+use Rattle.inodes.specs.Common.{address_in, ahead_of, ahead_root, AreLooking, asked_by, at_hand, between, block_at, both_of, branch_of, bytes_by, bytes_in, CanBegin, cases_eq, Claim, claim_by, claim_fits, claim_of, Claims, claims_of, copy_at, count_of, Create, depths, Dinode, Extent, extent_of, file_in, Files, first_left, first_stage, Fits, FitsHeld, FitsThen, Form, form_of, form_same, free_tells, Freeing, frees, get_or-set_other, get_or-set_same, Grip, grip, grip_by, grip_of, grips_of, grows, Growth, growth_of, hand_in, HasClaimed, HasFiles, HasGivenUp, HasLoggedWrite, HasSameFile, Held, held_alike, held_of, held_outside, Image, inode_block, inode_count_of, inode_of-with_inode_other, inode_same, is_among, is_kind, is_number, IsApart, IsClaimedNow, IsDinode, IsHeldIn, IsInHand, IsMapped, IsPlaced, IsSameOutsideLog, IsWriting, Keeps, KeepsUsedInodes, last_fields, last_inode, leads_still, locked_grip, LogState, LooksAt, ltb-true, mapped, MayRead, named_held, names_claimed, names_left, needed_within, new_inode, new_table, no_task, Op, part_of, Read, Remove, resting_may_be_read, root_of, same_keeps, SameInside, Stage, Stat, StaysHeld, super_of, TableIs, TableState, taken_by, taken_owned, task, TaskState, Trunc, TruncAt, unmarked, used_by, way_of, whole_names, with_inode, with_inode_bytes, without_bit, Write, write_back_rests, WriteState}
+use Rattle.model.specs.Layout.{inode_of}
+use Rattle.in_flight.specs.Lemmas.GivenUp.{held_of as is_held}
+use Rattle.in_flight.specs.Lemmas.HeldFrames.{stays_same}
+use Rattle.in_flight.specs.Lemmas.Claims.{apart as apart_from}
 use Rattle.model.specs.Names.{names_along}
-use Rattle.model.specs.Operations.{is_kind, part_of}
-use Rattle.model.specs.Soundness.{count_of}
-use Rattle.model.specs.Places.{address_in}
-use Rattle.model.specs.Lemmas.Inodes.{IsPlaced, inode_of-with_inode_other}
-use Rattle.model.specs.Lemmas.Log.{both_of}
 use Rattle.model.specs.Lemmas.OutsideLog.{inode_agree}
-use Rattle.model.specs.Lemmas.Frames.{form_same}
-use Rattle.in_flight.specs.Claims.{HasClaimed}
-use Rattle.model.specs.Soundness.{count_of}
-use Rattle.in_flight.specs.Held.{Held, Claims, FitsHeld, Growth, IsClaimedNow, last_inode, unmarked, frees, Claim, grows, names_claimed}
-use Rattle.in_flight.specs.Lemmas.BlocksTaken.{taken_owned}
-use Rattle.in_flight.specs.Lemmas.KeptTrees.{SameInside}
-use Rattle.wal.specs.Machine.{LogState, is_among, used_by}
-use Rattle.blockmap.specs.Lemmas.Branches.{same_keeps}
-use Rattle.blockmap.specs.Branch.{branch_of}
-use Rattle.in_flight.specs.HeldLaws.{FitsThen, HasSameFile, IsHeldIn, StaysHeld}
-use Rattle.in_flight.specs.Loose.{Fits}
 use Rattle.in_flight.specs.Lemmas.AtRest.{fits_at_rest}
-use Rattle.in_flight.specs.Lemmas.Claims.{IsApart, apart as apart_from}
-use Rattle.in_flight.specs.Lemmas.Apart.{named_held}
-use Rattle.in_flight.specs.Lemmas.GivenUp.{first_left, held_of as is_held}
-use Rattle.in_flight.specs.Lemmas.HeldFrames.{held_alike, stays_same, whole_names}
-use Rattle.in_flight.specs.Lemmas.LeftOnWays.{ahead_of}
-use Rattle.in_flight.specs.Lemmas.Ways.{ahead_root}
-use Rattle.in_flight.specs.Trees.{names_left}
-use Rattle.in_flight.specs.Lemmas.HeldLooks.{free_tells}
-use Rattle.in_flight.specs.Lemmas.HeldOutsideLog.{held_outside}
-use Rattle.in_flight.specs.Lemmas.Looks.{between}
-use Rattle.in_flight.specs.Lemmas.WriteBacks.{claim_fits, last_fields, write_back_rests}
-use Rattle.blockmap.specs.Lemmas.Resting.{resting_may_be_read}
-use Rattle.blockmap.specs.Lemmas.Targets.{leads_still, needed_within}
-use Rattle.blockmap.specs.Reading.{MayRead}
-use Rattle.inodes.specs.declared.freeing.Freeing.{Freeing}
-use Rattle.inodes.specs.declared.itrunc.TruncAt.{TruncAt}
-use Rattle.inodes.specs.declared.itrunc.TruncAt.TheVariants as trunc_at
-use Rattle.inodes.specs.declared.tasks.Stage.{Stage}
-use Rattle.inodes.specs.declared.tasks.Stage.TheVariants as stage
-use Rattle.inodes.specs.Grips.{Grip, KeepsUsedInodes, TableIs, grip, locked_grip}
-use Rattle.inodes.specs.Holding.{HasGivenUp, IsInHand, Keeps, claim_by, claims_of, hand_in, held_of, claim_of, root_of, way_of}
-use Rattle.inodes.specs.Looks.{AreLooking, HasFiles, LooksAt}
-use Rattle.inodes.specs.Places.{asked_by, grip_by, grip_of, grips_of}
-use Rattle.inodes.specs.Store.{CanBegin, first_place}
-use Rattle.inodes.specs.Table.{TableState, copy_at, new_table}
-use Rattle.inodes.specs.Tasks.{TaskState, task, no_task}
 use Rattle.inodes.specs.Lemmas.Grips.{is_table_at_opening, kept_by_image}
 use Rattle.inodes.specs.Lemmas.Holding.{claim_stays, own_holds}
 use Rattle.inodes.specs.Lemmas.Looks.{copy_is, trunc_names, write_locks}
 use Rattle.inodes.proofs.InHand.{first_tree, given_kept, keeps_kept, root_there}
 use Rattle.inodes.proofs.Gripping.{grip_is, grips_same}
 use Rattle.inodes.specs.Lemmas.Unclaimed.{own_claim, unclaimed, claim_locks, own_growth}
-use Rattle.in_flight.specs.Lemmas.Remapped.{IsMapped, mapped, inode_same}
-use Rattle.inodes.specs.Growing.{growth_of, bytes_by, taken_by}
-use Rattle.inodes.specs.Writing.{HasLoggedWrite, IsWriting, at_hand, extent_of}
-use Rattle.inodes.specs.declared.writei.Extent.{Extent}
-use Rattle.inodes.specs.Writei.{WriteState}
 use Rattle.inodes.proofs.Agreeing.{counts_more}
 use Rattle.inodes.proofs.WriteComes.{come_still}
-use Rattle.inodes.proofs.WriteLogged.{beside_grow}
-use Rattle.inodes.proofs.Routes.{KeepsTo}
+use Rattle.inodes.proofs.WriteLogged.{beside_grow, ways_keep}
 use Rattle.inodes.proofs.WriteNodes.{CountsOn, same_inside}
 
 -- ---- the current image is another one
@@ -96,6 +42,16 @@ keeps_same n i claims x = record {
   inodes = λ j number apart used. refl;
   contents = λ j number apart used none. record { inode = refl; blocks = λ b some. refl; addresses = λ k. refl; bytes = refl };
   held = λ j c number apart holds. stays_same x c;
+}
+
+-- one in which the files stand so but for number i
+pub keeps_then : (n i : ℕ) (m : Files) (x y : Image) (claims new : Claims) → n ≡ inode_count_of x → FitsThen m x claims i y new → length y ≡ length x → block_at y 1 ≡ block_at x 1 → KeepsUsedInodes n i x y → KeepsUsed n i claims x y
+keeps_then n i m x y claims new numbers then size super inodes = record {
+  size = size;
+  super = super;
+  inodes = inodes;
+  contents = λ j number apart used none. then.others j apart none (subst (λ (c : ℕ). IsTrue (is_number c j)) numbers number, used);
+  held = λ j c number apart holds. then.held j c apart (subst (λ (c : ℕ). IsTrue (is_number c j)) numbers number) holds;
 }
 
 -- one with another block behind the log
@@ -139,26 +95,18 @@ keeps_claimed files x claims i kind fits number free is claimed = record {
 
 -- one in which a block's bit is cleared that the task of number i gave up
 pub keeps_freed : (files m : Files) (x : Image) (claims new : Claims) (i b : ℕ) → FitsHeld files x claims → FitsThen m x claims i (unmarked x b) new → KeepsUsed (inode_count_of x) i claims x (unmarked x b)
-keeps_freed files m x claims new i b fits then = record {
-  size = length-set x (super_of x).bmapstart (without_bit (block_at x (super_of x).bmapstart) b);
-  super = super_set x (super_of x).bmapstart (without_bit (block_at x (super_of x).bmapstart) b) (let behind = map.behind in omega (arith, behind));
-  inodes = λ j number apart used. inode_same x (without_bit (block_at x (super_of x).bmapstart) b) map j (apart_from x j fits.geometry (between x j number).high).before_map;
-  contents = λ j number apart used none. then.others j apart none (number, used);
-  held = λ j c number apart holds. then.held j c apart number holds;
-}
+keeps_freed files m x claims new i b fits then = keeps_then (inode_count_of x) i m x (unmarked x b) claims new refl then (length-set x (super_of x).bmapstart (without_bit (block_at x (super_of x).bmapstart) b))
+    (super_set x (super_of x).bmapstart (without_bit (block_at x (super_of x).bmapstart) b) (let behind = map.behind in omega (arith, behind)))
+    (λ j number apart used. inode_same x (without_bit (block_at x (super_of x).bmapstart) b) map j (apart_from x j fits.geometry (between x j number).high).before_map)
   where
     map : IsMapped x
     map = mapped x fits.geometry fits.full
 
 -- one in which the inode of number i is written back
 pub keeps_written : (files : Files) (x : Image) (claims new : Claims) (i : ℕ) (h : Held) → IsHeldIn files x claims i (frees h) → h.copy.addrs ≡ replicate 13 0 → IsClaimedNow claims i None new → KeepsUsed (inode_count_of x) i claims x (with_inode x i (last_inode h))
-keeps_written files x claims new i h held bare now = record {
-  size = length-set x (inode_block i) (with_inode_bytes (block_at x (inode_block i)) i (last_inode h));
-  super = super_set x (inode_block i) (with_inode_bytes (block_at x (inode_block i)) i (last_inode h)) (omega arith);
-  inodes = λ j number apart used. inode_of-with_inode_other x i j (last_inode h) placed fields apart;
-  contents = λ j number apart used none. (write_back_rests files x claims new i h held bare now).others j apart none (number, used);
-  held = λ j c number apart holds. (write_back_rests files x claims new i h held bare now).held j c apart number holds;
-}
+keeps_written files x claims new i h held bare now = keeps_then (inode_count_of x) i _ x (with_inode x i (last_inode h)) claims new refl (write_back_rests files x claims new i h held bare now)
+    (length-set x (inode_block i) (with_inode_bytes (block_at x (inode_block i)) i (last_inode h))) (super_set x (inode_block i) (with_inode_bytes (block_at x (inode_block i)) i (last_inode h)) (omega arith))
+    (λ j number apart used. inode_of-with_inode_other x i j (last_inode h) placed fields apart)
   where
     there : IsApart x i
     there = apart_from x i held.fits.geometry (between x i held.number).high
@@ -202,7 +150,7 @@ module _ (old new : Image) (t : TableState) (ts : List TaskState) (i : ℕ) (are
   form_still = form_same old new keeps.super
 
   -- the blocks of addresses that a task frees stay
-  module _ (p k : ℕ) (m : Freeing) (free : (k : ℕ) → grip_of (task ts p) ≡ Some (locked_grip k i) → ⊥) (at : (task ts p).place ≡ stage.Truncating k m) where
+  module _ (p k : ℕ) (m : Freeing) (free : (k : ℕ) → grip_of (task ts p) ≡ Some (locked_grip k i) → ⊥) (at : (task ts p).stage ≡ Stage.Truncating k m) where
     left_still : (b : ℕ) → 1 ≤ count_of b (names_left old m.machine.inode (held_of m.machine).cursor) → block_at new b ≡ block_at old b
     left_still b some =
         let h = frees (held_of m.machine) in
@@ -228,15 +176,15 @@ module _ (old new : Image) (t : TableState) (ts : List TaskState) (i : ℕ) (are
 
     -- so it has come as far, and keeps the same
     come_as_far : (a : TruncAt) → m.machine.at ≡ a → HasGivenUp old m.machine a → Keeps old m.kept m.machine a → HasGivenUp new m.machine a × Keeps new m.kept m.machine a
-    come_as_far trunc_at.Direct is given kept = (given, record { inner = kept.inner; outer = kept.outer })
-    come_as_far (trunc_at.Loading b) is given kept = still is given.0 given kept
-    come_as_far trunc_at.Entry is given kept = still is given.hand given kept
-    come_as_far trunc_at.Unloading is given kept = still is given.0 given kept
-    come_as_far trunc_at.Freeing is given kept = still is given.0 given kept
-    come_as_far trunc_at.Updating is given kept = (given, record { inner = kept.inner; outer = kept.outer })
+    come_as_far TruncAt.Direct is given kept = (given, record { inner = kept.inner; outer = kept.outer })
+    come_as_far (TruncAt.Loading b) is given kept = still is given.0 given kept
+    come_as_far TruncAt.Entry is given kept = still is given.hand given kept
+    come_as_far TruncAt.Unloading is given kept = still is given.0 given kept
+    come_as_far TruncAt.Freeing is given kept = still is given.0 given kept
+    come_as_far TruncAt.Updating is given kept = (given, record { inner = kept.inner; outer = kept.outer })
 
   -- a task that writes holds what it held, and its copy leads on as it did
-  module _ (p k : ℕ) (m : WriteState) (free : (k : ℕ) → grip_of (task ts p) ≡ Some (locked_grip k i) → ⊥) (at : (task ts p).place ≡ stage.Writing k m) (writes : IsWriting old t.inode_count (task ts p) m) where
+  module _ (p k : ℕ) (m : WriteState) (free : (k : ℕ) → grip_of (task ts p) ≡ Some (locked_grip k i) → ⊥) (at : (task ts p).stage ≡ Stage.Writing k m) (writes : IsWriting old t.inode_count (task ts p) m) where
     abbrev g : Growth
     g = growth_of m (bytes_by (task ts p).op)
 
@@ -263,21 +211,14 @@ module _ (old new : Image) (t : TableState) (ts : List TaskState) (i : ℕ) (are
     pub logged_still : (l h : LogState) → ((b : ℕ) → is_among b l.homes ≡ true → is_among b h.homes ≡ true) → used_by h p ≡ used_by l p → HasLoggedWrite old l p m → HasLoggedWrite new h p m
     logged_still l h among same had homes used =
         let on : CountsOn l h = λ b. counts_more l h b (among b) in
-        let leads : (j : ℕ) → KeepsTo old new m.inode m.inode (branch_of m.extent.form j) = λ j. record {
-          address = λ some. refl;
-          behind = same_keeps old new (branch_of m.extent.form j).depth (slice_index m.inode.addrs (branch_of m.extent.form j).index) (ways_same j);
-        } in
-        let few = had homes (sym same ∙ used) in
-        let more = beside_grow old new l h on m m.inode (record { first = leads (m.offset / 1024); last = leads ((m.offset + m.count - 1) / 1024) }) in
-        let hand = on (at_hand m.at) in
-        omega (arith, few, more, hand)
+        omega (arith, (had homes (sym same ∙ used)), (beside_grow old new l h on m m.inode (ways_keep old new m m.inode refl ways_same)), (on (at_hand m.at)))
 
   -- of a task that has not locked number i
-  pub stands_still : (p : ℕ) (a : Stage) → ((k : ℕ) → grip_of (task ts p) ≡ Some (locked_grip k i) → ⊥) → (task ts p).place ≡ a → LooksAt old t (task ts p) a → LooksAt new t (task ts p) a
-  stands_still p stage.Nowhere free at stands = tt
-  stands_still p (stage.Creating m) free at stands = tt
-  stands_still p (stage.Taking m) free at stands = stands
-  stands_still p (stage.Reading k m) free at stands =
+  pub stands_still : (p : ℕ) (a : Stage) → ((k : ℕ) → grip_of (task ts p) ≡ Some (locked_grip k i) → ⊥) → (task ts p).stage ≡ a → LooksAt old t (task ts p) a → LooksAt new t (task ts p) a
+  stands_still p Stage.Nowhere free at stands = tt
+  stands_still p (Stage.Creating m) free at stands = tt
+  stands_still p (Stage.Taking m) free at stands = stands
+  stands_still p (Stage.Reading k m) free at stands =
       let j = asked_by (task ts p).op in
       let locked : grip_of (task ts p) ≡ Some (locked_grip k j) = ap (λ (a : Stage). grip_by a j) at in
       let same = copy_keeps p j k m.inode (λ one. free k (locked ∙ ap (λ (n : ℕ). Some (locked_grip k n)) one)) locked (ap (λ (a : Stage). claim_by (task ts p).op a j) at) stands.copy in
@@ -296,7 +237,7 @@ module _ (old new : Image) (t : TableState) (ts : List TaskState) (i : ℕ) (are
           leads = leads_still old new m.inode (m.next / 1024) (needed_within old m.inode (m.next / 1024) same.may.fit needed) same.blocks form_still same.addresses m.target read.leads;
         };
       }
-  stands_still p (stage.Delivering k) free at stands =
+  stands_still p (Stage.Delivering k) free at stands =
       let j = asked_by (task ts p).op in
       let locked : grip_of (task ts p) ≡ Some (locked_grip k j) = ap (λ (a : Stage). grip_by a j) at in
       let same = copy_keeps p j k stands.dinode (λ one. free k (locked ∙ ap (λ (n : ℕ). Some (locked_grip k n)) one)) locked (ap (λ (a : Stage). claim_by (task ts p).op a j) at) stands.copy in
@@ -306,7 +247,7 @@ module _ (old new : Image) (t : TableState) (ts : List TaskState) (i : ℕ) (are
         copy = stands.copy;
         bytes = stands.bytes ∙ ap (λ (file : List ℕ). part_of file stands.op.offset stands.op.count) (sym same.bytes);
       }
-  stands_still p (stage.Truncating k m) free at stands =
+  stands_still p (Stage.Truncating k m) free at stands =
       let far = come_as_far p k m free at m.machine.at refl stands.given stands.keeps in
       record {
         op = stands.op;
@@ -317,7 +258,7 @@ module _ (old new : Image) (t : TableState) (ts : List TaskState) (i : ℕ) (are
         given = far.0;
         keeps = far.1;
       }
-  stands_still p (stage.Writing k m) free at stands = record {
+  stands_still p (Stage.Writing k m) free at stands = record {
     bytes = stands.bytes;
     op = stands.op;
     number = stands.number;
@@ -328,22 +269,20 @@ module _ (old new : Image) (t : TableState) (ts : List TaskState) (i : ℕ) (are
     extent = stands.extent ∙ ap (extent_of (form_of old) t.inode_count) (sym keeps.size) ∙ ap (λ (f : Form). extent_of f t.inode_count (length new)) (sym form_still);
     come = come_still old new m (ways_same p k m free at stands) (its p k m free at stands).grown.0 m.at (taken_same p k m free at stands) stands.come;
   }
-  stands_still p (stage.Leaving k) free at stands = stands
+  stands_still p (Stage.Leaving k) free at stands = stands
 
 -- where all used inodes stay
 module _ (old new : Image) (t : TableState) (ts : List TaskState) (are : AreLooking old t ts) (numbers : t.inode_count ≡ inode_count_of old) where
   -- number 0 is nobody's
   pub none_locks_zero : (p k : ℕ) → grip_of (task ts p) ≡ Some (locked_grip k 0) → ⊥
   none_locks_zero p k locked =
-      let number = are.table.numbers 0 k (are.table.places p (locked_grip k 0) (grip_is ts p ∙ locked)).1 in
-      let low = ltb-true 0 0 (both_of (ltb 0 0) (ltb 0 t.inode_count) number).0 in
-      omega (arith, low)
+      omega (arith, (ltb-true 0 0 (both_of (ltb 0 0) (ltb 0 t.inode_count) (are.table.numbers 0 k (are.table.places p (locked_grip k 0) (grip_is ts p ∙ locked)).1)).0))
 
   pub looks_kept : HasFiles new (claims_of ts) → KeepsUsed t.inode_count 0 (claims_of ts) old new → AreLooking new t ts
   looks_kept has keeps = record {
     files = has;
     table = kept_by_image t (grips_of ts) old new are.table keeps.inodes;
-    stand = λ p. stands_still old new t ts 0 are numbers keeps p (task ts p).place (none_locks_zero p) refl (are.stand p);
+    stand = λ p. stands_still old new t ts 0 are numbers keeps p (task ts p).stage (none_locks_zero p) refl (are.stand p);
   }
 
 pub looks_outside : (cur now : Image) (t : TableState) (ts : List TaskState) → AreLooking cur t ts → t.inode_count ≡ inode_count_of cur → IsSameOutsideLog cur now → AreLooking now t ts
@@ -354,42 +293,38 @@ looks_outside cur now t ts are numbers same =
 
 -- ---- one task is another, with the same grip, and holds what it held
 
-pub looks_set : (cur : Image) (t : TableState) (ts : List TaskState) (p : ℕ) (s : TaskState) → AreLooking cur t ts → p < length ts → grip_of s ≡ grip_of (task ts p) → LooksAt cur t s s.place
+pub looks_set : (cur : Image) (t : TableState) (ts : List TaskState) (p : ℕ) (s : TaskState) → AreLooking cur t ts → p < length ts → grip_of s ≡ grip_of (task ts p) → LooksAt cur t s s.stage
     → ((j : ℕ) → claim_of s j ≡ claim_of (task ts p) j) → AreLooking cur t (set ts p s)
 looks_set cur t ts p s are inside same stands claims = record {
   files = (are.files.0, held_alike are.files.0 cur (claims_of ts) (claims_of (set ts p s)) (λ j. claim_stays ts p j s (claims j)) are.files.1);
   table = subst (λ (gs : List (Option Grip)). TableIs t gs cur) (sym (grips_same ts p s same)) are.table;
   stand = λ q. ⊎_elim
-      (λ (own : q ≡ p). subst (λ (o : TaskState). LooksAt cur t o o.place) (sym (ap (task (set ts p s)) own ∙ get_or-set_same ts p s no_task inside)) stands)
-      (λ (apart : q ≢ p). subst (λ (o : TaskState). LooksAt cur t o o.place) (sym (get_or-set_other ts p q s no_task apart)) (are.stand q))
+      (λ (own : q ≡ p). subst (λ (o : TaskState). LooksAt cur t o o.stage) (sym (ap (task (set ts p s)) own ∙ get_or-set_same ts p s no_task inside)) stands)
+      (λ (apart : q ≢ p). subst (λ (o : TaskState). LooksAt cur t o o.stage) (sym (get_or-set_other ts p q s no_task apart)) (are.stand q))
       (cases_eq q p);
 }
 
 -- a changing operation begins: a creation, or one that takes an inode
-module _ (cur : Image) (t : TableState) (ts : List TaskState) (p : ℕ) (are : AreLooking cur t ts) (inside : p < length ts) (stood : (task ts p).place ≡ stage.Nowhere) where
+module _ (cur : Image) (t : TableState) (ts : List TaskState) (p : ℕ) (are : AreLooking cur t ts) (inside : p < length ts) (stood : (task ts p).stage ≡ Stage.Nowhere) where
   no_grip : grip_of (task ts p) ≡ None
   no_grip = ap (λ (a : Stage). grip_by a (asked_by (task ts p).op)) stood
 
   no_claim : (j : ℕ) → claim_of (task ts p) j ≡ None
   no_claim j = ap (λ (a : Stage). claim_by (task ts p).op a j) stood
 
-  begun : (s : TaskState) → grip_of s ≡ None → LooksAt cur t s s.place → ((j : ℕ) → claim_of s j ≡ None) → AreLooking cur t (set ts p s)
+  begun : (s : TaskState) → grip_of s ≡ None → LooksAt cur t s s.stage → ((j : ℕ) → claim_of s j ≡ None) → AreLooking cur t (set ts p s)
   begun s none stands holds = looks_set cur t ts p s are inside (none ∙ sym no_grip) stands (λ j. holds j ∙ sym (no_claim j))
 
-  begun_by : (op : Op) → CanBegin t.inode_count op → AreLooking cur t (set ts p (record { op = Some op; place = first_place op t.inode_count; gathered = None }))
-  begun_by (Create kind) can = begun (record { op = Some (Create kind); place = first_place (Create kind) t.inode_count; gathered = None }) refl tt (λ j. refl)
-  begun_by (Write i off bytes) can =
-      begun (record { op = Some (Write i off bytes); place = first_place (Write i off bytes) t.inode_count; gathered = None }) refl (record { op = Write i off bytes; is = refl; can = can; number = refl; room = refl }) (λ j. refl)
-  begun_by (Read i off n) can = absurd can
-  begun_by (Trunc i) can =
-      begun (record { op = Some (Trunc i); place = first_place (Trunc i) t.inode_count; gathered = None }) refl (record { op = Trunc i; is = refl; can = can; number = refl; room = refl }) (λ j. refl)
-  begun_by (Remove i) can =
-      begun (record { op = Some (Remove i); place = first_place (Remove i) t.inode_count; gathered = None }) refl (record { op = Remove i; is = refl; can = can; number = refl; room = refl }) (λ j. refl)
-  begun_by (Stat i) can = absurd can
-
-pub looks_begun : (cur : Image) (t : TableState) (ts : List TaskState) (p : ℕ) (op : Op) → AreLooking cur t ts → p < length ts → (task ts p).place ≡ stage.Nowhere → CanBegin t.inode_count op
-    → AreLooking cur t (set ts p (record { op = Some op; place = first_place op t.inode_count; gathered = None }))
-looks_begun cur t ts p op are inside stood can = begun_by cur t ts p are inside stood op can
+  pub looks_begun : (op : Op) → CanBegin t.inode_count op → AreLooking cur t (set ts p (record { op = Some op; stage = first_stage op t.inode_count; gathered = None }))
+  looks_begun (Create kind) can = begun (record { op = Some (Create kind); stage = first_stage (Create kind) t.inode_count; gathered = None }) refl tt (λ j. refl)
+  looks_begun (Write i off bytes) can =
+      begun (record { op = Some (Write i off bytes); stage = first_stage (Write i off bytes) t.inode_count; gathered = None }) refl (record { op = Write i off bytes; is = refl; can = can; number = refl; room = refl }) (λ j. refl)
+  looks_begun (Read i off n) can = absurd can
+  looks_begun (Trunc i) can =
+      begun (record { op = Some (Trunc i); stage = first_stage (Trunc i) t.inode_count; gathered = None }) refl (record { op = Trunc i; is = refl; can = can; number = refl; room = refl }) (λ j. refl)
+  looks_begun (Remove i) can =
+      begun (record { op = Some (Remove i); stage = first_stage (Remove i) t.inode_count; gathered = None }) refl (record { op = Remove i; is = refl; can = can; number = refl; room = refl }) (λ j. refl)
+  looks_begun (Stat i) can = absurd can
 
 -- ---- no task is under way at the opening
 
@@ -414,5 +349,5 @@ pub looks_opened : (form : Form) (files : Files) (cur : Image) (n k : ℕ) → F
 looks_opened form files cur n k fits few = record {
   files = (files, held_opened files cur k fits);
   table = subst (λ (gs : List (Option Grip)). TableIs (new_table form n) gs cur) (sym (no_grips k)) (is_table_at_opening form n k cur few);
-  stand = λ p. subst (λ (t : TaskState). LooksAt cur (new_table form n) t t.place) (sym (none_at k p)) tt;
+  stand = λ p. subst (λ (t : TaskState). LooksAt cur (new_table form n) t t.stage) (sym (none_at k p)) tt;
 }

@@ -1,11 +1,8 @@
 -- An inode block whose inodes are all used has no free number.
 use Rattle.std.proofs.Common.{◌≡◌, ◌≢◌, ℕ, zero, suc, ◌+◌, ◌*◌, ◌%◌, ◌&&◌, Bool, true, false, List, refl, ap, subst, arith, None}
-use Rattle.std.proofs.lemmas.Bool.{ne_eqb}
-use Rattle.std.specs.Prelude.{slice_range}
 use Rattle.std.specs.List.{find, range_with_len}
-use Rattle.model.specs.Journal.{is_number}
-use Rattle.model.specs.Layout.{inode_in, inode_bytes_in}
-use Rattle.inodes.specs.Creation.{AreUsed, is_free_in}
+use Rattle.std.specs.Prelude.{slice_range}
+use Rattle.inodes.specs.Common.{AreUsed, inode_bytes_in, inode_in, is_free_in, is_number, ne_eqb}
 
 -- numbers at the same place in a block have the same bytes of it
 same_place : (bytes : List ℕ) (i : ℕ) → inode_bytes_in bytes (i % 16) ≡ inode_bytes_in bytes i

@@ -1,48 +1,21 @@
 -- What a step of a reading makes of it.
 use Rattle.std.proofs.Common.{◌≡◌, ◌≢◌, ℕ, ◌+◌, ◌-◌, ◌*◌, ◌/◌, ◌%◌, ◌<◌, ◌≤◌, ◌++◌, List, length, min, refl, sym, ap, subst, ◌∙◌, Option, Some, None, false, arith}
-use Rattle.std.proofs.lemmas.Bool.{eq-eqb, ne_eqb}
-use Rattle.std.proofs.lemmas.List.{append-nil}
 use Rattle.std.specs.Prelude.{IfNone}
-use Rattle.blocks.specs.Disk.{Image}
-use Rattle.blocks.specs.declared.disk.Disk.{Ghosts}
-use Rattle.model.specs.declared.types.image.Dinode.{Dinode}
-use Rattle.model.specs.declared.types.image.Form.{Form}
-use Rattle.model.specs.Files.{bytes_in}
-use Rattle.model.specs.Gathered.{GatheredBytes, gathered_with}
-use Rattle.model.specs.Layout.{form_of}
-use Rattle.model.specs.Operations.{part_of}
-use Rattle.model.specs.Places.{address_in}
-use Rattle.model.specs.Lemmas.Bytes.{length-part}
-use Rattle.bcache.specs.Buffers.{buffer}
-use Rattle.bcache.specs.Lemmas.Current.{length-current}
-use Rattle.wal.specs.Joint.{Joint, seen}
-use Rattle.wal.specs.Volume.{VolumeState, Holds}
-use Rattle.blockmap.specs.Getting.{HoldsWhereGot, Releases}
-use Rattle.blockmap.specs.Lemmas.Reading.{length-bytes, part_in_block}
+use Rattle.inodes.specs.Common.{address_in, append-nil, buffer, bytes_in, Dinode, eq-eqb, few_at, first_read, Form, form_of, gathered_with, GatheredBytes, Gathers, Ghosts, got_slot, Holds, HoldsWhereGot, Image, is_done, IsMade, IsReading, IsSought, Joint, leads_for, LeadsTo, length-bytes, length-current, length-part, MayRead, ne_eqb, needed_within, OnMore, part_in_block, part_of, Progress, ReadState, ReadSteps, Releases, Seeks, seen, steps_at, steps_enough, steps_for, steps_grow, steps_more, Target, target_for, VolumeState, Works}
 use Rattle.blockmap.specs.Lemmas.Seeking.{SeeksOn, seeks_on}
-use Rattle.blockmap.specs.Lemmas.Targets.{few_at, leads_for, needed_within, steps_enough, steps_grow, steps_more}
-use Rattle.blockmap.specs.Reading.{MayRead}
-use Rattle.blockmap.specs.Target.{IsSought, LeadsTo, Seeks, got_slot, steps_at, steps_for, target_for}
-use Rattle.model.specs.declared.types.progress.Progress.{Progress}
-use Rattle.model.specs.declared.types.progress.Progress.TheVariants as progress
-use Rattle.blockmap.specs.declared.target.Target.{Target}
-use Rattle.blockmap.specs.declared.target.Target.TheVariants as target
 use Rattle.inodes.specs.Lemmas.ReadRuns.{Begins, begins}
 use Rattle.inodes.specs.ReadRuns.{BegunMayStep}
-use Rattle.inodes.specs.Ialloc.{OnMore}
-use Rattle.inodes.specs.Readi.{ReadState, IsReading, first_read, Gathers, IsMade, ReadSteps, Works, is_done}
 
 -- the log knows the size of the current image
 pub size_of_log : {D : Type 0} (image : D → Image) (v : VolumeState D) → v.fault ≡ None
     → IfNone v.fault (Joint (image v.device) v.buffers v.log) → v.log.size ≡ length (seen (image v.device) v.buffers)
 size_of_log image v well known =
-    let joint : Joint (image v.device) v.buffers v.log = subst (λ (o : Option _). IfNone o (Joint (image v.device) v.buffers v.log)) well known in
-    sym (length-current (image v.device) v.buffers ∙ joint.size)
+    sym (length-current (image v.device) v.buffers ∙ (subst (λ (o : Option _). IfNone o (Joint (image v.device) v.buffers v.log)) well known).size)
 
 sought_at : {D : Type 0} (image : D → Image) (v : VolumeState D) (p k : ℕ) (d : Dinode) (t : Target) → LeadsTo image v p d k t → got_slot t ≡ None →
     33 ≤ address_in (seen (image v.device) v.buffers) d k → address_in (seen (image v.device) v.buffers) d k < v.log.size → IsSought image v p t
-sought_at image v p k d (target.Entry entry) leads none low high = leads.holds
-sought_at image v p k d (target.Block b slot) leads none low high = let is = leads.block in (none, omega (arith, is, low), omega (arith, is, high))
+sought_at image v p k d (Target.Entry entry) leads none low high = leads.holds
+sought_at image v p k d (Target.Block b slot) leads none low high = let is = leads.block in (none, omega (arith, is, low), omega (arith, is, high))
 
 -- the next byte's block is one that the inode's size needs
 next_needed : {D : Type 0} (image : D → Image) (v : VolumeState D) (p : ℕ) (m : ReadState) → IsReading image v p m → m.next / 1024 * 1024 < m.inode.size
@@ -53,9 +26,7 @@ pub sought : {D : Type 0} (image : D → Image) (v : VolumeState D) (p : ℕ) (m
     → got_slot m.target ≡ None → v.log.size ≡ length (seen (image v.device) v.buffers) → IsSought image v p m.target
 sought image v p m ready none size =
     let lies = ready.may.blocks (m.next / 1024) (next_needed image v p m ready) in
-    let low = lies.0 in
-    let high = lies.1 in
-    sought_at image v p (m.next / 1024) m.inode m.target ready.leads none low (omega (arith, high, size))
+    sought_at image v p (m.next / 1024) m.inode m.target ready.leads none lies.0 (omega (arith, lies.1, size))
 
 -- what the inode says leads to the next one
 lead_next : {D : Type 0} (image : D → Image) (v : VolumeState D) (p : ℕ) (m : ReadState) → MayRead (seen (image v.device) v.buffers) m.inode →
@@ -66,13 +37,13 @@ lead_next image v p m may size low form is =
     (leads_for image v p (m.next / 1024) m.inode may size low)
 
 got_at : {D : Type 0} (image : D → Image) (v : VolumeState D) (p k i : ℕ) (d : Dinode) (t : Target) → LeadsTo image v p d k t → got_slot t ≡ Some i →
-    (t ≡ target.Block (address_in (seen (image v.device) v.buffers) d k) (Some i))
+    (t ≡ Target.Block (address_in (seen (image v.device) v.buffers) d k) (Some i))
     × Holds (seen (image v.device) v.buffers) v.buffers p (address_in (seen (image v.device) v.buffers) d k) i
-got_at image v p k i d (target.Entry entry) leads got = absurd (cc got)
-got_at image v p k i d (target.Block b slot) leads got =
+got_at image v p k i d (Target.Entry entry) leads got = absurd (cc got)
+got_at image v p k i d (Target.Block b slot) leads got =
     let x = seen (image v.device) v.buffers in
     let a = address_in x d k in (
-      ap (λ n. target.Block n slot) leads.block ∙ ap (λ (o : Option ℕ). target.Block a o) got,
+      ap (λ n. Target.Block n slot) leads.block ∙ ap (λ (o : Option ℕ). Target.Block a o) got,
       subst (λ (n : ℕ). Holds x v.buffers p n i) leads.block (subst (λ (o : Option ℕ). HoldsWhereGot x v.buffers p b o) got leads.holds),
     )
 
@@ -89,7 +60,7 @@ pub record Uses {D : Type 0} (image : D → Image) (v : VolumeState D) (p i coun
 
 module _ {D N : Type 0} (disk : Ghosts D N) (v : VolumeState D) (p i count : ℕ) (bytes : List ℕ) (m : ReadState) (g : GatheredBytes)
     (w : VolumeState D) (h : GatheredBytes) (u : Uses disk.image v p i count bytes m g w h) where
-  block : (m.target ≡ target.Block (address_in (seen (disk.image v.device) v.buffers) m.inode (m.next / 1024)) (Some i))
+  block : (m.target ≡ Target.Block (address_in (seen (disk.image v.device) v.buffers) m.inode (m.next / 1024)) (Some i))
       × Holds (seen (disk.image v.device) v.buffers) v.buffers p (address_in (seen (disk.image v.device) v.buffers) m.inode (m.next / 1024)) i
   block = got_at disk.image v p (m.next / 1024) i m.inode m.target u.ready.leads u.got
 
@@ -99,16 +70,13 @@ module _ {D N : Type 0} (disk : Ghosts D N) (v : VolumeState D) (p i count : ℕ
       let d = m.inode in
       let may = u.ready.may in
       let is = u.most in
-      let inside = u.ready.inside in
-      let some = u.ready.some in
-      let fits : m.next + count ≤ d.size = omega (arith, is, inside, some) in
-      let one : m.next % 1024 + count ≤ 1024 = omega (arith, is) in
+      let fits : m.next + count ≤ d.size = omega (arith, is, u.ready.inside, u.ready.some) in
       let less : m.next % 1024 + count - m.next % 1024 ≡ count = omega arith in
       let moved : count ≡ n.next - m.next = omega (arith, next) in
       let piece : part_of bytes (m.next % 1024) (m.next % 1024 + count - m.next % 1024) ≡ part_of (bytes_in x d) m.next (n.next - m.next) =
       ap (λ k. part_of bytes (m.next % 1024) k) less
       ∙ ap (λ l. part_of l (m.next % 1024) count) (u.shown ∙ block.1.bytes)
-      ∙ sym (part_in_block x d may m.next count fits one)
+      ∙ sym (part_in_block x d may m.next count fits (omega (arith, is)))
       ∙ ap (λ k. part_of (bytes_in x d) m.next k) moved in
       let long : length (part_of (bytes_in x d) m.next (n.next - m.next)) ≡ n.next - m.next =
       length-part (bytes_in x d) m.next (n.next - m.next) (omega (arith, length-bytes x d may, fits, next)) in
@@ -125,13 +93,13 @@ module _ {D N : Type 0} (disk : Ghosts D N) (v : VolumeState D) (p i count : ℕ
 
   -- the last bytes
   pub uses_last : (n : ReadState) → n.inode ≡ m.inode → n.form ≡ m.form → n.end ≡ m.end → n.next ≡ m.next + count → n.next ≡ n.end
-      → ReadSteps disk v p m g (progress.Over tt) w n h
+      → ReadSteps disk v p m g (Progress.Over tt) w n h
   uses_last n inode form end next last = record {
     inode = inode;
     form = form;
     end = end;
     gathers = gathered n next;
-    works = works n (progress.Over tt) next tt tt;
+    works = works n (Progress.Over tt) next tt tt;
     over = sym (eq-eqb n.next n.end last);
     asleep = λ cause no. absurd (cc no);
     more = tt;
@@ -140,7 +108,7 @@ module _ {D N : Type 0} (disk : Ghosts D N) (v : VolumeState D) (p i count : ℕ
 
   -- more are behind them
   pub uses_some : (n : ReadState) → n.inode ≡ m.inode → n.form ≡ m.form → n.end ≡ m.end → n.next ≡ m.next + count → n.next ≢ n.end
-      → n.target ≡ target_for m.form m.inode (n.next / 1024) → ReadSteps disk v p m g progress.Moved w n h
+      → n.target ≡ target_for m.form m.inode (n.next / 1024) → ReadSteps disk v p m g Progress.Moved w n h
   uses_some n inode form end next more leads =
       let is = u.most in
       let inside = u.ready.inside in
@@ -150,16 +118,13 @@ module _ {D N : Type 0} (disk : Ghosts D N) (v : VolumeState D) (p i count : ℕ
       let below : n.next < m.end = omega (arith, is, some, next, end, more) in
       let long : n.inode.size ≡ m.inode.size = ap (λ (d : Dinode). d.size) inode in
       let may : MayRead y n.inode = subst (λ (x : Image). MayRead x n.inode) (sym current) (subst (λ (d : Dinode). MayRead (seen (disk.image v.device) v.buffers) d) (sym inode) u.ready.may) in
-      let log : w.log.size ≡ v.log.size = ap (λ (o : VolumeState D). o.log.size) u.releases.volume in
-      let size : w.log.size ≡ length y = log ∙ u.size ∙ ap length (sym current) in
       let same : n.form ≡ form_of y = form ∙ u.ready.form ∙ ap form_of (sym current) in
       let first : n.target ≡ target_for n.form n.inode (n.next / 1024) = leads ∙ ap (λ (f : Form). target_for f m.inode (n.next / 1024)) (sym form) ∙ ap (λ (d : Dinode). target_for n.form d (n.next / 1024)) (sym inode) in
-      let lead = lead_next disk.image w p n may size (omega (arith, below, inside, long)) same first in
+      let lead = lead_next disk.image w p n may (ap (λ (o : VolumeState D). o.log.size) u.releases.volume ∙ u.size ∙ ap length (sym current)) (omega (arith, below, inside, long)) same first in
       let few = few_at y n.inode (n.next / 1024) n.target lead.block in
       let one : steps_at m.target ≡ 1 = ap steps_at block.0 in
       let ahead = (n.end - 1) / 1024 - n.next / 1024 in
-      let low = needed_within y n.inode (n.next / 1024) may.fit (omega (arith, below, inside, long)) in
-      let enough = steps_enough (form_of y) (n.next / 1024) low in
+      let enough = steps_enough (form_of y) (n.next / 1024) (needed_within y n.inode (n.next / 1024) may.fit (omega (arith, below, inside, long))) in
       let here : steps_for (form_of y) 1 ≡ steps_for m.form 1 = ap (λ (f : Form). steps_for f 1) (sym same ∙ form) in
       let behind : steps_for n.form ahead ≡ steps_for m.form ahead = ap (λ (f : Form). steps_for f ahead) form in
       let one_more = steps_more m.form ahead in
@@ -169,7 +134,7 @@ module _ {D N : Type 0} (disk : Ghosts D N) (v : VolumeState D) (p i count : ℕ
         form = form;
         end = end;
         gathers = gathered n next;
-        works = works n progress.Moved next tt leads;
+        works = works n Progress.Moved next tt leads;
         over = sym (ne_eqb n.next n.end more);
         asleep = λ cause no. absurd (cc no);
         more = record { may = may; form = same; some = omega (arith, below, end); inside = omega (arith, inside, end, long); leads = lead };
@@ -218,18 +183,18 @@ module _ {D N : Type 0} (disk : Ghosts D N) (v w : VolumeState D) (p : ℕ) (m :
   nothing = omega arith
 
   works_then : (a : Target) → got_slot a ≡ None → Seeks disk a v p r t w → Works disk a v p m r w (record m { target = t })
-  works_then (target.Entry e) free does = (refl, does)
-  works_then (target.Block b None) free does = (refl, does)
-  works_then (target.Block b (Some i)) free does = absurd (cc free)
+  works_then (Target.Entry e) free does = (refl, does)
+  works_then (Target.Block b None) free does = (refl, does)
+  works_then (Target.Block b (Some i)) free does = absurd (cc free)
 
-  over_at : (q : Progress (Unit {0})) → q ≢ progress.Over tt → is_done q ≡ false
-  over_at progress.Moved unfinished = refl
-  over_at (progress.Sleeping why) unfinished = refl
-  over_at (progress.Over tt) unfinished = absurd (unfinished refl)
-  over_at (progress.Fault fault) unfinished = refl
+  over_at : (q : Progress (Unit {0})) → q ≢ Progress.Over tt → is_done q ≡ false
+  over_at Progress.Moved unfinished = refl
+  over_at (Progress.Sleeping why) unfinished = refl
+  over_at (Progress.Over tt) unfinished = absurd (unfinished refl)
+  over_at (Progress.Fault fault) unfinished = refl
 
   more_at : (q : Progress (Unit {0})) → r ≡ q → OnMore q (IsReading disk.image w p (record m { target = t }))
-  more_at progress.Moved is =
+  more_at Progress.Moved is =
       let current = on.current is in
       record {
         may = subst (λ (x : Image). MayRead x m.inode) (sym current) ready.may;
@@ -238,12 +203,12 @@ module _ {D N : Type 0} (disk : Ghosts D N) (v w : VolumeState D) (p : ℕ) (m :
         inside = ready.inside;
         leads = on.leads is;
       }
-  more_at (progress.Sleeping why) is =
+  more_at (Progress.Sleeping why) is =
       let stays = on.asleep why is in
       subst (λ (u : VolumeState D). IsReading disk.image u p (record m { target = t })) (sym stays.0)
       (subst (λ (o : Target). IsReading disk.image v p (record m { target = o })) (sym stays.1) ready)
-  more_at (progress.Over tt) is = tt
-  more_at (progress.Fault fault) is = tt
+  more_at (Progress.Over tt) is = tt
+  more_at (Progress.Fault fault) is = tt
 
   pub read_sought : ReadSteps disk v p m g r w (record m { target = t }) g
   read_sought = record {

@@ -1,12 +1,6 @@
 -- The routes to blocks of addresses: which of them a list has, how many there are, and where they lead when an image changes.
 use Rattle.std.proofs.Common.{◌≡◌, ◌≢◌, ℕ, suc, ◌+◌, ◌-◌, ◌≤◌, ◌⊎◌, inl, inr, Bool, true, false, cond, eqb, List, [], ◌∷◌, ◌++◌, append_assoc, append-nil, length, length-append, get_or, refl, sym, ap, subst, ◌∙◌, ⊎_elim, arith}
-use Rattle.std.proofs.lemmas.Bool.{cases_eq, eq-eqb, ne_eqb}
-use Rattle.blocks.specs.Disk.{Image}
-use Rattle.model.specs.declared.types.image.Dinode.{Dinode}
-use Rattle.in_flight.specs.Trees.{led_to, way_to}
-use Rattle.in_flight.specs.Lemmas.Ways.{led_none, length-way_to}
-use Rattle.blockmap.specs.Lemmas.Branches.{KeepsBehind, led_behind}
-use Rattle.blockmap.specs.declared.branch.Branch.{Branch}
+use Rattle.inodes.specs.Common.{Branch, cases_eq, Dinode, eq-eqb, Image, KeepsBehind, led_behind, led_none, led_to, length-way_to, ne_eqb, way_to}
 use Rattle.inodes.specs.Routes.{Route, node_by, routes_beyond, routes_on, routes_past, routes_to}
 
 -- a list has it
@@ -183,9 +177,8 @@ module _ (x y : Image) (d e : Dinode) (c : Branch) (keeps : KeepsTo x y d e c) w
   leads_within r within some =
       let a = get_or d.addrs c.index 0 in
       let here : node_by x d r ≡ led_to x r.entries a = ap (λ (j : ℕ). led_to x r.entries (get_or d.addrs j 0)) within.0 in
-      let there : node_by y e r ≡ led_to y r.entries (get_or e.addrs c.index 0) = ap (λ (j : ℕ). led_to y r.entries (get_or e.addrs j 0)) within.0 in
       let address : a ≢ 0 = λ none. some (here ∙ ap (led_to x r.entries) none ∙ led_none x r.entries) in
-      there ∙ ap (led_to y r.entries) (keeps.address address)
+      (ap (λ (j : ℕ). led_to y r.entries (get_or e.addrs j 0)) within.0) ∙ ap (led_to y r.entries) (keeps.address address)
       ∙ led_behind x y c.depth r.entries a (node_by x d r) within.1 keeps.behind (sym here) some
 
   pub to_leads : (r : Route) → IsRouteIn r (routes_to c) → LeadsOn x y d e r

@@ -1,30 +1,8 @@
 -- A store makes a step of a creation's search, and what its contract speaks of is the same store.
 use Rattle.std.proofs.Common.{◌≡◌, ◌<◌, ◌≤◌, ℕ, leb, length, List, refl, sym, ◌∙◌, ap, subst, arith, Option, Some, None}
+use Rattle.inodes.specs.Store.{FitsFiles}
 use Rattle.std.specs.Prelude.{IfNone}
-use Rattle.std.proofs.lemmas.Bool.{leb-true}
-use Rattle.std.proofs.lemmas.List.{get_or-set_same}
-use Rattle.blocks.specs.Disk.{IsImage, Image}
-use Rattle.blocks.specs.declared.disk.Disk.{Ghosts}
-use Rattle.wal.specs.declared.types.DeviceFault.{DeviceFault}
-use Rattle.model.specs.declared.types.operations.Op.{Op}
-use Rattle.model.specs.declared.types.operations.Op.TheVariants.{Create}
-use Rattle.model.specs.Lemmas.Log.{both_of}
-use Rattle.wal.specs.Volume.{fault_of_task, VolumeState, faults_after}
-use Rattle.wal.specs.Joint.{Joint}
-use Rattle.wal.specs.Machine.{LogState, SameGroups}
-use Rattle.model.specs.declared.types.progress.Progress.TheVariants as machine
-use Rattle.model.specs.declared.types.progress.Progress.{Progress}
-use Rattle.inodes.specs.declared.tasks.Stage.{Stage}
-use Rattle.inodes.specs.declared.tasks.Stage.TheVariants as stage
-use Rattle.inodes.specs.Goes.{Goes, GoesFrom, progress_of_search, shown_of}
-use Rattle.inodes.specs.Grips.{Grip, TableIs}
-use Rattle.inodes.specs.Holding.{claims_of}
-use Rattle.inodes.specs.Ialloc.{SearchState, SearchSteps, MayStep}
-use Rattle.inodes.specs.Looks.{AreLooking}
-use Rattle.inodes.specs.Places.{block_at_place, grips_of, steps_left}
-use Rattle.inodes.specs.Steps.{Steps, IsHeldByAnother, LeavesLate}
-use Rattle.inodes.specs.Store.{StoreState, IsStore, IsSearching, Agrees, FitsFiles, LoggedAt, current_of}
-use Rattle.inodes.specs.Tasks.{TaskState, task, no_task}
+use Rattle.inodes.specs.Common.{Agrees, AreLooking, block_at_place, both_of, claims_of, Create, current_of, DeviceFault, fault_of_task, faults_after, get_or-set_same, Ghosts, Goes, GoesFrom, Grip, grips_of, Image, IsHeldByAnother, IsImage, IsSearching, IsStore, Joint, LeavesLate, leb-true, LoggedAt, LogState, MayStep, no_task, Op, Progress, progress_of_search, SameGroups, SearchState, SearchSteps, shown_of, Stage, Steps, steps_left, StoreState, TableIs, task, TaskState, VolumeState}
 use Rattle.inodes.specs.Lemmas.Faults.{where_none}
 use Rattle.inodes.specs.Lemmas.Grips.{kept_by_image}
 use Rattle.inodes.proofs.Gripping.{grips_same, grips_set}
@@ -32,7 +10,7 @@ use Rattle.inodes.proofs.Looking.{IsNow, Stepped, steps_stepped, store_stepped}
 use Rattle.inodes.proofs.LooksKept.{KeepsUsed}
 use Rattle.inodes.proofs.Searching.{ready_of, search as searching}
 use Rattle.inodes.proofs.StoreKeeps.{geometry_then, task_then}
-use Rattle.inodes.proofs.StoreSteps.{apart_then, asleep_then, claims_then, fault_then, falls_then, files_then, goes_now, groups_after, held_then, keeps_now, looks_at_then, marks_now, no_inode_held, place_then, same_op, set_then, store_then, unclaimed_then, ungripped_then}
+use Rattle.inodes.proofs.StoreSteps.{apart_then, asleep_then, claims_then, fault_then, falls_then, files_then, goes_now, groups_after, held_then, keeps_now, looks_at_then, marks_now, no_inode_held, stage_then, same_op, set_then, store_then, unclaimed_then, ungripped_then}
 use Rattle.inodes.proofs.Taking.{none_of_zero}
 
 -- the files that a store stands for
@@ -42,7 +20,7 @@ files_fit image s looks = looks.files.1
 
 -- what a step of process p's search is asked of the store `now`, which is s
 module _ {D N : Type 0} (disk : Ghosts D N) (s now : StoreState D) (p : ℕ) (m : SearchState) (is : IsStore disk.image s) (view : s ≡ now)
-    (no_fault : now.volume.fault ≡ None) (within : p < length now.tasks) (at : (task now.tasks p).place ≡ stage.Creating m)
+    (no_fault : now.volume.fault ≡ None) (within : p < length now.tasks) (at : (task now.tasks p).stage ≡ Stage.Creating m)
     (known : IfNone s.volume.fault (Joint (disk.image s.volume.device) s.volume.buffers s.volume.log)) where
   well : s.volume.fault ≡ None
   well = subst (λ (o : StoreState D). o.volume.fault ≡ None) (sym view) no_fault
@@ -50,8 +28,8 @@ module _ {D N : Type 0} (disk : Ghosts D N) (s now : StoreState D) (p : ℕ) (m 
   lt : p < length s.tasks
   lt = subst (λ (o : StoreState D). p < length o.tasks) (sym view) within
 
-  stood : (task s.tasks p).place ≡ stage.Creating m
-  stood = subst (λ (o : StoreState D). (task o.tasks p).place ≡ stage.Creating m) (sym view) at
+  stood : (task s.tasks p).stage ≡ Stage.Creating m
+  stood = subst (λ (o : StoreState D). (task o.tasks p).stage ≡ Stage.Creating m) (sym view) at
 
   joint : Joint (disk.image s.volume.device) s.volume.buffers s.volume.log
   joint = where_none s.volume.fault well known
@@ -71,7 +49,7 @@ module _ {D N : Type 0} (disk : Ghosts D N) (s now : StoreState D) (p : ℕ) (m 
     t = store_then s u p new r
 
     abbrev its : TaskState
-    its = record (task s.tasks p) { place = place_then r m new }
+    its = record (task s.tasks p) { stage = stage_then r m new }
 
     mine : IsSearching s.volume.buffers s.volume.log s.table.inode_count p (task s.tasks p).op m
     mine = searching s.volume.buffers s.volume.buffers s.volume.log s.table.inode_count p s.tasks m agrees lt stood
@@ -84,10 +62,7 @@ module _ {D N : Type 0} (disk : Ghosts D N) (s now : StoreState D) (p : ℕ) (m 
 
     pid : p < length s.volume.log.used
     pid =
-        let many = is.few in
-        let room = joint.log.pids in
-        let under = lt in
-        omega (arith, under, many, room)
+        omega (arith, lt, is.few, joint.log.pids)
 
     module _ (op : Op) (is_op : (task s.tasks p).op ≡ Some op) where
       claimed_same : (j : ℕ) → claims_of t.tasks j ≡ claims_of s.tasks j
@@ -97,11 +72,11 @@ module _ {D N : Type 0} (disk : Ghosts D N) (s now : StoreState D) (p : ℕ) (m 
       keeps = keeps_now disk.image s t p m new op r agrees is.numbers lt stood is_op steps.current claimed_same is.geometry filled few m.slot looks.files.0 (files_fit disk.image s looks) steps.goes
 
       -- a search is no write
-      logged_by : (q : Progress (Option ℕ)) → LoggedAt (current_of disk.image u) u.log p (place_then q m new)
-      logged_by machine.Moved = tt
-      logged_by (machine.Sleeping cause) = tt
-      logged_by (machine.Over found) = tt
-      logged_by (machine.Fault fault) = tt
+      logged_by : (q : Progress (Option ℕ)) → LoggedAt (current_of disk.image u) u.log p (stage_then q m new)
+      logged_by Progress.Moved = tt
+      logged_by (Progress.Sleeping cause) = tt
+      logged_by (Progress.Over found) = tt
+      logged_by (Progress.Fault fault) = tt
 
       here : fault_of_task (progress_of_search r) ≡ None → IsNow disk.image s t p its
       here fine =
@@ -158,11 +133,11 @@ module _ {D N : Type 0} (disk : Ghosts D N) (s now : StoreState D) (p : ℕ) (m 
             inode = λ waits. absurd (no_inode_held m.slot s.volume.buffers u.buffers p m.block new.slot r steps.locks waits);
           })
           (subst (λ (q : Op). LeavesLate s p q (progress_of_search r)) (sym (same_op disk.image s t p m new op r agrees is.numbers lt stood is_op steps.current claimed_same)) (apart_then disk.image s p m new s.volume.buffers m.slot r looks is.numbers steps.goes))
-          (λ made unfinished. subst (λ (a : Stage). steps_left (current_of disk.image u) (place_then r m new) s.table.inode_count < steps_left (current_of disk.image s.volume) a s.table.inode_count) (sym stood)
+          (λ made unfinished. subst (λ (a : Stage). steps_left (current_of disk.image u) (stage_then r m new) s.table.inode_count < steps_left (current_of disk.image s.volume) a s.table.inode_count) (sym stood)
           (falls_then s.table.inode_count m new (current_of disk.image s.volume) (current_of disk.image u) s.volume.buffers r mine.count mine.last steps.goes made))
         where
-          placed : (task t.tasks p).place ≡ place_then r m new
-          placed = ap (λ (ts : List TaskState). (task ts p).place) (set_then s.tasks p m new r stood) ∙ ap (λ (o : TaskState). o.place) (get_or-set_same s.tasks p its no_task lt)
+          placed : (task t.tasks p).stage ≡ stage_then r m new
+          placed = ap (λ (ts : List TaskState). (task ts p).stage) (set_then s.tasks p m new r stood) ∙ ap (λ (o : TaskState). o.stage) (get_or-set_same s.tasks p its no_task lt)
 
     pub store_now : IsStore disk.image t
     store_now = store_searched (Create m.kind) mine.op

@@ -1,18 +1,8 @@
 -- What a step of one process leaves to those that have locked other numbers.
 use Rattle.std.proofs.Common.{◌≡◌, ◌≢◌, ℕ, List, set, refl, ◌∙◌, ap, subst, Option, Some, None}
 use Rattle.std.specs.Prelude.{IsTrue}
-use Rattle.blocks.specs.Disk.{Image}
-use Rattle.model.specs.Journal.{is_number}
-use Rattle.model.specs.Layout.{inode_count_of, inode_of}
-use Rattle.in_flight.specs.Held.{Claim}
-use Rattle.inodes.specs.Grips.{locked_grip}
-use Rattle.inodes.specs.Holding.{claims_of, claim_of}
-use Rattle.inodes.specs.Looks.{AreLooking}
-use Rattle.inodes.specs.Places.{grip_of}
-use Rattle.inodes.specs.Steps.{LeavesShares, SameShare}
-use Rattle.inodes.specs.Store.{StoreState, current_of}
-use Rattle.inodes.specs.Table.{TableState}
-use Rattle.inodes.specs.Tasks.{TaskState, task}
+use Rattle.inodes.specs.Common.{AreLooking, Claim, claim_of, claims_of, current_of, grip_of, Image, inode_count_of, is_number, LeavesShares, locked_grip, SameShare, StoreState, TableState, task, TaskState}
+use Rattle.model.specs.Layout.{inode_of}
 use Rattle.inodes.specs.Lemmas.Holding.{claim_stays}
 use Rattle.inodes.proofs.Gripping.{grip_is}
 use Rattle.inodes.proofs.LooksKept.{KeepsUsed}

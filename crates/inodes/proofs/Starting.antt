@@ -1,23 +1,7 @@
 -- A reading begins, or has all its bytes at once.
 use Rattle.std.proofs.Common.{◌≡◌, ℕ, ◌≤◌, ◌+◌, ◌-◌, ◌/◌, Bool, true, false, eqb, leb, min, [], length, refl, sym, ◌∙◌, ap, arith, Some, None}
-use Rattle.std.proofs.lemmas.Bool.{eqb-true, leb-true}
-use Rattle.blocks.specs.Disk.{Image}
-use Rattle.model.specs.declared.types.image.Dinode.{Dinode}
-use Rattle.model.specs.declared.types.image.Form.{Form}
-use Rattle.model.specs.Files.{bytes_in}
-use Rattle.model.specs.Gathered.{GatheredBytes}
-use Rattle.model.specs.Layout.{form_of}
-use Rattle.model.specs.Operations.{part_of}
-use Rattle.wal.specs.Joint.{seen}
-use Rattle.wal.specs.Volume.{VolumeState}
-use Rattle.blockmap.specs.Lemmas.Reading.{length-bytes, part_past}
-use Rattle.blockmap.specs.Lemmas.Branches.{branch_shallow}
-use Rattle.blockmap.specs.Lemmas.Targets.{few_first, steps_most}
-use Rattle.blockmap.specs.Reading.{MayRead}
-use Rattle.blockmap.specs.Target.{steps_at, target_for}
+use Rattle.inodes.specs.Common.{branch_shallow, bytes_in, Dinode, eqb-true, few_first, first_read, Form, form_of, GatheredBytes, HasRead, Image, leb-true, length-bytes, MayRead, part_of, part_past, reads_left, ReadState, seen, steps_at, steps_most, target_for, VolumeState}
 use Rattle.inodes.specs.Lemmas.ReadRuns.{Begins, begins}
-use Rattle.inodes.specs.Looks.{HasRead}
-use Rattle.inodes.specs.Readi.{ReadState, first_read, reads_left}
 use Rattle.inodes.proofs.ReadLemmas.{begun_reads}
 
 -- a reading of some bytes begins
@@ -59,10 +43,5 @@ has_none x form d off count may first = by_test (leb d.size off) (eqb count 0) r
 pub few_reads : (form : Form) (d : Dinode) (off count : ℕ) (m : ReadState) → count ≤ 3072 → first_read form d off count ≡ Some m → reads_left m ≤ 24
 few_reads form d off count m few first =
     let b : Begins form d off count m = begins form d off count m first in
-    let next = b.next in
-    let end = b.end in
-    let at = few_first form d (off / 1024) in
-    let shallow = branch_shallow form (off / 1024) in
-    let same = ap steps_at b.target in
     let ahead = steps_most m.form ((m.end - 1) / 1024 - m.next / 1024) in
-    omega (arith, next, end, at, shallow, same, ahead, few)
+    omega (arith, b.next, b.end, (few_first form d (off / 1024)), (branch_shallow form (off / 1024)), (ap steps_at b.target), ahead, few)

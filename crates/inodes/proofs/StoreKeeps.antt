@@ -1,46 +1,18 @@
 -- Each call of a store keeps what is true of every store.
 use Rattle.std.proofs.Common.{◌≡◌, ◌≢◌, ◌⊎◌, inl, inr, ℕ, ◌<◌, ◌≤◌, Bool, true, false, List, length, set, replicate, refl, sym, ◌∙◌, ap, subst, arith, ⊎_elim, Option, Some, None}
 use Rattle.std.specs.Prelude.{IsTrue}
-use Rattle.std.proofs.lemmas.Bool.{cases_eq, cases_lt}
-use Rattle.std.proofs.lemmas.List.{get_or_past}
-use Rattle.blocks.specs.Disk.{Image, IsImage, block_at}
-use Rattle.blocks.specs.declared.disk.Disk.{Ghosts}
-use Rattle.model.specs.declared.types.operations.Op.{Op}
-use Rattle.model.specs.declared.types.operations.Op.TheVariants.{Create, Write, Read, Trunc, Remove, Stat}
-use Rattle.model.specs.declared.types.operations.Why.{Why}
-use Rattle.model.specs.Codec.{new_inode, with_inode}
-use Rattle.model.specs.Fields.{u32_at}
-use Rattle.model.specs.Layout.{super_of, super_in, inode_block, inode_count_of, is_lawful_super, is_known_magic}
-use Rattle.model.specs.Journal.{is_number}
-use Rattle.model.specs.Soundness.{IsLawfulGeometry}
-use Rattle.in_flight.specs.Lemmas.Claims.{claims}
-use Rattle.bcache.specs.Buffers.{Buffers, fresh_buffers}
+use Rattle.inodes.specs.Common.{Agrees, at_slot, begun, begun_grows, block_at, Buffers, CanBegin, cases_eq, cases_lt, claim_by, claims, claims_of, Create, current_after, current_of, ended_grows, fault_in, first_stage, fresh_buffers, get_or_past, Ghosts, GrowsHomes, HasSlot, HaveLogged, Image, inode_block, inode_count_of, is_among, is_known_magic, is_lawful_super, is_number, is_quiet, IsFree, IsImage, IsLawfulGeometry, IsLogAt, LeavesLocks, log_after, LoggedAt, LogState, new_inode, no_task, none_locked, noted_grows, Op, Progress, Read, Remove, SearchGoes, SearchLocks, SearchState, SearchSteps, Stage, Stands, Stat, stepped_at, super_in, super_of, task, TaskState, Trunc, u32_at, used_begun, used_by, used_ended, used_first, used_noted, VolumeState, Why, with_inode, Write}
+use Rattle.wal.specs.Machine.{ended}
 use Rattle.wal.specs.declared.types.Commit.{Commit}
-use Rattle.wal.specs.declared.types.Commit.TheVariants as commit
-use Rattle.wal.specs.declared.types.Part.TheVariants as part
-use Rattle.wal.specs.Held.{LeavesLocks}
-use Rattle.wal.specs.Joint.{stepped_at}
-use Rattle.wal.specs.Machine.{LogState, IsLogAt, is_among, is_quiet, used_by, begun, ended}
-use Rattle.wal.specs.Volume.{VolumeState}
-use Rattle.wal.specs.Lemmas.Held.{none_locked}
+use Rattle.wal.specs.declared.types.Part.{Part}
 use Rattle.wal.specs.Lemmas.Log.{is_open, quiet_of}
-use Rattle.wal.specs.Lemmas.Rooms.{GrowsHomes, begun_grows, ended_grows, noted_grows, used_begun, used_noted, used_ended, used_first}
-use Rattle.inodes.specs.Ialloc.{SearchState, SearchSteps, SearchGoes, SearchLocks, IsFree, current_after, log_after, fault_in, at_slot}
-use Rattle.model.specs.declared.types.progress.Progress.{Progress}
-use Rattle.model.specs.declared.types.progress.Progress.TheVariants as search
-use Rattle.inodes.specs.declared.tasks.Stage.{Stage}
-use Rattle.inodes.specs.declared.tasks.Stage.TheVariants as stage
-use Rattle.inodes.specs.Tasks.{TaskState, task, no_task}
-use Rattle.inodes.specs.Holding.{claim_by, claims_of}
 use Rattle.inodes.specs.Lemmas.Holding.{claim_stays}
-use Rattle.inodes.specs.Places.{HasSlot}
-use Rattle.inodes.specs.Store.{Agrees, HaveLogged, LoggedAt, Stands, CanBegin, first_place, current_of}
 use Rattle.inodes.proofs.Agreeing.{TaskIsNow, agrees_now, agrees_still, logged_still, open_still, open_write_still}
 use Rattle.inodes.proofs.LooksKept.{none_at}
 use Rattle.inodes.proofs.WriteLogged.{logged_alike, logged_set}
 use Rattle.inodes.proofs.Searching.{task_got, task_next, task_over, task_waits}
 use Rattle.inodes.proofs.Frames.{within_image}
-use Rattle.inodes.proofs.StoreSteps.{place_then}
+use Rattle.inodes.proofs.StoreSteps.{stage_then}
 
 -- an image with the same superblock and size has the same geometry
 pub geometry_kept : (x y : Image) → length y ≡ length x → block_at y 1 ≡ block_at x 1 → IsLawfulGeometry x → IsLawfulGeometry y
@@ -54,40 +26,40 @@ count_kept x y same = ap (λ (b : List ℕ). (super_in b).ninodes) same
 
 -- process p's task goes on to a stage
 abbrev TaskGoes : Buffers → Buffers → LogState → LogState → ℕ → ℕ → List TaskState → Stage → Type 0
-TaskGoes c d l k n p ts a = TaskIsNow c d l k n p ts (record (task ts p) { place = a })
+TaskGoes c d l k n p ts a = TaskIsNow c d l k n p ts (record (task ts p) { stage = a })
 
 -- where a step of a search that met no fault left its task
-pub task_then : {D N : Type 0} (disk : Ghosts D N) (v u : VolumeState D) (n p : ℕ) (ts : List TaskState) (m new : SearchState) (r : Progress (Option ℕ)) → Agrees v.buffers v.log n ts → p < length ts → (task ts p).place ≡ stage.Creating m
-    → SearchSteps disk m.slot v u p m new r → fault_in r ≡ None → TaskIsNow v.buffers u.buffers v.log u.log n p ts (record (task ts p) { place = place_then r m new })
+pub task_then : {D N : Type 0} (disk : Ghosts D N) (v u : VolumeState D) (n p : ℕ) (ts : List TaskState) (m new : SearchState) (r : Progress (Option ℕ)) → Agrees v.buffers v.log n ts → p < length ts → (task ts p).stage ≡ Stage.Creating m
+    → SearchSteps disk m.slot v u p m new r → fault_in r ≡ None → TaskIsNow v.buffers u.buffers v.log u.log n p ts (record (task ts p) { stage = stage_then r m new })
 task_then {D} disk v u n p ts m new r agrees lt stood steps well = by_answer r steps.goes steps.locks steps.log steps.asleep well
   where
-    got : (o : Option ℕ) → m.slot ≡ o → SearchGoes o (current_of disk.image v) v.buffers m search.Moved new → SearchLocks o search.Moved v.buffers u.buffers p m.block new.slot → u.log ≡ v.log → TaskGoes v.buffers u.buffers v.log u.log n p ts (stage.Creating new)
+    got : (o : Option ℕ) → m.slot ≡ o → SearchGoes o (current_of disk.image v) v.buffers m Progress.Moved new → SearchLocks o Progress.Moved v.buffers u.buffers p m.block new.slot → u.log ≡ v.log → TaskGoes v.buffers u.buffers v.log u.log n p ts (Stage.Creating new)
     got None none goes locks log =
         let here : goes.0 ≡ locks.0 = let same : Some goes.0 ≡ Some locks.0 = sym (ap (λ (k : SearchState). k.slot) goes.2) ∙ locks.1 in cc same in
         let is : new ≡ at_slot m locks.0 = goes.2 ∙ ap (at_slot m) here in
-        subst (λ (l : LogState). TaskGoes v.buffers u.buffers v.log l n p ts (stage.Creating new)) (sym log)
-        (subst (λ (k : SearchState). TaskGoes v.buffers u.buffers v.log v.log n p ts (stage.Creating k)) (sym is) (task_got v.buffers u.buffers v.log n p ts m agrees lt stood locks.0 none locks.2))
+        subst (λ (l : LogState). TaskGoes v.buffers u.buffers v.log l n p ts (Stage.Creating new)) (sym log)
+        (subst (λ (k : SearchState). TaskGoes v.buffers u.buffers v.log v.log n p ts (Stage.Creating k)) (sym is) (task_got v.buffers u.buffers v.log n p ts m agrees lt stood locks.0 none locks.2))
     got (Some i) slot goes gives log =
-        subst (λ (l : LogState). TaskGoes v.buffers u.buffers v.log l n p ts (stage.Creating new)) (sym log)
-        (subst (λ (k : SearchState). TaskGoes v.buffers u.buffers v.log v.log n p ts (stage.Creating k)) (sym goes.0) (task_next v.buffers u.buffers v.log n p ts m agrees lt stood i slot gives goes.1))
+        subst (λ (l : LogState). TaskGoes v.buffers u.buffers v.log l n p ts (Stage.Creating new)) (sym log)
+        (subst (λ (k : SearchState). TaskGoes v.buffers u.buffers v.log v.log n p ts (Stage.Creating k)) (sym goes.0) (task_next v.buffers u.buffers v.log n p ts m agrees lt stood i slot gives goes.1))
 
-    over : (made : Option ℕ) (o : Option ℕ) → m.slot ≡ o → SearchLocks o (search.Over made) v.buffers u.buffers p m.block new.slot → GrowsHomes v.log u.log → ((q : ℕ) → q ≢ p → used_by u.log q ≡ used_by v.log q) → TaskGoes v.buffers u.buffers v.log u.log n p ts stage.Nowhere
+    over : (made : Option ℕ) (o : Option ℕ) → m.slot ≡ o → SearchLocks o (Progress.Over made) v.buffers u.buffers p m.block new.slot → GrowsHomes v.log u.log → ((q : ℕ) → q ≢ p → used_by u.log q ≡ used_by v.log q) → TaskGoes v.buffers u.buffers v.log u.log n p ts Stage.Nowhere
     over made None none locks grows used = absurd locks
     over made (Some i) slot gives grows used = task_over v.buffers u.buffers v.log n p ts m agrees lt stood i slot gives u.log grows used
 
     by_answer : (r : Progress (Option ℕ)) → SearchGoes m.slot (current_of disk.image v) v.buffers m r new → SearchLocks m.slot r v.buffers u.buffers p m.block new.slot → u.log ≡ log_after v.log p m.block r
-        → ((cause : Why) → r ≡ search.Sleeping cause → u ≡ v) → fault_in r ≡ None → TaskGoes v.buffers u.buffers v.log u.log n p ts (place_then r m new)
-    by_answer search.Moved goes locks log asleep well = got m.slot refl goes locks log
-    by_answer (search.Sleeping cause) goes locks log asleep well =
-        subst (λ (w : VolumeState D). TaskGoes v.buffers w.buffers v.log w.log n p ts (stage.Creating m)) (sym (asleep cause refl)) (task_waits v.buffers v.buffers v.log n p ts m agrees lt stood)
-    by_answer (search.Over None) goes locks log asleep well = over None m.slot refl locks (λ h among. ap (λ (l : LogState). is_among h l.homes) log ∙ among) (λ q apart. ap (λ (l : LogState). used_by l q) log)
-    by_answer (search.Over (Some i)) goes locks log asleep well =
+        → ((cause : Why) → r ≡ Progress.Sleeping cause → u ≡ v) → fault_in r ≡ None → TaskGoes v.buffers u.buffers v.log u.log n p ts (stage_then r m new)
+    by_answer Progress.Moved goes locks log asleep well = got m.slot refl goes locks log
+    by_answer (Progress.Sleeping cause) goes locks log asleep well =
+        subst (λ (w : VolumeState D). TaskGoes v.buffers w.buffers v.log w.log n p ts (Stage.Creating m)) (sym (asleep cause refl)) (task_waits v.buffers v.buffers v.log n p ts m agrees lt stood)
+    by_answer (Progress.Over None) goes locks log asleep well = over None m.slot refl locks (λ h among. ap (λ (l : LogState). is_among h l.homes) log ∙ among) (λ q apart. ap (λ (l : LogState). used_by l q) log)
+    by_answer (Progress.Over (Some i)) goes locks log asleep well =
         over (Some i) m.slot refl locks (λ h among. ap (λ (l : LogState). is_among h l.homes) log ∙ noted_grows v.log p m.block h among) (λ q apart. ap (λ (l : LogState). used_by l q) log ∙ used_noted v.log p q m.block apart)
-    by_answer (search.Fault fault) goes locks log asleep well = absurd (cc well)
+    by_answer (Progress.Fault fault) goes locks log asleep well = absurd (cc well)
 
 -- a task begins
-pub agrees_begun : (c : Buffers) (l : LogState) (n p : ℕ) (op : Op) (ts : List TaskState) → Agrees c l n ts → p < length ts → p < length l.used → (task ts p).place ≡ stage.Nowhere → CanBegin n op → Agrees c (begun l p) n (set ts p (record { op = Some op; place = first_place op n; gathered = None }))
-agrees_begun c l n p op ts agrees lt pid stood can = agrees_now c c l (begun l p) n p ts (record { op = Some op; place = first_place op n; gathered = None }) (record {
+pub agrees_begun : (c : Buffers) (l : LogState) (n p : ℕ) (op : Op) (ts : List TaskState) → Agrees c l n ts → p < length ts → p < length l.used → (task ts p).stage ≡ Stage.Nowhere → CanBegin n op → Agrees c (begun l p) n (set ts p (record { op = Some op; stage = first_stage op n; gathered = None }))
+agrees_begun c l n p op ts agrees lt pid stood can = agrees_now c c l (begun l p) n p ts (record { op = Some op; stage = first_stage op n; gathered = None }) (record {
   agrees = agrees;
   inside = lt;
   others = record { holds = λ q b i apart has. has; locks = λ q b i apart has. has; used = λ q apart. used_begun l p q apart; among = begun_grows l p };
@@ -95,7 +67,7 @@ agrees_begun c l n p op ts agrees lt pid stood can = agrees_now c c l (begun l p
   locks = λ b i has. let no : None ≡ Some i = subst (λ (a : Stage). HasSlot a i) stood (agrees.holders p b i has) in absurd (cc no);
 })
   where
-    begins : (op : Op) → CanBegin n op → Stands c (begun l p) n p (Some op) (first_place op n)
+    begins : (op : Op) → CanBegin n op → Stands c (begun l p) n p (Some op) (first_stage op n)
     begins (Create kind) can = record { op = refl; used = used_first l p pid; count = refl; kind = can; behind = omega arith; last = omega arith; holds = tt }
     begins (Write i off bytes) can = (tt, used_first l p pid)
     begins (Read i off m) can = absurd can
@@ -104,10 +76,10 @@ agrees_begun c l n p op ts agrees lt pid stood can = agrees_now c c l (begun l p
     begins (Stat i) can = absurd can
 
 -- which holds nothing yet
-pub begun_claims : (ts : List TaskState) (p : ℕ) (op : Op) (n : ℕ) → (task ts p).place ≡ stage.Nowhere → (j : ℕ) → claims_of (set ts p (record { op = Some op; place = first_place op n; gathered = None })) j ≡ claims_of ts j
-begun_claims ts p op n stood j = claim_stays ts p j (record { op = Some op; place = first_place op n; gathered = None }) (by_op op ∙ sym (ap (λ (a : Stage). claim_by (task ts p).op a j) stood))
+pub begun_claims : (ts : List TaskState) (p : ℕ) (op : Op) (n : ℕ) → (task ts p).stage ≡ Stage.Nowhere → (j : ℕ) → claims_of (set ts p (record { op = Some op; stage = first_stage op n; gathered = None })) j ≡ claims_of ts j
+begun_claims ts p op n stood j = claim_stays ts p j (record { op = Some op; stage = first_stage op n; gathered = None }) (by_op op ∙ sym (ap (λ (a : Stage). claim_by (task ts p).op a j) stood))
   where
-    by_op : (op : Op) → claim_by (Some op) (first_place op n) j ≡ None
+    by_op : (op : Op) → claim_by (Some op) (first_stage op n) j ≡ None
     by_op (Create kind) = refl
     by_op (Write i off bytes) = refl
     by_op (Read i off m) = refl
@@ -116,36 +88,36 @@ begun_claims ts p op n stood j = claim_stays ts p j (record { op = Some op; plac
     by_op (Stat i) = refl
 
 -- an operation ends whose task is over
-pub agrees_ended : (c : Buffers) (l : LogState) (n p : ℕ) (ts : List TaskState) → Agrees c l n ts → (task ts p).place ≡ stage.Nowhere → Agrees c (ended l p) n ts
+pub agrees_ended : (c : Buffers) (l : LogState) (n p : ℕ) (ts : List TaskState) → Agrees c l n ts → (task ts p).stage ≡ Stage.Nowhere → Agrees c (ended l p) n ts
 agrees_ended c l n p ts agrees stood = record {
   stands = λ q. ⊎_elim
-      (λ (same : q ≡ p). subst (λ (r : ℕ). Stands c (ended l p) n r (task ts r).op (task ts r).place) (sym same) (subst (λ (a : Stage). Stands c (ended l p) n p (task ts p).op a) (sym stood) tt))
-      (λ (apart : q ≢ p). by_place q apart (task ts q) (task ts q).place (agrees.stands q))
+      (λ (same : q ≡ p). subst (λ (r : ℕ). Stands c (ended l p) n r (task ts r).op (task ts r).stage) (sym same) (subst (λ (a : Stage). Stands c (ended l p) n p (task ts p).op a) (sym stood) tt))
+      (λ (apart : q ≢ p). by_place q apart (task ts q) (task ts q).stage (agrees.stands q))
       (cases_eq q p);
   holders = agrees.holders;
 }
   where
     by_place : (q : ℕ) → q ≢ p → (t : TaskState) (a : Stage) → Stands c l n q t.op a → Stands c (ended l p) n q t.op a
-    by_place q apart t stage.Nowhere s = tt
-    by_place q apart t (stage.Creating m) s = record { op = s.op; used = used_ended l p q apart ∙ s.used; count = s.count; kind = s.kind; behind = s.behind; last = s.last; holds = s.holds }
-    by_place q apart t (stage.Taking m) s = (s.0, open_still l (ended l p) q t.op (used_ended l p q apart) s.1)
-    by_place q apart t (stage.Reading k m) s = s
-    by_place q apart t (stage.Delivering k) s = s
-    by_place q apart t (stage.Truncating k m) s = record { logged = logged_still l (ended l p) q m.machine.bitmap (used_ended l p q apart) (λ one has. ended_grows l p m.machine.bitmap has) s.logged; holds = s.holds }
-    by_place q apart t (stage.Writing k m) s = record { logged = open_write_still l (ended l p) q (used_ended l p q apart) s.logged; kept = s.kept; used = s.used }
-    by_place q apart t (stage.Leaving k) s = s
+    by_place q apart t Stage.Nowhere s = tt
+    by_place q apart t (Stage.Creating m) s = record { op = s.op; used = used_ended l p q apart ∙ s.used; count = s.count; kind = s.kind; behind = s.behind; last = s.last; holds = s.holds }
+    by_place q apart t (Stage.Taking m) s = (s.0, open_still l (ended l p) q t.op (used_ended l p q apart) s.1)
+    by_place q apart t (Stage.Reading k m) s = s
+    by_place q apart t (Stage.Delivering k) s = s
+    by_place q apart t (Stage.Truncating k m) s = record { logged = logged_still l (ended l p) q m.machine.bitmap (used_ended l p q apart) (λ one has. ended_grows l p m.machine.bitmap has) s.logged; holds = s.holds }
+    by_place q apart t (Stage.Writing k m) s = record { logged = open_write_still l (ended l p) q (used_ended l p q apart) s.logged; kept = s.kept; used = s.used }
+    by_place q apart t (Stage.Leaving k) s = s
 
 -- a step of a commit
 used_stepped : (h : Bool) (k : Commit) (l : LogState) (q : ℕ) → used_by (stepped_at h k l) q ≡ used_by l q
-used_stepped h commit.Quiet l q = refl
-used_stepped h (commit.Logging j) l q = refl
-used_stepped h commit.Heading l q = refl
-used_stepped h (commit.Homing j) l q = refl
-used_stepped h commit.Clearing l q = refl
-used_stepped h (commit.Syncing part.Log) l q = refl
-used_stepped h (commit.Syncing part.Header) l q = refl
-used_stepped h (commit.Syncing part.Homes) l q = refl
-used_stepped h (commit.Syncing part.Clear) l q = refl
+used_stepped h Commit.Quiet l q = refl
+used_stepped h (Commit.Logging j) l q = refl
+used_stepped h Commit.Heading l q = refl
+used_stepped h (Commit.Homing j) l q = refl
+used_stepped h Commit.Clearing l q = refl
+used_stepped h (Commit.Syncing Part.Log) l q = refl
+used_stepped h (Commit.Syncing Part.Header) l q = refl
+used_stepped h (Commit.Syncing Part.Homes) l q = refl
+used_stepped h (Commit.Syncing Part.Clear) l q = refl
 
 pub used_committed : (h : Bool) (l m : LogState) → (m ≡ stepped_at h l.commit l) ⊎ (m ≡ l) → (q : ℕ) → used_by m q ≡ used_by l q
 used_committed h l m (inl made) q = ap (λ (k : LogState). used_by k q) made ∙ used_stepped h l.commit l q
@@ -165,11 +137,11 @@ pub agrees_committed : (h : Bool) (c d : Buffers) (l m : LogState) (n : ℕ) (ts
 agrees_committed h c d l m n ts made leaves log busy agrees = agrees_still c d l m n ts leaves.held leaves.none (used_committed h l m made) (λ q k b used has. absurd (none_open l q k log busy used)) agrees
 
 -- what writes logged counts still
-pub logged_begun : (cur : Image) (l : LogState) (n p : ℕ) (op : Op) (ts : List TaskState) → p < length ts → HaveLogged cur l ts → HaveLogged cur (begun l p) (set ts p (record { op = Some op; place = first_place op n; gathered = None }))
+pub logged_begun : (cur : Image) (l : LogState) (n p : ℕ) (op : Op) (ts : List TaskState) → p < length ts → HaveLogged cur l ts → HaveLogged cur (begun l p) (set ts p (record { op = Some op; stage = first_stage op n; gathered = None }))
 logged_begun cur l n p op ts inside had =
-    logged_set cur l (begun l p) ts p (record { op = Some op; place = first_place op n; gathered = None }) inside (begun_grows l p) (λ q apart. used_begun l p q apart) (by_op op) had
+    logged_set cur l (begun l p) ts p (record { op = Some op; stage = first_stage op n; gathered = None }) inside (begun_grows l p) (λ q apart. used_begun l p q apart) (by_op op) had
   where
-    by_op : (o : Op) → LoggedAt cur (begun l p) p (first_place o n)
+    by_op : (o : Op) → LoggedAt cur (begun l p) p (first_stage o n)
     by_op (Create kind) = tt
     by_op (Write i off bytes) = tt
     by_op (Read i off m) = tt
@@ -177,33 +149,33 @@ logged_begun cur l n p op ts inside had =
     by_op (Remove i) = tt
     by_op (Stat i) = tt
 
-pub logged_ended : (cur : Image) (l : LogState) (p : ℕ) (ts : List TaskState) → (task ts p).place ≡ stage.Nowhere → HaveLogged cur l ts → HaveLogged cur (ended l p) ts
+pub logged_ended : (cur : Image) (l : LogState) (p : ℕ) (ts : List TaskState) → (task ts p).stage ≡ Stage.Nowhere → HaveLogged cur l ts → HaveLogged cur (ended l p) ts
 logged_ended cur l p ts stood had q =
     ⊎_elim
-    (λ (own : q ≡ p). subst (λ (r : ℕ). LoggedAt cur (ended l p) r (task ts r).place) (sym own) (subst (LoggedAt cur (ended l p) p) (sym stood) tt))
-    (λ (apart : q ≢ p). logged_alike cur l (ended l p) q (task ts q).place (λ homes b used has. ended_grows l p b has) (used_ended l p q apart) (had q))
+    (λ (own : q ≡ p). subst (λ (r : ℕ). LoggedAt cur (ended l p) r (task ts r).stage) (sym own) (subst (LoggedAt cur (ended l p) p) (sym stood) tt))
+    (λ (apart : q ≢ p). logged_alike cur l (ended l p) q (task ts q).stage (λ homes b used has. ended_grows l p b has) (used_ended l p q apart) (had q))
     (cases_eq q p)
 
 pub logged_committed : (h : Bool) (now : Image) (l m : LogState) (ts : List TaskState) → (m ≡ stepped_at h l.commit l) ⊎ (m ≡ l) → IsLogAt l.commit l → is_quiet l.commit ≡ false → HaveLogged now m ts
-logged_committed h now l m ts made log busy q = by_place (task ts q).place
+logged_committed h now l m ts made log busy q = by_place (task ts q).stage
   where
     by_place : (a : Stage) → LoggedAt now m q a
-    by_place stage.Nowhere = tt
-    by_place (stage.Creating w) = tt
-    by_place (stage.Taking w) = tt
-    by_place (stage.Reading k w) = tt
-    by_place (stage.Delivering k) = tt
-    by_place (stage.Truncating k w) = tt
-    by_place (stage.Writing k w) = λ homes used. absurd (none_open l q homes log busy (sym (used_committed h l m made q) ∙ used))
-    by_place (stage.Leaving k) = tt
+    by_place Stage.Nowhere = tt
+    by_place (Stage.Creating w) = tt
+    by_place (Stage.Taking w) = tt
+    by_place (Stage.Reading k w) = tt
+    by_place (Stage.Delivering k) = tt
+    by_place (Stage.Truncating k w) = tt
+    by_place (Stage.Writing k w) = λ homes used. absurd (none_open l q homes log busy (sym (used_committed h l m made q) ∙ used))
+    by_place (Stage.Leaving k) = tt
 
 pub logged_opened : (cur : Image) (l : LogState) (k : ℕ) → HaveLogged cur l (replicate k no_task)
-logged_opened cur l k p = subst (λ (t : TaskState). LoggedAt cur l p t.place) (sym (none_at k p)) tt
+logged_opened cur l k p = subst (λ (t : TaskState). LoggedAt cur l p t.stage) (sym (none_at k p)) tt
 
 -- no task is under way at the opening
 pub agrees_opened : (l : LogState) (n k : ℕ) → Agrees fresh_buffers l n (replicate k no_task)
 agrees_opened l n k = record {
-  stands = λ p. subst (λ (t : TaskState). Stands fresh_buffers l n p t.op t.place) (sym (none_at k p)) tt;
+  stands = λ p. subst (λ (t : TaskState). Stands fresh_buffers l n p t.op t.stage) (sym (none_at k p)) tt;
   holders = λ p b i has. absurd (none_locked p b i has);
 }
 
@@ -223,9 +195,9 @@ geometry_then cur now c m r new o g full count few goes current = by_answer r o 
         (subst IsLawfulGeometry (sym is) (geometry_kept cur (with_inode cur i (new_inode m.kind)) h.size super g), ap inode_count_of is ∙ count_kept cur (with_inode cur i (new_inode m.kind)) super)
 
     by_answer : (r : Progress (Option ℕ)) (o : Option ℕ) → SearchGoes o cur c m r new → now ≡ current_after cur m r → IsLawfulGeometry now × (inode_count_of now ≡ inode_count_of cur)
-    by_answer search.Moved o goes is = same is
-    by_answer (search.Sleeping cause) o goes is = same is
-    by_answer (search.Over None) o goes is = same is
-    by_answer (search.Over (Some i)) None goes is = absurd goes
-    by_answer (search.Over (Some i)) (Some k) goes is = claimed i goes.2 is
-    by_answer (search.Fault fault) o goes is = same is
+    by_answer Progress.Moved o goes is = same is
+    by_answer (Progress.Sleeping cause) o goes is = same is
+    by_answer (Progress.Over None) o goes is = same is
+    by_answer (Progress.Over (Some i)) None goes is = absurd goes
+    by_answer (Progress.Over (Some i)) (Some k) goes is = claimed i goes.2 is
+    by_answer (Progress.Fault fault) o goes is = same is

@@ -1,11 +1,8 @@
 -- The numbers beside the inodes in memory stay theirs.
 use Rattle.std.proofs.Common.{◌≡◌, inl, inr, ℕ, zero, suc, ◌<◌, true, List, length, get_or, set, refl, sym, ◌∙◌, ap, subst, arith, Option, Some, None, replicate, position}
-use Rattle.std.proofs.lemmas.Bool.{cases_eq, false≢true}
-use Rattle.std.proofs.lemmas.List.{get_or-set_other, get_or-set_same, length-set}
-use Rattle.std.proofs.lemmas.List.Quantifiers.{position-Some}
+use Rattle.std.proofs.lemmas.List.{length-set}
 use Rattle.std.specs.Prelude.{slice_index}
-use Rattle.inodes.specs.declared.table.InMemory.{InMemory}
-use Rattle.inodes.specs.Table.{HasNot, IsNumbered, entry_at, is_of}
+use Rattle.inodes.specs.Common.{cases_eq, entry_at, false≢true, get_or-set_other, get_or-set_same, HasNot, InMemory, is_of, IsNumbered, position-Some}
 
 -- a place whose inode keeps its number, or that is free then
 pub numbered_kept : (ns : List ℕ) (ps : List (Option InMemory)) (k : ℕ) (e : Option InMemory) → IsNumbered ns ps → ((j : ℕ) → is_of j e ≡ true → is_of j (entry_at ps k) ≡ true) → k < 50 → IsNumbered ns (set ps k e)

@@ -1,46 +1,19 @@
 -- An operation takes its inode.
 use Rattle.std.proofs.Common.{◌≤◌, ◌≡◌, ℕ, ◌<◌, true, false, ltb, length, length-set, List, set, refl, sym, ◌∙◌, ap, subst, arith, Option, Some, None}
 use Rattle.std.specs.Prelude.{IsTrue}
-use Rattle.std.proofs.lemmas.Bool.{false≢true}
-use Rattle.blocks.specs.Disk.{Image}
-use Rattle.blocks.specs.declared.disk.Disk.{Ghosts}
-use Rattle.model.specs.declared.types.operations.Op.{Op}
-use Rattle.model.specs.declared.types.operations.Op.TheVariants.{Create, Write, Read, Trunc, Remove, Stat}
-use Rattle.model.specs.Gathered.{GatheredBytes}
-use Rattle.model.specs.Journal.{is_number}
-use Rattle.model.specs.Layout.{inode_block, inode_count_of}
-use Rattle.bcache.specs.Lemmas.Current.{length-current}
-use Rattle.wal.specs.Joint.{Joint}
-use Rattle.blockmap.specs.Getting.{HoldsWhereGot}
-use Rattle.blockmap.specs.Lemmas.Others.{stays_same}
-use Rattle.inodes.specs.declared.ilock.LockAt.{LockAt}
-use Rattle.inodes.specs.declared.ilock.LockAt.TheVariants as lock_at
-use Rattle.inodes.specs.declared.tasks.Stage.{Stage}
-use Rattle.inodes.specs.declared.tasks.Stage.TheVariants as stage
-use Rattle.inodes.specs.Grips.{Grip, grip, locked_grip, unlocked_grip}
-use Rattle.inodes.specs.Ilock.{MayLock, MayLockAt}
+use Rattle.inodes.specs.Common.{Agrees, AreLooking, asked, asked_by, both_of, bytes_of, CanLook, CanTake, claim_by, claim_of, claims_of, Create, current_of, false≢true, Files, GatheredBytes, Ghosts, Grip, grip, grip_at, grip_by, grip_of, grips_of, HasRoom, HasSlot, held_alike, HoldsAt, HoldsWhereGot, Image, inode_block, inode_count_of, is_number, IsOpenFor, IsStore, IsTaking, length-current, LockAt, locked_grip, LockState, LogState, LooksAt, MayLock, MayLockAt, Op, Read, Remove, slot_of, Stage, Stands, Stat, stays_same, StoreState, TableState, task, TaskState, Trunc, unlocked_grip, Write}
+use Rattle.inodes.specs.Store.{FitsFiles}
 use Rattle.inodes.specs.Lemmas.Faults.{where_none, if_none}
 use Rattle.inodes.specs.Lemmas.Grips.{has_place_for_each}
-use Rattle.inodes.specs.LockState.{LockState, slot_of}
-use Rattle.inodes.specs.Looks.{AreLooking, CanLook, CanTake, HasRoom, IsTaking, LooksAt}
-use Rattle.inodes.specs.Places.{asked, asked_by, HasSlot, grip_at, grip_by, grip_of, grips_of}
-use Rattle.inodes.specs.Store.{StoreState, IsStore, FitsFiles, HoldsAt, IsOpenFor, Stands, Agrees, current_of}
-use Rattle.inodes.specs.Table.{TableState}
-use Rattle.inodes.specs.Tasks.{TaskState, task}
-use Rattle.inodes.specs.Holding.{claim_by, claims_of, claim_of}
 use Rattle.inodes.specs.Lemmas.Holding.{claim_stays}
 use Rattle.inodes.specs.Lemmas.Looks.{look_takes}
-use Rattle.in_flight.specs.Lemmas.HeldFrames.{held_alike}
-use Rattle.model.specs.Files.{Files}
-use Rattle.model.specs.Lemmas.Log.{both_of}
-use Rattle.wal.specs.Machine.{LogState}
+use Rattle.inodes.proofs.Standing.{StandsAt}
 use Rattle.inodes.proofs.Agreeing.{agrees_now}
 use Rattle.inodes.proofs.WriteLogged.{logged_set}
 use Rattle.inodes.proofs.Gripping.{grip_is}
 use Rattle.inodes.proofs.LooksKept.{looks_set}
 use Rattle.inodes.proofs.Searching.{where_got}
 use Rattle.inodes.proofs.Frames.{within_image}
-use Rattle.inodes.specs.Growing.{bytes_of}
 
 -- the number of an operation that takes its inode is one that operations may name
 pub number_of_take : (n : ℕ) (op : Op) → CanTake n op → IsTrue (is_number n (asked op))
@@ -72,23 +45,21 @@ look_open l p n (Stat i) can = tt
 -- nobody has locked number 0
 pub none_of_zero : (cur : Image) (t : TableState) (ts : List TaskState) → AreLooking cur t ts → (q k : ℕ) → grip_of (task ts q) ≡ Some (locked_grip k 0) → ⊥
 none_of_zero cur t ts are q k has =
-    let at = are.table.places q (locked_grip k 0) (grip_is ts q ∙ has) in
-    false≢true (both_of (ltb 0 0) (ltb 0 t.inode_count) (are.table.numbers 0 k at.1)).0
+    false≢true (both_of (ltb 0 0) (ltb 0 t.inode_count) (are.table.numbers 0 k (are.table.places q (locked_grip k 0) (grip_is ts q ∙ has)).1)).0
 
 -- in a store whose process p takes its inode
-module _ {D N : Type 0} (disk : Ghosts D N) (s : StoreState D) (p : ℕ) (op : Op) (m : LockState) (is : IsStore disk.image s) (well : s.volume.fault ≡ None)
-    (stood : (task s.tasks p).place ≡ stage.Taking m) (is_op : (task s.tasks p).op ≡ Some op) where
+module _ {D N : Type 0} {disk : Ghosts D N} {s : StoreState D} {p : ℕ} {op : Op} {m : LockState} (h : StandsAt disk s p (Stage.Taking m)) (is_op : (task s.tasks p).op ≡ Some op) where
   abbrev cur : Image
   cur = current_of disk.image s.volume
 
   pub agrees : Agrees s.volume.buffers s.volume.log s.table.inode_count s.tasks
-  agrees = where_none s.volume.fault well is.agrees
+  agrees = where_none s.volume.fault h.well h.is.agrees
 
   pub looking : AreLooking cur s.table s.tasks
-  looking = where_none s.volume.fault well is.looks
+  looking = where_none s.volume.fault h.well h.is.looks
 
   pub taking : IsTaking s.table.inode_count (task s.tasks p) m
-  taking = subst (λ (a : Stage). LooksAt cur s.table (task s.tasks p) a) stood (looking.stand p)
+  taking = subst (λ (a : Stage). LooksAt cur s.table (task s.tasks p) a) h.stood (looking.stand p)
 
   pub same_op : taking.op ≡ op
   same_op = let both : Some taking.op ≡ Some op = sym taking.is ∙ is_op in cc both
@@ -104,13 +75,13 @@ module _ {D N : Type 0} (disk : Ghosts D N) (s : StoreState D) (p : ℕ) (op : O
 
   -- the image says so too
   pub may_name_now : IsTrue (is_number (inode_count_of cur) m.number)
-  may_name_now = subst (λ (n : ℕ). IsTrue (is_number n m.number)) is.numbers may_name
+  may_name_now = subst (λ (n : ℕ). IsTrue (is_number n m.number)) h.is.numbers may_name
 
   pub has : grip (grips_of s.tasks) p ≡ grip_at m.at m.number
-  has = grip_is s.tasks p ∙ ap (λ (a : Stage). grip_by a (asked_by (task s.tasks p).op)) stood
+  has = grip_is s.tasks p ∙ ap (λ (a : Stage). grip_by a (asked_by (task s.tasks p).op)) h.stood
 
   stands : HoldsAt s.volume.buffers p (inode_block m.number) (slot_of m.at) × IsOpenFor s.volume.log p (task s.tasks p).op
-  stands = subst (λ (a : Stage). Stands s.volume.buffers s.volume.log s.table.inode_count p (task s.tasks p).op a) stood (agrees.stands p)
+  stands = subst (λ (a : Stage). Stands s.volume.buffers s.volume.log s.table.inode_count p (task s.tasks p).op a) h.stood (agrees.stands p)
 
   pub holds : HoldsAt s.volume.buffers p (inode_block m.number) (slot_of m.at)
   holds = stands.0
@@ -119,42 +90,41 @@ module _ {D N : Type 0} (disk : Ghosts D N) (s : StoreState D) (p : ℕ) (op : O
   pub is_open : IsOpenFor s.volume.log p (task s.tasks p).op
   is_open = stands.1
 
-  pub slot_is : (i : ℕ) → HasSlot (task s.tasks p).place i → slot_of m.at ≡ Some i
-  slot_is i got = subst (λ (a : Stage). HasSlot a i) stood got
+  pub slot_is : (i : ℕ) → HasSlot (task s.tasks p).stage i → slot_of m.at ≡ Some i
+  slot_is i got = subst (λ (a : Stage). HasSlot a i) h.stood got
 
-  module _ (joint : Joint (disk.image s.volume.device) s.volume.buffers s.volume.log) where
-    within : inode_block m.number < s.volume.log.size
-    within = let inside = within_image cur m.number is.geometry may_name_now in let long = length-current (disk.image s.volume.device) s.volume.buffers in let size = joint.size in omega (arith, inside, long, size)
+  within : inode_block m.number < s.volume.log.size
+  within = omega (arith, within_image cur m.number h.is.geometry may_name_now, length-current (disk.image s.volume.device) s.volume.buffers, h.joint.size)
 
-    no_lock : (k : ℕ) → ((i : ℕ) × (grip (grips_of s.tasks) p ≡ Some (locked_grip k i))) → grip (grips_of s.tasks) p ≡ Some (unlocked_grip k m.number) → ⊥
-    no_lock k locks grips =
-        let both : Some (locked_grip k locks.0) ≡ Some (unlocked_grip k m.number) = sym locks.1 ∙ grips in
-        let same : true ≡ false = ap (λ (o : Option Grip). elim o [ None ↦ true | Some g ↦ g.is_locked ]) both in
-        absurd (cc same)
+  no_lock : (k : ℕ) → ((i : ℕ) × (grip (grips_of s.tasks) p ≡ Some (locked_grip k i))) → grip (grips_of s.tasks) p ≡ Some (unlocked_grip k m.number) → ⊥
+  no_lock k locks grips =
+      let both : Some (locked_grip k locks.0) ≡ Some (unlocked_grip k m.number) = sym locks.1 ∙ grips in
+      let same : true ≡ false = ap (λ (o : Option Grip). elim o [ None ↦ true | Some g ↦ g.is_locked ]) both in
+      absurd (cc same)
 
-    -- it may make its next step
-    pub may_lock : MayLock disk.image s.table s.volume p m
-    may_lock = by_place m.at has (where_got (disk.image s.volume.device) s.volume.buffers s.volume.log p (inode_block m.number) (slot_of m.at) joint holds)
-      where
-        by_place : (a : LockAt) → grip (grips_of s.tasks) p ≡ grip_at a m.number → HoldsWhereGot cur s.volume.buffers p (inode_block m.number) (slot_of a)
-            → MayLockAt disk.image s.table s.volume p m.number a
-        by_place lock_at.Reference grips held = has_place_for_each s.table (grips_of s.tasks) cur m.number looking.table
-        by_place (lock_at.Lock k) grips held =
-            let at = looking.table.places p (unlocked_grip k m.number) grips in
-            (record { place = at.0; number = at.1 }, λ holder. no_lock k (looking.table.holders p k holder) grips)
-        by_place (lock_at.Read k slot) grips held =
-            let at = looking.table.places p (locked_grip k m.number) grips in
-            (record { place = at.0; number = at.1 }, looking.table.locks p k m.number grips, record { within = within; holds = held })
+  -- it may make its next step
+  pub may_lock : MayLock disk.image s.table s.volume p m
+  may_lock = by_place m.at has (where_got (disk.image s.volume.device) s.volume.buffers s.volume.log p (inode_block m.number) (slot_of m.at) h.joint holds)
+    where
+      by_place : (a : LockAt) → grip (grips_of s.tasks) p ≡ grip_at a m.number → HoldsWhereGot cur s.volume.buffers p (inode_block m.number) (slot_of a)
+          → MayLockAt disk.image s.table s.volume p m.number a
+      by_place LockAt.Reference grips held = has_place_for_each s.table (grips_of s.tasks) cur m.number looking.table
+      by_place (LockAt.Lock k) grips held =
+          let at = looking.table.places p (unlocked_grip k m.number) grips in
+          (record { place = at.0; number = at.1 }, λ holder. no_lock k (looking.table.holders p k holder) grips)
+      by_place (LockAt.Read k slot) grips held =
+          let at = looking.table.places p (locked_grip k m.number) grips in
+          (record { place = at.0; number = at.1 }, looking.table.locks p k m.number grips, record { within = within; holds = held })
 
 -- the task of an operation that looks
 abbrev pub look_task : Op → Option GatheredBytes → TaskState
-look_task op room = record { op = Some op; place = stage.Taking (record { number = asked op; at = lock_at.Reference }); gathered = room }
+look_task op room = record { op = Some op; stage = Stage.Taking (record { number = asked op; at = LockAt.Reference }); gathered = room }
 
 -- such a task begins: it holds no number, as none did before
-nothing_claimed : (ts : List TaskState) (p : ℕ) (op : Op) (room : Option GatheredBytes) → (task ts p).place ≡ stage.Nowhere → (j : ℕ) → claim_of (look_task op room) j ≡ claim_of (task ts p) j
+nothing_claimed : (ts : List TaskState) (p : ℕ) (op : Op) (room : Option GatheredBytes) → (task ts p).stage ≡ Stage.Nowhere → (j : ℕ) → claim_of (look_task op room) j ≡ claim_of (task ts p) j
 nothing_claimed ts p op room stood j = sym (ap (λ (a : Stage). claim_by (task ts p).op a j) stood)
 
-pub store_looks : {D : Type 0} (image : D → Image) (s : StoreState D) (p : ℕ) (op : Op) (room : Option GatheredBytes) → IsStore image s → s.volume.fault ≡ None → p < length s.tasks → (task s.tasks p).place ≡ stage.Nowhere
+pub store_looks : {D : Type 0} (image : D → Image) (s : StoreState D) (p : ℕ) (op : Op) (room : Option GatheredBytes) → IsStore image s → s.volume.fault ≡ None → p < length s.tasks → (task s.tasks p).stage ≡ Stage.Nowhere
     → CanLook s.table.inode_count op → HasRoom op room → IsStore image (record s { tasks = set s.tasks p (look_task op room) })
 store_looks image s p op room is well inside stood can has = record {
   few = let size = length-set s.tasks p (look_task op room) in let few = is.few in omega (arith, size, few);
@@ -175,7 +145,7 @@ store_looks image s p op room is well inside stood can has = record {
 }
 
 -- and the files are the same
-pub files_look : {D : Type 0} (image : D → Image) (s : StoreState D) (p : ℕ) (op : Op) (room : Option GatheredBytes) → (task s.tasks p).place ≡ stage.Nowhere → (files : Files) → FitsFiles image s files
+pub files_look : {D : Type 0} (image : D → Image) (s : StoreState D) (p : ℕ) (op : Op) (room : Option GatheredBytes) → (task s.tasks p).stage ≡ Stage.Nowhere → (files : Files) → FitsFiles image s files
     → FitsFiles image (record s { tasks = set s.tasks p (look_task op room) }) files
 unfolding FitsFiles
 files_look image s p op room stood files fits = held_alike files (current_of image s.volume) (claims_of s.tasks) (claims_of (set s.tasks p (look_task op room))) (λ j. claim_stays s.tasks p j (look_task op room) (nothing_claimed s.tasks p op room stood j)) fits

@@ -1,11 +1,6 @@
 -- The claims of tasks, with another one of one number.
 use Rattle.std.proofs.Common.{◌≡◌, ◌≢◌, ℕ, cond, eqb, refl, sym, ◌∙◌, ap, ⊎_elim, Option, Some}
-use Rattle.std.proofs.lemmas.Bool.{cases_eq, eq-eqb, ne_eqb, cond-true, cond-false}
-use Rattle.blocks.specs.Disk.{Image}
-use Rattle.model.specs.Files.{Files}
-use Rattle.in_flight.specs.Held.{Held, Claims, FitsHeld, IsClaimedNow, Claim, frees}
-use Rattle.in_flight.specs.HeldLaws.{IsHeldIn}
-use Rattle.in_flight.specs.Lemmas.HeldFrames.{held_alike}
+use Rattle.inodes.specs.Common.{cases_eq, Claim, Claims, cond-false, cond-true, eq-eqb, Files, FitsHeld, frees, Held, held_alike, Image, IsClaimedNow, IsHeldIn, ne_eqb}
 
 -- the claims with another one of number i
 abbrev pub with_claim : Claims → ℕ → Option Claim → Claims

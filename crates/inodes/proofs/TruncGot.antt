@@ -1,14 +1,6 @@
 -- What the freeing of a file's blocks has got, through each of its steps.
 use Rattle.std.proofs.Common.{◌≡◌, ◌≢◌, ◌⊎◌, inl, inr, ⊎_elim, ℕ, List, refl, sym, ◌∙◌, ap, subst, Option, Some, None}
-use Rattle.bcache.specs.Buffers.{Buffers, buffer}
-use Rattle.model.specs.Layout.{inode_block}
-use Rattle.wal.specs.Held.{HasLock, HoldsBlock, GetsLock, GivesUpLock}
-use Rattle.inodes.specs.declared.freeing.Freeing.{Freeing}
-use Rattle.inodes.specs.declared.freeing.Got.{Got}
-use Rattle.inodes.specs.declared.freeing.Kept.{Kept}
-use Rattle.inodes.specs.declared.itrunc.TruncAt.{TruncAt}
-use Rattle.inodes.specs.declared.itrunc.TruncAt.TheVariants as trunc_at
-use Rattle.inodes.specs.Freeing.{HasOne, HoldsBlocks, IsGot, IsKept, after_use, block_by, block_next, got_in, kept_then, now_by, now_of, slot_kept, taken}
+use Rattle.inodes.specs.Common.{after_use, block_by, block_next, buffer, Buffers, Freeing, GetsLock, GivesUpLock, Got, got_in, HasLock, HasOne, HoldsBlock, HoldsBlocks, inode_block, IsGot, IsKept, Kept, kept_then, now_by, now_of, slot_kept, taken, TruncAt}
 
 -- Process p holds what it has got, and has no other lock.
 pub record HasGot (c : Buffers) (p : ℕ) (m : Freeing) : Type 0 where
@@ -44,12 +36,12 @@ holds_kept c p m none inner outer = record { inner = inner; outer = outer; used 
     own b = subst (λ (o : Option ℕ). HasOne c p (got_in b o)) (sym none) tt
 
     by_at : (a : TruncAt) → HasOne c p (now_by m a)
-    by_at trunc_at.Direct = own m.machine.bitmap
-    by_at (trunc_at.Loading b) = tt
-    by_at trunc_at.Entry = own m.machine.bitmap
-    by_at trunc_at.Unloading = inner
-    by_at trunc_at.Freeing = own m.machine.bitmap
-    by_at trunc_at.Updating = own (inode_block m.machine.number)
+    by_at TruncAt.Direct = own m.machine.bitmap
+    by_at (TruncAt.Loading b) = tt
+    by_at TruncAt.Entry = own m.machine.bitmap
+    by_at TruncAt.Unloading = inner
+    by_at TruncAt.Freeing = own m.machine.bitmap
+    by_at TruncAt.Updating = own (inode_block m.machine.number)
 
 has_kept : (c : Buffers) (p : ℕ) (m : Freeing) → m.used ≡ None → HasOne c p m.kept.inner → HasOne c p m.kept.outer → ((e i : ℕ) → HasLock c p e i → IsKept m.kept i) → HasGot c p m
 has_kept c p m none inner outer locks = record { holds = holds_kept c p m none inner outer; locks = λ e i lock. inl (locks e i lock) }
@@ -59,8 +51,7 @@ other_one : (c : Buffers) (p b i : ℕ) → (buffer c i).block ≡ Some b → (o
 other_one c p b i here None has apart same = cc same
 other_one c p b i here (Some g) has apart same =
     let at : g.slot ≡ i = cc same in
-    let both : Some g.block ≡ Some b = sym has.block ∙ ap (λ (k : ℕ). (buffer c k).block) at ∙ here in
-    apart (cc both)
+    apart (cc (sym has.block ∙ ap (λ (k : ℕ). (buffer c k).block) at ∙ here))
 
 -- process p has what it has got, and makes a step
 module _ (c : Buffers) (p : ℕ) (m : Freeing) (had : HasGot c p m) where
@@ -101,8 +92,8 @@ module _ (c : Buffers) (p : ℕ) (m : Freeing) (had : HasGot c p m) where
           locks = λ e j lock. ⊎_elim (λ (old : IsKept m.kept j). inl old) (λ (new : j ≡ i). inr (ap slot_kept now ∙ ap Some (sym new))) (old_or_new e j lock);
         }
 
-    to_keep : (bytes : List ℕ) (b : ℕ) → m.machine.at ≡ trunc_at.Loading b → m.kept.outer ≡ None → HasGot d p (taken bytes i (trunc_at.Loading b) m)
-    to_keep bytes b at free = has_kept d p (taken bytes i (trunc_at.Loading b) m) refl
+    to_keep : (bytes : List ℕ) (b : ℕ) → m.machine.at ≡ TruncAt.Loading b → m.kept.outer ≡ None → HasGot d p (taken bytes i (TruncAt.Loading b) m)
+    to_keep bytes b at free = has_kept d p (taken bytes i (TruncAt.Loading b) m) refl
         (subst (λ (e : ℕ). HoldsBlock d p e i) (ap (block_by m.machine) at) gets.holds) inner
         (λ e j lock. ⊎_elim
         (λ (old : IsKept m.kept j). ⊎_elim
@@ -112,13 +103,13 @@ module _ (c : Buffers) (p : ℕ) (m : Freeing) (had : HasGot c p m) where
         (λ (new : j ≡ i). inl (ap Some (sym new)))
         (old_or_new e j lock))
 
-    pub has_taken : (bytes : List ℕ) (a : TruncAt) → m.machine.at ≡ a → ((b : ℕ) → a ≡ trunc_at.Loading b → m.kept.outer ≡ None) → a ≢ trunc_at.Unloading → HasGot d p (taken bytes i a m)
-    has_taken bytes trunc_at.Direct at free gets = to_use trunc_at.Direct at refl
-    has_taken bytes (trunc_at.Loading b) at free gets = to_keep bytes b at (free b refl)
-    has_taken bytes trunc_at.Entry at free gets = to_use trunc_at.Entry at refl
-    has_taken bytes trunc_at.Unloading at free gets = absurd (gets refl)
-    has_taken bytes trunc_at.Freeing at free gets = to_use trunc_at.Freeing at refl
-    has_taken bytes trunc_at.Updating at free gets = to_use trunc_at.Updating at refl
+    pub has_taken : (bytes : List ℕ) (a : TruncAt) → m.machine.at ≡ a → ((b : ℕ) → a ≡ TruncAt.Loading b → m.kept.outer ≡ None) → a ≢ TruncAt.Unloading → HasGot d p (taken bytes i a m)
+    has_taken bytes TruncAt.Direct at free gets = to_use TruncAt.Direct at refl
+    has_taken bytes (TruncAt.Loading b) at free gets = to_keep bytes b at (free b refl)
+    has_taken bytes TruncAt.Entry at free gets = to_use TruncAt.Entry at refl
+    has_taken bytes TruncAt.Unloading at free gets = absurd (gets refl)
+    has_taken bytes TruncAt.Freeing at free gets = to_use TruncAt.Freeing at refl
+    has_taken bytes TruncAt.Updating at free gets = to_use TruncAt.Updating at refl
 
   -- ---- a block is used, and given up
 
@@ -147,7 +138,7 @@ module _ (c : Buffers) (p : ℕ) (m : Freeing) (had : HasGot c p m) where
         (λ e j lock. subst (λ (o : Kept). IsKept o j) (sym same) (locks_left e j lock).0)
 
     -- it was kept
-    used_kept : m.kept.inner ≡ Some g → IsBeside m.kept.outer g.block → (n : Freeing) → n.kept ≡ kept_then m.kept trunc_at.Unloading → n.used ≡ None → HasGot d p n
+    used_kept : m.kept.inner ≡ Some g → IsBeside m.kept.outer g.block → (n : Freeing) → n.kept ≡ kept_then m.kept TruncAt.Unloading → n.used ≡ None → HasGot d p n
     used_kept last apart n same none = has_kept d p n none
         (subst (λ (o : Kept). HasOne d p o.inner) (sym same) (held_still m.kept.outer apart had.holds.outer))
         (subst (λ (o : Kept). HasOne d p o.outer) (sym same) tt)
@@ -162,7 +153,7 @@ module _ (c : Buffers) (p : ℕ) (m : Freeing) (had : HasGot c p m) where
     got_block b None is = absurd (cc is)
     got_block b (Some i) is = let same : (let h : Got = record { block = b; slot = i } in h) ≡ g = cc is in sym (ap (λ (h : Got). h.block) same)
 
-    pub has_used : (entries : List ℕ) → IsNotKept m.kept (block_next m) → ((h : Got) → m.kept.inner ≡ Some h → m.machine.at ≡ trunc_at.Unloading → IsBeside m.kept.outer h.block) → HasGot d p (after_use entries m)
+    pub has_used : (entries : List ℕ) → IsNotKept m.kept (block_next m) → ((h : Got) → m.kept.inner ≡ Some h → m.machine.at ≡ TruncAt.Unloading → IsBeside m.kept.outer h.block) → HasGot d p (after_use entries m)
     has_used entries apart second = by_at m.machine.at refl here
       where
         own : (a : TruncAt) → m.machine.at ≡ a → kept_then m.kept a ≡ m.kept → now_by m a ≡ got_in (block_by m.machine a) m.used → now_by m a ≡ Some g → HasGot d p (after_use entries m)
@@ -171,9 +162,9 @@ module _ (c : Buffers) (p : ℕ) (m : Freeing) (had : HasGot c p m) where
             (ap (kept_then m.kept) at ∙ same) refl
 
         by_at : (a : TruncAt) → m.machine.at ≡ a → now_by m a ≡ Some g → HasGot d p (after_use entries m)
-        by_at trunc_at.Direct at is = own trunc_at.Direct at refl refl is
-        by_at (trunc_at.Loading b) at is = absurd (cc is)
-        by_at trunc_at.Entry at is = own trunc_at.Entry at refl refl is
-        by_at trunc_at.Unloading at is = used_kept is (second g is at) (after_use entries m) (ap (kept_then m.kept) at) refl
-        by_at trunc_at.Freeing at is = own trunc_at.Freeing at refl refl is
-        by_at trunc_at.Updating at is = own trunc_at.Updating at refl refl is
+        by_at TruncAt.Direct at is = own TruncAt.Direct at refl refl is
+        by_at (TruncAt.Loading b) at is = absurd (cc is)
+        by_at TruncAt.Entry at is = own TruncAt.Entry at refl refl is
+        by_at TruncAt.Unloading at is = used_kept is (second g is at) (after_use entries m) (ap (kept_then m.kept) at) refl
+        by_at TruncAt.Freeing at is = own TruncAt.Freeing at refl refl is
+        by_at TruncAt.Updating at is = own TruncAt.Updating at refl refl is

@@ -2,57 +2,12 @@
 -- block of addresses back, or writes the inode.
 use Rattle.std.proofs.Common.{◌≡◌, ◌≢◌, inr, ℕ, suc, ◌+◌, ◌*◌, ◌<◌, ◌≤◌, Bool, true, false, cond, get_or, length, List, [], ◌∷◌, ◌++◌, refl, sym, ◌∙◌, ap, subst, ⊎_elim, arith, Option, Some, None}
 use Rattle.std.specs.Prelude.{IsTrue}
-use Rattle.std.proofs.lemmas.Bool.{cases_Bool, false≢true, ne_eqb}
-use Rattle.blocks.specs.Disk.{Image, block_at}
-use Rattle.blocks.specs.declared.disk.Disk.{Ghosts}
-use Rattle.model.specs.declared.types.image.Dinode.{Dinode}
-use Rattle.model.specs.Codec.{with_inode}
-use Rattle.model.specs.Fields.{words_of}
-use Rattle.model.specs.Files.{Files, file_in}
-use Rattle.model.specs.Journal.{is_number}
-use Rattle.model.specs.declared.types.image.Form.{Form}
-use Rattle.model.specs.Layout.{depths, form_of, direct_count, inode_block, inode_of}
-use Rattle.model.specs.Lemmas.Frames.{form_agree}
-use Rattle.model.specs.Lemmas.Inodes.{inode_of-with_inode}
-use Rattle.model.specs.Tasks.{Marks}
-use Rattle.in_flight.specs.Held.{Held, Claims, FitsHeld, IsClaimedNow, blocks_left, last_inode, listed, unmarked, frees, Claim, without_address}
-use Rattle.in_flight.specs.HeldLaws.{IsGivenUp, IsHeldIn}
-use Rattle.in_flight.specs.Trees.{Gives, LeavesAlike, depth_of, entry_of, led_to, left_under}
-use Rattle.in_flight.specs.Loose.{LiesInData}
-use Rattle.in_flight.specs.Lemmas.Claims.{apart}
+use Rattle.inodes.specs.Common.{above_by, above_hand, address_left, after_trunc, alone, answer_by, apart, AreGivenUp, at_block, at_branches, at_entries, begun_left, between, bits, block_at, block_by, block_given_up, block_next, block_of_got, cases_Bool, Changes, Claim, Claims, claims_of, cleared_bit_keeps, current_of, depth_of, depths, Dinode, direct_count, direct_given_up, entries_kept, entry_of, entry_passed, false≢true, file_in, Files, first_alone, FitsHeld, Form, form_agree, form_of, Freeing, frees, FreesOn, GetsNext, Ghosts, Gives, gives_on_way, Got, got_in, Grip, grips_of, hand_in, HasGivenUp, HasLogged, Held, held_of, Image, image_by, inode_block, inode_left, inode_of-with_inode, inode_same, inode_without, is_among, is_number, IsAtDirect, IsAtEntry, IsBelow, IsClaimedNow, IsCopy, IsGivenUp, IsHeldIn, IsInHand, IsMapped, IsStore, IsTruncating, Itrunc, Joint, Keeps, KeepsTable, KeepsUsedInodes, Kept, kept_then, last_fields, last_inode, last_inode_of, leaves_as_many, LeavesAlike, led_to, left_by, left_under, LiesInData, listed, LogState, made_so_far, Marks, ne_eqb, noted, noted_among, noted_home, now_by, now_of, one_for, Progress, Releases, renewed, root_of, Stage, stage_left, StoreState, table_of_trunc, TableState, taken, task, test, tree_given_up, TruncAt, truncs_left, unmarked, used_by, used_noted_new, UsesBlock, VolumeState, way_of, when_got, with_inode, without_address, words_of, write_back_keeps, write_back_rests, WritesBlock}
+use Rattle.in_flight.specs.Held.{blocks_left}
+use Rattle.model.specs.Layout.{inode_of}
+use Rattle.in_flight.specs.Lemmas.Remapped.{agrees}
 use Rattle.in_flight.specs.Lemmas.Frames.{AgreesAtData}
-use Rattle.in_flight.specs.Lemmas.GivenUp.{bits, block_given_up, direct_given_up, first_alone, leaves_as_many, tree_given_up}
-use Rattle.in_flight.specs.Lemmas.HeldMarks.{cleared_bit_keeps, write_back_keeps}
-use Rattle.in_flight.specs.Lemmas.LeftInTrees.{alone, begun_left}
-use Rattle.in_flight.specs.Lemmas.LeftOnWays.{gives_on_way}
-use Rattle.in_flight.specs.Lemmas.Looks.{between}
-use Rattle.in_flight.specs.Lemmas.Remapped.{IsMapped, agrees, inode_same, test}
-use Rattle.in_flight.specs.Lemmas.Turns.{entry_passed}
-use Rattle.in_flight.specs.Lemmas.WriteBacks.{last_fields, write_back_rests}
-use Rattle.wal.specs.Joint.{Joint}
-use Rattle.wal.specs.Machine.{LogState, is_among, noted, used_by}
-use Rattle.wal.specs.Volume.{VolumeState}
-use Rattle.wal.specs.Lemmas.Rooms.{noted_among, noted_home, used_noted_new}
 use Rattle.blockmap.specs.Bfree.{with_freed}
-use Rattle.blockmap.specs.Getting.{Releases, WritesBlock}
-use Rattle.model.specs.declared.types.progress.Progress.{Progress}
-use Rattle.model.specs.declared.types.progress.Progress.TheVariants as machine
-use Rattle.inodes.specs.declared.freeing.Kept.{Kept}
-use Rattle.inodes.specs.declared.freeing.Got.{Got}
-use Rattle.inodes.specs.declared.freeing.Freeing.{Freeing}
-use Rattle.inodes.specs.declared.itrunc.Itrunc.{Itrunc}
-use Rattle.inodes.specs.declared.itrunc.TruncAt.{TruncAt}
-use Rattle.inodes.specs.declared.itrunc.TruncAt.TheVariants as trunc_at
-use Rattle.inodes.specs.declared.tasks.Stage.TheVariants as stage
-use Rattle.inodes.specs.Freeing.{Changes, FreesOn, GetsNext, UsesBlock, answer_by, block_by, block_next, entries_kept, got_in, image_by, kept_then, now_by, now_of, taken, when_got}
-use Rattle.inodes.specs.Goes.{table_of_trunc}
-use Rattle.inodes.specs.Grips.{Grip, IsCopy, KeepsTable, KeepsUsedInodes}
-use Rattle.inodes.specs.Holding.{AreGivenUp, HasGivenUp, IsAtDirect, IsAtEntry, IsInHand, IsTruncating, Keeps, above_by, above_hand, block_of_got, claims_of, hand_in, held_of, made_so_far, one_for, root_of, stage_left, truncs_left, way_of}
-use Rattle.inodes.specs.Itrunc.{IsBelow, address_left, after_trunc, at_block, at_branches, at_entries, inode_left, inode_without, last_inode_of, left_by}
-use Rattle.inodes.specs.Places.{grips_of}
-use Rattle.inodes.specs.Store.{StoreState, IsStore, HasLogged, current_of}
-use Rattle.inodes.specs.Table.{TableState, renewed}
-use Rattle.inodes.specs.Tasks.{task}
 use Rattle.inodes.specs.Lemmas.Grips.{kept_by_image, kept_by_renew}
 use Rattle.inodes.proofs.Frames.{marks_same}
 use Rattle.inodes.proofs.InHand.{first_tree, hand_kept, in_hand_kept, root_there, two_deep}
@@ -84,7 +39,7 @@ pub record HasNone (n : Freeing) : Type 0 where
 
 -- process p, whose task frees a file's blocks, makes a step
 module _ {D N : Type 0} (disk : Ghosts D N) (s : StoreState D) (p k : ℕ) (m : Freeing) (is : IsStore disk.image s) (well : s.volume.fault ≡ None)
-    (stood : (task s.tasks p).place ≡ stage.Truncating k m) (inside : p < length s.tasks) (joint : Joint (disk.image s.volume.device) s.volume.buffers s.volume.log)
+    (stood : (task s.tasks p).stage ≡ Stage.Truncating k m) (inside : p < length s.tasks) (joint : Joint (disk.image s.volume.device) s.volume.buffers s.volume.log)
     (q : Progress (Unit {0})) (n : Freeing) (w : VolumeState D) where
   abbrev cur : Image
   cur = current_of disk.image s.volume
@@ -123,10 +78,10 @@ module _ {D N : Type 0} (disk : Ghosts D N) (s : StoreState D) (p k : ℕ) (m : 
     pub marks : Marks None cur now
     pub keeps : KeepsUsed count mm.number claims cur now
     pub table : KeepsTable s.table (table_of_trunc s.table k m q) p gs gs now
-    pub on : q ≡ machine.Moved → GoesOn now n w.log
+    pub on : q ≡ Progress.Moved → GoesOn now n w.log
     -- nothing is kept at the end, and the number is at rest
-    pub over : q ≡ machine.Over tt → HasNone n × (1 ≤ truncs_left cur m)
-    pub rests : q ≡ machine.Over tt → (new : Claims) → IsClaimedNow claims mm.number None new → (files : Files) → FitsHeld files cur claims → FitsHeld files now new
+    pub over : q ≡ Progress.Over tt → HasNone n × (1 ≤ truncs_left cur m)
+    pub rests : q ≡ Progress.Over tt → (new : Claims) → IsClaimedNow claims mm.number None new → (files : Files) → FitsHeld files cur claims → FitsHeld files now new
 
   abbrev files_now : Files
   files_now = (of.looking disk s p k m is well stood).files.0
@@ -148,21 +103,19 @@ module _ {D N : Type 0} (disk : Ghosts D N) (s : StoreState D) (p k : ℕ) (m : 
 
   logs : p < length s.volume.log.used
   logs =
-      let few = is.few in
-      let pids = joint.log.pids in
-      omega (arith, few, pids, inside)
+      omega (arith, is.few, joint.log.pids, inside)
 
   -- the table stays but with the last step
-  same_table : (r : Progress (Unit {0})) → r ≢ machine.Over tt → table_of_trunc s.table k m r ≡ s.table
-  same_table machine.Moved going = refl
-  same_table (machine.Sleeping cause) going = refl
-  same_table (machine.Over out) going = absurd (going refl)
-  same_table (machine.Fault fault) going = refl
+  same_table : (r : Progress (Unit {0})) → r ≢ Progress.Over tt → table_of_trunc s.table k m r ≡ s.table
+  same_table Progress.Moved going = refl
+  same_table (Progress.Sleeping cause) going = refl
+  same_table (Progress.Over out) going = absurd (going refl)
+  same_table (Progress.Fault fault) going = refl
 
   -- ---- the image stays
 
-  module _ (stays : now ≡ cur) (going : q ≢ machine.Over tt) where
-    still_makes : (q ≡ machine.Moved → GoesOn now n w.log) → Makes
+  module _ (stays : now ≡ cur) (going : q ≢ Progress.Over tt) where
+    still_makes : (q ≡ Progress.Moved → GoesOn now n w.log) → Makes
     still_makes on = record {
       marks = subst (Marks None cur) (sym stays) (marks_same None cur (λ i makes. absurd (false≢true makes)));
       keeps = subst (KeepsUsed count mm.number claims cur) (sym stays) (keeps_same count mm.number claims cur);
@@ -191,12 +144,12 @@ module _ {D N : Type 0} (disk : Ghosts D N) (s : StoreState D) (p k : ℕ) (m : 
       }
 
   -- the block of addresses in hand was got, and is kept
-  to_block : (i b : ℕ) → mm.at ≡ trunc_at.Loading b → GoesOn cur (taken (block_at cur b) i (trunc_at.Loading b) m) s.volume.log
+  to_block : (i b : ℕ) → mm.at ≡ TruncAt.Loading b → GoesOn cur (taken (block_at cur b) i (TruncAt.Loading b) m) s.volume.log
   to_block i b at = record {
     same = comes.same ∙ ap (λ (d : Dinode). record mm { inode = d; slot = after.slot; upper = after.upper; given_up = after.given_up; at = after.at }) (sym (ap (λ (o : Itrunc). o.inode) comes.same));
     slot = comes.slot;
     given = comes.given;
-    keeps = comes.keeps (taken (block_at cur b) i (trunc_at.Loading b) m).kept (ap Some (sym given.2)) keeps.inner;
+    keeps = comes.keeps (taken (block_at cur b) i (TruncAt.Loading b) m).kept (ap Some (sym given.2)) keeps.inner;
     less = subst (λ (o : TruncAt). 4 * (blocks_left cur (held_of after)) + stage_left after.upper None after.at < 4 * (blocks_left cur (held_of mm)) + stage_left mm.upper m.used o) (sym at)
         (omega (arith, comes.made, few_for mm.upper, as_many));
     logged = logged;
@@ -204,10 +157,10 @@ module _ {D N : Type 0} (disk : Ghosts D N) (s : StoreState D) (p k : ℕ) (m : 
         (subst (λ (c : Option Claim). IsClaimedNow claims mm.number c new) (ap (λ (h : Held). Some (frees h)) claim) claimed);
   }
     where
-      given : HasGivenUp cur mm (trunc_at.Loading b)
+      given : HasGivenUp cur mm (TruncAt.Loading b)
       given = subst (HasGivenUp cur mm) at work.given
 
-      keeps : Keeps cur m.kept mm (trunc_at.Loading b)
+      keeps : Keeps cur m.kept mm (TruncAt.Loading b)
       keeps = subst (Keeps cur m.kept mm) at work.keeps
 
       after : Itrunc
@@ -234,10 +187,10 @@ module _ {D N : Type 0} (disk : Ghosts D N) (s : StoreState D) (p k : ℕ) (m : 
       then_at : StoreState D
       then_at = record s { volume = w }
 
-      never : q ≢ machine.Over tt
+      never : q ≢ Progress.Over tt
       never over = Rattle.inodes.proofs.TruncSlots.never_over disk s then_at p b q gets.slot gets.gets tt over
 
-      on : q ≡ machine.Moved → GoesOn now n w.log
+      on : q ≡ Progress.Moved → GoesOn now n w.log
       on moved = goes_so cur (taken (block_at cur (block_by mm a)) gain.at a m) gets.gets.reads.current
           (gets.next ∙ ap (λ (o : Option ℕ). when_got cur o m) gain.is ∙ ap (λ (o : TruncAt). taken (block_at cur (block_by mm o)) gain.at o m) at)
           (subst (GoesOn cur (taken (block_at cur (block_by mm a)) gain.at a m)) (sym gets.gets.reads.log) (by_at gain.at a at keeps none))
@@ -246,12 +199,12 @@ module _ {D N : Type 0} (disk : Ghosts D N) (s : StoreState D) (p k : ℕ) (m : 
           gain = gains disk s then_at p b q gets.slot gets.gets moved
 
           by_at : (i : ℕ) (a : TruncAt) → mm.at ≡ a → Keeps cur m.kept mm a → now_by m a ≡ None → GoesOn cur (taken (block_at cur (block_by mm a)) i a m) s.volume.log
-          by_at i trunc_at.Direct at keeps none = to_use i trunc_at.Direct at (not_got mm.bitmap m.used none) (omega arith)
-          by_at i (trunc_at.Loading c) at keeps none = to_block i c at
-          by_at i trunc_at.Entry at keeps none = to_use i trunc_at.Entry at (not_got mm.bitmap m.used none) (omega arith)
-          by_at i trunc_at.Unloading at keeps none = absurd (let e : None ≡ Some (hand_in cur mm) = sym (ap block_of_got none) ∙ keeps.inner in cc e)
-          by_at i trunc_at.Freeing at keeps none = to_use i trunc_at.Freeing at (not_got mm.bitmap m.used none) (omega arith)
-          by_at i trunc_at.Updating at keeps none = to_use i trunc_at.Updating at (not_got (inode_block mm.number) m.used none) (omega arith)
+          by_at i TruncAt.Direct at keeps none = to_use i TruncAt.Direct at (not_got mm.bitmap m.used none) (omega arith)
+          by_at i (TruncAt.Loading c) at keeps none = to_block i c at
+          by_at i TruncAt.Entry at keeps none = to_use i TruncAt.Entry at (not_got mm.bitmap m.used none) (omega arith)
+          by_at i TruncAt.Unloading at keeps none = absurd (let e : None ≡ Some (hand_in cur mm) = sym (ap block_of_got none) ∙ keeps.inner in cc e)
+          by_at i TruncAt.Freeing at keeps none = to_use i TruncAt.Freeing at (not_got mm.bitmap m.used none) (omega arith)
+          by_at i TruncAt.Updating at keeps none = to_use i TruncAt.Updating at (not_got (inode_block mm.number) m.used none) (omega arith)
 
   -- ---- a block is used
 
@@ -285,7 +238,7 @@ module _ {D N : Type 0} (disk : Ghosts D N) (s : StoreState D) (p k : ℕ) (m : 
 
     -- what holds of a block that is given up so, and of what comes behind it
     record Frees (b : ℕ) (u : Itrunc) : Type 0 where
-      moved : q ≡ machine.Moved
+      moved : q ≡ Progress.Moved
       to : n.machine ≡ u
       lies : LiesInData cur b
       event : (files : Files) → FitsHeld files cur claims → (new : Claims) → IsClaimedNow claims mm.number (Some (frees (held_of u))) new → IsGivenUp files cur claims mm.number b (held_of mm) (held_of u) new
@@ -376,10 +329,10 @@ module _ {D N : Type 0} (disk : Ghosts D N) (s : StoreState D) (p k : ℕ) (m : 
       address_same = address_comes.same ∙ ap (λ (d : Dinode). record mm { inode = d; slot = behind_address.slot; upper = behind_address.upper; given_up = behind_address.given_up; at = behind_address.at })
           (sym (ap (λ (o : Itrunc). o.inode) address_comes.same))
 
-    direct_freed : mm.at ≡ trunc_at.Direct → IsAtDirect mm → Keeps cur m.kept mm trunc_at.Direct → Frees (root_of mm) (address_left mm)
+    direct_freed : mm.at ≡ TruncAt.Direct → IsAtDirect mm → Keeps cur m.kept mm TruncAt.Direct → Frees (root_of mm) (address_left mm)
     direct_freed at given keeps = record {
-      moved = answer_at trunc_at.Direct at;
-      to = machine_at trunc_at.Direct at;
+      moved = answer_at TruncAt.Direct at;
+      to = machine_at TruncAt.Direct at;
       lies = (of.direct_marked disk s p k m is well stood given).0;
       event = λ files fits new claimed. subst (λ (t : Held). IsGivenUp files cur claims mm.number (root_of mm) (held_of mm) t new) (sym claim)
           (direct_given_up files cur claims new mm.number mm.slot (held_of mm) (held_in files fits) (subst (λ (f : Form). mm.slot < direct_count f) work.form given.direct) given.there
@@ -387,7 +340,7 @@ module _ {D N : Type 0} (disk : Ghosts D N) (s : StoreState D) (p k : ℕ) (m : 
       same = address_same (root_of mm) given.before;
       slot = comes.slot;
       given = comes.given;
-      keeps = comes.keeps n.kept (subst (λ (o : Kept). block_of_got o.inner ≡ None) (sym (kept_at trunc_at.Direct at)) keeps.inner) (subst (λ (o : Kept). block_of_got o.outer ≡ None) (sym (kept_at trunc_at.Direct at)) keeps.outer);
+      keeps = comes.keeps n.kept (subst (λ (o : Kept). block_of_got o.inner ≡ None) (sym (kept_at TruncAt.Direct at)) keeps.inner) (subst (λ (o : Kept). block_of_got o.outer ≡ None) (sym (kept_at TruncAt.Direct at)) keeps.outer);
       made = subst (λ (a : TruncAt). made_so_far mm.upper m.used a < made_so_far (address_left mm).upper None (address_left mm).at + 4) (sym at) (omega (arith, comes.made, few_for m.used));
     }
       where
@@ -401,7 +354,7 @@ module _ {D N : Type 0} (disk : Ghosts D N) (s : StoreState D) (p k : ℕ) (m : 
         claim = address_claim (root_of mm) given.before ∙ ap (λ (l : List ℕ). let h : Held = record (without_address (held_of mm) mm.slot) { cursor = l } in h) (begins (root_of mm) given.before ∙ sym cursor)
 
     -- an entry of the block in hand is
-    module _ (at : mm.at ≡ trunc_at.Entry) (given : IsAtEntry cur mm) (keeps : Keeps cur m.kept mm trunc_at.Entry) where
+    module _ (at : mm.at ≡ TruncAt.Entry) (given : IsAtEntry cur mm) (keeps : Keeps cur m.kept mm TruncAt.Entry) where
       abbrev freed : ℕ
       freed = entry_of cur (hand_in cur mm) mm.given_up
 
@@ -436,8 +389,8 @@ module _ {D N : Type 0} (disk : Ghosts D N) (s : StoreState D) (p k : ℕ) (m : 
 
       entry_freed : Frees freed behind
       entry_freed = record {
-        moved = answer_at trunc_at.Entry at;
-        to = machine_at trunc_at.Entry at ∙ ap (λ (l : List ℕ). at_entries mm l (mm.given_up + 1)) entries_are;
+        moved = answer_at TruncAt.Entry at;
+        to = machine_at TruncAt.Entry at ∙ ap (λ (l : List ℕ). at_entries mm l (mm.given_up + 1)) entries_are;
         lies = (of.entry_marked disk s p k m is well stood given).0;
         event = λ files fits new claimed. subst (λ (t : Held). IsGivenUp files cur claims mm.number freed (held_of mm) t new) (sym entry_claim)
             (block_given_up files cur claims new mm.number mm.slot freed (way_of mm ++ (mm.given_up + 1) ∷ []) (held_of behind).cursor (held_of mm) (held_in files fits) (first_tree cur mm given.hand) entry_gives entry_comes.alike
@@ -446,20 +399,20 @@ module _ {D N : Type 0} (disk : Ghosts D N) (s : StoreState D) (p k : ℕ) (m : 
         slot = entry_comes.slot;
         given = comes_then.given;
         keeps = comes_then.keeps n.kept
-            (subst (λ (o : Kept). block_of_got o.inner ≡ Some (hand_in (unmarked cur freed) mm)) (sym (kept_at trunc_at.Entry at)) (keeps.inner ∙ ap Some (sym (hand_same freed given.hand))))
-            (subst (λ (o : Kept). block_of_got o.outer ≡ above_hand mm) (sym (kept_at trunc_at.Entry at)) keeps.outer);
+            (subst (λ (o : Kept). block_of_got o.inner ≡ Some (hand_in (unmarked cur freed) mm)) (sym (kept_at TruncAt.Entry at)) (keeps.inner ∙ ap Some (sym (hand_same freed given.hand))))
+            (subst (λ (o : Kept). block_of_got o.outer ≡ above_hand mm) (sym (kept_at TruncAt.Entry at)) keeps.outer);
         made = subst (λ (a : TruncAt). made_so_far mm.upper m.used a < made_so_far behind.upper None behind.at + 4) (sym at) (omega (arith, entry_comes.made, few_for m.used));
       }
 
     -- the block in hand is, which the inode names
-    module _ (at : mm.at ≡ trunc_at.Freeing) (hand : IsInHand cur mm) (all : mm.given_up ≡ 256) (keeps : Keeps cur m.kept mm trunc_at.Freeing) where
+    module _ (at : mm.at ≡ TruncAt.Freeing) (hand : IsInHand cur mm) (all : mm.given_up ≡ 256) (keeps : Keeps cur m.kept mm TruncAt.Freeing) where
       abbrev block : ℕ
       block = hand_in cur mm
 
       tree_freed : mm.upper ≡ None → Frees block (address_left mm)
       tree_freed upper = record {
-        moved = answer_at trunc_at.Freeing at;
-        to = machine_at trunc_at.Freeing at ∙ ap (λ (o : Option ℕ). left_by o mm entries) upper;
+        moved = answer_at TruncAt.Freeing at;
+        to = machine_at TruncAt.Freeing at ∙ ap (λ (o : Option ℕ). left_by o mm entries) upper;
         lies = (of.hand_marked disk s p k m is well stood hand).0;
         event = λ files fits new claimed. subst (λ (c : ℕ). IsGivenUp files cur claims mm.number c (held_of mm) (held_of (address_left mm)) new) (sym own)
             (subst (λ (t : Held). IsGivenUp files cur claims mm.number (root_of mm) (held_of mm) t new) (sym (address_claim block hand.before))
@@ -472,8 +425,8 @@ module _ {D N : Type 0} (disk : Ghosts D N) (s : StoreState D) (p k : ℕ) (m : 
         slot = comes.slot;
         given = comes.given;
         keeps = comes.keeps n.kept
-            (subst (λ (o : Kept). block_of_got o.inner ≡ None) (sym (kept_at trunc_at.Freeing at)) (keeps.inner ∙ ap (λ (o : Option ℕ). above_by o (root_of mm)) upper))
-            (subst (λ (o : Kept). block_of_got o.outer ≡ None) (sym (kept_at trunc_at.Freeing at)) keeps.outer);
+            (subst (λ (o : Kept). block_of_got o.inner ≡ None) (sym (kept_at TruncAt.Freeing at)) (keeps.inner ∙ ap (λ (o : Option ℕ). above_by o (root_of mm)) upper))
+            (subst (λ (o : Kept). block_of_got o.outer ≡ None) (sym (kept_at TruncAt.Freeing at)) keeps.outer);
         made = subst (λ (a : TruncAt). made_so_far mm.upper m.used a < made_so_far (address_left mm).upper None (address_left mm).at + 4) (sym at)
             (let none = ap one_for upper in omega (arith, comes.made, few_for m.used, none));
       }
@@ -534,8 +487,8 @@ module _ {D N : Type 0} (disk : Ghosts D N) (s : StoreState D) (p k : ℕ) (m : 
 
         second_freed : Frees block behind_second
         second_freed = record {
-          moved = answer_at trunc_at.Freeing at;
-          to = machine_at trunc_at.Freeing at ∙ ap (λ (o : Option ℕ). left_by o mm entries) upper
+          moved = answer_at TruncAt.Freeing at;
+          to = machine_at TruncAt.Freeing at ∙ ap (λ (o : Option ℕ). left_by o mm entries) upper
               ∙ ap (λ (l : List ℕ). at_branches mm l (e + 1)) (of.kept_words disk s p k m is well stood g (root_of mm) kept_root);
           lies = (of.hand_marked disk s p k m is well stood hand).0;
           event = λ files fits new claimed. subst (λ (t : Held). IsGivenUp files cur claims mm.number block (held_of mm) t new) (sym second_claim)
@@ -546,36 +499,36 @@ module _ {D N : Type 0} (disk : Ghosts D N) (s : StoreState D) (p k : ℕ) (m : 
           slot = second_comes.slot;
           given = second_then.given;
           keeps = second_then.keeps n.kept
-              (subst (λ (o : Kept). block_of_got o.inner ≡ Some (root_of mm)) (sym (kept_at trunc_at.Freeing at)) kept_root)
-              (subst (λ (o : Kept). block_of_got o.outer ≡ None) (sym (kept_at trunc_at.Freeing at)) keeps.outer);
+              (subst (λ (o : Kept). block_of_got o.inner ≡ Some (root_of mm)) (sym (kept_at TruncAt.Freeing at)) kept_root)
+              (subst (λ (o : Kept). block_of_got o.outer ≡ None) (sym (kept_at TruncAt.Freeing at)) keeps.outer);
           made = subst (λ (a : TruncAt). made_so_far mm.upper m.used a < made_so_far behind_second.upper None behind_second.at + 4) (sym at)
               (let one = ap one_for upper in omega (arith, second_comes.made, few_for m.used, one));
         }
 
     -- ---- the block of addresses is given back
 
-    releases_makes : mm.at ≡ trunc_at.Unloading → HasGivenUp cur mm trunc_at.Unloading → Keeps cur m.kept mm trunc_at.Unloading → Makes
-    releases_makes at given keeps = still_makes does.current (λ over. cc (sym (answer_at trunc_at.Unloading at) ∙ over)) (λ moved. goes_so cur (with_kept freed) does.current (to_kept freed to) (record {
+    releases_makes : mm.at ≡ TruncAt.Unloading → HasGivenUp cur mm TruncAt.Unloading → Keeps cur m.kept mm TruncAt.Unloading → Makes
+    releases_makes at given keeps = still_makes does.current (λ over. cc (sym (answer_at TruncAt.Unloading at) ∙ over)) (λ moved. goes_so cur (with_kept freed) does.current (to_kept freed to) (record {
       same = refl;
       slot = work.slot;
       given = (record { tree = given.0.tree; slot = given.0.slot; before = given.0.before; there = given.0.there; level = given.0.level }, given.1);
-      keeps = subst (λ (o : Kept). Keeps cur o freed trunc_at.Freeing) (sym (kept_at trunc_at.Unloading at)) (record { inner = keeps.outer; outer = refl });
-      less = subst (λ (a : TruncAt). 4 * blocks + stage_left mm.upper None trunc_at.Freeing < 4 * blocks + stage_left mm.upper m.used a) (sym at) (omega (arith, few_for mm.upper));
+      keeps = subst (λ (o : Kept). Keeps cur o freed TruncAt.Freeing) (sym (kept_at TruncAt.Unloading at)) (record { inner = keeps.outer; outer = refl });
+      less = subst (λ (a : TruncAt). 4 * blocks + stage_left mm.upper None TruncAt.Freeing < 4 * blocks + stage_left mm.upper m.used a) (sym at) (omega (arith, few_for mm.upper));
       logged = subst (λ (l : LogState). HasLogged l p mm.bitmap) (sym (ap (λ (v : VolumeState D). v.log) does.volume)) logged;
       fits = λ new claimed files fits. fits_still files cur claims new mm.number (held_of mm) (held_in files fits) claimed;
     }))
       where
         does : Releases disk.image s.volume p g.slot w
-        does = changes_at trunc_at.Unloading at
+        does = changes_at TruncAt.Unloading at
 
         freed : Itrunc
-        freed = record mm { at = trunc_at.Freeing }
+        freed = record mm { at = TruncAt.Freeing }
 
         blocks : ℕ
         blocks = blocks_left cur (held_of mm)
 
         to : n.machine ≡ freed
-        to = machine_at trunc_at.Unloading at
+        to = machine_at TruncAt.Unloading at
 
     -- ---- the inode is written back
 
@@ -589,7 +542,7 @@ module _ {D N : Type 0} (disk : Ghosts D N) (s : StoreState D) (p k : ℕ) (m : 
           λ free. (of.is_held disk s p k m is well stood).used (sym (ap (λ (t : Bool). cond t 0 mm.inode.kind) stays) ∙ ap (λ (e : Dinode). e.kind) same ∙ free),
         )
 
-    writes_makes : mm.at ≡ trunc_at.Updating → HasGivenUp cur mm trunc_at.Updating → Keeps cur m.kept mm trunc_at.Updating → Makes
+    writes_makes : mm.at ≡ TruncAt.Updating → HasGivenUp cur mm TruncAt.Updating → Keeps cur m.kept mm TruncAt.Updating → Makes
     writes_makes at bare keeps = record {
       marks = subst (Marks None cur) (sym shown) (write_back_keeps files_now cur claims mm.number (held_of mm) (held_in files_now fits_now));
       keeps = subst (KeepsUsed count mm.number claims cur) (sym shown) written_keeps;
@@ -600,9 +553,9 @@ module _ {D N : Type 0} (disk : Ghosts D N) (s : StoreState D) (p k : ℕ) (m : 
       on = λ moved. absurd (cc (sym over ∙ moved));
       over = λ ends. (
         record {
-          inner = subst (λ (o : Kept). block_of_got o.inner ≡ None) (sym (kept_at trunc_at.Updating at)) keeps.inner;
-          outer = subst (λ (o : Kept). block_of_got o.outer ≡ None) (sym (kept_at trunc_at.Updating at)) keeps.outer;
-          now = ap (λ (o : Itrunc). now_by n o.at) (machine_at trunc_at.Updating at) ∙ ap (now_by n) at ∙ ap (got_in (inode_block n.machine.number)) used_none;
+          inner = subst (λ (o : Kept). block_of_got o.inner ≡ None) (sym (kept_at TruncAt.Updating at)) keeps.inner;
+          outer = subst (λ (o : Kept). block_of_got o.outer ≡ None) (sym (kept_at TruncAt.Updating at)) keeps.outer;
+          now = ap (λ (o : Itrunc). now_by n o.at) (machine_at TruncAt.Updating at) ∙ ap (now_by n) at ∙ ap (got_in (inode_block n.machine.number)) used_none;
         },
         subst (λ (a : TruncAt). 1 ≤ 4 * blocks_left cur (held_of mm) + stage_left mm.upper m.used a) (sym at) (omega (arith, few_for m.used)),
       );
@@ -612,11 +565,11 @@ module _ {D N : Type 0} (disk : Ghosts D N) (s : StoreState D) (p k : ℕ) (m : 
         written : Image
         written = with_inode cur mm.number (last_inode (held_of mm))
 
-        over : q ≡ machine.Over tt
-        over = answer_at trunc_at.Updating at
+        over : q ≡ Progress.Over tt
+        over = answer_at TruncAt.Updating at
 
         shown : now ≡ written
-        shown = (changes_at trunc_at.Updating at).current
+        shown = (changes_at TruncAt.Updating at).current
 
         written_keeps : KeepsUsed count mm.number claims cur written
         written_keeps = subst (λ (c : ℕ). KeepsUsed c mm.number claims cur written) (sym is.numbers)
@@ -629,21 +582,21 @@ module _ {D N : Type 0} (disk : Ghosts D N) (s : StoreState D) (p k : ℕ) (m : 
             (last_fields (held_of mm) cur mm.number (file_in files_now mm.number) (of.is_held disk s p k m is well stood))
 
     uses_makes : (a : TruncAt) → mm.at ≡ a → HasGivenUp cur mm a → Keeps cur m.kept mm a → now_by m a ≡ Some g → Makes
-    uses_makes trunc_at.Direct at given keeps got = frees_makes (root_of mm) (address_left mm) (direct_freed at given keeps) (changes_at trunc_at.Direct at)
-    uses_makes (trunc_at.Loading b) at given keeps got = absurd (cc got)
-    uses_makes trunc_at.Entry at given keeps got =
+    uses_makes TruncAt.Direct at given keeps got = frees_makes (root_of mm) (address_left mm) (direct_freed at given keeps) (changes_at TruncAt.Direct at)
+    uses_makes (TruncAt.Loading b) at given keeps got = absurd (cc got)
+    uses_makes TruncAt.Entry at given keeps got =
         frees_makes (entry_of cur (hand_in cur mm) mm.given_up) (at_entries mm (words_of (block_at cur (hand_in cur mm))) (mm.given_up + 1)) (entry_freed at given keeps)
-        (subst (λ (l : List ℕ). Changes disk s.volume p g.slot mm.bitmap (image_by cur mm l trunc_at.Entry) w) (entries_are at given keeps) (changes_at trunc_at.Entry at))
-    uses_makes trunc_at.Unloading at given keeps got = releases_makes at given keeps
-    uses_makes trunc_at.Freeing at given keeps got = by_upper mm.upper refl
+        (subst (λ (l : List ℕ). Changes disk s.volume p g.slot mm.bitmap (image_by cur mm l TruncAt.Entry) w) (entries_are at given keeps) (changes_at TruncAt.Entry at))
+    uses_makes TruncAt.Unloading at given keeps got = releases_makes at given keeps
+    uses_makes TruncAt.Freeing at given keeps got = by_upper mm.upper refl
       where
         writes : WritesBlock disk s.volume p g.slot mm.bitmap (with_freed cur mm.bitmap (hand_in cur mm)) w
-        writes = subst (λ (c : ℕ). WritesBlock disk s.volume p g.slot mm.bitmap (with_freed cur mm.bitmap c) w) (of.hand_is disk s p k m is well stood g given.0 keeps) (changes_at trunc_at.Freeing at)
+        writes = subst (λ (c : ℕ). WritesBlock disk s.volume p g.slot mm.bitmap (with_freed cur mm.bitmap c) w) (of.hand_is disk s p k m is well stood g given.0 keeps) (changes_at TruncAt.Freeing at)
 
         by_upper : (o : Option ℕ) → mm.upper ≡ o → Makes
         by_upper None upper = frees_makes (hand_in cur mm) (address_left mm) (tree_freed at given.0 given.1 keeps upper) writes
         by_upper (Some e) upper = frees_makes (hand_in cur mm) (at_branches mm (words_of (block_at cur (root_of mm))) (e + 1)) (second_freed at given.0 given.1 keeps e upper) writes
-    uses_makes trunc_at.Updating at given keeps got = writes_makes at given keeps
+    uses_makes TruncAt.Updating at given keeps got = writes_makes at given keeps
 
   makes_by : (o : Option Got) → now_of m ≡ o → FreesOn disk o s.volume p m q n w → Makes
   makes_by None none steps = gets_makes mm.at refl work.given work.keeps none steps

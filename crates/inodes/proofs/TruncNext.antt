@@ -1,22 +1,7 @@
 -- What is freed next: what stands before it is not there.
 use Rattle.std.proofs.Common.{◌≡◌, ◌≢◌, ℕ, suc, ◌+◌, ◌-◌, ◌<◌, ◌≤◌, Bool, true, false, not, cond, eqb, ltb, List, [], ◌∷◌, ◌++◌, length, set, get_or, replicate, refl, sym, ◌∙◌, ap, subst, ⊎_elim, arith, Option, Some, None}
-use Rattle.std.proofs.lemmas.Bool.{eqb-true, eqb-false, ne_eqb, not-true, not-false, ltb-true, ltb-false, cases_eq, cases_lt}
-use Rattle.std.proofs.lemmas.List.{get_or-set_same, get_or-set_other, get_or-replicate, length-set, length-replicate, ext_get_or}
-use Rattle.blocks.specs.Disk.{Image, block_at}
-use Rattle.model.specs.declared.types.image.Dinode.{Dinode}
-use Rattle.model.specs.declared.types.image.Form.{Form}
-use Rattle.model.specs.Fields.{words_of}
-use Rattle.model.specs.Layout.{depths, direct_count, form_of}
-use Rattle.in_flight.specs.Held.{Held, listed}
-use Rattle.in_flight.specs.Trees.{LeavesAlike, depth_of, entry_of, led_to}
-use Rattle.in_flight.specs.Lemmas.LeftOnWays.{begun_alike, passed_alike}
-use Rattle.in_flight.specs.Lemmas.Wholes.{tree_depth}
-use Rattle.inodes.specs.declared.freeing.Kept.{Kept}
-use Rattle.inodes.specs.declared.itrunc.TruncAt.{TruncAt}
-use Rattle.inodes.specs.declared.itrunc.TruncAt.TheVariants as trunc_at
-use Rattle.inodes.specs.declared.itrunc.Itrunc.{Itrunc}
-use Rattle.inodes.specs.Holding.{AreGivenUp, HasGivenUp, IsInHand, Keeps, above_by, above_hand, block_of_got, hand_in, held_of, made_so_far, one_for, root_of, way_of}
-use Rattle.inodes.specs.Itrunc.{address_left, address_or_on, at_address, at_block, at_branches, at_entries, branch_or_on, entry_or_on, first_trunc, inode_without, leads_to_data, present_from, unbegun}
+use Rattle.std.proofs.lemmas.List.{length-set}
+use Rattle.inodes.specs.Common.{above_by, above_hand, address_left, address_or_on, AreGivenUp, at_address, at_block, at_branches, at_entries, begun_alike, block_at, block_of_got, branch_or_on, cases_eq, cases_lt, depth_of, depths, Dinode, direct_count, entry_of, entry_or_on, eqb-false, eqb-true, ext_get_or, first_trunc, Form, form_of, get_or-replicate, get_or-set_other, get_or-set_same, hand_in, HasGivenUp, Held, held_of, Image, inode_without, IsInHand, Itrunc, Keeps, Kept, leads_to_data, LeavesAlike, led_to, length-replicate, listed, ltb-false, ltb-true, made_so_far, ne_eqb, not-false, not-true, one_for, passed_alike, present_from, root_of, tree_depth, TruncAt, unbegun, way_of, words_of}
 use Rattle.inodes.specs.Lemmas.Looks.{find-range, passed_by}
 use Rattle.inodes.proofs.InHand.{below, branches, deep, names_data, first_tree, root_there}
 
@@ -75,7 +60,7 @@ module _ (x : Image) (m : Itrunc) (from : ℕ) (form : m.form ≡ form_of x) (lo
   before_next k next j low = ⊎_elim (λ (earlier : j < from). given j earlier) (λ (above : from ≤ j). next.before j above low) (cases_lt j from)
 
   by_kind : (k : ℕ) → IsNext m.inode.addrs from 13 k → (t : Bool) → ltb k (direct_count m.form) ≡ t
-      → (let n : Itrunc = record m { slot = k; upper = None; given_up = 0; at = cond t trunc_at.Direct (trunc_at.Loading (get_or m.inode.addrs k 0)) } in ComesTo x m n (0 ∷ []) None None 0)
+      → (let n : Itrunc = record m { slot = k; upper = None; given_up = 0; at = cond t TruncAt.Direct (TruncAt.Loading (get_or m.inode.addrs k 0)) } in ComesTo x m n (0 ∷ []) None None 0)
   by_kind k next true direct = record {
     same = refl;
     slot = next.high;
@@ -253,9 +238,9 @@ few_for None = omega arith
 few_for (Some i) = omega arith
 
 pub few_made : (upper used : Option ℕ) (a : TruncAt) → made_so_far upper used a ≤ 4
-few_made upper used trunc_at.Direct = let one = few_for used in omega (arith, one)
-few_made upper used (trunc_at.Loading b) = let one = few_for upper in omega (arith, one)
-few_made upper used trunc_at.Entry = let one = few_for used in let two = few_for upper in omega (arith, one, two)
-few_made upper used trunc_at.Unloading = let one = few_for upper in omega (arith, one)
-few_made upper used trunc_at.Freeing = let one = few_for used in let two = few_for upper in omega (arith, one, two)
-few_made upper used trunc_at.Updating = let one = few_for used in omega (arith, one)
+few_made upper used TruncAt.Direct = let one = few_for used in omega (arith, one)
+few_made upper used (TruncAt.Loading b) = let one = few_for upper in omega (arith, one)
+few_made upper used TruncAt.Entry = let one = few_for used in let two = few_for upper in omega (arith, one, two)
+few_made upper used TruncAt.Unloading = let one = few_for upper in omega (arith, one)
+few_made upper used TruncAt.Freeing = let one = few_for used in let two = few_for upper in omega (arith, one, two)
+few_made upper used TruncAt.Updating = let one = few_for used in omega (arith, one)

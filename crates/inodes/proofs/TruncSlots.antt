@@ -1,20 +1,9 @@
 -- The two slots of a process that frees a file's blocks: that of the block of addresses, and that of the block that it
 -- uses.
 use Rattle.std.proofs.Common.{◌≡◌, ◌≢◌, ◌⊎◌, inl, inr, ⊎_elim, ℕ, refl, sym, ◌∙◌, ap, subst, Option, Some, None}
-use Rattle.blocks.specs.declared.disk.Disk.{Ghosts}
-use Rattle.wal.specs.declared.types.DeviceFault.{DeviceFault}
-use Rattle.bcache.specs.Buffers.{Buffers, buffer}
-use Rattle.model.specs.declared.types.operations.TaskProgress.{TaskProgress}
-use Rattle.model.specs.declared.types.operations.Why.{Why}
-use Rattle.model.specs.declared.types.operations.Why.TheVariants as why
-use Rattle.wal.specs.Volume.{fault_of_task, OnSleeping, fault_of_get, faults_after, GetsFor, progress_of, slot_of}
-use Rattle.wal.specs.Get.{Get}
+use Rattle.inodes.specs.Common.{Agrees, buffer, Buffers, DeviceFault, fault_of_get, fault_of_task, faults_after, Get, GetsFor, GetsLock, Ghosts, GivesUpLock, HasLock, HoldsAt, HoldsBlock, IsHeldByAnother, IsLocked, LocksAfter, OnSleeping, Progress, progress_of, Reads, StoreState, TaskProgress, WaitsFor, Why}
+use Rattle.wal.specs.Volume.{slot_of}
 use Rattle.wal.specs.Get as get
-use Rattle.wal.specs.Held.{HasLock, HoldsBlock, IsLocked, LocksAfter, WaitsFor, GetsLock, GivesUpLock}
-use Rattle.model.specs.declared.types.progress.Progress.{Progress}
-use Rattle.model.specs.declared.types.progress.Progress.TheVariants as machine
-use Rattle.inodes.specs.Steps.{Reads, IsHeldByAnother}
-use Rattle.inodes.specs.Store.{StoreState, HoldsAt, Agrees}
 use Rattle.inodes.proofs.Getting.{fault_of}
 
 -- Process p has block a in the slot that it keeps, and b in the one that it uses, where it got them, and nothing else.
@@ -93,9 +82,7 @@ waits_another s p a b x kept agrees had other locked = record {
   where
     own : HasLock s.volume.buffers p b locked.1 → kept ≡ Some locked.1 → ⊥
     own mine has =
-        let holds : HoldsBlock s.volume.buffers p a locked.1 = subst (λ (o : Option ℕ). HoldsAt s.volume.buffers p a o) has had.holds_kept in
-        let e : Some a ≡ Some b = sym holds.block ∙ mine.block in
-        other locked.1 has (cc e)
+        other locked.1 has (cc (sym (subst (λ (o : Option ℕ). HoldsAt s.volume.buffers p a o) has had.holds_kept).block ∙ mine.block))
 
 -- ---- a block is got, or the process has to wait, or the disk fails
 
@@ -120,44 +107,44 @@ module _ {D N T : Type 0} (disk : Ghosts D N) (s t : StoreState D) (p b : ℕ) (
     pub is : slot ≡ Some at
     pub locks : GetsLock s.volume.buffers t.volume.buffers p b at
 
-  pub gains : r ≡ machine.Moved → Gains
+  pub gains : r ≡ Progress.Moved → Gains
   gains moved = by_answer gets.answer gets.gives gets.slot gets.locks
     where
       by_answer : (a : Get) → r ≡ progress_of a → slot ≡ slot_of a → LocksAfter a s.volume.buffers t.volume.buffers p b → Gains
       by_answer (get.Got i) is at locks = record { at = i; is = at; locks = locks }
-      by_answer (get.Sleeping cause) is at locks = absurd (let e : (let q : Progress T = machine.Sleeping cause in q) ≡ machine.Moved = sym is ∙ moved in cc e)
-      by_answer (get.Fault fault) is at locks = absurd (let e : (let q : Progress T = machine.Fault fault in q) ≡ machine.Moved = sym is ∙ moved in cc e)
+      by_answer (get.Sleeping cause) is at locks = absurd (let e : (let q : Progress T = Progress.Sleeping cause in q) ≡ Progress.Moved = sym is ∙ moved in cc e)
+      by_answer (get.Fault fault) is at locks = absurd (let e : (let q : Progress T = Progress.Fault fault in q) ≡ Progress.Moved = sym is ∙ moved in cc e)
 
-  pub never_over : (out : T) → r ≡ machine.Over out → ⊥
+  pub never_over : (out : T) → r ≡ Progress.Over out → ⊥
   never_over out over = by_answer gets.answer gets.gives
     where
       by_answer : (a : Get) → r ≡ progress_of a → ⊥
-      by_answer (get.Got i) is = absurd (let e : (let q : Progress T = machine.Moved in q) ≡ machine.Over out = sym is ∙ over in cc e)
-      by_answer (get.Sleeping cause) is = absurd (let e : (let q : Progress T = machine.Sleeping cause in q) ≡ machine.Over out = sym is ∙ over in cc e)
-      by_answer (get.Fault fault) is = absurd (let e : (let q : Progress T = machine.Fault fault in q) ≡ machine.Over out = sym is ∙ over in cc e)
+      by_answer (get.Got i) is = absurd (let e : (let q : Progress T = Progress.Moved in q) ≡ Progress.Over out = sym is ∙ over in cc e)
+      by_answer (get.Sleeping cause) is = absurd (let e : (let q : Progress T = Progress.Sleeping cause in q) ≡ Progress.Over out = sym is ∙ over in cc e)
+      by_answer (get.Fault fault) is = absurd (let e : (let q : Progress T = Progress.Fault fault in q) ≡ Progress.Over out = sym is ∙ over in cc e)
 
-  asleep : (cause : Why) → r ≡ machine.Sleeping cause → gets.answer ≡ get.Sleeping cause
+  asleep : (cause : Why) → r ≡ Progress.Sleeping cause → gets.answer ≡ get.Sleeping cause
   asleep cause waits = by_answer gets.answer gets.gives
     where
       by_answer : (a : Get) → r ≡ progress_of a → a ≡ get.Sleeping cause
-      by_answer (get.Got i) is = absurd (let e : (let q : Progress T = machine.Moved in q) ≡ machine.Sleeping cause = sym is ∙ waits in cc e)
-      by_answer (get.Sleeping other) is = let same : other ≡ cause = (let e : (let q : Progress T = machine.Sleeping other in q) ≡ machine.Sleeping cause = sym is ∙ waits in cc e) in ap get.Sleeping same
-      by_answer (get.Fault fault) is = absurd (let e : (let q : Progress T = machine.Fault fault in q) ≡ machine.Sleeping cause = sym is ∙ waits in cc e)
+      by_answer (get.Got i) is = absurd (let e : (let q : Progress T = Progress.Moved in q) ≡ Progress.Sleeping cause = sym is ∙ waits in cc e)
+      by_answer (get.Sleeping other) is = let same : other ≡ cause = (let e : (let q : Progress T = Progress.Sleeping other in q) ≡ Progress.Sleeping cause = sym is ∙ waits in cc e) in ap get.Sleeping same
+      by_answer (get.Fault fault) is = absurd (let e : (let q : Progress T = Progress.Fault fault in q) ≡ Progress.Sleeping cause = sym is ∙ waits in cc e)
 
   -- who has to wait changed nothing
-  pub sleeps : (cause : Why) → r ≡ machine.Sleeping cause → t.volume ≡ s.volume
+  pub sleeps : (cause : Why) → r ≡ Progress.Sleeping cause → t.volume ≡ s.volume
   sleeps cause waits = subst (λ (a : Get). OnSleeping a (t.volume ≡ s.volume)) (asleep cause waits) gets.gets.sleeping
 
-  pub waiting : (cause : Why) → r ≡ machine.Sleeping cause → WaitsFor cause s.volume.buffers b
+  pub waiting : (cause : Why) → r ≡ Progress.Sleeping cause → WaitsFor cause s.volume.buffers b
   waiting cause waits = (subst (λ (a : Get). LocksAfter a s.volume.buffers t.volume.buffers p b) (asleep cause waits) gets.locks).0
 
   -- nobody waits for an inode there
-  pub never_inode : r ≡ machine.Sleeping why.InodeHeld → ⊥
-  never_inode waits = waiting why.InodeHeld waits
+  pub never_inode : r ≡ Progress.Sleeping Why.InodeHeld → ⊥
+  never_inode waits = waiting Why.InodeHeld waits
 
   pub held_for : (a x : ℕ) (kept : Option ℕ) → Agrees s.volume.buffers s.volume.log s.table.inode_count s.tasks → Slots s.volume.buffers p a kept x None
-      → ((j : ℕ) → kept ≡ Some j → a ≢ b) → r ≡ machine.Sleeping why.BufferHeld → IsHeldByAnother s p b
-  held_for a x kept agrees had other waits = waits_another s p a b x kept agrees had other (waiting why.BufferHeld waits)
+      → ((j : ℕ) → kept ≡ Some j → a ≢ b) → r ≡ Progress.Sleeping Why.BufferHeld → IsHeldByAnother s p b
+  held_for a x kept agrees had other waits = waits_another s p a b x kept agrees had other (waiting Why.BufferHeld waits)
 
 -- the same blocks and slots by other names
 pub slots_as : (c : Buffers) (p a b e g : ℕ) (kept used old_kept old_used : Option ℕ) → a ≡ e → kept ≡ old_kept → b ≡ g → used ≡ old_used → Slots c p e old_kept g old_used → Slots c p a kept b used

@@ -1,51 +1,8 @@
 -- Each step of a truncation keeps what is true of every store, and does what a step promises.
 use Rattle.std.proofs.Common.{◌≡◌, ◌≢◌, ⊎_elim, ℕ, ◌<◌, Bool, true, false, cond, eqb, List, length, set, refl, sym, ◌∙◌, ap, subst, arith, Option, Some, None}
 use Rattle.std.specs.Prelude.{IsTrue}
-use Rattle.std.proofs.lemmas.Bool.{false≢true, ne_eqb, cond-false}
-use Rattle.std.proofs.lemmas.List.{get_or-set_same}
-use Rattle.blocks.specs.Disk.{Image, block_at}
-use Rattle.blocks.specs.declared.disk.Disk.{Ghosts}
-use Rattle.blocks.specs.declared.errors.DiskFault.{DiskFault}
-use Rattle.bcache.specs.Buffers.{Buffers}
-use Rattle.model.specs.declared.types.operations.Op.{Op}
-use Rattle.model.specs.declared.types.operations.Op.TheVariants.{Trunc, Remove}
-use Rattle.model.specs.declared.types.operations.TaskProgress.{TaskProgress}
-use Rattle.model.specs.declared.types.operations.TaskProgress.TheVariants as progress
-use Rattle.model.specs.declared.types.operations.Why.{Why}
-use Rattle.model.specs.declared.types.operations.Why.TheVariants as why
-use Rattle.model.specs.Files.{Files}
-use Rattle.model.specs.Journal.{is_number}
-use Rattle.model.specs.Tasks.{Marks}
-use Rattle.model.specs.Lemmas.Frames.{form_same}
-use Rattle.in_flight.specs.Held.{Claim, Claims, FitsHeld, IsClaimedNow, frees}
-use Rattle.in_flight.specs.Lemmas.HeldFrames.{held_alike}
-use Rattle.wal.specs.Get.{Get}
+use Rattle.inodes.specs.Common.{after_trunc, Agrees, answer_by, AreLooking, asked_by, block_at, block_next, block_of_got, Buffers, CanTake, Changes, Claim, claim_by, Claims, claims_of, cond-false, current_of, DiskFault, entries_kept, false≢true, fault_of_task, Files, FitsHeld, form_same, Freeing, frees, FreesOn, Get, get_or-set_same, GetsFor, GetsNext, Ghosts, GivesUpLock, Got, grips_of, groups_noted, groups_same, HasLock, HasLogged, HasSlot, held_alike, held_of, Image, inode_left, is_number, IsClaimedNow, IsHeldByAnother, IsKept, IsLocked, IsStore, IsTruncating, Itrunc, Joint, KeepsTable, locked_grip, LogState, LooksAt, Marks, ne_eqb, no_task, now_of, Op, stage_of_trunc, Progress, progress_of, progress_of_trunc, Reads, Remove, renewed, SameGroups, seen, slot_kept, Stage, Stands, stays_got, stays_left, stays_noted, stays_same, StaysForOthers, Steps, StoreState, table_of_trunc, TableState, task, TaskProgress, TaskState, Trunc, trunc_op, TruncAt, VolumeState, WaitsFor, when_got, Why}
 use Rattle.wal.specs.Get as get
-use Rattle.wal.specs.Held.{GivesUpLock, HasLock, IsLocked, WaitsFor}
-use Rattle.wal.specs.Joint.{Joint, seen}
-use Rattle.wal.specs.Machine.{LogState, SameGroups}
-use Rattle.wal.specs.Volume.{VolumeState, GetsFor, fault_of_task, progress_of}
-use Rattle.blockmap.specs.Lemmas.Others.{StaysForOthers, groups_noted, groups_same, stays_got, stays_left, stays_noted, stays_same}
-use Rattle.model.specs.declared.types.progress.Progress.{Progress}
-use Rattle.model.specs.declared.types.progress.Progress.TheVariants as machine
-use Rattle.inodes.specs.declared.freeing.Got.{Got}
-use Rattle.inodes.specs.declared.freeing.Freeing.{Freeing}
-use Rattle.inodes.specs.declared.itrunc.Itrunc.{Itrunc}
-use Rattle.inodes.specs.declared.itrunc.TruncAt.{TruncAt}
-use Rattle.inodes.specs.declared.itrunc.TruncAt.TheVariants as trunc_at
-use Rattle.inodes.specs.declared.tasks.Stage.{Stage}
-use Rattle.inodes.specs.declared.tasks.Stage.TheVariants as stage
-use Rattle.inodes.specs.Freeing.{Changes, FreesOn, GetsNext, IsKept, answer_by, block_next, entries_kept, now_of, slot_kept, when_got}
-use Rattle.inodes.specs.Goes.{place_of_trunc, progress_of_trunc, table_of_trunc}
-use Rattle.inodes.specs.Grips.{KeepsTable, locked_grip}
-use Rattle.inodes.specs.Holding.{IsTruncating, block_of_got, claim_by, claims_of, held_of, trunc_op}
-use Rattle.inodes.specs.Itrunc.{after_trunc, inode_left}
-use Rattle.inodes.specs.Looks.{AreLooking, CanTake, LooksAt}
-use Rattle.inodes.specs.Places.{HasSlot, asked_by, grips_of}
-use Rattle.inodes.specs.Steps.{IsHeldByAnother, Reads, Steps}
-use Rattle.inodes.specs.Store.{StoreState, Agrees, IsStore, HasLogged, Stands, current_of}
-use Rattle.inodes.specs.Table.{TableState, renewed}
-use Rattle.inodes.specs.Tasks.{TaskState, task, no_task}
 use Rattle.inodes.specs.Lemmas.Freeing.{IsDone, use_done}
 use Rattle.inodes.specs.Lemmas.Holding.{own_holds}
 use Rattle.inodes.specs.Lemmas.Looks.{trunc_number}
@@ -61,7 +18,7 @@ use Rattle.inodes.proofs.TruncSlots.{gains, never_over, reads_for, sleeps, waiti
 use Rattle.inodes.proofs.Truncating.{agrees, alone, got, gripped, keeps_apart, looking, never_gets, one_kept, second_apart, work}
 
 -- it holds no other number
-no_claim : (k j : ℕ) (m : Freeing) → m.machine.number ≢ j → claim_by None (stage.Truncating k m) j ≡ None
+no_claim : (k j : ℕ) (m : Freeing) → m.machine.number ≢ j → claim_by None (Stage.Truncating k m) j ≡ None
 no_claim k j m apart = cond-false (eqb m.machine.number j) (Some (frees (held_of m.machine))) None (ne_eqb m.machine.number j apart)
 
 -- the operation of a truncation may take its inode
@@ -111,7 +68,7 @@ leaves disk v w p i b (Some y) does = record {
 
 -- process p frees a file's blocks
 module _ {D N : Type 0} (disk : Ghosts D N) (s : StoreState D) (p k : ℕ) (m : Freeing) (is : IsStore disk.image s) (well : s.volume.fault ≡ None)
-    (stood : (task s.tasks p).place ≡ stage.Truncating k m) (inside : p < length s.tasks) (joint : Joint (disk.image s.volume.device) s.volume.buffers s.volume.log)
+    (stood : (task s.tasks p).stage ≡ Stage.Truncating k m) (inside : p < length s.tasks) (joint : Joint (disk.image s.volume.device) s.volume.buffers s.volume.log)
     (q : Progress (Unit {0})) (n : Freeing) (w : VolumeState D) (ts : List TaskState) (steps : FreesOn disk (now_of m) s.volume p m q n w) where
   abbrev i : ℕ
   i = m.machine.number
@@ -132,17 +89,17 @@ module _ {D N : Type 0} (disk : Ghosts D N) (s : StoreState D) (p k : ℕ) (m : 
   count = s.table.inode_count
 
   abbrev here : Stage
-  here = stage.Truncating k m
+  here = Stage.Truncating k m
 
   abbrev next : Stage
-  next = place_of_trunc k m n q
+  next = stage_of_trunc k m n q
 
   abbrev tab : TableState
   tab = table_of_trunc s.table k m q
 
   -- its task then, and the store
   abbrev pub task_then : TaskState
-  task_then = record (task s.tasks p) { place = next }
+  task_then = record (task s.tasks p) { stage = next }
 
   abbrev then_with : TableState → StoreState D
   then_with t = record { volume = w; tasks = ts; table = t }
@@ -189,10 +146,10 @@ module _ {D N : Type 0} (disk : Ghosts D N) (s : StoreState D) (p k : ℕ) (m : 
   reads r t same = by_used (now_of m) steps
     where
       well_done : (a : Progress (Unit {0})) → IsDone a → fault_of a ≡ None
-      well_done machine.Moved done = refl
-      well_done (machine.Sleeping cause) done = absurd done
-      well_done (machine.Over out) done = refl
-      well_done (machine.Fault fault) done = absurd done
+      well_done Progress.Moved done = refl
+      well_done (Progress.Sleeping cause) done = absurd done
+      well_done (Progress.Over out) done = refl
+      well_done (Progress.Fault fault) done = absurd done
 
       by_used : (o : Option Got) → FreesOn disk o s.volume p m q n w → Reads disk s r (then_with t)
       by_used None steps = reads_for disk s (then_with t) p (block_next m) q steps.slot steps.gets r same
@@ -206,9 +163,7 @@ module _ {D N : Type 0} (disk : Ghosts D N) (s : StoreState D) (p k : ℕ) (m : 
       by_used : (o : Option Got) → FreesOn disk o s.volume p m q n w → SameGroups s.volume.log w.log
       by_used None steps = subst (SameGroups s.volume.log) (sym steps.gets.reads.log) (groups_same s.volume.log)
       by_used (Some g) steps =
-          let few = is.few in
-          let pids = joint.log.pids in
-          (leaves disk s.volume w p g.slot (block_next m) _ steps.changes).groups (omega (arith, few, pids, inside))
+          (leaves disk s.volume w p g.slot (block_next m) _ steps.changes).groups (omega (arith, is.few, joint.log.pids, inside))
 
   -- ---- the step was made
 
@@ -220,11 +175,11 @@ module _ {D N : Type 0} (disk : Ghosts D N) (s : StoreState D) (p k : ℕ) (m : 
   comes : IsDone q → Comes
   comes done = by_used (now_of m) refl steps
     where
-      moved : (slot : Option ℕ) → GetsFor disk s.volume p (block_next m) q slot w → (r : Progress (Unit {0})) → q ≡ r → IsDone r → q ≡ machine.Moved
-      moved slot gets machine.Moved is done = is
-      moved slot gets (machine.Sleeping cause) is done = absurd done
-      moved slot gets (machine.Over out) is done = absurd (never_over disk s store_then p (block_next m) q slot gets out is)
-      moved slot gets (machine.Fault fault) is done = absurd done
+      moved : (slot : Option ℕ) → GetsFor disk s.volume p (block_next m) q slot w → (r : Progress (Unit {0})) → q ≡ r → IsDone r → q ≡ Progress.Moved
+      moved slot gets Progress.Moved is done = is
+      moved slot gets (Progress.Sleeping cause) is done = absurd done
+      moved slot gets (Progress.Over out) is done = absurd (never_over disk s store_then p (block_next m) q slot gets out is)
+      moved slot gets (Progress.Fault fault) is done = absurd done
 
       by_used : (o : Option Got) → now_of m ≡ o → FreesOn disk o s.volume p m q n w → Comes
       by_used None none steps =
@@ -247,21 +202,21 @@ module _ {D N : Type 0} (disk : Ghosts D N) (s : StoreState D) (p k : ℕ) (m : 
   table_then r is = subst (λ (r : Progress (Unit {0})). KeepsTable s.table (table_of_trunc s.table k m r) p (grips_of s.tasks) (grips_of s.tasks) now) is made.table
 
   -- it goes on
-  does_go : (its : Op) → q ≡ machine.Moved → Does disk s p k i here progress.Moved (stage.Truncating k n) w s.table ts its
+  does_go : (its : Op) → q ≡ Progress.Moved → Does disk s p k i here TaskProgress.Moved (Stage.Truncating k n) w s.table ts its
   does_go its moved =
       let to = comes (subst IsDone (sym moved) tt) in
       let on = made.on moved in
       let number : n.machine.number ≡ i = ap (λ (o : Itrunc). o.number) on.same in
-      let own : claim_by None (stage.Truncating k n) i ≡ Some (frees (held_of n.machine)) = subst (λ (j : ℕ). claim_by None (stage.Truncating k n) j ≡ Some (frees (held_of n.machine))) number (own_holds k n) in
+      let own : claim_by None (Stage.Truncating k n) i ≡ Some (frees (held_of n.machine)) = subst (λ (j : ℕ). claim_by None (Stage.Truncating k n) j ≡ Some (frees (held_of n.machine))) number (own_holds k n) in
       let less = on.less in
       record {
-        reads = reads progress.Moved s.table (sym (ap fault_of moved));
+        reads = reads TaskProgress.Moved s.table (sym (ap fault_of moved));
         numbers = refl;
         form = refl;
         groups = groups;
         marks = made.marks;
         keeps = made.keeps;
-        table = table_then machine.Moved moved;
+        table = table_then Progress.Moved moved;
         files = λ new claimed files fits. on.fits new (subst (λ (c : Option Claim). IsClaimedNow claims i c new) own claimed) files fits;
         apart_then = λ j apart. no_claim k j n (λ same. apart (sym same ∙ number));
         grip = grip_then;
@@ -288,18 +243,18 @@ module _ {D N : Type 0} (disk : Ghosts D N) (s : StoreState D) (p k : ℕ) (m : 
       }
 
   -- or is at its end
-  does_end : (its : Op) → q ≡ machine.Over tt → Does disk s p k i here progress.Moved (stage.Leaving k) w (renewed s.table k (inode_left m.machine)) ts its
+  does_end : (its : Op) → q ≡ Progress.Over tt → Does disk s p k i here TaskProgress.Moved (Stage.Leaving k) w (renewed s.table k (inode_left m.machine)) ts its
   does_end its over =
       let to = comes (subst IsDone (sym over) tt) in
       let some = (made.over over).1 in
       record {
-        reads = reads progress.Moved (renewed s.table k (inode_left m.machine)) (sym (ap fault_of over));
+        reads = reads TaskProgress.Moved (renewed s.table k (inode_left m.machine)) (sym (ap fault_of over));
         numbers = refl;
         form = refl;
         groups = groups;
         marks = made.marks;
         keeps = made.keeps;
-        table = table_then (machine.Over tt) over;
+        table = table_then (Progress.Over tt) over;
         files = made.rests over;
         apart_then = λ j apart. refl;
         grip = grip_then;
@@ -340,7 +295,7 @@ module _ {D N : Type 0} (disk : Ghosts D N) (s : StoreState D) (p k : ℕ) (m : 
         (record { table = are.table; others = λ q j i other locks. record { number = λ e. refl; holder = refl; copy = refl } })
 
   -- it has to wait
-  module _ (cause : Why) (waits : q ≡ machine.Sleeping cause) where
+  module _ (cause : Why) (waits : q ≡ Progress.Sleeping cause) where
     undone : IsDone q → ⊥
     undone done = subst IsDone waits done
 
@@ -354,7 +309,7 @@ module _ {D N : Type 0} (disk : Ghosts D N) (s : StoreState D) (p k : ℕ) (m : 
     waits_for = let step = (gets undone).1 in waiting disk s store_then p (block_next m) q step.slot step.gets cause waits
 
     -- for a buffer that another has
-    held : cause ≡ why.BufferHeld → IsHeldByAnother s p (block_next m)
+    held : cause ≡ Why.BufferHeld → IsHeldByAnother s p (block_next m)
     held buffer =
         let locked : IsLocked s.volume.buffers (block_next m) = subst (λ (y : Why). WaitsFor y s.volume.buffers (block_next m)) buffer waits_for in
         record {
@@ -365,9 +320,9 @@ module _ {D N : Type 0} (disk : Ghosts D N) (s : StoreState D) (p k : ℕ) (m : 
           got = agrees_now.holders locked.0 (block_next m) locked.1 locked.2;
         }
 
-    does_wait : (its : Op) → Does disk s p k i here (progress.Sleeping cause) here w s.table ts its
+    does_wait : (its : Op) → Does disk s p k i here (TaskProgress.Sleeping cause) here w s.table ts its
     does_wait its = record {
-      reads = reads (progress.Sleeping cause) s.table (sym (ap fault_of waits));
+      reads = reads (TaskProgress.Sleeping cause) s.table (sym (ap fault_of waits));
       numbers = refl;
       form = refl;
       groups = groups;
@@ -377,26 +332,26 @@ module _ {D N : Type 0} (disk : Ghosts D N) (s : StoreState D) (p k : ℕ) (m : 
       files = λ new claimed files fits. fits_still undone new claimed files fits;
       apart_then = works.apart;
       grip = grip_then;
-      stands = λ fine. subst (λ (v : VolumeState D). StandsSo disk s p k i here (progress.Sleeping cause) here v s.table ts) (sym slept) (record {
+      stands = λ fine. subst (λ (v : VolumeState D). StandsSo disk s p k i here (TaskProgress.Sleeping cause) here v s.table ts) (sym slept) (record {
         others = stays_same s.volume.buffers s.volume.log p;
         locks = λ b j lock. subst (λ (a : Stage). HasSlot a j) stood (agrees_now.holders p b j lock);
         stands = subst (λ (a : Stage). Stands s.volume.buffers s.volume.log count p op a) stood (agrees_now.stands p);
-        looks = subst (λ (t : TaskState). LooksAt cur s.table t t.place) (ap (λ (a : Stage). record (task s.tasks p) { place = a }) stood) (are.stand p);
+        looks = subst (λ (t : TaskState). LooksAt cur s.table t t.stage) (ap (λ (a : Stage). record (task s.tasks p) { stage = a }) stood) (are.stand p);
         logged = tt;
       });
       late = refl;
       asleep = λ other same. (slept, refl, refl);
       held = λ same. held (cc same);
-      inode = λ same. subst (λ (y : Why). WaitsFor y s.volume.buffers (block_next m)) (let e : cause ≡ why.InodeHeld = cc same in e) waits_for;
+      inode = λ same. subst (λ (y : Why). WaitsFor y s.volume.buffers (block_next m)) (let e : cause ≡ Why.InodeHeld = cc same in e) waits_for;
       less = λ made. absurd (false≢true made);
     }
 
   -- or the disk fails
-  does_fail : (its : Op) (fault : DiskFault) → q ≡ machine.Fault fault → Does disk s p k i here (progress.Fault fault) here w s.table ts its
+  does_fail : (its : Op) (fault : DiskFault) → q ≡ Progress.Fault fault → Does disk s p k i here (TaskProgress.Fault fault) here w s.table ts its
   does_fail its fault fails =
       let undone : IsDone q → ⊥ = subst IsDone fails in
       record {
-        reads = reads (progress.Fault fault) s.table (sym (ap fault_of fails));
+        reads = reads (TaskProgress.Fault fault) s.table (sym (ap fault_of fails));
         numbers = refl;
         form = refl;
         groups = groups;
@@ -416,11 +371,11 @@ module _ {D N : Type 0} (disk : Ghosts D N) (s : StoreState D) (p k : ℕ) (m : 
 
   -- ---- THE STEP
 
-  does : (its : Op) (r : Progress (Unit {0})) → q ≡ r → Does disk s p k i here (progress_of_trunc r) (place_of_trunc k m n r) w (table_of_trunc s.table k m r) ts its
-  does its machine.Moved is = does_go its is
-  does its (machine.Sleeping cause) is = does_wait cause is its
-  does its (machine.Over out) is = does_end its is
-  does its (machine.Fault fault) is = does_fail its fault is
+  does : (its : Op) (r : Progress (Unit {0})) → q ≡ r → Does disk s p k i here (progress_of_trunc r) (stage_of_trunc k m n r) w (table_of_trunc s.table k m r) ts its
+  does its Progress.Moved is = does_go its is
+  does its (Progress.Sleeping cause) is = does_wait cause is its
+  does its (Progress.Over out) is = does_end its is
+  does its (Progress.Fault fault) is = does_fail its fault is
 
   module _ (tasks : ts ≡ set s.tasks p task_then) where
     -- what is true of every store
@@ -437,25 +392,25 @@ module _ {D N : Type 0} (disk : Ghosts D N) (s : StoreState D) (p k : ℕ) (m : 
       now = n;
       steps = steps;
       gives = refl;
-      next = ap (λ (o : TaskState). o.place) now_is;
+      next = ap (λ (o : TaskState). o.stage) now_is;
       table = refl;
       bytes = ap (λ (o : TaskState). o.gathered) now_is;
     })
 
 -- with the last step the same inode is left
-pub left_same : {D N : Type 0} (disk : Ghosts D N) (v w : VolumeState D) (p : ℕ) (m n : Freeing) (o : Option Got) → FreesOn disk o v p m (machine.Over tt) n w → inode_left n.machine ≡ inode_left m.machine
+pub left_same : {D N : Type 0} (disk : Ghosts D N) (v w : VolumeState D) (p : ℕ) (m n : Freeing) (o : Option Got) → FreesOn disk o v p m (Progress.Over tt) n w → inode_left n.machine ≡ inode_left m.machine
 left_same disk v w p m n None steps = absurd (getting_on steps.gets.answer (sym steps.gets.gives))
   where
-    getting_on : (a : Get) → progress_of {T = Unit {0}} a ≡ machine.Over tt → ⊥
+    getting_on : (a : Get) → progress_of {T = Unit {0}} a ≡ Progress.Over tt → ⊥
     getting_on (get.Got i) over = absurd (cc over)
     getting_on (get.Sleeping cause) over = absurd (cc over)
     getting_on (get.Fault fault) over = absurd (cc over)
 left_same disk v w p m n (Some g) steps = ap (λ (o : Freeing). inode_left o.machine) steps.next ∙ by_at (entries_kept (seen (disk.image v.device) v.buffers) m g) m.machine.at steps.answer
   where
-    by_at : (entries : List ℕ) (a : TruncAt) → machine.Over tt ≡ answer_by a → inode_left (after_trunc m.machine entries a) ≡ inode_left m.machine
-    by_at entries trunc_at.Direct over = absurd (cc over)
-    by_at entries (trunc_at.Loading b) over = refl
-    by_at entries trunc_at.Entry over = absurd (cc over)
-    by_at entries trunc_at.Unloading over = refl
-    by_at entries trunc_at.Freeing over = absurd (cc over)
-    by_at entries trunc_at.Updating over = refl
+    by_at : (entries : List ℕ) (a : TruncAt) → Progress.Over tt ≡ answer_by a → inode_left (after_trunc m.machine entries a) ≡ inode_left m.machine
+    by_at entries TruncAt.Direct over = absurd (cc over)
+    by_at entries (TruncAt.Loading b) over = refl
+    by_at entries TruncAt.Entry over = absurd (cc over)
+    by_at entries TruncAt.Unloading over = refl
+    by_at entries TruncAt.Freeing over = absurd (cc over)
+    by_at entries TruncAt.Updating over = refl

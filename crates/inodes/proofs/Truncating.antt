@@ -1,49 +1,9 @@
 -- What is true of a process that frees a file's blocks: what it holds, and that it may make its next step.
 use Rattle.std.proofs.Common.{◌≡◌, ◌≢◌, ℕ, ◌<◌, ◌≤◌, true, List, [], ◌∷◌, ◌++◌, get_or, length, length-append, refl, sym, ◌∙◌, ap, subst, ⊎_elim, arith, Option, Some, None}
 use Rattle.std.specs.Prelude.{IsTrue, IsSome}
-use Rattle.std.proofs.lemmas.Bool.{ne_eqb}
-use Rattle.blocks.specs.Disk.{Image, block_at}
-use Rattle.blocks.specs.declared.disk.Disk.{Ghosts}
-use Rattle.bcache.specs.Lemmas.Current.{length-current}
-use Rattle.model.specs.Fields.{words_of}
-use Rattle.model.specs.Files.{Files, file_in}
-use Rattle.model.specs.Journal.{is_number}
-use Rattle.model.specs.declared.types.image.Form.{Form}
-use Rattle.model.specs.Layout.{direct_count, inode_block, inode_count_of, super_of, bitmap_block}
-use Rattle.model.specs.Soundness.{count_of}
-use Rattle.model.specs.Lemmas.Soundness.{facts_of}
+use Rattle.inodes.specs.Common.{above_by, Agrees, ahead_at, ahead_of, ahead_root, apart, AreLooking, between, bitmap_block, block_at, block_by, block_next, block_of_got, Claim, Claims, claims_of, count_of, current_of, direct_count, direct_left, entries_kept, entry_at, entry_of, facts_of, file_in, Files, first_left, first_twice, FitsAt, FitsHeld, Form, freed_by, Freeing, frees, Ghosts, Got, got_or, grip, grip_of, grips_of, hand_by, hand_in, HasBit, HasGivenUp, HasOne, HasSlot, held_has_blocks, held_of, Holds, HoldsBlock, HoldsForFreeing, HoldsGot, Image, InMemory, inode_block, inode_count_of, is_number, is_of, IsApart, IsAtDirect, IsAtEntry, IsBelow, IsFine, IsHeld, IsHeldIn, IsInHand, IsMapped, IsMarkedData, IsStore, IsTruncating, Joint, Keeps, led_further, led_step, led_to, length-current, LiesInData, listed, locked_grip, mapped, MayFree, MayGet, names_left, ne_eqb, now_by, now_of, root_of, Stage, Stands, StoreState, super_of, task, TruncAt, used_by, way_of, words_of}
+use Rattle.wal.specs.Machine.{HasRoom}
 use Rattle.model.specs.Lemmas.Words.{length-words_of-block}
-use Rattle.in_flight.specs.Held.{Claims, FitsHeld, IsFine, IsHeld, frees, Claim, listed}
-use Rattle.in_flight.specs.HeldLaws.{IsMarkedData, IsHeldIn}
-use Rattle.in_flight.specs.Loose.{LiesInData}
-use Rattle.in_flight.specs.Lemmas.Claims.{IsApart, apart}
-use Rattle.in_flight.specs.Trees.{names_left, entry_of, led_to}
-use Rattle.in_flight.specs.Lemmas.GivenUp.{direct_left, first_left, first_twice}
-use Rattle.in_flight.specs.Lemmas.LeftOnWays.{ahead_at, ahead_of}
-use Rattle.in_flight.specs.Lemmas.Ways.{led_further}
-use Rattle.in_flight.specs.Lemmas.Ways.{ahead_root, led_step}
-use Rattle.in_flight.specs.Lemmas.HeldLooks.{held_has_blocks}
-use Rattle.in_flight.specs.Lemmas.Looks.{between}
-use Rattle.wal.specs.Joint.{Joint}
-use Rattle.wal.specs.Held.{HoldsBlock}
-use Rattle.wal.specs.Machine.{HasRoom, used_by}
-use Rattle.wal.specs.Volume.{Holds}
-use Rattle.inodes.specs.declared.freeing.Got.{Got}
-use Rattle.inodes.specs.declared.freeing.Freeing.{Freeing}
-use Rattle.inodes.specs.declared.itrunc.TruncAt.{TruncAt}
-use Rattle.inodes.specs.declared.itrunc.TruncAt.TheVariants as trunc_at
-use Rattle.inodes.specs.declared.table.InMemory.{InMemory}
-use Rattle.inodes.specs.declared.tasks.Stage.{Stage}
-use Rattle.inodes.specs.declared.tasks.Stage.TheVariants as stage
-use Rattle.inodes.specs.Freeing.{HasBit, HasOne, HoldsGot, MayFree, MayGet, block_by, block_next, entries_kept, got_or, now_by, now_of}
-use Rattle.inodes.specs.Grips.{grip, locked_grip}
-use Rattle.inodes.specs.Holding.{HasGivenUp, IsAtDirect, IsAtEntry, IsInHand, IsTruncating, Keeps, above_by, block_of_got, claims_of, hand_in, held_of, root_of, way_of}
-use Rattle.inodes.specs.Itrunc.{FitsAt, IsBelow, freed_by, hand_by}
-use Rattle.inodes.specs.Looks.{AreLooking}
-use Rattle.inodes.specs.Places.{HasSlot, grip_of, grips_of}
-use Rattle.inodes.specs.Store.{StoreState, IsStore, HoldsForFreeing, Stands, Agrees, current_of}
-use Rattle.inodes.specs.Table.{entry_at, is_of}
-use Rattle.inodes.specs.Tasks.{task}
 use Rattle.inodes.specs.Lemmas.Faults.{where_none}
 use Rattle.inodes.specs.Lemmas.Looks.{truncating_is, trunc_locks}
 use Rattle.inodes.proofs.TruncGot.{HasGot, IsBeside, IsNotKept}
@@ -51,7 +11,6 @@ use Rattle.inodes.proofs.Gripping.{grip_is}
 use Rattle.inodes.proofs.InHand.{first_tree, root_there, two_deep}
 use Rattle.inodes.proofs.Searching.{where_got}
 use Rattle.inodes.specs.Lemmas.Unclaimed.{LocksAlone, locks_alone, own_claim}
-use Rattle.in_flight.specs.Lemmas.Remapped.{IsMapped, mapped}
 
 -- a place of a number has an inode
 pub has_inode : (e : Option InMemory) (i : ℕ) → is_of i e ≡ true → IsSome e
@@ -60,7 +19,7 @@ has_inode (Some e) i is = refl
 
 -- in a store whose process p frees a file's blocks
 module _ {D N : Type 0} (disk : Ghosts D N) (s : StoreState D) (p k : ℕ) (m : Freeing) (is : IsStore disk.image s) (well : s.volume.fault ≡ None)
-    (stood : (task s.tasks p).place ≡ stage.Truncating k m) where
+    (stood : (task s.tasks p).stage ≡ Stage.Truncating k m) where
   abbrev cur : Image
   cur = current_of disk.image s.volume
 
@@ -124,10 +83,7 @@ module _ {D N : Type 0} (disk : Ghosts D N) (s : StoreState D) (p k : ℕ) (m : 
   -- a block of data is not the bitmap's
   pub not_bitmap : (b : ℕ) → LiesInData cur b → b ≢ m.machine.bitmap
   not_bitmap b lies same =
-      let low = lies.0 in
-      let before = map.before_data in
-      let at = bitmap in
-      omega (arith, same, low, before, at)
+      omega (arith, same, lies.0, map.before_data, bitmap)
 
   -- what it has still to free
   left_marked : (b : ℕ) → 1 ≤ count_of b (names_left cur m.machine.inode (held_of m.machine).cursor) → IsMarkedData cur b
@@ -142,10 +98,7 @@ module _ {D N : Type 0} (disk : Ghosts D N) (s : StoreState D) (p k : ℕ) (m : 
   -- a block of addresses is full
   pub words : (b : ℕ) → LiesInData cur b → length (words_of (block_at cur b)) ≡ 256
   words b lies =
-      let low = lies.0 in
-      let before = map.before_data in
-      let behind = map.behind in
-      length-words_of-block (block_at cur b) (looking.files.1.full b (omega (arith, low, behind, before)) lies.1)
+      length-words_of-block (block_at cur b) (looking.files.1.full b (omega (arith, lies.0, map.behind, map.before_data)) lies.1)
 
   module _ (h : IsInHand cur m.machine) where
     pub root_marked : IsMarkedData cur (root_of m.machine)
@@ -164,9 +117,8 @@ module _ {D N : Type 0} (disk : Ghosts D N) (s : StoreState D) (p k : ℕ) (m : 
         let step = led_step cur e [] root root (sym same) (root_there cur m.machine h) in
         let twice = first_twice cur m.machine.inode m.machine.slot e 1 (m.machine.given_up ∷ []) (first_tree cur m.machine h) (two_deep cur m.machine h work.form e upper) step.1 in
         let cursor : (held_of m.machine).cursor ≡ e ∷ m.machine.given_up ∷ [] = ap (λ (o : Option ℕ). listed o ++ m.machine.given_up ∷ []) upper in
-        let few = (held_has_blocks looking.files.0 cur claims m.machine.number (frees (held_of m.machine)) held).once root in
         let alike = ap (λ (l : List ℕ). count_of root (names_left cur m.machine.inode l)) cursor in
-        omega (arith, twice, few, alike)
+        omega (arith, twice, ((held_has_blocks looking.files.0 cur claims m.machine.number (frees (held_of m.machine)) held).once root), alike)
 
     -- the entry above that names a block in hand is one of its block's
     pub upper_within : IsBelow m.machine.upper 256
@@ -175,10 +127,7 @@ module _ {D N : Type 0} (disk : Ghosts D N) (s : StoreState D) (p k : ℕ) (m : 
         by_upper : (o : Option ℕ) → led_to cur (listed o) (root_of m.machine) ≢ 0 → IsBelow o 256
         by_upper None there = tt
         by_upper (Some e) there =
-            let step = led_step cur e [] (root_of m.machine) (led_to cur (e ∷ []) (root_of m.machine)) refl there in
-            let low = step.2 in
-            let full = words (root_of m.machine) root_marked.0 in
-            omega (arith, low, full)
+            omega (arith, ((led_step cur e [] (root_of m.machine) (led_to cur (e ∷ []) (root_of m.machine)) refl there).2), (words (root_of m.machine) root_marked.0))
 
   -- the next entry of the block in hand
   pub entry_marked : (at : IsAtEntry cur m.machine) → IsMarkedData cur (entry_of cur (hand_in cur m.machine) m.machine.given_up)
@@ -236,17 +185,17 @@ module _ {D N : Type 0} (disk : Ghosts D N) (s : StoreState D) (p k : ℕ) (m : 
   above_apart h o c is hand = above_beside o c is (λ e upper same. hand_apart h e upper (same ∙ sym hand ∙ ap (λ (u : Option ℕ). led_to cur (listed u) (root_of m.machine)) upper))
 
   apart_at : (a : TruncAt) → HasGivenUp cur m.machine a → Keeps cur m.kept m.machine a → IsNotKept m.kept (block_by m.machine a)
-  apart_at trunc_at.Direct given keeps = (none_beside m.kept.inner m.machine.bitmap keeps.inner, none_beside m.kept.outer m.machine.bitmap keeps.outer)
-  apart_at (trunc_at.Loading b) given keeps = (above_apart given.0 m.kept.inner b keeps.inner given.2, none_beside m.kept.outer b keeps.outer)
-  apart_at trunc_at.Entry given keeps = (
+  apart_at TruncAt.Direct given keeps = (none_beside m.kept.inner m.machine.bitmap keeps.inner, none_beside m.kept.outer m.machine.bitmap keeps.outer)
+  apart_at (TruncAt.Loading b) given keeps = (above_apart given.0 m.kept.inner b keeps.inner given.2, none_beside m.kept.outer b keeps.outer)
+  apart_at TruncAt.Entry given keeps = (
     one_beside m.kept.inner (hand_in cur m.machine) m.machine.bitmap keeps.inner (not_bitmap (hand_in cur m.machine) (hand_marked given.hand).0),
     above_beside m.kept.outer m.machine.bitmap keeps.outer (λ e upper. not_bitmap (root_of m.machine) (root_marked given.hand).0),
   )
-  apart_at trunc_at.Unloading given keeps =
+  apart_at TruncAt.Unloading given keeps =
       (one_beside m.kept.inner (hand_in cur m.machine) 0 keeps.inner given.0.there, above_beside m.kept.outer 0 keeps.outer (λ e upper. root_there cur m.machine given.0))
-  apart_at trunc_at.Freeing given keeps =
+  apart_at TruncAt.Freeing given keeps =
       (above_beside m.kept.inner m.machine.bitmap keeps.inner (λ e upper. not_bitmap (root_of m.machine) (root_marked given.0).0), none_beside m.kept.outer m.machine.bitmap keeps.outer)
-  apart_at trunc_at.Updating given keeps = (none_beside m.kept.inner (inode_block m.machine.number) keeps.inner, none_beside m.kept.outer (inode_block m.machine.number) keeps.outer)
+  apart_at TruncAt.Updating given keeps = (none_beside m.kept.inner (inode_block m.machine.number) keeps.inner, none_beside m.kept.outer (inode_block m.machine.number) keeps.outer)
 
   -- what it keeps it does not get
   pub keeps_apart : IsNotKept m.kept (block_next m)
@@ -256,28 +205,26 @@ module _ {D N : Type 0} (disk : Ghosts D N) (s : StoreState D) (p k : ℕ) (m : 
   given_at a at = (subst (HasGivenUp cur m.machine) at work.given, subst (Keeps cur m.kept m.machine) at work.keeps)
 
   -- a block of addresses is given back before the one above it
-  pub second_apart : (g : Got) → m.kept.inner ≡ Some g → m.machine.at ≡ trunc_at.Unloading → IsBeside m.kept.outer g.block
+  pub second_apart : (g : Got) → m.kept.inner ≡ Some g → m.machine.at ≡ TruncAt.Unloading → IsBeside m.kept.outer g.block
   second_apart g is at =
-      let unloads = given_at trunc_at.Unloading at in
-      let same : Some g.block ≡ Some (hand_in cur m.machine) = sym (ap block_of_got is) ∙ unloads.1.inner in
-      above_apart unloads.0.0 m.kept.outer g.block unloads.1.outer (sym (cc same))
+      let unloads = given_at TruncAt.Unloading at in
+      above_apart unloads.0.0 m.kept.outer g.block unloads.1.outer (sym (cc (sym (ap block_of_got is) ∙ unloads.1.inner)))
 
   -- and is there
-  pub never_gets : now_of m ≡ None → m.machine.at ≢ trunc_at.Unloading
+  pub never_gets : now_of m ≡ None → m.machine.at ≢ TruncAt.Unloading
   never_gets none at =
-      let never : None ≡ Some (hand_in cur m.machine) = sym (ap block_of_got (sym (ap (now_by m) at) ∙ none)) ∙ (given_at trunc_at.Unloading at).1.inner in
-      cc never
+      cc (sym (ap block_of_got (sym (ap (now_by m) at) ∙ none)) ∙ (given_at TruncAt.Unloading at).1.inner)
 
   -- beside one that is got, one is kept at most
   is_none : (o : Option Got) → block_of_got o ≡ None → o ≡ None
   is_none None is = refl
   is_none (Some g) is = absurd (cc is)
 
-  pub one_kept : (b : ℕ) → m.machine.at ≡ trunc_at.Loading b → m.kept.outer ≡ None
-  one_kept b at = is_none m.kept.outer (given_at (trunc_at.Loading b) at).1.outer
+  pub one_kept : (b : ℕ) → m.machine.at ≡ TruncAt.Loading b → m.kept.outer ≡ None
+  one_kept b at = is_none m.kept.outer (given_at (TruncAt.Loading b) at).1.outer
 
   -- the block in hand, as the machine finds it
-  pub hand_is : (g : Got) (h : IsInHand cur m.machine) → Keeps cur m.kept m.machine trunc_at.Freeing
+  pub hand_is : (g : Got) (h : IsInHand cur m.machine) → Keeps cur m.kept m.machine TruncAt.Freeing
       → hand_by m.machine.upper m.machine (entries_kept cur m g) ≡ hand_in cur m.machine
   hand_is g h keeps = by_upper m.machine.upper keeps.inner
     where
@@ -300,50 +247,42 @@ module _ {D N : Type 0} (disk : Ghosts D N) (s : StoreState D) (p k : ℕ) (m : 
     the_bitmap : (33 ≤ m.machine.bitmap) × (m.machine.bitmap < s.volume.log.size)
     the_bitmap =
         let at = bitmap in
-        let behind = map.behind in
-        let low = map.within in
-        let same = size in
-        (omega (arith, at, behind), omega (arith, at, low, same))
+        (omega (arith, at, map.behind), omega (arith, at, map.within, size))
 
     lies_there : (b : ℕ) → (33 ≤ b) × (b < s.volume.log.size) → (o : Option Got) → MayGet b s.volume.log.size o
     lies_there b lies None = lies
     lies_there b lies (Some g) = tt
 
     may_get : (a : TruncAt) → HasGivenUp cur m.machine a → Keeps cur m.kept m.machine a → MayGet (block_by m.machine a) s.volume.log.size (now_by m a)
-    may_get trunc_at.Direct given keeps = lies_there m.machine.bitmap the_bitmap (now_by m trunc_at.Direct)
-    may_get (trunc_at.Loading b) given keeps =
+    may_get TruncAt.Direct given keeps = lies_there m.machine.bitmap the_bitmap (now_by m TruncAt.Direct)
+    may_get (TruncAt.Loading b) given keeps =
         let lies = subst (LiesInData cur) given.2 (hand_marked given.0).0 in
-        let low = lies.0 in
-        let behind = map.behind in
-        let before = map.before_data in
-        (omega (arith, low, behind, before), within b lies.1)
-    may_get trunc_at.Entry given keeps = lies_there m.machine.bitmap the_bitmap (now_by m trunc_at.Entry)
-    may_get trunc_at.Unloading given keeps = by_kept m.kept.inner keeps.inner
+        (omega (arith, lies.0, map.behind, map.before_data), within b lies.1)
+    may_get TruncAt.Entry given keeps = lies_there m.machine.bitmap the_bitmap (now_by m TruncAt.Entry)
+    may_get TruncAt.Unloading given keeps = by_kept m.kept.inner keeps.inner
       where
         by_kept : (o : Option Got) → block_of_got o ≡ Some (hand_in cur m.machine) → MayGet 0 s.volume.log.size o
         by_kept None is = absurd (cc is)
         by_kept (Some g) is = tt
-    may_get trunc_at.Freeing given keeps = lies_there m.machine.bitmap the_bitmap (now_by m trunc_at.Freeing)
-    may_get trunc_at.Updating given keeps =
-        lies_there (inode_block m.machine.number) (inode_apart.behind, within (inode_block m.machine.number) inode_apart.within) (now_by m trunc_at.Updating)
+    may_get TruncAt.Freeing given keeps = lies_there m.machine.bitmap the_bitmap (now_by m TruncAt.Freeing)
+    may_get TruncAt.Updating given keeps =
+        lies_there (inode_block m.machine.number) (inode_apart.behind, within (inode_block m.machine.number) inode_apart.within) (now_by m TruncAt.Updating)
 
     -- a block that is freed has a bit
     has_bit : (b : ℕ) → LiesInData cur b → b < 8192
     has_bit b lies =
-        let inside = lies.1 in
-        let room = map.room in
-        omega (arith, inside, room)
+        omega (arith, lies.1, map.room)
 
     bit_at : (g : Got) (a : TruncAt) → HasGivenUp cur m.machine a → Keeps cur m.kept m.machine a → IsBelow (freed_by m.machine (entries_kept cur m g) a) 8192
-    bit_at g trunc_at.Direct given keeps = has_bit (root_of m.machine) (direct_marked given).0
-    bit_at g (trunc_at.Loading b) given keeps = tt
-    bit_at g trunc_at.Entry given keeps =
+    bit_at g TruncAt.Direct given keeps = has_bit (root_of m.machine) (direct_marked given).0
+    bit_at g (TruncAt.Loading b) given keeps = tt
+    bit_at g TruncAt.Entry given keeps =
         subst (λ (l : List ℕ). get_or l m.machine.given_up 0 < 8192) (sym (kept_words g (hand_in cur m.machine) keeps.inner))
         (has_bit (entry_of cur (hand_in cur m.machine) m.machine.given_up) (entry_marked given).0)
-    bit_at g trunc_at.Unloading given keeps = tt
-    bit_at g trunc_at.Freeing given keeps =
+    bit_at g TruncAt.Unloading given keeps = tt
+    bit_at g TruncAt.Freeing given keeps =
         subst (λ (b : ℕ). b < 8192) (sym (hand_is g given.0 keeps)) (has_bit (hand_in cur m.machine) (hand_marked given.0).0)
-    bit_at g trunc_at.Updating given keeps = tt
+    bit_at g TruncAt.Updating given keeps = tt
 
     by_used : (o : Option Got) → HasBit cur m o
     by_used None = tt
@@ -354,12 +293,12 @@ module _ {D N : Type 0} (disk : Ghosts D N) (s : StoreState D) (p k : ℕ) (m : 
     shows_got (Some g) had = shows g.block g.slot had
 
     fits_at : (a : TruncAt) → HasGivenUp cur m.machine a → FitsAt m.machine a
-    fits_at trunc_at.Direct given = tt
-    fits_at (trunc_at.Loading b) given = tt
-    fits_at trunc_at.Entry given = given.within
-    fits_at trunc_at.Unloading given = tt
-    fits_at trunc_at.Freeing given = upper_within given.0
-    fits_at trunc_at.Updating given = tt
+    fits_at TruncAt.Direct given = tt
+    fits_at (TruncAt.Loading b) given = tt
+    fits_at TruncAt.Entry given = given.within
+    fits_at TruncAt.Unloading given = tt
+    fits_at TruncAt.Freeing given = upper_within given.0
+    fits_at TruncAt.Updating given = tt
 
     pub may : MayFree disk.image s.volume p m
     may = record {

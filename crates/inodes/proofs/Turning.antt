@@ -1,65 +1,22 @@
 -- The turn of an operation that takes its inode.
 use Rattle.std.proofs.Common.{◌-◌, ◌+◌, ◌≡◌, ◌≢◌, ◌⊎◌, inl, inr, ℕ, ◌≤◌, ◌<◌, ◌/◌, Bool, true, false, cond, eqb, List, [], ◌∷◌, length, set, refl, sym, ◌∙◌, ap, subst, ⊎_elim, arith, Option, Some, None, ltb}
 use Rattle.std.specs.Prelude.{IsTrue}
-use Rattle.std.proofs.lemmas.Bool.{cases_eq, eq-eqb, ne_eqb, ltb-false, ltb-true}
-use Rattle.blocks.specs.Disk.{Image}
-use Rattle.blocks.specs.declared.disk.Disk.{Ghosts}
-use Rattle.model.specs.declared.types.image.Dinode.{Dinode}
-use Rattle.model.specs.declared.types.image.Form.{Form}
-use Rattle.model.specs.declared.types.operations.Op.{Op}
-use Rattle.model.specs.declared.types.operations.Op.TheVariants.{Create, Write, Read, Trunc, Remove, Stat}
-use Rattle.model.specs.declared.types.operations.Reply.TheVariants.{StatOf, NoFile, Done, BadOffset, TooBig}
-use Rattle.model.specs.Files.{Files}
-use Rattle.model.specs.Journal.{is_making, is_number}
-use Rattle.model.specs.declared.types.image.Form.{Form}
-use Rattle.model.specs.Layout.{form_of, greatest_size, inode_of, bitmap_block}
-use Rattle.model.specs.Operations.{after, transfer_limit}
-use Rattle.model.specs.Tasks.{TurnsTo}
-use Rattle.in_flight.specs.Held.{Growth, Held, FitsHeld, IsClaimedNow, blocks_left, file_left, most_left, Claim, frees, grows}
-use Rattle.in_flight.specs.Lemmas.FewLeft.{few_left}
-use Rattle.in_flight.specs.Lemmas.HeldLooks.{resting_tells, free_tells}
-use Rattle.in_flight.specs.Lemmas.LeftInTrees.{begun_left}
-use Rattle.in_flight.specs.Lemmas.Turns.{turn_holds, turn_answers}
-use Rattle.blockmap.specs.Lemmas.Resting.{resting_may_be_read}
-use Rattle.blockmap.specs.Lemmas.Targets.{first_slot}
-use Rattle.blockmap.specs.Reading.{MayRead}
-use Rattle.blockmap.specs.Target.{block_of, slot_in}
-use Rattle.bcache.specs.Buffers.{Buffers}
-use Rattle.bcache.specs.Lemmas.Current.{length-current}
-use Rattle.wal.specs.Joint.{Joint}
-use Rattle.wal.specs.Machine.{LogState, used_by}
-use Rattle.inodes.specs.declared.tasks.Stage.{Stage}
-use Rattle.inodes.specs.declared.tasks.Stage.TheVariants as stage
-use Rattle.inodes.specs.Freeing.{first_freeing, no_block_kept}
-use Rattle.inodes.specs.Grips.{locked_grip}
-use Rattle.inodes.specs.Holding.{IsTruncating, claim_by, claims_of, claim_of, held_of, trunc_op}
-use Rattle.inodes.specs.declared.itrunc.Itrunc.{Itrunc}
-use Rattle.inodes.specs.Itrunc.{first_trunc, unbegun}
-use Rattle.inodes.specs.LockState.{LockState}
+use Rattle.inodes.specs.Common.{after, asked, BadOffset, begun_left, bitmap_block, block_of, block_of_write, blocks_behind, branch_shallow, Buffers, bytes_by, CanLook, CanTake, cases_eq, Claim, claim_by, claim_of, claims_of, copy_at, Create, current_of, Dinode, Done, eq-eqb, Extent, extent_of, few_left, file_left, Files, first_freeing, first_read, first_slot, first_trunc, first_write, FitsHeld, Form, form_of, free_tells, frees, Ghosts, greatest_size, grip_by, grip_of, grows, Growth, growth_of, HasComeTo, HasRoom, Held, held_of, HoldsAt, Image, is_making, is_number, IsClaimedNow, IsOpenFor, IsRead, IsTruncating, Itrunc, length-current, locked_grip, LockState, LoggedAt, LogState, LooksAt, ltb-false, ltb-true, MayRead, most_behind, most_left, ne_eqb, next_place, no_block_kept, node_of_write, NoFile, Op, Read, ReadState, Remove, Reply, resting_may_be_read, resting_refuses, resting_tells, slot_in, Stage, Stands, Stat, StatOf, steps_left, StoreState, TableState, task, TaskState, TooBig, transfer_limit, Trunc, trunc_op, turn_answers, turn_grows, turn_holds, TurnsTo, unbegun, used_by, WasAnswered, Write, WriteState}
+use Rattle.model.specs.Layout.{inode_of}
+use Rattle.in_flight.specs.Held.{blocks_left}
+use Rattle.inodes.specs.Store.{FitsFiles}
 use Rattle.inodes.specs.Lemmas.Holding.{HoldsAlone, claimed_now, none_held, own_grows}
 use Rattle.inodes.specs.Lemmas.ReadRuns.{begins}
-use Rattle.inodes.specs.Looks.{CanLook, CanTake, HasRoom, LooksAt, WasAnswered}
-use Rattle.inodes.specs.Places.{asked, grip_by, grip_of, most_behind, steps_left}
-use Rattle.inodes.specs.Readi.{ReadState, first_read}
-use Rattle.inodes.specs.Store.{StoreState, IsStore, FitsFiles, HoldsAt, IsOpenFor, LoggedAt, Stands, current_of}
-use Rattle.inodes.specs.Table.{TableState, copy_at}
-use Rattle.inodes.specs.Tasks.{TaskState, task}
-use Rattle.inodes.specs.Turning.{IsReadable, if_used, reply_of_look, reply_when_taken, place_of_look, place_when_taken, place_of_read, write_refusal, place_by_refusal}
+use Rattle.inodes.specs.Turning.{IsReadable, if_used, reply_of_look, reply_when_taken, stage_of_look, stage_when_taken, stage_of_read, write_refusal, stage_by_refusal}
+use Rattle.in_flight.specs.Looks.{AnswersNoFile}
+use Rattle.inodes.proofs.Standing.{StandsAt}
 use Rattle.inodes.proofs.Starting.{has_begun, has_none, few_reads}
 use Rattle.inodes.proofs.Taking.{taking, looking, can_take, number, same_op, may_name, may_name_now}
 use Rattle.inodes.specs.Lemmas.Unclaimed.{holds_alone_of}
 use Rattle.inodes.proofs.TruncFiles.{with_claim, with_claim_is}
 use Rattle.inodes.proofs.TruncNext.{address_same, first_comes, first_held, first_number}
-use Rattle.inodes.specs.Writei.{WriteState, first_write, next_place}
-use Rattle.inodes.specs.declared.writei.Extent.{Extent}
-use Rattle.model.specs.declared.types.operations.Reply.{Reply}
-use Rattle.inodes.specs.Writing.{extent_of, block_of_write, node_of_write, blocks_behind}
 use Rattle.inodes.proofs.WriteComes.{fresh_next, comes_next}
-use Rattle.blockmap.specs.Lemmas.Branches.{branch_shallow}
 use Rattle.inodes.specs.Lemmas.Bounds.{few_frees, most_elsewhere, next_low, writes_most}
-use Rattle.inodes.specs.Growing.{growth_of, bytes_by, HasComeTo}
-use Rattle.in_flight.specs.Lemmas.GrowthEnds.{resting_refuses}
-use Rattle.in_flight.specs.Lemmas.BlocksTaken.{turn_grows}
 use Rattle.inodes.proofs.TruncGot.{holds_kept}
 
 -- a turn makes no number
@@ -82,17 +39,17 @@ abbrev pub held_at_turn : Dinode → Bool → Held
 held_at_turn d removes = record { copy = d; cursor = 0 ∷ []; last_kind = cond removes 0 d.kind }
 
 -- where a reading goes, it has locked its inode, got no block, and has few steps left
-grip_of_read : (k i : ℕ) (o : Option ReadState) → grip_by (place_of_read k o) i ≡ Some (locked_grip k i)
+grip_of_read : (k i : ℕ) (o : Option ReadState) → grip_by (stage_of_read k o) i ≡ Some (locked_grip k i)
 grip_of_read k i None = refl
 grip_of_read k i (Some m) = refl
 
 -- so has a write
-grip_of_write : (k i : ℕ) (m : WriteState) (o : Option Reply) → grip_by (place_by_refusal k m o) i ≡ Some (locked_grip k i)
+grip_of_write : (k i : ℕ) (m : WriteState) (o : Option Reply) → grip_by (stage_by_refusal k m o) i ≡ Some (locked_grip k i)
 grip_of_write k i m None = refl
 grip_of_write k i m (Some reply) = refl
 
 -- and so where any operation goes at its turn
-pub grip_at_turn : (c : Extent) (d : Dinode) (k i : ℕ) (op : Op) (used : Bool) → grip_by (place_when_taken c (if_used used d) k op) i ≡ Some (locked_grip k i)
+pub grip_at_turn : (c : Extent) (d : Dinode) (k i : ℕ) (op : Op) (used : Bool) → grip_by (stage_when_taken c (if_used used d) k op) i ≡ Some (locked_grip k i)
 grip_at_turn c d k i op false = refl
 grip_at_turn c d k i (Create kind) true = refl
 grip_at_turn c d k i (Write j off bytes) true = grip_of_write k i (first_write j d off (length bytes) c) (write_refusal c.form d off (length bytes))
@@ -108,53 +65,44 @@ slot_of_read form d k off n o first m is = ap slot_in (begins form d off n m (fi
 abbrev pub HasFewAtTurn : Image → Dinode → Type 0
 HasFewAtTurn x d = blocks_left x (held_at_turn d true) ≤ most_left (form_of x)
 
-left_of_read : (x : Image) (form : Form) (d : Dinode) (k off n c : ℕ) (o : Option ReadState) → n ≤ 3072 → first_read form d off n ≡ o → steps_left x (place_of_read k o) c ≤ 55
+left_of_read : (x : Image) (form : Form) (d : Dinode) (k off n c : ℕ) (o : Option ReadState) → n ≤ 3072 → first_read form d off n ≡ o → steps_left x (stage_of_read k o) c ≤ 55
 left_of_read x form d k off n c None few first = omega arith
 left_of_read x form d k off n c (Some m) few first = let at = few_reads form d off n m few first in omega (arith, at)
 
-left_of_trunc : (x : Image) (form : Form) (b c : ℕ) (d : Dinode) (k j : ℕ) (removes : Bool) → HasFewAtTurn x d → steps_left x (stage.Truncating k (first_freeing (first_trunc j d form removes b))) c ≤ most_behind (form_of x) + 1
+left_of_trunc : (x : Image) (form : Form) (b c : ℕ) (d : Dinode) (k j : ℕ) (removes : Bool) → HasFewAtTurn x d → steps_left x (Stage.Truncating k (first_freeing (first_trunc j d form removes b))) c ≤ most_behind (form_of x) + 1
 left_of_trunc x form b c d k j removes few =
-    let left = ap (blocks_left x) (first_held j d form removes b) in
-    let most = few_frees x (first_freeing (first_trunc j d form removes b)) (omega (arith, left, few)) in
-    omega (arith, most)
+    omega (arith, (few_frees x (first_freeing (first_trunc j d form removes b)) (omega (arith, (ap (blocks_left x) (first_held j d form removes b)), few))))
 
-left_of_write : (x : Image) (c k i : ℕ) (d : Dinode) (off n : ℕ) (e : Extent) (o : Option Reply) → n ≤ 3072 → steps_left x (place_by_refusal k (first_write i d off n e) o) c ≤ 100
+left_of_write : (x : Image) (c k i : ℕ) (d : Dinode) (off n : ℕ) (e : Extent) (o : Option Reply) → n ≤ 3072 → steps_left x (stage_by_refusal k (first_write i d off n e) o) c ≤ 100
 left_of_write x c k i d off n e None few =
     let m : WriteState = first_write i d off n e in
-    let steps = (fresh_next m i d off n e).steps in
-    let shallow = branch_shallow e.form (off / 1024) in
-    let behind = writes_most e.form (blocks_behind m) in
-    omega (arith, steps, shallow, behind, few)
+    omega (arith, ((fresh_next m i d off n e).steps), (branch_shallow e.form (off / 1024)), (writes_most e.form (blocks_behind m)), few)
 left_of_write x c k i d off n e (Some reply) few = omega arith
 
-pub left_at_turn : (x : Image) (d : Dinode) (k n c : ℕ) (e : Extent) (op : Op) (used : Bool) → CanTake n op → (used ≡ true → HasFewAtTurn x d) → steps_left x (place_when_taken e (if_used used d) k op) c ≤ most_behind (form_of x) + 1
+pub left_at_turn : (x : Image) (d : Dinode) (k n c : ℕ) (e : Extent) (op : Op) (used : Bool) → CanTake n op → (used ≡ true → HasFewAtTurn x d) → steps_left x (stage_when_taken e (if_used used d) k op) c ≤ most_behind (form_of x) + 1
 left_at_turn x d k n c e op false can few = omega arith
 left_at_turn x d k n c e (Create kind) true can few = omega arith
 left_at_turn x d k n c e (Write j off bytes) true can few =
-    let behind = most_elsewhere (form_of x) in
-    let most = left_of_write x c k j d off (length bytes) e (write_refusal e.form d off (length bytes)) can.1 in
-    omega (arith, most, behind)
+    omega (arith, (left_of_write x c k j d off (length bytes) e (write_refusal e.form d off (length bytes)) can.1), (most_elsewhere (form_of x)))
 left_at_turn x d k n c e (Read j off count) true can few =
-    let behind = most_elsewhere (form_of x) in
-    let most = left_of_read x e.form d k off count c (first_read e.form d off count) can.1 refl in
-    omega (arith, most, behind)
+    omega (arith, (left_of_read x e.form d k off count c (first_read e.form d off count) can.1 refl), (most_elsewhere (form_of x)))
 left_at_turn x d k n c e (Trunc j) true can few = left_of_trunc x e.form e.bitmap c d k j false (few refl)
 left_at_turn x d k n c e (Remove j) true can few = left_of_trunc x e.form e.bitmap c d k j true (few refl)
 left_at_turn x d k n c e (Stat j) true can few = omega arith
 
 -- it holds no other number
-none_of_read : (k j : ℕ) (op : Option Op) (o : Option ReadState) → claim_by op (place_of_read k o) j ≡ None
+none_of_read : (k j : ℕ) (op : Option Op) (o : Option ReadState) → claim_by op (stage_of_read k o) j ≡ None
 none_of_read k j op None = refl
 none_of_read k j op (Some m) = refl
 
-none_of_write : (k i j : ℕ) (op : Option Op) (d : Dinode) (off n : ℕ) (e : Extent) (o : Option Reply) → j ≢ i → claim_by op (place_by_refusal k (first_write i d off n e) o) j ≡ None
+none_of_write : (k i j : ℕ) (op : Option Op) (d : Dinode) (off n : ℕ) (e : Extent) (o : Option Reply) → j ≢ i → claim_by op (stage_by_refusal k (first_write i d off n e) o) j ≡ None
 none_of_write k i j op d off n e None other = rw (ne_eqb i j (λ same. other (sym same))) refl
 none_of_write k i j op d off n e (Some reply) other = refl
 
 none_of_trunc : (i j : ℕ) (form : Form) (d : Dinode) (removes : Bool) (b : ℕ) → j ≢ i → (let m = first_trunc i d form removes b in let none : Option Claim = cond (eqb m.number j) (Some (frees (held_of m))) None in none) ≡ None
 none_of_trunc i j form d removes b other = rw (ne_eqb (first_trunc i d form removes b).number j (λ same. other (sym same ∙ first_number i d form removes b))) refl
 
-pub claims_at_turn : (o : Option Op) (c : Extent) (d : Dinode) (k : ℕ) (op : Op) (used : Bool) (j : ℕ) → j ≢ asked op → claim_by o (place_when_taken c (if_used used d) k op) j ≡ None
+pub claims_at_turn : (o : Option Op) (c : Extent) (d : Dinode) (k : ℕ) (op : Op) (used : Bool) (j : ℕ) → j ≢ asked op → claim_by o (stage_when_taken c (if_used used d) k op) j ≡ None
 claims_at_turn o c d k op false j other = refl
 claims_at_turn o c d k (Create kind) true j other = refl
 claims_at_turn o c d k (Write i off bytes) true j other = none_of_write k i j o d off (length bytes) c (write_refusal c.form d off (length bytes)) other
@@ -163,18 +111,18 @@ claims_at_turn o c d k (Trunc i) true j other = none_of_trunc i j c.form d false
 claims_at_turn o c d k (Remove i) true j other = none_of_trunc i j c.form d true c.bitmap other
 claims_at_turn o c d k (Stat i) true j other = refl
 
-claim_at_turn : (form : Form) (b : ℕ) (d : Dinode) (k i : ℕ) (removes : Bool) → claim_by None (stage.Truncating k (first_freeing (first_trunc i d form removes b))) i ≡ Some (frees (held_at_turn d removes))
+claim_at_turn : (form : Form) (b : ℕ) (d : Dinode) (k i : ℕ) (removes : Bool) → claim_by None (Stage.Truncating k (first_freeing (first_trunc i d form removes b))) i ≡ Some (frees (held_at_turn d removes))
 claim_at_turn form b d k i removes =
     rw (eq-eqb (first_trunc i d form removes b).number i (first_number i d form removes b)) (ap (λ (h : Held). Some (frees h)) (first_held i d form removes b))
 
 -- nothing is got there
-stands_of_read : (b : Buffers) (l : LogState) (n p : ℕ) (t : Option Op) (form : Form) (d : Dinode) (k off count : ℕ) (o : Option ReadState) → first_read form d off count ≡ o → Stands b l n p t (place_of_read k o)
+stands_of_read : (b : Buffers) (l : LogState) (n p : ℕ) (t : Option Op) (form : Form) (d : Dinode) (k off count : ℕ) (o : Option ReadState) → first_read form d off count ≡ o → Stands b l n p t (stage_of_read k o)
 stands_of_read b l n p t form d k off count None first = tt
 stands_of_read b l n p t form d k off count (Some m) first = subst (λ (s : Option ℕ). HoldsAt b p (block_of m.target) s) (sym (slot_of_read form d k off count (Some m) first m refl)) tt
 
 -- a write that begins has logged nothing, and got nothing
 stands_of_write : (b : Buffers) (l : LogState) (n p : ℕ) (t : Option Op) (k i : ℕ) (d : Dinode) (off count : ℕ) (e : Extent) (o : Option Reply) → count ≤ 3072 → used_by l p ≡ Some 0
-    → Stands b l n p t (place_by_refusal k (first_write i d off count e) o)
+    → Stands b l n p t (stage_by_refusal k (first_write i d off count e) o)
 stands_of_write b l n p t k i d off count e None few used =
     let m : WriteState = first_write i d off count e in
     let fresh = fresh_next m i d off count e in
@@ -185,7 +133,7 @@ stands_of_write b l n p t k i d off count e None few used =
     }
 stands_of_write b l n p t k i d off count e (Some reply) few used = tt
 
-pub stands_at_turn : (b : Buffers) (l : LogState) (n p : ℕ) (t : Option Op) (c : Extent) (d : Dinode) (k : ℕ) (op : Op) (used : Bool) → CanTake n op → IsOpenFor l p (Some op) → Stands b l n p t (place_when_taken c (if_used used d) k op)
+pub stands_at_turn : (b : Buffers) (l : LogState) (n p : ℕ) (t : Option Op) (c : Extent) (d : Dinode) (k : ℕ) (op : Op) (used : Bool) → CanTake n op → IsOpenFor l p (Some op) → Stands b l n p t (stage_when_taken c (if_used used d) k op)
 stands_at_turn b l n p t c d k op false can open_for = tt
 stands_at_turn b l n p t c d k (Create kind) true can open_for = tt
 stands_at_turn b l n p t c d k (Write i off bytes) true can open_for = stands_of_write b l n p t k i d off (length bytes) c (write_refusal c.form d off (length bytes)) can.1 open_for
@@ -196,7 +144,7 @@ stands_at_turn b l n p t c d k (Stat i) true can open_for = tt
 
 -- and so it has room in the log
 logged_of_write : (x : Image) (l : LogState) (p k i : ℕ) (d : Dinode) (off count : ℕ) (e : Extent) (o : Option Reply) → count ≤ 3072 → used_by l p ≡ Some 0
-    → LoggedAt x l p (place_by_refusal k (first_write i d off count e) o)
+    → LoggedAt x l p (stage_by_refusal k (first_write i d off count e) o)
 logged_of_write x l p k i d off count e None few open_for = λ homes used.
     let m : WriteState = first_write i d off count e in
     let blocks = (fresh_next m i d off count e).blocks in
@@ -204,11 +152,11 @@ logged_of_write x l p k i d off count e None few open_for = λ homes used.
     omega (arith, few, blocks, zero)
 logged_of_write x l p k i d off count e (Some reply) few open_for = tt
 
-logged_of_read : (x : Image) (l : LogState) (p k : ℕ) (o : Option ReadState) → LoggedAt x l p (place_of_read k o)
+logged_of_read : (x : Image) (l : LogState) (p k : ℕ) (o : Option ReadState) → LoggedAt x l p (stage_of_read k o)
 logged_of_read x l p k None = tt
 logged_of_read x l p k (Some m) = tt
 
-pub logged_at_turn : (x : Image) (l : LogState) (n p : ℕ) (c : Extent) (d : Dinode) (k : ℕ) (op : Op) (used : Bool) → CanTake n op → IsOpenFor l p (Some op) → LoggedAt x l p (place_when_taken c (if_used used d) k op)
+pub logged_at_turn : (x : Image) (l : LogState) (n p : ℕ) (c : Extent) (d : Dinode) (k : ℕ) (op : Op) (used : Bool) → CanTake n op → IsOpenFor l p (Some op) → LoggedAt x l p (stage_when_taken c (if_used used d) k op)
 logged_at_turn x l n p c d k op false can open_for = tt
 logged_at_turn x l n p c d k (Create kind) true can open_for = tt
 logged_at_turn x l n p c d k (Write i off bytes) true can open_for = logged_of_write x l p k i d off (length bytes) c (write_refusal c.form d off (length bytes)) can.1 open_for
@@ -218,8 +166,7 @@ logged_at_turn x l n p c d k (Remove i) true can open_for = tt
 logged_at_turn x l n p c d k (Stat i) true can open_for = tt
 
 -- in a store whose process p takes its inode, which the image has as d
-module _ {D N : Type 0} (disk : Ghosts D N) (s : StoreState D) (p : ℕ) (op : Op) (m : LockState) (is : IsStore disk.image s) (well : s.volume.fault ≡ None)
-    (stood : (task s.tasks p).place ≡ stage.Taking m) (is_op : (task s.tasks p).op ≡ Some op) (inside : p < length s.tasks) (joint : Joint (disk.image s.volume.device) s.volume.buffers s.volume.log)
+module _ {D N : Type 0} {disk : Ghosts D N} {s : StoreState D} {p : ℕ} {op : Op} {m : LockState} (h : StandsAt disk s p (Stage.Taking m)) (is_op : (task s.tasks p).op ≡ Some op)
     (alone : (q k : ℕ) → q ≢ p → grip_of (task s.tasks q) ≡ Some (locked_grip k m.number) → ⊥) where
   abbrev cur : Image
   cur = current_of disk.image s.volume
@@ -228,20 +175,20 @@ module _ {D N : Type 0} (disk : Ghosts D N) (s : StoreState D) (p : ℕ) (op : O
   inode = inode_of cur m.number
 
   room : HasRoom op (task s.tasks p).gathered
-  room = subst (λ (q : Op). HasRoom q (task s.tasks p).gathered) (same_op disk s p op m is well stood is_op) (taking disk s p op m is well stood is_op).room
+  room = subst (λ (q : Op). HasRoom q (task s.tasks p).gathered) (same_op h is_op) (taking h is_op).room
 
   can : CanTake s.table.inode_count op
-  can = can_take disk s p op m is well stood is_op
+  can = can_take h is_op
 
   asks : m.number ≡ asked op
-  asks = number disk s p op m is well stood is_op
+  asks = number h is_op
 
   -- nobody holds its number
   pub holds_alone : HoldsAlone s.tasks p m.number
-  holds_alone = holds_alone_of cur s.table s.tasks (looking disk s p op m is well stood is_op) p m.number alone
+  holds_alone = holds_alone_of cur s.table s.tasks (looking h is_op) p m.number alone
 
   pub holds_nothing : (j : ℕ) → claim_of (task s.tasks p) j ≡ None
-  holds_nothing j = ap (λ (a : Stage). claim_by (task s.tasks p).op a j) stood
+  holds_nothing j = ap (λ (a : Stage). claim_by (task s.tasks p).op a j) h.stood
 
   none : claims_of s.tasks m.number ≡ None
   none = none_held s.tasks m.number (λ q. ⊎_elim
@@ -250,22 +197,20 @@ module _ {D N : Type 0} (disk : Ghosts D N) (s : StoreState D) (p : ℕ) (op : O
       (cases_eq q p))
 
   may : inode.kind ≢ 0 → MayRead cur inode
-  may used = let files = (looking disk s p op m is well stood is_op).files in resting_may_be_read files.0 cur (claims_of s.tasks) m.number files.1 (may_name_now disk s p op m is well stood is_op, used) none
+  may used = let files = (looking h is_op).files in resting_may_be_read files.0 cur (claims_of s.tasks) m.number files.1 (may_name_now h is_op, used) none
 
   -- a used inode's file may be read
   pub readable : (used : Bool) → (used ≡ true → inode.kind ≢ 0) → IsReadable s.table.form (if_used used inode)
   readable true is_used =
       let read = may (is_used refl) in
-      let most = read.fit.size in
-      let same : greatest_size s.table.form ≡ greatest_size (form_of cur) = ap greatest_size is.form in
-      (read.fit.fields.count, omega (arith, most, same))
+      (read.fit.fields.count, omega (arith, read.fit.size, (ap greatest_size h.is.form)))
   readable false is_used = tt
 
   -- and it has few blocks to give up
   pub few_at_turn : inode.kind ≢ 0 → HasFewAtTurn cur inode
   few_at_turn used =
-      let files = (looking disk s p op m is well stood is_op).files in
-      let names = may_name_now disk s p op m is well stood is_op in
+      let files = (looking h is_op).files in
+      let names = may_name_now h is_op in
       let held = held_at_turn inode true in
       let now = with_claim_is (claims_of s.tasks) m.number (Some (frees held)) in
       let new = with_claim (claims_of s.tasks) m.number (Some (frees held)) in
@@ -281,7 +226,7 @@ module _ {D N : Type 0} (disk : Ghosts D N) (s : StoreState D) (p : ℕ) (op : O
   most = greatest_size s.table.form
 
   size : s.volume.log.size ≡ length cur
-  size = let long = length-current (disk.image s.volume.device) s.volume.buffers in sym (long ∙ joint.size)
+  size = let long = length-current (disk.image s.volume.device) s.volume.buffers in sym (long ∙ h.joint.size)
 
   -- the files are then what the reply says
   module _ (t : StoreState D) (u : TaskState) (k : ℕ) (tasks : t.tasks ≡ set s.tasks p u) (current : current_of disk.image t.volume ≡ cur)
@@ -295,69 +240,65 @@ module _ {D N : Type 0} (disk : Ghosts D N) (s : StoreState D) (p : ℕ) (op : O
     fits_before files fits = fits
 
     -- the number is held now
-    begins_freeing : (removes : Bool) → u.place ≡ stage.Truncating k (first_freeing (first_trunc m.number inode s.table.form removes extent.bitmap)) → inode.kind ≢ 0 → (files : Files) → FitsHeld files cur (claims_of s.tasks)
+    begins_freeing : (removes : Bool) → u.stage ≡ Stage.Truncating k (first_freeing (first_trunc m.number inode s.table.form removes extent.bitmap)) → inode.kind ≢ 0 → (files : Files) → FitsHeld files cur (claims_of s.tasks)
         → FitsFiles disk.image t (set files m.number (file_left (cond removes 0 inode.kind)))
     begins_freeing removes there used files fits =
         let own : claim_of u m.number ≡ Some (frees (held_at_turn inode removes)) = ap (λ (a : Stage). claim_by u.op a m.number) there ∙ claim_at_turn s.table.form extent.bitmap inode k m.number removes in
         let others : (j : ℕ) → j ≢ m.number → claim_of u j ≡ claim_of (task s.tasks p) j = λ j other. ap (λ (a : Stage). claim_by u.op a j) there ∙ none_of_trunc m.number j s.table.form inode removes extent.bitmap other ∙ sym (holds_nothing j) in
         let now : IsClaimedNow (claims_of s.tasks) m.number (Some (frees (held_at_turn inode removes))) (claims_of (set s.tasks p u)) =
-        subst (λ (o : Option Claim). IsClaimedNow (claims_of s.tasks) m.number o (claims_of (set s.tasks p u))) own (claimed_now s.tasks p m.number u inside holds_alone others) in
+        subst (λ (o : Option Claim). IsClaimedNow (claims_of s.tasks) m.number o (claims_of (set s.tasks p u))) own (claimed_now s.tasks p m.number u h.inside holds_alone others) in
         fits_then (set files m.number (file_left (cond removes 0 inode.kind)))
-        (turn_holds files cur (claims_of s.tasks) (claims_of (set s.tasks p u)) m.number (cond removes 0 inode.kind) (0 ∷ []) fits (may_name_now disk s p op m is well stood is_op, used) none (last removes) (begun_left cur inode) now).fits
+        (turn_holds files cur (claims_of s.tasks) (claims_of (set s.tasks p u)) m.number (cond removes 0 inode.kind) (0 ∷ []) fits (may_name_now h is_op, used) none (last removes) (begun_left cur inode) now).fits
       where
         last : (b : Bool) → (cond b 0 inode.kind ≡ 0) ⊎ (cond b 0 inode.kind ≡ inode.kind)
         last true = inl refl
         last false = inr refl
 
     -- so it is by the writing of its bytes, which begins with none
-    begins_growing : (i off : ℕ) (bytes : List ℕ) → i ≡ m.number → u.place ≡ stage.Writing k (first_write i inode off (length bytes) extent) → inode.kind ≢ 0 → off ≤ inode.size → (files : Files) → FitsFiles disk.image s files
+    begins_growing : (i off : ℕ) (bytes : List ℕ) → i ≡ m.number → u.stage ≡ Stage.Writing k (first_write i inode off (length bytes) extent) → inode.kind ≢ 0 → off ≤ inode.size → (files : Files) → FitsFiles disk.image s files
         → FitsFiles disk.image t files
     begins_growing i off bytes same_number there used within files fits =
         let w : WriteState = first_write i inode off (length bytes) extent in
-        let before = fits_before files fits in
-        let fresh = fresh_next w i inode off (length bytes) extent in
         let g : Growth = record { copy = inode; taken = None; offset = off; written = [] } in
-        let grown : growth_of w (bytes_by u.op) ≡ g = ap (λ (o : Option ℕ). record { copy = inode; taken = o; offset = off; written = [] }) fresh.taken in
+        let grown : growth_of w (bytes_by u.op) ≡ g = ap (λ (o : Option ℕ). record { copy = inode; taken = o; offset = off; written = [] }) (fresh_next w i inode off (length bytes) extent).taken in
         let own : claim_of u m.number ≡ Some (grows g) =
-        ap (λ (a : Stage). claim_by u.op a m.number) there ∙ ap (λ (j : ℕ). claim_by u.op (stage.Writing k w) j) (sym same_number) ∙ own_grows u.op k w ∙ ap (λ (h : Growth). Some (grows h)) grown in
+        ap (λ (a : Stage). claim_by u.op a m.number) there ∙ ap (λ (j : ℕ). claim_by u.op (Stage.Writing k w) j) (sym same_number) ∙ own_grows u.op k w ∙ ap (λ (h : Growth). Some (grows h)) grown in
         let others : (j : ℕ) → j ≢ m.number → claim_of u j ≡ claim_of (task s.tasks p) j =
         λ j other. ap (λ (a : Stage). claim_by u.op a j) there ∙ rw (ne_eqb i j (λ e. other (sym e ∙ same_number))) refl ∙ sym (holds_nothing j) in
         let now : IsClaimedNow (claims_of s.tasks) m.number (Some (grows g)) (claims_of (set s.tasks p u)) =
-        subst (λ (o : Option Claim). IsClaimedNow (claims_of s.tasks) m.number o (claims_of (set s.tasks p u))) own (claimed_now s.tasks p m.number u inside holds_alone others) in
+        subst (λ (o : Option Claim). IsClaimedNow (claims_of s.tasks) m.number o (claims_of (set s.tasks p u))) own (claimed_now s.tasks p m.number u h.inside holds_alone others) in
         fits_then files
-        (turn_grows files cur (claims_of s.tasks) (claims_of (set s.tasks p u)) m.number off before (may_name_now disk s p op m is well stood is_op, used) none within now).fits
+        (turn_grows files cur (claims_of s.tasks) (claims_of (set s.tasks p u)) m.number off (fits_before files fits) (may_name_now h is_op, used) none within now).fits
 
     -- a write is refused, or begins
     write_turn : (i off : ℕ) (bytes : List ℕ) → length bytes ≤ transfer_limit → i ≡ m.number → inode.kind ≢ 0 → (files : Files) → FitsFiles disk.image s files
         → (a : Bool) → ltb inode.size off ≡ a → (b : Bool) → ltb most (off + length bytes) ≡ b
-        → u.place ≡ place_by_refusal k (first_write i inode off (length bytes) extent) (write_refusal s.table.form inode off (length bytes))
+        → u.stage ≡ stage_by_refusal k (first_write i inode off (length bytes) extent) (write_refusal s.table.form inode off (length bytes))
         → TurnsTo (form_of cur) (Write i off bytes) (write_refusal s.table.form inode off (length bytes)) files (FitsFiles disk.image t)
     write_turn i off bytes few same_number used files fits true behind b big there =
         let says : write_refusal s.table.form inode off (length bytes) ≡ Some BadOffset = rw behind refl in
-        let before = fits_before files fits in
         subst (λ (o : Option Reply). TurnsTo (form_of cur) (Write i off bytes) o files (FitsFiles disk.image t)) (sym says) (
           files,
           subst (λ (j : ℕ). after (form_of cur) files (Write j off bytes) BadOffset ≡ Some files) (sym same_number)
-              ((resting_refuses files cur (claims_of s.tasks) m.number off bytes before (may_name_now disk s p op m is well stood is_op, used) none few).0 (ltb-true inode.size off behind)),
-          same (ap (λ (a : Stage). claim_by u.op a m.number) (there ∙ ap (place_by_refusal k (first_write i inode off (length bytes) extent)) says)) files fits,
+              ((resting_refuses files cur (claims_of s.tasks) m.number off bytes (fits_before files fits) (may_name_now h is_op, used) none few).0 (ltb-true inode.size off behind)),
+          same (ap (λ (a : Stage). claim_by u.op a m.number) (there ∙ ap (stage_by_refusal k (first_write i inode off (length bytes) extent)) says)) files fits,
         )
     write_turn i off bytes few same_number used files fits false behind true big there =
         let says : write_refusal s.table.form inode off (length bytes) ≡ Some TooBig = rw (behind, big) refl in
-        let before = fits_before files fits in
-        let same_size : greatest_size (form_of cur) ≡ most = ap greatest_size (sym is.form) in
+        let same_size : greatest_size (form_of cur) ≡ most = ap greatest_size (sym h.is.form) in
         subst (λ (o : Option Reply). TurnsTo (form_of cur) (Write i off bytes) o files (FitsFiles disk.image t)) (sym says) (
           files,
           subst (λ (j : ℕ). after (form_of cur) files (Write j off bytes) TooBig ≡ Some files) (sym same_number)
-              ((resting_refuses files cur (claims_of s.tasks) m.number off bytes before (may_name_now disk s p op m is well stood is_op, used) none few).1 (ltb-false inode.size off behind)
+              ((resting_refuses files cur (claims_of s.tasks) m.number off bytes (fits_before files fits) (may_name_now h is_op, used) none few).1 (ltb-false inode.size off behind)
               (subst (λ (n : ℕ). n < off + length bytes) (sym same_size) (ltb-true most (off + length bytes) big))),
-          same (ap (λ (a : Stage). claim_by u.op a m.number) (there ∙ ap (place_by_refusal k (first_write i inode off (length bytes) extent)) says)) files fits,
+          same (ap (λ (a : Stage). claim_by u.op a m.number) (there ∙ ap (stage_by_refusal k (first_write i inode off (length bytes) extent)) says)) files fits,
         )
     write_turn i off bytes few same_number used files fits false behind false big there =
         let says : write_refusal s.table.form inode off (length bytes) ≡ None = rw (behind, big) refl in
         subst (λ (o : Option Reply). TurnsTo (form_of cur) (Write i off bytes) o files (FitsFiles disk.image t)) (sym says)
-        (begins_growing i off bytes same_number (there ∙ ap (place_by_refusal k (first_write i inode off (length bytes) extent)) says) used (ltb-false inode.size off behind) files fits)
+        (begins_growing i off bytes same_number (there ∙ ap (stage_by_refusal k (first_write i inode off (length bytes) extent)) says) used (ltb-false inode.size off behind) files fits)
 
-    used_turn : (q : Op) → CanTake s.table.inode_count q → m.number ≡ asked q → u.place ≡ place_of_look extent inode k q → inode.kind ≢ 0 → (files : Files) → FitsFiles disk.image s files
+    used_turn : (q : Op) → CanTake s.table.inode_count q → m.number ≡ asked q → u.stage ≡ stage_of_look extent inode k q → inode.kind ≢ 0 → (files : Files) → FitsFiles disk.image s files
         → TurnsTo (form_of cur) q (reply_of_look s.table.form inode q) files (FitsFiles disk.image t)
     used_turn (Create kind) allowed named there used files fits = absurd allowed
     used_turn (Write i off bytes) allowed named there used files fits =
@@ -367,24 +308,24 @@ module _ {D N : Type 0} (disk : Ghosts D N) (s : StoreState D) (p : ℕ) (op : O
         let before = fits_before files fits in (
           set files m.number (file_left inode.kind),
           subst (λ (j : ℕ). after (form_of cur) files (Trunc j) Done ≡ Some (set files m.number (file_left inode.kind))) named
-              (turn_answers files cur (claims_of s.tasks) m.number before (may_name_now disk s p op m is well stood is_op, used) none).0,
-          begins_freeing false (there ∙ ap (λ (j : ℕ). stage.Truncating k (first_freeing (first_trunc j inode s.table.form false extent.bitmap))) (sym named)) used files before,
+              (turn_answers files cur (claims_of s.tasks) m.number before (may_name_now h is_op, used) none).0,
+          begins_freeing false (there ∙ ap (λ (j : ℕ). Stage.Truncating k (first_freeing (first_trunc j inode s.table.form false extent.bitmap))) (sym named)) used files before,
         )
     used_turn (Remove i) allowed named there used files fits =
         let before = fits_before files fits in (
           set files m.number (file_left 0),
           subst (λ (j : ℕ). after (form_of cur) files (Remove j) Done ≡ Some (set files m.number (file_left 0))) named
-              (turn_answers files cur (claims_of s.tasks) m.number before (may_name_now disk s p op m is well stood is_op, used) none).1,
-          begins_freeing true (there ∙ ap (λ (j : ℕ). stage.Truncating k (first_freeing (first_trunc j inode s.table.form true extent.bitmap))) (sym named)) used files before,
+              (turn_answers files cur (claims_of s.tasks) m.number before (may_name_now h is_op, used) none).1,
+          begins_freeing true (there ∙ ap (λ (j : ℕ). Stage.Truncating k (first_freeing (first_trunc j inode s.table.form true extent.bitmap))) (sym named)) used files before,
         )
     used_turn (Stat i) allowed named there used files fits = (
       files,
       subst (λ (j : ℕ). after (form_of cur) files (Stat j) (StatOf inode.kind inode.size) ≡ Some files) named
-          (resting_tells files cur (claims_of s.tasks) m.number (fits_before files fits) (may_name_now disk s p op m is well stood is_op, used) none).stat,
+          (resting_tells files cur (claims_of s.tasks) m.number (fits_before files fits) (may_name_now h is_op, used) none).stat,
       same (ap (λ (a : Stage). claim_by u.op a m.number) there) files fits,
     )
 
-    free_turn : (q : Op) → CanTake s.table.inode_count q → m.number ≡ asked q → u.place ≡ stage.Leaving k → inode.kind ≡ 0 → (files : Files) → FitsFiles disk.image s files
+    free_turn : (q : Op) → CanTake s.table.inode_count q → m.number ≡ asked q → u.stage ≡ Stage.Leaving k → inode.kind ≡ 0 → (files : Files) → FitsFiles disk.image s files
         → TurnsTo (form_of cur) q (Some NoFile) files (FitsFiles disk.image t)
     free_turn q allowed named there free files fits = (
       files,
@@ -392,20 +333,18 @@ module _ {D N : Type 0} (disk : Ghosts D N) (s : StoreState D) (p : ℕ) (op : O
       same (ap (λ (a : Stage). claim_by u.op a m.number) there) files fits,
     )
       where
+        tells : AnswersNoFile (form_of cur) files m.number
+        tells = (free_tells files cur (claims_of s.tasks) m.number (fits_before files fits) (may_name_now h is_op, free)).1
+
         by_op : (o : Op) → CanTake s.table.inode_count o → m.number ≡ asked o → after (form_of cur) files o NoFile ≡ Some files
         by_op (Create kind) can_it named_it = absurd can_it
-        by_op (Write i off bytes) can_it named_it = subst (λ (j : ℕ). after (form_of cur) files (Write j off bytes) NoFile ≡ Some files) named_it
-            ((free_tells files cur (claims_of s.tasks) m.number (fits_before files fits) (may_name_now disk s p op m is well stood is_op, free)).1.write off bytes can_it.1)
-        by_op (Read i off n) can_it named_it = subst (λ (j : ℕ). after (form_of cur) files (Read j off n) NoFile ≡ Some files) named_it
-            ((free_tells files cur (claims_of s.tasks) m.number (fits_before files fits) (may_name_now disk s p op m is well stood is_op, free)).1.read off n can_it.1)
-        by_op (Trunc i) can_it named_it = subst (λ (j : ℕ). after (form_of cur) files (Trunc j) NoFile ≡ Some files) named_it
-            (free_tells files cur (claims_of s.tasks) m.number (fits_before files fits) (may_name_now disk s p op m is well stood is_op, free)).1.trunc
-        by_op (Remove i) can_it named_it = subst (λ (j : ℕ). after (form_of cur) files (Remove j) NoFile ≡ Some files) named_it
-            (free_tells files cur (claims_of s.tasks) m.number (fits_before files fits) (may_name_now disk s p op m is well stood is_op, free)).1.remove
-        by_op (Stat i) can_it named_it = subst (λ (j : ℕ). after (form_of cur) files (Stat j) NoFile ≡ Some files) named_it
-            (free_tells files cur (claims_of s.tasks) m.number (fits_before files fits) (may_name_now disk s p op m is well stood is_op, free)).1.stat
+        by_op (Write i off bytes) can_it named_it = subst (λ (j : ℕ). after (form_of cur) files (Write j off bytes) NoFile ≡ Some files) named_it (tells.write off bytes can_it.1)
+        by_op (Read i off n) can_it named_it = subst (λ (j : ℕ). after (form_of cur) files (Read j off n) NoFile ≡ Some files) named_it (tells.read off n can_it.1)
+        by_op (Trunc i) can_it named_it = subst (λ (j : ℕ). after (form_of cur) files (Trunc j) NoFile ≡ Some files) named_it tells.trunc
+        by_op (Remove i) can_it named_it = subst (λ (j : ℕ). after (form_of cur) files (Remove j) NoFile ≡ Some files) named_it tells.remove
+        by_op (Stat i) can_it named_it = subst (λ (j : ℕ). after (form_of cur) files (Stat j) NoFile ≡ Some files) named_it tells.stat
 
-    pub files_at_turn : (used : Bool) → (used ≡ true → inode.kind ≢ 0) → (used ≡ false → inode.kind ≡ 0) → u.place ≡ place_when_taken extent (if_used used inode) k op → (files : Files) → FitsFiles disk.image s files
+    pub files_at_turn : (used : Bool) → (used ≡ true → inode.kind ≢ 0) → (used ≡ false → inode.kind ≡ 0) → u.stage ≡ stage_when_taken extent (if_used used inode) k op → (files : Files) → FitsFiles disk.image s files
         → TurnsTo (form_of cur) op (reply_when_taken s.table.form (if_used used inode) op) files (FitsFiles disk.image t)
     files_at_turn true is_used is_free there files fits = used_turn op can asks there (is_used refl) files fits
     files_at_turn false is_used is_free there files fits = free_turn op can asks there (is_free refl) files fits
@@ -415,55 +354,40 @@ module _ {D N : Type 0} (disk : Ghosts D N) (s : StoreState D) (p : ℕ) (op : O
     answered : (u : TaskState) → u.op ≡ Some op → WasAnswered tab.inode_count u
     answered u has = record { op = op; is = has; can = subst (λ (n : ℕ). CanTake n op) (sym count) can }
 
-    reads : (q : Op) → op ≡ q → (off n i : ℕ) → q ≡ Read i off n → (o : Option ReadState) → first_read s.table.form inode off n ≡ o → inode.kind ≢ 0 → copy_at tab.places k ≡ Some inode
-        → (u : TaskState) → u.op ≡ Some op → u.gathered ≡ (task s.tasks p).gathered → LooksAt cur tab u (place_of_read k o)
-    reads q same off n i reading None first used copy u has gathered =
-        let here : op ≡ Read i off n = same ∙ reading in
-        let look : CanLook s.table.inode_count (Read i off n) = subst (CanTake s.table.inode_count) here can in
-        let had : (task s.tasks p).gathered ≡ Some (record { bytes = []; room = n }) = subst (λ (o : Op). HasRoom o (task s.tasks p).gathered) here room in
-        record {
-          op = record {
-            number = i;
-            offset = off;
-            count = n;
-            is = has ∙ ap Some here;
-            may = subst (λ (c : ℕ). CanLook c (Read i off n)) (sym count) look;
-            gathered = record { bytes = []; room = n };
-            has = gathered ∙ had;
-          };
-          dinode = inode;
-          copy = copy;
-          bytes = sym (has_none cur s.table.form inode off n (may used) first);
+    reads : (off n i : ℕ) → op ≡ Read i off n → (o : Option ReadState) → first_read s.table.form inode off n ≡ o → inode.kind ≢ 0 → copy_at tab.places k ≡ Some inode
+        → (u : TaskState) → u.op ≡ Some op → u.gathered ≡ (task s.tasks p).gathered → LooksAt cur tab u (stage_of_read k o)
+    reads off n i here o first used copy u has gathered = by_first o first
+      where
+        its : IsRead tab.inode_count u
+        its = record {
+          number = i;
+          offset = off;
+          count = n;
+          is = has ∙ ap Some here;
+          may = subst (λ (c : ℕ). CanLook c (Read i off n)) (sym count) (subst (CanTake s.table.inode_count) here can);
+          gathered = record { bytes = []; room = n };
+          has = gathered ∙ subst (λ (q : Op). HasRoom q (task s.tasks p).gathered) here room;
         }
-    reads q same off n i reading (Some r) first used copy u has gathered =
-        let here : op ≡ Read i off n = same ∙ reading in
-        let look : CanLook s.table.inode_count (Read i off n) = subst (CanTake s.table.inode_count) here can in
-        let had : (task s.tasks p).gathered ≡ Some (record { bytes = []; room = n }) = subst (λ (o : Op). HasRoom o (task s.tasks p).gathered) here room in
-        record {
-          op = record {
-            number = i;
-            offset = off;
-            count = n;
-            is = has ∙ ap Some here;
-            may = subst (λ (c : ℕ). CanLook c (Read i off n)) (sym count) look;
-            gathered = record { bytes = []; room = n };
-            has = gathered ∙ had;
-          };
-          copy = copy ∙ ap Some (sym (begins s.table.form inode off n r first).inode);
-          read = has_begun disk.image s.volume p inode off n r (record { bytes = []; room = n }) (may used) size (subst (λ (f : Form). first_read f inode off n ≡ Some r) is.form first) refl;
+
+        by_first : (q : Option ReadState) → first_read s.table.form inode off n ≡ q → LooksAt cur tab u (stage_of_read k q)
+        by_first None none = record { op = its; dinode = inode; copy = copy; bytes = sym (has_none cur s.table.form inode off n (may used) none) }
+        by_first (Some r) some = record {
+          op = its;
+          copy = copy ∙ ap Some (sym (begins s.table.form inode off n r some).inode);
+          read = has_begun disk.image s.volume p inode off n r (record { bytes = []; room = n }) (may used) size (subst (λ (f : Form). first_read f inode off n ≡ Some r) h.is.form some) refl;
         }
 
     truncates : (removes : Bool) (i : ℕ) → op ≡ cond removes (Remove i) (Trunc i) → i ≡ asked op → inode.kind ≢ 0 → (u : TaskState) → u.op ≡ Some op
         → IsTruncating cur tab.inode_count u (first_freeing (first_trunc i inode s.table.form removes extent.bitmap))
     truncates removes i same named used u has =
-        let comes = first_comes i inode s.table.form removes extent.bitmap cur is.form (may used).fit.fields.count in
+        let comes = first_comes i inode s.table.form removes extent.bitmap cur h.is.form (may used).fit.fields.count in
         let is_so = address_same (unbegun i inode s.table.form removes extent.bitmap) 0 in
         record {
           op = has ∙ ap Some same ∙ ap (λ (o : Itrunc). Some (trunc_op o)) (sym is_so);
           number = subst (λ (j : ℕ). IsTrue (is_number tab.inode_count j)) (asks ∙ sym named ∙ sym (first_number i inode s.table.form removes extent.bitmap))
-              (subst (λ (n : ℕ). IsTrue (is_number n m.number)) (sym count) (may_name disk s p op m is well stood is_op));
+              (subst (λ (n : ℕ). IsTrue (is_number n m.number)) (sym count) (may_name h is_op));
           bitmap = ap (λ (o : Itrunc). o.bitmap) is_so ∙ ap bitmap_block (sym count);
-          form = ap (λ (o : Itrunc). o.form) is_so ∙ is.form;
+          form = ap (λ (o : Itrunc). o.form) is_so ∙ h.is.form;
           slot = comes.slot;
           given = comes.given;
           keeps = comes.keeps no_block_kept refl refl;
@@ -471,7 +395,7 @@ module _ {D N : Type 0} (disk : Ghosts D N) (s : StoreState D) (p : ℕ) (op : O
 
     writes : (i off : ℕ) (bytes : List ℕ) → op ≡ Write i off bytes → inode.kind ≢ 0 → (u : TaskState) → u.op ≡ Some op
         → (a : Bool) → ltb inode.size off ≡ a → (b : Bool) → ltb most (off + length bytes) ≡ b
-        → LooksAt cur tab u (place_by_refusal k (first_write i inode off (length bytes) extent) (cond a (Some BadOffset) (cond b (Some TooBig) None)))
+        → LooksAt cur tab u (stage_by_refusal k (first_write i inode off (length bytes) extent) (cond a (Some BadOffset) (cond b (Some TooBig) None)))
     writes i off bytes same used u has true behind b big = answered u has
     writes i off bytes same used u has false behind true big = answered u has
     writes i off bytes same used u has false behind false big =
@@ -487,23 +411,23 @@ module _ {D N : Type 0} (disk : Ghosts D N) (s : StoreState D) (p : ℕ) (op : O
           done = omega arith;
           fits = fits;
           extent = ap (λ (n : ℕ). extent_of s.table.form n s.volume.log.size) (sym count) ∙ ap (extent_of s.table.form tab.inode_count) size
-              ∙ ap (λ (f : Form). extent_of f tab.inode_count (length cur)) is.form;
+              ∙ ap (λ (f : Form). extent_of f tab.inode_count (length cur)) h.is.form;
           come =
               let here : off + 0 ≡ off = omega arith in
               let all : length bytes - 0 ≡ length bytes = omega arith in
               subst (λ (j : ℕ). HasComeTo cur w (next_place i inode j (length bytes) extent)) here
-              (subst (λ (n : ℕ). HasComeTo cur w (next_place i inode (off + 0) n extent)) all (comes_next cur w (sym is.form) (may used).fit.fields.count (omega arith) (λ left. next_low w left fits)));
+              (subst (λ (n : ℕ). HasComeTo cur w (next_place i inode (off + 0) n extent)) all (comes_next cur w (sym h.is.form) (may used).fit.fields.count (omega arith) (λ left. next_low w left fits)));
         }
 
-    looks_used : (q : Op) → op ≡ q → inode.kind ≢ 0 → copy_at tab.places k ≡ Some inode → (u : TaskState) → u.op ≡ Some op → u.gathered ≡ (task s.tasks p).gathered → LooksAt cur tab u (place_of_look extent inode k q)
+    looks_used : (q : Op) → op ≡ q → inode.kind ≢ 0 → copy_at tab.places k ≡ Some inode → (u : TaskState) → u.op ≡ Some op → u.gathered ≡ (task s.tasks p).gathered → LooksAt cur tab u (stage_of_look extent inode k q)
     looks_used (Create kind) same used copy u has gathered = answered u has
     looks_used (Write i off bytes) same used copy u has gathered = writes i off bytes same used u has (ltb inode.size off) refl (ltb most (off + length bytes)) refl
-    looks_used (Read i off n) same used copy u has gathered = reads (Read i off n) same off n i refl (first_read s.table.form inode off n) refl used copy u has gathered
+    looks_used (Read i off n) same used copy u has gathered = reads off n i same (first_read s.table.form inode off n) refl used copy u has gathered
     looks_used (Trunc i) same used copy u has gathered = truncates false i same (sym (ap asked same)) used u has
     looks_used (Remove i) same used copy u has gathered = truncates true i same (sym (ap asked same)) used u has
     looks_used (Stat i) same used copy u has gathered = answered u has
 
     pub looks_at_turn : (used : Bool) → (used ≡ true → inode.kind ≢ 0) → (used ≡ true → copy_at tab.places k ≡ Some inode) → (u : TaskState) → u.op ≡ Some op → u.gathered ≡ (task s.tasks p).gathered
-        → LooksAt cur tab u (place_when_taken extent (if_used used inode) k op)
+        → LooksAt cur tab u (stage_when_taken extent (if_used used inode) k op)
     looks_at_turn true is_used copy u has gathered = looks_used op refl (is_used refl) (copy refl) u has gathered
     looks_at_turn false is_used copy u has gathered = answered u has

@@ -1,30 +1,7 @@
 -- How far the writing of a file's bytes has come: what comes next, and what stays in another image.
 use Rattle.std.proofs.Common.{◌≡◌, ◌≢◌, ℕ, ◌+◌, ◌-◌, ◌*◌, ◌/◌, ◌<◌, ◌≤◌, Bool, true, false, cond, eqb, not, List, length, get_or, refl, sym, ◌∙◌, ap, subst, inl, inr, arith, None, Some, ⊎_elim}
 use Rattle.std.specs.Prelude.{◌&&◌}
-use Rattle.std.proofs.lemmas.Bool.{eqb-true, eqb-false}
-use Rattle.blocks.specs.Disk.{Image, block_at}
-use Rattle.model.specs.declared.types.image.Dinode.{Dinode}
-use Rattle.model.specs.declared.types.image.Form.{Form}
-use Rattle.model.specs.Layout.{form_of}
-use Rattle.model.specs.Places.{address_in, address_under}
-use Rattle.model.specs.Fields.{words_of}
-use Rattle.in_flight.specs.Lemmas.KeptTrees.{SameInside}
-use Rattle.blockmap.specs.Balloc.{AllocState, first_alloc}
-use Rattle.blockmap.specs.Branch.{block_limit, branch_of, entry_under, node_at}
-use Rattle.blockmap.specs.Map.{mapped_for_writing}
-use Rattle.blockmap.specs.Lemmas.Branches.{address_there, is_branch, lies_first, lies_short, lies_still}
-use Rattle.blockmap.specs.declared.bmap_alloc.MapAt.{MapAt}
-use Rattle.blockmap.specs.declared.bmap_alloc.MapAt.TheVariants as map_at
-use Rattle.blockmap.specs.declared.branch.Branch.{Branch}
-use Rattle.blockmap.specs.declared.branch.Node.{Node}
-use Rattle.blockmap.specs.declared.mapping.MappedForWriting.TheVariants as for_writing
-use Rattle.inodes.specs.declared.writei.Extent.{Extent}
-use Rattle.inodes.specs.declared.writei.WriteAt.{WriteAt}
-use Rattle.inodes.specs.declared.writei.WriteAt.TheVariants as write_at
-use Rattle.inodes.specs.Growing.{HasComeTo, HasNoEntry, IsOnWay, next_block, taken_by, taken_on_way}
-use Rattle.inodes.specs.Iupdate.{first_update}
-use Rattle.inodes.specs.Writei.{WriteState, next_byte, next_place, place_of_mapped}
-use Rattle.inodes.specs.Writing.{blocks_behind, blocks_left, kept_by_write, used_by_write, writes_for, writes_left_at}
+use Rattle.inodes.specs.Common.{address_in, address_there, address_under, AllocState, block_at, block_limit, blocks_behind, blocks_left, Branch, branch_of, Dinode, entry_under, eqb-false, eqb-true, Extent, first_alloc, first_update, Form, form_of, HasComeTo, HasNoEntry, Image, is_branch, IsOnWay, kept_by_write, lies_first, lies_short, lies_still, MapAt, mapped_for_writing, MappedForWriting, next_block, next_byte, next_place, Node, node_at, place_of_mapped, SameInside, taken_by, taken_on_way, used_by_write, words_of, WriteAt, writes_for, writes_left_at, WriteState}
 
 -- ---- in an image in which the blocks of addresses on the way are the same
 
@@ -37,16 +14,16 @@ module _ (old new : Image) (d : Dinode) (b : Branch) (same : SameInside old new 
       )
 
   pub on_way_still : (e : Extent) (a : MapAt) → ((c : ℕ) → taken_on_way a ≡ Some c → block_at new c ≡ block_at old c) → IsOnWay old d e b a → IsOnWay new d e b a
-  on_way_still e (map_at.Address t) taken on = on
-  on_way_still e (map_at.Entry n slot) taken on = lies_still old d b n on new same
-  on_way_still e (map_at.Behind n i t) taken on = (no_entry_still n on.0, on.1)
-  on_way_still e (map_at.Setting n i None) taken on = (no_entry_still n on.0, tt)
-  on_way_still e (map_at.Setting n i (Some c)) taken on = (no_entry_still n on.0, taken c refl ∙ on.1)
+  on_way_still e (MapAt.Address t) taken on = on
+  on_way_still e (MapAt.Entry n slot) taken on = lies_still old d b n on new same
+  on_way_still e (MapAt.Behind n i t) taken on = (no_entry_still n on.0, on.1)
+  on_way_still e (MapAt.Setting n i None) taken on = (no_entry_still n on.0, tt)
+  on_way_still e (MapAt.Setting n i (Some c)) taken on = (no_entry_still n on.0, taken c refl ∙ on.1)
 
 -- and the file has its blocks
 module _ (old new : Image) (m : WriteState) (same : (k : ℕ) → SameInside old new (branch_of m.extent.form k).depth (get_or m.inode.addrs (branch_of m.extent.form k).index 0)) where
   pub come_still : ((k : ℕ) → address_in new m.inode k ≡ address_in old m.inode k) → (a : WriteAt) → ((c : ℕ) → taken_by a ≡ Some c → block_at new c ≡ block_at old c) → HasComeTo old m a → HasComeTo new m a
-  come_still leads (write_at.Mapping way) taken come = (
+  come_still leads (WriteAt.Mapping way) taken come = (
     come.0,
     record {
       branch = come.1.branch;
@@ -57,8 +34,8 @@ module _ (old new : Image) (m : WriteState) (same : (k : ℕ) → SameInside old
           m.extent way.at taken come.1.at;
     },
   )
-  come_still leads (write_at.Block b slot) taken come = (come.0, leads (next_block m) ∙ come.1, come.2)
-  come_still leads (write_at.Updating u) taken come = (
+  come_still leads (WriteAt.Block b slot) taken come = (come.0, leads (next_block m) ∙ come.1, come.2)
+  come_still leads (WriteAt.Updating u) taken come = (
     come.0,
     ⊎_elim
         (λ (all : m.done ≡ m.count). inl all)
@@ -86,24 +63,24 @@ module _ (x : Image) (m : WriteState) (k : ℕ) where
       → HasComeTo x m (place_of_mapped (mapped_for_writing m.extent.form d k m.extent.bitmap m.extent.size))
   comes_mapped one all left here low = by_place (eqb address 0) refl (eqb b.depth 0) refl
     where
-      starts : (a : MapAt) → IsOnWay x d m.extent b a → HasComeTo x m (write_at.Mapping (record { branch = b; bitmap = m.extent.bitmap; size = m.extent.size; at = a }))
+      starts : (a : MapAt) → IsOnWay x d m.extent b a → HasComeTo x m (WriteAt.Mapping (record { branch = b; bitmap = m.extent.bitmap; size = m.extent.size; at = a }))
       starts a on = (left, record { branch = ap (branch_of m.extent.form) (sym here); bitmap = refl; size = refl; at = on })
 
       by_place : (none : Bool) → eqb address 0 ≡ none → (ends : Bool) → eqb b.depth 0 ≡ ends
-          → HasComeTo x m (place_of_mapped (cond (not none && ends) (for_writing.At address) (for_writing.Behind (record {
+          → HasComeTo x m (place_of_mapped (cond (not none && ends) (MappedForWriting.At address) (MappedForWriting.Behind (record {
             branch = b;
             bitmap = m.extent.bitmap;
             size = m.extent.size;
-            at = cond none (map_at.Address take) (map_at.Entry (node_at b.depth b.rest address) None);
+            at = cond none (MapAt.Address take) (MapAt.Entry (node_at b.depth b.rest address) None);
           }))))
-      by_place true none ends is = starts (map_at.Address take) (eqb-true address 0 none, record { bitmap = refl; size = refl })
+      by_place true none ends is = starts (MapAt.Address take) (eqb-true address 0 none, record { bitmap = refl; size = refl })
       by_place false some true flat = (
         left,
         ap (address_in x d) here ∙ address_there x m.extent.form one k low d all ∙ ap (λ n. address_under x n b.rest address) (eqb-true b.depth 0 flat),
         eqb-false address 0 some,
       )
       by_place false some false deep =
-          starts (map_at.Entry (node_at b.depth b.rest address) None)
+          starts (MapAt.Entry (node_at b.depth b.rest address) None)
           (lies_first x d b (eqb-false b.depth 0 deep) (is_branch k m.extent.form low).rest (eqb-false address 0 some))
 
 -- the block of the next byte, or the end
@@ -113,11 +90,10 @@ pub comes_next : (x : Image) (m : WriteState) → form_of x ≡ m.extent.form �
 comes_next x m one all most low = by_left (eqb (m.count - m.done) 0) refl
   where
     by_left : (b : Bool) → eqb (m.count - m.done) 0 ≡ b
-        → HasComeTo x m (cond b (write_at.Updating (first_update m.number)) (place_of_mapped (mapped_for_writing m.extent.form m.inode (next_byte m / 1024) m.extent.bitmap m.extent.size)))
+        → HasComeTo x m (cond b (WriteAt.Updating (first_update m.number)) (place_of_mapped (mapped_for_writing m.extent.form m.inode (next_byte m / 1024) m.extent.bitmap m.extent.size)))
     by_left true none = let left = eqb-true (m.count - m.done) 0 none in (refl, inl (omega (arith, most, left)))
     by_left false some =
-        let left = eqb-false (m.count - m.done) 0 some in
-        let more : m.done < m.count = omega (arith, most, left) in
+        let more : m.done < m.count = omega (arith, most, (eqb-false (m.count - m.done) 0 some)) in
         comes_mapped x m (next_block m) one all more refl (low more)
 
 -- ---- it begins with nothing
@@ -137,17 +113,17 @@ module _ (m : WriteState) (d : Dinode) (form : Form) (k bitmap size : ℕ) where
   abbrev first_address : ℕ
   first_address = get_or d.addrs begun.index 0
 
-  fresh_address : IsFresh m begun (write_at.Mapping (record { branch = begun; bitmap = bitmap; size = size; at = map_at.Address (first_alloc bitmap size) }))
+  fresh_address : IsFresh m begun (WriteAt.Mapping (record { branch = begun; bitmap = bitmap; size = size; at = MapAt.Address (first_alloc bitmap size) }))
   fresh_address = record { kept = refl; used = refl; taken = refl; steps = omega arith; blocks = omega arith }
 
-  fresh_entry : begun.depth ≢ 0 → IsFresh m begun (write_at.Mapping (record { branch = begun; bitmap = bitmap; size = size; at = map_at.Entry (node_at begun.depth begun.rest first_address) None }))
+  fresh_entry : begun.depth ≢ 0 → IsFresh m begun (WriteAt.Mapping (record { branch = begun; bitmap = bitmap; size = size; at = MapAt.Entry (node_at begun.depth begun.rest first_address) None }))
   fresh_entry deep = record { kept = refl; used = refl; taken = refl; steps = omega (arith, deep); blocks = omega arith }
 
-  fresh_mapped : (none ends : Bool) → eqb begun.depth 0 ≡ ends → IsFresh m begun (place_of_mapped (cond (not none && ends) (for_writing.At first_address) (for_writing.Behind (record {
+  fresh_mapped : (none ends : Bool) → eqb begun.depth 0 ≡ ends → IsFresh m begun (place_of_mapped (cond (not none && ends) (MappedForWriting.At first_address) (MappedForWriting.Behind (record {
     branch = begun;
     bitmap = bitmap;
     size = size;
-    at = cond none (map_at.Address (first_alloc bitmap size)) (map_at.Entry (node_at begun.depth begun.rest first_address) None);
+    at = cond none (MapAt.Address (first_alloc bitmap size)) (MapAt.Entry (node_at begun.depth begun.rest first_address) None);
   }))))
   fresh_mapped true ends flat = fresh_address
   fresh_mapped false true flat = record { kept = refl; used = refl; taken = refl; steps = omega arith; blocks = omega arith }
@@ -156,7 +132,7 @@ module _ (m : WriteState) (d : Dinode) (form : Form) (k bitmap size : ℕ) where
 pub fresh_next : (m : WriteState) (number : ℕ) (d : Dinode) (next left : ℕ) (e : Extent) → IsFresh m (branch_of e.form (next / 1024)) (next_place number d next left e)
 fresh_next m number d next left e = by_left (eqb left 0)
   where
-    by_left : (b : Bool) → IsFresh m (branch_of e.form (next / 1024)) (cond b (write_at.Updating (first_update number)) (place_of_mapped (mapped_for_writing e.form d (next / 1024) e.bitmap e.size)))
+    by_left : (b : Bool) → IsFresh m (branch_of e.form (next / 1024)) (cond b (WriteAt.Updating (first_update number)) (place_of_mapped (mapped_for_writing e.form d (next / 1024) e.bitmap e.size)))
     by_left true = record { kept = refl; used = refl; taken = refl; steps = omega arith; blocks = omega arith }
     by_left false =
         let b : Branch = branch_of e.form (next / 1024) in

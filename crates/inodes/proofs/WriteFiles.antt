@@ -1,32 +1,10 @@
 -- What the steps of a write make of its claim, by the laws over images in which tasks write files.
-use Rattle.std.proofs.Common.{zero-add, ◌≡◌, ◌≢◌, ℕ, ◌+◌, ◌*◌, ◌%◌, ◌<◌, ◌≤◌, List, ◌++◌, length, take, drop, max, Option, Some, None, false, refl, sym, ap, ap₂, subst, ◌∙◌, ⊎_elim, arith, IsTrue, slice_index, ◌⊎◌, [], inl, inr}
-use Rattle.blockmap.specs.Balloc.{AllocState, IsLowestClear, lowest_in, with_taken}
-use Rattle.in_flight.specs.Held.{Claims, Growth, IsClaimedNow, grows, reaching, taking, zeroed, placing}
-use Rattle.model.specs.declared.types.image.File.{File}
-use Rattle.model.specs.Files.{Files, file_in}
-use Rattle.in_flight.specs.HeldLaws.{FitsThen, IsHeldIn}
-use Rattle.blocks.specs.Disk.{Image, block_at}
-use Rattle.model.specs.declared.types.operations.Op.TheVariants.{Write}
-use Rattle.inodes.specs.Writei.{WriteState, next_byte, piece_of, with_piece, with_written, piece}
-use Rattle.model.specs.declared.types.operations.Reply.TheVariants.{Wrote}
-use Rattle.model.specs.Places.{address_in}
-use Rattle.in_flight.specs.Lemmas.BlocksTaken.{block_taken, taken_zeroed}
+use Rattle.std.proofs.Common.{zero-add, ◌≡◌, ◌≢◌, ℕ, ◌+◌, ◌*◌, ◌%◌, ◌<◌, ◌≤◌, List, ◌++◌, length, take, drop, max, Option, Some, None, refl, sym, ap, ap₂, subst, ◌∙◌, ⊎_elim, arith, IsTrue, slice_index, ◌⊎◌, [], inl, inr}
+use Rattle.inodes.specs.Common.{address_in, address_placed, after, AllocState, block_at, block_taken, cases_lt, Claims, File, file_in, Files, files_grown, FitsThen, form_of, get_or-set_same, greatest_size, growing_of, grows, Growth, growth_answers, growth_of, has_bit, Image, inode_count_of, is_number, IsClaimedNow, IsHeldIn, IsLowestClear, length-drop, length-take-le, lowest_clear_is_lowest, lowest_in, next_block, next_byte, part_in_two, part_of, piece, piece_of, placing, reaching, super_of, taken_by, taken_lies, taken_zeroed, with_piece, with_taken, with_written, Write, WriteState, Wrote, zero_block, zeroed}
+use Rattle.in_flight.specs.Held.{taking}
 use Rattle.in_flight.specs.Lemmas.BytesWritten.{bytes_written}
-use Rattle.std.proofs.lemmas.Bool.{cases_lt}
-use Rattle.in_flight.specs.Lemmas.Placing.{address_placed, taken_lies}
-use Rattle.std.proofs.lemmas.List.{get_or-set_same, length-drop, length-take-le}
-use Rattle.in_flight.specs.GrowthLaws.{WritesNext as FillsNext, files_grown}
-use Rattle.model.specs.Layout.{form_of, greatest_size, inode_count_of, is_marked, super_of}
-use Rattle.in_flight.specs.Lemmas.HeldFrames.{growing_of}
-use Rattle.in_flight.specs.Lemmas.GrowthEnds.{growth_answers}
+use Rattle.in_flight.specs.GrowthLaws.{WritesNext as FillsNext}
 use Rattle.in_flight.specs.Lemmas.GrowthBlocks.{growth_has_blocks}
-use Rattle.inodes.specs.Growing.{growth_of, next_block, taken_by}
-use Rattle.model.specs.Fields.{has_bit}
-use Rattle.model.specs.Journal.{is_number}
-use Rattle.blockmap.specs.Lemmas.Bitmap.{lowest_clear_is_lowest}
-use Rattle.model.specs.Operations.{after, part_of}
-use Rattle.model.specs.Lemmas.Bytes.{part_in_two}
-use Rattle.blocks.specs.Block.{zero_block}
 
 -- ---- a block is taken
 
@@ -37,20 +15,15 @@ module _ (files : Files) (x : Image) (claims new : Claims) (i b : ℕ) (g : Grow
       FitsThen files x claims i (with_taken x t.bitmap b) new
   takes_lowest held none at long found now =
       let first : IsLowestClear (block_at x t.bitmap) t.size (Some b) = subst (IsLowestClear (block_at x t.bitmap) t.size) found (lowest_clear_is_lowest (block_at x t.bitmap) t.size) in
-      let inside = first.0 in
-      let clear : is_marked x b ≡ false = ap (λ a. has_bit (block_at x a) b) (sym at) ∙ first.1 in
       subst (λ a. FitsThen files x claims i (with_taken x a b) new) (sym at)
-      (block_taken files x claims new i b g held none (omega (arith, inside, long)) clear now)
+      (block_taken files x claims new i b g held none (omega (arith, first.0, long)) (ap (λ a. has_bit (block_at x a) b) (sym at) ∙ first.1) now)
 
   -- ---- it is zeroed, and named in the same step
-
-  pub zeroes_taken : IsHeldIn files x claims i (grows g) → g.taken ≡ Some b → FitsThen files x claims i (zeroed x b) claims
-  zeroes_taken held is = taken_zeroed files x claims i b g held is
 
   -- the task holds its number in the image with the zeroed block
   still_held : (held : IsHeldIn files x claims i (grows g)) → (is : g.taken ≡ Some b) → IsHeldIn files (zeroed x b) claims i (grows g)
   still_held held is =
-      let then = zeroes_taken held is in
+      let then = taken_zeroed files x claims i b g held is in
       let count : inode_count_of x ≡ inode_count_of (zeroed x b) = sym held.fits.count ∙ then.fits.count in
       record {
         fits = then.fits;
@@ -61,7 +34,7 @@ module _ (files : Files) (x : Image) (claims new : Claims) (i b : ℕ) (g : Grow
   pub zeroes_named : (slot : ℕ) → IsHeldIn files x claims i (grows g) → g.taken ≡ Some b → slot < length g.copy.addrs →
       slice_index g.copy.addrs slot ≡ 0 → IsClaimedNow claims i (Some (grows (placing g slot b))) new → FitsThen files x claims i (zeroed x b) new
   zeroes_named slot held is there none now =
-      let then = zeroes_taken held is in
+      let then = taken_zeroed files x claims i b g held is in
       let inside = (taken_lies files x claims i b g held is).1 in
       record {
         fits = address_placed files (zeroed x b) claims new i slot b g (still_held held is) is there none
@@ -86,9 +59,7 @@ module _ (files : Files) (x : Image) (claims new : Claims) (i b : ℕ) (m : Writ
 
   whole : length (piece_of m bytes) ≡ piece m
   whole =
-      let left = w.left in
-      let all = w.all in
-      length-take-le (piece m) (drop m.done bytes) (omega (arith, left, all, length-drop m.done bytes))
+      length-take-le (piece m) (drop m.done bytes) (omega (arith, w.left, w.all, length-drop m.done bytes))
 
   writes_next : (g : Growth) → g ≡ growth_of m bytes → FillsNext x g (next_block m) (next_byte m % 1024) b (piece_of m bytes)
   writes_next g is = subst (λ h. FillsNext x h (next_block m) (next_byte m % 1024) b (piece_of m bytes)) (sym is)
@@ -110,9 +81,8 @@ module _ (files : Files) (x : Image) (claims new : Claims) (i b : ℕ) (m : Writ
       growth_of later_on bytes
       ≡ reaching (growth_of m bytes) (max m.inode.size (next_block m * 1024 + next_byte m % 1024 + length (piece_of m bytes))) (piece_of m bytes)
   grown none later =
-      let end : next_byte m + piece m ≡ next_block m * 1024 + next_byte m % 1024 + length (piece_of m bytes) = let count = whole in omega (arith, count) in
       ap₂ (λ (o : Option ℕ) (l : List ℕ). record { copy = later_on.inode; taken = o; offset = m.offset; written = l }) (later ∙ sym none) (part_in_two bytes 0 m.done (piece m) ∙ ap (λ (k : ℕ). take m.done bytes ++ part_of bytes k (piece m)) (zero-add m.done))
-      ∙ ap (λ (n : ℕ). record { copy = record m.inode { size = max m.inode.size n }; taken = taken_by m.at; offset = m.offset; written = take m.done bytes ++ piece_of m bytes }) end
+      ∙ ap (λ (n : ℕ). record { copy = record m.inode { size = max m.inode.size n }; taken = taken_by m.at; offset = m.offset; written = take m.done bytes ++ piece_of m bytes }) (omega (arith, whole))
 
   pub piece_written : taken_by m.at ≡ None → taken_by later_on.at ≡ None → IsHeldIn files x claims i (grows (growth_of m bytes)) →
       IsClaimedNow claims i (Some (grows (growth_of later_on bytes))) new → FitsThen files x claims i (with_written x m bytes b) new
@@ -130,12 +100,11 @@ module _ (files : Files) (x : Image) (claims : Claims) (i : ℕ) (m : WriteState
   ends_evenly old is held few none =
       let growing = growing_of files x claims i (growth_of m bytes) held in
       let size = (growth_has_blocks files x claims i (growth_of m bytes) old held is).size in
-      let count = length-take-le m.done bytes few in
       let past : m.inode.size ≤ next_block m * 1024 = ⊎_elim
       (λ (need : next_block m * 1024 < m.inode.size). absurd (growing.fit.whole (next_block m) need none))
       (λ (le : m.inode.size ≤ next_block m * 1024). le)
       (cases_lt (next_block m * 1024) m.inode.size) in
-      omega (arith, size, count, past)
+      omega (arith, size, (length-take-le m.done bytes few), past)
 
   pub answers_written : (old : File) → file_in files i ≡ Some old → IsHeldIn files x claims i (grows (growth_of m bytes)) →
       m.done ≤ length bytes → length bytes ≤ 3072 → m.offset + length bytes ≤ greatest_size (form_of x) →

@@ -1,27 +1,7 @@
 -- How many homes a writing adds to the log: a block that is a home already adds none.
-use Rattle.std.proofs.Common.{◌≡◌, ◌≢◌, ℕ, ◌+◌, ◌-◌, ◌/◌, ◌<◌, ◌≤◌, Bool, true, false, cond, eqb, List, [], ◌∷◌, ◌++◌, length, set, refl, sym, ◌∙◌, ap, subst, ⊎_elim, arith, Some}
-use Rattle.std.proofs.lemmas.Bool.{cases_eq, eqb-false, ne_eqb}
-use Rattle.std.proofs.lemmas.List.{get_or-set_other, get_or-set_same}
-use Rattle.blocks.specs.Disk.{Image}
-use Rattle.model.specs.declared.types.image.Dinode.{Dinode}
-use Rattle.model.specs.declared.types.image.Form.{Form}
-use Rattle.model.specs.declared.types.image.Form.TheVariants.{One, Two}
-use Rattle.model.specs.Layout.{greatest_size}
-use Rattle.model.specs.Soundness.{count_of}
-use Rattle.in_flight.specs.Trees.{way_to}
-use Rattle.wal.specs.Machine.{LogState, is_among, noted, used_by}
-use Rattle.wal.specs.Lemmas.Rooms.{noted_among, noted_grows, noted_home, used_noted_new}
-use Rattle.blockmap.specs.Branch.{branch_of}
-use Rattle.blockmap.specs.Lemmas.Branches.{within_limit}
-use Rattle.blockmap.specs.declared.branch.Branch.{Branch}
-use Rattle.inodes.specs.declared.tasks.Stage.{Stage}
-use Rattle.inodes.specs.declared.tasks.Stage.TheVariants as stage
-use Rattle.inodes.specs.Growing.{next_block}
-use Rattle.inodes.specs.Store.{HaveLogged, LoggedAt}
-use Rattle.inodes.specs.Tasks.{TaskState, no_task, task}
-use Rattle.inodes.specs.Writei.{WriteState}
+use Rattle.std.proofs.Common.{◌≡◌, ◌≢◌, ℕ, ◌+◌, ◌-◌, ◌/◌, ◌<◌, ◌≤◌, Bool, true, false, cond, eqb, List, [], ◌∷◌, ◌++◌, length, set, slice_index, refl, sym, ◌∙◌, ap, subst, ⊎_elim, arith, Some}
+use Rattle.inodes.specs.Common.{at_hand, blocks_left, Branch, branch_of, cases_eq, count_of, counted, counted_of, Dinode, eqb-false, first_branch, Form, get_or-set_other, get_or-set_same, greatest_size, HasLoggedWrite, HasOpen, HaveLogged, homes_beside, Image, is_among, last_branch, LoggedAt, LogState, most_beside, ne_eqb, next_block, no_task, noted, noted_among, noted_grows, noted_home, One, routes_of, same_keeps, SameInside, Stage, task, TaskState, Two, used_by, used_noted_new, way_to, within_limit, WriteState}
 use Rattle.inodes.specs.Routes.{Route, node_by, nodes_by, routes_beyond, routes_to}
-use Rattle.inodes.specs.Writing.{HasLoggedWrite, HasOpen, at_hand, blocks_left, counted, counted_of, first_branch, homes_beside, last_branch, most_beside, routes_of}
 use Rattle.inodes.proofs.Agreeing.{counts_more}
 use Rattle.inodes.proofs.Routes.{IsRouteIn, KeepsTo, LeadsOn, beyond_leads, in_either, in_one, in_other, route, to_leads}
 use Rattle.inodes.proofs.WriteNodes.{CountsOn, counted_more, counts_one, node_among, nodes_more, nodes_new, routes_short, shares_way}
@@ -69,6 +49,16 @@ pub record KeepsWays (x y : Image) (m : WriteState) (d : Dinode) : Type 0 where
   pub first : KeepsTo x y m.inode d (first_branch m)
   pub last : KeepsTo x y m.inode d (last_branch m)
 
+-- so does a copy with the same addresses, where the ways are the same
+pub ways_keep : (x y : Image) (m : WriteState) (d : Dinode) → d.addrs ≡ m.inode.addrs → ((j : ℕ) → SameInside x y (branch_of m.extent.form j).depth (slice_index m.inode.addrs (branch_of m.extent.form j).index)) → KeepsWays x y m d
+ways_keep x y m d addrs same = record { first = leads (m.offset / 1024); last = leads ((m.offset + m.count - 1) / 1024) }
+  where
+    leads : (j : ℕ) → KeepsTo x y m.inode d (branch_of m.extent.form j)
+    leads j = record {
+      address = λ there. ap (λ (l : List ℕ). slice_index l (branch_of m.extent.form j).index) addrs;
+      behind = same_keeps x y (branch_of m.extent.form j).depth (slice_index m.inode.addrs (branch_of m.extent.form j).index) (same j);
+    }
+
 module _ (x y : Image) (l k : LogState) (on : CountsOn l k) (m : WriteState) (d : Dinode) (keeps : KeepsWays x y m d) where
   leads : (r : Route) → IsRouteIn r (routes_of m) → LeadsOn x y m.inode d r
   leads r is = by_count (eqb m.count 0) is
@@ -83,15 +73,12 @@ module _ (x y : Image) (l k : LogState) (on : CountsOn l k) (m : WriteState) (d 
 
   pub beside_grow : counted_of l (beside x m.inode m) ≤ counted_of k (beside y d m)
   beside_grow =
-      let map = on m.extent.bitmap in
-      let nodes = nodes_more x y m.inode d l k on (routes_of m) leads in
-      omega (arith, map, nodes)
+      omega (arith, (on m.extent.bitmap), (nodes_more x y m.inode d l k on (routes_of m) leads))
 
   -- the bitmap's block is a home from now on
   pub beside_map : counted k m.extent.bitmap ≡ 1 → counted_of l (beside x m.inode m) + 1 ≤ counted_of k (beside y d m) + counted l m.extent.bitmap
   beside_map home =
-      let nodes = nodes_more x y m.inode d l k on (routes_of m) leads in
-      omega (arith, home, nodes)
+      omega (arith, home, (nodes_more x y m.inode d l k on (routes_of m) leads))
 
   -- a block of addresses is, to which one of the routes leads
   module _ (r : Route) (is : IsRouteIn r (routes_of m)) (n : ℕ) (led : node_by x m.inode r ≡ n) (home : counted k n ≡ 1) where
@@ -102,30 +89,19 @@ module _ (x y : Image) (l k : LogState) (on : CountsOn l k) (m : WriteState) (d 
 
     pub node_gains : counted_of l (beside x m.inode m) + 1 ≤ counted_of k (beside y d m) + counted l n
     node_gains =
-        let map = on m.extent.bitmap in
-        let here = counts_here in
-        let later = nodes_more x y m.inode d k k (λ b. omega arith) (routes_of m) leads in
-        omega (arith, map, here, later)
+        omega (arith, (on m.extent.bitmap), counts_here, (nodes_more x y m.inode d k k (λ b. omega arith) (routes_of m) leads))
 
     -- and so does the one that its entry names from now on
     pub new_gains : (q : Route) → IsRouteIn q (routes_of m) → node_by x m.inode q ≡ 0 → (b : ℕ) → node_by y d q ≡ b
         → counted_of l (beside x m.inode m) + (counted k b + 1) ≤ counted_of k (beside y d m) + counted l n
     new_gains q there none b named =
-        let map = on m.extent.bitmap in
-        let here = counts_here in
-        let new = nodes_new x y m.inode d k (routes_of m) leads q there none in
-        let its = ap (counted k) named in
-        omega (arith, map, here, new, its)
+        omega (arith, (on m.extent.bitmap), counts_here, (nodes_new x y m.inode d k (routes_of m) leads q there none), (ap (counted k) named))
 
   -- one that the copy itself names from now on counts too
   pub first_gains : (q : Route) → IsRouteIn q (routes_of m) → node_by x m.inode q ≡ 0 → (b : ℕ) → node_by y d q ≡ b → counted k b ≡ 1
       → counted_of l (beside x m.inode m) + 1 ≤ counted_of k (beside y d m)
   first_gains q there none b named home =
-      let map = on m.extent.bitmap in
-      let old = counted_more l k on (nodes_by x m.inode (routes_of m)) in
-      let new = nodes_new x y m.inode d k (routes_of m) leads q there none in
-      let its = ap (counted k) named in
-      omega (arith, map, old, new, its, home)
+      omega (arith, (on m.extent.bitmap), (counted_more l k on (nodes_by x m.inode (routes_of m))), (nodes_new x y m.inode d k (routes_of m) leads q there none), (ap (counted k) named), home)
 
 -- no more than that
 nodes_few : (l : LogState) (x : Image) (d : Dinode) (rs : List Route) → counted_of l (nodes_by x d rs) ≤ length rs
@@ -147,11 +123,9 @@ beside_few x l m fits = by_count (eqb m.count 0) refl
     by_count true none = let map = counted_most l m.extent.bitmap in let one = one_at_least m.extent.form in omega (arith, map, one)
     by_count false some =
         let left = eqb-false m.count 0 some in
-        let map = counted_most l m.extent.bitmap in
-        let few = nodes_few l x m.inode (routes_to (first_branch m) ++ routes_beyond (first_branch m) (last_branch m)) in
         let short = routes_short m.extent.form (m.offset / 1024) ((m.offset + m.count - 1) / 1024)
         (within_limit m.extent.form m.offset (omega (arith, left, fits))) (within_limit m.extent.form (m.offset + m.count - 1) (omega (arith, left, fits))) in
-        omega (arith, map, few, short)
+        omega (arith, (counted_most l m.extent.bitmap), (nodes_few l x m.inode (routes_to (first_branch m) ++ routes_beyond (first_branch m) (last_branch m))), short)
 
 pub four_beside : (form : Form) → most_beside form ≤ 4
 four_beside One = omega arith
@@ -185,9 +159,8 @@ open_of x l p m on = record { homes = on.homes; used = on.used }
 
 pub logged_of : (x : Image) (l : LogState) (p : ℕ) (m : WriteState) → LogsOn x l p m → HasLoggedWrite x l p m
 logged_of x l p m on homes used =
-    let few = on.few in
     let same : homes ≡ on.homes = (let both : Some homes ≡ Some on.homes = sym used ∙ on.used in cc both) in
-    omega (arith, few, same)
+    omega (arith, on.few, same)
 
 -- the log stays: the writing goes on with what it added
 pub logged_on : (x y : Image) (l : LogState) (p : ℕ) (m n : WriteState) → LogsOn x l p m → counted_of l (homes_beside x m) ≤ counted_of l (homes_beside y n)
@@ -198,27 +171,24 @@ logged_on x y l p m n had more less =
 
 -- the image stays, and so do the homes of who has an operation open
 pub logged_alike : (cur : Image) (l m : LogState) (q : ℕ) (a : Stage) → ((homes b : ℕ) → used_by l q ≡ Some homes → is_among b l.homes ≡ true → is_among b m.homes ≡ true) → used_by m q ≡ used_by l q → LoggedAt cur l q a → LoggedAt cur m q a
-logged_alike cur l m q stage.Nowhere among same had = tt
-logged_alike cur l m q (stage.Creating w) among same had = tt
-logged_alike cur l m q (stage.Taking w) among same had = tt
-logged_alike cur l m q (stage.Reading k w) among same had = tt
-logged_alike cur l m q (stage.Delivering k) among same had = tt
-logged_alike cur l m q (stage.Truncating k w) among same had = tt
-logged_alike cur l m q (stage.Writing k w) among same had = λ homes used.
+logged_alike cur l m q Stage.Nowhere among same had = tt
+logged_alike cur l m q (Stage.Creating w) among same had = tt
+logged_alike cur l m q (Stage.Taking w) among same had = tt
+logged_alike cur l m q (Stage.Reading k w) among same had = tt
+logged_alike cur l m q (Stage.Delivering k) among same had = tt
+logged_alike cur l m q (Stage.Truncating k w) among same had = tt
+logged_alike cur l m q (Stage.Writing k w) among same had = λ homes used.
     let on : CountsOn l m = λ b. counts_more l m b (among homes b (sym same ∙ used)) in
-    let few = had homes (sym same ∙ used) in
-    let more = counted_more l m on (homes_beside cur w) in
-    let hand = on (at_hand w.at) in
-    omega (arith, few, more, hand)
-logged_alike cur l m q (stage.Leaving k) among same had = tt
+    omega (arith, (had homes (sym same ∙ used)), (counted_more l m on (homes_beside cur w)), (on (at_hand w.at)))
+logged_alike cur l m q (Stage.Leaving k) among same had = tt
 
 -- one task is another
 pub logged_set : (cur : Image) (l m : LogState) (ts : List TaskState) (p : ℕ) (u : TaskState) → p < length ts → ((b : ℕ) → is_among b l.homes ≡ true → is_among b m.homes ≡ true)
-    → ((q : ℕ) → q ≢ p → used_by m q ≡ used_by l q) → LoggedAt cur m p u.place → HaveLogged cur l ts → HaveLogged cur m (set ts p u)
+    → ((q : ℕ) → q ≢ p → used_by m q ≡ used_by l q) → LoggedAt cur m p u.stage → HaveLogged cur l ts → HaveLogged cur m (set ts p u)
 logged_set cur l m ts p u inside among same mine had q =
     ⊎_elim
-    (λ (own : q ≡ p). subst (λ (r : ℕ). LoggedAt cur m r (task (set ts p u) r).place) (sym own)
-    (subst (λ (v : TaskState). LoggedAt cur m p v.place) (sym (get_or-set_same ts p u no_task inside)) mine))
-    (λ (apart : q ≢ p). subst (λ (v : TaskState). LoggedAt cur m q v.place) (sym (get_or-set_other ts p q u no_task apart))
-    (logged_alike cur l m q (task ts q).place (λ homes b used has. among b has) (same q apart) (had q)))
+    (λ (own : q ≡ p). subst (λ (r : ℕ). LoggedAt cur m r (task (set ts p u) r).stage) (sym own)
+    (subst (λ (v : TaskState). LoggedAt cur m p v.stage) (sym (get_or-set_same ts p u no_task inside)) mine))
+    (λ (apart : q ≢ p). subst (λ (v : TaskState). LoggedAt cur m q v.stage) (sym (get_or-set_other ts p q u no_task apart))
+    (logged_alike cur l m q (task ts q).stage (λ homes b used has. among b has) (same q apart) (had q)))
     (cases_eq q p)

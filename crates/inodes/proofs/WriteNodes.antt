@@ -1,28 +1,8 @@
 -- The blocks of addresses on the ways to the blocks that a writing writes: those on the way to any of them lie on the way to the first or to the last.
 use Rattle.std.proofs.Common.{◌≡◌, ◌≢◌, ℕ, ◌+◌, ◌-◌, ◌/◌, ◌%◌, ◌<◌, ◌≤◌, ◌⊎◌, inl, inr, Bool, true, false, cond, eqb, ltb, List, [], ◌∷◌, ◌++◌, length, get_or, refl, sym, ap, subst, ◌∙◌, ⊎_elim, arith, length-append}
-use Rattle.std.proofs.lemmas.Bool.{cases_eq, cases_lt, eq-eqb, le-ltb, lt-ltb, ltb-true, ne_eqb}
-use Rattle.blocks.specs.Disk.{Image, block_at}
-use Rattle.model.specs.declared.types.image.Dinode.{Dinode}
-use Rattle.model.specs.declared.types.image.Form.{Form}
-use Rattle.model.specs.declared.types.image.Form.TheVariants.{One, Two}
-use Rattle.model.specs.Files.{Files}
-use Rattle.model.specs.Layout.{depths, direct_count, form_of}
-use Rattle.model.specs.Places.{addresses_in, pointers_in}
-use Rattle.model.specs.Soundness.{count_of}
+use Rattle.inodes.specs.Common.{addresses_in, block_at, block_limit, Branch, branch_of, cases_eq, cases_lt, Claims, count_of, counted, counted_of, deepest, depth_of, depths, Dinode, direct_count, direct_depth, eq-eqb, Files, Form, form_of, grows, Growth, Image, is_branch, IsHeldIn, le-ltb, led_to, lies_short, LiesOnWay, LogState, lt-ltb, ltb-true, most_beside, ne_eqb, Node, One, pointers_in, SameInside, Two, way_inside, way_named, way_to}
 use Rattle.model.specs.Lemmas.Wholes.{thirteen_depths}
-use Rattle.in_flight.specs.Held.{Claims, Growth, grows}
-use Rattle.in_flight.specs.HeldLaws.{IsHeldIn}
-use Rattle.in_flight.specs.Trees.{depth_of, led_to, way_to}
-use Rattle.in_flight.specs.Lemmas.Apart.{way_inside, way_named}
-use Rattle.in_flight.specs.Lemmas.KeptTrees.{SameInside}
-use Rattle.in_flight.specs.Lemmas.Wholes.{direct_depth}
-use Rattle.wal.specs.Machine.{LogState}
-use Rattle.blockmap.specs.Branch.{LiesOnWay, block_limit, branch_of, deepest}
-use Rattle.blockmap.specs.Lemmas.Branches.{is_branch, lies_short}
-use Rattle.blockmap.specs.declared.branch.Branch.{Branch}
-use Rattle.blockmap.specs.declared.branch.Node.{Node}
 use Rattle.inodes.specs.Routes.{Route, node_by, nodes_by, routes_beyond, routes_to}
-use Rattle.inodes.specs.Writing.{counted, counted_of, most_beside}
 use Rattle.inodes.proofs.Routes.{IsRouteIn, LeadsOn, Shares, beyond_apart, beyond_shared, beyond_short, length-routes_to}
 
 -- ---- how many blocks of a list are homes
@@ -42,14 +22,11 @@ counts_one l m a on home (b ∷ bs) some =
     ⊎_elim
     (λ (same : b ≡ a).
     let one : counted m b ≡ 1 = ap (counted m) same ∙ home in
-    let was : counted l b ≡ counted l a = ap (counted l) same in
     let rest = counted_more l m on bs in
-    omega (arith, one, was, rest))
+    omega (arith, one, (ap (counted l) same), rest))
     (λ (other : b ≢ a).
-    let later : 1 ≤ count_of a bs = (let none : (let own : ℕ = cond (eqb b a) 1 0 in own) ≡ 0 = rw (ne_eqb b a other) refl in omega (arith, some, none)) in
-    let rest = counts_one l m a on home bs later in
-    let first = on b in
-    omega (arith, rest, first))
+    let rest = counts_one l m a on home bs (let none : (let own : ℕ = cond (eqb b a) 1 0 in own) ≡ 0 = rw (ne_eqb b a other) refl in omega (arith, some, none)) in
+    omega (arith, rest, (on b)))
     (cases_eq b a)
 
 -- ---- the blocks of addresses to which routes lead
@@ -70,18 +47,14 @@ module _ (x y : Image) (d e : Dinode) where
       ⊎_elim
       (λ (none : node_by x d r ≡ 0). let gone : counted l (node_by x d r) ≡ 0 = ap (counted l) none in omega (arith, gone))
       (λ (some : node_by x d r ≢ 0).
-      let one = on (node_by x d r) in
-      let same : counted m (node_by y e r) ≡ counted m (node_by x d r) = ap (counted m) (leads some) in
-      omega (arith, one, same))
+      omega (arith, (on (node_by x d r)), (ap (counted m) (leads some))))
       (cases_eq (node_by x d r) 0)
 
   -- what counted there counts still
   pub nodes_more : (l m : LogState) → CountsOn l m → (rs : List Route) → ((r : Route) → IsRouteIn r rs → LeadsOn x y d e r) → counted_of l (nodes_by x d rs) ≤ counted_of m (nodes_by y e rs)
   nodes_more l m on [] leads = omega arith
   nodes_more l m on (q ∷ qs) leads =
-      let one = node_more l m on q (leads q (inl refl)) in
-      let rest = nodes_more l m on qs (λ r later. leads r (inr later)) in
-      omega (arith, one, rest)
+      omega (arith, (node_more l m on q (leads q (inl refl))), (nodes_more l m on qs (λ r later. leads r (inr later))))
 
   -- and so does what one of them leads to from now on
   pub nodes_new : (m : LogState) (rs : List Route) → ((r : Route) → IsRouteIn r rs → LeadsOn x y d e r) → (r : Route) → IsRouteIn r rs → node_by x d r ≡ 0
@@ -91,14 +64,12 @@ module _ (x y : Image) (d e : Dinode) where
       let same : CountsOn m m = λ b. omega arith in
       ⊎_elim
       (λ (here : q ≡ r).
-      let was : counted m (node_by x d q) ≡ 0 = ap (λ (o : Route). counted m (node_by x d o)) here ∙ ap (counted m) none in
       let now : counted m (node_by y e q) ≡ counted m (node_by y e r) = ap (λ (o : Route). counted m (node_by y e o)) here in
       let rest = nodes_more m m same qs (λ o later. leads o (inr later)) in
-      omega (arith, was, now, rest))
+      omega (arith, (ap (λ (o : Route). counted m (node_by x d o)) here ∙ ap (counted m) none), now, rest))
       (λ (later : IsRouteIn r qs).
       let one = node_more m m same q (leads q (inl refl)) in
-      let rest = nodes_new m qs (λ o behind. leads o (inr behind)) r later none in
-      omega (arith, one, rest))
+      omega (arith, one, (nodes_new m qs (λ o behind. leads o (inr behind)) r later none)))
       is
 
 -- ---- in an image that has the same blocks at all that an inode names
@@ -140,17 +111,13 @@ module _ (files : Files) (x : Image) (claims : Claims) (i : ℕ) (g : Growth) (h
   pub same_inside : (y : Image) → ((n : ℕ) → 1 ≤ count_of n (addresses_in (pointers_in x g.copy)) → block_at y n ≡ block_at x n)
       → (form : Form) → form ≡ form_of x → (k : ℕ) → SameInside x y (branch_of form k).depth (get_or g.copy.addrs (branch_of form k).index 0)
   same_inside y same form is k way n led some short =
-      let b = branch_of form k in
-      let deep = depth_there form is k way n led some in
-      same n (way_named files x claims i g h b.index way n (omega (arith, short, deep)) led some)
+      same n (way_named files x claims i g h (branch_of form k).index way n (omega (arith, short, (depth_there form is k way n led some))) led some)
 
   -- a block of addresses on such a way is one of those
   pub lies_named : (form : Form) → form ≡ form_of x → (k : ℕ) (n : Node) → LiesOnWay x g.copy (branch_of form k) n → 1 ≤ count_of n.block (addresses_in (pointers_in x g.copy))
   lies_named form is k n lies =
       let b = branch_of form k in
-      let deep = depth_there form is k lies.before n.block lies.led lies.there in
-      let short = lies_short x g.copy b n lies in
-      way_named files x claims i g h b.index lies.before n.block (omega (arith, short, deep)) lies.led lies.there
+      way_named files x claims i g h b.index lies.before n.block (omega (arith, (lies_short x g.copy b n lies), (depth_there form is k lies.before n.block lies.led lies.there))) lies.led lies.there
 
 -- ---- the ways to the first block and to the last
 
@@ -164,9 +131,8 @@ at_double k far = rw (le-ltb k 11 (omega (arith, far)), le-ltb (k - 11) 256 (ome
 one_split : (r : ℕ) (before : List ℕ) (e : ℕ) (rest : List ℕ) → r ∷ [] ≡ before ++ e ∷ rest → before ≡ []
 one_split r [] e rest is = refl
 one_split r (g ∷ before) e rest is =
-    let all = ap (λ (l : List ℕ). length l) is in
     let sum = length-append before (e ∷ rest) in
-    absurd (omega (arith, all, sum))
+    absurd (omega (arith, (ap (λ (l : List ℕ). length l) is), sum))
 
 -- the one that comes to a block of addresses among those of the first way, or of the last one
 module _ (form : Form) (first k last : ℕ) (from : first ≤ k) (to : k ≤ last) (near : last ≤ first + 3) (low : last < block_limit form) where
@@ -192,9 +158,8 @@ module _ (form : Form) (first k last : ℕ) (from : first ≤ k) (to : k ≤ las
 
   no_way : {A : Type 0} (before : List ℕ) (e : ℕ) (rest : List ℕ) → [] ≡ before ++ e ∷ rest → A
   no_way before e rest is =
-      let all = ap (λ (l : List ℕ). length l) is in
       let sum = length-append before (e ∷ rest) in
-      absurd (omega (arith, all, sum))
+      absurd (omega (arith, (ap (λ (l : List ℕ). length l) is), sum))
 
   abbrev Leads : Branch → Type 0
   Leads b = (before : List ℕ) (e : ℕ) (rest : List ℕ) → way_to b.depth b.rest ≡ before ++ e ∷ rest → Shared before b.index
@@ -210,9 +175,8 @@ two_split : (r s : ℕ) (before : List ℕ) (e : ℕ) (rest : List ℕ) → r �
 two_split r s [] e rest is = inl refl
 two_split r s (g ∷ []) e rest is = inr (ap (λ h. h ∷ []) (sym (ap (λ (l : List ℕ). get_or l 0 0) is)))
 two_split r s (g ∷ h ∷ before) e rest is =
-    let all = ap (λ (l : List ℕ). length l) is in
     let sum = length-append before (e ∷ rest) in
-    absurd (omega (arith, all, sum))
+    absurd (omega (arith, (ap (λ (l : List ℕ). length l) is), sum))
 
 -- behind the block of blocks of addresses
 module _ (first k last : ℕ) (from : first ≤ k) (to : k ≤ last) (near : last ≤ first + 3) (far : 267 ≤ k) where
@@ -303,7 +267,6 @@ module _ (form : Form) (j k : ℕ) (first : j < block_limit form) (last : k < bl
       omega (arith, all, few))
       (cases_eq a.depth 0))
       (λ (apart : a.index ≢ b.index).
-      let is = beyond_apart a b apart in
       let few = few_apart form a.depth b.depth one.shallow other.shallow
       (⊎_elim
       (λ (equal : a.depth ≡ b.depth).
@@ -313,5 +276,5 @@ module _ (form : Form) (j k : ℕ) (first : j < block_limit form) (last : k < bl
       (cases_eq a.depth 0))
       (λ (ne : a.depth ≢ b.depth). inl ne)
       (cases_eq a.depth b.depth)) in
-      omega (arith, all, is, few))
+      omega (arith, all, (beyond_apart a b apart), few))
       (cases_eq a.index b.index)

@@ -9,7 +9,6 @@ use Rattle.model.specs.Fields.{words_of}
 use Rattle.model.specs.Format.{bits_per_block, inode_start}
 use Rattle.model.specs.Layout.{inode_block}
 use Rattle.model.specs.declared.types.progress.Progress.{Progress}
-use Rattle.model.specs.declared.types.progress.Progress.TheVariants as progress
 use Rattle.wal.specs.Held.{HoldsBlock}
 use Rattle.wal.specs.Joint.{seen}
 use Rattle.wal.specs.Volume.{VolumeState, GetsFor, Holds}
@@ -20,7 +19,6 @@ use Rattle.inodes.specs.declared.freeing.Got.{Got}
 use Rattle.inodes.specs.declared.freeing.Kept.{Kept}
 use Rattle.inodes.specs.declared.itrunc.Itrunc.{Itrunc}
 use Rattle.inodes.specs.declared.itrunc.TruncAt.{TruncAt}
-use Rattle.inodes.specs.declared.itrunc.TruncAt.TheVariants as trunc_at
 use Rattle.inodes.specs.Itrunc.{Fits, IsBelow, after_trunc, at_block, block_in_hand, freed_by, last_inode_of}
 
 -- no block is kept
@@ -35,12 +33,12 @@ first_freeing m = record { machine = m; kept = no_block_kept; used = None }
 
 -- the block that a step gets, if it wasn't got yet; 0 where it gets none
 abbrev pub block_by : Itrunc → TruncAt → ℕ
-block_by m trunc_at.Direct = m.bitmap
-block_by m (trunc_at.Loading b) = b
-block_by m trunc_at.Entry = m.bitmap
-block_by m trunc_at.Unloading = 0
-block_by m trunc_at.Freeing = m.bitmap
-block_by m trunc_at.Updating = inode_block m.number
+block_by m TruncAt.Direct = m.bitmap
+block_by m (TruncAt.Loading b) = b
+block_by m TruncAt.Entry = m.bitmap
+block_by m TruncAt.Unloading = 0
+block_by m TruncAt.Freeing = m.bitmap
+block_by m TruncAt.Updating = inode_block m.number
 
 abbrev pub block_next : Freeing → ℕ
 block_next m = block_by m.machine m.machine.at
@@ -52,12 +50,12 @@ got_in b (Some i) = Some (record { block = b; slot = i })
 
 -- the block that a step uses: that one, where it was got, or the block that was kept last
 abbrev pub now_by : Freeing → TruncAt → Option Got
-now_by m trunc_at.Direct = got_in m.machine.bitmap m.used
-now_by m (trunc_at.Loading b) = None
-now_by m trunc_at.Entry = got_in m.machine.bitmap m.used
-now_by m trunc_at.Unloading = m.kept.inner
-now_by m trunc_at.Freeing = got_in m.machine.bitmap m.used
-now_by m trunc_at.Updating = got_in (inode_block m.machine.number) m.used
+now_by m TruncAt.Direct = got_in m.machine.bitmap m.used
+now_by m (TruncAt.Loading b) = None
+now_by m TruncAt.Entry = got_in m.machine.bitmap m.used
+now_by m TruncAt.Unloading = m.kept.inner
+now_by m TruncAt.Freeing = got_in m.machine.bitmap m.used
+now_by m TruncAt.Updating = got_in (inode_block m.machine.number) m.used
 
 abbrev pub now_of : Freeing → Option Got
 now_of m = now_by m m.machine.at
@@ -100,16 +98,16 @@ entries_kept x m g = words_of (block_at x (got_or m.kept.inner g).block)
 
 -- a block that was got, with these bytes, is used next, or kept
 abbrev pub taken : List ℕ → ℕ → TruncAt → Freeing → Freeing
-taken bytes i trunc_at.Direct m = record m { used = Some i }
-taken bytes i (trunc_at.Loading b) m = record {
+taken bytes i TruncAt.Direct m = record m { used = Some i }
+taken bytes i (TruncAt.Loading b) m = record {
   machine = at_block m.machine (words_of bytes);
   kept = record { inner = Some (record { block = b; slot = i }); outer = m.kept.inner };
   used = None;
 }
-taken bytes i trunc_at.Entry m = record m { used = Some i }
-taken bytes i trunc_at.Unloading m = record m { used = Some i }
-taken bytes i trunc_at.Freeing m = record m { used = Some i }
-taken bytes i trunc_at.Updating m = record m { used = Some i }
+taken bytes i TruncAt.Entry m = record m { used = Some i }
+taken bytes i TruncAt.Unloading m = record m { used = Some i }
+taken bytes i TruncAt.Freeing m = record m { used = Some i }
+taken bytes i TruncAt.Updating m = record m { used = Some i }
 
 -- by the slot that was got
 abbrev pub when_got : Image → Option ℕ → Freeing → Freeing
@@ -118,12 +116,12 @@ when_got x (Some i) m = taken (block_at x (block_next m)) i m.machine.at m
 
 -- what is kept behind a step that used a block
 abbrev pub kept_then : Kept → TruncAt → Kept
-kept_then kept trunc_at.Direct = kept
-kept_then kept (trunc_at.Loading b) = kept
-kept_then kept trunc_at.Entry = kept
-kept_then kept trunc_at.Unloading = record { inner = kept.outer; outer = None }
-kept_then kept trunc_at.Freeing = kept
-kept_then kept trunc_at.Updating = kept
+kept_then kept TruncAt.Direct = kept
+kept_then kept (TruncAt.Loading b) = kept
+kept_then kept TruncAt.Entry = kept
+kept_then kept TruncAt.Unloading = record { inner = kept.outer; outer = None }
+kept_then kept TruncAt.Freeing = kept
+kept_then kept TruncAt.Updating = kept
 
 -- and what becomes of the freeing
 abbrev pub after_use : List ℕ → Freeing → Freeing
@@ -135,24 +133,24 @@ after_use entries m = record {
 
 -- with the inode it is over
 abbrev pub answer_by : TruncAt → Progress (Unit {0})
-answer_by trunc_at.Direct = progress.Moved
-answer_by (trunc_at.Loading b) = progress.Moved
-answer_by trunc_at.Entry = progress.Moved
-answer_by trunc_at.Unloading = progress.Moved
-answer_by trunc_at.Freeing = progress.Moved
-answer_by trunc_at.Updating = progress.Over tt
+answer_by TruncAt.Direct = Progress.Moved
+answer_by (TruncAt.Loading b) = Progress.Moved
+answer_by TruncAt.Entry = Progress.Moved
+answer_by TruncAt.Unloading = Progress.Moved
+answer_by TruncAt.Freeing = Progress.Moved
+answer_by TruncAt.Updating = Progress.Over tt
 
 -- the image in which the block that is used is changed: a bit is cleared, or the inode written;
 -- none where a block of addresses is given back
 abbrev pub image_by : Image → Itrunc → List ℕ → TruncAt → Option Image
-image_by x m entries trunc_at.Direct =
+image_by x m entries TruncAt.Direct =
     Some (with_freed x m.bitmap (slice_index m.inode.addrs m.slot))
-image_by x m entries (trunc_at.Loading b) = None
-image_by x m entries trunc_at.Entry =
+image_by x m entries (TruncAt.Loading b) = None
+image_by x m entries TruncAt.Entry =
     Some (with_freed x m.bitmap (slice_index entries m.given_up))
-image_by x m entries trunc_at.Unloading = None
-image_by x m entries trunc_at.Freeing = Some (with_freed x m.bitmap (block_in_hand m entries))
-image_by x m entries trunc_at.Updating = Some (with_inode x m.number (last_inode_of m))
+image_by x m entries TruncAt.Unloading = None
+image_by x m entries TruncAt.Freeing = Some (with_freed x m.bitmap (block_in_hand m entries))
+image_by x m entries TruncAt.Updating = Some (with_inode x m.number (last_inode_of m))
 
 -- block b, which slot i holds, is written so that the image is that one, or released as it is
 abbrev pub Changes : {D N : Type 0} → Ghosts D N → VolumeState D → ℕ → ℕ → ℕ → Option Image

@@ -11,15 +11,12 @@ use Rattle.blockmap.specs.Balloc.{AllocState}
 use Rattle.blockmap.specs.BmapAlloc.{MapState}
 use Rattle.blockmap.specs.Branch.{LiesOnWay, branch_of, named_by}
 use Rattle.blockmap.specs.declared.balloc.AllocAt.{AllocAt}
-use Rattle.blockmap.specs.declared.balloc.AllocAt.TheVariants as alloc_at
 use Rattle.blockmap.specs.declared.bmap_alloc.MapAt.{MapAt}
-use Rattle.blockmap.specs.declared.bmap_alloc.MapAt.TheVariants as map_at
 use Rattle.blockmap.specs.declared.branch.Branch.{Branch}
 use Rattle.blockmap.specs.declared.branch.Node.{Node}
 use Rattle.inodes.specs.Writei.{WriteState, next_byte}
 use Rattle.inodes.specs.declared.writei.Extent.{Extent}
 use Rattle.inodes.specs.declared.writei.WriteAt.{WriteAt}
-use Rattle.inodes.specs.declared.writei.WriteAt.TheVariants as write_at
 
 -- the bytes that an operation writes; those of any other are none
 abbrev pub bytes_of : Op → List ℕ
@@ -38,19 +35,19 @@ bytes_by (Some op) = bytes_of op
 
 -- the block that was taken and that nothing names yet
 abbrev pub taken_at : AllocAt → Option ℕ
-taken_at (alloc_at.Looking slot) = None
-taken_at (alloc_at.Zeroing b slot) = Some b
+taken_at (AllocAt.Looking slot) = None
+taken_at (AllocAt.Zeroing b slot) = Some b
 
 abbrev pub taken_on_way : MapAt → Option ℕ
-taken_on_way (map_at.Address t) = taken_at t.at
-taken_on_way (map_at.Entry n slot) = None
-taken_on_way (map_at.Behind n i t) = taken_at t.at
-taken_on_way (map_at.Setting n i found) = found
+taken_on_way (MapAt.Address t) = taken_at t.at
+taken_on_way (MapAt.Entry n slot) = None
+taken_on_way (MapAt.Behind n i t) = taken_at t.at
+taken_on_way (MapAt.Setting n i found) = found
 
 abbrev pub taken_by : WriteAt → Option ℕ
-taken_by (write_at.Mapping way) = taken_on_way way.at
-taken_by (write_at.Block b slot) = None
-taken_by (write_at.Updating u) = None
+taken_by (WriteAt.Mapping way) = taken_on_way way.at
+taken_by (WriteAt.Block b slot) = None
+taken_by (WriteAt.Updating u) = None
 
 -- the claim of a task that writes these bytes
 abbrev pub growth_of : WriteState → List ℕ → Growth
@@ -83,10 +80,10 @@ IsZeroed cur (Some b) = block_at cur b ≡ zero_block
 
 -- how far it leads, and what isn't there, by where the way stands
 abbrev pub IsOnWay : Image → Dinode → Extent → Branch → MapAt → Type 0
-IsOnWay cur d e b (map_at.Address t) = (slice_index d.addrs b.index ≡ 0) × TakesIn e t
-IsOnWay cur d e b (map_at.Entry n slot) = LiesOnWay cur d b n
-IsOnWay cur d e b (map_at.Behind n i t) = HasNoEntry cur d b n × TakesIn e t
-IsOnWay cur d e b (map_at.Setting n i found) = HasNoEntry cur d b n × IsZeroed cur found
+IsOnWay cur d e b (MapAt.Address t) = (slice_index d.addrs b.index ≡ 0) × TakesIn e t
+IsOnWay cur d e b (MapAt.Entry n slot) = LiesOnWay cur d b n
+IsOnWay cur d e b (MapAt.Behind n i t) = HasNoEntry cur d b n × TakesIn e t
+IsOnWay cur d e b (MapAt.Setting n i found) = HasNoEntry cur d b n × IsZeroed cur found
 
 -- the way leads to the block of the next byte
 pub record IsMapping (cur : Image) (m : WriteState) (way : MapState) : Type 0 where
@@ -98,9 +95,9 @@ pub record IsMapping (cur : Image) (m : WriteState) (way : MapState) : Type 0 wh
 -- The writing has come so far: to the block of the next byte, or to its end, where all bytes are
 -- written, or no block was left for the next ones.
 abbrev pub HasComeTo : Image → WriteState → WriteAt → Type 0
-HasComeTo cur m (write_at.Mapping way) = (m.done < m.count) × IsMapping cur m way
-HasComeTo cur m (write_at.Block b slot) =
+HasComeTo cur m (WriteAt.Mapping way) = (m.done < m.count) × IsMapping cur m way
+HasComeTo cur m (WriteAt.Block b slot) =
     (m.done < m.count) × (address_in cur m.inode (next_block m) ≡ b) × (b ≢ 0)
-HasComeTo cur m (write_at.Updating u) =
+HasComeTo cur m (WriteAt.Updating u) =
     (u.number ≡ m.number)
     × ((m.done ≡ m.count) ⊎ (address_in cur m.inode (next_block m) ≡ 0))

@@ -13,9 +13,7 @@ use Rattle.inodes.specs.declared.freeing.Kept.{Kept}
 use Rattle.inodes.specs.declared.freeing.Got.{Got}
 use Rattle.inodes.specs.declared.freeing.Freeing.{Freeing}
 use Rattle.inodes.specs.declared.itrunc.TruncAt.{TruncAt}
-use Rattle.inodes.specs.declared.itrunc.TruncAt.TheVariants as trunc_at
 use Rattle.inodes.specs.declared.tasks.Stage.{Stage}
-use Rattle.inodes.specs.declared.tasks.Stage.TheVariants as stage
 use Rattle.inodes.specs.Growing.{bytes_by, growth_of}
 use Rattle.inodes.specs.declared.itrunc.Itrunc.{Itrunc}
 use Rattle.inodes.specs.Table.{or_else}
@@ -35,19 +33,19 @@ held_of m = record {
 
 -- what a task with this operation holds of number i, by its stage
 abbrev pub claim_by : Option Op → Stage → ℕ → Option Claim
-claim_by op stage.Nowhere i = None
-claim_by op (stage.Creating m) i = None
-claim_by op (stage.Taking m) i = None
-claim_by op (stage.Reading k m) i = None
-claim_by op (stage.Delivering k) i = None
-claim_by op (stage.Truncating k m) i =
+claim_by op Stage.Nowhere i = None
+claim_by op (Stage.Creating m) i = None
+claim_by op (Stage.Taking m) i = None
+claim_by op (Stage.Reading k m) i = None
+claim_by op (Stage.Delivering k) i = None
+claim_by op (Stage.Truncating k m) i =
     if m.machine.number == i then Some (frees (held_of m.machine)) else None
-claim_by op (stage.Writing k m) i =
+claim_by op (Stage.Writing k m) i =
     if m.number == i then Some (grows (growth_of m (bytes_by op))) else None
-claim_by op (stage.Leaving k) i = None
+claim_by op (Stage.Leaving k) i = None
 
 abbrev pub claim_of : TaskState → ℕ → Option Claim
-claim_of t i = claim_by t.op t.place i
+claim_of t i = claim_by t.op t.stage i
 
 -- for each number what the task holds that holds it; none where no task does
 abbrev pub claims_of : List TaskState → Claims
@@ -95,12 +93,12 @@ pub record IsAtEntry (x : Image) (m : Itrunc) : Type 0 where
 
 -- The freeing of a file's blocks has come so far: what stands before its place was given up.
 abbrev pub HasGivenUp : Image → Itrunc → TruncAt → Type 0
-HasGivenUp x m trunc_at.Direct = IsAtDirect m
-HasGivenUp x m (trunc_at.Loading b) = IsInHand x m × (m.given_up ≡ 0) × (hand_in x m ≡ b)
-HasGivenUp x m trunc_at.Entry = IsAtEntry x m
-HasGivenUp x m trunc_at.Unloading = IsInHand x m × (m.given_up ≡ addresses_per_block)
-HasGivenUp x m trunc_at.Freeing = IsInHand x m × (m.given_up ≡ addresses_per_block)
-HasGivenUp x m trunc_at.Updating = m.inode.addrs ≡ replicate 13 0
+HasGivenUp x m TruncAt.Direct = IsAtDirect m
+HasGivenUp x m (TruncAt.Loading b) = IsInHand x m × (m.given_up ≡ 0) × (hand_in x m ≡ b)
+HasGivenUp x m TruncAt.Entry = IsAtEntry x m
+HasGivenUp x m TruncAt.Unloading = IsInHand x m × (m.given_up ≡ addresses_per_block)
+HasGivenUp x m TruncAt.Freeing = IsInHand x m × (m.given_up ≡ addresses_per_block)
+HasGivenUp x m TruncAt.Updating = m.inode.addrs ≡ replicate 13 0
 
 -- the block above the one in hand
 abbrev pub above_by : Option ℕ → ℕ → Option ℕ
@@ -112,20 +110,20 @@ above_hand m = above_by m.upper (root_of m)
 
 -- the block that was kept last, and the one that was kept before it
 abbrev pub last_kept : Image → Itrunc → TruncAt → Option ℕ
-last_kept x m trunc_at.Direct = None
-last_kept x m (trunc_at.Loading b) = above_hand m
-last_kept x m trunc_at.Entry = Some (hand_in x m)
-last_kept x m trunc_at.Unloading = Some (hand_in x m)
-last_kept x m trunc_at.Freeing = above_hand m
-last_kept x m trunc_at.Updating = None
+last_kept x m TruncAt.Direct = None
+last_kept x m (TruncAt.Loading b) = above_hand m
+last_kept x m TruncAt.Entry = Some (hand_in x m)
+last_kept x m TruncAt.Unloading = Some (hand_in x m)
+last_kept x m TruncAt.Freeing = above_hand m
+last_kept x m TruncAt.Updating = None
 
 abbrev pub first_kept : Itrunc → TruncAt → Option ℕ
-first_kept m trunc_at.Direct = None
-first_kept m (trunc_at.Loading b) = None
-first_kept m trunc_at.Entry = above_hand m
-first_kept m trunc_at.Unloading = above_hand m
-first_kept m trunc_at.Freeing = None
-first_kept m trunc_at.Updating = None
+first_kept m TruncAt.Direct = None
+first_kept m (TruncAt.Loading b) = None
+first_kept m TruncAt.Entry = above_hand m
+first_kept m TruncAt.Unloading = above_hand m
+first_kept m TruncAt.Freeing = None
+first_kept m TruncAt.Updating = None
 
 -- a block that was got
 abbrev pub block_of_got : Option Got → Option ℕ
@@ -162,12 +160,12 @@ one_for (Some i) = 1
 -- The steps that were made for blocks that are left still: a block of addresses is got, released,
 -- and freed as a data block is; that of the bitmap is got, and used
 abbrev pub made_so_far : Option ℕ → Option ℕ → TruncAt → ℕ
-made_so_far upper used trunc_at.Direct = one_for used
-made_so_far upper used (trunc_at.Loading b) = one_for upper
-made_so_far upper used trunc_at.Entry = 1 + one_for upper + one_for used
-made_so_far upper used trunc_at.Unloading = 1 + one_for upper
-made_so_far upper used trunc_at.Freeing = 2 + one_for upper + one_for used
-made_so_far upper used trunc_at.Updating = one_for used
+made_so_far upper used TruncAt.Direct = one_for used
+made_so_far upper used (TruncAt.Loading b) = one_for upper
+made_so_far upper used TruncAt.Entry = 1 + one_for upper + one_for used
+made_so_far upper used TruncAt.Unloading = 1 + one_for upper
+made_so_far upper used TruncAt.Freeing = 2 + one_for upper + one_for used
+made_so_far upper used TruncAt.Updating = one_for used
 
 -- what counts for the stage: four, less those steps
 abbrev pub stage_left : Option ℕ → Option ℕ → TruncAt → ℕ

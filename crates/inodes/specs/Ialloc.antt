@@ -18,7 +18,6 @@ use Rattle.wal.specs.Volume.{VolumeState, get_answer, after_get, after_change, F
 use Rattle.wal.specs.Get as get
 use Rattle.blockmap.specs.Getting.{HoldsWhereGot}
 use Rattle.model.specs.declared.types.progress.Progress.{Progress}
-use Rattle.model.specs.declared.types.progress.Progress.TheVariants as progress
 use Rattle.inodes.specs.Creation.{lowest_free}
 
 -- Where a creation's search stands.
@@ -69,39 +68,39 @@ with_new_inode v pid s i kind =
 -- changes none, and which answers there are `SearchGoes` says.
 abbrev pub BuffersAfter : {D : Type 0} → (D → Image) → Option ℕ → SearchState → VolumeState D → ℕ
     → Progress (Option ℕ) → Buffers → Type 0
-BuffersAfter image None m v pid progress.Moved d =
+BuffersAfter image None m v pid Progress.Moved d =
     d ≡ after_get (image v.device) v.buffers pid m.block
-BuffersAfter image None m v pid (progress.Sleeping why) d = Unit {0}
-BuffersAfter image None m v pid (progress.Over out) d = Unit {0}
-BuffersAfter image None m v pid (progress.Fault fault) d = FailsToFill v.buffers d pid m.block fault
-BuffersAfter image (Some s) m v pid progress.Moved d = d ≡ released v.buffers s
-BuffersAfter image (Some s) m v pid (progress.Sleeping why) d = Unit {0}
-BuffersAfter image (Some s) m v pid (progress.Over None) d = d ≡ released v.buffers s
-BuffersAfter image (Some s) m v pid (progress.Over (Some i)) d =
+BuffersAfter image None m v pid (Progress.Sleeping why) d = Unit {0}
+BuffersAfter image None m v pid (Progress.Over out) d = Unit {0}
+BuffersAfter image None m v pid (Progress.Fault fault) d = FailsToFill v.buffers d pid m.block fault
+BuffersAfter image (Some s) m v pid Progress.Moved d = d ≡ released v.buffers s
+BuffersAfter image (Some s) m v pid (Progress.Sleeping why) d = Unit {0}
+BuffersAfter image (Some s) m v pid (Progress.Over None) d = d ≡ released v.buffers s
+BuffersAfter image (Some s) m v pid (Progress.Over (Some i)) d =
     d ≡ (with_new_inode v pid s i m.kind).buffers
-BuffersAfter image (Some s) m v pid (progress.Fault fault) d = Unit {0}
+BuffersAfter image (Some s) m v pid (Progress.Fault fault) d = Unit {0}
 
 -- the current image after a step with that answer
 abbrev pub current_after : Image → SearchState → Progress (Option ℕ) → Image
-current_after cur m progress.Moved = cur
-current_after cur m (progress.Sleeping why) = cur
-current_after cur m (progress.Over None) = cur
-current_after cur m (progress.Over (Some i)) = with_inode cur i (new_inode m.kind)
-current_after cur m (progress.Fault fault) = cur
+current_after cur m Progress.Moved = cur
+current_after cur m (Progress.Sleeping why) = cur
+current_after cur m (Progress.Over None) = cur
+current_after cur m (Progress.Over (Some i)) = with_inode cur i (new_inode m.kind)
+current_after cur m (Progress.Fault fault) = cur
 
 -- the fault of an answer
 abbrev pub fault_in : {T : Type 0} → Progress T → Option DeviceFault
-fault_in progress.Moved = None
-fault_in (progress.Sleeping why) = None
-fault_in (progress.Over out) = None
-fault_in (progress.Fault fault) = Some (Block fault)
+fault_in Progress.Moved = None
+fault_in (Progress.Sleeping why) = None
+fault_in (Progress.Over out) = None
+fault_in (Progress.Fault fault) = Some (Block fault)
 
 -- P holds where there are more steps
 abbrev pub OnMore : {T : Type 0} → Progress T → Type 0 → Type 0
-OnMore progress.Moved P = P
-OnMore (progress.Sleeping why) P = P
-OnMore (progress.Over out) P = Unit {0}
-OnMore (progress.Fault fault) P = Unit {0}
+OnMore Progress.Moved P = P
+OnMore (Progress.Sleeping why) P = P
+OnMore (Progress.Over out) P = Unit {0}
+OnMore (Progress.Fault fault) P = Unit {0}
 
 -- a number in the block that is looked at, which operations may name, and which is free
 pub record IsFree (cur : Image) (m : SearchState) (i : ℕ) : Type 0 where
@@ -121,40 +120,40 @@ finds cur m = lowest_free (block_at cur m.block) m.inode_count m.block
 -- buffers say, or claims the number that it finds, or goes on to the next block.
 abbrev pub SearchGoes : Option ℕ → Image → Buffers → SearchState → Progress (Option ℕ) → SearchState
     → Type 0
-SearchGoes None cur c m progress.Moved n =
+SearchGoes None cur c m Progress.Moved n =
     (i : ℕ) × (get_answer c m.block ≡ get.Got i) × (n ≡ at_slot m i)
-SearchGoes None cur c m (progress.Sleeping why) n =
+SearchGoes None cur c m (Progress.Sleeping why) n =
     (get_answer c m.block ≡ get.Sleeping why) × (n ≡ m)
-SearchGoes None cur c m (progress.Over out) n = ⊥
-SearchGoes None cur c m (progress.Fault fault) n = n ≡ m
-SearchGoes (Some s) cur c m progress.Moved n =
+SearchGoes None cur c m (Progress.Over out) n = ⊥
+SearchGoes None cur c m (Progress.Fault fault) n = n ≡ m
+SearchGoes (Some s) cur c m Progress.Moved n =
     (n ≡ at_next_block m) × (is_last_block m ≡ false) × (finds cur m ≡ None) × SeesNoneFree cur m
-SearchGoes (Some s) cur c m (progress.Sleeping why) n = ⊥
-SearchGoes (Some s) cur c m (progress.Over None) n =
+SearchGoes (Some s) cur c m (Progress.Sleeping why) n = ⊥
+SearchGoes (Some s) cur c m (Progress.Over None) n =
     (n ≡ m) × (is_last_block m ≡ true) × (finds cur m ≡ None) × SeesNoneFree cur m
-SearchGoes (Some s) cur c m (progress.Over (Some i)) n =
+SearchGoes (Some s) cur c m (Progress.Over (Some i)) n =
     (n ≡ m) × (finds cur m ≡ Some i) × IsFree cur m i
-SearchGoes (Some s) cur c m (progress.Fault fault) n = ⊥
+SearchGoes (Some s) cur c m (Progress.Fault fault) n = ⊥
 
 -- what it makes of the locks
 abbrev pub SearchLocks : Option ℕ → Progress (Option ℕ) → Buffers → Buffers → ℕ → ℕ → Option ℕ
     → Type 0
-SearchLocks None progress.Moved c d pid b slot = (i : ℕ) × (slot ≡ Some i) × GetsLock c d pid b i
-SearchLocks None (progress.Sleeping cause) c d pid b slot = WaitsFor cause c b
-SearchLocks None (progress.Over out) c d pid b slot = ⊥
-SearchLocks None (progress.Fault fault) c d pid b slot = GetsUnread c d pid b
-SearchLocks (Some i) progress.Moved c d pid b slot = GivesUpLock c d pid i
-SearchLocks (Some i) (progress.Sleeping cause) c d pid b slot = ⊥
-SearchLocks (Some i) (progress.Over out) c d pid b slot = GivesUpLock c d pid i
-SearchLocks (Some i) (progress.Fault fault) c d pid b slot = ⊥
+SearchLocks None Progress.Moved c d pid b slot = (i : ℕ) × (slot ≡ Some i) × GetsLock c d pid b i
+SearchLocks None (Progress.Sleeping cause) c d pid b slot = WaitsFor cause c b
+SearchLocks None (Progress.Over out) c d pid b slot = ⊥
+SearchLocks None (Progress.Fault fault) c d pid b slot = GetsUnread c d pid b
+SearchLocks (Some i) Progress.Moved c d pid b slot = GivesUpLock c d pid i
+SearchLocks (Some i) (Progress.Sleeping cause) c d pid b slot = ⊥
+SearchLocks (Some i) (Progress.Over out) c d pid b slot = GivesUpLock c d pid i
+SearchLocks (Some i) (Progress.Fault fault) c d pid b slot = ⊥
 
 -- the log after it: a claim logs the block
 abbrev pub log_after : LogState → ℕ → ℕ → Progress (Option ℕ) → LogState
-log_after l pid b progress.Moved = l
-log_after l pid b (progress.Sleeping why) = l
-log_after l pid b (progress.Over None) = l
-log_after l pid b (progress.Over (Some i)) = noted l pid b
-log_after l pid b (progress.Fault fault) = l
+log_after l pid b Progress.Moved = l
+log_after l pid b (Progress.Sleeping why) = l
+log_after l pid b (Progress.Over None) = l
+log_after l pid b (Progress.Over (Some i)) = noted l pid b
+log_after l pid b (Progress.Fault fault) = l
 
 -- THE PROMISE OF A STEP of the search, by whether it had got its block.
 pub record SearchSteps {D N : Type 0} (disk : Ghosts D N) (slot : Option ℕ) (v w : VolumeState D)
@@ -163,7 +162,7 @@ pub record SearchSteps {D N : Type 0} (disk : Ghosts D N) (slot : Option ℕ) (v
   pub buffers : BuffersAfter disk.image slot m v pid r w.buffers
   pub locks : SearchLocks slot r v.buffers w.buffers pid m.block n.slot
   pub log : w.log ≡ log_after v.log pid m.block r
-  pub asleep : (cause : Why) → r ≡ progress.Sleeping cause → w ≡ v
+  pub asleep : (cause : Why) → r ≡ Progress.Sleeping cause → w ≡ v
   pub more : OnMore r (MayStep disk.image w pid n)
   pub current : seen (disk.image w.device) w.buffers
       ≡ current_after (seen (disk.image v.device) v.buffers) m r

@@ -6,7 +6,6 @@ use Rattle.model.specs.declared.types.progress.Progress.{Progress}
 use Rattle.wal.specs.Volume.{VolumeState}
 use Rattle.inodes.specs.declared.freeing.Freeing.{Freeing}
 use Rattle.inodes.specs.declared.tasks.Stage.{Stage}
-use Rattle.inodes.specs.declared.tasks.Stage.TheVariants as stage
 use Rattle.inodes.specs.Freeing.{FreesOn, now_of}
 use Rattle.inodes.specs.Ialloc.{SearchState, SearchSteps}
 use Rattle.inodes.specs.Readi.{ReadState, ReadSteps}
@@ -19,7 +18,7 @@ pub record SearchesInPlace {D N : Type 0} (disk : Ghosts D N) (v : VolumeState D
     (us : List TaskState) (w : VolumeState D) : Type 0 where
   pub now : SearchState
   pub steps : SearchSteps disk m.slot v w p m now r
-  pub tasks : us ≡ slice_set ts p (record (task ts p) { place = stage.Creating now })
+  pub tasks : us ≡ slice_set ts p (record (task ts p) { stage = Stage.Creating now })
 
 -- a reading of a file's bytes, whose inode stands at place k of the table; they are gathered beside
 -- the task
@@ -28,7 +27,7 @@ pub record ReadsInPlace {D N : Type 0} (disk : Ghosts D N) (v : VolumeState D)
     (us : List TaskState) (w : VolumeState D) (h : GatheredBytes) : Type 0 where
   pub now : ReadState
   pub reads : ReadSteps disk v p m g r w now h
-  pub tasks : us ≡ slice_set ts p (record (task ts p) { place = stage.Reading k now })
+  pub tasks : us ≡ slice_set ts p (record (task ts p) { stage = Stage.Reading k now })
 
 -- the freeing of a file's blocks
 pub record TruncatesInPlace {D N : Type 0} (disk : Ghosts D N) (v : VolumeState D)
@@ -36,7 +35,7 @@ pub record TruncatesInPlace {D N : Type 0} (disk : Ghosts D N) (v : VolumeState 
     (us : List TaskState) (w : VolumeState D) : Type 0 where
   pub now : Freeing
   pub steps : FreesOn disk (now_of m) v p m r now w
-  pub tasks : us ≡ slice_set ts p (record (task ts p) { place = stage.Truncating k now })
+  pub tasks : us ≡ slice_set ts p (record (task ts p) { stage = Stage.Truncating k now })
 
 -- a writing of a file's bytes, whose inode stands at place k of the table
 pub record WritesInPlace {D N : Type 0} (disk : Ghosts D N) (v : VolumeState D)
@@ -44,26 +43,26 @@ pub record WritesInPlace {D N : Type 0} (disk : Ghosts D N) (v : VolumeState D)
     (us : List TaskState) (w : VolumeState D) : Type 0 where
   pub now : WriteState
   pub writes : WriteSteps disk m.at v p m bytes r now w
-  pub tasks : us ≡ slice_set ts p (record (task ts p) { place = stage.Writing k now })
+  pub tasks : us ≡ slice_set ts p (record (task ts p) { stage = Stage.Writing k now })
 
 -- the freeing that a task is at, if it is at one
 abbrev pub freeing_at : Stage → Option Freeing
-freeing_at stage.Nowhere = None
-freeing_at (stage.Creating m) = None
-freeing_at (stage.Taking m) = None
-freeing_at (stage.Reading k m) = None
-freeing_at (stage.Delivering k) = None
-freeing_at (stage.Truncating k m) = Some m
-freeing_at (stage.Writing k m) = None
-freeing_at (stage.Leaving k) = None
+freeing_at Stage.Nowhere = None
+freeing_at (Stage.Creating m) = None
+freeing_at (Stage.Taking m) = None
+freeing_at (Stage.Reading k m) = None
+freeing_at (Stage.Delivering k) = None
+freeing_at (Stage.Truncating k m) = Some m
+freeing_at (Stage.Writing k m) = None
+freeing_at (Stage.Leaving k) = None
 
 -- the writing that a task is at, if it is at one
 abbrev pub writing_at : Stage → Option WriteState
-writing_at stage.Nowhere = None
-writing_at (stage.Creating m) = None
-writing_at (stage.Taking m) = None
-writing_at (stage.Reading k m) = None
-writing_at (stage.Delivering k) = None
-writing_at (stage.Truncating k m) = None
-writing_at (stage.Writing k m) = Some m
-writing_at (stage.Leaving k) = None
+writing_at Stage.Nowhere = None
+writing_at (Stage.Creating m) = None
+writing_at (Stage.Taking m) = None
+writing_at (Stage.Reading k m) = None
+writing_at (Stage.Delivering k) = None
+writing_at (Stage.Truncating k m) = None
+writing_at (Stage.Writing k m) = Some m
+writing_at (Stage.Leaving k) = None

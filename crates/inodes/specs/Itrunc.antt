@@ -7,7 +7,6 @@ use Rattle.model.specs.declared.types.image.Dinode.{Dinode}
 use Rattle.model.specs.Layout.{direct_count, depths}
 use Rattle.inodes.specs.declared.itrunc.Itrunc.{Itrunc}
 use Rattle.inodes.specs.declared.itrunc.TruncAt.{TruncAt}
-use Rattle.inodes.specs.declared.itrunc.TruncAt.TheVariants as trunc_at
 
 -- the first index from one on, and before an end, at which a list has a number other than 0
 abbrev pub present_from : List ℕ → ℕ → ℕ → Option ℕ
@@ -25,19 +24,19 @@ unbegun number d form removes bitmap = record {
   given_up = 0;
   removes = removes;
   bitmap = bitmap;
-  at = trunc_at.Updating;
+  at = TruncAt.Updating;
 }
 
 -- what is freed next, by the index of the inode's address that is there: a data block, or what
 -- stands behind a block of addresses
 abbrev pub address_or_on : Itrunc → Option ℕ → Itrunc
-address_or_on m None = record m { upper = None; given_up = 0; at = trunc_at.Updating }
+address_or_on m None = record m { upper = None; given_up = 0; at = TruncAt.Updating }
 address_or_on m (Some k) = record m {
   slot = k;
   upper = None;
   given_up = 0;
-  at = if nat_lt k (direct_count m.form) then trunc_at.Direct
-      else trunc_at.Loading (slice_index m.inode.addrs k);
+  at = if nat_lt k (direct_count m.form) then TruncAt.Direct
+      else TruncAt.Loading (slice_index m.inode.addrs k);
 }
 
 abbrev pub at_address : Itrunc → ℕ → Itrunc
@@ -57,8 +56,8 @@ address_left m = at_address (record m { inode = inode_without m.inode m.slot }) 
 
 -- what is freed next, by the next entry that is there, which names a data block
 abbrev pub entry_or_on : Itrunc → Option ℕ → Itrunc
-entry_or_on m (Some e) = record m { given_up = e; at = trunc_at.Entry }
-entry_or_on m None = record m { given_up = addresses_per_block; at = trunc_at.Unloading }
+entry_or_on m (Some e) = record m { given_up = e; at = TruncAt.Entry }
+entry_or_on m None = record m { given_up = addresses_per_block; at = TruncAt.Unloading }
 
 abbrev pub at_entries : Itrunc → List ℕ → ℕ → Itrunc
 at_entries m entries from = entry_or_on m (present_from entries from addresses_per_block)
@@ -66,9 +65,9 @@ at_entries m entries from = entry_or_on m (present_from entries from addresses_p
 -- or a second block
 abbrev pub branch_or_on : Itrunc → List ℕ → Option ℕ → Itrunc
 branch_or_on m entries (Some e) =
-    record m { upper = Some e; given_up = 0; at = trunc_at.Loading (slice_index entries e) }
+    record m { upper = Some e; given_up = 0; at = TruncAt.Loading (slice_index entries e) }
 branch_or_on m entries None =
-    record m { upper = None; given_up = addresses_per_block; at = trunc_at.Unloading }
+    record m { upper = None; given_up = addresses_per_block; at = TruncAt.Unloading }
 
 abbrev pub at_branches : Itrunc → List ℕ → ℕ → Itrunc
 at_branches m entries from =
@@ -116,12 +115,12 @@ IsBelow (Some n) end = n < end
 
 -- an entry that is used is one of the block's
 abbrev pub FitsAt : Itrunc → TruncAt → Type 0
-FitsAt m trunc_at.Direct = Unit {0}
-FitsAt m (trunc_at.Loading b) = Unit {0}
-FitsAt m trunc_at.Entry = m.given_up < addresses_per_block
-FitsAt m trunc_at.Unloading = Unit {0}
-FitsAt m trunc_at.Freeing = IsBelow m.upper addresses_per_block
-FitsAt m trunc_at.Updating = Unit {0}
+FitsAt m TruncAt.Direct = Unit {0}
+FitsAt m (TruncAt.Loading b) = Unit {0}
+FitsAt m TruncAt.Entry = m.given_up < addresses_per_block
+FitsAt m TruncAt.Unloading = Unit {0}
+FitsAt m TruncAt.Freeing = IsBelow m.upper addresses_per_block
+FitsAt m TruncAt.Updating = Unit {0}
 
 pub record Fits (m : Itrunc) : Type 0 where
   pub addrs : length m.inode.addrs ≡ 13
@@ -131,18 +130,18 @@ pub record Fits (m : Itrunc) : Type 0 where
 -- the block that is freed, if one is, where the block of addresses that was kept last has these
 -- entries
 abbrev pub freed_by : Itrunc → List ℕ → TruncAt → Option ℕ
-freed_by m entries trunc_at.Direct = Some (slice_index m.inode.addrs m.slot)
-freed_by m entries (trunc_at.Loading b) = None
-freed_by m entries trunc_at.Entry = Some (slice_index entries m.given_up)
-freed_by m entries trunc_at.Unloading = None
-freed_by m entries trunc_at.Freeing = Some (block_in_hand m entries)
-freed_by m entries trunc_at.Updating = None
+freed_by m entries TruncAt.Direct = Some (slice_index m.inode.addrs m.slot)
+freed_by m entries (TruncAt.Loading b) = None
+freed_by m entries TruncAt.Entry = Some (slice_index entries m.given_up)
+freed_by m entries TruncAt.Unloading = None
+freed_by m entries TruncAt.Freeing = Some (block_in_hand m entries)
+freed_by m entries TruncAt.Updating = None
 
 -- what is freed behind a step that used a block
 abbrev pub after_trunc : Itrunc → List ℕ → TruncAt → Itrunc
-after_trunc m entries trunc_at.Direct = address_left m
-after_trunc m entries (trunc_at.Loading b) = m
-after_trunc m entries trunc_at.Entry = at_entries m entries (m.given_up + 1)
-after_trunc m entries trunc_at.Unloading = record m { at = trunc_at.Freeing }
-after_trunc m entries trunc_at.Freeing = block_left m entries
-after_trunc m entries trunc_at.Updating = m
+after_trunc m entries TruncAt.Direct = address_left m
+after_trunc m entries (TruncAt.Loading b) = m
+after_trunc m entries TruncAt.Entry = at_entries m entries (m.given_up + 1)
+after_trunc m entries TruncAt.Unloading = record m { at = TruncAt.Freeing }
+after_trunc m entries TruncAt.Freeing = block_left m entries
+after_trunc m entries TruncAt.Updating = m

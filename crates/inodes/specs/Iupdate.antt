@@ -9,7 +9,6 @@ use Rattle.wal.specs.Joint.{seen}
 use Rattle.wal.specs.Volume.{VolumeState, GetsFor}
 use Rattle.blockmap.specs.Getting.{HoldsWhereGot, WritesBlock}
 use Rattle.model.specs.declared.types.progress.Progress.{Progress}
-use Rattle.model.specs.declared.types.progress.Progress.TheVariants as progress
 
 -- Where the writing of an inode stands.
 pub record UpdateState : Type 0 where
@@ -40,4 +39,4 @@ abbrev pub Updates : {D N : Type 0} → Ghosts D N → Option ℕ → VolumeStat
 Updates disk None v p m d r n w =
     (n ≡ record m { slot = n.slot }) × GetsFor disk v p (inode_block m.number) r n.slot w
 Updates disk (Some i) v p m d r n w =
-    (r ≡ progress.Over tt) × (n ≡ m) × WritesInode disk v p i m d w
+    (r ≡ Progress.Over tt) × (n ≡ m) × WritesInode disk v p i m d w

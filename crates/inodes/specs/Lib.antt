@@ -26,3 +26,4 @@ pub mod Waiting
 pub mod WriteRuns
 pub mod Writei
 pub mod Writing
+pub mod Common

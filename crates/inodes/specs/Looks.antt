@@ -14,7 +14,6 @@ use Rattle.model.specs.Operations.{part_of, transfer_limit}
 use Rattle.in_flight.specs.Held.{Claims, FitsHeld}
 use Rattle.blockmap.specs.Target.{LeadsToBlock}
 use Rattle.inodes.specs.declared.tasks.Stage.{Stage}
-use Rattle.inodes.specs.declared.tasks.Stage.TheVariants as stage
 use Rattle.inodes.specs.Grips.{HasNumber, TableIs}
 use Rattle.inodes.specs.Holding.{IsTruncating, claims_of}
 use Rattle.inodes.specs.LockState.{LockState}
@@ -116,14 +115,14 @@ pub record WasAnswered (n : ℕ) (t : TaskState) : Type 0 where
 
 -- what is true of a task by its stage, beside what it holds
 abbrev pub LooksAt : Image → TableState → TaskState → Stage → Type 0
-LooksAt cur i t stage.Nowhere = Unit {0}
-LooksAt cur i t (stage.Creating m) = Unit {0}
-LooksAt cur i t (stage.Taking m) = IsTaking i.inode_count t m
-LooksAt cur i t (stage.Reading k m) = IsAtRead cur i.inode_count (copy_at i.places k) t m
-LooksAt cur i t (stage.Delivering k) = HasAllRead cur i.inode_count (copy_at i.places k) t
-LooksAt cur i t (stage.Truncating k m) = IsTruncating cur i.inode_count t m
-LooksAt cur i t (stage.Writing k m) = IsWriting cur i.inode_count t m
-LooksAt cur i t (stage.Leaving k) = WasAnswered i.inode_count t
+LooksAt cur i t Stage.Nowhere = Unit {0}
+LooksAt cur i t (Stage.Creating m) = Unit {0}
+LooksAt cur i t (Stage.Taking m) = IsTaking i.inode_count t m
+LooksAt cur i t (Stage.Reading k m) = IsAtRead cur i.inode_count (copy_at i.places k) t m
+LooksAt cur i t (Stage.Delivering k) = HasAllRead cur i.inode_count (copy_at i.places k) t
+LooksAt cur i t (Stage.Truncating k m) = IsTruncating cur i.inode_count t m
+LooksAt cur i t (Stage.Writing k m) = IsWriting cur i.inode_count t m
+LooksAt cur i t (Stage.Leaving k) = WasAnswered i.inode_count t
 
 -- the image stands for some files, where tasks hold numbers so
 abbrev pub HasFiles : Image → Claims → Type 0
@@ -133,7 +132,7 @@ HasFiles x claims = (files : Files) × FitsHeld files x claims
 pub record AreLooking (cur : Image) (i : TableState) (ts : List TaskState) : Type 0 where
   pub files : HasFiles cur (claims_of ts)
   pub table : TableIs i (grips_of ts) cur
-  pub stand : (p : ℕ) → LooksAt cur i (task ts p) (task ts p).place
+  pub stand : (p : ℕ) → LooksAt cur i (task ts p) (task ts p).stage
 
 -- process p has the lock of number i's inode, which stands in the table
 pub record HoldsInode (t : TableState) (p i : ℕ) : Type 0 where

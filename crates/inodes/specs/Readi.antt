@@ -15,9 +15,7 @@ use Rattle.wal.specs.Volume.{VolumeState}
 use Rattle.blockmap.specs.Getting.{Releases}
 use Rattle.blockmap.specs.Reading.{MayRead}
 use Rattle.model.specs.declared.types.progress.Progress.{Progress}
-use Rattle.model.specs.declared.types.progress.Progress.TheVariants as progress
 use Rattle.blockmap.specs.declared.target.Target.{Target}
-use Rattle.blockmap.specs.declared.target.Target.TheVariants as target
 use Rattle.blockmap.specs.Target.{LeadsTo, Seeks, target_for, steps_at, steps_for}
 use Rattle.inodes.specs.Ialloc.{OnMore}
 
@@ -60,16 +58,16 @@ HasRoomLeft m g = m.end - m.next ≤ g.room
 
 -- the step was made
 abbrev pub IsMade : {T : Type 0} → Progress T → Type 0
-IsMade progress.Moved = Unit {0}
-IsMade (progress.Sleeping why) = ⊥
-IsMade (progress.Over out) = Unit {0}
-IsMade (progress.Fault fault) = ⊥
+IsMade Progress.Moved = Unit {0}
+IsMade (Progress.Sleeping why) = ⊥
+IsMade (Progress.Over out) = Unit {0}
+IsMade (Progress.Fault fault) = ⊥
 
 abbrev pub is_done : {T : Type 0} → Progress T → Bool
-is_done progress.Moved = false
-is_done (progress.Sleeping why) = false
-is_done (progress.Over out) = true
-is_done (progress.Fault fault) = false
+is_done Progress.Moved = false
+is_done (Progress.Sleeping why) = false
+is_done (Progress.Over out) = true
+is_done (Progress.Fault fault) = false
 
 -- how many bytes of the file's next block are gathered: up to its end, or that of the reading
 abbrev pub next_piece : ReadState → ℕ
@@ -79,11 +77,11 @@ next_piece m = min (block_size - m.next % block_size) (m.end - m.next)
 -- releases it, and goes on to the next one.
 abbrev pub Works : {D N : Type 0} → Ghosts D N → Target → VolumeState D → ℕ → ReadState
     → Progress (Unit {0}) → VolumeState D → ReadState → Type 0
-Works disk (target.Entry entry) v p m r w n =
-    (n ≡ record m { target = n.target }) × Seeks disk (target.Entry entry) v p r n.target w
-Works disk (target.Block b None) v p m r w n =
-    (n ≡ record m { target = n.target }) × Seeks disk (target.Block b None) v p r n.target w
-Works disk (target.Block b (Some i)) v p m r w n =
+Works disk (Target.Entry entry) v p m r w n =
+    (n ≡ record m { target = n.target }) × Seeks disk (Target.Entry entry) v p r n.target w
+Works disk (Target.Block b None) v p m r w n =
+    (n ≡ record m { target = n.target }) × Seeks disk (Target.Block b None) v p r n.target w
+Works disk (Target.Block b (Some i)) v p m r w n =
     (n.next ≡ m.next + next_piece m) × IsMade r × Releases disk.image v p i w
     × OnMore r (n.target ≡ target_for m.form m.inode (n.next / block_size))
 
@@ -117,6 +115,6 @@ pub record ReadSteps {D N : Type 0} (disk : Ghosts D N) (v : VolumeState D) (p :
   pub works : Works disk m.target v p m r w n
   -- it is over exactly where the end is reached
   pub over : is_done r ≡ (n.next == n.end)
-  pub asleep : (cause : Why) → r ≡ progress.Sleeping cause → StaysAsleep v w m n g h
+  pub asleep : (cause : Why) → r ≡ Progress.Sleeping cause → StaysAsleep v w m n g h
   pub more : OnMore r (IsReading disk.image w p n)
-  pub left : r ≡ progress.Moved → reads_left n < reads_left m
+  pub left : r ≡ Progress.Moved → reads_left n < reads_left m

@@ -8,16 +8,15 @@ use Rattle.model.specs.declared.types.operations.Op.TheVariants.{Create}
 use Rattle.model.specs.declared.types.operations.Reply.{Reply}
 use Rattle.model.specs.declared.types.operations.Reply.TheVariants.{Made, NoInode}
 use Rattle.model.specs.declared.types.operations.TaskProgress.{TaskProgress}
-use Rattle.model.specs.declared.types.operations.TaskProgress.TheVariants as progress
 use Rattle.model.specs.Gathered.{GatheredBytes}
 use Rattle.model.specs.Journal.{is_number}
 use Rattle.model.specs.Layout.{inode_block, inode_of}
 use Rattle.wal.specs.declared.types.Committed.{Committed}
 use Rattle.wal.specs.Machine.{LogState}
-use Rattle.inodes.specs.declared.tasks.Stage.TheVariants as stage
+use Rattle.inodes.specs.declared.tasks.Stage.{Stage}
 use Rattle.inodes.specs.Ialloc.{SearchState}
 use Rattle.inodes.specs.Tasks.{task}
-use Rattle.inodes.specs.Store.{StoreState, current_of, first_place, with_begun, with_log, with_look}
+use Rattle.inodes.specs.Store.{StoreState, current_of, first_stage, with_begun, with_log, with_look}
 use Rattle.inodes.specs.Steps.{Steps, Commits}
 
 -- a step that a task made: the store before it, its answer, and the store after it
@@ -48,14 +47,14 @@ EndsWith (step ∷ next ∷ rest) r = EndsWith (next ∷ rest) r
 -- THE RUN OF A SEARCH: a creation's steps, from its first stage to the turn that gives its reply
 pub record IsSearchRun {D N : Type 0} (disk : Ghosts D N) (p kind : ℕ) (s : StoreState D)
     (steps : List (StepMade D)) (reply : Reply) : Type 0 where
-  pub begins : (task s.tasks p).place ≡ first_place (Create kind) s.table.inode_count
+  pub begins : (task s.tasks p).stage ≡ first_stage (Create kind) s.table.inode_count
   pub runs : IsRun disk p (Create kind) s steps
-  pub ends : EndsWith steps (progress.Turned (Some reply))
+  pub ends : EndsWith steps (TaskProgress.Turned (Some reply))
 
 -- a step of process p that looks at number i's block, and the current image has the number taken
 pub record SeesTaken {D : Type 0} (image : D → Image) (p i : ℕ) (step : StepMade D) : Type 0 where
   pub search : SearchState
-  pub stands : (task step.before.tasks p).place ≡ stage.Creating search
+  pub stands : (task step.before.tasks p).stage ≡ Stage.Creating search
   pub got : IsSome search.slot
   pub looks : search.block ≡ inode_block i
   pub taken : (inode_of (current_of image step.before.volume) i).kind ≢ 0

@@ -6,9 +6,7 @@ use Rattle.blocks.specs.declared.disk.Disk.{Ghosts}
 use Rattle.model.specs.declared.types.operations.Op.{Op}
 use Rattle.model.specs.declared.types.operations.Reply.{Reply}
 use Rattle.model.specs.declared.types.operations.TaskProgress.{TaskProgress}
-use Rattle.model.specs.declared.types.operations.TaskProgress.TheVariants as progress
 use Rattle.model.specs.declared.types.operations.Why.{Why}
-use Rattle.model.specs.declared.types.operations.Why.TheVariants as why
 use Rattle.model.specs.Files.{Files}
 use Rattle.model.specs.Journal.{is_making}
 use Rattle.model.specs.Layout.{form_of, inode_of}
@@ -33,7 +31,7 @@ pub record IsHeldByAnother {D : Type 0} (s : StoreState D) (p b : ℕ) : Type 0 
   pub slot : ℕ
   pub apart : other ≢ p
   pub lock : HasLock s.volume.buffers other b slot
-  pub got : HasSlot (task s.tasks other).place slot
+  pub got : HasSlot (task s.tasks other).stage slot
 
 -- the inode that process p takes is locked by another process
 pub record IsInodeHeld {D : Type 0} (s : StoreState D) (p : ℕ) : Type 0 where
@@ -55,10 +53,10 @@ pub record LeavesTasks {D : Type 0} (old : StoreState D) (p : ℕ) (new : StoreS
 -- who has to wait changed nothing, and where it waits for a buffer or an inode, another has it
 pub record Waits {D : Type 0} (old : StoreState D) (p : ℕ) (r : TaskProgress) (new : StoreState D)
     : Type 0 where
-  pub sleeping : (cause : Why) → r ≡ progress.Sleeping cause → new ≡ old
-  pub held : r ≡ progress.Sleeping why.BufferHeld
-      → IsHeldByAnother old p (block_at_place (task old.tasks p).place)
-  pub inode : r ≡ progress.Sleeping why.InodeHeld → IsInodeHeld old p
+  pub sleeping : (cause : Why) → r ≡ TaskProgress.Sleeping cause → new ≡ old
+  pub held : r ≡ TaskProgress.Sleeping Why.BufferHeld
+      → IsHeldByAnother old p (block_at_place (task old.tasks p).stage)
+  pub inode : r ≡ TaskProgress.Sleeping Why.InodeHeld → IsInodeHeld old p
 
 -- the operation is not that of number i, and makes it not
 abbrev pub LeavesNumber : Op → Option Reply → ℕ → Type 0
@@ -67,7 +65,7 @@ LeavesNumber op (Some reply) i = (asked op ≢ i) × (is_making i (Some reply) �
 
 -- a turn whose reply stands has nothing to do with the inode of another whose reply is to come
 abbrev pub LeavesLate : {D : Type 0} → StoreState D → ℕ → Op → TaskProgress → Type 0
-LeavesLate s p op r = (q : ℕ) → q ≢ p → owes_reply (task s.tasks q).place ≡ true
+LeavesLate s p op r = (q : ℕ) → q ≢ p → owes_reply (task s.tasks q).stage ≡ true
     → LeavesNumber op (reply_at_turn r) (asked_by (task s.tasks q).op)
 
 -- what stays of a number: its file where no task holds it, and else the blocks that the task owns
@@ -91,12 +89,12 @@ LeavesShares image old p new = (q k i : ℕ) → q ≢ p
 
 -- a step was made
 abbrev pub is_made : TaskProgress → Bool
-is_made progress.Moved = true
-is_made (progress.Turned reply) = true
-is_made (progress.Decided reply) = true
-is_made progress.Over = true
-is_made (progress.Sleeping why) = false
-is_made (progress.Fault fault) = false
+is_made TaskProgress.Moved = true
+is_made (TaskProgress.Turned reply) = true
+is_made (TaskProgress.Decided reply) = true
+is_made TaskProgress.Over = true
+is_made (TaskProgress.Sleeping why) = false
+is_made (TaskProgress.Fault fault) = false
 
 -- a step reads one block at most, and writes none
 pub record Reads {D N : Type 0} (disk : Ghosts D N) (old : StoreState D) (r : TaskProgress)
@@ -113,7 +111,7 @@ pub record Steps {D N : Type 0} (disk : Ghosts D N) (old : StoreState D) (p : �
   pub files : (m : Files) → FitsFiles disk.image old m
       → FilesThen (form_of (current_of disk.image old.volume)) op r m (FitsFiles disk.image new)
   -- and which these are, table, image and log say
-  pub goes : Goes disk (task old.tasks p).place old p op r new
+  pub goes : Goes disk (task old.tasks p).stage old p op r new
   pub tasks : LeavesTasks old p new
   pub groups : SameGroups old.volume.log new.volume.log
   pub marks : Marks (reply_at_turn r)
@@ -122,9 +120,9 @@ pub record Steps {D N : Type 0} (disk : Ghosts D N) (old : StoreState D) (p : �
   pub reads : Reads disk old r new
   pub apart : LeavesLate old p op r
   pub shares : LeavesShares disk.image old p new
-  pub falls : is_made r ≡ true → is_over (task old.tasks p).place ≡ false
-      → steps_left (current_of disk.image new.volume) (task new.tasks p).place old.table.inode_count
-      < steps_left (current_of disk.image old.volume) (task old.tasks p).place old.table.inode_count
+  pub falls : is_made r ≡ true → is_over (task old.tasks p).stage ≡ false
+      → steps_left (current_of disk.image new.volume) (task new.tasks p).stage old.table.inode_count
+      < steps_left (current_of disk.image old.volume) (task old.tasks p).stage old.table.inode_count
 
 -- THE PROMISE OF A COMMIT'S WRITE.
 pub record Commits {D N : Type 0} (disk : Ghosts D N) (old : StoreState D) (r : Committed)

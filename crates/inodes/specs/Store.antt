@@ -22,9 +22,8 @@ use Rattle.blockmap.specs.Target.{block_of, slot_in}
 use Rattle.inodes.specs.declared.freeing.Freeing.{Freeing}
 use Rattle.inodes.specs.Freeing.{HoldsBlocks, now_of}
 use Rattle.inodes.specs.Ialloc.{SearchState}
-use Rattle.inodes.specs.declared.ilock.LockAt.TheVariants as lock_at
+use Rattle.inodes.specs.declared.ilock.LockAt.{LockAt}
 use Rattle.inodes.specs.declared.tasks.Stage.{Stage}
-use Rattle.inodes.specs.declared.tasks.Stage.TheVariants as stage
 use Rattle.inodes.specs.Holding.{claims_of}
 use Rattle.inodes.specs.LockState.{slot_of}
 use Rattle.inodes.specs.Looks.{AreLooking}
@@ -61,7 +60,7 @@ with_log s l = with_volume s (record s.volume { log = l })
 
 -- a process's task goes on to a stage
 abbrev pub with_place : {D : Type 0} → StoreState D → ℕ → Stage → StoreState D
-with_place s p a = record s { tasks = slice_set s.tasks p (record (task s.tasks p) { place = a }) }
+with_place s p a = record s { tasks = slice_set s.tasks p (record (task s.tasks p) { stage = a }) }
 
 -- a group that a beginning opens has a number
 abbrev pub HasGroupNumber : LogState → Type 0
@@ -84,21 +83,21 @@ CanBegin n (Stat i) = ⊥
 
 -- the stage of an operation that takes the inode of a number
 abbrev pub first_taking : ℕ → Stage
-first_taking i = stage.Taking (record { number = i; at = lock_at.Reference })
+first_taking i = Stage.Taking (record { number = i; at = LockAt.Reference })
 
 -- where the task of a changing operation begins
-abbrev pub first_place : Op → ℕ → Stage
-first_place (Create kind) n = stage.Creating (record {
+abbrev pub first_stage : Op → ℕ → Stage
+first_stage (Create kind) n = Stage.Creating (record {
   kind = kind;
   inode_count = n;
   block = inode_start;
   slot = None;
 })
-first_place (Write i off bytes) n = first_taking i
-first_place (Read i off m) n = stage.Nowhere
-first_place (Trunc i) n = first_taking i
-first_place (Remove i) n = first_taking i
-first_place (Stat i) n = stage.Nowhere
+first_stage (Write i off bytes) n = first_taking i
+first_stage (Read i off m) n = Stage.Nowhere
+first_stage (Trunc i) n = first_taking i
+first_stage (Remove i) n = first_taking i
+first_stage (Stat i) n = Stage.Nowhere
 
 -- what a creation answers whose search came to a number, or to none
 abbrev pub reply_of : Option ℕ → Reply
@@ -109,7 +108,7 @@ reply_of None = NoInode
 abbrev pub with_begun : {D : Type 0} → StoreState D → ℕ → Op → StoreState D
 with_begun s p op = record (with_log s (begun s.volume.log p)) {
   tasks = slice_set s.tasks p
-      (record { op = Some op; place = first_place op s.table.inode_count; gathered = None });
+      (record { op = Some op; stage = first_stage op s.table.inode_count; gathered = None });
 }
 
 -- the task of an operation that looks at a file begins, with room for the bytes that it asks for
@@ -117,7 +116,7 @@ abbrev pub with_look : {D : Type 0} → StoreState D → ℕ → Op → Option G
 with_look s p op room = record s {
   tasks = slice_set s.tasks p (record {
     op = Some op;
-    place = first_taking (asked op);
+    stage = first_taking (asked op);
     gathered = room;
   });
 }
@@ -176,35 +175,35 @@ pub record HoldsForWriting (c : Buffers) (l : LogState) (p : ℕ) (m : WriteStat
 
 -- what is true of a process, by where its task stands
 abbrev pub Stands : Buffers → LogState → ℕ → ℕ → Option Op → Stage → Type 0
-Stands c l n p o stage.Nowhere = Unit {0}
-Stands c l n p o (stage.Creating m) = IsSearching c l n p o m
-Stands c l n p o (stage.Taking m) =
+Stands c l n p o Stage.Nowhere = Unit {0}
+Stands c l n p o (Stage.Creating m) = IsSearching c l n p o m
+Stands c l n p o (Stage.Taking m) =
     HoldsAt c p (inode_block m.number) (slot_of m.at) × IsOpenFor l p o
-Stands c l n p o (stage.Reading k m) = HoldsAt c p (block_of m.target) (slot_in m.target)
-Stands c l n p o (stage.Delivering k) = Unit {0}
-Stands c l n p o (stage.Truncating k m) = HoldsForFreeing c l p m
-Stands c l n p o (stage.Writing k m) = HoldsForWriting c l p m
-Stands c l n p o (stage.Leaving k) = Unit {0}
+Stands c l n p o (Stage.Reading k m) = HoldsAt c p (block_of m.target) (slot_in m.target)
+Stands c l n p o (Stage.Delivering k) = Unit {0}
+Stands c l n p o (Stage.Truncating k m) = HoldsForFreeing c l p m
+Stands c l n p o (Stage.Writing k m) = HoldsForWriting c l p m
+Stands c l n p o (Stage.Leaving k) = Unit {0}
 
 -- what a process's task has logged, by where it stands
 abbrev pub LoggedAt : Image → LogState → ℕ → Stage → Type 0
-LoggedAt cur l p stage.Nowhere = Unit {0}
-LoggedAt cur l p (stage.Creating m) = Unit {0}
-LoggedAt cur l p (stage.Taking m) = Unit {0}
-LoggedAt cur l p (stage.Reading k m) = Unit {0}
-LoggedAt cur l p (stage.Delivering k) = Unit {0}
-LoggedAt cur l p (stage.Truncating k m) = Unit {0}
-LoggedAt cur l p (stage.Writing k m) = HasLoggedWrite cur l p m
-LoggedAt cur l p (stage.Leaving k) = Unit {0}
+LoggedAt cur l p Stage.Nowhere = Unit {0}
+LoggedAt cur l p (Stage.Creating m) = Unit {0}
+LoggedAt cur l p (Stage.Taking m) = Unit {0}
+LoggedAt cur l p (Stage.Reading k m) = Unit {0}
+LoggedAt cur l p (Stage.Delivering k) = Unit {0}
+LoggedAt cur l p (Stage.Truncating k m) = Unit {0}
+LoggedAt cur l p (Stage.Writing k m) = HasLoggedWrite cur l p m
+LoggedAt cur l p (Stage.Leaving k) = Unit {0}
 
 abbrev pub HaveLogged : Image → LogState → List TaskState → Type 0
-HaveLogged cur l ts = (p : ℕ) → LoggedAt cur l p (task ts p).place
+HaveLogged cur l ts = (p : ℕ) → LoggedAt cur l p (task ts p).stage
 
 -- the tasks agree with buffers and log, while the disk has not failed
 pub record Agrees (c : Buffers) (l : LogState) (n : ℕ) (ts : List TaskState) : Type 0 where
-  pub stands : (p : ℕ) → Stands c l n p (task ts p).op (task ts p).place
+  pub stands : (p : ℕ) → Stands c l n p (task ts p).op (task ts p).stage
   -- who has a buffer's lock is a process whose task has got it
-  pub holders : (p b i : ℕ) → HasLock c p b i → HasSlot (task ts p).place i
+  pub holders : (p b i : ℕ) → HasLock c p b i → HasSlot (task ts p).stage i
 
 -- What is true of every store, beside its files.
 pub record IsStore {D : Type 0} (image : D → Image) (s : StoreState D) : Type 0 where

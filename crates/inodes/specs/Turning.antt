@@ -8,7 +8,6 @@ use Rattle.model.specs.declared.types.operations.Op.TheVariants.{Create, Write, 
 use Rattle.model.specs.declared.types.operations.Reply.{Reply}
 use Rattle.model.specs.declared.types.operations.Reply.TheVariants.{Done, StatOf, NoFile, BadOffset, TooBig}
 use Rattle.inodes.specs.declared.tasks.Stage.{Stage}
-use Rattle.inodes.specs.declared.tasks.Stage.TheVariants as stage
 use Rattle.inodes.specs.declared.writei.Extent.{Extent}
 use Rattle.inodes.specs.Freeing.{first_freeing}
 use Rattle.inodes.specs.Itrunc.{first_trunc}
@@ -44,35 +43,35 @@ reply_when_taken form None op = Some NoFile
 reply_when_taken form (Some d) op = reply_of_look form d op
 
 -- a reading begins with its bytes, or has all of them
-abbrev pub place_of_read : ℕ → Option ReadState → Stage
-place_of_read k None = stage.Delivering k
-place_of_read k (Some m) = stage.Reading k m
+abbrev pub stage_of_read : ℕ → Option ReadState → Stage
+stage_of_read k None = Stage.Delivering k
+stage_of_read k (Some m) = Stage.Reading k m
 
 -- a write is refused, or begins with its bytes
-abbrev pub place_by_refusal : ℕ → WriteState → Option Reply → Stage
-place_by_refusal k m None = stage.Writing k m
-place_by_refusal k m (Some reply) = stage.Leaving k
+abbrev pub stage_by_refusal : ℕ → WriteState → Option Reply → Stage
+stage_by_refusal k m None = Stage.Writing k m
+stage_by_refusal k m (Some reply) = Stage.Leaving k
 
-abbrev pub place_of_write : ℕ → ℕ → Dinode → ℕ → ℕ → Extent → Stage
-place_of_write k i d off n e =
-    place_by_refusal k (first_write i d off n e) (write_refusal e.form d off n)
+abbrev pub stage_of_write : ℕ → ℕ → Dinode → ℕ → ℕ → Extent → Stage
+stage_of_write k i d off n e =
+    stage_by_refusal k (first_write i d off n e) (write_refusal e.form d off n)
 
 -- it is answered, or reads, or frees the blocks of its file, or writes into it, over an image that
 -- takes its blocks there
-abbrev pub place_of_look : Extent → Dinode → ℕ → Op → Stage
-place_of_look e d k (Create kind) = stage.Leaving k
-place_of_look e d k (Write i off bytes) = place_of_write k i d off (length bytes) e
-place_of_look e d k (Read i off count) = place_of_read k (first_read e.form d off count)
-place_of_look e d k (Trunc i) =
-    stage.Truncating k (first_freeing (first_trunc i d e.form false e.bitmap))
-place_of_look e d k (Remove i) =
-    stage.Truncating k (first_freeing (first_trunc i d e.form true e.bitmap))
-place_of_look e d k (Stat i) = stage.Leaving k
+abbrev pub stage_of_look : Extent → Dinode → ℕ → Op → Stage
+stage_of_look e d k (Create kind) = Stage.Leaving k
+stage_of_look e d k (Write i off bytes) = stage_of_write k i d off (length bytes) e
+stage_of_look e d k (Read i off count) = stage_of_read k (first_read e.form d off count)
+stage_of_look e d k (Trunc i) =
+    Stage.Truncating k (first_freeing (first_trunc i d e.form false e.bitmap))
+stage_of_look e d k (Remove i) =
+    Stage.Truncating k (first_freeing (first_trunc i d e.form true e.bitmap))
+stage_of_look e d k (Stat i) = Stage.Leaving k
 
 -- where it goes, with the inode at that place of the table
-abbrev pub place_when_taken : Extent → Option Dinode → ℕ → Op → Stage
-place_when_taken e None k op = stage.Leaving k
-place_when_taken e (Some d) k op = place_of_look e d k op
+abbrev pub stage_when_taken : Extent → Option Dinode → ℕ → Op → Stage
+stage_when_taken e None k op = Stage.Leaving k
+stage_when_taken e (Some d) k op = stage_of_look e d k op
 
 -- the inode, if it is used
 abbrev pub if_used : Bool → Dinode → Option Dinode

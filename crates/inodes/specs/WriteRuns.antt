@@ -6,17 +6,15 @@ use Rattle.blocks.specs.declared.disk.Disk.{Ghosts}
 use Rattle.model.specs.declared.types.image.Dinode.{Dinode}
 use Rattle.model.specs.declared.types.operations.Op.{Op}
 use Rattle.model.specs.declared.types.operations.Reply.TheVariants.{Wrote}
-use Rattle.model.specs.declared.types.operations.TaskProgress.TheVariants as progress
+use Rattle.model.specs.declared.types.operations.TaskProgress.{TaskProgress}
 use Rattle.model.specs.Fields.{has_bit}
 use Rattle.wal.specs.Machine.{LogState, used_by}
 use Rattle.blockmap.specs.Balloc.{AllocState}
-use Rattle.blockmap.specs.declared.balloc.AllocAt.TheVariants as alloc_at
+use Rattle.blockmap.specs.declared.balloc.AllocAt.{AllocAt}
 use Rattle.blockmap.specs.declared.bmap_alloc.MapAt.{MapAt}
-use Rattle.blockmap.specs.declared.bmap_alloc.MapAt.TheVariants as map_at
-use Rattle.inodes.specs.declared.tasks.Stage.TheVariants as stage
+use Rattle.inodes.specs.declared.tasks.Stage.{Stage}
 use Rattle.inodes.specs.declared.writei.Extent.{Extent}
 use Rattle.inodes.specs.declared.writei.WriteAt.{WriteAt}
-use Rattle.inodes.specs.declared.writei.WriteAt.TheVariants as write_at
 use Rattle.inodes.specs.Growing.{TakesIn}
 use Rattle.inodes.specs.Runs.{StepMade, IsRun, EndsWith}
 use Rattle.inodes.specs.Store.{StoreState, current_of}
@@ -28,28 +26,28 @@ use Rattle.inodes.specs.Writing.{IsWriting, HasLoggedWrite, most_beside}
 -- answers that so many bytes were written
 pub record IsWriteRun {D N : Type 0} (disk : Ghosts D N) (p k : ℕ) (op : Op) (m : WriteState)
     (s : StoreState D) (steps : List (StepMade D)) (done : ℕ) : Type 0 where
-  pub begins : (task s.tasks p).place ≡ stage.Writing k m
+  pub begins : (task s.tasks p).stage ≡ Stage.Writing k m
   pub runs : IsRun disk p op s steps
-  pub ends : EndsWith steps (progress.Decided (Wrote done))
+  pub ends : EndsWith steps (TaskProgress.Decided (Wrote done))
 
 -- the taking of a block in that extent has got the bitmap's block, and looks at it next
 pub record LooksIn (e : Extent) (t : AllocState) : Type 0 where
   pub slot : ℕ
-  pub got : t.at ≡ alloc_at.Looking (Some slot)
+  pub got : t.at ≡ AllocAt.Looking (Some slot)
   pub takes : TakesIn e t
 
 -- so does a way to a block that takes one
 abbrev pub LooksOnWay : Extent → MapAt → Type 0
-LooksOnWay e (map_at.Address t) = LooksIn e t
-LooksOnWay e (map_at.Entry n slot) = ⊥
-LooksOnWay e (map_at.Behind n i t) = LooksIn e t
-LooksOnWay e (map_at.Setting n i found) = ⊥
+LooksOnWay e (MapAt.Address t) = LooksIn e t
+LooksOnWay e (MapAt.Entry n slot) = ⊥
+LooksOnWay e (MapAt.Behind n i t) = LooksIn e t
+LooksOnWay e (MapAt.Setting n i found) = ⊥
 
 -- and a writing on such a way
 abbrev pub LooksAtBitmap : Extent → WriteAt → Type 0
-LooksAtBitmap e (write_at.Mapping way) = LooksOnWay e way.at
-LooksAtBitmap e (write_at.Block b slot) = ⊥
-LooksAtBitmap e (write_at.Updating u) = ⊥
+LooksAtBitmap e (WriteAt.Mapping way) = LooksOnWay e way.at
+LooksAtBitmap e (WriteAt.Block b slot) = ⊥
+LooksAtBitmap e (WriteAt.Updating u) = ⊥
 
 -- an image has no block left in that extent: each bit below its size is set
 abbrev pub IsFull : Image → Extent → Type 0
@@ -61,7 +59,7 @@ pub record SeesFull {D : Type 0} (image : D → Image) (p : ℕ) (e : Extent) (s
     : Type 0 where
   pub writing : WriteState
   pub entry : ℕ
-  pub stands : (task step.before.tasks p).place ≡ stage.Writing entry writing
+  pub stands : (task step.before.tasks p).stage ≡ Stage.Writing entry writing
   pub looks : LooksAtBitmap e writing.at
   pub full : IsFull (current_of image step.before.volume) e
 

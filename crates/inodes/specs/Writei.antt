@@ -13,14 +13,11 @@ use Rattle.blockmap.specs.BmapAlloc.{MapState, MayMap, MapSteps, LeadsThere}
 use Rattle.blockmap.specs.Getting.{HoldsWhereGot, WritesBlock}
 use Rattle.blockmap.specs.Map.{mapped_for_writing}
 use Rattle.blockmap.specs.declared.mapping.MappedForWriting.{MappedForWriting}
-use Rattle.blockmap.specs.declared.mapping.MappedForWriting.TheVariants as for_writing
 use Rattle.model.specs.Progress.{one_more}
 use Rattle.model.specs.declared.types.progress.Progress.{Progress}
-use Rattle.model.specs.declared.types.progress.Progress.TheVariants as progress
 use Rattle.inodes.specs.Iupdate.{UpdateState, MayUpdate, Updates, first_update}
 use Rattle.inodes.specs.declared.writei.Extent.{Extent}
 use Rattle.inodes.specs.declared.writei.WriteAt.{WriteAt}
-use Rattle.inodes.specs.declared.writei.WriteAt.TheVariants as write_at
 
 -- Where the writing of a file's bytes stands.
 pub record WriteState : Type 0 where
@@ -37,14 +34,14 @@ pub record WriteState : Type 0 where
 
 -- a block that is found at once is got, and others have a way to them
 abbrev pub place_of_mapped : MappedForWriting → WriteAt
-place_of_mapped (for_writing.At b) = write_at.Block b None
-place_of_mapped (for_writing.Behind way) = write_at.Mapping way
+place_of_mapped (MappedForWriting.At b) = WriteAt.Block b None
+place_of_mapped (MappedForWriting.Behind way) = WriteAt.Mapping way
 
 -- what comes next, where so many bytes are left from a place on: the block of that place, or the
 -- inode
 abbrev pub next_place : ℕ → Dinode → ℕ → ℕ → Extent → WriteAt
 next_place number d next left extent =
-    if left == 0 then write_at.Updating (first_update number)
+    if left == 0 then WriteAt.Updating (first_update number)
     else place_of_mapped
     (mapped_for_writing extent.form d (next / block_size) extent.bitmap extent.size)
 
@@ -76,11 +73,11 @@ piece_of m bytes = part_of bytes m.done (piece m)
 -- it may be made over this volume, by where the writing stands
 abbrev pub MayWriteAt : {D : Type 0} → (D → Image) → VolumeState D → ℕ → WriteState → WriteAt
     → Type 0
-MayWriteAt image v p m (write_at.Mapping way) = MayMap image v p way m.inode
-MayWriteAt image v p m (write_at.Block b slot) =
+MayWriteAt image v p m (WriteAt.Mapping way) = MayMap image v p way m.inode
+MayWriteAt image v p m (WriteAt.Block b slot) =
     (m.done < m.count) × (inode_start ≤ b) × (b < v.log.size)
     × HoldsWhereGot (seen (image v.device) v.buffers) v.buffers p b slot
-MayWriteAt image v p m (write_at.Updating u) = MayUpdate image v p u
+MayWriteAt image v p m (WriteAt.Updating u) = MayUpdate image v p u
 
 pub record MayWrite {D : Type 0} (image : D → Image) (v : VolumeState D) (p : ℕ) (m : WriteState)
     : Type 0 where
@@ -91,16 +88,16 @@ pub record MayWrite {D : Type 0} (image : D → Image) (v : VolumeState D) (p : 
 
 -- the block to which the way came, or none
 abbrev pub place_found : ℕ → Option ℕ → WriteAt
-place_found number None = write_at.Updating (first_update number)
-place_found number (Some b) = write_at.Block b None
+place_found number None = WriteAt.Updating (first_update number)
+place_found number (Some b) = WriteAt.Block b None
 
 -- where the writing stands then, with the way and the inode as they are then
 abbrev pub write_mapped : WriteState → MapState → Dinode → Progress (Option ℕ) → WriteState
-write_mapped m way d progress.Moved = record m { inode = d; at = write_at.Mapping way }
-write_mapped m way d (progress.Sleeping why) = record m { inode = d }
-write_mapped m way d (progress.Over found) =
+write_mapped m way d Progress.Moved = record m { inode = d; at = WriteAt.Mapping way }
+write_mapped m way d (Progress.Sleeping why) = record m { inode = d }
+write_mapped m way d (Progress.Over found) =
     record m { inode = d; at = place_found m.number found }
-write_mapped m way d (progress.Fault fault) = record m { inode = d }
+write_mapped m way d (Progress.Fault fault) = record m { inode = d }
 
 -- A step on the way to the next block.
 pub record MapsOn {D N : Type 0} (disk : Ghosts D N) (v : VolumeState D) (p : ℕ) (m : WriteState)
@@ -133,12 +130,12 @@ with_written x m bytes b =
 abbrev pub GetsNext : {D N : Type 0} → Ghosts D N → VolumeState D → ℕ → WriteState → ℕ
     → Progress (Unit {0}) → WriteState → VolumeState D → Type 0
 GetsNext disk v p m b r n w =
-    (s : Option ℕ) × GetsFor disk v p b r s w × (n ≡ record m { at = write_at.Block b s })
+    (s : Option ℕ) × GetsFor disk v p b r s w × (n ≡ record m { at = WriteAt.Block b s })
 
 abbrev pub WritesNext : {D N : Type 0} → Ghosts D N → VolumeState D → ℕ → WriteState → ℕ → ℕ
     → List ℕ → Progress (Unit {0}) → WriteState → VolumeState D → Type 0
 WritesNext disk v p m b i bytes r n w =
-    (r ≡ progress.Moved) × (n ≡ with_piece m)
+    (r ≡ Progress.Moved) × (n ≡ with_piece m)
     × WritesBlock disk v p i b (with_written (seen (disk.image v.device) v.buffers) m bytes b) w
 
 -- one that writes the inode back
@@ -146,13 +143,13 @@ abbrev pub UpdatesCopy : {D N : Type 0} → Ghosts D N → VolumeState D → ℕ
     → UpdateState → Progress (Unit {0}) → WriteState → VolumeState D → Type 0
 UpdatesCopy disk v p m u r n w =
     (u2 : UpdateState) × Updates disk u.slot v p u m.inode r u2 w
-    × (n ≡ record m { at = write_at.Updating u2 })
+    × (n ≡ record m { at = WriteAt.Updating u2 })
 
 -- WHAT A STEP DOES, by where the writing stands.
 abbrev pub WriteSteps : {D N : Type 0} → Ghosts D N → WriteAt → VolumeState D → ℕ → WriteState
     → List ℕ → Progress (Unit {0}) → WriteState → VolumeState D → Type 0
-WriteSteps disk (write_at.Mapping way) v p m bytes r n w = MapsOn disk v p m way r n w
-WriteSteps disk (write_at.Block b None) v p m bytes r n w = GetsNext disk v p m b r n w
-WriteSteps disk (write_at.Block b (Some i)) v p m bytes r n w =
+WriteSteps disk (WriteAt.Mapping way) v p m bytes r n w = MapsOn disk v p m way r n w
+WriteSteps disk (WriteAt.Block b None) v p m bytes r n w = GetsNext disk v p m b r n w
+WriteSteps disk (WriteAt.Block b (Some i)) v p m bytes r n w =
     WritesNext disk v p m b i bytes r n w
-WriteSteps disk (write_at.Updating u) v p m bytes r n w = UpdatesCopy disk v p m u r n w
+WriteSteps disk (WriteAt.Updating u) v p m bytes r n w = UpdatesCopy disk v p m u r n w

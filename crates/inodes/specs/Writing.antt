@@ -13,13 +13,10 @@ use Rattle.wal.specs.Machine.{LogState, is_among, used_by}
 use Rattle.blockmap.specs.Balloc.{AllocState}
 use Rattle.blockmap.specs.Branch.{branch_of}
 use Rattle.blockmap.specs.declared.balloc.AllocAt.{AllocAt}
-use Rattle.blockmap.specs.declared.balloc.AllocAt.TheVariants as alloc_at
 use Rattle.blockmap.specs.declared.bmap_alloc.MapAt.{MapAt}
-use Rattle.blockmap.specs.declared.bmap_alloc.MapAt.TheVariants as map_at
 use Rattle.blockmap.specs.declared.branch.Branch.{Branch}
 use Rattle.inodes.specs.declared.writei.Extent.{Extent}
 use Rattle.inodes.specs.declared.writei.WriteAt.{WriteAt}
-use Rattle.inodes.specs.declared.writei.WriteAt.TheVariants as write_at
 use Rattle.inodes.specs.Growing.{HasComeTo}
 use Rattle.inodes.specs.Holding.{uses_left}
 use Rattle.inodes.specs.Routes.{Route, nodes_by, routes_beyond, routes_to}
@@ -46,61 +43,61 @@ pub record IsWriting (cur : Image) (n : ℕ) (t : TaskState) (m : WriteState) : 
 
 -- the slot that the taking of a block has got, and the block that it gets or uses next
 abbrev pub slot_of_alloc : AllocAt → Option ℕ
-slot_of_alloc (alloc_at.Looking slot) = slot
-slot_of_alloc (alloc_at.Zeroing b slot) = slot
+slot_of_alloc (AllocAt.Looking slot) = slot
+slot_of_alloc (AllocAt.Zeroing b slot) = slot
 
 abbrev pub block_of_alloc : AllocState → AllocAt → ℕ
-block_of_alloc t (alloc_at.Looking slot) = t.bitmap
-block_of_alloc t (alloc_at.Zeroing b slot) = b
+block_of_alloc t (AllocAt.Looking slot) = t.bitmap
+block_of_alloc t (AllocAt.Zeroing b slot) = b
 
 -- the block of addresses at hand, which is kept while a block is taken for an entry of it; 0 for
 -- none
 abbrev pub node_on_way : MapAt → ℕ
-node_on_way (map_at.Address t) = 0
-node_on_way (map_at.Entry n slot) = n.block
-node_on_way (map_at.Behind n i t) = n.block
-node_on_way (map_at.Setting n i found) = n.block
+node_on_way (MapAt.Address t) = 0
+node_on_way (MapAt.Entry n slot) = n.block
+node_on_way (MapAt.Behind n i t) = n.block
+node_on_way (MapAt.Setting n i found) = n.block
 
 abbrev pub node_of_write : WriteAt → ℕ
-node_of_write (write_at.Mapping way) = node_on_way way.at
-node_of_write (write_at.Block b slot) = 0
-node_of_write (write_at.Updating u) = 0
+node_of_write (WriteAt.Mapping way) = node_on_way way.at
+node_of_write (WriteAt.Block b slot) = 0
+node_of_write (WriteAt.Updating u) = 0
 
 -- the slot that keeps it
 abbrev pub kept_on_way : MapAt → Option ℕ
-kept_on_way (map_at.Address t) = None
-kept_on_way (map_at.Entry n slot) = slot
-kept_on_way (map_at.Behind n i t) = Some i
-kept_on_way (map_at.Setting n i found) = Some i
+kept_on_way (MapAt.Address t) = None
+kept_on_way (MapAt.Entry n slot) = slot
+kept_on_way (MapAt.Behind n i t) = Some i
+kept_on_way (MapAt.Setting n i found) = Some i
 
 abbrev pub kept_by_write : WriteAt → Option ℕ
-kept_by_write (write_at.Mapping way) = kept_on_way way.at
-kept_by_write (write_at.Block b slot) = None
-kept_by_write (write_at.Updating u) = None
+kept_by_write (WriteAt.Mapping way) = kept_on_way way.at
+kept_by_write (WriteAt.Block b slot) = None
+kept_by_write (WriteAt.Updating u) = None
 
 -- the slot that is used next
 abbrev pub used_on_way : MapAt → Option ℕ
-used_on_way (map_at.Address t) = slot_of_alloc t.at
-used_on_way (map_at.Entry n slot) = None
-used_on_way (map_at.Behind n i t) = slot_of_alloc t.at
-used_on_way (map_at.Setting n i found) = None
+used_on_way (MapAt.Address t) = slot_of_alloc t.at
+used_on_way (MapAt.Entry n slot) = None
+used_on_way (MapAt.Behind n i t) = slot_of_alloc t.at
+used_on_way (MapAt.Setting n i found) = None
 
 abbrev pub used_by_write : WriteAt → Option ℕ
-used_by_write (write_at.Mapping way) = used_on_way way.at
-used_by_write (write_at.Block b slot) = slot
-used_by_write (write_at.Updating u) = u.slot
+used_by_write (WriteAt.Mapping way) = used_on_way way.at
+used_by_write (WriteAt.Block b slot) = slot
+used_by_write (WriteAt.Updating u) = u.slot
 
 -- the block that is got or used next
 abbrev pub block_on_way : MapAt → ℕ
-block_on_way (map_at.Address t) = block_of_alloc t t.at
-block_on_way (map_at.Entry n slot) = n.block
-block_on_way (map_at.Behind n i t) = block_of_alloc t t.at
-block_on_way (map_at.Setting n i found) = n.block
+block_on_way (MapAt.Address t) = block_of_alloc t t.at
+block_on_way (MapAt.Entry n slot) = n.block
+block_on_way (MapAt.Behind n i t) = block_of_alloc t t.at
+block_on_way (MapAt.Setting n i found) = n.block
 
 abbrev pub block_of_write : WriteAt → ℕ
-block_of_write (write_at.Mapping way) = block_on_way way.at
-block_of_write (write_at.Block b slot) = b
-block_of_write (write_at.Updating u) = inode_block u.number
+block_of_write (WriteAt.Mapping way) = block_on_way way.at
+block_of_write (WriteAt.Block b slot) = b
+block_of_write (WriteAt.Updating u) = inode_block u.number
 
 -- ---- how much is left
 
@@ -110,15 +107,15 @@ blocks_behind m = (m.count - (m.done + piece m) + (block_size - 1)) / block_size
 
 -- the steps of taking a block: the bitmap's block is got and used, and then the block itself
 abbrev pub alloc_left : AllocAt → ℕ
-alloc_left (alloc_at.Looking slot) = uses_left slot + 2
-alloc_left (alloc_at.Zeroing b slot) = uses_left slot
+alloc_left (AllocAt.Looking slot) = uses_left slot + 2
+alloc_left (AllocAt.Zeroing b slot) = uses_left slot
 
 -- the steps to a block of the file: seven for each block of addresses on the way to it
 abbrev pub way_left : Branch → MapAt → ℕ
-way_left b (map_at.Address t) = alloc_left t.at + 7 * b.depth
-way_left b (map_at.Entry n slot) = uses_left slot + 7 * n.level + 5
-way_left b (map_at.Behind n i t) = alloc_left t.at + 7 * n.level + 1
-way_left b (map_at.Setting n i found) = 7 * n.level + 1
+way_left b (MapAt.Address t) = alloc_left t.at + 7 * b.depth
+way_left b (MapAt.Entry n slot) = uses_left slot + 7 * n.level + 5
+way_left b (MapAt.Behind n i t) = alloc_left t.at + 7 * n.level + 1
+way_left b (MapAt.Setting n i found) = 7 * n.level + 1
 
 -- the steps for so many blocks of the file
 abbrev pub writes_for : Form → ℕ → ℕ
@@ -128,11 +125,11 @@ writes_for Two n = 20 * n
 -- the steps that are left at most: those to the block at hand and the two at it, those for each one
 -- behind it, and two for the inode
 abbrev pub writes_left_at : WriteState → WriteAt → ℕ
-writes_left_at m (write_at.Mapping way) =
+writes_left_at m (WriteAt.Mapping way) =
     way_left way.branch way.at + writes_for m.extent.form (blocks_behind m) + 4
-writes_left_at m (write_at.Block b slot) =
+writes_left_at m (WriteAt.Block b slot) =
     uses_left slot + writes_for m.extent.form (blocks_behind m) + 2
-writes_left_at m (write_at.Updating u) = uses_left u.slot
+writes_left_at m (WriteAt.Updating u) = uses_left u.slot
 
 abbrev pub writes_left : WriteState → ℕ
 writes_left m = writes_left_at m m.at
@@ -174,22 +171,22 @@ most_beside Two = 4
 -- the block that was taken and that no block of addresses names yet, or the data block at hand; 0
 -- for none
 abbrev pub hand_on_way : MapAt → ℕ
-hand_on_way (map_at.Address t) = 0
-hand_on_way (map_at.Entry n slot) = 0
-hand_on_way (map_at.Behind n i t) = 0
-hand_on_way (map_at.Setting n i None) = 0
-hand_on_way (map_at.Setting n i (Some b)) = b
+hand_on_way (MapAt.Address t) = 0
+hand_on_way (MapAt.Entry n slot) = 0
+hand_on_way (MapAt.Behind n i t) = 0
+hand_on_way (MapAt.Setting n i None) = 0
+hand_on_way (MapAt.Setting n i (Some b)) = b
 
 abbrev pub at_hand : WriteAt → ℕ
-at_hand (write_at.Mapping way) = hand_on_way way.at
-at_hand (write_at.Block b slot) = b
-at_hand (write_at.Updating u) = 0
+at_hand (WriteAt.Mapping way) = hand_on_way way.at
+at_hand (WriteAt.Block b slot) = b
+at_hand (WriteAt.Updating u) = 0
 
 -- the blocks of the file that are to be written, the one at hand included
 abbrev pub blocks_left : WriteState → WriteAt → ℕ
-blocks_left m (write_at.Mapping way) = blocks_behind m + 1
-blocks_left m (write_at.Block b slot) = blocks_behind m + 1
-blocks_left m (write_at.Updating u) = 0
+blocks_left m (WriteAt.Mapping way) = blocks_behind m + 1
+blocks_left m (WriteAt.Block b slot) = blocks_behind m + 1
+blocks_left m (WriteAt.Updating u) = 0
 
 -- its operation is open in the log
 pub record HasOpen (l : LogState) (p : ℕ) : Type 0 where

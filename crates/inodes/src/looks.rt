@@ -11,7 +11,7 @@ ghost use Rattle.inodes.specs.Store.{KeepsFiles, with_look};
 ghost use Rattle.inodes.specs.Steps.{Steps};
 ghost use Rattle.inodes.specs.Table.{copy_at};
 ghost use Rattle.inodes.specs.Tasks.{task};
-ghost use Rattle.inodes.specs.Turning.{IsReadable, place_of_read, place_of_write, place_when_taken, reply_when_taken, write_refusal};
+ghost use Rattle.inodes.specs.Turning.{IsReadable, stage_of_read, stage_of_write, stage_when_taken, reply_when_taken, write_refusal};
 ghost use Rattle.inodes.specs.declared.tasks.Stage.TheVariants as stands_at;
 
 use crate::store::over;
@@ -28,7 +28,7 @@ impl<D: Disk> Store<D> {
     pub fn begin_look(&mut self, pid: u32, op: &Op, room: Option<Gathered>)
         requires fault { self.old.volume.fault ≡ None }
         requires pid { pid < length self.old.tasks }
-        requires idle { (task self.old.tasks pid).place ≡ stands_at.Nowhere }
+        requires idle { (task self.old.tasks pid).stage ≡ stands_at.Nowhere }
         requires op { CanLook self.old.table.inode_count op.now }
         requires room { HasRoom op.now room }
         ensures store { self.new ≡ with_look self.old pid op.now room }
@@ -43,7 +43,7 @@ impl<D: Disk> Store<D> {
         requires fault { self.old.volume.fault ≡ None }
         requires pid { pid < length self.old.tasks }
         requires op { (task self.old.tasks pid).op ≡ Some op.now }
-        requires at { (task self.old.tasks pid).place ≡ stands_at.Taking lock }
+        requires at { (task self.old.tasks pid).stage ≡ stands_at.Taking lock }
         ensures step { Steps D.Disk self.old pid op.now result self.new }
     {
         self.volume.known();
@@ -54,7 +54,7 @@ impl<D: Disk> Store<D> {
                 let form = self.inodes.form();
                 let extent = extent_of(form, self.inodes.inode_count(), self.volume.log().size());
                 self.tasks
-                    .go(pid, place_when_taken(&inode, place, op, extent));
+                    .go(pid, stage_when_taken(&inode, place, op, extent));
                 TaskProgress::Turned(reply_when_taken(form, &inode, op))
             }
             Err(progress) => {
@@ -68,7 +68,7 @@ impl<D: Disk> Store<D> {
     pub(crate) fn read(&mut self, pid: u32, place: usize, reading: Snapshot<Readi>) -> TaskProgress
         requires fault { self.old.volume.fault ≡ None }
         requires pid { pid < length self.old.tasks }
-        requires at { (task self.old.tasks pid).place ≡ stands_at.Reading place reading.value }
+        requires at { (task self.old.tasks pid).stage ≡ stands_at.Reading place reading.value }
         ensures step { (op : Op) → (task self.old.tasks pid).op ≡ Some op
             → Steps D.Disk self.old pid op result self.new }
     {
@@ -91,7 +91,7 @@ impl<D: Disk> Store<D> {
     pub(crate) fn deliver(&mut self, pid: u32, place: usize) -> TaskProgress
         requires fault { self.old.volume.fault ≡ None }
         requires pid { pid < length self.old.tasks }
-        requires at { (task self.old.tasks pid).place ≡ stands_at.Delivering place }
+        requires at { (task self.old.tasks pid).stage ≡ stands_at.Delivering place }
         ensures step { (op : Op) → (task self.old.tasks pid).op ≡ Some op
             → Steps D.Disk self.old pid op result self.new }
     {
@@ -110,7 +110,7 @@ impl<D: Disk> Store<D> {
     ) -> TaskProgress
         requires fault { self.old.volume.fault ≡ None }
         requires pid { pid < length self.old.tasks }
-        requires at { (task self.old.tasks pid).place ≡ stands_at.Truncating place trunc.value }
+        requires at { (task self.old.tasks pid).stage ≡ stands_at.Truncating place trunc.value }
         ensures step { (op : Op) → (task self.old.tasks pid).op ≡ Some op
             → Steps D.Disk self.old pid op result self.new }
     {
@@ -136,7 +136,7 @@ impl<D: Disk> Store<D> {
         requires fault { self.old.volume.fault ≡ None }
         requires pid { pid < length self.old.tasks }
         requires op { (task self.old.tasks pid).op ≡ Some op.now }
-        requires at { (task self.old.tasks pid).place ≡ stands_at.Writing place writing.value }
+        requires at { (task self.old.tasks pid).stage ≡ stands_at.Writing place writing.value }
         ensures step { Steps D.Disk self.old pid op.now result self.new }
     {
         self.volume.known();
@@ -158,7 +158,7 @@ impl<D: Disk> Store<D> {
     pub(crate) fn leave(&mut self, pid: u32, place: usize) -> TaskProgress
         requires fault { self.old.volume.fault ≡ None }
         requires pid { pid < length self.old.tasks }
-        requires at { (task self.old.tasks pid).place ≡ stands_at.Leaving place }
+        requires at { (task self.old.tasks pid).stage ≡ stands_at.Leaving place }
         ensures step { (op : Op) → (task self.old.tasks pid).op ≡ Some op
             → Steps D.Disk self.old pid op result self.new }
     {
@@ -246,10 +246,10 @@ fn extent_of(form: Form, inode_count: u32, size: u32) -> Extent
 
 // Where it goes then, with the inode at that place of the table, over an image that takes its
 // blocks there.
-fn place_when_taken(inode: &Option<Dinode>, place: usize, op: &Op, extent: Extent) -> Stage
+fn stage_when_taken(inode: &Option<Dinode>, place: usize, op: &Op, extent: Extent) -> Stage
     requires inode { IsReadable extent.form inode.now }
     requires few { length (bytes_of op.now) ≤ transfer_limit }
-    ensures { result ≡ place_when_taken extent inode.now place op.now }
+    ensures { result ≡ stage_when_taken extent inode.now place op.now }
 {
     let Some(inode) = inode else {
         return Stage::Leaving { place };
@@ -258,7 +258,7 @@ fn place_when_taken(inode: &Option<Dinode>, place: usize, op: &Op, extent: Exten
     let bitmap = extent.bitmap;
     match op {
         Op::Read(_, offset, count) => {
-            place_of_read(place, Readi::new(inode, form, *offset, *count))
+            stage_of_read(place, Readi::new(inode, form, *offset, *count))
         }
         Op::Trunc(number) => {
             let trunc = Freeing::new(Itrunc::new(*number, inode, form, false, bitmap));
@@ -269,14 +269,14 @@ fn place_when_taken(inode: &Option<Dinode>, place: usize, op: &Op, extent: Exten
             Stage::Truncating { place, trunc }
         }
         Op::Write(number, offset, bytes) => {
-            place_of_write(place, *number, inode, *offset, bytes.len(), extent)
+            stage_of_write(place, *number, inode, *offset, bytes.len(), extent)
         }
         Op::Create(_) | Op::Stat(_) => Stage::Leaving { place },
     }
 }
 
 // A write is refused, or begins with its bytes.
-fn place_of_write(
+fn stage_of_write(
     place: usize,
     number: u32,
     inode: &Dinode,
@@ -286,7 +286,7 @@ fn place_of_write(
 ) -> Stage
     requires addrs { length inode.now.addrs ≡ 13 }
     requires few { count ≤ transfer_limit }
-    ensures { result ≡ place_of_write place number inode.now offset count extent }
+    ensures { result ≡ stage_of_write place number inode.now offset count extent }
 {
     if write_refusal(extent.form, inode, offset, count).is_some() {
         return Stage::Leaving { place };
@@ -296,8 +296,8 @@ fn place_of_write(
 }
 
 // A reading begins with its bytes, or has all of them.
-fn place_of_read(place: usize, reading: Option<Readi>) -> Stage
-    ensures { result ≡ place_of_read place reading }
+fn stage_of_read(place: usize, reading: Option<Readi>) -> Stage
+    ensures { result ≡ stage_of_read place reading }
 {
     match reading {
         Some(reading) => Stage::Reading { place, reading },

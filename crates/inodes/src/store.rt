@@ -9,7 +9,7 @@ ghost use Rattle.model.specs.Layout.{form_of, inode_count_of};
 ghost use Rattle.model.specs.Soundness.{IsSound};
 ghost use Rattle.wal.specs.Machine.{used_by, is_quiet, begun, ended, end_answer};
 ghost use Rattle.inodes.specs.Tasks.{task, no_task};
-ghost use Rattle.inodes.specs.Store.{IsStore, MayBegin, FitsFiles, KeepsFiles, fresh_volume, with_begun, with_log, first_place, reply_of, CanBegin};
+ghost use Rattle.inodes.specs.Store.{IsStore, MayBegin, FitsFiles, KeepsFiles, fresh_volume, with_begun, with_log, first_stage, reply_of, CanBegin};
 ghost use Rattle.inodes.specs.Goes.{over};
 ghost use Rattle.inodes.specs.Steps.{Steps, Commits};
 ghost use Rattle.inodes.specs.Places.{is_over};
@@ -105,9 +105,9 @@ impl<D: Disk> Store<D> {
     /// Whether a process has no task, or one that is over.
     pub fn is_over(&self, pid: u32) -> bool
         requires { pid < length self.now.tasks }
-        ensures { result ≡ is_over (task self.now.tasks pid).place }
+        ensures { result ≡ is_over (task self.now.tasks pid).stage }
     {
-        match self.tasks.place(pid) {
+        match self.tasks.stage(pid) {
             Stage::Nowhere => true,
             Stage::Creating(_)
             | Stage::Taking(_)
@@ -132,7 +132,7 @@ impl<D: Disk> Store<D> {
     pub fn begin(&mut self, pid: u32, op: &Op) -> u64
         requires fault { self.old.volume.fault ≡ None }
         requires pid { pid < length self.old.tasks }
-        requires idle { (task self.old.tasks pid).place ≡ stage.Nowhere }
+        requires idle { (task self.old.tasks pid).stage ≡ stage.Nowhere }
         requires op { CanBegin self.old.table.inode_count op.now }
         requires may { MayBegin self.old.volume.log pid }
         ensures group { result ≡ (begun self.old.volume.log pid).opened }
@@ -140,8 +140,8 @@ impl<D: Disk> Store<D> {
         ensures files { KeepsFiles D.image self.old self.new }
     {
         self.volume.known();
-        let place = first_place(op, self.inodes.inode_count());
-        self.tasks.begin(pid, op, place, None);
+        let stage = first_stage(op, self.inodes.inode_count());
+        self.tasks.begin(pid, op, stage, None);
         open_group(&mut self.volume, pid)
     }
 
@@ -149,7 +149,7 @@ impl<D: Disk> Store<D> {
     pub fn end(&mut self, pid: u32) -> Ended
         requires fault { self.old.volume.fault ≡ None }
         requires pid { pid < length self.old.tasks }
-        requires idle { (task self.old.tasks pid).place ≡ stage.Nowhere }
+        requires idle { (task self.old.tasks pid).stage ≡ stage.Nowhere }
         requires open { IsSome (used_by self.old.volume.log pid) }
         ensures answer { result ≡ end_answer self.old.volume.log }
         ensures store { self.new ≡ with_log self.old (ended self.old.volume.log pid) }
@@ -165,7 +165,7 @@ impl<D: Disk> Store<D> {
         requires op { (task self.old.tasks pid).op ≡ Some op.now }
         ensures step { Steps D.Disk self.old pid op.now result self.new }
     {
-        match self.tasks.place(pid) {
+        match self.tasks.stage(pid) {
             Stage::Nowhere => TaskProgress::Over,
             Stage::Creating(search) => {
                 let was = Snapshot::of(search);
@@ -202,7 +202,7 @@ impl<D: Disk> Store<D> {
     fn search(&mut self, pid: u32, search: Snapshot<Ialloc>) -> TaskProgress
         requires fault { self.old.volume.fault ≡ None }
         requires pid { pid < length self.old.tasks }
-        requires at { (task self.old.tasks pid).place ≡ stage.Creating search.value }
+        requires at { (task self.old.tasks pid).stage ≡ stage.Creating search.value }
         ensures step { (op : Op) → (task self.old.tasks pid).op ≡ Some op
             → Steps D.Disk self.old pid op result self.new }
     {
@@ -241,8 +241,8 @@ pub(crate) fn over<T>(progress: Progress<T>) -> Result<T, TaskProgress>
 }
 
 // Where the task of an operation begins.
-fn first_place(op: &Op, inode_count: u32) -> Stage
-    ensures { result ≡ first_place op.now inode_count }
+fn first_stage(op: &Op, inode_count: u32) -> Stage
+    ensures { result ≡ first_stage op.now inode_count }
 {
     match op {
         Op::Create(kind) => Stage::Creating(Ialloc::new(*kind, inode_count)),

@@ -46,7 +46,7 @@ pub enum Stage {
 #[derive(Drop)]
 struct Task {
     op: Option<Snapshot<Op>>,
-    place: Stage,
+    stage: Stage,
     gathered: Option<Gathered>,
 }
 
@@ -58,7 +58,7 @@ impl Model for Task {
 
     ghost view = { λ t. record {
       op = option_map (λ s. s.value) t.op;
-      place = t.place;
+      stage = t.stage;
       gathered = t.gathered;
     } };
 }
@@ -91,7 +91,7 @@ impl Tasks {
         for _process in 0..processes {
             tasks.push(Task {
                 op: None,
-                place: Stage::Nowhere,
+                stage: Stage::Nowhere,
                 gathered: None,
             })?;
         }
@@ -106,11 +106,11 @@ impl Tasks {
     }
 
     /// Where a process's task stands.
-    pub fn place(&self, pid: u32) -> &Stage
+    pub fn stage(&self, pid: u32) -> &Stage
         requires { pid < length self.now }
-        ensures { result.now ≡ (task self.now pid).place }
+        ensures { result.now ≡ (task self.now pid).stage }
     {
-        &self.tasks[pid as usize].place
+        &self.tasks[pid as usize].stage
     }
 
     // Makes the next step of a creation's search in the task, without a copy of it. What it was is
@@ -122,7 +122,7 @@ impl Tasks {
         _was: Snapshot<Ialloc>,
     ) -> Progress<Option<u32>>
         requires inside { pid < length self.old }
-        requires at { (task self.old pid).place ≡ stage.Creating _was.value }
+        requires at { (task self.old pid).stage ≡ stage.Creating _was.value }
         requires fault { volume.old.fault ≡ None }
         requires pid { pid < 32 }
         requires room { HasRoom (used_by volume.old.log pid) }
@@ -130,7 +130,7 @@ impl Tasks {
         ensures { SearchesInPlace D.Disk volume.old self.old pid _was.value result
             self.new volume.new }
     {
-        let Stage::Creating(search) = &mut self.tasks[pid as usize].place else {
+        let Stage::Creating(search) = &mut self.tasks[pid as usize].stage else {
             unreachable!();
         };
         search.step(volume, pid)
@@ -146,14 +146,14 @@ impl Tasks {
         _was: Snapshot<Readi>,
     ) -> Progress<()>
         requires inside { pid < length self.old }
-        requires at { (task self.old pid).place ≡ stage.Reading _place _was.value }
+        requires at { (task self.old pid).stage ≡ stage.Reading _place _was.value }
         requires fault { volume.old.fault ≡ None }
         requires ready { IsReading D.image volume.old pid _was.value }
         requires room { HasRoomLeft _was.value into.old }
         ensures { ReadsInPlace D.Disk volume.old self.old pid _place _was.value into.old result
             self.new volume.new into.new }
     {
-        let Stage::Reading { reading, .. } = &mut self.tasks[pid as usize].place else {
+        let Stage::Reading { reading, .. } = &mut self.tasks[pid as usize].stage else {
             unreachable!();
         };
         reading.step(volume, pid, into)
@@ -168,7 +168,7 @@ impl Tasks {
         _was: Snapshot<Freeing>,
     ) -> Progress<()>
         requires inside { pid < length self.old }
-        requires at { (task self.old pid).place ≡ stage.Truncating _place _was.value }
+        requires at { (task self.old pid).stage ≡ stage.Truncating _place _was.value }
         requires fault { volume.old.fault ≡ None }
         requires pid { pid < 32 }
         requires room { HasRoom (used_by volume.old.log pid) }
@@ -176,7 +176,7 @@ impl Tasks {
         ensures { TruncatesInPlace D.Disk volume.old self.old pid _place _was.value result
             self.new volume.new }
     {
-        let Stage::Truncating { trunc, .. } = &mut self.tasks[pid as usize].place else {
+        let Stage::Truncating { trunc, .. } = &mut self.tasks[pid as usize].stage else {
             unreachable!();
         };
         trunc.step(volume, pid)
@@ -185,11 +185,11 @@ impl Tasks {
     // What is left of the inode whose file's blocks a process freed.
     pub(crate) fn left(&self, pid: u32) -> Option<Dinode>
         requires inside { pid < length self.now }
-        requires at { IsSome (freeing_at (task self.now pid).place) }
-        ensures { IfSome (freeing_at (task self.now pid).place)
+        requires at { IsSome (freeing_at (task self.now pid).stage) }
+        ensures { IfSome (freeing_at (task self.now pid).stage)
             (λ trunc. result ≡ inode_left trunc.machine) }
     {
-        let Stage::Truncating { trunc, .. } = &self.tasks[pid as usize].place else {
+        let Stage::Truncating { trunc, .. } = &self.tasks[pid as usize].stage else {
             unreachable!();
         };
         trunc.machine.left()
@@ -205,7 +205,7 @@ impl Tasks {
         _was: Snapshot<Writei>,
     ) -> Progress<()>
         requires inside { pid < length self.old }
-        requires at { (task self.old pid).place ≡ stage.Writing _place _was.value }
+        requires at { (task self.old pid).stage ≡ stage.Writing _place _was.value }
         requires fault { volume.old.fault ≡ None }
         requires pid { pid < 32 }
         requires room { HasRoom (used_by volume.old.log pid) }
@@ -214,7 +214,7 @@ impl Tasks {
         ensures { WritesInPlace D.Disk volume.old self.old pid _place _was.value bytes.now result
             self.new volume.new }
     {
-        let Stage::Writing { writing, .. } = &mut self.tasks[pid as usize].place else {
+        let Stage::Writing { writing, .. } = &mut self.tasks[pid as usize].stage else {
             unreachable!();
         };
         writing.step(volume, pid, bytes)
@@ -223,11 +223,11 @@ impl Tasks {
     // The inode that a process wrote, and how many bytes.
     pub(crate) fn written(&self, pid: u32) -> (Dinode, u32)
         requires inside { pid < length self.now }
-        requires at { IsSome (writing_at (task self.now pid).place) }
-        ensures { IfSome (writing_at (task self.now pid).place)
+        requires at { IsSome (writing_at (task self.now pid).stage) }
+        ensures { IfSome (writing_at (task self.now pid).stage)
             (λ writing. (result.0 ≡ writing.inode) × (result.1 ≡ writing.done)) }
     {
-        let Stage::Writing { writing, .. } = &self.tasks[pid as usize].place else {
+        let Stage::Writing { writing, .. } = &self.tasks[pid as usize].stage else {
             unreachable!();
         };
         (writing.inode(), writing.done())
@@ -235,33 +235,33 @@ impl Tasks {
 
     /// A process begins the task of this operation, at that stage, with room for the bytes that it
     /// asks for.
-    pub fn begin(&mut self, pid: u32, op: &Op, place: Stage, room: Option<Gathered>)
+    pub fn begin(&mut self, pid: u32, op: &Op, to: Stage, room: Option<Gathered>)
         requires { pid < length self.old }
         ensures { self.new ≡ slice_set self.old pid
-            (record { op = Some op.now; place = place; gathered = room }) }
+            (record { op = Some op.now; stage = to; gathered = room }) }
     {
         self.tasks[pid as usize] = Task {
             op: Some(Snapshot::of(op)),
-            place,
+            stage: to,
             gathered: room,
         };
     }
 
     /// Its task goes on to that stage.
-    pub fn go(&mut self, pid: u32, place: Stage)
+    pub fn go(&mut self, pid: u32, to: Stage)
         requires { pid < length self.old }
-        ensures { self.new ≡ slice_set self.old pid (record (task self.old pid) { place = place }) }
+        ensures { self.new ≡ slice_set self.old pid (record (task self.old pid) { stage = to }) }
     {
-        self.tasks[pid as usize].place = place;
+        self.tasks[pid as usize].stage = to;
     }
 
     // Its task goes on with taking its inode. Where it did so before, only that is written.
     pub(crate) fn go_taking(&mut self, pid: u32, lock: Ilock)
         requires { pid < length self.old }
         ensures { self.new ≡ slice_set self.old pid
-            (record (task self.old pid) { place = stage.Taking lock }) }
+            (record (task self.old pid) { stage = stage.Taking lock }) }
     {
-        match &mut self.tasks[pid as usize].place {
+        match &mut self.tasks[pid as usize].stage {
             Stage::Taking(at) => *at = lock,
             at => *at = Stage::Taking(lock),
         }
@@ -271,10 +271,10 @@ impl Tasks {
     pub fn finish(&mut self, pid: u32)
         requires { pid < length self.old }
         ensures { self.new ≡ slice_set self.old pid
-            (record (task self.old pid) { place = stage.Nowhere; gathered = None }) }
+            (record (task self.old pid) { stage = stage.Nowhere; gathered = None }) }
     {
         let task = &mut self.tasks[pid as usize];
-        task.place = Stage::Nowhere;
+        task.stage = Stage::Nowhere;
         task.gathered = None;
     }
 

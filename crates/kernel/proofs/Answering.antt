@@ -1,35 +1,13 @@
 -- Whose operation is over has its answer, for which there is room.
 use Rattle.std.proofs.Common.{◌≡◌, ℕ, ◌<◌, true, false, List, set, refl, sym, ◌∙◌, ap, subst, Option, Some, None}
 use Rattle.std.specs.Prelude.{IsSome, is_none}
-use Rattle.std.proofs.lemmas.Bool.{false≢true}
-use Rattle.blocks.specs.declared.disk.Disk.{Ghosts}
-use Rattle.model.specs.declared.types.operations.Entry.{Entry}
-use Rattle.model.specs.declared.types.operations.Op.{Op}
-use Rattle.model.specs.declared.types.operations.Reply.{Reply}
-use Rattle.model.specs.Files.{files_of}
-use Rattle.model.specs.Journal.{replay}
-use Rattle.model.specs.Layout.{form_of, inode_count_of}
-use Rattle.inodes.specs.Lemmas.Faults.{where_none}
-use Rattle.inodes.specs.Store.{StoreState}
-use Rattle.inodes.specs.Tasks.{task}
-use Rattle.history.specs.declared.types.Phase.{Phase}
-use Rattle.history.specs.declared.types.Phase.TheVariants as at
-use Rattle.history.specs.Bound.{is_busy_at}
-use Rattle.history.specs.Journal.{IsItsRoom, entry_in}
-use Rattle.history.specs.Lemmas.Answers.{CanAnswer, answer_at_end, answer_at_commit, answer_there, entry_inside}
-use Rattle.history.specs.Lemmas.Lists.{entry_set}
-use Rattle.history.specs.Lemmas.Places.{behind_there, ending_there}
-use Rattle.history.specs.Open.{IsEntry, told}
-use Rattle.history.specs.Processes.{World, process, last_answer, is_behind, is_ending, decided, told_at, entry_place, operation_at, answered}
-use Rattle.history.specs.Views.{HasEntry, StandsAt}
-use Rattle.kernel.specs.Invariant.{IsRight, HasFacts, IsBehind, TaskStands}
-use Rattle.kernel.specs.View.{view_of}
+use Rattle.kernel.specs.Common.{answer_at_commit, answer_at_end, answer_there, answered, behind_there, CanAnswer, decided, ending_there, Entry, entry_in, entry_inside, entry_place, entry_set, false≢true, files_of, form_of, Ghosts, HasEntry, HasFacts, inode_count_of, is_behind, is_busy_at, is_ending, IsBehind, IsEntry, IsItsRoom, IsRight, last_answer, Op, operation_at, Phase, process, replay, Reply, StandsAt, StoreState, task, TaskStands, told, told_at, view_of, where_none, World}
 
 -- process p stands behind its turn, with its entry and its task
 pub record IsThere {D : Type 0} (s : StoreState D) (w : World) (p : ℕ) : Type 0 where
   pub group : ℕ
   pub k : ℕ
-  pub stands : (process w p).at ≡ at.AfterTurn group k
+  pub stands : (process w p).at ≡ Phase.AfterTurn group k
   pub entry : Entry
   pub has : HasEntry w.journal.list p k group entry
   pub its : IsBehind (task s.tasks p) entry
@@ -50,7 +28,7 @@ module _ {D N : Type 0} (disk : Ghosts D N) (opening : D) (s : StoreState D) (w 
       answer_at_end (inode_count_of (disk.image opening)) (view_of disk.image s) (form_of (disk.image opening)) (files_of (disk.image opening)) i.follows.files w p there.0 there.1 i.follows.run i.journal.changing
       there.2 i.valid.log (i.stands p)
 
-  pub answer_commits : (group k : ℕ) → (process w p).at ≡ at.Committing group k → 0 < group → CanAnswer (last_answer w (process w p).at) (process w p).room
+  pub answer_commits : (group k : ℕ) → (process w p).at ≡ Phase.Committing group k → 0 < group → CanAnswer (last_answer w (process w p).at) (process w p).room
   answer_commits group k stands later =
       let i = known_there.facts in
       answer_at_commit (inode_count_of (disk.image opening)) (view_of disk.image s) (form_of (disk.image opening)) (files_of (disk.image opening)) i.follows.files w p group k i.follows.run i.journal.changing
@@ -59,9 +37,9 @@ module _ {D N : Type 0} (disk : Ghosts D N) (opening : D) (s : StoreState D) (w 
   pub is_there : is_behind (process w p).at ≡ true → IsThere s w p
   is_there behind =
       let there = behind_there (process w p).at behind in
-      let stood : StandsAt (inode_count_of (disk.image opening)) (view_of disk.image s) w.journal.list p (at.AfterTurn there.0 there.1)
+      let stood : StandsAt (inode_count_of (disk.image opening)) (view_of disk.image s) w.journal.list p (Phase.AfterTurn there.0 there.1)
       = subst (λ (a : Phase). StandsAt (inode_count_of (disk.image opening)) (view_of disk.image s) w.journal.list p a) there.2 (known_there.facts.stands p) in
-      let own : TaskStands w.journal.list (task s.tasks p) (at.AfterTurn there.0 there.1) = subst (λ (a : Phase). TaskStands w.journal.list (task s.tasks p) a) there.2 (right.paired.stand p).stands in
+      let own : TaskStands w.journal.list (task s.tasks p) (Phase.AfterTurn there.0 there.1) = subst (λ (a : Phase). TaskStands w.journal.list (task s.tasks p) a) there.2 (right.paired.stand p).stands in
       record { group = there.0; k = there.1; stands = there.2; entry = stood.1.0; has = stood.1.1; its = own stood.1.0 stood.1.1.at }
 
   module _ (i : IsThere s w p) where
@@ -88,8 +66,7 @@ module _ {D N : Type 0} (disk : Ghosts D N) (opening : D) (s : StoreState D) (w 
     answer_told reply t still now =
         let y = told_at (Some i.k) w reply in
         let same : decided w p reply ≡ y = ap (λ (a : Phase). told_at (entry_place a) w reply) i.stands in
-        let facts : HasFacts disk.image (disk.image opening) t (answered (decided w p reply) p) = where_none t.volume.fault still now.facts in
-        let f = facts.facts.follows in
+        let f = (where_none t.volume.fault still now.facts).facts.follows in
         let run : replay (form_of (disk.image opening)) (files_of (disk.image opening)) (Rattle.model.specs.Journal.answered y.journal.list) ≡ Some f.files
         = subst (λ (o : World). replay (form_of (disk.image opening)) (files_of (disk.image opening)) (Rattle.model.specs.Journal.answered o.journal.list) ≡ Some f.files) same f.run in
         let list : y.journal.list ≡ set w.journal.list i.k (told i.entry reply) = ap (λ (e : Entry). set w.journal.list i.k (told e reply)) (entry_inside w.journal.list i.k i.entry i.has.at) in

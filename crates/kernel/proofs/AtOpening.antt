@@ -1,33 +1,11 @@
 -- A store that was just opened has what is true of every kernel.
 use Rattle.std.proofs.Common.{◌≡◌, ◌≤◌, ℕ, zero, suc, true, false, List, [], replicate, ◌∙◌, sym, refl, ap, subst, Option, None}
-use Rattle.std.proofs.lemmas.Bool.{false≢true}
-use Rattle.blocks.specs.declared.disk.Disk.{Ghosts}
-use Rattle.wal.specs.Machine.{LogState, is_quiet, used_by}
-use Rattle.inodes.specs.Places.{is_over}
-use Rattle.inodes.specs.Tasks.{TaskState, no_task, task}
-use Rattle.history.specs.declared.types.Process.{Process}
-use Rattle.history.specs.Alone.{CommitsAlone, is_committing_at}
-use Rattle.history.specs.Lemmas.Nexts.{at_same}
-use Rattle.history.specs.Processes.{World, fresh_world}
-use Rattle.history.specs.Views.{View, KernelFacts}
-use Rattle.kernel.specs.Invariant.{IsRight}
-use Rattle.kernel.specs.State.{ats_of}
 use Rattle.kernel.proofs.Openings.{idle_at, paired_new, counted_new, same_at}
 use Rattle.kernel.proofs.Right.{right_well}
 use Rattle.std.specs.Prelude.{is_some, IsTrue, slice_index_or}
-use Rattle.blocks.specs.Disk.{Image}
-use Rattle.model.specs.Files.{files_of}
-use Rattle.model.specs.Layout.{inode_count_of}
-use Rattle.model.specs.Log.{is_lawful_log}
-use Rattle.model.specs.Soundness.{IsSound}
-use Rattle.wal.specs.Lemmas.Volume.{fresh_seen}
-use Rattle.wal.specs.Volume.{VolumeState}
-use Rattle.inodes.specs.Store.{StoreState, FitsFiles, current_of, fresh_volume}
-use Rattle.history.specs.declared.types.Phase.TheVariants as at
-use Rattle.history.specs.Crash.{Survives}
-use Rattle.history.specs.Lemmas.Known.{inv_new}
+use Rattle.kernel.specs.Common.{at_same, ats_of, CommitsAlone, current_of, false≢true, files_of, fresh_seen, fresh_volume, fresh_world, Ghosts, Image, inode_count_of, inv_new, is_committing_at, is_lawful_log, is_over, is_quiet, IsRight, IsSound, KernelFacts, LogState, no_task, Phase, Process, StoreState, Survives, task, TaskState, used_by, View, view_of, VolumeState, World}
+use Rattle.inodes.specs.Store.{FitsFiles}
 use Rattle.history.specs.Lemmas.Stops.{recovers_opened}
-use Rattle.kernel.specs.View.{view_of}
 use Rattle.kernel.proofs.Valid.{HasAgreed, over_unread, unread_holds, valid_joint}
 
 none_used : (k q : ℕ) → slice_index_or (replicate k None) q None ≡ (let none : Option ℕ = None in none)
@@ -44,18 +22,18 @@ module _ {D : Type 0} (image : D → Image) (s : StoreState D) (fresh : s.volume
   none_open : (q : ℕ) → is_some (used_by s.volume.log q) ≡ false
   none_open q = ap (λ (v : VolumeState D). is_some (used_by v.log q)) fresh ∙ ap is_some (none_used 32 q)
 
-  pub facts_at_open : IsSound (image s.volume.device) → IsTrue (is_lawful_log (image s.volume.device)) → s.table.inode_count ≡ inode_count_of (image s.volume.device) → ((q : ℕ) → is_over (task s.tasks q).place ≡ true) → HasAgreed image s → FitsFiles image s (files_of (image s.volume.device))
-      → KernelFacts (image s.volume.device) (view_of image s) [] (λ q. at.Idle)
+  pub facts_at_open : IsSound (image s.volume.device) → IsTrue (is_lawful_log (image s.volume.device)) → s.table.inode_count ≡ inode_count_of (image s.volume.device) → ((q : ℕ) → is_over (task s.tasks q).stage ≡ true) → HasAgreed image s → FitsFiles image s (files_of (image s.volume.device))
+      → KernelFacts (image s.volume.device) (view_of image s) [] (λ q. Phase.Idle)
   facts_at_open sound lawful numbers over agreed fits =
       let opening = image s.volume.device in
-      inv_new opening (view_of image s) (valid_joint image s (inode_count_of opening) numbers agreed) (λ q. unread_holds (task s.tasks q) (over_unread (task s.tasks q).place (over q))) none_open fits
+      inv_new opening (view_of image s) (valid_joint image s (inode_count_of opening) numbers agreed) (λ q. unread_holds (task s.tasks q) (over_unread (task s.tasks q).stage (over q))) none_open fits
       (subst (λ (x : Image). Survives opening opening x s.volume.log []) (sym shown) (recovers_opened opening s.volume.log sound lawful sound.empty_log (ap (λ (v : VolumeState D). v.log.commit) fresh)))
 
 -- where each process is idle, it is so by either name
-facts_idle : (opening : Image) (s : View) (w : World) → ((q : ℕ) → ats_of w q ≡ at.Idle) → KernelFacts opening s [] (λ q. at.Idle) → KernelFacts opening s [] (ats_of w)
-facts_idle opening s w idle facts = at_same opening s [] (λ q. at.Idle) (ats_of w) idle facts
+facts_idle : (opening : Image) (s : View) (w : World) → ((q : ℕ) → ats_of w q ≡ Phase.Idle) → KernelFacts opening s [] (λ q. Phase.Idle) → KernelFacts opening s [] (ats_of w)
+facts_idle opening s w idle facts = at_same opening s [] (λ q. Phase.Idle) (ats_of w) idle facts
 
-alone_idle : (l : LogState) (w : World) → ((q : ℕ) → ats_of w q ≡ at.Idle) → is_quiet l.commit ≡ true → CommitsAlone (ats_of w) l
+alone_idle : (l : LogState) (w : World) → ((q : ℕ) → ats_of w q ≡ Phase.Idle) → is_quiet l.commit ≡ true → CommitsAlone (ats_of w) l
 alone_idle l w idle quiet = record {
   sole = λ p q mine other. absurd (false≢true (sym (ap is_committing_at (idle p)) ∙ mine));
   busy = λ p mine. absurd (false≢true (sym (ap is_committing_at (idle p)) ∙ mine));
@@ -69,13 +47,11 @@ pub right_new : {D N : Type 0} (disk : Ghosts D N) (opening : D) (s : StoreState
     → HasAgreed disk.image s → FitsFiles disk.image s (files_of (disk.image s.volume.device)) → IsRight disk opening s (fresh_world n)
 right_new disk opening s n fresh same tasks numbers some few sound lawful agreed fits =
     let d = s.volume.device in
-    let idle_all : (q : ℕ) → ats_of (fresh_world n) q ≡ at.Idle = λ q. ap (λ (p : Process). p.at) (idle_at n q) in
-    let well : s.volume.fault ≡ None = ap (λ (v : VolumeState _). v.fault) fresh in
+    let idle_all : (q : ℕ) → ats_of (fresh_world n) q ≡ Phase.Idle = λ q. ap (λ (p : Process). p.at) (idle_at n q) in
     let none : s.volume.log.opened ≡ 0 = ap (λ (v : VolumeState _). v.log.opened) fresh in
-    let quiet : is_quiet s.volume.log.commit ≡ true = ap (λ (v : VolumeState _). is_quiet v.log.commit) fresh in
     subst (λ (o : _). IsRight disk o s (fresh_world n)) (sym same)
-    (right_well disk d s (fresh_world n) well numbers (paired_new s n tasks some few) (counted_new s.volume.log.opened n none)
+    (right_well disk d s (fresh_world n) (ap (λ (v : VolumeState _). v.fault) fresh) numbers (paired_new s n tasks some few) (counted_new s.volume.log.opened n none)
     (record {
-      facts = facts_idle (disk.image d) (view_of disk.image s) (fresh_world n) idle_all (facts_at_open disk.image s fresh sound lawful numbers (λ q. ap (λ (u : TaskState). is_over u.place) (ap (λ (ts : List TaskState). task ts q) tasks ∙ same_at n q no_task)) agreed fits);
-      alone = alone_idle s.volume.log (fresh_world n) idle_all quiet;
+      facts = facts_idle (disk.image d) (view_of disk.image s) (fresh_world n) idle_all (facts_at_open disk.image s fresh sound lawful numbers (λ q. ap (λ (u : TaskState). is_over u.stage) (ap (λ (ts : List TaskState). task ts q) tasks ∙ same_at n q no_task)) agreed fits);
+      alone = alone_idle s.volume.log (fresh_world n) idle_all (ap (λ (v : VolumeState _). is_quiet v.log.commit) fresh);
     }) refl)

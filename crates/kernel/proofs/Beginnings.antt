@@ -1,52 +1,19 @@
 -- What is true of store and processes stays so where an operation begins or is answered at once.
 use Rattle.std.proofs.Common.{◌≡◌, ◌≢◌, ℕ, ◌+◌, ◌<◌, ◌≤◌, Bool, true, false, not, cond, eqb, ltb, length, length-set, refl, sym, ◌∙◌, ap, subst, arith, ⊎_elim, Option, Some, None}
-use Rattle.wal.specs.declared.types.DeviceFault.{DeviceFault}
-use Rattle.std.proofs.lemmas.Bool.{cases_eq, le-leb, ltb-false, not-false, or_parts}
-use Rattle.std.proofs.lemmas.List.{get_or-set_other}
-use Rattle.blocks.specs.declared.disk.Disk.{Ghosts}
-use Rattle.model.specs.declared.types.operations.Op.{Op}
-use Rattle.model.specs.declared.types.operations.Op.TheVariants.{Create, Write, Read, Trunc, Remove, Stat}
-use Rattle.model.specs.Journal.{is_changing, is_at_once, is_number}
-use Rattle.model.specs.Layout.{form_of, inode_count_of}
-use Rattle.model.specs.Operations.{is_kind}
 use Rattle.std.specs.Option.{option_map}
 use Rattle.std.specs.Prelude.{IfSome}
+use Rattle.kernel.specs.Common.{alone_begun, alone_taken, at_once_journal, at_once_reply, at_same, ats_of, begin_cause, begun, CanBegin, CanLook, cases_eq, change_fits, counted_refused, counted_taken, Create, DeviceFault, first_stage, form_of, get_or-set_other, Ghosts, HasFacts, HasRoom, inode_count_of, inv_at_once, inv_begun, inv_taken, is_at_once, is_changing, is_committing_at, is_kind, is_number, is_over, IsItsRoom, IsRight, KeepsFiles, kind_of, le-leb, LogState, ltb-false, no_task, not-false, Op, or_parts, others_back, others_stay, Phase, Process, process, Read, refused, Remove, room_for, Stat, StoreState, taken, task, TaskStands, there_now, Trunc, view_of, OpClass, class_of, where_none, with_begun, with_look, with_place, World, Write}
 use Rattle.kernel.specs.Lasting.{Lasts}
-use Rattle.wal.specs.Machine.{LogState, begun, begin_cause}
-use Rattle.inodes.specs.Lemmas.Faults.{where_none}
-use Rattle.inodes.specs.Looks.{CanLook, HasRoom}
-use Rattle.inodes.specs.Places.{is_over}
-use Rattle.inodes.specs.Store.{StoreState, KeepsFiles, CanBegin, first_place, with_begun, with_look}
-use Rattle.inodes.specs.Tasks.{task, no_task}
-use Rattle.history.specs.AtOnce.{at_once_reply}
-use Rattle.history.specs.declared.types.Phase.{Phase}
-use Rattle.history.specs.declared.types.Phase.TheVariants as at
-use Rattle.history.specs.declared.types.Process.{Process}
-use Rattle.history.specs.Alone.{is_committing_at}
-use Rattle.history.specs.Lemmas.Alone.{alone_begun, alone_taken}
-use Rattle.history.specs.Lemmas.Answers.{change_fits}
-use Rattle.history.specs.Lemmas.Events.{inv_at_once}
-use Rattle.history.specs.Journal.{IsItsRoom}
-use Rattle.history.specs.Lemmas.LogEvents.{inv_begun, inv_taken}
-use Rattle.history.specs.Lemmas.Nexts.{at_same, at_once_journal, others_back}
-use Rattle.history.specs.Processes.{World, process, with_place, taken, refused}
-use Rattle.kernel.specs.declared.waiting.Waiting.{Waiting}
-use Rattle.kernel.specs.declared.waiting.Waiting.TheVariants as waiting
-use Rattle.kernel.specs.Invariant.{IsRight, HasFacts, TaskStands}
-use Rattle.kernel.specs.State.{ats_of, kind_of, room_for, waiting_of}
-use Rattle.kernel.specs.View.{view_of}
 use Rattle.kernel.proofs.LogCalls.{logs_begun, logs_looked}
 use Rattle.kernel.proofs.Valid.{HasAgreed, valid_joint}
-use Rattle.history.specs.Lemmas.Counting.{counted_taken, counted_refused}
 use Rattle.kernel.proofs.Pairing.{paired_goes, keeps_behind, task_begun, begins_unturned}
-use Rattle.history.specs.Lemmas.Places.{there_now, others_stay}
 use Rattle.kernel.proofs.Right.{right_well}
 
 -- an operation that changes files, and is not refused at once, may begin
-pub change_begins : (n : ℕ) (op : Op) → waiting_of n op ≡ waiting.Change → CanBegin n op × (is_changing n op ≡ true)
+pub change_begins : (n : ℕ) (op : Op) → class_of n op ≡ OpClass.Change → CanBegin n op × (is_changing n op ≡ true)
 change_begins n op e = by_once (is_at_once n op) refl e
   where
-    by_kind : (o : Op) → is_at_once n o ≡ false → kind_of o ≡ waiting.Change → CanBegin n o × (is_changing n o ≡ true)
+    by_kind : (o : Op) → is_at_once n o ≡ false → kind_of o ≡ OpClass.Change → CanBegin n o × (is_changing n o ≡ true)
     by_kind (Create kind) out e = let is = not-false (is_kind kind) out in (is, is)
     by_kind (Write i off bytes) out e =
         let both = or_parts (ltb 3072 (length bytes)) (not (is_number n i)) out in
@@ -58,7 +25,7 @@ change_begins n op e = by_once (is_at_once n op) refl e
     by_kind (Remove i) out e = let is = not-false (is_number n i) out in (is, is)
     by_kind (Stat i) out e = absurd (cc e)
 
-    by_once : (b : Bool) → is_at_once n op ≡ b → cond b waiting.Refused (kind_of op) ≡ waiting.Change → CanBegin n op × (is_changing n op ≡ true)
+    by_once : (b : Bool) → is_at_once n op ≡ b → cond b OpClass.Refused (kind_of op) ≡ OpClass.Change → CanBegin n op × (is_changing n op ≡ true)
     by_once true once e = absurd (cc e)
     by_once false once e = by_kind op once e
 
@@ -70,13 +37,13 @@ pub record IsLook (n : ℕ) (op : Op) (count : Option ℕ) : Type 0 where
   pub still : is_changing n op ≡ false
   pub later : is_at_once n op ≡ false
 
-pub look_begins : (n : ℕ) (op : Op) (count : Option ℕ) → waiting_of n op ≡ waiting.Look count → IsLook n op count
+pub look_begins : (n : ℕ) (op : Op) (count : Option ℕ) → class_of n op ≡ OpClass.Look count → IsLook n op count
 look_begins n op count e = by_once (is_at_once n op) refl e
   where
     counted : (o : Op) (c : Option ℕ) → c ≡ count → IsLook n o c → IsLook n o count
     counted o c same is = subst (λ (d : Option ℕ). IsLook n o d) same is
 
-    by_kind : (o : Op) → is_at_once n o ≡ false → kind_of o ≡ waiting.Look count → IsLook n o count
+    by_kind : (o : Op) → is_at_once n o ≡ false → kind_of o ≡ OpClass.Look count → IsLook n o count
     by_kind (Create kind) out e = absurd (cc e)
     by_kind (Write i off bytes) out e = absurd (cc e)
     by_kind (Read i off m) out e =
@@ -86,15 +53,15 @@ look_begins n op count e = by_once (is_at_once n op) refl e
     by_kind (Remove i) out e = absurd (cc e)
     by_kind (Stat i) out e = counted (Stat i) None (cc e) (record { can = not-false (is_number n i) out; read = refl; answer = tt; still = refl; later = out })
 
-    by_once : (b : Bool) → is_at_once n op ≡ b → cond b waiting.Refused (kind_of op) ≡ waiting.Look count → IsLook n op count
+    by_once : (b : Bool) → is_at_once n op ≡ b → cond b OpClass.Refused (kind_of op) ≡ OpClass.Look count → IsLook n op count
     by_once true once e = absurd (cc e)
     by_once false once e = by_kind op once e
 
 -- what is refused is what is answered at once
-pub refused_at_once : (n : ℕ) (op : Op) → waiting_of n op ≡ waiting.Refused → is_at_once n op ≡ true
+pub refused_at_once : (n : ℕ) (op : Op) → class_of n op ≡ OpClass.Refused → is_at_once n op ≡ true
 refused_at_once n op e = by_once (is_at_once n op) refl e
   where
-    never : (o : Op) → kind_of o ≡ waiting.Refused → ⊥
+    never : (o : Op) → kind_of o ≡ OpClass.Refused → ⊥
     never (Create kind) e = cc e
     never (Write i off bytes) e = cc e
     never (Read i off m) e = cc e
@@ -102,7 +69,7 @@ refused_at_once n op e = by_once (is_at_once n op) refl e
     never (Remove i) e = cc e
     never (Stat i) e = cc e
 
-    by_once : (b : Bool) → is_at_once n op ≡ b → cond b waiting.Refused (kind_of op) ≡ waiting.Refused → is_at_once n op ≡ true
+    by_once : (b : Bool) → is_at_once n op ≡ b → cond b OpClass.Refused (kind_of op) ≡ OpClass.Refused → is_at_once n op ≡ true
     by_once true once e = once
     by_once false once e = absurd (never op e)
 
@@ -115,28 +82,28 @@ opened_more l p = by_first (eqb l.outstanding 0)
     by_first false = omega arith
 
 module _ {D N : Type 0} (disk : Ghosts D N) (opening : D) (s : StoreState D) (w : World) (right : IsRight disk opening s w) (well : s.volume.fault ≡ None) (p : ℕ) (lt : p < length w.processes)
-    (stands : (process w p).at ≡ at.Idle) where
+    (stands : (process w p).at ≡ Phase.Idle) where
   had : HasFacts disk.image (disk.image opening) s w
   had = where_none _ well right.facts
 
   inside_tasks : p < length s.tasks
   inside_tasks = let many = right.paired.many in omega (arith, lt, many)
 
-  over_here : is_over (task s.tasks p).place ≡ true
+  over_here : is_over (task s.tasks p).stage ≡ true
   over_here = subst (λ (a : Phase). TaskStands w.journal.list (task s.tasks p) a) stands (right.paired.stand p).stands
 
   -- an operation that looks at a file is taken, and none of the log's
-  pub right_looked : (op : Op) (count : Option ℕ) → waiting_of s.table.inode_count op ≡ waiting.Look count → HasAgreed disk.image (with_look s p op (room_for count)) → KeepsFiles disk.image s (with_look s p op (room_for count))
+  pub right_looked : (op : Op) (count : Option ℕ) → class_of s.table.inode_count op ≡ OpClass.Look count → HasAgreed disk.image (with_look s p op (room_for count)) → KeepsFiles disk.image s (with_look s p op (room_for count))
       → IsRight disk opening (with_look s p op (room_for count)) (taken (with_place w) p 0 op (room_for count))
   right_looked op count look agreed keeps =
       let n = inode_count_of (disk.image opening) in
       let room = room_for count in
       let t = with_look s p op room in
       let z = taken (with_place w) p 0 op room in
-      let u : Process = record { begun = (process w p).begun + 1; at = at.BeforeTurn 0 op; room = room } in
+      let u : Process = record { begun = (process w p).begun + 1; at = Phase.BeforeTurn 0 op; room = room } in
       let others : (q : ℕ) → q ≢ p → ats_of z q ≡ ats_of w q = λ q apart. ap (λ (r : Process). r.at) (others_stay w z p u refl q apart) in
-      let now : ats_of z p ≡ at.BeforeTurn 0 op = ap (λ (r : Process). r.at) (there_now w z p u refl lt) in
-      let is = look_begins n op count (subst (λ (k : ℕ). waiting_of k op ≡ waiting.Look count) right.numbers look) in
+      let now : ats_of z p ≡ Phase.BeforeTurn 0 op = ap (λ (r : Process). r.at) (there_now w z p u refl lt) in
+      let is = look_begins n op count (subst (λ (k : ℕ). class_of k op ≡ OpClass.Look count) right.numbers look) in
       right_well disk opening t z well right.numbers
       (paired_goes s t w z p u right.paired lt refl (length-set s.tasks p _) (λ q apart. get_or-set_other s.tasks p q _ no_task apart) (keeps_behind w z p refl)
       (task_begun s w.journal.list p 0 op _ room room inside_tasks refl is.answer))
@@ -149,21 +116,21 @@ module _ {D N : Type 0} (disk : Ghosts D N) (opening : D) (s : StoreState D) (w 
       (right.faults ∙ ap (λ (o : Option _). Rattle.wal.specs.Volume.faults_after o (disk.fault_count opening)) well)
 
   -- an operation is taken, and open in the log
-  pub right_taken : (op : Op) → waiting_of s.table.inode_count op ≡ waiting.Change → begin_cause s.volume.log ≡ None
+  pub right_taken : (op : Op) → class_of s.table.inode_count op ≡ OpClass.Change → begin_cause s.volume.log ≡ None
       → HasAgreed disk.image (with_begun s p op) → KeepsFiles disk.image s (with_begun s p op)
       → IsRight disk opening (with_begun s p op) (taken (with_place w) p (begun s.volume.log p).opened op None)
   right_taken op change free agreed keeps =
       let n = inode_count_of (disk.image opening) in
       let t = with_begun s p op in
       let z = taken (with_place w) p (begun s.volume.log p).opened op None in
-      let u : Process = record { begun = (process w p).begun + 1; at = at.BeforeTurn (begun s.volume.log p).opened op; room = None } in
+      let u : Process = record { begun = (process w p).begun + 1; at = Phase.BeforeTurn (begun s.volume.log p).opened op; room = None } in
       let others : (q : ℕ) → q ≢ p → ats_of z q ≡ ats_of w q = λ q apart. ap (λ (r : Process). r.at) (others_stay w z p u refl q apart) in
-      let now : ats_of z p ≡ at.BeforeTurn (begun s.volume.log p).opened op = ap (λ (r : Process). r.at) (there_now w z p u refl lt) in
-      let begins = change_begins n op (subst (λ (k : ℕ). waiting_of k op ≡ waiting.Change) right.numbers change) in
+      let now : ats_of z p ≡ Phase.BeforeTurn (begun s.volume.log p).opened op = ap (λ (r : Process). r.at) (there_now w z p u refl lt) in
+      let begins = change_begins n op (subst (λ (k : ℕ). class_of k op ≡ OpClass.Change) right.numbers change) in
       let inside : p < length s.volume.log.used = let few = right.paired.few in let pids = had.facts.valid.log.pids in omega (arith, lt, few, pids) in
       right_well disk opening t z well right.numbers
       (paired_goes s t w z p u right.paired lt refl (length-set s.tasks p _) (λ q apart. get_or-set_other s.tasks p q _ no_task apart) (keeps_behind w z p refl)
-      (task_begun s w.journal.list p (begun s.volume.log p).opened op (first_place op s.table.inode_count) None None inside_tasks (begins_unturned op s.table.inode_count (subst (λ (k : ℕ). CanBegin k op) (sym right.numbers) begins.0)) (change_fits n op None begins.1)))
+      (task_begun s w.journal.list p (begun s.volume.log p).opened op (first_stage op s.table.inode_count) None None inside_tasks (begins_unturned op s.table.inode_count (subst (λ (k : ℕ). CanBegin k op) (sym right.numbers) begins.0)) (change_fits n op None begins.1)))
       (counted_taken s.volume.log.opened p w right.counted lt (begun s.volume.log p).opened (begun s.volume.log p).opened op None stands (opened_more s.volume.log p))
       (record {
         facts = inv_begun (disk.image opening) (view_of disk.image s) (view_of disk.image t) w.journal.list (ats_of w) had.facts
@@ -173,7 +140,7 @@ module _ {D N : Type 0} (disk : Ghosts D N) (opening : D) (s : StoreState D) (w 
       (right.faults ∙ ap (λ (o : Option _). Rattle.wal.specs.Volume.faults_after o (disk.fault_count opening)) well)
 
   -- an operation is answered at once
-  pub right_refused : (op : Op) → waiting_of s.table.inode_count op ≡ waiting.Refused → IsRight disk opening s (refused (with_place w) p op (at_once_reply op))
+  pub right_refused : (op : Op) → class_of s.table.inode_count op ≡ OpClass.Refused → IsRight disk opening s (refused (with_place w) p op (at_once_reply op))
   right_refused op refusal =
       let z = refused (with_place w) p op (at_once_reply op) in
       let u : Process = record (process w p) { begun = (process w p).begun + 1 } in
@@ -213,5 +180,5 @@ right_shut disk opening s w b right = record {
     shut_lasts (Some fault) lasts = record { locks = lasts.locks; unanswered = λ k e is none. (let u = lasts.unanswered k e is none in record { late = u.late; group = u.group; behind = u.behind }); left = lasts.left }
 
 -- the first that waits is of this kind
-pub first_waits : {o : Option Op} (n : ℕ) (op : Op) (what : Waiting) → Some op ≡ o → option_map (waiting_of n) o ≡ Some what → waiting_of n op ≡ what
-first_waits {o} n op what is waits = let now : Some (waiting_of n op) ≡ Some what = ap (option_map (waiting_of n)) is ∙ waits in cc now
+pub first_waits : {o : Option Op} (n : ℕ) (op : Op) (what : OpClass) → Some op ≡ o → option_map (class_of n) o ≡ Some what → class_of n op ≡ what
+first_waits {o} n op what is waits = let now : Some (class_of n op) ≡ Some what = ap (option_map (class_of n)) is ∙ waits in cc now

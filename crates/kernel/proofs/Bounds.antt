@@ -1,17 +1,6 @@
 -- How many steps an operation has left at most, by the form of the image.
 use Rattle.std.proofs.Common.{◌≡◌, ℕ, ◌+◌, ◌<◌, ap, arith}
-use Rattle.blocks.specs.Disk.{Image}
-use Rattle.model.specs.declared.types.image.Form.{Form}
-use Rattle.model.specs.declared.types.image.Form.TheVariants.{One, Two}
-use Rattle.model.specs.Layout.{form_of, inode_count_of}
-use Rattle.inodes.specs.Lemmas.StepsLeft.{few_in_task}
-use Rattle.inodes.specs.Looks.{AreLooking}
-use Rattle.inodes.specs.Places.{most_behind}
-use Rattle.inodes.specs.Store.{StoreState, current_of}
-use Rattle.history.specs.Lemmas.Bounds.{steps_few}
-use Rattle.history.specs.Processes.{World, process}
-use Rattle.kernel.specs.Bound.{left_in, step_bound, task_left}
-use Rattle.kernel.specs.Invariant.{HasFacts}
+use Rattle.kernel.specs.Common.{AreLooking, current_of, few_in_task, Form, form_of, HasFacts, Image, inode_count_of, left_in, most_behind, One, process, step_bound, steps_few, StoreState, task_left, Two, World}
 use Rattle.kernel.proofs.TaskSteps.{form_untouched}
 
 -- a truncation's, the search of an inode, an operation's end and a commit stay below the bound
@@ -28,8 +17,6 @@ module _ {D : Type 0} (image : D → Image) (opening : Image) (s : StoreState D)
       left_in image s w p < step_bound (form_of opening)
   few_steps looks numbers =
       let cur = current_of image s.volume in
-      let behind = few_behind (form_of opening) in
-      let same = ap most_behind form_now in
       let task = few_in_task cur s.table s.tasks looks numbers p in
       let all = steps_few (process w p).at (task_left image s p) (most_behind (form_of cur) + 5) s.volume.log has.facts.valid.log task in
-      omega (arith, behind, same, all)
+      omega (arith, (few_behind (form_of opening)), (ap most_behind form_now), all)

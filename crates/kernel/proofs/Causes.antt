@@ -1,54 +1,14 @@
 -- The causes of answers that give less than was asked for: what the turns of a run saw.
 use Rattle.std.proofs.Common.{◌≡◌, ◌≢◌, ◌⊎◌, ◌<◌, ◌≤◌, ◌+◌, inl, inr, ℕ, zero, suc, Bool, true, false, cond, List, [], ◌∷◌, ◌++◌, length, get_or, set, refl, sym, ◌∙◌, ap, subst, ⊎_elim, arith, Option, Some, None, length-set}
-use Rattle.wal.specs.declared.types.DeviceFault.{DeviceFault}
 use Rattle.std.specs.Prelude.{IsTrue}
-use Rattle.std.proofs.lemmas.Bool.{cases_eq, cases_lt}
 use Rattle.std.proofs.Math.Seq.{get_or-append_seam}
-use Rattle.std.proofs.lemmas.List.{length-append, get_or_past}
 use Rattle.blocks.specs.declared.disk.Disk as disk_trait
-use Rattle.model.specs.declared.types.operations.Entry.{Entry}
-use Rattle.model.specs.declared.types.operations.Op.{Op}
-use Rattle.model.specs.declared.types.operations.Op.TheVariants.{Create, Write, Read, Trunc, Remove, Stat}
-use Rattle.model.specs.declared.types.operations.Reply.{Reply}
-use Rattle.model.specs.declared.types.operations.Reply.TheVariants.{BadType, Made}
-use Rattle.model.specs.declared.types.operations.TaskProgress.{TaskProgress}
-use Rattle.model.specs.declared.types.operations.TaskProgress.TheVariants as progress
-use Rattle.model.specs.Journal.{is_at_once, is_number}
-use Rattle.inodes.specs.Goes.{Goes}
-use Rattle.inodes.specs.Lemmas.Causes.{IsAhead, SearchesOn, search_begins, search_sees}
-use Rattle.inodes.specs.Lemmas.Looks.{IsPassedBy}
-use Rattle.inodes.specs.Places.{is_over}
 use Rattle.inodes.specs.Runs.{SeesTaken}
-use Rattle.inodes.specs.Steps.{Steps}
-use Rattle.inodes.specs.Store.{StoreState, reply_of, with_begun}
-use Rattle.inodes.specs.Tasks.{TaskState, task}
-use Rattle.inodes.specs.declared.tasks.Stage.{Stage}
-use Rattle.inodes.specs.declared.tasks.Stage.TheVariants as stage
-use Rattle.ports.specs.History.{Side, first_in}
 use Rattle.ports.specs.declared.herald.Herald as herald_trait
 use Rattle.ports.specs.declared.intake.Intake as intake_trait
 use Rattle.std.specs.Option.{option_map}
-use Rattle.history.specs.AtOnce.{at_once_reply}
-use Rattle.history.specs.Grows.{Becomes, Extends}
-use Rattle.history.specs.Lemmas.Growing.{extends_same, extends_then}
-use Rattle.history.specs.Lemmas.Lists.{entry_new, entry_next, entry_same}
-use Rattle.history.specs.Lemmas.Places.{there_now, others_stay}
-use Rattle.history.specs.Open.{IsEntry}
-use Rattle.history.specs.Journal.{entry_of, no_entry}
-use Rattle.history.specs.Processes.{World, process, idle, place_behind, turned_from}
-use Rattle.history.specs.declared.types.Phase.{Phase}
-use Rattle.history.specs.declared.types.Phase.TheVariants as at
-use Rattle.history.specs.declared.types.Process.{Process}
+use Rattle.kernel.specs.Common.{at_once_reply, ats_of, BadType, Becomes, BeginsWith, cases_eq, cases_lt, Create, DeviceFault, Entry, entry_new, entry_next, entry_of, entry_same, Extends, extends_same, extends_then, first_in, get_or_past, Goes, idle, is_at_once, is_number, is_over, IsAhead, IsEntry, IsPassedBy, length-append, Made, MakesStep, NextAt, NextIf, no_entry, Op, others_stay, Phase, place_behind, Proc, Process, process, Read, Remove, Reply, reply_of, search_begins, search_sees, SearchesOn, Session, Shut, Side, Stage, Stat, State, Step, Steps, StoreState, task, TaskProgress, TaskState, there_now, Trunc, Turn, turned_from, OpClass, class_of, with_begun, with_ports, with_shutdown, Works, World, world_after, Write}
 use Rattle.kernel.specs.Causes.{IsAnswered, MadeHasCause, NoInodeHasCause, SomeTurnMakes, TurnMakes}
-use Rattle.kernel.specs.Next.{BeginsWith, NextAt, NextIf, Works, world_after}
-use Rattle.kernel.specs.Runs.{Session, with_ports, with_shutdown}
-use Rattle.kernel.specs.State.{State, ats_of, waiting_of}
-use Rattle.kernel.specs.Steps.{MakesStep}
-use Rattle.model.specs.declared.types.operations.Step.{Step}
-use Rattle.kernel.specs.declared.types.Turn.{Turn}
-use Rattle.kernel.specs.declared.types.Turn.TheVariants.{Proc, Shut}
-use Rattle.kernel.specs.declared.waiting.Waiting.{Waiting}
-use Rattle.kernel.specs.declared.waiting.Waiting.TheVariants as waiting
 use Rattle.kernel.proofs.Turned.{AddsEntry, JournalBy, Turned, turned_by}
 
 -- ---- the journal
@@ -60,8 +20,7 @@ extends_entry (d ∷ es) [] k e more at = absurd more
 extends_entry (d ∷ es) (f ∷ fs) zero e more at = (f, record { inside = omega arith; is = refl }, subst (λ (x : Entry). Becomes x f) at.is more.0)
 extends_entry (d ∷ es) (f ∷ fs) (suc k) e more at =
     let r = extends_entry es fs k e more.1 (entry_next d es k e at) in
-    let lt = r.1.inside in
-    (r.0, record { inside = omega (arith, lt); is = r.1.is }, r.2)
+    (r.0, record { inside = omega (arith, r.1.inside); is = r.1.is }, r.2)
 
 pub same_op : (e f : Entry) → Becomes e f → f.op ≡ e.op
 same_op e f (inl is) = ap (λ (x : Entry). x.op) is
@@ -91,15 +50,12 @@ pub added : (q : ℕ) (a : Phase) (es fs gs : List Entry) (place : ℕ) (e : Ent
     → (length fs ≤ place) ⊎ Added q a es fs place e
 added q a es fs gs place e (inl same) more later at = inl (subst (λ (l : List Entry). length l ≤ place) (sym same) later)
 added q a es fs gs place e (inr (inr tells)) more later at =
-    let long : length fs ≡ length es = ap length tells.list ∙ length-set es tells.place _ in
-    inl (omega (arith, long, later))
+    inl (omega (arith, (ap length tells.list ∙ length-set es tells.place _), later))
 added q a es fs gs place e (inr (inl adds)) more later at = ⊎_elim
     (λ (other : place ≢ length es).
-    let long : length fs ≡ length es + 1 = ap length adds.list ∙ length-append es (adds.entry ∷ []) in
-    inl (omega (arith, long, later, other)))
+    inl (omega (arith, (ap length adds.list ∙ length-append es (adds.entry ∷ [])), later, other)))
     (λ (same : place ≡ length es).
-    let new : IsEntry fs (length es) adds.entry = subst (λ (l : List Entry). IsEntry l (length es) adds.entry) (sym adds.list) (entry_new es adds.entry) in
-    let on = extends_entry fs gs (length es) adds.entry more new in
+    let on = extends_entry fs gs (length es) adds.entry more (subst (λ (l : List Entry). IsEntry l (length es) adds.entry) (sym adds.list) (entry_new es adds.entry)) in
     let is : on.0 ≡ e = entry_same gs (length es) on.0 e on.1 (subst (λ (n : ℕ). IsEntry gs n e) same at) in
     inr (record { adds = adds; here = same; becomes = subst (Becomes adds.entry) is on.2 }))
     (⊎_elim (λ (same : place ≡ length es). inr same) (λ (other : place ≢ length es). inl other) (cases_eq place (length es)))
@@ -113,8 +69,7 @@ pub becomes_now : (w z : World) (p : ℕ) (t : Process) → z.processes ≡ set 
 becomes_now w z p t is = ⊎_elim
     (λ (lt : p < length w.processes). inl (there_now w z p t is lt))
     (λ (past : length w.processes ≤ p).
-    let many : length z.processes ≡ length w.processes = ap length is ∙ length-set w.processes p t in
-    inr (none_past z p (omega (arith, many, past))))
+    inr (none_past z p (omega (arith, (ap length is ∙ length-set w.processes p t), past))))
     (cases_lt p (length w.processes))
 
 module _ {D N I M H : Type 0} (disk : disk_trait.Ghosts D N) (intake : intake_trait.Ghosts I M) (herald : herald_trait.Ghosts H) where
@@ -133,7 +88,7 @@ module _ {D N I M H : Type 0} (disk : disk_trait.Ghosts D N) (intake : intake_tr
   module _ (p n j : ℕ) (number : IsTrue (is_number n j)) (o : Option ℕ) (passed : IsPassedBy o j) where
     -- a creation of process p that waits for its turn may still come to number j's block, or has no task
     abbrev Tracks : StoreState D → World → Type 0
-    Tracks s w = (group kind : ℕ) → (process w p).at ≡ at.BeforeTurn group (Create kind) → IsAhead p j s ⊎ ((task s.tasks p).place ≡ stage.Nowhere)
+    Tracks s w = (group kind : ℕ) → (process w p).at ≡ Phase.BeforeTurn group (Create kind) → IsAhead p j s ⊎ ((task s.tasks p).stage ≡ Stage.Nowhere)
 
     -- no creation is answered with this turn so that it passes the number by, now or later
     abbrev Spares : Entry → Type 0
@@ -159,29 +114,29 @@ module _ {D N I M H : Type 0} (disk : disk_trait.Ghosts D N) (intake : intake_tr
       none_added same adds kind is has = longer adds.entry (sym same ∙ adds.list)
 
       -- process p waits no more, or for another operation
-      gone : ((group kind : ℕ) → (process z p).at ≡ at.BeforeTurn group (Create kind) → ⊥) → Tracks t z
+      gone : ((group kind : ℕ) → (process z p).at ≡ Phase.BeforeTurn group (Create kind) → ⊥) → Tracks t z
       gone none group kind is = absurd (none group kind is)
 
       same_now : t ≡ s → (process z p).at ≡ (process w p).at → Tracks t z
-      same_now store stands group kind is = subst (λ (o : StoreState D). IsAhead p j o ⊎ ((task o.tasks p).place ≡ stage.Nowhere)) (sym store) (tracks group kind (sym stands ∙ is))
+      same_now store stands group kind is = subst (λ (o : StoreState D). IsAhead p j o ⊎ ((task o.tasks p).stage ≡ Stage.Nowhere)) (sym store) (tracks group kind (sym stands ∙ is))
 
       -- it becomes one of which that is true, or there is none
-      now_gone : (u : Process) → z.processes ≡ set w.processes p u → ((group kind : ℕ) → u.at ≡ at.BeforeTurn group (Create kind) → ⊥) → Tracks t z
+      now_gone : (u : Process) → z.processes ≡ set w.processes p u → ((group kind : ℕ) → u.at ≡ Phase.BeforeTurn group (Create kind) → ⊥) → Tracks t z
       now_gone u is none = gone (λ group kind stands. by_process group kind stands (becomes_now w z p u is))
         where
-          by_process : (group kind : ℕ) → (process z p).at ≡ at.BeforeTurn group (Create kind) → (process z p ≡ u) ⊎ (process z p ≡ idle) → ⊥
+          by_process : (group kind : ℕ) → (process z p).at ≡ Phase.BeforeTurn group (Create kind) → (process z p ≡ u) ⊎ (process z p ≡ idle) → ⊥
           by_process group kind stands (inl same) = none group kind (ap (λ (x : Process). x.at) (sym same) ∙ stands)
           by_process group kind stands (inr same) = let no = ap (λ (x : Process). x.at) (sym same) ∙ stands in cc no
 
-      never_look : (kind : ℕ) (b : Bool) (c : Option ℕ) → cond b waiting.Refused waiting.Change ≡ waiting.Look c → ⊥
+      never_look : (kind : ℕ) (b : Bool) (c : Option ℕ) → cond b OpClass.Refused OpClass.Change ≡ OpClass.Look c → ⊥
       never_look kind true c is = cc is
       never_look kind false c is = cc is
 
       -- the task that begins stands at the first block, where there is one
-      begun_ahead : (op : Op) (group kind : ℕ) → at.BeforeTurn (Rattle.wal.specs.Machine.begun s.volume.log p).opened op ≡ at.BeforeTurn group (Create kind) → IsAhead p j (with_begun s p op) ⊎ ((task (with_begun s p op).tasks p).place ≡ stage.Nowhere)
+      begun_ahead : (op : Op) (group kind : ℕ) → Phase.BeforeTurn (Rattle.wal.specs.Machine.begun s.volume.log p).opened op ≡ Phase.BeforeTurn group (Create kind) → IsAhead p j (with_begun s p op) ⊎ ((task (with_begun s p op).tasks p).stage ≡ Stage.Nowhere)
       begun_ahead op group kind is =
           let same : op ≡ Create kind = cc is in
-          subst (λ (o : Op). IsAhead p j (with_begun s p o) ⊎ ((task (with_begun s p o).tasks p).place ≡ stage.Nowhere)) (sym same) (search_begins p j kind s)
+          subst (λ (o : Op). IsAhead p j (with_begun s p o) ⊎ ((task (with_begun s p o).tasks p).stage ≡ Stage.Nowhere)) (sym same) (search_begins p j kind s)
 
       never_refused : (q : Option ℕ) → Some BadType ≡ Some (reply_of q) → ⊥
       never_refused None is = cc is
@@ -196,23 +151,23 @@ module _ {D N I M H : Type 0} (disk : disk_trait.Ghosts D N) (intake : intake_tr
       never_passed None by i low is = cc is
       never_passed (Some k) by i low is = let same : i ≡ k = cc is in omega (arith, same, low, by)
 
-      own_begins : (what : Option Waiting) (ahead : List Op) (side : Side) (r : Step) → (process w p).at ≡ at.Idle → BeginsWith what s w p ahead side r t z → Own s t w z
+      own_begins : (what : Option OpClass) (ahead : List Op) (side : Side) (r : Step) → (process w p).at ≡ Phase.Idle → BeginsWith what s w p ahead side r t z → Own s t w z
       own_begins what ahead side r stands (inl made) = inr (record {
         tracks = λ group kind is. by_process group kind is (becomes_now w z p u (ap (λ (o : World). o.processes) made.world));
         spares = none_added (ap (λ (o : World). o.journal.list) made.world);
       })
         where
           u : Process
-          u = record { begun = (process w p).begun + 1; at = at.BeforeTurn (Rattle.wal.specs.Machine.begun s.volume.log p).opened made.op; room = None }
+          u = record { begun = (process w p).begun + 1; at = Phase.BeforeTurn (Rattle.wal.specs.Machine.begun s.volume.log p).opened made.op; room = None }
 
-          by_process : (group kind : ℕ) → (process z p).at ≡ at.BeforeTurn group (Create kind) → (process z p ≡ u) ⊎ (process z p ≡ idle) → IsAhead p j t ⊎ ((task t.tasks p).place ≡ stage.Nowhere)
-          by_process group kind is (inl same) = subst (λ (o : StoreState D). IsAhead p j o ⊎ ((task o.tasks p).place ≡ stage.Nowhere)) (sym made.store) (begun_ahead made.op group kind (ap (λ (x : Process). x.at) (sym same) ∙ is))
+          by_process : (group kind : ℕ) → (process z p).at ≡ Phase.BeforeTurn group (Create kind) → (process z p ≡ u) ⊎ (process z p ≡ idle) → IsAhead p j t ⊎ ((task t.tasks p).stage ≡ Stage.Nowhere)
+          by_process group kind is (inl same) = subst (λ (o : StoreState D). IsAhead p j o ⊎ ((task o.tasks p).stage ≡ Stage.Nowhere)) (sym made.store) (begun_ahead made.op group kind (ap (λ (x : Process). x.at) (sym same) ∙ is))
           by_process group kind is (inr same) = let no = ap (λ (x : Process). x.at) (sym same) ∙ is in absurd (cc no)
       own_begins what ahead side r stands (inr (inl made)) = inr (record {
         tracks = now_gone _ (ap (λ (o : World). o.processes) made.world)
             (λ group kind is.
             let same : made.op ≡ Create kind = cc is in
-            never_look kind (is_at_once s.table.inode_count (Create kind)) made.count (ap (waiting_of s.table.inode_count) (sym same) ∙ made.taken.1));
+            never_look kind (is_at_once s.table.inode_count (Create kind)) made.count (ap (class_of s.table.inode_count) (sym same) ∙ made.taken.1));
         spares = none_added (ap (λ (o : World). o.journal.list) made.world);
       })
       own_begins what ahead side r stands (inr (inr (inl made))) = inr (record {
@@ -225,25 +180,25 @@ module _ {D N I M H : Type 0} (disk : disk_trait.Ghosts D N) (intake : intake_tr
       })
 
       -- a step of its task, where it waits for its turn
-      own_step : (group kind : ℕ) → (process w p).at ≡ at.BeforeTurn group (Create kind) → (x : TaskProgress) → Steps disk s p (Create kind) x t → z ≡ world_after x (is_over (task t.tasks p).place) w p → IsAhead p j s ⊎ ((task s.tasks p).place ≡ stage.Nowhere) → Own s t w z
+      own_step : (group kind : ℕ) → (process w p).at ≡ Phase.BeforeTurn group (Create kind) → (x : TaskProgress) → Steps disk s p (Create kind) x t → z ≡ world_after x (is_over (task t.tasks p).stage) w p → IsAhead p j s ⊎ ((task s.tasks p).stage ≡ Stage.Nowhere) → Own s t w z
       own_step group kind stands x steps to (inl ahead) = ⊎_elim
           (λ saw. inl (record { turn = refl; op = Create kind; answer = x; steps = steps; holds = saw }))
           (λ on. inr (passes x to on))
           (search_sees disk p n j (Create kind) number (record { before = s; answer = x; after = t }) ahead.search ahead.stands ahead.ahead count steps)
         where
-          stays : (y : TaskProgress) → ((reply : Option Reply) → y ≢ progress.Turned reply) → z ≡ w → SearchesOn p j y t → Passes s t w z
+          stays : (y : TaskProgress) → ((reply : Option Reply) → y ≢ TaskProgress.Turned reply) → z ≡ w → SearchesOn p j y t → Passes s t w z
           stays y unturned same (inl is) = absurd (unturned (Some (Made is.0)) is.1)
           stays y unturned same (inr is) = record { tracks = λ g m at. inl is.1; spares = none_added (ap (λ (o : World). o.journal.list) same) }
 
-          passes : (y : TaskProgress) → z ≡ world_after y (is_over (task t.tasks p).place) w p → SearchesOn p j y t → Passes s t w z
-          passes progress.Moved same on = stays progress.Moved (λ r e. cc e) same on
-          passes (progress.Turned reply) same (inr is) = absurd (is.0 reply refl)
-          passes (progress.Turned reply) same (inl is) = turns (is_over (task t.tasks p).place) (same ∙ ap (λ (a : Phase). turned_from a w p reply (is_over (task t.tasks p).place)) stands)
+          passes : (y : TaskProgress) → z ≡ world_after y (is_over (task t.tasks p).stage) w p → SearchesOn p j y t → Passes s t w z
+          passes TaskProgress.Moved same on = stays TaskProgress.Moved (λ r e. cc e) same on
+          passes (TaskProgress.Turned reply) same (inr is) = absurd (is.0 reply refl)
+          passes (TaskProgress.Turned reply) same (inl is) = turns (is_over (task t.tasks p).stage) (same ∙ ap (λ (a : Phase). turned_from a w p reply (is_over (task t.tasks p).stage)) stands)
             where
               told : reply ≡ Some (Made is.0)
               told = let e = is.1 in cc e
 
-              never : (over : Bool) (k g : ℕ) (o : Op) → place_behind over group k ≡ at.BeforeTurn g o → ⊥
+              never : (over : Bool) (k g : ℕ) (o : Op) → place_behind over group k ≡ Phase.BeforeTurn g o → ⊥
               never true k g o e = cc e
               never false k g o e = cc e
 
@@ -251,45 +206,45 @@ module _ {D N I M H : Type 0} (disk : disk_trait.Ghosts D N) (intake : intake_tr
               apart c same_kind (inl has) = never_passed o passed is.0 is.2 (sym told ∙ has)
               apart c same_kind (inr has) = let no = sym told ∙ has in cc no
 
-              turns : (over : Bool) → z ≡ turned_from (at.BeforeTurn group (Create kind)) w p reply over → Passes s t w z
+              turns : (over : Bool) → z ≡ turned_from (Phase.BeforeTurn group (Create kind)) w p reply over → Passes s t w z
               turns over now = record {
                 tracks = now_gone (record (process w p) { at = place_behind over group (length w.journal.list) }) (ap (λ (o : World). o.processes) now) (λ g m e. never over (length w.journal.list) g (Create m) e);
                 spares = λ adds. subst Spares (last_same w.journal.list _ adds.entry (sym (ap (λ (o : World). o.journal.list) now) ∙ adds.list)) apart;
               }
-          passes (progress.Decided reply) same on = stays (progress.Decided reply) (λ r e. cc e) same on
-          passes progress.Over same on = stays progress.Over (λ r e. cc e) same on
-          passes (progress.Sleeping why) same on = stays (progress.Sleeping why) (λ r e. cc e) same on
-          passes (progress.Fault fault) same on = stays (progress.Fault fault) (λ r e. cc e) same on
+          passes (TaskProgress.Decided reply) same on = stays (TaskProgress.Decided reply) (λ r e. cc e) same on
+          passes TaskProgress.Over same on = stays TaskProgress.Over (λ r e. cc e) same on
+          passes (TaskProgress.Sleeping why) same on = stays (TaskProgress.Sleeping why) (λ r e. cc e) same on
+          passes (TaskProgress.Fault fault) same on = stays (TaskProgress.Fault fault) (λ r e. cc e) same on
       own_step group kind stands x steps to (inr none) =
           let goes = subst (λ (a : Stage). Goes disk a s p (Create kind) x t) none steps.goes in
-          let same : z ≡ w = to ∙ ap (λ (y : TaskProgress). world_after y (is_over (task t.tasks p).place) w p) goes.0 in
+          let same : z ≡ w = to ∙ ap (λ (y : TaskProgress). world_after y (is_over (task t.tasks p).stage) w p) goes.0 in
           inr (record {
-            tracks = λ g m at. inr (ap (λ (o : StoreState D). (task o.tasks p).place) goes.1 ∙ none);
+            tracks = λ g m at. inr (ap (λ (o : StoreState D). (task o.tasks p).stage) goes.1 ∙ none);
             spares = none_added (ap (λ (o : World). o.journal.list) same);
           })
 
       -- of another operation
-      own_other : (group : ℕ) (op : Op) (r : Step) → (process w p).at ≡ at.BeforeTurn group op → ((kind : ℕ) → op ≡ Create kind → ⊥) → Turned p (process w p).at s w t z → Works disk s w p op r t z → Own s t w z
+      own_other : (group : ℕ) (op : Op) (r : Step) → (process w p).at ≡ Phase.BeforeTurn group op → ((kind : ℕ) → op ≡ Create kind → ⊥) → Turned p (process w p).at s w t z → Works disk s w p op r t z → Own s t w z
       own_other group op r stands other turn made = inr (record {
         tracks = now_gone turn.now turn.processes (λ g m is. by_before g m is (turn.before g (Create m) is));
         spares = λ adds. by_progress made.progress made.world adds;
       })
         where
-          by_before : (g m : ℕ) → turn.now.at ≡ at.BeforeTurn g (Create m) → ((process w p).at ≡ at.Idle) ⊎ ((process w p).at ≡ turn.now.at) → ⊥
+          by_before : (g m : ℕ) → turn.now.at ≡ Phase.BeforeTurn g (Create m) → ((process w p).at ≡ Phase.Idle) ⊎ ((process w p).at ≡ turn.now.at) → ⊥
           by_before g m is (inl idle_now) = let no = sym stands ∙ idle_now in cc no
           by_before g m is (inr same) = let both = sym stands ∙ same ∙ is in other m (cc both)
 
-          by_progress : (x : TaskProgress) → z ≡ world_after x (is_over (task t.tasks p).place) w p → (adds : AddsEntry p (process w p).at w.journal.list z.journal.list) → Spares adds.entry
-          by_progress progress.Moved to adds = none_added (ap (λ (o : World). o.journal.list) to) adds
-          by_progress (progress.Turned reply) to adds =
-              let now = to ∙ ap (λ (a : Phase). turned_from a w p reply (is_over (task t.tasks p).place)) stands in
+          by_progress : (x : TaskProgress) → z ≡ world_after x (is_over (task t.tasks p).stage) w p → (adds : AddsEntry p (process w p).at w.journal.list z.journal.list) → Spares adds.entry
+          by_progress TaskProgress.Moved to adds = none_added (ap (λ (o : World). o.journal.list) to) adds
+          by_progress (TaskProgress.Turned reply) to adds =
+              let now = to ∙ ap (λ (a : Phase). turned_from a w p reply (is_over (task t.tasks p).stage)) stands in
               subst Spares (last_same w.journal.list (entry_of p (process w p).begun op group reply) adds.entry (sym (ap (λ (o : World). o.journal.list) now) ∙ adds.list)) (λ kind is has. other kind is)
-          by_progress (progress.Decided reply) to adds = none_added (ap (λ (o : World). o.journal.list) to) adds
-          by_progress progress.Over to adds = none_added (ap (λ (o : World). o.journal.list) to) adds
-          by_progress (progress.Sleeping why) to adds = none_added (ap (λ (o : World). o.journal.list) to) adds
-          by_progress (progress.Fault fault) to adds = none_added (ap (λ (o : World). o.journal.list) to) adds
+          by_progress (TaskProgress.Decided reply) to adds = none_added (ap (λ (o : World). o.journal.list) to) adds
+          by_progress TaskProgress.Over to adds = none_added (ap (λ (o : World). o.journal.list) to) adds
+          by_progress (TaskProgress.Sleeping why) to adds = none_added (ap (λ (o : World). o.journal.list) to) adds
+          by_progress (TaskProgress.Fault fault) to adds = none_added (ap (λ (o : World). o.journal.list) to) adds
 
-      own_works : (group : ℕ) (op : Op) (r : Step) → (process w p).at ≡ at.BeforeTurn group op → Turned p (process w p).at s w t z → Works disk s w p op r t z → Own s t w z
+      own_works : (group : ℕ) (op : Op) (r : Step) → (process w p).at ≡ Phase.BeforeTurn group op → Turned p (process w p).at s w t z → Works disk s w p op r t z → Own s t w z
       own_works group (Create kind) r stands turn made = own_step group kind stands made.progress made.steps made.world (tracks group kind stands)
       own_works group (Write i off bytes) r stands turn made = own_other group (Write i off bytes) r stands (λ kind is. cc is) turn made
       own_works group (Read i off m) r stands turn made = own_other group (Read i off m) r stands (λ kind is. cc is) turn made
@@ -298,30 +253,30 @@ module _ {D N I M H : Type 0} (disk : disk_trait.Ghosts D N) (intake : intake_tr
       own_works group (Stat i) r stands turn made = own_other group (Stat i) r stands (λ kind is. cc is) turn made
 
       -- behind its turn
-      own_behind : (a : Phase) → (process w p).at ≡ a → (a ≢ at.Idle) → ((group : ℕ) (op : Op) → a ≢ at.BeforeTurn group op) → Turned p (process w p).at s w t z → Own s t w z
+      own_behind : (a : Phase) → (process w p).at ≡ a → (a ≢ Phase.Idle) → ((group : ℕ) (op : Op) → a ≢ Phase.BeforeTurn group op) → Turned p (process w p).at s w t z → Own s t w z
       own_behind a stands busy unbefore turn = inr (record {
         tracks = now_gone turn.now turn.processes (λ g m is. by_before g m is (turn.before g (Create m) is));
         spares = λ adds. absurd (by_from adds.from);
       })
         where
-          by_before : (g m : ℕ) → turn.now.at ≡ at.BeforeTurn g (Create m) → ((process w p).at ≡ at.Idle) ⊎ ((process w p).at ≡ turn.now.at) → ⊥
+          by_before : (g m : ℕ) → turn.now.at ≡ Phase.BeforeTurn g (Create m) → ((process w p).at ≡ Phase.Idle) ⊎ ((process w p).at ≡ turn.now.at) → ⊥
           by_before g m is (inl idle_now) = busy (sym stands ∙ idle_now)
           by_before g m is (inr same) = unbefore g (Create m) (sym stands ∙ same ∙ is)
 
-          by_from : ((process w p).at ≡ at.Idle) ⊎ ((group : ℕ) × (op : Op) × ((process w p).at ≡ at.BeforeTurn group op)) → ⊥
+          by_from : ((process w p).at ≡ Phase.Idle) ⊎ ((group : ℕ) × (op : Op) × ((process w p).at ≡ Phase.BeforeTurn group op)) → ⊥
           by_from (inl idle_now) = busy (sym stands ∙ idle_now)
           by_from (inr was) = unbefore was.0 was.1 (sym stands ∙ was.2)
 
       own_at : (a : Phase) (ahead : List Op) (side : Side) (b : Bool) (r : Step) → (process w p).at ≡ a → Turned p (process w p).at s w t z → NextAt disk a s w p ahead side b r t z → Own s t w z
-      own_at at.Idle ahead side b r stands turn (inl heard) = inr (record {
+      own_at Phase.Idle ahead side b r stands turn (inl heard) = inr (record {
         tracks = same_now heard.store (ap (λ (o : World). (process o p).at) heard.world);
         spares = none_added (ap (λ (o : World). o.journal.list) heard.world);
       })
-      own_at at.Idle ahead side b r stands turn (inr none) = own_begins (option_map (waiting_of s.table.inode_count) (first_in none.ahead)) none.ahead side r stands none.begins
-      own_at (at.BeforeTurn group op) ahead side b r stands turn next = own_works group op r stands turn next
-      own_at (at.AfterTurn group k) ahead side b r stands turn next = own_behind (at.AfterTurn group k) stands (λ e. cc e) (λ g o e. cc e) turn
-      own_at (at.Ending group k) ahead side b r stands turn next = own_behind (at.Ending group k) stands (λ e. cc e) (λ g o e. cc e) turn
-      own_at (at.Committing group k) ahead side b r stands turn next = own_behind (at.Committing group k) stands (λ e. cc e) (λ g o e. cc e) turn
+      own_at Phase.Idle ahead side b r stands turn (inr none) = own_begins (option_map (class_of s.table.inode_count) (first_in none.ahead)) none.ahead side r stands none.begins
+      own_at (Phase.BeforeTurn group op) ahead side b r stands turn next = own_works group op r stands turn next
+      own_at (Phase.AfterTurn group k) ahead side b r stands turn next = own_behind (Phase.AfterTurn group k) stands (λ e. cc e) (λ g o e. cc e) turn
+      own_at (Phase.Ending group k) ahead side b r stands turn next = own_behind (Phase.Ending group k) stands (λ e. cc e) (λ g o e. cc e) turn
+      own_at (Phase.Committing group k) ahead side b r stands turn next = own_behind (Phase.Committing group k) stands (λ e. cc e) (λ g o e. cc e) turn
 
       own_turn : (o : Option DeviceFault) (ahead : List Op) (side : Side) (b : Bool) (r : Step) → Turned p (process w p).at s w t z → NextIf disk o s w p ahead side b r t z → Own s t w z
       own_turn None ahead side b r turn next = own_at (process w p).at ahead side b r refl turn next
@@ -335,9 +290,7 @@ module _ {D N I M H : Type 0} (disk : disk_trait.Ghosts D N) (intake : intake_tr
         → length k.world.journal.list ≤ at_place → IsEntry m.world.journal.list at_place e → e.pid ≡ p → e.op ≡ Create kind → e.reply ≡ Some (reply_of o)
         → SomeTurnMakes disk intake herald (SeesTaken disk.image p j) p ts k m run
     passed_in_run [] k m run kind at_place e count tracks later stands mine asked told =
-        let lt = stands.inside in
-        let same : length m.world.journal.list ≡ length k.world.journal.list = ap (λ (o : State D I H). length o.world.journal.list) run.2 in
-        omega (arith, lt, same, later)
+        omega (arith, stands.inside, (ap (λ (o : State D I H). length o.world.journal.list) run.2), later)
     passed_in_run (Shut ∷ ts) k m run kind at_place e count tracks later stands mine asked told =
         let back : with_shutdown (with_ports k run.1.0 run.1.1) ≡ run.0 = sym run.1.2 in
         inr (passed_in_run ts run.0 m run.2 kind at_place e
@@ -366,9 +319,9 @@ module _ {D N I M H : Type 0} (disk : disk_trait.Ghosts D N) (intake : intake_tr
         theirs apart group c is =
             let same : process mid.world p ≡ process k.world p = others_stay k.world mid.world q turn.now turn.processes p (λ e. apart (sym e)) in
             let task_same = turn.store.tasks p (λ e. apart (sym e)) in
-            moved (tracks group c (ap (λ (u : Process). u.at) (sym same) ∙ is)) (ap (λ (u : TaskState). u.place) task_same)
+            moved (tracks group c (ap (λ (u : Process). u.at) (sym same) ∙ is)) (ap (λ (u : TaskState). u.stage) task_same)
           where
-            moved : IsAhead p j k.store ⊎ ((task k.store.tasks p).place ≡ stage.Nowhere) → (task mid.store.tasks p).place ≡ (task k.store.tasks p).place → IsAhead p j mid.store ⊎ ((task mid.store.tasks p).place ≡ stage.Nowhere)
+            moved : IsAhead p j k.store ⊎ ((task k.store.tasks p).stage ≡ Stage.Nowhere) → (task mid.store.tasks p).stage ≡ (task k.store.tasks p).stage → IsAhead p j mid.store ⊎ ((task mid.store.tasks p).stage ≡ Stage.Nowhere)
             moved (inl is) same = inl (record { search = is.search; stands = same ∙ is.stands; ahead = is.ahead })
             moved (inr is) same = inr (same ∙ is)
 

@@ -1,52 +1,11 @@
 -- What is true of store and processes stays so where an operation ends in the log, and with each write of a commit.
 use Rattle.std.proofs.Common.{◌≡◌, ◌≢◌, ℕ, ◌<◌, true, false, List, length, set, refl, sym, ◌∙◌, ap, subst, arith, ◌⊎◌, ⊎_elim, inl, inr, Option, Some, None}
-use Rattle.std.proofs.lemmas.Bool.{false≢true}
-use Rattle.std.proofs.lemmas.List.{set-get_or, nil_from_length}
-use Rattle.blocks.specs.Disk.{Image, one_more}
-use Rattle.blocks.specs.declared.disk.Disk.{Ghosts}
-use Rattle.wal.specs.declared.types.DeviceFault.{DeviceFault}
-use Rattle.wal.specs.declared.types.Commit.TheVariants as commit
-use Rattle.wal.specs.declared.types.Part.{Part}
+use Rattle.kernel.specs.Common.{alone_done, alone_end_commits, alone_end_leaves, alone_written, answered, ats_of, Commit, commit_kinds, Commits, CommitsAlone, CommitSyncs, Committed, committing, committing_at, CommitWrites, counted_same, DeviceFault, end_answer, Ended, ended, ended_opened, Entries, false≢true, fault_of_step, faults_after, GatheredBytes, Ghosts, group_there, HasFacts, idle, Image, inode_count_of, inv_end_commits, inv_end_leaves, inv_written, is_before, is_busy_at, is_committing_at, is_lawful_log, is_quiet, is_writing, IsItsRoom, IsPaired, IsRight, IsStore, IsValidView, Joint, JointAt, KeepsFiles, KernelFacts, known_failed, known_keeps, LogState, nil_from_length, one_more, open_of, others_stay, Part, Phase, Process, process, quiet_is_current, recovered, SameOpen, seen, set-get_or, StandsAt, stepped_same, StoreState, TableState, task, TaskStands, TaskState, there_now, view_of, where_none, with_log, World, Writes}
 use Rattle.wal.specs.Floats.{Survives as SurvivesAt}
-use Rattle.wal.specs.Step.{CommitWrites, CommitSyncs}
-use Rattle.model.specs.Gathered.{GatheredBytes}
-use Rattle.model.specs.Layout.{inode_count_of}
-use Rattle.model.specs.Log.{is_lawful_log, recovered}
-use Rattle.wal.specs.declared.types.Commit.{Commit}
-use Rattle.wal.specs.declared.types.Committed.{Committed}
-use Rattle.wal.specs.declared.types.Committed.TheVariants as committed
-use Rattle.wal.specs.declared.types.Ended.TheVariants as ended_as
-use Rattle.wal.specs.Joint.{Joint, JointAt, seen}
-use Rattle.wal.specs.Lemmas.Commits.{commit_kinds, quiet_is_current}
-use Rattle.wal.specs.Machine.{LogState, is_quiet, is_writing, ended, end_answer}
-use Rattle.wal.specs.Volume.{faults_after, fault_of_step}
-use Rattle.inodes.specs.Lemmas.Faults.{where_none}
-use Rattle.inodes.specs.Steps.{Commits}
-use Rattle.inodes.specs.Store.{StoreState, IsStore, KeepsFiles, with_log}
-use Rattle.inodes.specs.Table.{TableState}
-use Rattle.inodes.specs.Tasks.{TaskState, task}
-use Rattle.history.specs.declared.types.Phase.{Phase}
-use Rattle.history.specs.declared.types.Phase.TheVariants as at
-use Rattle.history.specs.declared.types.Process.{Process}
-use Rattle.history.specs.Alone.{CommitsAlone, is_committing_at}
-use Rattle.history.specs.Lemmas.Alone.{alone_end_leaves, alone_end_commits, alone_written, alone_done}
-use Rattle.history.specs.Lemmas.Groups.{ended_opened, open_of, SameOpen, stepped_same}
-use Rattle.history.specs.Lemmas.Known.{known_failed, known_keeps}
-use Rattle.history.specs.Lemmas.LogEvents.{inv_end_leaves, inv_end_commits, inv_written}
-use Rattle.history.specs.Processes.{World, process, idle, committing, committing_at, answered, is_before}
-use Rattle.history.specs.Bound.{is_busy_at}
-use Rattle.history.specs.Journal.{Entries, IsItsRoom}
-use Rattle.history.specs.Views.{IsValidView, KernelFacts, StandsAt, Writes}
-use Rattle.kernel.specs.Invariant.{IsRight, HasFacts, IsPaired, TaskStands}
-use Rattle.kernel.specs.State.{ats_of}
-use Rattle.kernel.specs.View.{view_of}
-use Rattle.history.specs.Lemmas.Answers.{group_there}
 use Rattle.kernel.proofs.Committing.{holds_back, writes_of}
 use Rattle.kernel.proofs.LogCalls.{logs_ended}
 use Rattle.kernel.proofs.Valid.{HasAgreed, valid_joint}
-use Rattle.history.specs.Lemmas.Counting.{counted_same}
 use Rattle.kernel.proofs.Pairing.{paired_goes, keeps_behind}
-use Rattle.history.specs.Lemmas.Places.{there_now, others_stay}
 use Rattle.kernel.proofs.Lasting.{lasts_unwritten}
 use Rattle.kernel.proofs.Right.{right_well, right_failed}
 
@@ -61,10 +20,10 @@ pub record GoesTo (w z : World) (p : ℕ) (a b : Phase) : Type 0 where
   pub journal : z.journal ≡ w.journal
 
 -- the operation is answered, or goes on to its group's commit
-pub goes_answered : (w : World) (p : ℕ) (a : Phase) → (process w p).at ≡ a → is_before a ≡ false → GoesTo w (answered w p) p a at.Idle
+pub goes_answered : (w : World) (p : ℕ) (a : Phase) → (process w p).at ≡ a → is_before a ≡ false → GoesTo w (answered w p) p a Phase.Idle
 goes_answered w p a stands was = record { stands = stands; was = was; behind = refl; kept = None; keeps = λ busy. absurd (false≢true busy); processes = refl; journal = refl }
 
-pub goes_committing : (w : World) (p group k : ℕ) → (process w p).at ≡ at.Ending group k → GoesTo w (committing w p) p (at.Ending group k) (at.Committing group k)
+pub goes_committing : (w : World) (p group k : ℕ) → (process w p).at ≡ Phase.Ending group k → GoesTo w (committing w p) p (Phase.Ending group k) (Phase.Committing group k)
 goes_committing w p group k stands = record {
   stands = stands;
   was = refl;
@@ -110,12 +69,12 @@ module _ {D N : Type 0} (disk : Ghosts D N) (opening : D) (s : StoreState D) (w 
         (record { facts = subst (λ (j : Entries). KernelFacts (disk.image opening) (view_of disk.image t) j.list (ats_of z)) (sym g.journal) facts; alone = alone })
         (counts ∙ faults_well)
 
-  module _ (group k : ℕ) (stands : (process w p).at ≡ at.Ending group k) (agreed : HasAgreed disk.image (with_log s (ended s.volume.log p))) (before : Joint (disk.image s.volume.device) s.volume.buffers s.volume.log)
+  module _ (group k : ℕ) (stands : (process w p).at ≡ Phase.Ending group k) (agreed : HasAgreed disk.image (with_log s (ended s.volume.log p))) (before : Joint (disk.image s.volume.device) s.volume.buffers s.volume.log)
       (keeps : KeepsFiles disk.image s (with_log s (ended s.volume.log p))) where
     abbrev t : StoreState D
     t = with_log s (ended s.volume.log p)
 
-    stood : StandsAt n (view_of disk.image s) w.journal.list p (at.Ending group k)
+    stood : StandsAt n (view_of disk.image s) w.journal.list p (Phase.Ending group k)
     stood = subst (λ (a : Phase). StandsAt n (view_of disk.image s) w.journal.list p a) stands (had.facts.stands p)
 
     valid : IsValidView n (view_of disk.image t)
@@ -125,49 +84,46 @@ module _ {D N : Type 0} (disk : Ghosts D N) (opening : D) (s : StoreState D) (w 
     opened_same = ended_opened s.volume.log p
 
     -- it was the last of its group, and commits it
-    pub right_closed : end_answer s.volume.log ≡ ended_as.Commit → IsRight disk opening t (committing w p)
+    pub right_closed : end_answer s.volume.log ≡ Ended.Commit → IsRight disk opening t (committing w p)
     right_closed answer =
-        goes_right t refl refl well opened_same refl (committing w p) (at.Ending group k) (at.Committing group k) g (λ over. (over, group_there n p group k (view_of disk.image s) w.journal.list had.facts.valid.log stood))
+        goes_right t refl refl well opened_same refl (committing w p) (Phase.Ending group k) (Phase.Committing group k) g (λ over. (over, group_there n p group k (view_of disk.image s) w.journal.list had.facts.valid.log stood))
         (inv_end_commits (disk.image opening) (view_of disk.image s) (view_of disk.image t) w.journal.list (ats_of w) had.facts valid p (ats_of (committing w p)) others_at group k stood.2.0 stands
         (logs_ended disk.image s t p keeps refl) inside answer at_p)
         (alone_end_commits (ats_of w) (ats_of (committing w p)) s.volume.log had.alone p others_at had.facts.valid.log stood.1.0 answer (ap is_committing_at at_p))
       where
-        g : GoesTo w (committing w p) p (at.Ending group k) (at.Committing group k)
+        g : GoesTo w (committing w p) p (Phase.Ending group k) (Phase.Committing group k)
         g = goes_committing w p group k stands
 
-        at_p : ats_of (committing w p) p ≡ at.Committing group k
-        at_p = now t refl refl well opened_same refl (committing w p) (at.Ending group k) (at.Committing group k) g
+        at_p : ats_of (committing w p) p ≡ Phase.Committing group k
+        at_p = now t refl refl well opened_same refl (committing w p) (Phase.Ending group k) (Phase.Committing group k) g
 
         others_at : (q : ℕ) → q ≢ p → ats_of (committing w p) q ≡ ats_of w q
-        others_at = others t refl refl well opened_same refl (committing w p) (at.Ending group k) (at.Committing group k) g
+        others_at = others t refl refl well opened_same refl (committing w p) (Phase.Ending group k) (Phase.Committing group k) g
 
     -- it is answered: others of its group go on, or the group had no homes
-    pub right_left : end_answer s.volume.log ≡ ended_as.Left → IsRight disk opening t (answered w p)
+    pub right_left : end_answer s.volume.log ≡ Ended.Left → IsRight disk opening t (answered w p)
     right_left answer =
-        goes_right t refl refl well opened_same refl (answered w p) (at.Ending group k) at.Idle g (λ over. over)
+        goes_right t refl refl well opened_same refl (answered w p) (Phase.Ending group k) Phase.Idle g (λ over. over)
         (inv_end_leaves (disk.image opening) (view_of disk.image s) (view_of disk.image t) w.journal.list (ats_of w) had.facts valid p (ats_of (answered w p)) others_at group k stood.2.0 stands
         (logs_ended disk.image s t p keeps refl) inside answer shown at_p)
         (alone_end_leaves (ats_of w) (ats_of (answered w p)) s.volume.log had.alone p others_at had.facts.valid.log stood.1.0 answer (ap is_committing_at at_p))
       where
-        g : GoesTo w (answered w p) p (at.Ending group k) at.Idle
-        g = goes_answered w p (at.Ending group k) stands refl
+        g : GoesTo w (answered w p) p (Phase.Ending group k) Phase.Idle
+        g = goes_answered w p (Phase.Ending group k) stands refl
 
-        at_p : ats_of (answered w p) p ≡ at.Idle
-        at_p = now t refl refl well opened_same refl (answered w p) (at.Ending group k) at.Idle g
+        at_p : ats_of (answered w p) p ≡ Phase.Idle
+        at_p = now t refl refl well opened_same refl (answered w p) (Phase.Ending group k) Phase.Idle g
 
         others_at : (q : ℕ) → q ≢ p → ats_of (answered w p) q ≡ ats_of w q
-        others_at = others t refl refl well opened_same refl (answered w p) (at.Ending group k) at.Idle g
+        others_at = others t refl refl well opened_same refl (answered w p) (Phase.Ending group k) Phase.Idle g
 
         -- the log was quiet, without homes: recovery gives the current image
         shown : length s.volume.log.homes ≡ 0 → recovered (disk.image s.volume.device) ≡ seen (disk.image s.volume.device) s.volume.buffers
         shown none = quiet_is_current (disk.image s.volume.device) s.volume.buffers s.volume.log
             (subst (λ (c : Commit). JointAt c (disk.image s.volume.device) s.volume.buffers s.volume.log) (open_of s.volume.log p had.facts.valid.log stood.1.0).quiet before) (nil_from_length s.volume.log.homes none)
 
-  module _ (group k : ℕ) (stands : (process w p).at ≡ at.Committing group k) (t : StoreState D) (r : Committed) (made : Commits disk s r t) (has_now : (d : D) → disk.leaves d (disk.moment d) (disk.image d))
+  module _ (group k : ℕ) (stands : (process w p).at ≡ Phase.Committing group k) (t : StoreState D) (r : Committed) (made : Commits disk s r t) (has_now : (d : D) → disk.leaves d (disk.moment d) (disk.image d))
       (before : Joint (disk.image s.volume.device) s.volume.buffers s.volume.log) where
-    stood_committing : StandsAt n (view_of disk.image s) w.journal.list p (at.Committing group k)
-    stood_committing = subst (λ (a : Phase). StandsAt n (view_of disk.image s) w.journal.list p a) stands (had.facts.stands p)
-
     alone_here : is_committing_at (ats_of w p) ≡ true
     alone_here = ap is_committing_at stands
 
@@ -184,7 +140,7 @@ module _ {D N : Type 0} (disk : Ghosts D N) (opening : D) (s : StoreState D) (w 
     abbrev IsSync : Part → Committed → Type 0
     IsSync part q = CommitSyncs disk part s.volume.device s.volume.buffers s.volume.log q t.volume.device t.volume.buffers t.volume.log
 
-    kinds : ((is_writing s.volume.log.commit ≡ true) × IsWrite r) ⊎ ((part : Part) × (s.volume.log.commit ≡ commit.Syncing part) × IsSync part r)
+    kinds : ((is_writing s.volume.log.commit ≡ true) × IsWrite r) ⊎ ((part : Part) × (s.volume.log.commit ≡ Commit.Syncing part) × IsSync part r)
     kinds = commit_kinds disk s.volume.log.commit s.volume.device s.volume.buffers s.volume.log r t.volume.device t.volume.buffers t.volume.log made.volume.write
 
     module _ (agreed : HasAgreed disk.image t) (well_now : t.volume.fault ≡ None) where
@@ -197,7 +153,7 @@ module _ {D N : Type 0} (disk : Ghosts D N) (opening : D) (s : StoreState D) (w 
       lawful_now : is_lawful_log (disk.image t.volume.device) ≡ true
       lawful_now = ⊎_elim
           (λ (wr : (is_writing s.volume.log.commit ≡ true) × IsWrite r). wr.1.lawful (disk.image t.volume.device) (has_now t.volume.device))
-          (λ (sy : (part : Part) × (s.volume.log.commit ≡ commit.Syncing part) × IsSync part r). ap is_lawful_log sy.2.image ∙ had.facts.recovers.lawful)
+          (λ (sy : (part : Part) × (s.volume.log.commit ≡ Commit.Syncing part) × IsSync part r). ap is_lawful_log sy.2.image ∙ had.facts.recovers.lawful)
           kinds
 
       wrote : Writes (holds_back disk s t) (view_of disk.image s) (view_of disk.image t)
@@ -206,27 +162,27 @@ module _ {D N : Type 0} (disk : Ghosts D N) (opening : D) (s : StoreState D) (w 
       same_open : SameOpen s.volume.log t.volume.log
       same_open = subst (SameOpen s.volume.log) (sym wrote.log) (stepped_same (holds_back disk s t) s.volume.log.commit s.volume.log)
 
-      facts_now : (new : ℕ → Phase) → ((q : ℕ) → q ≢ p → new q ≡ ats_of w q) → (new p ≡ at.Committing group k) ⊎ (new p ≡ at.Idle) → KernelFacts (disk.image opening) (view_of disk.image t) w.journal.list new
+      facts_now : (new : ℕ → Phase) → ((q : ℕ) → q ≢ p → new q ≡ ats_of w q) → (new p ≡ Phase.Committing group k) ⊎ (new p ≡ Phase.Idle) → KernelFacts (disk.image opening) (view_of disk.image t) w.journal.list new
       facts_now new others_at now = inv_written (disk.image opening) (view_of disk.image s) (view_of disk.image t) w.journal.list (ats_of w) had.facts valid_now p new others_at (holds_back disk s t) group k wrote stands none_open now
 
       -- a step is made, and more are to come
       pub right_written : is_quiet t.volume.log.commit ≡ false → disk.fault_count t.volume.device ≡ disk.fault_count s.volume.device → IsRight disk opening t w
       right_written more counts =
-          let g : GoesTo w w p (at.Committing group k) (at.Committing group k) = record { stands = stands; was = refl; behind = refl; kept = (process w p).room; keeps = λ busy. (refl, refl); processes = sym (set-get_or w.processes p idle) ∙ ap (λ (a : Phase). set w.processes p (record (process w p) { at = a })) stands; journal = refl } in
-          goes_right t made.tasks numbers_now well_now same_open.opened counts w (at.Committing group k) (at.Committing group k) g (λ over. over) (facts_now (ats_of w) (λ q apart. refl) (inl stands))
+          let g : GoesTo w w p (Phase.Committing group k) (Phase.Committing group k) = record { stands = stands; was = refl; behind = refl; kept = (process w p).room; keeps = λ busy. (refl, refl); processes = sym (set-get_or w.processes p idle) ∙ ap (λ (a : Phase). set w.processes p (record (process w p) { at = a })) stands; journal = refl } in
+          goes_right t made.tasks numbers_now well_now same_open.opened counts w (Phase.Committing group k) (Phase.Committing group k) g (λ over. over) (facts_now (ats_of w) (λ q apart. refl) (inl stands))
           (alone_written (ats_of w) (ats_of w) s.volume.log had.alone p (λ q apart. refl) t.volume.log same_open.outstanding alone_here alone_here more)
 
       -- the last step is made, and the operation is answered
       pub right_done : is_quiet t.volume.log.commit ≡ true → disk.fault_count t.volume.device ≡ disk.fault_count s.volume.device → IsRight disk opening t (answered w p)
       right_done last counts =
-          let g = goes_answered w p (at.Committing group k) stands refl in
-          let at_p = now t made.tasks numbers_now well_now same_open.opened counts (answered w p) (at.Committing group k) at.Idle g in
-          let others_at = others t made.tasks numbers_now well_now same_open.opened counts (answered w p) (at.Committing group k) at.Idle g in
-          goes_right t made.tasks numbers_now well_now same_open.opened counts (answered w p) (at.Committing group k) at.Idle g (λ st. st.0) (facts_now (ats_of (answered w p)) others_at (inr at_p))
+          let g = goes_answered w p (Phase.Committing group k) stands refl in
+          let at_p = now t made.tasks numbers_now well_now same_open.opened counts (answered w p) (Phase.Committing group k) Phase.Idle g in
+          let others_at = others t made.tasks numbers_now well_now same_open.opened counts (answered w p) (Phase.Committing group k) Phase.Idle g in
+          goes_right t made.tasks numbers_now well_now same_open.opened counts (answered w p) (Phase.Committing group k) Phase.Idle g (λ st. st.0) (facts_now (ats_of (answered w p)) others_at (inr at_p))
           (alone_done (ats_of w) (ats_of (answered w p)) s.volume.log had.alone p others_at t.volume.log alone_here (ap is_committing_at at_p) last)
 
     -- the step failed
-    pub right_unwritten : IsStore disk.image s → (fault : DeviceFault) → r ≡ committed.Fault fault → ((x : Image) → disk.leaves s.volume.device (disk.moment s.volume.device) x → SurvivesAt s.volume.log.commit (disk.image s.volume.device) x) → t.volume.log ≡ s.volume.log
+    pub right_unwritten : IsStore disk.image s → (fault : DeviceFault) → r ≡ Committed.Fault fault → ((x : Image) → disk.leaves s.volume.device (disk.moment s.volume.device) x → SurvivesAt s.volume.log.commit (disk.image s.volume.device) x) → t.volume.log ≡ s.volume.log
         → disk.fault_count t.volume.device ≡ one_more (disk.fault_count s.volume.device) → IsRight disk opening t w
     right_unwritten store fault is survives log counts =
         let failed : t.volume.fault ≡ Some fault = made.volume.fault ∙ ap Rattle.wal.specs.Volume.fault_of_step is in
@@ -235,9 +191,9 @@ module _ {D N : Type 0} (disk : Ghosts D N) (opening : D) (s : StoreState D) (w 
         (subst (λ (l : List TaskState). IsPaired w.journal.list (task l p) (process w p).at (process w p).room) (sym made.tasks) (right.paired.stand p)))
         (ap (λ (l : LogState). l.opened) log)
         (λ x left. ⊎_elim
-        (λ (wr : (is_writing s.volume.log.commit ≡ true) × IsWrite r). let at_fault : IsWrite (committed.Fault fault) = subst IsWrite is wr.1 in
+        (λ (wr : (is_writing s.volume.log.commit ≡ true) × IsWrite r). let at_fault : IsWrite (Committed.Fault fault) = subst IsWrite is wr.1 in
         known_failed (disk.image opening) (view_of disk.image s) w.journal.list (ats_of w) had.facts t.volume fault x failed at_fault.faults.0 log wr.0 none_open (wr.1.recovers x left) (wr.1.lawful x left))
-        (λ (sy : (part : Part) × (s.volume.log.commit ≡ commit.Syncing part) × IsSync part r). known_keeps (disk.image opening) (view_of disk.image s) w.journal.list (ats_of w) had.facts t.volume
+        (λ (sy : (part : Part) × (s.volume.log.commit ≡ Commit.Syncing part) × IsSync part r). known_keeps (disk.image opening) (view_of disk.image s) w.journal.list (ats_of w) had.facts t.volume
         (ap (λ (l : LogState). l.committed) log) (ap (λ (l : LogState). l.commit) log) x (survives x (sy.2.fewer x left)))
         kinds)
         counts (lasts_unwritten disk opening s w store right t well made.volume.current made.tasks made.table log)

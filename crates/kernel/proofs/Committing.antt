@@ -1,17 +1,6 @@
 -- A step of a store's commit, as a journal sees it.
 use Rattle.std.proofs.Common.{◌≡◌, ap, Bool, true, List, None}
-use Rattle.blocks.specs.declared.disk.Disk.{Ghosts}
-use Rattle.model.specs.Log.{is_lawful_log}
-use Rattle.wal.specs.Joint.{Joint}
-use Rattle.wal.specs.Step.{CommitMakes}
-use Rattle.wal.specs.Lemmas.Commits.{commit_makes}
-use Rattle.wal.specs.Volume.{fault_of_step}
-use Rattle.wal.specs.declared.types.Committed.{Committed}
-use Rattle.inodes.specs.Tasks.{TaskState, task}
-use Rattle.inodes.specs.Steps.{Commits}
-use Rattle.inodes.specs.Store.{StoreState}
-use Rattle.history.specs.Views.{Writes}
-use Rattle.kernel.specs.View.{held_at, view_of}
+use Rattle.kernel.specs.Common.{commit_makes, CommitMakes, Commits, Committed, fault_of_step, Ghosts, held_at, is_lawful_log, Joint, StoreState, task, TaskState, view_of, Writes}
 
 module _ {D N : Type 0} (disk : Ghosts D N) (s t : StoreState D) where
   abbrev pub holds_back : Bool

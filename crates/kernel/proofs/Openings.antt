@@ -1,40 +1,13 @@
 -- What a kernel that is opened has.
 use Rattle.std.proofs.Common.{get_or, ◌≡◌, ℕ, ◌+◌, ◌*◌, ◌<◌, ◌≤◌, true, cond, List, [], length, replicate, refl, sym, ◌∙◌, ap, subst, arith, ⊎_elim, None, Err, inl, inr}
 use Rattle.std.specs.Prelude.{count_by, Result, Ok, IfOk, OnErr, ◌⊎◌}
-use Rattle.std.proofs.lemmas.Bool.{cases_lt, false≢true}
-use Rattle.std.proofs.lemmas.List.{get_or-replicate, get_or_past, length-replicate}
 use Rattle.std.proofs.lemmas.List.Folds.{sum_by-replicate}
-use Rattle.blocks.specs.Disk.{Image, Rose, block_at, counted}
-use Rattle.model.specs.Layout.{form_of, super_of, inode_count_of, is_known_magic, is_lawful_super}
-use Rattle.model.specs.Log.{is_lawful_log, logged_count, recovered}
-use Rattle.model.specs.Fields.{u32_at}
-use Rattle.model.specs.Crash.{Keeps}
-use Rattle.model.specs.declared.types.operations.Entry.{Entry}
-use Rattle.model.specs.declared.types.image.Form.{Form}
-use Rattle.model.specs.Verdict.{verdict}
-use Rattle.model.specs.declared.types.image.Super.{Super}
-use Rattle.model.specs.Lemmas.Log.{recovered_low, length-recovered}
-use Rattle.model.specs.Lemmas.Recovery.{logged_count-left}
+use Rattle.kernel.specs.Common.{ArePaired, block_at, cases_lt, counted, empty_lawful, Entry, facts_of, false≢true, Form, form_of, fresh_world, get_or-replicate, get_or_past, Ghosts, idle, Image, inode_count_of, is_before, is_known_magic, is_lawful_log, is_lawful_super, is_over, IsCounted, IsPaired, Keeps, length-recovered, length-replicate, logged_count, logged_count-left, long_geometry, Looks, new_table, no_task, OnBadLog, OnlyReads, OnNoMemory, Process, process, recovered, recovered_low, Recovers, RefusesToRecover, Rose, sound_verdict, StoreState, Super, super_of, syncs_to_recover, task, TaskState, u32_at, verdict, verdict_sound, VolumeState}
 use Rattle.model.specs.Lemmas.Super.{super_of-recovered}
-use Rattle.model.specs.Lemmas.Soundness.{verdict_sound, sound_verdict, facts_of, long_geometry}
-use Rattle.wal.specs.Volume.{VolumeState}
-use Rattle.wal.specs.Lemmas.Commits.{empty_lawful}
-use Rattle.wal.specs.Recovery.{OnBadLog, OnNoMemory, Looks, Recovers, RefusesToRecover, syncs_to_recover}
 use Rattle.wal.specs.declared.faults.RecoverFault.{RecoverFault}
-use Rattle.wal.specs.declared.faults.RecoverFault.TheVariants as recover
 use Rattle.kernel.specs.Lemmas.Openings.{lawful_super}
-use Rattle.blocks.specs.Calls.{OnlyReads}
-use Rattle.blocks.specs.declared.disk.Disk.{Ghosts}
 use Rattle.kernel.specs.Opening.{MayWrite, IsRecoverCause}
 use Rattle.kernel.specs.declared.types.OpenFault.TheVariants.{Recover}
-use Rattle.inodes.specs.Places.{is_over}
-use Rattle.inodes.specs.Store.{StoreState}
-use Rattle.inodes.specs.Table.{new_table}
-use Rattle.inodes.specs.Tasks.{TaskState, task, no_task}
-use Rattle.history.specs.declared.types.Process.{Process}
-use Rattle.history.specs.Processes.{process, fresh_world, idle, is_before}
-use Rattle.kernel.specs.Invariant.{ArePaired, IsPaired}
-use Rattle.history.specs.Counting.{IsCounted}
 
 pub super_size : (x : Image) (sup : Super) → verdict x ≡ None → sup ≡ super_of x → sup.size ≡ length x
 super_size x sup none is = ap (λ (s : Super). s.size) is ∙ (facts_of x (verdict_sound x none).0).size
@@ -61,10 +34,10 @@ opens_again opening x journal c k =
 -- the fault of a recovery after that check
 pub recover_cause : {D N : Type 0} (T : Type 0) (disk : Ghosts D N) (d e f : D) (fault : RecoverFault) → verdict (disk.image d) ≡ None → OnlyReads disk d e → disk.fault_count e ≡ disk.fault_count d → RefusesToRecover {T = T} disk e f (Err fault)
     → IsRecoverCause disk d f fault
-recover_cause T disk d e f recover.Disk none reads same r = subst (λ (n : ℕ). Rose n (disk.fault_count f)) same r.fault
-recover_cause T disk d e f recover.BadLog none reads same r = false≢true (sym r.bad ∙ ap is_lawful_log reads.image ∙ (verdict_sound (disk.image d) none).1)
-recover_cause T disk d e f recover.NoMemory none reads same r = tt
-recover_cause T disk d e f recover.Sync none reads same r = (subst (λ (n : ℕ). Rose n (disk.fault_count f)) same r.unsynced, sym (ap disk.holding reads.name) ∙ r.holds)
+recover_cause T disk d e f RecoverFault.Disk none reads same r = subst (λ (n : ℕ). Rose n (disk.fault_count f)) same r.fault
+recover_cause T disk d e f RecoverFault.BadLog none reads same r = false≢true (sym r.bad ∙ ap is_lawful_log reads.image ∙ (verdict_sound (disk.image d) none).1)
+recover_cause T disk d e f RecoverFault.NoMemory none reads same r = tt
+recover_cause T disk d e f RecoverFault.Sync none reads same r = (subst (λ (n : ℕ). Rose n (disk.fault_count f)) same r.unsynced, sym (ap disk.holding reads.name) ∙ r.holds)
 
 -- the syncs of an opening
 pub syncs_at_open : {D N : Type 0} (disk : Ghosts D N) (d e f : D) (n : ℕ) → OnlyReads disk d e → Recovers disk n e f → disk.sync_count f ≡ counted (disk.sync_count d) (syncs_to_recover (disk.holding (disk.name d)) (logged_count (disk.image d)))
@@ -98,8 +71,7 @@ opened_numbers x y sup none new is =
 pub opened_form : (x y : Image) (form : Form) → verdict x ≡ None → form ≡ form_of x → y ≡ recovered x → form ≡ form_of y
 opened_form x y form none told is =
     let sound = verdict_sound x none in
-    let long = long_geometry x sound.0 in
-    told ∙ sym (form_alike (recovered x) x (recovered_low x 1 sound.1 (omega arith) (omega arith) (omega (arith, long)))) ∙ sym (ap form_of is)
+    told ∙ sym (form_alike (recovered x) x (recovered_low x 1 sound.1 (omega arith) (omega arith) (omega (arith, (long_geometry x sound.0))))) ∙ sym (ap form_of is)
   where
     form_alike : (y x : Image) → block_at y 1 ≡ block_at x 1 → form_of y ≡ form_of x
     form_alike y x same = rw same refl
@@ -116,7 +88,7 @@ paired_new s n is some few = record {
   many = ap (λ (ts : List TaskState). length ts) is ∙ length-replicate n no_task ∙ sym (length-replicate n idle);
   some = omega (arith, some, length-replicate n idle);
   few = omega (arith, few, length-replicate n idle);
-  stand = λ p. subst (λ (q : Process). IsPaired [] (task s.tasks p) q.at q.room) (sym (idle_at n p)) (record { stands = ap (λ (t : TaskState). is_over t.place) (ap (λ (ts : List TaskState). task ts p) is ∙ same_at n p no_task); room_is = λ busy. absurd (false≢true busy) });
+  stand = λ p. subst (λ (q : Process). IsPaired [] (task s.tasks p) q.at q.room) (sym (idle_at n p)) (record { stands = ap (λ (t : TaskState). is_over t.stage) (ap (λ (ts : List TaskState). task ts p) is ∙ same_at n p no_task); room_is = λ busy. absurd (false≢true busy) });
 }
 
 -- what holds of each answer, and of each refusal
@@ -139,10 +111,10 @@ empty_left x y is = empty_lawful y (ap logged_count is ∙ logged_count-left x)
 -- only a recovery that failed by the disk, or by a sync, may have written
 pub recover_unwritten : {D N : Type 0} (T : Type 0) (disk : Ghosts D N) (d e f : D) (fault : RecoverFault) → OnlyReads disk d e → OnBadLog {T = T} (Err fault) (Looks disk e f) → OnNoMemory {T = T} (Err fault) (f ≡ e)
     → MayWrite (Recover fault) ⊎ ((disk.image f ≡ disk.image d) × (disk.write_count f ≡ disk.write_count d))
-recover_unwritten T disk d e f recover.Disk reads looks same = inl tt
-recover_unwritten T disk d e f recover.BadLog reads looks same = inr (looks.rests.image ∙ reads.image, looks.rests.writes ∙ reads.writes)
-recover_unwritten T disk d e f recover.NoMemory reads looks same = inr (ap disk.image same ∙ reads.image, ap disk.write_count same ∙ reads.writes)
-recover_unwritten T disk d e f recover.Sync reads looks same = inl tt
+recover_unwritten T disk d e f RecoverFault.Disk reads looks same = inl tt
+recover_unwritten T disk d e f RecoverFault.BadLog reads looks same = inr (looks.rests.image ∙ reads.image, looks.rests.writes ∙ reads.writes)
+recover_unwritten T disk d e f RecoverFault.NoMemory reads looks same = inr (ap disk.image same ∙ reads.image, ap disk.write_count same ∙ reads.writes)
+recover_unwritten T disk d e f RecoverFault.Sync reads looks same = inl tt
 
 -- a store by its parts
 pub store_is : {D : Type 0} (v u : VolumeState D) (ts us : List TaskState) (f g : Form) (m n : ℕ) → v ≡ u → ts ≡ us → f ≡ g → m ≡ n

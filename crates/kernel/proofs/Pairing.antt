@@ -1,35 +1,18 @@
 -- Each process has its task, also after an event.
 use Rattle.std.proofs.Common.{◌≡◌, ◌≢◌, ℕ, ◌<◌, true, List, length, length-set, set, refl, sym, ◌∙◌, ap, subst, arith, ⊎_elim, Option, Some}
-use Rattle.std.proofs.lemmas.Bool.{cases_eq}
-use Rattle.std.proofs.lemmas.List.{get_or-set_same}
-use Rattle.model.specs.Gathered.{GatheredBytes}
-use Rattle.model.specs.declared.types.operations.Entry.{Entry}
-use Rattle.model.specs.declared.types.operations.Op.{Op}
-use Rattle.model.specs.declared.types.operations.Op.TheVariants.{Create, Write, Read, Trunc, Remove, Stat}
-use Rattle.inodes.specs.declared.tasks.Stage.{Stage}
-use Rattle.inodes.specs.Store.{StoreState, CanBegin, first_place}
-use Rattle.inodes.specs.Places.{is_unturned}
-use Rattle.inodes.specs.Tasks.{TaskState, task, no_task}
-use Rattle.history.specs.declared.types.Phase.{Phase}
-use Rattle.history.specs.declared.types.Phase.TheVariants as at
-use Rattle.history.specs.declared.types.Process.{Process}
-use Rattle.history.specs.Journal.{IsItsRoom}
-use Rattle.history.specs.Open.{IsEntry}
-use Rattle.history.specs.Processes.{World, process}
-use Rattle.kernel.specs.Invariant.{ArePaired, IsPaired, TaskStands}
-use Rattle.history.specs.Lemmas.Places.{there_now, others_stay}
+use Rattle.kernel.specs.Common.{ArePaired, CanBegin, cases_eq, Create, Entry, first_stage, GatheredBytes, get_or-set_same, is_unturned, IsEntry, IsItsRoom, IsPaired, no_task, Op, others_stay, Phase, Process, process, Read, Remove, Stage, Stat, StoreState, task, TaskStands, TaskState, there_now, Trunc, World, Write}
 
 -- a process goes on with its task where its own entry stays
-stands_back : (es fs : List Entry) (v : TaskState) (a : Phase) → ((g k : ℕ) (e : Entry) → a ≡ at.AfterTurn g k → IsEntry fs k e → IsEntry es k e) → TaskStands es v a → TaskStands fs v a
-stands_back es fs v at.Idle back had = had
-stands_back es fs v (at.BeforeTurn group op) back had = had
-stands_back es fs v (at.AfterTurn group k) back had = λ e there. had e (back group k e refl there)
-stands_back es fs v (at.Ending group k) back had = had
-stands_back es fs v (at.Committing group k) back had = had
+stands_back : (es fs : List Entry) (v : TaskState) (a : Phase) → ((g k : ℕ) (e : Entry) → a ≡ Phase.AfterTurn g k → IsEntry fs k e → IsEntry es k e) → TaskStands es v a → TaskStands fs v a
+stands_back es fs v Phase.Idle back had = had
+stands_back es fs v (Phase.BeforeTurn group op) back had = had
+stands_back es fs v (Phase.AfterTurn group k) back had = λ e there. had e (back group k e refl there)
+stands_back es fs v (Phase.Ending group k) back had = had
+stands_back es fs v (Phase.Committing group k) back had = had
 
 -- behind its turn, each other process than p has its entry where it had it
 abbrev pub KeepsBehind : World → World → ℕ → Type 0
-KeepsBehind w z p = (q : ℕ) → q ≢ p → (g k : ℕ) (e : Entry) → (process w q).at ≡ at.AfterTurn g k → IsEntry z.journal.list k e → IsEntry w.journal.list k e
+KeepsBehind w z p = (q : ℕ) → q ≢ p → (g k : ℕ) (e : Entry) → (process w q).at ≡ Phase.AfterTurn g k → IsEntry z.journal.list k e → IsEntry w.journal.list k e
 
 -- so it is where the journal stays
 pub keeps_behind : (w z : World) (p : ℕ) → z.journal.list ≡ w.journal.list → KeepsBehind w z p
@@ -55,7 +38,7 @@ module _ {D : Type 0} (s t : StoreState D) (w z : World) (p : ℕ) (u : Process)
       }
 
 -- a task that begins has not had its turn
-pub begins_unturned : (op : Op) (n : ℕ) → CanBegin n op → is_unturned (first_place op n) ≡ true
+pub begins_unturned : (op : Op) (n : ℕ) → CanBegin n op → is_unturned (first_stage op n) ≡ true
 begins_unturned (Create kind) n can = refl
 begins_unturned (Write i off bytes) n can = refl
 begins_unturned (Read i off m) n can = absurd can
@@ -65,6 +48,6 @@ begins_unturned (Stat i) n can = absurd can
 
 -- the task of an operation that begins
 pub task_begun : {D : Type 0} (s : StoreState D) (es : List Entry) (p group : ℕ) (op : Op) (a : Stage) (bytes room : Option GatheredBytes) → p < length s.tasks → is_unturned a ≡ true → IsItsRoom (Some op) room
-    → IsPaired es (task (set s.tasks p (record { op = Some op; place = a; gathered = bytes })) p) (at.BeforeTurn group op) room
+    → IsPaired es (task (set s.tasks p (record { op = Some op; stage = a; gathered = bytes })) p) (Phase.BeforeTurn group op) room
 task_begun s es p group op a bytes room lt unturned its =
-    subst (λ (t : TaskState). IsPaired es t (at.BeforeTurn group op) room) (sym (get_or-set_same s.tasks p (record { op = Some op; place = a; gathered = bytes }) no_task lt)) (record { stands = (refl, unturned); room_is = λ busy. its })
+    subst (λ (t : TaskState). IsPaired es t (Phase.BeforeTurn group op) room) (sym (get_or-set_same s.tasks p (record { op = Some op; stage = a; gathered = bytes }) no_task lt)) (record { stands = (refl, unturned); room_is = λ busy. its })

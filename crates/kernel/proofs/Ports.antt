@@ -1,34 +1,12 @@
 -- What is true of the ports stays true with each event of the processes.
 use Rattle.std.proofs.Common.{◌≡◌, ◌≢◌, ℕ, ◌+◌, ◌<◌, ◌≤◌, Bool, true, false, List, [], ◌∷◌, ◌++◌, length, get_or, set, refl, sym, ◌∙◌, ap, subst, ⊎_elim, Option, Some, None}
 use Rattle.std.specs.Prelude.{IsSome, replicate}
-use Rattle.std.proofs.lemmas.Bool.{cases_eq, cases_lt, false≢true}
-use Rattle.std.proofs.lemmas.List.{length-replicate, get_or-replicate, get_or_past, set-get_or}
-use Rattle.model.specs.declared.types.operations.Answer.{Answer}
-use Rattle.model.specs.declared.types.operations.Entry.{Entry}
-use Rattle.model.specs.declared.types.operations.Op.{Op}
-use Rattle.model.specs.declared.types.operations.Reply.{Reply}
+use Rattle.kernel.specs.Common.{AllFit, Answer, answered, ArePorts, as_many, at_place, cases_eq, cases_lt, committing, committing_at, decided, Entry, entry_inside, entry_of, entry_place, false≢true, FitWith, fresh_world, GatheredBytes, get_or-replicate, get_or_past, gives, HasHistory, History, history_given, idle, is_busy_at, IsEntry, IsHistory, last_answer, length-replicate, LogState, nothing_yet, Op, others_stay, OthersStay, over, over_at, Phase, place_behind, Process, process, refusal, refusal_answer, refused, Reply, Rooms, set-get_or, Side, Step, taken, takes, there_now, told, told_at, turned, turned_from, OpClass, with_place, World}
 use Rattle.ports.specs.declared.herald.Herald as herald_trait
 use Rattle.ports.specs.declared.intake.Intake as intake_trait
-use Rattle.ports.specs.History.{Side, History, OthersStay, AllFit, FitWith, nothing_yet, takes, gives}
-use Rattle.model.specs.Gathered.{GatheredBytes}
-use Rattle.history.specs.Journal.{entry_of}
-use Rattle.history.specs.Open.{IsEntry, told}
-use Rattle.history.specs.declared.types.Phase.{Phase}
-use Rattle.history.specs.declared.types.Phase.TheVariants as at
-use Rattle.history.specs.declared.types.Process.{Process}
-use Rattle.history.specs.Bound.{is_busy_at}
-use Rattle.history.specs.Histories.{IsHistory}
-use Rattle.history.specs.Processes.{World, process, idle, fresh_world, with_place, taken, refusal, refused, refusal_answer, place_behind, turned_from, turned, committing_at, committing, last_answer, answered, decided, told_at, entry_place, at_place, over, over_at}
 use Rattle.history.specs.Lemmas.Histories.{history_new, history_more, history_taken, history_turned, history_turned_over, history_ending, history_committing, history_at_once, history_told, history_replied}
-use Rattle.kernel.specs.Invariant.{HasHistory, ArePorts}
-use Rattle.wal.specs.Machine.{LogState}
-use Rattle.kernel.specs.declared.beginning.Rooms.{Rooms}
-use Rattle.model.specs.declared.types.operations.Step.{Step}
-use Rattle.kernel.specs.declared.waiting.Waiting.{Waiting}
 use Rattle.kernel.specs.Begins.{TakesFirst, LeavesFirst}
 use Rattle.kernel.specs.Ports.{Gives}
-use Rattle.history.specs.Lemmas.Answers.{entry_inside, history_given}
-use Rattle.history.specs.Lemmas.Places.{there_now, others_stay, as_many}
 
 -- a room of another process stays where its side does
 other_room : (old new : ℕ → Side) (p q : ℕ) → OthersStay old new p → q ≢ p → (old q).has_room ≡ true → (new q).has_room ≡ true
@@ -86,14 +64,6 @@ module _ {I M H : Type 0} (intake : intake_trait.Ghosts I M) (herald : herald_tr
   pub ports_counted : (i : I) (h : H) (c d : ℕ) (w : World) → ArePorts intake herald i h c w → d ≡ c → ArePorts intake herald i h d w
   ports_counted i h c d w had same = subst (λ (n : ℕ). ArePorts intake herald i h n w) (sym same) had
 
-  -- a place is kept for the answer of an operation under way
-  pub room_there : (i : I) (h : H) (c : ℕ) (w : World) (p : ℕ) (a : Phase) → ArePorts intake herald i h c w → (process w p).at ≡ a → is_busy_at a ≡ true → (intake.side i p).has_room ≡ true
-  room_there i h c w p a had stands busy = had.room p (ap is_busy_at stands ∙ busy)
-
-  -- the intake serves each process
-  pub served_there : (i : I) (h : H) (c : ℕ) (w : World) (p : ℕ) → ArePorts intake herald i h c w → p < length w.processes → p < intake.process_count i
-  served_there i h c w p had lt = subst (λ (n : ℕ). p < n) (sym had.served) lt
-
   -- before anything was taken
   pub ports_new : (i : I) (h : H) (c count : ℕ) → intake.process_count i ≡ count → herald.count h ≡ c → ((p : ℕ) → p < count → intake.fits i p nothing_yet) → ArePorts intake herald i h c (fresh_world count)
   ports_new i h c count many told fits = record {
@@ -137,14 +107,14 @@ module _ {I M H : Type 0} (intake : intake_trait.Ghosts I M) (herald : herald_tr
       }
 
   -- what waits was left
-  pub ports_left : (i j : I) (h : H) (c : ℕ) (w z : World) (p : ℕ) (what : Waiting) (l : LogState) (r : Step) → ArePorts intake herald i h c w → LeavesFirst intake what l p r i j w z → ArePorts intake herald j h c z
+  pub ports_left : (i j : I) (h : H) (c : ℕ) (w z : World) (p : ℕ) (what : OpClass) (l : LogState) (r : Step) → ArePorts intake herald i h c w → LeavesFirst intake what l p r i j w z → ArePorts intake herald j h c z
   ports_left i j h c w z p what l r had leaves = ports_asked i j h c w z p had leaves.served (ap (λ (o : World). o.processes) leaves.world) (ap (λ (o : World). o.journal.list) leaves.world) leaves.sides.others leaves.room leaves.fits
 
-  module _ (i n : I) (h : H) (c : ℕ) (w y z : World) (p : ℕ) (what : Waiting) (l : LogState) (op : Op) (rooms : Rooms) (had : ArePorts intake herald i h c w) (lt : p < length w.processes) (stands : (process w p).at ≡ at.Idle)
+  module _ (i n : I) (h : H) (c : ℕ) (w y z : World) (p : ℕ) (what : OpClass) (l : LogState) (op : Op) (rooms : Rooms) (had : ArePorts intake herald i h c w) (lt : p < length w.processes) (stands : (process w p).at ≡ Phase.Idle)
       (takes_it : TakesFirst intake what l p op rooms i n w y) where
     -- an operation was taken
     pub ports_taken : (group : ℕ) (kept : Option GatheredBytes) → z ≡ taken (with_place w) p group op kept → ArePorts intake herald n h c z
-    ports_taken group kept is = ports_go i n h h c c w z p (record { begun = (process w p).begun + 1; at = at.BeforeTurn group op; room = kept }) had
+    ports_taken group kept is = ports_go i n h h c c w z p (record { begun = (process w p).begun + 1; at = Phase.BeforeTurn group op; room = kept }) had
         (record {
           inside = lt;
           processes = ap (λ (o : World). o.processes) is;
@@ -155,7 +125,7 @@ module _ {I M H : Type 0} (intake : intake_trait.Ghosts I M) (herald : herald_tr
           fits = takes_it.fits.others;
           mine = λ f history fits. (
             takes (Some op) f,
-            subst (λ (o : World). IsHistory o.journal.list (at.BeforeTurn group op) ((process w p).begun + 1) p (takes (Some op) f)) (sym is)
+            subst (λ (o : World). IsHistory o.journal.list (Phase.BeforeTurn group op) ((process w p).begun + 1) p (takes (Some op) f)) (sym is)
                 (history_taken w.journal.list (process w p).begun group p op f (subst (λ (a : Phase). IsHistory w.journal.list a (process w p).begun p f) stands history)),
             takes_it.fits.own f fits,
           );
@@ -184,10 +154,10 @@ module _ {I M H : Type 0} (intake : intake_trait.Ghosts I M) (herald : herald_tr
         }) had.told
 
   -- an operation had its turn
-  pub ports_turned : (i : I) (h : H) (c : ℕ) (w z : World) (p group : ℕ) (op : Op) (reply : Option Reply) (over : Bool) → ArePorts intake herald i h c w → p < length w.processes → (process w p).at ≡ at.BeforeTurn group op → z ≡ turned w p reply over
+  pub ports_turned : (i : I) (h : H) (c : ℕ) (w z : World) (p group : ℕ) (op : Op) (reply : Option Reply) (over : Bool) → ArePorts intake herald i h c w → p < length w.processes → (process w p).at ≡ Phase.BeforeTurn group op → z ≡ turned w p reply over
       → ArePorts intake herald i h c z
   ports_turned i h c w z p group op reply over had lt stands turn =
-      let is : z ≡ turned_from (at.BeforeTurn group op) w p reply over = turn ∙ ap (λ (a : Phase). turned_from a w p reply over) stands in
+      let is : z ≡ turned_from (Phase.BeforeTurn group op) w p reply over = turn ∙ ap (λ (a : Phase). turned_from a w p reply over) stands in
       ports_go i i h h c c w z p (record (process w p) { at = place_behind over group (length w.journal.list) }) had
       (record {
         inside = lt;
@@ -206,7 +176,7 @@ module _ {I M H : Type 0} (intake : intake_trait.Ghosts I M) (herald : herald_tr
         );
       }) had.told
     where
-      behind : (b : Bool) (f : History) → IsHistory w.journal.list (at.BeforeTurn group op) (process w p).begun p f → IsHistory (w.journal.list ++ entry_of p (process w p).begun op group reply ∷ []) (place_behind b group (length w.journal.list)) (process w p).begun p f
+      behind : (b : Bool) (f : History) → IsHistory w.journal.list (Phase.BeforeTurn group op) (process w p).begun p f → IsHistory (w.journal.list ++ entry_of p (process w p).begun op group reply ∷ []) (place_behind b group (length w.journal.list)) (process w p).begun p f
       behind true f history = history_turned_over w.journal.list (process w p).begun group p (entry_of p (process w p).begun op group reply) f refl refl history
       behind false f history = history_turned w.journal.list (process w p).begun group p (entry_of p (process w p).begun op group reply) f refl refl history
 
@@ -230,17 +200,17 @@ module _ {I M H : Type 0} (intake : intake_trait.Ghosts I M) (herald : herald_tr
       }) had.told
 
   -- one whose task is over ends in the log next
-  pub ports_ending : (i : I) (h : H) (c : ℕ) (w z : World) (p group k : ℕ) → ArePorts intake herald i h c w → p < length w.processes → (process w p).at ≡ at.AfterTurn group k → z ≡ over w p → ArePorts intake herald i h c z
-  ports_ending i h c w z p group k had lt stands is = ports_placed i h c w z p (at.AfterTurn group k) (at.Ending group k) had lt stands refl (is ∙ ap (λ (a : Phase). at_place w p (over_at a)) stands)
+  pub ports_ending : (i : I) (h : H) (c : ℕ) (w z : World) (p group k : ℕ) → ArePorts intake herald i h c w → p < length w.processes → (process w p).at ≡ Phase.AfterTurn group k → z ≡ over w p → ArePorts intake herald i h c z
+  ports_ending i h c w z p group k had lt stands is = ports_placed i h c w z p (Phase.AfterTurn group k) (Phase.Ending group k) had lt stands refl (is ∙ ap (λ (a : Phase). at_place w p (over_at a)) stands)
       (λ f history. history_ending w.journal.list k (process w p).begun group p f history)
 
   -- and goes on from its end to its group's commit
-  pub ports_committing : (i : I) (h : H) (c : ℕ) (w z : World) (p group k : ℕ) → ArePorts intake herald i h c w → p < length w.processes → (process w p).at ≡ at.Ending group k → z ≡ committing w p → ArePorts intake herald i h c z
-  ports_committing i h c w z p group k had lt stands is = ports_placed i h c w z p (at.Ending group k) (at.Committing group k) had lt stands refl (is ∙ ap (λ (a : Phase). at_place w p (committing_at a)) stands)
+  pub ports_committing : (i : I) (h : H) (c : ℕ) (w z : World) (p group k : ℕ) → ArePorts intake herald i h c w → p < length w.processes → (process w p).at ≡ Phase.Ending group k → z ≡ committing w p → ArePorts intake herald i h c z
+  ports_committing i h c w z p group k had lt stands is = ports_placed i h c w z p (Phase.Ending group k) (Phase.Committing group k) had lt stands refl (is ∙ ap (λ (a : Phase). at_place w p (committing_at a)) stands)
       (λ f history. history_committing w.journal.list k (process w p).begun group p f history)
 
   -- one's entry was told its reply
-  pub ports_decided : (i : I) (h : H) (c : ℕ) (w : World) (p group k : ℕ) (e : Entry) (reply : Reply) → ArePorts intake herald i h c w → p < length w.processes → (process w p).at ≡ at.AfterTurn group k → IsEntry w.journal.list k e → e.pid ≡ p
+  pub ports_decided : (i : I) (h : H) (c : ℕ) (w : World) (p group k : ℕ) (e : Entry) (reply : Reply) → ArePorts intake herald i h c w → p < length w.processes → (process w p).at ≡ Phase.AfterTurn group k → IsEntry w.journal.list k e → e.pid ≡ p
       → ArePorts intake herald i h c (decided w p reply)
   ports_decided i h c w p group k e reply had lt stands there mine =
       let z = told_at (Some k) w reply in
@@ -267,7 +237,7 @@ module _ {I M H : Type 0} (intake : intake_trait.Ghosts I M) (herald : herald_tr
   -- one was answered, which the herald may have heard of
   pub ports_answered : (i j : I) (h g : H) (c d : ℕ) (w z : World) (p : ℕ) (answer : Answer) → ArePorts intake herald i h c w → p < length w.processes → last_answer w (process w p).at ≡ Some answer → z ≡ answered w p → Gives intake w p i j → herald.count g ≡ d
       → ArePorts intake herald j g d z
-  ports_answered i j h g c d w z p answer had lt tells is given told = ports_go i j h g c d w z p (record (process w p) { at = at.Idle; room = None }) had
+  ports_answered i j h g c d w z p answer had lt tells is given told = ports_go i j h g c d w z p (record (process w p) { at = Phase.Idle; room = None }) had
       (record {
         inside = lt;
         processes = ap (λ (o : World). o.processes) is;
@@ -278,7 +248,7 @@ module _ {I M H : Type 0} (intake : intake_trait.Ghosts I M) (herald : herald_tr
         fits = λ q f other fits. (given.fits answer tells).others q f other fits;
         mine = λ f history fits. (
           gives answer f,
-          subst (λ (o : World). IsHistory o.journal.list at.Idle (process w p).begun p (gives answer f)) (sym is)
+          subst (λ (o : World). IsHistory o.journal.list Phase.Idle (process w p).begun p (gives answer f)) (sym is)
               (history_given w p (process w p).begun (process w p).at answer f tells history),
           (given.fits answer tells).own f fits,
         );

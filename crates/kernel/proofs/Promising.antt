@@ -1,35 +1,14 @@
 -- From what a step does follows what it promises.
 use Rattle.std.proofs.Common.{◌≡◌, ◌≢◌, ⊎_elim, ℕ, ◌<◌, ◌≤◌, length, sym, ◌∙◌, ap, subst, arith, None, Bool}
 use Rattle.std.specs.Prelude.{IfNone}
-use Rattle.std.proofs.lemmas.Bool.{cases_eq}
-use Rattle.blocks.specs.Disk.{Image, LeavesOnly}
+use Rattle.kernel.specs.Common.{Acts, all_steps_left, as_many, cases_eq, Form, form_of, GivesNone, Image, inode_count_of, Inv, IsRight, IsStore, KeepsBetween, KeepsNow, leaves_between, leaves_on, LeavesOnly, LeavesSince, left_of, left_same, LogState, MakesStep, most_of, others_stay, Process, process, State, Step, step_bound, TakesOne, task_left, there_now, where_none}
 use Rattle.blocks.specs.declared.disk.Disk as disk_trait
-use Rattle.model.specs.declared.types.image.Form.{Form}
-use Rattle.model.specs.Layout.{form_of, inode_count_of}
 use Rattle.ports.specs.declared.herald.Herald as herald_trait
 use Rattle.ports.specs.declared.intake.Intake as intake_trait
-use Rattle.wal.specs.Machine.{LogState}
-use Rattle.inodes.specs.Lemmas.Faults.{where_none}
-use Rattle.inodes.specs.Store.{IsStore}
-use Rattle.history.specs.declared.types.Process.{Process}
-use Rattle.history.specs.Bound.{all_steps_left}
-use Rattle.history.specs.Keeps.{KeepsNow, KeepsBetween}
-use Rattle.history.specs.Most.{most_of}
-use Rattle.history.specs.Lemmas.Bounds.{left_same}
-use Rattle.history.specs.Lemmas.Leaving.{leaves_between, leaves_on}
-use Rattle.history.specs.Processes.{process}
-use Rattle.model.specs.declared.types.operations.Step.{Step}
-use Rattle.model.specs.declared.types.operations.Step.TheVariants as step
 use Rattle.kernel.specs.Awake.{IsAwake}
-use Rattle.kernel.specs.Bound.{TakesOne, GivesNone, left_of, step_bound, task_left}
-use Rattle.kernel.specs.Invariant.{Inv, IsRight, LeavesSince}
 use Rattle.kernel.specs.Progress.{KeepsShutdown}
-use Rattle.kernel.specs.State.{State}
-use Rattle.kernel.specs.Acts.{Acts}
-use Rattle.kernel.specs.Steps.{MakesStep}
 use Rattle.kernel.proofs.Events.{Event, event_of}
 use Rattle.kernel.proofs.Right.{Survive, keeps_now}
-use Rattle.history.specs.Lemmas.Places.{as_many, others_stay, there_now}
 use Rattle.kernel.proofs.Well.{IsWell, few_numbers}
 
 module _ {D I H : Type 0} (image : D → Image) (form : Form) (n : ℕ) (holds : Bool) (p : ℕ) (r : Step) (k m : State D I H) (lt : p < length k.world.processes) (e : Event image form n holds p k.store k.world m.store m.world r) where
@@ -48,7 +27,7 @@ module _ {D I H : Type 0} (image : D → Image) (form : Form) (n : ℕ) (holds :
         (cases_eq q p);
   }
 
-  takes_one : form_of (image m.opening) ≡ form → r ≡ step.Moved → TakesOne image k p m
+  takes_one : form_of (image m.opening) ≡ form → r ≡ Step.Moved → TakesOne image k p m
   takes_one its moved =
       let same : left_of image m p ≡ all_steps_left e.now.at (task_left image m.store p) m.store.volume.log = ap (λ (v : Process). all_steps_left v.at (task_left image m.store p) m.store.volume.log) here in
       let fewer = e.bound moved in

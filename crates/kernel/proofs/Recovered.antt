@@ -1,39 +1,38 @@
 -- The recovery theorem.
 use Rattle.std.proofs.Common.{◌≡◌, ◌∙◌, ℕ, refl, sym, ap, subst, ⊎_elim}
-use Rattle.blocks.specs.Disk.{Image, LeavesOnly}
+use Rattle.kernel.specs.Common.{Image, KeepsBetween, kept_alike, kept_whole, LeavesIfCalm, LeavesOnly, most_of, recovered, Recovers, recovers_once, RecoversAs, State}
 use Rattle.blocks.specs.declared.disk.Disk as disk_trait
-use Rattle.model.specs.Log.{recovered}
-use Rattle.model.specs.Lemmas.Recovery.{recovers_once}
 use Rattle.ports.specs.declared.herald.Herald as herald_trait
 use Rattle.ports.specs.declared.intake.Intake as intake_trait
-use Rattle.wal.specs.Recovery.{LeavesIfCalm, RecoversAs, Recovers}
-use Rattle.history.specs.Keeps.{KeepsBetween}
-use Rattle.history.specs.Most.{most_of}
-use Rattle.history.specs.Lemmas.Leaving.{kept_alike, kept_whole}
 use Rattle.kernel.specs.Known.{Known}
 use Rattle.kernel.specs.Lemmas.Turns.{runs_on_session}
 use Rattle.kernel.specs.Opening.{IsOpened}
-use Rattle.kernel.specs.State.{State}
 use Rattle.kernel.specs.Theorem.{ExactlyTheCommitted, IsExact, IsRecoveredRun, NoneIsLost, GoesOn, RecoversGoing, RecoversHeld, RecoversSince, RecoversWhole, SessionKeeps}
 
 module _ {D N I M H : Type 0} (disk : disk_trait.Ghosts D N) (intake : intake_trait.Ghosts I M) (herald : herald_trait.Ghosts H) where
-  -- what is kept of an image, recovery makes of it
+  -- what is kept of an image is a run of a beginning of the groups
+  abbrev kept_run : (least : ℕ) (m : State D I H) (found : D) → Known disk intake herald m
+      → KeepsBetween least (most_of m.store.volume) (disk.image m.opening) m.world.journal.list (disk.image found)
+      → IsRecoveredRun (disk.image m.opening) least m (recovered (disk.image found))
+  kept_run least m found known kept = record {
+    groups = kept.groups;
+    least_is = kept.low;
+    most = kept.high;
+    sound = kept.keeps.sound;
+    files = kept.keeps.files;
+    untouched = kept.keeps.untouched;
+    labels = kept.keeps.labels;
+    own = λ p h history. known.beginnings p kept.groups h history;
+    again = recovers_once (disk.image found);
+  }
+
+  -- and recovery makes that of it
   recovers_run : (x : Image) (least n : ℕ) (m : State D I H) (found left : D) → Known disk intake herald m → disk.image m.opening ≡ x
       → KeepsBetween least (most_of m.store.volume) (disk.image m.opening) m.world.journal.list (disk.image found)
       → Recovers disk n found left → IsRecoveredRun x least m (disk.image left)
   recovers_run x least n m found left known is kept recovers =
       subst (λ (y : Image). IsRecoveredRun x least m y) (sym recovers.image)
-      (subst (λ (z : Image). IsRecoveredRun z least m (recovered (disk.image found))) is (record {
-        groups = kept.groups;
-        least_is = kept.low;
-        most = kept.high;
-        sound = kept.keeps.sound;
-        files = kept.keeps.files;
-        untouched = kept.keeps.untouched;
-        labels = kept.keeps.labels;
-        own = λ p h history. known.beginnings p kept.groups h history;
-        again = recovers_once (disk.image found);
-      }))
+      (subst (λ (z : Image). IsRecoveredRun z least m (recovered (disk.image found))) is (kept_run least m found known kept))
 
   pub recovers_since : RecoversSince disk intake herald
   recovers_since found left n m known leaves recovers = recovers_run (disk.image m.opening) 0 n m found left known refl (known.stop.since.each (disk.image found) leaves) recovers
@@ -46,20 +45,9 @@ module _ {D N I M H : Type 0} (disk : disk_trait.Ghosts D N) (intake : intake_tr
   pub exactly_the_committed : ExactlyTheCommitted disk intake herald
   exactly_the_committed found left n m known leaves recovers =
       let now = known.stop.keeps (disk.image found) leaves in
-      let kept = now.between in
       subst (λ (y : Image). IsExact (disk.image m.opening) m (disk.image found) y) (sym recovers.image)
       (record {
-        run = record {
-          groups = kept.groups;
-          least_is = kept.low;
-          most = kept.high;
-          sound = kept.keeps.sound;
-          files = kept.keeps.files;
-          untouched = kept.keeps.untouched;
-          labels = kept.keeps.labels;
-          own = λ p h history. known.beginnings p kept.groups h history;
-          again = recovers_once (disk.image found);
-        };
+        run = kept_run _ m found known now.between;
         exactly = now.told;
       })
 

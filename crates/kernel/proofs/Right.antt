@@ -2,26 +2,9 @@
 use Rattle.kernel.specs.Lasting.{Lasts}
 use Rattle.std.proofs.Common.{◌≡◌, ◌≤◌, ℕ, refl, sym, ◌∙◌, ap, subst, Option, Some, None}
 use Rattle.std.specs.Prelude.{IfNone, IfSome}
-use Rattle.blocks.specs.Disk.{Image, one_more}
-use Rattle.blocks.specs.Calls.{OnlyReads}
-use Rattle.blocks.specs.Lemmas.Moments.{now_stays}
-use Rattle.blocks.specs.declared.disk.Disk.{Ghosts}
-use Rattle.wal.specs.declared.types.DeviceFault.{DeviceFault}
-use Rattle.model.specs.declared.types.image.Form.{Form}
-use Rattle.model.specs.Layout.{form_of, inode_count_of}
-use Rattle.wal.specs.Volume.{faults_after}
-use Rattle.inodes.specs.Lemmas.Faults.{if_none, if_some, where_none}
-use Rattle.inodes.specs.Store.{StoreState}
+use Rattle.kernel.specs.Common.{ArePaired, ats_of, DeviceFault, faults_after, Form, form_of, Ghosts, HasFacts, if_none, if_some, Image, inode_count_of, IsCounted, IsRight, KeepsNow, known_keeps, known_run, most_of, now_stays, one_more, OnlyReads, StoreState, view_of, where_none, World}
 use Rattle.history.specs.Follows.{IsJournal}
-use Rattle.history.specs.Keeps.{KeepsNow}
-use Rattle.history.specs.Most.{most_of}
-use Rattle.history.specs.Lemmas.Known.{known_keeps, known_run}
-use Rattle.history.specs.Processes.{World}
 use Rattle.wal.specs.Floats.{Survives as SurvivesAt}
-use Rattle.kernel.specs.State.{ats_of}
-use Rattle.kernel.specs.View.{view_of}
-use Rattle.kernel.specs.Invariant.{IsRight, HasFacts, ArePaired}
-use Rattle.history.specs.Counting.{IsCounted}
 
 unfailed : {D : Type 0} (image : D → Image) (form : Form) (s : StoreState D) (w : World) (o : Option DeviceFault) → o ≡ None → IfSome o (λ (f : DeviceFault). Lasts image form s w)
 unfailed image form s w None none = tt

@@ -1,47 +1,15 @@
 -- Turns that go round all processes end every operation that is under way: in each round one goes
 -- on, and takes one of the steps that are left.
 use Rattle.std.proofs.Common.{◌≡◌, ◌≢◌, ◌⊎◌, inl, inr, ⊎_elim, ℕ, zero, suc, ◌<◌, ◌≤◌, Bool, true, false, IsTrue, List, [], ◌∷◌, ◌++◌, length, get_or, set, refl, sym, ◌∙◌, ap, subst, arith, Option, Some, None}
-use Rattle.wal.specs.declared.types.DeviceFault.{DeviceFault}
 use Rattle.std.specs.Prelude.{IfNone, IsSome}
 use Rattle.std.specs.List.{list_all, All, Contains}
-use Rattle.std.proofs.lemmas.Bool.{and_parts, both_ways, cases_eq, cases_lt, ltb-true}
-use Rattle.std.proofs.lemmas.List.{get_or_past}
-use Rattle.blocks.specs.Disk.{Image}
+use Rattle.kernel.specs.Common.{all_steps_left, and_parts, answered, ats_of, both_ways, cases_eq, cases_lt, Committed, decided, DeviceFault, end_answer, Ended, get_or_past, GivesNone, idle, Image, is_busy_at, is_turn_of, left_of, ltb-true, Makes, MakesLater, MakesStep, NextAt, NextIf, Op, Phase, Proc, Process, process, Reply, Session, Shut, sleep_cause, sought, State, Step, step_behind, step_of, step_of_end, step_of_last, step_of_told, step_of_write, Steps, StoreState, task_left, TaskProgress, Turn, where_none, Why, with_ports, with_shutdown, World, world_after, world_behind, world_ended, world_of_last, world_of_told, world_written}
 use Rattle.blocks.specs.declared.disk.Disk as disk_trait
-use Rattle.model.specs.declared.types.operations.Op.{Op}
-use Rattle.model.specs.declared.types.operations.Reply.{Reply}
-use Rattle.model.specs.declared.types.operations.TaskProgress.{TaskProgress}
-use Rattle.model.specs.declared.types.operations.TaskProgress.TheVariants as progress
-use Rattle.model.specs.declared.types.operations.Why.{Why}
-use Rattle.wal.specs.declared.types.Committed.{Committed}
-use Rattle.wal.specs.declared.types.Committed.TheVariants as committed
-use Rattle.wal.specs.declared.types.Ended.{Ended}
-use Rattle.wal.specs.declared.types.Ended.TheVariants as ended_as
-use Rattle.wal.specs.Machine.{end_answer}
-use Rattle.inodes.specs.Lemmas.Faults.{where_none}
-use Rattle.inodes.specs.Lemmas.Sought.{sought}
-use Rattle.inodes.specs.Steps.{Steps}
-use Rattle.inodes.specs.Store.{StoreState}
-use Rattle.inodes.specs.Waiting.{sleep_cause}
 use Rattle.ports.specs.declared.herald.Herald as herald_trait
 use Rattle.ports.specs.declared.intake.Intake as intake_trait
-use Rattle.history.specs.declared.types.Phase.{Phase}
-use Rattle.history.specs.declared.types.Phase.TheVariants as at
-use Rattle.history.specs.declared.types.Process.{Process}
-use Rattle.history.specs.Bound.{is_busy_at, all_steps_left}
-use Rattle.history.specs.Processes.{World, process, idle, answered, decided}
-use Rattle.model.specs.declared.types.operations.Step.{Step}
-use Rattle.model.specs.declared.types.operations.Step.TheVariants as step
-use Rattle.kernel.specs.declared.types.Turn.{Turn}
-use Rattle.kernel.specs.declared.types.Turn.TheVariants.{Proc, Shut}
 use Rattle.kernel.specs.Awake.{AreIdle, IsAwake, IsBusy, cause_by, cause_of}
-use Rattle.kernel.specs.Bound.{left_of, task_left, GivesNone}
-use Rattle.kernel.specs.Next.{NextAt, NextIf, step_of, step_behind, step_of_told, step_of_last, step_of_end, step_of_write, world_after, world_behind, world_ended, world_written, world_of_told, world_of_last}
 use Rattle.kernel.specs.Rounds.{IsRound, turns_of, sum_below, all_left, BeginsNone, RoundsEndAll}
-use Rattle.kernel.specs.Runs.{Makes, MakesLater, Session, is_turn_of, with_ports, with_shutdown}
 use Rattle.kernel.specs.Sleeping.{SleepsForCause}
-use Rattle.kernel.specs.State.{State, ats_of}
-use Rattle.kernel.specs.Steps.{MakesStep}
 use Rattle.kernel.proofs.Awaking.{next_of, idle_not}
 use Rattle.kernel.proofs.Begun.{Grows, next_grows, took_none}
 
@@ -65,13 +33,9 @@ sum_falls f g zero p lt falls others = absurd (omega (arith, lt))
 sum_falls f g (suc n) p lt falls others =
     elim (cases_eq n p) [
       | inl same ↦
-          let rest = sum_less f g n p falls others in
-          let here : f n < g n = subst (λ (q : ℕ). f q < g q) (sym same) falls in
-          omega (arith, rest, here)
+          omega (arith, (sum_less f g n p falls others), (subst (λ (q : ℕ). f q < g q) (sym same) falls))
       | inr other ↦
-          let rest = sum_falls f g n p (omega (arith, lt, other)) falls others in
-          let here = others n other in
-          omega (arith, rest, here)
+          omega (arith, (sum_falls f g n p (omega (arith, lt, other)) falls others), (others n other))
     ]
 
 part_of_sum : (f : ℕ → ℕ) (n p : ℕ) → p < n → f p ≤ sum_below f n
@@ -133,7 +97,7 @@ module _ {D I H : Type 0} (image : D → Image) where
       ap (λ (a : Phase). all_steps_left a (task_left image m.store q) m.store.volume.log) (stays.ats q)
       ∙ ap (λ (s : StoreState D). all_steps_left (ats_of k.world q) (task_left image s q) s.volume.log) stays.store
 
-  idle_left : (k : State D I H) (q : ℕ) → ats_of k.world q ≡ at.Idle → left_of image k q ≡ 0
+  idle_left : (k : State D I H) (q : ℕ) → ats_of k.world q ≡ Phase.Idle → left_of image k q ≡ 0
   idle_left k q is = ap (λ (a : Phase). all_steps_left a (task_left image k.store q) k.store.volume.log) is
 
   -- a shutdown leaves who goes on
@@ -156,13 +120,13 @@ module _ {D I H : Type 0} (image : D → Image) where
 
 -- ---- one turn
 
-answered_list : (ps : List Process) (p : ℕ) (t : Process) → t.at ≡ at.Idle → (get_or (set ps p t) p idle).at ≡ at.Idle
+answered_list : (ps : List Process) (p : ℕ) (t : Process) → t.at ≡ Phase.Idle → (get_or (set ps p t) p idle).at ≡ Phase.Idle
 answered_list [] p t is = refl
 answered_list (s ∷ ps) zero t is = is
 answered_list (s ∷ ps) (suc p) t is = answered_list ps p t is
 
-answered_idle : (v w : World) (p : ℕ) → w ≡ answered v p → ats_of w p ≡ at.Idle
-answered_idle v w p is = ap (λ (u : World). ats_of u p) is ∙ answered_list v.processes p (record (process v p) { at = at.Idle; room = None }) refl
+answered_idle : (v w : World) (p : ℕ) → w ≡ answered v p → ats_of w p ≡ Phase.Idle
+answered_idle v w p is = ap (λ (u : World). ats_of u p) is ∙ answered_list v.processes p (record (process v p) { at = Phase.Idle; room = None }) refl
 
 some_fault : (o : Option DeviceFault) → o ≡ None → IsSome o → ⊥
 some_fault None none some = cc some
@@ -177,31 +141,29 @@ module _ {D N I M H : Type 0} (disk : disk_trait.Ghosts D N) (intake : intake_tr
     abbrev Goes : Type 0
     Goes = Takes disk.image p k m ⊎ Waits p k m
 
-    moved : IsBusy k p → r ≡ step.Moved → Goes
+    moved : IsBusy k p → r ≡ Step.Moved → Goes
     moved busy is = inl (record { falls = (makes.progress.bound is).falls busy; others = makes.progress.others })
 
-    given : IsBusy k p → ats_of m.world p ≡ at.Idle → Goes
+    given : IsBusy k p → ats_of m.world p ≡ Phase.Idle → Goes
     given busy is =
-        let none = idle_left disk.image m p is in
-        let some = awake.left p busy in
-        inl (record { falls = omega (arith, none, some); others = makes.progress.others })
+        inl (record { falls = omega (arith, (idle_left disk.image m p is), (awake.left p busy)); others = makes.progress.others })
 
-    slept : (cause : Why) → IsBusy k p → r ≡ step.Sleeping cause → m.store ≡ k.store → m.world ≡ k.world → Goes
+    slept : (cause : Why) → IsBusy k p → r ≡ Step.Sleeping cause → m.store ≡ k.store → m.world ≡ k.world → Goes
     slept cause busy is store world = inr (
       stays_with k m store (ap (λ (w : World). w.processes) world),
       λ (b : IsBusy k p) (none : cause_of k p ≡ None). let unlike : None ≡ Some cause = sym none ∙ sleeps k m p cause busy (subst (λ (o : Step). MakesStep disk intake herald p o k m) is makes) in cc unlike,
     )
 
-    halted : r ≡ step.Halted → Goes
+    halted : r ≡ Step.Halted → Goes
     halted is = absurd (some_fault m.store.volume.fault still (makes.acts.device.halted.0 is))
 
     works : (op : Op) (t : TaskProgress) (b : Bool) → IsBusy k p → Steps disk k.store p op t m.store → r ≡ step_of t → m.world ≡ world_after t b k.world p → Goes
-    works op progress.Moved b busy steps is world = moved busy is
-    works op (progress.Turned reply) b busy steps is world = moved busy is
-    works op (progress.Decided reply) b busy steps is world = moved busy is
-    works op progress.Over b busy steps is world = moved busy is
-    works op (progress.Sleeping cause) b busy steps is world = slept cause busy is (steps.waits.sleeping cause refl) world
-    works op (progress.Fault fault) b busy steps is world = halted is
+    works op TaskProgress.Moved b busy steps is world = moved busy is
+    works op (TaskProgress.Turned reply) b busy steps is world = moved busy is
+    works op (TaskProgress.Decided reply) b busy steps is world = moved busy is
+    works op TaskProgress.Over b busy steps is world = moved busy is
+    works op (TaskProgress.Sleeping cause) b busy steps is world = slept cause busy is (steps.waits.sleeping cause refl) world
+    works op (TaskProgress.Fault fault) b busy steps is world = halted is
 
     told : (group : ℕ) (reply : Reply) → IsBusy k p → r ≡ step_of_told group → m.world ≡ world_of_told group k.world p reply → Goes
     told zero reply busy is world = given busy (answered_idle (decided k.world p reply) m.world p world)
@@ -212,22 +174,22 @@ module _ {D N I M H : Type 0} (disk : disk_trait.Ghosts D N) (intake : intake_tr
     last (suc group) busy is world = moved busy is
 
     finishes : (group : ℕ) (op : Op) (t : TaskProgress) → IsBusy k p → Steps disk k.store p op t m.store → r ≡ step_behind group t → m.world ≡ world_behind group t k.world p → Goes
-    finishes group op progress.Moved busy steps is world = moved busy is
-    finishes group op (progress.Turned reply) busy steps is world = moved busy is
-    finishes group op (progress.Decided reply) busy steps is world = told group reply busy is world
-    finishes group op progress.Over busy steps is world = last group busy is world
-    finishes group op (progress.Sleeping cause) busy steps is world = slept cause busy is (steps.waits.sleeping cause refl) world
-    finishes group op (progress.Fault fault) busy steps is world = halted is
+    finishes group op TaskProgress.Moved busy steps is world = moved busy is
+    finishes group op (TaskProgress.Turned reply) busy steps is world = moved busy is
+    finishes group op (TaskProgress.Decided reply) busy steps is world = told group reply busy is world
+    finishes group op TaskProgress.Over busy steps is world = last group busy is world
+    finishes group op (TaskProgress.Sleeping cause) busy steps is world = slept cause busy is (steps.waits.sleeping cause refl) world
+    finishes group op (TaskProgress.Fault fault) busy steps is world = halted is
 
     ends : (e : Ended) → IsBusy k p → r ≡ step_of_end e → m.world ≡ world_ended e k.world p → Goes
-    ends ended_as.Commit busy is world = moved busy is
-    ends ended_as.Left busy is world = given busy (answered_idle k.world m.world p world)
+    ends Ended.Commit busy is world = moved busy is
+    ends Ended.Left busy is world = given busy (answered_idle k.world m.world p world)
 
     writes : (w : Committed) → IsBusy k p → r ≡ step_of_write w → m.world ≡ world_written w k.world p → Goes
-    writes committed.More busy is world = moved busy is
-    writes (committed.Durable group) busy is world = moved busy is
-    writes committed.Done busy is world = given busy (answered_idle k.world m.world p world)
-    writes (committed.Fault fault) busy is world = halted is
+    writes Committed.More busy is world = moved busy is
+    writes (Committed.Durable group) busy is world = moved busy is
+    writes Committed.Done busy is world = given busy (answered_idle k.world m.world p world)
+    writes (Committed.Fault fault) busy is world = halted is
 
     -- process p takes one of its steps, or nothing changes; and then it had to wait or is idle
     one_turn : p < length k.world.processes → (process m.world p).begun ≡ (process k.world p).begun → Goes
@@ -237,13 +199,13 @@ module _ {D N I M H : Type 0} (disk : disk_trait.Ghosts D N) (intake : intake_tr
         busy a is there = ap is_busy_at is ∙ there
 
         by : (a : Phase) → ats_of k.world p ≡ a → NextAt disk a k.store k.world p (intake.side k.intake p).ahead (intake.side m.intake p) (herald.told m.herald) r m.store m.world → Goes
-        by at.Idle is next =
+        by Phase.Idle is next =
             let none = took_none disk k.store m.store k.world m.world p (intake.side k.intake p).ahead (intake.side m.intake p) (herald.told m.herald) r lt same next in
             inr (stays_with k m none.0 none.1, λ (b : IsBusy k p) (free : cause_of k p ≡ None). both_ways _ (ap is_busy_at is) b)
-        by (at.BeforeTurn group op) is next = works op next.progress _ (busy (at.BeforeTurn group op) is refl) next.steps next.answer next.world
-        by (at.AfterTurn group j) is next = finishes group _ next.progress (busy (at.AfterTurn group j) is refl) next.steps next.answer next.world
-        by (at.Ending group j) is next = ends (end_answer k.store.volume.log) (busy (at.Ending group j) is refl) next.answer next.world
-        by (at.Committing group j) is next = writes next.result (busy (at.Committing group j) is refl) next.answer next.world
+        by (Phase.BeforeTurn group op) is next = works op next.progress _ (busy (Phase.BeforeTurn group op) is refl) next.steps next.answer next.world
+        by (Phase.AfterTurn group j) is next = finishes group _ next.progress (busy (Phase.AfterTurn group j) is refl) next.steps next.answer next.world
+        by (Phase.Ending group j) is next = ends (end_answer k.store.volume.log) (busy (Phase.Ending group j) is refl) next.answer next.world
+        by (Phase.Committing group j) is next = writes next.result (busy (Phase.Committing group j) is refl) next.answer next.world
 
   -- ---- turns
 
@@ -364,8 +326,7 @@ module _ {D N I M H : Type 0} (disk : disk_trait.Ghosts D N) (intake : intake_tr
       let parts = and_parts (is_turn_of n t) (list_all (is_turn_of n) ts) inside in
       let first = ports_first n t k run.0 run.1.0 run.1.1 (one_of n t (with_ports k run.1.0 run.1.1) run.0 many parts.0 (one.well (rest.well still)) (rest.well still)
       (ports_awake disk.image k run.1.0 run.1.1 k.store.volume.fault awake) run.1.2 (same_first k run.0 m one.grows rest.grows same)) in
-      let later = turns_go n ts run.0 m (one.many ∙ many) parts.1 (one.awake awake) run.2 (same_rest k run.0 m one.grows rest.grows same) still in
-      join n t ts k run.0 m first later
+      join n t ts k run.0 m first (turns_go n ts run.0 m (one.many ∙ many) parts.1 (one.awake awake) run.2 (same_rest k run.0 m one.grows rest.grows same) still)
     where
       ports_first : (n : ℕ) (t : Turn) (k j : State D I H) (i : I) (h : H) → Outcome n (t ∷ []) (with_ports k i h) j → Outcome n (t ∷ []) k j
       ports_first n t k j i h (inl falls) = inl falls
@@ -413,11 +374,9 @@ module _ {D N I M H : Type 0} (disk : disk_trait.Ghosts D N) (intake : intake_tr
       by : Someone m → AreIdle m.world
       by (inr idle) = idle
       by (inl (q, busy)) =
-          let well : k.store.volume.fault ≡ None = ap (λ (j : State D I H). j.store.volume.fault) (sym run.2) ∙ still in
           let here : IsBusy k q = subst (λ (j : State D I H). IsBusy j q) run.2 busy in
-          let some = (where_none k.store.volume.fault well awake).left q here in
           let part = part_of_sum (left_of disk.image k) n q (omega (arith, many, busy_inside k q here)) in
-          absurd (omega (arith, few, some, part))
+          absurd (omega (arith, few, ((where_none k.store.volume.fault (ap (λ (j : State D I H). j.store.volume.fault) (sym run.2) ∙ still) awake).left q here), part))
   rounds_end n (ts ∷ rounds) k m many awake all few run same still =
       let parts = split ts (turns_of rounds) k m run in
       let one = runs_keep ts k parts.0 parts.1 in
@@ -432,8 +391,7 @@ module _ {D N I M H : Type 0} (disk : disk_trait.Ghosts D N) (intake : intake_tr
       fewer : (j : State D I H) → Session disk intake herald ts k j → k.store.volume.fault ≡ None → j.store.volume.fault ≡ None → Same k j → Someone k → sum_below (left_of disk.image j) n ≤ length rounds
       fewer j first well there unchanged (inl (p, busy)) =
           let falls = round_falls ts k j (subst (λ (c : ℕ). IsRound c ts) (sym many) round) (where_none k.store.volume.fault well awake) awake first unchanged there p busy in
-          let less : sum_below (left_of disk.image j) n < sum_below (left_of disk.image k) n = subst (λ (c : ℕ). sum_below (left_of disk.image j) c < sum_below (left_of disk.image k) c) many falls in
-          omega (arith, less, few)
+          omega (arith, (subst (λ (c : ℕ). sum_below (left_of disk.image j) c < sum_below (left_of disk.image k) c) many falls), few)
       fewer j first well there unchanged (inr idle) =
           let none = idle_sum k n idle in
           ⊎_elim

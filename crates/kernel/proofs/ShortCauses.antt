@@ -1,54 +1,16 @@
 -- The cause of a short write: what the turns of a run saw.
 use Rattle.std.proofs.Common.{◌≡◌, ◌≢◌, ◌⊎◌, ◌<◌, ◌≤◌, ◌+◌, inl, inr, ℕ, zero, suc, Bool, true, false, cond, ltb, List, [], ◌∷◌, ◌++◌, length, set, refl, sym, ◌∙◌, ap, subst, ⊎_elim, arith, Option, Some, None}
-use Rattle.wal.specs.declared.types.DeviceFault.{DeviceFault}
-use Rattle.std.proofs.lemmas.Bool.{cases_eq, cases_lt}
-use Rattle.std.proofs.lemmas.List.{length-append}
 use Rattle.blocks.specs.declared.disk.Disk as disk_trait
-use Rattle.model.specs.declared.types.image.Form.{Form}
-use Rattle.model.specs.declared.types.operations.Entry.{Entry}
-use Rattle.model.specs.declared.types.operations.Op.{Op}
-use Rattle.model.specs.declared.types.operations.Op.TheVariants.{Write}
-use Rattle.model.specs.declared.types.operations.Reply.{Reply}
-use Rattle.model.specs.declared.types.operations.Reply.TheVariants.{Wrote, NoFile, TooLong}
-use Rattle.model.specs.declared.types.operations.TaskProgress.{TaskProgress}
-use Rattle.model.specs.declared.types.operations.TaskProgress.TheVariants as progress
-use Rattle.model.specs.Operations.{transfer_limit}
-use Rattle.inodes.specs.Lemmas.Causes.{BeginsWriting, WritesOn, write_sees, write_turns}
 use Rattle.inodes.specs.Lemmas.WriteRuns.{IsGoingOn}
-use Rattle.inodes.specs.Places.{is_over}
-use Rattle.inodes.specs.Steps.{Steps}
-use Rattle.inodes.specs.Store.{StoreState}
-use Rattle.inodes.specs.Tasks.{TaskState, task}
 use Rattle.inodes.specs.WriteRuns.{SeesFull}
 use Rattle.inodes.specs.Writei.{WriteState}
-use Rattle.inodes.specs.Writing.{extent_of}
-use Rattle.inodes.specs.declared.tasks.Stage.TheVariants as stage
 use Rattle.inodes.specs.declared.writei.Extent.{Extent}
-use Rattle.ports.specs.History.{Side, first_in}
 use Rattle.ports.specs.declared.herald.Herald as herald_trait
 use Rattle.ports.specs.declared.intake.Intake as intake_trait
-use Rattle.history.specs.AtOnce.{at_once_reply}
-use Rattle.history.specs.Grows.{Becomes, Extends}
-use Rattle.history.specs.Histories.{Owed}
-use Rattle.history.specs.Journal.{entry_of}
-use Rattle.history.specs.Lemmas.Answers.{entry_inside}
-use Rattle.history.specs.Lemmas.Lists.{entry_more, entry_new, entry_same, entry_set, entry_set_other}
-use Rattle.history.specs.Lemmas.Places.{there_now, others_stay}
-use Rattle.history.specs.Open.{IsEntry, told}
-use Rattle.history.specs.Processes.{World, process, idle, entry_place, place_behind, refusal, turned_from, decided, told_at}
-use Rattle.history.specs.declared.types.Phase.{Phase}
-use Rattle.history.specs.declared.types.Phase.TheVariants as at
-use Rattle.history.specs.declared.types.Process.{Process}
 use Rattle.kernel.specs.Causes.{ShortHasCause, SomeTurnMakes, TurnMakes}
 use Rattle.kernel.specs.Known.{Known}
-use Rattle.kernel.specs.Next.{BeginsWith, Finishes, NextAt, NextIf, Works, world_after, world_behind}
-use Rattle.kernel.specs.Runs.{Session, with_ports, with_shutdown}
-use Rattle.kernel.specs.State.{State, ats_of, waiting_of}
 use Rattle.std.specs.Option.{option_map}
-use Rattle.kernel.specs.Steps.{MakesStep}
-use Rattle.model.specs.declared.types.operations.Step.{Step}
-use Rattle.kernel.specs.declared.types.Turn.{Turn}
-use Rattle.kernel.specs.declared.types.Turn.TheVariants.{Proc, Shut}
+use Rattle.kernel.specs.Common.{at_once_reply, ats_of, Becomes, BeginsWith, BeginsWriting, cases_eq, cases_lt, decided, DeviceFault, Entry, entry_inside, entry_more, entry_new, entry_of, entry_place, entry_same, entry_set, entry_set_other, Extends, extent_of, Finishes, first_in, Form, idle, is_over, IsEntry, length-append, MakesStep, NextAt, NextIf, NoFile, Op, others_stay, Owed, Phase, place_behind, Proc, Process, process, refusal, Reply, Session, Shut, Side, Stage, State, Step, Steps, StoreState, task, TaskProgress, TaskState, there_now, told, told_at, TooLong, transfer_limit, Turn, turned_from, class_of, with_ports, with_shutdown, Works, World, world_after, world_behind, Write, write_sees, write_turns, WritesOn, Wrote}
 use Rattle.kernel.proofs.Causes.{Added, added, becomes_now, extends_entry, last_same, none_past, reply_before, runs_extend, same_op, same_pid, turned}
 use Rattle.kernel.proofs.Turned.{AddsEntry, JournalBy, Turned}
 
@@ -69,11 +31,11 @@ own_later q i es fs more has =
     record { entry = on.0; at = on.1; mine = same_pid has.entry on.0 on.2 ∙ has.mine }
 
 own_owed : (q i : ℕ) (a : Phase) (es given : List Entry) → Owed a q es given → entry_place a ≡ Some i → HasOwn q es i
-own_owed q i at.Idle es given owed is = absurd (cc is)
-own_owed q i (at.BeforeTurn group op) es given owed is = absurd (cc is)
-own_owed q i (at.AfterTurn group k) es given owed is = let same : k ≡ i = cc is in record { entry = owed.entry; at = subst (λ (n : ℕ). IsEntry es n owed.entry) same owed.at; mine = owed.mine }
-own_owed q i (at.Ending group k) es given owed is = let same : k ≡ i = cc is in record { entry = owed.entry; at = subst (λ (n : ℕ). IsEntry es n owed.entry) same owed.at; mine = owed.mine }
-own_owed q i (at.Committing group k) es given owed is = let same : k ≡ i = cc is in record { entry = owed.entry; at = subst (λ (n : ℕ). IsEntry es n owed.entry) same owed.at; mine = owed.mine }
+own_owed q i Phase.Idle es given owed is = absurd (cc is)
+own_owed q i (Phase.BeforeTurn group op) es given owed is = absurd (cc is)
+own_owed q i (Phase.AfterTurn group k) es given owed is = let same : k ≡ i = cc is in record { entry = owed.entry; at = subst (λ (n : ℕ). IsEntry es n owed.entry) same owed.at; mine = owed.mine }
+own_owed q i (Phase.Ending group k) es given owed is = let same : k ≡ i = cc is in record { entry = owed.entry; at = subst (λ (n : ℕ). IsEntry es n owed.entry) same owed.at; mine = owed.mine }
+own_owed q i (Phase.Committing group k) es given owed is = let same : k ≡ i = cc is in record { entry = owed.entry; at = subst (λ (n : ℕ). IsEntry es n owed.entry) same owed.at; mine = owed.mine }
 
 own_idle : (w : World) (q i : ℕ) → process w q ≡ idle → entry_place (process w q).at ≡ Some i → ⊥
 own_idle w q i same is = let no = ap (λ (u : Process). entry_place u.at) (sym same) ∙ is in cc no
@@ -115,7 +77,7 @@ module _ {D N I M H : Type 0} (disk : disk_trait.Ghosts D N) (intake : intake_tr
     -- the write of process p, whose entry stands there, goes on behind its turn
     record StillWrites (s : StoreState D) (w : World) (at_place : ℕ) : Type 0 where
       pub group : ℕ
-      pub stands : (process w p).at ≡ at.AfterTurn group at_place
+      pub stands : (process w p).at ≡ Phase.AfterTurn group at_place
       pub entry : Entry
       pub there : IsEntry w.journal.list at_place entry
       pub mine : entry.pid ≡ p
@@ -123,7 +85,7 @@ module _ {D N I M H : Type 0} (disk : disk_trait.Ghosts D N) (intake : intake_tr
       pub untold : entry.reply ≡ None
       pub number : ℕ
       pub writing : WriteState
-      pub at : (task s.tasks p).place ≡ stage.Writing number writing
+      pub at : (task s.tasks p).stage ≡ Stage.Writing number writing
       pub on : IsGoingOn e (length bytes) writing
 
     -- it was told another reply
@@ -141,14 +103,14 @@ module _ {D N I M H : Type 0} (disk : disk_trait.Ghosts D N) (intake : intake_tr
       Then = Saw s t ⊎ (StillWrites t z at_place ⊎ IsToldOther z at_place)
 
       -- nothing of it changed
-      still : (was : StillWrites s w at_place) → (process z p).at ≡ (process w p).at → IsEntry z.journal.list at_place was.entry → (task t.tasks p).place ≡ (task s.tasks p).place → StillWrites t z at_place
+      still : (was : StillWrites s w at_place) → (process z p).at ≡ (process w p).at → IsEntry z.journal.list at_place was.entry → (task t.tasks p).stage ≡ (task s.tasks p).stage → StillWrites t z at_place
       still was stands there same = record { group = was.group; stands = stands ∙ was.stands; entry = was.entry; there = there; mine = was.mine; asked = was.asked; untold = was.untold; number = was.number; writing = was.writing; at = same ∙ was.at; on = was.on }
 
       -- a turn of another process
       theirs : (q : ℕ) → q ≢ p → HaveEntries w → Turned q (process w q).at s w t z → StillWrites s w at_place → StillWrites t z at_place
       theirs q apart have turn was =
           still was (ap (λ (u : Process). u.at) (others_stay w z q turn.now turn.processes p (λ e. apart (sym e)))) (by_journal turn.journal)
-          (ap (λ (u : TaskState). u.place) (turn.store.tasks p (λ e. apart (sym e))))
+          (ap (λ (u : TaskState). u.stage) (turn.store.tasks p (λ e. apart (sym e))))
         where
           by_journal : JournalBy q (process w q).at w.journal.list z.journal.list → IsEntry z.journal.list at_place was.entry
           by_journal (inl same) = subst (λ (l : List Entry). IsEntry l at_place was.entry) (sym same) was.there
@@ -159,7 +121,7 @@ module _ {D N I M H : Type 0} (disk : disk_trait.Ghosts D N) (intake : intake_tr
               (entry_set_other w.journal.list at_place tells.place was.entry own.entry _ was.there own.at (λ same. apart (sym own.mine ∙ sym same ∙ was.mine)))
 
       -- its own
-      finishes : (group : ℕ) (r : Step) (was : StillWrites s w at_place) → (process w p).at ≡ at.AfterTurn group at_place → Finishes disk s w p group at_place r t z → Then
+      finishes : (group : ℕ) (r : Step) (was : StillWrites s w at_place) → (process w p).at ≡ Phase.AfterTurn group at_place → Finishes disk s w p group at_place r t z → Then
       finishes group r was stands made = ⊎_elim
           (λ saw. inl (record { turn = refl; op = op; answer = made.progress; steps = steps; holds = saw }))
           (λ on. inr (by_progress made.progress made.world on))
@@ -168,10 +130,10 @@ module _ {D N I M H : Type 0} (disk : disk_trait.Ghosts D N) (intake : intake_tr
           steps : Steps disk s p op made.progress t
           steps = subst (λ (o : Op). Steps disk s p o made.progress t) (ap (λ (x : Entry). x.op) (entry_inside w.journal.list at_place was.entry was.there) ∙ was.asked) made.steps
 
-          goes : (x : TaskProgress) → z ≡ w → ((reply : Reply) → x ≢ progress.Decided reply) → WritesOn p was.number (length bytes) done e (record { before = s; answer = x; after = t }) → StillWrites t z at_place
+          goes : (x : TaskProgress) → z ≡ w → ((reply : Reply) → x ≢ TaskProgress.Decided reply) → WritesOn p was.number (length bytes) done e (record { before = s; answer = x; after = t }) → StillWrites t z at_place
           goes x same undecided on = by_next on.next
             where
-              by_next : ((reply : Reply) × (x ≡ progress.Decided reply)) ⊎ ((m : WriteState) × ((task t.tasks p).place ≡ stage.Writing was.number m) × IsGoingOn e (length bytes) m) → StillWrites t z at_place
+              by_next : ((reply : Reply) × (x ≡ TaskProgress.Decided reply)) ⊎ ((m : WriteState) × ((task t.tasks p).stage ≡ Stage.Writing was.number m) × IsGoingOn e (length bytes) m) → StillWrites t z at_place
               by_next (inl is) = absurd (undecided is.0 is.1)
               by_next (inr is) = record {
                 group = group;
@@ -200,30 +162,29 @@ module _ {D N I M H : Type 0} (disk : disk_trait.Ghosts D N) (intake : intake_tr
                 other = other;
               }
 
-          by_group : (g : ℕ) (reply : Reply) → z ≡ world_behind g (progress.Decided reply) w p → reply ≢ Wrote done → IsToldOther z at_place
+          by_group : (g : ℕ) (reply : Reply) → z ≡ world_behind g (TaskProgress.Decided reply) w p → reply ≢ Wrote done → IsToldOther z at_place
           by_group zero reply to other = tells reply _ to refl other
           by_group (suc g) reply to other = tells reply _ to refl other
 
           by_progress : (x : TaskProgress) → z ≡ world_behind group x w p → WritesOn p was.number (length bytes) done e (record { before = s; answer = x; after = t }) → StillWrites t z at_place ⊎ IsToldOther z at_place
-          by_progress progress.Moved to on = inl (goes progress.Moved to (λ r e. cc e) on)
-          by_progress (progress.Turned reply) to on = inl (goes (progress.Turned reply) to (λ r e. cc e) on)
-          by_progress (progress.Decided reply) to on = inr (by_group group reply to (λ same. on.other (ap progress.Decided same)))
-          by_progress progress.Over to on = absurd (on.unfinished refl)
-          by_progress (progress.Sleeping why) to on = inl (goes (progress.Sleeping why) to (λ r e. cc e) on)
-          by_progress (progress.Fault fault) to on = inl (goes (progress.Fault fault) to (λ r e. cc e) on)
+          by_progress TaskProgress.Moved to on = inl (goes TaskProgress.Moved to (λ r e. cc e) on)
+          by_progress (TaskProgress.Turned reply) to on = inl (goes (TaskProgress.Turned reply) to (λ r e. cc e) on)
+          by_progress (TaskProgress.Decided reply) to on = inr (by_group group reply to (λ same. on.other (ap TaskProgress.Decided same)))
+          by_progress TaskProgress.Over to on = absurd (on.unfinished refl)
+          by_progress (TaskProgress.Sleeping why) to on = inl (goes (TaskProgress.Sleeping why) to (λ r e. cc e) on)
+          by_progress (TaskProgress.Fault fault) to on = inl (goes (TaskProgress.Fault fault) to (λ r e. cc e) on)
 
       own_turn : (o : Option DeviceFault) (ahead : List Op) (side : Side) (b : Bool) (r : Step) → StillWrites s w at_place → NextIf disk o s w p ahead side b r t z → Then
       own_turn None ahead side b r was next = finishes was.group r was was.stands (subst (λ (a : Phase). NextAt disk a s w p ahead side b r t z) was.stands next)
       own_turn (Some fault) ahead side b r was next = inr (inl (still was (ap (λ (o : World). (process o p).at) next.1.1)
-          (subst (λ (o : World). IsEntry o.journal.list at_place was.entry) (sym next.1.1) was.there) (ap (λ (o : StoreState D). (task o.tasks p).place) next.1.0)))
+          (subst (λ (o : World). IsEntry o.journal.list at_place was.entry) (sym next.1.1) was.there) (ap (λ (o : StoreState D). (task o.tasks p).stage) next.1.0)))
 
     -- a run saw that no block was left, where such a write is answered with too few bytes
     behind_in_run : (ts : List Turn) (k m : State D I H) (run : Session disk intake herald ts k m) (at_place : ℕ) (f : Entry) → HaveEntries k.world → StillWrites k.store k.world at_place → IsEntry m.world.journal.list at_place f → f.reply ≡ Some (Wrote done)
         → SomeTurnMakes disk intake herald (SeesFull disk.image p e) p ts k m run
     behind_in_run [] k m run at_place f have was stands has =
         let same : was.entry ≡ f = entry_same k.world.journal.list at_place was.entry f was.there (subst (λ (o : State D I H). IsEntry o.world.journal.list at_place f) run.2 stands) in
-        let no = sym was.untold ∙ ap (λ (x : Entry). x.reply) same ∙ has in
-        cc no
+        cc (sym was.untold ∙ ap (λ (x : Entry). x.reply) same ∙ has)
     behind_in_run (Shut ∷ ts) k m run at_place f have was stands has =
         let back : with_shutdown (with_ports k run.1.0 run.1.1) ≡ run.0 = sym run.1.2 in
         let here : StillWrites (with_shutdown k).store (with_shutdown k).world at_place = still k.store k.store k.world (with_shutdown k).world at_place was refl was.there refl in
@@ -272,10 +233,9 @@ module _ {D N I M H : Type 0} (disk : disk_trait.Ghosts D N) (intake : intake_tr
 
       none_added : z.journal.list ≡ w.journal.list → Adds → ⊥
       none_added same adds =
-          let long : length w.journal.list ≡ length w.journal.list + 1 = ap length (sym same ∙ adds.list) ∙ length-append w.journal.list (adds.entry ∷ []) in
-          omega (arith, long)
+          omega (arith, (ap length (sym same ∙ adds.list) ∙ length-append w.journal.list (adds.entry ∷ [])))
 
-      starts : (group : ℕ) (reply : Option Reply) → (process w p).at ≡ at.BeforeTurn group op → Steps disk s p op (progress.Turned reply) t → z ≡ turned_from (at.BeforeTurn group op) w p reply (is_over (task t.tasks p).place) → Starts (entry_of p (process w p).begun op group reply)
+      starts : (group : ℕ) (reply : Option Reply) → (process w p).at ≡ Phase.BeforeTurn group op → Steps disk s p op (TaskProgress.Turned reply) t → z ≡ turned_from (Phase.BeforeTurn group op) w p reply (is_over (task t.tasks p).stage) → Starts (entry_of p (process w p).begun op group reply)
       starts group reply stands steps to mine asked has there = by_reply has
         where
           lt : p < length w.processes
@@ -287,8 +247,8 @@ module _ {D N I M H : Type 0} (disk : disk_trait.Ghosts D N) (intake : intake_tr
           by_reply (inl wrote) = absurd ((write_turns disk s p i off bytes t reply steps).other done wrote)
           by_reply (inr none) =
               let b : BeginsWriting p i (length bytes) e t = subst (λ (x : Extent). BeginsWriting p i (length bytes) x t) extent ((write_turns disk s p i off bytes t reply steps).begins none) in
-              let more : is_over (task t.tasks p).place ≡ false = ap is_over b.stands in
-              let here : process z p ≡ record (process w p) { at = place_behind (is_over (task t.tasks p).place) group (length w.journal.list) } =
+              let more : is_over (task t.tasks p).stage ≡ false = ap is_over b.stands in
+              let here : process z p ≡ record (process w p) { at = place_behind (is_over (task t.tasks p).stage) group (length w.journal.list) } =
               there_now w z p _ (ap (λ (o : World). o.processes) to) lt in
               record {
                 group = group;
@@ -304,23 +264,23 @@ module _ {D N I M H : Type 0} (disk : disk_trait.Ghosts D N) (intake : intake_tr
                 on = b.on;
               }
 
-      works : (group : ℕ) (o : Op) (r : Step) → (process w p).at ≡ at.BeforeTurn group o → Works disk s w p o r t z → (adds : Adds) → Starts adds.entry
+      works : (group : ℕ) (o : Op) (r : Step) → (process w p).at ≡ Phase.BeforeTurn group o → Works disk s w p o r t z → (adds : Adds) → Starts adds.entry
       works group o r stands made adds mine asked has there = by_progress made.progress made.steps made.world
         where
-          by_progress : (x : TaskProgress) → Steps disk s p o x t → z ≡ world_after x (is_over (task t.tasks p).place) w p → StillWrites t z (length w.journal.list)
-          by_progress progress.Moved steps to = absurd (none_added (ap (λ (v : World). v.journal.list) to) adds)
-          by_progress (progress.Turned reply) steps to =
-              let now = to ∙ ap (λ (a : Phase). turned_from a w p reply (is_over (task t.tasks p).place)) stands in
+          by_progress : (x : TaskProgress) → Steps disk s p o x t → z ≡ world_after x (is_over (task t.tasks p).stage) w p → StillWrites t z (length w.journal.list)
+          by_progress TaskProgress.Moved steps to = absurd (none_added (ap (λ (v : World). v.journal.list) to) adds)
+          by_progress (TaskProgress.Turned reply) steps to =
+              let now = to ∙ ap (λ (a : Phase). turned_from a w p reply (is_over (task t.tasks p).stage)) stands in
               let is : entry_of p (process w p).begun o group reply ≡ adds.entry = last_same w.journal.list _ adds.entry (sym (ap (λ (v : World). v.journal.list) now) ∙ adds.list) in
               let same : o ≡ op = ap (λ (x : Entry). x.op) is ∙ asked in
               let back : adds.entry ≡ entry_of p (process w p).begun op group reply = sym is ∙ ap (λ (q : Op). entry_of p (process w p).begun q group reply) same in
-              starts group reply (stands ∙ ap (at.BeforeTurn group) same) (subst (λ (q : Op). Steps disk s p q (progress.Turned reply) t) same steps)
-              (now ∙ ap (λ (q : Op). turned_from (at.BeforeTurn group q) w p reply (is_over (task t.tasks p).place)) same)
+              starts group reply (stands ∙ ap (Phase.BeforeTurn group) same) (subst (λ (q : Op). Steps disk s p q (TaskProgress.Turned reply) t) same steps)
+              (now ∙ ap (λ (q : Op). turned_from (Phase.BeforeTurn group q) w p reply (is_over (task t.tasks p).stage)) same)
               refl refl (subst (λ (x : Entry). (x.reply ≡ Some (Wrote done)) ⊎ (x.reply ≡ None)) back has) (subst (λ (x : Entry). IsEntry z.journal.list (length w.journal.list) x) back there)
-          by_progress (progress.Decided reply) steps to = absurd (none_added (ap (λ (v : World). v.journal.list) to) adds)
-          by_progress progress.Over steps to = absurd (none_added (ap (λ (v : World). v.journal.list) to) adds)
-          by_progress (progress.Sleeping why) steps to = absurd (none_added (ap (λ (v : World). v.journal.list) to) adds)
-          by_progress (progress.Fault fault) steps to = absurd (none_added (ap (λ (v : World). v.journal.list) to) adds)
+          by_progress (TaskProgress.Decided reply) steps to = absurd (none_added (ap (λ (v : World). v.journal.list) to) adds)
+          by_progress TaskProgress.Over steps to = absurd (none_added (ap (λ (v : World). v.journal.list) to) adds)
+          by_progress (TaskProgress.Sleeping why) steps to = absurd (none_added (ap (λ (v : World). v.journal.list) to) adds)
+          by_progress (TaskProgress.Fault fault) steps to = absurd (none_added (ap (λ (v : World). v.journal.list) to) adds)
 
       never_refused : (b : Bool) → (cond b TooLong NoFile) ≡ Wrote done → ⊥
       never_refused true is = cc is
@@ -340,28 +300,28 @@ module _ {D N I M H : Type 0} (disk : disk_trait.Ghosts D N) (intake : intake_tr
           by_reply (inr none) = let both = tells ∙ none in cc both
 
       starts_at : (a : Phase) (ahead : List Op) (side : Side) (b : Bool) (r : Step) → (process w p).at ≡ a → NextAt disk a s w p ahead side b r t z → (adds : Adds) → Starts adds.entry
-      starts_at at.Idle ahead side b r stands (inl heard) adds = absurd (none_added (ap (λ (v : World). v.journal.list) heard.world) adds)
-      starts_at at.Idle ahead side b r stands (inr none) adds = by_begins none.begins
+      starts_at Phase.Idle ahead side b r stands (inl heard) adds = absurd (none_added (ap (λ (v : World). v.journal.list) heard.world) adds)
+      starts_at Phase.Idle ahead side b r stands (inr none) adds = by_begins none.begins
         where
-          by_begins : BeginsWith (option_map (waiting_of s.table.inode_count) (first_in none.ahead)) s w p none.ahead side r t z → Starts adds.entry
+          by_begins : BeginsWith (option_map (class_of s.table.inode_count) (first_in none.ahead)) s w p none.ahead side r t z → Starts adds.entry
           by_begins (inl made) = absurd (none_added (ap (λ (v : World). v.journal.list) made.world) adds)
           by_begins (inr (inl made)) = absurd (none_added (ap (λ (v : World). v.journal.list) made.world) adds)
           by_begins (inr (inr (inl made))) = refuses made.op adds (last_same w.journal.list _ adds.entry (sym (ap (λ (v : World). v.journal.list) made.world) ∙ adds.list))
           by_begins (inr (inr (inr made))) = absurd (none_added (ap (λ (v : World). v.journal.list) made.same.1) adds)
-      starts_at (at.BeforeTurn group o) ahead side b r stands next adds = works group o r stands next adds
-      starts_at (at.AfterTurn group k) ahead side b r stands next adds = absurd (late adds.from)
+      starts_at (Phase.BeforeTurn group o) ahead side b r stands next adds = works group o r stands next adds
+      starts_at (Phase.AfterTurn group k) ahead side b r stands next adds = absurd (late adds.from)
         where
-          late : ((process w p).at ≡ at.Idle) ⊎ ((g : ℕ) × (o : Op) × ((process w p).at ≡ at.BeforeTurn g o)) → ⊥
+          late : ((process w p).at ≡ Phase.Idle) ⊎ ((g : ℕ) × (o : Op) × ((process w p).at ≡ Phase.BeforeTurn g o)) → ⊥
           late (inl is) = let no = sym stands ∙ is in cc no
           late (inr is) = let no = sym stands ∙ is.2 in cc no
-      starts_at (at.Ending group k) ahead side b r stands next adds = absurd (late adds.from)
+      starts_at (Phase.Ending group k) ahead side b r stands next adds = absurd (late adds.from)
         where
-          late : ((process w p).at ≡ at.Idle) ⊎ ((g : ℕ) × (o : Op) × ((process w p).at ≡ at.BeforeTurn g o)) → ⊥
+          late : ((process w p).at ≡ Phase.Idle) ⊎ ((g : ℕ) × (o : Op) × ((process w p).at ≡ Phase.BeforeTurn g o)) → ⊥
           late (inl is) = let no = sym stands ∙ is in cc no
           late (inr is) = let no = sym stands ∙ is.2 in cc no
-      starts_at (at.Committing group k) ahead side b r stands next adds = absurd (late adds.from)
+      starts_at (Phase.Committing group k) ahead side b r stands next adds = absurd (late adds.from)
         where
-          late : ((process w p).at ≡ at.Idle) ⊎ ((g : ℕ) × (o : Op) × ((process w p).at ≡ at.BeforeTurn g o)) → ⊥
+          late : ((process w p).at ≡ Phase.Idle) ⊎ ((g : ℕ) × (o : Op) × ((process w p).at ≡ Phase.BeforeTurn g o)) → ⊥
           late (inl is) = let no = sym stands ∙ is in cc no
           late (inr is) = let no = sym stands ∙ is.2 in cc no
 
@@ -373,9 +333,7 @@ module _ {D N I M H : Type 0} (disk : disk_trait.Ghosts D N) (intake : intake_tr
         → length k.world.journal.list ≤ at_place → IsEntry m.world.journal.list at_place f → f.pid ≡ p → f.op ≡ op → f.reply ≡ Some (Wrote done)
         → SomeTurnMakes disk intake herald (SeesFull disk.image p e) p ts k m run
     short_in_run [] k m run at_place f have extent later stands mine asked has =
-        let lt = stands.inside in
-        let same : length m.world.journal.list ≡ length k.world.journal.list = ap (λ (o : State D I H). length o.world.journal.list) run.2 in
-        omega (arith, lt, same, later)
+        omega (arith, stands.inside, (ap (λ (o : State D I H). length o.world.journal.list) run.2), later)
     short_in_run (Shut ∷ ts) k m run at_place f have extent later stands mine asked has =
         let back : with_shutdown (with_ports k run.1.0 run.1.1) ≡ run.0 = sym run.1.2 in
         inr (short_in_run ts run.0 m run.2 at_place f

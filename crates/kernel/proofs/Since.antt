@@ -1,30 +1,12 @@
 -- What a stop has left since the opening.
 use Rattle.std.proofs.Common.{◌≡◌, ℕ, true, inl, inr, refl, sym, ◌∙◌, ap, subst, arith, None}
-use Rattle.std.proofs.lemmas.Bool.{false≢true}
-use Rattle.blocks.specs.Disk.{LeavesOnly}
-use Rattle.blocks.specs.Lemmas.Moments.{started}
-use Rattle.blocks.specs.declared.disk.Disk.{Ghosts}
-use Rattle.model.specs.declared.types.operations.Op.{Op}
-use Rattle.model.specs.Journal.{is_at_once}
-use Rattle.model.specs.Layout.{inode_count_of}
-use Rattle.inodes.specs.Store.{StoreState}
-use Rattle.history.specs.AtOnce.{at_once_reply}
-use Rattle.history.specs.Grows.{Grows}
-use Rattle.history.specs.Keeps.{KeepsBetween}
-use Rattle.history.specs.Most.{most_of}
-use Rattle.history.specs.Lemmas.Events.{at_once_still}
-use Rattle.history.specs.Lemmas.Growing.{grows_goes, keeps_later}
-use Rattle.history.specs.Lemmas.Leaving.{keeps_fewer, leaves_wider}
-use Rattle.history.specs.Processes.{World, refusal, refused, with_place}
-use Rattle.kernel.specs.declared.waiting.Waiting.TheVariants as waiting
-use Rattle.kernel.specs.Invariant.{IsRight, LeavesSince}
-use Rattle.kernel.specs.State.{waiting_of}
+use Rattle.kernel.specs.Common.{at_once_reply, at_once_still, false≢true, Ghosts, Grows, grows_goes, inode_count_of, is_at_once, IsRight, keeps_fewer, keeps_later, KeepsBetween, leaves_wider, LeavesOnly, LeavesSince, most_of, Op, refusal, refused, started, StoreState, OpClass, class_of, with_place, World}
 use Rattle.kernel.proofs.Beginnings.{refused_at_once}
 use Rattle.kernel.proofs.Right.{Survive, keeps_now}
 
 module _ {D N : Type 0} (disk : Ghosts D N) (opening : D) where
   -- a refusal, whose entry is of no group
-  pub since_refused : (s : StoreState D) (w z : World) (p : ℕ) (op : Op) → IsRight disk opening s w → s.volume.fault ≡ None → waiting_of s.table.inode_count op ≡ waiting.Refused
+  pub since_refused : (s : StoreState D) (w z : World) (p : ℕ) (op : Op) → IsRight disk opening s w → s.volume.fault ≡ None → class_of s.table.inode_count op ≡ OpClass.Refused
       → z ≡ refused (with_place w) p op (at_once_reply op) → LeavesSince disk opening s w → LeavesSince disk opening s z
   since_refused s w z p op right well refuses to since =
       let x = disk.image opening in

@@ -2,29 +2,9 @@
 use Rattle.std.proofs.Common.{◌≡◌, ◌≢◌, ℕ, Bool, true, false, cond, eqb, ◌||◌, List, ◌∙◌, sym, ap, subst, ⊎_elim, Option, Some, None}
 use Rattle.std.specs.Option.{option_map}
 use Rattle.std.specs.Prelude.{if◌then◌else◌, ◌==◌, IsTrue}
-use Rattle.std.proofs.lemmas.Bool.{cases_eq, ne_eqb}
-use Rattle.blocks.specs.Disk.{Image}
-use Rattle.blocks.specs.declared.disk.Disk.{Ghosts}
-use Rattle.model.specs.declared.types.image.Form.{Form}
-use Rattle.model.specs.declared.types.image.Form.TheVariants.{One, Two}
-use Rattle.model.specs.declared.types.operations.Op.{Op}
-use Rattle.model.specs.declared.types.operations.Reply.{Reply}
-use Rattle.model.specs.declared.types.operations.TaskProgress.{TaskProgress}
-use Rattle.model.specs.declared.types.operations.TaskProgress.TheVariants as progress
-use Rattle.model.specs.Crash.{IsUntouched}
-use Rattle.model.specs.Fields.{u32_at}
-use Rattle.model.specs.Journal.{is_making, is_number}
-use Rattle.model.specs.Layout.{form_of, magic_of}
+use Rattle.kernel.specs.Common.{AreLooking, asked, asked_by, cases_eq, current_of, Form, form_of, Ghosts, GoesOn, Held, held_at, held_by, Image, is_making, is_number, is_over, IsLate, IsUntouched, Leaves, LeavesRest, magic_of, ne_eqb, number_of, One, Op, Opens, owes_reply, Reply, Steps, StoreState, Takes, task, TaskProgress, Turns, Two, u32_at, view_of}
 use Rattle.model.specs.Tasks.{reply_at_turn}
-use Rattle.inodes.specs.Lemmas.StepEnds.{GoesOn}
-use Rattle.inodes.specs.Looks.{AreLooking, IsLate}
-use Rattle.inodes.specs.Places.{asked, asked_by, is_over, owes_reply}
-use Rattle.inodes.specs.Tasks.{task}
-use Rattle.inodes.specs.Steps.{Steps}
-use Rattle.inodes.specs.Store.{StoreState, current_of}
-use Rattle.history.specs.Open.{Held, held_by, number_of}
-use Rattle.history.specs.Views.{LeavesRest, Moves, Takes, Turns, Opens, Leaves}
-use Rattle.kernel.specs.View.{held_at, view_of}
+use Rattle.history.specs.Views.{Moves}
 use Rattle.kernel.proofs.Valid.{LateOp, unread_holds, over_unread, late_op, held_late}
 
 -- what no operation touches has the form of the opening
@@ -41,28 +21,28 @@ module _ {D N : Type 0} (disk : Ghosts D N) (s t : StoreState D) (p : ℕ) (op :
   }
 
   -- what it held
-  mine : (r : TaskProgress) → Steps disk s p op r t → owes_reply (task t.tasks p).place ≡ owes_reply (task s.tasks p).place → held_at (task t.tasks p) ≡ held_at (task s.tasks p)
-  mine r step same = ap (λ (b : Bool). cond b (option_map held_by (task t.tasks p).op) None) same ∙ ap (λ (o : Option Op). cond (owes_reply (task s.tasks p).place) (option_map held_by o) None) step.tasks.op_stays
+  mine : (r : TaskProgress) → Steps disk s p op r t → owes_reply (task t.tasks p).stage ≡ owes_reply (task s.tasks p).stage → held_at (task t.tasks p) ≡ held_at (task s.tasks p)
+  mine r step same = ap (λ (b : Bool). cond b (option_map held_by (task t.tasks p).op) None) same ∙ ap (λ (o : Option Op). cond (owes_reply (task s.tasks p).stage) (option_map held_by o) None) step.tasks.op_stays
 
-  pub moves_of : GoesOn (task s.tasks p).place (task t.tasks p).place → Steps disk s p op progress.Moved t → Moves p (view_of disk.image s) (view_of disk.image t)
-  moves_of on step = record { rest = rest progress.Moved step; mine = mine progress.Moved step on.reading; files = step.files }
+  pub moves_of : GoesOn (task s.tasks p).stage (task t.tasks p).stage → Steps disk s p op TaskProgress.Moved t → Moves p (view_of disk.image s) (view_of disk.image t)
+  moves_of on step = record { rest = rest TaskProgress.Moved step; mine = mine TaskProgress.Moved step on.reading; files = step.files }
 
   -- nothing is held where no reply is owed any more
-  pub free_then : owes_reply (task t.tasks p).place ≡ false → (view_of disk.image t).holds p ≡ None
+  pub free_then : owes_reply (task t.tasks p).stage ≡ false → (view_of disk.image t).holds p ≡ None
   free_then unread = unread_holds (task t.tasks p) unread
 
-  pub leaves_of : is_over (task t.tasks p).place ≡ true → Steps disk s p op progress.Over t → Leaves p (view_of disk.image s) (view_of disk.image t)
-  leaves_of over step = record { rest = rest progress.Over step; mine = free_then (over_unread (task t.tasks p).place over); files = step.files }
+  pub leaves_of : is_over (task t.tasks p).stage ≡ true → Steps disk s p op TaskProgress.Over t → Leaves p (view_of disk.image s) (view_of disk.image t)
+  leaves_of over step = record { rest = rest TaskProgress.Over step; mine = free_then (over_unread (task t.tasks p).stage over); files = step.files }
 
-  pub reads_rest : (r : Reply) → Steps disk s p op (progress.Decided r) t → LeavesRest None p (view_of disk.image s) (view_of disk.image t)
-  reads_rest r step = rest (progress.Decided r) step
+  pub reads_rest : (r : Reply) → Steps disk s p op (TaskProgress.Decided r) t → LeavesRest None p (view_of disk.image s) (view_of disk.image t)
+  reads_rest r step = rest (TaskProgress.Decided r) step
 
   -- an operation has its turn, and its reply is to come
-  pub opens_of : (n : ℕ) → IsLate n (task t.tasks p) → (task s.tasks p).op ≡ Some op → owes_reply (task t.tasks p).place ≡ true → Steps disk s p op (progress.Turned None) t → Opens n p op (view_of disk.image s) (view_of disk.image t)
+  pub opens_of : (n : ℕ) → IsLate n (task t.tasks p) → (task s.tasks p).op ≡ Some op → owes_reply (task t.tasks p).stage ≡ true → Steps disk s p op (TaskProgress.Turned None) t → Opens n p op (view_of disk.image s) (view_of disk.image t)
   opens_of n late same owes step =
       let its : LateOp n op = late_op n (task t.tasks p) op (step.tasks.op_stays ∙ same) late in
       record {
-        rest = rest (progress.Turned None) step;
+        rest = rest (TaskProgress.Turned None) step;
         late = its.late;
         number = subst (λ (k : ℕ). IsTrue (is_number n k)) (sym its.number) its.named;
         held = ap (λ (b : Bool). cond b (option_map held_by (task t.tasks p).op) None) owes ∙ ap (λ (o : Option Op). option_map held_by o) (step.tasks.op_stays ∙ same);
@@ -71,13 +51,13 @@ module _ {D N : Type 0} (disk : Ghosts D N) (s t : StoreState D) (p : ℕ) (op :
 
   module _ (form : Form) (same : form_of (current_of disk.image s.volume) ≡ form) where
     -- with its reply
-    pub takes_of : (r : Reply) → Steps disk s p op (progress.Decided r) t → Takes form (view_of disk.image s) (view_of disk.image t) op r
+    pub takes_of : (r : Reply) → Steps disk s p op (TaskProgress.Decided r) t → Takes form (view_of disk.image s) (view_of disk.image t) op r
     takes_of r step = subst (λ (f : Form). Takes f (view_of disk.image s) (view_of disk.image t) op r) same step.files
 
-    pub turns_of : (r : Reply) → number_of op ≡ asked op → owes_reply (task s.tasks p).place ≡ false → AreLooking (current_of disk.image s.volume) s.table s.tasks → Steps disk s p op (progress.Turned (Some r)) t
+    pub turns_of : (r : Reply) → number_of op ≡ asked op → owes_reply (task s.tasks p).stage ≡ false → AreLooking (current_of disk.image s.volume) s.table s.tasks → Steps disk s p op (TaskProgress.Turned (Some r)) t
         → Turns form p op r (view_of disk.image s) (view_of disk.image t)
     turns_of r number unread are step = subst (λ (f : Form). Turns f p op r (view_of disk.image s) (view_of disk.image t)) same (record {
-      rest = rest (progress.Turned (Some r)) step;
+      rest = rest (TaskProgress.Turned (Some r)) step;
       apart = λ q h held. ⊎_elim
           (λ (own : q ≡ p). let no = sym (unread_holds (task s.tasks p) unread) ∙ ap (λ (o : ℕ). held_at (task s.tasks o)) (sym own) ∙ held in absurd (cc no))
           (λ (other : q ≢ p). leaves q h other held)

@@ -1,41 +1,9 @@
 -- What any turn of a process makes of the others, of the journal, and of where it stands.
 use Rattle.std.proofs.Common.{◌≡◌, ◌≢◌, ◌⊎◌, inl, inr, ℕ, ◌+◌, zero, suc, Bool, true, false, List, [], ◌∷◌, ◌++◌, length, set, refl, sym, ◌∙◌, ap, Option, Some, None}
-use Rattle.wal.specs.declared.types.DeviceFault.{DeviceFault}
-use Rattle.std.proofs.lemmas.List.{get_or-set_other, set-get_or}
 use Rattle.blocks.specs.declared.disk.Disk as disk_trait
-use Rattle.model.specs.declared.types.operations.Entry.{Entry}
-use Rattle.model.specs.declared.types.operations.Op.{Op}
-use Rattle.model.specs.declared.types.operations.Reply.{Reply}
-use Rattle.model.specs.declared.types.operations.TaskProgress.{TaskProgress}
-use Rattle.model.specs.declared.types.operations.TaskProgress.TheVariants as progress
-use Rattle.wal.specs.declared.types.Commit.{Commit}
-use Rattle.wal.specs.declared.types.Commit.TheVariants as commit
-use Rattle.wal.specs.declared.types.Committed.{Committed}
-use Rattle.wal.specs.declared.types.Committed.TheVariants as committed
-use Rattle.wal.specs.declared.types.Ended.{Ended}
-use Rattle.wal.specs.declared.types.Ended.TheVariants as ended_as
-use Rattle.wal.specs.Joint.{stepped_at}
-use Rattle.wal.specs.Lemmas.Commits.{commit_log}
-use Rattle.wal.specs.declared.types.Part.TheVariants as part
-use Rattle.wal.specs.Machine.{LogState, begun, ended, end_answer}
-use Rattle.inodes.specs.Places.{is_over}
-use Rattle.inodes.specs.Steps.{Steps, Commits}
-use Rattle.inodes.specs.Store.{StoreState, first_place, with_begun, with_log, with_look}
-use Rattle.inodes.specs.Tasks.{TaskState, task, no_task}
-use Rattle.ports.specs.History.{Side, first_in}
 use Rattle.std.specs.Option.{option_map}
-use Rattle.history.specs.AtOnce.{at_once_reply}
-use Rattle.history.specs.declared.types.Phase.{Phase}
-use Rattle.history.specs.declared.types.Phase.TheVariants as at
-use Rattle.history.specs.declared.types.Process.{Process}
-use Rattle.history.specs.Journal.{entry_in, entry_of}
-use Rattle.history.specs.Lemmas.Groups.{ended_keeps}
-use Rattle.history.specs.Open.{told}
-use Rattle.history.specs.Processes.{World, process, idle, entry_place, place_behind, refusal, turned_from, decided, told_at, over_at, committing_at, with_place}
-use Rattle.model.specs.declared.types.operations.Step.{Step}
-use Rattle.kernel.specs.declared.waiting.Waiting.{Waiting}
-use Rattle.kernel.specs.Next.{BeginsWith, Ends, Finishes, NextAt, NextIf, Works, Writes, world_after, world_behind, world_ended, world_written}
-use Rattle.kernel.specs.State.{room_for, waiting_of}
+use Rattle.kernel.specs.Common.{at_once_reply, BeginsWith, begun, Commit, commit_log, Commits, Committed, committing_at, decided, DeviceFault, end_answer, Ended, ended, ended_keeps, Ends, Entry, entry_in, entry_of, entry_place, Finishes, first_in, first_stage, get_or-set_other, idle, is_over, LogState, NextAt, NextIf, no_task, Op, over_at, Part, Phase, place_behind, Process, process, refusal, Reply, room_for, set-get_or, Side, Step, stepped_at, Steps, StoreState, task, TaskProgress, TaskState, told, told_at, turned_from, OpClass, class_of, with_begun, with_log, with_look, with_place, Works, World, world_after, world_behind, world_ended, world_written}
+use Rattle.kernel.specs.Next.{Writes}
 
 -- what becomes of the store beside the task of process q
 pub record LeavesStore {D : Type 0} (q : ℕ) (s t : StoreState D) : Type 0 where
@@ -48,7 +16,7 @@ pub record LeavesStore {D : Type 0} (q : ℕ) (s t : StoreState D) : Type 0 wher
 pub record AddsEntry (q : ℕ) (a : Phase) (es fs : List Entry) : Type 0 where
   pub entry : Entry
   pub mine : entry.pid ≡ q
-  pub from : (a ≡ at.Idle) ⊎ ((group : ℕ) × (op : Op) × (a ≡ at.BeforeTurn group op))
+  pub from : (a ≡ Phase.Idle) ⊎ ((group : ℕ) × (op : Op) × (a ≡ Phase.BeforeTurn group op))
   pub list : fs ≡ es ++ entry ∷ []
 
 -- the entry of a process that stands there is told a reply
@@ -68,7 +36,7 @@ EntryPlaces q a b es fs = (i : ℕ) → entry_place b ≡ Some i →
 
 -- it waits for its turn, as it did before or because it was idle
 abbrev pub BeforeFrom : Phase → Phase → Type 0
-BeforeFrom a b = (group : ℕ) (op : Op) → b ≡ at.BeforeTurn group op → (a ≡ at.Idle) ⊎ (a ≡ b)
+BeforeFrom a b = (group : ℕ) (op : Op) → b ≡ Phase.BeforeTurn group op → (a ≡ Phase.Idle) ⊎ (a ≡ b)
 
 -- a turn of process q, which stood there
 pub record Turned {D : Type 0} (q : ℕ) (a : Phase) (s : StoreState D) (w : World) (t : StoreState D)
@@ -114,15 +82,15 @@ module _ {D : Type 0} (q : ℕ) (s t : StoreState D) where
   }
 
   size_stepped : (h : Bool) (k : Commit) (l : LogState) → (stepped_at h k l).size ≡ l.size
-  size_stepped h commit.Quiet l = refl
-  size_stepped h (commit.Logging k) l = refl
-  size_stepped h commit.Heading l = refl
-  size_stepped h (commit.Homing k) l = refl
-  size_stepped h commit.Clearing l = refl
-  size_stepped h (commit.Syncing part.Log) l = refl
-  size_stepped h (commit.Syncing part.Header) l = refl
-  size_stepped h (commit.Syncing part.Homes) l = refl
-  size_stepped h (commit.Syncing part.Clear) l = refl
+  size_stepped h Commit.Quiet l = refl
+  size_stepped h (Commit.Logging k) l = refl
+  size_stepped h Commit.Heading l = refl
+  size_stepped h (Commit.Homing k) l = refl
+  size_stepped h Commit.Clearing l = refl
+  size_stepped h (Commit.Syncing Part.Log) l = refl
+  size_stepped h (Commit.Syncing Part.Header) l = refl
+  size_stepped h (Commit.Syncing Part.Homes) l = refl
+  size_stepped h (Commit.Syncing Part.Clear) l = refl
 
   store_commits : {N : Type 0} (disk : disk_trait.Ghosts D N) (r : Committed) → Commits disk s r t → LeavesStore q s t
   store_commits disk r commits = record {
@@ -175,19 +143,19 @@ module _ {D N : Type 0} (disk : disk_trait.Ghosts D N) (q : ℕ) (s : StoreState
   rests : (a : Phase) (o : World) → (process w q).at ≡ a → z ≡ o → o.processes ≡ w.processes → o.journal.list ≡ w.journal.list → LeavesStore q s t → To a
   rests a o stands to here list store = becomes a o (process w q) to (here ∙ sym (set-get_or w.processes q idle)) (inl list) (λ i at. inl (ap entry_place (sym stands) ∙ at)) (λ group op is. inr (sym stands)) store
 
-  begins : (what : Option Waiting) (ahead : List Op) (side : Side) (r : Step) → (process w q).at ≡ at.Idle → BeginsWith what s w q ahead side r t z → To at.Idle
+  begins : (what : Option OpClass) (ahead : List Op) (side : Side) (r : Step) → (process w q).at ≡ Phase.Idle → BeginsWith what s w q ahead side r t z → To Phase.Idle
   begins what ahead side r stands (inl made) =
-      becomes at.Idle _ (record { begun = (process w q).begun + 1; at = at.BeforeTurn (begun s.volume.log q).opened made.op; room = None }) made.world refl (inl refl) (λ i no. absurd (cc no)) (λ group op is. inl refl)
-      (store_begins q s t (with_begun s q made.op) (record { op = Some made.op; place = first_place made.op s.table.inode_count; gathered = None }) made.store refl refl refl)
+      becomes Phase.Idle _ (record { begun = (process w q).begun + 1; at = Phase.BeforeTurn (begun s.volume.log q).opened made.op; room = None }) made.world refl (inl refl) (λ i no. absurd (cc no)) (λ group op is. inl refl)
+      (store_begins q s t (with_begun s q made.op) (record { op = Some made.op; stage = first_stage made.op s.table.inode_count; gathered = None }) made.store refl refl refl)
   begins what ahead side r stands (inr (inl made)) =
-      becomes at.Idle _ _ made.world refl (inl refl) (λ i no. absurd (cc no)) (λ group op is. inl refl)
+      becomes Phase.Idle _ _ made.world refl (inl refl) (λ i no. absurd (cc no)) (λ group op is. inl refl)
       (store_begins q s t (with_look s q made.op (room_for made.count)) _ made.store refl refl refl)
   begins what ahead side r stands (inr (inr (inl made))) =
-      becomes at.Idle _ _ made.world refl (inr (inl (record { entry = refusal w q made.op (at_once_reply made.op); mine = refl; from = inl refl; list = refl })))
+      becomes Phase.Idle _ _ made.world refl (inr (inl (record { entry = refusal w q made.op (at_once_reply made.op); mine = refl; from = inl refl; list = refl })))
       (λ i at. inl (ap entry_place (sym stands) ∙ at)) (λ group op is. inl refl) (store_same q s t made.store)
-  begins what ahead side r stands (inr (inr (inr made))) = rests at.Idle w stands made.same.1 refl refl (store_same q s t made.same.0)
+  begins what ahead side r stands (inr (inr (inr made))) = rests Phase.Idle w stands made.same.1 refl refl (store_same q s t made.same.0)
 
-  works : (group : ℕ) (op : Op) (r : Step) → (process w q).at ≡ at.BeforeTurn group op → Works disk s w q op r t z → To (at.BeforeTurn group op)
+  works : (group : ℕ) (op : Op) (r : Step) → (process w q).at ≡ Phase.BeforeTurn group op → Works disk s w q op r t z → To (Phase.BeforeTurn group op)
   works group op r stands made = by_progress made.progress made.world
     where
       store : LeavesStore q s t
@@ -197,25 +165,25 @@ module _ {D N : Type 0} (disk : disk_trait.Ghosts D N) (q : ℕ) (s : StoreState
       by_over true k i is = cc is
       by_over false k i is = cc is
 
-      never : (over : Bool) (k g : ℕ) (o : Op) → place_behind over group k ≡ at.BeforeTurn g o → ⊥
+      never : (over : Bool) (k g : ℕ) (o : Op) → place_behind over group k ≡ Phase.BeforeTurn g o → ⊥
       never true k g o is = cc is
       never false k g o is = cc is
 
-      by_progress : (x : TaskProgress) → z ≡ world_after x (is_over (task t.tasks q).place) w q → To (at.BeforeTurn group op)
-      by_progress progress.Moved to = rests (at.BeforeTurn group op) w stands to refl refl store
-      by_progress (progress.Turned reply) to =
-          let over : Bool = is_over (task t.tasks q).place in
+      by_progress : (x : TaskProgress) → z ≡ world_after x (is_over (task t.tasks q).stage) w q → To (Phase.BeforeTurn group op)
+      by_progress TaskProgress.Moved to = rests (Phase.BeforeTurn group op) w stands to refl refl store
+      by_progress (TaskProgress.Turned reply) to =
+          let over : Bool = is_over (task t.tasks q).stage in
           let k = length w.journal.list in
-          let adds : AddsEntry q (at.BeforeTurn group op) w.journal.list (turned_from (at.BeforeTurn group op) w q reply over).journal.list
+          let adds : AddsEntry q (Phase.BeforeTurn group op) w.journal.list (turned_from (Phase.BeforeTurn group op) w q reply over).journal.list
           = record { entry = entry_of q (process w q).begun op group reply; mine = refl; from = inr (group, op, refl); list = refl } in
-          becomes (at.BeforeTurn group op) (turned_from (at.BeforeTurn group op) w q reply over) (record (process w q) { at = place_behind over group k })
+          becomes (Phase.BeforeTurn group op) (turned_from (Phase.BeforeTurn group op) w q reply over) (record (process w q) { at = place_behind over group k })
           (to ∙ ap (λ (a : Phase). turned_from a w q reply over) stands) refl (inr (inl adds)) (λ i is. inr (sym (by_over over k i is), adds)) (λ g o is. absurd (never over k g o is)) store
-      by_progress (progress.Decided reply) to = rests (at.BeforeTurn group op) w stands to refl refl store
-      by_progress progress.Over to = rests (at.BeforeTurn group op) w stands to refl refl store
-      by_progress (progress.Sleeping cause) to = rests (at.BeforeTurn group op) w stands to refl refl store
-      by_progress (progress.Fault fault) to = rests (at.BeforeTurn group op) w stands to refl refl store
+      by_progress (TaskProgress.Decided reply) to = rests (Phase.BeforeTurn group op) w stands to refl refl store
+      by_progress TaskProgress.Over to = rests (Phase.BeforeTurn group op) w stands to refl refl store
+      by_progress (TaskProgress.Sleeping cause) to = rests (Phase.BeforeTurn group op) w stands to refl refl store
+      by_progress (TaskProgress.Fault fault) to = rests (Phase.BeforeTurn group op) w stands to refl refl store
 
-  finishes : (group k : ℕ) (r : Step) → (process w q).at ≡ at.AfterTurn group k → Finishes disk s w q group k r t z → To (at.AfterTurn group k)
+  finishes : (group k : ℕ) (r : Step) → (process w q).at ≡ Phase.AfterTurn group k → Finishes disk s w q group k r t z → To (Phase.AfterTurn group k)
   finishes group k r stands made = by_progress made.progress group refl made.world
     where
       store : LeavesStore q s t
@@ -224,58 +192,58 @@ module _ {D N : Type 0} (disk : disk_trait.Ghosts D N) (q : ℕ) (s : StoreState
       told_here : (reply : Reply) → decided w q reply ≡ told_at (Some k) w reply
       told_here reply = ap (λ (a : Phase). told_at (entry_place a) w reply) stands
 
-      tells : (reply : Reply) → TellsEntry (at.AfterTurn group k) w.journal.list (told_at (Some k) w reply).journal.list
+      tells : (reply : Reply) → TellsEntry (Phase.AfterTurn group k) w.journal.list (told_at (Some k) w reply).journal.list
       tells reply = record { place = k; reply = reply; at = refl; list = refl }
 
-      over_here : over_at (process w q).at ≡ at.Ending group k
+      over_here : over_at (process w q).at ≡ Phase.Ending group k
       over_here = ap over_at stands
 
-      by_progress : (x : TaskProgress) (g : ℕ) → g ≡ group → z ≡ world_behind g x w q → To (at.AfterTurn group k)
-      by_progress progress.Moved g same to = rests (at.AfterTurn group k) w stands to refl refl store
-      by_progress (progress.Turned reply) g same to = rests (at.AfterTurn group k) w stands to refl refl store
-      by_progress (progress.Decided reply) zero same to =
-          becomes (at.AfterTurn group k) _ (record (process w q) { at = at.Idle; room = None }) (to ∙ ap (λ (o : World). Rattle.history.specs.Processes.answered o q) (told_here reply)) refl (inr (inr (tells reply))) (λ i no. absurd (cc no)) (λ g o is. absurd (cc is)) store
-      by_progress (progress.Decided reply) (suc g) same to =
-          becomes (at.AfterTurn group k) (told_at (Some k) w reply) (process w q) (to ∙ told_here reply) (sym (set-get_or w.processes q idle)) (inr (inr (tells reply))) (λ i at. inl (ap entry_place (sym stands) ∙ at)) (λ g o is. inr (sym stands)) store
-      by_progress progress.Over zero same to =
-          becomes (at.AfterTurn group k) _ (record (process w q) { at = at.Idle; room = None }) to refl (inl refl) (λ i no. absurd (cc no)) (λ g o is. absurd (cc is)) store
-      by_progress progress.Over (suc g) same to =
-          becomes (at.AfterTurn group k) _ (record (process w q) { at = over_at (process w q).at }) to refl (inl refl) (λ i at. inl (ap entry_place (sym over_here) ∙ at)) (λ g o is. absurd (let no = sym over_here ∙ is in cc no)) store
-      by_progress (progress.Sleeping cause) g same to = rests (at.AfterTurn group k) w stands to refl refl store
-      by_progress (progress.Fault fault) g same to = rests (at.AfterTurn group k) w stands to refl refl store
+      by_progress : (x : TaskProgress) (g : ℕ) → g ≡ group → z ≡ world_behind g x w q → To (Phase.AfterTurn group k)
+      by_progress TaskProgress.Moved g same to = rests (Phase.AfterTurn group k) w stands to refl refl store
+      by_progress (TaskProgress.Turned reply) g same to = rests (Phase.AfterTurn group k) w stands to refl refl store
+      by_progress (TaskProgress.Decided reply) zero same to =
+          becomes (Phase.AfterTurn group k) _ (record (process w q) { at = Phase.Idle; room = None }) (to ∙ ap (λ (o : World). Rattle.history.specs.Processes.answered o q) (told_here reply)) refl (inr (inr (tells reply))) (λ i no. absurd (cc no)) (λ g o is. absurd (cc is)) store
+      by_progress (TaskProgress.Decided reply) (suc g) same to =
+          becomes (Phase.AfterTurn group k) (told_at (Some k) w reply) (process w q) (to ∙ told_here reply) (sym (set-get_or w.processes q idle)) (inr (inr (tells reply))) (λ i at. inl (ap entry_place (sym stands) ∙ at)) (λ g o is. inr (sym stands)) store
+      by_progress TaskProgress.Over zero same to =
+          becomes (Phase.AfterTurn group k) _ (record (process w q) { at = Phase.Idle; room = None }) to refl (inl refl) (λ i no. absurd (cc no)) (λ g o is. absurd (cc is)) store
+      by_progress TaskProgress.Over (suc g) same to =
+          becomes (Phase.AfterTurn group k) _ (record (process w q) { at = over_at (process w q).at }) to refl (inl refl) (λ i at. inl (ap entry_place (sym over_here) ∙ at)) (λ g o is. absurd (let no = sym over_here ∙ is in cc no)) store
+      by_progress (TaskProgress.Sleeping cause) g same to = rests (Phase.AfterTurn group k) w stands to refl refl store
+      by_progress (TaskProgress.Fault fault) g same to = rests (Phase.AfterTurn group k) w stands to refl refl store
 
-  ends : (group k : ℕ) (r : Step) → (process w q).at ≡ at.Ending group k → Ends s w q r t z → To (at.Ending group k)
+  ends : (group k : ℕ) (r : Step) → (process w q).at ≡ Phase.Ending group k → Ends s w q r t z → To (Phase.Ending group k)
   ends group k r stands made = by_answer (end_answer s.volume.log) made.world
     where
-      committing_here : committing_at (process w q).at ≡ at.Committing group k
+      committing_here : committing_at (process w q).at ≡ Phase.Committing group k
       committing_here = ap committing_at stands
 
-      by_answer : (x : Ended) → z ≡ world_ended x w q → To (at.Ending group k)
-      by_answer ended_as.Commit to =
-          becomes (at.Ending group k) _ (record (process w q) { at = committing_at (process w q).at }) to refl (inl refl) (λ i at. inl (ap entry_place (sym committing_here) ∙ at)) (λ g o is. absurd (let no = sym committing_here ∙ is in cc no)) (store_ended q s t made.store)
-      by_answer ended_as.Left to =
-          becomes (at.Ending group k) _ (record (process w q) { at = at.Idle; room = None }) to refl (inl refl) (λ i no. absurd (cc no)) (λ g o is. absurd (cc is)) (store_ended q s t made.store)
+      by_answer : (x : Ended) → z ≡ world_ended x w q → To (Phase.Ending group k)
+      by_answer Ended.Commit to =
+          becomes (Phase.Ending group k) _ (record (process w q) { at = committing_at (process w q).at }) to refl (inl refl) (λ i at. inl (ap entry_place (sym committing_here) ∙ at)) (λ g o is. absurd (let no = sym committing_here ∙ is in cc no)) (store_ended q s t made.store)
+      by_answer Ended.Left to =
+          becomes (Phase.Ending group k) _ (record (process w q) { at = Phase.Idle; room = None }) to refl (inl refl) (λ i no. absurd (cc no)) (λ g o is. absurd (cc is)) (store_ended q s t made.store)
 
-  writes : (group k : ℕ) (r : Step) → (process w q).at ≡ at.Committing group k → Writes disk s w q r t z → To (at.Committing group k)
+  writes : (group k : ℕ) (r : Step) → (process w q).at ≡ Phase.Committing group k → Writes disk s w q r t z → To (Phase.Committing group k)
   writes group k r stands made = by_answer made.result made.world
     where
       store : LeavesStore q s t
       store = store_commits q s t disk made.result made.commits
 
-      by_answer : (x : Committed) → z ≡ world_written x w q → To (at.Committing group k)
-      by_answer committed.More to = rests (at.Committing group k) w stands to refl refl store
-      by_answer (committed.Durable g) to = rests (at.Committing group k) w stands to refl refl store
-      by_answer committed.Done to =
-          becomes (at.Committing group k) _ (record (process w q) { at = at.Idle; room = None }) to refl (inl refl) (λ i no. absurd (cc no)) (λ g o is. absurd (cc is)) store
-      by_answer (committed.Fault fault) to = rests (at.Committing group k) w stands to refl refl store
+      by_answer : (x : Committed) → z ≡ world_written x w q → To (Phase.Committing group k)
+      by_answer Committed.More to = rests (Phase.Committing group k) w stands to refl refl store
+      by_answer (Committed.Durable g) to = rests (Phase.Committing group k) w stands to refl refl store
+      by_answer Committed.Done to =
+          becomes (Phase.Committing group k) _ (record (process w q) { at = Phase.Idle; room = None }) to refl (inl refl) (λ i no. absurd (cc no)) (λ g o is. absurd (cc is)) store
+      by_answer (Committed.Fault fault) to = rests (Phase.Committing group k) w stands to refl refl store
 
   turned_at : (a : Phase) (ahead : List Op) (side : Side) (b : Bool) (r : Step) → (process w q).at ≡ a → NextAt disk a s w q ahead side b r t z → To a
-  turned_at at.Idle ahead side b r stands (inl heard) = rests at.Idle _ stands heard.world refl refl (store_same q s t heard.store)
-  turned_at at.Idle ahead side b r stands (inr none) = begins (option_map (waiting_of s.table.inode_count) (first_in none.ahead)) none.ahead side r stands none.begins
-  turned_at (at.BeforeTurn group op) ahead side b r stands next = works group op r stands next
-  turned_at (at.AfterTurn group k) ahead side b r stands next = finishes group k r stands next
-  turned_at (at.Ending group k) ahead side b r stands next = ends group k r stands next
-  turned_at (at.Committing group k) ahead side b r stands next = writes group k r stands next
+  turned_at Phase.Idle ahead side b r stands (inl heard) = rests Phase.Idle _ stands heard.world refl refl (store_same q s t heard.store)
+  turned_at Phase.Idle ahead side b r stands (inr none) = begins (option_map (class_of s.table.inode_count) (first_in none.ahead)) none.ahead side r stands none.begins
+  turned_at (Phase.BeforeTurn group op) ahead side b r stands next = works group op r stands next
+  turned_at (Phase.AfterTurn group k) ahead side b r stands next = finishes group k r stands next
+  turned_at (Phase.Ending group k) ahead side b r stands next = ends group k r stands next
+  turned_at (Phase.Committing group k) ahead side b r stands next = writes group k r stands next
 
   pub turned_by : (o : Option DeviceFault) (ahead : List Op) (side : Side) (b : Bool) (r : Step) → NextIf disk o s w q ahead side b r t z → To (process w q).at
   turned_by None ahead side b r next = turned_at (process w q).at ahead side b r refl next

@@ -1,11 +1,9 @@
 -- Runs of turns.
 use Rattle.std.proofs.Common.{List, [], ◌∷◌, ◌++◌, refl, subst}
+use Rattle.kernel.specs.Common.{Makes, Runs, State, Turn}
 use Rattle.blocks.specs.declared.disk.Disk as disk_trait
 use Rattle.ports.specs.declared.herald.Herald as herald_trait
 use Rattle.ports.specs.declared.intake.Intake as intake_trait
-use Rattle.kernel.specs.declared.types.Turn.{Turn}
-use Rattle.kernel.specs.Runs.{Makes, Runs}
-use Rattle.kernel.specs.State.{State}
 
 module _ {D N I M H : Type 0} (disk : disk_trait.Ghosts D N) (intake : intake_trait.Ghosts I M) (herald : herald_trait.Ghosts H) where
   -- one turn more at the end

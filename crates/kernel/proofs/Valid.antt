@@ -2,33 +2,12 @@
 use Rattle.std.proofs.Common.{◌≡◌, ⊎_elim, inl, inr, ℕ, Bool, true, false, cond, List, length, ◌∙◌, sym, refl, ap, subst, arith, Option, Some, None}
 use Rattle.std.specs.Option.{option_map}
 use Rattle.std.specs.Prelude.{IfNone, IsSome, IsTrue}
-use Rattle.std.proofs.lemmas.Bool.{false≢true, le-ltb}
-use Rattle.blocks.specs.Disk.{Image}
-use Rattle.model.specs.declared.types.operations.Op.{Op}
-use Rattle.model.specs.declared.types.operations.Op.TheVariants.{Create, Write, Read, Trunc, Remove, Stat}
-use Rattle.model.specs.Files.{Files, files_of}
-use Rattle.model.specs.Journal.{is_number}
-use Rattle.model.specs.Log.{cleared}
-use Rattle.model.specs.Soundness.{IsSound}
-use Rattle.bcache.specs.Buffers.{Buffers}
+use Rattle.kernel.specs.Common.{Agrees, AreLooking, asked, asked_by, Buffers, CanLook, CanTake, cleared, Create, current_of, false≢true, Files, files_of, Held, held_at, held_by, Image, is_late, is_number, is_over, is_unturned, IsLate, IsLogAt, IsSound, IsStore, IsValidView, IsWrite, Joint, late_apart, late_is, late_number, le-ltb, LogState, look_takes, LooksAt, number_of, Op, open_of, owes_reply, Read, Remove, Stage, Stands, Stat, StoreState, task, TaskState, Trunc, used_by, view_of, where_none, Write}
 use Rattle.in_flight.specs.Lemmas.AtRest.{fits_at_rest}
 use Rattle.in_flight.specs.Lemmas.OutsideLog.{sound_cleared}
-use Rattle.wal.specs.Joint.{Joint}
-use Rattle.wal.specs.Machine.{IsLogAt, LogState, used_by}
-use Rattle.inodes.specs.declared.tasks.Stage.{Stage}
-use Rattle.inodes.specs.declared.tasks.Stage.TheVariants as stage
 use Rattle.inodes.specs.Holding.{claim_by, claims_of}
-use Rattle.inodes.specs.Lemmas.Faults.{where_none}
 use Rattle.inodes.specs.Lemmas.Holding.{none_held}
-use Rattle.inodes.specs.Lemmas.Looks.{late_is, late_number, late_apart, look_takes}
-use Rattle.inodes.specs.Looks.{AreLooking, CanLook, CanTake, IsLate, IsWrite, LooksAt}
-use Rattle.inodes.specs.Places.{asked, asked_by, is_over, owes_reply, is_unturned}
-use Rattle.inodes.specs.Tasks.{TaskState, task}
-use Rattle.inodes.specs.Store.{Agrees, FitsFiles, IsStore, Stands, StoreState, current_of}
-use Rattle.history.specs.Lemmas.Groups.{open_of}
-use Rattle.history.specs.Open.{Held, held_by, is_late, number_of}
-use Rattle.history.specs.Views.{IsValidView}
-use Rattle.kernel.specs.View.{held_at, view_of}
+use Rattle.inodes.specs.Store.{FitsFiles}
 
 -- a store whose disk has not failed agrees with the disk, and its looks with what is shown
 pub record HasAgreed {D : Type 0} (image : D → Image) (s : StoreState D) : Type 0 where
@@ -40,28 +19,28 @@ pub agreed_now : {D : Type 0} (image : D → Image) (s : StoreState D) → s.vol
 agreed_now image s well joint store = record { joint = where_none s.volume.fault well joint; looks = where_none s.volume.fault well store.looks; agrees = where_none s.volume.fault well store.agrees }
 
 -- whose task owes no reply holds nothing
-pub unread_holds : (u : TaskState) → owes_reply u.place ≡ false → held_at u ≡ None
+pub unread_holds : (u : TaskState) → owes_reply u.stage ≡ false → held_at u ≡ None
 unread_holds u unread = ap (λ (b : Bool). cond b (option_map held_by u.op) None) unread
 
 pub over_unread : (a : Stage) → is_over a ≡ true → owes_reply a ≡ false
-over_unread stage.Nowhere over = refl
-over_unread (stage.Creating m) over = refl
-over_unread (stage.Taking m) over = refl
-over_unread (stage.Reading k m) over = absurd (false≢true over)
-over_unread (stage.Delivering k) over = absurd (false≢true over)
-over_unread (stage.Truncating k m) over = refl
-over_unread (stage.Writing k m) over = absurd (false≢true over)
-over_unread (stage.Leaving k) over = refl
+over_unread Stage.Nowhere over = refl
+over_unread (Stage.Creating m) over = refl
+over_unread (Stage.Taking m) over = refl
+over_unread (Stage.Reading k m) over = absurd (false≢true over)
+over_unread (Stage.Delivering k) over = absurd (false≢true over)
+over_unread (Stage.Truncating k m) over = refl
+over_unread (Stage.Writing k m) over = absurd (false≢true over)
+over_unread (Stage.Leaving k) over = refl
 
 pub unturned_unread : (a : Stage) → is_unturned a ≡ true → owes_reply a ≡ false
-unturned_unread stage.Nowhere is = refl
-unturned_unread (stage.Creating m) is = refl
-unturned_unread (stage.Taking m) is = refl
-unturned_unread (stage.Reading k m) is = absurd (false≢true is)
-unturned_unread (stage.Delivering k) is = absurd (false≢true is)
-unturned_unread (stage.Truncating k m) is = refl
-unturned_unread (stage.Writing k m) is = absurd (false≢true is)
-unturned_unread (stage.Leaving k) is = refl
+unturned_unread Stage.Nowhere is = refl
+unturned_unread (Stage.Creating m) is = refl
+unturned_unread (Stage.Taking m) is = refl
+unturned_unread (Stage.Reading k m) is = absurd (false≢true is)
+unturned_unread (Stage.Delivering k) is = absurd (false≢true is)
+unturned_unread (Stage.Truncating k m) is = refl
+unturned_unread (Stage.Writing k m) is = absurd (false≢true is)
+unturned_unread (Stage.Leaving k) is = refl
 
 -- the number on which the answer of an operation depends that takes an inode is that which it asks for
 pub take_number : (n : ℕ) (op : Op) → CanTake n op → number_of op ≡ asked op
@@ -92,23 +71,22 @@ late_op n t op same (inr w) =
 
 -- the reply of process q is to come, and it holds the number that it asks for; only a write writes
 pub record HoldsLate (n : ℕ) (ts : List TaskState) (q : ℕ) (h : Held) : Type 0 where
-  pub late : owes_reply (task ts q).place ≡ true
+  pub late : owes_reply (task ts q).stage ≡ true
   pub number : h.number ≡ asked_by (task ts q).op
   pub writes : h.writes ≡ true → IsWrite n (task ts q)
 
 -- so does who holds something
 pub held_late : (cur : Image) (t : Rattle.inodes.specs.Table.TableState) (ts : List TaskState) → AreLooking cur t ts → (q : ℕ) (h : Held) → held_at (task ts q) ≡ Some h → HoldsLate t.inode_count ts q h
-held_late cur t ts are q h held = by_place (owes_reply (task ts q).place) refl
+held_late cur t ts are q h held = by_place (owes_reply (task ts q).stage) refl
   where
-    shown : (op : Op) → owes_reply (task ts q).place ≡ true → (task ts q).op ≡ Some op → held_by op ≡ h
+    shown : (op : Op) → owes_reply (task ts q).stage ≡ true → (task ts q).op ≡ Some op → held_by op ≡ h
     shown op is same =
-        let both : Some (held_by op) ≡ Some h = sym (ap (λ (o : Option Op). option_map held_by o) same) ∙ sym (ap (λ (b : Bool). cond b (option_map held_by (task ts q).op) None) is) ∙ held in
-        cc both
+        cc (sym (ap (λ (o : Option Op). option_map held_by o) same) ∙ sym (ap (λ (b : Bool). cond b (option_map held_by (task ts q).op) None) is) ∙ held)
 
-    numbered : (op : Op) → owes_reply (task ts q).place ≡ true → (task ts q).op ≡ Some op → IsLate t.inode_count (task ts q) → h.number ≡ asked_by (task ts q).op
+    numbered : (op : Op) → owes_reply (task ts q).stage ≡ true → (task ts q).op ≡ Some op → IsLate t.inode_count (task ts q) → h.number ≡ asked_by (task ts q).op
     numbered op is same late = ap (λ (g : Held). g.number) (sym (shown op is same)) ∙ (late_op t.inode_count (task ts q) op same late).number ∙ sym (ap asked_by same)
 
-    by_late : owes_reply (task ts q).place ≡ true → IsLate t.inode_count (task ts q) → HoldsLate t.inode_count ts q h
+    by_late : owes_reply (task ts q).stage ≡ true → IsLate t.inode_count (task ts q) → HoldsLate t.inode_count ts q h
     by_late is (inl r) = record {
       late = is;
       number = numbered (Read r.number r.offset r.count) is r.is (inl r);
@@ -116,35 +94,35 @@ held_late cur t ts are q h held = by_place (owes_reply (task ts q).place) refl
     }
     by_late is (inr w) = record { late = is; number = numbered (Write w.number w.offset w.bytes) is w.is (inr w); writes = λ writes. w }
 
-    by_place : (b : Bool) → owes_reply (task ts q).place ≡ b → HoldsLate t.inode_count ts q h
+    by_place : (b : Bool) → owes_reply (task ts q).stage ≡ b → HoldsLate t.inode_count ts q h
     by_place false is = let no = sym (unread_holds (task ts q) is) ∙ held in absurd (cc no)
     by_place true is = by_late is (late_is cur t ts are q is)
 
 -- a write whose reply is to come is open in the log
 write_logged : (cur : Image) (t : Rattle.inodes.specs.Table.TableState) (c : Buffers) (l : LogState) (q : ℕ) (u : TaskState) (a : Stage) → LooksAt cur t u a → Stands c l t.inode_count q u.op a → owes_reply a ≡ true → IsWrite t.inode_count u → IsSome (used_by l q)
-write_logged cur t c l q u stage.Nowhere looks stands late w = absurd (false≢true late)
-write_logged cur t c l q u (stage.Creating m) looks stands late w = absurd (false≢true late)
-write_logged cur t c l q u (stage.Taking m) looks stands late w = absurd (false≢true late)
-write_logged cur t c l q u (stage.Reading k m) looks stands late w = let no = sym looks.op.is ∙ w.is in absurd (cc no)
-write_logged cur t c l q u (stage.Delivering k) looks stands late w = let no = sym looks.op.is ∙ w.is in absurd (cc no)
-write_logged cur t c l q u (stage.Truncating k m) looks stands late w = absurd (false≢true late)
-write_logged cur t c l q u (stage.Writing k m) looks stands late w = subst IsSome (sym stands.logged.used) refl
-write_logged cur t c l q u (stage.Leaving k) looks stands late w = absurd (false≢true late)
+write_logged cur t c l q u Stage.Nowhere looks stands late w = absurd (false≢true late)
+write_logged cur t c l q u (Stage.Creating m) looks stands late w = absurd (false≢true late)
+write_logged cur t c l q u (Stage.Taking m) looks stands late w = absurd (false≢true late)
+write_logged cur t c l q u (Stage.Reading k m) looks stands late w = let no = sym looks.op.is ∙ w.is in absurd (cc no)
+write_logged cur t c l q u (Stage.Delivering k) looks stands late w = let no = sym looks.op.is ∙ w.is in absurd (cc no)
+write_logged cur t c l q u (Stage.Truncating k m) looks stands late w = absurd (false≢true late)
+write_logged cur t c l q u (Stage.Writing k m) looks stands late w = subst IsSome (sym stands.logged.used) refl
+write_logged cur t c l q u (Stage.Leaving k) looks stands late w = absurd (false≢true late)
 
 -- while no operation is open in the log, no task holds a number
 claims_nothing : (l : LogState) (c : Buffers) (n p i : ℕ) (o : Option Op) (a : Stage) → IsLogAt l.commit l → l.outstanding ≡ 0 → Stands c l n p o a → claim_by o a i ≡ None
-claims_nothing l c n p i o stage.Nowhere log none stands = refl
-claims_nothing l c n p i o (stage.Creating m) log none stands = refl
-claims_nothing l c n p i o (stage.Taking m) log none stands = refl
-claims_nothing l c n p i o (stage.Reading k m) log none stands = refl
-claims_nothing l c n p i o (stage.Delivering k) log none stands = refl
-claims_nothing l c n p i o (stage.Truncating k m) log none stands = absurd (⊎_elim (λ (zero : used_by l p ≡ Some 0). is_out 0 zero) (λ one. is_out 1 one.0) stands.logged)
+claims_nothing l c n p i o Stage.Nowhere log none stands = refl
+claims_nothing l c n p i o (Stage.Creating m) log none stands = refl
+claims_nothing l c n p i o (Stage.Taking m) log none stands = refl
+claims_nothing l c n p i o (Stage.Reading k m) log none stands = refl
+claims_nothing l c n p i o (Stage.Delivering k) log none stands = refl
+claims_nothing l c n p i o (Stage.Truncating k m) log none stands = absurd (⊎_elim (λ (zero : used_by l p ≡ Some 0). is_out 0 zero) (λ one. is_out 1 one.0) stands.logged)
   where
     is_out : (u : ℕ) → used_by l p ≡ Some u → ⊥
     is_out u used = let some = (open_of l p log (subst IsSome (sym used) refl)).some in omega (arith, some, none)
-claims_nothing l c n p i o (stage.Writing k m) log none stands =
+claims_nothing l c n p i o (Stage.Writing k m) log none stands =
     let some = (open_of l p log (subst IsSome (sym stands.logged.used) refl)).some in absurd (omega (arith, some, none))
-claims_nothing l c n p i o (stage.Leaving k) log none stands = refl
+claims_nothing l c n p i o (Stage.Leaving k) log none stands = refl
 
 -- so its image stands for files as one between operations, and with the log's header cleared it has them
 files_quiet : {D : Type 0} (image : D → Image) (s : StoreState D) (m : Files) → HasAgreed image s → s.volume.log.outstanding ≡ 0 → FitsFiles image s m
@@ -153,9 +131,8 @@ unfolding FitsFiles
 files_quiet image s m agreed none fits =
     let l = s.volume.log in
     let free : (i : ℕ) → claims_of s.tasks i ≡ None = λ i. none_held s.tasks i
-    (λ q. claims_nothing l s.volume.buffers s.table.inode_count q i (task s.tasks q).op (task s.tasks q).place agreed.joint.log none (agreed.agrees.stands q)) in
-    let rests = (fits_at_rest m (current_of image s.volume) (claims_of s.tasks) (λ i low high. free i)).1 fits in
-    let quiet = sound_cleared m (current_of image s.volume) rests in
+    (λ q. claims_nothing l s.volume.buffers s.table.inode_count q i (task s.tasks q).op (task s.tasks q).stage agreed.joint.log none (agreed.agrees.stands q)) in
+    let quiet = sound_cleared m (current_of image s.volume) ((fits_at_rest m (current_of image s.volume) (claims_of s.tasks) (λ i low high. free i)).1 fits) in
     (quiet.0, sym quiet.1)
 
 -- what a journal asks of a store
@@ -167,7 +144,7 @@ valid_joint image s n same agreed =
     record {
       store = record {
         alone = λ p q g h mine other equal. let one = holds p g mine in let two = holds q h other in late_apart cur s.table s.tasks are p q one.late two.late (sym one.number ∙ equal ∙ two.number);
-        logged = λ q h held writes. let its = holds q h held in write_logged cur s.table s.volume.buffers s.volume.log q (task s.tasks q) (task s.tasks q).place (are.stand q) (agreed.agrees.stands q) its.late (its.writes writes);
+        logged = λ q h held writes. let its = holds q h held in write_logged cur s.table s.volume.buffers s.volume.log q (task s.tasks q) (task s.tasks q).stage (are.stand q) (agreed.agrees.stands q) its.late (its.writes writes);
         quiet = λ none m fits. files_quiet image s m agreed none fits;
       };
       log = agreed.joint.log;

@@ -1,29 +1,6 @@
 -- What a step of a process starts from, while the disk has not failed.
 use Rattle.std.proofs.Common.{◌≡◌, ℕ, ◌<◌, ◌≤◌, zero, suc, true, false, ltb, length, refl, ◌∙◌, subst, arith, Some, None}
-use Rattle.std.proofs.lemmas.Bool.{false≢true}
-use Rattle.blocks.specs.Disk.{Image}
-use Rattle.model.specs.declared.types.operations.Entry.{Entry}
-use Rattle.model.specs.declared.types.operations.Op.{Op}
-use Rattle.model.specs.Journal.{is_changing}
-use Rattle.model.specs.Layout.{inode_count_of}
-use Rattle.model.specs.Lemmas.Soundness.{facts_of}
-use Rattle.wal.specs.Machine.{IsLogAt}
-use Rattle.inodes.specs.Lemmas.Sought.{passes_busy}
-use Rattle.inodes.specs.Looks.{AreLooking}
-use Rattle.inodes.specs.Places.{is_over, is_unturned}
-use Rattle.inodes.specs.Store.{StoreState, IsStore, Agrees, current_of}
-use Rattle.inodes.specs.Tasks.{task}
-use Rattle.history.specs.declared.types.Phase.{Phase}
-use Rattle.history.specs.declared.types.Phase.TheVariants as at
-use Rattle.history.specs.Lemmas.Events.{changing_later}
-use Rattle.history.specs.Lemmas.Groups.{group_unread}
-use Rattle.history.specs.Open.{IsEntry}
-use Rattle.history.specs.Processes.{World, process}
-use Rattle.history.specs.Crash.{in_reads}
-use Rattle.history.specs.Views.{InGroup, HasEntry, StandsAt}
-use Rattle.kernel.specs.Invariant.{ArePaired, HasFacts, IsBehind, TaskStands}
-use Rattle.kernel.specs.State.{ats_of}
-use Rattle.kernel.specs.View.{view_of}
+use Rattle.kernel.specs.Common.{Agrees, AreLooking, ArePaired, ats_of, changing_later, current_of, Entry, facts_of, false≢true, group_unread, HasEntry, HasFacts, Image, in_reads, InGroup, inode_count_of, is_changing, is_over, is_unturned, IsBehind, IsEntry, IsLogAt, IsStore, Op, passes_busy, Phase, process, StandsAt, StoreState, task, TaskStands, view_of, World}
 
 -- a kernel whose disk has not failed, at a step of process p
 pub record IsWell {D : Type 0} (image : D → Image) (opening : Image) (s : StoreState D) (w : World) (p : ℕ) : Type 0 where
@@ -40,9 +17,7 @@ pub record IsWell {D : Type 0} (image : D → Image) (opening : Image) (s : Stor
 -- the number of a lawful image's inodes
 pub few_numbers : {D : Type 0} (image : D → Image) (s : StoreState D) → IsStore image s → s.table.inode_count ≤ 1024
 few_numbers image s is =
-    let few = (facts_of (current_of image s.volume) is.geometry).few in
-    let same = is.numbers in
-    omega (arith, few, same)
+    omega (arith, ((facts_of (current_of image s.volume) is.geometry).few), is.numbers)
 
 module _ {D : Type 0} (image : D → Image) (opening : Image) (s : StoreState D) (w : World) (p : ℕ) (is : IsWell image opening s w p) where
   pub log_of : IsLogAt s.volume.log.commit s.volume.log
@@ -53,28 +28,28 @@ module _ {D : Type 0} (image : D → Image) (opening : Image) (s : StoreState D)
   stands_at a stands = subst (λ (b : Phase). StandsAt (inode_count_of opening) (view_of image s) w.journal.list p b) stands (is.has.facts.stands p)
 
   -- an operation under way has its task, which is not over
-  pub before_there : (group : ℕ) (op : Op) → (process w p).at ≡ at.BeforeTurn group op → ((task s.tasks p).op ≡ Some op) × (is_over (task s.tasks p).place ≡ false)
+  pub before_there : (group : ℕ) (op : Op) → (process w p).at ≡ Phase.BeforeTurn group op → ((task s.tasks p).op ≡ Some op) × (is_over (task s.tasks p).stage ≡ false)
   before_there group op stands =
-      let there : TaskStands w.journal.list (task s.tasks p) (at.BeforeTurn group op) = subst (λ (a : Phase). TaskStands w.journal.list (task s.tasks p) a) stands (is.paired.stand p).stands in
-      (there.0, passes_busy is_unturned refl (task s.tasks p).place there.1)
+      let there : TaskStands w.journal.list (task s.tasks p) (Phase.BeforeTurn group op) = subst (λ (a : Phase). TaskStands w.journal.list (task s.tasks p) a) stands (is.paired.stand p).stands in
+      (there.0, passes_busy is_unturned refl (task s.tasks p).stage there.1)
 
-  pub unturned_before : (group : ℕ) (op : Op) → (process w p).at ≡ at.BeforeTurn group op → is_unturned (task s.tasks p).place ≡ true
+  pub unturned_before : (group : ℕ) (op : Op) → (process w p).at ≡ Phase.BeforeTurn group op → is_unturned (task s.tasks p).stage ≡ true
   unturned_before group op stands = (subst (λ (a : Phase). TaskStands w.journal.list (task s.tasks p) a) stands (is.paired.stand p).stands).1
 
-  pub behind_there : (group k : ℕ) → (process w p).at ≡ at.AfterTurn group k → (e : Entry) × HasEntry w.journal.list p k group e × IsBehind (task s.tasks p) e
+  pub behind_there : (group k : ℕ) → (process w p).at ≡ Phase.AfterTurn group k → (e : Entry) × HasEntry w.journal.list p k group e × IsBehind (task s.tasks p) e
   behind_there group k stands =
-      let there : TaskStands w.journal.list (task s.tasks p) (at.AfterTurn group k) = subst (λ (a : Phase). TaskStands w.journal.list (task s.tasks p) a) stands (is.paired.stand p).stands in
-      let has = (stands_at (at.AfterTurn group k) stands).1 in (has.0, has.1, there has.0 has.1.at)
+      let there : TaskStands w.journal.list (task s.tasks p) (Phase.AfterTurn group k) = subst (λ (a : Phase). TaskStands w.journal.list (task s.tasks p) a) stands (is.paired.stand p).stands in
+      let has = (stands_at (Phase.AfterTurn group k) stands).1 in (has.0, has.1, there has.0 has.1.at)
 
   -- the group of a changing one is not committed
-  pub later_before : (group : ℕ) (op : Op) → (process w p).at ≡ at.BeforeTurn group op → is_changing (inode_count_of opening) op ≡ true → in_reads s.volume.log < group
-  later_before group op stands changing = by_group group (stands_at (at.BeforeTurn group op) stands).1 (stands_at (at.BeforeTurn group op) stands).2
+  pub later_before : (group : ℕ) (op : Op) → (process w p).at ≡ Phase.BeforeTurn group op → is_changing (inode_count_of opening) op ≡ true → in_reads s.volume.log < group
+  later_before group op stands changing = by_group group (stands_at (Phase.BeforeTurn group op) stands).1 (stands_at (Phase.BeforeTurn group op) stands).2
     where
       by_group : (g : ℕ) → InGroup s.volume.log p g → ltb 0 g ≡ is_changing (inode_count_of opening) op → in_reads s.volume.log < g
       by_group zero is_in same = absurd (false≢true (same ∙ changing))
       by_group (suc g) is_in same = group_unread s.volume.log p (suc g) log_of is_in (omega arith)
 
   -- also behind the turn
-  pub later_behind : (group k : ℕ) (e : Entry) → (process w p).at ≡ at.AfterTurn group k → IsEntry w.journal.list k e → is_changing (inode_count_of opening) e.op ≡ true → in_reads s.volume.log < e.group
+  pub later_behind : (group k : ℕ) (e : Entry) → (process w p).at ≡ Phase.AfterTurn group k → IsEntry w.journal.list k e → is_changing (inode_count_of opening) e.op ≡ true → in_reads s.volume.log < e.group
   later_behind group k e stands there =
       changing_later opening (view_of image s) (view_of image s) w.journal.list (ats_of w) is.has.facts is.has.facts.valid p (ats_of w) (λ q apart. refl) group k e stands there

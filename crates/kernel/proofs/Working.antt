@@ -1,76 +1,25 @@
 -- What is true of store and processes stays so with a step of a task.
 use Rattle.std.proofs.Common.{◌≡◌, ◌≢◌, ℕ, ◌<◌, ◌≤◌, Bool, true, false, cond, List, [], ◌∷◌, ◌++◌, length, set, length-set, ltb, refl, sym, ◌∙◌, ap, subst, inl, inr, Option, Some, None}
-use Rattle.wal.specs.declared.types.DeviceFault.{DeviceFault}
-use Rattle.wal.specs.declared.types.DeviceFault.TheVariants.{Block}
 use Rattle.wal.specs.Floats.{Survives as SurvivesAt}
 use Rattle.std.specs.Prelude.{IsTrue, is_none}
-use Rattle.std.proofs.lemmas.Bool.{false≢true, le-leb, le-ltb}
-use Rattle.std.proofs.lemmas.List.{set-get_or}
-use Rattle.blocks.specs.Disk.{Image}
-use Rattle.blocks.specs.declared.disk.Disk.{Ghosts}
-use Rattle.blocks.specs.declared.errors.DiskFault.{DiskFault}
-use Rattle.model.specs.declared.types.operations.Entry.{Entry}
-use Rattle.model.specs.declared.types.operations.Op.{Op}
-use Rattle.model.specs.declared.types.operations.Op.TheVariants.{Create, Write, Read, Trunc, Remove, Stat}
-use Rattle.model.specs.declared.types.operations.Reply.{Reply}
-use Rattle.model.specs.declared.types.operations.Reply.TheVariants.{Bytes, Wrote}
-use Rattle.model.specs.declared.types.operations.TaskProgress.{TaskProgress}
-use Rattle.model.specs.declared.types.operations.TaskProgress.TheVariants as progress
-use Rattle.model.specs.Journal.{is_changing, is_making, is_number}
-use Rattle.model.specs.Operations.{transfer_limit}
-use Rattle.model.specs.Layout.{inode_count_of, form_of}
-use Rattle.wal.specs.Volume.{fault_of_task}
-use Rattle.wal.specs.Volume.{faults_after}
-use Rattle.inodes.specs.Lemmas.Faults.{where_none}
-use Rattle.inodes.specs.Lemmas.Looks.{late_is}
-use Rattle.inodes.specs.Lemmas.Sought.{passes_busy}
-use Rattle.inodes.specs.Lemmas.StepEnds.{DecisionEnds, GoesOn, GoesOnTurned, StepEnds, TurnEnds, ends_of}
-use Rattle.inodes.specs.Looks.{AreLooking, IsLate}
-use Rattle.inodes.specs.Places.{asked, is_over, owes_reply, is_unturned}
-use Rattle.inodes.specs.Steps.{Steps}
-use Rattle.inodes.specs.Store.{StoreState, IsStore, CanBegin, current_of}
-use Rattle.inodes.specs.Tasks.{task}
-use Rattle.inodes.specs.declared.tasks.Stage.{Stage}
-use Rattle.inodes.specs.declared.tasks.Stage.TheVariants as stage
-use Rattle.history.specs.declared.types.Phase.{Phase}
-use Rattle.history.specs.declared.types.Phase.TheVariants as at
-use Rattle.history.specs.declared.types.Process.{Process}
-use Rattle.history.specs.Alone.{is_committing_at}
-use Rattle.history.specs.Bound.{is_busy_at}
-use Rattle.history.specs.Counting.{IsCounted}
-use Rattle.history.specs.Grows.{JournalGoes}
-use Rattle.history.specs.Journal.{IsItsRoom, entry_of, entry_in}
-use Rattle.history.specs.Lemmas.Alone.{alone_stepped}
-use Rattle.history.specs.Lemmas.Answers.{changing_in_group, entry_inside, group_tells}
-use Rattle.history.specs.Lemmas.Known.{known_keeps}
-use Rattle.history.specs.Lemmas.Lists.{entry_new, entry_same, entry_set}
-use Rattle.history.specs.Lemmas.Nexts.{task_next, task_journal, others_back}
+use Rattle.kernel.specs.Common.{alone_stepped, answered, AreLooking, ArePaired, asked, at_place, ats_of, Block, Bytes, CanBegin, changing_in_group, counted_same, counted_turned, Create, current_of, decided, DecisionEnds, DeviceFault, DiskFault, ends_of, Entry, entry_in, entry_inside, entry_new, entry_of, entry_place, entry_same, entry_set, false≢true, fault_of_task, faults_after, form_of, Ghosts, GoesOn, GoesOnTurned, group_tells, HasEntry, HasFacts, idle, Image, in_reads, inode_count_of, is_busy_at, is_changing, is_committing_at, is_making, is_number, is_over, is_unturned, IsBehind, IsCounted, IsEntry, IsItsRoom, IsLate, IsRight, IsStore, IsValidView, JournalGoes, known_keeps, late_is, le-leb, le-ltb, number_of, Op, others_back, others_stay, over, over_at, owes_reply, passes_busy, Phase, place_behind, Process, process, Read, Remove, Reply, set-get_or, Stage, StandsAt, Stat, StepEnds, Steps, StoreState, Takes, task, task_journal, task_next, TaskProgress, TaskStands, there_now, told, told_at, transfer_limit, Trunc, turned, turned_from, TurnEnds, View, view_of, where_none, World, Write, Wrote}
 use Rattle.history.specs.Next.{TaskNext}
-use Rattle.history.specs.Open.{IsEntry, number_of, told}
-use Rattle.history.specs.Processes.{World, process, idle, turned, turned_from, place_behind, decided, told_at, entry_place, answered, at_place, over, over_at}
-use Rattle.history.specs.Crash.{in_reads}
-use Rattle.history.specs.Views.{View, HasEntry, StandsAt, Takes, IsValidView}
-use Rattle.kernel.specs.Invariant.{IsRight, HasFacts, ArePaired, IsBehind, TaskStands}
-use Rattle.kernel.specs.State.{ats_of}
-use Rattle.kernel.specs.View.{view_of}
 use Rattle.kernel.proofs.TaskSteps.{form_untouched, moves_of, turns_of, opens_of, takes_of, reads_rest, leaves_of, free_then}
 use Rattle.kernel.proofs.Valid.{HasAgreed, valid_joint, over_unread, take_number, unturned_unread}
-use Rattle.history.specs.Lemmas.Counting.{counted_turned, counted_same}
 use Rattle.kernel.proofs.Pairing.{paired_goes, keeps_behind}
-use Rattle.history.specs.Lemmas.Places.{there_now, others_stay}
 use Rattle.kernel.proofs.Lasting.{lasts_failed}
 use Rattle.kernel.proofs.Right.{right_well, right_failed}
 
 -- a task whose reply is to come is not over, and had its turn
 reading_more : (a : Stage) → owes_reply a ≡ true → (is_over a ≡ false) × (is_unturned a ≡ false)
-reading_more stage.Nowhere is = absurd (false≢true is)
-reading_more (stage.Creating m) is = absurd (false≢true is)
-reading_more (stage.Taking m) is = absurd (false≢true is)
-reading_more (stage.Reading k m) is = (refl, refl)
-reading_more (stage.Delivering k) is = (refl, refl)
-reading_more (stage.Truncating k m) is = absurd (false≢true is)
-reading_more (stage.Writing k m) is = (refl, refl)
-reading_more (stage.Leaving k) is = absurd (false≢true is)
+reading_more Stage.Nowhere is = absurd (false≢true is)
+reading_more (Stage.Creating m) is = absurd (false≢true is)
+reading_more (Stage.Taking m) is = absurd (false≢true is)
+reading_more (Stage.Reading k m) is = (refl, refl)
+reading_more (Stage.Delivering k) is = (refl, refl)
+reading_more (Stage.Truncating k m) is = absurd (false≢true is)
+reading_more (Stage.Writing k m) is = (refl, refl)
+reading_more (Stage.Leaving k) is = absurd (false≢true is)
 
 -- a write of a number that operations may name changes files
 write_changes : (n i off : ℕ) (bytes : List ℕ) → IsTrue (is_number n i) → length bytes ≤ transfer_limit → is_changing n (Write i off bytes) ≡ true
@@ -115,7 +64,7 @@ module _ {D N : Type 0} (disk : Ghosts D N) (opening : D) (s : StoreState D) (w 
   es = w.journal.list
 
   abbrev next : Stage
-  next = (task t.tasks p).place
+  next = (task t.tasks p).stage
 
   had : HasFacts disk.image (disk.image opening) s w
   had = where_none _ well right.facts
@@ -126,8 +75,8 @@ module _ {D N : Type 0} (disk : Ghosts D N) (opening : D) (s : StoreState D) (w 
   form_same : form_of (current_of disk.image s.volume) ≡ form
   form_same = form_untouched (disk.image opening) (current_of disk.image s.volume) had.facts.recovers.marks.untouched
 
-  pub ends_now : (r : TaskProgress) → is_over (task s.tasks p).place ≡ false → Steps disk s p op r t → StepEnds s.table.inode_count (task s.tasks p).place op r next
-  ends_now r more steps = ends_of disk s p op r t (task s.tasks p).place mine ((where_none _ well was.agrees).stands p) (looks.stand p) more steps.goes
+  pub ends_now : (r : TaskProgress) → is_over (task s.tasks p).stage ≡ false → Steps disk s p op r t → StepEnds s.table.inode_count (task s.tasks p).stage op r next
+  ends_now r more steps = ends_of disk s p op r t (task s.tasks p).stage mine ((where_none _ well was.agrees).stands p) (looks.stand p) more steps.goes
 
   -- the room for its answer stays
   room_stays : (r : TaskProgress) → Steps disk s p op r t → is_busy_at (process w p).at ≡ true → IsItsRoom (task t.tasks p).op (process w p).room
@@ -137,10 +86,10 @@ module _ {D N : Type 0} (disk : Ghosts D N) (opening : D) (s : StoreState D) (w 
   stood a stands = subst (λ (b : Phase). TaskStands es (task s.tasks p) b) stands (right.paired.stand p).stands
 
   -- a task that goes on stands where it stood
-  before_goes : (group : ℕ) (r : TaskProgress) → Steps disk s p op r t → is_unturned (task s.tasks p).place ≡ true → GoesOn (task s.tasks p).place next → TaskStands es (task t.tasks p) (at.BeforeTurn group op)
+  before_goes : (group : ℕ) (r : TaskProgress) → Steps disk s p op r t → is_unturned (task s.tasks p).stage ≡ true → GoesOn (task s.tasks p).stage next → TaskStands es (task t.tasks p) (Phase.BeforeTurn group op)
   before_goes group r steps unturned on = (steps.tasks.op_stays ∙ mine, on.unturned ∙ unturned)
 
-  behind_goes : (group k : ℕ) (r : TaskProgress) → Steps disk s p op r t → TaskStands es (task s.tasks p) (at.AfterTurn group k) → GoesOn (task s.tasks p).place next → TaskStands es (task t.tasks p) (at.AfterTurn group k)
+  behind_goes : (group k : ℕ) (r : TaskProgress) → Steps disk s p op r t → TaskStands es (task s.tasks p) (Phase.AfterTurn group k) → GoesOn (task s.tasks p).stage next → TaskStands es (task t.tasks p) (Phase.AfterTurn group k)
   behind_goes group k r steps behind on e there =
       let b = behind e there in
       record { same = steps.tasks.op_stays ∙ b.same; unfinished = on.unfinished; turned = on.unturned ∙ b.turned; reply = on.reading ∙ b.reply }
@@ -180,95 +129,95 @@ module _ {D N : Type 0} (disk : Ghosts D N) (opening : D) (s : StoreState D) (w 
         (faults_same r steps none)
 
   -- the task moved
-  moved_with : (a : Phase) → (process w p).at ≡ a → is_busy_at a ≡ true → is_committing_at a ≡ false → Steps disk s p op progress.Moved t → HasAgreed disk.image t
-      → TaskNext a progress.Moved n form p (process w p).begun before es now es a → TaskStands es (task t.tasks p) a → IsRight disk opening t w
+  moved_with : (a : Phase) → (process w p).at ≡ a → is_busy_at a ≡ true → is_committing_at a ≡ false → Steps disk s p op TaskProgress.Moved t → HasAgreed disk.image t
+      → TaskNext a TaskProgress.Moved n form p (process w p).begun before es now es a → TaskStands es (task t.tasks p) a → IsRight disk opening t w
   moved_with a stands busy quiet steps agreed made there =
-      right_stepped progress.Moved steps refl agreed w (process w p) (sym (set-get_or w.processes p idle)) a stands progress.Moved
-      (subst (λ (b : Phase). TaskNext a progress.Moved n form p (process w p).begun before es now es b) (sym stands) made)
+      right_stepped TaskProgress.Moved steps refl agreed w (process w p) (sym (set-get_or w.processes p idle)) a stands TaskProgress.Moved
+      (subst (λ (b : Phase). TaskNext a TaskProgress.Moved n form p (process w p).begun before es now es b) (sym stands) made)
       (subst (λ (k : ℕ). IsCounted k w) (sym steps.groups.opened) right.counted)
-      (subst (λ (b : Phase). TaskStands es (task t.tasks p) b) (sym stands) there) (room_stays progress.Moved steps) quiet (ap is_committing_at stands ∙ quiet)
+      (subst (λ (b : Phase). TaskStands es (task t.tasks p) b) (sym stands) there) (room_stays TaskProgress.Moved steps) quiet (ap is_committing_at stands ∙ quiet)
 
   -- what a stop leaves after a read survives as it did before it
   abbrev StillSurvives : Type 0
   StillSurvives = (x : Image) → disk.leaves t.volume.device (disk.moment t.volume.device) x → SurvivesAt s.volume.log.commit (disk.image s.volume.device) x
 
-  fails_with : (a : Phase) → (process w p).at ≡ a → is_busy_at a ≡ true → (fault : DiskFault) → StillSurvives → Steps disk s p op (progress.Fault fault) t → TaskStands es (task t.tasks p) a → IsRight disk opening t w
+  fails_with : (a : Phase) → (process w p).at ≡ a → is_busy_at a ≡ true → (fault : DiskFault) → StillSurvives → Steps disk s p op (TaskProgress.Fault fault) t → TaskStands es (task t.tasks p) a → IsRight disk opening t w
   fails_with a stands busy fault survives steps there =
-      right_failed disk opening s t w (Block fault) right well steps.reads.fault steps.tasks.numbers (paired_here (progress.Fault fault) a stands busy steps there) steps.groups.opened
+      right_failed disk opening s t w (Block fault) right well steps.reads.fault steps.tasks.numbers (paired_here (TaskProgress.Fault fault) a stands busy steps there) steps.groups.opened
       (λ x left. known_keeps (disk.image opening) before es (ats_of w) had.facts t.volume steps.groups.committed steps.groups.commit x (survives x left)) steps.reads.faults (lasts_failed disk opening s w was right p op fault t well steps)
 
   -- BEFORE ITS TURN
-  module _ (group : ℕ) (stands : (process w p).at ≡ at.BeforeTurn group op) where
-    unturned : is_unturned (task s.tasks p).place ≡ true
-    unturned = (stood (at.BeforeTurn group op) stands).1
+  module _ (group : ℕ) (stands : (process w p).at ≡ Phase.BeforeTurn group op) where
+    unturned : is_unturned (task s.tasks p).stage ≡ true
+    unturned = (stood (Phase.BeforeTurn group op) stands).1
 
-    more : is_over (task s.tasks p).place ≡ false
-    more = passes_busy is_unturned refl (task s.tasks p).place unturned
+    more : is_over (task s.tasks p).stage ≡ false
+    more = passes_busy is_unturned refl (task s.tasks p).stage unturned
 
-    pub right_moved : Steps disk s p op progress.Moved t → HasAgreed disk.image t → IsRight disk opening t w
+    pub right_moved : Steps disk s p op TaskProgress.Moved t → HasAgreed disk.image t → IsRight disk opening t w
     right_moved steps agreed =
-        let on = ends_now progress.Moved more steps in
-        moved_with (at.BeforeTurn group op) stands refl refl steps agreed (moves_of disk s t p op on steps, refl, refl) (before_goes group progress.Moved steps unturned on)
+        let on = ends_now TaskProgress.Moved more steps in
+        moved_with (Phase.BeforeTurn group op) stands refl refl steps agreed (moves_of disk s t p op on steps, refl, refl) (before_goes group TaskProgress.Moved steps unturned on)
 
     -- it decides nothing yet, and is not over
-    pub not_decided : (reply : Reply) → Steps disk s p op (progress.Decided reply) t → ⊥
-    not_decided reply steps = false≢true (sym (reading_more (task s.tasks p).place (ends_now (progress.Decided reply) more steps).0).1 ∙ unturned)
+    pub not_decided : (reply : Reply) → Steps disk s p op (TaskProgress.Decided reply) t → ⊥
+    not_decided reply steps = false≢true (sym (reading_more (task s.tasks p).stage (ends_now (TaskProgress.Decided reply) more steps).0).1 ∙ unturned)
 
-    pub not_over : Steps disk s p op progress.Over t → ⊥
-    not_over steps = false≢true (sym (ends_now progress.Over more steps).0 ∙ unturned)
+    pub not_over : Steps disk s p op TaskProgress.Over t → ⊥
+    not_over steps = false≢true (sym (ends_now TaskProgress.Over more steps).0 ∙ unturned)
 
-    pub right_fault : (fault : DiskFault) → StillSurvives → Steps disk s p op (progress.Fault fault) t → IsRight disk opening t w
-    right_fault fault survives steps = fails_with (at.BeforeTurn group op) stands refl fault survives steps (before_goes group (progress.Fault fault) steps unturned (ends_now (progress.Fault fault) more steps))
+    pub right_fault : (fault : DiskFault) → StillSurvives → Steps disk s p op (TaskProgress.Fault fault) t → IsRight disk opening t w
+    right_fault fault survives steps = fails_with (Phase.BeforeTurn group op) stands refl fault survives steps (before_goes group (TaskProgress.Fault fault) steps unturned (ends_now (TaskProgress.Fault fault) more steps))
 
     -- it had its turn
-    module _ (reply : Option Reply) (steps : Steps disk s p op (progress.Turned reply) t) (agreed : HasAgreed disk.image t) where
+    module _ (reply : Option Reply) (steps : Steps disk s p op (TaskProgress.Turned reply) t) (agreed : HasAgreed disk.image t) where
       abbrev e : Entry
       e = entry_of p (process w p).begun op group reply
 
-      turned_with : (b : Bool) → is_over next ≡ b → TaskNext (at.BeforeTurn group op) (progress.Turned reply) n form p (process w p).begun before es now (es ++ e ∷ []) (place_behind b group (length es))
+      turned_with : (b : Bool) → is_over next ≡ b → TaskNext (Phase.BeforeTurn group op) (TaskProgress.Turned reply) n form p (process w p).begun before es now (es ++ e ∷ []) (place_behind b group (length es))
           → TaskStands (es ++ e ∷ []) (task t.tasks p) (place_behind b group (length es)) → IsRight disk opening t (turned w p reply (is_over next))
       turned_with b over made there =
-          let z : World = turned_from (at.BeforeTurn group op) w p reply b in
+          let z : World = turned_from (Phase.BeforeTurn group op) w p reply b in
           let u : Process = record (process w p) { at = place_behind b group (length es) } in
           let same : turned w p reply (is_over next) ≡ z = ap (λ (c : Bool). turned w p reply c) over ∙ ap (λ (a : Phase). turned_from a w p reply b) stands in
           let same_b : turned w p reply b ≡ z = ap (λ (a : Phase). turned_from a w p reply b) stands in
           subst (λ (y : World). IsRight disk opening t y) (sym same)
-          (right_stepped (progress.Turned reply) steps refl agreed z u refl (at.BeforeTurn group op) stands (progress.Turned reply) made
+          (right_stepped (TaskProgress.Turned reply) steps refl agreed z u refl (Phase.BeforeTurn group op) stands (TaskProgress.Turned reply) made
           (subst (λ (y : World). IsCounted t.volume.log.opened y) same_b (counted_turned s.volume.log.opened p w right.counted lt t.volume.log.opened group op reply b stands steps.groups.opened))
-          there (λ busy. room_stays (progress.Turned reply) steps (ap is_busy_at stands)) refl (quiet_behind b group (length es)))
+          there (λ busy. room_stays (TaskProgress.Turned reply) steps (ap is_busy_at stands)) refl (quiet_behind b group (length es)))
 
       -- its task goes on
-      looked : is_over next ≡ false → is_unturned next ≡ false → owes_reply next ≡ is_none reply → TaskStands (es ++ e ∷ []) (task t.tasks p) (at.AfterTurn group (length es))
+      looked : is_over next ≡ false → is_unturned next ≡ false → owes_reply next ≡ is_none reply → TaskStands (es ++ e ∷ []) (task t.tasks p) (Phase.AfterTurn group (length es))
       looked unfinished past reads f there =
           let same : e ≡ f = entry_same (es ++ e ∷ []) (length es) e f (entry_new es e) there in
           subst (λ (g : Entry). IsBehind (task t.tasks p) g) same (record { same = steps.tasks.op_stays ∙ mine; unfinished = unfinished; turned = past; reply = reads })
 
-    pub right_turned : (reply : Option Reply) → Steps disk s p op (progress.Turned reply) t → HasAgreed disk.image t → IsRight disk opening t (turned w p reply (is_over next))
+    pub right_turned : (reply : Option Reply) → Steps disk s p op (TaskProgress.Turned reply) t → HasAgreed disk.image t → IsRight disk opening t (turned w p reply (is_over next))
     right_turned None steps agreed =
-        let owes = (ends_now (progress.Turned None) more steps).1.2 in
+        let owes = (ends_now (TaskProgress.Turned None) more steps).1.2 in
         let late = late_is (current_of disk.image t.volume) t.table t.tasks agreed.looks p owes in
         let past = reading_more next owes in
         turned_with None steps agreed false past.0
         (opens_of disk s t p op n (subst (λ (k : ℕ). IsLate k (task t.tasks p)) (steps.tasks.numbers ∙ right.numbers) late) mine owes steps, refl, refl)
         (looked None steps agreed past.0 past.1 owes)
-    right_turned (Some told) steps agreed = by_end (ends_now (progress.Turned (Some told)) more steps).1
+    right_turned (Some told) steps agreed = by_end (ends_now (TaskProgress.Turned (Some told)) more steps).1
       where
         by_end : TurnEnds s.table.inode_count op (Some told) next → IsRight disk opening t (turned w p (Some told) (is_over next))
         by_end (inl (can, over)) =
             let c = changes n op (subst (λ (k : ℕ). CanBegin k op) right.numbers can) in
             turned_with (Some told) steps agreed true over
-            (turns_of disk s t p op form form_same told c.1 (unturned_unread (task s.tasks p).place unturned) looks steps, refl, inr (refl, c.0, free_then disk s t p op (over_unread next over))) over
+            (turns_of disk s t p op form form_same told c.1 (unturned_unread (task s.tasks p).stage unturned) looks steps, refl, inr (refl, c.0, free_then disk s t p op (over_unread next over))) over
         by_end (inr (can, on)) =
             turned_with (Some told) steps agreed false on.unfinished
-            (turns_of disk s t p op form form_same told (take_number s.table.inode_count op can) (unturned_unread (task s.tasks p).place unturned) looks steps, refl, inl refl)
+            (turns_of disk s t p op form form_same told (take_number s.table.inode_count op can) (unturned_unread (task s.tasks p).stage unturned) looks steps, refl, inl refl)
             (looked (Some told) steps agreed on.unfinished on.turned on.unread)
 
   -- BEHIND ITS TURN
-  module _ (group k : ℕ) (stands : (process w p).at ≡ at.AfterTurn group k) where
-    behind : TaskStands es (task s.tasks p) (at.AfterTurn group k)
-    behind = stood (at.AfterTurn group k) stands
+  module _ (group k : ℕ) (stands : (process w p).at ≡ Phase.AfterTurn group k) where
+    behind : TaskStands es (task s.tasks p) (Phase.AfterTurn group k)
+    behind = stood (Phase.AfterTurn group k) stands
 
-    facts_of : StandsAt n before es p (at.AfterTurn group k)
+    facts_of : StandsAt n before es p (Phase.AfterTurn group k)
     facts_of = subst (λ (a : Phase). StandsAt n before es p a) stands (had.facts.stands p)
 
     abbrev own : Entry
@@ -292,7 +241,7 @@ module _ {D N : Type 0} (disk : Ghosts D N) (opening : D) (s : StoreState D) (w 
     ungrouped none = group_tells n group k es own had.facts.journal.changing has.at has.same ∙ ap (ltb 0) none
 
     -- whose reply is to come, is in none as a read, or in one as a write
-    late_here : owes_reply (task s.tasks p).place ≡ true → IsLate s.table.inode_count (task s.tasks p)
+    late_here : owes_reply (task s.tasks p).stage ≡ true → IsLate s.table.inode_count (task s.tasks p)
     late_here owes = late_is (current_of disk.image s.volume) s.table s.tasks looks p owes
 
     reads_alone : (i off m : ℕ) → op ≡ Read i off m → 0 < group → ⊥
@@ -302,12 +251,11 @@ module _ {D N : Type 0} (disk : Ghosts D N) (opening : D) (s : StoreState D) (w 
     writes_grouped i off bytes is (inl read) none = let no = sym read.is ∙ mine ∙ ap (λ (o : Op). Some o) is in cc no
     writes_grouped i off bytes is (inr write) none =
         let named = subst (λ (m : ℕ). IsTrue (is_number m write.number)) right.numbers write.may.0 in
-        let changing = write_changes n write.number write.offset write.bytes named write.may.1 in
         let same : own.op ≡ Write write.number write.offset write.bytes = (let both = sym its.same ∙ write.is in cc both) in
-        false≢true (sym (ungrouped none) ∙ ap (is_changing n) same ∙ changing)
+        false≢true (sym (ungrouped none) ∙ ap (is_changing n) same ∙ (write_changes n write.number write.offset write.bytes named write.may.1))
 
     -- so who is in none is over with its reply, and has its bytes
-    read_over : group ≡ 0 → (reply : Reply) → owes_reply (task s.tasks p).place ≡ true → DecisionEnds op reply next → (is_over next ≡ true) × ((bytes : List ℕ) × (reply ≡ Bytes bytes))
+    read_over : group ≡ 0 → (reply : Reply) → owes_reply (task s.tasks p).stage ≡ true → DecisionEnds op reply next → (is_over next ≡ true) × ((bytes : List ℕ) × (reply ≡ Bytes bytes))
     read_over none reply owes (inl read) = (read.1, read.2)
     read_over none reply owes (inr write) = absurd (writes_grouped write.0.0 write.0.1 write.0.2 write.0.3 (late_here owes) none)
 
@@ -317,36 +265,35 @@ module _ {D N : Type 0} (disk : Ghosts D N) (opening : D) (s : StoreState D) (w 
     write_on later reply (inr write) = (write.1, write.2)
 
     -- what its reply makes of files and journal
-    takes_told : (reply : Reply) → Steps disk s p op (progress.Decided reply) t → Takes form before now own.op reply
+    takes_told : (reply : Reply) → Steps disk s p op (TaskProgress.Decided reply) t → Takes form before now own.op reply
     takes_told reply steps = subst (λ (o : Op). Takes form before now o reply) same_op (takes_of disk s t p op form form_same reply steps)
 
     list_told : (reply : Reply) → (told_at (Some k) w reply).journal.list ≡ set es k (told own reply)
     list_told reply = ap (λ (f : Entry). set es k (told f reply)) (entry_inside es k own has.at)
 
-    pub right_moved_behind : Steps disk s p op progress.Moved t → HasAgreed disk.image t → IsRight disk opening t w
+    pub right_moved_behind : Steps disk s p op TaskProgress.Moved t → HasAgreed disk.image t → IsRight disk opening t w
     right_moved_behind steps agreed =
-        let on = ends_now progress.Moved its.unfinished steps in
-        moved_with (at.AfterTurn group k) stands refl refl steps agreed (moves_of disk s t p op on steps, refl, refl) (behind_goes group k progress.Moved steps behind on)
+        let on = ends_now TaskProgress.Moved its.unfinished steps in
+        moved_with (Phase.AfterTurn group k) stands refl refl steps agreed (moves_of disk s t p op on steps, refl, refl) (behind_goes group k TaskProgress.Moved steps behind on)
 
-    pub right_fault_behind : (fault : DiskFault) → StillSurvives → Steps disk s p op (progress.Fault fault) t → IsRight disk opening t w
-    right_fault_behind fault survives steps = fails_with (at.AfterTurn group k) stands refl fault survives steps (behind_goes group k (progress.Fault fault) steps behind (ends_now (progress.Fault fault) its.unfinished steps))
+    pub right_fault_behind : (fault : DiskFault) → StillSurvives → Steps disk s p op (TaskProgress.Fault fault) t → IsRight disk opening t w
+    right_fault_behind fault survives steps = fails_with (Phase.AfterTurn group k) stands refl fault survives steps (behind_goes group k (TaskProgress.Fault fault) steps behind (ends_now (TaskProgress.Fault fault) its.unfinished steps))
 
     -- it has no turn again
-    pub not_turned : (reply : Option Reply) → Steps disk s p op (progress.Turned reply) t → ⊥
-    not_turned reply steps = false≢true (sym its.turned ∙ (ends_now (progress.Turned reply) its.unfinished steps).0)
+    pub not_turned : (reply : Option Reply) → Steps disk s p op (TaskProgress.Turned reply) t → ⊥
+    not_turned reply steps = false≢true (sym its.turned ∙ (ends_now (TaskProgress.Turned reply) its.unfinished steps).0)
 
     -- its reading is over, and answered
-    pub right_decided : group ≡ 0 → (reply : Reply) → Steps disk s p op (progress.Decided reply) t → HasAgreed disk.image t → IsRight disk opening t (answered (decided w p reply) p)
+    pub right_decided : group ≡ 0 → (reply : Reply) → Steps disk s p op (TaskProgress.Decided reply) t → HasAgreed disk.image t → IsRight disk opening t (answered (decided w p reply) p)
     right_decided none reply steps agreed =
-        let ends = ends_now (progress.Decided reply) its.unfinished steps in
+        let ends = ends_now (TaskProgress.Decided reply) its.unfinished steps in
         let read = read_over none reply ends.0 ends.1 in
         let z : World = answered (told_at (Some k) w reply) p in
-        let u : Process = record (process w p) { at = at.Idle; room = None } in
+        let u : Process = record (process w p) { at = Phase.Idle; room = None } in
         let same : answered (decided w p reply) p ≡ z = ap (λ (a : Phase). answered (told_at (entry_place a) w reply) p) stands in
         let list : z.journal.list ≡ set es k (told own (Bytes read.1.0)) = list_told reply ∙ ap (λ (r : Reply). set es k (told own r)) read.1.1 in
-        let takes = subst (λ (r : Reply). Takes form before now own.op r) read.1.1 (takes_told reply steps) in
         subst (λ (y : World). IsRight disk opening t y) (sym same)
-        (right_stepped (progress.Decided reply) steps refl agreed z u refl (at.AfterTurn group k) stands progress.Over (
+        (right_stepped (TaskProgress.Decided reply) steps refl agreed z u refl (Phase.AfterTurn group k) stands TaskProgress.Over (
           own,
           has.at,
           inl (record {
@@ -355,24 +302,24 @@ module _ {D N : Type 0} (disk : Ghosts D N) (opening : D) (s : StoreState D) (w 
             none = none;
             rest = reads_rest disk s t p op reply steps;
             free = free_then disk s t p op (over_unread next read.0);
-            files = takes;
+            files = subst (λ (r : Reply). Takes form before now own.op r) read.1.1 (takes_told reply steps);
             list = list;
             now = refl;
           }),
         )
-        (counted_same s.volume.log.opened p w right.counted lt t.volume.log.opened z at.Idle None (ap Rattle.history.specs.Processes.is_before stands) refl refl (length-set es k (told (entry_in es k) reply)) refl steps.groups.opened)
+        (counted_same s.volume.log.opened p w right.counted lt t.volume.log.opened z Phase.Idle None (ap Rattle.history.specs.Processes.is_before stands) refl refl (length-set es k (told (entry_in es k) reply)) refl steps.groups.opened)
         read.0 (λ busy. absurd (false≢true busy)) refl refl)
 
     -- its writing is done: its entry is told the reply, and its task goes on
-    pub right_told : 0 < group → (reply : Reply) → Steps disk s p op (progress.Decided reply) t → HasAgreed disk.image t → IsRight disk opening t (decided w p reply)
+    pub right_told : 0 < group → (reply : Reply) → Steps disk s p op (TaskProgress.Decided reply) t → HasAgreed disk.image t → IsRight disk opening t (decided w p reply)
     right_told later reply steps agreed =
-        let ends = ends_now (progress.Decided reply) its.unfinished steps in
+        let ends = ends_now (TaskProgress.Decided reply) its.unfinished steps in
         let write = write_on later reply ends.1 in
         let z : World = told_at (Some k) w reply in
         let same : decided w p reply ≡ z = ap (λ (a : Phase). told_at (entry_place a) w reply) stands in
         let list = list_told reply in
         let there : IsEntry z.journal.list k (told own reply) = subst (λ (l : List Entry). IsEntry l k (told own reply)) (sym list) (entry_set es k own (told own reply) has.at) in
-        let goes : TaskNext (at.AfterTurn group k) (progress.Decided reply) n form p (process w p).begun before es now z.journal.list (at.AfterTurn group k) = (
+        let goes : TaskNext (Phase.AfterTurn group k) (TaskProgress.Decided reply) n form p (process w p).begun before es now z.journal.list (Phase.AfterTurn group k) = (
           own,
           has.at,
           reply_missing own.reply (sym its.reply ∙ ends.0),
@@ -385,33 +332,33 @@ module _ {D N : Type 0} (disk : Ghosts D N) (opening : D) (s : StoreState D) (w 
           list,
           refl,
         ) in
-        let goes_on : TaskStands z.journal.list (task t.tasks p) (at.AfterTurn group k) = λ e here. subst (λ (f : Entry). IsBehind (task t.tasks p) f) (entry_same z.journal.list k (told own reply) e there here)
+        let goes_on : TaskStands z.journal.list (task t.tasks p) (Phase.AfterTurn group k) = λ e here. subst (λ (f : Entry). IsBehind (task t.tasks p) f) (entry_same z.journal.list k (told own reply) e there here)
         (record { same = steps.tasks.op_stays ∙ its.same; unfinished = write.0.unfinished; turned = write.0.turned; reply = write.0.unread }) in
         subst (λ (y : World). IsRight disk opening t y) (sym same)
-        (right_stepped (progress.Decided reply) steps refl agreed z (process w p) (sym (set-get_or w.processes p idle)) (at.AfterTurn group k) stands (progress.Decided reply)
-        (subst (λ (b : Phase). TaskNext (at.AfterTurn group k) (progress.Decided reply) n form p (process w p).begun before es now z.journal.list b) (sym stands) goes)
+        (right_stepped (TaskProgress.Decided reply) steps refl agreed z (process w p) (sym (set-get_or w.processes p idle)) (Phase.AfterTurn group k) stands (TaskProgress.Decided reply)
+        (subst (λ (b : Phase). TaskNext (Phase.AfterTurn group k) (TaskProgress.Decided reply) n form p (process w p).begun before es now z.journal.list b) (sym stands) goes)
         (counted_same s.volume.log.opened p w right.counted lt t.volume.log.opened z (process w p).at (process w p).room (ap Rattle.history.specs.Processes.is_before stands) (ap Rattle.history.specs.Processes.is_before stands) (sym (set-get_or w.processes p idle)) (length-set es k (told (entry_in es k) reply)) refl steps.groups.opened)
-        (subst (λ (b : Phase). TaskStands z.journal.list (task t.tasks p) b) (sym stands) goes_on) (room_stays (progress.Decided reply) steps) refl (ap is_committing_at stands))
+        (subst (λ (b : Phase). TaskStands z.journal.list (task t.tasks p) b) (sym stands) goes_on) (room_stays (TaskProgress.Decided reply) steps) refl (ap is_committing_at stands))
 
     -- another operation of no group is over, and answered
-    pub right_over : group ≡ 0 → Steps disk s p op progress.Over t → HasAgreed disk.image t → IsRight disk opening t (answered w p)
+    pub right_over : group ≡ 0 → Steps disk s p op TaskProgress.Over t → HasAgreed disk.image t → IsRight disk opening t (answered w p)
     right_over none steps agreed =
-        let ends = ends_now progress.Over its.unfinished steps in
+        let ends = ends_now TaskProgress.Over its.unfinished steps in
         let reply = reply_there own.reply (sym its.reply ∙ ends.1) in
-        right_stepped progress.Over steps refl agreed (answered w p) (record (process w p) { at = at.Idle; room = None }) refl (at.AfterTurn group k) stands progress.Over
+        right_stepped TaskProgress.Over steps refl agreed (answered w p) (record (process w p) { at = Phase.Idle; room = None }) refl (Phase.AfterTurn group k) stands TaskProgress.Over
         (own, has.at, inr (inr (record { reply = reply.0; has = reply.1; none = none; leaves = leaves_of disk s t p op ends.2 steps; list = refl; now = refl })))
-        (counted_same s.volume.log.opened p w right.counted lt t.volume.log.opened (answered w p) at.Idle None (ap Rattle.history.specs.Processes.is_before stands) refl refl refl refl steps.groups.opened)
+        (counted_same s.volume.log.opened p w right.counted lt t.volume.log.opened (answered w p) Phase.Idle None (ap Rattle.history.specs.Processes.is_before stands) refl refl refl refl steps.groups.opened)
         ends.2 (λ busy. absurd (false≢true busy)) refl refl
 
     -- one of a group is over, and ends in the log next
-    pub right_ends : 0 < group → Steps disk s p op progress.Over t → HasAgreed disk.image t → IsRight disk opening t (over w p)
+    pub right_ends : 0 < group → Steps disk s p op TaskProgress.Over t → HasAgreed disk.image t → IsRight disk opening t (over w p)
     right_ends later steps agreed =
-        let ends = ends_now progress.Over its.unfinished steps in
+        let ends = ends_now TaskProgress.Over its.unfinished steps in
         let reply = reply_there own.reply (sym its.reply ∙ ends.1) in
-        let z : World = at_place w p (at.Ending group k) in
+        let z : World = at_place w p (Phase.Ending group k) in
         let same : over w p ≡ z = ap (λ (a : Phase). at_place w p (over_at a)) stands in
         subst (λ (y : World). IsRight disk opening t y) (sym same)
-        (right_stepped progress.Over steps refl agreed z (record (process w p) { at = at.Ending group k }) refl (at.AfterTurn group k) stands progress.Over
+        (right_stepped TaskProgress.Over steps refl agreed z (record (process w p) { at = Phase.Ending group k }) refl (Phase.AfterTurn group k) stands TaskProgress.Over
         (own, has.at, inr (inl (record { reply = reply.0; has = reply.1; changing = grouped later; leaves = leaves_of disk s t p op ends.2 steps; list = refl; now = refl })))
-        (counted_same s.volume.log.opened p w right.counted lt t.volume.log.opened z (at.Ending group k) (process w p).room (ap Rattle.history.specs.Processes.is_before stands) refl refl refl refl steps.groups.opened)
-        ends.2 (λ busy. room_stays progress.Over steps (ap is_busy_at stands)) refl refl)
+        (counted_same s.volume.log.opened p w right.counted lt t.volume.log.opened z (Phase.Ending group k) (process w p).room (ap Rattle.history.specs.Processes.is_before stands) refl refl refl refl steps.groups.opened)
+        ends.2 (λ busy. room_stays TaskProgress.Over steps (ap is_busy_at stands)) refl refl)

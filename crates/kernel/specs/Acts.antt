@@ -7,7 +7,6 @@ use Rattle.ports.specs.declared.intake.Intake as intake_trait
 use Rattle.history.specs.Bound.{is_busy_at}
 use Rattle.history.specs.Processes.{process}
 use Rattle.model.specs.declared.types.operations.Step.{Step}
-use Rattle.model.specs.declared.types.operations.Step.TheVariants as step
 use Rattle.kernel.specs.Device.{UsesDisk}
 use Rattle.kernel.specs.Heralds.{IsUnasked}
 use Rattle.kernel.specs.Next.{Next, StepFrom, StepTo}
@@ -43,7 +42,7 @@ pub record UsesPorts {D I M H : Type 0} (intake : intake_trait.Ghosts I M)
   pub unasked : may_begin k p ≡ false → IsUnasked herald k.herald m.herald
   pub sides : KeepsOthers intake p k.intake m.intake
   -- what waits goes on waiting, but for what is taken
-  pub waits : r ≢ step.Moved → r ≢ step.Answered
+  pub waits : r ≢ Step.Moved → r ≢ Step.Answered
       → IsPrefix (intake.side k.intake p).ahead (intake.side m.intake p).ahead
   pub ahead : is_busy_at (process k.world p).at ≡ true
       → (intake.side m.intake p).ahead ≡ (intake.side k.intake p).ahead

@@ -5,7 +5,6 @@ use Rattle.model.specs.declared.types.operations.Why.{Why}
 use Rattle.wal.specs.Machine.{begin_cause}
 use Rattle.inodes.specs.Waiting.{sleep_cause}
 use Rattle.history.specs.declared.types.Phase.{Phase}
-use Rattle.history.specs.declared.types.Phase.TheVariants as at
 use Rattle.history.specs.Bound.{is_busy_at}
 use Rattle.history.specs.Processes.{World}
 use Rattle.kernel.specs.Bound.{left_of}
@@ -13,7 +12,7 @@ use Rattle.kernel.specs.State.{State, ats_of}
 
 -- each process has no operation under way
 abbrev pub AreIdle : World → Type 0
-AreIdle w = (p : ℕ) → ats_of w p ≡ at.Idle
+AreIdle w = (p : ℕ) → ats_of w p ≡ Phase.Idle
 
 -- an operation of process p is under way
 abbrev pub IsBusy : {D I H : Type 0} → State D I H → ℕ → Type 0
@@ -22,11 +21,11 @@ IsBusy k p = is_busy_at (ats_of k.world p) ≡ true
 -- Why an operation under way has to wait, by why its task has to; none where it goes on. An end and
 -- a commit wait for nobody.
 abbrev pub cause_by : Phase → Option Why → Option Why
-cause_by at.Idle cause = None
-cause_by (at.BeforeTurn group op) cause = cause
-cause_by (at.AfterTurn group place) cause = cause
-cause_by (at.Ending group place) cause = None
-cause_by (at.Committing group place) cause = None
+cause_by Phase.Idle cause = None
+cause_by (Phase.BeforeTurn group op) cause = cause
+cause_by (Phase.AfterTurn group place) cause = cause
+cause_by (Phase.Ending group place) cause = None
+cause_by (Phase.Committing group place) cause = None
 
 abbrev pub cause_of : {D I H : Type 0} → State D I H → ℕ → Option Why
 cause_of k p = cause_by (ats_of k.world p) (sleep_cause k.store p)

@@ -7,31 +7,30 @@ use Rattle.ports.specs.declared.intake.Intake.{Ghosts}
 use Rattle.ports.specs.History.{AllFit, FitWith, takes}
 use Rattle.history.specs.Processes.{World, with_place}
 use Rattle.kernel.specs.declared.beginning.Rooms.{Rooms}
-use Rattle.kernel.specs.declared.waiting.Waiting.{Waiting}
-use Rattle.kernel.specs.declared.waiting.Waiting.TheVariants as waiting
+use Rattle.kernel.specs.declared.class.OpClass.{OpClass}
 use Rattle.model.specs.declared.types.operations.Step.{Step}
 use Rattle.kernel.specs.Next.{BeginsWith, IsNotTaken}
 use Rattle.kernel.specs.Ports.{KeepsOthers}
 use Rattle.kernel.specs.State.{State, room_for}
 
 -- why the log keeps out what waits: only what changes files is its business
-abbrev pub kept_out : Waiting → LogState → Option Why
-kept_out waiting.Change l = begin_cause l
-kept_out (waiting.Look count) l = None
-kept_out waiting.Refused l = None
+abbrev pub kept_out : OpClass → LogState → Option Why
+kept_out OpClass.Change l = begin_cause l
+kept_out (OpClass.Look count) l = None
+kept_out OpClass.Refused l = None
 
 -- how many bytes may be read of what waits
-abbrev pub count_of : Waiting → Option ℕ
-count_of waiting.Change = None
-count_of (waiting.Look count) = count
-count_of waiting.Refused = None
+abbrev pub count_of : OpClass → Option ℕ
+count_of OpClass.Change = None
+count_of (OpClass.Look count) = count
+count_of OpClass.Refused = None
 
 -- room for so many bytes that are read, and as much for their answer
 abbrev pub rooms_for : Option ℕ → Rooms
 rooms_for count = record { read = room_for count; answer = room_for count }
 
 -- process p's first operation was taken, with all the room that it needs
-pub record TakesFirst {I N : Type 0} (intake : Ghosts I N) (what : Waiting) (l : LogState) (p : ℕ)
+pub record TakesFirst {I N : Type 0} (intake : Ghosts I N) (what : OpClass) (l : LogState) (p : ℕ)
     (op : Op) (rooms : Rooms) (old new : I) (w z : World) : Type 0 where
   pub sides : KeepsOthers intake p old new
   pub served : intake.process_count new ≡ intake.process_count old
@@ -43,7 +42,7 @@ pub record TakesFirst {I N : Type 0} (intake : Ghosts I N) (what : Waiting) (l :
   pub world : z ≡ with_place w
 
 -- it was left, for the cause that the step says
-pub record LeavesFirst {I N : Type 0} (intake : Ghosts I N) (what : Waiting) (l : LogState) (p : ℕ)
+pub record LeavesFirst {I N : Type 0} (intake : Ghosts I N) (what : OpClass) (l : LogState) (p : ℕ)
     (r : Step) (old new : I) (w z : World) : Type 0 where
   pub sides : KeepsOthers intake p old new
   pub served : intake.process_count new ≡ intake.process_count old
@@ -54,7 +53,7 @@ pub record LeavesFirst {I N : Type 0} (intake : Ghosts I N) (what : Waiting) (l 
   pub world : z ≡ w
 
 -- what waits first for process p is of this kind, if there is one; it begins, or has to wait
-pub record Begins {D I H N : Type 0} (intake : Ghosts I N) (what : Option Waiting) (p : ℕ)
+pub record Begins {D I H N : Type 0} (intake : Ghosts I N) (what : Option OpClass) (p : ℕ)
     (r : Step) (k m : State D I H) : Type 0 where
   pub next : BeginsWith what k.store k.world p (intake.side k.intake p).ahead
       (intake.side m.intake p) r m.store m.world

@@ -14,7 +14,7 @@ use Rattle.kernel.specs.State.{State}
 -- those that a process's task has, over the store's current image
 abbrev pub task_left : {D : Type 0} → (D → Image) → StoreState D → ℕ → ℕ
 task_left image s q =
-    steps_left (current_of image s.volume) (task s.tasks q).place s.table.inode_count
+    steps_left (current_of image s.volume) (task s.tasks q).stage s.table.inode_count
 
 -- those of a process: of its task, of its end, and of its commit
 abbrev pub left_in : {D : Type 0} → (D → Image) → StoreState D → World → ℕ → ℕ

@@ -15,7 +15,7 @@ use Rattle.inodes.specs.WriteRuns.{SeesFull}
 use Rattle.inodes.specs.Writing.{extent_of}
 use Rattle.ports.specs.declared.herald.Herald as herald_trait
 use Rattle.ports.specs.declared.intake.Intake as intake_trait
-use Rattle.history.specs.declared.types.Phase.TheVariants as at
+use Rattle.history.specs.declared.types.Phase.{Phase}
 use Rattle.history.specs.Open.{IsEntry}
 use Rattle.kernel.specs.declared.types.Turn.{Turn}
 use Rattle.kernel.specs.declared.types.Turn.TheVariants.{Proc}
@@ -45,7 +45,7 @@ SomeTurnMakes disk intake herald P p (t ∷ ts) k m run =
 -- journal between them and has this reply
 pub record IsAnswered {D I H : Type 0} (k m : State D I H) (p : ℕ) (op : Op) (reply : Reply)
     : Type 0 where
-  pub idle : ats_of k.world p ≡ at.Idle
+  pub idle : ats_of k.world p ≡ Phase.Idle
   pub place : ℕ
   pub entry : Entry
   pub later : length k.world.journal.list ≤ place

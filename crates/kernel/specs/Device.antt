@@ -11,9 +11,7 @@ use Rattle.inodes.specs.Store.{StoreState}
 use Rattle.inodes.specs.Places.{block_at_place}
 use Rattle.inodes.specs.Tasks.{task}
 use Rattle.history.specs.declared.types.Phase.{Phase}
-use Rattle.history.specs.declared.types.Phase.TheVariants as at
 use Rattle.model.specs.declared.types.operations.Step.{Step}
-use Rattle.model.specs.declared.types.operations.Step.TheVariants as step
 use Rattle.history.specs.Alone.{is_committing_at}
 
 -- the counts of a disk that its use raises
@@ -43,11 +41,11 @@ CountsItsFault (Some fault) old new faults failed =
 
 -- the block that a step reads or writes; 0 where it does neither
 abbrev pub block_at_step : {D : Type 0} → Phase → StoreState D → ℕ → ℕ
-block_at_step at.Idle s p = 0
-block_at_step (at.BeforeTurn group op) s p = block_at_place (task s.tasks p).place
-block_at_step (at.AfterTurn group k) s p = block_at_place (task s.tasks p).place
-block_at_step (at.Ending group k) s p = 0
-block_at_step (at.Committing group k) s p = place_at s.volume.log.commit s.volume.log.homes
+block_at_step Phase.Idle s p = 0
+block_at_step (Phase.BeforeTurn group op) s p = block_at_place (task s.tasks p).stage
+block_at_step (Phase.AfterTurn group k) s p = block_at_place (task s.tasks p).stage
+block_at_step (Phase.Ending group k) s p = 0
+block_at_step (Phase.Committing group k) s p = place_at s.volume.log.commit s.volume.log.homes
 
 -- its step is a sync
 abbrev pub SyncsAt : {D : Type 0} → Phase → StoreState D → Type 0
@@ -62,15 +60,15 @@ FailsSo a s p (Sync fault) = SyncsAt a s
 -- most, or syncs
 pub record UsesDisk {D N : Type 0} (disk : Ghosts D N) (a : Phase) (p : ℕ) (r : Step)
     (s t : StoreState D) : Type 0 where
-  pub halted : (r ≡ step.Halted) ↔ IsSome t.volume.fault
+  pub halted : (r ≡ Step.Halted) ↔ IsSome t.volume.fault
   pub name : disk.name t.volume.device ≡ disk.name s.volume.device
   pub time : Elapses (disk.moment s.volume.device) (disk.moment t.volume.device)
       (disk.leaves s.volume.device) (disk.leaves t.volume.device)
   -- only a commit's step does more than read
   pub reads : is_committing_at a ≡ false → OnlyReads disk s.volume.device t.volume.device
-  pub written : is_committing_at a ≡ true → is_syncing s.volume.log.commit ≡ false → r ≢ step.Halted
+  pub written : is_committing_at a ≡ true → is_syncing s.volume.log.commit ≡ false → r ≢ Step.Halted
       → disk.write_count t.volume.device ≡ one_more (disk.write_count s.volume.device)
-  pub synced : SyncsAt a s → r ≢ step.Halted
+  pub synced : SyncsAt a s → r ≢ Step.Halted
       → disk.sync_count t.volume.device ≡ one_more (disk.sync_count s.volume.device)
   -- a disk that holds no writes back is not synced
   pub plain : UnlessHolds disk s.volume.device

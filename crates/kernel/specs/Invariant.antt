@@ -16,7 +16,6 @@ use Rattle.ports.specs.History.{History}
 use Rattle.ports.specs.declared.herald.Herald as herald_trait
 use Rattle.ports.specs.declared.intake.Intake as intake_trait
 use Rattle.history.specs.declared.types.Phase.{Phase}
-use Rattle.history.specs.declared.types.Phase.TheVariants as at
 use Rattle.history.specs.Alone.{CommitsAlone}
 use Rattle.history.specs.Views.{KernelFacts}
 use Rattle.history.specs.Follows.{IsJournal}
@@ -36,17 +35,17 @@ use Rattle.kernel.specs.View.{view_of}
 -- task still owes it.
 pub record IsBehind (t : TaskState) (e : Entry) : Type 0 where
   pub same : t.op ≡ Some e.op
-  pub unfinished : is_over t.place ≡ false
-  pub turned : is_unturned t.place ≡ false
-  pub reply : owes_reply t.place ≡ is_none e.reply
+  pub unfinished : is_over t.stage ≡ false
+  pub turned : is_unturned t.stage ≡ false
+  pub reply : owes_reply t.stage ≡ is_none e.reply
 
 -- a process's task stands where its operation does
 abbrev pub TaskStands : List Entry → TaskState → Phase → Type 0
-TaskStands es t at.Idle = is_over t.place ≡ true
-TaskStands es t (at.BeforeTurn group op) = (t.op ≡ Some op) × (is_unturned t.place ≡ true)
-TaskStands es t (at.AfterTurn group k) = (e : Entry) → IsEntry es k e → IsBehind t e
-TaskStands es t (at.Ending group k) = is_over t.place ≡ true
-TaskStands es t (at.Committing group k) = (is_over t.place ≡ true) × (0 < group)
+TaskStands es t Phase.Idle = is_over t.stage ≡ true
+TaskStands es t (Phase.BeforeTurn group op) = (t.op ≡ Some op) × (is_unturned t.stage ≡ true)
+TaskStands es t (Phase.AfterTurn group k) = (e : Entry) → IsEntry es k e → IsBehind t e
+TaskStands es t (Phase.Ending group k) = is_over t.stage ≡ true
+TaskStands es t (Phase.Committing group k) = (is_over t.stage ≡ true) × (0 < group)
 
 -- and the operation under way has room for its answer
 pub record IsPaired (es : List Entry) (t : TaskState) (a : Phase) (room : Option GatheredBytes)

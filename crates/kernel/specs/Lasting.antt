@@ -7,7 +7,7 @@ use Rattle.inodes.specs.Looks.{HoldsInode}
 use Rattle.inodes.specs.Places.{asked}
 use Rattle.inodes.specs.Store.{StoreState}
 use Rattle.inodes.specs.Table.{TableState}
-use Rattle.history.specs.declared.types.Phase.TheVariants as at
+use Rattle.history.specs.declared.types.Phase.{Phase}
 use Rattle.history.specs.Open.{IsEntry, is_late}
 use Rattle.history.specs.Processes.{World}
 use Rattle.kernel.specs.Bound.{left_in, step_bound}
@@ -15,14 +15,14 @@ use Rattle.kernel.specs.State.{ats_of}
 
 -- who goes on behind its turn has the lock of its operation's inode, and keeps it until its finish
 abbrev pub HaveLocks : TableState → World → Type 0
-HaveLocks t w = (p group place : ℕ) (e : Entry) → ats_of w p ≡ at.AfterTurn group place
+HaveLocks t w = (p group place : ℕ) (e : Entry) → ats_of w p ≡ Phase.AfterTurn group place
     → IsEntry w.journal.list place e → HoldsInode t p (asked e.op)
 
 -- the entry at this place is a Read's or a Write's, whose process goes on behind its turn
 pub record IsUnderWay (w : World) (place : ℕ) (e : Entry) : Type 0 where
   pub late : is_late e.op ≡ true
   pub group : ℕ
-  pub behind : ats_of w e.pid ≡ at.AfterTurn group place
+  pub behind : ats_of w e.pid ≡ Phase.AfterTurn group place
 
 -- so is each entry without a reply
 abbrev pub AreUnderWay : World → Type 0

@@ -22,3 +22,4 @@ pub mod Opening
 pub mod Theorem
 pub mod Lemmas
 pub mod Counts
+pub mod Common

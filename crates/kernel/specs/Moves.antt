@@ -8,12 +8,11 @@ use Rattle.kernel.specs.Bound.{step_bound}
 use Rattle.kernel.specs.State.{State}
 use Rattle.kernel.specs.Steps.{MakesStep}
 use Rattle.model.specs.declared.types.operations.Step.{Step}
-use Rattle.model.specs.declared.types.operations.Step.TheVariants as step
 
 -- n steps, each of which moves, make m of k, where one step does as `steps` says
 unfoldable pub Moves : {K : Type 0} → (Step → K → K → Type 0) → ℕ → K → K → Type 0
 Moves steps zero k m = m ≡ k
-Moves {K} steps (suc n) k m = (mid : K) × steps step.Moved k mid × Moves steps n mid m
+Moves {K} steps (suc n) k m = (mid : K) × steps Step.Moved k mid × Moves steps n mid m
 
 -- Steps of process p make m of k: fewer that move than an operation may have, and one that doesn't
 -- and answers r.
@@ -23,5 +22,5 @@ pub record MakesSteps {D N I M H : Type 0} (disk : Ghosts D N) (intake : Intakes
   pub mid : State D I H
   pub moves : Moves (MakesStep disk intake herald p) moved k mid
   pub few : moved < step_bound (form_of (disk.image k.opening))
-  pub last : r ≢ step.Moved
+  pub last : r ≢ Step.Moved
   pub made : MakesStep disk intake herald p r mid m

@@ -9,7 +9,6 @@ use Rattle.model.specs.Verdict.{verdict}
 use Rattle.offline.specs.Cause.{IsCause}
 use Rattle.wal.specs.Recovery.{IsCalm, LeavesIfCalm, RecoversAs, syncs_to_recover, writes_to_recover}
 use Rattle.wal.specs.declared.faults.RecoverFault.{RecoverFault}
-use Rattle.wal.specs.declared.faults.RecoverFault.TheVariants as recover
 use Rattle.inodes.specs.Store.{fresh_volume}
 use Rattle.inodes.specs.Table.{new_table}
 use Rattle.inodes.specs.Tasks.{no_task}
@@ -54,19 +53,19 @@ pub record IsOpened {D N I H : Type 0} (disk : Ghosts D N) (d : D) (i : I) (h : 
 
 -- the fault of a recovery after a check that found none
 abbrev pub IsRecoverCause : {D N : Type 0} → Ghosts D N → D → D → RecoverFault → Type 0
-IsRecoverCause disk d e recover.Disk = Rose (disk.fault_count d) (disk.fault_count e)
-IsRecoverCause disk d e recover.BadLog = ⊥
-IsRecoverCause disk d e recover.NoMemory = Unit {0}
-IsRecoverCause disk d e recover.Sync =
+IsRecoverCause disk d e RecoverFault.Disk = Rose (disk.fault_count d) (disk.fault_count e)
+IsRecoverCause disk d e RecoverFault.BadLog = ⊥
+IsRecoverCause disk d e RecoverFault.NoMemory = Unit {0}
+IsRecoverCause disk d e RecoverFault.Sync =
     Rose (disk.fault_count d) (disk.fault_count e) × (disk.holding (disk.name d) ≡ true)
 
 -- the faults at which blocks may have been written: a write of the recovery failed, or a sync
 abbrev pub MayWrite : OpenFault → Type 0
 MayWrite (Check fault) = ⊥
-MayWrite (Recover recover.Disk) = Unit {0}
-MayWrite (Recover recover.BadLog) = ⊥
-MayWrite (Recover recover.NoMemory) = ⊥
-MayWrite (Recover recover.Sync) = Unit {0}
+MayWrite (Recover RecoverFault.Disk) = Unit {0}
+MayWrite (Recover RecoverFault.BadLog) = ⊥
+MayWrite (Recover RecoverFault.NoMemory) = ⊥
+MayWrite (Recover RecoverFault.Sync) = Unit {0}
 MayWrite NoMemory = ⊥
 MayWrite ProcRange = ⊥
 

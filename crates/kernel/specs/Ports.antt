@@ -6,13 +6,13 @@ use Rattle.model.specs.declared.types.operations.Answer.{Answer}
 use Rattle.ports.specs.declared.intake.Intake.{Ghosts}
 use Rattle.ports.specs.History.{SameNames, OthersStay, FitWith, gives, first_in}
 use Rattle.history.specs.Processes.{World, process, last_answer}
-use Rattle.kernel.specs.declared.waiting.Waiting.{Waiting}
-use Rattle.kernel.specs.State.{waiting_of}
+use Rattle.kernel.specs.declared.class.OpClass.{OpClass}
+use Rattle.kernel.specs.State.{class_of}
 
 -- what the first operation that is known to wait for process p is to a kernel with so many inodes
-abbrev pub first_waiting : {I N : Type 0} → Ghosts I N → ℕ → I → ℕ → Option Waiting
+abbrev pub first_waiting : {I N : Type 0} → Ghosts I N → ℕ → I → ℕ → Option OpClass
 first_waiting intake inode_count i p =
-    option_map (waiting_of inode_count) (first_in (intake.side i p).ahead)
+    option_map (class_of inode_count) (first_in (intake.side i p).ahead)
 
 -- it is the same, but for process p's side
 pub record KeepsOthers {I N : Type 0} (intake : Ghosts I N) (p : ℕ) (old new : I) : Type 0 where

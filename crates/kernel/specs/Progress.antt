@@ -5,12 +5,10 @@ use Rattle.blocks.specs.declared.disk.Disk.{Ghosts}
 use Rattle.model.specs.Layout.{inode_count_of}
 use Rattle.wal.specs.Machine.{LogState}
 use Rattle.history.specs.declared.types.Phase.{Phase}
-use Rattle.history.specs.declared.types.Phase.TheVariants as at
 use Rattle.history.specs.Bound.{is_durable}
 use Rattle.history.specs.Grows.{Grows}
 use Rattle.history.specs.Processes.{World, process}
 use Rattle.model.specs.declared.types.operations.Step.{Step}
-use Rattle.model.specs.declared.types.operations.Step.TheVariants as step
 use Rattle.kernel.specs.Awake.{IsAwake}
 use Rattle.kernel.specs.Bound.{TakesOne, GivesNone}
 use Rattle.kernel.specs.State.{State}
@@ -18,21 +16,21 @@ use Rattle.kernel.specs.State.{State}
 -- The step of a process that stands so commits its group: it writes the header, or syncs it over a
 -- disk that holds writes back, or it is the last end of a group without homes.
 abbrev pub commits_at : Bool → Phase → LogState → Bool
-commits_at holds at.Idle l = false
-commits_at holds (at.BeforeTurn group op) l = false
-commits_at holds (at.AfterTurn group k) l = false
-commits_at holds (at.Ending group k) l = (l.outstanding == 1) && (length l.homes == 0)
-commits_at holds (at.Committing group k) l = is_durable holds l.commit
+commits_at holds Phase.Idle l = false
+commits_at holds (Phase.BeforeTurn group op) l = false
+commits_at holds (Phase.AfterTurn group k) l = false
+commits_at holds (Phase.Ending group k) l = (l.outstanding == 1) && (length l.homes == 0)
+commits_at holds (Phase.Committing group k) l = is_durable holds l.commit
 
 -- a step that is made; one that halts is not
 abbrev pub commits : Bool → Step → Phase → LogState → Bool
-commits holds step.Moved a l = commits_at holds a l
-commits holds step.Answered a l = commits_at holds a l
-commits holds (step.Sleeping cause) a l = false
-commits holds step.Idle a l = false
-commits holds step.NoMemory a l = false
-commits holds step.ShutDown a l = false
-commits holds step.Halted a l = false
+commits holds Step.Moved a l = commits_at holds a l
+commits holds Step.Answered a l = commits_at holds a l
+commits holds (Step.Sleeping cause) a l = false
+commits holds Step.Idle a l = false
+commits holds Step.NoMemory a l = false
+commits holds Step.ShutDown a l = false
+commits holds Step.Halted a l = false
 
 -- one group more is committed by such a step, and none by any other
 abbrev pub CountsCommitted : Bool → Step → Phase → LogState → LogState → Type 0
@@ -56,7 +54,7 @@ pub record MakesProgress {D N I H : Type 0} (disk : Ghosts D N) (p : ℕ) (r : S
       (process k.world p).at k.store.volume.log m.store.volume.log
   pub shut : KeepsShutdown k.world m.world
   -- an operation has fewer steps than the bound
-  pub bound : r ≡ step.Moved → TakesOne disk.image k p m
+  pub bound : r ≡ Step.Moved → TakesOne disk.image k p m
   pub others : GivesNone disk.image k p m
   -- where an operation is under way then, one goes on
   pub awake : IfNone m.store.volume.fault (IsAwake disk.image m)

@@ -11,8 +11,7 @@ use Rattle.history.specs.Most.{most_of}
 use Rattle.history.specs.Processes.{process}
 use Rattle.history.specs.Stop.{StepsLeave}
 use Rattle.history.specs.World.{World}
-use Rattle.kernel.specs.declared.waiting.Waiting.{Waiting}
-use Rattle.kernel.specs.declared.waiting.Waiting.TheVariants as waiting
+use Rattle.kernel.specs.declared.class.OpClass.{OpClass}
 
 pub record State (D I H : Type 0) : Type 0 where
   pub store : StoreState D
@@ -30,17 +29,17 @@ StopsIn disk k m =
     m.world.journal.list
 
 -- what an operation is to the kernel that is not answered at once
-abbrev pub kind_of : Op → Waiting
-kind_of (Create kind) = waiting.Change
-kind_of (Write i off bytes) = waiting.Change
-kind_of (Read i off n) = waiting.Look (Some n)
-kind_of (Trunc i) = waiting.Change
-kind_of (Remove i) = waiting.Change
-kind_of (Stat i) = waiting.Look None
+abbrev pub kind_of : Op → OpClass
+kind_of (Create kind) = OpClass.Change
+kind_of (Write i off bytes) = OpClass.Change
+kind_of (Read i off n) = OpClass.Look (Some n)
+kind_of (Trunc i) = OpClass.Change
+kind_of (Remove i) = OpClass.Change
+kind_of (Stat i) = OpClass.Look None
 
 -- what any operation is to it, where there are so many inode numbers
-abbrev pub waiting_of : ℕ → Op → Waiting
-waiting_of inode_count op = if is_at_once inode_count op then waiting.Refused else kind_of op
+abbrev pub class_of : ℕ → Op → OpClass
+class_of inode_count op = if is_at_once inode_count op then OpClass.Refused else kind_of op
 
 -- room for so many bytes
 abbrev pub room_for : Option ℕ → Option GatheredBytes

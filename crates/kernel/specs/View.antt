@@ -10,7 +10,7 @@ use Rattle.history.specs.Views.{View}
 
 -- what a task holds: its inode where its reply is still to come behind its turn, else nothing
 abbrev pub held_at : TaskState → Option Held
-held_at t = if owes_reply t.place then option_map held_by t.op else None
+held_at t = if owes_reply t.stage then option_map held_by t.op else None
 
 abbrev pub view_of : {D : Type 0} → (D → Image) → StoreState D → View
 view_of image s = record {

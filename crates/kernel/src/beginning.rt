@@ -8,8 +8,8 @@ ghost use Rattle.kernel.specs.Ports.{Asks, first_waiting};
 ghost use Rattle.kernel.specs.Acts.{Acts};
 
 use crate::Step;
+use crate::class::{OpClass, at_once_reply, class_of};
 use crate::stepping::Kernel;
-use crate::waiting::{Waiting, at_once_reply, waiting_of};
 use blocks::{Disk, NoMemory};
 use history::Processes;
 use inodes::Store;
@@ -60,7 +60,7 @@ impl<D: Disk, I: Intake, H: Herald> Kernel<D, I, H> {
     }
 
     // What waits for a process.
-    fn waiting(&mut self, pid: u32) -> Option<Waiting>
+    fn waiting(&mut self, pid: u32) -> Option<OpClass>
         requires pid { pid < length self.old.world.processes }
         ensures same { self.new ≡ record self.old { intake = self.new.intake } }
         ensures asks { Asks I.Intake pid self.old.intake self.new.intake }
@@ -69,11 +69,11 @@ impl<D: Disk, I: Intake, H: Herald> Kernel<D, I, H> {
     {
         let inode_count = self.store.inode_count();
         let op = self.intake.next(pid)?;
-        Some(waiting_of(op, inode_count))
+        Some(class_of(op, inode_count))
     }
 
     // Begins the first that waits for a process, which is of this kind, where it may.
-    fn begin_first(&mut self, pid: u32, what: Waiting) -> Step
+    fn begin_first(&mut self, pid: u32, what: OpClass) -> Step
         requires pid { pid < length self.old.world.processes }
         requires fault { self.old.store.volume.fault ≡ None }
         requires at { (process self.old.world pid).at ≡ at.Idle }
@@ -95,20 +95,20 @@ impl<D: Disk, I: Intake, H: Herald> Kernel<D, I, H> {
         };
         self.processes.known();
         match what {
-            Waiting::Change => {
+            OpClass::Change => {
                 let_go(rooms);
                 let group = self.store.begin(pid, &op);
                 self.store.known();
                 self.processes.take(pid, group, op, None);
                 Step::Moved
             }
-            Waiting::Look(_) => {
+            OpClass::Look(_) => {
                 self.store.begin_look(pid, &op, rooms.read);
                 self.store.known();
                 self.processes.take(pid, 0, op, rooms.answer);
                 Step::Moved
             }
-            Waiting::Refused => {
+            OpClass::Refused => {
                 let_go(rooms);
                 let reply = at_once_reply(&op);
                 let answer = self.processes.refuse(pid, op, reply);
@@ -135,7 +135,7 @@ fn take_first<D: Disk, I: Intake>(
     intake: &mut I,
     processes: &mut Processes,
     pid: u32,
-    what: Waiting,
+    what: OpClass,
 ) -> Result<(Op, Rooms), Step>
     requires pid { pid < I.process_count intake.old }
     requires waits { IsSome (first_in (I.side intake.old pid).ahead) }
@@ -164,20 +164,20 @@ fn take_first<D: Disk, I: Intake>(
 }
 
 // Why the log keeps out what waits.
-fn kept_out(log: &Log, what: Waiting) -> Option<Why>
+fn kept_out(log: &Log, what: OpClass) -> Option<Why>
     ensures { result ≡ kept_out what log.now }
 {
     match what {
-        Waiting::Change => log.may_begin(),
-        Waiting::Look(_) | Waiting::Refused => None,
+        OpClass::Change => log.may_begin(),
+        OpClass::Look(_) | OpClass::Refused => None,
     }
 }
 
 // Takes the rooms of what waits, where it may read bytes.
-fn take_rooms(alloc: Global, what: Waiting) -> Result<Rooms, NoMemory>
+fn take_rooms(alloc: Global, what: OpClass) -> Result<Rooms, NoMemory>
     ensures { IfOk result (λ rooms. rooms ≡ rooms_for (count_of what)) }
 {
-    let Waiting::Look(Some(count)) = what else {
+    let OpClass::Look(Some(count)) = what else {
         return Ok(Rooms {
             read: None,
             answer: None,

@@ -37,6 +37,7 @@
 #![tactic(auto)]
 
 mod beginning;
+mod class;
 mod counting;
 pub mod laws;
 mod opening;
@@ -46,7 +47,6 @@ mod stepping;
 mod telling;
 mod types;
 mod visiting;
-mod waiting;
 
 pub use model::types::Step;
 pub use runs::run;

@@ -20,3 +20,4 @@ pub mod Reservations
 pub mod Agreement
 pub mod Laws
 pub mod Lemmas
+pub mod Common

@@ -5,7 +5,6 @@ use Rattle.model.specs.declared.types.image.Form.{Form}
 use Rattle.model.specs.declared.types.operations.Op.{Op}
 use Rattle.model.specs.declared.types.operations.Reply.{Reply}
 use Rattle.model.specs.declared.types.operations.TaskProgress.{TaskProgress}
-use Rattle.model.specs.declared.types.operations.TaskProgress.TheVariants as progress
 use Rattle.model.specs.Crash.{IsUntouched, labels_of}
 use Rattle.model.specs.Files.{Files}
 use Rattle.model.specs.Journal.{is_making, is_number}
@@ -22,21 +21,21 @@ TurnsTo form op (Some reply) files P = Answers form op reply files P
 
 -- the files after a step have P
 abbrev pub FilesThen : Form → Op → TaskProgress → Files → (Files → Type 0) → Type 0
-FilesThen form op progress.Moved files P = P files
-FilesThen form op (progress.Turned reply) files P = TurnsTo form op reply files P
-FilesThen form op (progress.Decided reply) files P = Answers form op reply files P
-FilesThen form op progress.Over files P = P files
-FilesThen form op (progress.Sleeping why) files P = P files
-FilesThen form op (progress.Fault fault) files P = P files
+FilesThen form op TaskProgress.Moved files P = P files
+FilesThen form op (TaskProgress.Turned reply) files P = TurnsTo form op reply files P
+FilesThen form op (TaskProgress.Decided reply) files P = Answers form op reply files P
+FilesThen form op TaskProgress.Over files P = P files
+FilesThen form op (TaskProgress.Sleeping why) files P = P files
+FilesThen form op (TaskProgress.Fault fault) files P = P files
 
 -- the reply that stands from the turn on
 abbrev pub reply_at_turn : TaskProgress → Option Reply
-reply_at_turn progress.Moved = None
-reply_at_turn (progress.Turned reply) = reply
-reply_at_turn (progress.Decided reply) = None
-reply_at_turn progress.Over = None
-reply_at_turn (progress.Sleeping why) = None
-reply_at_turn (progress.Fault fault) = None
+reply_at_turn TaskProgress.Moved = None
+reply_at_turn (TaskProgress.Turned reply) = reply
+reply_at_turn (TaskProgress.Decided reply) = None
+reply_at_turn TaskProgress.Over = None
+reply_at_turn (TaskProgress.Sleeping why) = None
+reply_at_turn (TaskProgress.Fault fault) = None
 
 -- what a step that made a number, or none, did to what no file shows
 pub record Marks (made : Option Reply) (x y : Image) : Type 0 where

@@ -1,16 +1,8 @@
 -- The bytes of a file, piece by piece.
 use Rattle.std.proofs.Common.{◌≡◌, ℕ, ◌+◌, ◌-◌, ◌*◌, ◌/◌, ◌%◌, ◌<◌, ◌≤◌, List, ◌++◌, length, take, drop, sym, ap, ◌∙◌, arith}
-use Rattle.std.proofs.lemmas.List.{length-append, length-take-le, take-append-le, take_all}
-use Rattle.blocks.specs.Block.{overwritten}
-use Rattle.blocks.specs.Disk.{Image, IsImage, block_at}
-use Rattle.model.specs.declared.types.image.Dinode.{Dinode}
-use Rattle.model.specs.Files.{bytes_in}
-use Rattle.model.specs.Log.{recovered}
-use Rattle.model.specs.Operations.{part_of}
+use Rattle.offline.specs.Common.{block_at, bytes_in, Dinode, Image, IsImage, length-append, length-recovered, length-take-le, MayReadFile, overwritten, part_of, recovered, take-append-le, take_all}
 use Rattle.model.specs.Places.{address_in}
-use Rattle.model.specs.Lemmas.Log.{length-recovered}
 use Rattle.model.specs.Lemmas.Bytes.{IsFullAt, length-bytes_in, length-part, part_in_block, part_in_two}
-use Rattle.offline.specs.Recovered.{MayReadFile}
 use Rattle.offline.proofs.FilesLemmas.{block_behind}
 
 -- ---- the bytes of a file that may be read
@@ -22,8 +14,7 @@ part_more bytes into piece at done n inside long before here =
     let front = take done into ++ piece in
     let first = length-take-le done into inside in
     let both : length front ≡ done + n = length-append (take done into) piece ∙ (let e : length (take done into) + length piece ≡ done + n = omega (arith, first, long) in e) in
-    let low : done + n ≤ length front = omega (arith, both) in
-    take-append-le (done + n) front (drop (done + length piece) into) low
+    take-append-le (done + n) front (drop (done + length piece) into) (omega (arith, both))
     ∙ take_all (done + n) front (omega (arith, both))
     ∙ ap (λ l. l ++ piece) before ∙ ap (λ l. part_of bytes at done ++ l) here ∙ sym (part_in_two bytes at done n)
 

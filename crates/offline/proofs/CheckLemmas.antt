@@ -1,29 +1,12 @@
 -- Reading the recovered image block by block.
 use Rattle.std.proofs.Common.{◌≡◌, ◌≢◌, ℕ, ◌+◌, ◌<◌, ◌≤◌, true, false, List, [], ◌∷◌, ◌++◌, drop, length, get_or, replicate, Option, Some, None, refl, sym, ap, subst, ◌∙◌, ⊎_elim, arith}
 use Rattle.std.specs.Prelude.{slice_get}
-use Rattle.std.proofs.lemmas.Bool.{ne_eqb, cases_eq, le-ltb, lt-ltb}
-use Rattle.std.proofs.lemmas.List.{append-nil, get_or-replicate, length-append, length-replicate}
-use Rattle.blocks.specs.Block.{IsBlock, overwritten, zero_block}
-use Rattle.std.proofs.lemmas.Option.{get_or_from_slice_get}
-use Rattle.blocks.specs.Disk.{Image, block_at}
-use Rattle.model.specs.Fields.{u32_at}
-use Rattle.model.specs.Layout.{is_known_magic, form_of, super_in, super_of, is_lawful_super, meta_count}
-use Rattle.model.specs.declared.types.fault.CheckFault.{CheckFault}
-use Rattle.model.specs.declared.types.fault.CheckFault.TheVariants.{BadGeometry}
-use Rattle.model.specs.declared.types.image.Form.{Form}
-use Rattle.model.specs.declared.types.image.Super.{Super}
-use Rattle.model.specs.Log.{homes_of, logged_count, place_among, block_from_log, is_lawful_log, recovered, recovered_block}
-use Rattle.model.specs.Verdict.{or_else, geometry_fault, log_fault, inodes_fault, marks_fault, verdict}
-use Rattle.model.specs.Lemmas.Log.{recovered_empty, recovered_at, recovered_low, length-recovered}
-use Rattle.model.specs.Lemmas.Super.{lawful_geometry, super_of-recovered}
-use Rattle.model.specs.Lemmas.Verdict.{or_else-assoc}
-use Rattle.model.specs.Lemmas.Recovery.{no_homes}
-use Rattle.offline.specs.declared.owners.Owners.{Owners}
+use Rattle.offline.specs.Common.{append-nil, BadGeometry, block_at, block_from_log, cases_eq, CheckFault, Form, form_of, geometry_fault, get_or-replicate, get_or_from_slice_get, homes_of, Image, inodes_fault, is_known_magic, is_lawful_log, is_lawful_super, IsBlock, IsCause, IsRecoveredOf, lawful_geometry, le-ltb, length-append, length-recovered, length-replicate, log_fault, logged_count, lt-ltb, marks_fault, meta_count, ne_eqb, no_homes, or_else, or_else-assoc, overwritten, Owners, place_among, recovered, recovered_at, recovered_empty, recovered_low, source_among, source_at, Stand, Super, super_in, super_of, super_of-recovered, u32_at}
+use Rattle.blocks.specs.Block.{zero_block}
+use Rattle.model.specs.Log.{recovered_block}
+use Rattle.model.specs.Verdict.{verdict}
 use Rattle.offline.specs.declared.recovered.Recovered.{Recovered}
 use Rattle.offline.specs.Check.{IsGround}
-use Rattle.offline.specs.Recovered.{IsRecoveredOf}
-use Rattle.offline.specs.Owners.{Stand}
-use Rattle.offline.specs.Cause.{source_at, source_among, IsCause}
 use Rattle.offline.proofs.OwnersLemmas.{cause_first}
 
 block_from_log-source : (x : Image) (b : ℕ) (place : Option ℕ) → block_from_log x b place ≡ block_at x (source_at place b)
@@ -45,8 +28,7 @@ recovered_source x b other inside =
 pub geometry_passes : (x : Image) (bytes : List ℕ) → 2 ≤ length x → slice_get x 1 ≡ Some bytes → is_known_magic (u32_at bytes 0) ≡ true →
     is_lawful_super (super_in bytes) (length x) ≡ true → geometry_fault x ≡ None
 geometry_passes x bytes long read magic lawful =
-    let e : block_at x 1 ≡ bytes = get_or_from_slice_get x 1 bytes [] read in
-    rw (le-ltb (length x) 2 long, e, magic, lawful) refl
+    rw (le-ltb (length x) 2 long, (get_or_from_slice_get x 1 bytes [] read), magic, lawful) refl
 
 -- a table of no places yet
 pub stand_new : (x : Image) (sup : Super) (form : Form) (owners : Owners) → IsGround x sup form → owners.first_data ≡ meta_count sup.size sup.ninodes → owners.size ≡ sup.size →
@@ -68,10 +50,9 @@ ground x sup form none lawful same told =
     let room = f.room in
     let size = f.size in
     let long : 1 < length x = omega arith in
-    let block : block_at (recovered x) 1 ≡ block_at x 1 = recovered_low x 1 lawful (omega arith) (omega arith) long in
     record {
       same = same ∙ sym (super_of-recovered x lawful long);
-      is_form = rw block (sym told);
+      is_form = rw (recovered_low x 1 lawful (omega arith) (omega arith) long) (sym told);
       size = rw same f.size;
       some = rw same f.some;
       few = rw same f.few;

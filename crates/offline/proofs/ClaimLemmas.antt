@@ -1,14 +1,7 @@
 -- The pointers under addresses, step by step.
 use Rattle.std.proofs.Common.{◌≡◌, ◌≢◌, ℕ, zero, suc, ◌+◌, ◌-◌, ◌<◌, ◌≤◌, List, [], ◌∷◌, ◌++◌, length, get_or, drop, refl, ⊎_elim}
-use Rattle.std.proofs.lemmas.Bool.{ne_eqb, cases_eq}
 use Rattle.std.proofs.Math.Numerals.{sub-one}
-use Rattle.std.proofs.lemmas.List.{at_drop_more, at_drop_all, drop_more, drop_all, get_or_past}
-use Rattle.blocks.specs.Disk.{Image, block_at}
-use Rattle.model.specs.declared.types.image.Pointer.{Pointer}
-use Rattle.model.specs.Fields.{words_of}
-use Rattle.model.specs.Layout.{reach}
-use Rattle.model.specs.Places.{pointer_of, pointers_under, pointers_behind, pointers_along}
-use Rattle.offline.specs.Owners.{entry_pointers}
+use Rattle.offline.specs.Common.{at_drop_all, at_drop_more, block_at, cases_eq, drop_all, drop_more, entry_pointers, get_or_past, Image, ne_eqb, Pointer, pointer_of, pointers_along, pointers_behind, pointers_under, reach, words_of}
 
 -- an address with nothing under it but its block
 pub under_data : (y : Image) (size depth first address : ℕ) → depth ≡ 0 → pointers_under y size depth first address ≡ pointer_of size first address ∷ []
@@ -50,9 +43,7 @@ pub along_more : (y : Image) (size first : ℕ) (depths addresses : List ℕ) (k
     ≡ pointers_under y size (get_or depths k 0) first (get_or addresses k 0)
     ++ pointers_along y size (first + reach (get_or depths k 0)) (drop (k + 1) depths) (drop (k + 1) addresses)
 along_more y size first depths addresses k in_depths in_addresses =
-    let d = drop_more depths k 0 in_depths in
-    let a = drop_more addresses k 0 in_addresses in
-    rw (d, a) refl
+    rw ((drop_more depths k 0 in_depths), (drop_more addresses k 0 in_addresses)) refl
 
 pub along_all : (y : Image) (size first : ℕ) (depths addresses : List ℕ) (k : ℕ) → length depths ≤ k →
     pointers_along y size first (drop k depths) (drop k addresses) ≡ []

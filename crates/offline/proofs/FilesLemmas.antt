@@ -2,32 +2,15 @@
 use Rattle.std.proofs.Common.{◌≡◌, ◌≢◌, ℕ, zero, suc, ◌+◌, ◌-◌, ◌*◌, ◌/◌, ◌%◌, ◌<◌, ◌≤◌, List, [], ◌∷◌, length, get_or, Option, Some, None, refl, ap, sym, subst, ◌∙◌, ⊎_elim, arith}
 use Rattle.std.specs.Prelude.{All}
 use Rattle.std.specs.List.{flat_map, AllByRecursion}
-use Rattle.std.proofs.lemmas.Bool.{ne_eqb, cases_eq, cases_lt, lt-ltb, le-ltb}
-use Rattle.std.proofs.lemmas.List.{get_or_past}
 use Rattle.std.proofs.lemmas.List.Elements.{recursion_from_All}
-use Rattle.blocks.specs.Block.{IsBlock}
-use Rattle.blocks.specs.Disk.{Image, IsImage, block_at}
-use Rattle.model.specs.declared.types.image.Dinode.{Dinode}
-use Rattle.model.specs.declared.types.image.Super.{Super}
-use Rattle.model.specs.Fields.{words_of}
-use Rattle.model.specs.Layout.{reach, depths, form_of, inode_of, inode_block, inode_count_of}
-use Rattle.model.specs.Log.{recovered, homes_of, place_among}
+use Rattle.offline.specs.Common.{address_along, address_under, addresses_in, block_at, cases_eq, cases_lt, depths, Dinode, facts_of, few_homes, filled_whole, form_of, get_or_past, homes_of, Image, inode_block, inode_count_of, inode_in_data, inode_of, IsBlock, IsImage, IsInData, le-ltb, LeadsAlong, LeadsUnder, length-recovered, LiesBehindLog, long_geometry, lt-ltb, MayReadFile, names_used, ne_eqb, place_among, place_below, pointers_named, pointers_of, reach, recovered, source_at, Super, super_of-recovered, under_zero, verdict_sound, words_of}
 use Rattle.model.specs.Names.{names_under, names_along}
-use Rattle.model.specs.Places.{pointers_of, addresses_in, address_under, address_along, address_in}
+use Rattle.model.specs.Places.{address_in}
 use Rattle.model.specs.Soundness.{IsSound, IsFilled, IsLawfulInode}
 use Rattle.model.specs.Lemmas.Counts.{AllByRecursion-parts, All-range_at, flat_at, all_weaker}
-use Rattle.model.specs.Lemmas.Frames.{under_zero}
 use Rattle.model.specs.Lemmas.Inodes.{is_dinode-inode_of}
-use Rattle.model.specs.Lemmas.Log.{length-recovered}
-use Rattle.model.specs.Lemmas.Names.{pointers_named}
-use Rattle.model.specs.Lemmas.Recovery.{few_homes, place_below}
-use Rattle.model.specs.Lemmas.Super.{super_of-recovered}
-use Rattle.model.specs.Lemmas.Soundness.{verdict_sound, IsInData, facts_of, long_geometry, inode_in_data}
-use Rattle.model.specs.Lemmas.Wholes.{names_used, filled_whole}
 use Rattle.model.specs.Lemmas.Words.{length-words_of-block}
-use Rattle.offline.specs.Cause.{source_at}
 use Rattle.offline.specs.Laws.{CheckedFilesMayBeRead}
-use Rattle.offline.specs.Recovered.{LiesBehindLog, LeadsUnder, LeadsAlong, MayReadFile}
 use Rattle.offline.proofs.CheckLemmas.{recovered_source}
 
 -- ---- blocks that recovery leaves
@@ -35,16 +18,13 @@ use Rattle.offline.proofs.CheckLemmas.{recovered_source}
 source_inside : (x : Image) (b : ℕ) (place : Option ℕ) → place_among (homes_of x) b ≡ place → 33 ≤ length x → b < length x → source_at place b < length x
 source_inside x b None is long inside = inside
 source_inside x b (Some k) is long inside =
-    let low = place_below (homes_of x) 0 b k is in
-    let few = few_homes x in
-    omega (arith, low, few, long)
+    omega (arith, (place_below (homes_of x) 0 b k is), (few_homes x), long)
 
 -- behind the log they are blocks
 pub block_behind : (x : Image) (b : ℕ) → IsImage x → 33 ≤ length x → 33 ≤ b → b < length x → IsBlock (block_at (recovered x) b)
 block_behind x b is long behind inside =
-    let source = source_at (place_among (homes_of x) b) b in
     subst IsBlock (sym (recovered_source x b (λ e. omega (arith, behind, e)) inside))
-    (is source (source_inside x b (place_among (homes_of x) b) refl long inside))
+    (is (source_at (place_among (homes_of x) b) b) (source_inside x b (place_among (homes_of x) b) refl long inside))
 
 -- ---- what an inode names leads on to what it names
 
@@ -126,8 +106,7 @@ module _ (x : Image) (i : ℕ) (is : IsImage x) (sound : IsSound (recovered x)) 
 
   full : (b : ℕ) → 33 ≤ b → b < length y → IsBlock (block_at y b)
   full b behind inside =
-      let long = long_geometry y sound.geometry in
-      block_behind x b is (omega (arith, long, same)) behind (omega (arith, inside, same))
+      block_behind x b is (omega (arith, (long_geometry y sound.geometry), same)) behind (omega (arith, inside, same))
 
   in_data : AllByRecursion (IsInData y) (addresses_in (pointers_of y i))
   in_data = inode_in_data y i sound low high
@@ -140,19 +119,16 @@ module _ (x : Image) (i : ℕ) (is : IsImage x) (sound : IsSound (recovered x)) 
   count : length d.addrs ≡ 13
   count =
       let g = facts_of y sound.geometry in
-      let size = g.size in
-      let room = g.room in
-      (is_dinode-inode_of y i (full (inode_block i) (omega arith) (omega (arith, high, size, room)))).count
+      (is_dinode-inode_of y i (full (inode_block i) (omega arith) (omega (arith, high, g.size, g.room)))).count
 
   needed : (k : ℕ) → k * 1024 < d.size → address_in y d k ≢ 0
   needed =
       let n = inode_count_of y - 1 in
       let inside : i < 1 + n = omega (arith, low, high) in
-      let lawful = All-range_at (λ j. IsLawfulInode (form_of y) (inode_of y j)) 1 n i sound.inodes low inside in
       let filled = recursion_from_All IsFilled (pointers_of y i) (All-range_at (λ j. All IsFilled (pointers_of y j)) 1 n i sound.filled low inside) in
       let words = all_weaker (IsInData y) (λ a. length (words_of (block_at y a)) ≡ 256) (addresses_in (pointers_of y i))
       (λ a there. length-words_of-block (block_at y a) (full a (let from = there.0 in omega (arith, from)) there.1).size) in_data in
-      filled_whole y d used count (lawful.size used) filled words
+      filled_whole y d used count ((All-range_at (λ j. IsLawfulInode (form_of y) (inode_of y j)) 1 n i sound.inodes low inside).size used) filled words
 
   may_read : MayReadFile y d
   unfolding address_in
@@ -165,5 +141,4 @@ pub checked_files_may_be_read : CheckedFilesMayBeRead
 checked_files_may_be_read x i is none low high used =
     let sound = verdict_sound x none in
     let long = long_geometry x sound.0 in
-    let same : inode_count_of (recovered x) ≡ inode_count_of x = ap (λ (s : Super). s.ninodes) (super_of-recovered x sound.1 (omega (arith, long))) in
-    may_read x i is sound.2 low (omega (arith, high, same)) used
+    may_read x i is sound.2 low (omega (arith, high, (ap (λ (s : Super). s.ninodes) (super_of-recovered x sound.1 (omega (arith, long)))))) used

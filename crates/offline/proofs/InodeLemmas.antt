@@ -2,24 +2,11 @@
 use Rattle.std.proofs.Common.{◌≡◌, ◌≢◌, ℕ, ◌+◌, ◌-◌, ◌<◌, ◌≤◌, Bool, true, false, cond, List, [], ◌∷◌, ◌++◌, map, Option, Some, None, Ok, Err, inl, inr, refl, sym, ap, subst, ◌∙◌, arith}
 use Rattle.std.specs.Prelude.{is_some, count_by}
 use Rattle.std.specs.List.{range_with_len}
-use Rattle.std.proofs.lemmas.Bool.{ne_eqb, lt-ltb, le-ltb}
-use Rattle.std.proofs.lemmas.List.{append-nil}
 use Rattle.std.proofs.lemmas.List.Recursion.{is_count_by}
-use Rattle.blocks.specs.Disk.{Image}
-use Rattle.model.specs.declared.types.fault.CheckFault.{CheckFault}
-use Rattle.model.specs.declared.types.fault.CheckFault.TheVariants.{BadType, BadSize}
-use Rattle.model.specs.declared.types.image.Dinode.{Dinode}
-use Rattle.model.specs.declared.types.image.Form.{Form}
-use Rattle.model.specs.Layout.{form_of, depths, greatest_size, inode_of, inode_count_of}
-use Rattle.model.specs.Places.{pointers_along, pointers_in, pointers_of, addresses_in}
-use Rattle.model.specs.Files.{file_at, file_of, file_count}
-use Rattle.model.specs.Verdict.{first_of, inode_fault, inodes_fault, first_pointer_fault, places_below}
-use Rattle.model.specs.Lemmas.Verdict.{first_here, first_later, first_none}
-use Rattle.model.specs.Lemmas.Steps.{mapped_more}
-use Rattle.model.specs.Lemmas.Soundness.{places_below_next}
-use Rattle.offline.specs.declared.owners.Owners.{Owners}
-use Rattle.offline.specs.Cause.{IsCause}
-use Rattle.offline.specs.Owners.{Stand, JudgesPointers, JudgesInode, JudgesInodes}
+use Rattle.offline.specs.Common.{addresses_in, append-nil, BadSize, BadType, CheckFault, depths, Dinode, file_at, file_count, first_here, first_later, first_none, first_of, first_pointer_fault, Form, form_of, greatest_size, Image, inode_count_of, inode_of, inodes_fault, IsCause, JudgesInode, JudgesInodes, JudgesPointers, le-ltb, lt-ltb, mapped_more, ne_eqb, Owners, places_below, places_below_next, pointers_along, pointers_of, Stand}
+use Rattle.model.specs.Places.{pointers_in}
+use Rattle.model.specs.Files.{file_of}
+use Rattle.model.specs.Verdict.{inode_fault}
 
 -- the pointers of a used inode
 pub pointers_used : (y : Image) (d : Dinode) (form : Form) → form_of y ≡ form → d.kind ≢ 0 →
@@ -110,9 +97,8 @@ pub cause_used : (y : Image) (i : ℕ) (form : Form) (old new : ℕ) (before own
     Stand before y (places_below y i) → IsCause (inode_fault y i) old new fault
 cause_used y i form old new before owners fault is judges stand =
     let d = inode_of y i in
-    let same : pointers_of y i ≡ pointers_along y d.size 0 (depths form) d.addrs = pointers_used y d form is.is_form is.used in
     subst (λ (e : Option CheckFault). IsCause e old new fault)
-    (sym (used_fault y i form is ∙ ap (first_pointer_fault y i (places_below y i)) same)) (judges (places_below y i) stand)
+    (sym (used_fault y i form is ∙ ap (first_pointer_fault y i (places_below y i)) (pointers_used y d form is.is_form is.used))) (judges (places_below y i) stand)
 
 -- what is known of the inodes below i, once the first i - 1 are judged without a fault
 pub record AreJudged (y : Image) (i count : ℕ) (owners : Owners) : Type 0 where

@@ -1,15 +1,12 @@
 -- Steps of the making of an image.
 use Rattle.std.proofs.Common.{◌≡◌, ◌≢◌, inl, inr, ℕ, suc, ◌+◌, ◌-◌, ◌<◌, ◌≤◌, List, [], ◌∷◌, ◌++◌, length, take, get_or, set, refl, sym, ap, ◌∙◌, subst, arith, length-append}
 use Rattle.std.specs.List.{range_with_len}
-use Rattle.std.proofs.lemmas.Bool.{cases_eq}
-use Rattle.std.proofs.lemmas.List.{length-set, get_or-set_same, get_or-set_other, take_more}
 use Rattle.std.proofs.lemmas.List.FromFn.{fill_by_all, get_or-range_with_len, length-range_with_len}
 use Rattle.std.proofs.Math.ListN.{get_or-append}
 use Rattle.std.proofs.Math.Seq.{get_or-append_seam}
-use Rattle.blocks.specs.Disk.{Image, block_at, counted, one_more, LeavesOnly, Elapses, IsOldOrNew, IsSettled}
+use Rattle.offline.specs.Common.{block_at, cases_eq, counted, Elapses, Form, get_or-set_other, get_or-set_same, Image, IsOldOrNew, IsSettled, LeavesOnly, length-set, made_block, one_more, take_more}
 use Rattle.blocks.specs.Lemmas.Moments.{started, goes_on}
-use Rattle.model.specs.declared.types.image.Form.{Form}
-use Rattle.model.specs.Codec.{made_block, made_image}
+use Rattle.model.specs.Codec.{made_image}
 use Rattle.offline.specs.Making.{HasMade, IsMadeInPartAs, made_first, with_made, writing_order}
 
 -- one more write
@@ -32,10 +29,9 @@ length-writing_order size some =
 pub order_behind : (size b : ℕ) → 2 ≤ b → b < size → get_or (writing_order size) (b - 1) 0 ≡ b
 order_behind size b behind inside =
     let place : b - 1 ≡ suc (b - 2) = omega arith in
-    let back : 2 + (b - 2) ≡ b = omega arith in
     ap (λ (i : ℕ). get_or (writing_order size) i 0) place
     ∙ get_or-append (range_with_len 2 (size - 2)) (1 ∷ []) 0 (b - 2) (omega (arith, length-range_with_len 2 (size - 2)))
-    ∙ get_or-range_with_len 2 (size - 2) (b - 2) 0 (omega arith) ∙ back
+    ∙ get_or-range_with_len 2 (size - 2) (b - 2) 0 (omega arith) ∙ (omega arith)
 
 -- the superblock is the last of the order
 pub order_last : (size : ℕ) → 2 ≤ size → get_or (writing_order size) (size - 1) 0 ≡ 1

@@ -3,27 +3,11 @@ use Rattle.std.proofs.Common.{◌≡◌, ◌≢◌, ◌∙◌, ℕ, ◌+◌, ◌
 use Rattle.std.specs.Prelude.{is_none, is_some, IfErr, IfOk}
 use Rattle.std.specs.List.{flat_map, range_with_len}
 use Rattle.std.specs.Result.{IsErrAnd}
-use Rattle.std.proofs.lemmas.Bool.{ne_eqb}
-use Rattle.std.proofs.lemmas.List.{append_assoc, append-nil}
-use Rattle.blocks.specs.Disk.{Image, Rose, one_more}
-use Rattle.model.specs.declared.types.fault.CheckFault.{CheckFault}
-use Rattle.model.specs.declared.types.fault.CheckFault.TheVariants.{BadGeometry, BadMagic, BadLog, BadType, BadSize, Disk, NoMemory}
-use Rattle.model.specs.declared.types.image.Dinode.{Dinode}
-use Rattle.model.specs.declared.types.image.Form.{Form}
-use Rattle.model.specs.declared.types.image.Pointer.{Pointer}
-use Rattle.model.specs.Faults.{listed, pointer_faults, inode_faults, inodes_faults, marks_faults, faults}
-use Rattle.model.specs.Layout.{depths, form_of, greatest_size, has_known_magic, inode_of, is_lawful_super, super_of}
-use Rattle.model.specs.Log.{is_lawful_log, recovered}
-use Rattle.model.specs.Places.{addresses_in, pointers_along, pointers_in, pointers_of}
-use Rattle.model.specs.Verdict.{or_else, geometry_fault, log_fault, pointer_fault, places_below}
+use Rattle.offline.specs.Common.{addresses_in, addresses_in-append, append-nil, append_assoc, BadGeometry, BadLog, BadMagic, BadSize, BadType, CheckFault, depths, Dinode, Disk, early_fault, Form, form_of, geometry_fault, GoesThrough, greatest_size, has_known_magic, HasNoted, Image, inode_of, inodes_faults, is_lawful_log, is_lawful_super, IsBreak, IsCause, IsRefusedFor, judged_faults, listed, log_fault, marks_faults, ne_eqb, NoMemory, NotesInode, NotesPointers, one_more, or_else, Owners, places_below, places_below_next, Pointer, pointer_fault, pointer_faults, pointers_along, pointers_of, recovered, Rose, Stand, super_of}
+use Rattle.model.specs.Faults.{inode_faults, faults}
+use Rattle.model.specs.Places.{pointers_in}
 use Rattle.model.specs.Lemmas.Faults.{pointer_faults-append}
-use Rattle.model.specs.Lemmas.Names.{addresses_in-append}
-use Rattle.model.specs.Lemmas.Soundness.{places_below_next}
-use Rattle.offline.specs.Cause.{IsBreak, IsCause, GoesThrough}
-use Rattle.offline.specs.Notes.{HasNoted, IsRefusedFor, NotesInode, NotesPointers, early_fault, judged_faults}
-use Rattle.offline.specs.Owners.{Stand}
 use Rattle.offline.specs.declared.notes.Owner.{Owner}
-use Rattle.offline.specs.declared.owners.Owners.{Owners}
 use Rattle.offline.proofs.InodeLemmas.{pointers_used}
 
 -- ---- how a walk ends
@@ -118,8 +102,7 @@ noting_next y owner earlier whole rest here next owners new before now after had
 pub noting_last : (y : Image) (owner : Owner) (earlier : List ℕ) (whole rest : List Pointer) (owners : Owners) (before now : List CheckFault) →
     IsNoting y owner earlier whole rest owners before now → rest ≡ [] → HasNoted y owner earlier whole owners before now
 noting_last y owner earlier whole rest owners before now had none =
-    let split : whole ≡ had.front = had.split ∙ ap (λ r. had.front ++ r) none ∙ append-nil had.front in
-    rw split had.noted
+    rw (had.split ∙ ap (λ r. had.front ++ r) none ∙ append-nil had.front) had.noted
 
 -- the same over an image that is the same
 pub noted_same : (x z : Image) (owner : Owner) (pointers : Image → List Pointer) (owners new : Owners) (before after : List CheckFault) → x ≡ z →

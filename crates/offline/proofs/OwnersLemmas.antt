@@ -1,18 +1,6 @@
 -- Judging pointers one after the other.
 use Rattle.std.proofs.Common.{◌≡◌, ◌≢◌, ℕ, List, [], ◌∷◌, ◌++◌, Option, Some, None, Result, Ok, Err, inl, inr, refl, sym, ap, subst, ◌∙◌, ⊎_elim}
-use Rattle.std.proofs.lemmas.Bool.{ne_eqb, cases_eq}
-use Rattle.std.proofs.lemmas.List.{append_assoc, append-nil}
-use Rattle.blocks.specs.Disk.{Image}
-use Rattle.model.specs.declared.types.fault.CheckFault.{CheckFault}
-use Rattle.model.specs.declared.types.image.Pointer.{Pointer}
-use Rattle.model.specs.Log.{recovered}
-use Rattle.model.specs.Places.{addresses_in}
-use Rattle.model.specs.Lemmas.Names.{addresses_in-append}
-use Rattle.model.specs.Lemmas.Verdict.{or_else-assoc}
-use Rattle.model.specs.Verdict.{or_else, address_fault, pointer_fault, first_pointer_fault}
-use Rattle.offline.specs.declared.owners.Owners.{Owners}
-use Rattle.offline.specs.Cause.{IsCause}
-use Rattle.offline.specs.Owners.{Stand, JudgesOn, JudgesPointers, Judges, JudgesAddress, there}
+use Rattle.offline.specs.Common.{address_fault, addresses_in, addresses_in-append, append-nil, append_assoc, cases_eq, CheckFault, first_pointer_fault, Image, IsCause, Judges, JudgesAddress, JudgesOn, JudgesPointers, ne_eqb, or_else, or_else-assoc, Owners, Pointer, pointer_fault, recovered, Stand, there}
 
 pub or_none : {A : Type 0} (a : Option A) → or_else a None ≡ a
 or_none None = refl
@@ -30,8 +18,7 @@ judged y i earlier p new (Ok u) some h =
     let no = ne_eqb p.address 0 some in
     (rw no (or_none (address_fault y i earlier p.address) ∙ h.0), rw no h.1)
 judged y i earlier p new (Err fault) some h =
-    let no = ne_eqb p.address 0 some in
-    rw no (or_none (address_fault y i earlier p.address) ∙ h)
+    rw (ne_eqb p.address 0 some) (or_none (address_fault y i earlier p.address) ∙ h)
 
 -- the pointers of two lists are judged one list after the other
 pub first_pointer_fault-append : (y : Image) (i : ℕ) (earlier : List ℕ) (front back : List Pointer) →
@@ -127,8 +114,7 @@ judged_fault y i earlier whole rest here next old new owners after fault had cut
 pub judged_all : (y : Image) (i : ℕ) (earlier : List ℕ) (whole rest : List Pointer) (old new : ℕ) (owners : Owners) →
     HasJudged y i earlier whole rest owners → rest ≡ [] → JudgesOn y i earlier whole old new owners (Ok tt)
 judged_all y i earlier whole rest old new owners had none =
-    let split : whole ≡ had.front = had.split ∙ ap (λ r. had.front ++ r) none ∙ append-nil had.front in
-    rw split (had.none, had.stand)
+    rw (had.split ∙ ap (λ r. had.front ++ r) none ∙ append-nil had.front) (had.none, had.stand)
 
 -- a judgement over an image that is the same, from a count of faults that is the same
 judged_same : (x z : Image) (i : ℕ) (pointers : Image → List Pointer) (n old new : ℕ) (owners after : Owners) (result : Result (Unit {0}) CheckFault) →

@@ -1,19 +1,10 @@
 -- Ways to the blocks of a file, step by step.
 use Rattle.std.proofs.Common.{◌≡◌, ◌≢◌, ℕ, zero, suc, ◌+◌, ◌-◌, ◌*◌, ◌/◌, ◌%◌, ◌^◌, ◌<◌, ◌≤◌, List, length, get_or, drop, refl, sym, ap, ◌∙◌, arith}
-use Rattle.std.proofs.lemmas.Bool.{lt-ltb, le-ltb}
-use Rattle.std.proofs.lemmas.List.{drop_more, drop_all}
 use Rattle.std.proofs.lemmas.Nat.{div_below}
 use Rattle.std.proofs.Math.Nat.{pow-suc}
 use Rattle.std.proofs.Math.Numerals.{sub-one}
-use Rattle.blocks.specs.Disk.{Image, block_at}
-use Rattle.model.specs.Fields.{words_of}
-use Rattle.model.specs.declared.types.image.Dinode.{Dinode}
-use Rattle.model.specs.declared.types.image.Form.{Form}
-use Rattle.model.specs.Layout.{reach, depths, form_of}
-use Rattle.model.specs.Places.{address_under, address_along, address_in}
-use Rattle.model.specs.Lemmas.Wholes.{reach_pos}
-use Rattle.model.specs.Lemmas.Frames.{address_block}
-use Rattle.offline.specs.Recovered.{LiesBehindLog, LeadsUnder, LeadsAlong}
+use Rattle.offline.specs.Common.{address_along, address_block, address_under, block_at, depths, Dinode, drop_all, drop_more, Form, form_of, Image, le-ltb, LeadsAlong, LeadsUnder, LiesBehindLog, lt-ltb, reach, reach_pos, words_of}
+use Rattle.model.specs.Places.{address_in}
 
 -- ---- down from an address
 
@@ -26,9 +17,8 @@ under_zero y (suc depth) k address none = rw none refl
 pub entry_inside : (depth k : ℕ) → depth ≢ 0 → k < reach depth → k / reach (depth - 1) < 256
 entry_inside zero k deep low = absurd (deep refl)
 entry_inside (suc depth) k deep low =
-    let wide : reach (suc depth) ≡ 256 ^ depth * 256 = pow-suc 256 depth in
     let turned : 256 ^ depth * 256 ≡ 256 * reach depth = grind arith in
-    rw sub-one (div_below k (reach depth) 256 (reach_pos depth) (omega (arith, low, wide, turned)))
+    rw sub-one (div_below k (reach depth) 256 (reach_pos depth) (omega (arith, low, (pow-suc 256 depth), turned)))
 
 -- a block of addresses on the way, and on from it
 pub leads_block : (y : Image) (depth k address : ℕ) → depth ≢ 0 → address ≢ 0 → LeadsUnder y depth k address →

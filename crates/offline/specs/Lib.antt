@@ -5,3 +5,4 @@ pub mod Owners
 pub mod Notes
 pub mod Recovered
 pub mod Check
+pub mod Common

@@ -218,7 +218,7 @@ pub fn check_all<D: Disk>(alloc: Global, disk: &mut D) -> Result<Vec<CheckFault>
         return alone(alloc, CheckFault::BadGeometry);
     }
     let mut block = Block::zeroed(alloc)?;
-    match Recovered::open_long(disk, &mut block) {
+    match Recovered::open(disk, &mut block) {
         Ok(image) => contents_faults(alloc, disk, &image, &mut block),
         Err(fault) => alone(alloc, fault),
     }

@@ -28,7 +28,7 @@ use Rattle.messages.specs.declared.events.Event.{Event}
 use Rattle.player.specs.declared.player.Player.{Player}
 use Rattle.messages.specs.Events.{is_last}
 use Rattle.player.specs.Opening.{IsPlayedOn, IsReadyOver, KeepsSome}
-use Rattle.player.specs.Stepping.{KeepOps, KeepsOfSources, Ringed, MakesRingedStep, MakesTurn, MakesTurns, board_herald, ring_ends}
+use Rattle.player.specs.Stepping.{KeepOps, KeepsOfFeeders, Ringed, MakesRingedStep, MakesTurn, MakesTurns, board_herald, ring_ends}
 use Rattle.player.specs.Turns.{IfLast}
 use Rattle.player.specs.Disks.{faulty}
 
@@ -100,13 +100,13 @@ module _ {D N : Type 0} (below : Ghosts D N) (has_now : (d : D) → below.leaves
 
   -- what a run makes of a disk that a player was opened over
   pub played_on : (e : D) → e ≡ last.kernel.store.volume.device.inner → (faulty below).name last.kernel.store.volume.device ≡ (faulty below).name player.kernel.store.volume.device
-      → length player.kernel.world.processes ≡ processes → KeepOps player.sources.items last.sources.items → KeepsOfSources (faulty below) last.kernel (length last.kernel.world.processes) last.sources.items
+      → length player.kernel.world.processes ≡ processes → KeepOps player.feeders.items last.feeders.items → KeepsOfFeeders (faulty below) last.kernel (length last.kernel.world.processes) last.feeders.items
       → IsPlayedOn below (faulty below) d e tasks processes player last
   played_on e is name many ops own = record {
     now = is;
     keeps = runs;
     own = subst (λ n. KeepsOwn (inode_count_of ((faulty below).image last.kernel.opening)) last.kernel.world.journal.list n (λ p. ops_of p tasks)) (runs.many ∙ many)
-        (own (λ p. ops_of p tasks) (ops (λ p. ops_of p tasks) (λ p s at. (ready.opened.sources.each p s at).all)));
+        (own (λ p. ops_of p tasks) (ops (λ p. ops_of p tasks) (λ p s at. (ready.opened.feeders.each p s at).all)));
     name = ap below.name is ∙ ap (λ n. n.0) name ∙ ready.name;
     leaves = subst (λ o. LeavesIfCalm below d o P) (sym is)
         (kept_whole below has_now d first last.kernel.store.volume.device.inner (most_of last.kernel.store.volume) ((faulty below).image last.kernel.opening) last.kernel.world.journal.list ready.sound recovers_first

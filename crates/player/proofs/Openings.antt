@@ -15,7 +15,7 @@ use Rattle.model.specs.Log.{recovered}
 use Rattle.model.specs.Verdict.{verdict}
 use Rattle.rings.specs.Boards.{asked}
 use Rattle.rings.specs.declared.herald.BoardHerald.{BoardHerald}
-use Rattle.clients.specs.Sources.{AreNewSources}
+use Rattle.clients.specs.Feeders.{AreNewFeeders}
 use Rattle.rings.specs.Callers.{intake_names}
 use Rattle.rings.specs.declared.intake.RingIntake.{RingIntake}
 use Rattle.scripts.specs.declared.script.Task.{Task}
@@ -31,15 +31,15 @@ use Rattle.player.proofs.Keeping.{recovers_before}
 
 -- a player whose kernel was opened over new rings
 pub opened_over : {D N : Type 0} (disk : Ghosts (FaultyDisk D) (N × Trap)) (d : FaultyDisk D) (i : RingIntake) (h : BoardHerald) (x : Image) (tasks : List Task) (processes : ℕ) (player : Player D N) → disk.image d ≡ x → IsOpened disk d i h processes player.kernel
-    → AreNewSources (intake_names i) tasks processes player.sources.items → asked player.watch ≡ false → IsOpenedOver disk.image x tasks processes player
-opened_over disk d i h x tasks processes player same opened sources unasked =
+    → AreNewFeeders (intake_names i) tasks processes player.feeders.items → asked player.watch ≡ false → IsOpenedOver disk.image x tasks processes player
+opened_over disk d i h x tasks processes player same opened feeders unasked =
     let k = player.kernel in
     record {
       sound = subst (λ y. verdict y ≡ None) same opened.sound;
       recovers = opened.opening ∙ ap recovered same;
       store = subst (λ y. k.store ≡ record { volume = fresh_volume disk.image k.opening; tasks = replicate processes no_task; table = new_table (form_of y) (inode_count_of y) }) same opened.store;
       world = opened.world;
-      sources = subst (λ q. AreNewSources (intake_names q) tasks processes player.sources.items) (sym opened.intake) sources;
+      feeders = subst (λ q. AreNewFeeders (intake_names q) tasks processes player.feeders.items) (sym opened.intake) feeders;
       unasked = unasked;
     }
 

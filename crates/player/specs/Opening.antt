@@ -25,7 +25,7 @@ use Rattle.wal.specs.Recovery.{LeavesIfCalm, RecoversAs, writes_to_recover}
 use Rattle.player.specs.Afterwards.{IsUnready}
 use Rattle.rings.specs.Boards.{asked}
 use Rattle.clients.specs.Backlogs.{ops_of}
-use Rattle.clients.specs.Sources.{AreNewSources}
+use Rattle.clients.specs.Feeders.{AreNewFeeders}
 use Rattle.rings.specs.Callers.{intake_names}
 use Rattle.player.specs.Stepping.{BreaksOff, Ringed, RunsTo}
 use Rattle.opening.specs.Recoveries.{IsUnrecovered}
@@ -45,8 +45,8 @@ pub record IsOpenedOver {D N : Type 0} (image : FaultyDisk D → Image) (x : Ima
     table = new_table (form_of x) (inode_count_of x);
   }
   pub world : player.kernel.world ≡ fresh_world processes
-  pub sources : AreNewSources (intake_names player.kernel.intake) tasks processes
-      player.sources.items
+  pub feeders : AreNewFeeders (intake_names player.kernel.intake) tasks processes
+      player.feeders.items
   pub unasked : asked player.watch ≡ false
 
 -- The write of that number, from 1, is the one that isn't made, counted from here on: since the

@@ -12,15 +12,15 @@ use Rattle.ports.specs.declared.herald.Herald.{Ghosts as Heralds}
 use Rattle.ports.specs.declared.intake.Intake.{Ghosts as Intakes}
 use Rattle.rings.specs.Boards.{HasHeeded, HasPublished, WatchOf, asked, heard, published}
 use Rattle.rings.specs.declared.herald.BoardHerald.{BoardHerald}
-use Rattle.rings.specs.Callers.{Meets, intake_count, intake_names, intake_side, polled, submitted, unpolled, IntakeFits}
+use Rattle.rings.specs.Callers.{Reconciles, intake_count, intake_names, intake_side, polled, submitted, unpolled, IntakeFits}
 use Rattle.rings.specs.declared.caller.Caller.{Caller}
 use Rattle.rings.specs.declared.intake.RingIntake.{RingIntake}
 use Rattle.rings.specs.declared.name.Names.{Names}
 use Rattle.scripts.specs.declared.schedule.Word.{Word}
 use Rattle.scripts.specs.declared.schedule.Word.TheVariants as word
 use Rattle.clients.specs.Backlogs.{backlog_of}
-use Rattle.clients.specs.Sources.{HasHandedIn, HaveSourceRings, source_ops}
-use Rattle.clients.specs.declared.source.Source.{Source}
+use Rattle.clients.specs.Feeders.{HasHandedIn, HaveSourceRings, feeder_ops}
+use Rattle.clients.specs.declared.feeder.Feeder.{Feeder}
 use Rattle.model.specs.declared.types.operations.Step.{Step}
 use Rattle.model.specs.Layout.{inode_count_of}
 use Rattle.model.specs.declared.types.operations.Op.{Op}
@@ -66,26 +66,26 @@ MakesRingedStep disk p r k m = MakesStep disk ring_ends board_herald p r k m
 abbrev pub HasSame : {D : Type 0} → Ringed D → Ringed D → Type 0
 HasSame k m = m ≡ record k { intake = m.intake }
 
--- both ends of the rings of process p met, and no other source changed
-pub record MeetsAt (p : ℕ) (i : RingIntake) (b : List Source) (j : RingIntake) (c : List Source)
+-- both ends of the rings of process p met, and no other feeder changed
+pub record ReconcilesAt (p : ℕ) (i : RingIntake) (b : List Feeder) (j : RingIntake) (c : List Feeder)
     : Type 0 where
-  pub source : Source
+  pub feeder : Feeder
   pub met : Caller
-  pub is : slice_get b p ≡ Some source
-  pub set : c ≡ set b p (record source { caller = met })
-  pub meets : Meets i p source.caller j met
+  pub is : slice_get b p ≡ Some feeder
+  pub set : c ≡ set b p (record feeder { caller = met })
+  pub reconciles : Reconciles i p feeder.caller j met
 
--- Both ends of the rings of process p met, and then its source handed in what its ring takes. No
--- other source changed, and nothing of the kernel but what it knows of that ring.
-pub record HandsIn {D : Type 0} (p : ℕ) (k : Ringed D) (b : List Source) (m : Ringed D)
-    (c : List Source) : Type 0 where
-  pub source : Source
+-- Both ends of the rings of process p met, and then its feeder handed in what its ring takes. No
+-- other feeder changed, and nothing of the kernel but what it knows of that ring.
+pub record HandsIn {D : Type 0} (p : ℕ) (k : Ringed D) (b : List Feeder) (m : Ringed D)
+    (c : List Feeder) : Type 0 where
+  pub feeder : Feeder
   pub met : Caller
-  pub now : Source
-  pub is : slice_get b p ≡ Some source
+  pub now : Feeder
+  pub is : slice_get b p ≡ Some feeder
   pub set : c ≡ set b p now
-  pub meets : Meets k.intake p source.caller m.intake met
-  pub ops : source_ops now ≡ submitted met ++ backlog_of source.backlog
+  pub reconciles : Reconciles k.intake p feeder.caller m.intake met
+  pub ops : feeder_ops now ≡ submitted met ++ backlog_of feeder.backlog
   pub polled : polled now.caller ≡ polled met
   pub all : HasHandedIn now
   pub same : HasSame k m
@@ -97,42 +97,42 @@ TakesOldest (Some a) old new = (polled new ≡ polled old ++ a ∷ [])
     × IsPrefix (unpolled old) (a ∷ unpolled new)
 
 -- Both ends of the rings of process p met, so that its caller knew all answers that were given, and
--- then it polled the oldest. No other source changed, and nothing of the kernel but what it knows of
+-- then it polled the oldest. No other feeder changed, and nothing of the kernel but what it knows of
 -- that ring.
-pub record Polls {D : Type 0} (p : ℕ) (answer : Option Answer) (k : Ringed D) (b : List Source)
-    (m : Ringed D) (c : List Source) : Type 0 where
-  pub source : Source
+pub record Polls {D : Type 0} (p : ℕ) (answer : Option Answer) (k : Ringed D) (b : List Feeder)
+    (m : Ringed D) (c : List Feeder) : Type 0 where
+  pub feeder : Feeder
   pub met : Caller
-  pub now : Source
-  pub is : slice_get b p ≡ Some source
+  pub now : Feeder
+  pub is : slice_get b p ≡ Some feeder
   pub set : c ≡ set b p now
-  pub meets : Meets k.intake p source.caller m.intake met
+  pub reconciles : Reconciles k.intake p feeder.caller m.intake met
   pub takes : TakesOldest answer met now.caller
-  pub untouched : (submitted now.caller ≡ submitted met) × (now.backlog ≡ source.backlog)
+  pub untouched : (submitted now.caller ≡ submitted met) × (now.backlog ≡ feeder.backlog)
   pub same : HasSame k m
 
--- the watch is of the player's board, and each process has a source, of its own rings
+-- the watch is of the player's board, and each process has a feeder, of its own rings
 pub record IsSeated {D N : Type 0} (player : Player D N) : Type 0 where
   pub watched : WatchOf player.board.now player.watch
-  pub ringed : HaveSourceRings (intake_names player.kernel.intake) player.sources.items
-  pub many : length player.sources.items ≡ length player.kernel.world.processes
+  pub ringed : HaveSourceRings (intake_names player.kernel.intake) player.feeders.items
+  pub many : length player.feeders.items ≡ length player.kernel.world.processes
 
--- each source has these operations in all
-abbrev pub HaveOps : (ℕ → List Op) → List Source → Type 0
-HaveOps ops ss = (p : ℕ) (s : Source) → slice_get ss p ≡ Some s → source_ops s ≡ ops p
+-- each feeder has these operations in all
+abbrev pub HaveOps : (ℕ → List Op) → List Feeder → Type 0
+HaveOps ops ss = (p : ℕ) (s : Feeder) → slice_get ss p ≡ Some s → feeder_ops s ≡ ops p
 
--- each source has the operations that it had
-abbrev pub KeepOps : List Source → List Source → Type 0
+-- each feeder has the operations that it had
+abbrev pub KeepOps : List Feeder → List Feeder → Type 0
 KeepOps old new = (ops : ℕ → List Op) → HaveOps ops old → HaveOps ops new
 
--- what is kept of process p is a beginning of the changing operations of its source
-abbrev pub KeepsOfSource : {D N : Type 0} → Ghosts D N → ℕ → Ringed D → List Source → Type 0
+-- what is kept of process p is a beginning of the changing operations of its feeder
+abbrev pub KeepsOfSource : {D N : Type 0} → Ghosts D N → ℕ → Ringed D → List Feeder → Type 0
 KeepsOfSource disk p k ss = (ops : ℕ → List Op) → HaveOps ops ss
     → KeepsFirst (inode_count_of (disk.image k.opening)) k.world.journal.list p (ops p)
 
 -- the same of the first processes
-abbrev pub KeepsOfSources : {D N : Type 0} → Ghosts D N → Ringed D → ℕ → List Source → Type 0
-KeepsOfSources disk k processes ss = (ops : ℕ → List Op) → HaveOps ops ss
+abbrev pub KeepsOfFeeders : {D N : Type 0} → Ghosts D N → Ringed D → ℕ → List Feeder → Type 0
+KeepsOfFeeders disk k processes ss = (ops : ℕ → List Op) → HaveOps ops ss
     → KeepsOwn (inode_count_of (disk.image k.opening)) k.world.journal.list processes ops
 
 -- it still has its board and its watch
@@ -146,12 +146,12 @@ pub record MakesTurnOf {D N : Type 0}
     (event : Event) (old new : Player D N) : Type 0 where
   pub handed : Ringed (FaultyDisk D)
   pub stepped : Ringed (FaultyDisk D)
-  pub sources : List Source
+  pub feeders : List Feeder
   pub answer : Step
   pub polled : Option Answer
-  pub hands_in : HandsIn p old.kernel old.sources.items handed sources
+  pub hands_in : HandsIn p old.kernel old.feeders.items handed feeders
   pub steps : makes answer handed stepped
-  pub polls : Polls p polled stepped sources new.kernel new.sources.items
+  pub polls : Polls p polled stepped feeders new.kernel new.feeders.items
   pub tells : event ≡ event_of (has_fired stepped.store.volume.device) stop p answer polled
   pub watch : HasItsWatch old new
 
@@ -165,7 +165,7 @@ MakesTurn disk stop (word.Steps p) event old new =
     MakesTurnOf (MakesSteps disk ring_ends board_herald p) stop p event old new
 MakesTurn disk stop word.Shutdown event old new =
     (event ≡ Shut) × (asked new.watch ≡ true) × (new.kernel ≡ old.kernel)
-    × (new.sources ≡ old.sources)
+    × (new.feeders ≡ old.feeders)
 
 -- the turns of these words, one for each up to the last that is made, make new of old, and come to
 -- these events

@@ -9,9 +9,9 @@
 mod checking;
 mod looks;
 mod making;
-mod meeting;
 mod player;
 mod playing;
+mod reconciling;
 mod recovering;
 mod refusals;
 mod replaying;

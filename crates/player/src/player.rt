@@ -1,6 +1,6 @@
 // What turns are made of.
 use blocks::{Disk, FaultyDisk};
-use clients::Source;
+use clients::Feeder;
 use kernel::Kernel;
 use rings::{Board, BoardHerald, RingIntake, Watch};
 
@@ -12,5 +12,5 @@ pub struct Player<'a, D: Disk> {
     pub(crate) board: &'a Board,
     pub(crate) watch: Watch,
     // Those of each process.
-    pub(crate) sources: Vec<Source>,
+    pub(crate) feeders: Vec<Feeder>,
 }

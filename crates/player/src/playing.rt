@@ -37,7 +37,7 @@ pub fn run<D: Disk + Drop, O: Write>(
     ensures refused { IfErr result (IsBrokenOff ⟦<FaultyDisk<D> as Disk>⟧ stop base words.now
         player.old player.new (O.contents out.old) (O.contents out.new)) }
     ensures keeps { RunsOn ⟦<FaultyDisk<D> as Disk>⟧ player.old.kernel player.new.kernel }
-    ensures ops { KeepOps player.old.sources.items player.new.sources.items }
+    ensures ops { KeepOps player.old.feeders.items player.new.feeders.items }
     ensures seated { IsSeated player.new }
     ensures name { ⟦<FaultyDisk<D> as Disk>⟧.name player.new.kernel.store.volume.device
         ≡ ⟦<FaultyDisk<D> as Disk>⟧.name player.old.kernel.store.volume.device }

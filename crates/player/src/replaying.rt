@@ -67,7 +67,7 @@ pub fn replay_disk<D: Disk + Drop, O: Write>(
         Err((refusal, disk)) => return (Err(refusal), disk),
     };
     let ran = run(&mut player, words, stop, base, out);
-    player.meet_all();
+    player.reconcile_all();
     (ran, player.into_disk())
 }
 

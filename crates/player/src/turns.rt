@@ -15,11 +15,11 @@ ghost use Rattle.player.specs.Stepping.{
   HasSame,
   IsSeated,
   KeepsOfSource,
-  KeepsOfSources,
+  KeepsOfFeeders,
   MakesRingedStep,
   MakesTurn,
   MakesTurnOf,
-  MeetsAt,
+  ReconcilesAt,
   Polls,
   board_herald,
   kernel_fault,
@@ -28,11 +28,11 @@ ghost use Rattle.player.specs.Stepping.{
 ghost use Rattle.player.specs.Opening.{IsArmed, IsOpenedOver};
 ghost use Rattle.player.specs.Turns.{event_of};
 
-use crate::meeting::Meeting;
 use crate::player::Player;
+use crate::reconciling::Reconciling;
 use blocks::{Disk, FaultyDisk, Kind};
 use calls::make_steps;
-use clients::sources;
+use clients::feeders;
 use kernel::{Kernel, OpenFault, Step};
 use messages::Event;
 use model::types::{Answer, Entry};
@@ -95,7 +95,7 @@ pub fn open_player<'a, D: Disk + Drop>(
     ensures refused { IfErr result (λ e. IsUnopenedOver ⟦<FaultyDisk<D> as Disk>⟧
         processes disk e.1 e.0) }
 {
-    let (intake, sources) = match sources(alloc, tasks, processes) {
+    let (intake, feeders) = match feeders(alloc, tasks, processes) {
         Ok(made) => made,
         Err(_refused) => return Err((OpenFault::NoMemory, disk)),
     };
@@ -112,7 +112,7 @@ pub fn open_player<'a, D: Disk + Drop>(
             kernel,
             board,
             watch,
-            sources,
+            feeders,
         }),
         Err((fault, disk)) => Err((fault, disk.into_inner())),
     }
@@ -212,33 +212,33 @@ impl<'a, D: Disk + Drop> Player<'a, D> {
     /// Lets both ends of the rings of each process see what the other did. So it is known that what
     /// was taken of it is a beginning of its operations, and what is kept of them is one of the
     /// changing ones.
-    pub(crate) fn meet_all(&mut self)
+    pub(crate) fn reconcile_all(&mut self)
         requires seated { IsSeated self.old }
         ensures same { HasSame self.old.kernel self.new.kernel }
-        ensures own { KeepsOfSources ⟦<FaultyDisk<D> as Disk>⟧ self.old.kernel
-            (length self.old.kernel.world.processes) self.old.sources.items }
+        ensures own { KeepsOfFeeders ⟦<FaultyDisk<D> as Disk>⟧ self.old.kernel
+            (length self.old.kernel.world.processes) self.old.feeders.items }
     {
         self.kernel.known();
         for pid in 0..self.kernel.processes() as u32 {
-            self.meet(pid);
+            self.reconcile(pid);
         }
     }
 
     // Lets both ends of a process's rings see what the other did.
-    fn meet(&mut self, pid: u32)
+    fn reconcile(&mut self, pid: u32)
         requires pid { pid < length self.old.kernel.world.processes }
         requires seated { IsSeated self.old }
-        ensures meets { MeetsAt pid self.old.kernel.intake self.old.sources.items
-            self.new.kernel.intake self.new.sources.items }
+        ensures reconciles { ReconcilesAt pid self.old.kernel.intake self.old.feeders.items
+            self.new.kernel.intake self.new.feeders.items }
         ensures own { KeepsOfSource ⟦<FaultyDisk<D> as Disk>⟧ pid self.old.kernel
-            self.old.sources.items }
+            self.old.feeders.items }
         ensures same { HasSame self.old.kernel self.new.kernel }
         ensures watch { HasItsWatch self.old self.new }
         ensures seated { IsSeated self.new }
     {
         self.kernel.known();
-        let caller = &mut self.sources[pid as usize].caller;
-        self.kernel.visit_with(Meeting { pid }, caller);
+        let caller = &mut self.feeders[pid as usize].caller;
+        self.kernel.visit_with(Reconciling { pid }, caller);
     }
 
     // Hands in the next operations of a process, as many as its ring takes.
@@ -246,12 +246,12 @@ impl<'a, D: Disk + Drop> Player<'a, D> {
         requires pid { pid < length self.old.kernel.world.processes }
         requires seated { IsSeated self.old }
         ensures hands_in { HandsIn pid
-            self.old.kernel self.old.sources.items self.new.kernel self.new.sources.items }
+            self.old.kernel self.old.feeders.items self.new.kernel self.new.feeders.items }
         ensures watch { HasItsWatch self.old self.new }
         ensures seated { IsSeated self.new }
     {
-        self.meet(pid);
-        let _moved = self.sources[pid as usize].hand_in();
+        self.reconcile(pid);
+        let _moved = self.feeders[pid as usize].hand_in();
     }
 
     fn step(&mut self, pid: u32) -> Step
@@ -261,7 +261,7 @@ impl<'a, D: Disk + Drop> Player<'a, D> {
             pid result self.old.kernel self.new.kernel }
         ensures processes { length self.new.kernel.world.processes
             ≡ length self.old.kernel.world.processes }
-        ensures sources { self.new.sources ≡ self.old.sources }
+        ensures feeders { self.new.feeders ≡ self.old.feeders }
         ensures watch { HasItsWatch self.old self.new }
         ensures seated { IsSeated self.new }
     {
@@ -273,15 +273,15 @@ impl<'a, D: Disk + Drop> Player<'a, D> {
         requires pid { pid < length self.old.kernel.world.processes }
         requires seated { IsSeated self.old }
         ensures polls { Polls pid result
-            self.old.kernel self.old.sources.items self.new.kernel self.new.sources.items }
+            self.old.kernel self.old.feeders.items self.new.kernel self.new.feeders.items }
         ensures watch { HasItsWatch self.old self.new }
         ensures seated { IsSeated self.new }
     {
-        self.meet(pid);
-        if self.sources[pid as usize].caller.answers_known() == 0 {
+        self.reconcile(pid);
+        if self.feeders[pid as usize].caller.answers_known() == 0 {
             return None;
         }
-        self.sources[pid as usize].poll()
+        self.feeders[pid as usize].poll()
     }
 
     // What the turn of a process came to, whose last step answered so.
@@ -290,7 +290,7 @@ impl<'a, D: Disk + Drop> Player<'a, D> {
         requires seated { IsSeated self.old }
         ensures { (polled : Option SomeAnswer)
             × Polls pid polled
-            self.old.kernel self.old.sources.items self.new.kernel self.new.sources.items
+            self.old.kernel self.old.feeders.items self.new.kernel self.new.feeders.items
             × (result ≡ event_of (has_fired self.old.kernel.store.volume.device)
             stop pid step polled) × HasItsWatch self.old self.new
             × IsSeated self.new }

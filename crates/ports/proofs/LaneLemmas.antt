@@ -4,8 +4,8 @@ use Rattle.std.proofs.lemmas.Bool.{cases_eq, ltb-true, lt-ltb}
 use native.Mathlib.Decide.{ℕ_discrete}
 use mathlib.Core.Logic.{dite}
 use Rattle.std.specs.Prelude.{Option, slice_get, All, nat_lt, option_to_list}
+use Rattle.ports.specs.Common.{Lane}
 use Rattle.model.specs.declared.types.operations.Answer.{Answer}
-use Rattle.ports.specs.declared.lane.Lane.{Lane}
 use Rattle.ports.specs.declared.queues.QueueIntake.{QueueIntake}
 use Rattle.ports.specs.History.{History, FitWith, AllFit, gives, nothing_yet}
 use Rattle.ports.specs.Lanes.{IsEmptyLane, SameWaiting, polled_after}

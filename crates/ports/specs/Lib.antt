@@ -3,3 +3,4 @@ pub mod PlainHerald
 pub mod Lanes
 pub mod Queues
 pub mod Lemmas
+pub mod Common

@@ -72,7 +72,7 @@ pub record IsNewCaller (names : ℕ → Option Names) (p : ℕ) (c : Caller) : T
 -- Both ends of process p's rings met, where the kernel's were i and are j, and the caller's were c
 -- and are d: what was submitted is what was taken and then what is known to wait, and what was given
 -- is what was polled and then what the caller knows.
-pub record Meets (i : RingIntake) (p : ℕ) (c : Caller) (j : RingIntake) (d : Caller) : Type 0 where
+pub record Reconciles (i : RingIntake) (p : ℕ) (c : Caller) (j : RingIntake) (d : Caller) : Type 0 where
   pub taken : (h : History) → IntakeFits i p h → h.taken ++ (intake_side j p).ahead ≡ submitted d
   pub given : (h : History) → IntakeFits i p h → polled d ++ unpolled d ≡ h.given
   pub submitted_stay : submitted d ≡ submitted c

@@ -8,7 +8,7 @@
 //! is room, the caller's where it hands in and polls. A place that the kernel has seen free stays
 //! free until it answers, since nobody else puts answers in.
 //!
-//! `RingIntake::meet` lets both ends see what the other did, where one thread has both.
+//! `RingIntake::reconcile` lets both ends see what the other did, where one thread has both.
 //! `Caller::finish` and `RingIntake::settle` compare the two ends once the caller is done.
 //!
 //! A board of two words, which the kernel and its callers share without a lock: how many groups are
@@ -26,8 +26,8 @@ mod herald;
 mod intake;
 mod laws;
 mod making;
-mod meeting;
 mod name;
+mod reconciling;
 mod rule;
 mod settling;
 mod view;

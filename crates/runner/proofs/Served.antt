@@ -19,7 +19,7 @@ use Rattle.history.specs.Own.{KeepsFirst, KeepsOwn}
 use Rattle.kernel.specs.Known.{Known}
 use Rattle.kernel.specs.Opening.{IsOpened}
 use Rattle.kernel.specs.State.{State}
-use Rattle.sysring.specs.Frames.{HasFrameOf}
+use Rattle.sysring.specs.Origins.{HasOriginOf}
 use Rattle.clients.specs.Backlogs.{ops_of}
 use Rattle.clients.specs.Clients.{AreClients, HaveRings, ops_at, ops_in}
 use Rattle.clients.specs.declared.client.Client.{Client}
@@ -59,28 +59,28 @@ keeps_tasks disk m names tasks processes cs are own p low =
     let here : p < length cs = subst (λ n. p < n) (sym are.count) low in
     subst (KeepsFirst (inode_count_of (disk.image m.opening)) m.world.journal.list p) (ops_are names tasks processes cs are p here) (own p here)
 
-module _ {D N H : Type 0} (disk : Ghosts D N) (d : D) (i : RingIntake) (h : H) (processes : ℕ) (k m : State D RingIntake H) (opened : IsOpened disk d i h processes k) (framed : HasFrameOf disk k m) where
+module _ {D N H : Type 0} (disk : Ghosts D N) (d : D) (i : RingIntake) (h : H) (processes : ℕ) (k m : State D RingIntake H) (opened : IsOpened disk d i h processes k) (origin : HasOriginOf disk k m) where
   pub many_are : length m.world.processes ≡ processes
-  many_are = framed.runs.many ∙ ap (λ w. length w.processes) opened.world ∙ length-replicate processes _
+  many_are = origin.runs.many ∙ ap (λ w. length w.processes) opened.world ∙ length-replicate processes _
 
   -- the clients have the kernel's rings
   pub have_rings : (tasks : List Task) (cs : List Client) → AreClients (intake_names i) tasks processes cs → HaveRings (intake_names m.intake) cs
-  have_rings tasks cs are p c at = framed.rings p ∙ ap (λ j. intake_names j p) opened.intake ∙ (are.each p c at).rings
+  have_rings tasks cs are p c at = origin.rings p ∙ ap (λ j. intake_names j p) opened.intake ∙ (are.each p c at).rings
 
 module _ {D N H : Type 0} (disk : Ghosts D N) (has_now : (d : D) → disk.leaves d (disk.moment d) (disk.image d)) (d : D) (i : RingIntake) (h : H) (processes : ℕ) (k m : State D RingIntake H)
-    (opened : IsOpened disk d i h processes k) (framed : HasFrameOf disk k m) where
+    (opened : IsOpened disk d i h processes k) (origin : HasOriginOf disk k m) where
   abbrev P : Image → Type 0
   P = KeepsBetween 0 (most_of m.store.volume) (disk.image m.opening) m.world.journal.list
 
   leaves_some : LeavesOnly disk.moment disk.leaves m.opening m.store.volume.device P → LeavesIfCalm disk d m.store.volume.device P
   leaves_some since = kept_whole disk has_now d k.opening m.store.volume.device (most_of m.store.volume) (disk.image m.opening) m.world.journal.list opened.sound opened.opening
-      (subst (λ o. LeavesOnly disk.moment disk.leaves o m.store.volume.device P) framed.runs.opening since) opened.leaves.any_moment
+      (subst (λ o. LeavesOnly disk.moment disk.leaves o m.store.volume.device P) origin.runs.opening since) opened.leaves.any_moment
 
   pub is_served : {M : Type 0} (intake : intake_trait.Ghosts RingIntake M) (herald : herald_trait.Ghosts H) → Known disk intake herald m → (e : D) → e ≡ m.store.volume.device → IsServed disk d e processes m
   is_served intake herald known e is = record {
     sound = opened.sound;
-    opening = ap disk.image framed.runs.opening ∙ opened.opening;
-    many = many_are disk d i h processes k m opened framed;
+    opening = ap disk.image origin.runs.opening ∙ opened.opening;
+    many = many_are disk d i h processes k m opened origin;
     now = is;
     keeps = subst (λ o. (x : Image) → disk.leaves o (disk.moment o) x → KeepsNow m.store.volume.log.committed (most_of m.store.volume) (disk.image m.opening) m.world.journal.list x) (sym is) known.stop.keeps;
     current = known.current;

@@ -10,7 +10,7 @@ ghost use Rattle.opening.specs.Openings.{IsNotOpened};
 ghost use Rattle.ports.specs.History.{nothing_yet};
 ghost use Rattle.rings.specs.declared.intake.RingIntake.{RingIntake};
 ghost use Rattle.rings.specs.Callers.{intake_count, intake_names, IntakeFits};
-ghost use Rattle.sysring.specs.Frames.{AreWorkers, HasFrameOf};
+ghost use Rattle.sysring.specs.Origins.{AreWorkers, HasOriginOf};
 ghost use Rattle.runner.specs.Running.{Ends, IsEndedBy, IsNotRun, Runs};
 
 use crate::driving::drive;
@@ -119,7 +119,7 @@ fn call<D: Disk + Send, H: Herald + Send, R: Threads + Wait + Clock + Sync>(
     requires watches { All (WatchOf board.now) watches.items }
     ensures same { IfSome result.0 (λ after. AreSameClients clients.items after.items) }
     ensures known { Known D.Disk ⟦<RingIntake as Intake>⟧ H.Herald result.1 }
-    ensures framed { HasFrameOf D.Disk kernel result.1 }
+    ensures origin { HasOriginOf D.Disk kernel result.1 }
 {
     serve_while(
         rt,

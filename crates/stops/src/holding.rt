@@ -14,8 +14,8 @@ ghost use Rattle.stops.specs.Holding.{
 };
 
 use crate::held_trial::{Calls, try_held_run};
-use crate::stopping::Progress;
 use crash_check::StopsFault;
+use messages::Meter;
 use scripts::{Task, Word};
 use std::alloc::Global;
 
@@ -26,7 +26,7 @@ use std::alloc::Global;
 ///
 /// `Mismatch` at the first image that can't be recovered, or has other files than it has to have;
 /// `NoMemory` where memory was refused, also that of an operation.
-pub fn try_held_stops<P: Progress>(
+pub fn try_held_stops<P: Meter>(
     alloc: Global,
     tasks: &[Task],
     processes: u32,
@@ -69,7 +69,7 @@ pub fn try_held_stops<P: Progress>(
 }
 
 // Makes the run up to each of so many calls. How many images these runs may leave.
-fn try_before<P: Progress>(
+fn try_before<P: Meter>(
     alloc: Global,
     tasks: &[Task],
     processes: u32,
@@ -89,7 +89,7 @@ fn try_before<P: Progress>(
     for before in 0..count {
         let left = try_stop(alloc, tasks, processes, words, calls, before)?;
         images = images.saturating_add(left);
-        progress.tried(before + 1, count);
+        progress.reached(before + 1, count, "stops");
     }
     Ok(images)
 }

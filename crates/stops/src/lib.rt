@@ -19,4 +19,4 @@ mod running;
 mod stopping;
 mod trial;
 
-pub use stopping::{Progress, check_stops};
+pub use stopping::check_stops;

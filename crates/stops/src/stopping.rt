@@ -9,19 +9,10 @@ ghost use Rattle.stops.specs.Trials.{AllPass, FailsBehind, Passes, SomeFails};
 use crate::holding::try_held_stops;
 use crate::trial::try_run;
 use crash_check::StopsFault;
-use messages::{Printed, print_images};
+use messages::{Meter, Printed, print_images};
 use scripts::{Task, Word};
 use std::alloc::Global;
 use std::io::Write;
-
-/// Who is told how far a check is. What it is told is so by the check's code.
-pub trait Progress {
-    /// So many of so many stops were tried, and their images passed.
-    fn tried(&mut self, stops: u64, of: u64);
-
-    /// The check is over, however it ended.
-    fn ended(&mut self);
-}
 
 /// Checks a script of so many processes, in the turns of a schedule, at each of its stops, and
 /// prints how many images these left: one more than the writes of the whole run. Where `held` is
@@ -36,7 +27,7 @@ pub trait Progress {
 /// where the image's own header logs something), and `NoMemory` where memory was refused, also
 /// that of an operation: then nothing was printed. Else `Output`. By its code the first such image
 /// ends the check.
-pub fn check_stops<P: Progress, O: Write>(
+pub fn check_stops<P: Meter, O: Write>(
     alloc: Global,
     tasks: &[Task],
     processes: u32,
@@ -59,7 +50,7 @@ pub fn check_stops<P: Progress, O: Write>(
 }
 
 // Makes all runs over a disk of that kind. How many images there were.
-fn try_all<P: Progress>(
+fn try_all<P: Meter>(
     alloc: Global,
     tasks: &[Task],
     processes: u32,
@@ -81,7 +72,7 @@ fn try_all<P: Progress>(
 }
 
 // Makes the whole run, and then one up to each of its writes. How many images there were.
-fn try_stops<P: Progress>(
+fn try_stops<P: Meter>(
     alloc: Global,
     tasks: &[Task],
     processes: u32,
@@ -97,7 +88,7 @@ fn try_stops<P: Progress>(
     let writes = try_run(alloc, tasks, processes, words, 0)?;
     for before in 0..writes {
         try_stop(alloc, tasks, processes, words, before)?;
-        progress.tried(before + 1, writes);
+        progress.reached(before + 1, writes, "stops");
     }
     Ok(writes.saturating_add(1))
 }

@@ -1,2 +1,2 @@
-mod Frames
+mod Origins
 mod Sends

@@ -16,10 +16,10 @@ use Rattle.wal.proofs.volume.Volume.TheSendSync as volume
 use Rattle.history.proofs.processes.Processes.TheSendSync as processes
 use Rattle.kernel.specs.contracts.stepping.Kernel as Kernel
 use Rattle.rings.proofs.intake.RingIntake.TheSendSync as rings
-use Rattle.sysring.specs.contracts.frame.Framed as Framed
+use Rattle.sysring.specs.contracts.session.Session as Session
 use Rattle.sysring.specs.contracts.serving.Serving as Serving
 use Rattle.sysring.specs.contracts.shared.Shared as Shared
-use Rattle.sysring.specs.declared.frame.Frame as frame
+use Rattle.sysring.specs.declared.session.Origin as origin
 
 pub ruleset parts = (crosses, place.the_field_send, gathered.the_send, inodes.the_send, volume.the_send, processes.the_send)
 
@@ -40,9 +40,9 @@ module _ (D I H N M : RattleType) (g : disk.Ghosts D.Denot N.Denot) (i : intake.
   Kernel-send : IsSend D → IsSend I → IsSend H → IsSend (Kernel.the_row D I H N M g i h)
   Kernel-send d n e = let a = Store-send D N g d in search (sendable, parts) depth 20
 
-module _ (D H K N : RattleType) (g : disk.Ghosts D.Denot N.Denot) (h : herald.Ghosts H.Denot) (k : frame.Ghosts K.Denot D.Denot H.Denot) where
-  Framed-send : IsSend D → IsSend H → IsSend K → IsSend (Framed.the_row D H K N g h k)
-  Framed-send d n e = search (sendable, crosses, rings.the_send, Kernel-send) depth 20
+module _ (D H K N : RattleType) (g : disk.Ghosts D.Denot N.Denot) (h : herald.Ghosts H.Denot) (k : origin.Ghosts K.Denot D.Denot H.Denot) where
+  Session-send : IsSend D → IsSend H → IsSend K → IsSend (Session.the_row D H K N g h k)
+  Session-send d n e = search (sendable, crosses, rings.the_send, Kernel-send) depth 20
 
   pub Shared-sync : IsSend D → IsSend H → IsSend K → IsSync (Shared.the_field D H K N g h k).row
-  Shared-sync d n e = let a = Framed-send d n e in search (sendable, crosses) depth 20
+  Shared-sync d n e = let a = Session-send d n e in search (sendable, crosses) depth 20

@@ -2,7 +2,7 @@
 ghost use Rattle.std.specs.Prelude.{◌≡◌, ◌<◌, ◌++◌, length, Some};
 ghost use Rattle.model.specs.Layout.{inode_count_of};
 ghost use Rattle.ports.specs.History.{SameNames};
-ghost use Rattle.rings.specs.Callers.{caller_names, submitted, polled, unpolled, intake_names, intake_count, Meets};
+ghost use Rattle.rings.specs.Callers.{caller_names, submitted, polled, unpolled, intake_names, intake_count, Reconciles};
 ghost use Rattle.sysring.specs.Accounts.{AccountsForAll};
 
 use crate::settling::Account;
@@ -13,22 +13,22 @@ use rings::{Caller, RingIntake};
 
 /// Lets both ends of a process's rings see what the other did.
 #[derive(Drop)]
-pub struct Meeting {
+pub struct Reconciling {
     pub pid: u32,
     pub caller: Caller,
 }
 
-impl Visit<RingIntake> for Meeting {
+impl Visit<RingIntake> for Reconciling {
     type Gift = Caller;
 
     ghost asks = { λ s i. (s.pid < intake_count i)
         × (intake_names i s.pid ≡ Some (caller_names s.caller)) };
 
-    ghost tells = { λ s i j caller. Meets i s.pid s.caller j caller };
+    ghost tells = { λ s i j caller. Reconciles i s.pid s.caller j caller };
 
     fn visit(self, intake: &mut RingIntake) -> Caller {
-        let Meeting { pid, mut caller } = self;
-        intake.meet(pid, &mut caller);
+        let Reconciling { pid, mut caller } = self;
+        intake.reconcile(pid, &mut caller);
         caller
     }
 }
@@ -52,7 +52,7 @@ pub fn account<D: Disk, H: Herald>(
 {
     kernel.known();
     let (begun, kept) = kernel.counts(pid);
-    let caller = kernel.visit(Meeting { pid, caller });
+    let caller = kernel.visit(Reconciling { pid, caller });
     let submitted = caller.submitted();
     let account = Account {
         submitted,

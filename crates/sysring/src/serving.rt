@@ -2,9 +2,9 @@
 ghost use Rattle.std.specs.Prelude.{◌≡◌, IfSome};
 ghost use Rattle.kernel.specs.Known.{Known};
 ghost use Rattle.rings.specs.declared.intake.RingIntake.{RingIntake};
-ghost use Rattle.sysring.specs.Frames.{AreWorkers, HasFrameOf, IsFramed};
+ghost use Rattle.sysring.specs.Origins.{AreWorkers, HasOriginOf, IsOfOrigin};
 
-use crate::frame::Frame;
+use crate::session::Origin;
 use crate::shared::Shared;
 use crate::workers::{Gate, serve};
 use blocks::Disk;
@@ -68,17 +68,17 @@ pub fn serve_while<
     requires callers { F.IsAlwaysCallable callers }
     ensures done { IfSome result.0 (λ gift. (at : _) × F.post callers at gift) }
     ensures known { Known D.Disk ⟦<RingIntake as Intake>⟧ H.Herald result.1 }
-    ensures framed { HasFrameOf D.Disk kernel result.1 }
+    ensures origin { HasOriginOf D.Disk kernel result.1 }
 {
     kernel.known();
     serve_under::<D, H, Brand, R, G, T, F>(rt, kernel, workers, gate, callers)
 }
 
-// The same with a frame.
+// The same with an origin.
 fn serve_under<
     D: Disk + Send,
     H: Herald + Send,
-    K: Frame<D, H> + Send,
+    K: Origin<D, H> + Send,
     R: Threads + Wait + Clock + Sync,
     G: Gate + Sync,
     T,
@@ -92,10 +92,10 @@ fn serve_under<
 ) -> (Option<T>, Kernel<D, RingIntake, H>)
     requires workers { AreWorkers workers }
     requires callers { F.IsAlwaysCallable callers }
-    requires framed { IsFramed D.Disk K.outset kernel }
+    requires origin { IsOfOrigin D.Disk K.outset kernel }
     ensures done { IfSome result.0 (λ gift. (at : _) × F.post callers at gift) }
     ensures known { Known D.Disk ⟦<RingIntake as Intake>⟧ H.Herald result.1 }
-    ensures framed { IsFramed D.Disk K.outset result.1 }
+    ensures origin { IsOfOrigin D.Disk K.outset result.1 }
 {
     let shared = Shared::<D, H, K>::new(kernel);
     let serving = Serving::new();
@@ -107,7 +107,7 @@ fn serve_under<
 fn serve_beside<
     D: Disk + Send,
     H: Herald + Send,
-    K: Frame<D, H> + Send,
+    K: Origin<D, H> + Send,
     R: Threads + Wait + Clock + Sync,
     G: Gate + Sync,
     T,

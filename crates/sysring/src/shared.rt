@@ -2,9 +2,9 @@
 ghost use Rattle.std.specs.Prelude.{◌<◌};
 ghost use Rattle.std.specs.Sync.Mutex.{mutex_guard_value};
 ghost use Rattle.kernel.specs.Known.{Known};
-ghost use Rattle.sysring.specs.Frames.{IsFramed, processes_in};
+ghost use Rattle.sysring.specs.Origins.{IsOfOrigin, processes_in};
 
-use crate::frame::{Frame, Framed};
+use crate::session::{Origin, Session};
 use blocks::Disk;
 use kernel::{Kernel, Step};
 use ports::{Herald, Intake};
@@ -18,8 +18,8 @@ const LOOKS: u32 = 250;
 
 /// A kernel that threads share.
 #[derive(Drop)]
-pub struct Shared<D: Disk, H: Herald, K: Frame<D, H>> {
-    kernel: Mutex<Framed<D, H, K>>,
+pub struct Shared<D: Disk, H: Herald, K: Origin<D, H>> {
+    kernel: Mutex<Session<D, H, K>>,
     // The steps that changed something, wrapping. It is written under the lock.
     changes: AtomicU64,
     // Those who wait for a change. It is written under the lock.
@@ -27,13 +27,13 @@ pub struct Shared<D: Disk, H: Herald, K: Frame<D, H>> {
     changed: Condvar,
 }
 
-impl<D: Disk, H: Herald, K: Frame<D, H>> Shared<D, H, K> {
+impl<D: Disk, H: Herald, K: Origin<D, H>> Shared<D, H, K> {
     /// Puts a lock round a kernel.
     pub fn new(kernel: Kernel<D, RingIntake, H>) -> Shared<D, H, K>
-        requires { IsFramed D.Disk K.outset kernel }
+        requires { IsOfOrigin D.Disk K.outset kernel }
     {
         Shared {
-            kernel: Mutex::new(Framed::new(kernel)),
+            kernel: Mutex::new(Session::new(kernel)),
             changes: AtomicU64::new(0),
             waiting: AtomicU64::new(0),
             changed: Condvar::new(),
@@ -42,9 +42,9 @@ impl<D: Disk, H: Herald, K: Frame<D, H>> Shared<D, H, K> {
 
     /// Gets the lock. Whoever had the kernel before: what is known of any kernel is true of it,
     /// above all what a stop now leaves, and it goes on from the one that threads began to share.
-    pub fn lock<R: Wait>(&self, rt: &R) -> MutexGuard<'_, Framed<D, H, K>>
+    pub fn lock<R: Wait>(&self, rt: &R) -> MutexGuard<'_, Session<D, H, K>>
         ensures known { Known D.Disk ⟦<RingIntake as Intake>⟧ H.Herald (mutex_guard_value result) }
-        ensures framed { IsFramed D.Disk K.outset (mutex_guard_value result) }
+        ensures origin { IsOfOrigin D.Disk K.outset (mutex_guard_value result) }
     {
         let kernel = self.acquire(rt);
         kernel.kernel().known();
@@ -53,7 +53,7 @@ impl<D: Disk, H: Herald, K: Frame<D, H>> Shared<D, H, K> {
 
     // Gets the lock. It is sought for a while first, since who sleeps for it costs who has it a call
     // of the system.
-    fn acquire<R: Wait>(&self, rt: &R) -> MutexGuard<'_, Framed<D, H, K>> {
+    fn acquire<R: Wait>(&self, rt: &R) -> MutexGuard<'_, Session<D, H, K>> {
         for _look in 0..LOOKS {
             if let Some(kernel) = self.kernel.try_lock() {
                 return kernel;
@@ -66,7 +66,7 @@ impl<D: Disk, H: Herald, K: Frame<D, H>> Shared<D, H, K> {
     /// The kernel, once nobody shares it any more.
     pub fn into_kernel(self) -> Kernel<D, RingIntake, H>
         ensures known { Known D.Disk ⟦<RingIntake as Intake>⟧ H.Herald result }
-        ensures framed { IsFramed D.Disk K.outset result }
+        ensures origin { IsOfOrigin D.Disk K.outset result }
     {
         let Shared { kernel, .. } = self;
         let kernel = kernel.into_inner().into_kernel();

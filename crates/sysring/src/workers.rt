@@ -1,8 +1,8 @@
 // The workers that make a shared kernel's steps.
 ghost use Rattle.std.specs.Prelude.{◌≡◌, ◌≤◌, ◌<◌, ◌^◌, true};
-ghost use Rattle.sysring.specs.Frames.{AreWorkers, processes_in};
+ghost use Rattle.sysring.specs.Origins.{AreWorkers, processes_in};
 
-use crate::frame::Frame;
+use crate::session::Origin;
 use crate::shared::Shared;
 use blocks::Disk;
 use kernel::Step;
@@ -52,7 +52,7 @@ enum Round {
 pub fn serve<
     D: Disk + Send,
     H: Herald + Send,
-    K: Frame<D, H> + Send,
+    K: Origin<D, H> + Send,
     R: Threads + Wait + Clock + Sync,
     G: Gate + Sync,
 >(rt: &R, shared: &Shared<D, H, K>, workers: u32, gate: &G)
@@ -85,7 +85,7 @@ pub fn serve<
 }
 
 // How many processes there are.
-fn processes_of<D: Disk, H: Herald, K: Frame<D, H>, R: Wait>(
+fn processes_of<D: Disk, H: Herald, K: Origin<D, H>, R: Wait>(
     rt: &R,
     shared: &Shared<D, H, K>,
 ) -> u32
@@ -95,7 +95,7 @@ fn processes_of<D: Disk, H: Herald, K: Frame<D, H>, R: Wait>(
 }
 
 // Makes rounds of steps of the processes of some workers, until none of them goes on.
-fn work<D: Disk, H: Herald, K: Frame<D, H>, R: Wait + Clock, G: Gate>(
+fn work<D: Disk, H: Herald, K: Origin<D, H>, R: Wait + Clock, G: Gate>(
     rt: &R,
     shared: &Shared<D, H, K>,
     processes: u32,
@@ -121,7 +121,7 @@ fn work<D: Disk, H: Herald, K: Frame<D, H>, R: Wait + Clock, G: Gate>(
 }
 
 // Makes a step of each process of some workers.
-fn make_round<D: Disk, H: Herald, K: Frame<D, H>, R: Wait, G: Gate>(
+fn make_round<D: Disk, H: Herald, K: Origin<D, H>, R: Wait, G: Gate>(
     rt: &R,
     shared: &Shared<D, H, K>,
     processes: u32,

@@ -4,10 +4,11 @@ use crate::wrong::{Wrong, ensure};
 use anyhow::{Context, bail};
 use blocks::{FaultyDisk, Kind, MemDisk};
 use layout::CheckFault;
+use messages::Meter;
 use offline::check;
 use std::alloc::Global;
 use std::io;
-use transfer::{CopyFault, Progress, copy};
+use transfer::{CopyFault, copy};
 
 // Which of the two disks fails.
 #[derive(Clone, Copy)]
@@ -45,8 +46,8 @@ impl Failures {
 #[derive(Drop)]
 struct Nobody;
 
-impl Progress for Nobody {
-    fn copied(&mut self, _files: u32, _of: u32) {}
+impl Meter for Nobody {
+    fn reached(&mut self, _files: u64, _of: u64, _what: &str) {}
 
     fn ended(&mut self) {}
 }

@@ -3,7 +3,7 @@ ghost use Rattle.std.specs.Prelude.{◌≡◌, ◌<◌, ℕ, All};
 ghost use Rattle.rings.specs.Boards.{KeeperOf, WatchOf, published};
 ghost use Rattle.ports.specs.History.{nothing_yet};
 ghost use Rattle.rings.specs.Callers.{IntakeFits, intake_count};
-ghost use Rattle.sysring.specs.Frames.{AreWorkers};
+ghost use Rattle.sysring.specs.Origins.{AreWorkers};
 
 use crate::lines::new_image;
 use blocks::MemDisk;
@@ -29,16 +29,16 @@ const PROCESSES: u32 = 32;
 
 type Opened<'a> = Kernel<MemDisk, RingIntake, BoardHerald<'a>>;
 
-// A place where two processes meet before their steps.
+// A place where two processes reconcile before their steps.
 #[derive(Drop)]
-struct Meeting {
+struct Reconciling {
     here: [AtomicU64; 2],
     met: [AtomicU64; 2],
 }
 
-impl Meeting {
-    fn new() -> Meeting {
-        Meeting {
+impl Reconciling {
+    fn new() -> Reconciling {
+        Reconciling {
             here: [AtomicU64::new(0), AtomicU64::new(0)],
             met: [AtomicU64::new(0), AtomicU64::new(0)],
         }
@@ -52,7 +52,7 @@ impl Meeting {
     }
 }
 
-impl Gate for Meeting {
+impl Gate for Reconciling {
     fn before(&self, pid: u32) {
         let mine = (pid % 2) as usize;
         self.here[mine].store(1, Ordering::SeqCst);
@@ -96,7 +96,7 @@ fn opened<'a>(
     }
 }
 
-/// Two workers meet, and then 1, 2 and 8 of them serve 32 processes. Prints what came of it.
+/// Two workers reconcile, and then 1, 2 and 8 of them serve 32 processes. Prints what came of it.
 pub fn print_sharing<R: Print + AllocGlobal + Threads + Wait + Clock + Sync>(
     rt: &R,
 ) -> anyhow::Result<()> {
@@ -112,16 +112,16 @@ pub fn print_sharing<R: Print + AllocGlobal + Threads + Wait + Clock + Sync>(
 fn print_meeting<R: Print + AllocGlobal + Threads + Wait + Clock + Sync>(
     rt: &R,
 ) -> anyhow::Result<()> {
-    let gate = Meeting::new();
-    let is_done = meet(rt, &gate)?;
+    let gate = Reconciling::new();
+    let is_done = reconcile(rt, &gate)?;
     let (first, second) = (gate.has_met(0), gate.has_met(1));
     println!(rt; "two workers: done {is_done}, met {first} and {second}")?;
     Ok(())
 }
 
-fn meet<R: AllocGlobal + Threads + Wait + Clock + Sync>(
+fn reconcile<R: AllocGlobal + Threads + Wait + Clock + Sync>(
     rt: &R,
-    gate: &Meeting,
+    gate: &Reconciling,
 ) -> Result<bool, MkfsFault> {
     match new_image(rt.alloc()) {
         Ok(disk) => Ok(serve_two(rt, disk, gate)),
@@ -146,7 +146,7 @@ fn created_by<R: AllocGlobal + Threads + Wait + Clock + Sync>(
 fn serve_two<R: AllocGlobal + Threads + Wait + Clock + Sync>(
     rt: &R,
     disk: MemDisk,
-    gate: &Meeting,
+    gate: &Reconciling,
 ) -> bool {
     let (Ok((intake, _callers)), Ok((board, keeper, watches))) = (
         rings(rt.alloc(), 2),

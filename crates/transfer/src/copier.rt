@@ -12,16 +12,8 @@ use crate::making::{check_size, make_new};
 use crate::source::{Source, read_source};
 use crate::writing_out::write_out;
 use blocks::{Disk, MemDisk};
+use messages::Meter;
 use std::alloc::Global;
-
-/// Who is told how far a copy is. What it is told is so by the copy's code.
-pub trait Progress {
-    /// So many of so many files were copied.
-    fn copied(&mut self, files: u32, of: u32);
-
-    /// The copy is over, however it ended.
-    fn ended(&mut self);
-}
 
 /// Copies the files of an image of the first form, as recovery would leave it, each with its number,
 /// into a new image of the second form of `size` blocks, which has as many numbers. The old image is
@@ -50,7 +42,7 @@ pub trait Progress {
 /// - `NoMemory` where memory was refused.
 /// - `Disk` where one of the disks failed. Where it was the old one, the new one is as it was; else
 ///   block 1 is, or the copy is whole.
-pub fn copy<D: Disk, E: Disk + Drop, P: Progress>(
+pub fn copy<D: Disk, E: Disk + Drop, P: Meter>(
     alloc: Global,
     old: &mut D,
     mut new: E,
@@ -77,7 +69,7 @@ pub fn copy<D: Disk, E: Disk + Drop, P: Progress>(
 }
 
 // Copies the files to a disk that is lent. Answers how many there are.
-fn copy_into<D: Disk, E: Disk, P: Progress>(
+fn copy_into<D: Disk, E: Disk, P: Meter>(
     alloc: Global,
     old: &mut D,
     new: &mut E,
@@ -103,7 +95,7 @@ fn copy_into<D: Disk, E: Disk, P: Progress>(
 }
 
 // The new image, in memory.
-fn fill_new<D: Disk, P: Progress>(
+fn fill_new<D: Disk, P: Meter>(
     alloc: Global,
     old: &mut D,
     source: &Source,

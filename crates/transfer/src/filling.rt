@@ -11,11 +11,11 @@ ghost use Rattle.transfer.specs.Holding.{BreaksOff, CutsShort, Holds, IsUnanswer
 ghost use Rattle.transfer.specs.Source.{IsFileOf, IsSourceOf};
 ghost use Rattle.transfer.specs.Stages.{kept_at, kind_or_plain, listed, made_at};
 
-use crate::copier::Progress;
 use crate::fault::CopyFault;
 use crate::source::Source;
 use blocks::{Block, Disk};
 use calls::{CallFault, Sole, append, create, remove};
+use messages::Meter;
 use model::types::TRANSFER_LIMIT;
 use offline::laws::checked_files_may_be_read;
 use std::alloc::Global;
@@ -24,7 +24,7 @@ use std::alloc::Global;
 pub(crate) const PLAIN: u16 = 2;
 
 /// Writes the files of the old image to a kernel without files, each with its number.
-pub(crate) fn fill<D: Disk, E: Disk, P: Progress>(
+pub(crate) fn fill<D: Disk, E: Disk, P: Meter>(
     alloc: Global,
     old: &mut D,
     source: &Source,
@@ -45,12 +45,12 @@ pub(crate) fn fill<D: Disk, E: Disk, P: Progress>(
     create_numbers(kernel, &source.kinds)?;
     remove_free(kernel, &source.kinds)?;
     let mut block = Block::zeroed(alloc)?;
-    let mut copied = 0;
+    let mut copied: u32 = 0;
     for (k, kind) in source.kinds.iter().enumerate() {
         if *kind != 0 {
             write_file(alloc, old, source, k as u32 + 1, kernel, &mut block)?;
             copied += 1;
-            progress.copied(copied, source.files);
+            progress.reached(u64::from(copied), u64::from(source.files), "files");
         }
     }
     Ok(())

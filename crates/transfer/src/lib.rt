@@ -21,7 +21,7 @@ mod source;
 mod writing;
 mod writing_out;
 
-pub use copier::{Progress, copy};
+pub use copier::copy;
 pub use fault::CopyFault;
 pub use putting::put_disk;
 pub use refused::PutRefusal;

@@ -1,27 +1,10 @@
 -- Each buffer keeps the bytes of a block.
 use Rattle.std.proofs.Common.{◌≡◌, ⊎_elim, ℕ, ◌+◌, ◌-◌, ◌<◌, Bool, true, false, cond, eqb, length, List, refl, sym, ◌∙◌, ap, subst, arith, Option, Some, None, length-set}
 use Rattle.std.specs.Prelude.{slice_index, IfNone}
-use Rattle.wal.specs.declared.types.DeviceFault.{DeviceFault}
-use Rattle.blocks.specs.Block.{IsBlock}
-use Rattle.blocks.specs.Disk.{Image, IsImage, block_at}
+use Rattle.wal.specs.Common.{after_acquire, after_acquire_by, after_lock, after_take, answer_at, answer_synced, AreBlocks, block_at, Buffer, buffer, Buffers, changed, Commit, CommitSteps, CommitsTo, CommitSyncs, Committed, CommitWrites, DeviceFault, each_buffer, fault_of_step, Faulted, filled, found, fresh_buffers, Ghosts, header_block, Image, is_among, is_syncing, is_writing, IsBlock, IsCache, IsImage, LogState, noted_cache, Part, pinned, released, seen, some_found, Stepped, stepped_at, Synced, true≢false, unpinned_found, Unsynced, victim, victim_free, with_buffer, written_cache}
 use Rattle.blocks.specs.Lemmas.Blocks.{is_block-zero_block}
-use Rattle.bcache.specs.declared.types.Buffer.{Buffer}
-use Rattle.bcache.specs.Buffers.{Buffers, buffer, with_buffer, found, victim, filled, changed, released, pinned, fresh_buffers, IsCache, after_lock, after_take, after_acquire_by, after_acquire}
-use Rattle.bcache.specs.Lemmas.Slots.{each_buffer, some_found, victim_free}
-use Rattle.wal.specs.declared.types.Commit.{Commit}
-use Rattle.wal.specs.declared.types.Commit.TheVariants as commit
-use Rattle.wal.specs.declared.types.Committed.{Committed}
-use Rattle.wal.specs.declared.types.Committed.TheVariants as committed
-use Rattle.wal.specs.Machine.{LogState, is_among, is_syncing, is_writing, noted_cache}
-use Rattle.wal.specs.Joint.{seen, AreBlocks, stepped_at, unpinned_found, written_cache}
-use Rattle.std.proofs.lemmas.Bool.{true≢false}
 use Rattle.wal.specs.Lemmas.Commits.{commit_kinds}
 use Rattle.wal.specs.Floats.{IsVolume}
-use Rattle.blocks.specs.declared.disk.Disk.{Ghosts}
-use Rattle.model.specs.Codec.{header_block}
-use Rattle.wal.specs.declared.types.Part.{Part}
-use Rattle.wal.specs.Step.{CommitSteps, CommitSyncs, CommitWrites, Stepped, Faulted, Synced, Unsynced, CommitsTo, answer_at, answer_synced}
-use Rattle.wal.specs.Volume.{fault_of_step}
 use Rattle.wal.specs.Lemmas.Volume.{fresh_slot, image_seen}
 
 -- a change of one slot
@@ -71,12 +54,12 @@ blocks_released c d i is lt are new = subst AreBlocks (sym new) (blocks_set c i 
 
 -- a home that was written is unpinned
 blocks_written : (k : Commit) (hs : List ℕ) (c : Buffers) → AreBlocks c → AreBlocks (written_cache k hs c)
-blocks_written commit.Quiet hs c are = are
-blocks_written (commit.Logging n) hs c are = are
-blocks_written commit.Heading hs c are = are
-blocks_written commit.Clearing hs c are = are
-blocks_written (commit.Syncing part) hs c are = are
-blocks_written (commit.Homing n) hs c are = by_found (found c (slice_index hs n)) refl
+blocks_written Commit.Quiet hs c are = are
+blocks_written (Commit.Logging n) hs c are = are
+blocks_written Commit.Heading hs c are = are
+blocks_written Commit.Clearing hs c are = are
+blocks_written (Commit.Syncing part) hs c are = are
+blocks_written (Commit.Homing n) hs c are = by_found (found c (slice_index hs n)) refl
   where
     by_found : (o : Option ℕ) → found c (slice_index hs n) ≡ o → AreBlocks (unpinned_found c o)
     by_found None e = are
@@ -96,20 +79,20 @@ module _ {D N : Type 0} (disk : Ghosts D N) (d : D) (c : Buffers) (l : LogState)
   -- over a disk that holds no writes back no part waits then, either
   calm : (b : Bool) (k : Commit) → is_writing k ≡ true → b ≡ false → is_syncing (stepped_at b k l).commit ≡ false
   calm true k writing free = absurd (true≢false free)
-  calm false commit.Quiet writing free = absurd (cc writing)
-  calm false (commit.Logging n) writing free = by_last (eqb (n + 1) (length l.homes))
+  calm false Commit.Quiet writing free = absurd (cc writing)
+  calm false (Commit.Logging n) writing free = by_last (eqb (n + 1) (length l.homes))
     where
-      by_last : (b : Bool) → is_syncing (cond b commit.Heading (commit.Logging (n + 1))) ≡ false
+      by_last : (b : Bool) → is_syncing (cond b Commit.Heading (Commit.Logging (n + 1))) ≡ false
       by_last true = refl
       by_last false = refl
-  calm false commit.Heading writing free = refl
-  calm false (commit.Homing n) writing free = by_last (eqb (n + 1) (length l.homes))
+  calm false Commit.Heading writing free = refl
+  calm false (Commit.Homing n) writing free = by_last (eqb (n + 1) (length l.homes))
     where
-      by_last : (b : Bool) → is_syncing (cond b commit.Clearing (commit.Homing (n + 1))) ≡ false
+      by_last : (b : Bool) → is_syncing (cond b Commit.Clearing (Commit.Homing (n + 1))) ≡ false
       by_last true = refl
       by_last false = refl
-  calm false commit.Clearing writing free = refl
-  calm false (commit.Syncing p) writing free = absurd (cc writing)
+  calm false Commit.Clearing writing free = refl
+  calm false (Commit.Syncing p) writing free = absurd (cc writing)
 
   writes : is_writing l.commit ≡ true → CommitWrites disk d c l r e f m → IfNone (fault_of_step r) Whole
   writes writing w = by_answer r w.step
@@ -122,16 +105,16 @@ module _ {D N : Type 0} (disk : Ghosts D N) (d : D) (c : Buffers) (l : LogState)
       }
 
       by_answer : (r : Committed) → CommitsTo (answer_at holds l.commit l.opened) r (Stepped holds (header_block l.homes) (disk.image d) c l (disk.image e) f m left) (Faulted (header_block l.homes) (disk.image d) c l (disk.image e) f m) → IfNone (fault_of_step r) Whole
-      by_answer committed.More step = made step.1
-      by_answer (committed.Durable n) step = made step.1
-      by_answer committed.Done step = made step.1
-      by_answer (committed.Fault fault) step = tt
+      by_answer Committed.More step = made step.1
+      by_answer (Committed.Durable n) step = made step.1
+      by_answer Committed.Done step = made step.1
+      by_answer (Committed.Fault fault) step = tt
 
   -- only a disk that holds writes back is synced
-  held : (p : Part) → l.commit ≡ commit.Syncing p → holds ≡ false → ⊥
+  held : (p : Part) → l.commit ≡ Commit.Syncing p → holds ≡ false → ⊥
   held p due free = let no : true ≡ false = sym (ap is_syncing due) ∙ plain free in absurd (true≢false no)
 
-  syncs : (p : Part) → l.commit ≡ commit.Syncing p → CommitSyncs disk p d c l r e f m → IfNone (fault_of_step r) Whole
+  syncs : (p : Part) → l.commit ≡ Commit.Syncing p → CommitSyncs disk p d c l r e f m → IfNone (fault_of_step r) Whole
   syncs p due w = by_answer r w.step
     where
       made : Synced p c l (disk.image e) f m left → Whole
@@ -142,21 +125,21 @@ module _ {D N : Type 0} (disk : Ghosts D N) (d : D) (c : Buffers) (l : LogState)
       }
 
       by_answer : (r : Committed) → CommitsTo (answer_synced p l.opened) r (Synced p c l (disk.image e) f m left) (Unsynced c l f m) → IfNone (fault_of_step r) Whole
-      by_answer committed.More step = made step.1
-      by_answer (committed.Durable n) step = made step.1
-      by_answer committed.Done step = made step.1
-      by_answer (committed.Fault fault) step = tt
+      by_answer Committed.More step = made step.1
+      by_answer (Committed.Durable n) step = made step.1
+      by_answer Committed.Done step = made step.1
+      by_answer (Committed.Fault fault) step = tt
 
   pub whole_stepped : (fault : Option DeviceFault) → fault ≡ fault_of_step r → CommitSteps disk d c l r e f m → IfNone fault Whole
   whole_stepped fault is step = subst (λ (o : Option DeviceFault). IfNone o Whole) (sym is) (⊎_elim
       (λ (w : (is_writing l.commit ≡ true) × CommitWrites disk d c l r e f m). writes w.0 w.1)
-      (λ (s : (q : Part) × (l.commit ≡ commit.Syncing q) × CommitSyncs disk q d c l r e f m). syncs s.0 s.1 s.2)
+      (λ (s : (q : Part) × (l.commit ≡ Commit.Syncing q) × CommitSyncs disk q d c l r e f m). syncs s.0 s.1 s.2)
       (commit_kinds disk l.commit d c l r e f m step))
 
   pub step_unsynced : CommitSteps disk d c l r e f m → holds ≡ false → disk.sync_count e ≡ disk.sync_count d
   step_unsynced step free = ⊎_elim
       (λ (w : (is_writing l.commit ≡ true) × CommitWrites disk d c l r e f m). w.1.syncs)
-      (λ (s : (q : Part) × (l.commit ≡ commit.Syncing q) × CommitSyncs disk q d c l r e f m). absurd (held s.0 s.1 free))
+      (λ (s : (q : Part) × (l.commit ≡ Commit.Syncing q) × CommitSyncs disk q d c l r e f m). absurd (held s.0 s.1 free))
       (commit_kinds disk l.commit d c l r e f m step)
 
 -- the current image is one of blocks of 1024 bytes

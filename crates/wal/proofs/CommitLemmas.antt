@@ -2,27 +2,9 @@
 use Rattle.std.proofs.Common.{◌≡◌, ◌≢◌, inl, inr, ℕ, zero, suc, ◌+◌, ◌*◌, ◌-◌, ◌<◌, ◌≤◌, ◌==◌, ◌||◌, Bool, true, false, cond, List, [], ◌∷◌, length, get_or, set, take, drop, length-drop, refl, sym, ◌∙◌, ap, subst, arith, Option, Some, None, length-set, add-one}
 use Rattle.std.specs.Prelude.{slice_index}
 use Rattle.std.proofs.Math.Seq.{drop-cons, drop-length}
-use Rattle.std.proofs.lemmas.Bool.{cases_eq, cond-true, cond-false, eqb-true, eq-eqb, ne_eqb, both_ways, and_parts, false_from_ne_true, or_parts, or_from, or_right}
-use Rattle.std.proofs.lemmas.List.{get_or-set_same, get_or-set_other, get_or-drop, get_or-take, get_or_default, length-take-le}
-use Rattle.std.proofs.lemmas.List.Folds.{list_any_none, list_any_at}
-use Rattle.blocks.specs.Block.{zero_block}
-use Rattle.blocks.specs.Disk.{Image, block_at}
-use Rattle.bcache.specs.declared.types.Buffer.{Buffer}
-use Rattle.bcache.specs.Buffers.{Buffers, buffer, found, unpinned}
-use Rattle.bcache.specs.Current.{is_number_in, is_of, shows}
-use Rattle.wal.specs.Joint.{seen, IsHeader, JointAt, Joint, Phase, Logs, HasHeader, live_at, pins_of, place_at, bytes_at, written_at, written_cache, unpinned_found, IsWithin}
-use Rattle.bcache.specs.Lemmas.Slots.{each_buffer, none_found, some_found, block_is, cache_kept}
-use Rattle.bcache.specs.Lemmas.Current.{length-current, current_kept, current_same_write, current_write}
-use Rattle.wal.specs.declared.types.Commit.{Commit}
-use Rattle.wal.specs.declared.types.Commit.TheVariants as commit
-use Rattle.wal.specs.declared.types.Part.TheVariants as part
-use Rattle.model.specs.Agreement.{IsSameOutsideLog}
-use Rattle.model.specs.Log.{logged_count, homes_of, logged_in, homes_in}
+use Rattle.wal.specs.Common.{and_parts, AreHomes, block_at, block_is, both_ways, Buffer, buffer, Buffers, bytes_at, cache_kept, cases_eq, Commit, cond-false, cond-true, Counts, current_kept, current_same_write, current_write, each_buffer, eq-eqb, eqb-true, false_from_ne_true, found, get_or-drop, get_or-set_other, get_or-set_same, get_or-take, get_or_default, HasHeader, homes_in, homes_of, Idle, Image, is_among, is_number_in, is_of, is_writing, IsHeader, IsLogAt, IsSameOutsideLog, IsWithin, Joint, JointAt, length-current, length-take-le, list_any_at, list_any_none, live_at, logged_count, logged_in, Logs, LogState, ne_eqb, none_found, or_from, or_parts, or_right, Part, Phase, pins_of, place_at, seen, shows, some_found, u32_at, unpinned, unpinned_found, written_at, written_cache, zero_block, zero_header}
 use Rattle.wal.proofs.LawfulLogs.{home_facts}
-use Rattle.wal.specs.Machine.{is_among, is_writing, AreHomes, LogState, Idle, Counts, IsLogAt}
 use Rattle.wal.proofs.LogLemmas.{no_homes, none_added}
-use Rattle.model.specs.Fields.{u32_at}
-use Rattle.model.specs.Lemmas.Log.{zero_header}
 use Rattle.wal.specs.Lemmas.Commits.{logged-same, outside_log}
 use Rattle.wal.specs.Lemmas.Volume.{none_low}
 
@@ -101,8 +83,8 @@ logs_more size n x cur hs are lt few big logs j le =
     ]
 
 -- the log block of a home is written
-pub wrote_log : (x : Image) (c : Buffers) (l : LogState) (n : ℕ) → JointAt (commit.Logging n) x c l
-    → Joint (set x (3 + n) (block_at (seen x c) (slice_index l.homes n))) c (written_at (commit.Logging n) l)
+pub wrote_log : (x : Image) (c : Buffers) (l : LogState) (n : ℕ) → JointAt (Commit.Logging n) x c l
+    → Joint (set x (3 + n) (block_at (seen x c) (slice_index l.homes n))) c (written_at (Commit.Logging n) l)
 wrote_log x c l n j = by_last (n + 1 == length l.homes) refl
   where
     v : List ℕ
@@ -117,16 +99,16 @@ wrote_log x c l n j = by_last (n + 1 == length l.homes) refl
     logs : Logs (n + 1) (set x (3 + n) v) (set (seen x c) (3 + n) v) l.homes
     logs = logs_more l.size n x (seen x c) l.homes j.log.places j.log.idle.1 few (omega (arith, j.size, j.log.big)) j.phase.1
 
-    by_last : (b : Bool) → (n + 1 == length l.homes) ≡ b → Joint (set x (3 + n) v) c (record l { commit = cond b commit.Heading (commit.Logging (n + 1)) })
+    by_last : (b : Bool) → (n + 1 == length l.homes) ≡ b → Joint (set x (3 + n) v) c (record l { commit = cond b Commit.Heading (Commit.Logging (n + 1)) })
     by_last true e =
         let all : n + 1 ≡ length l.homes = eqb-true _ _ e in
-        wrote_low c commit.Heading (record l { commit = commit.Heading }) (3 + n) v j (omega (arith, few)) refl
-        (in_phase (commit.Logging n) commit.Heading l l.homes l.committed j.log j.log.idle.0 (j.log.idle.0, omega (arith, j.log.idle.1)) j.log.places (omega arith) j.log.counts) refl
+        wrote_low c Commit.Heading (record l { commit = Commit.Heading }) (3 + n) v j (omega (arith, few)) refl
+        (in_phase (Commit.Logging n) Commit.Heading l l.homes l.committed j.log j.log.idle.0 (j.log.idle.0, omega (arith, j.log.idle.1)) j.log.places (omega arith) j.log.counts) refl
         (none, subst (λ (m : ℕ). Logs m (set x (3 + n) v) (set (seen x c) (3 + n) v) l.homes) all logs)
     by_last false e =
         let more : n + 1 < length l.homes = (let away : n + 1 ≢ length l.homes = λ same. both_ways _ e (eq-eqb _ _ same) in omega (arith, away, j.log.idle.1)) in
-        wrote_low c (commit.Logging (n + 1)) (record l { commit = commit.Logging (n + 1) }) (3 + n) v j (omega (arith, few)) refl
-        (in_phase (commit.Logging n) (commit.Logging (n + 1)) l l.homes l.committed j.log j.log.idle.0 (j.log.idle.0, more) j.log.places (omega arith) j.log.counts) refl
+        wrote_low c (Commit.Logging (n + 1)) (record l { commit = Commit.Logging (n + 1) }) (3 + n) v j (omega (arith, few)) refl
+        (in_phase (Commit.Logging n) (Commit.Logging (n + 1)) l l.homes l.committed j.log j.log.idle.0 (j.log.idle.0, more) j.log.places (omega arith) j.log.counts) refl
         (none, logs)
 
 -- a header is read as its homes
@@ -134,19 +116,19 @@ pub header_read : (x : Image) (h hs : List ℕ) → block_at x 2 ≡ h → IsHea
 header_read x h hs is head = record { count = ap logged_in is ∙ head.count; each = ap homes_in is ∙ head.each }
 
 -- the header with the homes is written
-pub wrote_header : (x : Image) (c : Buffers) (l : LogState) (h : List ℕ) → JointAt commit.Heading x c l → IsHeader h l.homes → Joint (set x 2 h) c (written_at commit.Heading l)
+pub wrote_header : (x : Image) (c : Buffers) (l : LogState) (h : List ℕ) → JointAt Commit.Heading x c l → IsHeader h l.homes → Joint (set x 2 h) c (written_at Commit.Heading l)
 wrote_header x c l h j head =
-    wrote_low c (commit.Homing 0) (record l { commit = commit.Homing 0; committed = l.opened }) 2 h j (omega arith) refl
-    (in_phase commit.Heading (commit.Homing 0) l l.homes l.opened j.log j.log.idle.0 (j.log.idle.0, j.log.idle.1) j.log.places (omega arith) refl) refl (
+    wrote_low c (Commit.Homing 0) (record l { commit = Commit.Homing 0; committed = l.opened }) 2 h j (omega arith) refl
+    (in_phase Commit.Heading (Commit.Homing 0) l l.homes l.opened j.log j.log.idle.0 (j.log.idle.0, j.log.idle.1) j.log.places (omega arith) refl) refl (
       header_read (set x 2 h) h l.homes (get_or-set_same x 2 h [] (omega (arith, j.size, j.log.big))) head,
       logs_low l.size (length l.homes) 2 x (seen x c) l.homes h j.log.places (omega arith) (omega arith) (λ i lt e. omega (arith, e)) j.phase.1,
     )
 
 -- the empty header is written
-pub wrote_empty : (x : Image) (c : Buffers) (l : LogState) → JointAt commit.Clearing x c l → Joint (set x 2 zero_block) c (written_at commit.Clearing l)
+pub wrote_empty : (x : Image) (c : Buffers) (l : LogState) → JointAt Commit.Clearing x c l → Joint (set x 2 zero_block) c (written_at Commit.Clearing l)
 wrote_empty x c l j =
-    wrote_low c commit.Quiet (record l { commit = commit.Quiet; homes = [] }) 2 zero_block j (omega arith) refl
-    (in_phase commit.Clearing commit.Quiet l [] l.committed j.log j.log.idle.0 (λ over. refl) (no_homes l.size) (omega arith) (omega (arith, j.log.counts, j.log.idle.0))) (sym (drop-length l.homes))
+    wrote_low c Commit.Quiet (record l { commit = Commit.Quiet; homes = [] }) 2 zero_block j (omega arith) refl
+    (in_phase Commit.Clearing Commit.Quiet l [] l.committed j.log j.log.idle.0 (λ over. refl) (no_homes l.size) (omega arith) (omega (arith, j.log.counts, j.log.idle.0))) (sym (drop-length l.homes))
     (none_logged (set x 2 zero_block) (get_or-set_same x 2 zero_block [] (omega (arith, j.size, j.log.big))))
 
 -- a home is not among those behind it
@@ -155,9 +137,8 @@ home_once size hs n are lt = list_any_none (λ h. h == slice_index hs n) (drop (
     ne_eqb (get_or (drop (n + 1) hs) i d) (slice_index hs n) (λ same.
     let m = n + 1 + i in
     let far : m < length hs = grind (arith, length-drop (n + 1) hs, inside) in
-    let at : get_or (drop (n + 1) hs) i d ≡ get_or hs m 0 = get_or-drop (n + 1) hs i d ∙ get_or_default hs m d 0 far in
     let apart : is_among (get_or hs m 0) (take m hs) ≡ false = (home_facts are).once m far in
-    let equal : get_or (take m hs) n 0 ≡ get_or hs m 0 = get_or-take m hs n 0 (omega arith) ∙ sym same ∙ at in
+    let equal : get_or (take m hs) n 0 ≡ get_or hs m 0 = get_or-take m hs n 0 (omega arith) ∙ sym same ∙ (get_or-drop (n + 1) hs i d ∙ get_or_default hs m d 0 far) in
     both_ways _ apart (list_any_at (λ h. h == get_or hs m 0) (take m hs) n 0 (omega (arith, length-take-le m hs (omega (arith, far)))) (eq-eqb _ _ equal))))
 
 -- the pins of a slot of another block
@@ -167,8 +148,8 @@ pins_other (Some b) h ds away =
     ap (λ (t : Bool). cond (t || is_among b ds) 1 0) away
 
 -- a home is written, and its buffer unpinned
-pub wrote_home : (x : Image) (c : Buffers) (l : LogState) (n : ℕ) → JointAt (commit.Homing n) x c l
-    → Joint (set x (slice_index l.homes n) (block_at (seen x c) (slice_index l.homes n))) (written_cache (commit.Homing n) l.homes c) (written_at (commit.Homing n) l)
+pub wrote_home : (x : Image) (c : Buffers) (l : LogState) (n : ℕ) → JointAt (Commit.Homing n) x c l
+    → Joint (set x (slice_index l.homes n) (block_at (seen x c) (slice_index l.homes n))) (written_cache (Commit.Homing n) l.homes c) (written_at (Commit.Homing n) l)
 wrote_home x c l n j = by_found (found c h) refl
   where
     hs : List ℕ
@@ -201,7 +182,7 @@ wrote_home x c l n j = by_found (found c h) refl
     kept : (b : ℕ) → is_among b rest ≡ true → is_among b (drop n hs) ≡ true
     kept b e = ap (is_among b) split ∙ or_right (h == b) (is_among b rest) e
 
-    by_found : (o : Option ℕ) → found c h ≡ o → Joint y (unpinned_found c o) (written_at (commit.Homing n) l)
+    by_found : (o : Option ℕ) → found c h ≡ o → Joint y (unpinned_found c o) (written_at (Commit.Homing n) l)
     by_found None e = absurd (let at = j.cached h among in both_ways (is_of h (buffer c at.0)) (none_found c h e at.0) (and_parts (buffer c at.0).valid (is_of h (buffer c at.0)) at.2).1)
     by_found (Some i) e = by_last (n + 1 == length hs) refl
       where
@@ -272,13 +253,13 @@ wrote_home x c l n j = by_found (found c h) refl
           phase = phase;
         }
 
-        by_last : (b : Bool) → (n + 1 == length hs) ≡ b → Joint y d (record l { commit = cond b commit.Clearing (commit.Homing (n + 1)) })
+        by_last : (b : Bool) → (n + 1 == length hs) ≡ b → Joint y d (record l { commit = cond b Commit.Clearing (Commit.Homing (n + 1)) })
         by_last true last =
             let all : n + 1 ≡ length hs = eqb-true _ _ last in
-            whole commit.Clearing (in_phase (commit.Homing n) commit.Clearing l hs l.committed j.log j.log.idle.0 (j.log.idle.0, omega (arith, lt)) j.log.places (omega arith) j.log.counts) (ap (λ (m : ℕ). drop m hs) (sym all)) (header, logs)
+            whole Commit.Clearing (in_phase (Commit.Homing n) Commit.Clearing l hs l.committed j.log j.log.idle.0 (j.log.idle.0, omega (arith, lt)) j.log.places (omega arith) j.log.counts) (ap (λ (m : ℕ). drop m hs) (sym all)) (header, logs)
         by_last false last =
             let more : n + 1 < length hs = (let away : n + 1 ≢ length hs = λ same. both_ways _ last (eq-eqb _ _ same) in omega (arith, away, lt)) in
-            whole (commit.Homing (n + 1)) (in_phase (commit.Homing n) (commit.Homing (n + 1)) l hs l.committed j.log j.log.idle.0 (j.log.idle.0, more) j.log.places (omega arith) j.log.counts) refl (header, logs)
+            whole (Commit.Homing (n + 1)) (in_phase (Commit.Homing n) (Commit.Homing (n + 1)) l hs l.committed j.log j.log.idle.0 (j.log.idle.0, more) j.log.places (omega arith) j.log.counts) refl (header, logs)
 
 -- any write of a commit
 pub wrote_next : (x : Image) (c : Buffers) (l : LogState) (h : List ℕ) → Joint x c l → is_writing l.commit ≡ true → IsHeader h l.homes
@@ -286,12 +267,12 @@ pub wrote_next : (x : Image) (c : Buffers) (l : LogState) (h : List ℕ) → Joi
 wrote_next x c l h j busy head = by_phase l.commit j busy
   where
     by_phase : (k : Commit) → JointAt k x c l → is_writing k ≡ true → Joint (set x (place_at k l.homes) (bytes_at k l.homes h (seen x c))) (written_cache k l.homes c) (written_at k l)
-    by_phase commit.Quiet j busy = absurd (cc busy)
-    by_phase (commit.Logging n) j busy = wrote_log x c l n j
-    by_phase commit.Heading j busy = wrote_header x c l h j head
-    by_phase (commit.Homing n) j busy = wrote_home x c l n j
-    by_phase commit.Clearing j busy = wrote_empty x c l j
-    by_phase (commit.Syncing part) j busy = absurd (cc busy)
+    by_phase Commit.Quiet j busy = absurd (cc busy)
+    by_phase (Commit.Logging n) j busy = wrote_log x c l n j
+    by_phase Commit.Heading j busy = wrote_header x c l h j head
+    by_phase (Commit.Homing n) j busy = wrote_home x c l n j
+    by_phase Commit.Clearing j busy = wrote_empty x c l j
+    by_phase (Commit.Syncing part) j busy = absurd (cc busy)
 
 same_low : (x : Image) (c : Buffers) (k : Commit) (l : LogState) (b : ℕ) (v : List ℕ) → JointAt k x c l → 2 ≤ b → b < 33 → IsSameOutsideLog (seen x c) (seen (set x b v) c)
 same_low x c k l b v j far low =
@@ -306,47 +287,46 @@ pub write_current : (x : Image) (c : Buffers) (l : LogState) (h : List ℕ) → 
 write_current x c l h j = by_phase l.commit j
   where
     by_phase : (k : Commit) → JointAt k x c l → IsSameOutsideLog (seen x c) (seen (set x (place_at k l.homes) (bytes_at k l.homes h (seen x c))) c)
-    by_phase commit.Quiet j = same_low x c commit.Quiet l 2 zero_block j (omega arith) (omega arith)
-    by_phase (commit.Logging n) j = same_low x c (commit.Logging n) l (3 + n) (block_at (seen x c) (slice_index l.homes n)) j (omega arith) (omega (arith, j.log.idle.1, j.log.room))
-    by_phase commit.Heading j = same_low x c commit.Heading l 2 h j (omega arith) (omega arith)
-    by_phase commit.Clearing j = same_low x c commit.Clearing l 2 zero_block j (omega arith) (omega arith)
-    by_phase (commit.Syncing part) j = same_low x c (commit.Syncing part) l 2 zero_block j (omega arith) (omega arith)
-    by_phase (commit.Homing n) j =
+    by_phase Commit.Quiet j = same_low x c Commit.Quiet l 2 zero_block j (omega arith) (omega arith)
+    by_phase (Commit.Logging n) j = same_low x c (Commit.Logging n) l (3 + n) (block_at (seen x c) (slice_index l.homes n)) j (omega arith) (omega (arith, j.log.idle.1, j.log.room))
+    by_phase Commit.Heading j = same_low x c Commit.Heading l 2 h j (omega arith) (omega arith)
+    by_phase Commit.Clearing j = same_low x c Commit.Clearing l 2 zero_block j (omega arith) (omega arith)
+    by_phase (Commit.Syncing part) j = same_low x c (Commit.Syncing part) l 2 zero_block j (omega arith) (omega arith)
+    by_phase (Commit.Homing n) j =
         let g : ℕ = slice_index l.homes n in
-        let among : is_among g (drop n l.homes) ≡ true = ap (is_among g) (drop-cons l.homes n 0 j.log.idle.1) ∙ ap (λ (t : Bool). t || is_among g (drop (suc n) l.homes)) (eq-eqb g g refl) in
-        let at = j.cached g among in
+        let at = j.cached g (ap (is_among g) (drop-cons l.homes n 0 j.log.idle.1) ∙ ap (λ (t : Bool). t || is_among g (drop (suc n) l.homes)) (eq-eqb g g refl)) in
         let cur : seen (set x g (block_at (seen x c) g)) c ≡ seen x c = current_same_write x c at.0 g (block_at (seen x c) g) j.cache.once at.2 in
         record { size = ap length cur; agree = λ a out. ap (λ (z : Image). block_at z a) cur }
 
 -- nor does what it unpins
 pub unpinned_current : (k : Commit) (hs : List ℕ) (y : Image) (c : Buffers) → seen y (written_cache k hs c) ≡ seen y c
-unpinned_current commit.Quiet hs y c = refl
-unpinned_current (commit.Logging n) hs y c = refl
-unpinned_current commit.Heading hs y c = refl
-unpinned_current commit.Clearing hs y c = refl
-unpinned_current (commit.Syncing part) hs y c = refl
-unpinned_current (commit.Homing n) hs y c = by_found (found c (slice_index hs n))
+unpinned_current Commit.Quiet hs y c = refl
+unpinned_current (Commit.Logging n) hs y c = refl
+unpinned_current Commit.Heading hs y c = refl
+unpinned_current Commit.Clearing hs y c = refl
+unpinned_current (Commit.Syncing part) hs y c = refl
+unpinned_current (Commit.Homing n) hs y c = by_found (found c (slice_index hs n))
   where
     by_found : (o : Option ℕ) → seen y (unpinned_found c o) ≡ seen y c
     by_found None = refl
     by_found (Some i) = current_kept y c i (record (buffer c i) { pins = (buffer c i).pins - 1 }) refl refl refl
 
-pub log_cleared : (l : LogState) (hs : List ℕ) → IsLogAt l.commit l → l.commit ≡ commit.Clearing → hs ≡ [] → IsLogAt commit.Quiet (record l { commit = commit.Quiet; homes = hs })
+pub log_cleared : (l : LogState) (hs : List ℕ) → IsLogAt l.commit l → l.commit ≡ Commit.Clearing → hs ≡ [] → IsLogAt Commit.Quiet (record l { commit = Commit.Quiet; homes = hs })
 log_cleared l hs is at none =
-    let was : IsLogAt commit.Clearing l = subst (λ (m : Commit). IsLogAt m l) at is in
-    subst (λ (gs : List ℕ). IsLogAt commit.Quiet (record l { commit = commit.Quiet; homes = gs })) (sym none)
-    (in_phase commit.Clearing commit.Quiet l [] l.committed was was.idle.0 (λ over. refl) (no_homes l.size) (omega arith) (omega (arith, was.counts, was.idle.0)))
+    let was : IsLogAt Commit.Clearing l = subst (λ (m : Commit). IsLogAt m l) at is in
+    subst (λ (gs : List ℕ). IsLogAt Commit.Quiet (record l { commit = Commit.Quiet; homes = gs })) (sym none)
+    (in_phase Commit.Clearing Commit.Quiet l [] l.committed was was.idle.0 (λ over. refl) (no_homes l.size) (omega arith) (omega (arith, was.counts, was.idle.0)))
 
-pub log_cleared_synced : (l : LogState) (hs : List ℕ) → IsLogAt l.commit l → l.commit ≡ commit.Syncing part.Clear → hs ≡ [] → IsLogAt commit.Quiet (record l { commit = commit.Quiet; homes = hs })
+pub log_cleared_synced : (l : LogState) (hs : List ℕ) → IsLogAt l.commit l → l.commit ≡ Commit.Syncing Part.Clear → hs ≡ [] → IsLogAt Commit.Quiet (record l { commit = Commit.Quiet; homes = hs })
 log_cleared_synced l hs is at none =
-    let was : IsLogAt (commit.Syncing part.Clear) l = subst (λ (m : Commit). IsLogAt m l) at is in
-    subst (λ (gs : List ℕ). IsLogAt commit.Quiet (record l { commit = commit.Quiet; homes = gs })) (sym none)
-    (in_phase (commit.Syncing part.Clear) commit.Quiet l [] l.committed was was.idle.0 (λ over. refl) (no_homes l.size) (omega arith) (omega (arith, was.counts, was.idle.0)))
+    let was : IsLogAt (Commit.Syncing Part.Clear) l = subst (λ (m : Commit). IsLogAt m l) at is in
+    subst (λ (gs : List ℕ). IsLogAt Commit.Quiet (record l { commit = Commit.Quiet; homes = gs })) (sym none)
+    (in_phase (Commit.Syncing Part.Clear) Commit.Quiet l [] l.committed was was.idle.0 (λ over. refl) (no_homes l.size) (omega arith) (omega (arith, was.counts, was.idle.0)))
 
 pub is_within : (k : Commit) (l : LogState) → IsLogAt k l → IsWithin k l.homes
-is_within commit.Quiet l is = tt
-is_within (commit.Logging n) l is = is.idle.1
-is_within commit.Heading l is = tt
-is_within (commit.Homing n) l is = is.idle.1
-is_within commit.Clearing l is = tt
-is_within (commit.Syncing part) l is = tt
+is_within Commit.Quiet l is = tt
+is_within (Commit.Logging n) l is = is.idle.1
+is_within Commit.Heading l is = tt
+is_within (Commit.Homing n) l is = is.idle.1
+is_within Commit.Clearing l is = tt
+is_within (Commit.Syncing part) l is = tt

@@ -1,22 +1,8 @@
 -- One step of a commit, from what its parts do.
 use Rattle.std.proofs.Common.{◌≡◌, ◌≢◌, ℕ, Bool, true, false, List, set, refl, sym, ◌∙◌, ap, subst}
-use Rattle.blocks.specs.Disk.{Image, IsOldOrNew, LeavesOldOrNew, IsSettled}
-use Rattle.bcache.specs.Buffers.{Buffers}
-use Rattle.wal.specs.Joint.{seen}
-use Rattle.wal.specs.declared.types.Commit.{Commit}
-use Rattle.wal.specs.declared.types.Commit.TheVariants as commit
-use Rattle.wal.specs.declared.types.Committed.{Committed}
-use Rattle.wal.specs.declared.types.Committed.TheVariants as committed
-use Rattle.model.specs.Log.{is_lawful_log}
-use Rattle.wal.specs.Joint.{IsHeader}
-use Rattle.wal.specs.Machine.{LogState, is_writing}
-use Rattle.wal.specs.Joint.{Joint, JointAt, place_at, bytes_at, source_at, stepped_at, synced_at, held_at, written_at, written_cache}
+use Rattle.wal.specs.Common.{answer_at, answer_synced, Buffers, bytes_at, Commit, CommitsTo, Committed, DeviceFault, Faulted, held_at, Image, is_lawful_log, is_writing, IsFault, IsHeader, IsOldOrNew, IsSettled, Joint, JointAt, LeavesOldOrNew, LogState, Part, place_at, seen, source_at, Stepped, stepped_at, Synced, synced_at, written_at, written_cache}
 use Rattle.wal.specs.Kept.{KeepsCommitted}
 use Rattle.wal.specs.Floats.{AreAfloat, Floats}
-use Rattle.wal.specs.Step.{Stepped, Faulted, Synced, CommitsTo, IsFault, answer_at, answer_synced}
-use Rattle.wal.specs.declared.types.DeviceFault.{DeviceFault}
-use Rattle.wal.specs.declared.types.Part.{Part}
-use Rattle.wal.specs.declared.types.Part.TheVariants as part
 use Rattle.wal.proofs.CommitLemmas.{wrote_next}
 use Rattle.wal.proofs.RecoveredLemmas.{kept_write}
 use Rattle.wal.proofs.CommitBytesLemmas.{source_current}
@@ -47,12 +33,12 @@ stepped holds h x c l y d m old left j writing head floats crash plain image cac
     land z now = let before = crash z now in lands x c l h before.0 z j writing head (floats before.0 before.1) (subst (λ (b : List ℕ). IsOldOrNew before.0 (place_at l.commit l.homes) b z) (source_current x c l h j) before.2)
 
     held : (k : Commit) → is_writing k ≡ true → AreAfloat (held_at k l).commit y l.homes left → AreAfloat (stepped_at true k l).commit y (stepped_at true k l).homes left
-    held commit.Quiet writes are = are
-    held (commit.Logging n) writes are = are
-    held commit.Heading writes are = are
-    held (commit.Homing n) writes are = are
-    held commit.Clearing writes are = are
-    held (commit.Syncing p) writes are = absurd (cc writes)
+    held Commit.Quiet writes are = are
+    held (Commit.Logging n) writes are = are
+    held Commit.Heading writes are = are
+    held (Commit.Homing n) writes are = are
+    held Commit.Clearing writes are = are
+    held (Commit.Syncing p) writes are = absurd (cc writes)
 
     by_kind : (b : Bool) → (b ≡ false → IsSettled y left) → is_lawful_log y ≡ true → AreAfloat (held_at l.commit l).commit y l.homes left → AreAfloat (stepped_at b l.commit l).commit y (stepped_at b l.commit l).homes left
     by_kind true plain lawful are = held l.commit writing are
@@ -66,43 +52,43 @@ faulted h x c l y j left = record {
 }
 
 -- no step of a commit answers a fault where its call succeeded
-pub commits_to : (answer r : Committed) (made failed : Type 0) → ((fault : DeviceFault) → answer ≢ committed.Fault fault) → r ≡ answer → made → CommitsTo answer r made failed
+pub commits_to : (answer r : Committed) (made failed : Type 0) → ((fault : DeviceFault) → answer ≢ Committed.Fault fault) → r ≡ answer → made → CommitsTo answer r made failed
 commits_to answer r made failed none is done = by_answer r is
   where
     by_answer : (a : Committed) → a ≡ answer → CommitsTo answer a made failed
-    by_answer committed.More e = (sym e, done)
-    by_answer (committed.Durable g) e = (sym e, done)
-    by_answer committed.Done e = (sym e, done)
-    by_answer (committed.Fault fault) e = absurd (none fault (sym e))
+    by_answer Committed.More e = (sym e, done)
+    by_answer (Committed.Durable g) e = (sym e, done)
+    by_answer Committed.Done e = (sym e, done)
+    by_answer (Committed.Fault fault) e = absurd (none fault (sym e))
 
 -- what holds where it succeeded
-pub made_counts : (answer r : Committed) (P : DeviceFault → Type 0) (failed made : Type 0) → ((fault : DeviceFault) → answer ≢ committed.Fault fault) → r ≡ answer → made → IsFault r P failed made
+pub made_counts : (answer r : Committed) (P : DeviceFault → Type 0) (failed made : Type 0) → ((fault : DeviceFault) → answer ≢ Committed.Fault fault) → r ≡ answer → made → IsFault r P failed made
 made_counts answer r P failed made none is done = by_answer r is
   where
     by_answer : (a : Committed) → a ≡ answer → IsFault a P failed made
-    by_answer committed.More e = done
-    by_answer (committed.Durable g) e = done
-    by_answer committed.Done e = done
-    by_answer (committed.Fault fault) e = absurd (none fault (sym e))
+    by_answer Committed.More e = done
+    by_answer (Committed.Durable g) e = done
+    by_answer Committed.Done e = done
+    by_answer (Committed.Fault fault) e = absurd (none fault (sym e))
 
-pub no_sync_fault : (p : Part) (g : ℕ) (fault : DeviceFault) → answer_synced p g ≢ committed.Fault fault
-no_sync_fault part.Log g fault = λ e. cc e
-no_sync_fault part.Header g fault = λ e. cc e
-no_sync_fault part.Homes g fault = λ e. cc e
-no_sync_fault part.Clear g fault = λ e. cc e
+pub no_sync_fault : (p : Part) (g : ℕ) (fault : DeviceFault) → answer_synced p g ≢ Committed.Fault fault
+no_sync_fault Part.Log g fault = λ e. cc e
+no_sync_fault Part.Header g fault = λ e. cc e
+no_sync_fault Part.Homes g fault = λ e. cc e
+no_sync_fault Part.Clear g fault = λ e. cc e
 
-pub no_fault : (holds : Bool) (k : Commit) (g : ℕ) (fault : DeviceFault) → answer_at holds k g ≢ committed.Fault fault
-no_fault holds commit.Quiet g fault = λ e. cc e
-no_fault holds (commit.Logging n) g fault = λ e. cc e
-no_fault true commit.Heading g fault = λ e. cc e
-no_fault false commit.Heading g fault = λ e. cc e
-no_fault holds (commit.Homing n) g fault = λ e. cc e
-no_fault true commit.Clearing g fault = λ e. cc e
-no_fault false commit.Clearing g fault = λ e. cc e
-no_fault holds (commit.Syncing p) g fault = no_sync_fault p g fault
+pub no_fault : (holds : Bool) (k : Commit) (g : ℕ) (fault : DeviceFault) → answer_at holds k g ≢ Committed.Fault fault
+no_fault holds Commit.Quiet g fault = λ e. cc e
+no_fault holds (Commit.Logging n) g fault = λ e. cc e
+no_fault true Commit.Heading g fault = λ e. cc e
+no_fault false Commit.Heading g fault = λ e. cc e
+no_fault holds (Commit.Homing n) g fault = λ e. cc e
+no_fault true Commit.Clearing g fault = λ e. cc e
+no_fault false Commit.Clearing g fault = λ e. cc e
+no_fault holds (Commit.Syncing p) g fault = no_sync_fault p g fault
 
 -- the log's next phase begins with what reads give alone
-pub synced : (p : Part) (x : Image) (c : Buffers) (l : LogState) (y : Image) (m : LogState) (left : Image → Type 0) → l.commit ≡ commit.Syncing p → Joint x c l → y ≡ x → m ≡ synced_at p l → IsSettled y left
+pub synced : (p : Part) (x : Image) (c : Buffers) (l : LogState) (y : Image) (m : LogState) (left : Image → Type 0) → l.commit ≡ Commit.Syncing p → Joint x c l → y ≡ x → m ≡ synced_at p l → IsSettled y left
     → Synced p c l y c m left
 synced p x c l y m left at j same log settled =
     let now : Joint y c m = subst (λ (z : Image). Joint z c m) (sym same) (subst (λ (n : LogState). Joint x c n) (sym log) (passes x c p l (subst (λ (k : Commit). JointAt k x c l) at j))) in

@@ -1,30 +1,10 @@
 -- What each call makes of the locks.
 use Rattle.std.proofs.Common.{◌≡◌, ◌≢◌, ◌⊎◌, inl, inr, ℕ, ◌+◌, ◌-◌, ◌<◌, Bool, true, false, cond, length, List, refl, sym, ◌∙◌, ap, subst, arith, Option, Some, None, length-set}
 use Rattle.std.specs.Prelude.{slice_index}
-use Rattle.std.proofs.lemmas.Bool.{cases_eq}
-use Rattle.blocks.specs.Disk.{Image, block_at}
-use Rattle.model.specs.declared.types.operations.Why.{Why}
-use Rattle.bcache.specs.declared.types.Buffer.{Buffer}
+use Rattle.wal.specs.Common.{acquire_answer, Acquired, after_acquire, after_acquire_by, after_lock, after_take, answer_at, answer_by, answer_synced, block_at, block_is, Buffer, buffer, buffer_other, buffer_same, Buffers, cases_eq, changed, Commit, CommitSteps, CommitStepsAt, CommitsTo, CommitSyncs, Committed, CommitWrites, each_buffer, EndsUnfilled, Faulted, filled, found, GetsLock, Ghosts, GivesUpLock, HasLock, header_block, holder_count, HoldsBlock, Image, is_among, IsCache, Joint, KeepsHeld, LeavesLocks, lock_answer, locked, LocksAfter, LogState, noted_cache, OnFault, Part, pinned, released, seen, some_found, Stepped, Synced, take_answer, taken, TakesLock, UnlessFault, unpinned_found, Unsynced, victim, victim_free, VolumeState, WaitsFor, Why, why_busy, with_buffer, written_cache}
 use Rattle.bcache.specs.declared.types.Busy.{Busy}
-use Rattle.bcache.specs.declared.types.Busy.TheVariants as busy
-use Rattle.bcache.specs.declared.types.Acquired.TheVariants as acquired
-use Rattle.bcache.specs.Current.{holder_count}
-use Rattle.bcache.specs.Buffers.{Buffers, buffer, with_buffer, found, victim, locked, taken, filled, changed, released, pinned, EndsUnfilled, IsCache, lock_answer, take_answer, answer_by, acquire_answer, after_lock, after_take, after_acquire_by, after_acquire}
-use Rattle.bcache.specs.Lemmas.Slots.{buffer_same, buffer_other, each_buffer, some_found, victim_free, block_is}
-use Rattle.wal.specs.declared.types.Commit.{Commit}
-use Rattle.wal.specs.declared.types.Commit.TheVariants as commit
-use Rattle.wal.specs.declared.types.Committed.{Committed}
-use Rattle.wal.specs.declared.types.Committed.TheVariants as committed
 use Rattle.wal.specs.Get.{Get}
 use Rattle.wal.specs.Get as get
-use Rattle.wal.specs.Machine.{LogState, is_among, noted_cache}
-use Rattle.wal.specs.Joint.{Joint, seen, unpinned_found, written_cache}
-use Rattle.blocks.specs.declared.disk.Disk.{Ghosts}
-use Rattle.model.specs.Codec.{header_block}
-use Rattle.wal.specs.declared.types.Part.{Part}
-use Rattle.wal.specs.Step.{CommitSteps, CommitStepsAt, CommitSyncs, CommitWrites, Stepped, Faulted, Synced, Unsynced, CommitsTo, answer_at, answer_synced}
-use Rattle.wal.specs.Volume.{VolumeState, OnFault, UnlessFault, why_busy}
-use Rattle.wal.specs.Held.{HasLock, HoldsBlock, KeepsHeld, TakesLock, LeavesLocks, GetsLock, GivesUpLock, WaitsFor, LocksAfter}
 use Rattle.wal.specs.Lemmas.Volume.{IsAcquired}
 use Rattle.wal.specs.Lemmas.Held.{held_bytes, held_lock, leaves_same, leaves_then, locked_place}
 
@@ -64,12 +44,12 @@ leaves_changed l c e d i b bytes is lt are new =
 
 -- a home that was written is unpinned
 leaves_written : (k : Commit) (hs : List ℕ) (c : Buffers) → LeavesLocks c (written_cache k hs c)
-leaves_written commit.Quiet hs c = leaves_same c c refl
-leaves_written (commit.Logging n) hs c = leaves_same c c refl
-leaves_written commit.Heading hs c = leaves_same c c refl
-leaves_written commit.Clearing hs c = leaves_same c c refl
-leaves_written (commit.Syncing part) hs c = leaves_same c c refl
-leaves_written (commit.Homing n) hs c = by_found (found c (slice_index hs n)) refl
+leaves_written Commit.Quiet hs c = leaves_same c c refl
+leaves_written (Commit.Logging n) hs c = leaves_same c c refl
+leaves_written Commit.Heading hs c = leaves_same c c refl
+leaves_written Commit.Clearing hs c = leaves_same c c refl
+leaves_written (Commit.Syncing part) hs c = leaves_same c c refl
+leaves_written (Commit.Homing n) hs c = by_found (found c (slice_index hs n)) refl
   where
     by_found : (o : Option ℕ) → found c (slice_index hs n) ≡ o → LeavesLocks c (unpinned_found c o)
     by_found None e = leaves_same c c refl
@@ -83,27 +63,27 @@ leaves_stepped {D} {N} disk d c l r e f m step = by_phase l.commit step
     writes w = by_answer r w.step
       where
         by_answer : (r : Committed) → CommitsTo (answer_at (disk.holding (disk.name d)) l.commit l.opened) r (Stepped (disk.holding (disk.name d)) (header_block l.homes) (disk.image d) c l (disk.image e) f m (disk.leaves e (disk.moment e))) (Faulted (header_block l.homes) (disk.image d) c l (disk.image e) f m) → LeavesLocks c f
-        by_answer committed.More step = subst (LeavesLocks c) (sym step.1.cache) (leaves_written l.commit l.homes c)
-        by_answer (committed.Durable n) step = subst (LeavesLocks c) (sym step.1.cache) (leaves_written l.commit l.homes c)
-        by_answer committed.Done step = subst (LeavesLocks c) (sym step.1.cache) (leaves_written l.commit l.homes c)
-        by_answer (committed.Fault fault) step = leaves_same c f step.cache
+        by_answer Committed.More step = subst (LeavesLocks c) (sym step.1.cache) (leaves_written l.commit l.homes c)
+        by_answer (Committed.Durable n) step = subst (LeavesLocks c) (sym step.1.cache) (leaves_written l.commit l.homes c)
+        by_answer Committed.Done step = subst (LeavesLocks c) (sym step.1.cache) (leaves_written l.commit l.homes c)
+        by_answer (Committed.Fault fault) step = leaves_same c f step.cache
 
     syncs : (p : Part) → CommitSyncs disk p d c l r e f m → LeavesLocks c f
     syncs p w = by_answer r w.step
       where
         by_answer : (r : Committed) → CommitsTo (answer_synced p l.opened) r (Synced p c l (disk.image e) f m (disk.leaves e (disk.moment e))) (Unsynced c l f m) → LeavesLocks c f
-        by_answer committed.More step = leaves_same c f step.1.cache
-        by_answer (committed.Durable n) step = leaves_same c f step.1.cache
-        by_answer committed.Done step = leaves_same c f step.1.cache
-        by_answer (committed.Fault fault) step = leaves_same c f step.cache
+        by_answer Committed.More step = leaves_same c f step.1.cache
+        by_answer (Committed.Durable n) step = leaves_same c f step.1.cache
+        by_answer Committed.Done step = leaves_same c f step.1.cache
+        by_answer (Committed.Fault fault) step = leaves_same c f step.cache
 
     by_phase : (k : Commit) → CommitStepsAt disk k d c l r e f m → LeavesLocks c f
-    by_phase commit.Quiet w = absurd w
-    by_phase (commit.Logging n) w = writes w
-    by_phase commit.Heading w = writes w
-    by_phase (commit.Homing n) w = writes w
-    by_phase commit.Clearing w = writes w
-    by_phase (commit.Syncing p) w = syncs p w
+    by_phase Commit.Quiet w = absurd w
+    by_phase (Commit.Logging n) w = writes w
+    by_phase Commit.Heading w = writes w
+    by_phase (Commit.Homing n) w = writes w
+    by_phase Commit.Clearing w = writes w
+    by_phase (Commit.Syncing p) w = syncs p w
 
 -- the lock of a slot is given up
 pub gives_up : (c d : Buffers) (pid i : ℕ) → IsCache c → i < 40 → (buffer c i).holder ≡ Some pid → d ≡ released c i → GivesUpLock c d pid i
@@ -152,17 +132,15 @@ takes_slot c pid b i t lt free mine block = record { held = held; takes = takes 
 
     held : KeepsHeld c (with_buffer c i t)
     held p a j h =
-        let other : j ≢ i = λ same. (let some : Some p ≡ None = sym h.holder ∙ ap (λ (k : ℕ). (buffer c k).holder) same ∙ free in cc some) in
-        let stays = buffer_other c i j t other in
+        let stays = buffer_other c i j t (λ same. (let some : Some p ≡ None = sym h.holder ∙ ap (λ (k : ℕ). (buffer c k).holder) same ∙ free in cc some)) in
         record { slot = h.slot; holder = ap (λ (s : Buffer). s.holder) stays ∙ h.holder; block = ap (λ (s : Buffer). s.block) stays ∙ h.block; valid = ap (λ (s : Buffer). s.valid) stays ∙ h.valid }
 
     takes : TakesLock c (with_buffer c i t) pid b i
     takes p a j has = elim (cases_eq j i) [
       | inl same ↦
           let now : HasLock (with_buffer c i t) p a i = subst (λ (k : ℕ). HasLock (with_buffer c i t) p a k) same has in
-          let who : Some p ≡ Some pid = sym now.holder ∙ ap (λ (s : Buffer). s.holder) here ∙ mine in
           let what : Some a ≡ Some b = sym now.block ∙ ap (λ (s : Buffer). s.block) here ∙ block in
-          inr (cc who, cc what, same)
+          inr (cc (sym now.holder ∙ ap (λ (s : Buffer). s.holder) here ∙ mine), cc what, same)
       | inr other ↦
           let stays = buffer_other c i j t other in
           inl (record { holder = sym (ap (λ (s : Buffer). s.holder) stays) ∙ has.holder; block = sym (ap (λ (s : Buffer). s.block) stays) ∙ has.block })
@@ -172,35 +150,35 @@ nobody : (pins : ℕ) (o : Option ℕ) → pins + holder_count o ≡ 0 → o ≡
 nobody pins None none = refl
 nobody pins (Some p) none = absurd (omega (arith, none))
 
-takes_acquired : (c : Buffers) (pid b i : ℕ) (v : Bool) → IsCache c → acquire_answer c b ≡ acquired.Got i v → TakesOne c (after_acquire c pid b) pid b i
+takes_acquired : (c : Buffers) (pid b i : ℕ) (v : Bool) → IsCache c → acquire_answer c b ≡ Acquired.Got i v → TakesOne c (after_acquire c pid b) pid b i
 takes_acquired c pid b i v is e = by_found (found c b) refl e
   where
-    by_lock : (j : ℕ) (o : Option ℕ) → found c b ≡ Some j → (buffer c j).holder ≡ o → lock_answer o j (buffer c j).valid ≡ acquired.Got i v → TakesOne c (after_lock o c pid j) pid b i
+    by_lock : (j : ℕ) (o : Option ℕ) → found c b ≡ Some j → (buffer c j).holder ≡ o → lock_answer o j (buffer c j).valid ≡ Acquired.Got i v → TakesOne c (after_lock o c pid j) pid b i
     by_lock j None at free e =
         let here = some_found c b j at in
         let same : j ≡ i = cc e in
         subst (TakesOne c (locked c pid j) pid b) same (takes_slot c pid b j (record (buffer c j) { holder = Some pid }) here.0 free refl (block_is b (buffer c j).block here.1))
     by_lock j (Some q) at free e = absurd (cc e)
 
-    by_take : (o : Option ℕ) → victim c ≡ o → take_answer o ≡ acquired.Got i v → TakesOne c (after_take o c pid b) pid b i
+    by_take : (o : Option ℕ) → victim c ≡ o → take_answer o ≡ Acquired.Got i v → TakesOne c (after_take o c pid b) pid b i
     by_take None at e = absurd (cc e)
     by_take (Some j) at e =
         let unused = victim_free c j is at in
         let same : j ≡ i = cc e in
         subst (TakesOne c (taken c pid b j) pid b) same (takes_slot c pid b j (record (buffer c j) { block = Some b; valid = false; holder = Some pid }) (omega (arith, unused.0, is.size)) (nobody (buffer c j).pins (buffer c j).holder unused.1) refl refl)
 
-    by_found : (o : Option ℕ) → found c b ≡ o → answer_by o c ≡ acquired.Got i v → TakesOne c (after_acquire_by o c pid b) pid b i
+    by_found : (o : Option ℕ) → found c b ≡ o → answer_by o c ≡ Acquired.Got i v → TakesOne c (after_acquire_by o c pid b) pid b i
     by_found None at e = by_take (victim c) refl e
     by_found (Some j) at e = by_lock j (buffer c j).holder at refl e
 
 -- a process gets the lock of a slot that is valid
-pub gets_acquired : (c d : Buffers) (pid b i : ℕ) (w : Bool) → IsCache c → acquired.Got i w ≡ acquire_answer c b → d ≡ after_acquire c pid b → IsAcquired d pid b i true → GetsLock c d pid b i
+pub gets_acquired : (c d : Buffers) (pid b i : ℕ) (w : Bool) → IsCache c → Acquired.Got i w ≡ acquire_answer c b → d ≡ after_acquire c pid b → IsAcquired d pid b i true → GetsLock c d pid b i
 gets_acquired c d pid b i w is answer are has =
     let one : TakesOne c d pid b i = subst (λ (e : Buffers). TakesOne c e pid b i) (sym are) (takes_acquired c pid b i w is (sym answer)) in
     record { holds = record { slot = has.slot; holder = has.holder; block = has.block; valid = has.valid }; held = one.held; takes = one.takes }
 
 -- of one that is filled then
-pub gets_filled : (x : Image) (c d e : Buffers) (pid b i : ℕ) (w : Bool) (r : Get) → IsCache c → IsCache d → acquired.Got i w ≡ acquire_answer c b → d ≡ after_acquire c pid b → IsAcquired d pid b i false
+pub gets_filled : (x : Image) (c d e : Buffers) (pid b i : ℕ) (w : Bool) (r : Get) → IsCache c → IsCache d → Acquired.Got i w ≡ acquire_answer c b → d ≡ after_acquire c pid b → IsAcquired d pid b i false
     → UnlessFault r (r ≡ get.Got i) → UnlessFault r (e ≡ filled d i (block_at x b)) → OnFault r (λ _. EndsUnfilled d i e) → LocksAfter r c e pid b
 gets_filled x c d e pid b i w (get.Got n) is now answer are has same new failed =
     let one : TakesOne c d pid b i = subst (λ (f : Buffers). TakesOne c f pid b i) (sym are) (takes_acquired c pid b i w is (sym answer)) in
@@ -208,8 +186,7 @@ gets_filled x c d e pid b i w (get.Got n) is now answer are has same new failed 
     let inside : i < length d.slots = omega (arith, has.slot, now.size) in
     let stays : LeavesLocks d e = subst (LeavesLocks d) (sym new) (leaves_kept d i t inside (record { holder = refl; block = refl; valid = λ v. refl })) in
     let here : buffer e i ≡ t = ap (λ (f : Buffers). buffer f i) new ∙ buffer_same d i t inside in
-    let this : i ≡ n = cc same in
-    subst (GetsLock c e pid b) this (record {
+    subst (GetsLock c e pid b) (cc same) (record {
       holds = record { slot = has.slot; holder = ap (λ (s : Buffer). s.holder) here ∙ has.holder; block = ap (λ (s : Buffer). s.block) here ∙ has.block; valid = ap (λ (s : Buffer). s.valid) here };
       held = λ p a j h. stays.held p a j (one.held p a j h);
       takes = λ p a j h. one.takes p a j (stays.none p a j h);
@@ -230,21 +207,21 @@ gets_filled x c d e pid b i w (get.Fault fault) is now answer are has same new f
     }
 
 -- a process has to wait
-pub waits_acquired : (c d : Buffers) (pid b : ℕ) (cause : Busy) (reason : Why) → acquired.Sleeping cause ≡ acquire_answer c b → reason ≡ why_busy cause → d ≡ after_acquire c pid b → WaitsFor reason c b × LeavesLocks c d
+pub waits_acquired : (c d : Buffers) (pid b : ℕ) (cause : Busy) (reason : Why) → Acquired.Sleeping cause ≡ acquire_answer c b → reason ≡ why_busy cause → d ≡ after_acquire c pid b → WaitsFor reason c b × LeavesLocks c d
 waits_acquired c d pid b cause reason answer is are = subst (λ (r : Why). WaitsFor r c b × LeavesLocks c d) (sym is) (subst (λ (e : Buffers). WaitsFor (why_busy cause) c b × LeavesLocks c e) (sym are) (by_found (found c b) refl answer))
   where
-    by_lock : (j : ℕ) (o : Option ℕ) → found c b ≡ Some j → (buffer c j).holder ≡ o → acquired.Sleeping cause ≡ lock_answer o j (buffer c j).valid → WaitsFor (why_busy cause) c b × LeavesLocks c (after_lock o c pid j)
+    by_lock : (j : ℕ) (o : Option ℕ) → found c b ≡ Some j → (buffer c j).holder ≡ o → Acquired.Sleeping cause ≡ lock_answer o j (buffer c j).valid → WaitsFor (why_busy cause) c b × LeavesLocks c (after_lock o c pid j)
     by_lock j None at has e = absurd (cc e)
     by_lock j (Some q) at has e =
-        let held : cause ≡ busy.Held = cc e in
+        let held : cause ≡ Busy.Held = cc e in
         let lock : HasLock c q b j = record { holder = has; block = block_is b (buffer c j).block (some_found c b j at).1 } in
         (subst (λ (k : Busy). WaitsFor (why_busy k) c b) (sym held) (q, j, lock), leaves_same c c refl)
 
-    by_take : (o : Option ℕ) → acquired.Sleeping cause ≡ take_answer o → WaitsFor (why_busy cause) c b × LeavesLocks c (after_take o c pid b)
-    by_take None e = let full : cause ≡ busy.NoBuffer = cc e in (subst (λ (k : Busy). WaitsFor (why_busy k) c b) (sym full) tt, leaves_same c c refl)
+    by_take : (o : Option ℕ) → Acquired.Sleeping cause ≡ take_answer o → WaitsFor (why_busy cause) c b × LeavesLocks c (after_take o c pid b)
+    by_take None e = let full : cause ≡ Busy.NoBuffer = cc e in (subst (λ (k : Busy). WaitsFor (why_busy k) c b) (sym full) tt, leaves_same c c refl)
     by_take (Some j) e = absurd (cc e)
 
-    by_found : (o : Option ℕ) → found c b ≡ o → acquired.Sleeping cause ≡ answer_by o c → WaitsFor (why_busy cause) c b × LeavesLocks c (after_acquire_by o c pid b)
+    by_found : (o : Option ℕ) → found c b ≡ o → Acquired.Sleeping cause ≡ answer_by o c → WaitsFor (why_busy cause) c b × LeavesLocks c (after_acquire_by o c pid b)
     by_found None at e = by_take (victim c) e
     by_found (Some j) at e = by_lock j (buffer c j).holder at refl e
 

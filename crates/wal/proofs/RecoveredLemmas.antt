@@ -1,27 +1,10 @@
 -- What recovery gives in each phase of a commit.
 use Rattle.std.proofs.Common.{◌≡◌, ◌≢◌, ⊎_elim, inl, inr, ℕ, zero, suc, ◌+◌, ◌<◌, ◌≤◌, ltb, true, false, List, [], ◌∷◌, length, set, refl, sym, ◌∙◌, ap, subst, arith, length-set, Option, Some, None}
 use Rattle.std.specs.Prelude.{slice_index}
-use Rattle.std.proofs.lemmas.Bool.{cases_eq, cases_lt, ltb-true, or_cases}
-use Rattle.std.proofs.lemmas.List.{get_or-set_same, get_or-set_other, set-set}
 use Rattle.std.proofs.Math.Seq.{drop-length}
-use Rattle.blocks.specs.Block.{zero_block}
-use Rattle.blocks.specs.Disk.{Image, block_at}
-use Rattle.bcache.specs.Buffers.{Buffers}
-use Rattle.wal.specs.Joint.{seen}
-use Rattle.bcache.specs.Lemmas.Current.{length-current}
-use Rattle.wal.specs.declared.types.Commit.{Commit}
-use Rattle.wal.specs.declared.types.Commit.TheVariants as commit
-use Rattle.wal.specs.declared.types.Part.TheVariants as part
-use Rattle.model.specs.Log.{logged_count, recovered}
+use Rattle.wal.specs.Common.{AreHomes, block_at, block_from_log, Buffers, bytes_at, cases_eq, cases_lt, Commit, get_or-set_other, get_or-set_same, HasHeader, Image, is_among, is_writing, IsHeader, Joint, JointAt, length-current, length-recovered, logged_count, Logs, LogState, ltb-true, no_place, none_cleared, or_cases, Part, place_among, place_at, place_below, recovered, recovered_at, recovered_block-header, recovered_empty, SameButLog, seen, set-set, zero_block}
 use Rattle.wal.proofs.LawfulLogs.{home_facts}
-use Rattle.wal.specs.Machine.{is_among, is_writing, AreHomes}
-use Rattle.wal.specs.Joint.{IsHeader}
-use Rattle.wal.specs.Machine.{LogState}
-use Rattle.wal.specs.Joint.{JointAt, Joint, Logs, HasHeader, SameButLog, place_at, bytes_at}
 use Rattle.wal.specs.Kept.{Committed, KeepsCommitted}
-use Rattle.model.specs.Log.{block_from_log, place_among}
-use Rattle.model.specs.Lemmas.Log.{recovered_empty, recovered_at, recovered_block-header, length-recovered, none_cleared}
-use Rattle.model.specs.Lemmas.Recovery.{place_below, no_place}
 use Rattle.wal.proofs.CopyLemmas.{not_header, home_of_place}
 use Rattle.wal.specs.Lemmas.Commits.{outside_log, logged-same}
 use Rattle.wal.proofs.CommitLemmas.{home_far, header_read, homes-same, among_drop}
@@ -90,15 +73,15 @@ after_header size x cur hs len big are some head logs same clean = same_but_log 
 
 -- what recovery gives in each phase
 pub committed_at : (k : Commit) (x : Image) (c : Buffers) (l : LogState) → JointAt k x c l → Committed k x (seen x c)
-committed_at commit.Quiet x c l j = recovered_empty x j.phase
-committed_at (commit.Logging n) x c l j = recovered_empty x j.phase.0
-committed_at commit.Heading x c l j = recovered_empty x j.phase.0
-committed_at (commit.Homing n) x c l j = after_header l.size x (seen x c) l.homes j.size j.log.big j.log.places (omega (arith, j.log.idle.1)) j.phase.0 j.phase.1 (length-current x c) (λ b out. j.clean b (among_drop b n l.homes out))
-committed_at commit.Clearing x c l j = after_header l.size x (seen x c) l.homes j.size j.log.big j.log.places j.log.idle.1 j.phase.0 j.phase.1 (length-current x c) (λ b out. j.clean b (among_drop b (length l.homes) l.homes out))
-committed_at (commit.Syncing part.Log) x c l j = recovered_empty x j.phase.0
-committed_at (commit.Syncing part.Header) x c l j = after_header l.size x (seen x c) l.homes j.size j.log.big j.log.places j.log.idle.1 j.phase.0 j.phase.1 (length-current x c) (λ b out. j.clean b out)
-committed_at (commit.Syncing part.Homes) x c l j = after_header l.size x (seen x c) l.homes j.size j.log.big j.log.places j.log.idle.1 j.phase.0 j.phase.1 (length-current x c) (λ b out. j.clean b (among_drop b (length l.homes) l.homes out))
-committed_at (commit.Syncing part.Clear) x c l j = recovered_empty x j.phase
+committed_at Commit.Quiet x c l j = recovered_empty x j.phase
+committed_at (Commit.Logging n) x c l j = recovered_empty x j.phase.0
+committed_at Commit.Heading x c l j = recovered_empty x j.phase.0
+committed_at (Commit.Homing n) x c l j = after_header l.size x (seen x c) l.homes j.size j.log.big j.log.places (omega (arith, j.log.idle.1)) j.phase.0 j.phase.1 (length-current x c) (λ b out. j.clean b (among_drop b n l.homes out))
+committed_at Commit.Clearing x c l j = after_header l.size x (seen x c) l.homes j.size j.log.big j.log.places j.log.idle.1 j.phase.0 j.phase.1 (length-current x c) (λ b out. j.clean b (among_drop b (length l.homes) l.homes out))
+committed_at (Commit.Syncing Part.Log) x c l j = recovered_empty x j.phase.0
+committed_at (Commit.Syncing Part.Header) x c l j = after_header l.size x (seen x c) l.homes j.size j.log.big j.log.places j.log.idle.1 j.phase.0 j.phase.1 (length-current x c) (λ b out. j.clean b out)
+committed_at (Commit.Syncing Part.Homes) x c l j = after_header l.size x (seen x c) l.homes j.size j.log.big j.log.places j.log.idle.1 j.phase.0 j.phase.1 (length-current x c) (λ b out. j.clean b (among_drop b (length l.homes) l.homes out))
+committed_at (Commit.Syncing Part.Clear) x c l j = recovered_empty x j.phase
 
 -- a write to a log block
 pub but_log_write : (x : Image) (n : ℕ) (v : List ℕ) → n < 30 → SameButLog x (set x (3 + n) v)
@@ -127,16 +110,15 @@ kept_write x c l h joint busy head = by_phase l.commit joint busy
     cur = seen x c
 
     by_phase : (k : Commit) → JointAt k x c l → is_writing k ≡ true → KeepsCommitted k x cur (set x (place_at k l.homes) (bytes_at k l.homes h cur))
-    by_phase commit.Quiet j busy = absurd (cc busy)
-    by_phase (commit.Syncing part) j busy = absurd (cc busy)
-    by_phase (commit.Logging n) j busy =
-        let few : n < 30 = omega (arith, j.log.idle.1, j.log.room) in
+    by_phase Commit.Quiet j busy = absurd (cc busy)
+    by_phase (Commit.Syncing part) j busy = absurd (cc busy)
+    by_phase (Commit.Logging n) j busy =
         let v = block_at cur (slice_index l.homes n) in
         let y = set x (3 + n) v in
         let none : logged_count y ≡ 0 = logged-same x y (get_or-set_other x (3 + n) 2 v [] (λ e. omega (arith, e))) ∙ j.phase.0 in
         but_log_then (recovered x) x (recovered y) (but_log_same (recovered x) x (recovered_empty x j.phase.0))
-        (but_log_then x y (recovered y) (but_log_write x n v few) (but_log_same y (recovered y) (sym (recovered_empty y none))))
-    by_phase commit.Heading j busy =
+        (but_log_then x y (recovered y) (but_log_write x n v (omega (arith, j.log.idle.1, j.log.room))) (but_log_same y (recovered y) (sym (recovered_empty y none))))
+    by_phase Commit.Heading j busy =
         let y = set x 2 h in
         let big : 2 < length x = omega (arith, j.size, j.log.big) in
         let far = λ (i : ℕ) (lt : i < length l.homes). home_far l.size l.homes i j.log.places lt in
@@ -149,27 +131,26 @@ kept_write x c l h joint busy head = by_phase l.commit joint busy
           | inr other ↦ get_or-set_other cur 2 b h [] other ∙ j.clean b out ∙ sym (get_or-set_other x 2 b h [] other)
         ]) in
         but_log_then (set cur 2 zero_block) (set (set cur 2 h) 2 zero_block) (recovered y) (but_log_same _ _ (sym (set-set cur 2 h zero_block))) whole
-    by_phase (commit.Homing n) j busy =
+    by_phase (Commit.Homing n) j busy =
         let g = slice_index l.homes n in
         let v = block_at cur g in
         let y = set x g v in
         let lt : n < length l.homes = j.log.idle.1 in
         let far : 33 ≤ g = (home_facts j.log.places).behind n lt in
-        let inside : g < length x = omega (arith, (home_facts j.log.places).within n lt, j.size) in
         let two : block_at y 2 ≡ block_at x 2 = get_or-set_other x g 2 v [] (λ e. omega (arith, e, far)) in
         let whole = after_header l.size y cur l.homes (length-set x g v ∙ j.size) j.log.big j.log.places (omega (arith, lt))
         (record { count = logged-same x y two ∙ j.phase.0.count; each = homes-same x y two ∙ j.phase.0.each })
         (λ i le. get_or-set_other x g (3 + i) v [] (λ e. omega (arith, e, far, le, j.log.room)) ∙ j.phase.1 i le)
         (length-current x c ∙ sym (length-set x g v))
         (λ b out. elim (cases_eq b g) [
-          | inl same ↦ ap (block_at cur) same ∙ sym (ap (block_at y) same ∙ get_or-set_same x g v [] inside)
+          | inl same ↦ ap (block_at cur) same ∙ sym (ap (block_at y) same ∙ get_or-set_same x g v [] (omega (arith, (home_facts j.log.places).within n lt, j.size)))
           | inr other ↦ j.clean b (among_drop b n l.homes out) ∙ sym (get_or-set_other x g b v [] other)
         ]) in
-        but_log_then (recovered x) (set cur 2 zero_block) (recovered y) (but_log_back _ _ (committed_at (commit.Homing n) x c l j)) whole
-    by_phase commit.Clearing j busy =
+        but_log_then (recovered x) (set cur 2 zero_block) (recovered y) (but_log_back _ _ (committed_at (Commit.Homing n) x c l j)) whole
+    by_phase Commit.Clearing j busy =
         let y = set x 2 zero_block in
         let big : 2 < length x = omega (arith, j.size, j.log.big) in
         let same : (b : ℕ) → block_at x b ≡ block_at cur b = λ b. sym (j.clean b (ap (is_among b) (drop-length l.homes))) in
         let both : SameButLog cur x = record { outside = record { size = sym (length-current x c); agree = λ b out. same b }; header = same 2 } in
-        but_log_then (recovered x) (set cur 2 zero_block) (recovered y) (but_log_back _ _ (committed_at commit.Clearing x c l j))
+        but_log_then (recovered x) (set cur 2 zero_block) (recovered y) (but_log_back _ _ (committed_at Commit.Clearing x c l j))
         (but_log_then (set cur 2 zero_block) y (recovered y) (but_log_two cur x zero_block both (omega (arith, length-current x c, big))) (but_log_same y (recovered y) (sym (recovered_empty y (none_cleared x big)))))

@@ -1,20 +1,10 @@
 -- The steps of a recovery, over plain images.
 use Rattle.std.proofs.Common.{◌≡◌, ◌≢◌, ◌⊎◌, inl, inr, ⊎_elim, ℕ, ◌+◌, ◌<◌, ◌≤◌, Bool, true, false, cond, eqb, ◌&&◌, leb, List, [], length, set, Some, Result, Ok, Err, refl, sym, ◌∙◌, ap, subst, arith}
 use Rattle.std.specs.Prelude.{slice_get, IfOk}
-use Rattle.std.proofs.lemmas.Bool.{leb-true, ne_eqb}
 use Rattle.std.proofs.lemmas.Option.{get_or_from_slice_get}
-use Rattle.blocks.specs.Block.{zero_block, IsBlock}
-use Rattle.blocks.specs.Disk.{Image, block_at, IsOldOrNew, LeavesOldOrNew, IsSettled, AddsNone, Elapses, LeavesOnly, Rose, counted}
-use Rattle.blocks.specs.Lemmas.Moments.{started, stays, goes_on, joined, adds_after, only_added, turned}
-use Rattle.model.specs.Log.{logged_count, homes_of, is_lawful_log, are_in_place, are_distinct, recovered}
-use Rattle.model.specs.Lemmas.Log.{both_of, recovered_empty, none_cleared}
-use Rattle.model.specs.Lemmas.Recovery.{few_homes}
-use Rattle.wal.specs.Recovery.{HasCopied, IsRecoveredInPart, Looks, MayStop, OnBadLog, OnDisk, OnNoMemory, OnSync, Recovers, RecoversAs, RecoversBy, RefusesToRecover, Rests, Settles, StopsAlike, syncs_to_restore, syncs_to_settle, writes_to_recover}
+use Rattle.wal.specs.Common.{adds_after, AddsNone, are_distinct, are_in_place, block_at, both_of, counted, Elapses, few_homes, Ghosts, goes_on, HasCopied, homes_of, Image, is_lawful_log, IsBlock, IsOldOrNew, IsRecoveredInPart, IsSettled, joined, LeavesOldOrNew, LeavesOnly, leb-true, logged_count, Looks, MayStop, ne_eqb, none_cleared, OnBadLog, OnDisk, only_added, OnlyReads, OnNoMemory, OnSync, recovered, recovered_empty, Recovers, RecoversAs, RecoversBy, RefusesToRecover, Rests, Rose, Settles, started, stays, StopsAlike, syncs_to_restore, syncs_to_settle, turned, writes_to_recover, zero_block}
 use Rattle.wal.specs.declared.faults.RecoverFault.{RecoverFault}
-use Rattle.wal.specs.declared.faults.RecoverFault.TheVariants as fault
-use Rattle.blocks.specs.Calls.{OnlyReads}
 use Rattle.blocks.specs.Lemmas.Reads.{reads_then}
-use Rattle.blocks.specs.declared.disk.Disk.{Ghosts}
 use Rattle.wal.proofs.CopyLemmas.{SameBesides, home_at, besides_copied, besides_old_or_new, recovers_besides, recovers_same, copied_more, copied_none, low_stays, cleared, length-homes_of}
 use Rattle.wal.specs.Lemmas.Commits.{empty_lawful}
 
@@ -136,16 +126,6 @@ module _ {D N : Type 0} (disk : Ghosts D N) where
         plain = λ free. unsynced free ∙ home.plain free;
       }
 
-  -- a settled disk, one write, and then a call that adds nothing
-  pub stops_write : (old mid new : D) (b : ℕ) (v : List ℕ) → IsSettled (disk.image old) (disk.leaves old (disk.moment old)) → Elapses (disk.moment old) (disk.moment mid) (disk.leaves old) (disk.leaves mid)
-      → LeavesOldOrNew b v (disk.leaves old (disk.moment old)) (disk.leaves mid (disk.moment mid)) → AddsNone (disk.moment mid) (disk.moment new) (disk.leaves mid) (disk.leaves new)
-      → LeavesOnly disk.moment disk.leaves old new (IsOldOrNew (disk.image old) b v)
-  stops_write old mid new b v settled time crash rest =
-      let P : Image → Type 0 = IsOldOrNew (disk.image old) b v in
-      stays disk.moment disk.leaves old mid new P
-      (goes_on disk.moment disk.leaves old old mid P (started disk.moment disk.leaves old P (λ z left. inl (settled z left))) time
-      (λ z left. let before = crash z left in subst (λ (w : Image). IsOldOrNew w b v z) (settled before.0 before.1) before.2)) rest
-
   -- a disk that was only read, and then so again
   pub rests_then : (old mid new : D) → Rests disk old mid → Rests disk mid new → Rests disk old new
   rests_then old mid new first next = record {
@@ -241,45 +221,45 @@ module _ {D N : Type 0} (disk : Ghosts D N) where
     where
       by_bad : (o : Result T RecoverFault) → OnBadLog o (is_lawful_log (disk.image mid) ≡ false) → OnBadLog o (is_lawful_log (disk.image old) ≡ false)
       by_bad (Ok v) p = p
-      by_bad (Err fault.Disk) p = p
-      by_bad (Err fault.BadLog) p = sym (ap is_lawful_log first.image) ∙ p
-      by_bad (Err fault.NoMemory) p = p
-      by_bad (Err fault.Sync) p = p
+      by_bad (Err RecoverFault.Disk) p = p
+      by_bad (Err RecoverFault.BadLog) p = sym (ap is_lawful_log first.image) ∙ p
+      by_bad (Err RecoverFault.NoMemory) p = p
+      by_bad (Err RecoverFault.Sync) p = p
 
       by_unwritten : (o : Result T RecoverFault) → OnBadLog o (Looks disk mid new) → OnBadLog o (Looks disk old new)
       by_unwritten (Ok v) p = p
-      by_unwritten (Err fault.Disk) p = p
-      by_unwritten (Err fault.BadLog) p = record { rests = rests_then old mid new first p.rests; faults = p.faults ∙ faults }
-      by_unwritten (Err fault.NoMemory) p = p
-      by_unwritten (Err fault.Sync) p = p
+      by_unwritten (Err RecoverFault.Disk) p = p
+      by_unwritten (Err RecoverFault.BadLog) p = record { rests = rests_then old mid new first p.rests; faults = p.faults ∙ faults }
+      by_unwritten (Err RecoverFault.NoMemory) p = p
+      by_unwritten (Err RecoverFault.Sync) p = p
 
       by_memory : (o : Result T RecoverFault) → OnNoMemory o ⊥ → OnNoMemory o (new ≡ old)
       by_memory (Ok v) p = p
-      by_memory (Err fault.Disk) p = p
-      by_memory (Err fault.BadLog) p = p
-      by_memory (Err fault.NoMemory) p = absurd p
-      by_memory (Err fault.Sync) p = p
+      by_memory (Err RecoverFault.Disk) p = p
+      by_memory (Err RecoverFault.BadLog) p = p
+      by_memory (Err RecoverFault.NoMemory) p = absurd p
+      by_memory (Err RecoverFault.Sync) p = p
 
       by_fault : (o : Result T RecoverFault) → OnDisk o (Rose (disk.fault_count mid) (disk.fault_count new)) → OnDisk o (Rose (disk.fault_count old) (disk.fault_count new))
       by_fault (Ok v) p = p
-      by_fault (Err fault.Disk) p = subst (λ (k : ℕ). Rose k (disk.fault_count new)) faults p
-      by_fault (Err fault.BadLog) p = p
-      by_fault (Err fault.NoMemory) p = p
-      by_fault (Err fault.Sync) p = p
+      by_fault (Err RecoverFault.Disk) p = subst (λ (k : ℕ). Rose k (disk.fault_count new)) faults p
+      by_fault (Err RecoverFault.BadLog) p = p
+      by_fault (Err RecoverFault.NoMemory) p = p
+      by_fault (Err RecoverFault.Sync) p = p
 
       by_unsynced : (o : Result T RecoverFault) → OnSync o (Rose (disk.fault_count mid) (disk.fault_count new)) → OnSync o (Rose (disk.fault_count old) (disk.fault_count new))
       by_unsynced (Ok v) p = p
-      by_unsynced (Err fault.Disk) p = p
-      by_unsynced (Err fault.BadLog) p = p
-      by_unsynced (Err fault.NoMemory) p = p
-      by_unsynced (Err fault.Sync) p = subst (λ (k : ℕ). Rose k (disk.fault_count new)) faults p
+      by_unsynced (Err RecoverFault.Disk) p = p
+      by_unsynced (Err RecoverFault.BadLog) p = p
+      by_unsynced (Err RecoverFault.NoMemory) p = p
+      by_unsynced (Err RecoverFault.Sync) p = subst (λ (k : ℕ). Rose k (disk.fault_count new)) faults p
 
       by_holds : (o : Result T RecoverFault) → OnSync o (disk.holding (disk.name mid) ≡ true) → OnSync o (disk.holding (disk.name old) ≡ true)
       by_holds (Ok v) p = p
-      by_holds (Err fault.Disk) p = p
-      by_holds (Err fault.BadLog) p = p
-      by_holds (Err fault.NoMemory) p = p
-      by_holds (Err fault.Sync) p = sym (ap disk.holding first.name) ∙ p
+      by_holds (Err RecoverFault.Disk) p = p
+      by_holds (Err RecoverFault.BadLog) p = p
+      by_holds (Err RecoverFault.NoMemory) p = p
+      by_holds (Err RecoverFault.Sync) p = sym (ap disk.holding first.name) ∙ p
 
   pub recovers_ok : (old mid new : D) (result : Result ℕ RecoverFault) → Rests disk old mid → disk.fault_count mid ≡ disk.fault_count old → Settles disk (syncs_to_settle (disk.holding (disk.name old))) old mid
       → IfOk result (λ n. RecoversBy disk n (syncs_to_restore (disk.holding (disk.name mid)) n) mid new) → IfOk result (λ n. Recovers disk n old new)
@@ -288,7 +268,7 @@ module _ {D N : Type 0} (disk : Ghosts D N) where
 
   -- behind the first write a recovery fails by the disk or by a sync alone
   pub refuses_late : {T : Type 0} (old mid new : D) (e : RecoverFault) → disk.fault_count mid ≡ disk.fault_count old → disk.holding (disk.name mid) ≡ disk.holding (disk.name old)
-      → (e ≡ fault.Disk) ⊎ ((e ≡ fault.Sync) × (disk.holding (disk.name mid) ≡ true)) → Rose (disk.fault_count mid) (disk.fault_count new) → RefusesToRecover {T = T} disk old new (Err e)
+      → (e ≡ RecoverFault.Disk) ⊎ ((e ≡ RecoverFault.Sync) × (disk.holding (disk.name mid) ≡ true)) → Rose (disk.fault_count mid) (disk.fault_count new) → RefusesToRecover {T = T} disk old new (Err e)
   refuses_late {T} old mid new e faults kind (inl is) rose =
       let grown : Rose (disk.fault_count old) (disk.fault_count new) = subst (λ (k : ℕ). Rose k (disk.fault_count new)) faults rose in
       subst (λ (f : RecoverFault). RefusesToRecover {T = T} disk old new (Err f)) (sym is) (record { bad = tt; unwritten = tt; memory = tt; fault = grown; unsynced = tt; holds = tt })
@@ -296,12 +276,12 @@ module _ {D N : Type 0} (disk : Ghosts D N) where
       let grown : Rose (disk.fault_count old) (disk.fault_count new) = subst (λ (k : ℕ). Rose k (disk.fault_count new)) faults rose in
       subst (λ (f : RecoverFault). RefusesToRecover {T = T} disk old new (Err f)) (sym is.0) (record { bad = tt; unwritten = tt; memory = tt; fault = tt; unsynced = grown; holds = sym kind ∙ is.1 })
 
-  pub none_late : (T : Type 0) (mid : D) (e : RecoverFault) → (e ≡ fault.Disk) ⊎ ((e ≡ fault.Sync) × (disk.holding (disk.name mid) ≡ true)) → OnNoMemory {T = T} (Err e) ⊥
+  pub none_late : (T : Type 0) (mid : D) (e : RecoverFault) → (e ≡ RecoverFault.Disk) ⊎ ((e ≡ RecoverFault.Sync) × (disk.holding (disk.name mid) ≡ true)) → OnNoMemory {T = T} (Err e) ⊥
   none_late T mid e (inl is) = subst (λ (f : RecoverFault). OnNoMemory {T = T} (Err f) ⊥) (sym is) tt
   none_late T mid e (inr is) = subst (λ (f : RecoverFault). OnNoMemory {T = T} (Err f) ⊥) (sym is.0) tt
 
 pub none_as : (A B : Type 0) (e : RecoverFault) → OnNoMemory {T = A} (Err e) ⊥ → OnNoMemory {T = B} (Err e) ⊥
-none_as A B fault.Disk p = tt
-none_as A B fault.BadLog p = tt
-none_as A B fault.NoMemory p = p
-none_as A B fault.Sync p = tt
+none_as A B RecoverFault.Disk p = tt
+none_as A B RecoverFault.BadLog p = tt
+none_as A B RecoverFault.NoMemory p = p
+none_as A B RecoverFault.Sync p = tt

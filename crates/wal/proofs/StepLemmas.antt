@@ -1,20 +1,7 @@
 -- What the layers above cite: one lemma for each thing that a step does.
 use Rattle.std.proofs.Common.{◌≡◌, ℕ, ◌+◌, ◌<◌, ◌≤◌, Bool, true, false, cond, List, length, get_or, set, refl, sym, ◌∙◌, ap, subst, arith, Option, Some, None}
 use Rattle.std.specs.Prelude.{IsSome}
-use Rattle.std.proofs.lemmas.Bool.{eq-eqb}
-use Rattle.blocks.specs.Block.{overwritten}
-use Rattle.blocks.specs.Disk.{Image}
-use Rattle.bcache.specs.declared.types.Buffer.{Buffer}
-use Rattle.bcache.specs.Buffers.{Buffers, buffer, found, locked, taken, changed, pinned, block_or_zero, after_acquire, after_acquire_by, after_lock, after_take, victim}
-use Rattle.bcache.specs.Current.{is_number_in, shows}
-use Rattle.wal.specs.Joint.{seen, JointAt, Joint}
-use Rattle.bcache.specs.Lemmas.Slots.{block_is, buffer_same, some_found, victim_free}
-use Rattle.wal.specs.declared.types.Commit.{Commit}
-use Rattle.wal.specs.declared.types.Commit.TheVariants as commit
-use Rattle.wal.specs.declared.types.Part.TheVariants as part
-use Rattle.wal.specs.Machine.{is_among, LogState, HasRoom, appended, noted, noted_cache, used_by, begin_cause, begun, after_begin, after_begin_by, ended}
-use Rattle.model.specs.declared.types.operations.Why.{Why}
-use Rattle.model.specs.Log.{is_lawful_log}
+use Rattle.wal.specs.Common.{after_acquire, after_acquire_by, after_begin, after_begin_by, after_lock, after_take, appended, begin_cause, begun, block_is, block_or_zero, Buffer, buffer, buffer_same, Buffers, changed, Commit, ended, eq-eqb, found, HasRoom, Image, is_among, is_lawful_log, is_number_in, Joint, JointAt, locked, LogState, noted, noted_cache, overwritten, Part, pinned, seen, shows, some_found, taken, used_by, victim, victim_free, Why}
 use Rattle.wal.proofs.LawfulLogs.{header_lawful}
 use Rattle.wal.specs.Lemmas.Commits.{empty_lawful}
 use Rattle.wal.specs.Lemmas.Log.{few_homes, some_open, is_open, quiet_of}
@@ -27,29 +14,27 @@ pub joint_lawful : (x : Image) (c : Buffers) (l : LogState) → Joint x c l → 
 joint_lawful x c l j = by_phase l.commit j
   where
     by_phase : (k : Commit) → JointAt k x c l → is_lawful_log x ≡ true
-    by_phase commit.Quiet j = empty_lawful x j.phase
-    by_phase (commit.Logging n) j = empty_lawful x j.phase.0
-    by_phase commit.Heading j = empty_lawful x j.phase.0
-    by_phase (commit.Homing n) j = header_lawful x l.size l.homes j.size (few_homes j.log) j.log.places j.phase.0
-    by_phase commit.Clearing j = header_lawful x l.size l.homes j.size (few_homes j.log) j.log.places j.phase.0
-    by_phase (commit.Syncing part.Log) j = empty_lawful x j.phase.0
-    by_phase (commit.Syncing part.Header) j = header_lawful x l.size l.homes j.size (few_homes j.log) j.log.places j.phase.0
-    by_phase (commit.Syncing part.Homes) j = header_lawful x l.size l.homes j.size (few_homes j.log) j.log.places j.phase.0
-    by_phase (commit.Syncing part.Clear) j = empty_lawful x j.phase
+    by_phase Commit.Quiet j = empty_lawful x j.phase
+    by_phase (Commit.Logging n) j = empty_lawful x j.phase.0
+    by_phase Commit.Heading j = empty_lawful x j.phase.0
+    by_phase (Commit.Homing n) j = header_lawful x l.size l.homes j.size (few_homes j.log) j.log.places j.phase.0
+    by_phase Commit.Clearing j = header_lawful x l.size l.homes j.size (few_homes j.log) j.log.places j.phase.0
+    by_phase (Commit.Syncing Part.Log) j = empty_lawful x j.phase.0
+    by_phase (Commit.Syncing Part.Header) j = header_lawful x l.size l.homes j.size (few_homes j.log) j.log.places j.phase.0
+    by_phase (Commit.Syncing Part.Homes) j = header_lawful x l.size l.homes j.size (few_homes j.log) j.log.places j.phase.0
+    by_phase (Commit.Syncing Part.Clear) j = empty_lawful x j.phase
 
 -- a block is logged, and then its bytes are changed: the current image changes in that block alone
 pub joint_used : {x : Image} (c e d : Buffers) (l m : LogState) (p i b : ℕ) (bytes : List ℕ) → Joint x c l → p < 32 → HasRoom (get_or l.used p None) → i < 40 → (buffer c i).block ≡ Some b → (buffer c i).valid ≡ true
     → m ≡ noted l p b → e ≡ noted_cache l c i b → d ≡ changed e i bytes → Joint x d m × (seen x d ≡ set (seen x c) b bytes)
 joint_used {x} c e d l m p i b bytes j lt room slot block valid is are new =
     let open_now = room_of (get_or l.used p None) room in
-    let quiet : l.commit ≡ commit.Quiet = quiet_of l.commit l j.log (is_open l l.commit p open_now.0 j.log lt open_now.1) in
-    let before : JointAt commit.Quiet x c l = subst (λ (k : Commit). JointAt k x c l) quiet j in
+    let quiet : l.commit ≡ Commit.Quiet = quiet_of l.commit l j.log (is_open l l.commit p open_now.0 j.log lt open_now.1) in
     let here : shows b (buffer c i) ≡ true = shows_now (buffer c i) b valid block in
-    let noted_now = joint_noted c e l m p i b before quiet lt room slot here is are in
-    let stays : m.commit ≡ commit.Quiet = ap (λ (n : LogState). n.commit) is ∙ kept_commit (is_among b l.homes) ∙ quiet in
-    let after : JointAt commit.Quiet x e m = subst (λ (k : Commit). JointAt k x e m) stays noted_now.0 in
+    let noted_now = joint_noted c e l m p i b (subst (λ (k : Commit). JointAt k x c l) quiet j) quiet lt room slot here is are in
+    let stays : m.commit ≡ Commit.Quiet = ap (λ (n : LogState). n.commit) is ∙ kept_commit (is_among b l.homes) ∙ quiet in
     let still : shows b (buffer e i) ≡ true = ap (λ (f : Buffers). shows b (buffer f i)) are ∙ kept_shows (is_among b l.homes) ∙ here in
-    let done = joint_changed e d i b bytes after slot still noted_now.1 new in
+    let done = joint_changed e d i b bytes (subst (λ (k : Commit). JointAt k x e m) stays noted_now.0) slot still noted_now.1 new in
     (subst (λ (k : Commit). JointAt k x d m) (sym stays) done.0, done.1 ∙ ap (λ (z : Image). set z b bytes) noted_now.2)
   where
     shows_now : (s : Buffer) (b : ℕ) → s.valid ≡ true → s.block ≡ Some b → shows b s ≡ true
@@ -119,5 +104,5 @@ joint_after_begin {x} {c} l m p j lt none is = subst (λ (n : LogState). Joint x
 pub joint_after_end : {x : Image} {c : Buffers} (l m : LogState) (p : ℕ) → Joint x c l → p < 32 → IsSome (used_by l p) → m ≡ ended l p → Joint x c m
 joint_after_end {x} {c} l m p j lt held is =
     let had = some_open (used_by l p) held in
-    let quiet : l.commit ≡ commit.Quiet = quiet_of l.commit l j.log (is_open l l.commit p had.0 j.log lt had.1) in
+    let quiet : l.commit ≡ Commit.Quiet = quiet_of l.commit l j.log (is_open l l.commit p had.0 j.log lt had.1) in
     joint_ended l m p (subst (λ (k : Commit). JointAt k x c l) quiet j) quiet lt held is

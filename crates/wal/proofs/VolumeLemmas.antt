@@ -1,34 +1,13 @@
 -- What the calls on a disk with its buffers and its log keep, and what they give.
 use Rattle.std.proofs.Common.{◌≡◌, ⊎_elim, ℕ, ◌<◌, Bool, true, false, cond, eqb, List, length, refl, sym, ◌∙◌, ap, subst, arith, Option, Some, None}
 use Rattle.std.specs.Prelude.{IfNone, IsSome}
-use Rattle.std.proofs.lemmas.Bool.{eq-eqb}
-use Rattle.wal.specs.declared.types.DeviceFault.{DeviceFault}
-use Rattle.blocks.specs.Disk.{Image, IsSettled, block_at}
-use Rattle.bcache.specs.declared.types.Buffer.{Buffer}
-use Rattle.bcache.specs.Current.{is_number_in, is_of}
-use Rattle.bcache.specs.Buffers.{Buffers, buffer, found, victim, filled, changed, EndsUnfilled, IsCache, block_or_zero, after_lock, after_take, after_acquire_by, after_acquire}
-use Rattle.bcache.specs.Lemmas.Slots.{buffer_same, victim_free}
-use Rattle.bcache.specs.Lemmas.Current.{current_kept, current_hidden, current_filled, current_unfilled}
-use Rattle.wal.specs.declared.types.Commit.{Commit}
-use Rattle.wal.specs.declared.types.Committed.{Committed}
-use Rattle.wal.specs.declared.types.Committed.TheVariants as committed
-use Rattle.wal.specs.Machine.{LogState, HasRoom, after_begin, after_begin_by, appended, begin_cause, closed, ended, is_among, is_syncing, left_by, noted, noted_cache, used_by}
-use Rattle.model.specs.Agreement.{IsSameOutsideLog}
-use Rattle.wal.specs.Joint.{JointAt, Joint, AreBlocks, seen}
+use Rattle.wal.specs.Common.{after_acquire, after_acquire_by, after_begin, after_begin_by, after_lock, after_take, answer_at, answer_synced, appended, AreBlocks, begin_cause, block_at, block_or_zero, Buffer, buffer, buffer_same, Buffers, changed, closed, Commit, CommitSteps, CommitStepsAt, CommitsTo, CommitSyncs, Committed, CommitWrites, current_filled, current_hidden, current_kept, current_unfilled, DeviceFault, ended, EndsUnfilled, eq-eqb, Faulted, filled, found, Ghosts, HasRoom, header_block, Holds, Image, is_among, is_lawful_log, is_number_in, is_of, is_syncing, IsCache, IsSameOutsideLog, IsSettled, Joint, JointAt, left_by, LogState, noted, noted_cache, OnGot, Part, seen, Stepped, Synced, UnlessFault, Unsynced, used_by, victim, victim_free, VolumeState, Why}
 use Rattle.wal.specs.Floats.{AreAfloat, IsAfloat, IsVolume, Survives}
 use Rattle.wal.specs.Lemmas.Log.{some_open, is_open, quiet_of}
 use Rattle.wal.proofs.FloatLemmas.{floats_here, survives}
 use Rattle.wal.proofs.LogLemmas.{room_of}
-use Rattle.model.specs.Log.{is_lawful_log}
-use Rattle.model.specs.declared.types.operations.Why.{Why}
-use Rattle.blocks.specs.declared.disk.Disk.{Ghosts}
-use Rattle.model.specs.Codec.{header_block}
-use Rattle.wal.specs.declared.types.Commit.TheVariants as commit
-use Rattle.wal.specs.declared.types.Part.{Part}
-use Rattle.wal.specs.Step.{CommitSteps, CommitStepsAt, CommitSyncs, CommitWrites, Stepped, Faulted, Synced, Unsynced, CommitsTo, answer_at, answer_synced}
 use Rattle.wal.specs.Get.{Get}
 use Rattle.wal.specs.Get as get
-use Rattle.wal.specs.Volume.{VolumeState, Holds, OnGot, UnlessFault}
 use Rattle.wal.proofs.CommitLemmas.{write_current, unpinned_current}
 use Rattle.wal.proofs.CacheCallLemmas.{clean_shows, joint_filled}
 use Rattle.wal.proofs.StepLemmas.{joint_lawful, some_block}
@@ -75,7 +54,7 @@ open_quiet l p u j lt held = ap is_syncing (quiet_of l.commit l j.log (is_open l
 ended_calm : (l : LogState) (p : ℕ) → is_syncing l.commit ≡ false → is_syncing (ended l p).commit ≡ false
 ended_calm l p calm = by_last (eqb l.outstanding 1)
   where
-    by_homes : (b : Bool) → is_syncing (cond b (record (left_by l p) { committed = l.opened }) (record (left_by l p) { commit = commit.Logging 0 })).commit ≡ false
+    by_homes : (b : Bool) → is_syncing (cond b (record (left_by l p) { committed = l.opened }) (record (left_by l p) { commit = Commit.Logging 0 })).commit ≡ false
     by_homes true = calm
     by_homes false = refl
 
@@ -148,9 +127,7 @@ put_holds {x} c e d l m p i bytes j is lt holder some valid are new =
 -- the block of a slot lies inside the image
 pub block_inside : {x : Image} {l : LogState} (c : Buffers) (i b : ℕ) → Joint x c l → (buffer c i).block ≡ Some b → block_or_zero (buffer c i).block < length x
 block_inside {x} {l} c i b j block =
-    let here : is_of b (buffer c i) ≡ true = ap (is_number_in b) block ∙ eq-eqb b b refl in
-    let at : block_or_zero (buffer c i).block ≡ b = ap block_or_zero block in
-    omega (arith, at, (j.behind i b here).1, j.size)
+    omega (arith, (ap block_or_zero block), (j.behind i b (ap (is_number_in b) block ∙ eq-eqb b b refl)).1, j.size)
 
 pub inside_here : {x : Image} {l : LogState} (c : Buffers) (i b : ℕ) → Joint x c l → (buffer c i).block ≡ Some b → b < length x
 inside_here {x} {l} c i b j block = subst (λ (n : ℕ). n < length x) (ap block_or_zero block) (block_inside c i b j block)
@@ -205,27 +182,27 @@ module _ {D N : Type 0} (disk : Ghosts D N) (d : D) (c : Buffers) (l : LogState)
 
       by_answer : (r : Committed) → CommitsTo (answer_at holds l.commit l.opened) r (Stepped holds (header_block l.homes) (disk.image d) c l (disk.image e) f m (disk.leaves e (disk.moment e))) (Faulted (header_block l.homes) (disk.image d) c l (disk.image e) f m)
           → IsSameOutsideLog (seen (disk.image d) c) (seen (disk.image e) f)
-      by_answer committed.More step = stepped_current holds _ _ c l _ f m _ j step.1
-      by_answer (committed.Durable n) step = stepped_current holds _ _ c l _ f m _ j step.1
-      by_answer committed.Done step = stepped_current holds _ _ c l _ f m _ j step.1
-      by_answer (committed.Fault fault) step = faulted_current _ _ c l _ f m j step
+      by_answer Committed.More step = stepped_current holds _ _ c l _ f m _ j step.1
+      by_answer (Committed.Durable n) step = stepped_current holds _ _ c l _ f m _ j step.1
+      by_answer Committed.Done step = stepped_current holds _ _ c l _ f m _ j step.1
+      by_answer (Committed.Fault fault) step = faulted_current _ _ c l _ f m j step
 
   sync_current_at : (p : Part) → CommitSyncs disk p d c l r e f m → IsSameOutsideLog (seen (disk.image d) c) (seen (disk.image e) f)
   sync_current_at p w = synced_current (disk.image d) c (disk.image e) f w.image (by_answer r w.step)
     where
       by_answer : (r : Committed) → CommitsTo (answer_synced p l.opened) r (Synced p c l (disk.image e) f m (disk.leaves e (disk.moment e))) (Unsynced c l f m) → f ≡ c
-      by_answer committed.More step = step.1.cache
-      by_answer (committed.Durable n) step = step.1.cache
-      by_answer committed.Done step = step.1.cache
-      by_answer (committed.Fault fault) step = step.cache
+      by_answer Committed.More step = step.1.cache
+      by_answer (Committed.Durable n) step = step.1.cache
+      by_answer Committed.Done step = step.1.cache
+      by_answer (Committed.Fault fault) step = step.cache
 
   pub step_current : Joint (disk.image d) c l → CommitSteps disk d c l r e f m → IsSameOutsideLog (seen (disk.image d) c) (seen (disk.image e) f)
   step_current j step = by_phase l.commit step
     where
       by_phase : (k : Commit) → CommitStepsAt disk k d c l r e f m → IsSameOutsideLog (seen (disk.image d) c) (seen (disk.image e) f)
-      by_phase commit.Quiet w = absurd w
-      by_phase (commit.Logging n) w = write_current_at j w
-      by_phase commit.Heading w = write_current_at j w
-      by_phase (commit.Homing n) w = write_current_at j w
-      by_phase commit.Clearing w = write_current_at j w
-      by_phase (commit.Syncing p) w = sync_current_at p w
+      by_phase Commit.Quiet w = absurd w
+      by_phase (Commit.Logging n) w = write_current_at j w
+      by_phase Commit.Heading w = write_current_at j w
+      by_phase (Commit.Homing n) w = write_current_at j w
+      by_phase Commit.Clearing w = write_current_at j w
+      by_phase (Commit.Syncing p) w = sync_current_at p w

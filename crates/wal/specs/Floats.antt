@@ -4,9 +4,7 @@ use Rattle.std.specs.Prelude.{◌≡◌, ◌≢◌, ◌⊎◌, ℕ, Bool, false,
 use Rattle.blocks.specs.Disk.{Image, block_at}
 use Rattle.model.specs.Log.{logged_count, is_lawful_log, recovered}
 use Rattle.wal.specs.declared.types.Commit.{Commit}
-use Rattle.wal.specs.declared.types.Commit.TheVariants as commit
 use Rattle.wal.specs.declared.types.Part.{Part}
-use Rattle.wal.specs.declared.types.Part.TheVariants as part
 use Rattle.bcache.specs.Buffers.{Buffers}
 use Rattle.wal.specs.Machine.{is_among, is_syncing, LogState}
 use Rattle.wal.specs.Joint.{AreBlocks, Joint, SameButLog}
@@ -30,19 +28,19 @@ pub record RecoversAlike (x z : Image) : Type 0 where
 
 -- while a part waits for its sync
 abbrev pub FloatsSynced : Part → Image → List ℕ → Image → Type 0
-FloatsSynced part.Log x hs z = SameButLog x z
-FloatsSynced part.Header x hs z = (z ≡ x) ⊎ IsUnheaded x z
-FloatsSynced part.Homes x hs z = IsSameBesides hs x z
-FloatsSynced part.Clear x hs z = RecoversAlike x z
+FloatsSynced Part.Log x hs z = SameButLog x z
+FloatsSynced Part.Header x hs z = (z ≡ x) ⊎ IsUnheaded x z
+FloatsSynced Part.Homes x hs z = IsSameBesides hs x z
+FloatsSynced Part.Clear x hs z = RecoversAlike x z
 
 -- Image z may be left where reads give x. After a sync there is only x.
 abbrev pub Floats : Commit → Image → List ℕ → Image → Type 0
-Floats commit.Quiet x hs z = z ≡ x
-Floats (commit.Logging k) x hs z = SameButLog x z
-Floats commit.Heading x hs z = z ≡ x
-Floats (commit.Homing k) x hs z = IsSameBesides hs x z
-Floats commit.Clearing x hs z = z ≡ x
-Floats (commit.Syncing part) x hs z = FloatsSynced part x hs z
+Floats Commit.Quiet x hs z = z ≡ x
+Floats (Commit.Logging k) x hs z = SameButLog x z
+Floats Commit.Heading x hs z = z ≡ x
+Floats (Commit.Homing k) x hs z = IsSameBesides hs x z
+Floats Commit.Clearing x hs z = z ≡ x
+Floats (Commit.Syncing part) x hs z = FloatsSynced part x hs z
 
 -- each image that may be left does so
 abbrev pub AreAfloat : Commit → Image → List ℕ → (Image → Type 0) → Type 0
@@ -53,7 +51,7 @@ AreAfloat k x hs left = (z : Image) → left z → Floats k x hs z
 -- header tells which.
 abbrev pub Survives : Commit → Image → Image → Type 0
 Survives k x z = (RecoversAlike x z × TellsHeader k z)
-    ⊎ ((k ≡ commit.Syncing part.Header) × IsUnheaded x z)
+    ⊎ ((k ≡ Commit.Syncing Part.Header) × IsUnheaded x z)
 
 -- So it is, and of a disk that holds no writes back no part waits for its sync.
 pub record IsAfloat (holds : Bool) (k : Commit) (x : Image) (hs : List ℕ) (left : Image → Type 0)

@@ -8,9 +8,7 @@ use Rattle.model.specs.Agreement.{IsSameOutsideLog}
 use Rattle.model.specs.Log.{logged_in, homes_in, logged_count, homes_of}
 use Rattle.bcache.specs.Buffers.{Buffers, buffer, found, unpinned, IsCache}
 use Rattle.wal.specs.declared.types.Commit.{Commit}
-use Rattle.wal.specs.declared.types.Commit.TheVariants as commit
 use Rattle.wal.specs.declared.types.Part.{Part}
-use Rattle.wal.specs.declared.types.Part.TheVariants as part
 use Rattle.wal.specs.Machine.{LogState, is_among, IsLogAt}
 
 -- the current image: the disk's, with each valid buffer in its block's place
@@ -19,77 +17,77 @@ seen x c = current x c.slots
 
 -- where the next write of a commit goes
 abbrev pub place_at : Commit → List ℕ → ℕ
-place_at commit.Quiet hs = 2
-place_at (commit.Logging k) hs = 3 + k
-place_at commit.Heading hs = 2
-place_at (commit.Homing k) hs = slice_index hs k
-place_at commit.Clearing hs = 2
-place_at (commit.Syncing part) hs = 2
+place_at Commit.Quiet hs = 2
+place_at (Commit.Logging k) hs = 3 + k
+place_at Commit.Heading hs = 2
+place_at (Commit.Homing k) hs = slice_index hs k
+place_at Commit.Clearing hs = 2
+place_at (Commit.Syncing part) hs = 2
 
 -- what it writes: h is the header with the homes
 abbrev pub bytes_at : Commit → List ℕ → List ℕ → Image → List ℕ
-bytes_at commit.Quiet hs h cur = zero_block
-bytes_at (commit.Logging k) hs h cur = block_at cur (slice_index hs k)
-bytes_at commit.Heading hs h cur = h
-bytes_at (commit.Homing k) hs h cur = block_at cur (slice_index hs k)
-bytes_at commit.Clearing hs h cur = zero_block
-bytes_at (commit.Syncing part) hs h cur = zero_block
+bytes_at Commit.Quiet hs h cur = zero_block
+bytes_at (Commit.Logging k) hs h cur = block_at cur (slice_index hs k)
+bytes_at Commit.Heading hs h cur = h
+bytes_at (Commit.Homing k) hs h cur = block_at cur (slice_index hs k)
+bytes_at Commit.Clearing hs h cur = zero_block
+bytes_at (Commit.Syncing part) hs h cur = zero_block
 
 -- the log after that write
 abbrev pub written_at : Commit → LogState → LogState
-written_at commit.Quiet l = l
-written_at (commit.Logging k) l = record l {
-  commit = if k + 1 == length l.homes then commit.Heading else commit.Logging (k + 1);
+written_at Commit.Quiet l = l
+written_at (Commit.Logging k) l = record l {
+  commit = if k + 1 == length l.homes then Commit.Heading else Commit.Logging (k + 1);
 }
-written_at commit.Heading l = record l { commit = commit.Homing 0; committed = l.opened }
-written_at (commit.Homing k) l = record l {
-  commit = if k + 1 == length l.homes then commit.Clearing else commit.Homing (k + 1);
+written_at Commit.Heading l = record l { commit = Commit.Homing 0; committed = l.opened }
+written_at (Commit.Homing k) l = record l {
+  commit = if k + 1 == length l.homes then Commit.Clearing else Commit.Homing (k + 1);
 }
-written_at commit.Clearing l = record l { commit = commit.Quiet; homes = [] }
-written_at (commit.Syncing part) l = l
+written_at Commit.Clearing l = record l { commit = Commit.Quiet; homes = [] }
+written_at (Commit.Syncing part) l = l
 
 -- the same over a disk that holds writes back, where each part waits for its sync
 abbrev pub held_at : Commit → LogState → LogState
-held_at commit.Quiet l = l
-held_at (commit.Logging k) l = record l {
-  commit = if k + 1 == length l.homes then commit.Syncing part.Log else commit.Logging (k + 1);
+held_at Commit.Quiet l = l
+held_at (Commit.Logging k) l = record l {
+  commit = if k + 1 == length l.homes then Commit.Syncing Part.Log else Commit.Logging (k + 1);
 }
-held_at commit.Heading l = record l { commit = commit.Syncing part.Header }
-held_at (commit.Homing k) l = record l {
-  commit = if k + 1 == length l.homes then commit.Syncing part.Homes else commit.Homing (k + 1);
+held_at Commit.Heading l = record l { commit = Commit.Syncing Part.Header }
+held_at (Commit.Homing k) l = record l {
+  commit = if k + 1 == length l.homes then Commit.Syncing Part.Homes else Commit.Homing (k + 1);
 }
-held_at commit.Clearing l = record l { commit = commit.Syncing part.Clear }
-held_at (commit.Syncing part) l = l
+held_at Commit.Clearing l = record l { commit = Commit.Syncing Part.Clear }
+held_at (Commit.Syncing part) l = l
 
 -- the log after the sync of a part: with that of the header the group is committed
 abbrev pub synced_at : Part → LogState → LogState
-synced_at part.Log l = record l { commit = commit.Heading }
-synced_at part.Header l = record l { commit = commit.Homing 0; committed = l.opened }
-synced_at part.Homes l = record l { commit = commit.Clearing }
-synced_at part.Clear l = record l { commit = commit.Quiet; homes = [] }
+synced_at Part.Log l = record l { commit = Commit.Heading }
+synced_at Part.Header l = record l { commit = Commit.Homing 0; committed = l.opened }
+synced_at Part.Homes l = record l { commit = Commit.Clearing }
+synced_at Part.Clear l = record l { commit = Commit.Quiet; homes = [] }
 
 -- the log after a step, over a disk that holds writes back or doesn't
 abbrev pub stepped_at : Bool → Commit → LogState → LogState
-stepped_at holds commit.Quiet l = l
-stepped_at holds (commit.Logging k) l = record l {
+stepped_at holds Commit.Quiet l = l
+stepped_at holds (Commit.Logging k) l = record l {
   commit = if k + 1 == length l.homes
-      then (if holds then commit.Syncing part.Log else commit.Heading)
-      else commit.Logging (k + 1);
+      then (if holds then Commit.Syncing Part.Log else Commit.Heading)
+      else Commit.Logging (k + 1);
 }
-stepped_at holds commit.Heading l = record l {
-  commit = if holds then commit.Syncing part.Header else commit.Homing 0;
+stepped_at holds Commit.Heading l = record l {
+  commit = if holds then Commit.Syncing Part.Header else Commit.Homing 0;
   committed = if holds then l.committed else l.opened;
 }
-stepped_at holds (commit.Homing k) l = record l {
+stepped_at holds (Commit.Homing k) l = record l {
   commit = if k + 1 == length l.homes
-      then (if holds then commit.Syncing part.Homes else commit.Clearing)
-      else commit.Homing (k + 1);
+      then (if holds then Commit.Syncing Part.Homes else Commit.Clearing)
+      else Commit.Homing (k + 1);
 }
-stepped_at holds commit.Clearing l = record l {
-  commit = if holds then commit.Syncing part.Clear else commit.Quiet;
+stepped_at holds Commit.Clearing l = record l {
+  commit = if holds then Commit.Syncing Part.Clear else Commit.Quiet;
   homes = if holds then l.homes else [];
 }
-stepped_at holds (commit.Syncing part) l = synced_at part l
+stepped_at holds (Commit.Syncing part) l = synced_at part l
 
 abbrev pub unpinned_found : Buffers → Option ℕ → Buffers
 unpinned_found c None = c
@@ -97,28 +95,28 @@ unpinned_found c (Some i) = unpinned c i
 
 -- the buffers after it: a home that was written is unpinned
 abbrev pub written_cache : Commit → List ℕ → Buffers → Buffers
-written_cache commit.Quiet hs c = c
-written_cache (commit.Logging k) hs c = c
-written_cache commit.Heading hs c = c
-written_cache (commit.Homing k) hs c = unpinned_found c (found c (slice_index hs k))
-written_cache commit.Clearing hs c = c
-written_cache (commit.Syncing part) hs c = c
+written_cache Commit.Quiet hs c = c
+written_cache (Commit.Logging k) hs c = c
+written_cache Commit.Heading hs c = c
+written_cache (Commit.Homing k) hs c = unpinned_found c (found c (slice_index hs k))
+written_cache Commit.Clearing hs c = c
+written_cache (Commit.Syncing part) hs c = c
 
 -- the homes whose buffers are pinned while a part waits for its sync
 abbrev pub live_synced : Part → List ℕ → List ℕ
-live_synced part.Log hs = hs
-live_synced part.Header hs = hs
-live_synced part.Homes hs = drop (length hs) hs
-live_synced part.Clear hs = drop (length hs) hs
+live_synced Part.Log hs = hs
+live_synced Part.Header hs = hs
+live_synced Part.Homes hs = drop (length hs) hs
+live_synced Part.Clear hs = drop (length hs) hs
 
 -- the homes whose buffers are pinned
 abbrev pub live_at : Commit → List ℕ → List ℕ
-live_at commit.Quiet hs = hs
-live_at (commit.Logging k) hs = hs
-live_at commit.Heading hs = hs
-live_at (commit.Homing k) hs = drop k hs
-live_at commit.Clearing hs = drop (length hs) hs
-live_at (commit.Syncing part) hs = live_synced part hs
+live_at Commit.Quiet hs = hs
+live_at (Commit.Logging k) hs = hs
+live_at Commit.Heading hs = hs
+live_at (Commit.Homing k) hs = drop k hs
+live_at Commit.Clearing hs = drop (length hs) hs
+live_at (Commit.Syncing part) hs = live_synced part hs
 
 -- the first k log blocks are the current ones of their homes
 abbrev pub Logs : ℕ → Image → Image → List ℕ → Type 0
@@ -135,19 +133,19 @@ pub record IsHeader (bytes hs : List ℕ) : Type 0 where
 
 -- what reads of the disk give of the group while a part waits for its sync
 abbrev pub PhaseSynced : Part → Image → Image → List ℕ → Type 0
-PhaseSynced part.Log x cur hs = (logged_count x ≡ 0) × Logs (length hs) x cur hs
-PhaseSynced part.Header x cur hs = HasHeader x hs × Logs (length hs) x cur hs
-PhaseSynced part.Homes x cur hs = HasHeader x hs × Logs (length hs) x cur hs
-PhaseSynced part.Clear x cur hs = logged_count x ≡ 0
+PhaseSynced Part.Log x cur hs = (logged_count x ≡ 0) × Logs (length hs) x cur hs
+PhaseSynced Part.Header x cur hs = HasHeader x hs × Logs (length hs) x cur hs
+PhaseSynced Part.Homes x cur hs = HasHeader x hs × Logs (length hs) x cur hs
+PhaseSynced Part.Clear x cur hs = logged_count x ≡ 0
 
 -- what the disk has of the group, in each phase
 abbrev pub Phase : Commit → Image → Image → List ℕ → Type 0
-Phase commit.Quiet x cur hs = logged_count x ≡ 0
-Phase (commit.Logging k) x cur hs = (logged_count x ≡ 0) × Logs k x cur hs
-Phase commit.Heading x cur hs = (logged_count x ≡ 0) × Logs (length hs) x cur hs
-Phase (commit.Homing k) x cur hs = HasHeader x hs × Logs (length hs) x cur hs
-Phase commit.Clearing x cur hs = HasHeader x hs × Logs (length hs) x cur hs
-Phase (commit.Syncing part) x cur hs = PhaseSynced part x cur hs
+Phase Commit.Quiet x cur hs = logged_count x ≡ 0
+Phase (Commit.Logging k) x cur hs = (logged_count x ≡ 0) × Logs k x cur hs
+Phase Commit.Heading x cur hs = (logged_count x ≡ 0) × Logs (length hs) x cur hs
+Phase (Commit.Homing k) x cur hs = HasHeader x hs × Logs (length hs) x cur hs
+Phase Commit.Clearing x cur hs = HasHeader x hs × Logs (length hs) x cur hs
+Phase (Commit.Syncing part) x cur hs = PhaseSynced part x cur hs
 
 -- the pins of a slot: one where its block is such a home
 abbrev pub pins_of : List ℕ → Option ℕ → ℕ
@@ -190,12 +188,12 @@ bytes_found c (Some i) = (buffer c i).bytes
 
 -- what the next write of a commit is made from
 abbrev pub source_at : Commit → List ℕ → List ℕ → Buffers → List ℕ
-source_at commit.Quiet hs h c = zero_block
-source_at (commit.Logging k) hs h c = bytes_found c (found c (slice_index hs k))
-source_at commit.Heading hs h c = h
-source_at (commit.Homing k) hs h c = bytes_found c (found c (slice_index hs k))
-source_at commit.Clearing hs h c = zero_block
-source_at (commit.Syncing part) hs h c = zero_block
+source_at Commit.Quiet hs h c = zero_block
+source_at (Commit.Logging k) hs h c = bytes_found c (found c (slice_index hs k))
+source_at Commit.Heading hs h c = h
+source_at (Commit.Homing k) hs h c = bytes_found c (found c (slice_index hs k))
+source_at Commit.Clearing hs h c = zero_block
+source_at (Commit.Syncing part) hs h c = zero_block
 
 -- a slot was found, and has a pin
 abbrev pub HasPin : Buffers → Option ℕ → Type 0
@@ -204,18 +202,18 @@ HasPin c (Some i) = 0 < (buffer c i).pins
 
 -- the home that is logged or written has a buffer, which is pinned
 abbrev pub IsPinned : Commit → List ℕ → Buffers → Type 0
-IsPinned commit.Quiet hs c = Unit {0}
-IsPinned (commit.Logging k) hs c = HasPin c (found c (slice_index hs k))
-IsPinned commit.Heading hs c = Unit {0}
-IsPinned (commit.Homing k) hs c = HasPin c (found c (slice_index hs k))
-IsPinned commit.Clearing hs c = Unit {0}
-IsPinned (commit.Syncing part) hs c = Unit {0}
+IsPinned Commit.Quiet hs c = Unit {0}
+IsPinned (Commit.Logging k) hs c = HasPin c (found c (slice_index hs k))
+IsPinned Commit.Heading hs c = Unit {0}
+IsPinned (Commit.Homing k) hs c = HasPin c (found c (slice_index hs k))
+IsPinned Commit.Clearing hs c = Unit {0}
+IsPinned (Commit.Syncing part) hs c = Unit {0}
 
 -- the place of the next write is one of the homes
 abbrev pub IsWithin : Commit → List ℕ → Type 0
-IsWithin commit.Quiet hs = Unit {0}
-IsWithin (commit.Logging k) hs = k < length hs
-IsWithin commit.Heading hs = Unit {0}
-IsWithin (commit.Homing k) hs = k < length hs
-IsWithin commit.Clearing hs = Unit {0}
-IsWithin (commit.Syncing part) hs = Unit {0}
+IsWithin Commit.Quiet hs = Unit {0}
+IsWithin (Commit.Logging k) hs = k < length hs
+IsWithin Commit.Heading hs = Unit {0}
+IsWithin (Commit.Homing k) hs = k < length hs
+IsWithin Commit.Clearing hs = Unit {0}
+IsWithin (Commit.Syncing part) hs = Unit {0}

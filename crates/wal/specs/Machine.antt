@@ -7,13 +7,9 @@ use Rattle.model.specs.Log.{are_in_place, are_distinct}
 use Rattle.model.specs.Reservations.{unused_reservation, log_cause}
 use Rattle.bcache.specs.Buffers.{Buffers, buffer, block_or_zero, pinned}
 use Rattle.wal.specs.declared.types.Commit.{Commit}
-use Rattle.wal.specs.declared.types.Commit.TheVariants as commit
 use Rattle.wal.specs.declared.types.Part.{Part}
-use Rattle.wal.specs.declared.types.Part.TheVariants as part
 use Rattle.wal.specs.declared.types.Began.{Began}
-use Rattle.wal.specs.declared.types.Began.TheVariants as began
 use Rattle.wal.specs.declared.types.Ended.{Ended}
-use Rattle.wal.specs.declared.types.Ended.TheVariants as ended_as
 
 pub record LogState : Type 0 where
   -- the blocks of the image
@@ -38,34 +34,34 @@ new_log size = record {
   outstanding = 0;
   opened = 0;
   committed = 0;
-  commit = commit.Quiet;
+  commit = Commit.Quiet;
 }
 
 abbrev pub is_quiet : Commit → Bool
-is_quiet commit.Quiet = true
-is_quiet (commit.Logging k) = false
-is_quiet commit.Heading = false
-is_quiet (commit.Homing k) = false
-is_quiet commit.Clearing = false
-is_quiet (commit.Syncing part) = false
+is_quiet Commit.Quiet = true
+is_quiet (Commit.Logging k) = false
+is_quiet Commit.Heading = false
+is_quiet (Commit.Homing k) = false
+is_quiet Commit.Clearing = false
+is_quiet (Commit.Syncing part) = false
 
 -- a part of a commit waits for its sync
 abbrev pub is_syncing : Commit → Bool
-is_syncing commit.Quiet = false
-is_syncing (commit.Logging k) = false
-is_syncing commit.Heading = false
-is_syncing (commit.Homing k) = false
-is_syncing commit.Clearing = false
-is_syncing (commit.Syncing part) = true
+is_syncing Commit.Quiet = false
+is_syncing (Commit.Logging k) = false
+is_syncing Commit.Heading = false
+is_syncing (Commit.Homing k) = false
+is_syncing Commit.Clearing = false
+is_syncing (Commit.Syncing part) = true
 
 -- a commit's next step is a write
 abbrev pub is_writing : Commit → Bool
-is_writing commit.Quiet = false
-is_writing (commit.Logging k) = true
-is_writing commit.Heading = true
-is_writing (commit.Homing k) = true
-is_writing commit.Clearing = true
-is_writing (commit.Syncing part) = false
+is_writing Commit.Quiet = false
+is_writing (Commit.Logging k) = true
+is_writing Commit.Heading = true
+is_writing (Commit.Homing k) = true
+is_writing Commit.Clearing = true
+is_writing (Commit.Syncing part) = false
 
 -- why a beginning has to sleep
 abbrev pub begin_cause : LogState → Option Why
@@ -87,8 +83,8 @@ after_begin_by None l pid = begun l pid
 after_begin_by (Some cause) l pid = l
 
 abbrev pub begin_answer_by : Option Why → ℕ → Began
-begin_answer_by None group = began.Began group
-begin_answer_by (Some cause) group = began.Sleeping cause
+begin_answer_by None group = Began.Began group
+begin_answer_by (Some cause) group = Began.Sleeping cause
 
 -- the log and the answer after `begin`
 abbrev pub after_begin : LogState → ℕ → LogState
@@ -147,7 +143,7 @@ abbrev pub closed : LogState → LogState
 closed l =
     if length l.homes == 0
     then record l { committed = l.opened }
-    else record l { commit = commit.Logging 0 }
+    else record l { commit = Commit.Logging 0 }
 
 -- the log and the answer after `end`
 abbrev pub ended : LogState → ℕ → LogState
@@ -156,8 +152,8 @@ ended l pid = if l.outstanding == 1 then closed (left_by l pid) else left_by l p
 abbrev pub end_answer : LogState → Ended
 end_answer l =
     if l.outstanding == 1
-    then (if length l.homes == 0 then ended_as.Left else ended_as.Commit)
-    else ended_as.Left
+    then (if length l.homes == 0 then Ended.Left else Ended.Commit)
+    else Ended.Left
 
 -- what an open operation may still add
 abbrev pub unused : Option ℕ → ℕ
@@ -180,28 +176,28 @@ pub record AreHomes (size : ℕ) (homes : List ℕ) : Type 0 where
 
 -- a commit under way has homes, and no operation is open; with neither the log has no homes
 abbrev pub Idle : Commit → LogState → Type 0
-Idle commit.Quiet l = l.outstanding ≡ 0 → length l.homes ≡ 0
-Idle (commit.Logging k) l = (l.outstanding ≡ 0) × (k < length l.homes)
-Idle commit.Heading l = (l.outstanding ≡ 0) × (0 < length l.homes)
-Idle (commit.Homing k) l = (l.outstanding ≡ 0) × (k < length l.homes)
-Idle commit.Clearing l = (l.outstanding ≡ 0) × (0 < length l.homes)
-Idle (commit.Syncing part) l = (l.outstanding ≡ 0) × (0 < length l.homes)
+Idle Commit.Quiet l = l.outstanding ≡ 0 → length l.homes ≡ 0
+Idle (Commit.Logging k) l = (l.outstanding ≡ 0) × (k < length l.homes)
+Idle Commit.Heading l = (l.outstanding ≡ 0) × (0 < length l.homes)
+Idle (Commit.Homing k) l = (l.outstanding ≡ 0) × (k < length l.homes)
+Idle Commit.Clearing l = (l.outstanding ≡ 0) × (0 < length l.homes)
+Idle (Commit.Syncing part) l = (l.outstanding ≡ 0) × (0 < length l.homes)
 
 -- a group is committed with the sync after its header
 abbrev pub CountsSynced : Part → LogState → Type 0
-CountsSynced part.Log l = l.committed + 1 ≡ l.opened
-CountsSynced part.Header l = l.committed + 1 ≡ l.opened
-CountsSynced part.Homes l = l.committed ≡ l.opened
-CountsSynced part.Clear l = l.committed ≡ l.opened
+CountsSynced Part.Log l = l.committed + 1 ≡ l.opened
+CountsSynced Part.Header l = l.committed + 1 ≡ l.opened
+CountsSynced Part.Homes l = l.committed ≡ l.opened
+CountsSynced Part.Clear l = l.committed ≡ l.opened
 
 -- all groups but the open one are committed; that of a commit under way from its header on
 abbrev pub Counts : Commit → LogState → Type 0
-Counts commit.Quiet l = l.committed + min l.outstanding 1 ≡ l.opened
-Counts (commit.Logging k) l = l.committed + 1 ≡ l.opened
-Counts commit.Heading l = l.committed + 1 ≡ l.opened
-Counts (commit.Homing k) l = l.committed ≡ l.opened
-Counts commit.Clearing l = l.committed ≡ l.opened
-Counts (commit.Syncing part) l = CountsSynced part l
+Counts Commit.Quiet l = l.committed + min l.outstanding 1 ≡ l.opened
+Counts (Commit.Logging k) l = l.committed + 1 ≡ l.opened
+Counts Commit.Heading l = l.committed + 1 ≡ l.opened
+Counts (Commit.Homing k) l = l.committed ≡ l.opened
+Counts Commit.Clearing l = l.committed ≡ l.opened
+Counts (Commit.Syncing part) l = CountsSynced part l
 
 -- what is true of every log in that phase
 pub record IsLogAt (k : Commit) (l : LogState) : Type 0 where

@@ -4,16 +4,13 @@ use Rattle.blocks.specs.declared.disk.Disk.{Ghosts}
 use Rattle.wal.specs.declared.types.DeviceFault.{DeviceFault}
 use Rattle.wal.specs.declared.types.DeviceFault.TheVariants.{Block, Sync}
 use Rattle.wal.specs.declared.types.Part.{Part}
-use Rattle.wal.specs.declared.types.Part.TheVariants as part
 use Rattle.blocks.specs.Disk.{Image, AddsNone, IsOldOrNew, IsSettled, one_more, Elapses, LeavesOldOrNew}
 use Rattle.model.specs.Codec.{header_block}
 use Rattle.model.specs.Agreement.{IsSameOutsideLog}
 use Rattle.model.specs.Log.{cleared, is_lawful_log, recovered}
 use Rattle.bcache.specs.Buffers.{Buffers}
 use Rattle.wal.specs.declared.types.Commit.{Commit}
-use Rattle.wal.specs.declared.types.Commit.TheVariants as commit
 use Rattle.wal.specs.declared.types.Committed.{Committed}
-use Rattle.wal.specs.declared.types.Committed.TheVariants as committed
 use Rattle.wal.specs.Machine.{LogState}
 use Rattle.wal.specs.Joint.{Joint, seen, place_at, bytes_at, stepped_at, synced_at, written_cache}
 use Rattle.wal.specs.Floats.{AreAfloat}
@@ -21,19 +18,19 @@ use Rattle.wal.specs.Kept.{KeepsCommitted, CrashKeeps}
 
 -- what a sync that succeeds answers, for the group of that number
 abbrev pub answer_synced : Part → ℕ → Committed
-answer_synced part.Log g = committed.More
-answer_synced part.Header g = committed.Durable g
-answer_synced part.Homes g = committed.More
-answer_synced part.Clear g = committed.Done
+answer_synced Part.Log g = Committed.More
+answer_synced Part.Header g = Committed.Durable g
+answer_synced Part.Homes g = Committed.More
+answer_synced Part.Clear g = Committed.Done
 
 -- what a step that succeeds answers in this phase, over a disk that holds writes back or doesn't
 abbrev pub answer_at : Bool → Commit → ℕ → Committed
-answer_at holds commit.Quiet g = committed.More
-answer_at holds (commit.Logging k) g = committed.More
-answer_at holds commit.Heading g = if holds then committed.More else committed.Durable g
-answer_at holds (commit.Homing k) g = committed.More
-answer_at holds commit.Clearing g = if holds then committed.More else committed.Done
-answer_at holds (commit.Syncing part) g = answer_synced part g
+answer_at holds Commit.Quiet g = Committed.More
+answer_at holds (Commit.Logging k) g = Committed.More
+answer_at holds Commit.Heading g = if holds then Committed.More else Committed.Durable g
+answer_at holds (Commit.Homing k) g = Committed.More
+answer_at holds Commit.Clearing g = if holds then Committed.More else Committed.Done
+answer_at holds (Commit.Syncing part) g = answer_synced part g
 
 -- the write was made
 pub record Stepped (holds : Bool) (h : List ℕ) (x : Image) (c : Buffers) (l : LogState)
@@ -56,17 +53,17 @@ pub record Faulted (h : List ℕ) (x : Image) (c : Buffers) (l : LogState)
 
 -- this answer with the first fact, or a fault with the second
 abbrev pub CommitsTo : Committed → Committed → Type 0 → Type 0 → Type 0
-CommitsTo answer committed.More made failed = (answer ≡ committed.More) × made
-CommitsTo answer (committed.Durable g) made failed = (answer ≡ committed.Durable g) × made
-CommitsTo answer committed.Done made failed = (answer ≡ committed.Done) × made
-CommitsTo answer (committed.Fault fault) made failed = failed
+CommitsTo answer Committed.More made failed = (answer ≡ Committed.More) × made
+CommitsTo answer (Committed.Durable g) made failed = (answer ≡ Committed.Durable g) × made
+CommitsTo answer Committed.Done made failed = (answer ≡ Committed.Done) × made
+CommitsTo answer (Committed.Fault fault) made failed = failed
 
 -- at a fault the first two facts, else the third
 abbrev pub IsFault : Committed → (DeviceFault → Type 0) → Type 0 → Type 0 → Type 0
-IsFault committed.More P failed made = made
-IsFault (committed.Durable g) P failed made = made
-IsFault committed.Done P failed made = made
-IsFault (committed.Fault fault) P failed made = P fault × failed
+IsFault Committed.More P failed made = made
+IsFault (Committed.Durable g) P failed made = made
+IsFault Committed.Done P failed made = made
+IsFault (Committed.Fault fault) P failed made = P fault × failed
 
 -- a write of this block failed
 abbrev pub FailsAt : ℕ → DeviceFault → Type 0
@@ -144,19 +141,19 @@ pub record CommitMakes {D N : Type 0} (disk : Ghosts D N) (d : D) (c : Buffers) 
   pub joint : Joint (disk.image e) f m
   pub keeps : KeepsCommitted l.commit (disk.image d) (seen (disk.image d) c) (disk.image e)
   -- without the header that was written, the image is as it was
-  pub unheaded : Joint (disk.image d) c l → l.commit ≡ commit.Heading
+  pub unheaded : Joint (disk.image d) c l → l.commit ≡ Commit.Heading
       → IsSameOutsideLog (recovered (disk.image d)) (cleared (disk.image e))
   pub faults : disk.fault_count e ≡ disk.fault_count d
 
 -- one or the other, by what is next
 abbrev pub CommitStepsAt : {D N : Type 0} → Ghosts D N → Commit → D → Buffers → LogState
     → Committed → D → Buffers → LogState → Type 0
-CommitStepsAt disk commit.Quiet d c l r e f m = ⊥
-CommitStepsAt disk (commit.Logging k) d c l r e f m = CommitWrites disk d c l r e f m
-CommitStepsAt disk commit.Heading d c l r e f m = CommitWrites disk d c l r e f m
-CommitStepsAt disk (commit.Homing k) d c l r e f m = CommitWrites disk d c l r e f m
-CommitStepsAt disk commit.Clearing d c l r e f m = CommitWrites disk d c l r e f m
-CommitStepsAt disk (commit.Syncing p) d c l r e f m = CommitSyncs disk p d c l r e f m
+CommitStepsAt disk Commit.Quiet d c l r e f m = ⊥
+CommitStepsAt disk (Commit.Logging k) d c l r e f m = CommitWrites disk d c l r e f m
+CommitStepsAt disk Commit.Heading d c l r e f m = CommitWrites disk d c l r e f m
+CommitStepsAt disk (Commit.Homing k) d c l r e f m = CommitWrites disk d c l r e f m
+CommitStepsAt disk Commit.Clearing d c l r e f m = CommitWrites disk d c l r e f m
+CommitStepsAt disk (Commit.Syncing p) d c l r e f m = CommitSyncs disk p d c l r e f m
 
 abbrev pub CommitSteps : {D N : Type 0} → Ghosts D N → D → Buffers → LogState → Committed → D
     → Buffers → LogState → Type 0

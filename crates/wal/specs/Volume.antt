@@ -9,18 +9,12 @@ use Rattle.blocks.specs.declared.disk.Disk.{Ghosts}
 use Rattle.blocks.specs.Disk.{Image, block_at, one_more}
 use Rattle.model.specs.Agreement.{IsSameOutsideLog}
 use Rattle.model.specs.declared.types.operations.TaskProgress.{TaskProgress}
-use Rattle.model.specs.declared.types.operations.TaskProgress.TheVariants as task
 use Rattle.model.specs.declared.types.operations.Why.{Why}
-use Rattle.model.specs.declared.types.operations.Why.TheVariants as why
 use Rattle.model.specs.declared.types.progress.Progress.{Progress}
-use Rattle.model.specs.declared.types.progress.Progress.TheVariants as machine
 use Rattle.bcache.specs.declared.types.Busy.{Busy}
-use Rattle.bcache.specs.declared.types.Busy.TheVariants as busy
 use Rattle.bcache.specs.declared.types.Acquired.{Acquired}
-use Rattle.bcache.specs.declared.types.Acquired.TheVariants as acquired
 use Rattle.bcache.specs.Buffers.{Buffers, buffer, block_or_zero, fresh_buffers, acquire_answer, after_acquire, filled, changed, EndsUnfilled}
 use Rattle.wal.specs.declared.types.Committed.{Committed}
-use Rattle.wal.specs.declared.types.Committed.TheVariants as committed
 use Rattle.wal.specs.Get.{Get}
 use Rattle.wal.specs.Get as get
 use Rattle.wal.specs.Machine.{LogState, new_log, noted, noted_cache, MayLog, HasSlot}
@@ -50,13 +44,13 @@ pub record Holds (cur : Image) (c : Buffers) (pid b i : ℕ) : Type 0 where
 
 -- why a process waits for a buffer
 abbrev pub why_busy : Busy → Why
-why_busy busy.Held = why.BufferHeld
-why_busy busy.NoBuffer = why.NoBuffer
+why_busy Busy.Held = Why.BufferHeld
+why_busy Busy.NoBuffer = Why.NoBuffer
 
 -- what `get` answers where the disk doesn't fail
 abbrev pub get_answer_by : Acquired → Get
-get_answer_by (acquired.Got i valid) = get.Got i
-get_answer_by (acquired.Sleeping busy) = get.Sleeping (why_busy busy)
+get_answer_by (Acquired.Got i valid) = get.Got i
+get_answer_by (Acquired.Sleeping busy) = get.Sleeping (why_busy busy)
 
 abbrev pub get_answer : Buffers → ℕ → Get
 get_answer c b = get_answer_by (acquire_answer c b)
@@ -74,8 +68,8 @@ cause_to_get c (Some b) = cause_of_get (get_answer c b)
 
 -- the buffers then: a slot that wasn't valid has the disk's bytes
 abbrev pub after_get_by : Acquired → Buffers → List ℕ → Buffers
-after_get_by (acquired.Got i valid) c bytes = if valid then c else filled c i bytes
-after_get_by (acquired.Sleeping busy) c bytes = c
+after_get_by (Acquired.Got i valid) c bytes = if valid then c else filled c i bytes
+after_get_by (Acquired.Sleeping busy) c bytes = c
 
 abbrev pub after_get : Image → Buffers → ℕ → ℕ → Buffers
 after_get x c pid b = after_get_by (acquire_answer c b) (after_acquire c pid b) (block_at x b)
@@ -84,7 +78,7 @@ after_get x c pid b = after_get_by (acquire_answer c b) (after_acquire c pid b) 
 pub record FailsToFill (c d : Buffers) (pid b : ℕ) (fault : DiskFault) : Type 0 where
   pub slot : ℕ
   pub block : fault.0 ≡ b
-  pub answer : acquire_answer c b ≡ acquired.Got slot false
+  pub answer : acquire_answer c b ≡ Acquired.Got slot false
   pub buffers : EndsUnfilled (after_acquire c pid b) slot d
 
 -- the slot of block b, which it does not show yet
@@ -125,18 +119,18 @@ fault_of_get (get.Fault fault) = Some (Block fault)
 
 -- the fault of a step of a task, which only reads
 abbrev pub fault_of_task : TaskProgress → Option DeviceFault
-fault_of_task task.Moved = None
-fault_of_task (task.Turned reply) = None
-fault_of_task (task.Decided reply) = None
-fault_of_task task.Over = None
-fault_of_task (task.Sleeping why) = None
-fault_of_task (task.Fault fault) = Some (Block fault)
+fault_of_task TaskProgress.Moved = None
+fault_of_task (TaskProgress.Turned reply) = None
+fault_of_task (TaskProgress.Decided reply) = None
+fault_of_task TaskProgress.Over = None
+fault_of_task (TaskProgress.Sleeping why) = None
+fault_of_task (TaskProgress.Fault fault) = Some (Block fault)
 
 abbrev pub fault_of_step : Committed → Option DeviceFault
-fault_of_step committed.More = None
-fault_of_step (committed.Durable group) = None
-fault_of_step committed.Done = None
-fault_of_step (committed.Fault fault) = Some fault
+fault_of_step Committed.More = None
+fault_of_step (Committed.Durable group) = None
+fault_of_step Committed.Done = None
+fault_of_step (Committed.Fault fault) = Some fault
 
 -- a count of faults after an answer
 abbrev pub faults_after : Option DeviceFault → ℕ → ℕ
@@ -166,9 +160,9 @@ pub record ReadsFor {D N : Type 0} (disk : Ghosts D N) (old : VolumeState D) (r 
 
 -- what `get` answers then, to a machine's step that gets a block
 abbrev pub progress_of : {T : Type 0} → Get → Progress T
-progress_of (get.Got i) = machine.Moved
-progress_of (get.Sleeping why) = machine.Sleeping why
-progress_of (get.Fault fault) = machine.Fault fault
+progress_of (get.Got i) = Progress.Moved
+progress_of (get.Sleeping why) = Progress.Sleeping why
+progress_of (get.Fault fault) = Progress.Fault fault
 
 -- the slot that was got
 abbrev pub slot_of : Get → Option ℕ

@@ -3,10 +3,9 @@ ghost use Rattle.std.specs.Prelude.{◌≡◌, ◌≢◌};
 ghost use Rattle.std.specs.IoError.{error_kind};
 
 use std::alloc::AllocError;
-use std::env;
-use std::io;
 use std::io::ErrorKind;
 use std::rt::Env;
+use std::{env, io};
 
 /// Why the words that the program was started with can't be had.
 #[derive(Clone, Copy, Debug)]

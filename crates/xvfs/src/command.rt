@@ -17,7 +17,7 @@ ghost use Rattle.cli.specs.declared.explanation.Explanation.{Explanation as Some
 ghost use Rattle.messages.specs.declared.told.Unwritten.{Unwritten as IsUnwritten};
 
 use crate::locks::{Keeper, Locks, lock_image};
-use crate::progress::{Meter, Screen};
+use crate::progress::{Screen, TerminalMeter};
 use crate::stopping::stops_files;
 use blocks::{Disk, FaultyDisk, FileDisk};
 use cli::{Asked, Explanation, Request, parse};
@@ -203,7 +203,7 @@ where
             size,
             no_sync,
         } => {
-            let progress = Meter::new(rt);
+            let progress = TerminalMeter::new(rt);
             perform(
                 rt,
                 Copy {

@@ -15,36 +15,48 @@ use batch::commands;
 use cmd::end;
 use command::command;
 use input::{InputFault, input_unread};
-use std::io::{BufWriter, Stderr, Stdout, Write};
+use std::io::{BufWriter, Stdout, Write};
 use std::process::ExitCode;
 
 // How many bytes of the output are held back: ten times the digits of the longest Read.
 const HELD_BACK: usize = 65_536;
 
+// Why nothing can be begun.
+enum Unbegun {
+    // A word isn't UTF-8.
+    NotUtf8,
+    Input(InputFault),
+}
+
 fn main(rt: HostRuntime) -> ExitCode {
     let mut err = rt.stderr();
-    let status = match arguments::given(&rt) {
-        Ok(words) => answer(&rt, words, &mut err),
-        Err(WordsFault::NoMemory) => end(Err(InputFault::NoMemory), &mut err),
-        Err(WordsFault::NotUtf8) => {
+    let status = match words_and_output(&rt) {
+        Err(Unbegun::Input(fault)) => end(Err(fault), &mut err),
+        Err(Unbegun::NotUtf8) => {
             let _unwritten = err.write_all(b"error: an argument isn't UTF-8\n");
             2
+        }
+        Ok((words, mut out)) => {
+            if words.is_empty() {
+                commands(&rt, rt.stdin(), &mut out, &mut err)
+            } else {
+                command(&rt, words.as_slice(), &mut out, &mut err)
+            }
         }
     };
     ExitCode::from(status)
 }
 
-// Does what the words ask for, or, where there are none, the commands of the standard input. The exit
-// status.
-fn answer(rt: &HostRuntime, words: Vec<String>, err: &mut Stderr) -> u8 {
-    match output(rt) {
-        Err(fault) => end(Err(fault), err),
-        Ok(mut out) if words.is_empty() => commands(rt, rt.stdin(), &mut out, err),
-        Ok(mut out) => command(rt, words.as_slice(), &mut out, err),
+// The words that the program was started with, and its output, which is held back up to the end of
+// each command.
+fn words_and_output(rt: &HostRuntime) -> Result<(Vec<String>, BufWriter<Stdout>), Unbegun> {
+    let words = match arguments::given(rt) {
+        Ok(words) => words,
+        Err(WordsFault::NotUtf8) => return Err(Unbegun::NotUtf8),
+        Err(WordsFault::NoMemory) => return Err(Unbegun::Input(InputFault::NoMemory)),
+    };
+    match BufWriter::with_capacity(rt.alloc(), HELD_BACK, rt.stdout()) {
+        Ok(out) => Ok((words, out)),
+        Err(error) => Err(Unbegun::Input(input_unread(error))),
     }
-}
-
-// The output, which is held back up to the end of each command.
-fn output(rt: &HostRuntime) -> Result<BufWriter<Stdout>, InputFault> {
-    BufWriter::with_capacity(rt.alloc(), HELD_BACK, rt.stdout()).map_err(|error| input_unread(error))
 }

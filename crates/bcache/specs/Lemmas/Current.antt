@@ -1,13 +1,9 @@
 -- How the image that the layers above see changes with the buffers.
 use Rattle.std.proofs.Common.{◌≡◌, ◌≢◌, inl, inr, ℕ, zero, suc, ◌+◌, ◌-◌, ◌<◌, ◌&&◌, Bool, true, false, cond, List, [], ◌∷◌, length, get_or, set, refl, sym, ◌∙◌, ap, ap₂, arith, Option, Some, None, length-set}
-use Rattle.std.proofs.lemmas.Bool.{cases_eq, cases_Bool, cond-true, cond-false, eq-eqb, ne_eqb, both_ways, and_parts, and_left, and_right, false_from_ne_true}
 use Rattle.std.specs.List.{filter}
-use Rattle.std.proofs.lemmas.List.{get_or-set_same, get_or-set_other, ext_get_or}
-use Rattle.std.proofs.lemmas.List.FromFn.{length-map-range_with_len, get_or-map-range_with_len}
+use Rattle.bcache.specs.Common.{and_left, and_parts, and_right, both_ways, Buffer, buffer, Buffers, bytes_or, cases_Bool, cases_eq, changed, cond-false, cond-true, empty_buffer, eq-eqb, ext_get_or, false_from_ne_true, filled, get_or-map-range_with_len, get_or-set_other, get_or-set_same, is_number_in, is_of, IsCache, IsOnce, length-map-range_with_len, ne_eqb, shows, with_buffer}
 use Rattle.blocks.specs.Disk.{Image, block_at}
-use Rattle.bcache.specs.declared.types.Buffer.{Buffer}
-use Rattle.bcache.specs.Current.{is_number_in, is_of, shows, bytes_or, current}
-use Rattle.bcache.specs.Buffers.{Buffers, empty_buffer, buffer, with_buffer, filled, changed, IsOnce, IsCache}
+use Rattle.bcache.specs.Current.{current}
 use Rattle.bcache.specs.Laws.{UnfilledKeeps, CountsKeepCurrent}
 use Rattle.bcache.specs.Lemmas.Slots.{buffer_same, buffer_other, block_is, is_number_some}
 

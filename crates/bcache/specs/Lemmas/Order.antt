@@ -2,11 +2,9 @@
 use Rattle.std.proofs.Common.{◌≡◌, ◌≢◌, inl, inr, ℕ, zero, suc, ◌+◌, ◌<◌, ◌≤◌, ◌==◌, not, Bool, true, false, cond, eqb, ltb, List, [], ◌∷◌, length, get_or, refl, sym, ◌∙◌, ap, zero-add, arith, Option, Some, None}
 use Rattle.std.specs.Prelude.{position}
 use Rattle.std.specs.List.{filter, position_or_len}
-use Rattle.std.proofs.lemmas.Bool.{cases_eq, cases_lt, cases_Bool, eqb-true, eq-eqb, ne_eqb, lt-ltb, le-ltb, both_ways}
 use Rattle.std.proofs.lemmas.Bool.Decides.{nat_tests}
 use Rattle.std.proofs.lemmas.List.Sums.{fails_before_first}
-use Rattle.model.specs.Soundness.{count_of}
-use Rattle.bcache.specs.Order.{IsOrder, first_order, moved_to_front, victim_in, later_or}
+use Rattle.bcache.specs.Common.{both_ways, cases_Bool, cases_eq, cases_lt, count_of, eq-eqb, eqb-true, first_order, IsOrder, later_or, le-ltb, lt-ltb, moved_to_front, ne_eqb, victim_in}
 
 -- where no element passes a test, none does
 pub none_passes : {X : Type 0} (p : X → Bool) (xs : List X) (j : ℕ) (d : X) → position p xs ≡ None → j < length xs → p (get_or xs j d) ≡ false

@@ -1,13 +1,8 @@
 -- The slots of a cache after a change of one, which slot a block has, and which is taken for it.
 use Rattle.std.proofs.Common.{◌≡◌, ◌≢◌, inl, inr, ℕ, zero, suc, ◌<◌, ◌==◌, true, false, map, replicate, length, get_or, refl, sym, ◌∙◌, ap, subst, arith, Option, Some, None, length-set, position}
 use Rattle.std.proofs.Math.ListN as listn
-use Rattle.std.proofs.lemmas.Bool.{cases_eq, cases_lt, cases_Bool, cond-true, cond-false, eqb-true, both_ways, false≢true}
-use Rattle.std.proofs.lemmas.List.{get_or-set_same, get_or-set_other, get_or_past, length-replicate}
 use Rattle.std.proofs.lemmas.List.Quantifiers.{position-Some}
-use Rattle.bcache.specs.declared.types.Buffer.{Buffer}
-use Rattle.bcache.specs.Current.{is_number_in, is_of, references_of}
-use Rattle.bcache.specs.Order.{IsOrder, moved_to_front}
-use Rattle.bcache.specs.Buffers.{Buffers, empty_buffer, buffer, with_buffer, found, victim, taken, released, after_lock, after_take, after_acquire, after_acquire_by, fresh_buffers, IsOnce, IsCache}
+use Rattle.bcache.specs.Common.{after_acquire, after_acquire_by, after_lock, after_take, both_ways, Buffer, buffer, Buffers, cases_Bool, cases_eq, cases_lt, cond-false, cond-true, empty_buffer, eqb-true, false≢true, found, fresh_buffers, get_or-set_other, get_or-set_same, get_or_past, is_number_in, is_of, IsCache, IsOnce, IsOrder, length-replicate, moved_to_front, references_of, released, taken, victim, with_buffer}
 use Rattle.bcache.specs.Laws.{AreAllInUse}
 use Rattle.bcache.specs.Lemmas.Order.{none_passes, has_place, order_moved, order_first, slot_below, victim_none, victim_unused, victim_below}
 
@@ -85,10 +80,8 @@ cache_taken c p b i is lt none = record {
     -- no other slot is for what this one is for now
     alone : (j k d : ℕ) → j ≡ i → k ≢ i → is_of d (buffer (taken c p b i) j) ≡ true → is_of d (buffer (taken c p b i) k) ≡ true → ⊥
     alone j k d ji ki hj hk =
-        let here : is_of d t ≡ true = sym (ap (is_of d) (buffer_same c i t inside)) ∙ ap (λ (n : ℕ). is_of d (buffer (taken c p b i) n)) (sym ji) ∙ hj in
-        let bd : b ≡ d = sym (eqb-true d b here) in
-        let there : is_of b (buffer c k) ≡ true = ap (λ (n : ℕ). is_of n (buffer c k)) bd ∙ sym (ap (is_of d) (buffer_other c i k t ki)) ∙ hk in
-        both_ways _ (none_found c b none k) there
+        let bd : b ≡ d = sym (eqb-true d b (sym (ap (is_of d) (buffer_same c i t inside)) ∙ ap (λ (n : ℕ). is_of d (buffer (taken c p b i) n)) (sym ji) ∙ hj)) in
+        both_ways _ (none_found c b none k) (ap (λ (n : ℕ). is_of n (buffer c k)) bd ∙ sym (ap (is_of d) (buffer_other c i k t ki)) ∙ hk)
 
     same : (j k d : ℕ) → is_of d (buffer (taken c p b i) j) ≡ true → is_of d (buffer (taken c p b i) k) ≡ true → j ≡ k
     same j k d hj hk = elim (cases_eq j i) [

@@ -1,6 +1,6 @@
 -- An address is 0 or there.
 use Rattle.std.proofs.Common.{◌≡◌, ◌≢◌, ⊎_elim, sym, ℕ, refl}
-use Rattle.std.proofs.lemmas.Bool.{cases_eq, eq-eqb, ne_eqb}
+use Rattle.blockmap.specs.Common.{cases_eq, eq-eqb, ne_eqb}
 use Rattle.blockmap.specs.Bmap.{some_address}
 use Rattle.blockmap.specs.Map.{address_or_zero}
 

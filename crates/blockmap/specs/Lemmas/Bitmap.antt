@@ -1,9 +1,8 @@
 -- The lowest clear bit of a bitmap.
 use Rattle.std.proofs.Common.{◌≡◌, sym, ap, subst, refl, arith, ⊎_elim, ℕ, zero, suc, ◌+◌, ◌<◌, ◌≤◌, Bool, true, false, not, cond, List, Option, Some, None}
 use Rattle.std.specs.List.{find, range_with_len}
-use Rattle.std.proofs.lemmas.Bool.{cases_eq, cases_lt, not-false, not-true}
+use Rattle.blockmap.specs.Common.{cases_eq, cases_lt, IsLowestClear, lowest_clear, LowestClear, not-false, not-true}
 use Rattle.model.specs.Fields.{has_bit}
-use Rattle.blockmap.specs.Balloc.{IsLowestClear, LowestClear, lowest_clear}
 
 -- ---- the first number of a row that passes a test
 

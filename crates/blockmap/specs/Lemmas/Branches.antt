@@ -1,23 +1,10 @@
 -- Where a block of a file stands, and the ways to it.
 use Rattle.std.proofs.Common.{◌≡◌, ◌≢◌, ℕ, zero, suc, ◌+◌, ◌-◌, ◌/◌, ◌<◌, ◌≤◌, Bool, true, false, cond, ltb, List, [], ◌∷◌, ◌++◌, length, get_or, replicate, refl, sym, ap, subst, ◌∙◌, ⊎_elim, arith, append_assoc, length-append}
-use Rattle.std.proofs.lemmas.Bool.{cases_eq, ltb-true, ltb-false, ne_eqb}
 use Rattle.std.proofs.Math.Nat.{mod-lt}
-use Rattle.blocks.specs.Disk.{Image}
-use Rattle.model.specs.declared.types.image.Dinode.{Dinode}
-use Rattle.model.specs.declared.types.image.Form.{Form}
-use Rattle.model.specs.declared.types.image.Form.TheVariants.{One, Two}
-use Rattle.model.specs.Fields.{words_of}
-use Rattle.model.specs.Layout.{depths, direct_count, form_of, greatest_size, reach}
-use Rattle.model.specs.Places.{address_along, address_in}
-use Rattle.model.specs.Lemmas.Wholes.{reach_pos, thirteen_depths}
-use Rattle.in_flight.specs.Trees.{entry_of, led_to, place_along, place_under, way_to}
-use Rattle.in_flight.specs.Lemmas.KeptTrees.{SameInside}
-use Rattle.in_flight.specs.Lemmas.Ways.{address_led, along_at, entries_way_to, led_further, led_none, led_step, length-way_to, place_way_to}
+use Rattle.blockmap.specs.Common.{address_along, address_led, address_on, along_at, block_limit, Branch, branch_of, cases_eq, deepest, depths, Dinode, direct_count, entries_way_to, entry_of, entry_under, Form, form_of, greatest_size, Image, led_further, led_none, led_step, led_to, length-way_to, LiesOnWay, ltb-false, ltb-true, named_by, ne_eqb, Node, node_at, One, place_along, place_under, place_way_to, reach, reach_pos, rest_under, SameInside, thirteen_depths, Two, way_to, words_of}
+use Rattle.model.specs.Places.{address_in}
 use Rattle.in_flight.specs.Lemmas.Wholes.{direct_depth}
-use Rattle.blockmap.specs.Branch.{LiesOnWay, address_on, block_limit, branch_of, deepest, entry_under, named_by, node_at, rest_under}
 use Rattle.blockmap.specs.Map.{IsBranchOf}
-use Rattle.blockmap.specs.declared.branch.Branch.{Branch}
-use Rattle.blockmap.specs.declared.branch.Node.{Node}
 
 -- ---- where a block stands
 

@@ -1,19 +1,7 @@
 -- What a writer's way comes to.
 use Rattle.std.proofs.Common.{◌≡◌, ◌∙◌, ap, refl, arith, ⊎_elim, ℕ, ◌^◌, ◌<◌, ◌≤◌, Bool, true, false, cond, eqb, [], length, Some}
-use Rattle.std.proofs.lemmas.Bool.{cases_lt, eqb-true}
-use Rattle.std.proofs.lemmas.List.{get_or-set_same, get_or_past}
-use Rattle.blocks.specs.Disk.{Image, block_at}
-use Rattle.model.specs.declared.types.image.Dinode.{Dinode}
-use Rattle.model.specs.Lemmas.Codecs.{entry-with_entry}
-use Rattle.in_flight.specs.Held.{with_address}
-use Rattle.in_flight.specs.Trees.{entry_of}
-use Rattle.wal.specs.Joint.{seen}
-use Rattle.wal.specs.Volume.{VolumeState}
-use Rattle.blockmap.specs.Branch.{address_on}
+use Rattle.blockmap.specs.Common.{address_on, block_at, Branch, cases_lt, Dinode, entry-with_entry, entry_of, eqb-true, get_or-set_same, get_or_past, Image, MapAt, Progress, seen, VolumeState, with_address}
 use Rattle.blockmap.specs.BmapAlloc.{IsLed, LeadsThere, come_to}
-use Rattle.blockmap.specs.declared.bmap_alloc.MapAt.{MapAt}
-use Rattle.blockmap.specs.declared.branch.Branch.{Branch}
-use Rattle.model.specs.declared.types.progress.Progress.TheVariants as progress
 
 -- a block that was come to is the file's, where it is one of data
 pub leads_on : {D : Type 0} (image : D → Image) (depth a : ℕ) (b : Branch) (at : MapAt) (d : Dinode) (w : VolumeState D) →
@@ -21,7 +9,7 @@ pub leads_on : {D : Type 0} (image : D → Image) (depth a : ℕ) (b : Branch) (
     LeadsThere image (come_to depth a) b at d w
 leads_on image depth a b at d w is = by_depth (eqb depth 0) refl
   where
-    by_depth : (ends : Bool) → eqb depth 0 ≡ ends → LeadsThere image (cond ends (progress.Over (Some a)) progress.Moved) b at d w
+    by_depth : (ends : Bool) → eqb depth 0 ≡ ends → LeadsThere image (cond ends (Progress.Over (Some a)) Progress.Moved) b at d w
     by_depth true flat = is (eqb-true depth 0 flat)
     by_depth false deep = tt
 

@@ -1,18 +1,11 @@
 -- What a step leaves to the other processes.
 use Rattle.std.proofs.Common.{◌≡◌, ◌≢◌, inl, ⊎_elim, ℕ, ◌<◌, Bool, true, false, cond, length, refl, sym, ◌∙◌, ap, subst, Option, Some, None}
 use Rattle.std.specs.Prelude.{is_some}
-use Rattle.std.proofs.lemmas.Bool.{cases_eq}
-use Rattle.std.proofs.lemmas.List.{get_or-set_same, get_or-set_other}
-use Rattle.blocks.specs.declared.disk.Disk.{Ghosts}
+use Rattle.blockmap.specs.Common.{appended, Buffers, cases_eq, FailsToFill, Get, get_or-set_other, get_or-set_same, GetsFor, Ghosts, is_among, LogState, noted, one_used, OnFault, Progress, progress_of, SameGroups, used_by, VolumeState}
 use Rattle.blocks.specs.declared.errors.DiskFault.{DiskFault}
-use Rattle.bcache.specs.Buffers.{Buffers}
-use Rattle.wal.specs.Get.{Get}
 use Rattle.wal.specs.Get as get
 use Rattle.wal.specs.Held.{HasLock, HoldsBlock, GetsLock, GivesUpLock}
-use Rattle.wal.specs.Machine.{LogState, SameGroups, used_by, is_among, noted, appended, one_used}
-use Rattle.wal.specs.Volume.{VolumeState, FailsToFill, OnFault, GetsFor, progress_of}
 use Rattle.wal.specs.Lemmas.Rooms.{noted_grows, used_noted}
-use Rattle.model.specs.declared.types.progress.Progress.TheVariants as progress
 
 -- ---- what the others hold
 
@@ -77,10 +70,10 @@ pub groups_same : (l : LogState) → SameGroups l l
 groups_same l = record { size = refl; outstanding = refl; opened = refl; committed = refl; commit = refl; used = λ q. refl }
 
 -- the block at which a machine fails that gets it
-pub gets_fails : {D N T : Type 0} (disk : Ghosts D N) (v : VolumeState D) (p b : ℕ) (fault : DiskFault) (slot : Option ℕ) (w : VolumeState D) → GetsFor {T = T} disk v p b (progress.Fault fault) slot w → fault.0 ≡ b
+pub gets_fails : {D N T : Type 0} (disk : Ghosts D N) (v : VolumeState D) (p b : ℕ) (fault : DiskFault) (slot : Option ℕ) (w : VolumeState D) → GetsFor {T = T} disk v p b (Progress.Fault fault) slot w → fault.0 ≡ b
 gets_fails {T = T} disk v p b fault slot w got = by_answer got.answer got.gives got.gets.failed
   where
-    by_answer : (x : Get) → progress.Fault fault ≡ progress_of {T = T} x → OnFault x (FailsToFill v.buffers w.buffers p b) → fault.0 ≡ b
+    by_answer : (x : Get) → Progress.Fault fault ≡ progress_of {T = T} x → OnFault x (FailsToFill v.buffers w.buffers p b) → fault.0 ≡ b
     by_answer (get.Got i) is failed = absurd (cc is)
     by_answer (get.Sleeping why) is failed = absurd (cc is)
     by_answer (get.Fault other) is failed = let same : fault ≡ other = cc is in ap (λ (f : DiskFault). f.0) same ∙ failed.block

@@ -1,12 +1,6 @@
 -- What a put is to a process that holds the block.
 use Rattle.std.proofs.Common.{◌≡◌, ◌∙◌, ap, refl, ℕ, List, set}
-use Rattle.blocks.specs.Block.{overwritten}
-use Rattle.blocks.specs.Disk.{block_at}
-use Rattle.blocks.specs.declared.disk.Disk.{Ghosts}
-use Rattle.bcache.specs.Buffers.{block_or_zero, buffer}
-use Rattle.wal.specs.Joint.{seen}
-use Rattle.wal.specs.Machine.{noted}
-use Rattle.wal.specs.Volume.{VolumeState, Holds}
+use Rattle.blockmap.specs.Common.{block_at, block_or_zero, buffer, Ghosts, Holds, noted, overwritten, seen, VolumeState}
 use Rattle.blockmap.specs.Getting.{Puts, WritesBlock, block_at_slot, with_block_written}
 
 -- block b is written, where those bytes make it the new one

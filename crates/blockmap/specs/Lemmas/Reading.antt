@@ -1,8 +1,6 @@
 -- Pieces of a file's bytes.
 use Rattle.std.proofs.Common.{◌≡◌, ℕ, ◌+◌, ◌-◌, ◌*◌, ◌/◌, ◌%◌, ◌<◌, ◌≤◌, List, [], length, take, drop, min, sym, ap, ◌∙◌, arith}
-use Rattle.std.proofs.lemmas.List.{length-drop, take_all, take_min, drop_all}
-use Rattle.blocks.specs.Disk.{Image, block_at}
-use Rattle.model.specs.declared.types.image.Dinode.{Dinode}
+use Rattle.blockmap.specs.Common.{block_at, Dinode, drop_all, Image, length-drop, take_all, take_min}
 use Rattle.model.specs.Files.{bytes_in}
 use Rattle.model.specs.Operations.{part_of}
 use Rattle.model.specs.Places.{address_in}

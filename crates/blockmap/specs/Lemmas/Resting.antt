@@ -1,12 +1,7 @@
 -- Where an image stands for files, that of each used number which no task holds may be read.
 use Rattle.std.proofs.Common.{ℕ, ◌≤◌, Option, sym, subst, arith, List}
-use Rattle.blocks.specs.Disk.{Image}
-use Rattle.model.specs.Layout.{depths, form_of, inode_of}
-use Rattle.model.specs.Names.{names_along}
+use Rattle.blockmap.specs.Common.{Claim, count_of, depths, form_of, Image, inode_of, LiesInData, names_along, names_claimed}
 use Rattle.model.specs.Places.{address_in}
-use Rattle.model.specs.Soundness.{count_of}
-use Rattle.in_flight.specs.Held.{Claim, names_claimed}
-use Rattle.in_flight.specs.Loose.{LiesInData}
 use Rattle.in_flight.specs.Lemmas.HeldFrames.{claimed_in_data, whole_names}
 use Rattle.in_flight.specs.Lemmas.HeldLooks.{resting_tells}
 use Rattle.in_flight.specs.Lemmas.Looks.{between}

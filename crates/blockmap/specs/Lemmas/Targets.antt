@@ -1,31 +1,13 @@
 -- What leads to a block of a file.
 use Rattle.std.proofs.Common.{◌≡◌, ◌≢◌, ◌⊎◌, ⊎_elim, ◌||◌, refl, ℕ, suc, ◌+◌, ◌-◌, ◌*◌, ◌/◌, ◌<◌, ◌≤◌, sym, ap, subst, ◌∙◌, Bool, true, false, cond, eqb, length, get_or, arith, Option, Some, None, inl, inr}
-use Rattle.std.proofs.lemmas.Bool.{eqb-true, eqb-false, or_cases, or_parts}
-use Rattle.blocks.specs.Disk.{Image, block_at}
-use Rattle.model.specs.declared.types.image.Dinode.{Dinode}
-use Rattle.model.specs.declared.types.image.Form.{Form}
-use Rattle.model.specs.declared.types.image.Form.TheVariants.{One, Two}
-use Rattle.model.specs.Layout.{depths, form_of}
-use Rattle.model.specs.Names.{names_along}
-use Rattle.model.specs.Places.{address_in, address_under}
-use Rattle.model.specs.Soundness.{count_of}
-use Rattle.model.specs.Lemmas.Wholes.{thirteen_depths}
-use Rattle.wal.specs.Joint.{seen}
-use Rattle.wal.specs.Volume.{VolumeState}
-use Rattle.in_flight.specs.Lemmas.KeptTrees.{SameInside}
-use Rattle.in_flight.specs.Lemmas.Ways.{led_along}
-use Rattle.in_flight.specs.Loose.{IsFit}
+use Rattle.blockmap.specs.Common.{address_on, address_under, block_at, block_limit, Branch, branch_of, count_of, deepest, depths, Dinode, eqb-false, eqb-true, Form, form_of, Image, IsFit, led_along, LiesOnWay, named_by, names_along, Node, node_at, One, or_cases, or_parts, SameInside, seen, Target, thirteen_depths, Two, VolumeState}
+use Rattle.model.specs.Places.{address_in}
 use Rattle.blockmap.specs.Bmap.{EntryState, IsNode, ends_at, first_entry, some_address, sought_in}
-use Rattle.blockmap.specs.Branch.{LiesOnWay, address_on, block_limit, branch_of, deepest, named_by, node_at}
 use Rattle.blockmap.specs.Reading.{MayRead}
 use Rattle.blockmap.specs.Target.{LeadsTo, LeadsToBlock, slot_in, steps_at, steps_for, target_for, target_mapped}
 use Rattle.blockmap.specs.Lemmas.Addresses.{address_or_zero_of}
 use Rattle.blockmap.specs.Lemmas.Branches.{address_there, branch_shallow, is_branch, lies_first, lies_last, lies_none, lies_short, lies_still, none_there, within_limit}
-use Rattle.blockmap.specs.declared.branch.Branch.{Branch}
-use Rattle.blockmap.specs.declared.branch.Node.{Node}
-use Rattle.blockmap.specs.declared.mapping.Mapped.TheVariants as mapped_as
-use Rattle.blockmap.specs.declared.target.Target.{Target}
-use Rattle.blockmap.specs.declared.target.Target.TheVariants as target
+use Rattle.blockmap.specs.declared.mapping.Mapped.{Mapped}
 
 -- ---- where a block is found
 
@@ -93,9 +75,9 @@ module _ (x y : Image) (d : Dinode) (k : ℕ) (low : k < block_limit (form_of x)
 
   -- a target leads there still, where the file's blocks are the same
   pub leads_still : ((j : ℕ) → address_in y d j ≡ address_in x d j) → (t : Target) → LeadsToBlock x d k t → LeadsToBlock y d k t
-  leads_still addresses (target.Entry m) leads =
+  leads_still addresses (Target.Entry m) leads =
       subst (λ (f : Form). LiesOnWay y d (branch_of f k) m.node) (sym form) (lies_still x d (branch_of (form_of x) k) m.node leads y same_behind)
-  leads_still addresses (target.Block b slot) leads = leads ∙ sym (addresses k)
+  leads_still addresses (Target.Block b slot) leads = leads ∙ sym (addresses k)
 
 -- ---- targets
 
@@ -129,7 +111,7 @@ module _ (form : Form) (d : Dinode) (k : ℕ) where
   top = get_or d.addrs place.index 0
 
   abbrev by_test : Bool → Target
-  by_test t = target_mapped (cond t (mapped_as.At (some_address top)) (mapped_as.Behind (first_entry (node_at place.depth place.rest top))))
+  by_test t = target_mapped (cond t (Mapped.At (some_address top)) (Mapped.Behind (first_entry (node_at place.depth place.rest top))))
 
   pub first_slot : slot_in (target_for form d k) ≡ None
   first_slot = at (eqb top 0 || eqb place.depth 0)
@@ -148,13 +130,13 @@ module _ (form : Form) (d : Dinode) (k : ℕ) where
 
 -- and so many from any target that leads to one
 pub few_at : (x : Image) (d : Dinode) (k : ℕ) (t : Target) → LeadsToBlock x d k t → steps_at t ≤ 2 * (branch_of (form_of x) k).depth + 2
-few_at x d k (target.Entry m) leads = by_slot m.slot
+few_at x d k (Target.Entry m) leads = by_slot m.slot
   where
-    by_slot : (o : Option ℕ) → steps_at (target.Entry (record m { slot = o })) ≤ 2 * (branch_of (form_of x) k).depth + 2
+    by_slot : (o : Option ℕ) → steps_at (Target.Entry (record m { slot = o })) ≤ 2 * (branch_of (form_of x) k).depth + 2
     by_slot None = let short = lies_short x d (branch_of (form_of x) k) m.node leads in omega (arith, short)
     by_slot (Some i) = let short = lies_short x d (branch_of (form_of x) k) m.node leads in omega (arith, short)
-few_at x d k (target.Block b None) leads = omega arith
-few_at x d k (target.Block b (Some i)) leads = omega arith
+few_at x d k (Target.Block b None) leads = omega arith
+few_at x d k (Target.Block b (Some i)) leads = omega arith
 
 -- a file that may be read, and one of the blocks that its size needs
 module _ {D : Type 0} (image : D → Image) (v : VolumeState D) (p k : ℕ) (d : Dinode) (may : MayRead (seen (image v.device) v.buffers) d)
@@ -191,7 +173,7 @@ module _ {D : Type 0} (image : D → Image) (v : VolumeState D) (p k : ℕ) (d :
   leads_for = by_test (eqb root 0 || eqb its.depth 0) refl
     where
       by_test : (t : Bool) → (eqb root 0 || eqb its.depth 0) ≡ t →
-          LeadsTo image v p d k (target_mapped (cond t (mapped_as.At (some_address root)) (mapped_as.Behind (first_entry (node_at its.depth its.rest root)))))
+          LeadsTo image v p d k (target_mapped (cond t (Mapped.At (some_address root)) (Mapped.Behind (first_entry (node_at its.depth its.rest root)))))
       by_test true at =
           let once = ⊎_elim (λ none. inl (eqb-true root 0 none)) (λ flat. inr (eqb-true its.depth 0 flat)) (or_cases (eqb root 0) (eqb its.depth 0) at) in
           record { block = address_or_zero_of root ∙ sym (address_there_now ∙ found_at_once cur d its once); holds = tt }

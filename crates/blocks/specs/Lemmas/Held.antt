@@ -1,10 +1,7 @@
 -- The laws of a disk that may hold writes back.
 use Rattle.std.specs.Prelude.{◌≡◌, ℕ, List, Bool, true, false, [], ◌∷◌, length, drop, slice_set, refl}
 use Rattle.std.proofs.Common.{zero, suc, inl, inr, ⊎_elim, subst, sym, ◌∙◌, ap, arith}
-use Rattle.blocks.specs.Disk.{Image, IsImage, IsSettled}
-use Rattle.blocks.specs.Held.{CanFloat, HadLeft, HeldImages, IsShadow, LeftSince, Write, applied, chosen, noted_by}
-use Rattle.blocks.specs.declared.floating.Floating.{Floating}
-use Rattle.blocks.specs.declared.floating.Shadow.{Shadow}
+use Rattle.blocks.specs.Common.{applied, CanFloat, chosen, Floating, HadLeft, HeldImages, Image, IsImage, IsSettled, IsShadow, LeftSince, noted_by, Shadow, Write}
 
 pub held_all : (synced : Image) (held : List Write) → HeldImages synced held (applied synced held)
 held_all synced [] = refl

@@ -1,17 +1,8 @@
 -- Each event keeps that who commits does so alone.
 use Rattle.std.proofs.Common.{◌≡◌, ◌≢◌, ◌⊎◌, inl, inr, ⊎_elim, ℕ, ◌+◌, Bool, true, false, cond, eqb, length, refl, sym, ◌∙◌, ap, subst, arith, None}
 use Rattle.std.specs.Prelude.{IsSome}
-use Rattle.std.proofs.lemmas.Bool.{cases_eq, eq-eqb, ne_eqb, false≢true, false_from_ne_true}
-use Rattle.wal.specs.declared.types.Commit.{Commit}
-use Rattle.wal.specs.declared.types.Commit.TheVariants as commit
-use Rattle.wal.specs.declared.types.Committed.TheVariants as committed
-use Rattle.wal.specs.declared.types.Ended.TheVariants as ended_as
-use Rattle.wal.specs.declared.types.Part.TheVariants as part
-use Rattle.wal.specs.Joint.{stepped_at}
-use Rattle.wal.specs.Machine.{LogState, used_by, begin_cause, begun, ended, end_answer, left_by, closed, is_quiet, SameGroups, IsLogAt}
-use Rattle.wal.specs.Step.{answer_at}
-use Rattle.wal.specs.Lemmas.Log.{let_in}
-use Rattle.history.specs.declared.types.Phase.{Phase}
+use Rattle.history.specs.Common.{answer_at, begin_cause, begun, cases_eq, closed, Commit, end_answer, Ended, ended, eq-eqb, false_from_ne_true, false≢true, is_quiet, IsLogAt, left_by, let_in, LogState, ne_eqb, Part, Phase, SameGroups, stepped_at, used_by}
+use Rattle.wal.specs.declared.types.Committed.{Committed}
 use Rattle.history.specs.Alone.{is_committing_at, CommitsAlone}
 use Rattle.history.specs.Lemmas.Groups.{end_leaves, end_commits, open_of}
 
@@ -75,7 +66,7 @@ module _ (ats new : ℕ → Phase) (l : LogState) (alone : CommitsAlone ats l) (
       let quiet = quiet_if_open l p is used in
       alone_quiet (ended l p) quiet (by_case left ∙ quiet) mine
     where
-      by_homes : (b : Bool) → is_quiet (cond b (cond true (record (left_by l p) { committed = l.opened }) (record (left_by l p) { commit = commit.Logging 0 })) (left_by l p)).commit ≡ is_quiet l.commit
+      by_homes : (b : Bool) → is_quiet (cond b (cond true (record (left_by l p) { committed = l.opened }) (record (left_by l p) { commit = Commit.Logging 0 })) (left_by l p)).commit ≡ is_quiet l.commit
       by_homes true = refl
       by_homes false = refl
 
@@ -86,7 +77,7 @@ module _ (ats new : ℕ → Phase) (l : LogState) (alone : CommitsAlone ats l) (
   -- it was the last of a group with homes: its process commits
   pub alone_closed : IsLogAt l.commit l → IsSome (used_by l p) → l.outstanding ≡ 1 → length l.homes ≢ 0 → is_committing_at (new p) ≡ true → CommitsAlone new (ended l p)
   alone_closed is used last some mine =
-      let now : ended l p ≡ record (left_by l p) { commit = commit.Logging 0 } = rw (eq-eqb l.outstanding 1 last, ne_eqb (length l.homes) 0 some) refl in
+      let now : ended l p ≡ record (left_by l p) { commit = Commit.Logging 0 } = rw (eq-eqb l.outstanding 1 last, ne_eqb (length l.homes) 0 some) refl in
       let none = none_commits ats l alone (quiet_if_open l p is used) in
       let own : (q : ℕ) → is_committing_at (new q) ≡ true → q ≡ p = λ q is. ⊎_elim (λ (e : q ≡ p). e) (λ (e : q ≢ p). absurd (false≢true (sym (none q) ∙ ap is_committing_at (sym (others q e)) ∙ is))) (cases_eq q p) in
       subst (λ (m : LogState). CommitsAlone new m) (sym now) (record {
@@ -97,10 +88,10 @@ module _ (ats new : ℕ → Phase) (l : LogState) (alone : CommitsAlone ats l) (
       })
 
   -- it ends, as the log answers
-  pub alone_end_leaves : IsLogAt l.commit l → IsSome (used_by l p) → end_answer l ≡ ended_as.Left → is_committing_at (new p) ≡ false → CommitsAlone new (ended l p)
+  pub alone_end_leaves : IsLogAt l.commit l → IsSome (used_by l p) → end_answer l ≡ Ended.Left → is_committing_at (new p) ≡ false → CommitsAlone new (ended l p)
   alone_end_leaves is used left mine = alone_ended is used (⊎_elim (λ (more : l.outstanding ≢ 1). inl more) (λ (last : (l.outstanding ≡ 1) × (length l.homes ≡ 0)). inr last.1) (end_leaves l left)) mine
 
-  pub alone_end_commits : IsLogAt l.commit l → IsSome (used_by l p) → end_answer l ≡ ended_as.Commit → is_committing_at (new p) ≡ true → CommitsAlone new (ended l p)
+  pub alone_end_commits : IsLogAt l.commit l → IsSome (used_by l p) → end_answer l ≡ Ended.Commit → is_committing_at (new p) ≡ true → CommitsAlone new (ended l p)
   alone_end_commits is used last mine = let at = end_commits l last in alone_closed is used at.0 at.1 mine
 
   -- a step of a commit, after which more are to come
@@ -131,69 +122,69 @@ module _ (ats new : ℕ → Phase) (l : LogState) (alone : CommitsAlone ats l) (
           (cases_eq q p)
 
 -- A step that is not the last leaves the commit under way; the last one ends it.
-pub goes_on : (h : Bool) (k : Commit) (l : LogState) (g : ℕ) → is_quiet k ≡ false → (answer_at h k g ≡ committed.Done → ⊥) → is_quiet (stepped_at h k l).commit ≡ false
-goes_on h commit.Quiet l g busy more = absurd (false≢true (sym busy))
-goes_on h (commit.Logging j) l g busy more = by_last (eqb (j + 1) (length l.homes)) h
+pub goes_on : (h : Bool) (k : Commit) (l : LogState) (g : ℕ) → is_quiet k ≡ false → (answer_at h k g ≡ Committed.Done → ⊥) → is_quiet (stepped_at h k l).commit ≡ false
+goes_on h Commit.Quiet l g busy more = absurd (false≢true (sym busy))
+goes_on h (Commit.Logging j) l g busy more = by_last (eqb (j + 1) (length l.homes)) h
   where
-    by_last : (t h : Bool) → is_quiet (cond t (cond h (commit.Syncing part.Log) commit.Heading) (commit.Logging (j + 1))) ≡ false
+    by_last : (t h : Bool) → is_quiet (cond t (cond h (Commit.Syncing Part.Log) Commit.Heading) (Commit.Logging (j + 1))) ≡ false
     by_last true true = refl
     by_last true false = refl
     by_last false h = refl
-goes_on true commit.Heading l g busy more = refl
-goes_on false commit.Heading l g busy more = refl
-goes_on h (commit.Homing j) l g busy more = by_last (eqb (j + 1) (length l.homes)) h
+goes_on true Commit.Heading l g busy more = refl
+goes_on false Commit.Heading l g busy more = refl
+goes_on h (Commit.Homing j) l g busy more = by_last (eqb (j + 1) (length l.homes)) h
   where
-    by_last : (t h : Bool) → is_quiet (cond t (cond h (commit.Syncing part.Homes) commit.Clearing) (commit.Homing (j + 1))) ≡ false
+    by_last : (t h : Bool) → is_quiet (cond t (cond h (Commit.Syncing Part.Homes) Commit.Clearing) (Commit.Homing (j + 1))) ≡ false
     by_last true true = refl
     by_last true false = refl
     by_last false h = refl
-goes_on true commit.Clearing l g busy more = refl
-goes_on false commit.Clearing l g busy more = absurd (more refl)
-goes_on h (commit.Syncing part.Log) l g busy more = refl
-goes_on h (commit.Syncing part.Header) l g busy more = refl
-goes_on h (commit.Syncing part.Homes) l g busy more = refl
-goes_on h (commit.Syncing part.Clear) l g busy more = absurd (more refl)
+goes_on true Commit.Clearing l g busy more = refl
+goes_on false Commit.Clearing l g busy more = absurd (more refl)
+goes_on h (Commit.Syncing Part.Log) l g busy more = refl
+goes_on h (Commit.Syncing Part.Header) l g busy more = refl
+goes_on h (Commit.Syncing Part.Homes) l g busy more = refl
+goes_on h (Commit.Syncing Part.Clear) l g busy more = absurd (more refl)
 
 -- the last one ends it
-pub over_now : (h : Bool) (k : Commit) (l : LogState) (g : ℕ) → answer_at h k g ≡ committed.Done → is_quiet (stepped_at h k l).commit ≡ true
-over_now h commit.Quiet l g done = absurd (cc done)
-over_now h (commit.Logging j) l g done = absurd (cc done)
-over_now true commit.Heading l g done = absurd (cc done)
-over_now false commit.Heading l g done = absurd (cc done)
-over_now h (commit.Homing j) l g done = absurd (cc done)
-over_now true commit.Clearing l g done = absurd (cc done)
-over_now false commit.Clearing l g done = refl
-over_now h (commit.Syncing part.Log) l g done = absurd (cc done)
-over_now h (commit.Syncing part.Header) l g done = absurd (cc done)
-over_now h (commit.Syncing part.Homes) l g done = absurd (cc done)
-over_now h (commit.Syncing part.Clear) l g done = refl
+pub over_now : (h : Bool) (k : Commit) (l : LogState) (g : ℕ) → answer_at h k g ≡ Committed.Done → is_quiet (stepped_at h k l).commit ≡ true
+over_now h Commit.Quiet l g done = absurd (cc done)
+over_now h (Commit.Logging j) l g done = absurd (cc done)
+over_now true Commit.Heading l g done = absurd (cc done)
+over_now false Commit.Heading l g done = absurd (cc done)
+over_now h (Commit.Homing j) l g done = absurd (cc done)
+over_now true Commit.Clearing l g done = absurd (cc done)
+over_now false Commit.Clearing l g done = refl
+over_now h (Commit.Syncing Part.Log) l g done = absurd (cc done)
+over_now h (Commit.Syncing Part.Header) l g done = absurd (cc done)
+over_now h (Commit.Syncing Part.Homes) l g done = absurd (cc done)
+over_now h (Commit.Syncing Part.Clear) l g done = refl
 
 -- only the step that answers so changes how many groups are committed
-pub same_committed : (h : Bool) (k : Commit) (l : LogState) (g : ℕ) → ((n : ℕ) → answer_at h k g ≡ committed.Durable n → ⊥) → (stepped_at h k l).committed ≡ l.committed
-same_committed h commit.Quiet l g other = refl
-same_committed h (commit.Logging j) l g other = refl
-same_committed true commit.Heading l g other = refl
-same_committed false commit.Heading l g other = absurd (other g refl)
-same_committed h (commit.Homing j) l g other = refl
-same_committed h commit.Clearing l g other = refl
-same_committed h (commit.Syncing part.Log) l g other = refl
-same_committed h (commit.Syncing part.Header) l g other = absurd (other g refl)
-same_committed h (commit.Syncing part.Homes) l g other = refl
-same_committed h (commit.Syncing part.Clear) l g other = refl
+pub same_committed : (h : Bool) (k : Commit) (l : LogState) (g : ℕ) → ((n : ℕ) → answer_at h k g ≡ Committed.Durable n → ⊥) → (stepped_at h k l).committed ≡ l.committed
+same_committed h Commit.Quiet l g other = refl
+same_committed h (Commit.Logging j) l g other = refl
+same_committed true Commit.Heading l g other = refl
+same_committed false Commit.Heading l g other = absurd (other g refl)
+same_committed h (Commit.Homing j) l g other = refl
+same_committed h Commit.Clearing l g other = refl
+same_committed h (Commit.Syncing Part.Log) l g other = refl
+same_committed h (Commit.Syncing Part.Header) l g other = absurd (other g refl)
+same_committed h (Commit.Syncing Part.Homes) l g other = refl
+same_committed h (Commit.Syncing Part.Clear) l g other = refl
 
 -- it commits the group that it answers
-pub durable_count : (h : Bool) (l m : LogState) (n : ℕ) → answer_at h l.commit l.opened ≡ committed.Durable n → m ≡ stepped_at h l.commit l → n ≡ m.committed
+pub durable_count : (h : Bool) (l m : LogState) (n : ℕ) → answer_at h l.commit l.opened ≡ Committed.Durable n → m ≡ stepped_at h l.commit l → n ≡ m.committed
 durable_count h l m n answer is = by_phase h l.commit answer ∙ sym (ap (λ (o : LogState). o.committed) is)
   where
-    by_phase : (h : Bool) (k : Commit) → answer_at h k l.opened ≡ committed.Durable n → n ≡ (stepped_at h k l).committed
-    by_phase h commit.Quiet e = absurd (cc e)
-    by_phase h (commit.Logging j) e = absurd (cc e)
-    by_phase true commit.Heading e = absurd (cc e)
-    by_phase false commit.Heading e = sym (cc e)
-    by_phase h (commit.Homing j) e = absurd (cc e)
-    by_phase true commit.Clearing e = absurd (cc e)
-    by_phase false commit.Clearing e = absurd (cc e)
-    by_phase h (commit.Syncing part.Log) e = absurd (cc e)
-    by_phase h (commit.Syncing part.Header) e = sym (cc e)
-    by_phase h (commit.Syncing part.Homes) e = absurd (cc e)
-    by_phase h (commit.Syncing part.Clear) e = absurd (cc e)
+    by_phase : (h : Bool) (k : Commit) → answer_at h k l.opened ≡ Committed.Durable n → n ≡ (stepped_at h k l).committed
+    by_phase h Commit.Quiet e = absurd (cc e)
+    by_phase h (Commit.Logging j) e = absurd (cc e)
+    by_phase true Commit.Heading e = absurd (cc e)
+    by_phase false Commit.Heading e = sym (cc e)
+    by_phase h (Commit.Homing j) e = absurd (cc e)
+    by_phase true Commit.Clearing e = absurd (cc e)
+    by_phase false Commit.Clearing e = absurd (cc e)
+    by_phase h (Commit.Syncing Part.Log) e = absurd (cc e)
+    by_phase h (Commit.Syncing Part.Header) e = sym (cc e)
+    by_phase h (Commit.Syncing Part.Homes) e = absurd (cc e)
+    by_phase h (Commit.Syncing Part.Clear) e = absurd (cc e)

@@ -1,36 +1,15 @@
 -- The answers that are given tell what the journal does.
 use Rattle.std.proofs.Common.{◌≡◌, ℕ, zero, suc, ◌<◌, ◌≤◌, Bool, true, false, cond, ltb, List, [], ◌∷◌, length, take, drop, refl, sym, ◌∙◌, ap, subst, arith, Option, Some, None}
-use Rattle.std.proofs.lemmas.Bool.{lt-ltb, false≢true}
-use Rattle.std.proofs.lemmas.List.Elements.{All-get_or}
 use Rattle.std.specs.Option.{option_map}
 use Rattle.std.specs.Prelude.{All, IsSome, IfSome, is_some}
 use Rattle.std.specs.Str.{bytes_eq}
 use Rattle.std.proofs.Math.Nat.{min-le_left}
-use Rattle.std.proofs.lemmas.List.{length-take}
 use Rattle.std.proofs.lemmas.Slice.Eq.{bytes_eq-Decides}
-use Rattle.model.specs.declared.types.image.File.{File}
-use Rattle.model.specs.declared.types.image.Form.{Form}
-use Rattle.model.specs.declared.types.operations.Answer.{Answer}
-use Rattle.model.specs.declared.types.operations.Entry.{Entry}
-use Rattle.model.specs.declared.types.operations.Op.{Op}
-use Rattle.model.specs.declared.types.operations.Op.TheVariants.{Create, Write, Read, Trunc, Remove, Stat}
-use Rattle.model.specs.declared.types.operations.Reply.{Reply}
-use Rattle.model.specs.declared.types.operations.Reply.TheVariants.{Made, NoInode, Wrote, Bytes, Done, StatOf, NoFile, BadOffset, TooBig, TooLong, BadType}
-use Rattle.model.specs.Files.{Files, file_in}
-use Rattle.model.specs.Journal.{answered, replay, after_answer, is_changing}
-use Rattle.model.specs.Gathered.{GatheredBytes}
-use Rattle.model.specs.Operations.{where_true, is_refusal, refusal_of, part_of, after_at, after_done, after_refusal, after}
-use Rattle.model.specs.Lemmas.Runs.{and_then_some, where_true_some}
-use Rattle.ports.specs.History.{History, gives}
-use Rattle.wal.specs.Machine.{IsLogAt}
-use Rattle.history.specs.declared.types.Phase.{Phase}
-use Rattle.history.specs.declared.types.Phase.TheVariants as at
+use Rattle.history.specs.Common.{after_answer, after_at, after_done, after_refusal, All-get_or, and_then_some, Answer, answered, BadOffset, BadType, Bytes, Create, Done, Entry, false≢true, File, file_in, Files, Form, GatheredBytes, gives, HasEntry, HasItsGroup, History, is_changing, is_refusal, IsEntry, IsLogAt, length-take, lt-ltb, Made, NoFile, NoInode, Op, part_of, Phase, Read, refusal_of, Remove, replay, Reply, StandsAt, Stat, StatOf, TooBig, TooLong, Trunc, View, where_true, where_true_some, Write, Wrote}
+use Rattle.model.specs.Operations.{after}
 use Rattle.history.specs.Histories.{pending_at, Owes, Owed, IsHistory}
 use Rattle.history.specs.Journal.{entry_in, plain_reply, answer_with, answer_of, HasRoom, FitsRoom, IsItsRoom}
-use Rattle.history.specs.Keeps.{HasItsGroup}
-use Rattle.history.specs.Open.{IsEntry}
 use Rattle.history.specs.Processes.{World, process, answer_in, last_answer}
-use Rattle.history.specs.Views.{View, HasEntry, StandsAt}
 use Rattle.history.specs.Lemmas.Groups.{in_later}
 use Rattle.history.specs.Lemmas.Histories.{history_answered}
 use Rattle.history.specs.Lemmas.Lists.{entry_next}
@@ -48,18 +27,18 @@ answer_inside es k e at =
 
 -- so it is where an entry's answer is still to be given
 owed_given : (w : World) (p k begun : ℕ) (a : Phase) (answer : Answer) (h : History) → Owed a p w.journal.list ≡ (λ (given : List Entry). Owes p k w.journal.list given) → pending_at a ≡ [] → answer_in w.journal.list k ≡ Some answer
-    → IsHistory w.journal.list a begun p h → IsHistory w.journal.list at.Idle begun p (gives answer h)
+    → IsHistory w.journal.list a begun p h → IsHistory w.journal.list Phase.Idle begun p (gives answer h)
 owed_given w p k begun a answer h shape none tells is =
     let o : Owes p k w.journal.list is.answered = subst (λ (P : List Entry → Type 0). P is.answered) shape is.owed in
     history_answered w.journal.list k begun p a o.entry answer h shape none o.at (sym (answer_inside w.journal.list k o.entry o.at) ∙ tells) is
 
 -- who is given the last answer owes none any more
-pub history_given : (w : World) (p begun : ℕ) (a : Phase) (answer : Answer) (h : History) → last_answer w a ≡ Some answer → IsHistory w.journal.list a begun p h → IsHistory w.journal.list at.Idle begun p (gives answer h)
-history_given w p begun at.Idle answer h tells is = absurd (cc tells)
-history_given w p begun (at.BeforeTurn group op) answer h tells is = absurd (cc tells)
-history_given w p begun (at.AfterTurn group k) answer h tells is = owed_given w p k begun (at.AfterTurn group k) answer h refl refl tells is
-history_given w p begun (at.Ending group k) answer h tells is = owed_given w p k begun (at.Ending group k) answer h refl refl tells is
-history_given w p begun (at.Committing group k) answer h tells is = owed_given w p k begun (at.Committing group k) answer h refl refl tells is
+pub history_given : (w : World) (p begun : ℕ) (a : Phase) (answer : Answer) (h : History) → last_answer w a ≡ Some answer → IsHistory w.journal.list a begun p h → IsHistory w.journal.list Phase.Idle begun p (gives answer h)
+history_given w p begun Phase.Idle answer h tells is = absurd (cc tells)
+history_given w p begun (Phase.BeforeTurn group op) answer h tells is = absurd (cc tells)
+history_given w p begun (Phase.AfterTurn group k) answer h tells is = owed_given w p k begun (Phase.AfterTurn group k) answer h refl refl tells is
+history_given w p begun (Phase.Ending group k) answer h tells is = owed_given w p k begun (Phase.Ending group k) answer h refl refl tells is
+history_given w p begun (Phase.Committing group k) answer h tells is = owed_given w p k begun (Phase.Committing group k) answer h refl refl tells is
 
 -- only a read is answered with bytes
 abbrev pub is_read : Op → Bool
@@ -121,9 +100,8 @@ bytes_few form m new i off n bytes h = by_refusal (refusal_of form m (Read i off
     by_file None h = absurd (cc h)
     by_file (Some file) h =
         let part : bytes ≡ take n (drop off file.bytes) = (bytes_eq-Decides bytes (part_of file.bytes off n)).0 (where_true_some (bytes_eq bytes (part_of file.bytes off n)) m new h).0 in
-        let size = ap (λ (l : List ℕ). length l) part ∙ length-take n (drop off file.bytes) in
         let least = min-le_left n (length (drop off file.bytes)) in
-        omega (arith, size, least)
+        omega (arith, (ap (λ (l : List ℕ). length l) part ∙ length-take n (drop off file.bytes)), least)
 
     by_refusal : (o : Option Reply) → after_refusal o m (Read i off n) (Bytes bytes) ≡ Some new → length bytes ≤ n
     by_refusal None h = by_file (file_in m i) h
@@ -208,8 +186,7 @@ change_fits n (Stat i) room is = tt
 -- an entry's group tells whether its operation changes files
 pub group_tells : (n group k : ℕ) (es : List Entry) (e : Entry) → All (HasItsGroup n) es → IsEntry es k e → e.group ≡ group → is_changing n e.op ≡ ltb 0 group
 group_tells n group k es e all at same =
-    let mine : HasItsGroup n e = subst (HasItsGroup n) at.is (All-get_or (HasItsGroup n) es k e at.inside all) in
-    sym mine ∙ ap (ltb 0) same
+    sym (subst (HasItsGroup n) at.is (All-get_or (HasItsGroup n) es k e at.inside all)) ∙ ap (ltb 0) same
 
 -- an entry of a group is of a changing operation
 pub changing_in_group : (n group k : ℕ) (es : List Entry) (e : Entry) → All (HasItsGroup n) es → IsEntry es k e → e.group ≡ group → 0 < group → is_changing n e.op ≡ true
@@ -231,7 +208,7 @@ answer_there form start files es k e room run at some its = by_reply e.reply ref
         subst (λ (o : Option Answer). CanAnswer o room) (sym there) (refl, fits_of_run form start files es k e r room run at is its)
 
 -- an operation that ends next is open in the log, so its group has a number
-pub group_there : (n p group k : ℕ) (s : View) (es : List Entry) → IsLogAt s.log.commit s.log → StandsAt n s es p (at.Ending group k) → 0 < group
+pub group_there : (n p group k : ℕ) (s : View) (es : List Entry) → IsLogAt s.log.commit s.log → StandsAt n s es p (Phase.Ending group k) → 0 < group
 group_there n p group k s es log stands = let low = in_later s.log p group log stands.1 in omega (arith, low)
 
 -- who is at an end, or commits, can be answered
@@ -241,13 +218,13 @@ module _ (n : ℕ) (s : View) (form : Form) (start files : Files) (w : World) (p
   told_there e has some later = answer_there form start files w.journal.list k e (process w p).room run has.at some
       (change_fits n e.op (process w p).room (changing_in_group n group k w.journal.list e all has.at has.same later))
 
-  pub answer_at_end : (process w p).at ≡ at.Ending group k → IsLogAt s.log.commit s.log → StandsAt n s w.journal.list p (process w p).at → CanAnswer (last_answer w (process w p).at) (process w p).room
+  pub answer_at_end : (process w p).at ≡ Phase.Ending group k → IsLogAt s.log.commit s.log → StandsAt n s w.journal.list p (process w p).at → CanAnswer (last_answer w (process w p).at) (process w p).room
   answer_at_end stands log is =
-      let mine : StandsAt n s w.journal.list p (at.Ending group k) = subst (λ (a : Phase). StandsAt n s w.journal.list p a) stands is in
+      let mine : StandsAt n s w.journal.list p (Phase.Ending group k) = subst (λ (a : Phase). StandsAt n s w.journal.list p a) stands is in
       subst (λ (a : Phase). CanAnswer (last_answer w a) (process w p).room) (sym stands) (told_there mine.2.0 mine.2.1 mine.2.2 (group_there n p group k s w.journal.list log mine))
 
   -- behind its end the log doesn't say that its group has a number
-  pub answer_at_commit : (process w p).at ≡ at.Committing group k → 0 < group → StandsAt n s w.journal.list p (process w p).at → CanAnswer (last_answer w (process w p).at) (process w p).room
+  pub answer_at_commit : (process w p).at ≡ Phase.Committing group k → 0 < group → StandsAt n s w.journal.list p (process w p).at → CanAnswer (last_answer w (process w p).at) (process w p).room
   answer_at_commit stands later is =
-      let mine : StandsAt n s w.journal.list p (at.Committing group k) = subst (λ (a : Phase). StandsAt n s w.journal.list p a) stands is in
+      let mine : StandsAt n s w.journal.list p (Phase.Committing group k) = subst (λ (a : Phase). StandsAt n s w.journal.list p a) stands is in
       subst (λ (a : Phase). CanAnswer (last_answer w a) (process w p).room) (sym stands) (told_there mine.2.0 mine.2.1 mine.2.2 later)

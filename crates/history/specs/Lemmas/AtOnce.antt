@@ -1,19 +1,8 @@
 -- What is answered at once changes nothing, and depends on nobody's file.
 use Rattle.std.proofs.Common.{◌≡◌, ℕ, Bool, true, false, not, cond, ◌||◌, eqb, ltb, List, length, Option, Some, None, refl, sym, ap, ◌∙◌, arith}
-use Rattle.std.proofs.lemmas.Bool.{not-true, ltb-true, ne_eqb}
-use Rattle.model.specs.declared.types.operations.Entry.{Entry}
-use Rattle.model.specs.declared.types.image.Form.{Form}
-use Rattle.model.specs.declared.types.operations.Op.{Op}
-use Rattle.model.specs.declared.types.operations.Op.TheVariants.{Create, Write, Read, Trunc, Remove, Stat}
-use Rattle.model.specs.declared.types.operations.Reply.TheVariants.{NoFile, TooLong}
-use Rattle.model.specs.Files.{Files, file_in}
-use Rattle.model.specs.Journal.{answered, is_at_once, is_number, is_making}
-use Rattle.model.specs.Operations.{after, after_refusal, no_file_refusal, write_refusal}
-use Rattle.model.specs.Lemmas.Log.{both_of}
-use Rattle.model.specs.Lemmas.Runs.{no_file_at, count_stays, zero_stays}
+use Rattle.history.specs.Common.{after_refusal, answered, both_of, count_stays, Create, Entry, file_in, Files, Follows, Form, Held, is_at_once, is_making, is_number, ltb-true, ne_eqb, no_file_at, no_file_refusal, NoFile, not-true, number_of, Op, Read, Remove, Stat, TooLong, touches, Trunc, Write, write_refusal, zero_stays}
+use Rattle.model.specs.Operations.{after}
 use Rattle.history.specs.AtOnce.{at_once_reply}
-use Rattle.history.specs.Follows.{Follows}
-use Rattle.history.specs.Open.{Held, number_of, touches}
 
 -- its reply leaves the files
 pub at_once_after : (form : Form) (m : Files) (op : Op) → file_in m 0 ≡ None → is_at_once (length m) op ≡ true → after form m op (at_once_reply op) ≡ Some m

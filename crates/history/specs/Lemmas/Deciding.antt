@@ -1,22 +1,9 @@
 -- A reply that is decided after later entries got theirs.
 use Rattle.std.proofs.Common.{◌≡◌, ◌≢◌, ℕ, ◌<◌, Bool, true, false, not, cond, ◌&&◌, ◌||◌, eqb, ltb, List, [], ◌∷◌, length, set, take, Option, Some, None, refl, sym, ap, ◌∙◌}
 use Rattle.std.specs.Prelude.{is_none}
-use Rattle.std.proofs.lemmas.Bool.{eqb-false, or_parts, not-true}
-use Rattle.std.proofs.lemmas.List.{get_or-set_other, get_or-set_same, length-set, set_comm, set-get_or}
+use Rattle.history.specs.Common.{after_answer, after_at, after_create, after_done, after_on, after_refusal, all_apart, and_then, BadType, both_of, Bytes, Create, Done, Entry, eqb-false, File, file_in, Files, Form, get_or-set_other, get_or-set_same, is_kind, is_late, is_making, is_refusal, length-set, Made, no_file_refusal, NoInode, not-true, number_of, Op, or_parts, Read, Remove, replay, Reply, set-get_or, set_comm, Stat, StatOf, TooLong, touches, Trunc, where_true, where_true_some, with_bytes, Write, write_refusal, Wrote}
 use Rattle.blocks.specs.Block.{overwritten}
-use Rattle.model.specs.declared.types.image.Form.{Form}
-use Rattle.model.specs.declared.types.image.File.{File}
-use Rattle.model.specs.declared.types.operations.Op.{Op}
-use Rattle.model.specs.declared.types.operations.Op.TheVariants.{Create, Write, Read, Trunc, Remove, Stat}
-use Rattle.model.specs.declared.types.operations.Reply.{Reply}
-use Rattle.model.specs.declared.types.operations.Reply.TheVariants.{Made, NoInode, Wrote, Bytes, Done, StatOf, TooLong, BadType}
-use Rattle.model.specs.declared.types.operations.Entry.{Entry}
-use Rattle.model.specs.Files.{Files, file_in}
-use Rattle.model.specs.Operations.{after, after_refusal, after_done, after_create, after_at, after_on, write_refusal, no_file_refusal, is_refusal, where_true, is_kind, with_bytes}
-use Rattle.model.specs.Journal.{replay, and_then, after_answer, is_making}
-use Rattle.model.specs.Lemmas.Log.{both_of}
-use Rattle.model.specs.Lemmas.Runs.{where_true_some}
-use Rattle.history.specs.Open.{number_of, is_late, touches, all_apart}
+use Rattle.model.specs.Operations.{after}
 
 -- the files with another file at a number, where there are files
 abbrev pub put : ℕ → Option File → Option Files → Option Files

@@ -1,20 +1,10 @@
 -- Images that differ in the log alone have the same marks and the same files after some entries.
 use Rattle.std.proofs.Common.{◌≡◌, ℕ, ◌<◌, ◌≤◌, List, [], length, refl, sym, ◌∙◌, ap, arith, Some}
-use Rattle.blocks.specs.Disk.{Image, block_at}
+use Rattle.history.specs.Common.{behind_log, block_at, cleared, cleared_outside, Entry, facts_of, Files, HasFilesAfter, HasMarks, Image, inode_block, inode_bytes, inode_bytes_in, inode_in, IsSameOutsideLog, IsSound, logged_count, long_geometry, none_cleared, same_outside_log, super_in, super_of}
 use Rattle.model.specs.declared.types.image.Dinode.{Dinode}
 use Rattle.model.specs.declared.types.image.Super.{Super}
-use Rattle.model.specs.declared.types.operations.Entry.{Entry}
-use Rattle.model.specs.Agreement.{IsSameOutsideLog}
 use Rattle.model.specs.Fields.{has_bit}
-use Rattle.model.specs.Files.{Files}
-use Rattle.model.specs.Layout.{super_in, super_of, inode_of, inode_in, inode_bytes, inode_bytes_in, inode_block}
-use Rattle.model.specs.Log.{logged_count, cleared}
-use Rattle.model.specs.Soundness.{IsSound}
-use Rattle.model.specs.Lemmas.Log.{none_cleared}
-use Rattle.model.specs.Lemmas.OutsideLog.{behind_log, cleared_outside, same_outside_log}
-use Rattle.model.specs.Lemmas.Soundness.{facts_of, long_geometry}
-use Rattle.history.specs.Crash.{HasMarks}
-use Rattle.history.specs.Keeps.{HasFilesAfter}
+use Rattle.model.specs.Layout.{inode_of}
 
 -- either of the two may be the first
 pub same_back : (x y : Image) → IsSameOutsideLog x y → IsSameOutsideLog y x

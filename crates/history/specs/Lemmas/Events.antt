@@ -1,27 +1,9 @@
 -- Each step of a task keeps what is true of every kernel.
 use Rattle.std.proofs.Common.{◌≡◌, ◌≢◌, ⊎_elim, ℕ, zero, suc, ◌<◌, Bool, true, false, not, ◌&&◌, ltb, List, [], ◌∷◌, ◌++◌, length, set, refl, sym, ◌∙◌, ap, subst, arith, Option, Some, None}
 use Rattle.std.specs.Prelude.{is_some}
-use Rattle.std.proofs.lemmas.Bool.{cases_eq, ltb-true}
-use Rattle.blocks.specs.Disk.{Image}
-use Rattle.model.specs.declared.types.operations.Entry.{Entry}
-use Rattle.model.specs.declared.types.operations.Op.{Op}
-use Rattle.model.specs.declared.types.operations.Reply.{Reply}
-use Rattle.model.specs.Files.{files_of}
-use Rattle.model.specs.Journal.{replay, answered, is_changing, is_number, is_making, is_at_once}
-use Rattle.model.specs.Laws.{is_writing}
-use Rattle.model.specs.Layout.{form_of, inode_count_of}
-use Rattle.model.specs.Tasks.{Marks}
-use Rattle.model.specs.Lemmas.FileNumbers.{length-files_of, file_in-files_of_zero}
-use Rattle.model.specs.Lemmas.Runs.{at_once_is_not_changing, replay_more}
-use Rattle.wal.specs.Machine.{LogState, SameGroups}
+use Rattle.history.specs.Common.{answered, at_once_is_not_changing, cases_eq, Decides, Entry, file_in-files_of_zero, files_of, Follows, form_of, HasEntry, Held, Image, in_reads, InGroup, inode_count_of, is_at_once, is_changing, is_making, is_number, is_writing, IsEntry, IsIn, IsJournal, IsValidView, KernelFacts, Leaves, LeavesRest, length-files_of, LogState, ltb-true, Marks, Moves, number_of, Op, Opens, Phase, replay, replay_more, Reply, SameGroups, StandsAt, Survives, Takes, told, Turns, View}
 use Rattle.history.specs.Journal.{entry_of}
-use Rattle.history.specs.declared.types.Phase.{Phase}
-use Rattle.history.specs.declared.types.Phase.TheVariants as at
 use Rattle.history.specs.AtOnce.{at_once_reply}
-use Rattle.history.specs.Crash.{Survives, in_reads}
-use Rattle.history.specs.Follows.{Follows, IsJournal}
-use Rattle.history.specs.Open.{Held, number_of, IsEntry, told}
-use Rattle.history.specs.Views.{View, InGroup, IsIn, HasEntry, StandsAt, IsValidView, KernelFacts, LeavesRest, Moves, Takes, Turns, Opens, Decides, Leaves}
 use Rattle.history.specs.Lemmas.AtOnce.{at_once_apart, at_once_takes, unmade}
 use Rattle.history.specs.Lemmas.Following.{answered_some, follows_moved, follows_left, follows_turned, follows_opened, follows_told}
 use Rattle.history.specs.Lemmas.Groups.{group_up, group_newest, group_unread}
@@ -36,11 +18,11 @@ in_group l m q (suc g) same is = (same.used q ∙ is.0, is.1 ∙ sym same.opened
 
 -- where a process stands, after what another did
 stands_goes : (n : ℕ) (s t : View) (es fs : List Entry) (q : ℕ) (a : Phase) → SameGroups s.log t.log → t.holds q ≡ s.holds q → ((k g : ℕ) (e : Entry) → HasEntry es q k g e → HasEntry fs q k g e) → StandsAt n s es q a → StandsAt n t fs q a
-stands_goes n s t es fs q at.Idle same holds goes is = (holds ∙ is.0, in_group s.log t.log q 0 same is.1)
-stands_goes n s t es fs q (at.BeforeTurn group op) same holds goes is = (holds ∙ is.0, in_group s.log t.log q group same is.1, is.2, is.3)
-stands_goes n s t es fs q (at.AfterTurn group k) same holds goes is = (in_group s.log t.log q group same is.0, (is.1.0, goes k group is.1.0 is.1.1))
-stands_goes n s t es fs q (at.Ending group k) same holds goes is = (holds ∙ is.0, (same.used q ∙ is.1.0, is.1.1 ∙ sym same.opened), (is.2.0, goes k group is.2.0 is.2.1, is.2.2))
-stands_goes n s t es fs q (at.Committing group k) same holds goes is = (holds ∙ is.0, in_group s.log t.log q 0 same is.1, (is.2.0, goes k group is.2.0 is.2.1, is.2.2))
+stands_goes n s t es fs q Phase.Idle same holds goes is = (holds ∙ is.0, in_group s.log t.log q 0 same is.1)
+stands_goes n s t es fs q (Phase.BeforeTurn group op) same holds goes is = (holds ∙ is.0, in_group s.log t.log q group same is.1, is.2, is.3)
+stands_goes n s t es fs q (Phase.AfterTurn group k) same holds goes is = (in_group s.log t.log q group same is.0, (is.1.0, goes k group is.1.0 is.1.1))
+stands_goes n s t es fs q (Phase.Ending group k) same holds goes is = (holds ∙ is.0, (same.used q ∙ is.1.0, is.1.1 ∙ sym same.opened), (is.2.0, goes k group is.2.0 is.2.1, is.2.2))
+stands_goes n s t es fs q (Phase.Committing group k) same holds goes is = (holds ∙ is.0, in_group s.log t.log q 0 same is.1, (is.2.0, goes k group is.2.0 is.2.1, is.2.2))
 
 has_more : (es : List Entry) (f : Entry) (q k g : ℕ) (e : Entry) → f.pid ≢ q → HasEntry es q k g e → HasEntry (es ++ f ∷ []) q k g e
 has_more es f q k g e other h = record { at = entry_more es k e f h.at; mine = h.mine; last = last_more q es k f h.last other; same = h.same }
@@ -97,8 +79,8 @@ module _ (opening : Image) (s t : View) (es : List Entry) (ats : ℕ → Phase) 
         (λ (e : q ≢ p). subst (λ (a : Phase). StandsAt n t fs q a) (sym (others_at q e)) (stands_goes n s t es fs q (ats q) groups (others q e) (λ k g f h. goes q k g f e h) (i.stands q)))
         (cases_eq q p)
 
-    module _ (group seq : ℕ) (op : Op) (stood : ats p ≡ at.BeforeTurn group op) where
-      was : StandsAt n s es p (at.BeforeTurn group op)
+    module _ (group seq : ℕ) (op : Op) (stood : ats p ≡ Phase.BeforeTurn group op) where
+      was : StandsAt n s es p (Phase.BeforeTurn group op)
       was = subst (λ (a : Phase). StandsAt n s es p a) stood (i.stands p)
 
       -- who holds something is another
@@ -119,7 +101,7 @@ module _ (opening : Image) (s t : View) (es : List Entry) (ats : ℕ → Phase) 
       entry_turned : (reply : Option Reply) → HasEntry (es ++ entry_of p seq op group reply ∷ []) p (length es) group (entry_of p seq op group reply)
       entry_turned reply = let e = entry_of p seq op group reply in record { at = entry_new es e; mine = refl; last = last_new es e; same = refl }
 
-      stands_turned : SameGroups s.log t.log → (reply : Option Reply) → new p ≡ at.AfterTurn group (length es) → StandsAt n t (es ++ entry_of p seq op group reply ∷ []) p (new p)
+      stands_turned : SameGroups s.log t.log → (reply : Option Reply) → new p ≡ Phase.AfterTurn group (length es) → StandsAt n t (es ++ entry_of p seq op group reply ∷ []) p (new p)
       stands_turned groups reply now =
           let e = entry_of p seq op group reply in
           subst (λ (a : Phase). StandsAt n t (es ++ e ∷ []) p a) (sym now) (in_group s.log t.log p group groups was.1, (e, entry_turned reply))
@@ -141,18 +123,18 @@ module _ (opening : Image) (s t : View) (es : List Entry) (ats : ℕ → Phase) 
           }
 
       -- a turn whose reply stands, and whose task goes on
-      pub inv_turned : (r : Reply) → new p ≡ at.AfterTurn group (length es) → Turns (form_of opening) p op r s t → KernelFacts opening t (es ++ entry_of p seq op group (Some r) ∷ []) new
+      pub inv_turned : (r : Reply) → new p ≡ Phase.AfterTurn group (length es) → Turns (form_of opening) p op r s t → KernelFacts opening t (es ++ entry_of p seq op group (Some r) ∷ []) new
       inv_turned r now turn = turned_with r turn (stands_turned turn.rest.groups (Some r) now)
 
       -- a turn with which the task is over
-      pub inv_turned_over : (r : Reply) → new p ≡ at.Ending group (length es) → is_changing n op ≡ true → t.holds p ≡ None → Turns (form_of opening) p op r s t
+      pub inv_turned_over : (r : Reply) → new p ≡ Phase.Ending group (length es) → is_changing n op ≡ true → t.holds p ≡ None → Turns (form_of opening) p op r s t
           → KernelFacts opening t (es ++ entry_of p seq op group (Some r) ∷ []) new
       inv_turned_over r now changing free turn = turned_with r turn
           (subst (λ (a : Phase). StandsAt n t (es ++ entry_of p seq op group (Some r) ∷ []) p a) (sym now)
           (free, is_in t.log p group (later_if changing) (in_group s.log t.log p group turn.rest.groups was.1), (entry_of p seq op group (Some r), entry_turned (Some r), refl)))
 
       -- a turn whose reply is still to come
-      pub inv_opened : new p ≡ at.AfterTurn group (length es) → Opens n p op s t → KernelFacts opening t (es ++ (entry_of p seq op group None) ∷ []) new
+      pub inv_opened : new p ≡ Phase.AfterTurn group (length es) → Opens n p op s t → KernelFacts opening t (es ++ (entry_of p seq op group None) ∷ []) new
       inv_opened now o =
           let st = o.rest in
           let e = entry_of p seq op group None in
@@ -165,8 +147,8 @@ module _ (opening : Image) (s t : View) (es : List Entry) (ats : ℕ → Phase) 
             stands = stands_by st.groups st.others (es ++ e ∷ []) (λ q k g f other h. has_more es e q k g f (λ same. other (sym same)) h) (stands_turned st.groups None now);
           }
 
-    module _ (group k : ℕ) (e : Entry) (stood : ats p ≡ at.AfterTurn group k) (at_k : IsEntry es k e) where
-      here : StandsAt n s es p (at.AfterTurn group k)
+    module _ (group k : ℕ) (e : Entry) (stood : ats p ≡ Phase.AfterTurn group k) (at_k : IsEntry es k e) where
+      here : StandsAt n s es p (Phase.AfterTurn group k)
       here = subst (λ (a : Phase). StandsAt n s es p a) stood (i.stands p)
 
       -- the entry is the process's last
@@ -177,15 +159,12 @@ module _ (opening : Image) (s t : View) (es : List Entry) (ats : ℕ → Phase) 
       changing_some : is_changing n e.op ≡ true → 0 < group
       changing_some c =
           let its : ltb 0 e.group ≡ is_changing n e.op = subst (λ (f : Entry). ltb 0 f.group ≡ is_changing n f.op) at_k.is (i.journal.changing k e at_k.inside) in
-          let same = mine_is.same in
-          let g = ltb-true 0 e.group (its ∙ c) in omega (arith, g, same)
+          let g = ltb-true 0 e.group (its ∙ c) in omega (arith, g, mine_is.same)
 
       -- and its group, where it has one, is not committed
       pub changing_later : is_changing n e.op ≡ true → in_reads s.log < e.group
       changing_later c =
-          let same = mine_is.same in
-          let some = changing_some c in
-          let later = group_unread s.log p group i.valid.log here.0 some in omega (arith, later, same)
+          let later = group_unread s.log p group i.valid.log here.0 (changing_some c) in omega (arith, later, mine_is.same)
 
       told_entry : (r : Reply) → HasEntry (set es k (told e r)) p k group (told e r)
       told_entry r = record { at = entry_set es k e (told e r) at_k; mine = mine_is.mine; last = last_set p es k k e r mine_is.last at_k; same = mine_is.same }
@@ -203,7 +182,7 @@ module _ (opening : Image) (s t : View) (es : List Entry) (ats : ℕ → Phase) 
           }
 
       -- the reply of an operation whose task goes on
-      pub inv_decided : (r : Reply) → new p ≡ at.AfterTurn group k → e.reply ≡ None → Decides (form_of opening) p e.op r s t → KernelFacts opening t (set es k (told e r)) new
+      pub inv_decided : (r : Reply) → new p ≡ Phase.AfterTurn group k → e.reply ≡ None → Decides (form_of opening) p e.op r s t → KernelFacts opening t (set es k (told e r)) new
       inv_decided r now none d = told_with r none d.rest d.made d.files
           (subst (λ (a : Phase). StandsAt n t (set es k (told e r)) p a) (sym now) (in_group s.log t.log p group d.rest.groups here.0, (told e r, told_entry r)))
 
@@ -223,15 +202,15 @@ module _ (opening : Image) (s t : View) (es : List Entry) (ats : ℕ → Phase) 
             }
 
         -- the finish of a changing operation, which ends next
-        pub inv_ending : (r : Reply) → e.reply ≡ Some r → is_changing n e.op ≡ true → new p ≡ at.Ending group k → KernelFacts opening t es new
+        pub inv_ending : (r : Reply) → e.reply ≡ Some r → is_changing n e.op ≡ true → new p ≡ Phase.Ending group k → KernelFacts opening t es new
         inv_ending r has changing now = inv_left r has (subst (λ (a : Phase). StandsAt n t es p a) (sym now) (leaves.mine, is_in t.log p group (changing_some changing) (in_group s.log t.log p group leaves.rest.groups here.0), (e, mine_is, ap is_some has)))
 
         -- the finish of another, which is answered
-        pub inv_over : (r : Reply) → e.reply ≡ Some r → group ≡ 0 → new p ≡ at.Idle → KernelFacts opening t es new
+        pub inv_over : (r : Reply) → e.reply ≡ Some r → group ≡ 0 → new p ≡ Phase.Idle → KernelFacts opening t es new
         inv_over r has zero_group now = inv_left r has (subst (λ (a : Phase). StandsAt n t es p a) (sym now) (leaves.mine, in_group s.log t.log p 0 leaves.rest.groups (subst (λ (g : ℕ). InGroup s.log p g) zero_group here.0)))
 
       -- the finish of a read, with its reply
-      pub inv_read : (r : Reply) → e.reply ≡ None → group ≡ 0 → new p ≡ at.Idle → LeavesRest None p s t → t.holds p ≡ None → ((j : ℕ) → is_making j (Some r) ≡ false) → Takes (form_of opening) s t e.op r → KernelFacts opening t (set es k (told e r)) new
+      pub inv_read : (r : Reply) → e.reply ≡ None → group ≡ 0 → new p ≡ Phase.Idle → LeavesRest None p s t → t.holds p ≡ None → ((j : ℕ) → is_making j (Some r) ≡ false) → Takes (form_of opening) s t e.op r → KernelFacts opening t (set es k (told e r)) new
       inv_read r none zero_group now st free made files = told_with r none st made files
           (subst (λ (a : Phase). StandsAt n t (set es k (told e r)) p a) (sym now) (free, in_group s.log t.log p 0 st.groups (subst (λ (g : ℕ). InGroup s.log p g) zero_group here.0)))
 
@@ -244,7 +223,7 @@ at_once_still n op once = at_once_is_not_changing n op ∙ ap (λ (b : Bool). is
     both false = refl
 
 -- an operation is taken and answered at once: the store is as it was
-pub inv_at_once : (opening : Image) (s : View) (es : List Entry) (ats : ℕ → Phase) → KernelFacts opening s es ats → (p seq : ℕ) (op : Op) → ats p ≡ at.Idle → is_at_once (inode_count_of opening) op ≡ true
+pub inv_at_once : (opening : Image) (s : View) (es : List Entry) (ats : ℕ → Phase) → KernelFacts opening s es ats → (p seq : ℕ) (op : Op) → ats p ≡ Phase.Idle → is_at_once (inode_count_of opening) op ≡ true
     → KernelFacts opening s (es ++ (entry_of p seq op 0 (Some (at_once_reply op))) ∷ []) ats
 inv_at_once opening s es ats i p seq op stood once = record {
   valid = i.valid;
@@ -260,7 +239,7 @@ inv_at_once opening s es ats i p seq op stood once = record {
   };
   recovers = recovers_turned opening s.disk s.current s.log es i.recovers s.current s.log e (reads_same s.log s.log refl refl) (λ c. absurd (changing_not c)) marks_none;
   stands = λ q. ⊎_elim
-      (λ (same : q ≡ p). subst (λ (a : Phase). StandsAt n s (es ++ e ∷ []) q a) (sym (ap ats same ∙ stood)) (subst (λ (x : ℕ). StandsAt n s (es ++ e ∷ []) x at.Idle) (sym same) was))
+      (λ (same : q ≡ p). subst (λ (a : Phase). StandsAt n s (es ++ e ∷ []) q a) (sym (ap ats same ∙ stood)) (subst (λ (x : ℕ). StandsAt n s (es ++ e ∷ []) x Phase.Idle) (sym same) was))
       (λ (other : q ≢ p). stands_goes n s s es (es ++ e ∷ []) q (ats q) (record { size = refl; outstanding = refl; opened = refl; committed = refl; commit = refl; used = λ r. refl }) refl (λ k g f h. has_more es e q k g f (λ same. other (sym same)) h) (i.stands q))
       (cases_eq q p);
 }
@@ -271,7 +250,7 @@ inv_at_once opening s es ats i p seq op stood once = record {
     e : Entry
     e = entry_of p seq op 0 (Some (at_once_reply op))
 
-    was : StandsAt n s es p at.Idle
+    was : StandsAt n s es p Phase.Idle
     was = subst (λ (a : Phase). StandsAt n s es p a) stood (i.stands p)
 
     not_changing : is_changing n op ≡ false

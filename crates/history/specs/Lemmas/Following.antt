@@ -1,17 +1,8 @@
 -- Each event of a store keeps that the journal follows its files.
 use Rattle.std.proofs.Common.{◌≡◌, ◌≢◌, ℕ, false, cond, List, [], ◌∷◌, ◌++◌, length, set, Option, Some, None, refl, sym, ap, subst, ◌∙◌}
 use Rattle.std.specs.Prelude.{is_some, IfNone}
-use Rattle.std.proofs.lemmas.List.{append-nil}
-use Rattle.std.proofs.lemmas.List.Elements.{filter-append}
-use Rattle.model.specs.declared.types.operations.Entry.{Entry}
-use Rattle.model.specs.declared.types.image.Form.{Form}
-use Rattle.model.specs.declared.types.operations.Reply.{Reply}
-use Rattle.model.specs.Files.{Files}
-use Rattle.model.specs.Journal.{answered, is_making, replay}
+use Rattle.history.specs.Common.{all_apart, answered, append-nil, AreExclusive, Entry, Files, filter-append, Follows, Form, Held, is_making, IsEntry, IsLast, IsOpen, replay, replay_more, Reply, told, touches}
 use Rattle.model.specs.Operations.{after}
-use Rattle.model.specs.Lemmas.Runs.{replay_more}
-use Rattle.history.specs.Open.{Held, AreExclusive, touches, all_apart, IsOpen, IsEntry, IsLast, told}
-use Rattle.history.specs.Follows.{Follows}
 use Rattle.history.specs.Lemmas.Told.{told_replays}
 use Rattle.history.specs.Lemmas.Opens.{open_goes, open_left, open_more, open_told}
 

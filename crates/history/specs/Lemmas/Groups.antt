@@ -2,19 +2,7 @@
 use Rattle.std.proofs.Common.{◌≢◌, ◌⊎◌, inl, inr, zero, suc, ap, Option, List, [], ◌∷◌, replicate, get_or, suc, ◌*◌, ◌≡◌, ℕ, ◌+◌, ◌<◌, ◌≤◌, Bool, true, false, cond, eqb, length, refl, sym, ◌∙◌, subst, arith, ⊎_elim, Some, None}
 use Rattle.std.specs.Prelude.{IsSome, is_some}
 use Rattle.std.specs.List.{sum_by}
-use Rattle.std.proofs.lemmas.List.Folds.{sum_by-replicate}
-use Rattle.std.proofs.lemmas.Bool.{cases_lt, eqb-true, eqb-false, false≢true, eq-eqb, ne_eqb}
-use Rattle.std.proofs.lemmas.List.{get_or_past}
-use Rattle.wal.specs.declared.types.Commit.{Commit}
-use Rattle.wal.specs.declared.types.Commit.TheVariants as commit
-use Rattle.wal.specs.declared.types.Ended.TheVariants as ended_as
-use Rattle.wal.specs.declared.types.Part.TheVariants as part
-use Rattle.wal.specs.Joint.{stepped_at}
-use Rattle.wal.specs.Machine.{LogState, used_by, ended, end_answer, left_by, is_quiet, ten, IsLogAt, Counts}
-use Rattle.wal.specs.Lemmas.Log.{some_open, is_open, quiet_of}
-use Rattle.history.specs.Crash.{in_reads, AwaitsHeader}
-use Rattle.history.specs.Most.{most_kept}
-use Rattle.history.specs.Views.{InGroup, IsIn}
+use Rattle.history.specs.Common.{AwaitsHeader, cases_lt, Commit, Counts, end_answer, Ended, ended, eq-eqb, eqb-false, eqb-true, false≢true, get_or_past, in_reads, InGroup, is_open, is_quiet, IsIn, IsLogAt, left_by, LogState, most_kept, ne_eqb, Part, quiet_of, some_open, stepped_at, sum_by-replicate, ten, used_by}
 
 -- only the 32 processes have an operation open
 pid_of : (l : LogState) (k : Commit) (q u : ℕ) → IsLogAt k l → used_by l q ≡ Some u → q < 32
@@ -27,7 +15,7 @@ open_now l k q is used = let has = some_open (used_by l q) used in is_open l k q
 
 -- an operation that is open in the log is one of a group that isn't committed yet, and no commit is under way
 pub record IsOpenLog (l : LogState) : Type 0 where
-  pub quiet : l.commit ≡ commit.Quiet
+  pub quiet : l.commit ≡ Commit.Quiet
   pub some : 0 < l.outstanding
   pub later : l.committed + 1 ≡ l.opened
 
@@ -36,20 +24,19 @@ pub open_of : (l : LogState) (q : ℕ) → IsLogAt l.commit l → IsSome (used_b
 open_of l q is used =
     let some = open_now l l.commit q is used in
     let quiet = quiet_of l.commit l is some in
-    let known : IsLogAt commit.Quiet l = subst (λ (k : Commit). IsLogAt k l) quiet is in
-    record { quiet = quiet; some = some; later = omega (arith, known.counts, some) }
+    record { quiet = quiet; some = some; later = omega (arith, (subst (λ (k : Commit). IsLogAt k l) quiet is).counts, some) }
 
 -- while a header waits for its sync, one group more than are committed is opened
 pub one_waits : (l : LogState) → IsLogAt l.commit l → AwaitsHeader l → l.committed + 1 ≡ l.opened
-one_waits l is waits = let known : IsLogAt (commit.Syncing part.Header) l = subst (λ (k : Commit). IsLogAt k l) waits is in known.counts
+one_waits l is waits = let known : IsLogAt (Commit.Syncing Part.Header) l = subst (λ (k : Commit). IsLogAt k l) waits is in known.counts
 
 -- while no commit is under way, reads give the committed groups alone
-pub reads_quiet : (l : LogState) → l.commit ≡ commit.Quiet → in_reads l ≡ l.committed
+pub reads_quiet : (l : LogState) → l.commit ≡ Commit.Quiet → in_reads l ≡ l.committed
 reads_quiet l quiet = ap (λ (k : Commit). most_kept None k l.committed) quiet
 
 -- and no header waits for its sync
-pub none_waits : (l : LogState) → l.commit ≡ commit.Quiet → AwaitsHeader l → ⊥
-none_waits l quiet waits = let t : commit.Quiet ≡ commit.Syncing part.Header = sym quiet ∙ waits in absurd (cc t)
+pub none_waits : (l : LogState) → l.commit ≡ Commit.Quiet → AwaitsHeader l → ⊥
+none_waits l quiet waits = let t : Commit.Quiet ≡ Commit.Syncing Part.Header = sym quiet ∙ waits in absurd (cc t)
 
 -- its group is not committed
 pub in_later : (l : LogState) (q group : ℕ) → IsLogAt l.commit l → IsIn l q group → l.committed < group
@@ -70,14 +57,13 @@ pub group_unread : (l : LogState) (q g : ℕ) → IsLogAt l.commit l → InGroup
 group_unread l q zero log is some = omega (arith, some)
 group_unread l q (suc g) log is some =
     let o = open_of l q log is.0 in
-    let same = reads_quiet l o.quiet in
-    let later = o.later in let newest = is.1 in omega (arith, same, later, newest)
+    let later = o.later in let newest = is.1 in omega (arith, (reads_quiet l o.quiet), later, newest)
 
 -- what neither an end nor what may follow it changes, it keeps
-pub ended_keeps : {T : Type 0} (of : LogState → T) (l : LogState) (p : ℕ) → of (left_by l p) ≡ of l → of (record (left_by l p) { committed = l.opened }) ≡ of l → of (record (left_by l p) { commit = commit.Logging 0 }) ≡ of l → of (ended l p) ≡ of l
+pub ended_keeps : {T : Type 0} (of : LogState → T) (l : LogState) (p : ℕ) → of (left_by l p) ≡ of l → of (record (left_by l p) { committed = l.opened }) ≡ of l → of (record (left_by l p) { commit = Commit.Logging 0 }) ≡ of l → of (ended l p) ≡ of l
 ended_keeps of l p left committed commits = by_last (eqb l.outstanding 1) (eqb (length l.homes) 0)
   where
-    by_last : (s t : Bool) → of (cond s (cond t (record (left_by l p) { committed = l.opened }) (record (left_by l p) { commit = commit.Logging 0 })) (left_by l p)) ≡ of l
+    by_last : (s t : Bool) → of (cond s (cond t (record (left_by l p) { committed = l.opened }) (record (left_by l p) { commit = Commit.Logging 0 })) (left_by l p)) ≡ of l
     by_last true true = committed
     by_last true false = commits
     by_last false t = left
@@ -94,27 +80,27 @@ pub record SameOpen (l m : LogState) : Type 0 where
 
 -- each step of a commit is so
 pub stepped_same : (h : Bool) (k : Commit) (l : LogState) → SameOpen l (stepped_at h k l)
-stepped_same h commit.Quiet l = record { used = refl; opened = refl; outstanding = refl }
-stepped_same h (commit.Logging j) l = record { used = refl; opened = refl; outstanding = refl }
-stepped_same h commit.Heading l = record { used = refl; opened = refl; outstanding = refl }
-stepped_same h (commit.Homing j) l = record { used = refl; opened = refl; outstanding = refl }
-stepped_same h commit.Clearing l = record { used = refl; opened = refl; outstanding = refl }
-stepped_same h (commit.Syncing part.Log) l = record { used = refl; opened = refl; outstanding = refl }
-stepped_same h (commit.Syncing part.Header) l = record { used = refl; opened = refl; outstanding = refl }
-stepped_same h (commit.Syncing part.Homes) l = record { used = refl; opened = refl; outstanding = refl }
-stepped_same h (commit.Syncing part.Clear) l = record { used = refl; opened = refl; outstanding = refl }
+stepped_same h Commit.Quiet l = record { used = refl; opened = refl; outstanding = refl }
+stepped_same h (Commit.Logging j) l = record { used = refl; opened = refl; outstanding = refl }
+stepped_same h Commit.Heading l = record { used = refl; opened = refl; outstanding = refl }
+stepped_same h (Commit.Homing j) l = record { used = refl; opened = refl; outstanding = refl }
+stepped_same h Commit.Clearing l = record { used = refl; opened = refl; outstanding = refl }
+stepped_same h (Commit.Syncing Part.Log) l = record { used = refl; opened = refl; outstanding = refl }
+stepped_same h (Commit.Syncing Part.Header) l = record { used = refl; opened = refl; outstanding = refl }
+stepped_same h (Commit.Syncing Part.Homes) l = record { used = refl; opened = refl; outstanding = refl }
+stepped_same h (Commit.Syncing Part.Clear) l = record { used = refl; opened = refl; outstanding = refl }
 
 -- where no operation is open and no commit under way, all groups are committed
 pub all_committed : (l : LogState) → IsLogAt l.commit l → l.outstanding ≡ 0 → is_quiet l.commit ≡ true → l.committed ≡ l.opened
 all_committed l is none quiet = by_phase l.commit is.counts quiet
   where
     by_phase : (k : Commit) → Counts k l → is_quiet k ≡ true → l.committed ≡ l.opened
-    by_phase commit.Quiet counts quiet = omega (arith, counts, none)
-    by_phase (commit.Logging j) counts quiet = absurd (false≢true quiet)
-    by_phase commit.Heading counts quiet = absurd (false≢true quiet)
-    by_phase (commit.Homing j) counts quiet = absurd (false≢true quiet)
-    by_phase commit.Clearing counts quiet = absurd (false≢true quiet)
-    by_phase (commit.Syncing p) counts quiet = absurd (false≢true quiet)
+    by_phase Commit.Quiet counts quiet = omega (arith, counts, none)
+    by_phase (Commit.Logging j) counts quiet = absurd (false≢true quiet)
+    by_phase Commit.Heading counts quiet = absurd (false≢true quiet)
+    by_phase (Commit.Homing j) counts quiet = absurd (false≢true quiet)
+    by_phase Commit.Clearing counts quiet = absurd (false≢true quiet)
+    by_phase (Commit.Syncing p) counts quiet = absurd (false≢true quiet)
 
 -- where nobody has an operation open, none is counted
 none_used : (us : List (Option ℕ)) → ((q : ℕ) → is_some (get_or us q None) ≡ false) → us ≡ replicate (length us) None
@@ -126,29 +112,28 @@ none_used (Some u ∷ us) none = let t = none 0 in absurd (cc t)
 pub outstanding_none : (k : Commit) (l : LogState) → IsLogAt k l → ((q : ℕ) → is_some (used_by l q) ≡ false) → l.outstanding ≡ 0
 outstanding_none k l is none =
     let all : sum_by ten (replicate {A = Option ℕ} (length l.used) None) ≡ length l.used * 0 = sum_by-replicate ten (length l.used) None in
-    let sum : sum_by ten l.used ≡ length l.used * 0 = ap (sum_by ten) (none_used l.used none) ∙ all in
-    let o = is.open_ones in omega (arith, o, sum)
+    let o = is.open_ones in omega (arith, o, (ap (sum_by ten) (none_used l.used none) ∙ all))
 
 -- where an end answers that the group is to be committed, it was the last of a group with homes
-pub end_commits : (l : LogState) → end_answer l ≡ ended_as.Commit → (l.outstanding ≡ 1) × (length l.homes ≢ 0)
+pub end_commits : (l : LogState) → end_answer l ≡ Ended.Commit → (l.outstanding ≡ 1) × (length l.homes ≢ 0)
 end_commits l is = by_last (eqb l.outstanding 1) (eqb (length l.homes) 0) refl refl is
   where
-    by_last : (b c : Bool) → eqb l.outstanding 1 ≡ b → eqb (length l.homes) 0 ≡ c → cond b (cond c ended_as.Left ended_as.Commit) ended_as.Left ≡ ended_as.Commit → (l.outstanding ≡ 1) × (length l.homes ≢ 0)
+    by_last : (b c : Bool) → eqb l.outstanding 1 ≡ b → eqb (length l.homes) 0 ≡ c → cond b (cond c Ended.Left Ended.Commit) Ended.Left ≡ Ended.Commit → (l.outstanding ≡ 1) × (length l.homes ≢ 0)
     by_last false c first second is = absurd (cc is)
     by_last true true first second is = absurd (cc is)
     by_last true false first second is = (eqb-true l.outstanding 1 first, eqb-false (length l.homes) 0 second)
 
 -- a group that is closed isn't committed yet
-pub closed_uncommitted : (l : LogState) (p : ℕ) → end_answer l ≡ ended_as.Commit → (ended l p).committed ≡ l.committed
+pub closed_uncommitted : (l : LogState) (p : ℕ) → end_answer l ≡ Ended.Commit → (ended l p).committed ≡ l.committed
 closed_uncommitted l p is =
     let how = end_commits l is in
     rw (eq-eqb l.outstanding 1 how.0, ne_eqb (length l.homes) 0 how.1) refl
 
 -- where it answers that nothing is to be done, others go on, or the group had no homes
-pub end_leaves : (l : LogState) → end_answer l ≡ ended_as.Left → (l.outstanding ≢ 1) ⊎ ((l.outstanding ≡ 1) × (length l.homes ≡ 0))
+pub end_leaves : (l : LogState) → end_answer l ≡ Ended.Left → (l.outstanding ≢ 1) ⊎ ((l.outstanding ≡ 1) × (length l.homes ≡ 0))
 end_leaves l is = by_last (eqb l.outstanding 1) (eqb (length l.homes) 0) refl refl is
   where
-    by_last : (b c : Bool) → eqb l.outstanding 1 ≡ b → eqb (length l.homes) 0 ≡ c → cond b (cond c ended_as.Left ended_as.Commit) ended_as.Left ≡ ended_as.Left → (l.outstanding ≢ 1) ⊎ ((l.outstanding ≡ 1) × (length l.homes ≡ 0))
+    by_last : (b c : Bool) → eqb l.outstanding 1 ≡ b → eqb (length l.homes) 0 ≡ c → cond b (cond c Ended.Left Ended.Commit) Ended.Left ≡ Ended.Left → (l.outstanding ≢ 1) ⊎ ((l.outstanding ≡ 1) × (length l.homes ≡ 0))
     by_last false c first second is = inl (eqb-false l.outstanding 1 first)
     by_last true true first second is = inr (eqb-true l.outstanding 1 first, eqb-true (length l.homes) 0 second)
     by_last true false first second is = absurd (cc is)

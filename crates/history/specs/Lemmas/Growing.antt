@@ -1,22 +1,7 @@
 -- How a kernel's journal goes on.
 use Rattle.std.proofs.Common.{◌≡◌, ◌≢◌, inl, inr, ℕ, zero, suc, ◌≤◌, List, [], ◌∷◌, ◌++◌, set, refl, sym, ◌∙◌, ap, subst, arith, Option, Some, None}
-use Rattle.blocks.specs.Disk.{Image}
-use Rattle.model.specs.declared.types.operations.Entry.{Entry}
-use Rattle.model.specs.declared.types.operations.Reply.{Reply}
-use Rattle.model.specs.Crash.{Keeps, due_labels}
-use Rattle.model.specs.Files.{files_of}
-use Rattle.model.specs.Journal.{kept, replay}
-use Rattle.model.specs.Layout.{form_of, inode_count_of}
-use Rattle.model.specs.Log.{recovered}
-use Rattle.wal.specs.declared.types.DeviceFault.{DeviceFault}
-use Rattle.wal.specs.Volume.{VolumeState}
-use Rattle.history.specs.Crash.{in_reads}
-use Rattle.history.specs.Keeps.{KeepsBetween}
-use Rattle.history.specs.Most.{most_kept, most_of}
+use Rattle.history.specs.Common.{DeviceFault, due_labels, Entry, files_of, form_of, History, Image, in_reads, inode_count_of, IsEntry, Keeps, KeepsBetween, kept, most_kept, most_of, Phase, recovered, replay, Reply, told, VolumeState}
 use Rattle.history.specs.Lemmas.Stops.{most_more, kept_turned, kept_told}
-use Rattle.history.specs.Open.{IsEntry, told}
-use Rattle.ports.specs.History.{History}
-use Rattle.history.specs.declared.types.Phase.{Phase}
 use Rattle.history.specs.Histories.{IsHistory}
 use Rattle.history.specs.Grows.{Becomes, Extends, Grows, JournalGoes}
 use Rattle.history.specs.Lemmas.Histories.{history_more, history_told}
@@ -112,12 +97,6 @@ module _ (n p committed : ℕ) (es fs : List Entry) where
   goes_stays (inl same) c le = ap (λ (l : List Entry). kept n l c) same
   goes_stays (inr (inl more)) c le = ap (λ (l : List Entry). kept n l c) more.list ∙ kept_turned n c es more.entry (λ changing. let later = more.later changing in omega (arith, le, later))
   goes_stays (inr (inr tells)) c le = ap (λ (l : List Entry). kept n l c) tells.list ∙ kept_told n c es tells.place tells.entry tells.reply tells.at (λ changing. let later = tells.later changing in omega (arith, le, later))
-
-  -- another's history goes on as it was
-  pub goes_history : JournalGoes n p committed es fs → (q : ℕ) → q ≢ p → (a : Phase) (begun : ℕ) (h : History) → IsHistory es a begun q h → IsHistory fs a begun q h
-  goes_history (inl same) q other a begun h is = subst (λ (l : List Entry). IsHistory l a begun q h) (sym same) is
-  goes_history (inr (inl more)) q other a begun h is = subst (λ (l : List Entry). IsHistory l a begun q h) (sym more.list) (history_more es more.entry a begun q h (λ mine. other (sym mine ∙ more.mine)) is)
-  goes_history (inr (inr tells)) q other a begun h is = subst (λ (l : List Entry). IsHistory l a begun q h) (sym tells.list) (history_told es tells.place tells.entry tells.reply a begun q h tells.at (λ mine. other (sym mine ∙ tells.mine)) is)
 
   -- and another's entry stays where it is
   pub goes_entry : JournalGoes n p committed es fs → (k : ℕ) (e : Entry) → e.pid ≢ p → IsEntry es k e → IsEntry fs k e

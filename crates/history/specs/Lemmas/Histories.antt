@@ -1,18 +1,9 @@
 -- Each event keeps the histories of the processes.
 use Rattle.std.proofs.Common.{◌≡◌, ◌≢◌, ℕ, ◌+◌, List, [], ◌∷◌, ◌++◌, length, map, set, refl, sym, ◌∙◌, ap, subst, arith, Option, Some}
 use Rattle.std.specs.List.{range_with_len}
-use Rattle.std.proofs.lemmas.List.{append-nil, length-append, length-map, map-append, map-id}
 use Rattle.std.proofs.lemmas.List.FromFn.{map-range_with_len_more}
-use Rattle.model.specs.declared.types.operations.Answer.{Answer}
-use Rattle.model.specs.declared.types.operations.Entry.{Entry}
-use Rattle.model.specs.declared.types.operations.Op.{Op}
-use Rattle.model.specs.declared.types.operations.Reply.{Reply}
-use Rattle.model.specs.Journal.{own}
-use Rattle.ports.specs.History.{History, nothing_yet, takes, gives}
-use Rattle.history.specs.declared.types.Phase.{Phase}
-use Rattle.history.specs.declared.types.Phase.TheVariants as at
+use Rattle.history.specs.Common.{Answer, append-nil, Entry, gives, History, IsEntry, IsLast, length-append, length-map, map-append, map-id, nothing_yet, Op, own, Phase, Reply, takes, told}
 use Rattle.history.specs.Histories.{entry_answer, pending_at, Owes, Owed, IsHistory}
-use Rattle.history.specs.Open.{IsEntry, IsLast, told}
 use Rattle.history.specs.Lemmas.Lists.{own_mine, own_other, own_told_other, own_last, last_more, last_set, last_new, entry_more, entry_new, entry_set, entry_set_other, entry_same, snoc_same}
 
 -- an entry's operation
@@ -29,11 +20,11 @@ seq_of e = e.seq
 
 -- what another process does
 owed_by : (p : ℕ) (es fs given : List Entry) → own p fs ≡ own p es → ((k : ℕ) → Owes p k es given → Owes p k fs given) → (a : Phase) → Owed a p es given → Owed a p fs given
-owed_by p es fs given same goes at.Idle is = same ∙ is
-owed_by p es fs given same goes (at.BeforeTurn group op) is = same ∙ is
-owed_by p es fs given same goes (at.AfterTurn group k) is = goes k is
-owed_by p es fs given same goes (at.Ending group k) is = goes k is
-owed_by p es fs given same goes (at.Committing group k) is = goes k is
+owed_by p es fs given same goes Phase.Idle is = same ∙ is
+owed_by p es fs given same goes (Phase.BeforeTurn group op) is = same ∙ is
+owed_by p es fs given same goes (Phase.AfterTurn group k) is = goes k is
+owed_by p es fs given same goes (Phase.Ending group k) is = goes k is
+owed_by p es fs given same goes (Phase.Committing group k) is = goes k is
 
 history_other : (es fs : List Entry) (a : Phase) (begun p : ℕ) (h : History) → own p fs ≡ own p es → ((k : ℕ) (given : List Entry) → Owes p k es given → Owes p k fs given) → IsHistory es a begun p h → IsHistory fs a begun p h
 history_other es fs a begun p h same goes is = record {
@@ -62,7 +53,7 @@ history_told es j e r a begun q h there other is = history_other es (set es j (t
     }) is
 
 -- an operation is taken
-pub history_taken : (es : List Entry) (begun group p : ℕ) (op : Op) (h : History) → IsHistory es at.Idle begun p h → IsHistory es (at.BeforeTurn group op) (begun + 1) p (takes (Some op) h)
+pub history_taken : (es : List Entry) (begun group p : ℕ) (op : Op) (h : History) → IsHistory es Phase.Idle begun p h → IsHistory es (Phase.BeforeTurn group op) (begun + 1) p (takes (Some op) h)
 history_taken es begun group p op h is = record {
   answered = is.answered;
   owed = is.owed;
@@ -82,7 +73,7 @@ numbers_more es fs e more next numbered =
     ∙ sym (ap (λ (l : List Entry). range_with_len 1 (length l)) more ∙ ap (range_with_len 1) (length-append es (e ∷ [])) ∙ range_more 1 (length es))
 
 -- it has its turn
-pub history_turned : (es : List Entry) (begun group p : ℕ) (e : Entry) (h : History) → e.pid ≡ p → e.seq ≡ begun → IsHistory es (at.BeforeTurn group e.op) begun p h → IsHistory (es ++ e ∷ []) (at.AfterTurn group (length es)) begun p h
+pub history_turned : (es : List Entry) (begun group p : ℕ) (e : Entry) (h : History) → e.pid ≡ p → e.seq ≡ begun → IsHistory es (Phase.BeforeTurn group e.op) begun p h → IsHistory (es ++ e ∷ []) (Phase.AfterTurn group (length es)) begun p h
 history_turned es begun group p e h mine seq is =
     let more = own_mine p es e mine in
     record {
@@ -96,7 +87,7 @@ history_turned es begun group p e h mine seq is =
     }
 
 -- its reply comes
-pub history_replied : (es : List Entry) (k begun group p : ℕ) (e : Entry) (r : Reply) (h : History) → IsEntry es k e → IsHistory es (at.AfterTurn group k) begun p h → IsHistory (set es k (told e r)) (at.AfterTurn group k) begun p h
+pub history_replied : (es : List Entry) (k begun group p : ℕ) (e : Entry) (r : Reply) (h : History) → IsEntry es k e → IsHistory es (Phase.AfterTurn group k) begun p h → IsHistory (set es k (told e r)) (Phase.AfterTurn group k) begun p h
 history_replied es k begun group p e r h there is =
     let o = is.owed in
     let same : o.entry ≡ e = entry_same es k o.entry e o.at there in
@@ -118,20 +109,20 @@ history_replied es k begun group p e r h there is =
     }
 
 -- it goes on to its end, and to its group's commit, and the same answer is owed
-pub history_ending : (es : List Entry) (k begun group p : ℕ) (h : History) → IsHistory es (at.AfterTurn group k) begun p h → IsHistory es (at.Ending group k) begun p h
+pub history_ending : (es : List Entry) (k begun group p : ℕ) (h : History) → IsHistory es (Phase.AfterTurn group k) begun p h → IsHistory es (Phase.Ending group k) begun p h
 history_ending es k begun group p h is = record { answered = is.answered; owed = is.owed; taken = is.taken; given = is.given; count = is.count; numbered = is.numbered }
 
 -- it goes on to its group's commit
-pub history_committing : (es : List Entry) (k begun group p : ℕ) (h : History) → IsHistory es (at.Ending group k) begun p h → IsHistory es (at.Committing group k) begun p h
+pub history_committing : (es : List Entry) (k begun group p : ℕ) (h : History) → IsHistory es (Phase.Ending group k) begun p h → IsHistory es (Phase.Committing group k) begun p h
 history_committing es k begun group p h is = record { answered = is.answered; owed = is.owed; taken = is.taken; given = is.given; count = is.count; numbered = is.numbered }
 
 -- it has its turn, and its task is over with it
-pub history_turned_over : (es : List Entry) (begun group p : ℕ) (e : Entry) (h : History) → e.pid ≡ p → e.seq ≡ begun → IsHistory es (at.BeforeTurn group e.op) begun p h → IsHistory (es ++ e ∷ []) (at.Ending group (length es)) begun p h
+pub history_turned_over : (es : List Entry) (begun group p : ℕ) (e : Entry) (h : History) → e.pid ≡ p → e.seq ≡ begun → IsHistory es (Phase.BeforeTurn group e.op) begun p h → IsHistory (es ++ e ∷ []) (Phase.Ending group (length es)) begun p h
 history_turned_over es begun group p e h mine seq is = history_ending (es ++ e ∷ []) (length es) begun group p h (history_turned es begun group p e h mine seq is)
 
 -- it is answered, which it can be only with a reply; the place is one where an answer is owed
 pub history_answered : (es : List Entry) (k begun p : ℕ) (a : Phase) (e : Entry) (answer : Answer) (h : History) → Owed a p es ≡ (λ (given : List Entry). Owes p k es given) → pending_at a ≡ [] → IsEntry es k e → entry_answer e ≡ Some answer
-    → IsHistory es a begun p h → IsHistory es at.Idle begun p (gives answer h)
+    → IsHistory es a begun p h → IsHistory es Phase.Idle begun p (gives answer h)
 history_answered es k begun p a e answer h shape none there tells is =
     let o : Owes p k es is.answered = subst (λ (P : List Entry → Type 0). P is.answered) shape is.owed in
     let same : o.entry ≡ e = entry_same es k o.entry e o.at there in
@@ -146,12 +137,12 @@ history_answered es k begun p a e answer h shape none there tells is =
     }
 
 -- an operation is taken, and answered at once
-pub history_at_once : (es : List Entry) (begun p : ℕ) (e : Entry) (answer : Answer) (h : History) → e.pid ≡ p → e.seq ≡ begun + 1 → entry_answer e ≡ Some answer → IsHistory es at.Idle begun p h
-    → IsHistory (es ++ e ∷ []) at.Idle (begun + 1) p (gives answer (takes (Some e.op) h))
+pub history_at_once : (es : List Entry) (begun p : ℕ) (e : Entry) (answer : Answer) (h : History) → e.pid ≡ p → e.seq ≡ begun + 1 → entry_answer e ≡ Some answer → IsHistory es Phase.Idle begun p h
+    → IsHistory (es ++ e ∷ []) Phase.Idle (begun + 1) p (gives answer (takes (Some e.op) h))
 history_at_once es begun p e answer h mine seq tells is =
-    history_answered (es ++ e ∷ []) (length es) (begun + 1) p (at.AfterTurn 0 (length es)) e answer (takes (Some e.op) h) refl refl (entry_new es e) tells
+    history_answered (es ++ e ∷ []) (length es) (begun + 1) p (Phase.AfterTurn 0 (length es)) e answer (takes (Some e.op) h) refl refl (entry_new es e) tells
     (history_turned es (begun + 1) 0 p e (takes (Some e.op) h) mine seq (history_taken es begun 0 p e.op h is))
 
 -- before anything was taken
-pub history_new : (p : ℕ) → IsHistory [] at.Idle 0 p nothing_yet
+pub history_new : (p : ℕ) → IsHistory [] Phase.Idle 0 p nothing_yet
 history_new p = record { answered = []; owed = refl; taken = refl; given = refl; count = refl; numbered = refl }

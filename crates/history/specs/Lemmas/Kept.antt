@@ -1,15 +1,8 @@
 -- Which entries of a journal are kept, and what replaying one more gives.
 use Rattle.std.proofs.Common.{◌≡◌, ℕ, ◌<◌, ◌≤◌, Bool, true, false, cond, ◌&&◌, leb, eqb, List, [], ◌∷◌, ◌++◌, refl, sym, ◌∙◌, ap, arith}
 use Rattle.std.specs.List.{list_all}
-use Rattle.std.proofs.lemmas.Bool.{leb-true, le-leb, lt-leb}
-use Rattle.std.proofs.lemmas.List.Elements.{filter-append}
-use Rattle.std.proofs.lemmas.List.Folds.{list_all-append}
-use Rattle.model.specs.declared.types.operations.Entry.{Entry}
-use Rattle.model.specs.Journal.{own, kept, is_changing}
-use Rattle.model.specs.Lemmas.Log.{both_of}
-use Rattle.history.specs.Keeps.{AreUpTo}
 use mathlib.Core.List.{IsPrefix}
-use Rattle.std.proofs.lemmas.List.{append-nil}
+use Rattle.history.specs.Common.{append-nil, AreUpTo, both_of, Entry, filter-append, is_changing, kept, le-leb, leb-true, list_all-append, lt-leb, own}
 
 -- more entries at the end
 pub kept-append : (n k : ℕ) (es fs : List Entry) → kept n (es ++ fs) k ≡ kept n es k ++ kept n fs k
@@ -20,8 +13,7 @@ pub kept_up_to : (n a b : ℕ) (es : List Entry) → AreUpTo a es → a ≤ b �
 kept_up_to n a b [] all le = refl
 kept_up_to n a b (e ∷ es) all le =
     let here = both_of (leb e.group a) (list_all (λ (f : Entry). leb f.group a) es) all in
-    let within = leb-true e.group a here.0 in
-    let same : leb e.group b ≡ leb e.group a = le-leb e.group b (omega (arith, within, le)) ∙ sym here.0 in
+    let same : leb e.group b ≡ leb e.group a = le-leb e.group b (omega (arith, (leb-true e.group a here.0), le)) ∙ sym here.0 in
     ap (λ (t : Bool). cond (is_changing n e.op && t) (e ∷ kept n es b) (kept n es b)) same
     ∙ ap (λ (l : List Entry). cond (is_changing n e.op && leb e.group a) (e ∷ l) l) (kept_up_to n a b es here.1 le)
 
@@ -30,8 +22,7 @@ pub up_to_later : (a b : ℕ) (es : List Entry) → AreUpTo a es → a ≤ b →
 up_to_later a b [] all le = refl
 up_to_later a b (e ∷ es) all le =
     let here = both_of (leb e.group a) (list_all (λ (f : Entry). leb f.group a) es) all in
-    let within = leb-true e.group a here.0 in
-    rw (le-leb e.group b (omega (arith, within, le))) (up_to_later a b es here.1 le)
+    rw (le-leb e.group b (omega (arith, (leb-true e.group a here.0), le))) (up_to_later a b es here.1 le)
 
 -- an entry of one of them
 pub up_to_one_more : (a : ℕ) (es : List Entry) (e : Entry) → AreUpTo a es → e.group ≤ a → AreUpTo a (es ++ e ∷ [])

@@ -3,39 +3,11 @@ use Rattle.std.proofs.Common.{◌≡◌, ℕ, Bool, true, false, cond, eqb, leb,
 use Rattle.std.specs.Prelude.{IsSome, is_some, All}
 use Rattle.std.specs.List.{filter, list_all}
 use mathlib.Core.List.{IsPrefix}
-use Rattle.std.proofs.lemmas.List.{append_assoc, map-append}
-use Rattle.std.proofs.lemmas.List.Elements.{filter-append, All-nil, All-cons}
-use Rattle.blocks.specs.Disk.{Image, block_at}
-use Rattle.model.specs.declared.types.image.Form.{Form}
-use Rattle.model.specs.declared.types.operations.Entry.{Entry}
-use Rattle.model.specs.declared.types.operations.Op.{Op}
-use Rattle.model.specs.declared.types.operations.Reply.{Reply}
-use Rattle.model.specs.Files.{Files, files_of}
-use Rattle.model.specs.Journal.{answered, own, kept, is_changing, replay, after_answer}
-use Rattle.model.specs.Layout.{form_of, inode_count_of, super_in}
-use Rattle.model.specs.Log.{is_lawful_log, cleared}
-use Rattle.model.specs.Agreement.{Agrees}
+use Rattle.history.specs.Common.{after_answer, Agrees, All-cons, All-nil, and_then_some, answered, append_assoc, AreOpen, AreUpTo, block_at, both_of, cleared, CrashKeeps, DeviceFault, Entry, eqb-true, FailsAt, Files, files_of, filter-append, Form, form_of, HasFilesAfter, HasItsGroup, Held, held_by, History, Image, inode_count_of, is_changing, is_late, is_lawful_log, IsEntry, IsJournal, IsValidView, KeepsNow, kept, KernelFacts, LastingFacts, LogState, map-append, most_of, Op, own, Phase, place_at, replay, Reply, StandsAt, super_in, Survives, used_by, View, VolumeState}
 use Rattle.model.specs.Lemmas.Frames.{form_agree}
-use Rattle.model.specs.Lemmas.Log.{both_of}
-use Rattle.std.proofs.lemmas.Bool.{eqb-true}
-use Rattle.model.specs.Lemmas.Runs.{and_then_some}
-use Rattle.ports.specs.History.{History}
-use Rattle.wal.specs.Joint.{place_at}
-use Rattle.wal.specs.Kept.{CrashKeeps}
-use Rattle.wal.specs.declared.types.DeviceFault.{DeviceFault}
 use Rattle.wal.specs.Floats.{Survives as SurvivesAt}
-use Rattle.wal.specs.Machine.{LogState, used_by, is_writing}
-use Rattle.wal.specs.Step.{FailsAt}
-use Rattle.wal.specs.Volume.{VolumeState}
-use Rattle.history.specs.declared.types.Phase.{Phase}
-use Rattle.history.specs.declared.types.Phase.TheVariants as at
-use Rattle.history.specs.Crash.{Survives}
-use Rattle.history.specs.Follows.{IsJournal}
+use Rattle.wal.specs.Machine.{is_writing}
 use Rattle.history.specs.Histories.{IsHistory, pending_at}
-use Rattle.history.specs.Keeps.{HasItsGroup, HasFilesAfter, KeepsNow, AreUpTo}
-use Rattle.history.specs.Most.{most_of}
-use Rattle.history.specs.Open.{Held, held_by, is_late, AreOpen, IsEntry}
-use Rattle.history.specs.Views.{View, StandsAt, IsValidView, KernelFacts, LastingFacts}
 use Rattle.history.specs.Lemmas.Following.{follows_moved}
 use Rattle.history.specs.Lemmas.Groups.{outstanding_none}
 use Rattle.history.specs.Lemmas.Kept.{own_beginning}
@@ -55,12 +27,12 @@ replayed_told form start files (e ∷ es) run =
     by_reply (Some r) h = refl
 
 -- who holds something is behind its turn
-pub holder_behind : (n : ℕ) (s : View) (es : List Entry) (q : ℕ) (h : Held) (a : Phase) → s.holds q ≡ Some h → StandsAt n s es q a → (g : ℕ) × (k : ℕ) × (a ≡ at.AfterTurn g k)
-holder_behind n s es q h at.Idle held is = let t = sym is.0 ∙ held in absurd (cc t)
-holder_behind n s es q h (at.BeforeTurn group op) held is = let t = sym is.0 ∙ held in absurd (cc t)
-holder_behind n s es q h (at.AfterTurn group k) held is = (group, k, refl)
-holder_behind n s es q h (at.Ending group k) held is = let t = sym is.0 ∙ held in absurd (cc t)
-holder_behind n s es q h (at.Committing group k) held is = let t = sym is.0 ∙ held in absurd (cc t)
+pub holder_behind : (n : ℕ) (s : View) (es : List Entry) (q : ℕ) (h : Held) (a : Phase) → s.holds q ≡ Some h → StandsAt n s es q a → (g : ℕ) × (k : ℕ) × (a ≡ Phase.AfterTurn g k)
+holder_behind n s es q h Phase.Idle held is = let t = sym is.0 ∙ held in absurd (cc t)
+holder_behind n s es q h (Phase.BeforeTurn group op) held is = let t = sym is.0 ∙ held in absurd (cc t)
+holder_behind n s es q h (Phase.AfterTurn group k) held is = (group, k, refl)
+holder_behind n s es q h (Phase.Ending group k) held is = let t = sym is.0 ∙ held in absurd (cc t)
+holder_behind n s es q h (Phase.Committing group k) held is = let t = sym is.0 ∙ held in absurd (cc t)
 
 -- where nobody holds anything, each entry has its reply
 pub all_answered : (n : ℕ) (holds : ℕ → Option Held) (es : List Entry) → AreOpen n holds es → ((q : ℕ) → holds q ≡ None) → answered es ≡ es
@@ -77,18 +49,6 @@ module _ (opening : Image) (opened : ℕ) (holds : ℕ → Option Held) (es : Li
   pub lasting_run : (f : Files) × (replay (form_of opening) (files_of opening) (answered es) ≡ Some f)
   lasting_run = (i.follows.files, i.follows.run)
 
-  -- and each other one is a write or a read that is under way, behind its turn
-  pub lasting_open : (k : ℕ) (e : Entry) → IsEntry es k e → e.reply ≡ None → (is_late e.op ≡ true) × ((g : ℕ) × (j : ℕ) × (ats e.pid ≡ at.AfterTurn g j))
-  lasting_open k e at none = let o = open_entry (length (files_of opening)) holds es k e i.follows.are at none in (o.0, i.behind e.pid (held_by e.op) o.1)
-
-  -- whoever tells what is held and where the processes stand
-  pub lasting_same : (more : ℕ → Option Held) (new : ℕ → Phase) → ((q : ℕ) → more q ≡ holds q) → ((q : ℕ) → new q ≡ ats q) → LastingFacts opening opened more es new
-  lasting_same more new same stood = record {
-    journal = i.journal;
-    follows = follows_moved (form_of opening) (files_of opening) holds (λ m. Unit {0}) es i.follows more (λ m. Unit {0}) (λ q h held. same q ∙ held) (λ m fit. tt);
-    behind = λ q h held. let b = i.behind q h (sym (same q) ∙ held) in (b.0, b.1, stood q ∙ b.2);
-  }
-
 module _ (opening : Image) (s : View) (es : List Entry) (ats : ℕ → Phase) (i : KernelFacts opening s es ats) where
   -- after any fault the journal goes on to be a run, and its entries without a reply stay under way
   pub known_halted : LastingFacts opening s.log.opened s.holds es ats
@@ -102,38 +62,23 @@ module _ (opening : Image) (s : View) (es : List Entry) (ats : ℕ → Phase) (i
   pub known_run : (f : Files) × (replay (form_of opening) (files_of opening) (answered es) ≡ Some f)
   known_run = lasting_run opening s.log.opened s.holds es ats known_halted
 
-  -- and each other one is under way
-  pub known_open : (k : ℕ) (e : Entry) → IsEntry es k e → e.reply ≡ None → (is_late e.op ≡ true) × ((g : ℕ) × (j : ℕ) × (ats e.pid ≡ at.AfterTurn g j))
-  known_open = lasting_open opening s.log.opened s.holds es ats known_halted
-
   -- size, form and count of numbers are the opening's
   pub known_size : length s.current ≡ length opening
   known_size = i.recovers.marks.size
-
-  -- its form is the opening's
-  pub known_form : form_of s.current ≡ form_of opening
-  known_form = form_agree (λ b. eqb b 1) opening s.current super_agrees refl
-    where
-      super_agrees : Agrees (λ b. eqb b 1) opening s.current
-      super_agrees b one = let same : b ≡ 1 = eqb-true b 1 one in ap (block_at s.current) same ∙ i.recovers.marks.untouched.super ∙ ap (block_at opening) (sym same)
-
-  -- and its count of numbers
-  pub known_count : inode_count_of s.current ≡ inode_count_of opening
-  known_count = ap (λ (bytes : List ℕ). (super_in bytes).ninodes) i.recovers.marks.untouched.super
 
   -- while no changing operation is under way, the current image has the files after the changing entries
   pub known_current : s.log.outstanding ≡ 0 → HasFilesAfter opening (kept (inode_count_of opening) es s.log.opened) (cleared s.current)
   known_current none = quiet_files opening s.current s.log s.holds s.fits es i.follows i.journal.groups i.recovers.marks i.valid.store i.valid.log none
 
   -- while none is, it has those after all of the journal
-  pub idle_used : (n : ℕ) (q : ℕ) (a : Phase) → a ≡ at.Idle → StandsAt n s es q a → is_some (used_by s.log q) ≡ false
-  idle_used n q a is stands = let t : StandsAt n s es q at.Idle = subst (λ (b : Phase). StandsAt n s es q b) is stands in t.1
+  pub idle_used : (n : ℕ) (q : ℕ) (a : Phase) → a ≡ Phase.Idle → StandsAt n s es q a → is_some (used_by s.log q) ≡ false
+  idle_used n q a is stands = let t : StandsAt n s es q Phase.Idle = subst (λ (b : Phase). StandsAt n s es q b) is stands in t.1
 
-  idle_holds : (n : ℕ) (q : ℕ) (a : Phase) → a ≡ at.Idle → StandsAt n s es q a → s.holds q ≡ None
-  idle_holds n q a is stands = let t : StandsAt n s es q at.Idle = subst (λ (b : Phase). StandsAt n s es q b) is stands in t.0
+  idle_holds : (n : ℕ) (q : ℕ) (a : Phase) → a ≡ Phase.Idle → StandsAt n s es q a → s.holds q ≡ None
+  idle_holds n q a is stands = let t : StandsAt n s es q Phase.Idle = subst (λ (b : Phase). StandsAt n s es q b) is stands in t.0
 
   -- while nothing is under way, the current image has the files after all of the journal
-  pub known_files : ((q : ℕ) → ats q ≡ at.Idle) → replay (form_of opening) (files_of opening) es ≡ Some (files_of (cleared s.current))
+  pub known_files : ((q : ℕ) → ats q ≡ Phase.Idle) → replay (form_of opening) (files_of opening) es ≡ Some (files_of (cleared s.current))
   known_files idle =
       let none : s.log.outstanding ≡ 0 = outstanding_none s.log.commit s.log i.valid.log (λ q. idle_used (inode_count_of opening) q (ats q) (idle q) (i.stands q)) in
       ap (replay (form_of opening) (files_of opening)) (sym (all_answered (length (files_of opening)) s.holds es i.follows.are (λ q. idle_holds (inode_count_of opening) q (ats q) (idle q) (i.stands q))))
@@ -175,7 +120,7 @@ kept_of_taken n k p c begun es a h j is =
     )
 
 -- a kernel that was opened
-pub inv_new : (opening : Image) (s : View) → IsValidView (inode_count_of opening) s → ((q : ℕ) → s.holds q ≡ None) → ((q : ℕ) → is_some (used_by s.log q) ≡ false) → s.fits (files_of opening) → Survives opening s.disk s.current s.log [] → KernelFacts opening s [] (λ q. at.Idle)
+pub inv_new : (opening : Image) (s : View) → IsValidView (inode_count_of opening) s → ((q : ℕ) → s.holds q ≡ None) → ((q : ℕ) → is_some (used_by s.log q) ≡ false) → s.fits (files_of opening) → Survives opening s.disk s.current s.log [] → KernelFacts opening s [] (λ q. Phase.Idle)
 inv_new opening s v none unused fit r = record {
   valid = v;
   journal = record { groups = refl; rising = tt; changing = All-nil (HasItsGroup (inode_count_of opening)) };

@@ -1,24 +1,13 @@
 -- What a stop leaves in the time of a step, and of a run of steps, keeps what it has to.
 use Rattle.std.proofs.Common.{◌≡◌, ◌∙◌, ◌≤◌, inl, inr, ⊎_elim, ℕ, true, List, sym, ap, subst, arith, Some, None}
 use Rattle.std.specs.Prelude.{IsTrue, ◌≢◌}
-use Rattle.blocks.specs.Disk.{Image, Elapses, AddsNone, LeavesOnly}
+use Rattle.history.specs.Common.{AddsNone, due_labels, Elapses, Entry, files_of, form_of, Image, inode_count_of, is_lawful_log, is_number, IsSound, IsUntouched, Keeps, KeepsBetween, KeepsNow, kept, labels_of, LeavesOnly, most_of, recovered, recovers_once, replay, verdict_sound, VolumeState}
 use Rattle.blocks.specs.Lemmas.Moments.{started, goes_on, joined}
 use Rattle.blocks.specs.declared.disk.Disk.{Ghosts}
-use Rattle.model.specs.declared.types.operations.Entry.{Entry}
-use Rattle.model.specs.Crash.{IsUntouched, Keeps, labels_of, due_labels}
-use Rattle.model.specs.Files.{files_of}
-use Rattle.model.specs.Journal.{kept, replay, is_number}
-use Rattle.model.specs.Layout.{form_of, inode_of, inode_count_of}
-use Rattle.model.specs.Lemmas.Recovery.{recovers_once}
-use Rattle.model.specs.Lemmas.Soundness.{verdict_sound}
-use Rattle.model.specs.Log.{is_lawful_log, recovered}
-use Rattle.model.specs.Soundness.{IsSound}
+use Rattle.model.specs.Layout.{inode_of}
 use Rattle.model.specs.Verdict.{verdict}
 use Rattle.wal.specs.Recovery.{LeavesIfCalm, RecoversAs}
-use Rattle.wal.specs.Volume.{VolumeState}
 use Rattle.history.specs.Grows.{Grows}
-use Rattle.history.specs.Keeps.{KeepsBetween, KeepsNow}
-use Rattle.history.specs.Most.{most_of}
 use Rattle.history.specs.Lemmas.Growing.{keeps_later}
 
 module _ {D : Type 0} (opening : Image) (v u : VolumeState D) (es fs : List Entry) (grows : Grows (inode_count_of opening) v es u fs) where

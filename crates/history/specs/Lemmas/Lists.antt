@@ -1,13 +1,7 @@
 -- Lists one of whose elements is another.
 use Rattle.std.proofs.Common.{◌≡◌, ◌≢◌, ℕ, zero, suc, Bool, true, false, cond, ◌&&◌, eqb, List, [], ◌∷◌, ◌++◌, length, set, refl, sym, ap, ◌∙◌, arith}
 use Rattle.std.specs.List.{filter, list_all}
-use Rattle.std.proofs.lemmas.Bool.{eq-eqb, ne_eqb}
-use Rattle.std.proofs.lemmas.List.{append-nil}
-use Rattle.std.proofs.lemmas.List.Elements.{filter-append}
-use Rattle.model.specs.declared.types.operations.Entry.{Entry}
-use Rattle.model.specs.declared.types.operations.Reply.{Reply}
-use Rattle.model.specs.Journal.{own}
-use Rattle.history.specs.Open.{IsEntry, IsLast, told}
+use Rattle.history.specs.Common.{append-nil, Entry, eq-eqb, filter-append, IsEntry, IsLast, ne_eqb, own, Reply, told}
 
 -- an entry behind the first
 pub entry_next : (d : Entry) (es : List Entry) (k : ℕ) (e : Entry) → IsEntry (d ∷ es) (suc k) e → IsEntry es k e

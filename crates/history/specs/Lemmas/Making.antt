@@ -2,24 +2,8 @@
 use Rattle.std.proofs.Common.{◌≡◌, ℕ, zero, suc, Bool, true, false, not, cond, ◌&&◌, ◌||◌, leb, List, [], ◌∷◌, ◌++◌, set, Option, Some, None, refl, sym, ap, ◌∙◌}
 use Rattle.std.specs.Prelude.{is_some}
 use Rattle.std.specs.List.{list_all, list_any}
-use Rattle.std.proofs.lemmas.List.Folds.{list_any-append}
-use Rattle.blocks.specs.Disk.{Image}
-use Rattle.model.specs.declared.types.operations.Entry.{Entry}
-use Rattle.model.specs.declared.types.image.File.{File}
-use Rattle.model.specs.declared.types.image.Form.{Form}
-use Rattle.model.specs.declared.types.operations.Op.{Op}
-use Rattle.model.specs.declared.types.operations.Op.TheVariants.{Create, Write, Read, Trunc, Remove, Stat}
-use Rattle.model.specs.declared.types.operations.Reply.{Reply}
-use Rattle.model.specs.declared.types.operations.Reply.TheVariants.{Made, NoInode, Wrote, Bytes, Done, StatOf, NoFile, BadOffset, TooBig, TooLong, BadType}
-use Rattle.model.specs.Crash.{labels_of, due_labels}
-use Rattle.model.specs.Files.{Files, file_in, files_of}
-use Rattle.model.specs.Journal.{answered, kept, is_changing, is_making, replay, after_answer}
-use Rattle.model.specs.Layout.{form_of, inode_count_of}
-use Rattle.model.specs.Operations.{after, after_refusal, after_at, refusal_of, is_kind, is_refusal, where_true}
-use Rattle.model.specs.Lemmas.Log.{both_of}
-use Rattle.model.specs.Lemmas.Runs.{and_then_some}
-use Rattle.history.specs.Keeps.{AreUpTo}
-use Rattle.history.specs.Open.{IsEntry, told}
+use Rattle.history.specs.Common.{after_answer, after_at, after_refusal, and_then_some, answered, AreUpTo, BadOffset, BadType, both_of, Bytes, Create, Done, due_labels, Entry, File, file_in, Files, files_of, Form, form_of, Image, inode_count_of, is_changing, is_kind, is_making, is_refusal, IsEntry, kept, labels_of, list_any-append, Made, NoFile, NoInode, Op, Read, refusal_of, Remove, replay, Reply, Stat, StatOf, told, TooBig, TooLong, Trunc, where_true, Write, Wrote}
+use Rattle.model.specs.Operations.{after}
 use Rattle.history.specs.Lemmas.Lists.{entry_next}
 
 -- only a creation is answered by a number

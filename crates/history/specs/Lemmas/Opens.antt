@@ -1,14 +1,7 @@
 -- The entries that are still to get their reply, at each event.
 use Rattle.std.proofs.Common.{◌≡◌, ◌≢◌, ℕ, zero, suc, Bool, true, false, not, cond, eqb, List, [], ◌∷◌, ◌++◌, set, Option, Some, None, refl, sym, ap, subst, ◌∙◌, arith}
 use Rattle.std.specs.Prelude.{is_some, IfNone}
-use Rattle.std.proofs.lemmas.Bool.{eq-eqb, ne_eqb}
-use Rattle.std.proofs.lemmas.List.Elements.{filter-append}
-use Rattle.std.proofs.lemmas.List.Folds.{list_all-append}
-use Rattle.model.specs.declared.types.operations.Entry.{Entry}
-use Rattle.model.specs.declared.types.operations.Reply.{Reply}
-use Rattle.model.specs.Journal.{own, answered, is_making}
-use Rattle.model.specs.Lemmas.Log.{both_of}
-use Rattle.history.specs.Open.{is_late, number_of, Held, held_by, AreExclusive, touches, all_apart, IsOpen, AreOpen, IsEntry, IsLast, told}
+use Rattle.history.specs.Common.{all_apart, answered, AreExclusive, AreOpen, both_of, Entry, eq-eqb, filter-append, Held, held_by, is_late, is_making, IsEntry, IsLast, IsOpen, list_all-append, ne_eqb, number_of, own, Reply, told, touches}
 use Rattle.history.specs.Lemmas.Lists.{entry_next, own_more, own_none, own_told_other, last_some}
 
 -- what an open entry has, which comes first

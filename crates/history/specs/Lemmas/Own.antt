@@ -2,11 +2,7 @@
 use Rattle.std.proofs.Common.{◌≡◌, Bool, ℕ, List, ◌++◌, sym, ◌∙◌, ap}
 use mathlib.Core.List.{IsPrefix}
 use Rattle.std.specs.List.{filter}
-use Rattle.std.proofs.lemmas.List.{append_assoc}
-use Rattle.std.proofs.lemmas.List.Elements.{filter-append}
-use Rattle.model.specs.declared.types.operations.Entry.{Entry}
-use Rattle.model.specs.declared.types.operations.Op.{Op}
-use Rattle.model.specs.Journal.{is_changing}
+use Rattle.history.specs.Common.{append_assoc, Entry, filter-append, is_changing, Op}
 use Rattle.history.specs.Own.{KeepsFirst}
 
 longer : (test : Op → Bool) (kept taken rest ops : List Op) → IsPrefix kept (filter test taken) → ops ≡ taken ++ rest → IsPrefix kept (filter test ops)

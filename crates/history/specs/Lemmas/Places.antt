@@ -1,11 +1,6 @@
 -- The processes after one of them went elsewhere.
 use Rattle.std.proofs.Common.{◌≡◌, ◌≢◌, ℕ, ◌<◌, true, List, length, get_or, set, refl, ◌∙◌, ap, length-set}
-use Rattle.std.proofs.lemmas.Bool.{false≢true}
-use Rattle.std.proofs.lemmas.List.{get_or-set_same, get_or-set_other}
-use Rattle.model.specs.declared.types.operations.Op.{Op}
-use Rattle.history.specs.declared.types.Phase.{Phase}
-use Rattle.history.specs.declared.types.Phase.TheVariants as at
-use Rattle.history.specs.declared.types.Process.{Process}
+use Rattle.history.specs.Common.{false≢true, get_or-set_other, get_or-set_same, Op, Phase, Process}
 use Rattle.history.specs.Alone.{is_committing_at}
 use Rattle.history.specs.Processes.{World, process, idle, is_before}
 use Rattle.history.specs.Processes.{is_behind, is_ending}
@@ -23,30 +18,30 @@ module _ (w v : World) (p : ℕ) (t : Process) (is : v.processes ≡ set w.proce
 
 -- an operation that has not had its turn, one that goes on behind it, one that ends next, and one that
 -- commits
-pub before_there : (a : Phase) → is_before a ≡ true → (group : ℕ) × (op : Op) × (a ≡ at.BeforeTurn group op)
-before_there at.Idle is = absurd (false≢true is)
-before_there (at.BeforeTurn group op) is = (group, op, refl)
-before_there (at.AfterTurn group k) is = absurd (false≢true is)
-before_there (at.Ending group k) is = absurd (false≢true is)
-before_there (at.Committing group k) is = absurd (false≢true is)
+pub before_there : (a : Phase) → is_before a ≡ true → (group : ℕ) × (op : Op) × (a ≡ Phase.BeforeTurn group op)
+before_there Phase.Idle is = absurd (false≢true is)
+before_there (Phase.BeforeTurn group op) is = (group, op, refl)
+before_there (Phase.AfterTurn group k) is = absurd (false≢true is)
+before_there (Phase.Ending group k) is = absurd (false≢true is)
+before_there (Phase.Committing group k) is = absurd (false≢true is)
 
-pub behind_there : (a : Phase) → is_behind a ≡ true → (group : ℕ) × (k : ℕ) × (a ≡ at.AfterTurn group k)
-behind_there at.Idle is = absurd (false≢true is)
-behind_there (at.BeforeTurn group op) is = absurd (false≢true is)
-behind_there (at.AfterTurn group k) is = (group, k, refl)
-behind_there (at.Ending group k) is = absurd (false≢true is)
-behind_there (at.Committing group k) is = absurd (false≢true is)
+pub behind_there : (a : Phase) → is_behind a ≡ true → (group : ℕ) × (k : ℕ) × (a ≡ Phase.AfterTurn group k)
+behind_there Phase.Idle is = absurd (false≢true is)
+behind_there (Phase.BeforeTurn group op) is = absurd (false≢true is)
+behind_there (Phase.AfterTurn group k) is = (group, k, refl)
+behind_there (Phase.Ending group k) is = absurd (false≢true is)
+behind_there (Phase.Committing group k) is = absurd (false≢true is)
 
-pub ending_there : (a : Phase) → is_ending a ≡ true → (group : ℕ) × (k : ℕ) × (a ≡ at.Ending group k)
-ending_there at.Idle is = absurd (false≢true is)
-ending_there (at.BeforeTurn group op) is = absurd (false≢true is)
-ending_there (at.AfterTurn group k) is = absurd (false≢true is)
-ending_there (at.Ending group k) is = (group, k, refl)
-ending_there (at.Committing group k) is = absurd (false≢true is)
+pub ending_there : (a : Phase) → is_ending a ≡ true → (group : ℕ) × (k : ℕ) × (a ≡ Phase.Ending group k)
+ending_there Phase.Idle is = absurd (false≢true is)
+ending_there (Phase.BeforeTurn group op) is = absurd (false≢true is)
+ending_there (Phase.AfterTurn group k) is = absurd (false≢true is)
+ending_there (Phase.Ending group k) is = (group, k, refl)
+ending_there (Phase.Committing group k) is = absurd (false≢true is)
 
-pub committing_there : (a : Phase) → is_committing_at a ≡ true → (group : ℕ) × (k : ℕ) × (a ≡ at.Committing group k)
-committing_there at.Idle is = absurd (false≢true is)
-committing_there (at.BeforeTurn group op) is = absurd (false≢true is)
-committing_there (at.AfterTurn group k) is = absurd (false≢true is)
-committing_there (at.Ending group k) is = absurd (false≢true is)
-committing_there (at.Committing group k) is = (group, k, refl)
+pub committing_there : (a : Phase) → is_committing_at a ≡ true → (group : ℕ) × (k : ℕ) × (a ≡ Phase.Committing group k)
+committing_there Phase.Idle is = absurd (false≢true is)
+committing_there (Phase.BeforeTurn group op) is = absurd (false≢true is)
+committing_there (Phase.AfterTurn group k) is = absurd (false≢true is)
+committing_there (Phase.Ending group k) is = absurd (false≢true is)
+committing_there (Phase.Committing group k) is = (group, k, refl)

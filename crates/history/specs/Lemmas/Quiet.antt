@@ -2,22 +2,8 @@
 use Rattle.std.proofs.Common.{◌≡◌, ℕ, Bool, true, false, not, cond, ◌&&◌, leb, List, [], ◌∷◌, length, Option, Some, None, refl, sym, ap, subst, ◌∙◌}
 use Rattle.std.specs.Prelude.{is_some}
 use Rattle.std.specs.List.{list_all}
-use Rattle.model.specs.declared.types.operations.Entry.{Entry}
-use Rattle.model.specs.declared.types.image.File.{File}
-use Rattle.model.specs.declared.types.image.Form.{Form}
-use Rattle.model.specs.declared.types.operations.Op.{Op}
-use Rattle.model.specs.declared.types.operations.Op.TheVariants.{Create, Write, Read, Trunc, Remove, Stat}
-use Rattle.model.specs.declared.types.operations.Reply.{Reply}
-use Rattle.model.specs.declared.types.operations.Reply.TheVariants.{Bytes, StatOf}
-use Rattle.model.specs.Files.{Files, file_in}
-use Rattle.model.specs.Journal.{answered, kept, is_changing, is_at_once, replay, and_then, after_answer}
-use Rattle.model.specs.Laws.{is_writing}
-use Rattle.model.specs.Operations.{after, after_refusal, after_at, refusal_of}
-use Rattle.model.specs.Lemmas.Log.{both_of}
-use Rattle.model.specs.Lemmas.Runs.{where_true_some, at_once_is_not_changing, at_once_is_refused, refusals_first, and_then_some, zero_stays}
-use Rattle.history.specs.Keeps.{AreUpTo}
-use Rattle.history.specs.Open.{Held, held_by, is_write_op, is_late, IsOpen, AreOpen}
-use Rattle.history.specs.Follows.{Follows}
+use Rattle.history.specs.Common.{after_answer, after_at, after_refusal, and_then, and_then_some, answered, AreOpen, AreUpTo, at_once_is_not_changing, at_once_is_refused, both_of, Bytes, Create, Entry, File, file_in, Files, Follows, Form, Held, held_by, is_at_once, is_changing, is_late, is_write_op, is_writing, IsOpen, kept, Op, Read, refusal_of, refusals_first, Remove, replay, Reply, Stat, StatOf, Trunc, where_true_some, Write, zero_stays}
+use Rattle.model.specs.Operations.{after}
 use Rattle.history.specs.Lemmas.Opens.{first_open}
 use Rattle.history.specs.Lemmas.Told.{answer_length}
 

@@ -3,19 +3,9 @@ use Rattle.std.proofs.Common.{◌≡◌, ◌⊎◌, inl, inr, ℕ, zero, suc, �
 use Rattle.std.specs.Prelude.{All}
 use Rattle.std.specs.List.{list_all}
 use mathlib.Core.List.{IsPrefix}
-use Rattle.std.proofs.lemmas.Bool.{cases_lt, leb-true, le-leb, lt-leb}
-use Rattle.std.proofs.lemmas.List.Elements.{All-nil, All-cons, All-append, All-set}
-use Rattle.std.proofs.lemmas.List.Folds.{list_all-append}
-use Rattle.model.specs.declared.types.operations.Entry.{Entry}
-use Rattle.model.specs.declared.types.operations.Reply.{Reply}
-use Rattle.model.specs.Journal.{kept, is_changing}
-use Rattle.model.specs.Lemmas.Log.{both_of}
-use Rattle.history.specs.Keeps.{AreUpTo, HasItsGroup, KeepsBeginnings}
+use Rattle.history.specs.Common.{All-append, All-cons, All-nil, All-set, append-nil, AreRising, AreUpTo, both_of, cases_lt, Entry, HasItsGroup, is_changing, IsEntry, IsJournal, KeepsBeginnings, kept, le-leb, leb-true, list_all-append, lt-leb, Reply, told}
 use Rattle.history.specs.Lemmas.Kept.{kept-append, kept_up_to, kept_not_yet, up_to_one_more, up_to_later}
-use Rattle.history.specs.Open.{IsEntry, told, AreRising}
-use Rattle.history.specs.Follows.{IsJournal}
 use Rattle.history.specs.Lemmas.Lists.{entry_next, filter_set_out, all_set_same}
-use Rattle.std.proofs.lemmas.List.{append-nil}
 
 -- a reply of a later group, or of an operation that changes nothing, is not kept
 pub kept_told_later : (n c : ℕ) (es : List Entry) (k : ℕ) (e : Entry) (r : Reply) → IsEntry es k e → c < e.group → kept n (set es k (told e r)) c ≡ kept n es c

@@ -1,41 +1,12 @@
 -- What a stop leaves, at each event of a store.
 use Rattle.std.proofs.Common.{◌≡◌, ◌≢◌, ◌⊎◌, inl, inr, ⊎_elim, ℕ, ◌+◌, ◌*◌, ◌/◌, ◌<◌, ◌≤◌, Bool, true, false, cond, eqb, ◌||◌, List, [], ◌∷◌, ◌++◌, length, set, Option, Some, None, refl, sym, ap, subst, ◌∙◌, arith}
-use Rattle.std.proofs.lemmas.Bool.{eq-eqb, ne_eqb}
-use Rattle.blocks.specs.Disk.{Image}
-use Rattle.model.specs.declared.types.operations.Entry.{Entry}
-use Rattle.model.specs.declared.types.operations.Reply.{Reply}
-use Rattle.model.specs.Agreement.{IsSameOutsideLog}
-use Rattle.model.specs.Lemmas.OutsideLog.{cleared_outside}
-use Rattle.model.specs.Crash.{IsUntouched, Keeps, labels_of, due_labels}
-use Rattle.model.specs.Files.{Files, files_of}
-use Rattle.model.specs.Journal.{kept, is_changing, is_number, is_making, replay}
-use Rattle.model.specs.Layout.{form_of, inode_of, inode_count_of, super_in}
-use Rattle.model.specs.Log.{logged_count, is_lawful_log, recovered, cleared}
-use Rattle.model.specs.Soundness.{IsSound}
-use Rattle.model.specs.Tasks.{Marks}
-use Rattle.model.specs.Lemmas.FileNumbers.{length-files_of, file_in-files_of_zero}
-use Rattle.model.specs.Lemmas.Log.{recovered_empty, none_cleared}
-use Rattle.model.specs.Lemmas.Recovery.{logged_count-left}
-use Rattle.wal.specs.declared.types.Commit.{Commit}
-use Rattle.wal.specs.declared.types.Commit.TheVariants as commit
-use Rattle.wal.specs.declared.types.DeviceFault.{DeviceFault}
+use Rattle.history.specs.Common.{AreUpTo, AwaitsHeader, cleared, cleared_outside, Commit, Counts, CrashKeeps, DeviceFault, due_labels, Entry, eq-eqb, FailsAt, file_in-files_of_zero, Files, files_of, Follows, form_of, HasFilesAfter, HasMarks, Held, Image, in_reads, inode_count_of, is_changing, is_lawful_log, is_making, is_number, IsEntry, IsLogAt, IsSameOutsideLog, IsSound, IsUntouched, Keeps, KeepsCommitted, KeepsNow, kept, labels_of, length-files_of, logged_count, logged_count-left, LogState, Marks, most_headed, most_kept, most_of, most_synced, ne_eqb, none_cleared, Part, place_at, recovered, recovered_empty, replay, Reply, SameButLog, stepped_at, StoreLaws, super_in, Survives, synced_at, TellsHeader, TellsSynced, TellsWritten, told, VolumeState}
+use Rattle.model.specs.Layout.{inode_of}
 use Rattle.wal.specs.declared.types.DeviceFault.TheVariants.{Block, Sync}
-use Rattle.wal.specs.declared.types.Part.{Part}
-use Rattle.wal.specs.declared.types.Part.TheVariants as part
-use Rattle.wal.specs.Joint.{place_at, stepped_at, synced_at}
 use Rattle.wal.specs.Floats.{IsUnheaded}
 use Rattle.wal.specs.Floats.{Survives as SurvivesAt}
-use Rattle.wal.specs.Joint.{SameButLog}
 use Rattle.wal.specs.Lemmas.Commits.{empty_lawful, outside_log}
-use Rattle.wal.specs.Step.{FailsAt}
-use Rattle.wal.specs.Kept.{KeepsCommitted, CrashKeeps, TellsHeader, TellsSynced, TellsWritten}
-use Rattle.wal.specs.Machine.{LogState, IsLogAt, Counts, is_writing}
-use Rattle.wal.specs.Volume.{VolumeState}
-use Rattle.history.specs.Crash.{HasMarks, Survives, StoreLaws, in_reads, AwaitsHeader}
-use Rattle.history.specs.Follows.{Follows}
-use Rattle.history.specs.Keeps.{AreUpTo, HasFilesAfter, KeepsNow}
-use Rattle.history.specs.Most.{most_kept, most_headed, most_synced, most_of}
-use Rattle.history.specs.Open.{Held, IsEntry, told}
+use Rattle.wal.specs.Machine.{is_writing}
 use Rattle.history.specs.Lemmas.Elsewhere.{map_alike, map_behind, marks_elsewhere, marks_of, after_elsewhere, unclear, after_none, long_enough}
 use Rattle.history.specs.Lemmas.Groups.{open_now, none_waits, reads_quiet}
 use Rattle.history.specs.Lemmas.Kept.{kept_still}
@@ -98,10 +69,10 @@ kept_told n c es k e r at later = by_op (is_changing n e.op) refl
 
 -- recovery may keep the committed groups, at most or more
 least_synced : (p : Part) (c : ℕ) → c ≤ most_synced p c
-least_synced part.Log c = omega arith
-least_synced part.Header c = omega arith
-least_synced part.Homes c = omega arith
-least_synced part.Clear c = omega arith
+least_synced Part.Log c = omega arith
+least_synced Part.Header c = omega arith
+least_synced Part.Homes c = omega arith
+least_synced Part.Clear c = omega arith
 
 least_headed : (o : Option DeviceFault) (c : ℕ) → c ≤ most_headed o c
 least_headed None c = omega arith
@@ -113,21 +84,21 @@ least_headed (Some (Block fault)) c = by_block (eqb fault.0 2)
 least_headed (Some (Sync fault)) c = omega arith
 
 pub least_most : (o : Option DeviceFault) (k : Commit) (c : ℕ) → c ≤ most_kept o k c
-least_most o commit.Quiet c = omega arith
-least_most o (commit.Logging j) c = omega arith
-least_most o commit.Heading c = least_headed o c
-least_most o (commit.Homing j) c = omega arith
-least_most o commit.Clearing c = omega arith
-least_most o (commit.Syncing p) c = least_synced p c
+least_most o Commit.Quiet c = omega arith
+least_most o (Commit.Logging j) c = omega arith
+least_most o Commit.Heading c = least_headed o c
+least_most o (Commit.Homing j) c = omega arith
+least_most o Commit.Clearing c = omega arith
+least_most o (Commit.Syncing p) c = least_synced p c
 
 -- with a fault no fewer than without
 pub most_more : (o : Option DeviceFault) (k : Commit) (c : ℕ) → most_kept None k c ≤ most_kept o k c
-most_more o commit.Quiet c = omega arith
-most_more o (commit.Logging j) c = omega arith
-most_more o commit.Heading c = least_headed o c
-most_more o (commit.Homing j) c = omega arith
-most_more o commit.Clearing c = omega arith
-most_more o (commit.Syncing p) c = omega arith
+most_more o Commit.Quiet c = omega arith
+most_more o (Commit.Logging j) c = omega arith
+most_more o Commit.Heading c = least_headed o c
+most_more o (Commit.Homing j) c = omega arith
+most_more o Commit.Clearing c = omega arith
+most_more o (Commit.Syncing p) c = omega arith
 
 least_reads : (k : Commit) (c : ℕ) → c ≤ most_kept None k c
 least_reads k c = least_most None k c
@@ -147,7 +118,7 @@ reads_same l m committed commit = record {
 }
 
 -- or where neither log has a header that waits for its sync, and reads give the committed groups alone
-pub reads_calm : (l m : LogState) → l.commit ≡ commit.Quiet → m.committed ≡ l.committed → in_reads m ≡ m.committed → (AwaitsHeader m → ⊥) → SameReads l m
+pub reads_calm : (l m : LogState) → l.commit ≡ Commit.Quiet → m.committed ≡ l.committed → in_reads m ≡ m.committed → (AwaitsHeader m → ⊥) → SameReads l m
 reads_calm l m quiet committed reads calm = record {
   committed = committed;
   reads = reads ∙ committed ∙ sym (reads_quiet l quiet);
@@ -212,7 +183,7 @@ quiet_files opening current l holds fit es f all marks store is none =
     }
 
 -- a disk that was just opened
-pub recovers_opened : (opening : Image) (l : LogState) → IsSound opening → is_lawful_log opening ≡ true → logged_count opening ≡ 0 → l.commit ≡ commit.Quiet → Survives opening opening opening l []
+pub recovers_opened : (opening : Image) (l : LogState) → IsSound opening → is_lawful_log opening ≡ true → logged_count opening ≡ 0 → l.commit ≡ Commit.Quiet → Survives opening opening opening l []
 recovers_opened opening l sound lawful empty quiet =
     let h = after_none opening sound in
     record {
@@ -233,18 +204,18 @@ either false c = refl
 
 -- what reads give is what a header tells
 told_synced : (p : Part) (c : ℕ) (z : Image) → TellsSynced p z → most_synced p c ≡ cond (eqb (logged_count z) 0) c (most_synced p c)
-told_synced part.Log c z tells = either (eqb (logged_count z) 0) c
-told_synced part.Header c z tells = sym (ap (λ (b : Bool). cond b c (c + 1)) (ne_eqb (logged_count z) 0 tells))
-told_synced part.Homes c z tells = either (eqb (logged_count z) 0) c
-told_synced part.Clear c z tells = either (eqb (logged_count z) 0) c
+told_synced Part.Log c z tells = either (eqb (logged_count z) 0) c
+told_synced Part.Header c z tells = sym (ap (λ (b : Bool). cond b c (c + 1)) (ne_eqb (logged_count z) 0 tells))
+told_synced Part.Homes c z tells = either (eqb (logged_count z) 0) c
+told_synced Part.Clear c z tells = either (eqb (logged_count z) 0) c
 
 told_reads : (fault : Option DeviceFault) (k : Commit) (c : ℕ) (z : Image) → TellsHeader k z → most_kept None k c ≡ cond (eqb (logged_count z) 0) c (most_kept fault k c)
-told_reads fault commit.Quiet c z tells = either (eqb (logged_count z) 0) c
-told_reads fault (commit.Logging j) c z tells = either (eqb (logged_count z) 0) c
-told_reads fault commit.Heading c z tells = sym (ap (λ (b : Bool). cond b c (most_headed fault c)) (eq-eqb (logged_count z) 0 tells))
-told_reads fault (commit.Homing j) c z tells = either (eqb (logged_count z) 0) c
-told_reads fault commit.Clearing c z tells = either (eqb (logged_count z) 0) c
-told_reads fault (commit.Syncing p) c z tells = told_synced p c z tells
+told_reads fault Commit.Quiet c z tells = either (eqb (logged_count z) 0) c
+told_reads fault (Commit.Logging j) c z tells = either (eqb (logged_count z) 0) c
+told_reads fault Commit.Heading c z tells = sym (ap (λ (b : Bool). cond b c (most_headed fault c)) (eq-eqb (logged_count z) 0 tells))
+told_reads fault (Commit.Homing j) c z tells = either (eqb (logged_count z) 0) c
+told_reads fault Commit.Clearing c z tells = either (eqb (logged_count z) 0) c
+told_reads fault (Commit.Syncing p) c z tells = told_synced p c z tells
 
 -- what is kept of the images that may be left
 module _ (opening x current : Image) (l : LogState) (es : List Entry) (r : Survives opening x current l es) where
@@ -288,7 +259,7 @@ module _ (opening x current : Image) (l : LogState) (es : List Entry) (r : Survi
   entries c = kept (inode_count_of opening) es c
 
   -- a group that logged nothing is committed
-  pub closes_empty : (m : LogState) → recovered x ≡ current → m.committed ≡ l.opened → m.commit ≡ commit.Quiet → Survives opening x current m es
+  pub closes_empty : (m : LogState) → recovered x ≡ current → m.committed ≡ l.opened → m.commit ≡ Commit.Quiet → Survives opening x current m es
   closes_empty m same committed quiet =
       let empty : logged_count current ≡ 0 = ap logged_count (sym same) ∙ logged_count-left x in
       record {
@@ -301,95 +272,95 @@ module _ (opening x current : Image) (l : LogState) (es : List Entry) (r : Survi
 
   -- what recovery gives after a write that got through
   after_write : (h : Bool) (k : Commit) → k ≡ l.commit → Counts k l → (y : Image) → KeepsCommitted k x current y → HasFilesAfter opening (entries (in_reads (stepped_at h k l))) (recovered y)
-  after_write h commit.Quiet is counts y keeps = alike opening x current l es r y (in_reads l) keeps r.committed
-  after_write h (commit.Logging j) is counts y keeps = by_last (eqb (j + 1) (length l.homes)) h
+  after_write h Commit.Quiet is counts y keeps = alike opening x current l es r y (in_reads l) keeps r.committed
+  after_write h (Commit.Logging j) is counts y keeps = by_last (eqb (j + 1) (length l.homes)) h
     where
       before : HasFilesAfter opening (entries l.committed) (recovered y)
       before = alike opening x current l es r y l.committed keeps (subst (λ (k : Commit). HasFilesAfter opening (entries (most_kept None k l.committed)) (recovered x)) (sym is) r.committed)
 
-      by_last : (b h : Bool) → HasFilesAfter opening (entries (most_kept None (cond b (cond h (commit.Syncing part.Log) commit.Heading) (commit.Logging (j + 1))) l.committed)) (recovered y)
+      by_last : (b h : Bool) → HasFilesAfter opening (entries (most_kept None (cond b (cond h (Commit.Syncing Part.Log) Commit.Heading) (Commit.Logging (j + 1))) l.committed)) (recovered y)
       by_last true true = before
       by_last true false = before
       by_last false h = before
-  after_write h commit.Heading is counts y keeps = by_kind h
+  after_write h Commit.Heading is counts y keeps = by_kind h
     where
       group : HasFilesAfter opening (entries l.opened) (recovered y)
       group = after_elsewhere opening (entries l.opened) (cleared current) (recovered y) keeps.outside (logged_count-left y) now
 
-      by_kind : (h : Bool) → HasFilesAfter opening (entries (most_kept None (cond h (commit.Syncing part.Header) (commit.Homing 0)) (cond h l.committed l.opened))) (recovered y)
+      by_kind : (h : Bool) → HasFilesAfter opening (entries (most_kept None (cond h (Commit.Syncing Part.Header) (Commit.Homing 0)) (cond h l.committed l.opened))) (recovered y)
       by_kind true = subst (λ (c : ℕ). HasFilesAfter opening (entries c) (recovered y)) (sym counts) group
       by_kind false = group
-  after_write h (commit.Homing j) is counts y keeps = by_last (eqb (j + 1) (length l.homes)) h
+  after_write h (Commit.Homing j) is counts y keeps = by_last (eqb (j + 1) (length l.homes)) h
     where
       before : HasFilesAfter opening (entries l.committed) (recovered y)
       before = alike opening x current l es r y l.committed keeps (subst (λ (k : Commit). HasFilesAfter opening (entries (most_kept None k l.committed)) (recovered x)) (sym is) r.committed)
 
-      by_last : (b h : Bool) → HasFilesAfter opening (entries (most_kept None (cond b (cond h (commit.Syncing part.Homes) commit.Clearing) (commit.Homing (j + 1))) l.committed)) (recovered y)
+      by_last : (b h : Bool) → HasFilesAfter opening (entries (most_kept None (cond b (cond h (Commit.Syncing Part.Homes) Commit.Clearing) (Commit.Homing (j + 1))) l.committed)) (recovered y)
       by_last true true = before
       by_last true false = before
       by_last false h = before
-  after_write h commit.Clearing is counts y keeps = by_kind h
+  after_write h Commit.Clearing is counts y keeps = by_kind h
     where
       before : HasFilesAfter opening (entries l.committed) (recovered y)
       before = alike opening x current l es r y l.committed keeps (subst (λ (k : Commit). HasFilesAfter opening (entries (most_kept None k l.committed)) (recovered x)) (sym is) r.committed)
 
-      by_kind : (h : Bool) → HasFilesAfter opening (entries (most_kept None (cond h (commit.Syncing part.Clear) commit.Quiet) l.committed)) (recovered y)
+      by_kind : (h : Bool) → HasFilesAfter opening (entries (most_kept None (cond h (Commit.Syncing Part.Clear) Commit.Quiet) l.committed)) (recovered y)
       by_kind true = before
       by_kind false = before
-  after_write h (commit.Syncing p) is counts y keeps = by_part p is counts
+  after_write h (Commit.Syncing p) is counts y keeps = by_part p is counts
     where
-      before : (q : Part) → commit.Syncing q ≡ l.commit → HasFilesAfter opening (entries (most_synced q l.committed)) (recovered y)
+      before : (q : Part) → Commit.Syncing q ≡ l.commit → HasFilesAfter opening (entries (most_synced q l.committed)) (recovered y)
       before q at = alike opening x current l es r y (most_synced q l.committed) keeps (subst (λ (k : Commit). HasFilesAfter opening (entries (most_kept None k l.committed)) (recovered x)) (sym at) r.committed)
 
-      by_part : (q : Part) → commit.Syncing q ≡ l.commit → Counts (commit.Syncing q) l → HasFilesAfter opening (entries (in_reads (synced_at q l))) (recovered y)
-      by_part part.Log at same = before part.Log at
-      by_part part.Header at same = subst (λ (c : ℕ). HasFilesAfter opening (entries c) (recovered y)) same (before part.Header at)
-      by_part part.Homes at same = before part.Homes at
-      by_part part.Clear at same = before part.Clear at
+      by_part : (q : Part) → Commit.Syncing q ≡ l.commit → Counts (Commit.Syncing q) l → HasFilesAfter opening (entries (in_reads (synced_at q l))) (recovered y)
+      by_part Part.Log at same = before Part.Log at
+      by_part Part.Header at same = subst (λ (c : ℕ). HasFilesAfter opening (entries c) (recovered y)) same (before Part.Header at)
+      by_part Part.Homes at same = before Part.Homes at
+      by_part Part.Clear at same = before Part.Clear at
 
   -- only the header's write, over a disk that holds writes back, leaves one that waits for its sync
-  waits_now : (h : Bool) (k : Commit) → k ≡ l.commit → AwaitsHeader (stepped_at h k l) → (k ≡ commit.Heading) × ((stepped_at h k l).committed ≡ l.committed)
-  waits_now h commit.Quiet is w = absurd (cc (is ∙ w))
-  waits_now h (commit.Logging j) is w = by_last (eqb (j + 1) (length l.homes)) h w
+  waits_now : (h : Bool) (k : Commit) → k ≡ l.commit → AwaitsHeader (stepped_at h k l) → (k ≡ Commit.Heading) × ((stepped_at h k l).committed ≡ l.committed)
+  waits_now h Commit.Quiet is w = absurd (cc (is ∙ w))
+  waits_now h (Commit.Logging j) is w = by_last (eqb (j + 1) (length l.homes)) h w
     where
-      by_last : (b h : Bool) → cond b (cond h (commit.Syncing part.Log) commit.Heading) (commit.Logging (j + 1)) ≡ commit.Syncing part.Header → (commit.Logging j ≡ commit.Heading) × (l.committed ≡ l.committed)
+      by_last : (b h : Bool) → cond b (cond h (Commit.Syncing Part.Log) Commit.Heading) (Commit.Logging (j + 1)) ≡ Commit.Syncing Part.Header → (Commit.Logging j ≡ Commit.Heading) × (l.committed ≡ l.committed)
       by_last true true w = absurd (cc w)
       by_last true false w = absurd (cc w)
       by_last false h w = absurd (cc w)
-  waits_now h commit.Heading is w = (refl, by_kind h w)
+  waits_now h Commit.Heading is w = (refl, by_kind h w)
     where
-      by_kind : (h : Bool) → cond h (commit.Syncing part.Header) (commit.Homing 0) ≡ commit.Syncing part.Header → cond h l.committed l.opened ≡ l.committed
+      by_kind : (h : Bool) → cond h (Commit.Syncing Part.Header) (Commit.Homing 0) ≡ Commit.Syncing Part.Header → cond h l.committed l.opened ≡ l.committed
       by_kind true w = refl
       by_kind false w = absurd (cc w)
-  waits_now h (commit.Homing j) is w = by_last (eqb (j + 1) (length l.homes)) h w
+  waits_now h (Commit.Homing j) is w = by_last (eqb (j + 1) (length l.homes)) h w
     where
-      by_last : (b h : Bool) → cond b (cond h (commit.Syncing part.Homes) commit.Clearing) (commit.Homing (j + 1)) ≡ commit.Syncing part.Header → (commit.Homing j ≡ commit.Heading) × (l.committed ≡ l.committed)
+      by_last : (b h : Bool) → cond b (cond h (Commit.Syncing Part.Homes) Commit.Clearing) (Commit.Homing (j + 1)) ≡ Commit.Syncing Part.Header → (Commit.Homing j ≡ Commit.Heading) × (l.committed ≡ l.committed)
       by_last true true w = absurd (cc w)
       by_last true false w = absurd (cc w)
       by_last false h w = absurd (cc w)
-  waits_now h commit.Clearing is w = by_kind h w
+  waits_now h Commit.Clearing is w = by_kind h w
     where
-      by_kind : (h : Bool) → cond h (commit.Syncing part.Clear) commit.Quiet ≡ commit.Syncing part.Header → (commit.Clearing ≡ commit.Heading) × (l.committed ≡ l.committed)
+      by_kind : (h : Bool) → cond h (Commit.Syncing Part.Clear) Commit.Quiet ≡ Commit.Syncing Part.Header → (Commit.Clearing ≡ Commit.Heading) × (l.committed ≡ l.committed)
       by_kind true w = absurd (cc w)
       by_kind false w = absurd (cc w)
-  waits_now h (commit.Syncing part.Log) is w = absurd (cc w)
-  waits_now h (commit.Syncing part.Header) is w = absurd (cc w)
-  waits_now h (commit.Syncing part.Homes) is w = absurd (cc w)
-  waits_now h (commit.Syncing part.Clear) is w = absurd (cc w)
+  waits_now h (Commit.Syncing Part.Log) is w = absurd (cc w)
+  waits_now h (Commit.Syncing Part.Header) is w = absurd (cc w)
+  waits_now h (Commit.Syncing Part.Homes) is w = absurd (cc w)
+  waits_now h (Commit.Syncing Part.Clear) is w = absurd (cc w)
 
   -- before the header is written, reads give the committed groups alone
-  committed_before : l.commit ≡ commit.Heading → HasFilesAfter opening (entries l.committed) (recovered x)
+  committed_before : l.commit ≡ Commit.Heading → HasFilesAfter opening (entries l.committed) (recovered x)
   committed_before heading = subst (λ (k : Commit). HasFilesAfter opening (entries (most_kept None k l.committed)) (recovered x)) heading r.committed
 
   -- a step
-  pub commit_goes : (h : Bool) (y next : Image) (m : LogState) → m ≡ stepped_at h l.commit l → Counts l.commit l → KeepsCommitted l.commit x current y → (l.commit ≡ commit.Heading → IsSameOutsideLog (recovered x) (cleared y))
+  pub commit_goes : (h : Bool) (y next : Image) (m : LogState) → m ≡ stepped_at h l.commit l → Counts l.commit l → KeepsCommitted l.commit x current y → (l.commit ≡ Commit.Heading → IsSameOutsideLog (recovered x) (cleared y))
       → IsSameOutsideLog current next → is_lawful_log y ≡ true → Survives opening y next m es
   commit_goes h y next m is counts keeps without same lawful = record {
     marks = marks_elsewhere opening es current next same (map_alike current (cleared current) (cleared_outside current) (map_behind (cleared current) now.sound)) r.marks;
     lawful = lawful;
     committed = subst (λ (o : LogState). HasFilesAfter opening (entries (in_reads o)) (recovered y)) (sym is) (after_write h l.commit refl counts y keeps);
     unheaded = λ w.
-        let at : (l.commit ≡ commit.Heading) × ((stepped_at h l.commit l).committed ≡ l.committed) = waits_now h l.commit refl (subst AwaitsHeader is w) in
+        let at : (l.commit ≡ Commit.Heading) × ((stepped_at h l.commit l).committed ≡ l.committed) = waits_now h l.commit refl (subst AwaitsHeader is w) in
         let before = committed_before at.0 in
         let outside = without at.0 in
         subst (λ (c : ℕ). HasFilesAfter opening (entries c) (cleared y)) (sym (ap (λ (o : LogState). o.committed) is ∙ at.1))
@@ -415,13 +386,13 @@ module _ (opening x current : Image) (l : LogState) (es : List Entry) (r : Survi
         headed (Sync f) at_two = absurd at_two
 
         by_phase : (k : Commit) → k ≡ l.commit → FailsAt (place_at k l.homes) fault → is_writing k ≡ true → Counts k l → KeepsCommitted k x current z → TellsWritten k z → KeepsNow u.log.committed (most_of u) opening es z
-        by_phase commit.Quiet is_k place writing counts keeps written = absurd (cc writing)
-        by_phase (commit.Logging j) is_k place writing counts keeps written = stays (commit.Logging j) is_k refl (λ o. refl) keeps
-        by_phase commit.Heading is_k place writing counts keeps written = keeps_exactly opening x current l es r u committed commits z (l.committed + 1)
+        by_phase Commit.Quiet is_k place writing counts keeps written = absurd (cc writing)
+        by_phase (Commit.Logging j) is_k place writing counts keeps written = stays (Commit.Logging j) is_k refl (λ o. refl) keeps
+        by_phase Commit.Heading is_k place writing counts keeps written = keeps_exactly opening x current l es r u committed commits z (l.committed + 1)
             (keeps_count opening es z (l.committed + 1) lawful (subst (λ (c : ℕ). HasFilesAfter opening (entries c) (recovered z)) (sym counts) (after_elsewhere opening (entries l.opened) (cleared current) (recovered z) keeps.outside (logged_count-left z) now)))
             (omega arith)
             (headed fault place ∙ ap (λ (o : Option DeviceFault). most_headed o l.committed) (sym fails) ∙ ap (λ (j : Commit). most_kept u.fault j l.committed) is_k
             ∙ sym (ap (λ (b : Bool). cond b l.committed (most_kept u.fault l.commit l.committed)) (ne_eqb (logged_count z) 0 written)))
-        by_phase (commit.Homing j) is_k place writing counts keeps written = stays (commit.Homing j) is_k refl (λ o. refl) keeps
-        by_phase commit.Clearing is_k place writing counts keeps written = stays commit.Clearing is_k refl (λ o. refl) keeps
-        by_phase (commit.Syncing p) is_k place writing counts keeps written = absurd (cc writing)
+        by_phase (Commit.Homing j) is_k place writing counts keeps written = stays (Commit.Homing j) is_k refl (λ o. refl) keeps
+        by_phase Commit.Clearing is_k place writing counts keeps written = stays Commit.Clearing is_k refl (λ o. refl) keeps
+        by_phase (Commit.Syncing p) is_k place writing counts keeps written = absurd (cc writing)

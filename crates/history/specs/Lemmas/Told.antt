@@ -1,17 +1,9 @@
 -- A reply that comes to an earlier entry.
 use Rattle.std.proofs.Common.{◌≡◌, ℕ, zero, suc, ◌<◌, cond, ltb, List, [], ◌∷◌, length, set, Option, Some, None, refl, sym, ap, subst, ◌∙◌, arith}
 use Rattle.std.specs.Prelude.{is_some}
-use Rattle.std.proofs.lemmas.Bool.{ltb-true}
-use Rattle.model.specs.declared.types.image.Form.{Form}
-use Rattle.model.specs.declared.types.operations.Reply.{Reply}
-use Rattle.model.specs.declared.types.operations.Entry.{Entry}
-use Rattle.model.specs.Files.{Files}
+use Rattle.history.specs.Common.{after_answer, and_then, and_then_some, answered, AreOpen, both_of, count_stays, Entry, Files, Form, Held, IsEntry, IsOpen, length-after, ltb-true, number_of, replay, Reply, told}
 use Rattle.model.specs.Operations.{after}
-use Rattle.model.specs.Journal.{replay, answered, and_then, after_answer}
-use Rattle.model.specs.Lemmas.Log.{both_of}
-use Rattle.model.specs.Lemmas.Runs.{and_then_some, count_stays, length-after}
 use Rattle.history.specs.Lemmas.Opens.{first_open}
-use Rattle.history.specs.Open.{number_of, Held, IsOpen, AreOpen, IsEntry, told}
 use Rattle.history.specs.Lemmas.Deciding.{decided}
 
 -- an entry leaves the count of files

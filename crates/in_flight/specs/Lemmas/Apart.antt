@@ -1,19 +1,7 @@
 -- The blocks to which a task's copy leads are data blocks, and no two of them are one.
 use Rattle.std.proofs.Common.{◌≡◌, ◌≢◌, ℕ, ◌+◌, ◌<◌, ◌≤◌, List, [], length, get_or, Option, Some, refl, sym, ap, ap₂, subst, ◌∙◌, ⊎_elim, arith}
-use Rattle.std.proofs.lemmas.Bool.{cases_lt}
-use Rattle.std.proofs.lemmas.List.{get_or_past}
-use Rattle.blocks.specs.Disk.{Image}
-use Rattle.model.specs.declared.types.image.Dinode.{Dinode}
-use Rattle.model.specs.Files.{Files, file_in}
-use Rattle.model.specs.Layout.{depths, form_of}
-use Rattle.model.specs.Names.{names_along}
-use Rattle.model.specs.Places.{address_in, addresses_in, pointers_in}
-use Rattle.model.specs.Soundness.{count_of}
-use Rattle.model.specs.Lemmas.Counts.{count_of-append}
-use Rattle.model.specs.Lemmas.Wholes.{thirteen_depths}
-use Rattle.in_flight.specs.Held.{Claim, Claims, Growth, IsClaimedNow, IsGrowing, names_claimed, names_held, grows, listed}
-use Rattle.in_flight.specs.HeldLaws.{IsHeldIn, IsMarkedData}
-use Rattle.in_flight.specs.Trees.{depth_of, led_to, place_along, place_under}
+use Rattle.in_flight.specs.Common.{addresses_in, cases_lt, Claim, Claims, count_of, count_of-append, depth_of, depths, Dinode, file_in, Files, form_of, get_or_past, grows, Growth, Image, IsClaimedNow, IsGrowing, IsHeldIn, IsMarkedData, led_to, listed, names_along, names_claimed, names_held, place_along, place_under, pointers_in, thirteen_depths}
+use Rattle.model.specs.Places.{address_in}
 use Rattle.in_flight.specs.Lemmas.BlocksTaken.{taken_owned}
 use Rattle.in_flight.specs.Lemmas.Growing.{WritesOwn}
 use Rattle.in_flight.specs.Lemmas.HeldFrames.{growing_of, owned_once, whole_names}
@@ -43,14 +31,11 @@ module _ (m : Files) (x : Image) (claims : Claims) (i : ℕ) (g : Growth) (h : I
   pub copy_once : (v : ℕ) → count_of v named ≤ 1
   copy_once v =
       let at = between x i h.number in
-      let once = owned_once m x claims i v h.fits at.low at.high in
-      let mine = named_mine v in
-      omega (arith, once, mine)
+      omega (arith, (owned_once m x claims i v h.fits at.low at.high), (named_mine v))
 
   pub copy_marked : (v : ℕ) → 1 ≤ count_of v named → IsMarkedData x v
   copy_marked v some =
-      let mine = named_mine v in
-      owned_marked m x claims i v h.fits h.number (omega (arith, mine, some))
+      owned_marked m x claims i v h.fits h.number (omega (arith, (named_mine v), some))
 
   -- a block that the copy names is written
   pub writes_named : (new : Claims) (o : Option Claim) (b : ℕ) (bytes : List ℕ) → IsClaimedNow claims i o new → 1 ≤ count_of b named → length bytes ≡ 1024 → WritesOwn m x claims new i b bytes
@@ -102,8 +87,7 @@ module _ (m : Files) (x : Image) (claims : Claims) (i : ℕ) (g : Growth) (h : I
   pub data_named : (k v : ℕ) → address_in x d k ≡ v → v ≢ 0 → 1 ≤ count_of v named
   data_named k v is some =
       let w = data_way k v is some in
-      let long = w.2.long in
-      way_named w.0 w.1 v (omega (arith, long)) (led_data k v w.0 w.1 is w.2) some
+      way_named w.0 w.1 v (omega (arith, w.2.long)) (led_data k v w.0 w.1 is w.2) some
 
   pub data_marked : (k : ℕ) → address_in x d k ≢ 0 → IsMarkedData x (address_in x d k)
   data_marked k some = copy_marked (address_in x d k) (data_named k (address_in x d k) refl some)
@@ -118,18 +102,15 @@ module _ (m : Files) (x : Image) (claims : Claims) (i : ℕ) (g : Growth) (h : I
 
   pub taken_apart : (b v : ℕ) → g.taken ≡ Some b → 1 ≤ count_of v named → v ≢ b
   taken_apart b v is some same =
-      let none = (taken_owned m x claims i b g h is).1 in
-      let one = ap (λ c. count_of c named) same in
-      omega (arith, none, some, one)
+      omega (arith, ((taken_owned m x claims i b g h is).1), some, (ap (λ c. count_of c named) same))
 
   -- two ways don't lead to one block
   lead_apart : (j k : ℕ) (one two : List ℕ) (v : ℕ) → length one ≤ depth_of x j → length two ≤ depth_of x k →
       led_to x one (get_or d.addrs j 0) ≡ v → led_to x two (get_or d.addrs k 0) ≡ v → v ≢ 0 → (j ≡ k → one ≢ two) → ⊥
   lead_apart j k one two v short_one short_two first second some apart =
-      let once = subst (λ (l : List ℕ). count_of v l ≤ 1) named_is (copy_once v) in
       let both = along_apart x ds d.addrs j k one two v (way_inside j one v first some) (way_inside k two v second some)
       short_one short_two first second some apart in
-      omega (arith, once, both)
+      omega (arith, (subst (λ (l : List ℕ). count_of v l ≤ 1) named_is (copy_once v)), both)
 
   -- no data block of the file is one of its blocks of addresses
   pub data_apart : (slot : ℕ) (way : List ℕ) (a k : ℕ) → length way < depth_of x slot → led_to x way (get_or d.addrs slot 0) ≡ a → a ≢ 0 →
@@ -139,9 +120,7 @@ module _ (m : Files) (x : Image) (claims : Claims) (i : ℕ) (g : Growth) (h : I
       let long = w.2.long in
       lead_apart slot w.0 way w.1 a (omega (arith, short)) (omega (arith, long)) led (led_data k a w.0 w.1 is w.2) some
       (λ e same.
-      let one = ap (depth_of x) e in
-      let two = ap (λ (l : List ℕ). length l) same in
-      omega (arith, short, long, one, two))
+      omega (arith, short, long, (ap (depth_of x) e), (ap (λ (l : List ℕ). length l) same)))
 
   -- and no two of its data blocks are one
   pub blocks_apart : (j k : ℕ) → j ≢ k → address_in x d k ≢ 0 → address_in x d j ≢ address_in x d k
@@ -149,8 +128,6 @@ module _ (m : Files) (x : Image) (claims : Claims) (i : ℕ) (g : Growth) (h : I
       let v = address_in x d k in
       let one = data_way j v same some in
       let two = data_way k v refl some in
-      let one_long = one.2.long in
-      let two_long = two.2.long in
-      lead_apart one.0 two.0 one.1 two.1 v (omega (arith, one_long)) (omega (arith, two_long))
+      lead_apart one.0 two.0 one.1 two.1 v (omega (arith, one.2.long)) (omega (arith, two.2.long))
       (led_data j v one.0 one.1 same one.2) (led_data k v two.0 two.1 refl two.2) some
       (λ slots ways. ne (sym one.2.place ∙ ap₂ (λ (s : ℕ) (w : List ℕ). place_along ds s + place_under w) slots ways ∙ two.2.place))

@@ -1,13 +1,6 @@
 -- Where no number is held, an image stands for files as one does without claims.
 use Rattle.std.proofs.Common.{◌≡◌, ◌-◌, Option, sym, ap, subst, arith}
-use Rattle.blocks.specs.Disk.{Image}
-use Rattle.model.specs.Files.{Files, file_in}
-use Rattle.model.specs.Layout.{inode_count_of}
-use Rattle.model.specs.Places.{pointers_of, places_of, addresses_in}
-use Rattle.model.specs.Lemmas.OutsideLog.{flat_map_range_same}
-use Rattle.in_flight.specs.Held.{Claims, AreAtRest, FitsHeld, IsFine, names_claimed, owned, Claim}
-use Rattle.in_flight.specs.HeldLaws.{FitsAtRest, RestsSoundly}
-use Rattle.in_flight.specs.Loose.{IsLoose, Fits}
+use Rattle.in_flight.specs.Common.{addresses_in, AreAtRest, Claim, Claims, file_in, Files, Fits, FitsAtRest, FitsHeld, flat_map_range_same, Image, inode_count_of, IsFine, IsLoose, names_claimed, owned, places_of, pointers_of, RestsSoundly}
 use Rattle.in_flight.specs.Lemmas.Soundly.{sound_quiet}
 
 module _ (m : Files) (x : Image) (claims : Claims) (rest : AreAtRest x claims) where

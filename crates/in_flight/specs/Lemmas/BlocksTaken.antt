@@ -1,25 +1,15 @@
 -- A task that writes begins, takes a block, and fills it with zeroes.
 use Rattle.std.proofs.Common.{◌≡◌, ◌≢◌, ℕ, ◌+◌, ◌<◌, ◌≤◌, Bool, true, false, ◌||◌, ltb, List, [], ◌∷◌, ◌++◌, length, take, drop, Option, Some, None, refl, sym, ap, subst, ◌∙◌, ⊎_elim, arith, set, lt-ltb, cond, eqb, append-nil, take-append-drop}
-use Rattle.in_flight.specs.Held.{Claim, Claims, Growth, grows, IsFine, IsClaimedNow, names_claimed, owned, listed, marked, taking}
-use Rattle.blocks.specs.Block.{overwritten, zero_block}
-use Rattle.in_flight.specs.GrowthLaws.{TurnGrows, BlockTaken, TakenZeroed}
-use Rattle.blocks.specs.Disk.{Image, block_at}
-use Rattle.model.specs.Files.{Files, bytes_in, file_in}
+use Rattle.in_flight.specs.Common.{addresses_in, block_at, BlockTaken, cases_eq, cases_lt, Claim, Claims, count_of, false≢true, file_in, Files, first_data_block, FitsThen, grows, Growth, has_bit-with_bit_other, has_bit-with_bit_same, Image, inode_count_of, is_marked, IsClaimedNow, IsFine, IsHeldIn, IsLoose, length-replicate, length-with_bit, listed, marked, names_claimed, or_right, overwritten, owned, pointers_in, super_of, TakenZeroed, taking, TurnGrows, with_bit}
+use Rattle.blocks.specs.Block.{zero_block}
+use Rattle.model.specs.Files.{bytes_in}
 use Rattle.in_flight.specs.Lemmas.Looks.{between}
 use Rattle.in_flight.specs.Lemmas.Remapped.{IsMapped, test, mapped, agrees, marks, size_same, inode_same, full_after, start_same}
-use Rattle.in_flight.specs.HeldLaws.{IsHeldIn, FitsThen}
 use Rattle.in_flight.specs.Lemmas.Frames.{AgreesAtData}
-use Rattle.model.specs.Layout.{inode_count_of, inode_of, is_marked, first_data_block, super_of}
+use Rattle.model.specs.Layout.{inode_of}
 use Rattle.in_flight.specs.Lemmas.HeldFrames.{ChangesOne, Passes, at_data, data_passes, owned_kept, fits_then, names_same, loose_alike, owned_once, fine_same, growing_of, grown_same}
-use Rattle.model.specs.Soundness.{count_of}
-use Rattle.model.specs.Codec.{with_bit}
-use Rattle.in_flight.specs.Loose.{IsLoose}
-use Rattle.model.specs.Places.{addresses_in, pointers_in}
-use Rattle.std.proofs.lemmas.List.{length-replicate}
 use Rattle.in_flight.specs.Lemmas.HeldLooks.{resting_tells}
-use Rattle.std.proofs.lemmas.Bool.{false≢true, cases_lt, or_right, cases_eq}
 use Rattle.in_flight.specs.Lemmas.Growing.{WritesOwn, but_own, own_agrees, growing_with, away_own, named_same, writes_own, own_inode}
-use Rattle.model.specs.Lemmas.Bits.{has_bit-with_bit_same, has_bit-with_bit_other, length-with_bit}
 use Rattle.in_flight.specs.Lemmas.Claims.{apart}
 use Rattle.in_flight.specs.Lemmas.Turns.{claim_turned}
 use Rattle.in_flight.specs.Lemmas.GivenUp.{counted_here, counted_other, at_each}
@@ -36,8 +26,7 @@ pub turn_grows : TurnGrows
 turn_grows m x claims new i off f used none inside now =
     let d = inode_of x i in
     let its = (resting_tells m x claims i f used none).its in
-    let long = its.length in
-    let reaches : off ≤ length (bytes_in x d) = omega (arith, long, inside) in
+    let reaches : off ≤ length (bytes_in x d) = omega (arith, its.length, inside) in
     claim_turned m x claims new i None _ f (between x i used.0) none now (λ c. refl)
     (record {
       fit = its.fit;
@@ -211,13 +200,12 @@ pub taken_owned : (m : Files) (x : Image) (claims : Claims) (i b : ℕ) (g : Gro
     (1 ≤ count_of b (names_claimed x i (claims i))) × (count_of b (addresses_in (pointers_in x g.copy)) ≡ 0)
 taken_owned m x claims i b g h is =
     let at = between x i h.number in
-    let few = owned_once m x claims i b h.fits at.low at.high in
     let own : count_of b (names_claimed x i (claims i)) ≡ count_of b (listed g.taken ++ addresses_in (pointers_in x g.copy))
     = ap (λ (o : Option Claim). count_of b (names_claimed x i o)) h.holds in
     let has : count_of b (listed g.taken ++ addresses_in (pointers_in x g.copy)) ≡ count_of b (b ∷ addresses_in (pointers_in x g.copy))
     = ap (λ t. count_of b (listed t ++ addresses_in (pointers_in x g.copy))) is in
     let one = counted_here b (addresses_in (pointers_in x g.copy)) in
-    (omega (arith, own, has, one), omega (arith, own, has, one, few))
+    (omega (arith, own, has, one), omega (arith, own, has, one, (owned_once m x claims i b h.fits at.low at.high)))
 
 -- what a block that was taken holds has no part in any file
 pub taken_written : (m : Files) (x : Image) (claims : Claims) (i b : ℕ) (g : Growth) (bytes : List ℕ) → IsHeldIn m x claims i (grows g) →
@@ -233,8 +221,7 @@ taken_written m x claims i b g bytes h is whole =
     let there : Passes test (addresses_in (pointers_in x g.copy)) =
     λ c some. away_own m x claims claims i b bytes w c
     (λ (e : c ≡ b).
-    let none : count_of c (addresses_in (pointers_in x g.copy)) ≡ 0 = ap (λ q. count_of q (addresses_in (pointers_in x g.copy))) e ∙ owns.1 in
-    omega (arith, none, some)) in
+    omega (arith, (ap (λ q. count_of q (addresses_in (pointers_in x g.copy))) e ∙ owns.1), some)) in
     let names = named_same test x y g.copy agrees there in
     writes_own m x claims claims i b bytes w
     (λ c.

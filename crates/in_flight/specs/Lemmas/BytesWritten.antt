@@ -1,31 +1,17 @@
 -- A task writes bytes into a block of its file.
 use Rattle.std.proofs.Common.{◌≡◌, ◌≢◌, ℕ, ◌+◌, ◌-◌, ◌*◌, ◌/◌, ◌%◌, ◌<◌, ◌≤◌, List, [], ◌++◌, length, get_or, set, max, Option, Some, refl, sym, ap, subst, ◌∙◌, ⊎_elim, arith}
-use Rattle.in_flight.specs.GrowthLaws.{BytesWritten, WritesNext}
-use Rattle.in_flight.specs.Held.{Claim, Claims, Growth, IsClaimedNow, IsFine, IsGrowing, names_claimed, grows, reaching, listed}
-use Rattle.model.specs.declared.types.image.Dinode.{Dinode}
-use Rattle.model.specs.Files.{Files, bytes_in, file_in}
-use Rattle.in_flight.specs.HeldLaws.{FitsThen, IsHeldIn}
-use Rattle.model.specs.declared.types.image.Form.{Form}
-use Rattle.blocks.specs.Disk.{Image, block_at}
+use Rattle.in_flight.specs.Common.{address_along, addresses_in, block_at, byte_at, BytesWritten, cases_eq, cases_lt, Claim, Claims, count_of, depths, Dinode, ext_get_or, file_in, Files, FitsThen, Form, form_agree, form_of, get_or-overwritten_before, get_or-overwritten_behind, get_or-overwritten_in, get_or-set_other, get_or-set_same, greatest_size, grows, Growth, Image, IsClaimedNow, IsFine, IsFullAt, IsGrowing, IsHeldIn, IsLawfulGeometry, length-bytes_in, length-overwritten, listed, names_along, names_claimed, overwritten, overwritten-join, pointers_in, reaching, WritesNext}
+use Rattle.model.specs.Files.{bytes_in}
 use Rattle.in_flight.specs.Lemmas.Looks.{between}
-use Rattle.model.specs.Soundness.{IsLawfulGeometry, count_of}
 use Rattle.in_flight.specs.Lemmas.Growing.{WritesOwn, but_own, own_agrees, own_base, own_inode, writes_own}
 use Rattle.in_flight.specs.Lemmas.KeptTrees.{SameTrees, names_same_along, address_same_along}
 use Rattle.in_flight.specs.Lemmas.Wholes.{greatest_small}
-use Rattle.model.specs.Lemmas.Frames.{form_agree}
-use Rattle.model.specs.Names.{names_along}
-use Rattle.model.specs.Places.{address_along, address_in, addresses_in, pointers_in}
-use Rattle.std.proofs.lemmas.List.{ext_get_or, get_or-set_other, get_or-set_same}
+use Rattle.model.specs.Places.{address_in}
 use Rattle.in_flight.specs.Lemmas.Apart.{blocks_apart, copy_marked, data_apart, data_named, writes_named}
-use Rattle.std.proofs.lemmas.Bool.{cases_eq, cases_lt}
 use Rattle.in_flight.specs.Lemmas.HeldFrames.{growing_of, labels_same, whole_names}
 use Rattle.in_flight.specs.Lemmas.GrowthBlocks.{copy_full, copy_size, full_block, length-written_over}
-use Rattle.model.specs.Layout.{depths, form_of, greatest_size}
 use Rattle.in_flight.specs.Lemmas.Frames.{geometry_same}
 use Rattle.in_flight.specs.Lemmas.SameBytes.{growing_as}
-use Rattle.model.specs.Lemmas.Codecs.{get_or-overwritten_before, get_or-overwritten_behind, get_or-overwritten_in, length-overwritten, overwritten-join}
-use Rattle.model.specs.Lemmas.Bytes.{IsFullAt, byte_at, length-bytes_in}
-use Rattle.blocks.specs.Block.{overwritten}
 
 record Writes (m : Files) (x : Image) (claims new : Claims) (i k at b : ℕ) (bytes : List ℕ) (g : Growth) : Type 0 where
   held : IsHeldIn m x claims i (grows g)
@@ -64,16 +50,12 @@ module _ (m : Files) (x : Image) (claims new : Claims) (i k at b : ℕ) (bytes :
 
   most : q + length bytes ≤ greatest_size (form_of x)
   most =
-      let fits = h.next.fits in
-      let place = h.next.place in
-      omega (arith, fits, place)
+      omega (arith, h.next.fits, h.next.place)
 
   -- the bytes begin in the file, or at its end
   begins : q ≤ d.size
   begins =
-      let size = copy_size m x claims i g h.held in
-      let place = h.next.place in
-      omega (arith, size, place)
+      omega (arith, (copy_size m x claims i g h.held), h.next.place)
 
   there : address_in x d k ≢ 0
   there z = h.next.there (sym h.next.block ∙ z)
@@ -89,9 +71,7 @@ module _ (m : Files) (x : Image) (claims new : Claims) (i k at b : ℕ) (bytes :
 
   writes : WritesOwn m x claims new i b block
   writes =
-      let fits = h.next.inside in
-      let size = full in
-      writes_named m x claims i g h.held new _ b block h.now named (length-overwritten old_block at bytes (omega (arith, fits, size)) ∙ full)
+      writes_named m x claims i g h.held new _ b block h.now named (length-overwritten old_block at bytes (omega (arith, h.next.inside, full)) ∙ full)
 
   geometry : IsLawfulGeometry y
   geometry = geometry_same x y (own_base m x claims new i b block writes) h.held.fits.geometry
@@ -117,12 +97,10 @@ module _ (m : Files) (x : Image) (claims new : Claims) (i k at b : ℕ) (bytes :
   -- a block that the new size needs is there
   needs : (j : ℕ) → j * 1024 < t.copy.size → address_in x d j ≢ 0
   needs j need =
-      let start = begins in
-      let fits = h.next.inside in
       ⊎_elim
       (λ (old : j * 1024 < d.size). growing.fit.whole j old)
       (λ (past : d.size ≤ j * 1024).
-      let same : j ≡ k = omega (arith, past, need, start, fits) in
+      let same : j ≡ k = omega (arith, past, need, begins, h.next.inside) in
       subst (λ n. address_in x d n ≢ 0) (sym same) there)
       (cases_lt (j * 1024) d.size)
 
@@ -162,8 +140,7 @@ module _ (m : Files) (x : Image) (claims new : Claims) (i k at b : ℕ) (bytes :
   in_own p low here =
       let start = begins in
       let size = full in
-      let fits = h.next.inside in
-      let at_start : at ≤ length old_block = omega (arith, size, fits) in
+      let at_start : at ≤ length old_block = omega (arith, size, h.next.inside) in
       let stays : p < d.size → get_or old_block (p % 1024) 0 ≡ get_or (bytes_in x d) p 0 =
       λ less. ap (λ c. get_or (block_at x c) (p % 1024) 0) (sym h.next.block ∙ ap (address_in x d) (sym here)) ∙ sym (kept_byte p less) in
       ⊎_elim
@@ -194,11 +171,10 @@ module _ (m : Files) (x : Image) (claims new : Claims) (i k at b : ℕ) (bytes :
   -- in each other one
   in_other : (p : ℕ) → p < t.copy.size → p / 1024 ≢ k → get_or (block_at x (address_in x d (p / 1024))) (p % 1024) 0 ≡ get_or result p 0
   in_other p low apart =
-      let start = begins in
       let fits = h.next.inside in
       ⊎_elim
       (λ (before : p < q).
-      sym (kept_byte p (omega (arith, before, start)))
+      sym (kept_byte p (omega (arith, before, begins)))
       ∙ sym (get_or-overwritten_before (bytes_in x d) q bytes p 0 start_inside before))
       (λ (from : q ≤ p).
       let later : q + length bytes ≤ p = ⊎_elim
@@ -226,18 +202,14 @@ module _ (m : Files) (x : Image) (claims new : Claims) (i k at b : ℕ) (bytes :
   file_now : bytes_in y t.copy ≡ result
   file_now =
       let now = length-bytes_in y t.copy full_now in
-      let then = length-written_over (bytes_in x d) q bytes start_inside in
-      let was = long in
-      ext_get_or 0 (bytes_in y t.copy) result (omega (arith, now, then, was))
+      ext_get_or 0 (bytes_in y t.copy) result (omega (arith, now, (length-written_over (bytes_in x d) q bytes start_inside), long))
       (λ p low. each_byte p (omega (arith, now, low)))
 
   fine : IsGrowing y i t (file_in m i)
   fine =
-      let high = (between x i h.held.number).high in
-      let still = own_inode m x claims new i b block writes i high in
+      let still = own_inode m x claims new i b block writes i ((between x i h.held.number).high) in
       let all = most in
       let old_all = growing.fit.size in
-      let room = greatest_small (form_of x) in
       growing_as x y i g t.copy g.taken t.written (file_in m i) growing
       (record {
         fields = record {
@@ -245,7 +217,7 @@ module _ (m : Files) (x : Image) (claims new : Claims) (i k at b : ℕ) (bytes :
           major = growing.fit.fields.major;
           minor = growing.fit.fields.minor;
           nlink = growing.fit.fields.nlink;
-          size = omega (arith, all, old_all, room);
+          size = omega (arith, all, old_all, (greatest_small (form_of x)));
           count = count;
           addrs = growing.fit.fields.addrs;
         };

@@ -1,30 +1,11 @@
 -- A creation's claim of a number: what it makes of any image, and which files a loose one then stands for.
 use Rattle.std.proofs.Common.{◌≡◌, ◌≢◌, ℕ, ◌*◌, ◌%◌, ◌<◌, ◌≤◌, Bool, true, not, eqb, leb, ltb, [], length, replicate, Option, Some, None, refl, sym, ap, subst, ◌∙◌, ⊎_elim, arith}
-use Rattle.std.proofs.lemmas.Bool.{eq-eqb, ne_eqb, cases_eq, leb-true, ltb-true}
-use Rattle.std.proofs.lemmas.List.{length-set, get_or-set_same, get_or-set_other}
-use Rattle.blocks.specs.Disk.{Image, block_at}
-use Rattle.model.specs.declared.types.image.Dinode.{Dinode}
-use Rattle.model.specs.declared.types.image.File.{File}
-use Rattle.model.specs.declared.types.image.Form.{Form}
-use Rattle.model.specs.declared.types.image.Form.TheVariants.{One, Two}
-use Rattle.model.specs.declared.types.image.Super.{Super}
-use Rattle.model.specs.Agreement.{AgreesFor}
-use Rattle.model.specs.Codec.{IsDinode, new_inode, with_inode, with_inode_bytes, dinode_bytes}
-use Rattle.model.specs.Files.{Files, file_in, file_at, file_of, bytes_in}
-use Rattle.model.specs.Layout.{depths, super_of, form_of, inode_count_of, first_data_block, inode_of, inode_bytes, inode_block}
-use Rattle.model.specs.Names.{names_along, names_of}
-use Rattle.model.specs.Places.{pointers_in, pointers_of, places_of, addresses_in}
-use Rattle.model.specs.Soundness.{IsLawfulGeometry}
-use Rattle.model.specs.Lemmas.Codecs.{length-overwritten, length-dinode_bytes}
-use Rattle.model.specs.Lemmas.Frames.{Agrees-set, pointers_free}
-use Rattle.model.specs.Lemmas.Inodes.{IsPlaced, is_dinode-new_inode, inode_of-with_inode, inode_bytes-with_inode_other, inode_of-with_inode_other}
-use Rattle.model.specs.Lemmas.Log.{both_of}
-use Rattle.model.specs.Lemmas.Names.{pointers_named}
-use Rattle.model.specs.Lemmas.Runs.{after-made}
-use Rattle.model.specs.Lemmas.Soundness.{facts_of}
+use Rattle.in_flight.specs.Common.{addresses_in, after-made, Agrees-set, AgreesFor, AreFull, block_at, both_of, cases_eq, depths, Dinode, dinode_bytes, eq-eqb, facts_of, File, file_at, file_in, Files, first_data_block, Fits, Form, form_of, get_or-set_other, get_or-set_same, Image, inode_block, inode_bytes, inode_bytes-with_inode_other, inode_count_of, inode_of-with_inode, inode_of-with_inode_other, is_dinode-new_inode, IsAtRest, IsDinode, IsFit, IsLawfulGeometry, IsLoose, IsPlaced, leb-true, length-dinode_bytes, length-overwritten, length-set, ltb-true, names_along, ne_eqb, new_inode, One, places_of, pointers_free, pointers_in, pointers_named, pointers_of, Super, super_of, Two, with_inode, with_inode_bytes}
+use Rattle.model.specs.Files.{file_of, bytes_in}
+use Rattle.model.specs.Layout.{inode_of}
+use Rattle.model.specs.Names.{names_of}
 use Rattle.in_flight.specs.Claims.{HasClaimed, with_new_file}
 use Rattle.in_flight.specs.Laws.{ClaimsOne, ClaimMakesFile}
-use Rattle.in_flight.specs.Loose.{AreFull, IsLoose, IsFit, IsAtRest, Fits}
 use Rattle.in_flight.specs.Lemmas.Frames.{AgreesAtData, agrees_for, rest_alike, addresses_alike, SameSuperAndMap, super_same, geometry_same, marks_same, loose_same, places_same}
 
 -- where a number's inode block lies
@@ -179,8 +160,7 @@ module _ (m : Files) (x : Image) (i kind : ℕ) (f : Fits m x) (h : IsFor x i ki
       let a = apart x i h.geometry h.below in
       let size = (base x i kind h).size in
       let block = block_at x (inode_block i) in
-      let fields = is_dinode-new_inode kind h.small in
-      let len = length-dinode_bytes (new_inode kind) fields.count in
+      let len = length-dinode_bytes (new_inode kind) (is_dinode-new_inode kind h.small).count in
       ⊎_elim
       (λ (e : b ≡ inode_block i).
       ap (λ (c : ℕ). length (block_at z c)) e
@@ -204,18 +184,15 @@ module _ (m : Files) (x : Image) (i kind : ℕ) (f : Fits m x) (h : IsFor x i ki
 
   own_rest : IsAtRest z i (file_in (with_new_file m i kind) i)
   own_rest =
-      let new : Option File = Some (record { kind = kind; bytes = [] }) in
       let below = h.below in
-      let inside : i < length m = omega (arith, f.count) in
       record {
-        same = new_file ∙ sym (get_or-set_same m i new None inside);
+        same = new_file ∙ sym (get_or-set_same m i (Some (record { kind = kind; bytes = [] })) None (omega (arith, f.count)));
         fit = λ u. subst (λ (d : Dinode). IsFit z d) (sym (own_inode x i kind h)) new_fit;
       }
 
   other_rest : (j : ℕ) → 1 ≤ j → j < inode_count_of x → j ≢ i → IsAtRest z j (file_in (with_new_file m i kind) j)
   other_rest j low high ne =
-      let new : Option File = Some (record { kind = kind; bytes = [] }) in
-      subst (IsAtRest z j) (sym (get_or-set_other m i j new None ne))
+      subst (IsAtRest z j) (sym (get_or-set_other m i j (Some (record { kind = kind; bytes = [] })) None ne))
       (rest_alike test x z j (file_in m j) (other_inode x i kind h j ne) (agrees j low high) (f.each j low high))
 
   fits_after : Fits (with_new_file m i kind) z

@@ -1,17 +1,7 @@
 -- How many blocks a task has still to give up at most.
 use Rattle.std.proofs.Common.{◌≡◌, ◌≢◌, ℕ, zero, suc, ◌+◌, ◌<◌, ◌≤◌, cond, eqb, List, [], ◌∷◌, ◌++◌, length, get_or, drop, replicate, refl, sym, ap, subst, ⊎_elim, arith, length-append, length-drop, append-nil}
 use Rattle.std.specs.List.{flat_map}
-use Rattle.std.proofs.lemmas.Bool.{ne_eqb, cases_eq, cases_lt}
-use Rattle.std.proofs.lemmas.List.{get_or_past}
-use Rattle.blocks.specs.Disk.{Image, block_at}
-use Rattle.model.specs.declared.types.image.Form.{Form}
-use Rattle.model.specs.declared.types.image.Form.TheVariants.{One, Two}
-use Rattle.model.specs.Fields.{words_of}
-use Rattle.model.specs.Layout.{depths, form_of}
-use Rattle.model.specs.Names.{names_under}
-use Rattle.in_flight.specs.Held.{blocks_left, frees, most_left}
-use Rattle.in_flight.specs.HeldLaws.{FewLeft}
-use Rattle.in_flight.specs.Trees.{names_left, left_under, left_along, entry_of}
+use Rattle.in_flight.specs.Common.{block_at, blocks_left, cases_eq, cases_lt, depths, entry_of, FewLeft, Form, form_of, frees, get_or_past, Image, left_along, left_under, most_left, names_left, names_under, ne_eqb, One, Two, words_of}
 use Rattle.in_flight.specs.Lemmas.FirstForm.{last_tree}
 use Rattle.in_flight.specs.Lemmas.GivenUp.{first_words}
 use Rattle.in_flight.specs.Lemmas.HeldLooks.{held_has_blocks}
@@ -30,10 +20,7 @@ one_named a =
 all_named : (x : Image) (words : List ℕ) → length (flat_map (names_under x 0) words) ≤ length words
 all_named x [] = omega arith
 all_named x (w ∷ words) =
-    let one = one_named w in
-    let rest = all_named x words in
-    let sum = length-append (names_under x 0 w) (flat_map (names_under x 0) words) in
-    omega (arith, one, rest, sum)
+    omega (arith, (one_named w), (all_named x words), (length-append (names_under x 0 w) (flat_map (names_under x 0) words)))
 
 -- a block of addresses and its entries
 few_under : (x : Image) (a : ℕ) (cursor : List ℕ) → length (words_of (block_at x a)) ≤ 256 →
@@ -72,16 +59,11 @@ few_along x cursor (suc n) [] few = omega arith
 few_along x cursor zero (a ∷ addresses) few =
     ⊎_elim (λ (z : a ≡ 0). rw z (omega arith))
     (λ (some : a ≢ 0).
-    let under = few_under x a cursor (few some) in
-    let none = ap length (append-nil (left_under x 1 cursor a)) in
-    rw (ne_eqb a 0 some) (omega (arith, under, none)))
+    rw (ne_eqb a 0 some) (omega (arith, (few_under x a cursor (few some)), (ap length (append-nil (left_under x 1 cursor a))))))
     (cases_eq a 0)
 few_along x cursor (suc n) (a ∷ addresses) few =
-    let one = one_named a in
-    let rest = few_along x cursor n addresses few in
-    let later = left_along x cursor (replicate n 0 ++ 1 ∷ []) addresses in
-    let sum = length-append (cond (eqb a 0) [] (a ∷ [])) later in
-    omega (arith, one, rest, sum)
+    let sum = length-append (cond (eqb a 0) [] (a ∷ [])) (left_along x cursor (replicate n 0 ++ 1 ∷ []) addresses) in
+    omega (arith, (one_named a), (few_along x cursor n addresses few), sum)
 
 pub few_left : FewLeft
 few_left m x claims i h g = by_form (form_of x) refl
@@ -89,8 +71,7 @@ few_left m x claims i h g = by_form (form_of x) refl
     its_words : form_of x ≡ One → get_or h.copy.addrs 12 0 ≢ 0 →
         length (words_of (block_at x (get_or h.copy.addrs 12 0))) ≤ 256
     its_words one some =
-        let words = first_words m x claims i 12 h g (last_tree x one h.copy some) in
-        omega (arith, words)
+        omega (arith, (first_words m x claims i 12 h g (last_tree x one h.copy some)))
 
     by_form : (f : Form) → form_of x ≡ f → blocks_left x h ≤ most_left f
     by_form One one =
@@ -102,5 +83,4 @@ few_left m x claims i h g = by_form (form_of x) refl
         let few =
         few_below (length x) (names_left x h.copy h.cursor) has.once
         (λ b some. (has.marked b some).0.1) in
-        let room = (mapped x g.fits.geometry g.fits.full).room in
-        omega (arith, few, room)
+        omega (arith, few, ((mapped x g.fits.geometry g.fits.full).room))

@@ -1,14 +1,7 @@
 -- In the first form an inode's last address is its only block of addresses, whose entries are data
 -- blocks.
 use Rattle.std.proofs.Common.{◌≡◌, ◌≢◌, ℕ, zero, suc, ◌+◌, ◌<◌, ◌≤◌, [], ◌∷◌, get_or, refl, sym, ap, subst, ◌∙◌, inl, arith}
-use Rattle.std.proofs.lemmas.Bool.{ne_eqb}
-use Rattle.blocks.specs.Disk.{Image}
-use Rattle.model.specs.declared.types.image.Dinode.{Dinode}
-use Rattle.model.specs.declared.types.image.Form.{Form}
-use Rattle.model.specs.declared.types.image.Form.TheVariants.{One}
-use Rattle.model.specs.Layout.{depths, form_of}
-use Rattle.model.specs.Soundness.{count_of}
-use Rattle.in_flight.specs.Trees.{names_left, left_under, depth_of, entry_of, place_of, place_along, place_under, IsFirstTree, Gives, LeavesAlike}
+use Rattle.in_flight.specs.Common.{count_of, depth_of, depths, Dinode, entry_of, Form, form_of, Gives, Image, IsFirstTree, LeavesAlike, left_under, names_left, ne_eqb, One, place_along, place_of, place_under}
 use Rattle.in_flight.specs.Lemmas.GivenUp.{passes_first}
 use Rattle.in_flight.specs.Lemmas.LeftInTrees.{MovesOn}
 use Rattle.in_flight.specs.Lemmas.Wholes.{direct_depth}
@@ -28,17 +21,6 @@ module _ (x : Image) (one : form_of x ≡ One) where
         tree = λ z. omega (arith, z, deep);
         before = λ k low tree. absurd (tree (first_depth k low));
       }
-
-  -- the place of an entry's block
-  pub last_place : (e : ℕ) → place_of x 12 (e ∷ []) ≡ 12 + e
-  last_place e = ap (λ (f : Form). place_along (depths f) 12 + place_under (e ∷ [])) one ∙ omega arith
-
-  -- an entry that is there is the next that is given up
-  pub gives_entry : (a e : ℕ) → a ≢ 0 → entry_of x a e ≢ 0 → Gives x (depth_of x 12) (e ∷ []) a (entry_of x a e) ((e + 1) ∷ [])
-  gives_entry a e some there =
-      let next : e + 1 ≡ suc e = omega arith in
-      subst (λ n. Gives x n (e ∷ []) a (entry_of x a e) ((e + 1) ∷ [])) (sym last_depth)
-      (some, inl (rw (ne_eqb (entry_of x a e) 0 there) refl, ap (λ k. k ∷ []) next))
 
   -- and where none is there, all the same is left
   pub none_between : (d : Dinode) (n from : ℕ) → get_or d.addrs 12 0 ≢ 0 →

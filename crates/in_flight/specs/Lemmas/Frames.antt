@@ -1,21 +1,9 @@
 -- What stays true in an image that agrees with a loose one at its data blocks.
 use Rattle.std.proofs.Common.{◌≡◌, ◌≢◌, ℕ, ◌+◌, ◌-◌, ◌<◌, ◌≤◌, Bool, true, ◌||◌, cond, eqb, ltb, List, [], ◌∷◌, length, Option, None, refl, sym, ap, subst, ◌∙◌, arith}
 use Rattle.std.specs.List.{flat_map, list_all, range_with_len, AllByRecursion}
-use Rattle.std.proofs.lemmas.Bool.{eq-eqb}
-use Rattle.blocks.specs.Disk.{Image, block_at}
-use Rattle.model.specs.declared.types.image.Dinode.{Dinode}
-use Rattle.model.specs.declared.types.image.File.{File}
-use Rattle.model.specs.declared.types.image.Super.{Super}
-use Rattle.model.specs.Agreement.{Agrees, AgreesFor}
-use Rattle.model.specs.Fields.{u32_at, has_bit}
-use Rattle.model.specs.Files.{Files, file_of}
-use Rattle.model.specs.Layout.{super_in, super_of, is_lawful_super, inode_count_of, first_data_block, meta_count, inode_of, is_marked, is_known_magic}
-use Rattle.model.specs.Places.{pointers_in, pointers_of, places_of, addresses_in}
-use Rattle.model.specs.Soundness.{IsLawfulGeometry, count_of}
-use Rattle.model.specs.Lemmas.Counts.{count_flat}
-use Rattle.model.specs.Lemmas.Frames.{form_agree, pointers_agree, address_agree, file_agree}
-use Rattle.model.specs.Lemmas.OutsideLog.{flat_map_range_same}
-use Rattle.in_flight.specs.Loose.{LiesInData, IsLoose, IsFit, IsAtRest, Fits}
+use Rattle.in_flight.specs.Common.{address_agree, addresses_in, Agrees, AgreesFor, block_at, count_flat, count_of, Dinode, eq-eqb, File, file_agree, Files, first_data_block, Fits, flat_map_range_same, form_agree, has_bit, Image, inode_count_of, is_known_magic, is_lawful_super, is_marked, IsAtRest, IsFit, IsLawfulGeometry, IsLoose, LiesInData, meta_count, places_of, pointers_agree, pointers_in, pointers_of, Super, super_in, super_of, u32_at}
+use Rattle.model.specs.Files.{file_of}
+use Rattle.model.specs.Layout.{inode_of}
 
 -- ---- numbers that stand in a list
 

@@ -1,27 +1,11 @@
 -- What a cleared bit makes of the bitmap, and of an image in which tasks hold files.
 use Rattle.std.proofs.Common.{◌≡◌, ◌≢◌, ℕ, zero, suc, ◌+◌, ◌^◌, ◌<◌, ◌≤◌, false, ◌||◌, cond, eqb, ltb, List, [], ◌∷◌, length, get_or, set, Option, Some, refl, sym, ap, subst, ◌∙◌, ⊎_elim, zero-add, arith}
-use Rattle.std.proofs.lemmas.Bool.{ne_eqb, eq-eqb, cases_eq, cases_lt, le-ltb, or_from}
-use Rattle.std.proofs.lemmas.List.{length-set, get_or-set_same, get_or-set_other, set_past}
-use Rattle.blocks.specs.Disk.{Image, block_at}
-use Rattle.model.specs.declared.types.image.Dinode.{Dinode}
-use Rattle.model.specs.declared.types.image.File.{File}
-use Rattle.model.specs.Codec.{without_bit}
-use Rattle.model.specs.Fields.{words_of}
-use Rattle.model.specs.Files.{Files, file_in}
-use Rattle.model.specs.Layout.{super_of, inode_of, inode_count_of, first_data_block, is_marked, depths, direct_count, form_of}
-use Rattle.model.specs.Soundness.{count_of}
-use Rattle.model.specs.Lemmas.Bits.{has_bit-without_bit_same, has_bit-without_bit_other, length-without_bit}
-use Rattle.model.specs.Lemmas.Counts.{count_of-append}
-use Rattle.model.specs.Lemmas.Wholes.{thirteen_depths}
-use Rattle.model.specs.Lemmas.Words.{length-words_of-block}
-use Rattle.in_flight.specs.Held.{Held, Claims, IsHeld, IsFine, IsClaimedNow, names_claimed, owned, unmarked, without_address, blocks_left, frees, Claim}
-use Rattle.in_flight.specs.HeldLaws.{FitsThen, IsHeldIn, IsGivenUp, DirectGivenUp, BlockGivenUp, LeavesAsMany, TreeGivenUp}
-use Rattle.in_flight.specs.Trees.{names_left, left_under, left_along, depth_of, entry_of, led_to, IsFirstTree, LeavesAlike}
+use Rattle.in_flight.specs.Common.{block_at, BlockGivenUp, blocks_left, cases_eq, cases_lt, Claim, Claims, count_of, count_of-append, depth_of, depths, Dinode, direct_count, DirectGivenUp, entry_of, eq-eqb, File, file_in, Files, first_data_block, FitsThen, form_of, frees, get_or-set_other, get_or-set_same, has_bit-without_bit_other, has_bit-without_bit_same, Held, Image, inode_count_of, is_marked, IsClaimedNow, IsFine, IsFirstTree, IsGivenUp, IsHeld, IsHeldIn, IsLoose, le-ltb, LeavesAlike, LeavesAsMany, led_to, left_along, left_under, length-set, length-without_bit, length-words_of-block, names_claimed, names_left, ne_eqb, or_from, owned, set_past, super_of, thirteen_depths, TreeGivenUp, unmarked, without_address, without_bit, words_of}
+use Rattle.model.specs.Layout.{inode_of}
 use Rattle.in_flight.specs.Lemmas.Lengths.{as_many}
 use Rattle.in_flight.specs.Lemmas.LeftInTrees.{MovesOn, left_parts, passed, given, alone, without_along, direct_along}
 use Rattle.in_flight.specs.Lemmas.Ways.{IsAhead, ahead_root, led_left}
 use Rattle.in_flight.specs.Lemmas.Wholes.{direct_depth, direct_few}
-use Rattle.in_flight.specs.Loose.{IsLoose}
 use Rattle.in_flight.specs.Lemmas.Claims.{apart}
 use Rattle.in_flight.specs.Lemmas.HeldFrames.{ChangesOne, loose_alike, names_same, fine_same, owned_kept, fits_then, claimed_in_data, at_data, Passes, data_passes}
 use Rattle.in_flight.specs.Lemmas.Looks.{between}
@@ -164,8 +148,7 @@ module _ (m : Files) (x : Image) (claims new : Claims) (i b : ℕ) (h t : Held) 
   one_less =
       let same : blocks_left z t ≡ blocks_left x t
       = ap length (names_same (test x (bits x b map) map) x z i (Some (frees t)) change.agree (inode_kept i high) still_passes) in
-      let many = as_many (names_left x h.copy h.cursor) (b ∷ names_left x t.copy t.cursor) g.gone in
-      omega (arith, same, many)
+      omega (arith, same, (as_many (names_left x h.copy h.cursor) (b ∷ names_left x t.copy t.cursor) g.gone))
 
   gives_up : IsGivenUp m x claims i b h t new
   gives_up = record { then = gives_fits; fewer = one_less }
@@ -221,9 +204,7 @@ held_further x i cursor h file held = held_as x i h.copy.addrs cursor h file hel
 direct_parts : (x : Image) (d : Dinode) (cursor : List ℕ) (k c : ℕ) → k < direct_count (form_of x) → get_or d.addrs k 0 ≢ 0 →
     count_of c (names_left x d cursor) ≡ count_of c (get_or d.addrs k 0 ∷ left_along x cursor (depths (form_of x)) (set d.addrs k 0))
 direct_parts x d cursor k c low some =
-    let all = thirteen_depths (form_of x) in
-    let few = direct_few (form_of x) in
-    direct_along x cursor (depths (form_of x)) d.addrs k c (omega (arith, low, all, few)) some
+    direct_along x cursor (depths (form_of x)) d.addrs k c (omega (arith, low, (thirteen_depths (form_of x)), (direct_few (form_of x)))) some
     (λ j before. direct_depth (form_of x) j (omega (arith, before, low)))
 
 pub direct_given_up : DirectGivenUp
@@ -246,18 +227,14 @@ first_parts x d slot c cursor first = without_along x cursor (depths (form_of x)
 pub first_left : (x : Image) (d : Dinode) (slot : ℕ) (cursor way : List ℕ) (n : ℕ) → IsFirstTree x d slot → length way ≤ depth_of x slot →
     led_to x way (get_or d.addrs slot 0) ≡ n → n ≢ 0 → IsAhead cursor way → 1 ≤ count_of n (names_left x d cursor)
 first_left x d slot cursor way n first short led some ahead =
-    let parts = first_parts x d slot n cursor first in
-    let one = led_left x (depth_of x slot) cursor way (get_or d.addrs slot 0) n short led some ahead in
-    omega (arith, parts, one)
+    omega (arith, (first_parts x d slot n cursor first), (led_left x (depth_of x slot) cursor way (get_or d.addrs slot 0) n short led some ahead))
 
 -- a data block that the copy itself names is left
 pub direct_left : (x : Image) (d : Dinode) (cursor : List ℕ) (k : ℕ) → k < direct_count (form_of x) → get_or d.addrs k 0 ≢ 0 →
     1 ≤ count_of (get_or d.addrs k 0) (names_left x d cursor)
 direct_left x d cursor k low some =
     let b = get_or d.addrs k 0 in
-    let rest = direct_parts x d cursor k b low some in
-    let one = counted_here b (left_along x cursor (depths (form_of x)) (set d.addrs k 0)) in
-    omega (arith, rest, one)
+    omega (arith, (direct_parts x d cursor k b low some), (counted_here b (left_along x cursor (depths (form_of x)) (set d.addrs k 0))))
 
 pub block_given_up : BlockGivenUp
 block_given_up m x claims new i slot b behind cursor h g first gives alike now =
@@ -268,13 +245,10 @@ block_given_up m x claims new i slot b behind cursor h g first gives alike now =
       now = now;
       fine = held_further x i cursor h (file_in m i) (held_of m x claims i h g);
       gone = λ c.
-          let old = first_parts x h.copy slot c h.cursor first in
-          let rest = first_parts x h.copy slot c behind first in
           let one = given x depth h.cursor a b behind gives c in
-          let same = alike c in
           let p = count_of-append c (b ∷ []) (left_under x depth behind a) in
           let q = count_of-append c (b ∷ []) (names_left x h.copy cursor) in
-          omega (arith, old, rest, one, same, p, q);
+          omega (arith, (first_parts x h.copy slot c h.cursor first), (first_parts x h.copy slot c behind first), one, (alike c), p, q);
     })
 
 -- no entry of it names the block of addresses itself: that would be left twice
@@ -282,12 +256,9 @@ pub first_twice : (x : Image) (d : Dinode) (slot e below : ℕ) (rest : List ℕ
     entry_of x (get_or d.addrs slot 0) e ≡ get_or d.addrs slot 0 → 2 ≤ count_of (get_or d.addrs slot 0) (names_left x d (e ∷ rest))
 first_twice x d slot e below rest first deep same =
     let a = get_or d.addrs slot 0 in
-    let parts = first_parts x d slot a (e ∷ rest) first in
-    let own = left_parts x below e a a rest first.there in
-    let here = counted_here a [] in
     let one = led_left x below rest [] (entry_of x a e) a (omega arith) same first.there (ahead_root rest) in
     let depth = ap (λ (n : ℕ). count_of a (left_under x n (e ∷ rest) a)) deep in
-    omega (arith, parts, own, here, one, depth)
+    omega (arith, (first_parts x d slot a (e ∷ rest) first), (left_parts x below e a a rest first.there), (counted_here a []), one, depth)
 
 pub leaves_as_many : LeavesAsMany
 leaves_as_many x cursor h alike = as_many (names_left x h.copy cursor) (names_left x h.copy h.cursor) alike
@@ -296,10 +267,7 @@ leaves_as_many x cursor h alike = as_many (names_left x h.copy cursor) (names_le
 pub passes_first : (x : Image) (d : Dinode) (slot : ℕ) (these others : List ℕ) → IsFirstTree x d slot →
     MovesOn x (depth_of x slot) these (get_or d.addrs slot 0) others → LeavesAlike x d others these
 passes_first x d slot these others first passes c =
-    let old = first_parts x d slot c these first in
-    let new = first_parts x d slot c others first in
-    let same = passed x (depth_of x slot) these (get_or d.addrs slot 0) others passes c in
-    omega (arith, old, new, same)
+    omega (arith, (first_parts x d slot c these first), (first_parts x d slot c others first), (passed x (depth_of x slot) these (get_or d.addrs slot 0) others passes c))
 
 -- a block of addresses that is there has 256 entries
 pub first_words : (m : Files) (x : Image) (claims : Claims) (i slot : ℕ) (h : Held) → IsHeldIn m x claims i (frees h) → IsFirstTree x h.copy slot →
@@ -311,18 +279,14 @@ first_words m x claims i slot h g first =
     (subst (λ (o : Option Claim). 1 ≤ count_of a (names_claimed x i o)) (sym g.holds)
     (first_left x h.copy slot h.cursor [] a first (omega arith) refl first.there (ahead_root h.cursor))) in
     let map = mapped x g.fits.geometry g.fits.full in
-    let from = there.0 in
-    let behind = map.behind in
-    let before = map.before_data in
-    length-words_of-block (block_at x a) (g.fits.full a (omega (arith, from, behind, before)) there.1)
+    length-words_of-block (block_at x a) (g.fits.full a (omega (arith, there.0, map.behind, map.before_data)) there.1)
 
 -- behind the last of its entries it is left alone
 pub first_alone : (m : Files) (x : Image) (claims : Claims) (i slot e : ℕ) (rest : List ℕ) (h : Held) → IsHeldIn m x claims i (frees h) →
     IsFirstTree x h.copy slot → 256 ≤ e →
     left_under x (depth_of x slot) (e ∷ rest) (get_or h.copy.addrs slot 0) ≡ get_or h.copy.addrs slot 0 ∷ []
 first_alone m x claims i slot e rest h g first past =
-    let words = first_words m x claims i slot h g first in
-    by_depth (get_or h.copy.addrs slot 0) (depth_of x slot) first.tree first.there (omega (arith, words, past))
+    by_depth (get_or h.copy.addrs slot 0) (depth_of x slot) first.tree first.there (omega (arith, (first_words m x claims i slot h g first), past))
   where
     by_depth : (a depth : ℕ) → depth ≢ 0 → a ≢ 0 → length (words_of (block_at x a)) ≤ e → left_under x depth (e ∷ rest) a ≡ a ∷ []
     by_depth a zero tree some few = absurd (tree refl)
@@ -338,9 +302,5 @@ tree_given_up m x claims new i slot cursor h g first itself alike now =
       fine = held_further x i cursor (without_address h slot) (file_in m i)
           (held_without x i slot h (file_in m i) (held_of m x claims i h g));
       gone = λ c.
-          let old = first_parts x h.copy slot c h.cursor first in
-          let own = ap (count_of c) itself in
-          let rest = alike c in
-          let p = count_of-append c (a ∷ []) (names_left x t.copy t.cursor) in
-          omega (arith, old, own, rest, p);
+          omega (arith, (first_parts x h.copy slot c h.cursor first), (ap (count_of c) itself), (alike c), (count_of-append c (a ∷ []) (names_left x t.copy t.cursor)));
     })

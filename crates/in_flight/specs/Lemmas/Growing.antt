@@ -1,21 +1,11 @@
 -- What a task that writes makes of an image, whichever of its steps it is.
 use Rattle.std.proofs.Common.{◌≡◌, ◌≢◌, ℕ, ◌<◌, ◌≤◌, Bool, true, not, eqb, List, [], length, set, Option, refl, ap, ◌∙◌, ⊎_elim, arith, ne_eqb, get_or-set_other, length-set, get_or-set_same}
-use Rattle.in_flight.specs.Held.{Claims, Growth, FitsHeld, IsFine, IsGrowing, names_claimed, owned}
-use Rattle.blocks.specs.Disk.{Image, block_at}
-use Rattle.model.specs.Files.{Files, file_in}
-use Rattle.model.specs.declared.types.image.Dinode.{Dinode}
-use Rattle.model.specs.declared.types.image.File.{File}
-use Rattle.model.specs.Layout.{inode_count_of, inode_of, super_of}
-use Rattle.in_flight.specs.Loose.{LiesInData, AreFull}
+use Rattle.in_flight.specs.Common.{addresses_in, Agrees-set, AreFull, block_at, cases_eq, Claims, count_of, Dinode, File, file_in, Files, FitsHeld, FitsThen, Growth, Image, inode_count_of, IsFine, IsGrowing, LiesInData, names_claimed, owned, pointers_agree, pointers_in, super_of}
+use Rattle.model.specs.Layout.{inode_of}
 use Rattle.in_flight.specs.Lemmas.Remapped.{IsMapped, mapped}
 use Rattle.in_flight.specs.Lemmas.HeldFrames.{AgreesAt, ChangesOne, Passes, claimed_in_data, owned_by_one, inode_elsewhere, fits_then, loose_alike, agrees_of, owned_kept}
 use Rattle.in_flight.specs.Lemmas.Frames.{SameSuperAndMap, loose_same}
-use Rattle.model.specs.Soundness.{count_of}
-use Rattle.model.specs.Lemmas.Frames.{Agrees-set, pointers_agree}
-use Rattle.model.specs.Places.{addresses_in, pointers_in}
-use Rattle.std.proofs.lemmas.Bool.{cases_eq}
 use Rattle.in_flight.specs.Lemmas.Claims.{apart}
-use Rattle.in_flight.specs.HeldLaws.{FitsThen}
 use Rattle.in_flight.specs.Lemmas.SameBytes.{growing_as}
 
 -- the blocks that a copy's addresses lead to are the same where those pass
@@ -94,8 +84,7 @@ module _ (m : Files) (x : Image) (claims new : Claims) (i b : ℕ) (bytes : List
   others_pass j low high ne c some =
       let none = owned_by_one m x claims i j b h.fits h.low h.high low high ne h.mine in
       away_own c (λ (e : c ≡ b).
-      let same : count_of c (names_claimed x j (claims j)) ≡ 0 = ap (λ q. count_of q (names_claimed x j (claims j))) e ∙ none in
-      omega (arith, same, some))
+      omega (arith, (ap (λ q. count_of q (names_claimed x j (claims j))) e ∙ none), some))
 
   change : ChangesOne but_own m x claims i m y new
   change =

@@ -1,20 +1,12 @@
 -- The blocks of a task that writes, and the size that it reached.
 use Rattle.std.proofs.Common.{◌≡◌, ◌≢◌, ℕ, ◌+◌, ◌*◌, ◌<◌, ◌≤◌, List, ◌++◌, length, take, drop, max, Option, Some, None, sym, ap, subst, ◌∙◌, arith, length-append}
-use Rattle.in_flight.specs.Held.{Claims, Growth, IsGrowing, grows}
-use Rattle.model.specs.declared.types.image.Dinode.{Dinode}
-use Rattle.model.specs.declared.types.image.File.{File}
-use Rattle.model.specs.Files.{Files, file_in}
-use Rattle.in_flight.specs.GrowthLaws.{GrowthHasBlocks, HasGrowthBlocks}
-use Rattle.blocks.specs.Disk.{Image}
-use Rattle.in_flight.specs.HeldLaws.{IsHeldIn}
 use Rattle.model.specs.Places.{address_in}
-use Rattle.model.specs.Lemmas.Bytes.{IsFullAt, length-bytes_in}
 use Rattle.in_flight.specs.Lemmas.Apart.{data_marked, slot_marked}
 use Rattle.in_flight.specs.Lemmas.HeldFrames.{growing_of}
-use Rattle.std.proofs.lemmas.List.{length-drop, length-take-le}
+use Rattle.std.proofs.lemmas.List.{length-drop}
+use Rattle.in_flight.specs.Common.{Claims, Dinode, File, file_in, Files, grows, Growth, GrowthHasBlocks, HasGrowthBlocks, Image, IsFullAt, IsGrowing, IsHeldIn, length-bytes_in, length-take-le, overwritten}
 use Rattle.in_flight.specs.Lemmas.Placing.{lies_small}
 use Rattle.in_flight.specs.Lemmas.HeldLooks.{held_has_blocks}
-use Rattle.blocks.specs.Block.{overwritten}
 
 -- bytes over others, to whose end they reach or past it
 pub length-written_over : (old : List ℕ) (at : ℕ) (bytes : List ℕ) → at ≤ length old →
@@ -48,8 +40,7 @@ module _ (m : Files) (x : Image) (claims : Claims) (i : ℕ) (g : Growth) (h : I
   pub full_block : (k : ℕ) → address_in x d k ≢ 0 → IsFullAt x (address_in x d k)
   full_block k some =
       let there = data_marked m x claims i g h k some in
-      let behind = (lies_small x (address_in x d k) h.fits.geometry h.fits.full there.0).behind in
-      (some, h.fits.full (address_in x d k) (omega (arith, behind)) there.0.1)
+      (some, h.fits.full (address_in x d k) (omega (arith, ((lies_small x (address_in x d k) h.fits.geometry h.fits.full there.0).behind))) there.0.1)
 
   pub copy_full : (k : ℕ) → k * 1024 < d.size → IsFullAt x (address_in x d k)
   copy_full k need = full_block k (growing.fit.whole k need)

@@ -1,26 +1,16 @@
 -- A task that writes is done: its copy is written back, and its reply stands.
 use Rattle.std.proofs.Common.{◌≡◌, ℕ, ◌+◌, ◌*◌, ◌/◌, ◌%◌, ◌<◌, ◌≤◌, true, List, length, set, take, Some, None, refl, sym, ap, ◌∙◌, ⊎_elim, arith, ap₂, eqb, length-set}
-use Rattle.model.specs.declared.types.image.File.{File}
-use Rattle.model.specs.Files.{Files, bytes_in, file_in}
-use Rattle.model.specs.declared.types.image.Form.{Form}
-use Rattle.in_flight.specs.GrowthLaws.{GrowthAnswers, GrowthRests, RestingRefuses}
-use Rattle.model.specs.declared.types.operations.Op.TheVariants.{Write}
-use Rattle.model.specs.declared.types.operations.Reply.TheVariants.{Wrote}
+use Rattle.in_flight.specs.Common.{cases_lt, count_of, eq-eqb, File, file_in, file_used, Files, Form, form_of, get_or-set_other, get_or-set_same, greatest_size, GrowthAnswers, GrowthRests, le-leb, le-ltb, length-take-le, listed, lt-ltb, may_have_written, or_right, overwritten, RestingRefuses, transfer_limit, with_bytes, Write, Wrote}
+use Rattle.model.specs.Files.{bytes_in}
 use Rattle.model.specs.Places.{address_in}
-use Rattle.std.proofs.lemmas.Bool.{cases_lt, eq-eqb, le-leb, le-ltb, lt-ltb, or_right}
 use Rattle.in_flight.specs.Lemmas.GrowthBlocks.{copy_size, same_file_there}
-use Rattle.model.specs.Soundness.{count_of}
-use Rattle.model.specs.Layout.{form_of, greatest_size, inode_of}
-use Rattle.std.proofs.lemmas.List.{get_or-set_other, get_or-set_same, length-take-le}
+use Rattle.model.specs.Layout.{inode_of}
 use Rattle.in_flight.specs.Lemmas.HeldFrames.{growing_of}
-use Rattle.model.specs.Operations.{may_have_written, transfer_limit, with_bytes, after}
-use Rattle.model.specs.Lemmas.Bytes.{file_used}
+use Rattle.model.specs.Operations.{after}
 use Rattle.in_flight.specs.Lemmas.Apart.{named_mine}
 use Rattle.in_flight.specs.Lemmas.HeldLooks.{resting_tells}
 use Rattle.in_flight.specs.Lemmas.WriteBacks.{writes_back}
 use Rattle.in_flight.specs.Lemmas.Looks.{between}
-use Rattle.blocks.specs.Block.{overwritten}
-use Rattle.in_flight.specs.Held.{listed}
 
 -- ---- the write-back
 
@@ -32,7 +22,6 @@ growth_rests m x claims new i g old h none is now =
     let same = same_file_there growing.old old (sym growing.was ∙ is) in
     let file : File = record old { bytes = overwritten old.bytes g.offset g.written } in
     let count = h.fits.count in
-    let inside : i < length m = omega (arith, high, count) in
     let kind : g.copy.kind ≡ old.kind = growing.kind ∙ ap (λ (f : File). f.kind) same in
     let bytes : bytes_in x g.copy ≡ overwritten old.bytes g.offset g.written
     = growing.bytes ∙ ap (λ (f : File). overwritten f.bytes g.offset g.written) same in
@@ -43,12 +32,10 @@ growth_rests m x claims new i g old h none is now =
       now = now;
       fields = growing.fit.fields;
       names = λ c.
-          let mine = named_mine m x claims i g h c in
-          let empty : count_of c (listed g.taken) ≡ 0 = ap (λ t. count_of c (listed t)) none in
-          omega (arith, mine, empty);
+          omega (arith, (named_mine m x claims i g h c), (ap (λ t. count_of c (listed t)) none));
       fit = λ used. growing.fit;
       count = length-set m i (Some file);
-      own = get_or-set_same m i (Some file) None inside
+      own = get_or-set_same m i (Some file) None (omega (arith, high, count))
           ∙ ap₂ (λ (k : ℕ) (l : List ℕ). Some (record { kind = k; bytes = l })) (sym kind) (sym bytes)
           ∙ sym (file_used x g.copy growing.fit.used);
       files = λ j ne. get_or-set_other m i j (Some file) None ne;

@@ -1,33 +1,12 @@
 -- What stays of the claims in an image that agrees with another at its data blocks.
 use Rattle.std.proofs.Common.{◌≡◌, ◌≢◌, ℕ, ◌+◌, ◌-◌, ◌<◌, ◌≤◌, Bool, ◌||◌, ltb, List, [], ◌++◌, length, Option, Some, None, refl, sym, ap, subst, ◌∙◌, ⊎_elim, arith, true, IsTrue, set, get_or-set_other}
 use Rattle.std.specs.List.{flat_map, range_with_len}
-use Rattle.std.proofs.lemmas.Bool.{cases_eq}
-use Rattle.blocks.specs.Disk.{Image}
-use Rattle.model.specs.declared.types.image.Dinode.{Dinode}
-use Rattle.model.specs.declared.types.image.File.{File}
-use Rattle.model.specs.declared.types.image.Super.{Super}
-use Rattle.model.specs.Agreement.{AgreesFor, Agrees}
-use Rattle.model.specs.Fields.{u32_at}
-use Rattle.model.specs.Files.{Files, file_in}
-use Rattle.model.specs.Layout.{super_in, super_of, is_lawful_super, inode_of, inode_count_of, first_data_block, meta_count, form_of, depths, inode_block, inode_in, inode_bytes_in, is_known_magic}
-use Rattle.model.specs.Places.{addresses_in, pointers_in}
-use Rattle.model.specs.Soundness.{IsLawfulGeometry, count_of}
-use Rattle.model.specs.Lemmas.Counts.{count_flat, count_flat_one, count_of-append, count_two}
-use Rattle.model.specs.Lemmas.Frames.{address_agree, bytes_agree, pointers_agree, form_agree}
-use Rattle.model.specs.Lemmas.OutsideLog.{flat_map_range_same}
-use Rattle.in_flight.specs.Held.{Claims, FitsHeld, IsFine, names_claimed, owned, Claim, frees, grows, listed, IsGrowing, Growth}
-use Rattle.in_flight.specs.HeldLaws.{FitsThen, HasSameFile, StaysHeld, IsHeldIn, KeepsGrown}
-use Rattle.in_flight.specs.Loose.{AreFull, LiesInData, IsLoose}
+use Rattle.in_flight.specs.Common.{address_agree, addresses_in, Agrees, AgreesFor, AreFull, bytes_agree, cases_eq, Claim, Claims, count_flat, count_flat_one, count_of, count_of-append, count_two, depths, Dinode, File, file_in, Files, first_data_block, FitsHeld, FitsThen, flat_map_range_same, form_agree, form_of, frees, grows, Growth, HasSameFile, Image, inode_block, inode_bytes_in, inode_count_of, inode_in, is_known_magic, is_lawful_super, is_number, IsFine, IsGrowing, IsHeldIn, IsLawfulGeometry, IsLoose, KeepsGrown, labels_of, left_along, LiesInData, listed, meta_count, names_along, names_claimed, names_used, owned, pointers_agree, pointers_in, pointers_named, StaysHeld, Super, super_in, super_of, u32_at}
+use Rattle.model.specs.Layout.{inode_of}
 use Rattle.in_flight.specs.Looks.{IsUsed}
 use Rattle.in_flight.specs.Lemmas.Frames.{list_all-counted, AgreesAtData, rest_alike, fit_alike}
 use Rattle.in_flight.specs.Lemmas.Looks.{between}
-use Rattle.model.specs.Crash.{labels_of}
-use Rattle.model.specs.Names.{names_along}
-use Rattle.model.specs.Lemmas.Names.{pointers_named}
-use Rattle.model.specs.Lemmas.Wholes.{names_used}
 use Rattle.in_flight.specs.Lemmas.KeptTrees.{left_along_kept}
-use Rattle.in_flight.specs.Trees.{left_along}
-use Rattle.model.specs.Journal.{is_number}
 
 -- two lists have each number equally often
 abbrev pub AreAlike : List ℕ → List ℕ → Type 0
@@ -87,8 +66,7 @@ agrees_of test x y d h there = record {
 -- of a list and another behind it, what the second one has passes
 passes_behind : (test : ℕ → Bool) (front names : List ℕ) → Passes test (front ++ names) → Passes test names
 passes_behind test front names there b some =
-    let both = count_of-append b front names in
-    there b (omega (arith, both, some))
+    there b (omega (arith, (count_of-append b front names), some))
 
 pub names_same : (test : ℕ → Bool) (x y : Image) (i : ℕ) (c : Option Claim) → AgreesAt test x y → inode_of y i ≡ inode_of x i →
     Passes test (names_claimed x i c) → names_claimed y i c ≡ names_claimed x i c
@@ -166,9 +144,6 @@ module _ (test : ℕ → Bool) (m : Files) (x : Image) (claims : Claims) (i : �
   pub numbers_kept : inode_count_of y ≡ inode_count_of x
   numbers_kept = ap (λ (s : Super). s.ninodes) super_kept
 
-  pub start_kept : first_data_block y ≡ first_data_block x
-  start_kept = ap (λ (s : Super). meta_count s.size s.ninodes) super_kept
-
   pub geometry_kept : IsLawfulGeometry y
   geometry_kept = record {
     magic = ap (λ b. is_known_magic (u32_at b 0)) (h.agree.agree 1 h.agree.one) ∙ h.fits.geometry.magic;
@@ -206,11 +181,10 @@ module _ (test : ℕ → Bool) (m : Files) (x : Image) (claims : Claims) (i : �
 
   pub same_file : (j : ℕ) → j ≢ i → claims j ≡ None → IsUsed x j → HasSameFile x y j
   same_file j ne rest used =
-      let at = between x j used.0 in
       let passes = claim_passes j None ne used.0 rest in
       let agrees = agrees_of test x y (inode_of x j) h.agree passes in
       record {
-        inode = h.inodes j at.high ne;
+        inode = h.inodes j (between x j used.0).high ne;
         blocks = λ b some. h.agree.agree b (passes b (omega (arith, some)));
         addresses = λ k. (address_agree test x y (inode_of x j) agrees used.1 k).0;
         bytes = bytes_agree test x y (inode_of x j) agrees used.1;
@@ -265,9 +239,8 @@ pub owned_by_one : (m : Files) (x : Image) (claims : Claims) (i j b : ℕ) → F
     1 ≤ j → j < inode_count_of x → j ≢ i → 1 ≤ count_of b (names_claimed x i (claims i)) →
     count_of b (names_claimed x j (claims j)) ≡ 0
 owned_by_one m x claims i j b f low high first last ne mine =
-    let once = f.loose.once b in
     let both = count_two (λ k. names_claimed x k (claims k)) b 1 (inode_count_of x - 1) i j low (omega (arith, high)) first (omega (arith, last)) (λ e. ne (sym e)) in
-    omega (arith, once, both, mine)
+    omega (arith, (f.loose.once b), both, mine)
 
 -- what the task holds that writes into a number's file
 pub growing_of : (m : Files) (x : Image) (claims : Claims) (i : ℕ) (g : Growth) → IsHeldIn m x claims i (grows g) → IsGrowing x i g (file_in m i)
@@ -284,10 +257,9 @@ inode_elsewhere x j b bytes ne = ap (λ block. inode_in (inode_bytes_in block j)
 pub owned_once : (m : Files) (x : Image) (claims : Claims) (i b : ℕ) → FitsHeld m x claims → 1 ≤ i → i < inode_count_of x →
     count_of b (names_claimed x i (claims i)) ≤ 1
 owned_once m x claims i b f low high =
-    let once = f.loose.once b in
     let few : count_of b (names_claimed x i (claims i)) ≤ count_of b (owned x claims)
     = count_flat (λ j. names_claimed x j (claims j)) b 1 (inode_count_of x - 1) i low (omega (arith, high)) in
-    omega (arith, once, few)
+    omega (arith, (f.loose.once b), few)
 
 -- in the same image each task holds the same
 pub stays_same : (x : Image) (c : Claim) → StaysHeld x x c

@@ -1,19 +1,11 @@
 -- What looks answer while tasks hold files, and what a task holds.
 use Rattle.std.proofs.Common.{◌≡◌, ℕ, ◌-◌, ◌≤◌, ltb, Option, Some, None, refl, sym, subst, ◌∙◌, arith, IsTrue}
-use Rattle.std.proofs.lemmas.Bool.{lt-ltb, or_right}
-use Rattle.blocks.specs.Disk.{Image}
-use Rattle.model.specs.Files.{Files, file_in}
-use Rattle.model.specs.Layout.{inode_of, inode_count_of, first_data_block}
-use Rattle.model.specs.Soundness.{count_of}
-use Rattle.model.specs.Lemmas.Counts.{count_flat}
-use Rattle.in_flight.specs.Held.{Claims, FitsHeld, IsFine, names_claimed, owned, Claim, frees, grows}
-use Rattle.in_flight.specs.HeldLaws.{IsMarkedData, RestingTells, FreeTells, HeldHasBlocks}
-use Rattle.in_flight.specs.Loose.{IsAtRest}
+use Rattle.in_flight.specs.Common.{Claim, Claims, count_flat, count_of, file_in, Files, first_data_block, FitsHeld, frees, FreeTells, grows, HeldHasBlocks, Image, inode_count_of, is_number, IsAtRest, IsFine, IsMarkedData, lt-ltb, names_claimed, or_right, owned, RestingTells}
+use Rattle.model.specs.Layout.{inode_of}
 use Rattle.in_flight.specs.Looks.{IsUsed}
 use Rattle.in_flight.specs.Lemmas.Claims.{free_file}
 use Rattle.in_flight.specs.Lemmas.HeldFrames.{claimed_in_data, owned_once}
 use Rattle.in_flight.specs.Lemmas.Looks.{between, RestsIn, its_file, its_blocks, stat_told, read_told, none_told}
-use Rattle.model.specs.Journal.{is_number}
 
 -- ---- numbers at rest
 
@@ -49,8 +41,7 @@ free_tells m x claims i f free =
     let low = at.low in
     let fine = f.each i at.low at.high in
     let none = free_rests m x i (claims i) free.1 fine in
-    let rest : IsAtRest x i (file_in m i) = subst (λ (o : Option Claim). IsFine x i o (file_in m i)) none fine in
-    (none, none_told m x i (sym rest.same ∙ free_file x i (omega arith) free.1))
+    (none, none_told m x i (sym (subst (λ (o : Option Claim). IsFine x i o (file_in m i)) none fine).same ∙ free_file x i (omega arith) free.1))
 
 -- ---- what a task holds
 
@@ -60,8 +51,7 @@ pub owned_marked : (m : Files) (x : Image) (claims : Claims) (i b : ℕ) → Fit
 owned_marked m x claims i b f number mine =
     let at = between x i number in
     let low = at.low in
-    let high = at.high in
-    let there = claimed_in_data m x claims i b f low high mine in
+    let there = claimed_in_data m x claims i b f low at.high mine in
     let few : count_of b (names_claimed x i (claims i)) ≤ count_of b (owned x claims) =
     count_flat (λ j. names_claimed x j (claims j)) b 1 (inode_count_of x - 1) i low (omega arith) in (
       there,

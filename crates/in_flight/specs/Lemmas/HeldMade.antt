@@ -1,17 +1,8 @@
 -- There are images in which a task holds a file.
 use Rattle.std.proofs.Common.{◌≡◌, ◌≢◌, ◌<◌, true, cond, eqb, replicate, set, is_some, [], Some, None, inl, refl, sym, ap, ◌∙◌, ⊎_elim, arith}
-use Rattle.std.proofs.lemmas.Bool.{ne_eqb, lt-ltb, cases_eq, false≢true}
-use Rattle.std.proofs.lemmas.List.{length-set}
-use Rattle.blocks.specs.Disk.{Image}
-use Rattle.model.specs.declared.types.image.Dinode.{Dinode}
-use Rattle.model.specs.declared.types.image.Form.TheVariants.{One}
-use Rattle.model.specs.Codec.{made_image, with_inode, new_inode}
-use Rattle.model.specs.Files.{Files, file_at}
-use Rattle.model.specs.Journal.{is_number}
-use Rattle.model.specs.Layout.{inode_of, inode_count_of, inode_block}
+use Rattle.in_flight.specs.Common.{cases_eq, Claims, Dinode, false≢true, file_at, Files, Fits, FitsHeld, frees, grows, Image, inode_block, inode_count_of, is_number, length-set, lt-ltb, made_image, ne_eqb, new_inode, One, with_inode}
+use Rattle.model.specs.Layout.{inode_of}
 use Rattle.in_flight.specs.Claims.{with_new_file}
-use Rattle.in_flight.specs.Held.{Claims, FitsHeld, frees, grows}
-use Rattle.in_flight.specs.Loose.{Fits}
 use Rattle.in_flight.specs.Lemmas.AtRest.{fits_at_rest}
 use Rattle.in_flight.specs.Lemmas.Claims.{claims, apart}
 use Rattle.in_flight.specs.Lemmas.Made.{witness}

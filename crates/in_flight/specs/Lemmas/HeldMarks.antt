@@ -1,28 +1,14 @@
 -- What a cleared bit and an inode that is written back leave of what no file shows.
 use Rattle.std.proofs.Common.{◌≡◌, ◌≢◌, ℕ, [], sym, ap, ◌∙◌, ⊎_elim, arith, List, set, length, IsTrue, None, ◌≤◌}
-use Rattle.std.proofs.lemmas.Bool.{cases_eq, false≢true}
-use Rattle.std.proofs.lemmas.List.{length-set, get_or-set_other}
-use Rattle.blocks.specs.Disk.{Image, block_at}
-use Rattle.model.specs.declared.types.image.Dinode.{Dinode}
-use Rattle.model.specs.Codec.{IsDinode, with_inode, with_inode_bytes, without_bit, with_bit}
-use Rattle.model.specs.Crash.{labels_of}
-use Rattle.model.specs.Files.{file_in, Files}
-use Rattle.model.specs.Layout.{super_of, inode_of, inode_bytes_in, inode_block, inode_count_of, is_marked}
-use Rattle.model.specs.Lemmas.Inodes.{IsPlaced, inode_of-with_inode, inode_bytes-with_inode_other, inode_of-with_inode_other}
-use Rattle.model.specs.Lemmas.Soundness.{facts_of}
-use Rattle.in_flight.specs.Held.{last_inode, Claims, FitsHeld}
-use Rattle.in_flight.specs.HeldLaws.{ClearedBitKeeps, WriteBackKeeps}
+use Rattle.in_flight.specs.Common.{block_at, cases_eq, Claims, ClearedBitKeeps, DataKeeps, Dinode, facts_of, false≢true, file_in, Files, FitsHeld, get_or-set_other, GrowthKeeps, has_bit, has_bit-with_bit_other, has_bit-without_bit_other, Image, inode_block, inode_bytes-with_inode_other, inode_bytes_in, inode_count_of, inode_of-with_inode, inode_of-with_inode_other, is_marked, is_number, IsDinode, IsPlaced, labels_of, last_inode, length-set, SetBitKeeps, super_of, with_bit, with_inode, with_inode_bytes, without_bit, WriteBackKeeps}
+use Rattle.model.specs.Layout.{inode_of}
 use Rattle.in_flight.specs.Lemmas.Claims.{apart}
 use Rattle.in_flight.specs.Lemmas.Frames.{SameSuperAndMap, marks_same}
 use Rattle.in_flight.specs.Lemmas.GivenUp.{held_of}
 use Rattle.in_flight.specs.Lemmas.Looks.{between}
 use Rattle.in_flight.specs.Lemmas.WriteBacks.{last_fields}
-use Rattle.in_flight.specs.GrowthLaws.{SetBitKeeps, DataKeeps, GrowthKeeps}
-use Rattle.model.specs.Lemmas.Bits.{has_bit-without_bit_other, has_bit-with_bit_other}
 use Rattle.in_flight.specs.Lemmas.Remapped.{mapped, agrees, size_same, away, bytes_same, marks, inode_same}
 use Rattle.in_flight.specs.Lemmas.HeldFrames.{growing_of, inode_elsewhere}
-use Rattle.model.specs.Journal.{is_number}
-use Rattle.model.specs.Fields.{has_bit}
 use Rattle.model.specs.Tasks.{Marks}
 
 -- ---- a cleared bit
@@ -32,8 +18,7 @@ remapped_keeps : (m : Files) (x : Image) (claims : Claims) (bits : List ℕ) →
     ((c : ℕ) → length x ≤ c → has_bit bits c ≡ is_marked x c) → Marks None x (set x (super_of x).bmapstart bits)
 remapped_keeps m x claims bits f past =
     let map = mapped x f.geometry f.full in
-    let facts = facts_of x f.geometry in
-    let start = facts.map in
+    let start = (facts_of x f.geometry).map in
     let behind = map.behind in
     let same = agrees x bits map in
     record {
@@ -46,8 +31,7 @@ remapped_keeps m x claims bits f past =
         bits_past = λ c from lt. marks x bits map c ∙ past c from;
       };
       others = λ j number made used.
-          let at = between x j number in
-          let kept = inode_same x bits map j (apart x j f.geometry at.high).before_map in
+          let kept = inode_same x bits map j (apart x j f.geometry (between x j number).high).before_map in
           ((λ z. used (ap (λ (d : Dinode). d.kind) kept ∙ z)), ap (λ (d : Dinode). (d.major, d.minor, d.nlink)) kept);
       fresh = λ j number made. absurd (false≢true made);
     }
@@ -66,12 +50,11 @@ set_bit_keeps m x claims b f low =
 
 pub data_keeps : DataKeeps
 data_keeps m x claims b bytes f there =
-    let facts = facts_of x f.geometry in
     let map = mapped x f.geometry f.full in
     let behind = map.behind in
     let before = map.before_data in
     let from = there.0 in
-    let start = facts.map in
+    let start = (facts_of x f.geometry).map in
     let others : (c : ℕ) → c ≢ b → block_at (set x b bytes) c ≡ block_at x c = λ c ne. get_or-set_other x b c bytes [] ne in
     let base : SameSuperAndMap x (set x b bytes) = record {
       size = length-set x b bytes;
@@ -88,8 +71,7 @@ data_keeps m x claims b bytes f there =
         bits_past = λ c past lt. marks_same x (set x b bytes) c base;
       };
       others = λ j number made used.
-          let at = between x j number in
-          let kept = inode_elsewhere x j b bytes (let low = (apart x j f.geometry at.high).before_data in λ e. omega arith) in
+          let kept = inode_elsewhere x j b bytes (let low = (apart x j f.geometry (between x j number).high).before_data in λ e. omega arith) in
           ((λ z. used (ap (λ (d : Dinode). d.kind) kept ∙ z)), ap (λ (d : Dinode). (d.major, d.minor, d.nlink)) kept);
       fresh = λ j number made. absurd (false≢true made);
     }
@@ -110,8 +92,7 @@ written_back_keeps m x claims i d g =
     let f = g.fits in
     let at = between x i g.number in
     let low = at.low in
-    let high = at.high in
-    let a = apart x i f.geometry high in
+    let a = apart x i f.geometry at.high in
     let behind = a.behind in
     let before = a.before_map in
     let placed : IsPlaced x i = record { within = a.within; full = f.full (inode_block i) a.behind a.within } in

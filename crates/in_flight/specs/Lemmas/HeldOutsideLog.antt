@@ -1,15 +1,6 @@
 -- The log has no part in which files an image stands for, be numbers held or not.
 use Rattle.std.proofs.Common.{◌≡◌, ◌≢◌, ℕ, suc, ◌<◌, length, refl, ap, ◌∙◌, arith, ◌≤◌}
-use Rattle.blocks.specs.Disk.{Image}
-use Rattle.model.specs.Agreement.{IsSameOutsideLog, is_outside_log}
-use Rattle.model.specs.Files.{Files, file_in}
-use Rattle.model.specs.Layout.{inode_count_of}
-use Rattle.model.specs.Soundness.{count_of}
-use Rattle.model.specs.Lemmas.OutsideLog.{behind_log, inode_agree}
-use Rattle.model.specs.Lemmas.Soundness.{facts_of}
-use Rattle.in_flight.specs.Held.{Claims, FitsHeld, owned, names_claimed}
-use Rattle.in_flight.specs.HeldLaws.{HeldOutsideLog, FitsThen}
-use Rattle.in_flight.specs.Loose.{AreFull}
+use Rattle.in_flight.specs.Common.{AreFull, behind_log, Claims, count_of, facts_of, file_in, Files, FitsHeld, FitsThen, HeldOutsideLog, Image, inode_agree, inode_count_of, is_outside_log, IsSameOutsideLog, names_claimed, owned}
 use Rattle.in_flight.specs.Lemmas.Frames.{loose_same}
 use Rattle.in_flight.specs.Lemmas.HeldFrames.{ChangesOne, loose_alike, names_same, fine_same, owned_kept, fits_then, same_file, at_data, Passes, data_passes, stays_held}
 use Rattle.in_flight.specs.Lemmas.OutsideLog.{base_outside, data_outside}

@@ -1,16 +1,7 @@
 -- What an inode names, and what is left of it, in images that have the same blocks there.
 use Rattle.std.proofs.Common.{◌≡◌, ◌≢◌, ℕ, zero, suc, ◌-◌, ◌/◌, ◌%◌, ◌<◌, ◌≤◌, cond, eqb, List, [], ◌∷◌, ◌++◌, length, get_or, drop, refl, sym, ap, ap₂, ◌∙◌, ⊎_elim, arith}
 use Rattle.std.specs.List.{flat_map}
-use Rattle.std.proofs.lemmas.Bool.{ne_eqb, eq-eqb, cases_eq}
-use Rattle.blocks.specs.Disk.{Image, block_at}
-use Rattle.model.specs.Fields.{words_of}
-use Rattle.model.specs.Layout.{reach}
-use Rattle.model.specs.Names.{names_under, names_along}
-use Rattle.model.specs.Places.{address_under, address_along}
-use Rattle.model.specs.Soundness.{count_of}
-use Rattle.model.specs.Lemmas.Counts.{count_of-append}
-use Rattle.model.specs.Lemmas.OutsideLog.{flat_map_range_same}
-use Rattle.in_flight.specs.Trees.{left_under, left_along, entry_of, led_to}
+use Rattle.in_flight.specs.Common.{address_along, address_under, block_at, cases_eq, count_of, count_of-append, entry_of, eq-eqb, flat_map_range_same, Image, led_to, left_along, left_under, names_along, names_under, ne_eqb, reach, words_of}
 use Rattle.in_flight.specs.Lemmas.Ways.{named_behind, flat_indexed, along_indexed, count_at, count_slot, led_named}
 
 -- ---- where the blocks of addresses are the same
@@ -33,8 +24,7 @@ names_inside x y zero a same = refl
 names_inside x y (suc depth) a same =
     ⊎_elim (λ (z : a ≡ 0). rw z refl)
     (λ (some : a ≢ 0).
-    let own = same [] a refl some (omega arith) in
-    rw (ne_eqb a 0 some, own)
+    rw (ne_eqb a 0 some, (same [] a refl some (omega arith)))
     (ap (λ l. a ∷ l) (flat_each (names_under x depth) (names_under y depth) (words_of (block_at x a))
     (λ e low. names_inside x y depth (entry_of x a e) (same_entry x y depth e a some same)))))
     (cases_eq a 0)
@@ -44,9 +34,8 @@ address_inside x y zero k a same = refl
 address_inside x y (suc depth) k a same =
     ⊎_elim (λ (z : a ≡ 0). rw z refl)
     (λ (some : a ≢ 0).
-    let own = same [] a refl some (omega arith) in
     let e = k / reach depth in
-    rw (ne_eqb a 0 some, own) (address_inside x y depth (k % reach depth) (entry_of x a e) (same_entry x y depth e a some same)))
+    rw (ne_eqb a 0 some, (same [] a refl some (omega arith))) (address_inside x y depth (k % reach depth) (entry_of x a e) (same_entry x y depth e a some same)))
     (cases_eq a 0)
 
 -- the same blocks of addresses behind each address of an inode
@@ -107,11 +96,10 @@ left_kept x y (suc depth) (e ∷ cursor) a s =
     let t : SameAt x y (a ∷ (under ++ rest)) = rw no at s in
     let u = same_later x y (a ∷ []) (under ++ rest) t in
     let v = same_later x y under rest u in
-    let head : block_at y a ≡ block_at x a = t a (rw (eq-eqb a a refl) (omega arith)) in
     let first = left_kept x y depth cursor (entry_of x a e) (same_front x y under rest u) in
     let others = flat_each (names_under x depth) (names_under y depth) ws
     (λ j low. names_kept x y depth (get_or ws j 0) (λ b there. v b (let few = count_at (names_under x depth) ws j b low in omega (arith, few, there)))) in
-    rw (no, head) (ap₂ (λ (l m : List ℕ). a ∷ (l ++ m)) first others))
+    rw (no, (t a (rw (eq-eqb a a refl) (omega arith)))) (ap₂ (λ (l m : List ℕ). a ∷ (l ++ m)) first others))
     (cases_eq a 0)
 
 pub left_along_kept : (x y : Image) (cursor depths addresses : List ℕ) → SameAt x y (left_along x cursor depths addresses) →
@@ -126,7 +114,6 @@ left_along_kept x y cursor (suc depth ∷ depths) (a ∷ addresses) s =
     (λ (some : a ≢ 0).
     let no = ne_eqb a 0 some in
     let t : SameAt x y (left_under x (suc depth) cursor a ++ names_along x depths addresses) = rw no at s in
-    let one = left_kept x y (suc depth) cursor a (same_front x y (left_under x (suc depth) cursor a) (names_along x depths addresses) t) in
     let rest = along_kept x y depths addresses (same_later x y (left_under x (suc depth) cursor a) (names_along x depths addresses) t) in
-    rw (no, one, rest) refl)
+    rw (no, (left_kept x y (suc depth) cursor a (same_front x y (left_under x (suc depth) cursor a) (names_along x depths addresses) t)), rest) refl)
     (cases_eq a 0)

@@ -1,17 +1,8 @@
 -- Giving up a block at any depth takes it, and nothing else, from what is left.
 use Rattle.std.proofs.Common.{◌≡◌, ◌≢◌, ◌⊎◌, ℕ, zero, suc, ◌+◌, ◌<◌, ◌≤◌, cond, eqb, List, [], ◌∷◌, ◌++◌, length, get_or, set, drop, replicate, refl, sym, ap, ◌∙◌, ⊎_elim, arith}
 use Rattle.std.specs.List.{flat_map}
-use Rattle.std.proofs.lemmas.Bool.{ne_eqb, cases_eq}
-use Rattle.std.proofs.lemmas.List.{get_or_past}
 use Rattle.std.proofs.Math.ListN.{drop_of_length-le}
-use Rattle.blocks.specs.Disk.{Image, block_at}
-use Rattle.model.specs.declared.types.image.Dinode.{Dinode}
-use Rattle.model.specs.Fields.{words_of}
-use Rattle.model.specs.Layout.{depths, form_of}
-use Rattle.model.specs.Names.{names_under, names_along}
-use Rattle.model.specs.Soundness.{count_of}
-use Rattle.model.specs.Lemmas.Counts.{count_of-append}
-use Rattle.in_flight.specs.Trees.{left_under, left_along, entry_of, Gives, LeavesAlike}
+use Rattle.in_flight.specs.Common.{block_at, cases_eq, count_of, count_of-append, depths, Dinode, entry_of, form_of, get_or_past, Gives, Image, LeavesAlike, left_along, left_under, names_along, names_under, ne_eqb, words_of}
 
 -- ---- lists
 
@@ -43,20 +34,16 @@ pub left_parts : (x : Image) (depth e a c : ℕ) (cursor : List ℕ) → a ≢ 0
     ≡ count_of c (a ∷ []) + (count_of c (left_under x depth cursor (entry_of x a e))
     + count_of c (flat_map (names_under x depth) (drop (suc e) (words_of (block_at x a)))))
 left_parts x depth e a c cursor some =
-    let no = ne_eqb a 0 some in
     let sum = count_of-append c (left_under x depth cursor (entry_of x a e)) (flat_map (names_under x depth) (drop (suc e) (words_of (block_at x a)))) in
-    rw no (omega (arith, sum))
+    rw (ne_eqb a 0 some) (omega (arith, sum))
 
 -- the part of an entry is at an end, and the cursor stands at the next one
 next_entry : (x : Image) (depth e a c : ℕ) (cursor : List ℕ) → a ≢ 0 →
     count_of c (left_under x (suc depth) (e ∷ cursor) a)
     ≡ count_of c (left_under x depth cursor (entry_of x a e)) + count_of c (left_under x (suc depth) (suc e ∷ []) a)
 next_entry x depth e a c cursor some =
-    let old = left_parts x depth e a c cursor some in
-    let new = left_parts x depth (suc e) a c [] some in
-    let all = ap (count_of c) (left_all x depth (entry_of x a (suc e))) in
     let next = flat_drop (names_under x depth) (words_of (block_at x a)) (suc e) c (under_none x depth) in
-    omega (arith, old, new, all, next)
+    omega (arith, (left_parts x depth e a c cursor some), (left_parts x depth (suc e) a c [] some), (ap (count_of c) (left_all x depth (entry_of x a (suc e)))), next)
 
 -- before the first entry all is left
 begun : (x : Image) (depth a c : ℕ) → count_of c (left_under x depth (0 ∷ []) a) ≡ count_of c (names_under x depth a)
@@ -64,12 +51,10 @@ begun x zero a c = refl
 begun x (suc depth) a c =
     ⊎_elim (λ (z : a ≡ 0). rw z refl)
     (λ (some : a ≢ 0).
-    let parts = left_parts x depth 0 a c [] some in
     let under = ap (count_of c) (left_all x depth (entry_of x a 0)) in
-    let first = flat_drop (names_under x depth) (words_of (block_at x a)) 0 c (under_none x depth) in
     let whole : count_of c (names_under x (suc depth) a) ≡ count_of c (a ∷ []) + count_of c (flat_map (names_under x depth) (words_of (block_at x a)))
     = rw (ne_eqb a 0 some) (omega arith) in
-    omega (arith, parts, under, first, whole))
+    omega (arith, (left_parts x depth 0 a c [] some), under, (flat_drop (names_under x depth) (words_of (block_at x a)) 0 c (under_none x depth)), whole))
     (cases_eq a 0)
 
 -- The cursor goes on and nothing is given up: the entries of a block of addresses begin, or an entry
@@ -85,9 +70,7 @@ pub passed : (x : Image) (depth : ℕ) (cursor : List ℕ) (a : ℕ) (new : List
     count_of c (left_under x depth cursor a) ≡ count_of c (left_under x depth new a)
 passed x zero cursor a new p c = absurd p
 passed x (suc depth) [] a new p c =
-    let whole = begun x (suc depth) a c in
-    let now = ap (λ (l : List ℕ). count_of c (left_under x (suc depth) l a)) p in
-    omega (arith, whole, now)
+    omega (arith, (begun x (suc depth) a c), (ap (λ (l : List ℕ). count_of c (left_under x (suc depth) l a)) p))
 passed x (suc depth) (e ∷ cursor) a new p c =
     ⊎_elim
     (λ (z : a ≡ 0). ap (λ b. count_of c (left_under x (suc depth) (e ∷ cursor) b)) z
@@ -95,17 +78,13 @@ passed x (suc depth) (e ∷ cursor) a new p c =
     (λ (some : a ≢ 0).
     ⊎_elim
     (λ (last : (left_under x depth cursor (entry_of x a e) ≡ []) × (new ≡ suc e ∷ [])).
-    let step = next_entry x depth e a c cursor some in
-    let gone = ap (count_of c) last.0 in
-    let now = ap (λ (l : List ℕ). count_of c (left_under x (suc depth) l a)) last.1 in
-    omega (arith, step, gone, now))
+    omega (arith, (next_entry x depth e a c cursor some), (ap (count_of c) last.0), (ap (λ (l : List ℕ). count_of c (left_under x (suc depth) l a)) last.1)))
     (λ (deeper : (t : List ℕ) × MovesOn x depth cursor (entry_of x a e) t × (new ≡ e ∷ t)).
     let t = deeper.0 in
     let under = passed x depth cursor (entry_of x a e) t deeper.1 c in
-    let now = ap (λ (l : List ℕ). count_of c (left_under x (suc depth) l a)) deeper.2 in
     let old = left_parts x depth e a c cursor some in
     let new_parts = left_parts x depth e a c t some in
-    omega (arith, under, now, old, new_parts))
+    omega (arith, under, (ap (λ (l : List ℕ). count_of c (left_under x (suc depth) l a)) deeper.2), old, new_parts))
     p)
     (cases_eq a 0)
 
@@ -113,11 +92,8 @@ passed x (suc depth) (e ∷ cursor) a new p c =
 pub alone : (x : Image) (depth e a : ℕ) (cursor : List ℕ) → a ≢ 0 → length (words_of (block_at x a)) ≤ e →
     left_under x (suc depth) (e ∷ cursor) a ≡ a ∷ []
 alone x depth e a cursor some past =
-    let no = ne_eqb a 0 some in
-    let none : entry_of x a e ≡ 0 = get_or_past (words_of (block_at x a)) e 0 past in
     let behind : length (words_of (block_at x a)) ≤ suc e = omega (arith, past) in
-    let rest : drop (suc e) (words_of (block_at x a)) ≡ [] = drop_of_length-le (words_of (block_at x a)) behind in
-    rw (no, none, left_none x depth cursor, rest) refl
+    rw ((ne_eqb a 0 some), (get_or_past (words_of (block_at x a)) e 0 past), left_none x depth cursor, (drop_of_length-le (words_of (block_at x a)) behind)) refl
 
 -- what is given up at any depth goes from the list, and nothing else
 pub given : (x : Image) (depth : ℕ) (cursor : List ℕ) (a b : ℕ) (new : List ℕ) → Gives x depth cursor a b new →
@@ -130,18 +106,13 @@ given x (suc depth) (e ∷ cursor) a b new g c =
     let more = sum (left_under x (suc depth) new a) in
     ⊎_elim
     (λ (last : (left_under x depth cursor w ≡ b ∷ []) × (new ≡ suc e ∷ [])).
-    let step = next_entry x depth e a c cursor g.0 in
-    let own = ap (count_of c) last.0 in
-    let now = ap (λ (l : List ℕ). count_of c (left_under x (suc depth) l a)) last.1 in
-    omega (arith, step, more, own, now))
+    omega (arith, (next_entry x depth e a c cursor g.0), more, (ap (count_of c) last.0), (ap (λ (l : List ℕ). count_of c (left_under x (suc depth) l a)) last.1)))
     (λ (deeper : (t : List ℕ) × Gives x depth cursor w b t × (new ≡ e ∷ t)).
     let t = deeper.0 in
     let under = given x depth cursor w b t deeper.1 c in
-    let now = ap (λ (l : List ℕ). count_of c (left_under x (suc depth) l a)) deeper.2 in
-    let old = left_parts x depth e a c cursor g.0 in
     let parts = left_parts x depth e a c t g.0 in
     let one = sum (left_under x depth t w) in
-    omega (arith, old, more, under, now, parts, one))
+    omega (arith, (left_parts x depth e a c cursor g.0), more, under, (ap (λ (l : List ℕ). count_of c (left_under x (suc depth) l a)) deeper.2), parts, one))
     g.1
 
 -- ---- along an inode's addresses
@@ -190,18 +161,13 @@ without_along x cursor (d ∷ ds) [] slot c tree some before = absurd (some refl
 without_along x cursor (zero ∷ ds) (a ∷ addresses) zero c tree some before = absurd (tree refl)
 without_along x cursor (zero ∷ ds) (a ∷ addresses) (suc slot) c tree some before =
     let here = cond (eqb a 0) [] (a ∷ []) in
-    let rest = without_along x cursor ds addresses slot c tree some (λ k low. before (suc k) (omega (arith, low))) in
     let p = count_of-append c here (left_along x cursor ds addresses) in
     let q = count_of-append c here (left_along x [] ds (set addresses slot 0)) in
-    omega (arith, rest, p, q)
+    omega (arith, (without_along x cursor ds addresses slot c tree some (λ k low. before (suc k) (omega (arith, low)))), p, q)
 without_along x cursor (suc d ∷ ds) (a ∷ addresses) zero c tree some before =
-    let no = ne_eqb a 0 some in
-    let p = count_of-append c (left_under x (suc d) cursor a) (names_along x ds addresses) in
-    let rest = ap (count_of c) (whole_along x ds addresses) in
-    rw no (omega (arith, p, rest))
+    rw (ne_eqb a 0 some) (omega (arith, (count_of-append c (left_under x (suc d) cursor a) (names_along x ds addresses)), (ap (count_of c) (whole_along x ds addresses))))
 without_along x cursor (suc d ∷ ds) (a ∷ addresses) (suc slot) c tree some before =
-    let z : a ≡ 0 = before 0 (omega arith) (λ e. omega (arith, e)) in
-    rw z (without_along x cursor ds addresses slot c tree some (λ k low. before (suc k) (omega (arith, low))))
+    rw (before 0 (omega arith) (λ e. omega (arith, e))) (without_along x cursor ds addresses slot c tree some (λ k low. before (suc k) (omega (arith, low))))
 
 -- a data block that the inode itself names
 pub direct_along : (x : Image) (cursor ds addresses : List ℕ) (k c : ℕ) → k < length ds → get_or addresses k 0 ≢ 0 →
@@ -214,12 +180,11 @@ direct_along x cursor (zero ∷ ds) (a ∷ addresses) zero c low some direct = r
 direct_along x cursor (zero ∷ ds) (a ∷ addresses) (suc k) c low some direct =
     let here = cond (eqb a 0) [] (a ∷ []) in
     let b = get_or addresses k 0 in
-    let rest = direct_along x cursor ds addresses k c (omega (arith, low)) some (λ j few. direct (suc j) (omega (arith, few))) in
     let p = count_of-append c here (left_along x cursor ds addresses) in
     let q = count_of-append c here (left_along x cursor ds (set addresses k 0)) in
     let r = count_of-append c (b ∷ []) (left_along x cursor ds (set addresses k 0)) in
     let s = count_of-append c (b ∷ []) (here ++ left_along x cursor ds (set addresses k 0)) in
-    omega (arith, rest, p, q, r, s)
+    omega (arith, (direct_along x cursor ds addresses k c (omega (arith, low)) some (λ j few. direct (suc j) (omega (arith, few)))), p, q, r, s)
 
 pub bare_along : (x : Image) (cursor ds : List ℕ) (n : ℕ) → left_along x cursor ds (replicate n 0) ≡ []
 bare_along x cursor [] n = refl

@@ -1,10 +1,7 @@
 -- What is left of a file while the entries of a block of addresses are given up or passed over, to
 -- which a way leads from the inode's address.
 use Rattle.std.proofs.Common.{◌≡◌, ◌≢◌, ℕ, zero, suc, ◌+◌, ◌<◌, ◌≤◌, List, [], ◌∷◌, ◌++◌, length, get_or, refl, sym, ap, subst, ◌∙◌, inl, inr, arith}
-use Rattle.blocks.specs.Disk.{Image}
-use Rattle.model.specs.declared.types.image.Dinode.{Dinode}
-use Rattle.model.specs.Soundness.{count_of}
-use Rattle.in_flight.specs.Trees.{names_left, left_under, depth_of, entry_of, led_to, IsFirstTree, Gives, LeavesAlike}
+use Rattle.in_flight.specs.Common.{count_of, depth_of, Dinode, entry_of, Gives, Image, IsFirstTree, LeavesAlike, led_to, left_under, names_left}
 use Rattle.in_flight.specs.Lemmas.GivenUp.{passes_first}
 use Rattle.in_flight.specs.Lemmas.LeftInTrees.{MovesOn, left_none}
 use Rattle.in_flight.specs.Lemmas.Ways.{led_step, IsAhead}

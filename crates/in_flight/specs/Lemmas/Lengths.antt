@@ -1,7 +1,6 @@
 -- How long a list is, by how often each number stands in it.
 use Rattle.std.proofs.Common.{◌≡◌, ◌≢◌, ℕ, zero, suc, ◌+◌, ◌<◌, ◌≤◌, cond, eqb, List, [], ◌∷◌, length, refl, ⊎_elim, arith}
-use Rattle.std.proofs.lemmas.Bool.{ne_eqb, eq-eqb, cases_eq}
-use Rattle.model.specs.Soundness.{count_of}
+use Rattle.in_flight.specs.Common.{cases_eq, count_of, eq-eqb, ne_eqb}
 
 -- the list without the first place at which a number stands
 abbrev without : ℕ → List ℕ → List ℕ
@@ -16,8 +15,7 @@ without_count b c (a ∷ names) some =
     (λ (e : a ≡ b). rw (eq-eqb a b e, e) refl)
     (λ (ne : a ≢ b).
     let no = ne_eqb a b ne in
-    let rest = without_count b c names (λ z. some (rw (no, z) refl)) in
-    rw no (omega (arith, rest)))
+    rw no (omega (arith, (without_count b c names (λ z. some (rw (no, z) refl))))))
     (cases_eq a b)
 
 without_length : (b : ℕ) (names : List ℕ) → count_of b names ≢ 0 →
@@ -28,8 +26,7 @@ without_length b (a ∷ names) some =
     (λ (e : a ≡ b). rw (eq-eqb a b e) (omega arith))
     (λ (ne : a ≢ b).
     let no = ne_eqb a b ne in
-    let rest = without_length b names (λ z. some (rw (no, z) refl)) in
-    rw no (omega (arith, rest)))
+    rw no (omega (arith, (without_length b names (λ z. some (rw (no, z) refl))))))
     (cases_eq a b)
 
 first_counted : (a : ℕ) (names : List ℕ) → count_of a (a ∷ names) ≢ 0
@@ -43,10 +40,9 @@ as_many [] (a ∷ others) same = absurd (first_counted a others (let s = same a 
 as_many (a ∷ these) others same =
     let here = same a in
     let some : count_of a others ≢ 0 = λ z. first_counted a these (omega (arith, here, z)) in
-    let long = without_length a others some in
     let rest = as_many these (without a others)
     (λ c. let s = same c in let w = without_count a c others some in omega (arith, s, w)) in
-    omega (arith, long, rest)
+    omega (arith, (without_length a others some), rest)
 
 -- a list of numbers below n that has each of them at most once has at most n
 pub few_below : (n : ℕ) (names : List ℕ) → ((b : ℕ) → count_of b names ≤ 1) →
@@ -62,7 +58,6 @@ few_below (suc n) names once below =
     ⊎_elim (λ (e : b ≡ n). absurd (some (rw e none))) (λ (ne : b ≢ n). omega (arith, low, ne)) (cases_eq b n)) in
     omega (arith, rest))
     (λ (some : count_of n names ≢ 0).
-    let long = without_length n names some in
     let parts : (b : ℕ) → count_of b names ≡ cond (eqb n b) 1 0 + count_of b (without n names)
     = λ b. without_count n b names some in
     let own : count_of n (without n names) ≡ 0
@@ -71,5 +66,5 @@ few_below (suc n) names once below =
     (λ b. let p = parts b in let o = once b in omega (arith, p, o))
     (λ b there. let p = parts b in let low = below b (λ z. there (omega (arith, p, z))) in
     ⊎_elim (λ (e : b ≡ n). absurd (there (rw e own))) (λ (ne : b ≢ n). omega (arith, low, ne)) (cases_eq b n)) in
-    omega (arith, long, rest))
+    omega (arith, (without_length n names some), rest))
     (cases_eq (count_of n names) 0)

@@ -1,24 +1,12 @@
 -- What looks at a file answer: the file of a number is what its inode says in the image.
 use Rattle.std.proofs.Common.{◌≡◌, ◌≢◌, ℕ, zero, suc, ◌+◌, ◌*◌, ◌<◌, ◌≤◌, Bool, true, ◌&&◌, leb, ltb, List, [], ◌∷◌, length, get_or, Some, None, refl, sym, ◌∙◌, arith}
-use Rattle.std.proofs.lemmas.Bool.{ne_eqb, eq-eqb, leb-true, ltb-true, lt-ltb, le-leb, le-ltb}
 use Rattle.std.proofs.lemmas.Slice.Eq.{bytes_eq-Decides}
-use Rattle.blocks.specs.Disk.{Image, block_at}
-use Rattle.model.specs.declared.types.image.Dinode.{Dinode}
-use Rattle.model.specs.Agreement.{all_pass}
-use Rattle.model.specs.Files.{Files, file_in, file_at, file_of, bytes_in}
-use Rattle.model.specs.Fields.{words_of}
-use Rattle.model.specs.Layout.{reach, depths, form_of, inode_of, inode_count_of, first_data_block}
-use Rattle.model.specs.Operations.{after, part_of, transfer_limit}
-use Rattle.model.specs.Places.{pointers_under, pointers_behind, pointers_along, pointers_of, addresses_in, address_in}
-use Rattle.model.specs.Soundness.{count_of}
-use Rattle.model.specs.declared.types.operations.Op.TheVariants.{Read, Stat}
-use Rattle.model.specs.declared.types.operations.Reply.TheVariants.{Bytes, StatOf}
-use Rattle.model.specs.Lemmas.Frames.{all_pass-append, along_address, pointers_used}
-use Rattle.model.specs.Lemmas.Log.{both_of}
-use Rattle.model.specs.Lemmas.Bytes.{IsFullAt, length-bytes_in}
-use Rattle.model.specs.Lemmas.Wholes.{thirteen_depths}
+use Rattle.in_flight.specs.Common.{addresses_in, all_pass, all_pass-append, along_address, AreFull, block_at, both_of, Bytes, count_of, depths, Dinode, eq-eqb, file_at, file_in, Files, first_data_block, Fits, form_of, Image, inode_count_of, IsAtRest, IsFit, IsFullAt, le-leb, le-ltb, leb-true, length-bytes_in, LiesInData, lt-ltb, ltb-true, ne_eqb, part_of, pointers_along, pointers_behind, pointers_of, pointers_under, pointers_used, reach, Read, Stat, StatOf, thirteen_depths, transfer_limit, words_of}
+use Rattle.model.specs.Files.{file_of, bytes_in}
+use Rattle.model.specs.Layout.{inode_of}
+use Rattle.model.specs.Operations.{after}
+use Rattle.model.specs.Places.{address_in}
 use Rattle.in_flight.specs.Looks.{IsUsed, IsUnused, HasItsFile, HasDataBlocks, AnswersNoFile, UsedIsFit, UsedHasBlocks, StatTells, ReadTells, NoFileTells}
-use Rattle.in_flight.specs.Loose.{AreFull, LiesInData, IsFit, IsAtRest, Fits}
 use Rattle.in_flight.specs.Lemmas.Claims.{free_file}
 use Rattle.in_flight.specs.Lemmas.Frames.{list_all-counted, named_in_data}
 
@@ -180,8 +168,7 @@ none_told m x i none = record {
 no_file : (m : Files) (x : Image) (i : ℕ) → Fits m x → IsUnused x i → file_in m i ≡ None
 no_file m x i f free =
     let there = between x i free.0 in
-    let low = there.low in
-    sym (f.each i low there.high).same ∙ free_file x i (omega arith) free.1
+    sym (f.each i there.low there.high).same ∙ free_file x i (omega arith) free.1
 
 pub no_file_tells : NoFileTells
 no_file_tells m x i f free = none_told m x i (no_file m x i f free)

@@ -1,11 +1,8 @@
 -- A new image stands for no file.
 use Rattle.std.proofs.Common.{replicate, refl, subst, None}
-use Rattle.model.specs.declared.types.image.Form.TheVariants.{One}
-use Rattle.model.specs.Codec.{made_image}
-use Rattle.model.specs.Files.{Files}
+use Rattle.in_flight.specs.Common.{Files, Fits, made_image, One}
 use Rattle.model.specs.Lemmas.MadeImages.{is_image-made_image, sound-made_image, files-made_image}
 use Rattle.in_flight.specs.Laws.{MadeFits}
-use Rattle.in_flight.specs.Loose.{Fits}
 use Rattle.in_flight.specs.Lemmas.Soundly.{fits_sound}
 
 pub fits_made : MadeFits

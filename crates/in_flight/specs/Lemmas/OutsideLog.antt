@@ -1,18 +1,8 @@
 -- The log has no part in which files an image stands for.
 use Rattle.std.proofs.Common.{◌≡◌, ◌<◌, length, refl, sym, ap, subst, ◌∙◌, arith}
-use Rattle.blocks.specs.Disk.{Image}
-use Rattle.model.specs.declared.types.image.Super.{Super}
-use Rattle.model.specs.Agreement.{Agrees, IsSameOutsideLog, is_outside_log}
-use Rattle.model.specs.Files.{file_in}
-use Rattle.model.specs.Layout.{super_of, inode_count_of}
+use Rattle.in_flight.specs.Common.{Agrees, behind_log, cleared_outside, facts_of, file_in, Image, inode_agree, inode_count_of, is_outside_log, IsLawfulGeometry, IsLoose, IsSameOutsideLog, long_geometry, none_cleared, places_of, Super, super_of}
 use Rattle.model.specs.Log.{cleared}
-use Rattle.model.specs.Places.{places_of}
-use Rattle.model.specs.Soundness.{IsLawfulGeometry}
-use Rattle.model.specs.Lemmas.Log.{none_cleared}
-use Rattle.model.specs.Lemmas.OutsideLog.{behind_log, cleared_outside, inode_agree}
-use Rattle.model.specs.Lemmas.Soundness.{facts_of, long_geometry}
 use Rattle.in_flight.specs.Laws.{FitsOutsideLog, FitsWhenCleared}
-use Rattle.in_flight.specs.Loose.{IsLoose}
 use Rattle.in_flight.specs.Lemmas.Frames.{AgreesAtData, agrees_for, rest_alike, addresses_alike, SameSuperAndMap, super_same, geometry_same, loose_same, places_same}
 use Rattle.in_flight.specs.Lemmas.Soundly.{sound_quiet}
 

@@ -2,17 +2,8 @@
 -- block is named besides, and nothing else changes.
 use Rattle.std.proofs.Common.{◌≡◌, ◌≢◌, ℕ, zero, suc, ◌+◌, ◌*◌, ◌^◌, ◌<◌, ◌≤◌, List, [], ◌∷◌, length, get_or, set, replicate, refl, sym, ap, subst, ◌∙◌, ⊎_elim, arith, get_or-set_same, get_or-set_other, length-set}
 use Rattle.std.specs.List.{flat_map, range_with_len}
-use Rattle.std.proofs.lemmas.Bool.{ne_eqb, eq-eqb, cases_eq}
+use Rattle.in_flight.specs.Common.{block_at, cases_eq, count_flat, count_flat_one, count_of, count_of-append, count_two, entry_of, eq-eqb, Image, led_to, length-words_of-block, names_along, names_under, ne_eqb, with_entry, words_of, words_of-with_entry}
 use Rattle.blocks.specs.Block.{zero_block}
-use Rattle.blocks.specs.Disk.{Image, block_at}
-use Rattle.model.specs.Codec.{with_entry}
-use Rattle.model.specs.Fields.{words_of}
-use Rattle.model.specs.Names.{names_under, names_along}
-use Rattle.model.specs.Soundness.{count_of}
-use Rattle.model.specs.Lemmas.Counts.{count_of-append, count_flat, count_flat_one, count_two}
-use Rattle.model.specs.Lemmas.Codecs.{words_of-with_entry}
-use Rattle.model.specs.Lemmas.Words.{length-words_of-block}
-use Rattle.in_flight.specs.Trees.{entry_of, led_to}
 use Rattle.in_flight.specs.Lemmas.KeptTrees.{names_kept}
 use Rattle.in_flight.specs.Lemmas.LeftInTrees.{under_none}
 use Rattle.in_flight.specs.Lemmas.Ways.{named_behind, flat_indexed, along_indexed, count_at, count_slot, led_step, led_named}
@@ -86,9 +77,7 @@ module _ (x : Image) (n e b depth : ℕ) (h : IsPlaced x n e b depth) where
   one_more f g count k c inside has once others here =
       let one = count_flat_one f g c 0 count k (omega arith) (omega (arith, inside)) (λ j from low ne. others j
       (let both = count_two f n 0 count j k (omega arith) low (omega arith) (omega (arith, inside)) ne in omega (arith, both, has, once))) in
-      let p = count_of-append c (b ∷ []) (f k) in
-      let q = count_of-append c (b ∷ []) (flat_map f (range_with_len 0 count)) in
-      omega (arith, one, here, p, q)
+      omega (arith, one, here, (count_of-append c (b ∷ []) (f k)), (count_of-append c (b ∷ []) (flat_map f (range_with_len 0 count))))
 
   placed_here : (c : ℕ) → count_of n (names_under x (suc depth) n) ≤ 1 →
       count_of c (names_under y (suc depth) n) ≡ count_of c (b ∷ names_under x (suc depth) n)
@@ -119,50 +108,42 @@ module _ (x : Image) (n e b depth : ℕ) (h : IsPlaced x n e b depth) where
   placed : (way : List ℕ) (a c : ℕ) → led_to x way a ≡ n → count_of n (names_under x (over way (suc depth)) a) ≤ 1 →
       count_of c (names_under y (over way (suc depth)) a) ≡ count_of c (b ∷ names_under x (over way (suc depth)) a)
   placed [] a c led once =
-      let few = ap (λ q. count_of n (names_under x (suc depth) q)) led in
       subst (λ k. count_of c (names_under y (suc depth) k) ≡ count_of c (b ∷ names_under x (suc depth) k)) (sym led)
-      (placed_here c (omega (arith, few, once)))
+      (placed_here c (omega (arith, (ap (λ q. count_of n (names_under x (suc depth) q)) led), once)))
   placed (f ∷ way) a c led once =
       let step = led_step x f way a n led h.there in
       let vs = words_of (block_at x a) in
       let under = over way (suc depth) in
       let no = ne_eqb a 0 step.0 in
-      let short = over_is way (suc depth) in
-      let has = led_named x under way (get_or vs f 0) n (omega (arith, short)) step.1 h.there in
+      let has = led_named x under way (get_or vs f 0) n (omega (arith, (over_is way (suc depth)))) step.1 h.there in
       let few = count_at (names_under x under) vs f n step.2 in
       let old : count_of n (names_under x (suc under) a) ≡ count_of n (a ∷ flat_map (names_under x under) vs) = rw no refl in
       let sum = count_of-append n (a ∷ []) (flat_map (names_under x under) vs) in
       let apart : a ≢ n = λ (s : a ≡ n).
       let own : count_of n (a ∷ []) ≡ 1 = rw (eq-eqb a n s) refl in omega (arith, once, old, sum, has, few, own) in
-      let same = other a apart in
-      let x_n = ap (count_of n) (flat_indexed (names_under x under) vs) in
-      let x_c = ap (count_of c) (flat_indexed (names_under x under) vs) in
-      let y_c = ap (count_of c) (flat_indexed (names_under y under) vs) in
       let more = one_more (λ j. names_under x under (get_or vs j 0)) (λ j. names_under y under (get_or vs j 0)) (length vs) f c step.2 has
-      (omega (arith, once, old, sum, x_n)) (λ j none. still under (get_or vs j 0) c none)
+      (omega (arith, once, old, sum, (ap (count_of n) (flat_indexed (names_under x under) vs)))) (λ j none. still under (get_or vs j 0) c none)
       (placed way (get_or vs f 0) c step.1 (omega (arith, once, old, sum, few))) in
-      let new : count_of c (names_under y (suc under) a) ≡ count_of c (a ∷ flat_map (names_under y under) vs) = rw (no, same) refl in
+      let new : count_of c (names_under y (suc under) a) ≡ count_of c (a ∷ flat_map (names_under y under) vs) = rw (no, (other a apart)) refl in
       let was : count_of c (names_under x (suc under) a) ≡ count_of c (a ∷ flat_map (names_under x under) vs) = rw no refl in
       let p = count_of-append c (a ∷ []) (flat_map (names_under y under) vs) in
       let q = count_of-append c (a ∷ []) (flat_map (names_under x under) vs) in
       let r = count_of-append c (b ∷ []) (names_under x (suc under) a) in
       let s = count_of-append c (b ∷ []) (flat_map (λ j. names_under x under (get_or vs j 0)) (range_with_len 0 (length vs))) in
-      omega (arith, more, new, was, x_c, y_c, p, q, r, s)
+      omega (arith, more, new, was, (ap (count_of c) (flat_indexed (names_under x under) vs)), (ap (count_of c) (flat_indexed (names_under y under) vs)), p, q, r, s)
 
   pub placed_along : (way ds addresses : List ℕ) (slot c : ℕ) → slot < length ds → get_or ds slot 0 ≡ over way (suc depth) →
       led_to x way (get_or addresses slot 0) ≡ n → count_of n (names_along x ds addresses) ≤ 1 →
       count_of c (names_along y ds addresses) ≡ count_of c (b ∷ names_along x ds addresses)
   placed_along way ds addresses slot c inside deep led once =
       let a = get_or addresses slot 0 in
-      let short = over_is way (suc depth) in
-      let has = led_named x (get_or ds slot 0) way a n (omega (arith, short, deep)) led h.there in
-      let few = count_slot x ds addresses slot n inside in
+      let has = led_named x (get_or ds slot 0) way a n (omega (arith, (over_is way (suc depth)), deep)) led h.there in
       let x_n = ap (count_of n) (along_indexed x ds addresses) in
       ap (count_of c) (along_indexed y ds addresses)
       ∙ one_more (named_behind x ds addresses) (named_behind y ds addresses) (length ds) slot c inside has (omega (arith, once, x_n))
       (λ j none. still (get_or ds j 0) (get_or addresses j 0) c none)
       (subst (λ k. count_of n (names_under x k a) ≤ 1 → count_of c (names_under y k a) ≡ count_of c (b ∷ names_under x k a)) (sym deep)
-      (placed way a c led) (omega (arith, once, few)))
+      (placed way a c led) (omega (arith, once, (count_slot x ds addresses slot n inside))))
       ∙ ap (λ (l : List ℕ). count_of c (b ∷ l)) (sym (along_indexed x ds addresses))
 
 -- ---- by an address of the inode
@@ -173,12 +154,11 @@ pub set_along : (x : Image) (ds addresses : List ℕ) (slot b c : ℕ) → slot 
 set_along x ds addresses slot b c inside there none fresh =
     let one = count_flat_one (named_behind x ds addresses) (named_behind x ds (set addresses slot b)) c 0 (length ds) slot (omega arith)
     (omega (arith, inside)) (λ j from low ne. ap (λ a. count_of c (names_under x (get_or ds j 0) a)) (get_or-set_other addresses slot j b 0 ne)) in
-    let gone = ap (count_of c) (ap (names_under x (get_or ds slot 0)) none ∙ under_none x (get_or ds slot 0)) in
     let now = ap (count_of c) (ap (names_under x (get_or ds slot 0)) (get_or-set_same addresses slot b 0 there) ∙ fresh) in
     let old = ap (count_of c) (along_indexed x ds addresses) in
     let new = ap (count_of c) (along_indexed x ds (set addresses slot b)) in
     let p = count_of-append c (b ∷ []) (names_along x ds addresses) in
-    omega (arith, one, gone, now, old, new, p)
+    omega (arith, one, (ap (count_of c) (ap (names_under x (get_or ds slot 0)) none ∙ under_none x (get_or ds slot 0))), now, old, new, p)
 
 -- ---- a block of zeroes names nothing
 
@@ -199,6 +179,5 @@ flat_none f (suc n) none = rw (none, flat_none f n none) refl
 pub under_fresh : (x : Image) (depth b : ℕ) → b ≢ 0 → (depth ≢ 0 → block_at x b ≡ zero_block) → names_under x depth b ≡ b ∷ []
 under_fresh x zero b some zeroes = rw (ne_eqb b 0 some) refl
 under_fresh x (suc depth) b some zeroes =
-    let words = ap words_of (zeroes (λ e. omega (arith, e))) ∙ words_of_zeroes in
     rw (ne_eqb b 0 some) (ap (λ (l : List ℕ). b ∷ l)
-    (ap (flat_map (names_under x depth)) words ∙ flat_none (names_under x depth) 256 (under_none x depth)))
+    (ap (flat_map (names_under x depth)) (ap words_of (zeroes (λ e. omega (arith, e))) ∙ words_of_zeroes) ∙ flat_none (names_under x depth) 256 (under_none x depth)))

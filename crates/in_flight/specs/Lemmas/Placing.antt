@@ -1,24 +1,8 @@
 -- A task's copy of its inode, or a block of addresses, names the block that the task took.
 use Rattle.std.proofs.Common.{◌≡◌, ◌≢◌, ℕ, suc, ◌*◌, ◌<◌, ◌≤◌, List, [], ◌∷◌, ◌++◌, length, get_or, set, Option, Some, None, refl, sym, ap, subst, ◌∙◌, arith, cond, eqb, length-set, length-append, get_or-set_other}
+use Rattle.in_flight.specs.Common.{address_along, addresses_in, AddressPlaced, AllByRecursion-append, AreFull, block_at, Claim, Claims, count_of, data_at, depths, Dinode, EntryPlaced, file_in, Files, FitsThen, Form, form_agree, form_of, greatest_size, grows, Growth, Image, IsClaimedNow, IsFine, IsGrowing, IsHeldIn, IsLawfulGeometry, IsMarkedData, LeadsToNone, length-overwritten, LiesInData, listed, names_along, names_claimed, place_of, placed_behind, placing, pointers_in, thirteen_depths, with_entry}
 use Rattle.blocks.specs.Block.{zero_block}
-use Rattle.blocks.specs.Disk.{Image, block_at}
-use Rattle.model.specs.declared.types.image.Dinode.{Dinode}
-use Rattle.model.specs.declared.types.image.Form.{Form}
-use Rattle.model.specs.Codec.{with_entry}
-use Rattle.model.specs.Files.{Files, data_at, file_in}
-use Rattle.model.specs.Layout.{depths, form_of, greatest_size}
-use Rattle.model.specs.Names.{names_along}
-use Rattle.model.specs.Places.{address_along, address_in, addresses_in, pointers_in}
-use Rattle.model.specs.Soundness.{count_of, IsLawfulGeometry}
-use Rattle.model.specs.Lemmas.Codecs.{length-overwritten}
-use Rattle.model.specs.Lemmas.Counts.{AllByRecursion-append}
-use Rattle.model.specs.Lemmas.Frames.{form_agree}
-use Rattle.model.specs.Lemmas.Wholes.{thirteen_depths}
-use Rattle.in_flight.specs.GrowthLaws.{AddressPlaced, EntryPlaced, LeadsToNone}
-use Rattle.in_flight.specs.Held.{Claims, Growth, grows, IsClaimedNow, IsGrowing, placing, placed_behind, Claim, names_claimed, listed, IsFine}
-use Rattle.in_flight.specs.HeldLaws.{FitsThen, IsHeldIn, IsMarkedData}
-use Rattle.in_flight.specs.Loose.{AreFull, LiesInData}
-use Rattle.in_flight.specs.Trees.{place_of}
+use Rattle.model.specs.Places.{address_in}
 use Rattle.in_flight.specs.Lemmas.Apart.{copy_marked, copy_once, data_apart, taken_apart, way_inside, way_named, writes_named}
 use Rattle.in_flight.specs.Lemmas.BlocksTaken.{taken_owned}
 use Rattle.in_flight.specs.Lemmas.GivenUp.{set_below}
@@ -46,17 +30,12 @@ pub record IsSmall (b : ℕ) : Type 0 where
 pub lies_small : (x : Image) (b : ℕ) → IsLawfulGeometry x → AreFull x → LiesInData x b → IsSmall b
 lies_small x b g full there =
     let map = mapped x g full in
-    let from = there.0 in
-    let inside = there.1 in
     let behind = map.behind in
-    let before = map.before_data in
-    let room = map.room in
-    record { behind = omega (arith, from, behind, before); small = omega (arith, inside, room) }
+    record { behind = omega (arith, there.0, behind, map.before_data); small = omega (arith, there.1, map.room) }
 
 pub some_taken : (m : Files) (x : Image) (claims : Claims) (i b : ℕ) (g : Growth) → IsHeldIn m x claims i (grows g) → g.taken ≡ Some b → b ≢ 0
 some_taken m x claims i b g h is z =
-    let small = lies_small x b h.fits.geometry h.fits.full (taken_lies m x claims i b g h is) in
-    let behind = small.behind in omega (arith, behind, z)
+    let behind = (lies_small x b h.fits.geometry h.fits.full (taken_lies m x claims i b g h is)).behind in omega (arith, behind, z)
 
 -- ---- by one of the copy's own addresses
 
@@ -68,20 +47,18 @@ address_with x d slot b k none some = address_set x k (depths (form_of x)) d.add
 pub address_placed : AddressPlaced
 address_placed m x claims new i slot b g held is inside none zeroes now =
     let growing = growing_of m x claims i g held in
-    let small = (lies_small x b held.fits.geometry held.fits.full (taken_lies m x claims i b g held is)).small in
     let addrs = g.copy.addrs in
     let ds = depths (form_of x) in
-    let all = thirteen_depths (form_of x) in
     let count = growing.fit.fields.count in
     let fresh = under_fresh x (get_or ds slot 0) b (some_taken m x claims i b g held is) zeroes in
     (claim_turned m x claims new i _ _ held.fits (between x i held.number) held.holds now
     (λ c.
     ap (count_of c) (whole_names x (placing g slot b).copy growing.fit.used)
-    ∙ set_along x ds addrs slot b c (omega (arith, inside, all, count)) inside none fresh
+    ∙ set_along x ds addrs slot b c (omega (arith, inside, (thirteen_depths (form_of x)), count)) inside none fresh
     ∙ ap (λ (l : List ℕ). count_of c (b ∷ l)) (sym (whole_names x g.copy growing.fit.used))
     ∙ sym (ap (λ t. count_of c (listed t ++ addresses_in (pointers_in x g.copy))) is))
     (growing_at x i g (set addrs slot b) None (file_in m i) growing (length-set addrs slot b ∙ count)
-    (set_below addrs slot b (omega (arith, small)) growing.fit.fields.addrs)
+    (set_below addrs slot b (omega (arith, ((lies_small x b held.fits.geometry held.fits.full (taken_lies m x claims i b g held is)).small))) growing.fit.fields.addrs)
     (λ k need. address_with x g.copy slot b k none (growing.fit.whole k need)))).fits
 
 -- ---- by an entry of a block of addresses
@@ -115,16 +92,14 @@ module _ (m : Files) (x : Image) (claims new : Claims) (i slot a e b depth : ℕ
 
   named : 1 ≤ count_of a (addresses_in (pointers_in x d))
   named =
-      let below = h.leads.below in
-      way_named m x claims i g h.held slot way a (omega (arith, below)) h.leads.led h.leads.there
+      way_named m x claims i g h.held slot way a (omega (arith, h.leads.below)) h.leads.led h.leads.there
 
   marked_data : IsMarkedData x a
   marked_data = copy_marked m x claims i g h.held a named
 
   full : length (block_at x a) ≡ 1024
   full =
-      let behind = (lies_small x a h.held.fits.geometry h.held.fits.full marked_data.0).behind in
-      h.held.fits.full a (omega (arith, behind)) marked_data.0.1
+      h.held.fits.full a (omega (arith, ((lies_small x a h.held.fits.geometry h.held.fits.full marked_data.0).behind))) marked_data.0.1
 
   is_placed : IsPlaced x a e b depth
   is_placed =
@@ -165,11 +140,9 @@ module _ (m : Files) (x : Image) (claims new : Claims) (i slot a e b depth : ℕ
 
   blocks_same : (k : ℕ) → k * 1024 < d.size → data_at y (address_in y d k) ≡ data_at x (address_in x d k)
   blocks_same k need =
-      let below = h.leads.below in
-      let apart = data_apart m x claims i g h.held slot way a k (omega (arith, below)) h.leads.led h.leads.there in
       ap (data_at y) (leads_same k need)
       ∙ ap (λ (l : List ℕ). cond (eqb (address_in x d k) 0) [] l)
-      (get_or-set_other x a (address_in x d k) bytes [] apart)
+      (get_or-set_other x a (address_in x d k) bytes [] (data_apart m x claims i g h.held slot way a k (omega (arith, h.leads.below)) h.leads.led h.leads.there))
 
   fine : IsGrowing y i (placed_behind g) (file_in m i)
   fine =
@@ -209,12 +182,10 @@ module _ (m : Files) (x : Image) (claims new : Claims) (i slot a e b depth : ℕ
   unfolding address_in
   at_entry leaf =
       let inside = slot_inside in
-      let all = thirteen_depths (form_of x) in
       let count = growing.fit.fields.count in
       let sum = length-append way (e ∷ []) in
-      let below = h.leads.below in
       ap (λ (f : Form). address_along y (place_of x slot (way ++ e ∷ [])) (depths f) d.addrs) same_form
-      ∙ along_at y ds d.addrs slot (way ++ e ∷ []) inside (omega (arith, inside, all, count)) (omega (arith, sum, below, leaf))
+      ∙ along_at y ds d.addrs slot (way ++ e ∷ []) inside (omega (arith, inside, (thirteen_depths (form_of x)), count)) (omega (arith, sum, h.leads.below, leaf))
       (AllByRecursion-append (λ f. f < 256) way (e ∷ []) h.leads.entries (h.leads.entry, tt))
       ∙ led_further y way (get_or d.addrs slot 0) e a (led_kept x y keeps way (get_or d.addrs slot 0) a h.leads.led h.leads.there) h.leads.there
       ∙ entry_now x a e b depth is_placed

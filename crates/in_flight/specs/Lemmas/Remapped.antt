@@ -1,15 +1,7 @@
 -- What another bitmap makes of an image.
 use Rattle.std.proofs.Common.{◌≡◌, ◌≢◌, ℕ, ◌<◌, ◌≤◌, Bool, true, not, eqb, List, [], length, set, ap, ◌∙◌, ⊎_elim, arith}
-use Rattle.std.proofs.lemmas.Bool.{ne_eqb, cases_eq}
-use Rattle.std.proofs.lemmas.List.{length-set, get_or-set_same}
-use Rattle.blocks.specs.Disk.{Image, block_at}
-use Rattle.model.specs.declared.types.image.Super.{Super}
-use Rattle.model.specs.Fields.{has_bit}
-use Rattle.model.specs.Layout.{super_in, super_of, inode_of, inode_in, inode_bytes, inode_bytes_in, inode_block, first_data_block, meta_count, is_marked}
-use Rattle.model.specs.Soundness.{IsLawfulGeometry}
-use Rattle.model.specs.Lemmas.Frames.{Agrees-set}
-use Rattle.model.specs.Lemmas.Soundness.{facts_of}
-use Rattle.in_flight.specs.Loose.{AreFull}
+use Rattle.in_flight.specs.Common.{Agrees-set, AreFull, block_at, cases_eq, facts_of, first_data_block, get_or-set_same, has_bit, Image, inode_block, inode_bytes, inode_bytes_in, inode_in, is_marked, IsLawfulGeometry, length-set, meta_count, ne_eqb, Super, super_in, super_of}
+use Rattle.model.specs.Layout.{inode_of}
 use Rattle.in_flight.specs.Lemmas.Frames.{AgreesAtData}
 
 -- where the bitmap lies

@@ -1,17 +1,10 @@
 -- Inodes that have the same bytes.
 use Rattle.std.proofs.Common.{◌≡◌, ℕ, ◌*◌, ◌<◌, List, length, take, refl, sym, ap, ap₂, ◌∙◌, arith, Option, flat_map, slice_index, ◌^◌}
-use Rattle.model.specs.Files.{bytes_in, joined, data_at, blocks_for}
-use Rattle.blocks.specs.Disk.{Image}
-use Rattle.model.specs.declared.types.image.Dinode.{Dinode}
-use Rattle.blocks.specs.Block.{overwritten}
-use Rattle.in_flight.specs.Held.{Growth, IsGrowing}
-use Rattle.in_flight.specs.Loose.{IsFit}
-use Rattle.model.specs.Crash.{labels_of}
+use Rattle.model.specs.Files.{bytes_in, joined}
 use Rattle.model.specs.Layout.{inode_of}
 use Rattle.model.specs.Places.{address_in}
-use Rattle.model.specs.declared.types.image.File.{File}
 use Rattle.std.specs.List.{range_with_len}
-use Rattle.model.specs.Lemmas.OutsideLog.{flat_map_range_same}
+use Rattle.in_flight.specs.Common.{blocks_for, data_at, Dinode, File, flat_map_range_same, Growth, Image, IsFit, IsGrowing, labels_of, overwritten}
 
 -- in each block that its size needs an inode has what another of that size has, be it in another image
 pub bytes_alike : (x y : Image) (d e : Dinode) → e.size ≡ d.size →

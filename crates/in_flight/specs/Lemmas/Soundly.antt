@@ -2,25 +2,12 @@
 use Rattle.std.proofs.Common.{◌≡◌, ◌≢◌, ℕ, ◌+◌, ◌-◌, ◌<◌, ◌≤◌, List, length, None, refl, sym, ap, subst, ◌∙◌, ⊎_elim, arith}
 use Rattle.std.specs.Prelude.{All}
 use Rattle.std.specs.List.{AllByRecursion}
-use Rattle.std.proofs.lemmas.Bool.{cases_eq}
 use Rattle.std.proofs.lemmas.List.Elements.{All-from_recursion, recursion_from_All}
 use Rattle.std.proofs.lemmas.List.FromFn.{fill_by_all}
-use Rattle.blocks.specs.Disk.{Image, IsImage, block_at}
-use Rattle.model.specs.Fields.{words_of}
-use Rattle.model.specs.Files.{Files, file_in, file_at, files_of}
-use Rattle.model.specs.Layout.{form_of, inode_of, inode_block, inode_count_of}
-use Rattle.model.specs.Places.{pointers_of, places_of, addresses_in}
-use Rattle.model.specs.Soundness.{IsSound, IsLawfulInode, IsFilled}
-use Rattle.model.specs.Lemmas.Counts.{All-range, All-range_at, count_of-All, all_weaker}
+use Rattle.in_flight.specs.Common.{addresses_in, All-range, All-range_at, all_weaker, block_at, cases_eq, count_of-All, facts_of, file_at, file_in, Files, files_of, filled_whole, Fits, form_of, Image, inode_block, inode_count_of, inode_in_data, is_dinode-inode_of, IsFilled, IsFit, IsImage, IsInData, IsLawfulInode, IsLoose, IsSound, length-words_of-block, LiesInData, places_of, pointers_free, pointers_named, pointers_of, words_of}
+use Rattle.model.specs.Layout.{inode_of}
 use Rattle.model.specs.Lemmas.FileNumbers.{length-files_of, file_in-files_of, file_in-files_of_zero}
-use Rattle.model.specs.Lemmas.Frames.{pointers_free}
-use Rattle.model.specs.Lemmas.Inodes.{is_dinode-inode_of}
-use Rattle.model.specs.Lemmas.Names.{pointers_named}
-use Rattle.model.specs.Lemmas.Soundness.{IsInData, facts_of, inode_in_data}
-use Rattle.model.specs.Lemmas.Wholes.{filled_whole}
-use Rattle.model.specs.Lemmas.Words.{length-words_of-block}
 use Rattle.in_flight.specs.Laws.{SoundFits, FitsSoundly}
-use Rattle.in_flight.specs.Loose.{LiesInData, IsLoose, IsFit, Fits}
 use Rattle.in_flight.specs.Lemmas.Frames.{AllByRecursion-counted, named_in_data}
 use Rattle.in_flight.specs.Lemmas.Wholes.{HasFew, whole_filled}
 

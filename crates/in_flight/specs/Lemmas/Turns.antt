@@ -1,15 +1,9 @@
 -- What becomes of the claims where the image stays: a turn, and an entry that is passed over.
 use Rattle.std.proofs.Common.{◌≡◌, ◌≢◌, ℕ, ◌<◌, ◌≤◌, true, length, set, Option, Some, None, refl, sym, ap, subst, ◌∙◌, arith}
-use Rattle.std.proofs.lemmas.Bool.{ne_eqb}
-use Rattle.std.proofs.lemmas.List.{length-set, get_or-set_same, get_or-set_other}
-use Rattle.blocks.specs.Disk.{Image}
-use Rattle.model.specs.Files.{Files, file_in, file_at, file_of, bytes_in}
-use Rattle.model.specs.Layout.{inode_of, inode_count_of, depths, form_of}
+use Rattle.in_flight.specs.Common.{Claim, Claims, count_of, depths, EntryPassed, file_at, file_in, file_left, Files, FitsHeld, FitsThen, form_of, get_or-set_other, get_or-set_same, Image, inode_count_of, IsAtRest, IsClaimedNow, IsFine, length-set, names_claimed, ne_eqb, owned, TurnAnswers, TurnHolds}
+use Rattle.model.specs.Files.{file_of, bytes_in}
+use Rattle.model.specs.Layout.{inode_of}
 use Rattle.model.specs.Operations.{after}
-use Rattle.model.specs.Soundness.{count_of}
-use Rattle.in_flight.specs.Held.{Claims, FitsHeld, IsClaimedNow, IsFine, names_claimed, owned, file_left, Claim}
-use Rattle.in_flight.specs.HeldLaws.{FitsThen, EntryPassed, TurnHolds, TurnAnswers}
-use Rattle.in_flight.specs.Loose.{IsAtRest}
 use Rattle.in_flight.specs.Looks.{IsUsed}
 use Rattle.in_flight.specs.Lemmas.Frames.{AgreesAtData}
 use Rattle.in_flight.specs.Lemmas.GivenUp.{held_of, held_further}
@@ -94,7 +88,6 @@ turn_holds m x claims new i last cursor f used none last_is alike now =
     let d = inode_of x i in
     let high = at.high in
     let fit = (at_rest_of m x claims i f used none).fit used.1 in
-    let inside : i < length m = omega (arith, high, f.count) in
     changes_claim m x claims i (set m i (file_left last)) new (record {
       fits = f;
       low = at.low;
@@ -114,7 +107,7 @@ turn_holds m x claims new i last cursor f used none last_is alike now =
             same_kind = refl;
             labels = refl;
             last = last_is;
-            told = get_or-set_same m i (file_left last) None inside;
+            told = get_or-set_same m i (file_left last) None (omega (arith, high, f.count));
           });
     })
 
@@ -125,9 +118,7 @@ used_file x i low used = rw (ne_eqb i 0 (λ e. omega (arith, low, e)), ne_eqb (i
 pub turn_answers : TurnAnswers
 unfolding after
 turn_answers m x claims i f used none =
-    let at = between x i used.0 in
-    let d = inode_of x i in
-    let file = sym (at_rest_of m x claims i f used none).same ∙ used_file x i at.low used.1 in (
-      rw (file, file, ne_eqb d.kind 0 used.1) refl,
+    let file = sym (at_rest_of m x claims i f used none).same ∙ used_file x i (between x i used.0).low used.1 in (
+      rw (file, file, ne_eqb (inode_of x i).kind 0 used.1) refl,
       rw (file, file) refl,
     )

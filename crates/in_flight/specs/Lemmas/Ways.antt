@@ -1,20 +1,8 @@
 -- The ways to the blocks that an inode names: what two of them lead to, and the file's places.
 use Rattle.std.proofs.Common.{◌≡◌, ◌≢◌, ◌⊎◌, ℕ, zero, suc, ◌+◌, ◌-◌, ◌*◌, ◌/◌, ◌%◌, ◌^◌, ◌<◌, ◌≤◌, cond, eqb, List, [], ◌∷◌, ◌++◌, length, get_or, set, drop, refl, sym, ap, ap₂, subst, ◌∙◌, ⊎_elim, arith}
 use Rattle.std.specs.List.{flat_map, range_with_len, AllByRecursion}
-use Rattle.std.proofs.lemmas.Bool.{ne_eqb, eq-eqb, cases_eq, cases_lt, lt-ltb, le-ltb}
-use Rattle.std.proofs.lemmas.List.{get_or_past}
-use Rattle.std.proofs.lemmas.Nat.{div-mul-add, mod-mul-add, div-add-mod', div_below}
 use Rattle.std.proofs.Math.Nat.{pow-suc, mod-lt}
-use Rattle.blocks.specs.Disk.{Image, block_at}
-use Rattle.model.specs.Fields.{words_of}
-use Rattle.model.specs.Layout.{reach}
-use Rattle.model.specs.Names.{names_under, names_along}
-use Rattle.model.specs.Places.{address_under, address_along}
-use Rattle.model.specs.Soundness.{count_of}
-use Rattle.model.specs.Lemmas.Counts.{count_flat, count_two}
-use Rattle.model.specs.Lemmas.Wholes.{reach_pos}
-use Rattle.model.specs.Lemmas.Frames.{under_zero}
-use Rattle.in_flight.specs.Trees.{left_under, entry_of, led_to, place_under, place_along, way_to}
+use Rattle.in_flight.specs.Common.{address_along, address_under, block_at, cases_eq, cases_lt, count_flat, count_of, count_two, div-add-mod', div-mul-add, div_below, entry_of, eq-eqb, get_or_past, Image, le-ltb, led_to, left_under, lt-ltb, mod-mul-add, names_along, names_under, ne_eqb, place_along, place_under, reach, reach_pos, under_zero, way_to, words_of}
 use Rattle.in_flight.specs.Lemmas.LeftInTrees.{left_parts, under_none}
 use Rattle.in_flight.specs.Lemmas.Wholes.{inside_reach}
 
@@ -50,16 +38,13 @@ along_indexed x (d ∷ ds) (a ∷ addresses) =
 -- what one of them has, or two
 pub count_at : (f : ℕ → List ℕ) (ws : List ℕ) (e c : ℕ) → e < length ws → count_of c (f (get_or ws e 0)) ≤ count_of c (flat_map f ws)
 count_at f ws e c low =
-    let same = ap (count_of c) (flat_indexed f ws) in
-    let few = count_flat (λ j. f (get_or ws j 0)) c 0 (length ws) e (omega arith) (omega (arith, low)) in
-    omega (arith, same, few)
+    omega (arith, (ap (count_of c) (flat_indexed f ws)), (count_flat (λ j. f (get_or ws j 0)) c 0 (length ws) e (omega arith) (omega (arith, low))))
 
 count_both : (f : ℕ → List ℕ) (ws : List ℕ) (j k c : ℕ) → j ≢ k → j < length ws → k < length ws →
     count_of c (f (get_or ws j 0)) + count_of c (f (get_or ws k 0)) ≤ count_of c (flat_map f ws)
 count_both f ws j k c apart low high =
-    let same = ap (count_of c) (flat_indexed f ws) in
     let few = count_two (λ i. f (get_or ws i 0)) c 0 (length ws) j k (omega arith) (omega (arith, low)) (omega arith) (omega (arith, high)) apart in
-    omega (arith, same, few)
+    omega (arith, (ap (count_of c) (flat_indexed f ws)), few)
 
 count_behind : (f : ℕ → List ℕ) (ws : List ℕ) (first e c : ℕ) → first ≤ e → e < length ws →
     count_of c (f (get_or ws e 0)) ≤ count_of c (flat_map f (drop first ws))
@@ -71,16 +56,13 @@ count_behind f (w ∷ ws) (suc first) (suc e) c from low = count_behind f ws fir
 pub count_slot : (x : Image) (ds addresses : List ℕ) (slot c : ℕ) → slot < length ds →
     count_of c (named_behind x ds addresses slot) ≤ count_of c (names_along x ds addresses)
 count_slot x ds addresses slot c inside =
-    let same = ap (count_of c) (along_indexed x ds addresses) in
-    let few = count_flat (named_behind x ds addresses) c 0 (length ds) slot (omega arith) (omega (arith, inside)) in
-    omega (arith, same, few)
+    omega (arith, (ap (count_of c) (along_indexed x ds addresses)), (count_flat (named_behind x ds addresses) c 0 (length ds) slot (omega arith) (omega (arith, inside))))
 
 count_slots : (x : Image) (ds addresses : List ℕ) (j k c : ℕ) → j ≢ k → j < length ds → k < length ds →
     count_of c (named_behind x ds addresses j) + count_of c (named_behind x ds addresses k) ≤ count_of c (names_along x ds addresses)
 count_slots x ds addresses j k c apart low high =
-    let same = ap (count_of c) (along_indexed x ds addresses) in
     let few = count_two (named_behind x ds addresses) c 0 (length ds) j k (omega arith) (omega (arith, low)) (omega arith) (omega (arith, high)) apart in
-    omega (arith, same, few)
+    omega (arith, (ap (count_of c) (along_indexed x ds addresses)), few)
 
 -- ---- what a way leads to is named
 
@@ -114,16 +96,13 @@ led_named x depth [] a n short led some = named_itself x depth a n led some
 led_named x zero (e ∷ way) a n short led some = absurd (omega (arith, short))
 led_named x (suc depth) (e ∷ way) a n short led some =
     let step = led_step x e way a n led some in
-    let r = led_named x depth way (entry_of x a e) n (omega (arith, short)) step.1 some in
     let few = count_at (names_under x depth) (words_of (block_at x a)) e n step.2 in
-    rw (ne_eqb a 0 step.0) (omega (arith, r, few))
+    rw (ne_eqb a 0 step.0) (omega (arith, (led_named x depth way (entry_of x a e) n (omega (arith, short)) step.1 some), few))
 
 pub led_along : (x : Image) (ds addresses : List ℕ) (slot : ℕ) (way : List ℕ) (n : ℕ) → slot < length ds → length way ≤ get_or ds slot 0 →
     led_to x way (get_or addresses slot 0) ≡ n → n ≢ 0 → 1 ≤ count_of n (names_along x ds addresses)
 led_along x ds addresses slot way n inside short led some =
-    let one = led_named x (get_or ds slot 0) way (get_or addresses slot 0) n short led some in
-    let few = count_slot x ds addresses slot n inside in
-    omega (arith, one, few)
+    omega (arith, (led_named x (get_or ds slot 0) way (get_or addresses slot 0) n short led some), (count_slot x ds addresses slot n inside))
 
 -- a way to what a cursor leaves
 abbrev pub IsAhead : List ℕ → List ℕ → Type 0
@@ -144,16 +123,13 @@ led_left x (suc depth) (e ∷ cursor) [] a n short led some ahead =
     rw (ne_eqb a 0 (λ z. some (sym led ∙ z)), eq-eqb a n led) (omega arith)
 led_left x (suc depth) (e ∷ cursor) (f ∷ way) a n short led some ahead =
     let step = led_step x f way a n led some in
-    let ws = words_of (block_at x a) in
     let parts = left_parts x depth e a n cursor step.0 in
     ⊎_elim
     (λ (later : e < f).
     let one = led_named x depth way (entry_of x a f) n (omega (arith, short)) step.1 some in
-    let few = count_behind (names_under x depth) ws (suc e) f n (omega (arith, later)) step.2 in
-    omega (arith, parts, one, few))
+    omega (arith, parts, one, (count_behind (names_under x depth) (words_of (block_at x a)) (suc e) f n (omega (arith, later)) step.2)))
     (λ (here : (e ≡ f) × IsAhead cursor way).
-    let one = led_left x depth cursor way (entry_of x a e) n (omega (arith, short)) (ap (λ k. led_to x way (entry_of x a k)) here.0 ∙ step.1) some here.1 in
-    omega (arith, parts, one))
+    omega (arith, parts, (led_left x depth cursor way (entry_of x a e) n (omega (arith, short)) (ap (λ k. led_to x way (entry_of x a k)) here.0 ∙ step.1) some here.1)))
     ahead
 
 -- ---- and twice where two ways lead to it
@@ -162,9 +138,8 @@ below_itself : (x : Image) (depth e : ℕ) (way : List ℕ) (a n : ℕ) → leng
     2 ≤ count_of n (names_under x (suc depth) a)
 below_itself x depth e way a n short led same some =
     let step = led_step x e way a n led some in
-    let r = led_named x depth way (entry_of x a e) n short step.1 some in
     let few = count_at (names_under x depth) (words_of (block_at x a)) e n step.2 in
-    rw (ne_eqb a 0 step.0, eq-eqb a n same) (omega (arith, r, few))
+    rw (ne_eqb a 0 step.0, eq-eqb a n same) (omega (arith, (led_named x depth way (entry_of x a e) n short step.1 some), few))
 
 pub ways_apart : (x : Image) (depth : ℕ) (one two : List ℕ) (a n : ℕ) → length one ≤ depth → length two ≤ depth →
     led_to x one a ≡ n → led_to x two a ≡ n → n ≢ 0 → one ≢ two → 2 ≤ count_of n (names_under x depth a)
@@ -187,10 +162,9 @@ ways_apart x (suc depth) (e ∷ one) (f ∷ two) a n short_one short_two first s
     let few = count_at (names_under x depth) ws e n here.2 in
     rw (ne_eqb a 0 here.0) (omega (arith, r, few)))
     (λ (ne : e ≢ f).
-    let one_there = led_named x depth one (entry_of x a e) n (omega (arith, short_one)) here.1 some in
     let two_there = led_named x depth two (entry_of x a f) n (omega (arith, short_two)) there.1 some in
     let few = count_both (names_under x depth) ws e f n ne here.2 there.2 in
-    rw (ne_eqb a 0 here.0) (omega (arith, one_there, two_there, few)))
+    rw (ne_eqb a 0 here.0) (omega (arith, (led_named x depth one (entry_of x a e) n (omega (arith, short_one)) here.1 some), two_there, few)))
     (cases_eq e f)
 
 pub along_apart : (x : Image) (ds addresses : List ℕ) (j k : ℕ) (one two : List ℕ) (n : ℕ) → j < length ds → k < length ds →
@@ -199,16 +173,12 @@ pub along_apart : (x : Image) (ds addresses : List ℕ) (j k : ℕ) (one two : L
 along_apart x ds addresses j k one two n low high short_one short_two first second some apart =
     ⊎_elim
     (λ (same : j ≡ k).
-    let depth = ap (λ s. get_or ds s 0) same in
-    let both = ways_apart x (get_or ds j 0) one two (get_or addresses j 0) n short_one (omega (arith, short_two, depth)) first
+    let both = ways_apart x (get_or ds j 0) one two (get_or addresses j 0) n short_one (omega (arith, short_two, (ap (λ s. get_or ds s 0) same))) first
     (ap (λ s. led_to x two (get_or addresses s 0)) same ∙ second) some (apart same) in
-    let few = count_slot x ds addresses j n low in
-    omega (arith, both, few))
+    omega (arith, both, (count_slot x ds addresses j n low)))
     (λ (ne : j ≢ k).
     let here = led_named x (get_or ds j 0) one (get_or addresses j 0) n short_one first some in
-    let there = led_named x (get_or ds k 0) two (get_or addresses k 0) n short_two second some in
-    let few = count_slots x ds addresses j k n ne low high in
-    omega (arith, here, there, few))
+    omega (arith, here, (led_named x (get_or ds k 0) two (get_or addresses k 0) n short_two second some), (count_slots x ds addresses j k n ne low high)))
     (cases_eq j k)
 
 -- ---- the places of a file's blocks
@@ -280,9 +250,7 @@ way_along x k (d ∷ ds) (a ∷ addresses) some =
 pub place_small : (way : List ℕ) → AllByRecursion (λ e. e < 256) way → place_under way < reach (length way)
 place_small [] low = omega arith
 place_small (e ∷ way) low =
-    let inside = inside_reach e (place_under way) (reach (length way)) low.0 (place_small way low.1) in
-    let wide = pow-suc 256 (length way) in
-    omega (arith, inside, wide)
+    omega (arith, (inside_reach e (place_under way) (reach (length way)) low.0 (place_small way low.1)), (pow-suc 256 (length way)))
 
 pub address_at : (x : Image) (way : List ℕ) (a : ℕ) → AllByRecursion (λ e. e < 256) way →
     address_under x (length way) (place_under way) a ≡ led_to x way a
@@ -301,8 +269,7 @@ along_at x [] addresses slot way inside there long low = absurd (omega (arith, i
 along_at x (d ∷ ds) [] slot way inside there long low = absurd (omega (arith, there))
 along_at x (d ∷ ds) (a ∷ addresses) zero way inside there long low =
     let first : 0 + place_under way ≡ place_under way = omega arith in
-    let small : place_under way < reach d = subst (λ n. place_under way < 256 ^ n) long (place_small way low) in
-    rw (first, lt-ltb (place_under way) (reach d) small)
+    rw (first, lt-ltb (place_under way) (reach d) (subst (λ n. place_under way < 256 ^ n) long (place_small way low)))
     (subst (λ n. address_under x n (place_under way) a ≡ led_to x way a) long (address_at x way a low))
 along_at x (d ∷ ds) (a ∷ addresses) (suc slot) way inside there long low =
     let before = place_along ds slot in
@@ -339,9 +306,8 @@ address_kept x y keeps k (d ∷ ds) (a ∷ addresses) some =
     ⊎_elim
     (λ (low : k < reach d).
     let yes = lt-ltb k (reach d) low in
-    let there : address_under x d k a ≢ 0 = rw yes at some in
     rw yes (address_led y d k a
-    ∙ led_kept x y keeps (way_to d k) a (address_under x d k a) (sym (address_led x d k a)) there))
+    ∙ led_kept x y keeps (way_to d k) a (address_under x d k a) (sym (address_led x d k a)) (rw yes at some)))
     (λ (past : reach d ≤ k).
     let no = le-ltb k (reach d) past in
     rw no (address_kept x y keeps (k - reach d) ds addresses (rw no at some)))
@@ -355,8 +321,7 @@ address_set x k (d ∷ ds) [] slot b none some = refl
 address_set x k (d ∷ ds) (a ∷ addresses) zero b none some =
     ⊎_elim
     (λ (low : k < reach d).
-    let there : address_under x d k a ≢ 0 = rw (lt-ltb k (reach d) low) at some in
-    absurd (there (ap (address_under x d k) none ∙ under_zero x d k)))
+    absurd ((rw (lt-ltb k (reach d) low) at some) (ap (address_under x d k) none ∙ under_zero x d k)))
     (λ (past : reach d ≤ k). rw (le-ltb k (reach d) past) refl)
     (cases_lt k (reach d))
 address_set x k (d ∷ ds) (a ∷ addresses) (suc slot) b none some =

@@ -1,23 +1,11 @@
 -- An inode has each block that its size needs exactly where its pointers are filled.
 use Rattle.std.proofs.Common.{◌≡◌, ◌≢◌, ℕ, zero, suc, ◌+◌, ◌-◌, ◌*◌, ◌/◌, ◌%◌, ◌^◌, ◌<◌, ◌≤◌, true, ltb, List, [], ◌∷◌, ◌++◌, length, get_or, replicate, refl, sym, ap, subst, ⊎_elim, zero-add, add_assoc, arith}
 use Rattle.std.specs.List.{flat_map, AllByRecursion}
-use Rattle.std.proofs.lemmas.Bool.{ne_eqb, cases_eq, ltb-true, lt-ltb, le-ltb}
-use Rattle.std.proofs.lemmas.Nat.{div-mul-add, mod-mul-add}
 use Rattle.std.proofs.Math.Nat.{pow-suc, mul-le-mul_left}
-use Rattle.blocks.specs.Disk.{Image, block_at}
-use Rattle.model.specs.declared.types.image.Dinode.{Dinode}
-use Rattle.model.specs.declared.types.image.Form.{Form}
-use Rattle.model.specs.declared.types.image.Form.TheVariants.{One, Two}
+use Rattle.in_flight.specs.Common.{address_along, address_under, AllByRecursion-append, AllByRecursion-parts, block_at, cases_eq, depths, Dinode, direct_count, div-mul-add, flat_at, Form, form_of, greatest_size, Image, IsFilled, IsWhole, le-ltb, lt-ltb, ltb-true, mod-mul-add, names_along, names_under, names_used, ne_eqb, One, pointers_along, pointers_behind, pointers_in, pointers_under, pointers_used, reach, reach_pos, Two, words_of}
 use Rattle.model.specs.declared.types.image.Pointer.{Pointer}
-use Rattle.model.specs.Fields.{words_of}
-use Rattle.model.specs.Layout.{reach, depths, direct_count, form_of, greatest_size}
-use Rattle.model.specs.Names.{names_under, names_along, names_of}
-use Rattle.model.specs.Places.{pointers_under, pointers_behind, pointers_along, pointers_in, address_under, address_along, address_in}
-use Rattle.model.specs.Soundness.{IsFilled}
-use Rattle.model.specs.Lemmas.Counts.{AllByRecursion-append, AllByRecursion-parts, flat_at}
-use Rattle.model.specs.Lemmas.Frames.{pointers_used}
-use Rattle.model.specs.Lemmas.Wholes.{reach_pos, names_used}
-use Rattle.in_flight.specs.Loose.{IsWhole}
+use Rattle.model.specs.Names.{names_of}
+use Rattle.model.specs.Places.{address_in}
 
 -- ---- where each block is there, the pointers are filled
 
@@ -69,12 +57,8 @@ under_filled x size (suc depth) first address few each =
           (λ j low. under_filled x size depth (first + j * r) (get_or ws j 0)
           (flat_at (HasFew x) (λ a. names_under x depth a) ws j parts.1 low)
           (λ k kl need z.
-          let quotient : (j * r + k) / r ≡ j = div-mul-add j r k kl in
-          let rest : (j * r + k) % r ≡ k = mod-mul-add j r k kl in
           let bound = inside_reach j k r (omega arith) kl in
-          let inside : j * r + k < reach (suc depth) = omega arith in
-          let sum : first + (j * r + k) ≡ first + j * r + k = sym (add_assoc first (j * r) k) in
-          each (j * r + k) inside (rw sum need) (rw no (rw (quotient, rest) z)))),
+          each (j * r + k) (omega arith) (rw (sym (add_assoc first (j * r) k)) need) (rw no (rw ((div-mul-add j r k kl), (mod-mul-add j r k kl)) z)))),
     ))
     (cases_eq address 0)
 
@@ -97,9 +81,8 @@ pub whole_filled : (x : Image) (d : Dinode) → d.kind ≢ 0 → AllByRecursion 
     AllByRecursion IsFilled (pointers_in x d)
 unfolding address_in
 whole_filled x d used few whole =
-    let f = form_of x in
     subst (λ (l : List Pointer). AllByRecursion IsFilled l) (sym (pointers_used x d used))
-    (along_filled x d.size 0 (depths f) d.addrs (subst (λ (l : List ℕ). AllByRecursion (HasFew x) l) (names_used x d used) few)
+    (along_filled x d.size 0 (depths (form_of x)) d.addrs (subst (λ (l : List ℕ). AllByRecursion (HasFew x) l) (names_used x d used) few)
     (λ k need z. whole k (rw zero-add at need) z))
 
 -- ---- the depths of a form's addresses

@@ -1,34 +1,16 @@
 -- What an inode at a number's place makes of an image in which tasks hold files.
 use Rattle.std.proofs.Common.{◌≡◌, ◌≢◌, ℕ, ◌*◌, ◌%◌, ◌<◌, ◌≤◌, Bool, true, not, eqb, leb, List, [], length, replicate, Option, Some, None, refl, sym, ap, subst, ◌∙◌, ⊎_elim, arith}
-use Rattle.std.proofs.lemmas.Bool.{ne_eqb, cases_eq, leb-true}
-use Rattle.std.proofs.lemmas.List.{length-set, get_or-set_same, get_or-set_other}
-use Rattle.blocks.specs.Disk.{Image, block_at}
-use Rattle.model.specs.declared.types.image.Dinode.{Dinode}
-use Rattle.model.specs.declared.types.image.File.{File}
-use Rattle.model.specs.Codec.{IsDinode, new_inode, with_inode, with_inode_bytes, dinode_bytes}
-use Rattle.model.specs.Files.{Files, file_in, file_at, file_of, bytes_in}
-use Rattle.model.specs.Layout.{depths, super_of, form_of, inode_count_of, inode_of, inode_block}
-use Rattle.model.specs.Names.{names_along, names_of}
-use Rattle.model.specs.Places.{pointers_in, addresses_in}
-use Rattle.model.specs.Soundness.{count_of}
-use Rattle.model.specs.Lemmas.Codecs.{length-overwritten, length-dinode_bytes}
-use Rattle.model.specs.Lemmas.Frames.{Agrees-set, pointers_free, pointers_agree, file_agree}
-use Rattle.model.specs.Lemmas.Inodes.{IsPlaced, is_dinode-new_inode, inode_of-with_inode, inode_of-with_inode_other}
-use Rattle.model.specs.Lemmas.Log.{both_of}
-use Rattle.model.specs.Lemmas.Names.{pointers_named}
-use Rattle.model.specs.Lemmas.Runs.{after-made}
+use Rattle.in_flight.specs.Common.{addresses_in, after-made, Agrees-set, AgreesFor, AreFull, block_at, both_of, cases_eq, Claim, ClaimFits, Claims, count_of, depths, Dinode, dinode_bytes, File, file_agree, file_at, file_in, file_left, Files, FitsHeld, FitsThen, form_of, get_or-set_other, get_or-set_same, Held, Image, inode_block, inode_count_of, inode_of-with_inode, inode_of-with_inode_other, is_dinode-new_inode, IsAtRest, IsClaimedNow, IsDinode, IsFine, IsFit, IsHeld, IsPlaced, last_inode, leb-true, left_along, length-dinode_bytes, length-overwritten, length-set, names_along, names_claimed, names_left, ne_eqb, new_inode, owned, pointers_agree, pointers_free, pointers_in, pointers_named, super_of, with_inode, with_inode_bytes, WriteBackRests}
+use Rattle.model.specs.Files.{file_of, bytes_in}
+use Rattle.model.specs.Layout.{inode_of}
+use Rattle.model.specs.Names.{names_of}
 use Rattle.in_flight.specs.Claims.{with_new_file}
-use Rattle.in_flight.specs.Held.{Held, Claims, FitsHeld, IsHeld, IsFine, IsClaimedNow, names_claimed, owned, file_left, last_inode, Claim}
-use Rattle.in_flight.specs.HeldLaws.{FitsThen, WriteBackRests, ClaimFits}
-use Rattle.in_flight.specs.Loose.{AreFull, IsFit, IsAtRest}
 use Rattle.in_flight.specs.Lemmas.Claims.{IsApart, apart, no_names, free_file}
 use Rattle.in_flight.specs.Lemmas.Frames.{AgreesAtData, SameSuperAndMap, loose_same, fit_alike}
 use Rattle.in_flight.specs.Lemmas.GivenUp.{held_of}
 use Rattle.in_flight.specs.Lemmas.LeftInTrees.{bare_along}
-use Rattle.in_flight.specs.Trees.{names_left, left_along}
 use Rattle.in_flight.specs.Lemmas.HeldFrames.{ChangesOne, loose_alike, owned_kept, fits_then, at_data, data_passes, agrees_of}
 use Rattle.in_flight.specs.Lemmas.Looks.{between}
-use Rattle.model.specs.Agreement.{AgreesFor}
 
 -- an inode is written at a number, which owns what the inode names, and is then at rest
 pub record WritesBack (m : Files) (x : Image) (claims : Claims) (i : ℕ) (n : Files) (new : Claims) (d : Dinode) : Type 0 where
@@ -105,8 +87,7 @@ module _ (m : Files) (x : Image) (claims : Claims) (i : ℕ) (n : Files) (new : 
   leads_same =
       agrees_of test x y d change.agree
       (λ b some.
-      let same = h.names b in
-      data_passes test m x y claims h.fits data_same i h.low h.high b (omega (arith, same, some)))
+      data_passes test m x y claims h.fits data_same i h.low h.high b (omega (arith, (h.names b), some)))
 
   own_names : names_claimed y i (new i) ≡ addresses_in (pointers_in x d)
   own_names =
@@ -124,13 +105,12 @@ module _ (m : Files) (x : Image) (claims : Claims) (i : ℕ) (n : Files) (new : 
   full_after b low within =
       let size = base.size in
       let block = block_at x (inode_block i) in
-      let len = length-dinode_bytes d h.fields.count in
       let full = placed.full in
       ⊎_elim
       (λ (e : b ≡ inode_block i).
       ap (λ (c : ℕ). length (block_at y c)) e
       ∙ ap length (get_or-set_same x (inode_block i) (with_inode_bytes block i d) [] there.within)
-      ∙ length-overwritten block (i % 16 * 64) (dinode_bytes d) (omega (arith, len, full)) ∙ full)
+      ∙ length-overwritten block (i % 16 * 64) (dinode_bytes d) (omega (arith, (length-dinode_bytes d h.fields.count), full)) ∙ full)
       (λ (ne : b ≢ inode_block i). ap length (other_block b ne) ∙ h.fits.full b low (omega arith))
       (cases_eq b (inode_block i))
 
@@ -205,7 +185,6 @@ pub write_back_rests : WriteBackRests
 write_back_rests m x claims new i h g bare now =
     let at = between x i g.number in
     let held = held_of m x claims i h g in
-    let small = last_kind_small h x i (file_in m i) held in
     let fields = last_fields h x i (file_in m i) held in
     writes_back m x claims i m new (last_inode h) (record {
       fits = g.fits;
@@ -216,7 +195,7 @@ write_back_rests m x claims new i h g bare now =
       names = λ c.
           ap (count_of c) (bare_names x (last_inode h) bare)
           ∙ sym (ap (count_of c) (ap (names_claimed x i) g.holds ∙ nothing_left x h.copy h.cursor bare));
-      fit = bare_fit x (last_inode h) fields small refl;
+      fit = bare_fit x (last_inode h) fields (last_kind_small h x i (file_in m i) held) refl;
       count = refl;
       own = held.told ∙ sym (bare_file x (last_inode h) refl);
       files = λ j ne. refl;

@@ -1,125 +1,101 @@
 -- What one step of a creation or of a write saw, or leaves to be seen.
 use Rattle.std.proofs.Common.{◌≡◌, ◌≢◌, ◌⊎◌, ◌<◌, ◌≤◌, ◌+◌, ℕ, Bool, true, false, ltb, inl, inr, List, length, set, Option, Some, None, refl, sym, ap, ◌∙◌, subst, ⊎_elim, arith, length-set}
 use Rattle.std.specs.Prelude.{IsTrue, if◌then◌else◌}
-use Rattle.std.proofs.lemmas.Bool.{cases_eq, cases_lt}
-use Rattle.std.proofs.lemmas.List.{get_or-set_same, get_or_past}
-use Rattle.blocks.specs.declared.disk.Disk.{Ghosts}
-use Rattle.model.specs.declared.types.image.Dinode.{Dinode}
-use Rattle.model.specs.declared.types.operations.Op.{Op}
-use Rattle.model.specs.declared.types.operations.Op.TheVariants.{Create, Write}
-use Rattle.model.specs.declared.types.operations.Reply.{Reply}
-use Rattle.model.specs.declared.types.operations.Reply.TheVariants.{Made, NoInode, Wrote, Bytes, Done, StatOf, NoFile, BadOffset, TooBig, TooLong, BadType}
-use Rattle.model.specs.declared.types.operations.TaskProgress.{TaskProgress}
-use Rattle.model.specs.declared.types.operations.TaskProgress.TheVariants as progress
-use Rattle.model.specs.Journal.{is_number}
-use Rattle.model.specs.Layout.{greatest_size, inode_block, inode_of}
-use Rattle.bcache.specs.Buffers.{Buffers}
-use Rattle.model.specs.declared.types.progress.Progress.{Progress}
-use Rattle.model.specs.declared.types.progress.Progress.TheVariants as machine
-use Rattle.inodes.specs.declared.tasks.Stage.{Stage}
-use Rattle.inodes.specs.declared.tasks.Stage.TheVariants as stage
-use Rattle.inodes.specs.declared.writei.Extent.{Extent}
-use Rattle.inodes.specs.Goes.{Goes, GoesFrom, Shown, place_of_lock, place_of_writing, progress_of_lock, progress_of_read, progress_of_trunc, progress_of_write, shown_of}
-use Rattle.inodes.specs.Ialloc.{SearchState, at_next_block}
+use Rattle.inodes.specs.Common.{at_next_block, BadOffset, BadType, Buffers, Bytes, cases_eq, cases_lt, Create, current_of, Dinode, Done, Extent, extent_of, first_stage, first_write, get_or-set_same, get_or_past, Ghosts, Goes, GoesFrom, greatest_size, inode_block, is_number, Made, no_task, NoFile, NoInode, Op, place_of, stage_of_lock, stage_of_writing, Progress, progress_of_lock, progress_of_read, progress_of_trunc, progress_of_write, Reply, SearchState, Shown, shown_of, Stage, StatOf, Steps, StoreState, task, TaskProgress, TaskState, TooBig, TooLong, with_begun, Write, WriteState, Wrote}
+use Rattle.model.specs.Layout.{inode_of}
 use Rattle.inodes.specs.Lemmas.Runs.{IsAt, goes_from, sees, seen_at_turn}
 use Rattle.inodes.specs.Lemmas.WriteRuns.{IsGoingOn, comes_next, not_over, sees_or_on}
-use Rattle.inodes.specs.LockState.{place_of}
 use Rattle.inodes.specs.Runs.{StepMade, SeesTaken}
-use Rattle.inodes.specs.Steps.{Steps}
-use Rattle.inodes.specs.Store.{StoreState, current_of, first_place, with_begun}
-use Rattle.inodes.specs.Tasks.{TaskState, no_task, task}
-use Rattle.inodes.specs.Turning.{if_used, place_by_refusal, place_when_taken, reply_when_taken}
-use Rattle.inodes.specs.Writei.{WriteState, first_write}
+use Rattle.inodes.specs.Turning.{if_used, stage_by_refusal, stage_when_taken, reply_when_taken}
 use Rattle.inodes.specs.WriteRuns.{SeesFull}
-use Rattle.inodes.specs.Writing.{extent_of}
 
 -- ---- a creation
 
 -- process p's search stands so that it may still come to number j's block
 pub record IsAhead {D : Type 0} (p j : ℕ) (s : StoreState D) : Type 0 where
   pub search : SearchState
-  pub stands : IsAt p s (stage.Creating search)
+  pub stands : IsAt p s (Stage.Creating search)
   pub ahead : search.block ≤ inode_block j
 
 -- a step claims a number that is not higher, or has not had its turn and leaves the number's block
 -- ahead
 abbrev pub SearchesOn : {D : Type 0} → ℕ → ℕ → TaskProgress → StoreState D → Type 0
 SearchesOn p j r t =
-    ((i : ℕ) × (r ≡ progress.Turned (Some (Made i))) × (i ≤ j))
-    ⊎ (((reply : Option Reply) → r ≢ progress.Turned reply) × IsAhead p j t)
+    ((i : ℕ) × (r ≡ TaskProgress.Turned (Some (Made i))) × (i ≤ j))
+    ⊎ (((reply : Option Reply) → r ≢ TaskProgress.Turned reply) × IsAhead p j t)
 
 module _ {D N : Type 0} (disk : Ghosts D N) (p n j : ℕ) (op : Op)
     (number : IsTrue (is_number n j)) (step : StepMade D) (m : SearchState)
-    (stands : IsAt p step.before (stage.Creating m)) (ahead : m.block ≤ inode_block j) where
+    (stands : IsAt p step.before (Stage.Creating m)) (ahead : m.block ≤ inode_block j) where
   abbrev Now : TaskProgress → Type 0
   Now r = SeesTaken disk.image p j step ⊎ SearchesOn p j r step.after
 
   goes_on : (r : TaskProgress) (k : SearchState) →
-      ((reply : Option Reply) → r ≢ progress.Turned reply) →
-      IsAt p step.after (stage.Creating k) → k.block ≤ inode_block j → Now r
+      ((reply : Option Reply) → r ≢ TaskProgress.Turned reply) →
+      IsAt p step.after (Stage.Creating k) → k.block ≤ inode_block j → Now r
   goes_on r k unturned at low =
       inr (inr (unturned, record { search = k; stands = at; ahead = low }))
 
   by_slot : (o : Option ℕ) (r : TaskProgress) → m.slot ≡ o →
-      GoesFrom o n p m step.before.volume.buffers r (task step.after.tasks p).place
+      GoesFrom o n p m step.before.volume.buffers r (task step.after.tasks p).stage
       (shown_of disk.image step.before.volume) (shown_of disk.image step.after.volume) → Now r
-  by_slot None progress.Moved got goes =
-      goes_on progress.Moved _ (λ told e. cc e) goes.0.2 ahead
-  by_slot None (progress.Turned told) got goes = absurd goes.0
-  by_slot None (progress.Decided told) got goes = absurd goes.0
-  by_slot None progress.Over got goes = absurd goes.0
-  by_slot None (progress.Sleeping why) got goes =
-      goes_on (progress.Sleeping why) m (λ told e. cc e) goes.0.1 ahead
-  by_slot None (progress.Fault fault) got goes =
-      goes_on (progress.Fault fault) m (λ told e. cc e) goes.0.1 ahead
-  by_slot (Some i) progress.Moved got goes =
+  by_slot None TaskProgress.Moved got goes =
+      goes_on TaskProgress.Moved _ (λ told e. cc e) goes.0.2 ahead
+  by_slot None (TaskProgress.Turned told) got goes = absurd goes.0
+  by_slot None (TaskProgress.Decided told) got goes = absurd goes.0
+  by_slot None TaskProgress.Over got goes = absurd goes.0
+  by_slot None (TaskProgress.Sleeping why) got goes =
+      goes_on (TaskProgress.Sleeping why) m (λ told e. cc e) goes.0.1 ahead
+  by_slot None (TaskProgress.Fault fault) got goes =
+      goes_on (TaskProgress.Fault fault) m (λ told e. cc e) goes.0.1 ahead
+  by_slot (Some i) TaskProgress.Moved got goes =
       ⊎_elim
       (λ here. inl (sees disk p n j op None number tt step m i None stands got goes.1.none tt here))
       (λ other.
-      goes_on progress.Moved (at_next_block m) (λ told e. cc e) goes.0 (omega (arith, other, ahead)))
+      goes_on TaskProgress.Moved (at_next_block m) (λ told e. cc e) goes.0 (omega (arith, other, ahead)))
       (cases_eq (inode_block j) m.block)
-  by_slot (Some i) (progress.Turned None) got goes = absurd goes.1
-  by_slot (Some i) (progress.Turned (Some NoInode)) got goes =
+  by_slot (Some i) (TaskProgress.Turned None) got goes = absurd goes.1
+  by_slot (Some i) (TaskProgress.Turned (Some NoInode)) got goes =
       inl (seen_at_turn disk p n j op None number tt step m (Some i) got stands ahead goes)
-  by_slot (Some i) (progress.Turned (Some (Made k))) got goes =
+  by_slot (Some i) (TaskProgress.Turned (Some (Made k))) got goes =
       ⊎_elim
       (λ lower.
       inl (seen_at_turn disk p n j op (Some k) number lower step m (Some i) got stands ahead goes))
       (λ low. inr (inl (k, refl, low)))
       (cases_lt j k)
-  by_slot (Some i) (progress.Turned (Some (Wrote k))) got goes = absurd goes.1
-  by_slot (Some i) (progress.Turned (Some (Bytes bytes))) got goes = absurd goes.1
-  by_slot (Some i) (progress.Turned (Some Done)) got goes = absurd goes.1
-  by_slot (Some i) (progress.Turned (Some (StatOf kind size))) got goes = absurd goes.1
-  by_slot (Some i) (progress.Turned (Some NoFile)) got goes = absurd goes.1
-  by_slot (Some i) (progress.Turned (Some BadOffset)) got goes = absurd goes.1
-  by_slot (Some i) (progress.Turned (Some TooBig)) got goes = absurd goes.1
-  by_slot (Some i) (progress.Turned (Some TooLong)) got goes = absurd goes.1
-  by_slot (Some i) (progress.Turned (Some BadType)) got goes = absurd goes.1
-  by_slot (Some i) (progress.Decided told) got goes = absurd goes
-  by_slot (Some i) progress.Over got goes = absurd goes
-  by_slot (Some i) (progress.Sleeping why) got goes = absurd goes
-  by_slot (Some i) (progress.Fault fault) got goes = absurd goes
+  by_slot (Some i) (TaskProgress.Turned (Some (Wrote k))) got goes = absurd goes.1
+  by_slot (Some i) (TaskProgress.Turned (Some (Bytes bytes))) got goes = absurd goes.1
+  by_slot (Some i) (TaskProgress.Turned (Some Done)) got goes = absurd goes.1
+  by_slot (Some i) (TaskProgress.Turned (Some (StatOf kind size))) got goes = absurd goes.1
+  by_slot (Some i) (TaskProgress.Turned (Some NoFile)) got goes = absurd goes.1
+  by_slot (Some i) (TaskProgress.Turned (Some BadOffset)) got goes = absurd goes.1
+  by_slot (Some i) (TaskProgress.Turned (Some TooBig)) got goes = absurd goes.1
+  by_slot (Some i) (TaskProgress.Turned (Some TooLong)) got goes = absurd goes.1
+  by_slot (Some i) (TaskProgress.Turned (Some BadType)) got goes = absurd goes.1
+  by_slot (Some i) (TaskProgress.Decided told) got goes = absurd goes
+  by_slot (Some i) TaskProgress.Over got goes = absurd goes
+  by_slot (Some i) (TaskProgress.Sleeping why) got goes = absurd goes
+  by_slot (Some i) (TaskProgress.Fault fault) got goes = absurd goes
 
   -- a step of a search saw the number taken, or goes on so
   pub search_sees : step.before.table.inode_count ≡ n →
       Steps disk step.before p op step.answer step.after →
       SeesTaken disk.image p j step ⊎ SearchesOn p j step.answer step.after
   search_sees count steps =
-      let on = goes_from disk p op step.before step (stage.Creating m) stands
+      let on = goes_from disk p op step.before step (Stage.Creating m) stands
       (record { own = refl; numbers = refl }) steps in
       let goes = subst (λ (k : ℕ). GoesFrom m.slot k p m step.before.volume.buffers step.answer
-      (task step.after.tasks p).place (shown_of disk.image step.before.volume)
+      (task step.after.tasks p).stage (shown_of disk.image step.before.volume)
       (shown_of disk.image step.after.volume)) count on.goes.0 in
       by_slot m.slot step.answer refl goes
 
 -- a creation that begins stands at the first block, where there is a place for its task
 pub search_begins : {D : Type 0} (p j kind : ℕ) (s : StoreState D) →
-    IsAhead p j (with_begun s p (Create kind)) ⊎ IsAt p (with_begun s p (Create kind)) stage.Nowhere
+    IsAhead p j (with_begun s p (Create kind)) ⊎ IsAt p (with_begun s p (Create kind)) Stage.Nowhere
 search_begins p j kind s =
     let t : TaskState = record {
       op = Some (Create kind);
-      place = first_place (Create kind) s.table.inode_count;
+      stage = first_stage (Create kind) s.table.inode_count;
       gathered = None;
     } in
     ⊎_elim
@@ -131,26 +107,26 @@ search_begins p j kind s =
         block = 33;
         slot = None;
       };
-      stands = ap (λ (u : TaskState). u.place) (get_or-set_same s.tasks p t no_task lt);
+      stands = ap (λ (u : TaskState). u.stage) (get_or-set_same s.tasks p t no_task lt);
       ahead = omega arith;
     }))
     (λ (past : length s.tasks ≤ p).
-    inr (ap (λ (u : TaskState). u.place) (get_or_past (set s.tasks p t) p no_task
+    inr (ap (λ (u : TaskState). u.stage) (get_or_past (set s.tasks p t) p no_task
     (let many = length-set s.tasks p t in omega (arith, many, past)))))
     (cases_lt p (length s.tasks))
 
 -- before its turn a search changes neither image nor log
 pub search_shows : (slot : Option ℕ) (n p : ℕ) (m : SearchState) (c : Buffers) (r : TaskProgress)
-    (next : Stage) (before now : Shown) → ((reply : Option Reply) → r ≢ progress.Turned reply) →
+    (next : Stage) (before now : Shown) → ((reply : Option Reply) → r ≢ TaskProgress.Turned reply) →
     GoesFrom slot n p m c r next before now → now ≡ before
 search_shows None n p m c r next before now unturned goes = goes.1
-search_shows (Some i) n p m c progress.Moved next before now unturned goes = goes.1.shown
-search_shows (Some i) n p m c (progress.Turned told) next before now unturned goes =
+search_shows (Some i) n p m c TaskProgress.Moved next before now unturned goes = goes.1.shown
+search_shows (Some i) n p m c (TaskProgress.Turned told) next before now unturned goes =
     absurd (unturned told refl)
-search_shows (Some i) n p m c (progress.Decided told) next before now unturned goes = absurd goes
-search_shows (Some i) n p m c progress.Over next before now unturned goes = absurd goes
-search_shows (Some i) n p m c (progress.Sleeping why) next before now unturned goes = absurd goes
-search_shows (Some i) n p m c (progress.Fault fault) next before now unturned goes = absurd goes
+search_shows (Some i) n p m c (TaskProgress.Decided told) next before now unturned goes = absurd goes
+search_shows (Some i) n p m c TaskProgress.Over next before now unturned goes = absurd goes
+search_shows (Some i) n p m c (TaskProgress.Sleeping why) next before now unturned goes = absurd goes
+search_shows (Some i) n p m c (TaskProgress.Fault fault) next before now unturned goes = absurd goes
 
 -- ---- a write
 
@@ -158,25 +134,25 @@ search_shows (Some i) n p m c (progress.Fault fault) next before now unturned go
 -- or is answered
 pub record WritesOn {D : Type 0} (p k count done : ℕ) (e : Extent) (step : StepMade D)
     : Type 0 where
-  pub other : step.answer ≢ progress.Decided (Wrote done)
-  pub unfinished : step.answer ≢ progress.Over
-  pub next : ((reply : Reply) × (step.answer ≡ progress.Decided reply))
-      ⊎ ((m : WriteState) × IsAt p step.after (stage.Writing k m) × IsGoingOn e count m)
+  pub other : step.answer ≢ TaskProgress.Decided (Wrote done)
+  pub unfinished : step.answer ≢ TaskProgress.Over
+  pub next : ((reply : Reply) × (step.answer ≡ TaskProgress.Decided reply))
+      ⊎ ((m : WriteState) × IsAt p step.after (Stage.Writing k m) × IsGoingOn e count m)
 
-not_last : (done : ℕ) (q : Progress (Unit {0})) → progress_of_write done q ≡ progress.Over → ⊥
-not_last done machine.Moved is = cc is
-not_last done (machine.Sleeping why) is = cc is
-not_last done (machine.Over out) is = cc is
-not_last done (machine.Fault fault) is = cc is
+not_last : (done : ℕ) (q : Progress (Unit {0})) → progress_of_write done q ≡ TaskProgress.Over → ⊥
+not_last done Progress.Moved is = cc is
+not_last done (Progress.Sleeping why) is = cc is
+not_last done (Progress.Over out) is = cc is
+not_last done (Progress.Fault fault) is = cc is
 
 -- a step of a write saw that no block is left, or goes on so
 pub write_sees : {D N : Type 0} (disk : Ghosts D N) (p k count done : ℕ) (e : Extent) (op : Op) →
     done < count → (step : StepMade D) (m : WriteState) →
-    IsAt p step.before (stage.Writing k m) → IsGoingOn e count m →
+    IsAt p step.before (Stage.Writing k m) → IsGoingOn e count m →
     Steps disk step.before p op step.answer step.after →
     SeesFull disk.image p e step ⊎ WritesOn p k count done e step
 write_sees disk p k count done e op short step m stands on steps =
-    let to = goes_from disk p op step.before step (stage.Writing k m) stands
+    let to = goes_from disk p op step.before step (Stage.Writing k m) stands
     (record { own = refl; numbers = refl }) steps in
     ⊎_elim (λ is. inl is)
     (λ still. inr (record {
@@ -189,13 +165,13 @@ write_sees disk p k count done e op short step m stands on steps =
   where
     by_answer : (n : WriteState) (q : Progress (Unit {0})) →
         step.answer ≡ progress_of_write m.done q →
-        IsAt p step.after (place_of_writing k m n q) → IsGoingOn e count n →
-        ((reply : Reply) × (step.answer ≡ progress.Decided reply))
-        ⊎ ((o : WriteState) × IsAt p step.after (stage.Writing k o) × IsGoingOn e count o)
-    by_answer n machine.Moved gives next now = inr (n, next, now)
-    by_answer n (machine.Sleeping why) gives next now = inr (m, next, on)
-    by_answer n (machine.Over out) gives next now = inl (Wrote m.done, gives)
-    by_answer n (machine.Fault fault) gives next now = inr (m, next, on)
+        IsAt p step.after (stage_of_writing k m n q) → IsGoingOn e count n →
+        ((reply : Reply) × (step.answer ≡ TaskProgress.Decided reply))
+        ⊎ ((o : WriteState) × IsAt p step.after (Stage.Writing k o) × IsGoingOn e count o)
+    by_answer n Progress.Moved gives next now = inr (n, next, now)
+    by_answer n (Progress.Sleeping why) gives next now = inr (m, next, on)
+    by_answer n (Progress.Over out) gives next now = inl (Wrote m.done, gives)
+    by_answer n (Progress.Fault fault) gives next now = inr (m, next, on)
 
 -- ---- its turn
 
@@ -204,7 +180,7 @@ pub record BeginsWriting {D : Type 0} (p i count : ℕ) (e : Extent) (t : StoreS
     : Type 0 where
   pub entry : ℕ
   pub writing : WriteState
-  pub stands : IsAt p t (stage.Writing entry writing)
+  pub stands : IsAt p t (Stage.Writing entry writing)
   pub on : IsGoingOn e count writing
   pub number : writing.number ≡ i
 
@@ -223,7 +199,7 @@ module _ {D N : Type 0} (disk : Ghosts D N) (s : StoreState D) (p i off : ℕ) (
   e = extent_of s.table.form s.table.inode_count s.volume.log.size
 
   abbrev next : Stage
-  next = (task t.tasks p).place
+  next = (task t.tasks p).stage
 
   abbrev To : Option Reply → Type 0
   To reply = TurnsToWrite p i (length bytes) e reply t
@@ -235,7 +211,7 @@ module _ {D N : Type 0} (disk : Ghosts D N) (s : StoreState D) (p i off : ℕ) (
   }
 
   by_refusal : (d : Dinode) (k : ℕ) (a b : Bool) →
-      next ≡ place_by_refusal k (first_write i d off (length bytes) e)
+      next ≡ stage_by_refusal k (first_write i d off (length bytes) e)
       (if a then Some BadOffset else if b then Some TooBig else None) →
       To (if a then Some BadOffset else if b then Some TooBig else None)
   by_refusal d k true b to = refused BadOffset (λ done is. cc is)
@@ -256,13 +232,13 @@ module _ {D N : Type 0} (disk : Ghosts D N) (s : StoreState D) (p i off : ℕ) (
   }
 
   by_use : (used : Bool) (d : Dinode) (k : ℕ) →
-      next ≡ place_when_taken e (if_used used d) k op → To (reply_when_taken e.form (if_used used d) op)
+      next ≡ stage_when_taken e (if_used used d) k op → To (reply_when_taken e.form (if_used used d) op)
   by_use false d k to = refused NoFile (λ done is. cc is)
   by_use true d k to =
       by_refusal d k (ltb d.size off) (ltb (greatest_size e.form) (off + length bytes)) to
 
   by_reply : (r : Option Reply) (o : Option ℕ) (m : SearchState) →
-      GoesFrom o s.table.inode_count p m s.volume.buffers (progress.Turned r) next
+      GoesFrom o s.table.inode_count p m s.volume.buffers (TaskProgress.Turned r) next
       (shown_of disk.image s.volume) (shown_of disk.image t.volume) → To r
   by_reply r None m goes = absurd goes.0
   by_reply None (Some k) m goes = absurd goes.1
@@ -278,46 +254,45 @@ module _ {D N : Type 0} (disk : Ghosts D N) (s : StoreState D) (p i off : ℕ) (
   by_reply (Some TooLong) (Some k) m goes = absurd goes.1
   by_reply (Some BadType) (Some k) m goes = absurd goes.1
 
-  by_place : (r : Option Reply) (a : Stage) → Goes disk a s p op (progress.Turned r) t → To r
-  by_place r stage.Nowhere goes = let no = goes.0 in absurd (cc no)
-  by_place r (stage.Creating m) goes = by_reply r m.slot m goes.0
-  by_place r (stage.Taking m) goes = by_answer goes.0.answer goes.0.gives goes.0.next
+  by_place : (r : Option Reply) (a : Stage) → Goes disk a s p op (TaskProgress.Turned r) t → To r
+  by_place r Stage.Nowhere goes = let no = goes.0 in absurd (cc no)
+  by_place r (Stage.Creating m) goes = by_reply r m.slot m goes.0
+  by_place r (Stage.Taking m) goes = by_answer goes.0.answer goes.0.gives goes.0.next
     where
       d : Dinode
       d = inode_of (current_of disk.image s.volume) m.number
 
-      by_answer : (q : Progress Bool) → progress.Turned r ≡ progress_of_lock e.form d op q →
-          next ≡ place_of_lock e d op m goes.0.now q → To r
-      by_answer machine.Moved is to = absurd (cc is)
-      by_answer (machine.Sleeping why) is to = absurd (cc is)
-      by_answer (machine.Over used) is to =
-          let same : reply_when_taken e.form (if_used used d) op ≡ r = (let back = sym is in cc back) in
-          subst To same (by_use used d (place_of goes.0.now.at) to)
-      by_answer (machine.Fault fault) is to = absurd (cc is)
-  by_place r (stage.Reading k m) goes = absurd (none goes.0.answer goes.0.gives)
+      by_answer : (q : Progress Bool) → TaskProgress.Turned r ≡ progress_of_lock e.form d op q →
+          next ≡ stage_of_lock e d op m goes.0.now q → To r
+      by_answer Progress.Moved is to = absurd (cc is)
+      by_answer (Progress.Sleeping why) is to = absurd (cc is)
+      by_answer (Progress.Over used) is to =
+          subst To (let back = sym is in cc back) (by_use used d (place_of goes.0.now.at) to)
+      by_answer (Progress.Fault fault) is to = absurd (cc is)
+  by_place r (Stage.Reading k m) goes = absurd (none goes.0.answer goes.0.gives)
     where
-      none : (q : Progress (Unit {0})) → progress.Turned r ≡ progress_of_read q → ⊥
-      none machine.Moved is = cc is
-      none (machine.Sleeping why) is = cc is
-      none (machine.Over out) is = cc is
-      none (machine.Fault fault) is = cc is
-  by_place r (stage.Delivering k) goes = let no = goes.gives in absurd (cc no)
-  by_place r (stage.Truncating k m) goes = absurd (none goes.answer goes.gives)
+      none : (q : Progress (Unit {0})) → TaskProgress.Turned r ≡ progress_of_read q → ⊥
+      none Progress.Moved is = cc is
+      none (Progress.Sleeping why) is = cc is
+      none (Progress.Over out) is = cc is
+      none (Progress.Fault fault) is = cc is
+  by_place r (Stage.Delivering k) goes = let no = goes.gives in absurd (cc no)
+  by_place r (Stage.Truncating k m) goes = absurd (none goes.answer goes.gives)
     where
-      none : (q : Progress (Unit {0})) → progress.Turned r ≡ progress_of_trunc q → ⊥
-      none machine.Moved is = cc is
-      none (machine.Sleeping why) is = cc is
-      none (machine.Over out) is = cc is
-      none (machine.Fault fault) is = cc is
-  by_place r (stage.Writing k m) goes = absurd (none goes.answer goes.gives)
+      none : (q : Progress (Unit {0})) → TaskProgress.Turned r ≡ progress_of_trunc q → ⊥
+      none Progress.Moved is = cc is
+      none (Progress.Sleeping why) is = cc is
+      none (Progress.Over out) is = cc is
+      none (Progress.Fault fault) is = cc is
+  by_place r (Stage.Writing k m) goes = absurd (none goes.answer goes.gives)
     where
-      none : (q : Progress (Unit {0})) → progress.Turned r ≡ progress_of_write m.done q → ⊥
-      none machine.Moved is = cc is
-      none (machine.Sleeping why) is = cc is
-      none (machine.Over out) is = cc is
-      none (machine.Fault fault) is = cc is
-  by_place r (stage.Leaving k) goes = let no = goes.0 in absurd (cc no)
+      none : (q : Progress (Unit {0})) → TaskProgress.Turned r ≡ progress_of_write m.done q → ⊥
+      none Progress.Moved is = cc is
+      none (Progress.Sleeping why) is = cc is
+      none (Progress.Over out) is = cc is
+      none (Progress.Fault fault) is = cc is
+  by_place r (Stage.Leaving k) goes = let no = goes.0 in absurd (cc no)
 
   -- the turn of a write
-  pub write_turns : (r : Option Reply) → Steps disk s p op (progress.Turned r) t → To r
-  write_turns r steps = by_place r (task s.tasks p).place steps.goes
+  pub write_turns : (r : Option Reply) → Steps disk s p op (TaskProgress.Turned r) t → To r
+  write_turns r steps = by_place r (task s.tasks p).stage steps.goes

@@ -1,55 +1,24 @@
 -- A write that saw no block left goes to its end, and leaves none.
 use Rattle.std.proofs.Common.{◌≡◌, ◌≢◌, ◌⊎◌, ◌∙◌, inl, inr, ℕ, List, [], Option, Some, None, sym, ap, subst, arith}
 use Rattle.std.specs.Prelude.{slice_set}
-use Rattle.std.proofs.lemmas.List.{get_or-set_other}
-use Rattle.blocks.specs.Disk.{Image, block_at}
-use Rattle.blocks.specs.declared.disk.Disk.{Ghosts}
-use Rattle.model.specs.declared.types.image.Dinode.{Dinode}
-use Rattle.model.specs.declared.types.operations.Op.{Op}
-use Rattle.model.specs.declared.types.operations.Reply.{Reply}
-use Rattle.model.specs.declared.types.operations.Reply.TheVariants.{Wrote}
-use Rattle.model.specs.declared.types.operations.TaskProgress.TheVariants as progress
-use Rattle.model.specs.Fields.{has_bit}
-use Rattle.model.specs.Layout.{inode_block}
-use Rattle.wal.specs.Joint.{seen}
-use Rattle.wal.specs.Volume.{VolumeState}
-use Rattle.blockmap.specs.Balloc.{AllocState, Allocs, TakesLowest, lowest_in}
-use Rattle.blockmap.specs.BmapAlloc.{MapState, MapSteps, after_address, after_behind, behind_at}
-use Rattle.blockmap.specs.Lemmas.Bitmap.{lowest_clear_found}
-use Rattle.blockmap.specs.declared.balloc.AllocAt.{AllocAt}
-use Rattle.blockmap.specs.declared.bmap_alloc.MapAt.{MapAt}
-use Rattle.blockmap.specs.declared.bmap_alloc.MapAt.TheVariants as map_at
-use Rattle.model.specs.Progress.{one_more}
-use Rattle.model.specs.declared.types.progress.Progress.{Progress}
-use Rattle.model.specs.declared.types.progress.Progress.TheVariants as machine
-use Rattle.inodes.specs.declared.tasks.Stage.{Stage}
-use Rattle.inodes.specs.declared.tasks.Stage.TheVariants as stage
-use Rattle.inodes.specs.declared.writei.Extent.{Extent}
-use Rattle.inodes.specs.declared.writei.WriteAt.{WriteAt}
-use Rattle.inodes.specs.declared.writei.WriteAt.TheVariants as write_at
-use Rattle.inodes.specs.Goes.{Goes, WritesOn, place_of_writing, progress_of_write}
-use Rattle.inodes.specs.Growing.{bytes_of}
-use Rattle.inodes.specs.Iupdate.{UpdateState, Updates}
+use Rattle.inodes.specs.Common.{after_address, after_behind, AllocAt, Allocs, AllocState, behind_at, block_at, bytes_of, current_of, Dinode, Extent, get_or-set_other, Ghosts, Goes, has_bit, Image, inode_block, lowest_clear_found, lowest_in, MapAt, MapState, MapSteps, one_more, Op, stage_of_writing, Progress, progress_of_write, Reply, seen, Stage, Steps, StoreState, TakesLowest, TaskProgress, Updates, UpdateState, VolumeState, write_mapped, WriteAt, WritesOn, WriteState, WriteSteps, Wrote}
 use Rattle.inodes.specs.Lemmas.Runs.{IsAt}
 use Rattle.inodes.specs.Runs.{StepMade}
-use Rattle.inodes.specs.Steps.{Steps}
-use Rattle.inodes.specs.Store.{StoreState, current_of}
-use Rattle.inodes.specs.Writei.{WriteState, WriteSteps, write_mapped}
 use Rattle.inodes.specs.WriteRuns.{IsFull, LooksAtBitmap, LooksIn, LooksOnWay, SeesFull}
 
 -- the way comes to no block
 abbrev EndsOnWay : MapAt → Type 0
-EndsOnWay (map_at.Address t) = ⊥
-EndsOnWay (map_at.Entry n slot) = ⊥
-EndsOnWay (map_at.Behind n i t) = ⊥
-EndsOnWay (map_at.Setting n i None) = Unit {0}
-EndsOnWay (map_at.Setting n i (Some b)) = ⊥
+EndsOnWay (MapAt.Address t) = ⊥
+EndsOnWay (MapAt.Entry n slot) = ⊥
+EndsOnWay (MapAt.Behind n i t) = ⊥
+EndsOnWay (MapAt.Setting n i None) = Unit {0}
+EndsOnWay (MapAt.Setting n i (Some b)) = ⊥
 
 -- the writing comes to none, and writes inode i back
 abbrev EndsAt : ℕ → WriteAt → Type 0
-EndsAt i (write_at.Mapping way) = EndsOnWay way.at
-EndsAt i (write_at.Block b slot) = ⊥
-EndsAt i (write_at.Updating u) = u.number ≡ i
+EndsAt i (WriteAt.Mapping way) = EndsOnWay way.at
+EndsAt i (WriteAt.Block b slot) = ⊥
+EndsAt i (WriteAt.Updating u) = u.number ≡ i
 
 -- ---- a step of the writing
 
@@ -62,7 +31,7 @@ module _ {D N : Type 0} (disk : Ghosts D N) (p i : ℕ) (e : Extent) (v w : Volu
 
   -- who looks at the bitmap takes none
   takes_none : (t u : AllocState) (q : Progress (Option ℕ)) → LooksIn e t → IsFull was e →
-      Allocs disk t.at v p t q u w → (q ≡ machine.Over None) × (now ≡ was)
+      Allocs disk t.at v p t q u w → (q ≡ Progress.Over None) × (now ≡ was)
   takes_none t u q looks full allocs =
       let step : TakesLowest disk (lowest_in was t) v p looks.slot t q u w =
       subst (λ (a : AllocAt). Allocs disk a v p t q u w) looks.got allocs in
@@ -76,15 +45,15 @@ module _ {D N : Type 0} (disk : Ghosts D N) (p i : ℕ) (e : Extent) (v w : Volu
   -- and comes to none
   record ComesToNone (q : Progress (Option ℕ)) (n : MapState) : Type 0 where
     pub same : now ≡ was
-    pub ends : (q ≡ machine.Over None) ⊎ ((q ≡ machine.Moved) × EndsOnWay n.at)
+    pub ends : (q ≡ Progress.Over None) ⊎ ((q ≡ Progress.Moved) × EndsOnWay n.at)
 
   on_way : (m n : MapState) (d f : Dinode) (q : Progress (Option ℕ)) (a : MapAt) →
       LooksOnWay e a → IsFull was e → MapSteps disk a v p m d q n f w → ComesToNone q n
-  on_way m n d f q (map_at.Address t) looks full step =
+  on_way m n d f q (MapAt.Address t) looks full step =
       let none = takes_none t step.now step.answer looks full step.allocs in
       record { same = none.1; ends = inl (step.gives ∙ ap (after_address m.branch) none.0) }
-  on_way m n d f q (map_at.Entry k slot) looks full step = absurd looks
-  on_way m n d f q (map_at.Behind k j t) looks full step =
+  on_way m n d f q (MapAt.Entry k slot) looks full step = absurd looks
+  on_way m n d f q (MapAt.Behind k j t) looks full step =
       let none = takes_none t step.now step.answer looks full step.allocs in
       record {
         same = none.1;
@@ -94,16 +63,16 @@ module _ {D N : Type 0} (disk : Ghosts D N) (p i : ℕ) (e : Extent) (v w : Volu
               ∙ ap (λ (y : Progress (Option ℕ)). behind_at k j y step.now) none.0)) tt,
         );
       }
-  on_way m n d f q (map_at.Setting k j found) looks full step = absurd looks
+  on_way m n d f q (MapAt.Setting k j found) looks full step = absurd looks
 
   -- the entry of a block that wasn't found isn't set
   sets_none : (m n : MapState) (d f : Dinode) (q : Progress (Option ℕ)) (a : MapAt) →
-      EndsOnWay a → MapSteps disk a v p m d q n f w → (q ≡ machine.Over None) × (now ≡ was)
-  sets_none m n d f q (map_at.Address t) ends step = absurd ends
-  sets_none m n d f q (map_at.Entry k slot) ends step = absurd ends
-  sets_none m n d f q (map_at.Behind k j t) ends step = absurd ends
-  sets_none m n d f q (map_at.Setting k j None) ends step = (step.0.0, step.0.2.current)
-  sets_none m n d f q (map_at.Setting k j (Some b)) ends step = absurd ends
+      EndsOnWay a → MapSteps disk a v p m d q n f w → (q ≡ Progress.Over None) × (now ≡ was)
+  sets_none m n d f q (MapAt.Address t) ends step = absurd ends
+  sets_none m n d f q (MapAt.Entry k slot) ends step = absurd ends
+  sets_none m n d f q (MapAt.Behind k j t) ends step = absurd ends
+  sets_none m n d f q (MapAt.Setting k j None) ends step = (step.0.0, step.0.2.current)
+  sets_none m n d f q (MapAt.Setting k j (Some b)) ends step = absurd ends
 
   -- the writing goes to its end
   record GoesToEnd (n : WriteState) : Type 0 where
@@ -114,7 +83,7 @@ module _ {D N : Type 0} (disk : Ghosts D N) (p i : ℕ) (e : Extent) (v w : Volu
   module _ (m n : WriteState) (bytes : List ℕ) (r : Progress (Unit {0})) (number : m.number ≡ i) where
     -- behind a way that came to none
     mapped_none : (way : MapState) (d : Dinode) → IsFull was e → now ≡ was →
-        n ≡ write_mapped m way d (machine.Over None) → GoesToEnd n
+        n ≡ write_mapped m way d (Progress.Over None) → GoesToEnd n
     mapped_none way d full same next = subst GoesToEnd (sym next)
         (record {
           number = number;
@@ -124,15 +93,15 @@ module _ {D N : Type 0} (disk : Ghosts D N) (p i : ℕ) (e : Extent) (v w : Volu
 
     -- a step that looks at such a bitmap
     looks_last : (a : WriteAt) → LooksAtBitmap e a → IsFull was e →
-        WriteSteps disk a v p m bytes r n w → (r ≡ machine.Moved) × GoesToEnd n
-    looks_last (write_at.Mapping way) looks full step = by_end come.ends
+        WriteSteps disk a v p m bytes r n w → (r ≡ Progress.Moved) × GoesToEnd n
+    looks_last (WriteAt.Mapping way) looks full step = by_end come.ends
       where
         come : ComesToNone step.answer step.now
         come = on_way way step.now m.inode step.inode step.answer way.at looks full step.steps
 
-        by_end : (step.answer ≡ machine.Over None)
-            ⊎ ((step.answer ≡ machine.Moved) × EndsOnWay step.now.at) →
-            (r ≡ machine.Moved) × GoesToEnd n
+        by_end : (step.answer ≡ Progress.Over None)
+            ⊎ ((step.answer ≡ Progress.Moved) × EndsOnWay step.now.at) →
+            (r ≡ Progress.Moved) × GoesToEnd n
         by_end (inl is) = (
           step.gives ∙ ap one_more is,
           mapped_none step.now step.inode full come.same
@@ -147,18 +116,18 @@ module _ {D N : Type 0} (disk : Ghosts D N) (p i : ℕ) (e : Extent) (v w : Volu
                 full = subst (λ (x : Image). IsFull x e) (sym come.same) full;
               }),
         )
-    looks_last (write_at.Block b slot) looks full step = absurd looks
-    looks_last (write_at.Updating u) looks full step = absurd looks
+    looks_last (WriteAt.Block b slot) looks full step = absurd looks
+    looks_last (WriteAt.Updating u) looks full step = absurd looks
 
     -- and one behind it
     ends_next : inode_block i ≢ e.bitmap → IsFull was e → (a : WriteAt) → EndsAt i a →
         WriteSteps disk a v p m bytes r n w → GoesToEnd n
-    ends_next apart full (write_at.Mapping way) ends step =
+    ends_next apart full (WriteAt.Mapping way) ends step =
         let none = sets_none way step.now m.inode step.inode step.answer way.at ends step.steps in
         mapped_none step.now step.inode full none.1
         (step.next ∙ ap (write_mapped m step.now step.inode) none.0)
-    ends_next apart full (write_at.Block b slot) ends step = absurd ends
-    ends_next apart full (write_at.Updating u) ends step =
+    ends_next apart full (WriteAt.Block b slot) ends step = absurd ends
+    ends_next apart full (WriteAt.Updating u) ends step =
         let to = by_slot step.0 u.slot step.1 in
         subst GoesToEnd (sym step.2) (record { number = number; at = to.0 ∙ ends; full = to.1 })
       where
@@ -182,18 +151,18 @@ module _ {D N : Type 0} (disk : Ghosts D N) (p i : ℕ) (e : Extent) (v w : Volu
 
     -- a writing keeps its number
     number_stays : (a : WriteAt) → WriteSteps disk a v p m bytes r n w → n.number ≡ i
-    number_stays (write_at.Mapping way) step = by_answer step.answer step.next
+    number_stays (WriteAt.Mapping way) step = by_answer step.answer step.next
       where
         by_answer : (q : Progress (Option ℕ)) → n ≡ write_mapped m step.now step.inode q →
             n.number ≡ i
-        by_answer machine.Moved is = ap (λ (x : WriteState). x.number) is ∙ number
-        by_answer (machine.Sleeping why) is = ap (λ (x : WriteState). x.number) is ∙ number
-        by_answer (machine.Over found) is = ap (λ (x : WriteState). x.number) is ∙ number
-        by_answer (machine.Fault fault) is = ap (λ (x : WriteState). x.number) is ∙ number
-    number_stays (write_at.Block b None) step = ap (λ (x : WriteState). x.number) step.2 ∙ number
-    number_stays (write_at.Block b (Some k)) step =
+        by_answer Progress.Moved is = ap (λ (x : WriteState). x.number) is ∙ number
+        by_answer (Progress.Sleeping why) is = ap (λ (x : WriteState). x.number) is ∙ number
+        by_answer (Progress.Over found) is = ap (λ (x : WriteState). x.number) is ∙ number
+        by_answer (Progress.Fault fault) is = ap (λ (x : WriteState). x.number) is ∙ number
+    number_stays (WriteAt.Block b None) step = ap (λ (x : WriteState). x.number) step.2 ∙ number
+    number_stays (WriteAt.Block b (Some k)) step =
         ap (λ (x : WriteState). x.number) step.1 ∙ number
-    number_stays (write_at.Updating u) step = ap (λ (x : WriteState). x.number) step.2 ∙ number
+    number_stays (WriteAt.Updating u) step = ap (λ (x : WriteState). x.number) step.2 ∙ number
 
 -- ---- a step of its task
 
@@ -202,7 +171,7 @@ pub record WritesToEnd {D : Type 0} (image : D → Image) (p i : ℕ) (e : Exten
     : Type 0 where
   pub entry : ℕ
   pub writing : WriteState
-  pub stands : IsAt p s (stage.Writing entry writing)
+  pub stands : IsAt p s (Stage.Writing entry writing)
   pub number : writing.number ≡ i
   pub at : EndsAt i writing.at
   pub full : IsFull (current_of image s.volume) e
@@ -211,65 +180,37 @@ pub record WritesToEnd {D : Type 0} (image : D → Image) (p i : ℕ) (e : Exten
 pub record EndsSo {D : Type 0} (image : D → Image) (p i : ℕ) (e : Extent) (step : StepMade D)
     : Type 0 where
   pub full : IsFull (current_of image step.after.volume) e
-  pub on : ((reply : Reply) → step.answer ≢ progress.Decided reply) →
+  pub on : ((reply : Reply) → step.answer ≢ TaskProgress.Decided reply) →
       WritesToEnd image p i e step.after
-  pub up : (reply : Reply) → step.answer ≡ progress.Decided reply →
-      (k : ℕ) × IsAt p step.after (stage.Leaving k)
+  pub up : (reply : Reply) → step.answer ≡ TaskProgress.Decided reply →
+      (k : ℕ) × IsAt p step.after (Stage.Leaving k)
 
 module _ {D N : Type 0} (disk : Ghosts D N) (p i : ℕ) (e : Extent) (op : Op) (step : StepMade D) where
   abbrev GoesBy : ℕ → WriteState → Type 0
   GoesBy k m = WritesOn disk step.before p k op m step.answer step.after
 
-  goes : (k : ℕ) (m : WriteState) → IsAt p step.before (stage.Writing k m) →
+  goes : (k : ℕ) (m : WriteState) → IsAt p step.before (Stage.Writing k m) →
       Steps disk step.before p op step.answer step.after → GoesBy k m
   goes k m stands steps =
       subst (λ (a : Stage). Goes disk a step.before p op step.answer step.after) stands steps.goes
 
+  -- it stands at a writing then
+  still_writes : (k : ℕ) (o : WriteState) → IsAt p step.after (Stage.Writing k o) → o.number ≡ i → EndsAt i o.at →
+      IsFull (current_of disk.image step.after.volume) e → ((reply : Reply) → step.answer ≢ TaskProgress.Decided reply) → EndsSo disk.image p i e step
+  still_writes k o to number at full none = record {
+    full = full;
+    on = λ gone. record { entry = k; writing = o; stands = to; number = number; at = at; full = full };
+    up = λ reply is. absurd (none reply is);
+  }
+
   to_end : (k : ℕ) (m o : WriteState) (q : Progress (Unit {0})) → m.number ≡ i →
-      (q ≢ machine.Moved → EndsAt i m.at) → step.answer ≡ progress_of_write m.done q →
-      IsAt p step.after (place_of_writing k m o q) →
+      (q ≢ Progress.Moved → EndsAt i m.at) → step.answer ≡ progress_of_write m.done q →
+      IsAt p step.after (stage_of_writing k m o q) →
       GoesToEnd disk p i e step.before.volume step.after.volume o → EndsSo disk.image p i e step
-  to_end k m o machine.Moved number still gives to end = record {
-    full = end.full;
-    on = λ none. record {
-      entry = k;
-      writing = o;
-      stands = to;
-      number = end.number;
-      at = end.at;
-      full = end.full;
-    };
-    up = λ reply is. absurd (let no = sym gives ∙ is in cc no);
-  }
-  to_end k m o (machine.Sleeping why) number still gives to end = record {
-    full = end.full;
-    on = λ none. record {
-      entry = k;
-      writing = m;
-      stands = to;
-      number = number;
-      at = still (λ is. cc is);
-      full = end.full;
-    };
-    up = λ reply is. absurd (let no = sym gives ∙ is in cc no);
-  }
-  to_end k m o (machine.Over out) number still gives to end = record {
-    full = end.full;
-    on = λ none. absurd (none (Wrote m.done) gives);
-    up = λ reply is. (k, to);
-  }
-  to_end k m o (machine.Fault fault) number still gives to end = record {
-    full = end.full;
-    on = λ none. record {
-      entry = k;
-      writing = m;
-      stands = to;
-      number = number;
-      at = still (λ is. cc is);
-      full = end.full;
-    };
-    up = λ reply is. absurd (let no = sym gives ∙ is in cc no);
-  }
+  to_end k m o Progress.Moved number still gives to end = still_writes k o to end.number end.at end.full (λ reply is. let no = sym gives ∙ is in cc no)
+  to_end k m o (Progress.Sleeping why) number still gives to end = still_writes k m to number (still (λ is. cc is)) end.full (λ reply is. let no = sym gives ∙ is in cc no)
+  to_end k m o (Progress.Over out) number still gives to end = record { full = end.full; on = λ none. absurd (none (Wrote m.done) gives); up = λ reply is. (k, to) }
+  to_end k m o (Progress.Fault fault) number still gives to end = still_writes k m to number (still (λ is. cc is)) end.full (λ reply is. let no = sym gives ∙ is in cc no)
 
   -- a step of a writing that goes to its end
   pub full_ends : inode_block i ≢ e.bitmap → WritesToEnd disk.image p i e step.before →
@@ -281,22 +222,21 @@ module _ {D N : Type 0} (disk : Ghosts D N) (p i : ℕ) (e : Extent) (op : Op) (
       on.answer from.number apart from.full from.writing.at from.at on.writes)
 
   -- one that saw no block left
-  pub full_seen : (k : ℕ) (m : WriteState) → IsAt p step.before (stage.Writing k m) →
+  pub full_seen : (k : ℕ) (m : WriteState) → IsAt p step.before (Stage.Writing k m) →
       m.number ≡ i → SeesFull disk.image p e step →
       Steps disk step.before p op step.answer step.after → EndsSo disk.image p i e step
   full_seen k m stands number saw steps =
       let on = goes k m stands steps in
-      let places = sym stands ∙ saw.stands in
-      let same : m ≡ saw.writing = cc places in
+      let same : m ≡ saw.writing = cc (sym stands ∙ saw.stands) in
       let last = looks_last disk p i e step.before.volume step.after.volume m on.now (bytes_of op)
       on.answer number m.at
       (subst (λ (o : WriteState). LooksAtBitmap e o.at) (sym same) saw.looks) saw.full on.writes in
       to_end k m on.now on.answer number (λ no. absurd (no last.0)) on.gives on.next last.1
 
   -- any one keeps the number that is written
-  pub writes_number : (k l : ℕ) (m o : WriteState) → IsAt p step.before (stage.Writing k m) →
+  pub writes_number : (k l : ℕ) (m o : WriteState) → IsAt p step.before (Stage.Writing k m) →
       m.number ≡ i → Steps disk step.before p op step.answer step.after →
-      IsAt p step.after (stage.Writing l o) → o.number ≡ i
+      IsAt p step.after (Stage.Writing l o) → o.number ≡ i
   writes_number k l m o stands number steps to =
       by_answer on.answer (sym on.next ∙ to)
     where
@@ -308,11 +248,11 @@ module _ {D N : Type 0} (disk : Ghosts D N) (p i : ℕ) (e : Extent) (op : Op) (
           on.answer number m.at on.writes
 
       by_answer : (q : Progress (Unit {0})) →
-          place_of_writing k m on.now q ≡ stage.Writing l o → o.number ≡ i
-      by_answer machine.Moved is =
+          stage_of_writing k m on.now q ≡ Stage.Writing l o → o.number ≡ i
+      by_answer Progress.Moved is =
           let same : on.now ≡ o = cc is in subst (λ (x : WriteState). x.number ≡ i) same now
-      by_answer (machine.Sleeping why) is =
+      by_answer (Progress.Sleeping why) is =
           let same : m ≡ o = cc is in subst (λ (x : WriteState). x.number ≡ i) same number
-      by_answer (machine.Over out) is = absurd (cc is)
-      by_answer (machine.Fault fault) is =
+      by_answer (Progress.Over out) is = absurd (cc is)
+      by_answer (Progress.Fault fault) is =
           let same : m ≡ o = cc is in subst (λ (x : WriteState). x.number ≡ i) same number

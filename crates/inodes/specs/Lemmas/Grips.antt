@@ -1,18 +1,8 @@
 -- Whatever a process does with the table of inodes, it agrees with what all have of it.
 use Rattle.std.proofs.Common.{◌≡◌, ◌≢◌, ℕ, zero, suc, ◌+◌, ◌-◌, ◌<◌, ◌≤◌, Bool, true, false, cond, eqb, ltb, inl, inr, ◌⊎◌, ⊎_elim, List, [], ◌∷◌, length, length-set, get_or, set, replicate, refl, sym, ◌∙◌, ap, subst, zero-add, arith, Option, Some, None}
-use Rattle.std.specs.Prelude.{IsTrue, IsSome, is_none, position}
-use Rattle.std.proofs.lemmas.Bool.{cases_eq, cases_lt, eqb-true, eq-eqb, ne_eqb, ltb-true, ltb-false}
-use Rattle.std.proofs.lemmas.List.{get_or-set_same, get_or-set_other, get_or_past, get_or-replicate, length-replicate, set-get_or}
-use Rattle.std.proofs.lemmas.List.Quantifiers.{position-Some}
-use Rattle.blocks.specs.Disk.{Image}
-use Rattle.model.specs.declared.types.image.Dinode.{Dinode}
-use Rattle.model.specs.Journal.{is_number}
+use Rattle.std.specs.Prelude.{IsTrue, position, is_none, IsSome}
+use Rattle.inodes.specs.Common.{AreCounted, cases_eq, cases_lt, copy_at, copy_in, count_of, Dinode, entry_at, eq-eqb, eqb-true, get_or-replicate, get_or-set_other, get_or-set_same, get_or_past, Grip, grip, HasNumber, HasPlaceFor, HasPlaceForEach, holder_at, holder_in, HolderIsAnother, Image, InMemory, is_number, is_of, IsCopy, IsTable, IsTableAtOpening, KeepsTable, KeptByImage, KeptByLeave, KeptByLock, KeptByRefer, KeptByRenew, length-replicate, locked_grip, LocksExclude, ltb-false, ltb-true, named, ne_eqb, none_passes, or_else, place_for, position-Some, references_at, references_in, set-get_or, Stays, TableIs, TableState, unlocked_grip, with_copy, with_holder, with_reference, without_reference}
 use Rattle.model.specs.Layout.{inode_of}
-use Rattle.model.specs.Soundness.{count_of}
-use Rattle.bcache.specs.Lemmas.Order.{none_passes}
-use Rattle.inodes.specs.declared.table.InMemory.{InMemory}
-use Rattle.inodes.specs.Table.{TableState, AreCounted, HasPlaceFor, entry_at, is_of, or_else, place_for, holder_in, holder_at, copy_in, copy_at, references_in, references_at, with_reference, with_holder, with_copy, without_reference}
-use Rattle.inodes.specs.Grips.{Grip, IsTable, TableIs, IsCopy, KeepsTable, Stays, HasNumber, KeptByRefer, KeptByLock, KeptByRenew, KeptByLeave, KeptByImage, IsTableAtOpening, HasPlaceForEach, LocksExclude, HolderIsAnother, grip, named, locked_grip, unlocked_grip}
 use Rattle.inodes.specs.Lemmas.Table.{has_place}
 
 -- the references of a place that one process has
@@ -37,9 +27,7 @@ named_set : (gs : List (Option Grip)) (p k : ℕ) (o : Option Grip) → p < leng
 named_set [] p k o lt = absurd (omega arith)
 named_set (x ∷ gs) zero k o lt = let new = count_of-named k o gs in let old = count_of-named k x gs in omega (arith, new, old)
 named_set (x ∷ gs) (suc p) k o lt =
-    let rest = named_set gs p k o (omega arith) in
-    let new = count_of-named k x (set gs p o) in
-    let old = count_of-named k x gs in omega (arith, rest, new, old)
+    let old = count_of-named k x gs in omega (arith, (named_set gs p k o (omega arith)), (count_of-named k x (set gs p o)), old)
 
 length-named : (gs : List (Option Grip)) → length (named gs) ≤ length gs
 length-named [] = omega arith
@@ -49,9 +37,7 @@ length-named (Some g ∷ gs) = let rest = length-named gs in omega (arith, rest)
 count_of-few : (k : ℕ) (gs : List (Option Grip)) → count_of k (named gs) ≤ length gs
 count_of-few k [] = omega arith
 count_of-few k (x ∷ gs) =
-    let rest = count_of-few k gs in
-    let more = count_of-named k x gs in
-    let one = at_most_one x in omega (arith, rest, more, one)
+    let one = at_most_one x in omega (arith, (count_of-few k gs), (count_of-named k x gs), one)
   where
     by_test : (b : Bool) → cond b 1 0 ≤ 1
     by_test true = omega arith
@@ -70,8 +56,7 @@ inside gs p g has = elim (cases_lt p (length gs)) [
 -- a place to which somebody refers is counted
 counted_grip : (gs : List (Option Grip)) (p k : ℕ) (g : Grip) → grip gs p ≡ Some g → g.place ≡ k → count_of k (named gs) ≢ 0
 counted_grip gs p k g has at none =
-    let change = named_set gs p k None (inside gs p g has) in
-    let one : names k (grip gs p) ≡ 1 = ap (names k) has ∙ names_own k g at in omega (arith, change, one, none)
+    let one : names k (grip gs p) ≡ 1 = ap (names k) has ∙ names_own k g at in omega (arith, (named_set gs p k None (inside gs p g has)), one, none)
 
 -- what is true of the new element and of the others that stay, is true of all
 by_set : {X : Type 0} (Q : ℕ → X → Type 0) (xs : List X) (i : ℕ) (y d : X) → i < length xs → Q i y → ((j : ℕ) → j ≢ i → Q j (get_or xs j d)) → (j : ℕ) → Q j (get_or (set xs i y) j d)
@@ -129,8 +114,7 @@ module _ (ps : List (Option InMemory)) (n : ℕ) (gs : List (Option Grip)) (cur 
     counts j lt = at_places (λ l x. l < length ps → references_in x ≡ count_of l (named grips))
         (λ under. let change = named_set gs p k g c.process in
         let each = c.is.counted.each k place_inside in
-        let old = ap references_in c.was in
-        let count = c.count in omega (arith, change, each, old, count))
+        let count = c.count in omega (arith, change, each, (ap references_in c.was), count))
         (λ l apart under. let change = named_set gs p l g c.process in
         let each = c.is.counted.each l under in
         let before = names_elsewhere l k (grip gs p) c.before apart in
@@ -523,8 +507,7 @@ kept_by_renew t gs old new p k i c is has same copy = record {
     another : (j l : ℕ) (d : Dinode) → HasNumber (forgotten t.places k) l j → copy_at (forgotten t.places k) l ≡ Some d → j ≢ i
     another j l d stands with same_number_there =
         let place : l ≡ k = first.table.once i l k (subst (HasNumber (forgotten t.places k) l) same_number_there stands) (first.table.places p (locked_grip k i) has).1 in
-        let none : Option.None ≡ Some d = copy_of_with (entry_at t.places k) None d (ap copy_in (sym here) ∙ ap (copy_at (forgotten t.places k)) (sym place) ∙ with) in
-        absurd (cc none)
+        absurd (cc (copy_of_with (entry_at t.places k) None d (ap copy_in (sym here) ∙ ap (copy_at (forgotten t.places k)) (sym place) ∙ with)))
 
     between : IsTable (forgotten t.places k) t.inode_count gs new
     between = other_image (forgotten t.places k) t.inode_count gs old new first.table
@@ -576,10 +559,7 @@ has_place_for_each t gs cur i is = by (place_for t.places i) refl (has_place t.p
     by : (o : Option ℕ) → place_for t.places i ≡ o → IsSome o → HasPlaceFor t i
     by None none some = absurd (cc some)
     by (Some k) found some =
-        let each = is.counted.each k (place_for_is t.places i k found).0 in
-        let count = count_of-few k gs in
-        let few = is.few in
-        (k, found, omega (arith, each, count, few))
+        (k, found, omega (arith, (is.counted.each k (place_for_is t.places i k found).0), (count_of-few k gs), is.few))
 
 pub locks_exclude : LocksExclude
 locks_exclude t gs cur p q i j k is mine theirs =

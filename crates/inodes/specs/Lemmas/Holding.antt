@@ -1,17 +1,6 @@
 -- What tasks hold of numbers: the claims of all of them, by the claim of each.
 use Rattle.std.proofs.Common.{◌≡◌, ◌≢◌, ℕ, zero, suc, ◌<◌, Bool, true, false, cond, eqb, List, [], ◌∷◌, length, set, refl, ◌∙◌, ap, arith, Option, Some, None, inl, inr, ◌⊎◌}
-use Rattle.std.proofs.lemmas.Bool.{eqb-true, eq-eqb}
-use Rattle.std.proofs.lemmas.List.{get_or-set_same, get_or-set_other}
-use Rattle.in_flight.specs.Held.{IsClaimedNow, Claim, frees, grows}
-use Rattle.inodes.specs.declared.freeing.Freeing.{Freeing}
-use Rattle.inodes.specs.declared.tasks.Stage.{Stage}
-use Rattle.inodes.specs.declared.tasks.Stage.TheVariants as stage
-use Rattle.inodes.specs.Holding.{claim_by, claims_of, held_of, claim_of}
-use Rattle.inodes.specs.Table.{or_else}
-use Rattle.inodes.specs.Tasks.{TaskState, task, no_task}
-use Rattle.model.specs.declared.types.operations.Op.{Op}
-use Rattle.inodes.specs.Writei.{WriteState}
-use Rattle.inodes.specs.Growing.{growth_of, bytes_by}
+use Rattle.inodes.specs.Common.{bytes_by, Claim, claim_by, claim_of, claims_of, eq-eqb, eqb-true, Freeing, frees, get_or-set_other, get_or-set_same, grows, growth_of, held_of, IsClaimedNow, no_task, Op, or_else, Stage, task, TaskState, WriteState}
 
 -- the task of process p alone may hold number i
 abbrev pub HoldsAlone : List TaskState → ℕ → ℕ → Type 0
@@ -23,8 +12,8 @@ HoldsAlone ts p i = (q : ℕ) → q ≢ p → claim_of (task ts q) i ≡ None
 -- that entry of the table
 abbrev pub IsHolding : Stage → ℕ → ℕ → Type 0
 IsHolding a entry i =
-    ((m : Freeing) × (a ≡ stage.Truncating entry m) × (m.machine.number ≡ i))
-    ⊎ ((m : WriteState) × (a ≡ stage.Writing entry m) × (m.number ≡ i))
+    ((m : Freeing) × (a ≡ Stage.Truncating entry m) × (m.machine.number ≡ i))
+    ⊎ ((m : WriteState) × (a ≡ Stage.Writing entry m) × (m.number ≡ i))
 
 -- so does who holds a number
 claims_own : (n i : ℕ) (own : Claim) (h : Claim) → cond (eqb n i) (Some own) None ≡ Some h → n ≡ i
@@ -36,25 +25,25 @@ claims_own n i own h claimed = by_number (eqb n i) refl claimed
 
 pub holding_is : (op : Option Op) (a : Stage) (i : ℕ) (h : Claim) → claim_by op a i ≡ Some h →
     (entry : ℕ) × IsHolding a entry i
-holding_is op stage.Nowhere i h claimed = absurd (cc claimed)
-holding_is op (stage.Creating m) i h claimed = absurd (cc claimed)
-holding_is op (stage.Taking m) i h claimed = absurd (cc claimed)
-holding_is op (stage.Reading k m) i h claimed = absurd (cc claimed)
-holding_is op (stage.Delivering k) i h claimed = absurd (cc claimed)
-holding_is op (stage.Truncating k m) i h claimed =
+holding_is op Stage.Nowhere i h claimed = absurd (cc claimed)
+holding_is op (Stage.Creating m) i h claimed = absurd (cc claimed)
+holding_is op (Stage.Taking m) i h claimed = absurd (cc claimed)
+holding_is op (Stage.Reading k m) i h claimed = absurd (cc claimed)
+holding_is op (Stage.Delivering k) i h claimed = absurd (cc claimed)
+holding_is op (Stage.Truncating k m) i h claimed =
     (k, inl (m, refl, claims_own m.machine.number i (frees (held_of m.machine)) h claimed))
-holding_is op (stage.Writing k m) i h claimed =
+holding_is op (Stage.Writing k m) i h claimed =
     (k, inr (m, refl, claims_own m.number i (grows (growth_of m (bytes_by op))) h claimed))
-holding_is op (stage.Leaving k) i h claimed = absurd (cc claimed)
+holding_is op (Stage.Leaving k) i h claimed = absurd (cc claimed)
 
 -- the freeing of a file's blocks holds its number
 pub own_holds : (k : ℕ) (m : Freeing) →
-    claim_by None (stage.Truncating k m) m.machine.number ≡ Some (frees (held_of m.machine))
+    claim_by None (Stage.Truncating k m) m.machine.number ≡ Some (frees (held_of m.machine))
 own_holds k m = rw (eq-eqb m.machine.number m.machine.number refl) refl
 
 -- and so does the writing of its bytes
 pub own_grows : (op : Option Op) (k : ℕ) (m : WriteState) →
-    claim_by op (stage.Writing k m) m.number ≡ Some (grows (growth_of m (bytes_by op)))
+    claim_by op (Stage.Writing k m) m.number ≡ Some (grows (growth_of m (bytes_by op)))
 own_grows op k m = rw (eq-eqb m.number m.number refl) refl
 
 -- ---- what all of them hold

@@ -1,33 +1,11 @@
 -- The number that a look at an inode block finds; and what is true of the readings of files that
 -- are under way.
-use Rattle.std.proofs.Common.{◌≡◌, ◌≢◌, ℕ, zero, suc, ◌+◌, ◌-◌, ◌*◌, ◌<◌, ◌≤◌, Bool, true, false, cond, eqb, List, Option, Some, None, length, refl, sym, ◌∙◌, ap, subst, ⊎_elim, arith, inl, inr}
-use Rattle.std.specs.List.{range_with_len, find}
-use Rattle.std.specs.Prelude.{IsTrue, drop, [], ◌∷◌}
-use Rattle.std.proofs.lemmas.Bool.{eqb-true, cases_eq, both_ways}
-use Rattle.std.proofs.lemmas.List.{length-take}
-use Rattle.blocks.specs.Disk.{Image, block_at}
-use Rattle.model.specs.declared.types.image.Dinode.{Dinode}
-use Rattle.model.specs.declared.types.operations.Op.TheVariants.{Trunc, Remove, Create, Write, Read, Stat}
-use Rattle.model.specs.Layout.{inode_in, inode_bytes_in, inode_block, inode_of}
-use Rattle.model.specs.Journal.{is_number}
-use Rattle.model.specs.Lemmas.Log.{both_of}
-use Rattle.model.specs.Files.{bytes_in}
-use Rattle.model.specs.Gathered.{GatheredBytes}
-use Rattle.inodes.specs.declared.freeing.Freeing.{Freeing}
-use Rattle.inodes.specs.Creation.{is_free_in, lowest_free}
-use Rattle.inodes.specs.declared.tasks.Stage.{Stage}
-use Rattle.inodes.specs.declared.tasks.Stage.TheVariants as stage
-use Rattle.inodes.specs.Grips.{grip, locked_grip}
-use Rattle.inodes.specs.Looks.{AreLooking, LooksAt, HasAllRead, HoldsInode, IsRead, IsLate, IsWrite, CanLook, CanTake}
-use Rattle.inodes.specs.Holding.{IsTruncating, trunc_op}
-use Rattle.inodes.specs.declared.itrunc.Itrunc.{Itrunc}
-use Rattle.inodes.specs.Places.{asked, asked_by, grip_by, grip_of, grips_of, is_over, owes_reply, is_unturned}
-use Rattle.inodes.specs.Table.{TableState, copy_at}
-use Rattle.inodes.specs.Tasks.{TaskState, task}
+use Rattle.std.proofs.Common.{◌≡◌, ◌≢◌, ℕ, zero, suc, ◌+◌, ◌-◌, ◌*◌, ◌<◌, ◌≤◌, Bool, true, false, cond, eqb, List, Option, Some, None, refl, sym, ◌∙◌, ap, subst, ⊎_elim, arith, inl, inr}
+use Rattle.std.specs.List.{find, range_with_len}
+use Rattle.std.specs.Prelude.{IsTrue, [], ◌∷◌}
+use Rattle.inodes.specs.Common.{AreLooking, asked, asked_by, block_at, both_of, both_ways, CanLook, CanTake, cases_eq, copy_at, Create, Dinode, eqb-true, Freeing, grip, grip_by, grip_of, grips_of, HoldsInode, Image, inode_block, inode_bytes_in, inode_in, is_free_in, is_number, is_over, is_unturned, IsLate, IsRead, IsTruncating, IsWrite, IsWriting, Itrunc, locked_grip, LooksAt, lowest_free, Op, owes_reply, Read, Remove, Stage, Stat, TableState, task, TaskState, Trunc, trunc_op, Write, WriteState}
+use Rattle.model.specs.Layout.{inode_of}
 use Rattle.inodes.specs.Lemmas.Grips.{locks_exclude}
-use Rattle.inodes.specs.Writei.{WriteState}
-use Rattle.inodes.specs.Writing.{IsWriting}
-use Rattle.model.specs.declared.types.operations.Op.{Op}
 
 -- the number that is found passes, and lies in the range
 abbrev IsIn : (ℕ → Bool) → ℕ → ℕ → ℕ → Type 0
@@ -101,10 +79,9 @@ taken_by_look x n block j o found passed number place free =
     let here : bytes ≡ block_at x (inode_block j) = ap (λ (b : ℕ). block_at x b) (sym place) in
     let zero : (inode_in (inode_bytes_in bytes j)).kind ≡ 0 =
     ap (λ (l : List ℕ). (inode_in (inode_bytes_in l j)).kind) here ∙ free in
-    let passes : is_free_in bytes n j ≡ true = rw (number, zero) refl in
     let fails = passed_by (is_free_in bytes n) ((block - 33) * 16) 16 j o found passed
     (omega (arith, place)) (omega (arith, place)) in
-    both_ways (is_free_in bytes n j) fails passes
+    both_ways (is_free_in bytes n j) fails (rw (number, zero) refl)
 
 -- ---- operations that take an inode
 
@@ -128,14 +105,14 @@ grip_of_task (t ∷ ts) (suc p) = grip_of_task ts p
 -- a task whose reply is to come has locked the inode that it asks for
 locks_own : (a : Stage) (i : ℕ) → owes_reply a ≡ true →
     (k : ℕ) × (grip_by a i ≡ Some (locked_grip k i))
-locks_own stage.Nowhere i unlike = absurd (cc unlike)
-locks_own (stage.Creating m) i unlike = absurd (cc unlike)
-locks_own (stage.Taking m) i unlike = absurd (cc unlike)
-locks_own (stage.Reading k m) i is = (k, refl)
-locks_own (stage.Delivering k) i is = (k, refl)
-locks_own (stage.Truncating k m) i unlike = absurd (cc unlike)
-locks_own (stage.Writing k m) i is = (k, refl)
-locks_own (stage.Leaving k) i unlike = absurd (cc unlike)
+locks_own Stage.Nowhere i unlike = absurd (cc unlike)
+locks_own (Stage.Creating m) i unlike = absurd (cc unlike)
+locks_own (Stage.Taking m) i unlike = absurd (cc unlike)
+locks_own (Stage.Reading k m) i is = (k, refl)
+locks_own (Stage.Delivering k) i is = (k, refl)
+locks_own (Stage.Truncating k m) i unlike = absurd (cc unlike)
+locks_own (Stage.Writing k m) i is = (k, refl)
+locks_own (Stage.Leaving k) i unlike = absurd (cc unlike)
 
 -- the operation that frees a file's blocks asks for its number
 asked_to_free : (m : Itrunc) → asked (trunc_op m) ≡ m.number
@@ -147,28 +124,28 @@ asked_to_free m = by_end m.removes
 
 module _ (cur : Image) (t : TableState) (ts : List TaskState) (are : AreLooking cur t ts) where
   -- its operation is a reading or a write
-  pub late_is : (p : ℕ) → owes_reply (task ts p).place ≡ true → IsLate t.inode_count (task ts p)
-  late_is p is = by_place (task ts p).place (are.stand p) is
+  pub late_is : (p : ℕ) → owes_reply (task ts p).stage ≡ true → IsLate t.inode_count (task ts p)
+  late_is p is = by_place (task ts p).stage (are.stand p) is
     where
       by_place : (a : Stage) → LooksAt cur t (task ts p) a → owes_reply a ≡ true →
           IsLate t.inode_count (task ts p)
-      by_place stage.Nowhere stands unlike = absurd (cc unlike)
-      by_place (stage.Creating m) stands unlike = absurd (cc unlike)
-      by_place (stage.Taking m) stands unlike = absurd (cc unlike)
-      by_place (stage.Reading k m) stands is = inl stands.op
-      by_place (stage.Delivering k) stands is = inl stands.op
-      by_place (stage.Truncating k m) stands unlike = absurd (cc unlike)
-      by_place (stage.Writing k m) stands is = inr (record {
+      by_place Stage.Nowhere stands unlike = absurd (cc unlike)
+      by_place (Stage.Creating m) stands unlike = absurd (cc unlike)
+      by_place (Stage.Taking m) stands unlike = absurd (cc unlike)
+      by_place (Stage.Reading k m) stands is = inl stands.op
+      by_place (Stage.Delivering k) stands is = inl stands.op
+      by_place (Stage.Truncating k m) stands unlike = absurd (cc unlike)
+      by_place (Stage.Writing k m) stands is = inr (record {
         number = m.number;
         offset = m.offset;
         bytes = stands.bytes;
         is = stands.op;
         may = (stands.number, stands.few);
       })
-      by_place (stage.Leaving k) stands unlike = absurd (cc unlike)
+      by_place (Stage.Leaving k) stands unlike = absurd (cc unlike)
 
   -- of a number that operations may name
-  pub late_number : (p : ℕ) → owes_reply (task ts p).place ≡ true →
+  pub late_number : (p : ℕ) → owes_reply (task ts p).stage ≡ true →
       IsTrue (is_number t.inode_count (asked_by (task ts p).op))
   late_number p is =
       ⊎_elim
@@ -179,10 +156,10 @@ module _ (cur : Image) (t : TableState) (ts : List TaskState) (are : AreLooking 
       (late_is p is)
 
   -- the place of its locked inode in the table
-  pub late_locks : (p : ℕ) → owes_reply (task ts p).place ≡ true →
+  pub late_locks : (p : ℕ) → owes_reply (task ts p).stage ≡ true →
       (k : ℕ) × (grip (grips_of ts) p ≡ Some (locked_grip k (asked_by (task ts p).op)))
   late_locks p is =
-      let own = locks_own (task ts p).place (asked_by (task ts p).op) is in
+      let own = locks_own (task ts p).stage (asked_by (task ts p).op) is in
       (own.0, grip_of_task ts p ∙ own.1)
 
   -- a copy of a locked inode is that of its number in the image, and used
@@ -192,33 +169,19 @@ module _ (cur : Image) (t : TableState) (ts : List TaskState) (are : AreLooking 
       are.table.copies i k d (are.table.places p (locked_grip k i) has).1 copy
 
   -- no two of one number
-  pub late_apart : (p q : ℕ) → owes_reply (task ts p).place ≡ true →
-      owes_reply (task ts q).place ≡ true → asked_by (task ts p).op ≡ asked_by (task ts q).op →
+  pub late_apart : (p q : ℕ) → owes_reply (task ts p).stage ≡ true →
+      owes_reply (task ts q).stage ≡ true → asked_by (task ts p).op ≡ asked_by (task ts q).op →
       p ≡ q
   late_apart p q one other same =
       let mine = late_locks p one in
       let theirs = late_locks q other in
-      let i = asked_by (task ts q).op in
-      locks_exclude t (grips_of ts) cur p q i mine.0 theirs.0 are.table
+      locks_exclude t (grips_of ts) cur p q (asked_by (task ts q).op) mine.0 theirs.0 are.table
       (subst (λ (n : ℕ). grip (grips_of ts) p ≡ Some (locked_grip mine.0 n)) same mine.1) theirs.1
 
-  -- it gives out no more bytes than it asked for
-  pub delivers_few : (p k : ℕ) → (task ts p).place ≡ stage.Delivering k →
-      (op : IsRead t.inode_count (task ts p)) → length op.gathered.bytes ≤ op.count
-  delivers_few p k at op =
-      let all : HasAllRead cur t.inode_count (copy_at t.places k) (task ts p) =
-      subst (λ (a : Stage). LooksAt cur t (task ts p) a) at (are.stand p) in
-      let file = bytes_in cur all.dinode in
-      let bytes : op.gathered ≡ all.op.gathered = let both = sym op.has ∙ all.op.has in cc both in
-      let count : op.count ≡ all.op.count = let both = sym op.is ∙ all.op.is in cc both in
-      let long = ap (λ (g : GatheredBytes). length g.bytes) bytes ∙ ap length all.bytes
-      ∙ length-take all.op.count (drop all.op.offset file) in
-      omega (arith, long, count)
-
   -- who had its turn holds the lock of its inode until its finish
-  pub holds_lock : (p : ℕ) → is_over (task ts p).place ≡ false →
-      is_unturned (task ts p).place ≡ false → HoldsInode t p (asked_by (task ts p).op)
-  holds_lock p on turned = by_place (task ts p).place (grip_of_task ts p) on turned
+  pub holds_lock : (p : ℕ) → is_over (task ts p).stage ≡ false →
+      is_unturned (task ts p).stage ≡ false → HoldsInode t p (asked_by (task ts p).op)
+  holds_lock p on turned = by_place (task ts p).stage (grip_of_task ts p) on turned
     where
       held : (k : ℕ) → grip (grips_of ts) p ≡ Some (locked_grip k (asked_by (task ts p).op)) →
           HoldsInode t p (asked_by (task ts p).op)
@@ -230,33 +193,33 @@ module _ (cur : Image) (t : TableState) (ts : List TaskState) (are : AreLooking 
 
       by_place : (a : Stage) → grip (grips_of ts) p ≡ grip_by a (asked_by (task ts p).op) →
           is_over a ≡ false → is_unturned a ≡ false → HoldsInode t p (asked_by (task ts p).op)
-      by_place stage.Nowhere has on turned = absurd (cc on)
-      by_place (stage.Creating m) has on turned = absurd (cc turned)
-      by_place (stage.Taking m) has on turned = absurd (cc turned)
-      by_place (stage.Reading k m) has on turned = held k has
-      by_place (stage.Delivering k) has on turned = held k has
-      by_place (stage.Truncating k m) has on turned = held k has
-      by_place (stage.Writing k m) has on turned = held k has
-      by_place (stage.Leaving k) has on turned = held k has
+      by_place Stage.Nowhere has on turned = absurd (cc on)
+      by_place (Stage.Creating m) has on turned = absurd (cc turned)
+      by_place (Stage.Taking m) has on turned = absurd (cc turned)
+      by_place (Stage.Reading k m) has on turned = held k has
+      by_place (Stage.Delivering k) has on turned = held k has
+      by_place (Stage.Truncating k m) has on turned = held k has
+      by_place (Stage.Writing k m) has on turned = held k has
+      by_place (Stage.Leaving k) has on turned = held k has
 
   -- ---- the freeing of a file's blocks
 
-  pub truncating_is : (p k : ℕ) (m : Freeing) → (task ts p).place ≡ stage.Truncating k m →
+  pub truncating_is : (p k : ℕ) (m : Freeing) → (task ts p).stage ≡ Stage.Truncating k m →
       IsTruncating cur t.inode_count (task ts p) m
   truncating_is p k m at = subst (λ (a : Stage). LooksAt cur t (task ts p) a) at (are.stand p)
 
   -- its operation asks for its number
-  pub trunc_number : (p k : ℕ) (m : Freeing) → (task ts p).place ≡ stage.Truncating k m →
+  pub trunc_number : (p k : ℕ) (m : Freeing) → (task ts p).stage ≡ Stage.Truncating k m →
       asked_by (task ts p).op ≡ m.machine.number
   trunc_number p k m at = ap asked_by (truncating_is p k m at).op ∙ asked_to_free m.machine
 
   -- which operations may name
-  pub trunc_names : (p k : ℕ) (m : Freeing) → (task ts p).place ≡ stage.Truncating k m →
+  pub trunc_names : (p k : ℕ) (m : Freeing) → (task ts p).stage ≡ Stage.Truncating k m →
       IsTrue (is_number t.inode_count m.machine.number)
   trunc_names p k m at = (truncating_is p k m at).number
 
   -- and it has locked it
-  pub trunc_locks : (p k : ℕ) (m : Freeing) → (task ts p).place ≡ stage.Truncating k m →
+  pub trunc_locks : (p k : ℕ) (m : Freeing) → (task ts p).stage ≡ Stage.Truncating k m →
       grip_of (task ts p) ≡ Some (locked_grip k m.machine.number)
   trunc_locks p k m at =
       ap (λ (a : Stage). grip_by a (asked_by (task ts p).op)) at
@@ -264,11 +227,11 @@ module _ (cur : Image) (t : TableState) (ts : List TaskState) (are : AreLooking 
 
   -- ---- the writing of a file's bytes
 
-  pub writing_is : (p k : ℕ) (m : WriteState) → (task ts p).place ≡ stage.Writing k m →
+  pub writing_is : (p k : ℕ) (m : WriteState) → (task ts p).stage ≡ Stage.Writing k m →
       IsWriting cur t.inode_count (task ts p) m
   writing_is p k m at = subst (λ (a : Stage). LooksAt cur t (task ts p) a) at (are.stand p)
 
-  pub write_locks : (p k : ℕ) (m : WriteState) → (task ts p).place ≡ stage.Writing k m →
+  pub write_locks : (p k : ℕ) (m : WriteState) → (task ts p).stage ≡ Stage.Writing k m →
       grip_of (task ts p) ≡ Some (locked_grip k m.number)
   write_locks p k m at =
       ap (λ (a : Stage). grip_by a (asked_by (task ts p).op)) at

@@ -1,16 +1,7 @@
 -- What a whole run of a reading gathers.
 use Rattle.std.proofs.Common.{◌≡◌, ◌≢◌, ℕ, ◌+◌, ◌-◌, ◌/◌, ◌<◌, ◌≤◌, ◌++◌, Bool, true, false, List, [], ◌∷◌, length, min, refl, sym, ap, ◌∙◌, append_assoc, Some, arith}
-use Rattle.std.specs.Prelude.{nat_le, ◌==◌, ◌||◌}
-use Rattle.std.proofs.lemmas.Bool.{eqb-true, eqb-false, leb-false, or_parts}
-use Rattle.blocks.specs.declared.disk.Disk.{Ghosts}
-use Rattle.model.specs.declared.types.image.Dinode.{Dinode}
-use Rattle.model.specs.declared.types.image.Form.{Form}
-use Rattle.model.specs.Gathered.{GatheredBytes}
-use Rattle.model.specs.Operations.{part_of}
-use Rattle.model.specs.Lemmas.Bytes.{part_in_two}
-use Rattle.blockmap.specs.Lemmas.Reading.{length-bytes, part_cut}
-use Rattle.blockmap.specs.Target.{target_for}
-use Rattle.inodes.specs.Readi.{ReadState, first_read}
+use Rattle.std.specs.Prelude.{◌||◌, nat_le, ◌==◌}
+use Rattle.inodes.specs.Common.{Dinode, eqb-false, eqb-true, first_read, Form, GatheredBytes, Ghosts, leb-false, length-bytes, or_parts, part_cut, part_in_two, part_of, ReadState, target_for}
 use Rattle.inodes.specs.ReadRuns.{ReadMade, IsReadRun, EndsWithBytes, ReadsPart}
 
 -- the bytes that a run gathers behind those that were there
@@ -27,20 +18,17 @@ rest_of_run disk p file bytes m g (step ∷ []) run ends =
 rest_of_run disk p file bytes m g (step ∷ next ∷ rest) run ends =
     let s = run.2 in
     let n = step.reading in
-    let more = rest_of_run disk p file bytes n step.gathered (next ∷ rest) run.3 ends in
     let later = s.gathers.later in
-    let below = run.3.0.some in
     let end = s.end in
     let at : m.next + (n.next - m.next) ≡ n.next = omega (arith, later) in
-    let all : n.next - m.next + (n.end - n.next) ≡ m.end - m.next = omega (arith, later, below, end) in
     let first = part_of file m.next (n.next - m.next) in
-    more
+    rest_of_run disk p file bytes n step.gathered (next ∷ rest) run.3 ends
     ∙ ap (λ l. l ++ part_of file n.next (n.end - n.next)) (s.gathers.bytes ∙ ap (λ l. g.bytes ++ part_of l m.next (n.next - m.next)) run.1)
     ∙ append_assoc g.bytes first (part_of file n.next (n.end - n.next))
     ∙ ap (λ l. g.bytes ++ l)
     (ap (λ k. first ++ part_of file k (n.end - n.next)) (sym at)
     ∙ sym (part_in_two file m.next (n.next - m.next) (n.end - n.next))
-    ∙ ap (part_of file m.next) all)
+    ∙ ap (part_of file m.next) (omega (arith, later, run.3.0.some, end)))
 
 -- where a reading begins, which there is where the offset lies before the end and some bytes are asked for
 pub record Begins (its : Form) (d : Dinode) (offset count : ℕ) (m : ReadState) : Type 0 where
@@ -59,8 +47,7 @@ begins form d offset count m is = by_none (nat_le d.size offset || (count == 0))
     by_none true none = absurd (cc (is, none))
     by_none false some =
         let first : ReadState = record { inode = d; form = form; next = offset; end = min d.size (offset + count); target = target_for form d (offset / 1024) } in
-        let both : Some first ≡ Some m = rw some at is in
-        let same : m ≡ first = sym (cc both) in
+        let same : m ≡ first = sym (cc (rw some at is)) in
         record {
           inode = ap (λ (o : ReadState). o.inode) same;
           form = ap (λ (o : ReadState). o.form) same;
@@ -81,15 +68,10 @@ reads_part disk form d offset count p file bytes m g steps first none run ends =
     by_steps [] run ends = absurd ends
     by_steps (step ∷ rest) run ends =
         let long : length file ≡ d.size = ap length (sym run.1) ∙ length-bytes _ m.inode run.0.may ∙ ap (λ (o : Dinode). o.size) b.inode in
-        let some = run.0.some in
-        let inside = run.0.inside in
         let next = b.next in
         let end = b.end in
-        let size : m.inode.size ≡ d.size = ap (λ (o : Dinode). o.size) b.inode in
-        let low : offset ≤ length file = omega (arith, long, some, inside, next, size) in
-        let same : m.end - m.next ≡ min (length file) (offset + count) - offset = omega (arith, long, next, end) in
         rest_of_run disk p file bytes m g (step ∷ rest) run ends
         ∙ ap (λ l. l ++ part_of file m.next (m.end - m.next)) none
         ∙ ap (λ k. part_of file k (m.end - m.next)) next
-        ∙ ap (part_of file offset) same
-        ∙ sym (part_cut file offset count low)
+        ∙ ap (part_of file offset) (omega (arith, long, next, end))
+        ∙ sym (part_cut file offset count (omega (arith, long, run.0.some, run.0.inside, next, (ap (λ (o : Dinode). o.size) b.inode))))

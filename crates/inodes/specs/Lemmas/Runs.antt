@@ -2,25 +2,7 @@
 use Rattle.std.proofs.Common.{◌≡◌, ◌≢◌, ℕ, suc, ◌≤◌, ltb, List, [], ◌∷◌, Option, Some, None, refl, sym, ◌∙◌, ap, subst, ⊎_elim, arith}
 use Rattle.std.specs.Prelude.{IsTrue, is_some}
 use Rattle.std.specs.List.{Any}
-use Rattle.std.proofs.lemmas.Bool.{cases_eq, ltb-true}
-use Rattle.std.proofs.lemmas.List.{get_or-set_other}
-use Rattle.blocks.specs.declared.disk.Disk.{Ghosts}
-use Rattle.model.specs.declared.types.operations.Op.{Op}
-use Rattle.model.specs.declared.types.operations.Op.TheVariants.{Create}
-use Rattle.model.specs.declared.types.operations.TaskProgress.{TaskProgress}
-use Rattle.model.specs.declared.types.operations.TaskProgress.TheVariants as progress
-use Rattle.model.specs.Journal.{is_number}
-use Rattle.model.specs.Layout.{inode_block}
-use Rattle.model.specs.Lemmas.Log.{both_of}
-use Rattle.inodes.specs.declared.tasks.Stage.{Stage}
-use Rattle.inodes.specs.declared.tasks.Stage.TheVariants as stage
-use Rattle.inodes.specs.Ialloc.{SearchState, at_next_block}
-use Rattle.inodes.specs.Table.{TableState}
-use Rattle.inodes.specs.Tasks.{TaskState, task, no_task}
-use Rattle.inodes.specs.Goes.{Shown, Goes, GoesFrom, IsTurn, free_at, shown_of}
-use Rattle.inodes.specs.Places.{asked}
-use Rattle.inodes.specs.Store.{StoreState, first_place, first_taking, reply_of}
-use Rattle.inodes.specs.Steps.{Steps}
+use Rattle.inodes.specs.Common.{asked, at_next_block, both_of, cases_eq, Create, first_stage, first_taking, free_at, get_or-set_other, Ghosts, Goes, GoesFrom, inode_block, is_number, IsTurn, ltb-true, no_task, Op, reply_of, SearchState, Shown, shown_of, Stage, Steps, StoreState, TableState, task, TaskProgress, TaskState}
 use Rattle.inodes.specs.Runs.{StepMade, LeavesTask, IsRun, EndsWith, IsSearchRun, SeesTaken, WasSeenTaken, NoInodeSawAll, MadeSawLower, StepsLeaveOthers, CommitsLeaveAll, BoundsLeaveOthers}
 use Rattle.inodes.specs.Lemmas.Looks.{IsPassedBy, taken_by_look}
 
@@ -33,8 +15,7 @@ past_at_turn : (n p j : ℕ) (m : SearchState) (o : Option ℕ) (before now : Sh
     IsTrue (is_number n j) → IsPassedBy o j → IsTurn n p m (Some (reply_of o)) before now →
     IsPast n m j o before
 past_at_turn n p j m None before now number passed is =
-    let below = ltb-true j n (both_of (ltb 0 j) (ltb j n) number).1 in
-    (is.1.none, omega (arith, is.0, below))
+    (is.1.none, omega (arith, is.0, (ltb-true j n (both_of (ltb 0 j) (ltb j n) number).1)))
 past_at_turn n p j m (Some i) before now number passed is =
     (is.lowest, omega (arith, is.place, passed))
 
@@ -49,7 +30,7 @@ seen_later P step rest is = (suc is.0, is.1, omega (arith, is.2), is.3, is.4)
 
 -- the task of process p stands there
 abbrev pub IsAt : {D : Type 0} → ℕ → StoreState D → Stage → Type 0
-IsAt p s a = (task s.tasks p).place ≡ a
+IsAt p s a = (task s.tasks p).stage ≡ a
 
 module _ {D N : Type 0} (disk : Ghosts D N) (p : ℕ) (op : Op) where
   -- the step of a run, from where its task stands
@@ -61,41 +42,37 @@ module _ {D N : Type 0} (disk : Ghosts D N) (p : ℕ) (op : Op) where
       LeavesTask s p step.before → Steps disk step.before p op step.answer step.after →
       GoesOn step a
   goes_from s step a stands leaves steps =
-      let here : IsAt p step.before a = ap (λ (t : TaskState). t.place) leaves.own ∙ stands in
+      let here : IsAt p step.before a = ap (λ (t : TaskState). t.stage) leaves.own ∙ stands in
       record {
         goes = subst (λ (b : Stage). Goes disk b step.before p op step.answer step.after) here
             steps.goes;
         here = here;
       }
 
-  module _ (reply : TaskProgress) (apart : reply ≢ progress.Over) where
+  module _ (reply : TaskProgress) (apart : reply ≢ TaskProgress.Over) where
     -- who stands nowhere answers nothing more
-    pub nothing_more : (steps : List (StepMade D)) (s : StoreState D) → IsAt p s stage.Nowhere →
+    pub nothing_more : (steps : List (StepMade D)) (s : StoreState D) → IsAt p s Stage.Nowhere →
         IsRun disk p op s steps → EndsWith steps reply → ⊥
     nothing_more [] s stands run ends = ends
     nothing_more (step ∷ []) s stands run ends =
-        let on = goes_from s step stage.Nowhere stands run.0 run.1 in
-        apart (sym ends ∙ on.goes.0)
+        apart (sym ends ∙ (goes_from s step Stage.Nowhere stands run.0 run.1).goes.0)
     nothing_more (step ∷ next ∷ rest) s stands run ends =
-        let on = goes_from s step stage.Nowhere stands run.0 run.1 in
-        let over = ap (λ (t : StoreState D). (task t.tasks p).place) on.goes.1 ∙ on.here in
-        nothing_more (next ∷ rest) step.after over run.2 ends
+        let on = goes_from s step Stage.Nowhere stands run.0 run.1 in
+        nothing_more (next ∷ rest) step.after (ap (λ (t : StoreState D). (task t.tasks p).stage) on.goes.1 ∙ on.here) run.2 ends
 
     -- nor does who gives up its inode next
     pub nothing_behind : (steps : List (StepMade D)) (s : StoreState D) (k : ℕ) →
-        IsAt p s (stage.Leaving k) → IsRun disk p op s steps → EndsWith steps reply → ⊥
+        IsAt p s (Stage.Leaving k) → IsRun disk p op s steps → EndsWith steps reply → ⊥
     nothing_behind [] s k stands run ends = ends
     nothing_behind (step ∷ []) s k stands run ends =
-        let on = goes_from s step (stage.Leaving k) stands run.0 run.1 in
-        apart (sym ends ∙ on.goes.0)
+        apart (sym ends ∙ (goes_from s step (Stage.Leaving k) stands run.0 run.1).goes.0)
     nothing_behind (step ∷ next ∷ rest) s k stands run ends =
-        let on = goes_from s step (stage.Leaving k) stands run.0 run.1 in
-        nothing_more (next ∷ rest) step.after on.goes.1.next run.2 ends
+        nothing_more (next ∷ rest) step.after (goes_from s step (Stage.Leaving k) stands run.0 run.1).goes.1.next run.2 ends
 
 module _ {D N : Type 0} (disk : Ghosts D N) (p n j : ℕ) (op : Op) (o : Option ℕ)
     (number : IsTrue (is_number n j)) (passed : IsPassedBy o j) where
   abbrev reply : TaskProgress
-  reply = progress.Turned (Some (reply_of o))
+  reply = TaskProgress.Turned (Some (reply_of o))
 
   abbrev Sees : StepMade D → Type 0
   Sees = SeesTaken disk.image p j
@@ -112,11 +89,11 @@ module _ {D N : Type 0} (disk : Ghosts D N) (p n j : ℕ) (op : Op) (o : Option 
   -- where a step of a search goes with an answer, by whether it had got its block
   abbrev SearchGoes : StepMade D → Option ℕ → SearchState → TaskProgress → Type 0
   SearchGoes step slot m r = GoesFrom slot n p m step.before.volume.buffers r
-      (task step.after.tasks p).place (before step) (now step)
+      (task step.after.tasks p).stage (before step) (now step)
 
   -- a look that passed the number by
   pub sees : (step : StepMade D) (m : SearchState) (i : ℕ) (found : Option ℕ) →
-      IsAt p step.before (stage.Creating m) → m.slot ≡ Some i →
+      IsAt p step.before (Stage.Creating m) → m.slot ≡ Some i →
       free_at (before step).current n m ≡ found → IsPassedBy found j →
       inode_block j ≡ m.block → Sees step
   sees step m i found stands got is by here = record {
@@ -131,18 +108,18 @@ module _ {D N : Type 0} (disk : Ghosts D N) (p n j : ℕ) (op : Op) (o : Option 
   search_goes : (s : StoreState D) (step : StepMade D) (m : SearchState) →
       s.table.inode_count ≡ n → LeavesTask s p step.before →
       Steps disk step.before p op step.answer step.after →
-      GoesOn disk p op step (stage.Creating m) →
+      GoesOn disk p op step (Stage.Creating m) →
       SearchGoes step m.slot m step.answer × (step.after.table.inode_count ≡ n)
   search_goes s step m count leaves steps on =
       let same : step.before.table.inode_count ≡ n = leaves.numbers ∙ count in (
         subst (λ (k : ℕ). GoesFrom m.slot k p m step.before.volume.buffers step.answer
-            (task step.after.tasks p).place (before step) (now step)) same on.goes.0,
+            (task step.after.tasks p).stage (before step) (now step)) same on.goes.0,
         steps.tasks.numbers ∙ same,
       )
 
   -- the step of the turn
   pub seen_at_turn : (step : StepMade D) (m : SearchState) (slot : Option ℕ) → m.slot ≡ slot →
-      IsAt p step.before (stage.Creating m) → m.block ≤ inode_block j →
+      IsAt p step.before (Stage.Creating m) → m.block ≤ inode_block j →
       SearchGoes step slot m reply → Sees step
   seen_at_turn step m None got stands ahead goes = absurd goes.0
   seen_at_turn step m (Some i) got stands ahead goes =
@@ -151,42 +128,42 @@ module _ {D N : Type 0} (disk : Ghosts D N) (p n j : ℕ) (op : Op) (o : Option 
 
   -- a step before it, where the rest of the run sees what is still ahead
   module _ (step : StepMade D) (rest : List (StepMade D)) (m : SearchState)
-      (stands : IsAt p step.before (stage.Creating m)) (ahead : m.block ≤ inode_block j)
-      (more : IsAt p step.after stage.Nowhere → ⊥)
-      (on : (k : SearchState) → IsAt p step.after (stage.Creating k) → k.block ≤ inode_block j →
+      (stands : IsAt p step.before (Stage.Creating m)) (ahead : m.block ≤ inode_block j)
+      (more : IsAt p step.after Stage.Nowhere → ⊥)
+      (on : (k : SearchState) → IsAt p step.after (Stage.Creating k) → k.block ≤ inode_block j →
       Seen rest) where
     seen_on : (slot : Option ℕ) (r : TaskProgress) → m.slot ≡ slot → SearchGoes step slot m r →
         Seen (step ∷ rest)
-    seen_on None progress.Moved got goes = seen_later Sees step rest (on _ goes.0.2 ahead)
-    seen_on None (progress.Turned told) got goes = absurd goes.0
-    seen_on None (progress.Decided told) got goes = absurd goes.0
-    seen_on None progress.Over got goes = absurd goes.0
-    seen_on None (progress.Sleeping why) got goes = seen_later Sees step rest (on m goes.0.1 ahead)
-    seen_on None (progress.Fault fault) got goes = seen_later Sees step rest (on m goes.0.1 ahead)
-    seen_on (Some i) progress.Moved got goes =
+    seen_on None TaskProgress.Moved got goes = seen_later Sees step rest (on _ goes.0.2 ahead)
+    seen_on None (TaskProgress.Turned told) got goes = absurd goes.0
+    seen_on None (TaskProgress.Decided told) got goes = absurd goes.0
+    seen_on None TaskProgress.Over got goes = absurd goes.0
+    seen_on None (TaskProgress.Sleeping why) got goes = seen_later Sees step rest (on m goes.0.1 ahead)
+    seen_on None (TaskProgress.Fault fault) got goes = seen_later Sees step rest (on m goes.0.1 ahead)
+    seen_on (Some i) TaskProgress.Moved got goes =
         ⊎_elim
         (λ here. seen_first Sees step rest (sees step m i None stands got goes.1.none tt here))
         (λ other.
         seen_later Sees step rest (on (at_next_block m) goes.0 (omega (arith, other, ahead))))
         (cases_eq (inode_block j) m.block)
-    seen_on (Some i) (progress.Turned told) got goes = absurd (more goes.0)
-    seen_on (Some i) (progress.Decided told) got goes = absurd goes
-    seen_on (Some i) progress.Over got goes = absurd goes
-    seen_on (Some i) (progress.Sleeping why) got goes = absurd goes
-    seen_on (Some i) (progress.Fault fault) got goes = absurd goes
+    seen_on (Some i) (TaskProgress.Turned told) got goes = absurd (more goes.0)
+    seen_on (Some i) (TaskProgress.Decided told) got goes = absurd goes
+    seen_on (Some i) TaskProgress.Over got goes = absurd goes
+    seen_on (Some i) (TaskProgress.Sleeping why) got goes = absurd goes
+    seen_on (Some i) (TaskProgress.Fault fault) got goes = absurd goes
 
   -- a run from a block that is not behind the number's
   seen_in_run : (steps : List (StepMade D)) (s : StoreState D) (m : SearchState) →
-      s.table.inode_count ≡ n → IsAt p s (stage.Creating m) → m.block ≤ inode_block j →
+      s.table.inode_count ≡ n → IsAt p s (Stage.Creating m) → m.block ≤ inode_block j →
       IsRun disk p op s steps → EndsWith steps reply → Seen steps
   seen_in_run [] s m count stands ahead run ends = absurd ends
   seen_in_run (step ∷ []) s m count stands ahead run ends =
-      let on = goes_from disk p op s step (stage.Creating m) stands run.0 run.1 in
+      let on = goes_from disk p op s step (Stage.Creating m) stands run.0 run.1 in
       let goes = search_goes s step m count run.0 run.1 on in
       seen_first Sees step [] (seen_at_turn step m m.slot refl on.here ahead
       (subst (λ (r : TaskProgress). SearchGoes step m.slot m r) ends goes.0))
   seen_in_run (step ∷ next ∷ rest) s m count stands ahead run ends =
-      let on = goes_from disk p op s step (stage.Creating m) stands run.0 run.1 in
+      let on = goes_from disk p op s step (Stage.Creating m) stands run.0 run.1 in
       let goes = search_goes s step m count run.0 run.1 on in
       seen_on step (next ∷ rest) m on.here ahead
       (λ over. nothing_more disk p op reply (λ e. cc e) (next ∷ rest) step.after over run.2 ends)
@@ -225,14 +202,14 @@ pub bounds_leave_others : {D : Type 0} (old : StoreState D) (p : ℕ) → Bounds
 bounds_leave_others old p = (
   λ q op apart. record {
     own = get_or-set_other old.tasks q p
-        (record { op = Some op; place = first_place op old.table.inode_count; gathered = None })
+        (record { op = Some op; stage = first_stage op old.table.inode_count; gathered = None })
         no_task
         (λ same. apart (sym same));
     numbers = refl;
   },
   λ q op room apart. record {
     own = get_or-set_other old.tasks q p
-        (record { op = Some op; place = first_taking (asked op); gathered = room })
+        (record { op = Some op; stage = first_taking (asked op); gathered = room })
         no_task
         (λ same. apart (sym same));
     numbers = refl;

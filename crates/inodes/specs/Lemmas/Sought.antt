@@ -1,10 +1,7 @@
 -- Which of a list passes a test that what lies past its end fails; and that a place that passes one
 -- so is not over.
 use Rattle.std.proofs.Common.{◌≡◌, ℕ, zero, suc, Bool, true, false, List, [], ◌∷◌, get_or, refl, inl, inr, ◌⊎◌}
-use Rattle.std.proofs.lemmas.Bool.{both_ways}
-use Rattle.inodes.specs.declared.tasks.Stage.{Stage}
-use Rattle.inodes.specs.declared.tasks.Stage.TheVariants as stage
-use Rattle.inodes.specs.Places.{is_over}
+use Rattle.inodes.specs.Common.{both_ways, is_over, Stage}
 
 -- one passes, or none does
 abbrev pub Sought : {A : Type 0} → (A → Bool) → A → List A → Type 0
@@ -27,13 +24,13 @@ sought test none (x ∷ xs) fails = by (test x) refl (sought test none xs fails)
     by false is (inr rest) = inr (each is rest)
 
 -- a task at a stage that passes a test is under way
-pub passes_busy : (test : Stage → Bool) → test stage.Nowhere ≡ false → (a : Stage) →
+pub passes_busy : (test : Stage → Bool) → test Stage.Nowhere ≡ false → (a : Stage) →
     test a ≡ true → is_over a ≡ false
-passes_busy test fails stage.Nowhere is = absurd (both_ways _ fails is)
-passes_busy test fails (stage.Creating m) is = refl
-passes_busy test fails (stage.Taking m) is = refl
-passes_busy test fails (stage.Reading k m) is = refl
-passes_busy test fails (stage.Delivering k) is = refl
-passes_busy test fails (stage.Truncating k m) is = refl
-passes_busy test fails (stage.Writing k m) is = refl
-passes_busy test fails (stage.Leaving k) is = refl
+passes_busy test fails Stage.Nowhere is = absurd (both_ways _ fails is)
+passes_busy test fails (Stage.Creating m) is = refl
+passes_busy test fails (Stage.Taking m) is = refl
+passes_busy test fails (Stage.Reading k m) is = refl
+passes_busy test fails (Stage.Delivering k) is = refl
+passes_busy test fails (Stage.Truncating k m) is = refl
+passes_busy test fails (Stage.Writing k m) is = refl
+passes_busy test fails (Stage.Leaving k) is = refl

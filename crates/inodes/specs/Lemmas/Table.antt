@@ -1,10 +1,7 @@
 -- With fewer references than places, there is a place for each inode.
 use Rattle.std.proofs.Common.{◌≡◌, ◌≢◌, ◌<◌, ℕ, false, List, length, refl, ◌∙◌, arith, Option, Some, None}
-use Rattle.std.specs.Prelude.{is_none, position, IsSome}
-use Rattle.model.specs.Soundness.{count_of}
-use Rattle.bcache.specs.Lemmas.Order.{none_passes, counted_below}
-use Rattle.inodes.specs.declared.table.InMemory.{InMemory}
-use Rattle.inodes.specs.Table.{is_of, or_else, entry_at, AreCounted, HasPlace}
+use Rattle.std.specs.Prelude.{position, is_none, IsSome}
+use Rattle.inodes.specs.Common.{AreCounted, count_of, counted_below, entry_at, HasPlace, InMemory, is_of, none_passes, or_else}
 
 -- where no place is free, each has a reference
 all_used : (ps : List (Option InMemory)) (named : List ℕ) → AreCounted ps named → position (λ e. is_none e) ps ≡ None → (k : ℕ) → k < length ps → count_of k named ≢ 0

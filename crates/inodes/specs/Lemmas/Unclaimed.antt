@@ -1,27 +1,11 @@
 -- Who has locked a number knows what tasks hold of it.
 use Rattle.std.proofs.Common.{◌≡◌, ◌≢◌, ℕ, List, refl, sym, ◌∙◌, ap, subst, Option, Some, None, ⊎_elim, true}
-use Rattle.blocks.specs.Disk.{Image}
-use Rattle.in_flight.specs.Held.{Claim, frees, grows}
-use Rattle.inodes.specs.declared.freeing.Freeing.{Freeing}
-use Rattle.inodes.specs.declared.tasks.Stage.{Stage}
-use Rattle.inodes.specs.declared.tasks.Stage.TheVariants as stage
-use Rattle.inodes.specs.Grips.{locked_grip, grip}
-use Rattle.inodes.specs.Holding.{claim_by, claims_of, held_of, claim_of}
-use Rattle.inodes.specs.Looks.{AreLooking, LooksAt}
-use Rattle.inodes.specs.Places.{grip_of, grips_of, owes_reply, asked_by, grip_by}
-use Rattle.inodes.specs.Table.{TableState, copy_at}
-use Rattle.inodes.specs.Tasks.{TaskState, task}
 use Rattle.inodes.specs.Lemmas.Grips.{locks_exclude}
 use Rattle.inodes.specs.Lemmas.Holding.{HoldsAlone, claim_of_one, holding_is, own_holds, own_grows}
 use Rattle.inodes.specs.Lemmas.Looks.{trunc_locks, write_locks, copy_is, grip_of_task}
-use Rattle.inodes.specs.Writei.{WriteState}
-use Rattle.model.specs.Layout.{inode_count_of, inode_of}
-use Rattle.inodes.specs.Growing.{growth_of, bytes_by}
-use Rattle.model.specs.declared.types.image.Dinode.{Dinode}
-use Rattle.inodes.specs.Writing.{IsWriting}
+use Rattle.model.specs.Layout.{inode_of}
 use Rattle.std.specs.Prelude.{IsTrue}
-use Rattle.model.specs.Journal.{is_number}
-use Rattle.in_flight.specs.Lemmas.HeldFrames.{growing_of}
+use Rattle.inodes.specs.Common.{AreLooking, asked_by, bytes_by, Claim, claim_by, claim_of, claims_of, copy_at, Dinode, Freeing, frees, grip, grip_by, grip_of, grips_of, growing_of, grows, growth_of, held_of, Image, inode_count_of, is_number, IsWriting, locked_grip, LooksAt, owes_reply, Stage, TableState, task, TaskState, WriteState}
 
 -- no process but p has locked number i
 abbrev pub LocksAlone : List TaskState → ℕ → ℕ → Type 0
@@ -31,12 +15,12 @@ module _ (cur : Image) (t : TableState) (ts : List TaskState) (are : AreLooking 
   -- who holds a number has locked it
   pub claim_locks : (q i : ℕ) (h : Claim) → claim_of (task ts q) i ≡ Some h → (k : ℕ) × (grip_of (task ts q) ≡ Some (locked_grip k i))
   claim_locks q i h claimed =
-      let is = holding_is (task ts q).op (task ts q).place i h claimed in (
+      let is = holding_is (task ts q).op (task ts q).stage i h claimed in (
         is.0,
         ⊎_elim
-            (λ (frees : (m : Freeing) × ((task ts q).place ≡ stage.Truncating is.0 m) × (m.machine.number ≡ i)).
+            (λ (frees : (m : Freeing) × ((task ts q).stage ≡ Stage.Truncating is.0 m) × (m.machine.number ≡ i)).
             subst (λ (j : ℕ). grip_of (task ts q) ≡ Some (locked_grip is.0 j)) frees.2 (trunc_locks cur t ts are q is.0 frees.0 frees.1))
-            (λ (writes : (m : WriteState) × ((task ts q).place ≡ stage.Writing is.0 m) × (m.number ≡ i)).
+            (λ (writes : (m : WriteState) × ((task ts q).stage ≡ Stage.Writing is.0 m) × (m.number ≡ i)).
             subst (λ (j : ℕ). grip_of (task ts q) ≡ Some (locked_grip is.0 j)) writes.2 (write_locks cur t ts are q is.0 writes.0 writes.1))
             is.1,
       )
@@ -68,34 +52,34 @@ module _ (cur : Image) (t : TableState) (ts : List TaskState) (are : AreLooking 
   unclaimed p k i mine none = claim_of_locked p k i mine ∙ none
 
   -- and else what is left of them
-  pub own_claim : (p k : ℕ) (m : Freeing) → (task ts p).place ≡ stage.Truncating k m → claims_of ts m.machine.number ≡ Some (frees (held_of m.machine))
+  pub own_claim : (p k : ℕ) (m : Freeing) → (task ts p).stage ≡ Stage.Truncating k m → claims_of ts m.machine.number ≡ Some (frees (held_of m.machine))
   own_claim p k m at = claim_of_locked p k m.machine.number (trunc_locks cur t ts are p k m at) ∙ ap (λ (a : Stage). claim_by (task ts p).op a m.machine.number) at ∙ own_holds k m
 
   -- and so is what a write made of them
-  pub own_growth : (p k : ℕ) (m : WriteState) → (task ts p).place ≡ stage.Writing k m → claims_of ts m.number ≡ Some (grows (growth_of m (bytes_by (task ts p).op)))
+  pub own_growth : (p k : ℕ) (m : WriteState) → (task ts p).stage ≡ Stage.Writing k m → claims_of ts m.number ≡ Some (grows (growth_of m (bytes_by (task ts p).op)))
   own_growth p k m at = claim_of_locked p k m.number (write_locks cur t ts are p k m at) ∙ ap (λ (a : Stage). claim_by (task ts p).op a m.number) at ∙ own_grows (task ts p).op k m
 
   -- a task whose reply is to come has a used inode
-  pub late_used : t.inode_count ≡ inode_count_of cur → (p : ℕ) → owes_reply (task ts p).place ≡ true → (inode_of cur (asked_by (task ts p).op)).kind ≢ 0
-  late_used numbers p is = by_place (task ts p).place refl (are.stand p) (grip_of_task ts p) is
+  pub late_used : t.inode_count ≡ inode_count_of cur → (p : ℕ) → owes_reply (task ts p).stage ≡ true → (inode_of cur (asked_by (task ts p).op)).kind ≢ 0
+  late_used numbers p is = by_place (task ts p).stage refl (are.stand p) (grip_of_task ts p) is
     where
       used : (k : ℕ) (d : Dinode) → grip (grips_of ts) p ≡ Some (locked_grip k (asked_by (task ts p).op)) → copy_at t.places k ≡ Some d → (inode_of cur (asked_by (task ts p).op)).kind ≢ 0
       used k d has copy free =
           let its = copy_is cur t ts are p (asked_by (task ts p).op) k d has copy in
           its.1 (ap (λ (c : Dinode). c.kind) (sym its.0) ∙ free)
 
-      writes : (k : ℕ) (m : WriteState) → (task ts p).place ≡ stage.Writing k m → IsWriting cur t.inode_count (task ts p) m → (inode_of cur (asked_by (task ts p).op)).kind ≢ 0
+      writes : (k : ℕ) (m : WriteState) → (task ts p).stage ≡ Stage.Writing k m → IsWriting cur t.inode_count (task ts p) m → (inode_of cur (asked_by (task ts p).op)).kind ≢ 0
       writes k m at work =
           let names : IsTrue (is_number (inode_count_of cur) m.number) = subst (λ (n : ℕ). IsTrue (is_number n m.number)) numbers work.number in
           let growing = growing_of are.files.0 cur (claims_of ts) m.number (growth_of m (bytes_by (task ts p).op)) (record { fits = are.files.1; number = names; holds = own_growth p k m at }) in
           subst (λ (j : ℕ). (inode_of cur j).kind ≢ 0) (sym (ap asked_by work.op)) (λ free. growing.fit.used (sym growing.same_kind ∙ free))
 
-      by_place : (a : Stage) → (task ts p).place ≡ a → LooksAt cur t (task ts p) a → grip (grips_of ts) p ≡ grip_by a (asked_by (task ts p).op) → owes_reply a ≡ true → (inode_of cur (asked_by (task ts p).op)).kind ≢ 0
-      by_place stage.Nowhere at stands has unlike = absurd (cc unlike)
-      by_place (stage.Creating m) at stands has unlike = absurd (cc unlike)
-      by_place (stage.Taking m) at stands has unlike = absurd (cc unlike)
-      by_place (stage.Reading k m) at stands has is = used k m.inode has stands.copy
-      by_place (stage.Delivering k) at stands has is = used k stands.dinode has stands.copy
-      by_place (stage.Truncating k m) at stands has unlike = absurd (cc unlike)
-      by_place (stage.Writing k m) at stands has is = writes k m at stands
-      by_place (stage.Leaving k) at stands has unlike = absurd (cc unlike)
+      by_place : (a : Stage) → (task ts p).stage ≡ a → LooksAt cur t (task ts p) a → grip (grips_of ts) p ≡ grip_by a (asked_by (task ts p).op) → owes_reply a ≡ true → (inode_of cur (asked_by (task ts p).op)).kind ≢ 0
+      by_place Stage.Nowhere at stands has unlike = absurd (cc unlike)
+      by_place (Stage.Creating m) at stands has unlike = absurd (cc unlike)
+      by_place (Stage.Taking m) at stands has unlike = absurd (cc unlike)
+      by_place (Stage.Reading k m) at stands has is = used k m.inode has stands.copy
+      by_place (Stage.Delivering k) at stands has is = used k stands.dinode has stands.copy
+      by_place (Stage.Truncating k m) at stands has unlike = absurd (cc unlike)
+      by_place (Stage.Writing k m) at stands has is = writes k m at stands
+      by_place (Stage.Leaving k) at stands has unlike = absurd (cc unlike)

@@ -1,56 +1,21 @@
 -- What a run of a write's steps saw that ends with fewer bytes than were asked for.
 use Rattle.std.proofs.Common.{◌≡◌, ◌≢◌, ◌⊎◌, ◌<◌, ◌≤◌, ◌-◌, ◌+◌, ◌/◌, ℕ, Bool, true, false, cond, eqb, not, inl, inr, List, [], ◌∷◌, Option, Some, None, refl, sym, ◌∙◌, ap, subst, ⊎_elim, arith}
-use Rattle.std.specs.Prelude.{◌&&◌, ◌==◌, slice_index}
+use Rattle.std.specs.Prelude.{◌&&◌, slice_index, ◌==◌}
 use Rattle.std.specs.List.{Any}
-use Rattle.std.proofs.lemmas.Bool.{eqb-true}
-use Rattle.blocks.specs.Disk.{Image, block_at}
-use Rattle.blocks.specs.declared.disk.Disk.{Ghosts}
-use Rattle.model.specs.declared.types.image.Dinode.{Dinode}
-use Rattle.model.specs.declared.types.operations.Op.{Op}
-use Rattle.model.specs.declared.types.operations.Reply.TheVariants.{Wrote}
-use Rattle.model.specs.declared.types.operations.TaskProgress.{TaskProgress}
-use Rattle.model.specs.declared.types.operations.TaskProgress.TheVariants as progress
-use Rattle.model.specs.Fields.{has_bit}
-use Rattle.wal.specs.Volume.{VolumeState, progress_of}
-use Rattle.wal.specs.Get.{Get}
+use Rattle.inodes.specs.Common.{address_at, after_address, after_behind, AllocAt, Allocs, AllocState, behind_at, block_at, Branch, branch_of, come_to, ComesBelow, current_of, Dinode, eqb-true, Extent, FindsEntry, first_alloc, first_update, first_write, Get, Ghosts, has_bit, Image, IsLowestClear, lowest_clear_is_lowest, lowest_in, MapAt, mapped_for_writing, MappedForWriting, MapState, MapSteps, named_by, next_byte, next_place, Node, node_at, one_more, Op, piece, place_in, place_of_mapped, stage_of_writing, Progress, progress_of, progress_of_write, rest_under, some_address, Stage, StoreState, TakesIn, TakesLowest, TakesOne, TaskProgress, VolumeState, with_piece, write_mapped, WriteAt, WritesOn, WriteState, WriteSteps, Wrote}
 use Rattle.wal.specs.Get as get
-use Rattle.blockmap.specs.Balloc.{AllocState, Allocs, IsLowestClear, TakesLowest, first_alloc, lowest_in}
-use Rattle.blockmap.specs.Bmap.{some_address}
-use Rattle.blockmap.specs.BmapAlloc.{ComesBelow, FindsEntry, MapState, MapSteps, TakesOne, address_at, after_address, after_behind, behind_at, come_to, place_in}
-use Rattle.blockmap.specs.Branch.{branch_of, named_by, node_at, rest_under}
-use Rattle.blockmap.specs.Lemmas.Bitmap.{lowest_clear_is_lowest}
-use Rattle.blockmap.specs.Map.{mapped_for_writing}
-use Rattle.blockmap.specs.declared.balloc.AllocAt.{AllocAt}
-use Rattle.blockmap.specs.declared.balloc.AllocAt.TheVariants as alloc_at
-use Rattle.blockmap.specs.declared.bmap_alloc.MapAt.{MapAt}
-use Rattle.blockmap.specs.declared.bmap_alloc.MapAt.TheVariants as map_at
-use Rattle.blockmap.specs.declared.branch.Branch.{Branch}
-use Rattle.blockmap.specs.declared.branch.Node.{Node}
-use Rattle.blockmap.specs.declared.mapping.MappedForWriting.TheVariants as for_writing
-use Rattle.model.specs.Progress.{one_more}
-use Rattle.model.specs.declared.types.progress.Progress.{Progress}
-use Rattle.model.specs.declared.types.progress.Progress.TheVariants as machine
-use Rattle.inodes.specs.declared.tasks.Stage.TheVariants as stage
-use Rattle.inodes.specs.declared.writei.Extent.{Extent}
-use Rattle.inodes.specs.declared.writei.WriteAt.{WriteAt}
-use Rattle.inodes.specs.declared.writei.WriteAt.TheVariants as write_at
-use Rattle.inodes.specs.Goes.{WritesOn, place_of_writing, progress_of_write}
-use Rattle.inodes.specs.Growing.{TakesIn}
-use Rattle.inodes.specs.Iupdate.{first_update}
 use Rattle.inodes.specs.Lemmas.Runs.{IsAt, goes_from, nothing_behind, seen_first, seen_later}
 use Rattle.inodes.specs.Runs.{StepMade, IsRun, EndsWith}
-use Rattle.inodes.specs.Store.{StoreState, current_of}
-use Rattle.inodes.specs.Writei.{WriteState, WriteSteps, first_write, next_byte, next_place, piece, place_of_mapped, with_piece, write_mapped}
 use Rattle.inodes.specs.WriteRuns.{IsFull, LooksAtBitmap, LooksIn, LooksOnWay, SeesFull, ShortSawFull}
 
 -- ---- a writing that goes on takes blocks in its extent, and has not come to the end of them
 
 abbrev pub IsAtOnWay : Extent → MapAt → Type 0
-IsAtOnWay e (map_at.Address t) = TakesIn e t
-IsAtOnWay e (map_at.Entry n slot) = Unit {0}
-IsAtOnWay e (map_at.Behind n i t) = TakesIn e t
-IsAtOnWay e (map_at.Setting n i None) = ⊥
-IsAtOnWay e (map_at.Setting n i (Some b)) = Unit {0}
+IsAtOnWay e (MapAt.Address t) = TakesIn e t
+IsAtOnWay e (MapAt.Entry n slot) = Unit {0}
+IsAtOnWay e (MapAt.Behind n i t) = TakesIn e t
+IsAtOnWay e (MapAt.Setting n i None) = ⊥
+IsAtOnWay e (MapAt.Setting n i (Some b)) = Unit {0}
 
 pub record IsOnWay (e : Extent) (way : MapState) : Type 0 where
   pub bitmap : way.bitmap ≡ e.bitmap
@@ -59,9 +24,9 @@ pub record IsOnWay (e : Extent) (way : MapState) : Type 0 where
 
 -- where the inode is written back, all bytes were written
 abbrev pub IsGoingOnAt : Extent → ℕ → ℕ → WriteAt → Type 0
-IsGoingOnAt e count done (write_at.Mapping way) = IsOnWay e way
-IsGoingOnAt e count done (write_at.Block b slot) = Unit {0}
-IsGoingOnAt e count done (write_at.Updating u) = count ≤ done
+IsGoingOnAt e count done (WriteAt.Mapping way) = IsOnWay e way
+IsGoingOnAt e count done (WriteAt.Block b slot) = Unit {0}
+IsGoingOnAt e count done (WriteAt.Updating u) = count ≤ done
 
 pub record IsGoingOn (e : Extent) (asked : ℕ) (m : WriteState) : Type 0 where
   pub extent : m.extent ≡ e
@@ -81,7 +46,7 @@ module _ (e : Extent) (d : Dinode) (k : ℕ) where
   address = slice_index d.addrs b.index
 
   first_on_way : (none : Bool) → IsAtOnWay e
-      (cond none (map_at.Address take) (map_at.Entry (node_at b.depth b.rest address) None))
+      (cond none (MapAt.Address take) (MapAt.Entry (node_at b.depth b.rest address) None))
   first_on_way true = record { bitmap = refl; size = refl }
   first_on_way false = tt
 
@@ -90,12 +55,12 @@ module _ (e : Extent) (d : Dinode) (k : ℕ) where
   mapped_next count done = by_place (not (address == 0) && (b.depth == 0))
     where
       by_place : (at_once : Bool) → IsGoingOnAt e count done (place_of_mapped
-          (cond at_once (for_writing.At address) (for_writing.Behind (record {
+          (cond at_once (MappedForWriting.At address) (MappedForWriting.Behind (record {
             branch = b;
             bitmap = e.bitmap;
             size = e.size;
-            at = cond (eqb address 0) (map_at.Address take)
-                (map_at.Entry (node_at b.depth b.rest address) None);
+            at = cond (eqb address 0) (MapAt.Address take)
+                (MapAt.Entry (node_at b.depth b.rest address) None);
           }))))
       by_place true = tt
       by_place false = record {
@@ -109,7 +74,7 @@ pub comes_next : (e : Extent) (count done number next left : ℕ) (d : Dinode) �
 comes_next e count done number next left d all = by_left (eqb left 0) refl
   where
     by_left : (b : Bool) → eqb left 0 ≡ b → IsGoingOnAt e count done
-        (cond b (write_at.Updating (first_update number))
+        (cond b (WriteAt.Updating (first_update number))
         (place_of_mapped (mapped_for_writing e.form d (next / 1024) e.bitmap e.size)))
     by_left true none = all (eqb-true left 0 none)
     by_left false some = mapped_next e d (next / 1024) count done
@@ -117,16 +82,16 @@ comes_next e count done number next left d all = by_left (eqb left 0) refl
 -- ---- its steps
 
 -- who gets a block is not over with that
-never_over : {T : Type 0} (a : Get) (out : T) → progress_of a ≡ machine.Over out → ⊥
+never_over : {T : Type 0} (a : Get) (out : T) → progress_of a ≡ Progress.Over out → ⊥
 never_over (get.Got i) out over = cc over
 never_over (get.Sleeping cause) out over = cc over
 never_over (get.Fault fault) out over = cc over
 
-mapped_over : (q : Progress (Option ℕ)) (out : Unit {0}) → one_more q ≡ machine.Over out → ⊥
-mapped_over machine.Moved out over = cc over
-mapped_over (machine.Sleeping why) out over = cc over
-mapped_over (machine.Over found) out over = cc over
-mapped_over (machine.Fault fault) out over = cc over
+mapped_over : (q : Progress (Option ℕ)) (out : Unit {0}) → one_more q ≡ Progress.Over out → ⊥
+mapped_over Progress.Moved out over = cc over
+mapped_over (Progress.Sleeping why) out over = cc over
+mapped_over (Progress.Over found) out over = cc over
+mapped_over (Progress.Fault fault) out over = cc over
 
 module _ {D N : Type 0} (disk : Ghosts D N) (v : VolumeState D) (p : ℕ) (e : Extent)
     (w : VolumeState D) where
@@ -136,10 +101,10 @@ module _ {D N : Type 0} (disk : Ghosts D N) (v : VolumeState D) (p : ℕ) (e : E
   -- the taking of a block goes on, or has come to a block
   record TakesOn (r : Progress (Option ℕ)) (n : AllocState) : Type 0 where
     pub takes : TakesIn e n
-    pub some : r ≢ machine.Over None
+    pub some : r ≢ Progress.Over None
 
   takes_on : (r : Progress (Option ℕ)) (t n : AllocState) (a : AllocAt) → TakesIn e t →
-      n ≡ record t { at = a } → r ≢ machine.Over None → TakesOn r n
+      n ≡ record t { at = a } → r ≢ Progress.Over None → TakesOn r n
   takes_on r t n a takes is some = record {
     takes = subst (TakesIn e) (sym is) (record { bitmap = takes.bitmap; size = takes.size });
     some = some;
@@ -148,10 +113,10 @@ module _ {D N : Type 0} (disk : Ghosts D N) (v : VolumeState D) (p : ℕ) (e : E
   -- so it does, but where it looks at a bitmap without a clear bit
   allocs_on : (t n : AllocState) (r : Progress (Option ℕ)) (a : AllocAt) → t.at ≡ a →
       TakesIn e t → Allocs disk a v p t r n w → (LooksIn e t × IsFull cur e) ⊎ TakesOn r n
-  allocs_on t n r (alloc_at.Looking None) at takes allocs =
-      inr (takes_on r t n (alloc_at.Looking allocs.0) takes allocs.1
+  allocs_on t n r (AllocAt.Looking None) at takes allocs =
+      inr (takes_on r t n (AllocAt.Looking allocs.0) takes allocs.1
       (λ over. never_over allocs.2.answer None (sym allocs.2.gives ∙ over)))
-  allocs_on t n r (alloc_at.Looking (Some i)) at takes allocs =
+  allocs_on t n r (AllocAt.Looking (Some i)) at takes allocs =
       by_lowest (lowest_in cur t) refl allocs
     where
       by_lowest : (o : Option ℕ) → lowest_in cur t ≡ o → TakesLowest disk o v p i t r n w →
@@ -160,20 +125,19 @@ module _ {D N : Type 0} (disk : Ghosts D N) (v : VolumeState D) (p : ℕ) (e : E
           let none : IsLowestClear (block_at cur t.bitmap) t.size None =
           subst (IsLowestClear (block_at cur t.bitmap) t.size) lowest
           (lowest_clear_is_lowest (block_at cur t.bitmap) t.size) in
-          let size = takes.size in
           inl (
             record { slot = i; got = at; takes = takes },
             λ b below.
                 ap (λ (c : ℕ). has_bit (block_at cur c) b) (sym takes.bitmap)
-                ∙ none b (omega (arith, below, size)),
+                ∙ none b (omega (arith, below, takes.size)),
           )
       by_lowest (Some b) lowest step =
-          inr (takes_on r t n (alloc_at.Zeroing b None) takes step.1
+          inr (takes_on r t n (AllocAt.Zeroing b None) takes step.1
           (λ over. cc (sym step.0 ∙ over)))
-  allocs_on t n r (alloc_at.Zeroing b None) at takes allocs =
-      inr (takes_on r t n (alloc_at.Zeroing b allocs.0) takes allocs.1
+  allocs_on t n r (AllocAt.Zeroing b None) at takes allocs =
+      inr (takes_on r t n (AllocAt.Zeroing b allocs.0) takes allocs.1
       (λ over. never_over allocs.2.answer None (sym allocs.2.gives ∙ over)))
-  allocs_on t n r (alloc_at.Zeroing b (Some i)) at takes allocs =
+  allocs_on t n r (AllocAt.Zeroing b (Some i)) at takes allocs =
       inr (record {
         takes = subst (TakesIn e) (sym allocs.1) takes;
         some = λ over. cc (sym allocs.0 ∙ over);
@@ -182,7 +146,7 @@ module _ {D N : Type 0} (disk : Ghosts D N) (v : VolumeState D) (p : ℕ) (e : E
   -- the way goes on, or has come to a block
   record MapsTo (r : Progress (Option ℕ)) (n : MapState) : Type 0 where
     pub way : IsOnWay e n
-    pub some : r ≢ machine.Over None
+    pub some : r ≢ Progress.Over None
 
   -- so it does behind the taking of a block
   takes_one : (m n : MapState) (t : AllocState)
@@ -190,7 +154,7 @@ module _ {D N : Type 0} (disk : Ghosts D N) (v : VolumeState D) (p : ℕ) (e : E
       (there : Progress (Option ℕ) → AllocState → MapAt) (inode : Progress (Option ℕ) → Dinode)
       (r : Progress (Option ℕ)) (f : Dinode) → IsOnWay e m → TakesIn e t →
       ((q : Progress (Option ℕ)) (u : AllocState) → TakesOn q u →
-      IsAtOnWay e (there q u) × (after q ≢ machine.Over None)) →
+      IsAtOnWay e (there q u) × (after q ≢ Progress.Over None)) →
       TakesOne disk v p m t after there inode r n f w →
       (LooksIn e t × IsFull cur e) ⊎ MapsTo r n
   takes_one m n t after there inode r f on takes then step =
@@ -206,10 +170,10 @@ module _ {D N : Type 0} (disk : Ghosts D N) (v : VolumeState D) (p : ℕ) (e : E
       (allocs_on t step.now step.answer t.at refl takes step.allocs)
 
   -- a block that was come to is one
-  some_come : (depth a : ℕ) → come_to depth a ≢ machine.Over None
+  some_come : (depth a : ℕ) → come_to depth a ≢ Progress.Over None
   some_come depth a = by_depth (eqb depth 0)
     where
-      by_depth : (ends : Bool) → cond ends (machine.Over (Some a)) machine.Moved ≢ machine.Over None
+      by_depth : (ends : Bool) → cond ends (Progress.Over (Some a)) Progress.Moved ≢ Progress.Over None
       by_depth true over = cc over
       by_depth false over = cc over
 
@@ -217,26 +181,26 @@ module _ {D N : Type 0} (disk : Ghosts D N) (v : VolumeState D) (p : ℕ) (e : E
   on_in at depth rest a on = by_depth (eqb depth 0)
     where
       by_depth : (ends : Bool) →
-          IsAtOnWay e (cond ends at (map_at.Entry (node_at depth rest a) None))
+          IsAtOnWay e (cond ends at (MapAt.Entry (node_at depth rest a) None))
       by_depth true = on
       by_depth false = tt
 
   then_address : (b : Branch) (q : Progress (Option ℕ)) (u : AllocState) → TakesOn q u →
-      IsAtOnWay e (address_at b q u) × (after_address b q ≢ machine.Over None)
-  then_address b machine.Moved u still = (still.takes, λ over. cc over)
-  then_address b (machine.Sleeping why) u still = (still.takes, λ over. cc over)
-  then_address b (machine.Over None) u still = absurd (still.some refl)
-  then_address b (machine.Over (Some a)) u still =
-      (on_in (map_at.Address u) b.depth b.rest a still.takes, some_come b.depth a)
-  then_address b (machine.Fault fault) u still = (still.takes, λ over. cc over)
+      IsAtOnWay e (address_at b q u) × (after_address b q ≢ Progress.Over None)
+  then_address b Progress.Moved u still = (still.takes, λ over. cc over)
+  then_address b (Progress.Sleeping why) u still = (still.takes, λ over. cc over)
+  then_address b (Progress.Over None) u still = absurd (still.some refl)
+  then_address b (Progress.Over (Some a)) u still =
+      (on_in (MapAt.Address u) b.depth b.rest a still.takes, some_come b.depth a)
+  then_address b (Progress.Fault fault) u still = (still.takes, λ over. cc over)
 
   then_behind : (k : Node) (i : ℕ) (q : Progress (Option ℕ)) (u : AllocState) → TakesOn q u →
-      IsAtOnWay e (behind_at k i q u) × (after_behind q ≢ machine.Over None)
-  then_behind k i machine.Moved u still = (still.takes, λ over. cc over)
-  then_behind k i (machine.Sleeping why) u still = (still.takes, λ over. cc over)
-  then_behind k i (machine.Over None) u still = absurd (still.some refl)
-  then_behind k i (machine.Over (Some b)) u still = (tt, λ over. cc over)
-  then_behind k i (machine.Fault fault) u still = (still.takes, λ over. cc over)
+      IsAtOnWay e (behind_at k i q u) × (after_behind q ≢ Progress.Over None)
+  then_behind k i Progress.Moved u still = (still.takes, λ over. cc over)
+  then_behind k i (Progress.Sleeping why) u still = (still.takes, λ over. cc over)
+  then_behind k i (Progress.Over None) u still = absurd (still.some refl)
+  then_behind k i (Progress.Over (Some b)) u still = (tt, λ over. cc over)
+  then_behind k i (Progress.Fault fault) u still = (still.takes, λ over. cc over)
 
   -- so is one below an entry
   comes_below : (m n : MapState) (k : Node) (b : ℕ) (r : Progress (Option ℕ)) → IsOnWay e m →
@@ -253,19 +217,19 @@ module _ {D N : Type 0} (disk : Ghosts D N) (v : VolumeState D) (p : ℕ) (e : E
   -- the way goes on, but where it looks at such a bitmap
   maps_on : (m n : MapState) (d f : Dinode) (r : Progress (Option ℕ)) (a : MapAt) → m.at ≡ a →
       IsOnWay e m → MapSteps disk a v p m d r n f w → (LooksOnWay e a × IsFull cur e) ⊎ MapsTo r n
-  maps_on m n d f r (map_at.Address t) at on step =
+  maps_on m n d f r (MapAt.Address t) at on step =
       takes_one m n t _ _ _ r f on (subst (IsAtOnWay e) at on.at) (then_address m.branch) step
-  maps_on m n d f r (map_at.Entry k None) at on step =
+  maps_on m n d f r (MapAt.Entry k None) at on step =
       inr (record {
         way = subst (IsOnWay e) (sym step.2)
             (record { bitmap = on.bitmap; size = on.size; at = tt });
         some = λ over. never_over step.1.answer None (sym step.1.gives ∙ over);
       })
-  maps_on m n d f r (map_at.Entry k (Some i)) at on step =
+  maps_on m n d f r (MapAt.Entry k (Some i)) at on step =
       by_entry (some_address (named_by cur k)) step.0
     where
       by_entry : (o : Option ℕ) → FindsEntry disk o v p k i m r n w →
-          (LooksOnWay e (map_at.Entry k (Some i)) × IsFull cur e) ⊎ MapsTo r n
+          (LooksOnWay e (MapAt.Entry k (Some i)) × IsFull cur e) ⊎ MapsTo r n
       by_entry None finds =
           inr (record {
             way = subst (IsOnWay e) (sym finds.1) (record {
@@ -276,28 +240,28 @@ module _ {D N : Type 0} (disk : Ghosts D N) (v : VolumeState D) (p : ℕ) (e : E
             some = λ over. cc (sym finds.0 ∙ over);
           })
       by_entry (Some b) finds = inr (comes_below m n k b r on finds.0)
-  maps_on m n d f r (map_at.Behind k i t) at on step =
+  maps_on m n d f r (MapAt.Behind k i t) at on step =
       takes_one m n t _ _ _ r f on (subst (IsAtOnWay e) at on.at) (then_behind k i) step
-  maps_on m n d f r (map_at.Setting k i None) at on step = absurd (subst (IsAtOnWay e) at on.at)
-  maps_on m n d f r (map_at.Setting k i (Some b)) at on step =
+  maps_on m n d f r (MapAt.Setting k i None) at on step = absurd (subst (IsAtOnWay e) at on.at)
+  maps_on m n d f r (MapAt.Setting k i (Some b)) at on step =
       inr (comes_below m n k b r on step.0.0)
 
   module _ (count : ℕ) where
     -- the writing goes on, or is over with all bytes
     pub record GoesOnWriting (m : WriteState) (r : Progress (Unit {0})) (n : WriteState) : Type 0 where
       pub on : IsGoingOn e count n
-      pub all : (out : Unit {0}) → r ≡ machine.Over out → count ≤ m.done
+      pub all : (out : Unit {0}) → r ≡ Progress.Over out → count ≤ m.done
 
     mapped_on : (m : WriteState) (way : MapState) (d : Dinode) (q : Progress (Option ℕ)) →
         IsGoingOn e count m → MapsTo q way → IsGoingOn e count (write_mapped m way d q)
-    mapped_on m way d machine.Moved on to =
+    mapped_on m way d Progress.Moved on to =
         record { extent = on.extent; count = on.count; at = to.way }
-    mapped_on m way d (machine.Sleeping why) on to =
+    mapped_on m way d (Progress.Sleeping why) on to =
         record { extent = on.extent; count = on.count; at = on.at }
-    mapped_on m way d (machine.Over None) on to = absurd (to.some refl)
-    mapped_on m way d (machine.Over (Some b)) on to =
+    mapped_on m way d (Progress.Over None) on to = absurd (to.some refl)
+    mapped_on m way d (Progress.Over (Some b)) on to =
         record { extent = on.extent; count = on.count; at = tt }
-    mapped_on m way d (machine.Fault fault) on to =
+    mapped_on m way d (Progress.Fault fault) on to =
         record { extent = on.extent; count = on.count; at = on.at }
 
     -- behind a piece
@@ -320,8 +284,7 @@ module _ {D N : Type 0} (disk : Ghosts D N) (v : VolumeState D) (p : ℕ) (e : E
     writes_on : (m n : WriteState) (bytes : List ℕ) (r : Progress (Unit {0})) (a : WriteAt) →
         m.at ≡ a → IsGoingOn e count m → WriteSteps disk a v p m bytes r n w →
         (LooksAtBitmap e a × IsFull cur e) ⊎ GoesOnWriting m r n
-    writes_on m n bytes r (write_at.Mapping way) at on step =
-        let here : IsOnWay e way = subst (IsGoingOnAt e count m.done) at on.at in
+    writes_on m n bytes r (WriteAt.Mapping way) at on step =
         ⊎_elim
         (λ (sees : LooksOnWay e way.at × IsFull cur e). inl sees)
         (λ (to : MapsTo step.answer step.now).
@@ -330,19 +293,19 @@ module _ {D N : Type 0} (disk : Ghosts D N) (v : VolumeState D) (p : ℕ) (e : E
               (mapped_on m step.now step.inode step.answer on to);
           all = λ out over. absurd (mapped_over step.answer out (sym step.gives ∙ over));
         }))
-        (maps_on way step.now m.inode step.inode step.answer way.at refl here step.steps)
-    writes_on m n bytes r (write_at.Block b None) at on step =
+        (maps_on way step.now m.inode step.inode step.answer way.at refl (subst (IsGoingOnAt e count m.done) at on.at) step.steps)
+    writes_on m n bytes r (WriteAt.Block b None) at on step =
         inr (record {
           on = subst (IsGoingOn e count) (sym step.2)
               (record { extent = on.extent; count = on.count; at = tt });
           all = λ out over. absurd (never_over step.1.answer out (sym step.1.gives ∙ over));
         })
-    writes_on m n bytes r (write_at.Block b (Some i)) at on step =
+    writes_on m n bytes r (WriteAt.Block b (Some i)) at on step =
         inr (record {
           on = subst (IsGoingOn e count) (sym step.1) (piece_on m on);
           all = λ out over. absurd (cc (sym step.0 ∙ over));
         })
-    writes_on m n bytes r (write_at.Updating u) at on step =
+    writes_on m n bytes r (WriteAt.Updating u) at on step =
         let all : count ≤ m.done = subst (IsGoingOnAt e count m.done) at on.at in
         inr (record {
           on = subst (IsGoingOn e count) (sym step.2)
@@ -355,13 +318,13 @@ module _ {D N : Type 0} (disk : Ghosts D N) (v : VolumeState D) (p : ℕ) (e : E
 module _ {D N : Type 0} (disk : Ghosts D N) (p k count done : ℕ) (e : Extent) (op : Op)
     (short : done < count) where
   abbrev reply : TaskProgress
-  reply = progress.Decided (Wrote done)
+  reply = TaskProgress.Decided (Wrote done)
 
   abbrev Sees : StepMade D → Type 0
   Sees = SeesFull disk.image p e
 
   -- a step sees that no block is left, or the writing goes on
-  pub sees_or_on : (step : StepMade D) (m : WriteState) → IsAt p step.before (stage.Writing k m) →
+  pub sees_or_on : (step : StepMade D) (m : WriteState) → IsAt p step.before (Stage.Writing k m) →
       IsGoingOn e count m →
       (goes : WritesOn disk step.before p k op m step.answer step.after) →
       Sees step ⊎ GoesOnWriting disk step.before.volume p e step.after.volume count m goes.answer
@@ -376,42 +339,42 @@ module _ {D N : Type 0} (disk : Ghosts D N) (p k count done : ℕ) (e : Extent) 
 
   -- a writing that goes on so does not answer with too few bytes
   pub not_over : (m : WriteState) (q : Progress (Unit {0})) →
-      ((out : Unit {0}) → q ≡ machine.Over out → count ≤ m.done) →
+      ((out : Unit {0}) → q ≡ Progress.Over out → count ≤ m.done) →
       progress_of_write m.done q ≡ reply → ⊥
-  not_over m machine.Moved all is = cc is
-  not_over m (machine.Sleeping why) all is = cc is
-  not_over m (machine.Over out) all is =
+  not_over m Progress.Moved all is = cc is
+  not_over m (Progress.Sleeping why) all is = cc is
+  not_over m (Progress.Over out) all is =
       let same : m.done ≡ done = cc is in
       let most = all out refl in
       omega (arith, same, most, short)
-  not_over m (machine.Fault fault) all is = cc is
+  not_over m (Progress.Fault fault) all is = cc is
 
   -- a step before it, where the rest of the run sees so from each place of the writing
   module _ (step : StepMade D) (rest : List (StepMade D)) (m n : WriteState)
-      (more : IsAt p step.after (stage.Leaving k) → ⊥)
-      (rest_sees : (o : WriteState) → IsAt p step.after (stage.Writing k o) →
+      (more : IsAt p step.after (Stage.Leaving k) → ⊥)
+      (rest_sees : (o : WriteState) → IsAt p step.after (Stage.Writing k o) →
       IsGoingOn e count o → Any Sees rest) (was : IsGoingOn e count m)
       (now : IsGoingOn e count n) where
-    seen_on : (q : Progress (Unit {0})) → IsAt p step.after (place_of_writing k m n q) →
+    seen_on : (q : Progress (Unit {0})) → IsAt p step.after (stage_of_writing k m n q) →
         Any Sees (step ∷ rest)
-    seen_on machine.Moved at = seen_later Sees step rest (rest_sees n at now)
-    seen_on (machine.Sleeping why) at = seen_later Sees step rest (rest_sees m at was)
-    seen_on (machine.Over out) at = absurd (more at)
-    seen_on (machine.Fault fault) at = seen_later Sees step rest (rest_sees m at was)
+    seen_on Progress.Moved at = seen_later Sees step rest (rest_sees n at now)
+    seen_on (Progress.Sleeping why) at = seen_later Sees step rest (rest_sees m at was)
+    seen_on (Progress.Over out) at = absurd (more at)
+    seen_on (Progress.Fault fault) at = seen_later Sees step rest (rest_sees m at was)
 
   -- a run from where the writing goes on
   seen_in_run : (steps : List (StepMade D)) (s : StoreState D) (m : WriteState) →
-      IsAt p s (stage.Writing k m) → IsGoingOn e count m → IsRun disk p op s steps →
+      IsAt p s (Stage.Writing k m) → IsGoingOn e count m → IsRun disk p op s steps →
       EndsWith steps reply → Any Sees steps
   seen_in_run [] s m stands on run ends = absurd ends
   seen_in_run (step ∷ []) s m stands on run ends =
-      let to = goes_from disk p op s step (stage.Writing k m) stands run.0 run.1 in
+      let to = goes_from disk p op s step (Stage.Writing k m) stands run.0 run.1 in
       ⊎_elim
       (λ is. seen_first Sees step [] is)
       (λ still. absurd (not_over m to.goes.answer still.all (sym to.goes.gives ∙ ends)))
       (sees_or_on step m to.here on to.goes)
   seen_in_run (step ∷ next ∷ rest) s m stands on run ends =
-      let to = goes_from disk p op s step (stage.Writing k m) stands run.0 run.1 in
+      let to = goes_from disk p op s step (Stage.Writing k m) stands run.0 run.1 in
       ⊎_elim
       (λ is. seen_first Sees step (next ∷ rest) is)
       (λ still. seen_on step (next ∷ rest) m to.goes.now

@@ -1,14 +1,6 @@
 -- What a check of a disk before its recovery gives.
 use Rattle.std.proofs.Common.{◌≡◌, ⊎_elim, inl, inr, true, length, refl, sym, ◌∙◌, ap, subst, None}
-use Rattle.blocks.specs.Disk.{AddsOnly, HasTurned, Image}
-use Rattle.blocks.specs.Lemmas.Moments.{adds_behind, only_added, turned_behind}
-use Rattle.blocks.specs.Calls.{OnlyReads}
-use Rattle.blocks.specs.declared.disk.Disk.{Ghosts}
-use Rattle.model.specs.Layout.{super_of, is_lawful_super}
-use Rattle.model.specs.Verdict.{verdict}
-use Rattle.model.specs.declared.types.image.Super.{Super}
-use Rattle.model.specs.Lemmas.Soundness.{verdict_sound}
-use Rattle.wal.specs.Recovery.{MayStop, RecoversAs}
+use Rattle.kernel.specs.Common.{adds_behind, AddsOnly, Ghosts, HasTurned, Image, is_lawful_super, MayStop, only_added, OnlyReads, RecoversAs, Super, super_of, turned_behind, verdict, verdict_sound}
 use Rattle.kernel.specs.Opening.{LeavesRecovered}
 
 -- the superblock that a check without a fault answers is lawful
@@ -31,15 +23,4 @@ module _ {D N : Type 0} (disk : Ghosts D N) where
             (λ unsynced. inl (unsynced ∙ reads.syncs))
             (λ turned. inr (turned_behind disk.moment disk.leaves old mid new P reads.time.later (subst (λ (y : Image). HasTurned disk.moment disk.leaves mid new (RecoversAs y)) reads.image turned)))
             stops.from_sync;
-      }
-
-  -- and of a check alone
-  pub checked_leaves : (old new : D) → OnlyReads disk old new → LeavesRecovered disk old new
-  checked_leaves old new reads =
-      let P : Image → Type 0 = RecoversAs (disk.image old) in
-      let added : AddsOnly disk.moment disk.leaves old new P = record { later = reads.time.later; adds = λ t x le left. inl (reads.time.adds t x le left); keeps = reads.time.keeps } in
-      record {
-        any_moment = λ calm. only_added disk.moment disk.leaves old new P (λ x left. subst P (sym (calm x left)) (record { image = refl; lawful = refl })) added;
-        adds = added;
-        from_sync = inl reads.syncs;
       }

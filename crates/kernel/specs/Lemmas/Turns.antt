@@ -1,26 +1,10 @@
 -- What turns keep of a kernel.
 use Rattle.std.proofs.Common.{◌≡◌, ◌∙◌, true, List, [], ◌∷◌, refl, sym, subst, ℕ}
-use Rattle.blocks.specs.Disk.{Image, LeavesOnly}
+use Rattle.kernel.specs.Common.{Entry, Grows, grows_none, grows_then, Image, inode_count_of, KeepsBetween, KeepsNow, leaves_then, LeavesOnly, Makes, MakesStep, most_of, Proc, Runs, RunsOn, Session, Shut, started, State, Step, StopsIn, Turn, VolumeState, with_ports, with_shutdown, World}
 use Rattle.blocks.specs.declared.disk.Disk as disk_trait
 use Rattle.ports.specs.declared.herald.Herald as herald_trait
 use Rattle.ports.specs.declared.intake.Intake as intake_trait
-use Rattle.model.specs.Layout.{inode_count_of}
-use Rattle.history.specs.Grows.{Grows}
-use Rattle.history.specs.Keeps.{KeepsBetween, KeepsNow}
-use Rattle.history.specs.Most.{most_of}
-use Rattle.history.specs.Lemmas.Growing.{grows_then, grows_none}
-use Rattle.history.specs.Lemmas.Leaving.{leaves_then}
-use Rattle.history.specs.Processes.{World}
-use Rattle.model.specs.declared.types.operations.Step.{Step}
 use Rattle.kernel.specs.Progress.{KeepsShutdown, StaysShut}
-use Rattle.kernel.specs.declared.types.Turn.{Turn}
-use Rattle.kernel.specs.declared.types.Turn.TheVariants.{Proc, Shut}
-use Rattle.kernel.specs.Runs.{Makes, Runs, RunsOn, Session, with_ports, with_shutdown}
-use Rattle.kernel.specs.State.{State, StopsIn}
-use Rattle.kernel.specs.Steps.{MakesStep}
-use Rattle.blocks.specs.Lemmas.Moments.{started}
-use Rattle.wal.specs.Volume.{VolumeState}
-use Rattle.model.specs.declared.types.operations.Entry.{Entry}
 
 -- what is shut stays so in one step more
 shut_more : (w z y : World) → KeepsShutdown z y → (w.is_shut ≡ true → StaysShut w z) → w.is_shut ≡ true → StaysShut w y

@@ -4,15 +4,11 @@ use Rattle.std.specs.Int.{bit_at, bit_not}
 use mir.Syntax.{w8}
 use Rattle.std.specs.Int.RustNames.{bit_or}
 use Rattle.std.specs.Prelude.{bit_and}
-use Rattle.std.proofs.lemmas.Bool.{cases_eq, cases_lt, eq-eqb, lt-ltb, le-ltb}
-use Rattle.std.proofs.lemmas.List.{get_or-set_same, get_or-set_other, length-set, set_past, get_or-replicate, get_or_past, length-replicate}
-use Rattle.std.proofs.lemmas.Nat.{or_lt, pow_below}
 use Rattle.std.proofs.lemmas.Nat.Bits.{bit_at_or, bit_at-lt, bit_at-pow_same, bit_at-pow_other, bit_at_clear_same, bit_at_clear_other, bit_at-zero}
-use Rattle.blocks.specs.Block.{zero_block, IsBlock}
-use Rattle.blocks.specs.Lemmas.Blocks.{is_block-zero_block}
+use Rattle.model.specs.Common.{cases_eq, cases_lt, eq-eqb, FirstBits, get_or-replicate, get_or-set_other, get_or-set_same, get_or_past, is_block-zero_block, IsBlock, le-ltb, length-replicate, length-set, lt-ltb, or_lt, pow_below, set_past}
+use Rattle.blocks.specs.Block.{zero_block}
 use Rattle.model.specs.Fields.{has_bit}
 use Rattle.model.specs.Codec.{with_bit, without_bit, first_bits}
-use Rattle.model.specs.Laws.{FirstBits}
 
 pub has_bit-with_bit_same : (bs : List ℕ) (k : ℕ) → k < 8 * length bs → has_bit (with_bit bs k) k ≡ true
 unfolding has_bit with_bit
@@ -21,8 +17,7 @@ has_bit-with_bit_same bs k h =
     let one = bit_at_or old (2 ^ (k % 8)) (k % 8) in
     let p = bit_at-pow_same (k % 8) in
     let q = bit_at-lt old (k % 8) in
-    let inside : k / 8 < length bs = omega arith in
-    rw (get_or-set_same bs (k / 8) (bit_or old (2 ^ (k % 8))) 0 inside) (eq-eqb _ 1 (omega arith))
+    rw (get_or-set_same bs (k / 8) (bit_or old (2 ^ (k % 8))) 0 (omega arith)) (eq-eqb _ 1 (omega arith))
 
 -- a byte written in another place, or past the end, is not read
 byte_same : (bs : List ℕ) (k c new : ℕ) → (c / 8 ≡ k / 8 → bit_at new (c % 8) ≡ bit_at (get_or bs (k / 8) 0) (c % 8)) →
@@ -44,18 +39,14 @@ has_bit-with_bit_other bs k c ne =
     let one = bit_at_or old (2 ^ (k % 8)) (c % 8) in
     ap (λ v. eqb v 1) (byte_same bs k c (bit_or old (2 ^ (k % 8)))
     (λ e.
-    let rest : c % 8 ≢ k % 8 = λ r. omega arith in
-    let p = bit_at-pow_other (k % 8) (c % 8) rest in
+    let p = bit_at-pow_other (k % 8) (c % 8) (λ r. omega arith) in
     omega arith))
 
 pub has_bit-without_bit_same : (bs : List ℕ) (k : ℕ) → k < 8 * length bs → has_bit (without_bit bs k) k ≡ false
 unfolding has_bit without_bit
 has_bit-without_bit_same bs k h =
     let old = get_or bs (k / 8) 0 in
-    let new = bit_and old (bit_not w8 (1 * 2 ^ (k % 8) % 2 ^ 8)) in
-    let z : bit_at new (k % 8) ≡ 0 = bit_at_clear_same w8 old (k % 8) (omega arith) in
-    let inside : k / 8 < length bs = omega arith in
-    rw (get_or-set_same bs (k / 8) new 0 inside, z) refl
+    rw (get_or-set_same bs (k / 8) (bit_and old (bit_not w8 (1 * 2 ^ (k % 8) % 2 ^ 8))) 0 (omega arith), (bit_at_clear_same w8 old (k % 8) (omega arith))) refl
 
 pub has_bit-without_bit_other : (bs : List ℕ) (k c : ℕ) → c ≢ k → has_bit (without_bit bs k) c ≡ has_bit bs c
 unfolding has_bit without_bit
@@ -63,8 +54,7 @@ has_bit-without_bit_other bs k c ne =
     let old = get_or bs (k / 8) 0 in
     ap (λ v. eqb v 1) (byte_same bs k c (bit_and old (bit_not w8 (1 * 2 ^ (k % 8) % 2 ^ 8)))
     (λ e.
-    let rest : c % 8 ≢ k % 8 = λ r. omega arith in
-    bit_at_clear_other w8 old (k % 8) (omega arith) (c % 8) (omega arith) rest))
+    bit_at_clear_other w8 old (k % 8) (omega arith) (c % 8) (omega arith) (λ r. omega arith)))
 
 pub length-with_bit : (bs : List ℕ) (k : ℕ) → length (with_bit bs k) ≡ length bs
 unfolding with_bit

@@ -1,11 +1,8 @@
 -- The bytes of a file, block by block and piece by piece.
 use Rattle.std.proofs.Common.{◌≡◌, ◌≢◌, ℕ, zero, suc, ◌+◌, ◌-◌, ◌*◌, ◌/◌, ◌%◌, ◌<◌, ◌≤◌, List, ◌++◌, length, get_or, take, drop, Some, refl, sym, ap, ◌∙◌, ⊎_elim, arith, get_or-take}
 use Rattle.std.specs.List.{flat_map, range_with_len}
-use Rattle.std.proofs.lemmas.Bool.{ne_eqb, cases_lt}
-use Rattle.std.proofs.lemmas.List.{length-append, length-drop, length-take-le, get_or-drop, get_or_append_left, get_or-append_right, ext_get_or, take-append-drop, take-take, drop-take, drop-drop}
-use Rattle.blocks.specs.Disk.{Image, block_at}
-use Rattle.model.specs.declared.types.image.Dinode.{Dinode}
-use Rattle.model.specs.Files.{bytes_in, file_of, joined, data_at, blocks_for}
+use Rattle.model.specs.Common.{block_at, blocks_for, cases_lt, data_at, Dinode, drop-drop, drop-take, ext_get_or, get_or-append_right, get_or-drop, get_or_append_left, Image, length-append, length-drop, length-take-le, ne_eqb, take-append-drop, take-take}
+use Rattle.model.specs.Files.{bytes_in, file_of, joined}
 use Rattle.model.specs.Operations.{part_of}
 use Rattle.model.specs.Places.{address_in}
 
@@ -23,10 +20,8 @@ AreWhole f a n = (k : ℕ) → a ≤ k → k < a + n → length (f k) ≡ 1024
 length_blocks : (f : ℕ → List ℕ) (a n : ℕ) → AreWhole f a n → length (flat_map f (range_with_len a n)) ≡ 1024 * n
 length_blocks f a zero each = refl
 length_blocks f a (suc n) each =
-    let both = length-append (f a) (flat_map f (range_with_len (a + 1) n)) in
-    let first = each a (omega arith) (omega arith) in
     let rest = length_blocks f (a + 1) n (λ k low high. each k (omega arith) (omega arith)) in
-    omega (arith, both, first, rest)
+    omega (arith, (length-append (f a) (flat_map f (range_with_len (a + 1) n))), (each a (omega arith) (omega arith)), rest)
 
 -- byte t of joined blocks
 get_or_blocks : (f : ℕ → List ℕ) (a n t : ℕ) → AreWhole f a n → t < 1024 * n →
@@ -103,9 +98,8 @@ module _ (x : Image) (d : Dinode) (there : (k : ℕ) → k * 1024 < d.size → I
 
       by_some : 0 < n → part_of (bytes_in x d) at n ≡ part_of block (at % 1024) n
       by_some some =
-          let full : length block ≡ 1024 = (there (at / 1024) (omega (arith, some, inside))).1 in
           let long = length-part (bytes_in x d) at n (omega (arith, inside, length-bytes_in)) in
-          let short = length-part block (at % 1024) n (omega (arith, one, full)) in
+          let short = length-part block (at % 1024) n (omega (arith, one, ((there (at / 1024) (omega (arith, some, inside))).1))) in
           ext_get_or 0 (part_of (bytes_in x d) at n) (part_of block (at % 1024) n) (long ∙ sym short)
           (λ j h.
           let low : j < n = omega (arith, h, long) in

@@ -2,21 +2,11 @@
 use Rattle.std.proofs.Common.{◌≡◌, ◌≢◌, ◌⊎◌, inl, inr, ℕ, zero, suc, ◌+◌, ◌-◌, ◌*◌, ◌/◌, ◌%◌, ◌^◌, ◌≤◌, ◌<◌, min, List, [], ◌∷◌, ◌++◌, length, take, drop, get_or, set, slice_index, replicate, refl, sym, ap, ap₂, ◌∙◌, ⊎_elim, add-one, arith}
 use Rattle.std.specs.Prelude.{slice_range, bit_or}
 use Rattle.std.specs.Int.{byte_at, bytes_low_first}
-use Rattle.std.proofs.lemmas.Bool.{cases_eq, cases_lt}
-use Rattle.std.proofs.lemmas.List.{append-nil, append_assoc, length-append, length-take-le, length-drop, length-set, drop-drop, drop_at, take_at, take_more, drop_all, length-replicate, get_or_append_left, get_or-append_right, get_or-take, get_or-drop, get_or-set_same, get_or-set_other, set_split, same_lists, ext_get_or}
-use Rattle.std.proofs.lemmas.Nat.{pow_below}
-use Rattle.std.proofs.lemmas.List.Edits.{length-between, get_or-between}
+use Rattle.model.specs.Common.{append-nil, append_assoc, cases_eq, cases_lt, Dinode, drop-drop, drop_all, drop_at, ext_get_or, Form, get_or-append_right, get_or-between, get_or-drop, get_or-set_other, get_or-set_same, get_or-take, get_or_append_left, homes_in, inode_bytes_in, is_block-zero_block, IsBlock, length-append, length-between, length-drop, length-replicate, length-set, length-take-le, length-zero_block, little_number-reads_back, logged_in, magic_of, One, overwritten, pow_below, same_lists, set_split, Super, take_at, take_more, Two, words_of}
 use Rattle.byteorder.specs.Endian.{little_bytes, little_number}
-use Rattle.byteorder.specs.Numbers.{little_number-reads_back}
-use Rattle.blocks.specs.Block.{IsBlock, overwritten, zero_block}
-use Rattle.blocks.specs.Lemmas.Blocks.{length-zero_block, is_block-zero_block}
-use Rattle.model.specs.Fields.{u16_at, u32_at, words_of}
-use Rattle.model.specs.declared.types.image.Form.{Form}
-use Rattle.model.specs.declared.types.image.Form.TheVariants.{One, Two}
-use Rattle.model.specs.declared.types.image.Super.{Super}
-use Rattle.model.specs.declared.types.image.Dinode.{Dinode}
-use Rattle.model.specs.Layout.{magic_of, super_in, inode_in, inode_bytes_in}
-use Rattle.model.specs.Log.{logged_in, homes_in}
+use Rattle.blocks.specs.Block.{zero_block}
+use Rattle.model.specs.Fields.{u16_at, u32_at}
+use Rattle.model.specs.Layout.{super_in, inode_in}
 use Rattle.model.specs.Codec.{bytes_of_words, block_of_words, super_words, super_block, header_block, dinode_bytes, IsDinode, with_inode_bytes, with_entry, with_bit, first_bits}
 use Rattle.model.specs.Lemmas.Words.{word_at, length-words_of-block}
 
@@ -52,11 +42,10 @@ pub get_or-overwritten_behind : (old : List ℕ) (at : ℕ) (bytes : List ℕ) (
     get_or (overwritten old at bytes) i d ≡ get_or old i d
 get_or-overwritten_behind old at bytes i d h above =
     let n = at + length bytes in
-    let rest = drop n old in
     let len = length-append (take at old) bytes in
     let at_len = length-take-le at old h in
     let whole : n + (i - n) ≡ i = omega arith in
-    get_or-append_right (take at old ++ bytes) rest n i d (omega arith) above
+    get_or-append_right (take at old ++ bytes) (drop n old) n i d (omega arith) above
     ∙ get_or-drop n old (i - n) d
     ∙ ap (λ (k : ℕ). get_or old k d) whole
 
@@ -145,11 +134,9 @@ is_block-overwritten old at bytes is h small = record {
   where
     each : (i : ℕ) → (i < at) ⊎ (at ≤ i) → (i < at + length bytes) ⊎ (at + length bytes ≤ i) → slice_index (overwritten old at bytes) i < 256
     each i (inl below) end =
-        let same : slice_index (overwritten old at bytes) i ≡ slice_index old i = get_or-overwritten_before old at bytes i 0 (omega (arith, is.size)) below in
-        omega (arith, is.each i, same)
+        omega (arith, is.each i, (get_or-overwritten_before old at bytes i 0 (omega (arith, is.size)) below))
     each i (inr from) (inr behind) =
-        let same : slice_index (overwritten old at bytes) i ≡ slice_index old i = get_or-overwritten_behind old at bytes i 0 (omega (arith, is.size)) behind in
-        omega (arith, is.each i, same)
+        omega (arith, is.each i, (get_or-overwritten_behind old at bytes i 0 (omega (arith, is.size)) behind))
     each i (inr from) (inl within) =
         let place : at + (i - at) ≡ i = omega arith in
         let new : slice_index (overwritten old at bytes) i ≡ slice_index bytes (i - at) =
@@ -264,14 +251,9 @@ unfolding super_in
 super_in-super_block form s a b c d e f g =
     let small = super_small form s a b c d e f g in
     let field = λ (k : ℕ) (below : k < 8). u32_at-block_of_words (super_words form s) k (omega arith) small below in
-    let size : u32_at (super_block form s) 4 ≡ s.size = field 1 (omega arith) in
-    let nblocks : u32_at (super_block form s) 8 ≡ s.nblocks = field 2 (omega arith) in
-    let ninodes : u32_at (super_block form s) 12 ≡ s.ninodes = field 3 (omega arith) in
-    let nlog : u32_at (super_block form s) 16 ≡ s.nlog = field 4 (omega arith) in
-    let logstart : u32_at (super_block form s) 20 ≡ s.logstart = field 5 (omega arith) in
     let inodestart : u32_at (super_block form s) 24 ≡ s.inodestart = field 6 (omega arith) in
     let bmapstart : u32_at (super_block form s) 28 ≡ s.bmapstart = field 7 (omega arith) in
-    rw (size, nblocks, ninodes, nlog, logstart, inodestart, bmapstart) refl
+    rw ((field 1 (omega arith)), (field 2 (omega arith)), (field 3 (omega arith)), (field 4 (omega arith)), (field 5 (omega arith)), inodestart, bmapstart) refl
 
 -- ---- the log's header
 
@@ -312,14 +294,11 @@ inode_in-dinode_bytes d is =
     let from_size = little_bytes 4 d.size ++ bytes_of_words d.addrs in
     let from_nlink = little_bytes 2 d.nlink ++ from_size in
     let from_minor = little_bytes 2 d.minor ++ from_nlink in
-    let from_major = little_bytes 2 d.major ++ from_minor in
-    let kind : little_number 2 (dinode_bytes d) ≡ d.kind = little_number-reads_back 2 d.kind from_major is.kind in
     let major : little_number 2 (drop 2 (dinode_bytes d)) ≡ d.major = little_number-reads_back 2 d.major from_minor is.major in
     let minor : little_number 2 (drop 4 (dinode_bytes d)) ≡ d.minor = little_number-reads_back 2 d.minor from_nlink is.minor in
     let nlink : little_number 2 (drop 6 (dinode_bytes d)) ≡ d.nlink = little_number-reads_back 2 d.nlink from_size is.nlink in
     let size : little_number 4 (drop 8 (dinode_bytes d)) ≡ d.size = little_number-reads_back 4 d.size (bytes_of_words d.addrs) is.size in
-    let addrs : words_of (drop 12 (dinode_bytes d)) ≡ d.addrs = words_of-bytes_all d.addrs is.addrs in
-    rw (kind, major, minor, nlink, size, addrs) refl
+    rw ((little_number-reads_back 2 d.kind (little_bytes 2 d.major ++ from_minor) is.kind), major, minor, nlink, size, (words_of-bytes_all d.addrs is.addrs)) refl
 
 -- what was written at the place of a number is read there
 pub inode_in-with_inode_bytes : (block : List ℕ) (i : ℕ) (d : Dinode) → length block ≡ 1024 → IsDinode d →
@@ -345,11 +324,7 @@ unfolding u32_at
 u32_at_same xs ys at each =
     let byte : (k : ℕ) → k < 4 → slice_index (drop at xs) k ≡ slice_index (drop at ys) k =
     λ k h. get_or-drop at xs k 0 ∙ each k h ∙ sym (get_or-drop at ys k 0) in
-    let b0 = byte 0 (omega arith) in
-    let b1 = byte 1 (omega arith) in
-    let b2 = byte 2 (omega arith) in
-    let b3 = byte 3 (omega arith) in
-    rw (b0, b1, b2, b3) refl
+    rw ((byte 0 (omega arith)), (byte 1 (omega arith)), (byte 2 (omega arith)), (byte 3 (omega arith))) refl
 
 -- the number that was written is read
 pub u32_at-overwritten : (old : List ℕ) (at n : ℕ) → at ≤ length old → n < 2 ^ 32 → u32_at (overwritten old at (little_bytes 4 n)) at ≡ n

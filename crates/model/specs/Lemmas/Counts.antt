@@ -2,8 +2,7 @@
 use Rattle.std.proofs.Common.{◌≡◌, ◌≢◌, ℕ, zero, suc, ◌+◌, ◌-◌, ◌<◌, ◌≤◌, true, false, cond, eqb, List, [], ◌∷◌, ◌++◌, length, get_or, refl, sym, ap, subst, ◌∙◌, ⊎_elim, zero-add, add_assoc, arith}
 use Rattle.std.specs.Prelude.{All}
 use Rattle.std.specs.List.{list_any, flat_map, range_with_len, AllByRecursion}
-use Rattle.std.proofs.lemmas.Bool.{ne_eqb, eq-eqb, cases_eq, cases_Bool, or_parts}
-use Rattle.std.proofs.lemmas.List.FromFn.{get_or-range_with_len, length-range_with_len}
+use Rattle.model.specs.Common.{cases_Bool, cases_eq, eq-eqb, get_or-range_with_len, length-range_with_len, ne_eqb, or_parts}
 use Rattle.model.specs.Soundness.{count_of}
 
 pub count_of-append : (b : ℕ) (front back : List ℕ) → count_of b (front ++ back) ≡ count_of b front + count_of b back
@@ -101,8 +100,7 @@ All-range P a n each k d h =
 
 pub All-range_at : (P : ℕ → Type 0) (a n i : ℕ) → All P (range_with_len a n) → a ≤ i → i < a + n → P i
 All-range_at P a n i all low high =
-    let at : a + (i - a) ≡ i = omega arith in
-    subst P (get_or-range_with_len a n (i - a) 0 (omega arith) ∙ at) (all (i - a) 0 (omega (arith, length-range_with_len a n)))
+    subst P (get_or-range_with_len a n (i - a) 0 (omega arith) ∙ (omega arith)) (all (i - a) 0 (omega (arith, length-range_with_len a n)))
 
 -- fewer of the lists
 pub count_front : (f : ℕ → List ℕ) (b a m n : ℕ) → m ≤ n → count_of b (flat_map f (range_with_len a m)) ≤ count_of b (flat_map f (range_with_len a n))

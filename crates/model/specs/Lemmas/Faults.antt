@@ -1,16 +1,10 @@
 -- The faults of an image, and the first of them.
 use Rattle.std.proofs.Common.{◌≡◌, ◌∙◌, ℕ, Bool, true, false, cond, eqb, ltb, List, [], ◌∷◌, ◌++◌, Option, Some, None, refl, ap, ap₂, sym}
 use Rattle.std.specs.List.{flat_map, range_with_len}
-use Rattle.std.proofs.lemmas.List.{append_assoc, append-nil}
-use Rattle.blocks.specs.Disk.{Image}
-use Rattle.model.specs.declared.types.fault.CheckFault.{CheckFault}
-use Rattle.model.specs.declared.types.fault.CheckFault.TheVariants.{BadType, BadSize}
-use Rattle.model.specs.declared.types.image.Pointer.{Pointer}
+use Rattle.model.specs.Common.{addresses_in, append-nil, append_assoc, BadSize, BadType, CheckFault, form_of, greatest_size, Image, numbers_of, Pointer, pointers_of, VerdictIsFirst}
 use Rattle.model.specs.Faults.{listed, alone_or, first_in, pointer_faults, inode_faults, inodes_faults, marks_faults, faults}
-use Rattle.model.specs.Laws.{VerdictIsFirst}
-use Rattle.model.specs.Layout.{form_of, inode_of, greatest_size}
+use Rattle.model.specs.Layout.{inode_of}
 use Rattle.model.specs.Log.{recovered}
-use Rattle.model.specs.Places.{addresses_in, numbers_of, pointers_of}
 use Rattle.model.specs.Verdict.{or_else, first_of, geometry_fault, log_fault, places_below, pointer_fault, first_pointer_fault, inode_fault, inodes_fault, mark_fault, marks_fault, verdict}
 use Rattle.model.specs.Lemmas.Names.{addresses_in-append}
 use Rattle.model.specs.Lemmas.Verdict.{or_else-assoc}

@@ -1,12 +1,6 @@
 -- The files of an image, by their numbers.
 use Rattle.std.proofs.Common.{◌≡◌, ℕ, ◌<◌, ◌≤◌, length, None, ⊎_elim, arith, ◌≢◌, Some, sym, subst, ◌∙◌}
-use Rattle.std.proofs.lemmas.Bool.{cases_lt}
-use Rattle.std.proofs.lemmas.List.{get_or_past}
-use Rattle.std.proofs.lemmas.List.FromFn.{length-map-range_with_len, get_or-map-range_with_len}
-use Rattle.blocks.specs.Disk.{Image}
-use Rattle.model.specs.Layout.{inode_count_of}
-use Rattle.model.specs.Files.{file_in, file_at, files_of, Files}
-use Rattle.model.specs.declared.types.image.File.{File}
+use Rattle.model.specs.Common.{cases_lt, File, file_at, file_in, Files, files_of, get_or-map-range_with_len, get_or_past, Image, inode_count_of, length-map-range_with_len}
 
 pub length-files_of : (x : Image) → length (files_of x) ≡ inode_count_of x
 length-files_of x = length-map-range_with_len (file_at x) 0 (inode_count_of x)

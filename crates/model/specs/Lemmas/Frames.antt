@@ -1,20 +1,12 @@
 -- Images that agree at an inode's blocks have the same contents of it.
 use Rattle.std.proofs.Common.{◌≡◌, ◌≢◌, ℕ, zero, suc, ◌+◌, ◌-◌, ◌/◌, ◌%◌, ◌<◌, ◌≤◌, Bool, true, cond, not, ◌&&◌, eqb, List, [], ◌∷◌, ◌++◌, get_or, set, length, take, refl, sym, ap, ◌∙◌, ⊎_elim, arith}
 use Rattle.std.specs.List.{list_all, flat_map, range_with_len}
-use Rattle.std.proofs.lemmas.Bool.{ne_eqb, cases_eq, cases_lt, lt-ltb, le-ltb, eqb-false, not-true}
-use Rattle.std.proofs.lemmas.List.{get_or_past, get_or-set_other}
-use Rattle.std.proofs.lemmas.List.Folds.{list_all-append}
 use Rattle.std.proofs.Math.Numerals.{sub-one}
-use Rattle.blocks.specs.Disk.{Image, block_at}
-use Rattle.model.specs.declared.types.image.Dinode.{Dinode}
-use Rattle.model.specs.declared.types.image.Pointer.{Pointer}
-use Rattle.model.specs.Fields.{words_of}
-use Rattle.model.specs.Layout.{reach, depths, form_of}
-use Rattle.model.specs.Places.{pointer_of, pointers_under, pointers_behind, pointers_along, pointers_in, addresses_in, address_under, address_along, address_in}
+use Rattle.model.specs.Common.{address_along, address_under, addresses_in, block_at, blocks_for, cases_eq, cases_lt, data_at, depths, Dinode, eqb-false, form_of, FramesContents, get_or-set_other, get_or_past, Image, le-ltb, list_all-append, lt-ltb, ne_eqb, not-true, Pointer, pointer_of, pointers_along, pointers_behind, pointers_under, reach, words_of}
+use Rattle.model.specs.Places.{pointers_in, address_in}
 use Rattle.model.specs.Names.{names_of}
-use Rattle.model.specs.Files.{data_at, joined, bytes_in, file_of, blocks_for}
+use Rattle.model.specs.Files.{joined, bytes_in, file_of}
 use Rattle.model.specs.Agreement.{all_pass, Agrees, AgreesFor}
-use Rattle.model.specs.Laws.{FramesContents}
 use Rattle.model.specs.Lemmas.Log.{both_of}
 use Rattle.model.specs.Lemmas.Names.{addresses_in-append, pointers_named}
 

@@ -1,15 +1,9 @@
 -- Inodes that are read from an image have fields that fit, and another inode at a number changes no other.
 use Rattle.std.proofs.Common.{◌≡◌, ◌≢◌, ℕ, zero, suc, ◌+◌, ◌-◌, ◌*◌, ◌%◌, ◌^◌, ◌<◌, ◌≤◌, List, [], length, take, drop, replicate, get_or, refl, sym, ap, ◌∙◌, ⊎_elim, arith}
-use Rattle.std.proofs.lemmas.Bool.{cases_eq, cases_lt}
-use Rattle.std.proofs.lemmas.List.{get_or_past, get_or-take, get_or-drop, length-drop, length-take-le, get_or-set_same, get_or-set_other}
-use Rattle.std.proofs.lemmas.List.Edits.{length-between}
-use Rattle.byteorder.specs.Numbers.{little_from-lt}
-use Rattle.blocks.specs.Block.{IsBlock}
-use Rattle.blocks.specs.Disk.{Image, block_at}
-use Rattle.model.specs.declared.types.image.Dinode.{Dinode}
+use Rattle.model.specs.Common.{block_at, cases_eq, cases_lt, Dinode, get_or-drop, get_or-set_other, get_or-set_same, get_or-take, get_or_past, Image, inode_block, inode_bytes, inode_bytes_in, IsBlock, length-between, length-drop, length-take-le, little_from-lt, words_of}
 use Rattle.model.specs.Codec.{IsDinode, with_inode_bytes, with_inode, new_inode}
-use Rattle.model.specs.Fields.{u16_at, u32_at, words_of}
-use Rattle.model.specs.Layout.{inode_in, inode_of, inode_bytes, inode_bytes_in, inode_block}
+use Rattle.model.specs.Fields.{u16_at, u32_at}
+use Rattle.model.specs.Layout.{inode_in, inode_of}
 use Rattle.model.specs.Lemmas.Codecs.{inode_in-with_inode_bytes, inode_bytes_in-with_inode_bytes_other}
 use Rattle.model.specs.Lemmas.Words.{word_at, word_past, thirteen}
 
@@ -102,10 +96,9 @@ inode_bytes-with_inode_other x i j d there is other =
     let v = with_inode_bytes (block_at x b) i d in
     ⊎_elim
     (λ (e : inode_block j ≡ b).
-    let places : j % 16 ≢ i % 16 = λ same. other (omega arith) in
     ap (λ c. inode_bytes_in (block_at (with_inode x i d) c) j) e
     ∙ ap (λ bytes. inode_bytes_in bytes j) (get_or-set_same x b v [] there.within)
-    ∙ inode_bytes_in-with_inode_bytes_other (block_at x b) i j d there.full is.count places
+    ∙ inode_bytes_in-with_inode_bytes_other (block_at x b) i j d there.full is.count (λ same. other (omega arith))
     ∙ ap (λ c. inode_bytes_in (block_at x c) j) (sym e))
     (λ (apart : inode_block j ≢ b). ap (λ bytes. inode_bytes_in bytes j) (get_or-set_other x b (inode_block j) v [] apart))
     (cases_eq (inode_block j) b)

@@ -1,13 +1,10 @@
 -- What recovery leaves where it was, and an empty header.
 use Rattle.std.proofs.Common.{◌≡◌, ◌≢◌, ℕ, ◌+◌, ◌<◌, Bool, true, false, cond, ◌&&◌, eqb, leb, ltb, List, [], ◌∷◌, length, map, None, refl, ap, ◌∙◌, ⊎_elim, arith}
 use Rattle.std.specs.List.{range_with_len, position_from}
-use Rattle.std.proofs.lemmas.Bool.{ne_eqb, leb-true, cases_eq}
-use Rattle.std.proofs.lemmas.List.{get_or-set_same}
-use Rattle.std.proofs.lemmas.List.FromFn.{get_or-map-range_with_len, length-map-range_with_len}
+use Rattle.model.specs.Common.{are_distinct, are_in_place, block_at, block_from_log, cases_eq, cleared, get_or-map-range_with_len, get_or-set_same, homes_of, Image, is_lawful_log, leb-true, length-map-range_with_len, logged_count, ne_eqb}
 use Rattle.blocks.specs.Block.{zero_block}
-use Rattle.blocks.specs.Disk.{Image, block_at}
 use Rattle.model.specs.Fields.{u32_at}
-use Rattle.model.specs.Log.{logged_count, homes_of, is_lawful_log, are_in_place, recovered, recovered_block, block_from_log, are_distinct, cleared}
+use Rattle.model.specs.Log.{recovered, recovered_block}
 
 -- both sides of a test that holds
 pub both_of : (a b : Bool) → (a && b) ≡ true → (a ≡ true) × (b ≡ true)
@@ -21,8 +18,7 @@ pub no_home : (homes : List ℕ) (n b size : ℕ) → are_in_place homes size �
 no_home [] n b size all h = refl
 no_home (home ∷ homes) n b size all h =
     let parts = both_of (leb 33 home && ltb home size) (are_in_place homes size) all in
-    let first = both_of (leb 33 home) (ltb home size) parts.0 in
-    let low = leb-true 33 home first.0 in
+    let low = leb-true 33 home (both_of (leb 33 home) (ltb home size) parts.0).0 in
     rw (ne_eqb home b (omega arith)) (no_home homes (n + 1) b size parts.1 h)
 
 pub lawful_homes : (x : Image) → is_lawful_log x ≡ true → are_in_place (homes_of x) (length x) ≡ true

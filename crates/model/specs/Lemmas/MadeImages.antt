@@ -2,21 +2,13 @@
 use Rattle.std.proofs.Common.{◌≡◌, ◌≢◌, ℕ, zero, suc, ◌+◌, ◌-◌, ◌*◌, ◌%◌, ◌<◌, ◌≤◌, Bool, true, false, cond, ◌||◌, eqb, ltb, leb, List, [], ◌∷◌, ◌++◌, length, map, take, replicate, Option, None, refl, sym, ap, ap₂, ◌∙◌, subst, arith}
 use Rattle.std.specs.Prelude.{All, IsTrue}
 use Rattle.std.specs.List.{range_with_len, flat_map}
-use Rattle.std.proofs.lemmas.Bool.{leb-true, ltb-true, eq-eqb, ne_eqb}
-use Rattle.std.proofs.lemmas.List.{drop-replicate, take-replicate}
-use Rattle.std.proofs.lemmas.List.FromFn.{length-range_with_len, get_or-range_with_len, length-map-range_with_len, get_or-map-range_with_len}
-use Rattle.blocks.specs.Block.{IsBlock, zero_block}
-use Rattle.blocks.specs.Disk.{IsImage, block_at}
-use Rattle.blocks.specs.Lemmas.Blocks.{is_block-zero_block}
-use Rattle.model.specs.declared.types.image.Form.{Form}
-use Rattle.model.specs.declared.types.image.Form.TheVariants.{One, Two}
-use Rattle.model.specs.declared.types.image.Super.{Super}
-use Rattle.model.specs.declared.types.image.File.{File}
+use Rattle.model.specs.Common.{addresses_in, block_at, drop-replicate, eq-eqb, File, file_at, file_count, files_of, first_data_block, Form, form_of, get_or-map-range_with_len, get_or-range_with_len, inode_block, inode_bytes_in, inode_count_of, is_block-zero_block, is_inode_count, is_known_magic, is_lawful_super, is_marked, is_size, IsBlock, IsImage, leb-true, length-map-range_with_len, length-range_with_len, ltb-true, magic_at, magic_of, meta_count, ne_eqb, One, places_of, planned_super, pointers_of, Super, super_of, take-replicate, Two}
+use Rattle.blocks.specs.Block.{zero_block}
 use Rattle.model.specs.Fields.{u16_at, u32_at, has_bit}
-use Rattle.model.specs.Layout.{is_known_magic, magic_of, magic_at, form_of, super_in, super_of, meta_count, planned_super, is_inode_count, is_size, is_lawful_super, inode_count_of, first_data_block, inode_in, inode_of, inode_block, inode_bytes_in, is_marked}
-use Rattle.model.specs.Places.{pointers_in, pointers_of, addresses_in, places_of}
+use Rattle.model.specs.Layout.{super_in, inode_in, inode_of}
+use Rattle.model.specs.Places.{pointers_in}
 use Rattle.model.specs.Soundness.{IsSound, IsLawfulInode, IsFilled, place_count}
-use Rattle.model.specs.Files.{file_of, file_at, files_of, file_count}
+use Rattle.model.specs.Files.{file_of}
 use Rattle.model.specs.Codec.{super_block, first_bits, made_block, made_image}
 use Rattle.model.specs.Lemmas.Log.{both_of, zero_header}
 use Rattle.model.specs.Lemmas.Bits.{has_bit-first_bits, is_block-first_bits}
@@ -65,8 +57,7 @@ module _ (form : Form) where
       block_at (made_image form size n) (planned_super size n).bmapstart ≡ first_bits (meta_count size n)
   map-made_image size n is =
       let at = (planned_super size n).bmapstart in
-      let other : at ≢ 1 = λ e. absurd (omega arith) in
-      block_at-made_image size n at (omega (arith, is.room)) ∙ rw (ne_eqb at 1 other, eq-eqb at at refl) refl
+      block_at-made_image size n at (omega (arith, is.room)) ∙ rw (ne_eqb at 1 (λ e. absurd (omega arith)), eq-eqb at at refl) refl
 
   -- the others
   pub zero-made_image : (size n b : ℕ) → b < size → b ≢ 1 → b ≢ (planned_super size n).bmapstart → block_at (made_image form size n) b ≡ zero_block
@@ -168,7 +159,6 @@ module _ (form : Form) where
       let x = made_image form size n in
       let is = is_within size n count fits in
       let room = is.room in
-      let more : 1 < size = omega arith in
       let fields = super_of-made_image size n is in
       let numbers : inode_count_of x ≡ n = ap (λ (s : Super). s.ninodes) fields in
       let places = places-made_image size n is in
@@ -176,7 +166,7 @@ module _ (form : Form) where
       let first : first_data_block x ≡ meta_count size n = ap (λ (s : Super). meta_count s.size s.ninodes) fields in
       record {
         geometry = record {
-          magic = rw (magic-made_image size n more) (is_known form);
+          magic = rw (magic-made_image size n (omega arith)) (is_known form);
           fields = rw (fields, length-made_image size n) (lawful size n count fits);
         };
         empty_log = ap (λ (b : List ℕ). u32_at b 0) (zero-made_image size n 2 (omega arith) (λ e. absurd (omega arith)) (λ e. absurd (omega arith))) ∙ zero_header;

@@ -1,15 +1,8 @@
 -- The names of an inode are the addresses of its pointers.
 use Rattle.std.proofs.Common.{◌≡◌, ◌≢◌, ℕ, zero, suc, ◌+◌, not, eqb, List, [], ◌∷◌, ◌++◌, map, refl, ap, ◌∙◌, ⊎_elim}
 use Rattle.std.specs.List.{flat_map, filter}
-use Rattle.std.proofs.lemmas.Bool.{ne_eqb, cases_eq}
-use Rattle.std.proofs.lemmas.List.{map-append}
-use Rattle.std.proofs.lemmas.List.Elements.{filter-append}
-use Rattle.blocks.specs.Disk.{Image, block_at}
-use Rattle.model.specs.declared.types.image.Dinode.{Dinode}
-use Rattle.model.specs.declared.types.image.Pointer.{Pointer}
-use Rattle.model.specs.Fields.{words_of}
-use Rattle.model.specs.Layout.{reach, depths, form_of}
-use Rattle.model.specs.Places.{pointers_under, pointers_behind, pointers_along, pointers_in, addresses_in}
+use Rattle.model.specs.Common.{addresses_in, block_at, cases_eq, depths, Dinode, filter-append, form_of, Image, map-append, ne_eqb, Pointer, pointers_along, pointers_behind, pointers_under, reach, words_of}
+use Rattle.model.specs.Places.{pointers_in}
 use Rattle.model.specs.Names.{names_under, names_along, names_of}
 
 pub addresses_in-append : (front bs : List Pointer) → addresses_in (front ++ bs) ≡ addresses_in front ++ addresses_in bs

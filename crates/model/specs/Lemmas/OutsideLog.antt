@@ -2,22 +2,15 @@
 use Rattle.std.proofs.Common.{◌≡◌, ◌≢◌, ℕ, zero, suc, ◌+◌, ◌-◌, ◌<◌, ◌≤◌, true, ◌||◌, ltb, List, [], ◌∷◌, length, map, refl, sym, ap, subst, ◌∙◌, ⊎_elim, arith}
 use Rattle.std.specs.Prelude.{All}
 use Rattle.std.specs.List.{flat_map, list_all, range_with_len, AllByRecursion}
-use Rattle.std.proofs.lemmas.Bool.{ne_eqb, cases_eq, lt-ltb, le-ltb}
-use Rattle.std.proofs.lemmas.List.{length-set, get_or-set_other}
+use Rattle.model.specs.Common.{addresses_in, block_at, cases_eq, cleared, Dinode, file_at, files_of, first_data_block, Form, form_of, get_or-set_other, Image, inode_block, inode_bytes_in, inode_count_of, is_known_magic, is_lawful_super, is_marked, le-ltb, length-set, logged_count, lt-ltb, meta_count, ne_eqb, places_of, Pointer, pointers_of, SameOutsideLog, SameWhenCleared, SameWhenRecovered, Super, super_of}
 use Rattle.blocks.specs.Block.{zero_block}
-use Rattle.blocks.specs.Disk.{Image, block_at}
-use Rattle.model.specs.declared.types.image.Form.{Form}
-use Rattle.model.specs.declared.types.image.Dinode.{Dinode}
-use Rattle.model.specs.declared.types.image.Pointer.{Pointer}
-use Rattle.model.specs.declared.types.image.Super.{Super}
 use Rattle.model.specs.Fields.{u32_at, has_bit}
-use Rattle.model.specs.Layout.{super_in, super_of, form_of, is_lawful_super, inode_count_of, first_data_block, meta_count, inode_of, inode_in, inode_bytes_in, inode_block, is_marked, is_known_magic}
-use Rattle.model.specs.Log.{logged_count, recovered, cleared}
-use Rattle.model.specs.Places.{pointers_in, pointers_of, places_of, addresses_in}
-use Rattle.model.specs.Files.{file_of, file_at, files_of}
+use Rattle.model.specs.Layout.{super_in, inode_of, inode_in}
+use Rattle.model.specs.Log.{recovered}
+use Rattle.model.specs.Places.{pointers_in}
+use Rattle.model.specs.Files.{file_of}
 use Rattle.model.specs.Soundness.{IsSound, IsLawfulInode, IsFilled, count_of, place_count}
 use Rattle.model.specs.Agreement.{Agrees, AgreesFor, IsSameOutsideLog, is_outside_log}
-use Rattle.model.specs.Laws.{SameOutsideLog, SameWhenRecovered, SameWhenCleared}
 use Rattle.model.specs.Lemmas.Log.{length-recovered}
 use Rattle.model.specs.Lemmas.Recovery.{logged_count-left}
 use Rattle.model.specs.Lemmas.Counts.{All-range, All-range_at}

@@ -1,14 +1,10 @@
 -- Recovery leaves no log, and does not look at the homes.
 use Rattle.std.proofs.Common.{◌≡◌, ◌≢◌, ℕ, ◌+◌, ◌<◌, ◌≤◌, true, false, cond, not, ◌&&◌, eqb, leb, ltb, min, List, [], ◌∷◌, length, get_or, set, take, drop, map, Option, Some, None, refl, sym, ap, ◌∙◌, ⊎_elim, arith}
 use Rattle.std.specs.List.{range_with_len, list_any, position_from}
-use Rattle.std.proofs.lemmas.Bool.{ne_eqb, eq-eqb, leb-true, ltb-true, cases_eq, cases_lt, cases_Bool, both_ways, not-true}
-use Rattle.std.proofs.lemmas.List.Folds.{list_any_at}
-use Rattle.std.proofs.lemmas.List.{get_or-set_other, length-set, length-take, get_or_past, ext_get_or}
-use Rattle.blocks.specs.Disk.{Image, block_at}
-use Rattle.model.specs.Fields.{u32_at, words_of}
-use Rattle.model.specs.Log.{logged_in, logged_count, homes_of, homes_in, is_lawful_log, are_in_place, are_distinct, recovered, recovered_block, block_from_log, place_among}
+use Rattle.model.specs.Common.{are_distinct, are_in_place, block_at, block_from_log, both_ways, cases_Bool, cases_eq, cases_lt, eq-eqb, ext_get_or, get_or-set_other, get_or_past, homes_in, homes_of, HomesAreRewritten, HomeWritesKeep, Image, is_home, is_lawful_log, leb-true, length-set, length-take, list_any_at, logged_count, logged_in, ltb-true, ne_eqb, not-true, place_among, RecoversOnce, words_of}
+use Rattle.model.specs.Fields.{u32_at}
+use Rattle.model.specs.Log.{recovered, recovered_block}
 use Rattle.model.specs.Agreement.{Agrees}
-use Rattle.model.specs.Laws.{RecoversOnce, HomeWritesKeep, HomesAreRewritten, is_home}
 use Rattle.model.specs.Lemmas.Log.{both_of, lawful_homes, recovered_empty, logged_count-recovered}
 
 -- no bytes are the number 0

@@ -1,11 +1,7 @@
 -- What a reply says of the files.
 use Rattle.std.proofs.Common.{◌≡◌, ◌⊎◌, inl, inr, ℕ, false, Option, Some, None, refl}
-use Rattle.std.proofs.lemmas.Bool.{both_ways}
-use Rattle.model.specs.declared.types.image.Form.{Form}
-use Rattle.model.specs.declared.types.operations.Op.{Op}
-use Rattle.model.specs.declared.types.operations.Reply.{Reply}
-use Rattle.model.specs.declared.types.operations.Reply.TheVariants.{Made, NoInode, Wrote, Bytes, Done, StatOf, NoFile, BadOffset, TooBig, TooLong, BadType}
-use Rattle.model.specs.Files.{Files}
+use Rattle.model.specs.Common.{BadOffset, both_ways, Bytes, Done, Files, Form, Made, NoFile, NoInode, Op, Reply, StatOf, TooBig, TooLong, Wrote}
+use Rattle.model.specs.declared.types.operations.Reply.TheVariants.{BadType}
 use Rattle.model.specs.Operations.{after, after_refusal, after_done, refusal_of, is_refusal}
 use Rattle.model.specs.Lemmas.Runs.{where_true_some}
 

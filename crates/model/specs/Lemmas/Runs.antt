@@ -1,20 +1,12 @@
 -- Runs in parts, what operations keep, and what a creation makes of files.
 use Rattle.std.proofs.Common.{◌≡◌, ℕ, Bool, true, false, cond, not, ◌&&◌, ◌||◌, ltb, leb, ◌<◌, List, [], ◌∷◌, length, set, Option, Some, None, refl, sym, ap, subst, ◌∙◌, inl, inr, ⊎_elim, ◌⊎◌, arith, ◌≢◌, ◌++◌}
 use Rattle.std.specs.Prelude.{IsSome, is_none}
-use Rattle.std.proofs.lemmas.Bool.{and_cases, ltb-false, le-leb, le-ltb, lt-ltb, lt-leb, cases_lt, not-true, and_parts, ltb-true}
-use Rattle.std.proofs.lemmas.List.{length-set, get_or_past, get_or-set_other}
+use Rattle.model.specs.Common.{and_cases, and_parts, AtOnceIsNotChanging, AtOnceIsRefused, BadOffset, Bytes, cases_lt, CountStays, Done, File, file_in, Files, Form, get_or-set_other, get_or_past, greatest_size, is_still, le-leb, le-ltb, length-set, lt-leb, lt-ltb, ltb-false, ltb-true, Made, NoFile, NoInode, not-true, Op, RefusalsFirst, RefusalsKeep, ReplaysInParts, Reply, StatOf, TooBig, TooLong, Wrote}
 use Rattle.model.specs.declared.types.operations.Entry.{Entry}
-use Rattle.model.specs.declared.types.image.Form.{Form}
-use Rattle.model.specs.declared.types.image.File.{File}
-use Rattle.model.specs.declared.types.operations.Op.{Op}
 use Rattle.model.specs.declared.types.operations.Op.TheVariants.{Create, Write, Read, Trunc, Remove, Stat}
-use Rattle.model.specs.declared.types.operations.Reply.{Reply}
-use Rattle.model.specs.declared.types.operations.Reply.TheVariants.{Made, NoInode, Wrote, Bytes, Done, StatOf, NoFile, BadOffset, TooBig, TooLong, BadType}
-use Rattle.model.specs.Files.{Files, file_in}
-use Rattle.model.specs.Layout.{greatest_size}
+use Rattle.model.specs.declared.types.operations.Reply.TheVariants.{BadType}
 use Rattle.model.specs.Operations.{after, after_refusal, after_done, after_create, after_at, after_on, refusal_of, write_refusal, no_file_refusal, is_refusal, where_true, is_kind, transfer_limit}
 use Rattle.model.specs.Journal.{replay, and_then, after_answer, is_number}
-use Rattle.model.specs.Laws.{ReplaysInParts, RefusalsKeep, CountStays, RefusalsFirst, AtOnceIsNotChanging, AtOnceIsRefused, is_still}
 
 and_then-and_then : {A B C : Type 0} (o : Option A) (f : A → Option B) (g : B → Option C) →
     and_then o (λ a. and_then (f a) g) ≡ and_then (and_then o f) g
@@ -85,8 +77,7 @@ at_changes files new i (Some file) op reply e h = on_changes files new i file op
 create_changes : (files new : Files) (kind : ℕ) (reply : Reply) → after_create files kind reply ≡ Some new → Changes files new reply
 create_changes files new kind (Made i) h =
     let made = where_true_some (ltb 0 i && ltb i (length files) && is_none (file_in files i)) _ new h in
-    let first = and_parts (ltb 0 i && ltb i (length files)) (is_none (file_in files i)) made.0 in
-    let low = ltb-true 0 i (and_parts (ltb 0 i) (ltb i (length files)) first.0).0 in
+    let low = ltb-true 0 i (and_parts (ltb 0 i) (ltb i (length files)) (and_parts (ltb 0 i && ltb i (length files)) (is_none (file_in files i)) made.0).0).0 in
     changes_place files new (Made i) i _ made.1 refl (λ none same. omega arith)
 create_changes files new kind NoInode h = changes_none files new NoInode (cc h)
 create_changes files new kind reply h = absurd (cc h)

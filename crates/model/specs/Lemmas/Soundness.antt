@@ -2,20 +2,12 @@
 use Rattle.std.proofs.Common.{◌≡◌, ◌≢◌, ℕ, zero, suc, ◌+◌, ◌-◌, ◌<◌, ◌≤◌, Bool, true, false, cond, not, ◌&&◌, ◌||◌, eqb, ltb, List, [], ◌∷◌, ◌++◌, length, get_or, Option, Some, None, refl, sym, ap, subst, ◌∙◌, ⊎_elim, arith}
 use Rattle.std.specs.Prelude.{All}
 use Rattle.std.specs.List.{list_any, AllByRecursion, range_with_len}
-use Rattle.std.proofs.lemmas.Bool.{ne_eqb, eq-eqb, cases_eq, cases_lt, cases_Bool, ltb-false, ltb-true, lt-ltb, le-ltb, or_parts, both_ways, not-false}
-use Rattle.std.proofs.lemmas.List.{append_assoc, append-nil}
-use Rattle.std.proofs.lemmas.List.Elements.{All-from_recursion, recursion_from_All}
-use Rattle.blocks.specs.Disk.{Image}
-use Rattle.model.specs.declared.types.image.Pointer.{Pointer}
-use Rattle.model.specs.declared.types.fault.CheckFault.{CheckFault}
-use Rattle.model.specs.declared.types.fault.CheckFault.TheVariants.{BadMagic, BadGeometry, BadType, BadSize, BadAddress, TwiceUsed, UsedButFree, LostBlock}
+use Rattle.model.specs.Common.{addresses_in, All-from_recursion, append-nil, append_assoc, BadAddress, BadGeometry, BadMagic, BadSize, BadType, both_ways, cases_Bool, cases_eq, cases_lt, CheckFault, eq-eqb, first_data_block, form_of, greatest_size, has_known_magic, Image, inode_count_of, is_known_magic, is_lawful_log, is_lawful_super, is_marked, le-ltb, logged_count, LostBlock, lt-ltb, ltb-false, ltb-true, ne_eqb, not-false, or_parts, places_of, Pointer, pointers_of, recursion_from_All, super_of, TwiceUsed, UsedButFree, VerdictIsSound}
 use Rattle.model.specs.Fields.{u32_at}
-use Rattle.model.specs.Layout.{first_data_block, is_marked, inode_of, inode_count_of, greatest_size, form_of, has_known_magic, super_of, is_lawful_super, is_known_magic}
-use Rattle.model.specs.Log.{recovered, is_lawful_log, logged_count}
-use Rattle.model.specs.Places.{addresses_in, pointers_of, places_of}
+use Rattle.model.specs.Layout.{inode_of}
+use Rattle.model.specs.Log.{recovered}
 use Rattle.model.specs.Soundness.{count_of, place_count, IsFilled, IsSound, IsLawfulInode, IsLawfulGeometry}
 use Rattle.model.specs.Verdict.{first_of, or_else, inode_fault, inodes_fault, mark_fault, marks_fault, places_below, verdict, geometry_fault, log_fault, pointer_fault, address_fault, first_pointer_fault}
-use Rattle.model.specs.Laws.{VerdictIsSound}
 use Rattle.model.specs.Lemmas.Steps.{flat_mapped_next}
 use Rattle.model.specs.Lemmas.Super.{guard_none, or_else_none, super_of-recovered, super_facts, SuperFacts, verdict_none}
 use Rattle.model.specs.Lemmas.Log.{recovered_low, length-recovered}
@@ -82,9 +74,7 @@ faultless_pointers y i earlier (p ∷ pointers) h =
       once = λ b o. rw (skip, ← same) (rest.once b (rw same o));
     })
     (λ (some : p.address ≢ 0).
-    let no = ne_eqb p.address 0 some in
-    let here : address_fault y i earlier p.address ≡ None = rw no at both.0 in
-    let one = faultless_address y i earlier p.address here in
+    let one = faultless_address y i earlier p.address (rw (ne_eqb p.address 0 some) at both.0) in
     let added = one_address p pointers some in
     let single = one_address p [] some in
     record {
@@ -158,8 +148,7 @@ faultless_inode y i h =
       pointers = rw (pointers_free y (inode_of y i) e) (faultless_pointers y i (places_below y i) [] refl);
     })
     (λ (some : (inode_of y i).kind ≢ 0).
-    let no = ne_eqb (inode_of y i).kind 0 some in
-    let size = guard_none (ltb (greatest_size (form_of y)) (inode_of y i).size) (BadSize i) _ (rw no at kind.1) in
+    let size = guard_none (ltb (greatest_size (form_of y)) (inode_of y i).size) (BadSize i) _ (rw (ne_eqb (inode_of y i).kind 0 some) at kind.1) in
     record {
       lawful = record { kind = few; size = λ _. ltb-false (greatest_size (form_of y)) (inode_of y i).size size.0 };
       pointers = faultless_pointers y i (places_below y i) (pointers_of y i) size.1;
@@ -275,8 +264,7 @@ places_in_data y sound k d h =
     let a = get_or (places_of y) k d in
     let in_data = sound.in_data k d h in
     let there = count_of-get_or (places_of y) k d h in
-    let no = le-ltb a (first_data_block y) in_data.0 in
-    (in_data.0, in_data.1, sound.marked a in_data.1 ∙ rw (no, lt-ltb 0 (place_count y a) (omega arith)) refl)
+    (in_data.0, in_data.1, sound.marked a in_data.1 ∙ rw ((le-ltb a (first_data_block y) in_data.0), lt-ltb 0 (place_count y a) (omega arith)) refl)
 
 -- those of one inode
 pub inode_in_data : (y : Image) (i : ℕ) → IsSound y → 1 ≤ i → i < inode_count_of y → AllByRecursion (IsInData y) (addresses_in (pointers_of y i))
@@ -302,8 +290,7 @@ faultless_where_sound y sound = record {
 
 faultless_geometry : (x : Image) → geometry_fault x ≡ None → IsLawfulGeometry x
 faultless_geometry x h =
-    let rest = guard_none (ltb (length x) 2) BadGeometry _ h in
-    let known = guard_none (not (has_known_magic x)) BadMagic _ rest.1 in
+    let known = guard_none (not (has_known_magic x)) BadMagic _ (guard_none (ltb (length x) 2) BadGeometry _ h).1 in
     let fields = guard_none (not (is_lawful_super (super_of x) (length x))) BadGeometry None known.1 in
     record {
       magic = not-false (has_known_magic x) known.0;
@@ -342,8 +329,7 @@ pub verdict_sound : (x : Image) → verdict x ≡ None → IsLawfulGeometry x ×
 unfolding verdict
 verdict_sound x h =
     let first = or_else_none (geometry_fault x) _ h in
-    let second = or_else_none (log_fault x) _ first.1 in
-    let third = or_else_none (inodes_fault (recovered x)) (marks_fault (recovered x)) second.1 in
+    let third = or_else_none (inodes_fault (recovered x)) (marks_fault (recovered x)) (or_else_none (log_fault x) _ first.1).1 in
     let g = faultless_geometry x first.0 in
     let lawful = (verdict_none x h).1 in
     let after = IsLawfulGeometry-recovered x lawful g in

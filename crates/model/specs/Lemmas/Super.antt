@@ -1,11 +1,8 @@
 -- What a lawful superblock gives.
 use Rattle.std.proofs.Common.{◌≡◌, ℕ, ◌+◌, ◌/◌, ◌<◌, ◌≤◌, Bool, true, false, cond, not, ◌&&◌, eqb, leb, ltb, length, Option, Some, None, refl, ap, arith}
-use Rattle.std.proofs.lemmas.Bool.{leb-true, ltb-true, eqb-true, not-false}
-use Rattle.model.specs.declared.types.image.Super.{Super}
-use Rattle.model.specs.declared.types.fault.CheckFault.TheVariants.{BadMagic, BadGeometry, BadLog}
-use Rattle.blocks.specs.Disk.{Image}
-use Rattle.model.specs.Layout.{super_in, super_of, meta_count, is_lawful_super, is_inode_count, is_size, are_alike, planned_super, has_known_magic}
-use Rattle.model.specs.Log.{is_lawful_log, recovered}
+use Rattle.model.specs.Common.{are_alike, BadGeometry, BadLog, BadMagic, eqb-true, has_known_magic, Image, is_inode_count, is_lawful_log, is_lawful_super, is_size, leb-true, ltb-true, meta_count, not-false, planned_super, Super, super_of}
+use Rattle.model.specs.Layout.{super_in}
+use Rattle.model.specs.Log.{recovered}
 use Rattle.model.specs.Readable.{IsReadable}
 use Rattle.model.specs.Verdict.{geometry_fault, log_fault, or_else, verdict}
 use Rattle.model.specs.Lemmas.Log.{both_of, length-recovered, recovered_low}
@@ -43,8 +40,7 @@ super_facts s n h =
 
 pub lawful_geometry : (x : Image) → geometry_fault x ≡ None → SuperFacts (super_of x) (length x)
 lawful_geometry x h =
-    let rest = guard_none (ltb (length x) 2) BadGeometry _ h in
-    let known = guard_none (not (has_known_magic x)) BadMagic _ rest.1 in
+    let known = guard_none (not (has_known_magic x)) BadMagic _ (guard_none (ltb (length x) 2) BadGeometry _ h).1 in
     let lawful = guard_none (not (is_lawful_super (super_of x) (length x))) BadGeometry None known.1 in
     super_facts (super_of x) (length x) (not-false (is_lawful_super (super_of x) (length x)) lawful.0)
 
@@ -79,8 +75,7 @@ pub verdict_none : (x : Image) → verdict x ≡ None → (geometry_fault x ≡ 
 unfolding verdict
 verdict_none x h =
     let first = or_else_none (geometry_fault x) _ h in
-    let second = or_else_none (log_fault x) _ first.1 in
-    (first.0, lawful (is_lawful_log x) second.0)
+    (first.0, lawful (is_lawful_log x) (or_else_none (log_fault x) _ first.1).0)
   where
     lawful : (b : Bool) → cond b None (Some BadLog) ≡ None → b ≡ true
     lawful true e = refl

@@ -1,18 +1,10 @@
 -- Where an inode's pointers are filled, each block that its size needs is there.
 use Rattle.std.proofs.Common.{◌≡◌, ◌≢◌, ℕ, zero, suc, ◌+◌, ◌-◌, ◌*◌, ◌/◌, ◌%◌, ◌^◌, ◌<◌, ◌≤◌, List, [], ◌∷◌, length, get_or, refl, subst, ⊎_elim, arith}
 use Rattle.std.specs.List.{AllByRecursion}
-use Rattle.std.proofs.lemmas.Bool.{ne_eqb, cases_eq, cases_lt, lt-ltb, le-ltb}
-use Rattle.std.proofs.lemmas.Nat.{div_below, div-add-mod'}
 use Rattle.std.proofs.Math.Nat.{pow-suc, mod-lt}
-use Rattle.blocks.specs.Disk.{Image, block_at}
-use Rattle.model.specs.declared.types.image.Dinode.{Dinode}
-use Rattle.model.specs.declared.types.image.Form.{Form}
-use Rattle.model.specs.declared.types.image.Form.TheVariants.{One, Two}
-use Rattle.model.specs.declared.types.image.Pointer.{Pointer}
-use Rattle.model.specs.Fields.{words_of}
-use Rattle.model.specs.Layout.{reach, depths, form_of, greatest_size}
+use Rattle.model.specs.Common.{address_along, address_under, addresses_in, block_at, cases_eq, cases_lt, depths, Dinode, div-add-mod', div_below, Form, form_of, greatest_size, Image, le-ltb, lt-ltb, ne_eqb, One, Pointer, pointers_along, pointers_behind, pointers_under, reach, Two, words_of}
 use Rattle.model.specs.Names.{names_along, names_of}
-use Rattle.model.specs.Places.{pointers_under, pointers_behind, pointers_along, pointers_in, addresses_in, address_under, address_along, address_in}
+use Rattle.model.specs.Places.{pointers_in, address_in}
 use Rattle.model.specs.Soundness.{IsFilled}
 use Rattle.model.specs.Lemmas.Counts.{AllByRecursion-parts}
 use Rattle.model.specs.Lemmas.Frames.{pointers_used}

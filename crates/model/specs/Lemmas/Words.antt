@@ -1,7 +1,7 @@
 -- The words of a list of bytes, one by one.
 use Rattle.std.proofs.Common.{◌≡◌, ℕ, zero, suc, ◌+◌, ◌*◌, ◌<◌, ◌≤◌, ◌++◌, List, [], ◌∷◌, length, get_or, take, drop, refl, sym, ap, ◌∙◌, arith}
-use Rattle.std.proofs.lemmas.List.{take_more, drop-drop, length-drop, ext_get_or, get_or_past}
-use Rattle.model.specs.Fields.{u32_at, words_of}
+use Rattle.model.specs.Common.{drop-drop, ext_get_or, get_or_past, length-drop, take_more, words_of}
+use Rattle.model.specs.Fields.{u32_at}
 
 four_more : (k : ℕ) → 4 * suc k ≡ suc (suc (suc (suc (4 * k))))
 four_more k = omega arith

@@ -1,6 +1,6 @@
 -- Facts that hold where the disk has not failed.
 use Rattle.std.specs.Prelude.{◌≡◌, IfNone, Option, Some, None}
-use Rattle.wal.specs.declared.types.DeviceFault.{DeviceFault}
+use Rattle.wal.specs.Common.{DeviceFault}
 
 pub where_none : {T : Type 0} (o : Option DeviceFault) → o ≡ None → IfNone o T → T
 where_none None e t = t

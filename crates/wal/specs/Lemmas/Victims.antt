@@ -2,23 +2,10 @@
 -- have an operation open in the log, and each of these two.
 use Rattle.std.proofs.Common.{◌≡◌, ◌≢◌, ℕ, zero, suc, ◌+◌, ◌*◌, ◌<◌, ◌≤◌, Bool, true, false, List, [], ◌∷◌, ◌++◌, length, map, get_or, length-drop, length-append, refl, ◌∙◌, ap, arith, Option, Some, None, inl, inr, ◌⊎◌}
 use Rattle.std.specs.List.{sum_by}
-use Rattle.std.proofs.lemmas.Bool.{cases_eq, eq-eqb, ne_eqb}
-use Rattle.std.proofs.lemmas.List.{length-map}
-use Rattle.std.proofs.lemmas.List.Sums.{sum_by-cons}
-use Rattle.blocks.specs.Disk.{Image}
+use Rattle.wal.specs.Common.{added_by, answer_by, block_is, block_or_zero, buffer, Buffers, cases_eq, cause_of_get, cause_to_get, Commit, eq-eqb, found, found_at, get_answer_by, HasLock, holder_count, Image, is_among, is_number_in, IsCache, JointAt, length-map, live_at, lock_answer, LogState, ne_eqb, Part, pins_of, references_of, some_found, sum_by-cons, take_answer, ten, unused, used_by, victim, victim_none_in_use}
 use Rattle.model.specs.Soundness.{count_of}
 use Rattle.model.specs.Lemmas.Counts.{count_of-append}
-use Rattle.bcache.specs.Current.{references_of, holder_count, is_number_in}
-use Rattle.bcache.specs.Buffers.{Buffers, buffer, found, victim, IsCache, block_or_zero, answer_by, take_answer, lock_answer}
 use Rattle.bcache.specs.Lemmas.Order.{counted_below}
-use Rattle.bcache.specs.Lemmas.Slots.{some_found, found_at, block_is, victim_none_in_use}
-use Rattle.wal.specs.declared.types.Commit.{Commit}
-use Rattle.wal.specs.declared.types.Commit.TheVariants as commit
-use Rattle.wal.specs.declared.types.Part.TheVariants as part
-use Rattle.wal.specs.Held.{HasLock}
-use Rattle.wal.specs.Joint.{JointAt, live_at, pins_of}
-use Rattle.wal.specs.Machine.{LogState, used_by, is_among, ten, added_by, unused}
-use Rattle.wal.specs.Volume.{get_answer_by, cause_to_get, cause_of_get}
 
 -- ---- the slots of the open operations
 
@@ -32,10 +19,7 @@ unfolding slots_of
 few_slots keeps few [] k = omega arith
 few_slots keeps few (None ∷ us) k = let rest = few_slots keeps few us (suc k) in omega (arith, rest, sum_by-cons ten None us)
 few_slots keeps few (Some u ∷ us) k =
-    let rest = few_slots keeps few us (suc k) in
-    let all = length-append (keeps k) (slots_of keeps us (suc k)) in
-    let two = few k in
-    omega (arith, rest, all, two, sum_by-cons ten (Some u) us)
+    omega (arith, (few_slots keeps few us (suc k)), (length-append (keeps k) (slots_of keeps us (suc k))), (few k), sum_by-cons ten (Some u) us)
 
 slot_among : (keeps : ℕ → List ℕ) (us : List (Option ℕ)) (k p j i u : ℕ) → j ≡ k + p → get_or us p None ≡ Some u → count_of i (keeps j) ≢ 0 → count_of i (slots_of keeps us k) ≢ 0
 unfolding slots_of
@@ -54,11 +38,9 @@ slot_among keeps (Some v ∷ us) k (suc p) j i u is has some =
 tens : (us : List (Option ℕ)) → sum_by ten us ≤ sum_by added_by us + sum_by unused us
 tens [] = omega arith
 tens (None ∷ us) =
-    let rest = tens us in
-    omega (arith, rest, sum_by-cons ten None us, sum_by-cons added_by None us, sum_by-cons unused None us)
+    omega (arith, (tens us), sum_by-cons ten None us, sum_by-cons added_by None us, sum_by-cons unused None us)
 tens (Some u ∷ us) =
-    let rest = tens us in
-    omega (arith, rest, sum_by-cons ten (Some u) us, sum_by-cons added_by (Some u) us, sum_by-cons unused (Some u) us)
+    omega (arith, (tens us), sum_by-cons ten (Some u) us, sum_by-cons added_by (Some u) us, sum_by-cons unused (Some u) us)
 
 -- ---- the slots of the homes
 
@@ -74,15 +56,15 @@ home_among f b i (h ∷ hs) among is = elim (cases_eq h b) [
 ]
 
 few_live : (k : Commit) (hs : List ℕ) → length (live_at k hs) ≤ length hs
-few_live commit.Quiet hs = omega arith
-few_live (commit.Logging k) hs = omega arith
-few_live commit.Heading hs = omega arith
-few_live (commit.Homing k) hs = let e = length-drop k hs in omega (arith, e)
-few_live commit.Clearing hs = let e = length-drop (length hs) hs in omega (arith, e)
-few_live (commit.Syncing part.Log) hs = omega arith
-few_live (commit.Syncing part.Header) hs = omega arith
-few_live (commit.Syncing part.Homes) hs = let e = length-drop (length hs) hs in omega (arith, e)
-few_live (commit.Syncing part.Clear) hs = let e = length-drop (length hs) hs in omega (arith, e)
+few_live Commit.Quiet hs = omega arith
+few_live (Commit.Logging k) hs = omega arith
+few_live Commit.Heading hs = omega arith
+few_live (Commit.Homing k) hs = let e = length-drop k hs in omega (arith, e)
+few_live Commit.Clearing hs = let e = length-drop (length hs) hs in omega (arith, e)
+few_live (Commit.Syncing Part.Log) hs = omega arith
+few_live (Commit.Syncing Part.Header) hs = omega arith
+few_live (Commit.Syncing Part.Homes) hs = let e = length-drop (length hs) hs in omega (arith, e)
+few_live (Commit.Syncing Part.Clear) hs = let e = length-drop (length hs) hs in omega (arith, e)
 
 -- what a pinned slot is for
 pinned_home : (hs : List ℕ) (o : Option ℕ) → pins_of hs o ≢ 0 → (b : ℕ) × (o ≡ Some b) × (is_among b hs ≡ true)
@@ -132,21 +114,16 @@ module _ (k : Commit) (x : Image) (c : Buffers) (l : LogState) (j : JointAt k x 
 
   few_in_use : length in_use ≤ 36
   few_in_use =
-      let all = length-append (map place_of (live_at k l.homes)) (slots_of keeps l.used 0) in
       let homes = length-map (live_at k l.homes) place_of in
-      let less = few_live k l.homes in
       let slots = few_slots keeps most l.used 0 in
-      let sums = tens l.used in
-      let room = j.log.room in
       let added = j.log.added in
-      omega (arith, all, homes, less, slots, sums, room, added)
+      omega (arith, (length-append (map place_of (live_at k l.homes)) (slots_of keeps l.used 0)), homes, (few_live k l.homes), slots, (tens l.used), j.log.room, added)
 
   -- a buffer is left
   pub some_victim : victim c ≢ None
   some_victim none =
-      let all = counted_below 40 in_use (λ (i : ℕ) (lt : i < 40). stands_there i (victim_none_in_use c j.cache none i lt)) in
       let few = few_in_use in
-      omega (arith, all, few)
+      omega (arith, (counted_below 40 in_use (λ (i : ℕ) (lt : i < 40). stands_there i (victim_none_in_use c j.cache none i lt))), few)
 
 -- ---- a block is got that nobody holds
 

@@ -1,6 +1,6 @@
 use Rattle.bcache.specs.Lemmas.Current.{current_hidden}
 use Rattle.std.proofs.Common.{Some, false, refl}
-use Rattle.bcache.specs.Buffers.{buffer}
+use Rattle.bcache.specs.Common.{buffer}
 use Rattle.bcache.proofs.laws.recycling_keeps.Goals as goal
 
 pub returns : goal.returns

@@ -1,4 +1,4 @@
-use Rattle.blockmap.specs.Balloc.{AreFull}
+use Rattle.blockmap.specs.Common.{AreFull}
 use Rattle.blockmap.proofs.balloc.first_not_full.Given as goal
 
 abbrev pub invariant-loop-place : goal.invariant-loop-place

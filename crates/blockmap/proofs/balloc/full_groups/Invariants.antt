@@ -1,5 +1,5 @@
 use Rattle.std.proofs.Common.{◌*◌}
-use Rattle.blockmap.specs.Balloc.{AreFull}
+use Rattle.blockmap.specs.Common.{AreFull}
 use Rattle.blockmap.proofs.balloc.full_groups.Given as goal
 
 abbrev pub invariant-loop-group : goal.invariant-loop-group

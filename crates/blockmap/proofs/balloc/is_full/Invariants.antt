@@ -1,5 +1,5 @@
 use Rattle.std.proofs.Common.{◌≡◌, true}
-use Rattle.blockmap.specs.Balloc.{AreFull}
+use Rattle.blockmap.specs.Common.{AreFull}
 use Rattle.blockmap.proofs.balloc.is_full.Given as goal
 
 abbrev pub invariant-loop-place : goal.invariant-loop-place

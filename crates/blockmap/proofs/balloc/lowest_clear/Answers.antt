@@ -1,5 +1,5 @@
 use Rattle.std.proofs.Common.{◌≡◌, ◌∙◌, ap, arith, ℕ, ◌+◌, ◌*◌, List, length, get_or, Some}
-use Rattle.blockmap.specs.Balloc.{lowest_clear}
+use Rattle.blockmap.specs.Common.{lowest_clear}
 use Rattle.blockmap.proofs.Taking.{none_clear, clear_below, clear_past}
 use Rattle.blockmap.proofs.balloc.lowest_clear.Goals as goal
 

@@ -1,8 +1,6 @@
 use Rattle.std.proofs.Common.{◌≡◌, ◌∙◌, ap, sym, subst, arith, ℕ, ◌/◌, List, [], ◌∷◌}
-use Rattle.blocks.specs.Block.{overwritten}
-use Rattle.blocks.specs.Disk.{block_at}
+use Rattle.blockmap.specs.Common.{block_at, overwritten, seen}
 use Rattle.model.specs.Codec.{without_bit}
-use Rattle.wal.specs.Joint.{seen}
 use Rattle.blockmap.specs.Bfree.{byte_without}
 use Rattle.blockmap.specs.Getting.{Puts, block_at_slot}
 use Rattle.blockmap.specs.Lemmas.Putting.{writes_put}

@@ -1,10 +1,10 @@
 use Rattle.std.proofs.Common.{◌∙◌, ⊎_elim, inl, inr, sym, ap, subst}
+use Rattle.blockmap.specs.Common.{Node}
 use Rattle.blockmap.specs.Bmap.{EntryState, first_entry, sought_in}
 use Rattle.blockmap.specs.Map.{IsBranchOf, address_or_zero}
 use Rattle.blockmap.specs.Lemmas.Addresses.{address_or_zero_of}
 use Rattle.blockmap.specs.Lemmas.Branches.{address_there}
 use Rattle.blockmap.specs.Lemmas.Targets.{found_at_once, found_behind}
-use Rattle.blockmap.specs.declared.branch.Node.{Node}
 use Rattle.blockmap.proofs.mapping.map.Goals as goal
 
 pub returns-then-address-eq0-clause-address : goal.returns-then-address-eq0-clause-address

@@ -1,10 +1,8 @@
 use Rattle.std.proofs.Common.{◌∙◌, sym, ap, subst, ⊎_elim, ℕ, ◌<◌, get_or}
-use Rattle.model.specs.Layout.{reach}
-use Rattle.model.specs.Places.{address_under}
+use Rattle.blockmap.specs.Common.{address_under, Branch, reach}
 use Rattle.blockmap.specs.BmapAlloc.{IsLed, MapState}
 use Rattle.blockmap.specs.Map.{IsBranchOf}
 use Rattle.blockmap.specs.Lemmas.Branches.{address_there, is_branch, lies_first}
-use Rattle.blockmap.specs.declared.branch.Branch.{Branch}
 use Rattle.blockmap.proofs.mapping.map_for_writing.Goals as goal
 use Rattle.blockmap.proofs.mapping.map_for_writing.Goals.{then-address-eq0, else-address-eq0}
 

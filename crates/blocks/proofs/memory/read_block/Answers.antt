@@ -1,6 +1,6 @@
 use Rattle.std.proofs.Common.{◌≡◌, [], length, refl, sym, ◌∙◌, ap, Some}
-use Rattle.std.proofs.lemmas.List.{get_or_read}
 use Rattle.std.proofs.lemmas.Option.{slice_get_read}
+use Rattle.blocks.specs.Common.{get_or_read}
 use Rattle.blocks.proofs.BlockLemmas.{overwritten-whole}
 use Rattle.blocks.proofs.memory.read_block.Goals as goal
 

@@ -1,6 +1,6 @@
 use Rattle.std.proofs.Common.{◌∙◌, ◌∷◌, ◌++◌, [], length, refl, sym, ap, subst, arith}
 use Rattle.std.proofs.lemmas.List.{append_assoc}
-use Rattle.clients.specs.Sources.{ArePaired}
+use Rattle.clients.specs.Feeders.{ArePaired}
 use Rattle.clients.proofs.Pairs.{one_paired}
 use Rattle.clients.proofs.making.paired.Goals as goal
 
@@ -9,7 +9,7 @@ loop-caller-init c = record {
   taken = [];
   all = sym c.into_iter-backlogs.ensures.rest;
   callers = sym c.into_iter-caller-iterator.ensures.into_iter_gives.0;
-  paired = subst (ArePaired [] []) (sym c.new-sources.ensures.items) tt;
+  paired = subst (ArePaired [] []) (sym c.new-feeders.ensures.items) tt;
   even = ap length c.into_iter-caller-iterator.ensures.into_iter_gives.0 ∙ c.requires.many ∙ ap length (sym c.into_iter-backlogs.ensures.rest);
 }
 

@@ -1,5 +1,5 @@
 use Rattle.std.proofs.Common.{◌≡◌, ◌++◌, List, length}
-use Rattle.clients.specs.Sources.{ArePaired}
+use Rattle.clients.specs.Feeders.{ArePaired}
 use Rattle.clients.specs.declared.backlog.Backlog.{Backlog}
 use Rattle.clients.proofs.making.paired.Given as goal
 
@@ -8,6 +8,6 @@ invariant-loop-caller l = record {
   taken : List Backlog;
   all : l.fn.backlogs.items ≡ taken ++ l.backlogs.rest.items;
   callers : l.fn.callers.items ≡ l.yielded ++ l.caller-iterator.rest.items;
-  paired : ArePaired l.yielded taken l.sources.items;
+  paired : ArePaired l.yielded taken l.feeders.items;
   even : length l.caller-iterator.rest.items ≡ length l.backlogs.rest.items;
 }

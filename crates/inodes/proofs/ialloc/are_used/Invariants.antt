@@ -1,4 +1,4 @@
-use Rattle.inodes.specs.Creation.{AreUsed}
+use Rattle.inodes.specs.Common.{AreUsed}
 use Rattle.inodes.proofs.ialloc.are_used.Given as goal
 
 abbrev pub invariant-loop-place : goal.invariant-loop-place

@@ -1,5 +1,5 @@
 use Rattle.std.proofs.Common.{◌≡◌, false}
-use Rattle.inodes.specs.Table.{HasNot}
+use Rattle.inodes.specs.Common.{HasNot}
 use Rattle.inodes.proofs.table.has_number.Given as goal
 
 abbrev pub invariant-loop-place : goal.invariant-loop-place

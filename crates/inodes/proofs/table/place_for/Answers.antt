@@ -1,6 +1,6 @@
 use Rattle.std.proofs.Common.{◌∙◌, sym, ap, ℕ, Option, position}
 use Rattle.std.specs.Prelude.{is_none}
-use Rattle.inodes.specs.Table.{or_else}
+use Rattle.inodes.specs.Common.{or_else}
 use Rattle.inodes.proofs.TableNumbers.{none_in}
 use Rattle.inodes.proofs.table.place_for.Goals as goal
 

@@ -1,7 +1,5 @@
 use Rattle.std.proofs.Common.{rules, List, ◌<◌, length, sym, subst, refl}
-use Rattle.std.proofs.lemmas.List.{take_more}
-use Rattle.kernel.specs.declared.types.Turn.{Turn}
-use Rattle.kernel.specs.Runs.{Runs}
+use Rattle.kernel.specs.Common.{Runs, take_more, Turn}
 use Rattle.kernel.proofs.Turns.{runs_more}
 use Rattle.kernel.specs.Lemmas.Turns.{runs_on_none, runs_on_then}
 use Rattle.kernel.proofs.runs.run.Goals as goal

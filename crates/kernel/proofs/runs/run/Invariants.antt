@@ -1,5 +1,5 @@
 use Rattle.std.proofs.Common.{take}
-use Rattle.kernel.specs.Runs.{Runs, RunsOn}
+use Rattle.kernel.specs.Common.{Runs, RunsOn}
 use Rattle.kernel.proofs.runs.run.Given as goal
 
 -- the first turns were made

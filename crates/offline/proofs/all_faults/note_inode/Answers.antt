@@ -1,11 +1,5 @@
 use Rattle.std.proofs.Common.{◌≡◌, Bool, subst}
-use Rattle.std.proofs.lemmas.Result.{on_ok_weaker}
-use Rattle.model.specs.declared.types.image.Dinode.{Dinode}
-use Rattle.model.specs.Layout.{depths}
-use Rattle.model.specs.Log.{recovered}
-use Rattle.model.specs.Places.{pointers_along}
-use Rattle.model.specs.Verdict.{places_below}
-use Rattle.offline.specs.Notes.{HasNoted}
+use Rattle.offline.specs.Common.{depths, Dinode, HasNoted, on_ok_weaker, places_below, pointers_along, recovered}
 use Rattle.offline.proofs.NoteLemmas.{is_none_where, noted_free, noted_used}
 use Rattle.offline.proofs.all_faults.note_inode.Goals as goal
 

@@ -1,13 +1,6 @@
 use Rattle.std.proofs.Common.{◌≡◌, ◌∙◌, ◌+◌, ◌-◌, inr, subst, arith, rules}
-use Rattle.blocks.specs.Disk.{Image, block_at}
-use Rattle.blocks.specs.Lemmas.Reads.{reads_then}
+use Rattle.offline.specs.Common.{block_at, flat_mapped_next, Image, inode_block, NotesInode, places_below, reads_then, recovered, Stand}
 use Rattle.model.specs.Faults.{inode_faults}
-use Rattle.model.specs.Layout.{inode_block}
-use Rattle.model.specs.Log.{recovered}
-use Rattle.model.specs.Verdict.{places_below}
-use Rattle.model.specs.Lemmas.Steps.{flat_mapped_next}
-use Rattle.offline.specs.Notes.{NotesInode}
-use Rattle.offline.specs.Owners.{Stand}
 use Rattle.offline.proofs.NoteLemmas.{found_next}
 use Rattle.offline.proofs.all_faults.note_inodes.Goals as goal
 

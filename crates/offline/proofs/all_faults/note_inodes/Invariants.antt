@@ -1,12 +1,7 @@
 use Rattle.std.proofs.Common.{◌≡◌, ◌⊎◌, ◌+◌, ◌-◌, ◌++◌, []}
 use Rattle.std.specs.List.{flat_map, range_with_len}
-use Rattle.blocks.specs.Calls.{OnlyReads}
-use Rattle.blocks.specs.Disk.{block_at}
+use Rattle.offline.specs.Common.{block_at, inode_block, OnlyReads, places_below, recovered, SameLimits, Stand}
 use Rattle.model.specs.Faults.{inode_faults}
-use Rattle.model.specs.Layout.{inode_block}
-use Rattle.model.specs.Log.{recovered}
-use Rattle.model.specs.Verdict.{places_below}
-use Rattle.offline.specs.Owners.{Stand, SameLimits}
 use Rattle.offline.proofs.all_faults.note_inodes.Given as goal
 
 abbrev pub invariant-loop-i : goal.invariant-loop-i

@@ -1,7 +1,5 @@
 use Rattle.std.proofs.Common.{◌∙◌, ◌++◌, ap}
-use Rattle.model.specs.Faults.{listed}
-use Rattle.model.specs.Verdict.{mark_fault}
-use Rattle.model.specs.Lemmas.Steps.{flat_mapped_more}
+use Rattle.offline.specs.Common.{flat_mapped_more, listed, mark_fault}
 use Rattle.offline.proofs.NoteLemmas.{found_next}
 use Rattle.offline.proofs.all_faults.note_marks.Goals as goal
 

@@ -1,10 +1,6 @@
 use Rattle.std.proofs.Common.{◌≡◌, ◌++◌}
 use Rattle.std.specs.List.{flat_map, range_with_len}
-use Rattle.blocks.specs.Disk.{Image}
-use Rattle.model.specs.Faults.{listed}
-use Rattle.model.specs.Places.{places_of}
-use Rattle.model.specs.Verdict.{mark_fault}
-use Rattle.offline.specs.Owners.{Stand}
+use Rattle.offline.specs.Common.{Image, listed, mark_fault, places_of, Stand}
 use Rattle.offline.proofs.all_faults.note_marks.Given as goal
 
 abbrev pub invariant-loop-b : goal.invariant-loop-b

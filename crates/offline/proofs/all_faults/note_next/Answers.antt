@@ -1,10 +1,6 @@
 use Rattle.std.proofs.Common.{subst}
 use Rattle.std.specs.Prelude.{OnOk}
-use Rattle.blocks.specs.Disk.{Image}
-use Rattle.model.specs.Log.{recovered}
-use Rattle.model.specs.Verdict.{places_below}
-use Rattle.offline.specs.Notes.{NotesInode}
-use Rattle.offline.specs.Owners.{Stand}
+use Rattle.offline.specs.Common.{Image, NotesInode, places_below, recovered, Stand}
 use Rattle.offline.proofs.all_faults.note_next.Goals as goal
 
 pub returns-clause-noted : goal.returns-clause-noted

@@ -1,10 +1,5 @@
 use Rattle.std.proofs.Common.{◌≡◌, ◌∙◌, ℕ, None, inl, subst, arith}
-use Rattle.std.proofs.lemmas.Result.{err_from_is_err_and}
-use Rattle.blocks.specs.Disk.{Image}
-use Rattle.model.specs.Files.{file_count, files_of}
-use Rattle.model.specs.Log.{recovered}
-use Rattle.model.specs.Verdict.{or_else, inodes_fault, marks_fault}
-use Rattle.offline.specs.Cause.{IsCause}
+use Rattle.offline.specs.Common.{err_from_is_err_and, file_count, files_of, Image, inodes_fault, IsCause, marks_fault, or_else, recovered}
 use Rattle.offline.proofs.CheckLemmas.{ground, verdict_short, verdict_opening, verdict_contents}
 use Rattle.offline.proofs.checking.check.Goals as goal
 
@@ -20,10 +15,9 @@ returns-in_err-image-clause-fault g c =
 
 pub check_contents-requires-clause-ground : goal.check_contents-requires-clause-ground
 check_contents-requires-clause-ground g c =
-    let x = g.D.Disk.image c.args.disk.now in
     let image = c.in_ok-image.image in
     let is = c.in_ok-image.ensures.ok in
-    rw c.open.ensures.reads.image (ground x image.sup image.form is.geometry is.header.lawful is.sup is.form)
+    rw c.open.ensures.reads.image (ground (g.D.Disk.image c.args.disk.now) image.sup image.form is.geometry is.header.lawful is.sup is.form)
 
 pub returns-in_err-files-clause-fault : goal.returns-in_err-files-clause-fault
 returns-in_err-files-clause-fault g c =
@@ -41,8 +35,7 @@ returns-in_err-files-clause-fault g c =
 pub returns-clause-ok : goal.returns-clause-ok
 returns-clause-ok g c =
     let d = g.D.Disk in
-    let x = d.image c.args.disk.now in
     let is = c.in_ok-image.ensures.ok in
     let here = subst (λ (z : Image). (or_else (inodes_fault (recovered z)) (marks_fault (recovered z)) ≡ None) × (c.in_ok-files.files ≡ file_count (files_of (recovered z))))
     c.open.ensures.reads.image c.in_ok-files.ensures.judged in
-    verdict_contents x is.geometry is.header.lawful ∙ here.0
+    verdict_contents (d.image c.args.disk.now) is.geometry is.header.lawful ∙ here.0

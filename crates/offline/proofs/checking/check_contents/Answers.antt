@@ -1,12 +1,5 @@
 use Rattle.std.proofs.Common.{◌≡◌, ◌∙◌, ℕ, [], None, inl, subst}
-use Rattle.std.proofs.lemmas.Result.{err_from_is_err_and}
-use Rattle.blocks.specs.Disk.{Image}
-use Rattle.model.specs.Files.{file_count, files_of}
-use Rattle.model.specs.Log.{recovered}
-use Rattle.model.specs.Places.{places_of}
-use Rattle.model.specs.Verdict.{inodes_fault, marks_fault}
-use Rattle.offline.specs.Cause.{IsCause}
-use Rattle.offline.specs.Owners.{Stand}
+use Rattle.offline.specs.Common.{err_from_is_err_and, file_count, files_of, Image, inodes_fault, IsCause, marks_fault, places_of, recovered, Stand}
 use Rattle.offline.proofs.CheckLemmas.{stand_new}
 use Rattle.offline.proofs.OwnersLemmas.{cause_first}
 use Rattle.offline.proofs.checking.check_contents.Given.{Over}

@@ -1,11 +1,5 @@
 use Rattle.std.proofs.Common.{◌≡◌, ◌<◌, ◌≤◌, ◌≢◌, inl, sym, Ok, Err, ◌∙◌, subst}
-use Rattle.std.proofs.lemmas.Bool.{ltb-false, ltb_from_iff}
-use Rattle.std.proofs.lemmas.Result.{err_from_is_err_and}
-use Rattle.model.specs.declared.types.image.Dinode.{Dinode}
-use Rattle.model.specs.Layout.{depths, greatest_size}
-use Rattle.model.specs.Log.{recovered}
-use Rattle.model.specs.Places.{pointers_along}
-use Rattle.offline.specs.Owners.{JudgesPointers}
+use Rattle.offline.specs.Common.{depths, Dinode, err_from_is_err_and, greatest_size, JudgesPointers, ltb-false, ltb_from_iff, pointers_along, recovered}
 use Rattle.offline.proofs.InodeLemmas.{IsUsed, bad_type, bad_size, judged_free, judged_used, cause_used}
 use Rattle.offline.proofs.checking.check_inode.Given.{Over}
 use Rattle.offline.proofs.checking.check_inode.Goals.{After-claim_inode}
@@ -13,13 +7,11 @@ use Rattle.offline.proofs.checking.check_inode.Goals as goal
 
 pub returns-then-inode-gt3-clause-judged : goal.returns-then-inode-gt3-clause-judged
 returns-then-inode-gt3-clause-judged g c = λ stand.
-    let y = recovered (g.D.Disk.image c.args.disk.now) in
-    inl (bad_type y c.args.i (subst (λ (d : Dinode). 3 < d.kind) c.requires.inode c.if-inode-gt3.true))
+    inl (bad_type (recovered (g.D.Disk.image c.args.disk.now)) c.args.i (subst (λ (d : Dinode). 3 < d.kind) c.requires.inode c.if-inode-gt3.true))
 
 pub returns-then-inode-eq0-clause-judged : goal.returns-then-inode-eq0-clause-judged
 returns-then-inode-eq0-clause-judged g c = λ stand.
-    let y = recovered (g.D.Disk.image c.args.disk.now) in
-    judged_free y c.args.i (g.D.Disk.fault_count c.args.disk.now) (g.D.Disk.fault_count c.args.disk.now) c.args.owners.now
+    judged_free (recovered (g.D.Disk.image c.args.disk.now)) c.args.i (g.D.Disk.fault_count c.args.disk.now) (g.D.Disk.fault_count c.args.disk.now) c.args.owners.now
     c.requires.some (subst (λ (d : Dinode). d.kind ≡ 0) c.requires.inode c.if-inode-eq0.true) stand
 
 pub returns-then-is_too_large-clause-judged : goal.returns-then-is_too_large-clause-judged

@@ -1,15 +1,8 @@
 use Rattle.std.proofs.Common.{◌≡◌, ◌∙◌, ◌+◌, ◌-◌, ℕ, cond, None, inr, subst, arith, rules}
 use Rattle.std.specs.Prelude.{is_some}
-use Rattle.std.proofs.lemmas.Result.{err_from_is_err_and}
-use Rattle.blocks.specs.Disk.{Image, block_at}
-use Rattle.model.specs.Files.{file_at}
-use Rattle.model.specs.Layout.{inode_block}
-use Rattle.model.specs.Log.{recovered}
-use Rattle.model.specs.Verdict.{inode_fault, places_below}
-use Rattle.offline.specs.Cause.{IsCause}
-use Rattle.offline.specs.Owners.{Stand}
+use Rattle.offline.specs.Common.{block_at, err_from_is_err_and, file_at, Image, inode_block, IsCause, places_below, reads_then, recovered, Stand}
+use Rattle.model.specs.Verdict.{inode_fault}
 use Rattle.offline.proofs.InodeLemmas.{judged_next, cause_next, judged_all}
-use Rattle.blocks.specs.Lemmas.Reads.{reads_then}
 use Rattle.offline.proofs.checking.check_inodes.Goals as goal
 use Rattle.offline.proofs.checking.check_inodes.Goals.{then-branch, else-branch}
 

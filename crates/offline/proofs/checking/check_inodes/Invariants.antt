@@ -1,9 +1,5 @@
 use Rattle.std.proofs.Common.{◌≡◌, ◌⊎◌, ◌-◌, ◌<◌, []}
-use Rattle.blocks.specs.Disk.{block_at}
-use Rattle.model.specs.Layout.{inode_block}
-use Rattle.model.specs.Log.{recovered}
-use Rattle.blocks.specs.Calls.{OnlyReads}
-use Rattle.offline.specs.Owners.{Stand, SameLimits}
+use Rattle.offline.specs.Common.{block_at, inode_block, OnlyReads, recovered, SameLimits, Stand}
 use Rattle.offline.proofs.InodeLemmas.{AreJudged}
 use Rattle.offline.proofs.checking.check_inodes.Given as goal
 

@@ -1,14 +1,5 @@
 use Rattle.std.proofs.Common.{◌≡◌, ◌∙◌, ◌-◌, ◌++◌, ℕ, List, [], ◌∷◌, ap, get_or, inl, Ok, Err, refl, subst, arith, rules}
-use Rattle.std.proofs.lemmas.Result.{err_from_is_err_and}
-use Rattle.blocks.specs.Disk.{Image, block_at}
-use Rattle.blocks.specs.Lemmas.Reads.{reads_then}
-use Rattle.model.specs.declared.types.image.Pointer.{Pointer}
-use Rattle.model.specs.Fields.{words_of}
-use Rattle.model.specs.Log.{recovered}
-use Rattle.model.specs.Places.{addresses_in, pointer_of, pointers_under}
-use Rattle.model.specs.Verdict.{first_pointer_fault}
-use Rattle.offline.specs.Cause.{IsCause}
-use Rattle.offline.specs.Owners.{Judges, JudgesOn, entry_pointers}
+use Rattle.offline.specs.Common.{addresses_in, block_at, entry_pointers, err_from_is_err_and, first_pointer_fault, Image, IsCause, Judges, JudgesOn, Pointer, pointer_of, pointers_under, reads_then, recovered, words_of}
 use Rattle.offline.proofs.OwnersLemmas.{fault_early, judged_on_more, judged_none, judged_all, next_fails, next_passes}
 use Rattle.offline.proofs.ClaimLemmas.{under_data, under_none, under_first, under_block, entry_more, entry_all}
 use Rattle.offline.proofs.claims.+levels.Goals as goal
@@ -17,24 +8,22 @@ use Rattle.offline.proofs.claims.+levels.Goals.{claim_under-then-branch-eq0-via-
 pub claim_under-returns-in_err-claim-clause-judged : goal.claim_under-returns-in_err-claim-clause-judged
 claim_under-returns-in_err-claim-clause-judged g t c = λ earlier stand.
     let y = recovered (g.D.Disk.image c.args.disk.now) in
-    let one = pointer_of c.args.size c.args.branch.first c.args.branch.address ∷ [] in
     let fault = c.in_err-claim.field-0.0 in
     let p = err_from_is_err_and c.from_residual.result c.from_residual.ensures.1 in
     let here = subst (λ (q : Pointer). Judges y c.args.i earlier (q ∷ []) c.claim.new.self (Err fault)) c.pointer.ensures (c.in_err-claim.ensures.judged y earlier stand) in
     let parts = under_first y c.args.size c.args.branch.depth c.args.branch.first c.args.branch.address in
-    rw (p.1, p.2, parts.1) (inl (fault_early y c.args.i earlier one parts.0 fault here))
+    rw (p.1, p.2, parts.1) (inl (fault_early y c.args.i earlier (pointer_of c.args.size c.args.branch.first c.args.branch.address ∷ []) parts.0 fault here))
 
 pub claim_under-returns-then-branch-eq0-clause-judged : goal.claim_under-returns-then-branch-eq0-clause-judged
 claim_under-returns-then-branch-eq0-clause-judged g t c = λ earlier stand.
     let y = recovered (g.D.Disk.image c.args.disk.now) in
     let branch = c.args.branch in
-    let here = subst (λ (q : Pointer). Judges y c.args.i earlier (q ∷ []) c.claim.new.self (Ok tt)) c.pointer.ensures (c.in_ok-claim.ensures.judged y earlier stand) in
     let alone : pointers_under y c.args.size branch.depth branch.first branch.address ≡ pointer_of c.args.size branch.first branch.address ∷ [] =
     elim c.then-branch-eq0.branch [
       | claim_under-then-branch-eq0-via-then-branch-eq0 w ↦ under_data y c.args.size branch.depth branch.first branch.address w.if-branch-eq0.true
       | claim_under-then-branch-eq0-via-else-branch-eq0+then-branch-eq0-2 w ↦ under_none y c.args.size branch.depth branch.first branch.address w.if-branch-eq0-2.true
     ] in
-    rw alone here
+    rw alone (subst (λ (q : Pointer). Judges y c.args.i earlier (q ∷ []) c.claim.new.self (Ok tt)) c.pointer.ensures (c.in_ok-claim.ensures.judged y earlier stand))
 
 pub claim_under-returns-clause-judged : goal.claim_under-returns-clause-judged
 claim_under-returns-clause-judged g t c = λ earlier stand.

@@ -1,8 +1,5 @@
 use Rattle.std.proofs.Common.{◌∙◌, get_or, arith, rules}
-use Rattle.std.proofs.lemmas.Result.{err_from_is_err_and}
-use Rattle.blocks.specs.Disk.{Image}
-use Rattle.blocks.specs.Lemmas.Reads.{reads_then}
-use Rattle.model.specs.Places.{pointers_under}
+use Rattle.offline.specs.Common.{err_from_is_err_and, Image, pointers_under, reads_then}
 use Rattle.offline.proofs.OwnersLemmas.{judged_all, next_fails, next_passes}
 use Rattle.offline.proofs.ClaimLemmas.{along_more, along_all}
 use Rattle.offline.proofs.claims.claim_inode.Goals as goal
@@ -37,7 +34,6 @@ loop-k-preserved g c =
 pub returns-clause-judged : goal.returns-clause-judged
 returns-clause-judged g c = λ earlier stand.
     let inode = c.args.inode.now in
-    let depths = c.depths-depths.result in
     rw (← c.depths-depths.ensures.value)
     (judged_all _ c.args.i earlier _ _ (g.D.Disk.fault_count c.args.disk.now) (g.D.Disk.fault_count c.loop-k.disk) c.loop-k.owners (c.loop-k.invariant.judged earlier stand)
-    (along_all _ inode.size c.loop-k.first depths inode.addrs c.loop-k.k (omega (arith, c.depths-depths.ensures.len))))
+    (along_all _ inode.size c.loop-k.first c.depths-depths.result inode.addrs c.loop-k.k (omega (arith, c.depths-depths.ensures.len))))

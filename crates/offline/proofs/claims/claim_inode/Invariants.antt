@@ -1,8 +1,5 @@
 use Rattle.std.proofs.Common.{◌≡◌, ℕ, ◌*◌, ◌≤◌, List, drop}
-use Rattle.blocks.specs.Calls.{OnlyReads}
-use Rattle.model.specs.Log.{recovered}
-use Rattle.model.specs.Places.{pointers_along}
-use Rattle.offline.specs.Owners.{Stand, SameLimits}
+use Rattle.offline.specs.Common.{OnlyReads, pointers_along, recovered, SameLimits, Stand}
 use Rattle.offline.proofs.OwnersLemmas.{HasJudged}
 use Rattle.offline.proofs.claims.claim_inode.Given as goal
 

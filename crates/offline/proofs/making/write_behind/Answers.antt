@@ -1,7 +1,6 @@
 use Rattle.std.proofs.Common.{◌≡◌, ◌≢◌, ℕ, ◌+◌, ◌-◌, ap, ◌∙◌, sym, inr, refl, arith}
 use Rattle.std.specs.Prelude.{slice_set}
-use Rattle.blocks.specs.Disk.{Image, one_more}
-use Rattle.model.specs.Codec.{made_block}
+use Rattle.offline.specs.Common.{Image, made_block, one_more}
 use Rattle.offline.specs.Making.{made_first}
 use Rattle.offline.proofs.MakingLemmas.{counted_more, has_made_more, made_first-more, made_two, order_behind, part_more, part_started}
 use Rattle.offline.proofs.making.write_behind.Goals as goal

@@ -1,6 +1,5 @@
 use Rattle.std.proofs.Common.{◌≡◌, ◌-◌}
-use Rattle.blocks.specs.Disk.{LeavesOnly, counted}
-use Rattle.blocks.specs.Calls.{UnlessHolds}
+use Rattle.offline.specs.Common.{counted, LeavesOnly, UnlessHolds}
 use Rattle.offline.specs.Making.{HasMade, IsMadeInPartAs, made_first}
 use Rattle.offline.proofs.making.write_behind.Given as goal
 

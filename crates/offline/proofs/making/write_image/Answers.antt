@@ -1,5 +1,5 @@
 use Rattle.std.proofs.Common.{◌-◌, ap, ◌∙◌, inr, arith}
-use Rattle.blocks.specs.Disk.{one_more}
+use Rattle.offline.specs.Common.{one_more}
 use Rattle.offline.proofs.MakingLemmas.{counted_all, last_made, order_last, part_more}
 use Rattle.offline.proofs.making.write_image.Goals as goal
 

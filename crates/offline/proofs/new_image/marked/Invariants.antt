@@ -1,5 +1,5 @@
 use Rattle.std.proofs.Common.{◌≡◌}
-use Rattle.model.specs.Codec.{first_bits}
+use Rattle.offline.specs.Common.{first_bits}
 use Rattle.offline.proofs.new_image.marked.Given as goal
 
 abbrev pub invariant-loop-k : goal.invariant-loop-k

@@ -1,14 +1,5 @@
 use Rattle.std.proofs.Common.{◌≡◌, ◌∙◌, ◌+◌, ◌-◌, ◌++◌, ℕ, List, [], ◌∷◌, ap, drop, get_or, refl, subst, arith, rules}
-use Rattle.std.proofs.lemmas.Result.{on_ok_weaker}
-use Rattle.blocks.specs.Disk.{Image, block_at}
-use Rattle.blocks.specs.Lemmas.Reads.{reads_then}
-use Rattle.model.specs.Fields.{words_of}
-use Rattle.model.specs.Layout.{reach}
-use Rattle.model.specs.Log.{recovered}
-use Rattle.model.specs.Lemmas.Log.{length-recovered}
-use Rattle.model.specs.Places.{addresses_in, pointer_of, pointers_under}
-use Rattle.offline.specs.Notes.{HasNoted}
-use Rattle.offline.specs.Owners.{entry_pointers}
+use Rattle.offline.specs.Common.{addresses_in, block_at, entry_pointers, HasNoted, Image, length-recovered, on_ok_weaker, pointer_of, pointers_under, reach, reads_then, recovered, words_of}
 use Rattle.offline.proofs.NoteLemmas.{broken_on, failed_on, noted_both, noted_same, noting_first, noting_next, noting_last}
 use Rattle.offline.proofs.ClaimLemmas.{under_data, under_none, under_block, under_outside, entry_more, entry_all}
 use Rattle.offline.proofs.notes.+levels.Goals as goal

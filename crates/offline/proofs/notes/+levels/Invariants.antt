@@ -1,7 +1,5 @@
 use Rattle.std.proofs.Common.{◌≡◌, ℕ, ◌+◌, ◌*◌, ◌≤◌, List, drop}
-use Rattle.blocks.specs.Calls.{OnlyReads}
-use Rattle.model.specs.Log.{recovered}
-use Rattle.offline.specs.Owners.{Stand, SameLimits, entry_pointers}
+use Rattle.offline.specs.Common.{entry_pointers, OnlyReads, recovered, SameLimits, Stand}
 use Rattle.offline.proofs.NoteLemmas.{IsNoting}
 use Rattle.offline.proofs.notes.+levels.Given as goal
 

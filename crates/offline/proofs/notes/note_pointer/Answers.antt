@@ -1,8 +1,5 @@
 use Rattle.std.proofs.Common.{◌≡◌, ◌∷◌, [], sym, subst}
-use Rattle.std.proofs.lemmas.List.{append-nil}
-use Rattle.std.proofs.lemmas.Result.{on_ok_weaker}
-use Rattle.model.specs.declared.types.image.Pointer.{Pointer}
-use Rattle.offline.specs.Notes.{HasNoted}
+use Rattle.offline.specs.Common.{append-nil, HasNoted, on_ok_weaker, Pointer}
 use Rattle.offline.proofs.NoteLemmas.{noted_one}
 use Rattle.offline.proofs.notes.note_pointer.Goals as goal
 

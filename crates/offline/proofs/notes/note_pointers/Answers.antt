@@ -1,9 +1,5 @@
 use Rattle.std.proofs.Common.{◌∙◌, ◌+◌, drop, get_or, arith, rules}
-use Rattle.blocks.specs.Disk.{Image}
-use Rattle.blocks.specs.Lemmas.Reads.{reads_then}
-use Rattle.model.specs.Layout.{reach}
-use Rattle.model.specs.Log.{recovered}
-use Rattle.model.specs.Places.{pointers_under, pointers_along}
+use Rattle.offline.specs.Common.{Image, pointers_along, pointers_under, reach, reads_then, recovered}
 use Rattle.offline.proofs.NoteLemmas.{broken_on, noted_same, noting_last, noting_next}
 use Rattle.offline.proofs.ClaimLemmas.{along_more, along_all}
 use Rattle.offline.proofs.notes.note_pointers.Goals as goal

@@ -1,8 +1,5 @@
 use Rattle.std.proofs.Common.{◌≡◌, ℕ, ◌*◌, ◌≤◌, List, drop}
-use Rattle.blocks.specs.Calls.{OnlyReads}
-use Rattle.model.specs.Log.{recovered}
-use Rattle.model.specs.Places.{pointers_along}
-use Rattle.offline.specs.Owners.{Stand, SameLimits}
+use Rattle.offline.specs.Common.{OnlyReads, pointers_along, recovered, SameLimits, Stand}
 use Rattle.offline.proofs.NoteLemmas.{IsNoting}
 use Rattle.offline.proofs.notes.note_pointers.Given as goal
 

@@ -1,9 +1,6 @@
 use Rattle.std.proofs.Common.{◌∙◌, ℕ, List, [], ap, cond, eqb, sym, length}
-use Rattle.std.proofs.lemmas.Option.{get_or_from_slice_get}
-use Rattle.model.specs.Fields.{u32_at}
-use Rattle.model.specs.declared.types.image.Form.{Form}
+use Rattle.offline.specs.Common.{Form, get_or_from_slice_get, is_known_magic, is_lawful_super, magic_of, super_in, u32_at}
 use Rattle.model.specs.declared.types.image.Form.TheVariants.{One, Two}
-use Rattle.model.specs.Layout.{is_known_magic, magic_of, super_in, is_lawful_super}
 use Rattle.offline.proofs.CheckLemmas.{geometry_passes}
 use Rattle.offline.proofs.recovered.read_super.Goals as goal
 

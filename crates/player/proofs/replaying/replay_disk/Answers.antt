@@ -19,7 +19,7 @@ returns-in-Err-opened-clause-refused g c =
 pub returns-clause-printed : goal.returns-clause-printed
 returns-clause-printed g c =
     let made = c.in-Ok-opened.ensures in
-    let played = played_on g.D.Disk g.met.D.Disk.has_now c.args.disk c.args.tasks.items c.args.processes c.unwrap_or-stop.result c.in-Ok-opened.opened.0 c.run-ran.new.player made.ready c.run-ran.ensures.keeps c.into_disk.result (c.into_disk.ensures ∙ same_inner c.run-ran.new.player.kernel c.meet_all.new.self.kernel c.meet_all.ensures.same) c.run-ran.ensures.name c.in-Ok-opened.ensures.processes c.run-ran.ensures.ops c.meet_all.ensures.own in
+    let played = played_on g.D.Disk g.met.D.Disk.has_now c.args.disk c.args.tasks.items c.args.processes c.unwrap_or-stop.result c.in-Ok-opened.opened.0 c.run-ran.new.player made.ready c.run-ran.ensures.keeps c.into_disk.result (c.into_disk.ensures ∙ same_inner c.run-ran.new.player.kernel c.reconcile_all.new.self.kernel c.reconcile_all.ensures.same) c.run-ran.ensures.name c.in-Ok-opened.ensures.processes c.run-ran.ensures.ops c.reconcile_all.ensures.own in
     on_ok_weaker c.run-ran.result
     (replayed g.D.Disk (faulty g.D.Disk) c.args.disk c.into_disk.result c.args.tasks.items c.args.processes c.args.words.now _ c.unwrap_or-stop.result c.in-Ok-opened.opened.1 c.unwrap_or-stop.ensures (g.O.Write.contents c.args.out.now) (g.O.Write.contents c.run-ran.new.out) c.in-Ok-opened.opened.0 c.run-ran.new.player
     made.ready made.base played _)
@@ -28,7 +28,7 @@ returns-clause-printed g c =
 pub returns-clause-refused : goal.returns-clause-refused
 returns-clause-refused g c =
     let made = c.in-Ok-opened.ensures in
-    let played = played_on g.D.Disk g.met.D.Disk.has_now c.args.disk c.args.tasks.items c.args.processes c.unwrap_or-stop.result c.in-Ok-opened.opened.0 c.run-ran.new.player made.ready c.run-ran.ensures.keeps c.into_disk.result (c.into_disk.ensures ∙ same_inner c.run-ran.new.player.kernel c.meet_all.new.self.kernel c.meet_all.ensures.same) c.run-ran.ensures.name c.in-Ok-opened.ensures.processes c.run-ran.ensures.ops c.meet_all.ensures.own in
+    let played = played_on g.D.Disk g.met.D.Disk.has_now c.args.disk c.args.tasks.items c.args.processes c.unwrap_or-stop.result c.in-Ok-opened.opened.0 c.run-ran.new.player made.ready c.run-ran.ensures.keeps c.into_disk.result (c.into_disk.ensures ∙ same_inner c.run-ran.new.player.kernel c.reconcile_all.new.self.kernel c.reconcile_all.ensures.same) c.run-ran.ensures.name c.in-Ok-opened.ensures.processes c.run-ran.ensures.ops c.reconcile_all.ensures.own in
     IfErr-weaker c.run-ran.result _ _
     (run_refused g.D.Disk (faulty g.D.Disk) c.args.disk c.into_disk.result c.args.tasks.items c.args.processes c.args.words.now _ c.unwrap_or-stop.result c.in-Ok-opened.opened.1 c.unwrap_or-stop.ensures (g.O.Write.contents c.args.out.now) (g.O.Write.contents c.run-ran.new.out) c.in-Ok-opened.opened.0 c.run-ran.new.player
     made.ready made.base played _)
@@ -36,4 +36,4 @@ returns-clause-refused g c =
 
 pub returns-clause-name : goal.returns-clause-name
 returns-clause-name g c =
-    (played_on g.D.Disk g.met.D.Disk.has_now c.args.disk c.args.tasks.items c.args.processes c.unwrap_or-stop.result c.in-Ok-opened.opened.0 c.run-ran.new.player c.in-Ok-opened.ensures.ready c.run-ran.ensures.keeps c.into_disk.result (c.into_disk.ensures ∙ same_inner c.run-ran.new.player.kernel c.meet_all.new.self.kernel c.meet_all.ensures.same) c.run-ran.ensures.name c.in-Ok-opened.ensures.processes c.run-ran.ensures.ops c.meet_all.ensures.own).name
+    (played_on g.D.Disk g.met.D.Disk.has_now c.args.disk c.args.tasks.items c.args.processes c.unwrap_or-stop.result c.in-Ok-opened.opened.0 c.run-ran.new.player c.in-Ok-opened.ensures.ready c.run-ran.ensures.keeps c.into_disk.result (c.into_disk.ensures ∙ same_inner c.run-ran.new.player.kernel c.reconcile_all.new.self.kernel c.reconcile_all.ensures.same) c.run-ran.ensures.name c.in-Ok-opened.ensures.processes c.run-ran.ensures.ops c.reconcile_all.ensures.own).name

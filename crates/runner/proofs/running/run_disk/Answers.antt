@@ -15,14 +15,14 @@ close-requires-clause-many g c =
     let called = c.call-called in
     let same = subst (λ o. IfSome o (λ after. AreSameClients c.in-Ok.made.1.items after.items)) c.in-Some.is called.ensures.same in
     let are = same (intake_names c.in-Ok.made.0) c.args.tasks.items c.args.processes c.in-Ok.ensures.clients in
-    are.count ∙ sym (many_are g.D.Disk c.args.disk c.in-Ok.made.0 c.in-Ok-open.kernel.herald c.args.processes c.in-Ok-open.kernel called.result.1 c.in-Ok-open.ensures.opened called.ensures.framed)
+    are.count ∙ sym (many_are g.D.Disk c.args.disk c.in-Ok.made.0 c.in-Ok-open.kernel.herald c.args.processes c.in-Ok-open.kernel called.result.1 c.in-Ok-open.ensures.opened called.ensures.origin)
 
 pub close-requires-clause-rings : goal.close-requires-clause-rings
 close-requires-clause-rings g c =
     let called = c.call-called in
     let same = subst (λ o. IfSome o (λ after. AreSameClients c.in-Ok.made.1.items after.items)) c.in-Some.is called.ensures.same in
     let are = same (intake_names c.in-Ok.made.0) c.args.tasks.items c.args.processes c.in-Ok.ensures.clients in
-    have_rings g.D.Disk c.args.disk c.in-Ok.made.0 c.in-Ok-open.kernel.herald c.args.processes c.in-Ok-open.kernel called.result.1 c.in-Ok-open.ensures.opened called.ensures.framed c.args.tasks.items c.in-Some.clients.items are
+    have_rings g.D.Disk c.args.disk c.in-Ok.made.0 c.in-Ok-open.kernel.herald c.args.processes c.in-Ok-open.kernel called.result.1 c.in-Ok-open.ensures.opened called.ensures.origin c.args.tasks.items c.in-Some.clients.items are
 
 pub returns-in-Err-open-clause-refused : goal.returns-in-Err-open-clause-refused
 returns-in-Err-open-clause-refused g c = (not_begun g.D.Disk c.args.disk c.in-Err-open.disk c.args.processes c.in-Err-open.fault c.in-Err-open.ensures.refused, refl)
@@ -36,7 +36,7 @@ returns-in-Some-clause-ran g c =
     on_ok_weaker c.close.result.0
     (λ ends. record {
       last = called.result.1;
-      served = is_served g.D.Disk law.has_now c.args.disk c.in-Ok.made.0 c.in-Ok-open.kernel.herald c.args.processes c.in-Ok-open.kernel called.result.1 c.in-Ok-open.ensures.opened called.ensures.framed _ _ called.ensures.known c.close.result.1 c.close.ensures.disk;
+      served = is_served g.D.Disk law.has_now c.args.disk c.in-Ok.made.0 c.in-Ok-open.kernel.herald c.args.processes c.in-Ok-open.kernel called.result.1 c.in-Ok-open.ensures.opened called.ensures.origin _ _ called.ensures.known c.close.result.1 c.close.ensures.disk;
       own = keeps_tasks g.D.Disk called.result.1 (intake_names c.in-Ok.made.0) c.args.tasks.items c.args.processes c.in-Some.clients.items are c.close.ensures.own;
       ends = ends_so (inode_count_of (g.D.Disk.image called.result.1.opening)) called.result.1 (intake_names c.in-Ok.made.0) c.args.tasks.items c.args.processes c.in-Some.clients.items None (g.O.Write.contents c.args.out.now) (g.O.Write.contents c.close.new.out) are ends;
     })
@@ -48,7 +48,7 @@ returns-in-Some-clause-refused g c =
     let same = subst (λ o. IfSome o (λ after. AreSameClients c.in-Ok.made.1.items after.items)) c.in-Some.is called.ensures.same in
     let are = same (intake_names c.in-Ok.made.0) c.args.tasks.items c.args.processes c.in-Ok.ensures.clients in
     let law = g.met.D.Disk g.world.𝓛 g.world.𝓜 g.world.𝓡 ((λ s x. x), (λ x. x), (λ x. x), λ x. x) in
-    let served = is_served g.D.Disk law.has_now c.args.disk c.in-Ok.made.0 c.in-Ok-open.kernel.herald c.args.processes c.in-Ok-open.kernel called.result.1 c.in-Ok-open.ensures.opened called.ensures.framed _ _ called.ensures.known c.close.result.1 c.close.ensures.disk in
+    let served = is_served g.D.Disk law.has_now c.args.disk c.in-Ok.made.0 c.in-Ok-open.kernel.herald c.args.processes c.in-Ok-open.kernel called.result.1 c.in-Ok-open.ensures.opened called.ensures.origin _ _ called.ensures.known c.close.result.1 c.close.ensures.disk in
     IfErr-weaker c.close.result.0 _ _
     (not_run g.D.Disk c.args.disk c.close.result.1 c.args.tasks.items c.args.processes (g.O.Write.contents c.args.out.now) (g.O.Write.contents c.close.new.out) (c.close.new.out ≡ c.args.out.now) called.result.1 (intake_names c.in-Ok.made.0) c.in-Some.clients.items served are (keeps_tasks g.D.Disk called.result.1 (intake_names c.in-Ok.made.0) c.args.tasks.items c.args.processes c.in-Some.clients.items are c.close.ensures.own))
     c.close.ensures.refused
@@ -59,7 +59,7 @@ returns-clause-refused g c =
     let law = g.met.D.Disk g.world.𝓛 g.world.𝓜 g.world.𝓡 ((λ s x. x), (λ x. x), (λ x. x), λ x. x) in (
       record {
         last = called.result.1;
-        served = is_served g.D.Disk law.has_now c.args.disk c.in-Ok.made.0 c.in-Ok-open.kernel.herald c.args.processes c.in-Ok-open.kernel called.result.1 c.in-Ok-open.ensures.opened called.ensures.framed _ _ called.ensures.known c.into_disk.result c.into_disk.ensures;
+        served = is_served g.D.Disk law.has_now c.args.disk c.in-Ok.made.0 c.in-Ok-open.kernel.herald c.args.processes c.in-Ok-open.kernel called.result.1 c.in-Ok-open.ensures.opened called.ensures.origin _ _ called.ensures.known c.into_disk.result c.into_disk.ensures;
       },
       refl,
     )

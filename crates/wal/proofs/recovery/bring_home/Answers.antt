@@ -1,6 +1,5 @@
 use Rattle.std.proofs.Common.{◌∙◌, ap, length, subst, sym}
-use Rattle.blocks.specs.Disk.{counted}
-use Rattle.wal.specs.Recovery.{HasCopied, syncs_to_settle}
+use Rattle.wal.specs.Common.{counted, HasCopied, syncs_to_settle}
 use Rattle.wal.proofs.recovery.bring_home.Goals as goal
 
 pub returns-clause-ok : goal.returns-clause-ok

@@ -1,10 +1,6 @@
 use Rattle.std.proofs.Common.{◌≡◌, ◌<◌, ◌+◌, ℕ, List, length, get_or, set, refl, sym, ◌∙◌, ap, subst, arith, add-one}
 use Rattle.std.specs.Prelude.{slice_get}
-use Rattle.blocks.specs.Disk.{Image, IsOldOrNew, counted, one_more}
-use Rattle.blocks.specs.Lemmas.Moments.{started, stays, goes_on, now_stays}
-use Rattle.model.specs.Log.{homes_of}
-use Rattle.model.specs.Lemmas.Recovery.{few_homes}
-use Rattle.wal.specs.Recovery.{RecoversAs, IsRecoveredInPart}
+use Rattle.wal.specs.Common.{counted, few_homes, goes_on, homes_of, Image, IsOldOrNew, IsRecoveredInPart, now_stays, one_more, RecoversAs, started, stays}
 use Rattle.wal.proofs.CopyLemmas.{SameBesides, same_besides, copied_none, recovers_besides, recovers_same, home_at}
 use Rattle.wal.proofs.RecoveryLemmas.{copy_besides, copy_step, copied_in_part, written_in_part}
 use Rattle.wal.proofs.recovery.copy_home.Given.{Over}

@@ -1,7 +1,5 @@
 use Rattle.std.proofs.Common.{◌≡◌}
-use Rattle.blocks.specs.Disk.{Image, LeavesOnly, counted}
-use Rattle.blocks.specs.Calls.{UnlessHolds}
-use Rattle.wal.specs.Recovery.{RecoversAs, HasCopied, IsRecoveredInPart}
+use Rattle.wal.specs.Common.{counted, HasCopied, Image, IsRecoveredInPart, LeavesOnly, RecoversAs, UnlessHolds}
 use Rattle.wal.proofs.CopyLemmas.{SameBesides}
 use Rattle.wal.proofs.recovery.copy_home.Given as goal
 

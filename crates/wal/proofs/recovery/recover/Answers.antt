@@ -1,6 +1,6 @@
 use Rattle.std.proofs.Common.{refl, sym, subst}
 use Rattle.std.specs.Prelude.{length, IsTrue}
-use Rattle.blocks.specs.Disk.{Image}
+use Rattle.wal.specs.Common.{Image}
 use Rattle.model.specs.Layout.{is_lawful_super}
 use Rattle.wal.proofs.RecoveryLemmas.{may_stop_none, may_stop_then, recovers_ok, refuses_then, rests_same}
 use Rattle.wal.proofs.recovery.recover.Goals as goal

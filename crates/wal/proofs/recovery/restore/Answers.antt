@@ -1,11 +1,5 @@
 use Rattle.std.proofs.Common.{Err, rules, ◌≡◌, ◌≢◌, ◌≤◌, ◌+◌, ℕ, length, sym, ◌∙◌, ap, subst, arith, add-one}
-use Rattle.std.proofs.lemmas.Bool.{cond-false, ne_eqb}
-use Rattle.blocks.specs.Disk.{Image, counted, one_more}
-use Rattle.blocks.specs.Lemmas.Moments.{now_stays}
-use Rattle.model.specs.Log.{homes_of, logged_count}
-use Rattle.model.specs.Lemmas.Log.{recovered_empty, none_cleared}
-use Rattle.model.specs.Lemmas.Super.{super_facts}
-use Rattle.wal.specs.Recovery.{HasCopied, OnNoMemory, RefusesToRecover, StopsAlike, syncs_to_restore, syncs_to_settle}
+use Rattle.wal.specs.Common.{cond-false, counted, HasCopied, homes_of, Image, logged_count, ne_eqb, none_cleared, now_stays, one_more, OnNoMemory, recovered_empty, RefusesToRecover, StopsAlike, super_facts, syncs_to_restore, syncs_to_settle}
 use Rattle.layout.specs.declared.header.Header.{Header}
 use Rattle.wal.proofs.CopyLemmas.{cleared}
 use Rattle.wal.proofs.RecoveryLemmas.{homes_counted, none_as, none_late, refuses_late, rests_reading, stops_read, stops_copying, stops_clearing, syncs_none, syncs_some}

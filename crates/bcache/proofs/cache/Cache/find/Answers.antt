@@ -1,5 +1,5 @@
 use Rattle.std.proofs.Common.{ap, ◌∙◌}
-use Rattle.bcache.specs.Buffers.{Buffers, found}
+use Rattle.bcache.specs.Common.{Buffers, found}
 use Rattle.bcache.proofs.EntryLemmas.{slot_of_entry}
 use Rattle.bcache.proofs.cache.Cache.find.Goals as goal
 

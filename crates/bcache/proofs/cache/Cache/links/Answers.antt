@@ -1,7 +1,5 @@
 use Rattle.std.proofs.Common.{ap, subst, ◌∙◌}
-use Rattle.bcache.specs.Buffers.{Buffers, buffer}
-use Rattle.bcache.specs.Order.{IsOrder}
-use Rattle.bcache.specs.Links.{links_of}
+use Rattle.bcache.specs.Common.{buffer, Buffers, IsOrder, links_of}
 use Rattle.bcache.proofs.LinkLemmas.{few_on_release, walked, walked_back}
 use Rattle.bcache.proofs.cache.Cache.links.Goals as goal
 

@@ -1,5 +1,5 @@
 use Rattle.std.proofs.Common.{ap}
-use Rattle.bcache.specs.declared.types.Buffer.{Buffer}
+use Rattle.bcache.specs.Common.{Buffer}
 use Rattle.bcache.proofs.SlotLemmas.{slot_at}
 use Rattle.bcache.proofs.EntryLemmas.{entered_kept}
 use Rattle.bcache.proofs.cache.Cache.lock.Goals as goal

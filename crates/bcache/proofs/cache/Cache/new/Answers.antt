@@ -1,6 +1,5 @@
 use Rattle.std.proofs.Common.{ℕ, replicate, sym, subst}
-use Rattle.std.proofs.lemmas.List.{length-replicate}
-use Rattle.bcache.specs.Buffers.{Buffers}
+use Rattle.bcache.specs.Common.{Buffers, length-replicate}
 use Rattle.bcache.proofs.SlotLemmas.{fresh_from}
 use Rattle.bcache.proofs.EntryLemmas.{entered_fresh}
 use Rattle.bcache.specs.Entries.{IsEntered}

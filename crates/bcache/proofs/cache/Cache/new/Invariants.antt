@@ -1,5 +1,5 @@
 use Rattle.std.proofs.Common.{◌≡◌, replicate}
-use Rattle.bcache.specs.Buffers.{empty_buffer}
+use Rattle.bcache.specs.Common.{empty_buffer}
 use Rattle.bcache.proofs.cache.Cache.new.Given as goal
 
 abbrev pub invariant-loop-slot : goal.invariant-loop-slot

@@ -1,6 +1,5 @@
 use Rattle.std.proofs.Common.{ap, subst, sym, ◌∙◌, List, ℕ, Some, false}
-use Rattle.bcache.specs.declared.types.Buffer.{Buffer}
-use Rattle.bcache.specs.Buffers.{Buffers, found, with_buffer}
+use Rattle.bcache.specs.Common.{Buffer, Buffers, found, with_buffer}
 use Rattle.bcache.specs.Entries.{IsEntered, with_slot}
 use Rattle.bcache.proofs.SlotLemmas.{slot_at}
 use Rattle.bcache.proofs.EntryLemmas.{entered_taken}

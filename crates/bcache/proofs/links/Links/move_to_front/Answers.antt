@@ -1,6 +1,6 @@
 use Rattle.std.proofs.Common.{ap, sym, arith, ◌∙◌}
+use Rattle.bcache.specs.Common.{linked_in_front, order_of}
 use Rattle.bcache.specs.declared.links.Links.{Links}
-use Rattle.bcache.specs.Links.{linked_in_front, order_of}
 use Rattle.bcache.proofs.LinkLemmas.{moved, first_moved, nothing_changed, first_inside_of, after_inside_of, before_inside_of}
 use Rattle.bcache.proofs.links.Links.move_to_front.Goals as goal
 
@@ -12,9 +12,7 @@ unlink-requires-clause-after c = after_inside_of c.args.self.now c.args.slot c.r
 
 pub link_in_front-requires-clause-first : goal.link_in_front-requires-clause-first
 link_in_front-requires-clause-first c =
-    let low = first_inside_of c.args.self.now c.requires.linked in
-    let same = ap (λ (l : Links). l.first) c.unlink.ensures in
-    omega (arith, low, same)
+    omega (arith, (first_inside_of c.args.self.now c.requires.linked), (ap (λ (l : Links). l.first) c.unlink.ensures))
 
 pub returns-then-self-slot : goal.returns-then-self-slot
 returns-then-self-slot c =

@@ -1,12 +1,11 @@
 use Rattle.std.proofs.Common.{get_or, ap, ◌∙◌, arith, ℕ}
-use Rattle.bcache.specs.Links.{order_of}
+use Rattle.bcache.specs.Common.{order_of}
 use Rattle.bcache.proofs.LinkLemmas.{after_placed, placed_low}
 use Rattle.bcache.proofs.order.Order.at.Goals as goal
 
 pub bounds-self-inside-slot : goal.bounds-self-inside-slot
 bounds-self-inside-slot c =
-    let low = placed_low (order_of c.self.inside.links) c.loop-passed.passed c.self.invariant.order (omega arith) in
-    omega (arith, low, c.loop-passed.invariant)
+    omega (arith, (placed_low (order_of c.self.inside.links) c.loop-passed.passed c.self.invariant.order (omega arith)), c.loop-passed.invariant)
 
 pub loop-passed-preserved : goal.loop-passed-preserved
 loop-passed-preserved c =
@@ -16,5 +15,4 @@ loop-passed-preserved c =
 
 pub returns-clause-within : goal.returns-clause-within
 returns-clause-within c =
-    let low = placed_low (order_of c.self.inside.links) c.loop-passed.passed c.self.invariant.order (omega arith) in
-    omega (arith, low, c.loop-passed.invariant)
+    omega (arith, (placed_low (order_of c.self.inside.links) c.loop-passed.passed c.self.invariant.order (omega arith)), c.loop-passed.invariant)

@@ -1,5 +1,5 @@
 use Rattle.std.proofs.Common.{◌≡◌, get_or}
-use Rattle.bcache.specs.Links.{order_of}
+use Rattle.bcache.specs.Common.{order_of}
 use Rattle.bcache.proofs.order.Order.at.Given as goal
 
 abbrev pub invariant-loop-passed : goal.invariant-loop-passed

@@ -1,4 +1,4 @@
-use Rattle.bcache.specs.Order.{first_order}
+use Rattle.bcache.specs.Common.{first_order}
 use Rattle.bcache.specs.Lemmas.Order.{order_first}
 use Rattle.bcache.proofs.LinkLemmas.{links_made}
 use Rattle.bcache.proofs.order.Order.new.Goals as goal

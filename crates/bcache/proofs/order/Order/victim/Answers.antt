@@ -1,7 +1,6 @@
 use Rattle.std.proofs.Common.{◌≡◌, ◌<◌, ◌+◌, ◌==◌, ℕ, suc, List, false, get_or, drop, map, ap, sym, ◌∙◌, arith}
 use Rattle.std.specs.Prelude.{reverse}
-use Rattle.bcache.specs.Current.{references_of}
-use Rattle.bcache.specs.Links.{order_of}
+use Rattle.bcache.specs.Common.{order_of, references_of}
 use Rattle.bcache.proofs.LinkLemmas.{before_placed, last_is_placed, placed_low}
 use Rattle.bcache.proofs.NextLemmas.{order_reverse}
 use Rattle.bcache.proofs.OrderLemmas.{first_unused, references_read, used_passed, victim_back}

@@ -1,8 +1,6 @@
 use Rattle.std.proofs.Common.{◌≡◌, drop, get_or, map}
 use Rattle.std.specs.Prelude.{reverse}
-use Rattle.bcache.specs.Current.{references_of}
-use Rattle.bcache.specs.Order.{victim_in}
-use Rattle.bcache.specs.Links.{order_of}
+use Rattle.bcache.specs.Common.{order_of, references_of, victim_in}
 use Rattle.bcache.proofs.OrderLemmas.{first_unused}
 use Rattle.bcache.proofs.order.Order.victim.Given as goal
 

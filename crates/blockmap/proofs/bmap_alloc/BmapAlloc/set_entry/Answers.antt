@@ -1,16 +1,9 @@
 use Rattle.std.proofs.Common.{◌≡◌, ◌∙◌, sym, ap, subst, arith, ℕ, ◌*◌, ◌^◌, ◌<◌, List, length, Option}
-use Rattle.blocks.specs.Block.{overwritten}
-use Rattle.blocks.specs.Disk.{Image, block_at}
-use Rattle.model.specs.Codec.{with_entry}
-use Rattle.wal.specs.Joint.{seen}
-use Rattle.blockmap.specs.Branch.{entry_under}
+use Rattle.blockmap.specs.Common.{block_at, entry_under, Image, MapAt, Node, overwritten, Progress, seen, with_entry}
 use Rattle.blockmap.specs.BmapAlloc.{LeadsThere}
 use Rattle.blockmap.specs.Lemmas.Branches.{lies_last}
 use Rattle.blockmap.specs.Lemmas.Leading.{entry_set, leads_on}
 use Rattle.blockmap.specs.Lemmas.Putting.{writes_put}
-use Rattle.blockmap.specs.declared.bmap_alloc.MapAt.TheVariants as map_at
-use Rattle.blockmap.specs.declared.branch.Node.{Node}
-use Rattle.model.specs.declared.types.progress.Progress.{Progress}
 use Rattle.blockmap.proofs.bmap_alloc.BmapAlloc.set_entry.Goals as goal
 
 pub returns-clause-there : goal.returns-clause-there
@@ -32,6 +25,6 @@ returns-clause-there g c = λ d.
     ap (λ (l : List ℕ). overwritten (block_at x n.block) at l) c.bytes.ensures.value
     ∙ ap (λ (j : ℕ). with_entry (block_at x n.block) j a) c.entry.ensures.entry in
     let writes = writes_put g.D.Disk v c.args.pid c.args.slot n.block at bytes (with_entry (block_at x n.block) e a) u c.requires.holds makes c.put_block.ensures in
-    subst (λ (q : Progress (Option ℕ)). LeadsThere g.D.Disk.image q b (map_at.Setting n c.args.slot c.args.found) d u) (sym c.go_on.ensures.progress)
-    (leads_on g.D.Disk.image n.level a b (map_at.Setting n c.args.slot c.args.found) d u
+    subst (λ (q : Progress (Option ℕ)). LeadsThere g.D.Disk.image q b (MapAt.Setting n c.args.slot c.args.found) d u) (sym c.go_on.ensures.progress)
+    (leads_on g.D.Disk.image n.level a b (MapAt.Setting n c.args.slot c.args.found) d u
     (λ flat lies. lies_last y d b n lies flat ∙ entry_set x y n.block e a full low small writes.current))

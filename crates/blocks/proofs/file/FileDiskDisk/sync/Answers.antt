@@ -1,6 +1,5 @@
 use Rattle.std.proofs.Common.{ap, sym, subst}
-use Rattle.blocks.specs.Disk.{Image}
-use Rattle.blocks.specs.Held.{IsSettledOn, IsShadow}
+use Rattle.blocks.specs.Common.{Image, IsSettledOn, IsShadow}
 use Rattle.blocks.proofs.HeldLemmas.{adds_none_settled, shadow_settled}
 use Rattle.blocks.proofs.file.FileDiskDisk.sync.Goals as goal
 

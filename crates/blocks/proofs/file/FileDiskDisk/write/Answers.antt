@@ -1,8 +1,5 @@
 use Rattle.std.proofs.Common.{◌≡◌, ◌∙◌, ap, false, refl, subst, sym, [], arith, length-set}
-use Rattle.std.proofs.lemmas.List.{get_or-set_same}
-use Rattle.blocks.specs.Block.{IsBlock}
-use Rattle.blocks.specs.Disk.{Image, IsImage}
-use Rattle.blocks.specs.Held.{IsSettledOn, IsShadow}
+use Rattle.blocks.specs.Common.{get_or-set_same, Image, IsBlock, IsImage, IsSettledOn, IsShadow}
 use Rattle.blocks.proofs.HeldLemmas.{crash_shadow, elapses_on, shadow_written}
 use Rattle.blocks.proofs.file.FileDiskDisk.write.Goals as goal
 

@@ -1,8 +1,6 @@
 use Rattle.std.proofs.Common.{◌≡◌, ◌<◌, ◌∙◌, ap, subst, sym, arith, length, length-set, set, rules, drop, get_or, [], ℕ, ◌+◌}
 use Rattle.std.specs.Vec.{vec_len}
-use Rattle.blocks.specs.Held.{chosen, held_by, Write}
-use Rattle.blocks.specs.declared.held.Held.{Held}
-use Rattle.blocks.specs.declared.held.Holding.{Holding}
+use Rattle.blocks.specs.Common.{chosen, Held, held_by, Holding, Write}
 use Rattle.blocks.proofs.HeldLemmas.{chosen_taken, chosen_passed, held_at, length-held}
 use Rattle.blocks.proofs.held.Holding.left.Goals as goal
 use Rattle.blocks.proofs.held.Holding.left.Goals.{then-keep-i, else-keep-i}
@@ -15,10 +13,9 @@ pub index_mut-requires : goal.index_mut-requires
 index_mut-requires c =
     let s = c.args.self.now in
     let write = c.index-write.result.now in
-    let count : length (held_by s) ≡ s.count = length-held s (omega (arith, c.requires.room)) in
     let len : vec_len c.loop-i.blocks ≡ length c.loop-i.blocks.items = search rules in
     let inside : write.at < length s.synced.items = subst (λ (w : Write). w.0 < length s.synced.items) (there s c.loop-i.i write c.loop-i-test.true c.requires.room c.index-write.ensures)
-    (c.requires.inside c.loop-i.i (omega (arith, c.loop-i-test.true, count))) in
+    (c.requires.inside c.loop-i.i (omega (arith, c.loop-i-test.true, (length-held s (omega (arith, c.requires.room)))))) in
     omega (arith, len, inside, c.loop-i.invariant.size)
 
 pub loop-i-preserved : goal.loop-i-preserved

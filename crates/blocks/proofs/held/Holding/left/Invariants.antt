@@ -1,5 +1,5 @@
 use Rattle.std.proofs.Common.{◌≡◌, length, drop}
-use Rattle.blocks.specs.Held.{chosen, held_by}
+use Rattle.blocks.specs.Common.{chosen, held_by}
 use Rattle.blocks.proofs.held.Holding.left.Given as goal
 
 -- the choices that are left to make lead to the same blocks

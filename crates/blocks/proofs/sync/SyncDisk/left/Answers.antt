@@ -1,6 +1,5 @@
 use Rattle.std.proofs.Common.{◌∙◌, ap, subst, sym, inl, length}
-use Rattle.blocks.specs.Disk.{IsImage}
-use Rattle.blocks.specs.Held.{CanFloat, held_by}
+use Rattle.blocks.specs.Common.{CanFloat, held_by, IsImage}
 use Rattle.blocks.proofs.HeldLemmas.{chosen_left, length-chosen}
 use Rattle.blocks.proofs.sync.SyncDisk.left.Goals as goal
 

@@ -1,6 +1,5 @@
 use Rattle.std.proofs.Common.{◌∙◌, ap, subst, sym, refl, arith, length, length-set, set, true, List, ◌++◌, ◌∷◌, []}
-use Rattle.blocks.specs.Block.{IsBlock}
-use Rattle.blocks.specs.Held.{AreInside, IsShadow, Write, held_by}
+use Rattle.blocks.specs.Common.{AreInside, held_by, IsBlock, IsShadow, Write}
 use Rattle.blocks.proofs.BlockLemmas.{is_image-set}
 use Rattle.blocks.proofs.HeldLemmas.{crash_noted, elapses_on, inside_push, shadow_noted}
 use Rattle.blocks.proofs.sync.SyncDiskDisk.write.Goals as goal

@@ -7,11 +7,11 @@ use Rattle.clients.proofs.client.Client.poll.Given as goal
 abbrev pub invariant-loop-answer : goal.invariant-loop-answer
 invariant-loop-answer l = record {
   same : IsSameClient l.initial.self l.self;
-  got : polled l.self.source.caller ≡ l.self.answers.items;
+  got : polled l.self.feeder.caller ≡ l.self.answers.items;
   wanted : l.self.wanted ≡ l.initial.self.wanted;
   room : l.self.wanted ≤ l.self.answers.cap;
   count : l._answer ≡ length l.self.answers.items;
-  backlog : l.self.source.backlog ≡ l.initial.self.source.backlog;
-  submitted : submitted l.self.source.caller ≡ submitted l.initial.self.source.caller;
-  places : places l.self.source.caller ≡ places l.initial.self.source.caller;
+  backlog : l.self.feeder.backlog ≡ l.initial.self.feeder.backlog;
+  submitted : submitted l.self.feeder.caller ≡ submitted l.initial.self.feeder.caller;
+  places : places l.self.feeder.caller ≡ places l.initial.self.feeder.caller;
 }

@@ -1,8 +1,5 @@
 use Rattle.std.proofs.Common.{rules, ◌≡◌, sym, subst, ℕ, List, Option}
-use Rattle.blocks.specs.Disk.{block_at}
-use Rattle.wal.specs.Joint.{seen}
-use Rattle.wal.specs.Volume.{GetsFor}
-use Rattle.inodes.specs.Freeing.{block_next, taken, when_got}
+use Rattle.inodes.specs.Common.{block_at, block_next, GetsFor, seen, taken, when_got}
 use Rattle.inodes.proofs.freeing.Freeing.get.Goals as goal
 
 pub returns-in-Some : goal.returns-in-Some

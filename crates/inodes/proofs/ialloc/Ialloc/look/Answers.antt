@@ -1,9 +1,6 @@
 use Rattle.std.proofs.Common.{rules, refl, sym, ap, subst, ◌≡◌, ◌∙◌, Some, None, List}
-use Rattle.model.specs.declared.types.progress.Progress.TheVariants as progress
-use Rattle.inodes.specs.Creation.{lowest_free}
-use Rattle.inodes.specs.Ialloc.{SearchState, SearchSteps, MayStep, finds}
+use Rattle.inodes.specs.Common.{finds, lowest_free, MayStep, Progress, SearchState, SearchSteps, seen}
 use Rattle.inodes.proofs.LookLemmas.{held, held_number, ready_next, look_claims, look_goes_on}
-use Rattle.wal.specs.Joint.{seen}
 use Rattle.inodes.proofs.ialloc.Ialloc.look.Goals as goal
 
 pub claim-requires-clause-holds : goal.claim-requires-clause-holds
@@ -16,7 +13,7 @@ returns-in-Some g c =
     let is : m ≡ c.args.self.now = c.self.view_is in
     let ready : MayStep g.D.Disk.image c.args.volume.now c.args.pid m = subst (λ (k : SearchState). MayStep g.D.Disk.image c.args.volume.now c.args.pid k) (sym is) c.requires.ready in
     let slot : m.slot ≡ Some c.args.slot = ap (λ (k : SearchState). k.slot) is ∙ c.requires.slot in
-    subst (λ (k : SearchState). SearchSteps g.D.Disk (Some c.args.slot) c.args.volume.now c.claim.new.volume c.args.pid k k (progress.Over (Some c.in-Some.i))) is
+    subst (λ (k : SearchState). SearchSteps g.D.Disk (Some c.args.slot) c.args.volume.now c.claim.new.volume c.args.pid k k (Progress.Over (Some c.in-Some.i))) is
     (look_claims g.D.Disk _ _ _ _ _ _ m ready c.requires.fault slot (c.data.ensures.bytes ∙ (held _ _ _ _ _ m ready slot).bytes) c.in-Some.ensures c.claim.ensures.volume c.claim.ensures.locks c.claim.ensures.current)
 
 pub returns-in-None : goal.returns-in-None

@@ -1,16 +1,12 @@
 use Rattle.std.proofs.Common.{rules, false, refl, ◌≡◌, sym, subst, ◌∙◌}
 use Rattle.std.specs.Prelude.{None}
+use Rattle.inodes.specs.Common.{claims_of, Commits, current_of, form_same, held_outside, is_quiet, StoreState}
+use Rattle.inodes.specs.Store.{FitsFiles}
 use Rattle.wal.specs.Lemmas.Commits.{commit_log}
-use Rattle.in_flight.specs.Lemmas.HeldOutsideLog.{held_outside}
-use Rattle.wal.specs.Machine.{is_quiet}
-use Rattle.inodes.specs.Holding.{claims_of}
-use Rattle.inodes.specs.Store.{StoreState, FitsFiles, current_of}
-use Rattle.inodes.specs.Steps.{Commits}
 use Rattle.inodes.specs.Lemmas.Faults.{where_none, if_none}
 use Rattle.inodes.proofs.StoreKeeps.{geometry_kept, count_kept, agrees_committed, logged_committed}
 use Rattle.inodes.proofs.LooksKept.{looks_outside}
 use Rattle.inodes.proofs.store.Store.commit_step.Goals as goal
-use Rattle.model.specs.Lemmas.Frames.{form_same}
 
 pub invariant_of-self : goal.invariant_of-self
 invariant_of-self g c =

@@ -1,6 +1,6 @@
 use Rattle.std.proofs.Common.{rules, subst}
 use Rattle.std.specs.Prelude.{IfNone}
-use Rattle.inodes.specs.Store.{StoreState}
+use Rattle.inodes.specs.Common.{StoreState}
 use Rattle.inodes.specs.Waiting.{NobodyWaitsForEver}
 use Rattle.inodes.proofs.GoesOn.{unless_failed}
 use Rattle.inodes.proofs.store.Store.known.Goals as goal

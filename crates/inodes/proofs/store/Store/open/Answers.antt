@@ -1,21 +1,10 @@
 use Rattle.std.proofs.Common.{◌≡◌, length, replicate, sym, ◌∙◌, ap, subst, List}
+use Rattle.inodes.specs.Store.{FitsFiles}
 use Rattle.std.specs.Prelude.{IfNone}
-use Rattle.blocks.specs.Disk.{Image}
-use Rattle.model.specs.Files.{files_of}
-use Rattle.model.specs.Layout.{form_of, inode_count_of}
-use Rattle.model.specs.Soundness.{IsLawfulGeometry}
-use Rattle.in_flight.specs.Held.{FitsHeld}
+use Rattle.inodes.specs.Common.{Agrees, AreLooking, claims_of, current_of, files_of, FitsHeld, form_of, fresh_buffers, HaveLogged, Image, inode_count_of, IsLawfulGeometry, new_log, new_table, no_task, TableState, TaskState, VolumeState}
 use Rattle.in_flight.specs.Lemmas.Soundly.{fits_sound}
-use Rattle.bcache.specs.Buffers.{fresh_buffers}
-use Rattle.wal.specs.Machine.{new_log}
-use Rattle.wal.specs.Volume.{VolumeState}
 use Rattle.wal.specs.Lemmas.Volume.{fresh_seen}
-use Rattle.inodes.specs.Holding.{claims_of}
-use Rattle.inodes.specs.Looks.{AreLooking}
-use Rattle.inodes.specs.Table.{TableState, new_table}
 use Rattle.inodes.specs.Lemmas.Faults.{if_none}
-use Rattle.inodes.specs.Tasks.{TaskState, no_task}
-use Rattle.inodes.specs.Store.{FitsFiles, Agrees, HaveLogged, current_of}
 use Rattle.inodes.proofs.LooksKept.{held_opened, looks_opened}
 use Rattle.inodes.proofs.StoreKeeps.{agrees_opened, logged_opened}
 use Rattle.inodes.proofs.store.Store.open.Goals as goal

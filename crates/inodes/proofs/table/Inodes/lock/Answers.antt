@@ -1,5 +1,5 @@
 use Rattle.std.proofs.Common.{rules, ◌≡◌, ap, Some, ◌∙◌}
-use Rattle.inodes.specs.Table.{entry_at, is_of}
+use Rattle.inodes.specs.Common.{entry_at, is_of}
 use Rattle.inodes.proofs.TableNumbers.{numbered_kept}
 use Rattle.inodes.proofs.table.Inodes.lock.Goals as goal
 

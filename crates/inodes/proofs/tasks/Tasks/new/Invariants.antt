@@ -1,5 +1,5 @@
 use Rattle.std.proofs.Common.{◌≡◌, replicate}
-use Rattle.inodes.specs.Tasks.{no_task}
+use Rattle.inodes.specs.Common.{no_task}
 use Rattle.inodes.proofs.tasks.Tasks.new.Given as goal
 
 abbrev pub invariant-loop-process : goal.invariant-loop-process

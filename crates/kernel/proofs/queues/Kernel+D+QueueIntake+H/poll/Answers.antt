@@ -1,5 +1,5 @@
 use Rattle.std.proofs.Common.{refl}
-use Rattle.ports.specs.contracts.queues.QueueIntakeIntake.TheImpl.{ghosts}
+use Rattle.kernel.specs.Common.{ghosts}
 use Rattle.kernel.proofs.Ports.{ports_stay}
 use Rattle.kernel.proofs.queues.Kernel+D+QueueIntake+H.poll.Goals as goal
 

@@ -1,8 +1,6 @@
 use Rattle.std.proofs.Common.{rules, arith, refl, ◌≡◌, ◌<◌, ⊎_elim, inl, inr, length, ap, subst}
-use Rattle.ports.specs.contracts.queues.QueueIntakeIntake.TheImpl.{ghosts}
+use Rattle.kernel.specs.Common.{ghosts, process, State}
 use Rattle.ports.specs.Queues.{waiting}
-use Rattle.history.specs.Processes.{process}
-use Rattle.kernel.specs.State.{State}
 use Rattle.kernel.proofs.Openings.{where_ok, where_both, where_err}
 use Rattle.kernel.proofs.Ports.{ports_stay}
 use Rattle.kernel.proofs.queues.Kernel+D+QueueIntake+H.submit.Goals as goal
@@ -28,8 +26,7 @@ returns-clause-number g c =
 
 pub returns-clause-full : goal.returns-clause-full
 returns-clause-full g c =
-    let lt : c.args.pid < length c.self.inside.processes.processes = search rules in
-    let h = c.self.invariant.ports.histories c.args.pid lt in
+    let h = c.self.invariant.ports.histories c.args.pid (search rules) in
     let begun = subst (λ (k : State _ _ _). (process k.world c.args.pid).begun ≡ length h.history.taken) c.self.view_is h.is.count in
     let same = ap (λ (k : State _ _ _). length (waiting k.intake c.args.pid)) c.self.view_is in
     where_err _ _ c.submit.result (⊎_elim (λ full. inl (omega (arith, full, same))) (λ last. inr (let here = last h.history h.fit in omega (arith, here, begun, same)))) c.submit.ensures.full

@@ -1,9 +1,6 @@
 use Rattle.std.proofs.Common.{rules, refl, inr, ◌≡◌, false, Some, None, ◌∙◌, ap}
-use Rattle.model.specs.declared.types.operations.Step.{Step}
-use Rattle.model.specs.declared.types.operations.Step.TheVariants as step
+use Rattle.kernel.specs.Common.{Acts, State, Step}
 use Rattle.kernel.specs.Begins.{Begins}
-use Rattle.kernel.specs.State.{State}
-use Rattle.kernel.specs.Acts.{Acts}
 use Rattle.kernel.proofs.Acting.{acts_begun, sides_same}
 use Rattle.kernel.proofs.stepping.Kernel.begin.Given.{Over}
 use Rattle.kernel.proofs.stepping.Kernel.begin.Goals.{After-waiting}
@@ -21,7 +18,7 @@ begun g c r m made =
 pub returns-in_default : goal.returns-in_default
 returns-in_default g c =
     let is : c.waiting.result ≡ None = search rules in
-    begun g (goal.at.returns-in_default g c).After-waiting step.Idle c.waiting.new.self
+    begun g (goal.at.returns-in_default g c).After-waiting Step.Idle c.waiting.new.self
     (rw is (record { next = inr (inr (inr (record { same = (refl, refl); ahead_stays = refl; answer = refl }))); sides = sides_same g.I.Intake c.args.pid c.waiting.new.self.intake; herald = refl; opening = refl }))
 
 pub returns : goal.returns

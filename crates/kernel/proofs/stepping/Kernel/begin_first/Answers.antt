@@ -1,24 +1,8 @@
 use Rattle.std.proofs.Common.{rules, refl, inl, inr, ◌≡◌, ◌<◌, length, List, None, Some, ◌∷◌, ap, subst, sym, ◌∙◌}
 use Rattle.std.specs.Option.{option_map}
-use Rattle.model.specs.declared.types.operations.Op.{Op}
-use Rattle.model.specs.declared.types.operations.Answer.{Answer}
-use Rattle.model.specs.declared.types.operations.Reply.{Reply}
-use Rattle.ports.specs.History.{FitWith, gives, first_in}
-use Rattle.wal.specs.Machine.{begun, begin_cause}
-use Rattle.inodes.specs.Store.{StoreState, KeepsFiles, with_begun, with_look}
-use Rattle.history.specs.AtOnce.{at_once_reply}
-use Rattle.history.specs.declared.types.Phase.TheVariants as at
-use Rattle.history.specs.Processes.{World, process, with_place, taken, refused, refusal_answer}
-use Rattle.kernel.specs.declared.beginning.Rooms.{Rooms}
-use Rattle.model.specs.declared.types.operations.Step.{Step}
-use Rattle.model.specs.declared.types.operations.Step.TheVariants as step
-use Rattle.kernel.specs.declared.waiting.Waiting.{Waiting}
-use Rattle.kernel.specs.declared.waiting.Waiting.TheVariants as waiting
+use Rattle.kernel.specs.Common.{Answer, ArePorts, at_once_reply, begin_cause, BeginsWith, begun, first_in, FitWith, gives, IsRight, KeepsFiles, LeavesSince, Op, Phase, process, refusal_answer, refused, Reply, room_for, Rooms, State, Step, StoreState, taken, OpClass, class_of, with_begun, with_look, with_place, World}
 use Rattle.kernel.specs.Begins.{Begins, TakesFirst, kept_out, count_of, rooms_for}
-use Rattle.kernel.specs.Invariant.{IsRight, ArePorts, LeavesSince}
-use Rattle.kernel.specs.Next.{BeginsWith}
 use Rattle.kernel.specs.Ports.{KeepsOthers, first_waiting}
-use Rattle.kernel.specs.State.{State, room_for, waiting_of}
 use Rattle.kernel.proofs.Beginnings.{right_taken, right_looked, right_refused, first_waits}
 use Rattle.kernel.proofs.Ports.{ports_left, ports_taken, ports_refused}
 use Rattle.kernel.proofs.Since.{since_refused}
@@ -49,14 +33,14 @@ invariant_of-self g c =
 record Head (g : Over) (c : After-known-2 g) : Type 0 where
   well : c.self.inside.store.volume.fault ≡ None
   lt : c.args.pid < length c.self.inside.processes.processes
-  stands : (process c.self.inside.processes c.args.pid).at ≡ at.Idle
+  stands : (process c.self.inside.processes c.args.pid).at ≡ Phase.Idle
   takes : TakesFirst g.I.Intake c.args.what c.self.inside.store.volume.log c.args.pid c.in-Ok.taken.0 c.in-Ok.taken.1 c.self.inside.intake c.take_first.new.intake c.self.inside.processes c.take_first.new.processes
-  kind : waiting_of c.self.inside.store.table.inode_count c.in-Ok.taken.0 ≡ c.args.what
+  kind : class_of c.self.inside.store.table.inode_count c.in-Ok.taken.0 ≡ c.args.what
 
 head : (g : Over) (c : After-known-2 g) → Head g c
 head g c =
     let k = c.self.inside in
-    let waits : option_map (waiting_of k.store.table.inode_count) (first_in (g.I.Intake.side k.intake c.args.pid).ahead) ≡ Some c.args.what
+    let waits : option_map (class_of k.store.table.inode_count) (first_in (g.I.Intake.side k.intake c.args.pid).ahead) ≡ Some c.args.what
     = subst (λ (o : State _ _ _). first_waiting g.I.Intake o.store.table.inode_count o.intake c.args.pid ≡ Some c.args.what) (sym c.self.view_is) c.requires.waits in
     record {
       well = search rules;
@@ -67,8 +51,8 @@ head g c =
     }
 
 -- the log lets it begin
-free : (g : Over) (c : After-known-2 g) → c.args.what ≡ waiting.Change → begin_cause c.self.inside.store.volume.log ≡ None
-free g c is = subst (λ (o : Waiting). kept_out o c.self.inside.store.volume.log ≡ None) is (head g c).takes.free
+free : (g : Over) (c : After-known-2 g) → c.args.what ≡ OpClass.Change → begin_cause c.self.inside.store.volume.log ≡ None
+free g c is = subst (λ (o : OpClass). kept_out o c.self.inside.store.volume.log ≡ None) is (head g c).takes.free
 
 pub begin-group-requires-clause-may : goal.begin-group-requires-clause-may
 begin-group-requires-clause-may g c =
@@ -103,10 +87,10 @@ invariant_of-self-in-Change g c =
 pub returns-in-Change : goal.returns-in-Change
 returns-in-Change g c =
     let h = head g (goal.at.returns-in-Change g c).After-known-2 in
-    begins g (goal.at.returns-in-Change g c).After-known step.Moved c.begin-group.new.self c.take_first.new.intake c.take.new.self
+    begins g (goal.at.returns-in-Change g c).After-known Step.Moved c.begin-group.new.self c.take_first.new.intake c.take.new.self
     (inl (record {
       op = c.in-Ok.taken.0;
-      waits = ap (λ (o : Waiting). Some o) c.in-Change.is;
+      waits = ap (λ (o : OpClass). Some o) c.in-Change.is;
       taken = (h.takes.ahead, h.kind ∙ c.in-Change.is);
       room = h.takes.room;
       free = free g (goal.at.returns-in-Change g c).After-known-2 c.in-Change.is;
@@ -117,8 +101,8 @@ returns-in-Change g c =
     h.takes.sides
 
 -- the rooms of what looks at a file
-rooms : (g : Over) (c : After-known-2 g) (count : _) → c.args.what ≡ waiting.Look count → c.in-Ok.taken.1 ≡ rooms_for count
-rooms g c count is = (head g c).takes.rooms_are ∙ ap (λ (o : Waiting). rooms_for (count_of o)) is
+rooms : (g : Over) (c : After-known-2 g) (count : _) → c.args.what ≡ OpClass.Look count → c.in-Ok.taken.1 ≡ rooms_for count
+rooms g c count is = (head g c).takes.rooms_are ∙ ap (λ (o : OpClass). rooms_for (count_of o)) is
 
 looked : (g : Over) (c : After-take-in-Look g) → (c.begin_look.new.self ≡ with_look c.self.inside.store c.args.pid c.in-Ok.taken.0 (room_for c.in-Look.field-0))
     × (c.take-in-Look.new.self ≡ taken (with_place c.self.inside.processes) c.args.pid 0 c.in-Ok.taken.0 (room_for c.in-Look.field-0))
@@ -156,11 +140,11 @@ pub returns-in-Look : goal.returns-in-Look
 returns-in-Look g c =
     let made = looked g (goal.at.returns-in-Look g c).After-take-in-Look in
     let h = head g (goal.at.returns-in-Look g c).After-known-2 in
-    begins g (goal.at.returns-in-Look g c).After-known step.Moved c.begin_look.new.self c.take_first.new.intake c.take-in-Look.new.self
+    begins g (goal.at.returns-in-Look g c).After-known Step.Moved c.begin_look.new.self c.take_first.new.intake c.take-in-Look.new.self
     (inr (inl (record {
       op = c.in-Ok.taken.0;
       count = c.in-Look.field-0;
-      waits = ap (λ (o : Waiting). Some o) c.in-Look.is;
+      waits = ap (λ (o : OpClass). Some o) c.in-Look.is;
       taken = (h.takes.ahead, h.kind ∙ c.in-Look.is);
       room = h.takes.room;
       answer = refl;
@@ -192,13 +176,12 @@ invariant_of-self-in-Refused g c =
 
 pub returns-in-Refused : goal.returns-in-Refused
 returns-in-Refused g c =
-    let k = c.self.inside in
     let h = head g (goal.at.returns-in-Refused g c).After-known-2 in
     let op = c.in-Ok.taken.0 in
-    begins g (goal.at.returns-in-Refused g c).After-known step.Answered k.store c.answer.new.self c.refuse-answer.new.self
+    begins g (goal.at.returns-in-Refused g c).After-known Step.Answered c.self.inside.store c.answer.new.self c.refuse-answer.new.self
     (inr (inr (inl (record {
       op = op;
-      waits = ap (λ (o : Waiting). Some o) c.in-Refused.is;
+      waits = ap (λ (o : OpClass). Some o) c.in-Refused.is;
       taken = (h.takes.ahead ∙ ap (λ (l : List Op). op ∷ l) (sym c.answer.ensures.ahead), h.kind ∙ c.in-Refused.is);
       answer = refl;
       store = refl;

@@ -1,31 +1,9 @@
 use Rattle.std.proofs.Common.{rules, refl, inr, ◌≡◌, ◌<◌, ℕ, length, true, false, None, ap, subst, sym, ◌∙◌}
-use Rattle.wal.specs.declared.types.Committed.{Committed}
-use Rattle.wal.specs.declared.types.Committed.TheVariants as committed
-use Rattle.wal.specs.Machine.{LogState, is_quiet}
-use Rattle.wal.specs.Volume.{fault_of_step}
-use Rattle.inodes.specs.Lemmas.Faults.{where_none}
-use Rattle.inodes.specs.Steps.{Commits}
-use Rattle.inodes.specs.Store.{StoreState}
-use Rattle.inodes.specs.Tasks.{task}
-use Rattle.history.specs.declared.types.Phase.{Phase}
-use Rattle.history.specs.declared.types.Phase.TheVariants as at
-use Rattle.history.specs.Alone.{is_committing_at}
-use Rattle.history.specs.Lemmas.Alone.{goes_on, over_now, same_committed, durable_count}
-use Rattle.history.specs.Lemmas.Answers.{CanAnswer}
-use Rattle.history.specs.Processes.{World, process, last_answer}
-use Rattle.model.specs.declared.types.operations.Step.TheVariants as step
-use Rattle.kernel.specs.Invariant.{IsRight, HasFacts, LeavesSince, TaskStands}
-use Rattle.kernel.specs.Next.{world_written}
-use Rattle.kernel.specs.State.{State}
-use Rattle.kernel.specs.Acts.{Acts}
+use Rattle.kernel.specs.Common.{Acts, CanAnswer, commit_fails, Commits, Committed, committing_there, durable_count, fault_of_step, Ghosts, goes_on, HasFacts, is_committing_at, is_quiet, IsRight, Joint, last_answer, LeavesSince, LogState, over_now, Phase, process, same_committed, State, Step, StoreState, task, TaskStands, where_none, World, world_written}
 use Rattle.kernel.proofs.Acting.{acts_written, same_unasked, sides_same}
 use Rattle.kernel.proofs.Answering.{answer_commits}
-use Rattle.blocks.specs.declared.disk.Disk.{Ghosts}
-use Rattle.wal.specs.Joint.{Joint}
-use Rattle.wal.specs.Lemmas.Commits.{commit_fails}
 use Rattle.kernel.proofs.Committing.{makes_of}
 use Rattle.kernel.proofs.Closing.{right_written, right_done, right_unwritten}
-use Rattle.history.specs.Lemmas.Places.{committing_there}
 use Rattle.kernel.proofs.Ports.{ports_given, ports_counted, ports_stay}
 use Rattle.kernel.proofs.Promising.{since_step}
 use Rattle.kernel.proofs.Valid.{agreed_now}
@@ -39,7 +17,7 @@ record Head {D N : Type 0} (disk : Ghosts D N) (s : StoreState D) (w : World) (p
   within : p < length w.processes
   group : ℕ
   place : ℕ
-  stands : (process w p).at ≡ at.Committing group place
+  stands : (process w p).at ≡ Phase.Committing group place
   busy : is_quiet s.volume.log.commit ≡ false
   answer : CanAnswer (last_answer w (process w p).at) (process w p).room
   joint : Joint (disk.image s.volume.device) s.volume.buffers s.volume.log
@@ -53,7 +31,7 @@ head g c =
     let well : k.store.volume.fault ≡ None = search rules in
     let commits : is_committing_at (process k.processes p).at ≡ true = search rules in
     let there = committing_there (process k.processes p).at commits in
-    let stands : TaskStands k.processes.journal.list (task k.store.tasks p) (at.Committing there.0 there.1) = subst (λ (a : Phase). TaskStands k.processes.journal.list (task k.store.tasks p) a) there.2 (right.paired.stand p).stands in
+    let stands : TaskStands k.processes.journal.list (task k.store.tasks p) (Phase.Committing there.0 there.1) = subst (λ (a : Phase). TaskStands k.processes.journal.list (task k.store.tasks p) a) there.2 (right.paired.stand p).stands in
     record {
       well = well;
       within = search rules;
@@ -89,16 +67,16 @@ pub invariant_of-self : goal.invariant_of-self
 invariant_of-self g c =
     let k = c.self.inside in let h = head g (goal.at.invariant_of-self g c).After-known in
     let t = c.commit_step-committed.new.self in let l = k.store.volume.log in
-    let made : Commits g.D.Disk k.store committed.More t = subst (λ (r : Committed). Commits g.D.Disk k.store r t) c.in-More.is c.commit_step-committed.ensures.commits in
-    let now : t.volume.fault ≡ fault_of_step committed.More = made.volume.fault in
+    let made : Commits g.D.Disk k.store Committed.More t = subst (λ (r : Committed). Commits g.D.Disk k.store r t) c.in-More.is c.commit_step-committed.ensures.commits in
+    let now : t.volume.fault ≡ fault_of_step Committed.More = made.volume.fault in
     let holds = g.D.Disk.holding (g.D.Disk.name k.store.volume.device) in
-    let makes = makes_of g.D.Disk k.store t committed.More refl made in
-    let right = right_written g.D.Disk k.opening.value k.store k.processes c.self.invariant.right h.well c.args.pid h.within h.group h.place h.stands t committed.More made g.met.D.Disk.has_now h.joint
+    let makes = makes_of g.D.Disk k.store t Committed.More refl made in
+    let right = right_written g.D.Disk k.opening.value k.store k.processes c.self.invariant.right h.well c.args.pid h.within h.group h.place h.stands t Committed.More made g.met.D.Disk.has_now h.joint
     (agreed_now g.D.Disk.image t now c.known-2.ensures.volume c.known-2.ensures.store) now
     (ap (λ (m : LogState). is_quiet m.commit) makes.log ∙ goes_on holds l.commit l l.opened h.busy (λ done. let both = sym makes.answer ∙ done in absurd (cc both))) makes.faults in
     record {
       right = right;
-      since = since g (goal.at.invariant_of-self g c).After-known-2 committed.More k.processes c.in-More.is refl right;
+      since = since g (goal.at.invariant_of-self g c).After-known-2 Committed.More k.processes c.in-More.is refl right;
       ports = ports_counted g.I.Intake g.H.Herald k.intake k.herald l.committed t.volume.log.committed k.processes c.self.invariant.ports (ap (λ (m : LogState). m.committed) makes.log ∙ same_committed holds l.commit l l.opened (λ n durable. let both = sym makes.answer ∙ durable in absurd (cc both)));
     }
 
@@ -106,16 +84,16 @@ pub invariant_of-self-in-Durable : goal.invariant_of-self-in-Durable
 invariant_of-self-in-Durable g c =
     let k = c.self.inside in let h = head g (goal.at.invariant_of-self-in-Durable g c).After-known in
     let t = c.commit_step-committed.new.self in let l = k.store.volume.log in
-    let made : Commits g.D.Disk k.store (committed.Durable c.in-Durable.group) t = subst (λ (r : Committed). Commits g.D.Disk k.store r t) c.in-Durable.is c.commit_step-committed.ensures.commits in
-    let now : t.volume.fault ≡ fault_of_step (committed.Durable c.in-Durable.group) = made.volume.fault in
+    let made : Commits g.D.Disk k.store (Committed.Durable c.in-Durable.group) t = subst (λ (r : Committed). Commits g.D.Disk k.store r t) c.in-Durable.is c.commit_step-committed.ensures.commits in
+    let now : t.volume.fault ≡ fault_of_step (Committed.Durable c.in-Durable.group) = made.volume.fault in
     let holds = g.D.Disk.holding (g.D.Disk.name k.store.volume.device) in
-    let makes = makes_of g.D.Disk k.store t (committed.Durable c.in-Durable.group) refl made in
-    let right = right_written g.D.Disk k.opening.value k.store k.processes c.self.invariant.right h.well c.args.pid h.within h.group h.place h.stands t (committed.Durable c.in-Durable.group) made g.met.D.Disk.has_now h.joint
+    let makes = makes_of g.D.Disk k.store t (Committed.Durable c.in-Durable.group) refl made in
+    let right = right_written g.D.Disk k.opening.value k.store k.processes c.self.invariant.right h.well c.args.pid h.within h.group h.place h.stands t (Committed.Durable c.in-Durable.group) made g.met.D.Disk.has_now h.joint
     (agreed_now g.D.Disk.image t now c.known-2.ensures.volume c.known-2.ensures.store) now
     (ap (λ (m : LogState). is_quiet m.commit) makes.log ∙ goes_on holds l.commit l l.opened h.busy (λ done. let both = sym makes.answer ∙ done in absurd (cc both))) makes.faults in
     record {
       right = right;
-      since = since g (goal.at.invariant_of-self-in-Durable g c).After-known-2 (committed.Durable c.in-Durable.group) k.processes c.in-Durable.is refl right;
+      since = since g (goal.at.invariant_of-self-in-Durable g c).After-known-2 (Committed.Durable c.in-Durable.group) k.processes c.in-Durable.is refl right;
       ports = ports_stay g.I.Intake g.H.Herald k.intake k.intake k.herald c.durable.new.self l.committed t.volume.log.committed k.processes k.processes c.self.invariant.ports refl refl refl c.self.invariant.ports.room (λ p h fits. fits) (c.durable.ensures.count ∙ durable_count holds l t.volume.log c.in-Durable.group makes.answer makes.log);
     }
 
@@ -123,18 +101,18 @@ pub invariant_of-self-in-Done : goal.invariant_of-self-in-Done
 invariant_of-self-in-Done g c =
     let k = c.self.inside in let h = head g (goal.at.invariant_of-self-in-Done g c).After-known in
     let t = c.commit_step-committed.new.self in let l = k.store.volume.log in
-    let made : Commits g.D.Disk k.store committed.Done t = subst (λ (r : Committed). Commits g.D.Disk k.store r t) c.in-Done.is c.commit_step-committed.ensures.commits in
-    let now : t.volume.fault ≡ fault_of_step committed.Done = made.volume.fault in
+    let made : Commits g.D.Disk k.store Committed.Done t = subst (λ (r : Committed). Commits g.D.Disk k.store r t) c.in-Done.is c.commit_step-committed.ensures.commits in
+    let now : t.volume.fault ≡ fault_of_step Committed.Done = made.volume.fault in
     let holds = g.D.Disk.holding (g.D.Disk.name k.store.volume.device) in
-    let makes = makes_of g.D.Disk k.store t committed.Done refl made in
+    let makes = makes_of g.D.Disk k.store t Committed.Done refl made in
     let same : t.volume.log.committed ≡ l.committed = (ap (λ (m : LogState). m.committed) makes.log ∙ same_committed holds l.commit l l.opened (λ n durable. let both = sym makes.answer ∙ durable in absurd (cc both))) in
     let right = subst (λ (w : World). IsRight g.D.Disk k.opening.value t w) (sym c.give.ensures.processes)
-    (right_done g.D.Disk k.opening.value k.store k.processes c.self.invariant.right h.well c.args.pid h.within h.group h.place h.stands t committed.Done made g.met.D.Disk.has_now h.joint
+    (right_done g.D.Disk k.opening.value k.store k.processes c.self.invariant.right h.well c.args.pid h.within h.group h.place h.stands t Committed.Done made g.met.D.Disk.has_now h.joint
     (agreed_now g.D.Disk.image t now c.known-2.ensures.volume c.known-2.ensures.store) now
     (ap (λ (m : LogState). is_quiet m.commit) makes.log ∙ over_now holds l.commit l l.opened makes.answer) makes.faults) in
     record {
       right = right;
-      since = since g (goal.at.invariant_of-self-in-Done g c).After-known-2 committed.Done c.give.new.processes c.in-Done.is c.give.ensures.processes right;
+      since = since g (goal.at.invariant_of-self-in-Done g c).After-known-2 Committed.Done c.give.new.processes c.in-Done.is c.give.ensures.processes right;
       ports = ports_given g.I.Intake g.H.Herald k.intake c.give.new.intake k.herald k.herald l.committed t.volume.log.committed k.processes c.give.new.processes c.args.pid
           c.self.invariant.ports h.within h.answer.0 c.give.ensures.processes c.give.ensures.gives (c.self.invariant.ports.told ∙ sym same);
     }
@@ -143,13 +121,13 @@ pub invariant_of-self-in-Fault : goal.invariant_of-self-in-Fault
 invariant_of-self-in-Fault g c =
     let k = c.self.inside in let h = head g (goal.at.invariant_of-self-in-Fault g c).After-known in
     let t = c.commit_step-committed.new.self in let l = k.store.volume.log in
-    let made : Commits g.D.Disk k.store (committed.Fault c.in-Fault.field-0) t = subst (λ (r : Committed). Commits g.D.Disk k.store r t) c.in-Fault.is c.commit_step-committed.ensures.commits in
-    let failed = commit_fails g.D.Disk k.store.volume.device k.store.volume.buffers l t.volume.device t.volume.buffers t.volume.log c.in-Fault.field-0 (committed.Fault c.in-Fault.field-0) refl made.volume.write in
-    let right = right_unwritten g.D.Disk k.opening.value k.store k.processes c.self.invariant.right h.well c.args.pid h.within h.group h.place h.stands t (committed.Fault c.in-Fault.field-0) made g.met.D.Disk.has_now h.joint c.known.ensures.store
+    let made : Commits g.D.Disk k.store (Committed.Fault c.in-Fault.field-0) t = subst (λ (r : Committed). Commits g.D.Disk k.store r t) c.in-Fault.is c.commit_step-committed.ensures.commits in
+    let failed = commit_fails g.D.Disk k.store.volume.device k.store.volume.buffers l t.volume.device t.volume.buffers t.volume.log c.in-Fault.field-0 (Committed.Fault c.in-Fault.field-0) refl made.volume.write in
+    let right = right_unwritten g.D.Disk k.opening.value k.store k.processes c.self.invariant.right h.well c.args.pid h.within h.group h.place h.stands t (Committed.Fault c.in-Fault.field-0) made g.met.D.Disk.has_now h.joint c.known.ensures.store
     c.in-Fault.field-0 refl (where_none k.store.volume.fault h.well c.known.ensures.survives) failed.1 failed.2 in
     record {
       right = right;
-      since = since g (goal.at.invariant_of-self-in-Fault g c).After-known-2 (committed.Fault c.in-Fault.field-0) k.processes c.in-Fault.is refl right;
+      since = since g (goal.at.invariant_of-self-in-Fault g c).After-known-2 (Committed.Fault c.in-Fault.field-0) k.processes c.in-Fault.is refl right;
       ports = ports_counted g.I.Intake g.H.Herald k.intake k.herald l.committed t.volume.log.committed k.processes c.self.invariant.ports (ap (λ (m : LogState). m.committed) failed.1);
     }
 
@@ -157,30 +135,30 @@ pub returns-in-More : goal.returns-in-More
 returns-in-More g c =
     let k = c.self.inside in let h = head g (goal.at.returns-in-More g c).After-known in
     let t = c.commit_step-committed.new.self in
-    let made : Commits g.D.Disk k.store committed.More t = subst (λ (r : Committed). Commits g.D.Disk k.store r t) c.in-More.is c.commit_step-committed.ensures.commits in
-    subst (λ (o : State _ _ _). Acts g.D.Disk g.I.Intake g.H.Herald c.args.pid step.Moved o (record { store = t; opening = k.opening.value; intake = k.intake; herald = k.herald; world = k.processes })) c.self.view_is
-    (acts_written g.D.Disk g.I.Intake g.H.Herald c.args.pid k.store t k.opening.value k.intake k.herald k.processes k.processes h.well h.group h.place k.intake k.herald committed.More h.stands made refl (sides_same g.I.Intake c.args.pid k.intake) refl (same_unasked g.H.Herald k.herald))
+    let made : Commits g.D.Disk k.store Committed.More t = subst (λ (r : Committed). Commits g.D.Disk k.store r t) c.in-More.is c.commit_step-committed.ensures.commits in
+    subst (λ (o : State _ _ _). Acts g.D.Disk g.I.Intake g.H.Herald c.args.pid Step.Moved o (record { store = t; opening = k.opening.value; intake = k.intake; herald = k.herald; world = k.processes })) c.self.view_is
+    (acts_written g.D.Disk g.I.Intake g.H.Herald c.args.pid k.store t k.opening.value k.intake k.herald k.processes k.processes h.well h.group h.place k.intake k.herald Committed.More h.stands made refl (sides_same g.I.Intake c.args.pid k.intake) refl (same_unasked g.H.Herald k.herald))
 
 pub returns-in-Durable : goal.returns-in-Durable
 returns-in-Durable g c =
     let k = c.self.inside in let h = head g (goal.at.returns-in-Durable g c).After-known in
     let t = c.commit_step-committed.new.self in
-    let made : Commits g.D.Disk k.store (committed.Durable c.in-Durable.group) t = subst (λ (r : Committed). Commits g.D.Disk k.store r t) c.in-Durable.is c.commit_step-committed.ensures.commits in
-    subst (λ (o : State _ _ _). Acts g.D.Disk g.I.Intake g.H.Herald c.args.pid step.Moved o (record { store = t; opening = k.opening.value; intake = k.intake; herald = c.durable.new.self; world = k.processes })) c.self.view_is
-    (acts_written g.D.Disk g.I.Intake g.H.Herald c.args.pid k.store t k.opening.value k.intake k.herald k.processes k.processes h.well h.group h.place k.intake c.durable.new.self (committed.Durable c.in-Durable.group) h.stands made refl (sides_same g.I.Intake c.args.pid k.intake) refl (record { told = c.durable.ensures.told; same = inr c.durable.ensures.hears }))
+    let made : Commits g.D.Disk k.store (Committed.Durable c.in-Durable.group) t = subst (λ (r : Committed). Commits g.D.Disk k.store r t) c.in-Durable.is c.commit_step-committed.ensures.commits in
+    subst (λ (o : State _ _ _). Acts g.D.Disk g.I.Intake g.H.Herald c.args.pid Step.Moved o (record { store = t; opening = k.opening.value; intake = k.intake; herald = c.durable.new.self; world = k.processes })) c.self.view_is
+    (acts_written g.D.Disk g.I.Intake g.H.Herald c.args.pid k.store t k.opening.value k.intake k.herald k.processes k.processes h.well h.group h.place k.intake c.durable.new.self (Committed.Durable c.in-Durable.group) h.stands made refl (sides_same g.I.Intake c.args.pid k.intake) refl (record { told = c.durable.ensures.told; same = inr c.durable.ensures.hears }))
 
 pub returns-in-Done : goal.returns-in-Done
 returns-in-Done g c =
     let k = c.self.inside in let h = head g (goal.at.returns-in-Done g c).After-known in
     let t = c.commit_step-committed.new.self in
-    let made : Commits g.D.Disk k.store committed.Done t = subst (λ (r : Committed). Commits g.D.Disk k.store r t) c.in-Done.is c.commit_step-committed.ensures.commits in
-    subst (λ (o : State _ _ _). Acts g.D.Disk g.I.Intake g.H.Herald c.args.pid step.Answered o (record { store = t; opening = k.opening.value; intake = c.give.new.intake; herald = k.herald; world = c.give.new.processes })) c.self.view_is
-    (acts_written g.D.Disk g.I.Intake g.H.Herald c.args.pid k.store t k.opening.value k.intake k.herald k.processes c.give.new.processes h.well h.group h.place c.give.new.intake k.herald committed.Done h.stands made c.give.ensures.processes c.give.ensures.gives.keeps c.give.ensures.gives.ahead (same_unasked g.H.Herald k.herald))
+    let made : Commits g.D.Disk k.store Committed.Done t = subst (λ (r : Committed). Commits g.D.Disk k.store r t) c.in-Done.is c.commit_step-committed.ensures.commits in
+    subst (λ (o : State _ _ _). Acts g.D.Disk g.I.Intake g.H.Herald c.args.pid Step.Answered o (record { store = t; opening = k.opening.value; intake = c.give.new.intake; herald = k.herald; world = c.give.new.processes })) c.self.view_is
+    (acts_written g.D.Disk g.I.Intake g.H.Herald c.args.pid k.store t k.opening.value k.intake k.herald k.processes c.give.new.processes h.well h.group h.place c.give.new.intake k.herald Committed.Done h.stands made c.give.ensures.processes c.give.ensures.gives.keeps c.give.ensures.gives.ahead (same_unasked g.H.Herald k.herald))
 
 pub returns-in-Fault : goal.returns-in-Fault
 returns-in-Fault g c =
     let k = c.self.inside in let h = head g (goal.at.returns-in-Fault g c).After-known in
     let t = c.commit_step-committed.new.self in
-    let made : Commits g.D.Disk k.store (committed.Fault c.in-Fault.field-0) t = subst (λ (r : Committed). Commits g.D.Disk k.store r t) c.in-Fault.is c.commit_step-committed.ensures.commits in
-    subst (λ (o : State _ _ _). Acts g.D.Disk g.I.Intake g.H.Herald c.args.pid step.Halted o (record { store = t; opening = k.opening.value; intake = k.intake; herald = k.herald; world = k.processes })) c.self.view_is
-    (acts_written g.D.Disk g.I.Intake g.H.Herald c.args.pid k.store t k.opening.value k.intake k.herald k.processes k.processes h.well h.group h.place k.intake k.herald (committed.Fault c.in-Fault.field-0) h.stands made refl (sides_same g.I.Intake c.args.pid k.intake) refl (same_unasked g.H.Herald k.herald))
+    let made : Commits g.D.Disk k.store (Committed.Fault c.in-Fault.field-0) t = subst (λ (r : Committed). Commits g.D.Disk k.store r t) c.in-Fault.is c.commit_step-committed.ensures.commits in
+    subst (λ (o : State _ _ _). Acts g.D.Disk g.I.Intake g.H.Herald c.args.pid Step.Halted o (record { store = t; opening = k.opening.value; intake = k.intake; herald = k.herald; world = k.processes })) c.self.view_is
+    (acts_written g.D.Disk g.I.Intake g.H.Herald c.args.pid k.store t k.opening.value k.intake k.herald k.processes k.processes h.well h.group h.place k.intake k.herald (Committed.Fault c.in-Fault.field-0) h.stands made refl (sides_same g.I.Intake c.args.pid k.intake) refl (same_unasked g.H.Herald k.herald))

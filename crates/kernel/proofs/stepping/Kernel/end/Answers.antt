@@ -1,22 +1,8 @@
 use Rattle.std.proofs.Common.{rules, refl, ◌≡◌, ◌<◌, ℕ, length, true, None, ap, subst, sym, ◌∙◌}
-use Rattle.blocks.specs.Disk.{Image}
-use Rattle.wal.specs.declared.types.Ended.TheVariants as ended_as
-use Rattle.wal.specs.Joint.{Joint}
-use Rattle.wal.specs.Machine.{ended, end_answer}
-use Rattle.inodes.specs.Store.{StoreState, KeepsFiles, with_log}
-use Rattle.history.specs.declared.types.Phase.TheVariants as at
-use Rattle.history.specs.Lemmas.Answers.{CanAnswer}
-use Rattle.history.specs.Processes.{World, process, last_answer, is_ending}
-use Rattle.model.specs.declared.types.operations.Step.TheVariants as step
-use Rattle.kernel.specs.Invariant.{IsRight, LeavesSince}
-use Rattle.kernel.specs.Next.{step_of_end, world_ended}
-use Rattle.kernel.specs.State.{State}
-use Rattle.kernel.specs.Acts.{Acts}
+use Rattle.kernel.specs.Common.{Acts, CanAnswer, closed_uncommitted, end_answer, Ended, ended, ending_there, Image, is_ending, IsRight, Joint, KeepsFiles, last_answer, LeavesSince, Phase, process, State, Step, step_of_end, StoreState, with_log, World, world_ended}
 use Rattle.kernel.proofs.Acting.{acts_ended, same_unasked, sides_same}
 use Rattle.kernel.proofs.Answering.{answer_ends}
-use Rattle.history.specs.Lemmas.Groups.{closed_uncommitted}
 use Rattle.kernel.proofs.Closing.{right_closed, right_left}
-use Rattle.history.specs.Lemmas.Places.{ending_there}
 use Rattle.kernel.proofs.Ports.{ports_committing, ports_given, ports_counted}
 use Rattle.kernel.proofs.Promising.{since_step}
 use Rattle.kernel.proofs.Valid.{HasAgreed, agreed_now}
@@ -30,7 +16,7 @@ record Head {D : Type 0} (image : D → Image) (s : StoreState D) (w : World) (p
   within : p < length w.processes
   group : ℕ
   place : ℕ
-  stands : (process w p).at ≡ at.Ending group place
+  stands : (process w p).at ≡ Phase.Ending group place
   answer : CanAnswer (last_answer w (process w p).at) (process w p).room
   before : Joint (image s.volume.device) s.volume.buffers s.volume.log
   agreed : HasAgreed image (with_log s (ended s.volume.log p))
@@ -81,7 +67,7 @@ invariant_of-self g c =
     let t = c.end-ended.new.self in
     let s : StoreState _ = with_log k.store (ended k.store.volume.log c.args.pid) in
     let is : t ≡ s = c.end-ended.ensures.store in
-    let answer : end_answer k.store.volume.log ≡ ended_as.Commit = sym c.end-ended.ensures.answer ∙ c.in-Commit.is in
+    let answer : end_answer k.store.volume.log ≡ Ended.Commit = sym c.end-ended.ensures.answer ∙ c.in-Commit.is in
     let right = subst (λ (o : StoreState _). IsRight g.D.Disk k.opening.value o c.commit.new.self) (sym is)
     (subst (λ (w : World). IsRight g.D.Disk k.opening.value s w) (sym c.commit.ensures)
     (right_closed g.D.Disk k.opening.value k.store k.processes c.self.invariant.right h.well c.args.pid h.within h.group h.place h.stands h.agreed h.before h.keeps answer)) in
@@ -100,8 +86,7 @@ invariant_of-self-in-Left g c =
     let t = c.end-ended.new.self in
     let s : StoreState _ = with_log k.store (ended k.store.volume.log c.args.pid) in
     let is : t ≡ s = c.end-ended.ensures.store in
-    let answer : end_answer k.store.volume.log ≡ ended_as.Left = sym c.end-ended.ensures.answer ∙ c.in-Left.is in
-    let now : c.committed.result ≡ t.volume.log.committed = search rules in
+    let answer : end_answer k.store.volume.log ≡ Ended.Left = sym c.end-ended.ensures.answer ∙ c.in-Left.is in
     let right = subst (λ (o : StoreState _). IsRight g.D.Disk k.opening.value o c.give.new.processes) (sym is)
     (subst (λ (w : World). IsRight g.D.Disk k.opening.value s w) (sym c.give.ensures.processes)
     (right_left g.D.Disk k.opening.value k.store k.processes c.self.invariant.right h.well c.args.pid h.within h.group h.place h.stands h.agreed h.before h.keeps answer)) in
@@ -109,7 +94,7 @@ invariant_of-self-in-Left g c =
       right = right;
       since = since g (goal.at.invariant_of-self-in-Left g c).After-known-2 c.give.new.processes (c.give.ensures.processes ∙ ap (λ e. world_ended e k.processes c.args.pid) (sym answer)) right;
       ports = ports_given g.I.Intake g.H.Herald k.intake c.give.new.intake k.herald c.tell.new.herald k.store.volume.log.committed t.volume.log.committed k.processes c.give.new.processes c.args.pid
-          c.self.invariant.ports h.within h.answer.0 c.give.ensures.processes c.give.ensures.gives (c.tell.ensures.count ∙ now);
+          c.self.invariant.ports h.within h.answer.0 c.give.ensures.processes c.give.ensures.gives (c.tell.ensures.count ∙ (search rules));
     }
 
 pub returns-in-Commit : goal.returns-in-Commit
@@ -117,9 +102,9 @@ returns-in-Commit g c =
     let k = c.self.inside in
     let h = head g (goal.at.returns-in-Commit g c).After-known-2 in
     let t = c.end-ended.new.self in
-    let answer : end_answer k.store.volume.log ≡ ended_as.Commit = sym c.end-ended.ensures.answer ∙ c.in-Commit.is in
-    subst (λ (o : State _ _ _). Acts g.D.Disk g.I.Intake g.H.Herald c.args.pid step.Moved o (record { store = t; opening = k.opening.value; intake = k.intake; herald = k.herald; world = c.commit.new.self })) c.self.view_is
-    (acts_ended g.D.Disk g.I.Intake g.H.Herald c.args.pid k.store t k.opening.value k.intake k.herald k.processes c.commit.new.self h.well h.group h.place k.intake k.herald step.Moved h.stands
+    let answer : end_answer k.store.volume.log ≡ Ended.Commit = sym c.end-ended.ensures.answer ∙ c.in-Commit.is in
+    subst (λ (o : State _ _ _). Acts g.D.Disk g.I.Intake g.H.Herald c.args.pid Step.Moved o (record { store = t; opening = k.opening.value; intake = k.intake; herald = k.herald; world = c.commit.new.self })) c.self.view_is
+    (acts_ended g.D.Disk g.I.Intake g.H.Herald c.args.pid k.store t k.opening.value k.intake k.herald k.processes c.commit.new.self h.well h.group h.place k.intake k.herald Step.Moved h.stands
     (record { answer = ap step_of_end (sym answer); store = c.end-ended.ensures.store; world = c.commit.ensures ∙ ap (λ e. world_ended e k.processes c.args.pid) (sym answer) }) (sides_same g.I.Intake c.args.pid k.intake) refl (same_unasked g.H.Herald k.herald))
 
 pub returns-in-Left : goal.returns-in-Left
@@ -127,7 +112,7 @@ returns-in-Left g c =
     let k = c.self.inside in
     let h = head g (goal.at.returns-in-Left g c).After-known-2 in
     let t = c.end-ended.new.self in
-    let answer : end_answer k.store.volume.log ≡ ended_as.Left = sym c.end-ended.ensures.answer ∙ c.in-Left.is in
-    subst (λ (o : State _ _ _). Acts g.D.Disk g.I.Intake g.H.Herald c.args.pid step.Answered o (record { store = t; opening = k.opening.value; intake = c.give.new.intake; herald = c.tell.new.herald; world = c.give.new.processes })) c.self.view_is
-    (acts_ended g.D.Disk g.I.Intake g.H.Herald c.args.pid k.store t k.opening.value k.intake k.herald k.processes c.give.new.processes h.well h.group h.place c.give.new.intake c.tell.new.herald step.Answered h.stands
+    let answer : end_answer k.store.volume.log ≡ Ended.Left = sym c.end-ended.ensures.answer ∙ c.in-Left.is in
+    subst (λ (o : State _ _ _). Acts g.D.Disk g.I.Intake g.H.Herald c.args.pid Step.Answered o (record { store = t; opening = k.opening.value; intake = c.give.new.intake; herald = c.tell.new.herald; world = c.give.new.processes })) c.self.view_is
+    (acts_ended g.D.Disk g.I.Intake g.H.Herald c.args.pid k.store t k.opening.value k.intake k.herald k.processes c.give.new.processes h.well h.group h.place c.give.new.intake c.tell.new.herald Step.Answered h.stands
     (record { answer = ap step_of_end (sym answer); store = c.end-ended.ensures.store; world = c.give.ensures.processes ∙ ap (λ e. world_ended e k.processes c.args.pid) (sym answer) }) c.give.ensures.gives.keeps c.give.ensures.gives.ahead c.tell.ensures.unasked)

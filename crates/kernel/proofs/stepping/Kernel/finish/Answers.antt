@@ -1,24 +1,6 @@
 use Rattle.std.proofs.Common.{rules, refl, ◌≡◌, ◌<◌, ◌≤◌, true, length, None, Some, ◌∙◌, sym, ap, subst, ℕ, suc, ◌-◌, arith}
-use Rattle.blocks.specs.declared.disk.Disk.{Ghosts}
-use Rattle.model.specs.declared.types.operations.Op.{Op}
-use Rattle.model.specs.declared.types.operations.Reply.{Reply}
-use Rattle.model.specs.declared.types.operations.TaskProgress.{TaskProgress}
-use Rattle.model.specs.declared.types.operations.TaskProgress.TheVariants as progress
-use Rattle.wal.specs.Volume.{fault_of_task}
-use Rattle.inodes.specs.Steps.{Steps}
-use Rattle.inodes.specs.Store.{StoreState}
-use Rattle.inodes.specs.Tasks.{task}
-use Rattle.history.specs.declared.types.Phase.{Phase}
-use Rattle.history.specs.declared.types.Phase.TheVariants as at
-use Rattle.history.specs.Journal.{entry_in}
-use Rattle.history.specs.Lemmas.Answers.{CanAnswer}
-use Rattle.history.specs.Processes.{World, process, is_behind, last_answer, decided, answered}
-use Rattle.kernel.specs.Invariant.{Inv, IsRight, ArePorts, LeavesSince}
-use Rattle.kernel.specs.Next.{step_behind, step_of, step_of_last, step_of_told, world_behind, world_of_last, world_of_told}
+use Rattle.kernel.specs.Common.{Acts, answered, ArePorts, CanAnswer, decided, entry_in, fault_of_task, Ghosts, Inv, is_behind, IsRight, last_answer, LeavesSince, Op, Phase, process, Reply, State, Step, step_behind, step_of, step_of_last, step_of_told, Steps, StoreState, task, TaskProgress, World, world_behind, world_of_last, world_of_told}
 use Rattle.kernel.specs.Ports.{KeepsOthers}
-use Rattle.kernel.specs.State.{State}
-use Rattle.model.specs.declared.types.operations.Step.{Step}
-use Rattle.kernel.specs.Acts.{Acts}
 use Rattle.kernel.proofs.Acting.{acts_finished, sides_same}
 use Rattle.kernel.proofs.Answering.{IsThere, is_there, op_is, mine_is, answer_over, answer_told, some_reply}
 use Rattle.kernel.proofs.Ports.{ports_decided, ports_ending, ports_given}
@@ -45,8 +27,7 @@ head g c =
     let k = c.self.inside in
     let t = c.step-progress.new.self in
     let well : k.store.volume.fault ≡ None = search rules in
-    let behind : is_behind (process k.processes c.args.pid).at ≡ true = search rules in
-    let there = is_there g.D.Disk k.opening.value k.store k.processes c.args.pid c.self.invariant.right well behind in
+    let there = is_there g.D.Disk k.opening.value k.store k.processes c.args.pid c.self.invariant.right well (search rules) in
     let steps : (r : TaskProgress) → c.step-progress.result ≡ r → Steps g.D.Disk k.store c.args.pid c.operation-op.result.now r t = λ r is. subst (λ (q : TaskProgress). Steps g.D.Disk k.store c.args.pid c.operation-op.result.now q t) is c.step-progress.ensures.step in
     record {
       well = well;
@@ -80,8 +61,8 @@ since g c r z is made right =
     (subst (λ (o : Op). Steps g.D.Disk k.store c.args.pid o r c.step-progress.new.self) h.same (h.steps r is)) made (sides_same g.I.Intake c.args.pid k.intake) refl) right c.known-2.ensures.survives
 
 -- the group that was looked up is its own
-own_group : (g : Over) (c : After-known-2 g) (group k : ℕ) {a : Phase} → a ≡ (process c.self.inside.processes c.args.pid).at → a ≡ at.AfterTurn group k → (head g c).there.group ≡ group
-own_group g c group k is told = let both : at.AfterTurn (head g c).there.group (head g c).there.k ≡ at.AfterTurn group k = sym (head g c).there.stands ∙ sym is ∙ told in cc both
+own_group : (g : Over) (c : After-known-2 g) (group k : ℕ) {a : Phase} → a ≡ (process c.self.inside.processes c.args.pid).at → a ≡ Phase.AfterTurn group k → (head g c).there.group ≡ group
+own_group g c group k is told = let both : Phase.AfterTurn (head g c).there.group (head g c).there.k ≡ Phase.AfterTurn group k = sym (head g c).there.stands ∙ sym is ∙ told in cc both
 
 some_group : (group : ℕ) → (group ≡ 0 → ⊥) → 0 < group
 some_group group some = omega (arith, some)
@@ -90,69 +71,69 @@ no_group : (group : ℕ) → group ≤ 0 → group ≡ 0
 no_group group none = omega (arith, none)
 
 -- a reading was told its bytes, and answered
-told : (g : Over) (c : After-known-2 g) (reply : Reply) → (head g c).there.group ≡ 0 → c.step-progress.result ≡ progress.Decided reply → IsRight g.D.Disk c.self.inside.opening.value c.step-progress.new.self (answered (decided c.self.inside.processes c.args.pid reply) c.args.pid)
+told : (g : Over) (c : After-known-2 g) (reply : Reply) → (head g c).there.group ≡ 0 → c.step-progress.result ≡ TaskProgress.Decided reply → IsRight g.D.Disk c.self.inside.opening.value c.step-progress.new.self (answered (decided c.self.inside.processes c.args.pid reply) c.args.pid)
 told g c reply none is =
     let k = c.self.inside in
     let h = head g c in
     right_decided g.D.Disk k.opening.value k.store k.processes c.self.invariant.right h.well c.args.pid h.within c.operation-op.result.now h.mine c.known.ensures.store c.step-progress.new.self h.there.group h.there.k h.there.stands none reply
-    (h.steps (progress.Decided reply) is) (h.agreed (progress.Decided reply) is refl)
+    (h.steps (TaskProgress.Decided reply) is) (h.agreed (TaskProgress.Decided reply) is refl)
 
-can_told : (g : Over) (c : After-known-2 g) (reply : Reply) (z : World) → (head g c).there.group ≡ 0 → c.step-progress.result ≡ progress.Decided reply → z ≡ decided c.self.inside.processes c.args.pid reply → CanAnswer (last_answer z (process z c.args.pid).at) (process z c.args.pid).room
+can_told : (g : Over) (c : After-known-2 g) (reply : Reply) (z : World) → (head g c).there.group ≡ 0 → c.step-progress.result ≡ TaskProgress.Decided reply → z ≡ decided c.self.inside.processes c.args.pid reply → CanAnswer (last_answer z (process z c.args.pid).at) (process z c.args.pid).room
 can_told g c reply z none is made =
     let k = c.self.inside in
     let h = head g c in
     subst (λ (o : World). CanAnswer (last_answer o (process o c.args.pid).at) (process o c.args.pid).room) (sym made)
-    (answer_told g.D.Disk k.opening.value k.store k.processes c.args.pid c.self.invariant.right h.well h.there reply c.step-progress.new.self (h.steps (progress.Decided reply) is).reads.fault (told g c reply none is))
+    (answer_told g.D.Disk k.opening.value k.store k.processes c.args.pid c.self.invariant.right h.well h.there reply c.step-progress.new.self (h.steps (TaskProgress.Decided reply) is).reads.fault (told g c reply none is))
 
 -- another look has its reply
-can_leave : (g : Over) (c : After-known-2 g) → c.step-progress.result ≡ progress.Over → CanAnswer (last_answer c.self.inside.processes (process c.self.inside.processes c.args.pid).at) (process c.self.inside.processes c.args.pid).room
+can_leave : (g : Over) (c : After-known-2 g) → c.step-progress.result ≡ TaskProgress.Over → CanAnswer (last_answer c.self.inside.processes (process c.self.inside.processes c.args.pid).at) (process c.self.inside.processes c.args.pid).room
 can_leave g c is =
     let k = c.self.inside in
     let h = head g c in
-    let ends = ends_now g.D.Disk k.opening.value k.store k.processes c.self.invariant.right h.well c.args.pid h.within c.operation-op.result.now h.mine c.known.ensures.store c.step-progress.new.self progress.Over h.there.its.unfinished (h.steps progress.Over is) in
+    let ends = ends_now g.D.Disk k.opening.value k.store k.processes c.self.invariant.right h.well c.args.pid h.within c.operation-op.result.now h.mine c.known.ensures.store c.step-progress.new.self TaskProgress.Over h.there.its.unfinished (h.steps TaskProgress.Over is) in
     answer_over g.D.Disk k.opening.value k.store k.processes c.args.pid c.self.invariant.right h.well h.there (some_reply h.there.entry.reply (sym h.there.its.reply ∙ ends.1))
 
 -- with neither reply nor end the processes stay as they are
-stays : (group : ℕ) (r : TaskProgress) (w : World) (p : ℕ) → ((reply : Reply) → r ≡ progress.Decided reply → ⊥) → (r ≡ progress.Over → ⊥) → (w ≡ world_behind group r w p) × (step_behind group r ≡ step_of r)
-stays group progress.Moved w p undecided more = (refl, refl)
-stays group (progress.Turned reply) w p undecided more = (refl, refl)
-stays group (progress.Decided reply) w p undecided more = absurd (undecided reply refl)
-stays group progress.Over w p undecided more = absurd (more refl)
-stays group (progress.Sleeping cause) w p undecided more = (refl, refl)
-stays group (progress.Fault fault) w p undecided more = (refl, refl)
+stays : (group : ℕ) (r : TaskProgress) (w : World) (p : ℕ) → ((reply : Reply) → r ≡ TaskProgress.Decided reply → ⊥) → (r ≡ TaskProgress.Over → ⊥) → (w ≡ world_behind group r w p) × (step_behind group r ≡ step_of r)
+stays group TaskProgress.Moved w p undecided more = (refl, refl)
+stays group (TaskProgress.Turned reply) w p undecided more = (refl, refl)
+stays group (TaskProgress.Decided reply) w p undecided more = absurd (undecided reply refl)
+stays group TaskProgress.Over w p undecided more = absurd (more refl)
+stays group (TaskProgress.Sleeping cause) w p undecided more = (refl, refl)
+stays group (TaskProgress.Fault fault) w p undecided more = (refl, refl)
 
 -- what is true of the kernel then
-still : (g : Over) (c : After-known-2 g) (r : TaskProgress) → c.step-progress.result ≡ r → ((reply : Reply) → r ≡ progress.Decided reply → ⊥) → (r ≡ progress.Over → ⊥)
+still : (g : Over) (c : After-known-2 g) (r : TaskProgress) → c.step-progress.result ≡ r → ((reply : Reply) → r ≡ TaskProgress.Decided reply → ⊥) → (r ≡ TaskProgress.Over → ⊥)
     → Inv g.D.Disk g.I.Intake g.H.Herald (record { store = c.step-progress.new.self; opening = c.self.inside.opening.value; intake = c.self.inside.intake; herald = c.self.inside.herald; world = c.self.inside.processes })
-still g c progress.Moved is undecided more =
+still g c TaskProgress.Moved is undecided more =
     let k = c.self.inside in
     let h = head g c in
-    let steps = h.steps progress.Moved is in
-    let right = right_moved_behind g.D.Disk k.opening.value k.store k.processes c.self.invariant.right h.well c.args.pid h.within c.operation-op.result.now h.mine c.known.ensures.store c.step-progress.new.self h.there.group h.there.k h.there.stands steps (h.agreed progress.Moved is refl) in
+    let steps = h.steps TaskProgress.Moved is in
+    let right = right_moved_behind g.D.Disk k.opening.value k.store k.processes c.self.invariant.right h.well c.args.pid h.within c.operation-op.result.now h.mine c.known.ensures.store c.step-progress.new.self h.there.group h.there.k h.there.stands steps (h.agreed TaskProgress.Moved is refl) in
     record {
       right = right;
-      since = since g c progress.Moved k.processes is refl right;
+      since = since g c TaskProgress.Moved k.processes is refl right;
       ports = subst (λ (n : ℕ). ArePorts g.I.Intake g.H.Herald k.intake k.herald n k.processes) (sym steps.groups.committed) c.self.invariant.ports;
     }
-still g c (progress.Turned reply) is undecided more =
+still g c (TaskProgress.Turned reply) is undecided more =
     let k = c.self.inside in
     let h = head g c in
-    absurd (not_turned g.D.Disk k.opening.value k.store k.processes c.self.invariant.right h.well c.args.pid h.within c.operation-op.result.now h.mine c.known.ensures.store c.step-progress.new.self h.there.group h.there.k h.there.stands reply (h.steps (progress.Turned reply) is))
-still g c (progress.Decided reply) is undecided more = absurd (undecided reply refl)
-still g c progress.Over is undecided more = absurd (more refl)
-still g c (progress.Sleeping cause) is undecided more =
+    absurd (not_turned g.D.Disk k.opening.value k.store k.processes c.self.invariant.right h.well c.args.pid h.within c.operation-op.result.now h.mine c.known.ensures.store c.step-progress.new.self h.there.group h.there.k h.there.stands reply (h.steps (TaskProgress.Turned reply) is))
+still g c (TaskProgress.Decided reply) is undecided more = absurd (undecided reply refl)
+still g c TaskProgress.Over is undecided more = absurd (more refl)
+still g c (TaskProgress.Sleeping cause) is undecided more =
     let k = c.self.inside in
-    let steps = (head g c).steps (progress.Sleeping cause) is in
+    let steps = (head g c).steps (TaskProgress.Sleeping cause) is in
     subst (λ (o : StoreState _). Inv g.D.Disk g.I.Intake g.H.Herald (record { store = o; opening = k.opening.value; intake = k.intake; herald = k.herald; world = k.processes })) (sym (steps.waits.sleeping cause refl)) c.self.invariant
-still g c (progress.Fault fault) is undecided more =
+still g c (TaskProgress.Fault fault) is undecided more =
     let k = c.self.inside in
     let h = head g c in
-    let steps = h.steps (progress.Fault fault) is in
+    let steps = h.steps (TaskProgress.Fault fault) is in
     let right = right_fault_behind g.D.Disk k.opening.value k.store k.processes c.self.invariant.right h.well c.args.pid h.within c.operation-op.result.now h.mine c.known.ensures.store c.step-progress.new.self h.there.group h.there.k h.there.stands fault
     (survives_reading g.D.Disk k.opening.value k.store c.step-progress.new.self g.met.D.Disk.counts_now steps.reads.device h.well c.known.ensures.survives) steps in
     record {
       right = right;
-      since = since g c (progress.Fault fault) k.processes is refl right;
+      since = since g c (TaskProgress.Fault fault) k.processes is refl right;
       ports = subst (λ (n : ℕ). ArePorts g.I.Intake g.H.Herald k.intake k.herald n k.processes) (sym steps.groups.committed) c.self.invariant.ports;
     }
 
@@ -160,8 +141,7 @@ pub step-progress-requires-clause-op : goal.step-progress-requires-clause-op
 step-progress-requires-clause-op g c =
     let k = c.self.inside in
     let well : k.store.volume.fault ≡ None = search rules in
-    let behind : is_behind (process k.processes c.args.pid).at ≡ true = search rules in
-    let there = is_there g.D.Disk k.opening.value k.store k.processes c.args.pid c.self.invariant.right well behind in
+    let there = is_there g.D.Disk k.opening.value k.store k.processes c.args.pid c.self.invariant.right well (search rules) in
     mine_is g.D.Disk k.opening.value k.store k.processes c.args.pid c.self.invariant.right well there c.operation-op.result.now c.operation-op.ensures
 
 pub give-requires-clause-over : goal.give-requires-clause-over
@@ -188,13 +168,13 @@ invariant_of-self-in-Decided g c =
     let past = (goal.at.invariant_of-self-in-Decided g c).After-known-2 in
     let h = head g past in
     let reply = c.in-Decided.reply in
-    let steps = h.steps (progress.Decided reply) c.in-Decided.is in
+    let steps = h.steps (TaskProgress.Decided reply) c.in-Decided.is in
     let none = own_group g past c.in-AfterTurn.group c.in-AfterTurn.entry c.at.ensures c.in-AfterTurn.is ∙ no_group c.in-AfterTurn.group c.if-group-gt0.false in
     let inside : c.args.pid < length c.decide.new.self.processes = search rules in
     let right = subst (λ (z : World). IsRight g.D.Disk k.opening.value c.step-progress.new.self z) (sym (c.give.ensures.processes ∙ ap (λ (w : World). answered w c.args.pid) c.decide.ensures)) (told g past reply none c.in-Decided.is) in
     record {
       right = right;
-      since = since g past (progress.Decided reply) c.give.new.processes c.in-Decided.is
+      since = since g past (TaskProgress.Decided reply) c.give.new.processes c.in-Decided.is
           (c.give.ensures.processes ∙ ap (λ (w : World). answered w c.args.pid) c.decide.ensures ∙ ap (λ (n : ℕ). world_of_told n k.processes c.args.pid reply) (sym none)) right;
       ports = ports_given g.I.Intake g.H.Herald k.intake c.give.new.intake k.herald k.herald k.store.volume.log.committed c.step-progress.new.self.volume.log.committed c.decide.new.self c.give.new.processes c.args.pid
           (subst (λ (w : World). ArePorts g.I.Intake g.H.Herald k.intake k.herald k.store.volume.log.committed w) (sym c.decide.ensures)
@@ -208,16 +188,16 @@ invariant_of-self g c =
     let past = (goal.at.invariant_of-self g c).After-known-2 in
     let h = head g past in
     let reply = c.in-Decided.reply in
-    let steps = h.steps (progress.Decided reply) c.in-Decided.is in
+    let steps = h.steps (TaskProgress.Decided reply) c.in-Decided.is in
     let same = own_group g past c.in-AfterTurn.group c.in-AfterTurn.entry c.at.ensures c.in-AfterTurn.is in
     let some = c.if-group-gt0.true in
     let right = subst (λ (z : World). IsRight g.D.Disk k.opening.value c.step-progress.new.self z) (sym c.decide.ensures)
     (right_told g.D.Disk k.opening.value k.store k.processes c.self.invariant.right h.well c.args.pid h.within c.operation-op.result.now h.mine c.known.ensures.store c.step-progress.new.self h.there.group h.there.k h.there.stands
-    (omega (arith, same, some)) reply steps (h.agreed (progress.Decided reply) c.in-Decided.is refl)) in
+    (omega (arith, same, some)) reply steps (h.agreed (TaskProgress.Decided reply) c.in-Decided.is refl)) in
     record {
       right = right;
       since = let next : suc (c.in-AfterTurn.group - 1) ≡ c.in-AfterTurn.group = omega (arith, some) in
-          since g past (progress.Decided reply) c.decide.new.self c.in-Decided.is (c.decide.ensures ∙ ap (λ (n : ℕ). world_of_told n k.processes c.args.pid reply) (next ∙ sym same)) right;
+          since g past (TaskProgress.Decided reply) c.decide.new.self c.in-Decided.is (c.decide.ensures ∙ ap (λ (n : ℕ). world_of_told n k.processes c.args.pid reply) (next ∙ sym same)) right;
       ports = subst (λ (n : ℕ). ArePorts g.I.Intake g.H.Herald k.intake k.herald n c.decide.new.self) (sym steps.groups.committed)
           (subst (λ (w : World). ArePorts g.I.Intake g.H.Herald k.intake k.herald k.store.volume.log.committed w) (sym c.decide.ensures)
           (ports_decided g.I.Intake g.H.Herald k.intake k.herald k.store.volume.log.committed k.processes c.args.pid h.there.group h.there.k h.there.entry reply c.self.invariant.ports h.within h.there.stands h.there.has.at h.there.has.mine));
@@ -228,13 +208,13 @@ invariant_of-self-then-group-eq0 g c =
     let k = c.self.inside in
     let past = (goal.at.invariant_of-self-then-group-eq0 g c).After-known-2 in
     let h = head g past in
-    let steps = h.steps progress.Over c.in-Over.is in
+    let steps = h.steps TaskProgress.Over c.in-Over.is in
     let none : h.there.group ≡ 0 = own_group g past c.in-AfterTurn.group c.in-AfterTurn.entry c.at.ensures c.in-AfterTurn.is ∙ c.if-group-eq0.true in
     let right = subst (λ (z : World). IsRight g.D.Disk k.opening.value c.step-progress.new.self z) (sym c.give-in-Over.ensures.processes)
-    (right_over g.D.Disk k.opening.value k.store k.processes c.self.invariant.right h.well c.args.pid h.within c.operation-op.result.now h.mine c.known.ensures.store c.step-progress.new.self h.there.group h.there.k h.there.stands none steps (h.agreed progress.Over c.in-Over.is refl)) in
+    (right_over g.D.Disk k.opening.value k.store k.processes c.self.invariant.right h.well c.args.pid h.within c.operation-op.result.now h.mine c.known.ensures.store c.step-progress.new.self h.there.group h.there.k h.there.stands none steps (h.agreed TaskProgress.Over c.in-Over.is refl)) in
     record {
       right = right;
-      since = since g past progress.Over c.give-in-Over.new.processes c.in-Over.is (c.give-in-Over.ensures.processes ∙ ap (λ (n : ℕ). world_of_last n k.processes c.args.pid) (sym none)) right;
+      since = since g past TaskProgress.Over c.give-in-Over.new.processes c.in-Over.is (c.give-in-Over.ensures.processes ∙ ap (λ (n : ℕ). world_of_last n k.processes c.args.pid) (sym none)) right;
       ports = ports_given g.I.Intake g.H.Herald k.intake c.give-in-Over.new.intake k.herald k.herald k.store.volume.log.committed c.step-progress.new.self.volume.log.committed k.processes c.give-in-Over.new.processes c.args.pid
           c.self.invariant.ports h.within (can_leave g past c.in-Over.is).0 c.give-in-Over.ensures.processes c.give-in-Over.ensures.gives (c.self.invariant.ports.told ∙ sym steps.groups.committed);
     }
@@ -244,34 +224,33 @@ invariant_of-self-in-Over-2 g c =
     let k = c.self.inside in
     let past = (goal.at.invariant_of-self-in-Over-2 g c).After-known-2 in
     let h = head g past in
-    let steps = h.steps progress.Over c.in-Over.is in
+    let steps = h.steps TaskProgress.Over c.in-Over.is in
     let same = own_group g past c.in-AfterTurn.group c.in-AfterTurn.entry c.at.ensures c.in-AfterTurn.is in
     let right = subst (λ (z : World). IsRight g.D.Disk k.opening.value c.step-progress.new.self z) (sym c.go_to_end.ensures)
     (right_ends g.D.Disk k.opening.value k.store k.processes c.self.invariant.right h.well c.args.pid h.within c.operation-op.result.now h.mine c.known.ensures.store c.step-progress.new.self h.there.group h.there.k h.there.stands
-    (some_group h.there.group (λ none. c.if-group-eq0.false (sym same ∙ none))) steps (h.agreed progress.Over c.in-Over.is refl)) in
+    (some_group h.there.group (λ none. c.if-group-eq0.false (sym same ∙ none))) steps (h.agreed TaskProgress.Over c.in-Over.is refl)) in
     record {
       right = right;
       since = let some = some_group c.in-AfterTurn.group c.if-group-eq0.false in
           let next : suc (c.in-AfterTurn.group - 1) ≡ c.in-AfterTurn.group = omega (arith, some) in
-          since g past progress.Over c.go_to_end.new.self c.in-Over.is (c.go_to_end.ensures ∙ ap (λ (n : ℕ). world_of_last n k.processes c.args.pid) (next ∙ sym same)) right;
+          since g past TaskProgress.Over c.go_to_end.new.self c.in-Over.is (c.go_to_end.ensures ∙ ap (λ (n : ℕ). world_of_last n k.processes c.args.pid) (next ∙ sym same)) right;
       ports = subst (λ (n : ℕ). ArePorts g.I.Intake g.H.Herald k.intake k.herald n c.go_to_end.new.self) (sym steps.groups.committed)
           (ports_ending g.I.Intake g.H.Herald k.intake k.herald k.store.volume.log.committed k.processes c.go_to_end.new.self c.args.pid h.there.group h.there.k c.self.invariant.ports h.within h.there.stands c.go_to_end.ensures);
     }
 
 -- with the reply of an operation of that group
-acts_told : (g : Over) (c : After-known-2 g) (reply : Reply) (group : ℕ) (j : _) (z : World) → (head g c).there.group ≡ group → c.step-progress.result ≡ progress.Decided reply → z ≡ world_of_told group c.self.inside.processes c.args.pid reply
+acts_told : (g : Over) (c : After-known-2 g) (reply : Reply) (group : ℕ) (j : _) (z : World) → (head g c).there.group ≡ group → c.step-progress.result ≡ TaskProgress.Decided reply → z ≡ world_of_told group c.self.inside.processes c.args.pid reply
     → KeepsOthers g.I.Intake c.args.pid c.self.inside.intake j → (g.I.Intake.side j c.args.pid).ahead ≡ (g.I.Intake.side c.self.inside.intake c.args.pid).ahead
     → Acts g.D.Disk g.I.Intake g.H.Herald c.args.pid (step_of_told group) c.args.self.now (record { store = c.step-progress.new.self; opening = c.self.inside.opening.value; intake = j; herald = c.self.inside.herald; world = z })
 acts_told g c reply group j z same is made sides ahead =
     subst (λ (n : ℕ). Acts g.D.Disk g.I.Intake g.H.Herald c.args.pid (step_of_told n) c.args.self.now (record { store = c.step-progress.new.self; opening = c.self.inside.opening.value; intake = j; herald = c.self.inside.herald; world = z })) same
-    (acts g c (progress.Decided reply) j z is (made ∙ ap (λ (n : ℕ). world_of_told n c.self.inside.processes c.args.pid reply) (sym same)) sides ahead)
+    (acts g c (TaskProgress.Decided reply) j z is (made ∙ ap (λ (n : ℕ). world_of_told n c.self.inside.processes c.args.pid reply) (sym same)) sides ahead)
 
 pub returns-then-group-gt0 : goal.returns-then-group-gt0
 returns-then-group-gt0 g c =
     let past = (goal.at.returns-then-group-gt0 g c).After-known-2 in
     let same = own_group g past c.in-AfterTurn.group c.in-AfterTurn.entry c.at.ensures c.in-AfterTurn.is in
-    let some = c.if-group-gt0.true in
-    let next : suc (c.in-AfterTurn.group - 1) ≡ c.in-AfterTurn.group = omega (arith, some) in
+    let next : suc (c.in-AfterTurn.group - 1) ≡ c.in-AfterTurn.group = omega (arith, c.if-group-gt0.true) in
     acts_told g past c.in-Decided.reply (suc (c.in-AfterTurn.group - 1)) c.self.inside.intake c.decide.new.self (same ∙ sym next) c.in-Decided.is
     c.decide.ensures (sides_same g.I.Intake c.args.pid c.self.inside.intake) refl
 
@@ -283,12 +262,12 @@ returns-else-group-gt0 g c =
     (c.give.ensures.processes ∙ ap (λ (w : World). answered w c.args.pid) c.decide.ensures) c.give.ensures.gives.keeps c.give.ensures.gives.ahead
 
 -- with the last step of a task of that group
-acts_last : (g : Over) (c : After-known-2 g) (group : ℕ) (j : _) (z : World) → (head g c).there.group ≡ group → c.step-progress.result ≡ progress.Over → z ≡ world_of_last group c.self.inside.processes c.args.pid
+acts_last : (g : Over) (c : After-known-2 g) (group : ℕ) (j : _) (z : World) → (head g c).there.group ≡ group → c.step-progress.result ≡ TaskProgress.Over → z ≡ world_of_last group c.self.inside.processes c.args.pid
     → KeepsOthers g.I.Intake c.args.pid c.self.inside.intake j → (g.I.Intake.side j c.args.pid).ahead ≡ (g.I.Intake.side c.self.inside.intake c.args.pid).ahead
     → Acts g.D.Disk g.I.Intake g.H.Herald c.args.pid (step_of_last group) c.args.self.now (record { store = c.step-progress.new.self; opening = c.self.inside.opening.value; intake = j; herald = c.self.inside.herald; world = z })
 acts_last g c group j z same is made sides ahead =
     subst (λ (n : ℕ). Acts g.D.Disk g.I.Intake g.H.Herald c.args.pid (step_of_last n) c.args.self.now (record { store = c.step-progress.new.self; opening = c.self.inside.opening.value; intake = j; herald = c.self.inside.herald; world = z })) same
-    (acts g c progress.Over j z is (made ∙ ap (λ (n : ℕ). world_of_last n c.self.inside.processes c.args.pid) (sym same)) sides ahead)
+    (acts g c TaskProgress.Over j z is (made ∙ ap (λ (n : ℕ). world_of_last n c.self.inside.processes c.args.pid) (sym same)) sides ahead)
 
 pub returns-in-Over : goal.returns-in-Over
 returns-in-Over g c =
@@ -300,8 +279,7 @@ pub returns-in-Over-2 : goal.returns-in-Over-2
 returns-in-Over-2 g c =
     let past = (goal.at.returns-in-Over-2 g c).After-known-2 in
     let same = own_group g past c.in-AfterTurn.group c.in-AfterTurn.entry c.at.ensures c.in-AfterTurn.is in
-    let some = some_group c.in-AfterTurn.group c.if-group-eq0.false in
-    let next : suc (c.in-AfterTurn.group - 1) ≡ c.in-AfterTurn.group = omega (arith, some) in
+    let next : suc (c.in-AfterTurn.group - 1) ≡ c.in-AfterTurn.group = omega (arith, (some_group c.in-AfterTurn.group c.if-group-eq0.false)) in
     acts_last g past (suc (c.in-AfterTurn.group - 1)) c.self.inside.intake c.go_to_end.new.self (same ∙ sym next) c.in-Over.is
     c.go_to_end.ensures (sides_same g.I.Intake c.args.pid c.self.inside.intake) refl
 

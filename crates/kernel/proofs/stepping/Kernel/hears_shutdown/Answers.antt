@@ -1,6 +1,5 @@
 use Rattle.std.proofs.Common.{true, refl, subst, sym, ◌∙◌}
-use Rattle.history.specs.Processes.{World}
-use Rattle.kernel.specs.Invariant.{Inv}
+use Rattle.kernel.specs.Common.{Inv, World}
 use Rattle.kernel.proofs.Beginnings.{right_shut}
 use Rattle.kernel.proofs.Ports.{ports_stay}
 use Rattle.kernel.proofs.stepping.Kernel.hears_shutdown.Goals as goal

@@ -1,19 +1,12 @@
 use Rattle.std.proofs.Common.{rules, ◌≡◌, ◌∙◌, sym, subst}
-use Rattle.bcache.specs.Buffers.{IsCache}
+use Rattle.kernel.specs.Common.{all_committed, Image, IsCache, KeepsNow, kept_of_taken, known_current, known_files, known_size, most_of, none_seen, State}
 use Rattle.bcache.specs.Lemmas.Current.{length-current}
-use Rattle.blocks.specs.Disk.{Image}
-use Rattle.history.specs.Keeps.{KeepsNow}
-use Rattle.history.specs.Most.{most_of}
-use Rattle.history.specs.Lemmas.Groups.{all_committed}
-use Rattle.history.specs.Lemmas.Known.{known_current, known_files, known_size, kept_of_taken}
 use Rattle.history.specs.Lemmas.Shapes.{rising_beginnings}
 use Rattle.kernel.specs.Known.{Known}
-use Rattle.kernel.specs.State.{State}
 use Rattle.kernel.proofs.Openings.{opens_again}
 use Rattle.kernel.proofs.Lasting.{lasts_now}
 use Rattle.kernel.proofs.Awaking.{awake_now}
 use Rattle.kernel.proofs.Resting.{at_rest, if_both, none_logged, shows_disk, stands_for}
-use Rattle.wal.specs.Lemmas.Volume.{none_seen}
 use Rattle.kernel.proofs.Right.{keeps_now}
 use Rattle.kernel.proofs.stepping.Kernel.known.Goals as goal
 

@@ -1,5 +1,5 @@
 use Rattle.std.proofs.Common.{sym, subst}
-use Rattle.kernel.specs.Runs.{RunsOn}
+use Rattle.kernel.specs.Common.{RunsOn}
 use Rattle.kernel.specs.Lemmas.Turns.{runs_on_shut, runs_on_step}
 use Rattle.kernel.proofs.stepping.Kernel.make.Goals as goal
 

@@ -1,22 +1,8 @@
 use Rattle.std.proofs.Common.{None, rules, refl, replicate, ◌≡◌, ◌≤◌, ℕ, ◌∙◌, sym, ap, subst, length, arith}
-use Rattle.std.proofs.lemmas.List.{length-replicate}
-use Rattle.blocks.specs.Disk.{Image}
-use Rattle.model.specs.Layout.{form_of, is_lawful_super, inode_count_of}
-use Rattle.model.specs.Log.{recovered}
-use Rattle.model.specs.Soundness.{IsSound}
-use Rattle.model.specs.Lemmas.Log.{length-recovered}
-use Rattle.model.specs.Lemmas.Soundness.{verdict_sound}
-use Rattle.wal.specs.Machine.{new_log}
-use Rattle.wal.specs.Recovery.{IsCalm}
+use Rattle.kernel.specs.Common.{ArePorts, files_of, form_of, fresh_volume, fresh_world, Image, inode_count_of, is_lawful_super, IsCalm, IsRight, IsSound, length-recovered, length-replicate, new_log, no_task, recovered, StoreState, Super, verdict_sound, VolumeState, World}
 use Rattle.kernel.specs.Opening.{LeavesRecovered}
-use Rattle.wal.specs.Volume.{VolumeState}
-use Rattle.inodes.specs.Store.{StoreState, FitsFiles, fresh_volume}
-use Rattle.model.specs.Files.{files_of}
-use Rattle.model.specs.declared.types.image.Super.{Super}
+use Rattle.inodes.specs.Store.{FitsFiles}
 use Rattle.kernel.proofs.Valid.{agreed_now}
-use Rattle.inodes.specs.Tasks.{no_task}
-use Rattle.history.specs.Processes.{World, fresh_world}
-use Rattle.kernel.specs.Invariant.{IsRight, ArePorts}
 use Rattle.kernel.proofs.AtOpening.{right_new}
 use Rattle.kernel.proofs.Openings.{super_size, lawful_here, recover_cause, syncs_at_open, opened_form, opened_numbers, empty_left, recover_unwritten, store_is}
 use Rattle.kernel.proofs.Ports.{ports_new}
@@ -42,14 +28,12 @@ pub open-store-requires-clause-sound : goal.open-store-requires-clause-sound
 open-store-requires-clause-sound g c =
     let x = g.D.Disk.image c.args.disk in
     let left : g.D.Disk.image c.recover.new.disk ≡ recovered x = c.in_default-recover.ensures.ok.image ∙ ap recovered c.check.ensures.reads.image in
-    let is : g.D.Disk.image c.open.result.device ≡ recovered x = ap (λ (v : VolumeState _). g.D.Disk.image v.device) c.open.ensures.volume ∙ left in
-    subst IsSound (sym is) (verdict_sound x c.in-Ok.ensures.ok).2
+    subst IsSound (sym (ap (λ (v : VolumeState _). g.D.Disk.image v.device) c.open.ensures.volume ∙ left)) (verdict_sound x c.in-Ok.ensures.ok).2
 
 pub open-store-requires-clause-few : goal.open-store-requires-clause-few
 open-store-requires-clause-few g c =
     let few : c.args.processes ≤ 32 = search rules in
-    let many : length c.in-Ok-take_memory.memory.tasks ≡ c.args.processes = ap (λ (ts : _). length ts) c.in-Ok-take_memory.ensures.tasks ∙ length-replicate c.args.processes no_task in
-    omega (arith, few, many)
+    omega (arith, few, (ap (λ (ts : _). length ts) c.in-Ok-take_memory.ensures.tasks ∙ length-replicate c.args.processes no_task))
 
 pub open-store-requires-clause-numbers : goal.open-store-requires-clause-numbers
 open-store-requires-clause-numbers g c =
@@ -110,7 +94,6 @@ returns-clause-opened g c =
     let x = g.D.Disk.image c.args.disk in
     let d = c.recover.new.disk in
     let s = c.open-store.result in
-    let left : g.D.Disk.image d ≡ recovered x = c.in_default-recover.ensures.ok.image ∙ ap recovered c.check.ensures.reads.image in
     let volume : s.volume ≡ fresh_volume g.D.Disk.image d = ap (λ (o : StoreState _). o.volume) c.open-store.ensures.store ∙ c.open.ensures.volume in
     let device : s.volume.device ≡ d = ap (λ (v : VolumeState _). v.device) volume in
     let opening : c.of-opening.result.value ≡ d = c.of-opening.ensures in
@@ -121,7 +104,7 @@ returns-clause-opened g c =
       some = some;
       few = few;
       sound = c.in-Ok.ensures.ok;
-      opening = ap g.D.Disk.image opening ∙ left;
+      opening = ap g.D.Disk.image opening ∙ (c.in_default-recover.ensures.ok.image ∙ ap recovered c.check.ensures.reads.image);
       store = c.open-store.ensures.store ∙ store_is c.open.result (fresh_volume g.D.Disk.image c.of-opening.result.value) c.in-Ok-take_memory.memory.tasks (replicate c.args.processes no_task) c.in-Ok.report.form (form_of x) c.in-Ok.report.sup.ninodes (inode_count_of x)
           (c.open.ensures.volume ∙ ap (fresh_volume g.D.Disk.image) (sym opening)) c.in-Ok-take_memory.ensures.tasks c.in-Ok.ensures.report.form (ap (λ (o : Super). o.ninodes) c.in-Ok.ensures.report.sup);
       world = c.in-Ok-take_memory.ensures.processes;

@@ -1,6 +1,5 @@
 use Rattle.std.proofs.Common.{subst}
-use Rattle.inodes.specs.Store.{IsStore}
-use Rattle.kernel.specs.Invariant.{Inv}
+use Rattle.kernel.specs.Common.{Inv, IsStore}
 use Rattle.kernel.proofs.Promising.{makes_step}
 use Rattle.kernel.proofs.stepping.Kernel.step.Goals as goal
 

@@ -1,5 +1,5 @@
 use Rattle.std.proofs.Common.{ap, ◌∙◌}
-use Rattle.model.specs.Codec.{super_block}
+use Rattle.offline.specs.Common.{super_block}
 use Rattle.offline.proofs.new_image.NewImage.new.Goals as goal
 
 pub invariant_of-result-clause-has_super : goal.invariant_of-result-clause-has_super

@@ -1,7 +1,5 @@
 use Rattle.std.proofs.Common.{◌∙◌, sym, length, arith}
-use Rattle.std.proofs.lemmas.Result.{err_from_is_err_and}
-use Rattle.model.specs.Verdict.{mark_fault}
-use Rattle.model.specs.Lemmas.Verdict.{first_here, first_later}
+use Rattle.offline.specs.Common.{err_from_is_err_and, first_here, first_later, mark_fault}
 use Rattle.offline.proofs.owners.Owners.check_marks.Goals as goal
 
 pub loop-b-preserved : goal.loop-b-preserved

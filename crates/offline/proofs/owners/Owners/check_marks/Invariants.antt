@@ -1,9 +1,6 @@
 use Rattle.std.proofs.Common.{◌≡◌, ◌-◌, length}
 use Rattle.std.specs.List.{range_with_len}
-use Rattle.blocks.specs.Disk.{Image}
-use Rattle.model.specs.Places.{places_of}
-use Rattle.model.specs.Verdict.{first_of, mark_fault, marks_fault}
-use Rattle.offline.specs.Owners.{Stand}
+use Rattle.offline.specs.Common.{first_of, Image, mark_fault, marks_fault, places_of, Stand}
 use Rattle.offline.proofs.owners.Owners.check_marks.Given as goal
 
 abbrev pub invariant-loop-b : goal.invariant-loop-b

@@ -1,7 +1,5 @@
 use Rattle.std.proofs.Common.{◌≡◌, ◌∙◌, ◌++◌, List, ℕ, sym, subst}
-use Rattle.model.specs.Verdict.{pointer_fault}
-use Rattle.offline.specs.Owners.{Stand}
-use Rattle.offline.specs.declared.owners.Owners.{Owners}
+use Rattle.offline.specs.Common.{Owners, pointer_fault, Stand}
 use Rattle.offline.proofs.OwnersLemmas.{or_none, there_is}
 use Rattle.offline.proofs.owners.Owners.note.Goals as goal
 

@@ -1,10 +1,7 @@
 use Rattle.std.proofs.Common.{◌≡◌, ◌<◌, ◌/◌, ◌%◌, ℕ, ap, sym, subst, arith}
 use Rattle.std.specs.Prelude.{IfOk}
 use Rattle.std.proofs.Math.Nat.{mod-lt}
-use Rattle.blocks.specs.Disk.{Image}
-use Rattle.model.specs.Log.{recovered}
-use Rattle.model.specs.Lemmas.Log.{length-recovered}
-use Rattle.offline.specs.Recovered.{IsRecoveredOf}
+use Rattle.offline.specs.Common.{Image, IsRecoveredOf, length-recovered, recovered}
 use Rattle.offline.proofs.WayLemmas.{under_zero, entry_inside, leads_block, leads_next, under_next}
 use Rattle.offline.proofs.recovered.Recovered.+address_under.Goals as goal
 
@@ -20,8 +17,7 @@ block-requires-clause-other g t c =
 pub block-requires-clause-inside : goal.block-requires-clause-inside
 block-requires-clause-inside g t c =
     let x = g.D.Disk.image c.args.disk.now in
-    let lies = (leads_block (recovered x) c.args.depth c.args.k c.args.address c.if-depth-eq0.false c.if-address-eq0.false c.requires.leads).0 in
-    let inside = lies.1 in
+    let inside = ((leads_block (recovered x) c.args.depth c.args.k c.args.address c.if-depth-eq0.false c.if-address-eq0.false c.requires.leads).0).1 in
     omega (arith, inside, length-recovered x)
 
 pub entry-next-requires : goal.entry-next-requires

@@ -1,9 +1,6 @@
 use Rattle.std.proofs.Common.{◌≡◌, ◌∙◌, ◌<◌, ◌≤◌, ℕ, List, length, ap, sym, subst, refl, arith}
 use Rattle.std.specs.Prelude.{IfOk}
-use Rattle.blocks.specs.Lemmas.Reads.{reads_none}
-use Rattle.model.specs.Layout.{depths}
-use Rattle.model.specs.Log.{recovered}
-use Rattle.offline.specs.Recovered.{LeadsAlong}
+use Rattle.offline.specs.Common.{depths, LeadsAlong, reads_none, recovered}
 use Rattle.offline.proofs.CheckLemmas.{form_recovered}
 use Rattle.offline.proofs.WayLemmas.{along_here, along_later, along_end, along_whole_inode, leads_here, leads_later}
 use Rattle.offline.proofs.recovered.Recovered.address.Goals as goal
@@ -20,10 +17,9 @@ loop-j-init g c =
 
 pub address_under-requires-clause-leads : goal.address_under-requires-clause-leads
 address_under-requires-clause-leads g c =
-    let addresses = c.args.inode.now.addrs in
     let low = subst (λ (n : ℕ). c.loop-j.rest < n) c.reach-blocks.ensures.value c.if-rest-blocks.true in
     rw c.loop-j.invariant.disk
-    (leads_here (recovered (g.D.Disk.image c.args.disk.now)) c.loop-j.rest c.depths-depths.result addresses c.loop-j.j
+    (leads_here (recovered (g.D.Disk.image c.args.disk.now)) c.loop-j.rest c.depths-depths.result c.args.inode.now.addrs c.loop-j.j
     (omega (arith, c.depths-depths.ensures.len)) (omega (arith, c.depths-depths.ensures.len, c.requires.way.count)) low c.loop-j.invariant.leads)
 
 pub returns-then-rest-blocks-clause-ok : goal.returns-then-rest-blocks-clause-ok
@@ -31,13 +27,12 @@ returns-then-rest-blocks-clause-ok g c =
     let x = g.D.Disk.image c.args.disk.now in
     let inode = c.args.inode.now in
     let low = subst (λ (n : ℕ). c.loop-j.rest < n) c.reach-blocks.ensures.value c.if-rest-blocks.true in
-    let ok = rw c.loop-j.invariant.disk at c.address_under.ensures.ok in
     subst (λ (n : ℕ). IfOk c.address_under.result (λ b. b ≡ n))
     (sym (along_here (recovered x) c.loop-j.rest c.depths-depths.result inode.addrs c.loop-j.j
     (omega (arith, c.depths-depths.ensures.len)) (omega (arith, c.depths-depths.ensures.len, c.requires.way.count)) low)
     ∙ c.loop-j.invariant.same
     ∙ along_whole_inode (recovered x) inode c.args.k c.args.self.now.form c.depths-depths.result (form_recovered x c.args.self.now c.requires.recovered) c.depths-depths.ensures.value)
-    ok
+    rw c.loop-j.invariant.disk at c.address_under.ensures.ok
 
 pub returns-then-rest-blocks-clause-reads : goal.returns-then-rest-blocks-clause-reads
 returns-then-rest-blocks-clause-reads g c = rw c.loop-j.invariant.disk at c.address_under.ensures.reads

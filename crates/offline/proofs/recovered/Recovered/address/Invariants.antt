@@ -1,7 +1,5 @@
 use Rattle.std.proofs.Common.{◌≡◌, drop}
-use Rattle.model.specs.Log.{recovered}
-use Rattle.model.specs.Places.{address_along}
-use Rattle.offline.specs.Recovered.{LeadsAlong}
+use Rattle.offline.specs.Common.{address_along, LeadsAlong, recovered}
 use Rattle.offline.proofs.recovered.Recovered.address.Given as goal
 
 abbrev pub invariant-loop-j : goal.invariant-loop-j

@@ -1,8 +1,5 @@
 use Rattle.std.proofs.Common.{◌∙◌, [], ap, sym}
-use Rattle.std.proofs.lemmas.Option.{get_or_from_slice_get}
-use Rattle.std.proofs.lemmas.Result.{on_ok_weaker}
-use Rattle.blocks.specs.Disk.{block_at}
-use Rattle.offline.specs.Cause.{source_among}
+use Rattle.offline.specs.Common.{block_at, get_or_from_slice_get, on_ok_weaker, source_among}
 use Rattle.offline.proofs.CheckLemmas.{recovered_source}
 use Rattle.offline.proofs.recovered.Recovered.block.Goals as goal
 

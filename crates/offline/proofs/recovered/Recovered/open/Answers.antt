@@ -1,10 +1,6 @@
 use Rattle.std.proofs.Common.{ℕ, inl, subst, arith}
-use Rattle.std.proofs.lemmas.Result.{err_from_is_err_and}
-use Rattle.blocks.specs.Disk.{Image}
-use Rattle.model.specs.Verdict.{geometry_fault, log_fault}
-use Rattle.offline.specs.Cause.{IsCause}
+use Rattle.offline.specs.Common.{err_from_is_err_and, geometry_fault, Image, IsCause, IsHeaderOf, log_fault}
 use Rattle.offline.proofs.CheckLemmas.{opening_short}
-use Rattle.offline.specs.Recovered.{IsHeaderOf}
 use Rattle.offline.proofs.OwnersLemmas.{cause_first}
 use Rattle.offline.proofs.recovered.Recovered.open.Goals as goal
 

@@ -1,8 +1,5 @@
 use Rattle.std.proofs.Common.{◌≡◌, ◌≤◌, ◌-◌, length, take}
-use Rattle.blocks.specs.Calls.{OnlyReads}
-use Rattle.model.specs.Files.{bytes_in}
-use Rattle.model.specs.Log.{recovered}
-use Rattle.model.specs.Operations.{part_of}
+use Rattle.offline.specs.Common.{bytes_in, OnlyReads, part_of, recovered}
 use Rattle.offline.proofs.recovered.Recovered.read.Given as goal
 
 abbrev pub decreases-loop-done : goal.decreases-loop-done

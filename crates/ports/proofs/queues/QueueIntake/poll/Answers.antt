@@ -1,6 +1,6 @@
 use Rattle.std.proofs.Common.{◌<◌, length, ap, refl, arith, rules, length-append}
 use Rattle.std.specs.Prelude.{option_to_list}
-use Rattle.std.proofs.lemmas.Option.{slice_get_read}
+use Rattle.ports.specs.Common.{slice_get_read}
 use Rattle.ports.proofs.LaneLemmas.{leaves_rest, polls_lane}
 use Rattle.ports.proofs.queues.QueueIntake.poll.Goals as goal
 

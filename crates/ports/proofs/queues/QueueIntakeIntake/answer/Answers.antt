@@ -1,5 +1,5 @@
 use Rattle.std.proofs.Common.{ℕ, ◌<◌, length, ap₂, refl, rules}
-use Rattle.std.proofs.lemmas.Option.{slice_get_read}
+use Rattle.ports.specs.Common.{slice_get_read}
 use Rattle.ports.specs.History.{gives}
 use Rattle.ports.specs.Queues.{name_at}
 use Rattle.ports.proofs.LaneLemmas.{fits_with, gives_lane, stays_so}

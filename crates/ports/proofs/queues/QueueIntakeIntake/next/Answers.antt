@@ -1,8 +1,7 @@
 use Rattle.std.proofs.Common.{◌≡◌, [], refl, sym, ap, ◌∙◌, append-nil}
-use Rattle.std.proofs.lemmas.Option.{slice_get_read}
 use Rattle.std.specs.Prelude.{Option}
 use Rattle.std.specs.Option.{option_copied}
-use Rattle.ports.specs.declared.lane.Lane.{Lane}
+use Rattle.ports.specs.Common.{Lane, slice_get_read}
 use Rattle.ports.specs.History.{first_in}
 use Rattle.ports.specs.Queues.{waiting, waiting_at}
 use Rattle.ports.proofs.queues.QueueIntakeIntake.next.Goals as goal

@@ -1,6 +1,5 @@
 use Rattle.std.proofs.Common.{refl}
-use Rattle.blocks.specs.Lemmas.Moments.{now_stays}
-use Rattle.wal.specs.Step.{answer_synced}
+use Rattle.wal.specs.Common.{answer_synced, now_stays}
 use Rattle.wal.proofs.CommitStepLemmas.{synced, commits_to, made_counts, no_sync_fault}
 use Rattle.wal.proofs.log.Log.sync_part.Goals as goal
 
@@ -29,7 +28,6 @@ returns-in-Ok g c =
 pub returns-in-Err : goal.returns-in-Err
 returns-in-Err g c =
     let d = g.D.Disk in
-    let old = c.args.disk.now in
     let new = c.sync.new.self in
     let failed = c.in-Err.ensures in
     record {
@@ -38,7 +36,7 @@ returns-in-Err g c =
         name = failed.name;
         image = failed.image;
         time = failed.time;
-        fewer = now_stays d.moment d.leaves old new (g.met.D.Disk.counts_now new) failed.time;
+        fewer = now_stays d.moment d.leaves c.args.disk.now new (g.met.D.Disk.counts_now new) failed.time;
         writes = failed.writes;
         faults = (tt, failed.faults);
         syncs = (failed.syncs, failed.faults);

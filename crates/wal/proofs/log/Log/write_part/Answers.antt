@@ -1,9 +1,5 @@
 use Rattle.std.proofs.Common.{sym, ◌∙◌, ap, subst}
-use Rattle.blocks.specs.Disk.{Image}
-use Rattle.model.specs.Codec.{header_block}
-use Rattle.wal.specs.Machine.{LogState, is_writing}
-use Rattle.wal.specs.Joint.{IsPinned, stepped_at, written_cache}
-use Rattle.wal.specs.Step.{Faulted, answer_at}
+use Rattle.wal.specs.Common.{answer_at, Faulted, header_block, Image, is_writing, IsPinned, LogState, stepped_at, written_cache}
 use Rattle.wal.proofs.CommitBytesLemmas.{is_pinned, log_header, place_inside}
 use Rattle.wal.proofs.CommitStepLemmas.{stepped, faulted, commits_to, made_counts, no_fault, crash_step, crash_lands}
 use Rattle.wal.proofs.FloatLemmas.{Lands}

@@ -1,10 +1,6 @@
 use Rattle.std.proofs.Common.{◌≡◌, rules, subst}
 use Rattle.std.specs.Prelude.{slice_set}
-use Rattle.blocks.specs.Block.{overwritten}
-use Rattle.bcache.specs.Buffers.{buffer, block_or_zero}
-use Rattle.wal.specs.Joint.{seen}
-use Rattle.wal.specs.Volume.{Holds}
-use Rattle.wal.specs.Held.{LeavesLocks}
+use Rattle.wal.specs.Common.{block_or_zero, buffer, Holds, LeavesLocks, overwritten, seen}
 use Rattle.wal.proofs.BlocksLemmas.{blocks_changed}
 use Rattle.wal.proofs.HeldLemmas.{leaves_changed}
 use Rattle.wal.proofs.StepLemmas.{joint_put, block_behind}

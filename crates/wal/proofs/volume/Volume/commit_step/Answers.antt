@@ -1,5 +1,5 @@
 use Rattle.std.proofs.Common.{subst}
-use Rattle.wal.specs.Volume.{VolumeState, VolumeCommits}
+use Rattle.wal.specs.Common.{VolumeCommits, VolumeState}
 use Rattle.wal.proofs.BlocksLemmas.{step_unsynced, whole_stepped}
 use Rattle.wal.proofs.HeldLemmas.{leaves_stepped}
 use Rattle.wal.proofs.VolumeLemmas.{floats_at, joint_here, blocks_here, step_current}

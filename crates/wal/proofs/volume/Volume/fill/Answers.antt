@@ -1,9 +1,5 @@
 use Rattle.std.proofs.Common.{◌≡◌, ◌∙◌, ap, subst, rules}
-use Rattle.bcache.specs.declared.types.Buffer.{Buffer}
-use Rattle.blocks.specs.Disk.{block_at}
-use Rattle.bcache.specs.Buffers.{block_or_zero, filled}
-use Rattle.blocks.specs.Lemmas.Moments.{now_stays}
-use Rattle.wal.specs.Joint.{seen}
+use Rattle.wal.specs.Common.{block_at, block_or_zero, Buffer, filled, now_stays, seen}
 use Rattle.wal.proofs.BlocksLemmas.{blocks_filled}
 use Rattle.wal.proofs.VolumeLemmas.{floats_at, read_afloat, if_whole, joint_here, blocks_here, buffer_here, joint_got, seen_unfilled, block_inside, inside_here}
 use Rattle.wal.proofs.volume.Volume.fill.Goals as goal

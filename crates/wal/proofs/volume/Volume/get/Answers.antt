@@ -1,9 +1,7 @@
 use Rattle.std.proofs.Common.{◌≡◌, ◌∙◌, ℕ, refl, subst, rules, true, false}
 use Rattle.std.specs.Prelude.{Result, Ok, Err}
+use Rattle.wal.specs.Common.{fill_answer, LeavesLocks, LocksAfter, seen, UnlessFault, WaitsFor}
 use Rattle.blocks.specs.declared.errors.DiskFault.{DiskFault}
-use Rattle.wal.specs.Volume.{UnlessFault, fill_answer}
-use Rattle.wal.specs.Joint.{seen}
-use Rattle.wal.specs.Held.{WaitsFor, LeavesLocks, LocksAfter}
 use Rattle.wal.proofs.BlocksLemmas.{blocks_acquired}
 use Rattle.wal.proofs.HeldLemmas.{gets_acquired, gets_filled, waits_acquired}
 use Rattle.wal.specs.Get as get

@@ -1,7 +1,6 @@
 use Rattle.std.proofs.Common.{subst}
 use Rattle.std.specs.Prelude.{IfNone}
-use Rattle.blocks.specs.Disk.{IsImage}
-use Rattle.wal.specs.Joint.{seen}
+use Rattle.wal.specs.Common.{IsImage, seen}
 use Rattle.wal.proofs.BlocksLemmas.{image_known}
 use Rattle.wal.proofs.volume.Volume.image_known.Goals as goal
 

@@ -1,8 +1,7 @@
 use Rattle.std.proofs.Common.{subst}
 use Rattle.std.specs.Prelude.{IfNone}
-use Rattle.blocks.specs.Disk.{Image}
+use Rattle.wal.specs.Common.{Image, Joint}
 use Rattle.wal.specs.Floats.{Survives}
-use Rattle.wal.specs.Joint.{Joint}
 use Rattle.wal.proofs.VolumeLemmas.{if_joint, if_survives}
 use Rattle.wal.proofs.volume.Volume.known.Goals as goal
 

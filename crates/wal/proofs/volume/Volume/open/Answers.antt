@@ -1,6 +1,5 @@
-use Rattle.wal.specs.Machine.{LogState, is_syncing}
 use Rattle.std.proofs.Common.{◌∙◌, ap, subst, sym, None}
-use Rattle.wal.specs.Joint.{AreBlocks, seen}
+use Rattle.wal.specs.Common.{AreBlocks, is_syncing, LogState, seen}
 use Rattle.wal.proofs.BlocksLemmas.{blocks_fresh}
 use Rattle.wal.proofs.VolumeLemmas.{any_afloat, if_whole}
 use Rattle.wal.specs.Lemmas.Commits.{empty_lawful}

@@ -1,7 +1,5 @@
 use Rattle.std.proofs.Common.{◌≡◌, ◌∙◌, ap, rules, subst}
-use Rattle.bcache.specs.Lemmas.Current.{counts_keep_current}
-use Rattle.wal.specs.Joint.{seen}
-use Rattle.wal.specs.Held.{GivesUpLock}
+use Rattle.wal.specs.Common.{counts_keep_current, GivesUpLock, seen}
 use Rattle.wal.proofs.BlocksLemmas.{blocks_released}
 use Rattle.wal.proofs.HeldLemmas.{gives_up}
 use Rattle.wal.proofs.CacheCallLemmas.{joint_released}

@@ -7,20 +7,20 @@ use rings::Caller;
 
 /// A process's caller, and the operations that it still has to hand in.
 #[derive(Drop)]
-pub struct Source {
+pub struct Feeder {
     pub caller: Caller,
     pub backlog: Backlog,
 }
 
-impl Source {
+impl Feeder {
     ghost use Rattle.std.specs.Prelude.{◌≡◌, ◌∷◌, ◌++◌, [], IfSome, IfNone, IsSome, ◌<◌};
     ghost use mathlib.Core.List.{IsPrefix};
     ghost use Rattle.rings.specs.Callers.{answers_known, places, polled, submitted, unpolled};
-    ghost use Rattle.clients.specs.Sources.{HasHandedIn, IsSameSource};
+    ghost use Rattle.clients.specs.Feeders.{HasHandedIn, IsSameFeeder};
 
     /// Hands in as many operations as the ring takes. By its code it answers whether it took any.
     pub fn hand_in(&mut self) -> bool
-        ensures same { IsSameSource self.old self.new }
+        ensures same { IsSameFeeder self.old self.new }
         ensures polled { polled self.new.caller ≡ polled self.old.caller }
         ensures all { HasHandedIn self.new }
     {
@@ -33,7 +33,7 @@ impl Source {
     // The same where there are operations and a place for one.
     #[inline(never)]
     fn hand_in_first(&mut self) -> bool
-        ensures same { IsSameSource self.old self.new }
+        ensures same { IsSameFeeder self.old self.new }
         ensures polled { polled self.new.caller ≡ polled self.old.caller }
         ensures all { HasHandedIn self.new }
     {
@@ -54,7 +54,7 @@ impl Source {
     /// Takes the oldest answer that was not polled, as `Caller::poll`.
     #[inline(never)]
     pub fn poll(&mut self) -> Option<Answer>
-        ensures same { IsSameSource self.old self.new }
+        ensures same { IsSameFeeder self.old self.new }
         ensures some { IfSome result (λ answer.
             polled self.new.caller ≡ polled self.old.caller ++ answer ∷ []) }
         ensures oldest { IfSome result (λ answer.

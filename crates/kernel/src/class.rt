@@ -4,14 +4,13 @@ ghost use Rattle.model.specs.Journal.{is_number, is_at_once};
 ghost use Rattle.model.specs.Operations.{transfer_limit};
 ghost use Rattle.history.specs.AtOnce.{at_once_reply};
 ghost use Rattle.history.specs.Journal.{plain_reply};
-ghost use Rattle.kernel.specs.State.{waiting_of};
-ghost use Rattle.kernel.specs.declared.waiting.Waiting.TheVariants as waiting;
+ghost use Rattle.kernel.specs.State.{class_of};
 
 use model::types::{Op, Reply, TRANSFER_LIMIT};
 
 // What waits for a process.
 #[derive(Clone, Copy)]
-pub enum Waiting {
+pub enum OpClass {
     // What changes files, in a group of the log: a creation of a file of a type that there is, a
     // write, or an operation that frees a file's blocks.
     Change,
@@ -22,17 +21,17 @@ pub enum Waiting {
 }
 
 // What an operation is to the kernel, where there are so many inode numbers.
-pub fn waiting_of(op: &Op, inode_count: u32) -> Waiting
-    ensures waiting { result ≡ waiting_of inode_count op.now }
-    ensures refused { (result ≡ waiting.Refused) ↔ (is_at_once inode_count op.now ≡ true) }
+pub fn class_of(op: &Op, inode_count: u32) -> OpClass
+    ensures waiting { result ≡ class_of inode_count op.now }
+    ensures refused { (result ≡ OpClass.Refused) ↔ (is_at_once inode_count op.now ≡ true) }
 {
     if is_at_once(op, inode_count) {
-        return Waiting::Refused;
+        return OpClass::Refused;
     }
     match op {
-        Op::Create(_) | Op::Write(..) | Op::Trunc(_) | Op::Remove(_) => Waiting::Change,
-        Op::Read(_, _, count) => Waiting::Look(Some(*count)),
-        Op::Stat(_) => Waiting::Look(None),
+        Op::Create(_) | Op::Write(..) | Op::Trunc(_) | Op::Remove(_) => OpClass::Change,
+        Op::Read(_, _, count) => OpClass::Look(Some(*count)),
+        Op::Stat(_) => OpClass::Look(None),
     }
 }
 

@@ -1,8 +1,8 @@
 use Rattle.std.proofs.Common.{arith, below_more}
 use Rattle.player.specs.Disks.{faulty}
-use Rattle.player.proofs.Owning.{meets_ops, own_still}
+use Rattle.player.proofs.Owning.{reconciles_ops, own_still}
 use Rattle.player.proofs.Seats.{same_still}
-use Rattle.player.proofs.player.Player.meet_all.Goals as goal
+use Rattle.player.proofs.player.Player.reconcile_all.Goals as goal
 
 pub overflow_cast-pid-end : goal.overflow_cast-pid-end
 overflow_cast-pid-end g c = let few = c.known.ensures.few in let is = c.processes-pid-end.ensures in omega (arith, few, is)
@@ -11,12 +11,12 @@ pub loop-pid-preserved : goal.loop-pid-preserved
 loop-pid-preserved g c =
     let inv = c.loop-pid.invariant in
     let was = c.loop-pid.self in
-    let met = c.meet.ensures in
+    let met = c.reconcile.ensures in
     record {
       seated = met.seated;
-      same = same_still c.args.self.now.kernel was.kernel c.meet.new.self.kernel inv.same met.same;
-      ops = λ ops have. meets_ops c.loop-pid.pid was.kernel.intake c.meet.new.self.kernel.intake was.sources.items c.meet.new.self.sources.items met.meets ops (inv.ops ops have);
-      own = λ ops have. below_more _ _ (inv.own ops have) (own_still (faulty g.D.Disk) c.loop-pid.pid c.args.self.now.kernel was.kernel inv.same c.args.self.now.sources.items was.sources.items inv.ops met.own ops have);
+      same = same_still c.args.self.now.kernel was.kernel c.reconcile.new.self.kernel inv.same met.same;
+      ops = λ ops have. reconciles_ops c.loop-pid.pid was.kernel.intake c.reconcile.new.self.kernel.intake was.feeders.items c.reconcile.new.self.feeders.items met.reconciles ops (inv.ops ops have);
+      own = λ ops have. below_more _ _ (inv.own ops have) (own_still (faulty g.D.Disk) c.loop-pid.pid c.args.self.now.kernel was.kernel inv.same c.args.self.now.feeders.items was.feeders.items inv.ops met.own ops have);
     }
 
 pub returns-clause-own : goal.returns-clause-own

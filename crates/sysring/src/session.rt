@@ -8,7 +8,7 @@ use rings::RingIntake;
 use std::marker::{Brand, Model, PhantomData};
 
 /// The kernel that threads began to share, as it was then. A call that shares one picks it.
-pub trait Frame<D, H> {
+pub trait Origin<D, H> {
     ghost use Rattle.std.specs.Prelude.{Option};
     ghost use Rattle.kernel.specs.State.{State};
     ghost use Rattle.rings.specs.declared.intake.RingIntake.{RingIntake};
@@ -16,42 +16,42 @@ pub trait Frame<D, H> {
     ghost outset: { Option (State D RingIntake H) };
 }
 
-impl<D, H> Frame<D, H> for Brand {
+impl<D, H> Origin<D, H> for Brand {
     ghost use Rattle.std.specs.Prelude.{None};
 
     ghost outset = { None };
 }
 
-/// A kernel of that frame.
+/// A kernel of that origin.
 #[derive(Drop)]
-pub struct Framed<D: Disk, H: Herald, K: Frame<D, H>> {
+pub struct Session<D: Disk, H: Herald, K: Origin<D, H>> {
     kernel: Kernel<D, RingIntake, H>,
     of: PhantomData<K>,
 }
 
-impl<D: Disk, H: Herald, K: Frame<D, H>> Model for Framed<D, H, K> {
+impl<D: Disk, H: Herald, K: Origin<D, H>> Model for Session<D, H, K> {
     ghost use Rattle.kernel.specs.State.{State};
     ghost use Rattle.rings.specs.declared.intake.RingIntake.{RingIntake};
-    ghost use Rattle.sysring.specs.Frames.{IsFramed};
+    ghost use Rattle.sysring.specs.Origins.{IsOfOrigin};
 
     ghost Value = { State D RingIntake H };
 
     ghost view = { λ f. f.kernel };
 
-    ghost invariant = { λ f. IsFramed D.Disk K.outset f.kernel };
+    ghost invariant = { λ f. IsOfOrigin D.Disk K.outset f.kernel };
 }
 
-impl<D: Disk, H: Herald, K: Frame<D, H>> Framed<D, H, K> {
+impl<D: Disk, H: Herald, K: Origin<D, H>> Session<D, H, K> {
     ghost use Rattle.kernel.specs.Steps.{MakesStep};
     ghost use Rattle.rings.specs.declared.intake.RingIntake.{RingIntake};
-    ghost use Rattle.sysring.specs.Frames.{IsFramed, processes_in};
+    ghost use Rattle.sysring.specs.Origins.{IsOfOrigin, processes_in};
 
-    // Puts a kernel into its frame.
-    pub(crate) fn new(kernel: Kernel<D, RingIntake, H>) -> Framed<D, H, K>
-        requires { IsFramed D.Disk K.outset kernel }
+    // Puts a kernel into a session.
+    pub(crate) fn new(kernel: Kernel<D, RingIntake, H>) -> Session<D, H, K>
+        requires { IsOfOrigin D.Disk K.outset kernel }
         ensures { result ≡ kernel }
     {
-        Framed {
+        Session {
             kernel,
             of: PhantomData,
         }
@@ -60,7 +60,7 @@ impl<D: Disk, H: Herald, K: Frame<D, H>> Framed<D, H, K> {
     /// The kernel, for who only asks.
     pub fn kernel(&self) -> &Kernel<D, RingIntake, H>
         ensures same { result.now ≡ self.now }
-        ensures framed { IsFramed D.Disk K.outset self.now }
+        ensures origin { IsOfOrigin D.Disk K.outset self.now }
     {
         &self.kernel
     }
@@ -73,12 +73,12 @@ impl<D: Disk, H: Herald, K: Frame<D, H>> Framed<D, H, K> {
         self.kernel.step(pid)
     }
 
-    // The kernel, out of its frame.
+    // The kernel, out of its session.
     pub(crate) fn into_kernel(self) -> Kernel<D, RingIntake, H>
         ensures same { result ≡ self }
-        ensures framed { IsFramed D.Disk K.outset result }
+        ensures origin { IsOfOrigin D.Disk K.outset result }
     {
-        let Framed { kernel, .. } = self;
+        let Session { kernel, .. } = self;
         kernel
     }
 }

@@ -1,4 +1,4 @@
--- A kernel is of its frame, and stays so in each step.
+-- A kernel is of its origin, and stays so in each step.
 use Rattle.std.proofs.Common.{◌∙◌, ℕ, refl, Option, Some, None}
 use Rattle.blocks.specs.declared.disk.Disk as disk_trait
 use Rattle.ports.specs.History.{SameNames}
@@ -11,16 +11,16 @@ use Rattle.kernel.specs.Known.{Known}
 use Rattle.kernel.specs.Lemmas.Turns.{runs_on_none, runs_on_step, runs_on_then}
 use Rattle.kernel.specs.State.{State}
 use Rattle.kernel.specs.Steps.{MakesStep}
-use Rattle.sysring.specs.Frames.{IsFramed, HasFrameOf}
+use Rattle.sysring.specs.Origins.{IsOfOrigin, HasOriginOf}
 
 module _ {D N M H : Type 0} (disk : disk_trait.Ghosts D N) (intake : intake_trait.Ghosts RingIntake M) (herald : herald_trait.Ghosts H) where
-  pub framed_now : (k : State D RingIntake H) → Known disk intake herald k → HasFrameOf disk k k
-  framed_now k known = record { runs = runs_on_none disk intake herald k known.stop.keeps; rings = λ p. refl }
+  pub of_origin_now : (k : State D RingIntake H) → Known disk intake herald k → HasOriginOf disk k k
+  of_origin_now k known = record { runs = runs_on_none disk intake herald k known.stop.keeps; rings = λ p. refl }
 
-  pub framed_then : (o : Option (State D RingIntake H)) (p : ℕ) (r : Step) (k m : State D RingIntake H) → IsFramed disk o k → MakesStep disk intake herald p r k m
-      → SameNames (intake_names k.intake) (intake_names m.intake) → IsFramed disk o m
-  framed_then None p r k m had made same = had
-  framed_then (Some a) p r k m had made same = record {
+  pub of_origin_then : (o : Option (State D RingIntake H)) (p : ℕ) (r : Step) (k m : State D RingIntake H) → IsOfOrigin disk o k → MakesStep disk intake herald p r k m
+      → SameNames (intake_names k.intake) (intake_names m.intake) → IsOfOrigin disk o m
+  of_origin_then None p r k m had made same = had
+  of_origin_then (Some a) p r k m had made same = record {
     runs = runs_on_then disk intake herald a k m had.runs (runs_on_step disk intake herald p r k m made);
     rings = λ q. same q ∙ had.rings q;
   }

@@ -9,16 +9,16 @@ use Rattle.kernel.specs.State.{State}
 
 -- m is k after steps: all that any turns keep of a kernel is kept, above all its opening and the
 -- groups that were committed, and it takes from the same rings
-pub record HasFrameOf {D N H : Type 0} (disk : Ghosts D N) (k m : State D RingIntake H) : Type 0
+pub record HasOriginOf {D N H : Type 0} (disk : Ghosts D N) (k m : State D RingIntake H) : Type 0
   where
     pub runs : RunsOn disk k m
     pub rings : SameNames (intake_names k.intake) (intake_names m.intake)
 
 -- the same of the kernel that threads began to share
-abbrev pub IsFramed : {D N H : Type 0} → Ghosts D N → Option (State D RingIntake H)
+abbrev pub IsOfOrigin : {D N H : Type 0} → Ghosts D N → Option (State D RingIntake H)
     → State D RingIntake H → Type 0
-IsFramed disk None m = ⊥
-IsFramed disk (Some k) m = HasFrameOf disk k m
+IsOfOrigin disk None m = ⊥
+IsOfOrigin disk (Some k) m = HasOriginOf disk k m
 
 -- how many processes it has
 abbrev pub processes_in : {D H : Type 0} → Option (State D RingIntake H) → ℕ
