@@ -18,7 +18,7 @@ use Rattle.wal.specs.declared.types.Committed.{Committed}
 use Rattle.wal.specs.declared.types.Committed.TheVariants as committed
 use Rattle.wal.specs.declared.types.Ended.{Ended}
 use Rattle.wal.specs.declared.types.Ended.TheVariants as ended_as
-use Rattle.inodes.specs.Places.{is_over}
+use Rattle.inodes.specs.Stages.{is_over}
 use Rattle.inodes.specs.Steps.{Commits, Steps}
 use Rattle.inodes.specs.Store.{StoreState, with_begun, with_log, with_look}
 use Rattle.inodes.specs.Tasks.{task}
@@ -87,10 +87,10 @@ pub record IsKept {D N : Type 0} (disk : Ghosts D N) (op : Op) (P : Where → St
 abbrev pub lone : ℕ → Phase → Option GatheredBytes → Entries → World
 lone b a m j = record { processes = record { begun = b; at = a; room = m } ∷ []; journal = j; is_shut = false }
 
--- the journal has one entry more, of the first process's operation, at that place
+-- the journal has one entry more, of the first process's operation, at that index
 pub record HasMore (op : Op) (es : List Entry) (k : ℕ) (list : List Entry) : Type 0 where
   pub entry : Entry
-  pub place : k ≡ length es
+  pub index : k ≡ length es
   pub is : list ≡ es ++ entry ∷ []
   pub mine : entry.pid ≡ 0
   pub same : entry.op ≡ op
@@ -111,11 +111,11 @@ module _ {D : Type 0} (op : Op) (P : Where → StoreState D → Type 0) (es : Li
   -- so it does in this world
   pub record Stage (waits : List Op) (s : StoreState D) (w : World) : Type 0 where
     pub begun : ℕ
-    pub place : Phase
+    pub phase : Phase
     pub room : Option GatheredBytes
     pub journal : Entries
-    pub is : w ≡ lone begun place room journal
-    pub stands : StandsAt place waits s journal.list
+    pub is : w ≡ lone begun phase room journal
+    pub stands : StandsAt phase waits s journal.list
 
   -- it was answered
   pub record IsOver (s : StoreState D) (w : World) : Type 0 where
@@ -142,9 +142,9 @@ module _ {D : Type 0} (op : Op) (P : Where → StoreState D → Type 0) (es : Li
   After step.ShutDown waits t z = ⊥
   After step.Halted waits t z = IsLeft t z.journal.list
 
-  -- which place that is, its list says
+  -- which index that is, its list says
   abbrev at_end : (k : ℕ) (list : List Entry) → HasMore op es k list → HasMore op es (length es) list
-  at_end k list more = record { entry = more.entry; place = refl; is = more.is; mine = more.mine; same = more.same }
+  at_end k list more = record { entry = more.entry; index = refl; is = more.is; mine = more.mine; same = more.same }
 
   stands_left : (a : Phase) (waits : List Op) (s : StoreState D) (list : List Entry) → StandsAt a waits s list → IsLeft s list
   stands_left at.Idle waits s list stands = record { stand = Waits; holds = stands.2; lists = inl stands.1 }
@@ -155,7 +155,7 @@ module _ {D : Type 0} (op : Op) (P : Where → StoreState D → Type 0) (es : Li
 
   pub is_left : (r : Step) (waits : List Op) (t : StoreState D) (z : World) → After r waits t z → IsLeft t z.journal.list
   is_left step.Moved waits t z stage =
-      let left = stands_left stage.place waits t stage.journal.list stage.stands in
+      let left = stands_left stage.phase waits t stage.journal.list stage.stands in
       record { stand = left.stand; holds = left.holds; lists = subst (λ (w : World). ListIs op es w.journal.list) (sym stage.is) left.lists }
   is_left step.Answered waits t z over =
       record { stand = Over over.more.entry.reply; holds = over.holds; lists = subst (λ (w : World). ListIs op es w.journal.list) (sym over.is) (inr over.more) }
@@ -165,17 +165,17 @@ module _ {D : Type 0} (op : Op) (P : Where → StoreState D → Type 0) (es : Li
   is_left step.ShutDown waits t z none = absurd none
   is_left step.Halted waits t z left = left
 
-  -- the entry at its place
+  -- the entry at its index
   entry_there : (k : ℕ) (list : List Entry) (more : HasMore op es k list) → entry_in list k ≡ more.entry
-  entry_there k list more = ap (λ (l : List Entry). entry_in l k) more.is ∙ ap (λ (i : ℕ). entry_in (es ++ more.entry ∷ []) i) more.place ∙ get_or-append_seam es more.entry [] no_entry
+  entry_there k list more = ap (λ (l : List Entry). entry_in l k) more.is ∙ ap (λ (i : ℕ). entry_in (es ++ more.entry ∷ []) i) more.index ∙ get_or-append_seam es more.entry [] no_entry
 
   -- is told its reply
   abbrev told_more : (k : ℕ) (list : List Entry) (reply : Reply) → HasMore op es k list → HasMore op es k (slice_set list k (told (entry_in list k) reply))
   told_more k list reply more = record {
     entry = told more.entry reply;
-    place = more.place;
+    index = more.index;
     is = ap (λ (f : Entry). slice_set list k (told f reply)) (entry_there k list more) ∙ ap (λ (l : List Entry). slice_set l k (told more.entry reply)) more.is
-        ∙ ap (λ (i : ℕ). slice_set (es ++ more.entry ∷ []) i (told more.entry reply)) more.place ∙ set-append_seam es more.entry [] (told more.entry reply);
+        ∙ ap (λ (i : ℕ). slice_set (es ++ more.entry ∷ []) i (told more.entry reply)) more.index ∙ set-append_seam es more.entry [] (told more.entry reply);
     mine = more.mine;
     same = more.same;
   }
@@ -201,7 +201,7 @@ module _ {D N : Type 0} (disk : Ghosts D N) (op : Op) (P : Where → StoreState 
   to_so r q z o says is to = subst (λ (y : Step). To y z) (sym says) (subst (λ (v : World). To q v) (sym is) to)
 
   there : (a : Phase) (n : ℕ) (o : Option GatheredBytes) (i : Entries) → StandsAt op P es a after t i.list → Stage op P es after t (lone n a o i)
-  there a n o i stands = record { begun = n; place = a; room = o; journal = i; is = refl; stands = stands }
+  there a n o i stands = record { begun = n; phase = a; room = o; journal = i; is = refl; stands = stands }
 
   over_now : (k : ℕ) (n : ℕ) (o : Option GatheredBytes) (i : Entries) (more : HasMore op es k i.list) → P (Over more.entry.reply) t → IsOver op P es t (lone n at.Idle o i)
   over_now k n o i more holds = record { begun = n; room = o; journal = i; is = refl; more = at_end op P es k i.list more; holds = holds }
@@ -238,7 +238,7 @@ module _ {D N : Type 0} (disk : Ghosts D N) (op : Op) (P : Where → StoreState 
     begins r z ahead rest waits holds (inr (inr (inl made))) =
         let same : made.op ≡ op = cc (waits, made.taken.0) in
         let e = refusal (lone b at.Idle m j) 0 made.op (at_once_reply made.op) in
-        let more : HasMore op es (length es) (j.list ++ e ∷ []) = record { entry = e; place = refl; is = ap (λ (l : List Entry). l ++ e ∷ []) list; mine = refl; same = same } in
+        let more : HasMore op es (length es) (j.list ++ e ∷ []) = record { entry = e; index = refl; is = ap (λ (l : List Entry). l ++ e ∷ []) list; mine = refl; same = same } in
         to_so r step.Answered z _ made.answer made.world (over_now (length es) _ m (journal_with (reserved j) e) more
         (subst (λ (o : Op). P (Over (Some (at_once_reply o))) t) (sym same) (subst (P (Over (Some (at_once_reply op)))) (sym made.store) (keeps.refused s holds))))
     begins r z ahead rest waits holds (inr (inr (inr none))) =
@@ -258,7 +258,7 @@ module _ {D N : Type 0} (disk : Ghosts D N) (op : Op) (P : Where → StoreState 
         e = entry_of 0 b o group reply
 
         more : HasMore op es (length j.list) (j.list ++ e ∷ [])
-        more = record { entry = e; place = ap (λ (l : List Entry). length l) list; is = ap (λ (l : List Entry). l ++ e ∷ []) list; mine = refl; same = same }
+        more = record { entry = e; index = ap (λ (l : List Entry). length l) list; is = ap (λ (l : List Entry). l ++ e ∷ []) list; mine = refl; same = same }
 
         both : P (AfterTurn reply) t × P (Over reply) t
         both = keeps.turns s t reply steps holds
@@ -352,7 +352,7 @@ module _ {D N : Type 0} (disk : Ghosts D N) (op : Op) (P : Where → StoreState 
   pub stage_first : (k : Plain D) → length k.world.processes ≡ 1 → (process k.world 0).at ≡ at.Idle → k.world.is_shut ≡ false → waiting k.intake 0 ≡ op ∷ [] → P Waits k.store → StageOf k.world.journal.list k
   stage_first k one stands unshut waits holds = record {
     begun = (process k.world 0).begun;
-    place = at.Idle;
+    phase = at.Idle;
     room = (process k.world 0).room;
     journal = k.world.journal;
     is = is_lone k.world one stands unshut;
@@ -363,7 +363,7 @@ module _ {D N : Type 0} (disk : Ghosts D N) (op : Op) (P : Where → StoreState 
     -- A STEP OF THE ONLY PROCESS
     step_after : (r : Step) (k m : Plain D) → MakesPlainStep disk 0 r k m → StageOf es k → After op P es r (waiting m.intake 0) m.store m.world
     step_after r k m made stage =
-        next_if disk op P keeps es (waiting k.intake 0) (waiting m.intake 0) (plain_queues.side m.intake 0) k.store m.store stage.begun stage.room stage.journal k.store.volume.fault stage.place r m.world
+        next_if disk op P keeps es (waiting k.intake 0) (waiting m.intake 0) (plain_queues.side m.intake 0) k.store m.store stage.begun stage.room stage.journal k.store.volume.fault stage.index r m.world
         (subst (λ (w : World). NextIf disk k.store.volume.fault k.store w 0 (waiting k.intake 0) (plain_queues.side m.intake 0) false r m.store m.world) stage.is made.acts.next)
         (subst (λ (w : World). Extends w.journal.list m.world.journal.list) stage.is made.progress.grows.journal) stage.stands
 

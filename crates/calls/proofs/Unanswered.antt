@@ -54,7 +54,7 @@ module _ {D N : Type 0} (disk : Ghosts D N) (sole : SoleWaitsForAnswers disk pla
       let there = call_stage disk op (step.Sleeping cause) k m call (Quiet disk op k.store) (quiet_kept disk op k.store) refl in
       let one : length mid.world.processes ≡ 1 = ap (λ (w : World). length w.processes) there.is in
       let waits = sole mid m 0 cause one (omega arith) call.makes.made in
-      let same : there.place ≡ at.Idle = ap (λ (w : World). (process w 0).at) (sym there.is) ∙ waits.idle in
+      let same : there.phase ≡ at.Idle = ap (λ (w : World). (process w 0).at) (sym there.is) ∙ waits.idle in
       let stands : StandsAt op (Quiet disk op k.store) k.world.journal.list at.Idle (waiting mid.intake 0) mid.store there.journal.list = subst (λ (a : Phase). StandsAt op (Quiet disk op k.store) k.world.journal.list a (waiting mid.intake 0) mid.store there.journal.list) same there.stands in
       let list : m.world.journal.list ≡ k.world.journal.list = ap (λ (w : World). w.journal.list) (waits.world ∙ there.is) ∙ stands.1 in
       let idle : (process m.world 0).at ≡ at.Idle = ap (λ w. (process w 0).at) waits.world ∙ waits.idle in

@@ -35,14 +35,14 @@ pub record IsLonger (inode_count p committed : ℕ) (before after : List Entry) 
 
 -- an entry of process p, of such a group, is told its reply
 pub record IsTold (inode_count p committed : ℕ) (before after : List Entry) : Type 0 where
-  pub place : ℕ
+  pub index : ℕ
   pub entry : Entry
   pub reply : Reply
-  pub at : IsEntry before place entry
+  pub at : IsEntry before index entry
   pub mine : entry.pid ≡ p
   pub none : entry.reply ≡ None
   pub later : is_changing inode_count entry.op ≡ true → committed < entry.group
-  pub list : after ≡ slice_set before place (told entry reply)
+  pub list : after ≡ slice_set before index (told entry reply)
 
 -- what a step of process p makes of the journal: nothing, an entry more, or a reply
 abbrev pub JournalGoes : ℕ → ℕ → ℕ → List Entry → List Entry → Type 0

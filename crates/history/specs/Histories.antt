@@ -24,7 +24,7 @@ pending_at (Phase.AfterTurn group k) = []
 pending_at (Phase.Ending group k) = []
 pending_at (Phase.Committing group k) = []
 
--- Process p's entries are those that were answered and, at this place, the one that is still to be
+-- Process p's entries are those that were answered and, at this index, the one that is still to be
 -- answered.
 pub record Owes (p k : ℕ) (es given : List Entry) : Type 0 where
   pub entry : Entry

@@ -24,11 +24,11 @@ journal_with j e = record { list = j.list ++ e ∷ []; room = j.room - 1 }
 abbrev pub no_entry : Entry
 no_entry = record { pid = 0; seq = 0; op = Stat 0; group = 0; reply = None }
 
--- the entry at a place of the list
+-- the entry at an index of the list
 abbrev pub entry_in : List Entry → ℕ → Entry
 entry_in es k = slice_index_or es k no_entry
 
--- the entry at a place has its reply
+-- the entry at an index has its reply
 abbrev pub journal_told : Entries → ℕ → Reply → Entries
 journal_told j k reply =
     record j { list = slice_set j.list k (told (entry_in j.list k) reply) }

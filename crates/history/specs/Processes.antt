@@ -29,12 +29,12 @@ abbrev pub with_process : World → ℕ → Process → World
 with_process w p t = record w { processes = slice_set w.processes p t }
 
 -- a process stands elsewhere
-abbrev pub at_place : World → ℕ → Phase → World
-at_place w p place = with_process w p (record (process w p) { at = place })
+abbrev pub at_phase : World → ℕ → Phase → World
+at_phase w p phase = with_process w p (record (process w p) { at = phase })
 
--- a place in the journal is kept for one operation more
-abbrev pub with_place : World → World
-with_place w = record w { journal = reserved w.journal }
+-- there is room in the journal for one operation more
+abbrev pub with_more_room : World → World
+with_more_room w = record w { journal = reserved w.journal }
 
 -- an operation was taken for a process, in that group, with that room for its answer's bytes
 abbrev pub taken : World → ℕ → ℕ → Op → Option GatheredBytes → World
@@ -59,14 +59,14 @@ abbrev pub refusal_answer : World → ℕ → Reply → Answer
 refusal_answer w p reply = record { seq = (process w p).begun + 1; reply = reply; group = 0 }
 
 -- where an operation stands behind its turn: its task goes on, or is over
-abbrev pub place_behind : Bool → ℕ → ℕ → Phase
-place_behind true group k = Phase.Ending group k
-place_behind false group k = Phase.AfterTurn group k
+abbrev pub phase_behind : Bool → ℕ → ℕ → Phase
+phase_behind true group k = Phase.Ending group k
+phase_behind false group k = Phase.AfterTurn group k
 
 abbrev pub turned_from : Phase → World → ℕ → Option Reply → Bool → World
 turned_from Phase.Idle w p reply over = w
 turned_from (Phase.BeforeTurn group op) w p reply over =
-    record (at_place w p (place_behind over group (length w.journal.list)))
+    record (at_phase w p (phase_behind over group (length w.journal.list)))
     { journal = journal_with w.journal (entry_of p (process w p).begun op group reply) }
 turned_from (Phase.AfterTurn group k) w p reply over = w
 turned_from (Phase.Ending group k) w p reply over = w
@@ -77,17 +77,17 @@ abbrev pub turned : World → ℕ → Option Reply → Bool → World
 turned w p reply over = turned_from (process w p).at w p reply over
 
 -- where the entry of an operation stands that had its turn
-abbrev pub entry_place : Phase → Option ℕ
-entry_place Phase.Idle = None
-entry_place (Phase.BeforeTurn group op) = None
-entry_place (Phase.AfterTurn group k) = Some k
-entry_place (Phase.Ending group k) = Some k
-entry_place (Phase.Committing group k) = Some k
+abbrev pub entry_index : Phase → Option ℕ
+entry_index Phase.Idle = None
+entry_index (Phase.BeforeTurn group op) = None
+entry_index (Phase.AfterTurn group k) = Some k
+entry_index (Phase.Ending group k) = Some k
+entry_index (Phase.Committing group k) = Some k
 
 -- an entry stands there
-abbrev pub HasEntryPlace : World → Option ℕ → Type 0
-HasEntryPlace w None = ⊥
-HasEntryPlace w (Some k) = k < length w.journal.list
+abbrev pub HasEntryIndex : World → Option ℕ → Type 0
+HasEntryIndex w None = ⊥
+HasEntryIndex w (Some k) = k < length w.journal.list
 
 abbrev pub operation_at : World → Option ℕ → Option Op
 operation_at w None = None
@@ -99,7 +99,7 @@ told_at (Some k) w reply = record w { journal = journal_told w.journal k reply }
 
 -- the reply of an operation that had its turn is decided
 abbrev pub decided : World → ℕ → Reply → World
-decided w p reply = told_at (entry_place (process w p).at) w reply
+decided w p reply = told_at (entry_index (process w p).at) w reply
 
 abbrev pub over_at : Phase → Phase
 over_at Phase.Idle = Phase.Idle
@@ -110,7 +110,7 @@ over_at (Phase.Committing group k) = Phase.Committing group k
 
 -- the task of an operation is over behind its turn, and it ends in the log next
 abbrev pub over : World → ℕ → World
-over w p = at_place w p (over_at (process w p).at)
+over w p = at_phase w p (over_at (process w p).at)
 
 abbrev pub is_before : Phase → Bool
 is_before Phase.Idle = false
@@ -144,9 +144,9 @@ committing_at (Phase.Committing group k) = Phase.Committing group k
 
 -- the operation's end was the last of its group
 abbrev pub committing : World → ℕ → World
-committing w p = at_place w p (committing_at (process w p).at)
+committing w p = at_phase w p (committing_at (process w p).at)
 
--- the answer of the entry at a place, if there is one
+-- the answer of the entry at an index, if there is one
 abbrev pub answer_in : List Entry → ℕ → Option Answer
 answer_in es k = if nat_lt k (length es) then answer_of (entry_in es k) else None
 

@@ -3,7 +3,7 @@ use Rattle.std.specs.Prelude.{ℕ, Bool, List}
 use Rattle.model.specs.declared.types.operations.Entry.{Entry}
 use Rattle.history.specs.declared.types.Process.{Process}
 
--- the entries, the oldest first, and the places that are kept for more
+-- the entries, the oldest first, and for how many more there is room
 pub record Entries : Type 0 where
   pub list : List Entry
   pub room : ℕ

@@ -8,7 +8,7 @@ use model::types::{Answer, Entry, Op, Reply};
 use std::alloc::Global;
 use std::marker::Model;
 
-/// The entries, the oldest first, and how many places are kept for more.
+/// The entries, the oldest first, and for how many more there is room.
 #[derive(Drop)]
 pub struct Journal {
     entries: Vec<Entry>,
@@ -30,7 +30,7 @@ impl Journal {
     ghost use Rattle.std.specs.Prelude.{Some, IsSome, IfSome};
     ghost use Rattle.history.specs.Journal.{reserved, journal_with, journal_told, entry_in, answer_of};
 
-    /// Without entries, and with no place.
+    /// Without entries, and without room.
     pub fn new(alloc: Global) -> Journal
         ensures { result ≡ record { list = []; room = 0 } }
     {
@@ -47,14 +47,14 @@ impl Journal {
         &self.entries
     }
 
-    /// Does nothing: entries and kept places can be counted.
+    /// Does nothing: entries and room can be counted.
     pub fn known(&self)
         ensures { length self.now.list + self.now.room < 2 ^ 64 }
     {
         let _ = self.entries.capacity();
     }
 
-    /// Keeps a place for one more entry.
+    /// Makes room for one more entry.
     ///
     /// # Errors
     ///
@@ -69,44 +69,44 @@ impl Journal {
         Ok(())
     }
 
-    /// Adds an entry, in a place that was kept. Its place among the entries, from 0.
+    /// Adds an entry, in room that was made. Its index among the entries, from 0.
     pub fn add(&mut self, entry: Entry) -> usize
         requires { 0 < self.old.room }
-        ensures place { result ≡ length self.old.list }
+        ensures index { result ≡ length self.old.list }
         ensures entries { self.new ≡ journal_with self.old entry }
     {
-        let place = self.entries.len();
+        let index = self.entries.len();
         self.room -= 1;
         let _ = self.entries.push(entry);
-        place
+        index
     }
 
-    /// The operation of the entry at this place.
-    pub fn operation(&self, place: usize) -> &Op
-        requires { place < length self.now.list }
-        ensures { result.now ≡ (entry_in self.now.list place).op }
+    /// The operation of the entry at this index.
+    pub fn operation(&self, index: usize) -> &Op
+        requires { index < length self.now.list }
+        ensures { result.now ≡ (entry_in self.now.list index).op }
     {
-        let entry = &self.entries[place];
+        let entry = &self.entries[index];
         &entry.op
     }
 
-    /// The reply of the entry at this place is decided.
-    pub fn tell(&mut self, place: usize, reply: Reply)
-        requires { place < length self.old.list }
-        ensures { self.new ≡ journal_told self.old place reply }
+    /// The reply of the entry at this index is decided.
+    pub fn tell(&mut self, index: usize, reply: Reply)
+        requires { index < length self.old.list }
+        ensures { self.new ≡ journal_told self.old index reply }
     {
-        self.entries[place].reply = Some(reply);
+        self.entries[index].reply = Some(reply);
     }
 
-    /// The answer of the entry at this place. Its bytes, if it has some, are copied into the room.
-    pub fn answer(&self, place: usize, room: Option<Gathered>) -> Answer
-        requires inside { place < length self.now.list }
-        requires answered { IsSome (answer_of (entry_in self.now.list place)) }
-        requires fits { IfSome (answer_of (entry_in self.now.list place))
+    /// The answer of the entry at this index. Its bytes, if it has some, are copied into the room.
+    pub fn answer(&self, index: usize, room: Option<Gathered>) -> Answer
+        requires inside { index < length self.now.list }
+        requires answered { IsSome (answer_of (entry_in self.now.list index)) }
+        requires fits { IfSome (answer_of (entry_in self.now.list index))
             (λ answer. FitsRoom room answer.reply) }
-        ensures { Some result ≡ answer_of (entry_in self.now.list place) }
+        ensures { Some result ≡ answer_of (entry_in self.now.list index) }
     {
-        let entry = &self.entries[place];
+        let entry = &self.entries[index];
         let Some(reply) = &entry.reply else {
             unreachable!();
         };

@@ -1,8 +1,8 @@
 // The processes and their journal, without store and ports.
 ghost use Rattle.std.specs.Prelude.{◌≡◌, ◌<◌, ◌^◌, ◌+◌, ◌↔◌, [], IsTrue, true, length, Some, IsSome, IfSome, IfOk, OnErr};
-ghost use Rattle.history.specs.Processes.{World, process, fresh_world, with_place, taken, refused};
+ghost use Rattle.history.specs.Processes.{World, process, fresh_world, with_more_room, taken, refused};
 ghost use Rattle.history.specs.Journal.{plain_reply, FitsRoom};
-ghost use Rattle.history.specs.Processes.{turned, decided, over, entry_place, operation_at, HasEntryPlace, committing, answered, is_before, last_answer, refusal_answer};
+ghost use Rattle.history.specs.Processes.{turned, decided, over, entry_index, operation_at, HasEntryIndex, committing, answered, is_before, last_answer, refusal_answer};
 
 use crate::{Journal, Phase, Process};
 use blocks::NoMemory;
@@ -104,28 +104,28 @@ impl Processes {
         &self.processes[pid as usize].at
     }
 
-    /// Does nothing: entries and kept places can be counted.
+    /// Does nothing: entries and room can be counted.
     pub fn known(&self)
         ensures { length self.now.journal.list + self.now.journal.room < 2 ^ 64 }
     {
         self.journal.known();
     }
 
-    /// Keeps a place in the journal for one more operation.
+    /// Makes room in the journal for one more operation.
     ///
     /// # Errors
     ///
-    /// `NoMemory` where the allocator refuses the place; nothing is changed.
+    /// `NoMemory` where the allocator refuses the room; nothing is changed.
     pub fn reserve(&mut self) -> Result<(), NoMemory>
         requires { self.old.journal.room + 1 < 2 ^ 64 }
-        ensures ok { IfOk result (λ _. self.new ≡ with_place self.old) }
+        ensures ok { IfOk result (λ _. self.new ≡ with_more_room self.old) }
         ensures err { OnErr result (self.new ≡ self.old) }
     {
         self.journal.reserve()
     }
 
     /// An operation of a process begins in this group (0: in none), with this room for the bytes of
-    /// its answer. A place in the journal is kept for it.
+    /// its answer. There is room in the journal for it.
     pub fn take(&mut self, pid: u32, group: u64, op: Op, room: Option<Gathered>)
         requires pid { pid < length self.old.processes }
         requires begun { (process self.old pid).begun + 1 < 2 ^ 64 }
@@ -138,7 +138,7 @@ impl Processes {
     }
 
     /// An operation is answered at once with a reply without bytes: its entry, of no group, is in
-    /// the journal, in a place that was kept. Its answer.
+    /// the journal, in room that was made. Its answer.
     pub fn refuse(&mut self, pid: u32, op: Op, reply: Reply) -> Answer
         requires pid { pid < length self.old.processes }
         requires begun { (process self.old pid).begun + 1 < 2 ^ 64 }
@@ -150,18 +150,18 @@ impl Processes {
         let process = &mut self.processes[pid as usize];
         let seq = process.begun + 1;
         process.begun = seq;
-        let place = self.journal.add(Entry {
+        let index = self.journal.add(Entry {
             pid,
             seq,
             op,
             group: 0,
             reply: Some(reply),
         });
-        self.journal.answer(place, None)
+        self.journal.answer(index, None)
     }
 
     /// The operation of a process has its turn: its entry, with the reply if it is known, is in the
-    /// journal, in the place that was kept. Where its task is over with it, it ends next.
+    /// journal, in the room that was made. Where its task is over with it, it ends next.
     pub fn turn(&mut self, pid: u32, reply: Option<Reply>, is_over: bool)
         requires pid { pid < length self.old.processes }
         requires before { is_before (process self.old pid).at ≡ true }
@@ -189,25 +189,25 @@ impl Processes {
     /// The operation of a process that had its turn and goes on.
     pub fn operation(&self, pid: u32) -> &Op
         requires pid { pid < length self.now.processes }
-        requires entry { HasEntryPlace self.now (entry_place (process self.now pid).at) }
-        ensures { Some result.now ≡ operation_at self.now (entry_place (process self.now pid).at) }
+        requires entry { HasEntryIndex self.now (entry_index (process self.now pid).at) }
+        ensures { Some result.now ≡ operation_at self.now (entry_index (process self.now pid).at) }
     {
-        let Some(place) = entry_place(&self.processes[pid as usize].at) else {
+        let Some(index) = entry_index(&self.processes[pid as usize].at) else {
             unreachable!();
         };
-        self.journal.operation(place)
+        self.journal.operation(index)
     }
 
     /// The reply of a process's operation that had its turn is decided.
     pub fn decide(&mut self, pid: u32, reply: Reply)
         requires pid { pid < length self.old.processes }
-        requires entry { HasEntryPlace self.old (entry_place (process self.old pid).at) }
+        requires entry { HasEntryIndex self.old (entry_index (process self.old pid).at) }
         ensures { self.new ≡ decided self.old pid reply }
     {
-        let Some(place) = entry_place(&self.processes[pid as usize].at) else {
+        let Some(index) = entry_index(&self.processes[pid as usize].at) else {
             unreachable!();
         };
-        self.journal.tell(place, reply);
+        self.journal.tell(index, reply);
     }
 
     /// The task of an operation that had its turn is over: it ends in the log next.
@@ -247,7 +247,7 @@ impl Processes {
         let process = &mut self.processes[pid as usize];
         let at = mem::replace(&mut process.at, Phase::Idle);
         let room = process.room.take();
-        let Some(entry) = entry_place(&at) else {
+        let Some(entry) = entry_index(&at) else {
             unreachable!();
         };
         self.journal.answer(entry, room)
@@ -255,8 +255,8 @@ impl Processes {
 }
 
 // Where the entry of an operation stands that had its turn.
-fn entry_place(at: &Phase) -> Option<usize>
-    ensures { result ≡ entry_place at.now }
+fn entry_index(at: &Phase) -> Option<usize>
+    ensures { result ≡ entry_index at.now }
 {
     match at {
         Phase::Idle | Phase::BeforeTurn { .. } => None,

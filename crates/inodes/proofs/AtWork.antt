@@ -1,6 +1,6 @@
 -- A step of a process that works on its inode behind its turn: what it does, and that it promises so.
 use Rattle.std.proofs.Common.{◌≡◌, ◌≢◌, ℕ, ◌<◌, true, List, length, set, refl, sym, ◌∙◌, ap, subst, Option, Some, None}
-use Rattle.inodes.specs.Common.{AreLooking, asked_by, block_at_place, claim_by, claim_of, Claims, claims_of, current_of, fault_of_task, Files, FilesThen, FitsHeld, form_of, Ghosts, Goes, Grip, grip_by, grip_of, grips_of, HasLock, HasSlot, Image, is_made, IsClaimedNow, IsHeldByAnother, IsStore, KeepsTable, LeavesNumber, locked_grip, LoggedAt, LooksAt, Marks, no_task, Op, Reads, Reply, reply_at_turn, SameGroups, set-get_or, Stage, Stands, StaysForOthers, Steps, steps_left, StoreState, super_in, TableState, task, TaskProgress, TaskState, VolumeState, Waits, Why, with_grip}
+use Rattle.inodes.specs.Common.{AreLooking, asked_by, block_at_stage, claim_by, claim_of, Claims, claims_of, current_of, fault_of_task, Files, FilesThen, FitsHeld, form_of, Ghosts, Goes, Grip, grip_by, grip_of, grips_of, HasLock, HasSlot, Image, is_made, IsClaimedNow, IsHeldByAnother, IsStore, KeepsTable, LeavesNumber, locked_grip, LoggedAt, LooksAt, Marks, no_task, Op, Reads, Reply, reply_at_turn, SameGroups, set-get_or, Stage, Stands, StaysForOthers, Steps, steps_left, StoreState, super_in, TableState, task, TaskProgress, TaskState, VolumeState, Waits, Why, with_grip}
 use Rattle.inodes.specs.Store.{FitsFiles}
 use Rattle.inodes.specs.Lemmas.Holding.{claimed_now}
 use Rattle.inodes.proofs.Looking.{Stepped, store_stepped, steps_stepped}
@@ -68,7 +68,7 @@ module _ {D N : Type 0} (disk : Ghosts D N) (s : StoreState D) (p k i : ℕ) (he
       pub stands : fault_of_task r ≡ None → StandsSo
       pub late : reply_at_turn r ≡ None
       pub asleep : (cause : Why) → r ≡ TaskProgress.Sleeping cause → (w ≡ s.volume) × (tab ≡ s.table) × (next ≡ here)
-      pub held : r ≡ TaskProgress.Sleeping Why.BufferHeld → IsHeldByAnother s p (block_at_place here)
+      pub held : r ≡ TaskProgress.Sleeping Why.BufferHeld → IsHeldByAnother s p (block_at_stage here)
       pub inode : r ≡ TaskProgress.Sleeping Why.InodeHeld → ⊥
       pub less : is_made r ≡ true → steps_left now next count < steps_left cur here count
 
@@ -135,7 +135,7 @@ module _ {D N : Type 0} (disk : Ghosts D N) (s : StoreState D) (p k i : ℕ) (he
       waits_so : Waits s p r t
       waits_so = record {
         sleeping = slept;
-        held = λ waits. subst (λ (a : Stage). IsHeldByAnother s p (block_at_place a)) (sym works.stood) (does.held waits);
+        held = λ waits. subst (λ (a : Stage). IsHeldByAnother s p (block_at_stage a)) (sym works.stood) (does.held waits);
         inode = λ waits. absurd (does.inode waits);
       }
 

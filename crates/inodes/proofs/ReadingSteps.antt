@@ -1,6 +1,6 @@
 -- Each step of a reading keeps what is true of every store, and does what a step promises.
 use Rattle.std.proofs.Common.{◌≡◌, ⊎_elim, ℕ, ◌<◌, ◌≤◌, ◌+◌, ◌-◌, ◌/◌, ◌++◌, true, min, List, set, refl, sym, ◌∙◌, ap, subst, arith, Option, Some, None}
-use Rattle.inodes.specs.Common.{Agrees, asked_by, block_at_place, block_of, bytes_in, claim_by, claim_of, copy_at, current_of, Dinode, Ends, EntryState, eqb-true, fault_of_task, Files, FilesThen, first_slot, form_of, GatheredBytes, Get, get_or-set_same, GetsFor, Ghosts, Goes, GoesBelow, Grip, grip, grip_by, grip_of, grips_of, HasAllRead, HasSlot, HoldsAt, Image, is_done, is_made, is_making, IsAtRead, IsHeldByAnother, IsMade, IsRead, IsReading, IsStore, KeepsTable, LeadsToBlock, LeavesNumber, length-bytes, locked_grip, LoggedAt, LogState, LooksAt, LooksUp, LooksUpFor, named_by, no_task, one_more, OnMore, Op, part_cut, part_in_two, part_of, stage_of_reading, Progress, progress_of, progress_of_read, Read, Reads, reads_left, ReadState, ReadSteps, Releases, Reply, reply_at_turn, set-get_or, Shown, ShowsSame, slot_in, Stage, Stands, StaysForOthers, Steps, steps_at, steps_left, StoreState, TableIs, Target, target_behind, target_for, task, TaskProgress, TaskState, VolumeState, Waits, Why, with_grip, with_slot, Works}
+use Rattle.inodes.specs.Common.{Agrees, asked_by, block_at_stage, block_of, bytes_in, claim_by, claim_of, copy_at, current_of, Dinode, Ends, EntryState, eqb-true, fault_of_task, Files, FilesThen, first_slot, form_of, GatheredBytes, Get, get_or-set_same, GetsFor, Ghosts, Goes, GoesBelow, Grip, grip, grip_by, grip_of, grips_of, HasAllRead, HasSlot, HoldsAt, Image, is_done, is_made, is_making, IsAtRead, IsHeldByAnother, IsMade, IsRead, IsReading, IsStore, KeepsTable, LeadsToBlock, LeavesNumber, length-bytes, locked_grip, LoggedAt, LogState, LooksAt, LooksUp, LooksUpFor, named_by, no_task, one_more, OnMore, Op, part_cut, part_in_two, part_of, stage_of_reading, Progress, progress_of, progress_of_read, Read, Reads, reads_left, ReadState, ReadSteps, Releases, Reply, reply_at_turn, set-get_or, Shown, ShowsSame, slot_in, Stage, Stands, StaysForOthers, Steps, steps_at, steps_left, StoreState, TableIs, Target, target_behind, target_for, task, TaskProgress, TaskState, VolumeState, Waits, Why, with_grip, with_slot, Works}
 use Rattle.inodes.specs.Store.{FitsFiles}
 use Rattle.wal.specs.Get as get
 use Rattle.inodes.proofs.TruncSlots.{never_inode, never_over}
@@ -91,7 +91,7 @@ module _ {D N : Type 0} {disk : Ghosts D N} {s : StoreState D} {p k : ℕ} {m : 
 
     -- What a step makes of buffers and device, where the reading goes on, and for whom it waits.
     record Does : Type 0 where
-      pub one : fault_of q ≡ None → HasOne s.volume.buffers w.buffers s.volume.log p (block_at_place next) (slot_there m n q)
+      pub one : fault_of q ≡ None → HasOne s.volume.buffers w.buffers s.volume.log p (block_at_stage next) (slot_there m n q)
       pub reads : Reads disk s (progress_of_read q) then_at
       pub shown : ShowsSame disk.image s then_at
       pub held : q ≡ Progress.Sleeping Why.BufferHeld → IsHeldByAnother s p (block_of m.target)
@@ -110,7 +110,7 @@ module _ {D N : Type 0} {disk : Ghosts D N} {s : StoreState D} {p k : ℕ} {m : 
       one_got fine = has_then disk s then_at p b q slot gets are no_slot fine
 
       one_by : (r : Progress (Unit {0})) → q ≡ r → (block_of n.target ≡ b) × (slot_in n.target ≡ slot) → fault_of r ≡ None
-          → HasOne s.volume.buffers w.buffers s.volume.log p (block_at_place (stage_of_reading k m n r)) (slot_there m n r)
+          → HasOne s.volume.buffers w.buffers s.volume.log p (block_at_stage (stage_of_reading k m n r)) (slot_there m n r)
       one_by Progress.Moved same now fine = subst (λ (a : ℕ). HasOne s.volume.buffers w.buffers s.volume.log p a (slot_in n.target)) (sym now.0)
           (subst (λ (o : Option ℕ). HasOne s.volume.buffers w.buffers s.volume.log p b o) (sym now.1) (one_got (ap fault_of same)))
       one_by (Progress.Sleeping cause) same now fine =
@@ -143,8 +143,8 @@ module _ {D N : Type 0} {disk : Ghosts D N} {s : StoreState D} {p k : ℕ} {m : 
 
       uses : fault_of q ≡ None → ((cause : Why) → q ≡ Progress.Sleeping cause → ⊥) → slot_there m n q ≡ None → Does
       uses fine awake free = record {
-        one = λ well_still. subst (λ (o : Option ℕ). HasOne s.volume.buffers w.buffers s.volume.log p (block_at_place next) o) (sym free)
-            (has_left s.volume.buffers s.volume.log s.table.inode_count p s.tasks (agrees h) w.buffers (block_at_place next) i (λ j has_it. sym got ∙ slot_is h j has_it) leaves.locks);
+        one = λ well_still. subst (λ (o : Option ℕ). HasOne s.volume.buffers w.buffers s.volume.log p (block_at_stage next) o) (sym free)
+            (has_left s.volume.buffers s.volume.log s.table.inode_count p s.tasks (agrees h) w.buffers (block_at_stage next) i (λ j has_it. sym got ∙ slot_is h j has_it) leaves.locks);
         reads = reads_none disk s then_at device well_then (progress_of_read q) (there.fault ∙ fine);
         shown = ap (λ (x : Image). record { current = x; log = w.log }) leaves.current ∙ ap (λ (l : LogState). record { current = cur; log = l }) log;
         held = λ waits. absurd (awake Why.BufferHeld waits);
@@ -280,7 +280,7 @@ module _ {D N : Type 0} {disk : Ghosts D N} {s : StoreState D} {p k : ℕ} {m : 
     looks_by (Progress.Over out) same fine = has_read (eqb-true n.next n.end (sym steps.over ∙ ap is_done same))
     looks_by (Progress.Fault fault) same fine = absurd (cc fine)
 
-    stands_by : (r : Progress (Unit {0})) → HoldsAt w.buffers p (block_at_place (stage_of_reading k m n r)) (slot_there m n r) → Stands w.buffers w.log s.table.inode_count p (task s.tasks p).op (stage_of_reading k m n r)
+    stands_by : (r : Progress (Unit {0})) → HoldsAt w.buffers p (block_at_stage (stage_of_reading k m n r)) (slot_there m n r) → Stands w.buffers w.log s.table.inode_count p (task s.tasks p).op (stage_of_reading k m n r)
     stands_by Progress.Moved holds = holds
     stands_by (Progress.Sleeping cause) holds = holds
     stands_by (Progress.Over out) holds = tt
@@ -331,7 +331,7 @@ module _ {D N : Type 0} {disk : Ghosts D N} {s : StoreState D} {p k : ℕ} {m : 
       waits_so : Waits s p (progress_of_read q) then_at
       waits_so = record {
         sleeping = λ cause waits. slept cause (asleep_as cause q waits);
-        held = λ waits. subst (λ (b : ℕ). IsHeldByAnother s p b) (sym (ap block_at_place h.stood)) (does.held (asleep_as Why.BufferHeld q waits));
+        held = λ waits. subst (λ (b : ℕ). IsHeldByAnother s p b) (sym (ap block_at_stage h.stood)) (does.held (asleep_as Why.BufferHeld q waits));
         inode = λ waits. absurd (does.inode (asleep_as Why.InodeHeld q waits));
       }
 

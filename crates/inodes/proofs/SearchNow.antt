@@ -2,7 +2,7 @@
 use Rattle.std.proofs.Common.{◌≡◌, ◌<◌, ◌≤◌, ℕ, leb, length, List, refl, sym, ◌∙◌, ap, subst, arith, Option, Some, None}
 use Rattle.inodes.specs.Store.{FitsFiles}
 use Rattle.std.specs.Prelude.{IfNone}
-use Rattle.inodes.specs.Common.{Agrees, AreLooking, block_at_place, both_of, claims_of, Create, current_of, DeviceFault, fault_of_task, faults_after, get_or-set_same, Ghosts, Goes, GoesFrom, Grip, grips_of, Image, IsHeldByAnother, IsImage, IsSearching, IsStore, Joint, LeavesLate, leb-true, LoggedAt, LogState, MayStep, no_task, Op, Progress, progress_of_search, SameGroups, SearchState, SearchSteps, shown_of, Stage, Steps, steps_left, StoreState, TableIs, task, TaskState, VolumeState}
+use Rattle.inodes.specs.Common.{Agrees, AreLooking, block_at_stage, both_of, claims_of, Create, current_of, DeviceFault, fault_of_task, faults_after, get_or-set_same, Ghosts, Goes, GoesFrom, Grip, grips_of, Image, IsHeldByAnother, IsImage, IsSearching, IsStore, Joint, LeavesLate, leb-true, LoggedAt, LogState, MayStep, no_task, Op, Progress, progress_of_search, SameGroups, SearchState, SearchSteps, shown_of, Stage, Steps, steps_left, StoreState, TableIs, task, TaskState, VolumeState}
 use Rattle.inodes.specs.Lemmas.Faults.{where_none}
 use Rattle.inodes.specs.Lemmas.Grips.{kept_by_image}
 use Rattle.inodes.proofs.Gripping.{grips_same, grips_set}
@@ -129,7 +129,7 @@ module _ {D N : Type 0} (disk : Ghosts D N) (s now : StoreState D) (p : ℕ) (m 
           ))
           (record {
             sleeping = λ cause waits. asleep_then s u p new r steps.asleep cause waits;
-            held = λ waits. subst (λ (a : Stage). IsHeldByAnother s p (block_at_place a)) (sym stood) (held_then s p m r agrees stood u.buffers new.slot steps.locks waits);
+            held = λ waits. subst (λ (a : Stage). IsHeldByAnother s p (block_at_stage a)) (sym stood) (held_then s p m r agrees stood u.buffers new.slot steps.locks waits);
             inode = λ waits. absurd (no_inode_held m.slot s.volume.buffers u.buffers p m.block new.slot r steps.locks waits);
           })
           (subst (λ (q : Op). LeavesLate s p q (progress_of_search r)) (sym (same_op disk.image s t p m new op r agrees is.numbers lt stood is_op steps.current claimed_same)) (apart_then disk.image s p m new s.volume.buffers m.slot r looks is.numbers steps.goes))

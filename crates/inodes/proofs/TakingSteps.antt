@@ -1,6 +1,6 @@
 -- Each step of taking an inode keeps what is true of every store, and does what a step promises.
 use Rattle.std.proofs.Common.{◌≡◌, ◌≢◌, ℕ, ◌<◌, ◌≤◌, ◌+◌, Bool, true, false, cond, not, eqb, List, length, set, refl, sym, ◌∙◌, ap, subst, arith, Option, Some, None}
-use Rattle.inodes.specs.Common.{asked, asked_by, at_lock, block_at_place, claim_by, claim_of, copy_at, copy_in, current_of, Dinode, entry_at, eqb-false, eqb-true, extent_of, facts_of, false≢true, fault_of_task, Files, FilesThen, form_of, Get, get_or-set_other, get_or-set_same, GetsFor, Ghosts, Goes, Grip, grip, grip_at, grip_by, grip_of, grips_of, HasLock, HasSlot, holder_at, HoldsAt, Image, InMemory, inode_block, is_made, is_making, is_of, IsHeldByAnother, IsOpenFor, IsStore, IsTaking, KeepsTable, kept, LeavesLate, LeavesNumber, length-map, LockAt, locked, locked_grip, Locks, locks_left, LockState, LockSteps, LoggedAt, LogState, LooksAt, most_behind, no_task, Op, owes_reply, place_for, place_of, stage_of_lock, Progress, progress_of, progress_of_lock, Reads, ReadsInode, referred, Reply, reply_at_turn, set-get_or, Shown, ShowsSame, slot_of, Stage, Stands, StaysForOthers, Steps, steps_left, StoreState, TableIs, TableState, task, TaskProgress, TaskState, unlocked_grip, VolumeState, Waits, Why, with_copy, with_grip, with_holder}
+use Rattle.inodes.specs.Common.{asked, asked_by, at_lock, block_at_stage, claim_by, claim_of, copy_at, copy_in, current_of, Dinode, entry_at, eqb-false, eqb-true, extent_of, facts_of, false≢true, fault_of_task, Files, FilesThen, form_of, Get, get_or-set_other, get_or-set_same, GetsFor, Ghosts, Goes, Grip, grip, grip_at, grip_by, grip_of, grips_of, HasLock, HasSlot, holder_at, HoldsAt, Image, InMemory, inode_block, is_made, is_making, is_of, IsHeldByAnother, IsOpenFor, IsStore, IsTaking, KeepsTable, kept, LeavesLate, LeavesNumber, length-map, LockAt, locked, locked_grip, Locks, locks_left, LockState, LockSteps, LoggedAt, LogState, LooksAt, most_behind, no_task, Op, owes_reply, place_for, place_of, stage_of_lock, Progress, progress_of, progress_of_lock, Reads, ReadsInode, referred, Reply, reply_at_turn, set-get_or, Shown, ShowsSame, slot_of, Stage, Stands, StaysForOthers, Steps, steps_left, StoreState, TableIs, TableState, task, TaskProgress, TaskState, unlocked_grip, VolumeState, Waits, Why, with_copy, with_grip, with_holder}
 use Rattle.inodes.specs.Store.{FitsFiles}
 use Rattle.wal.specs.Volume.{slot_of as got_slot_of}
 use Rattle.model.specs.Layout.{inode_of}
@@ -461,7 +461,7 @@ module _ {D N : Type 0} {disk : Ghosts D N} {s : StoreState D} {p : ℕ} {op : O
             sleeping = λ other waits. ap (λ (v : VolumeState D). store_then v ts s.table) slept.0 ∙ stays (Progress.Sleeping cause) next ts refl tasks;
             held = λ waits.
                 let same : cause ≡ Why.BufferHeld = cc waits in
-                subst (λ (b : ℕ). IsHeldByAnother s p b) (sym (ap block_at_place h.stood)) (held_got disk s then_at p (inode_block m.number) (Progress.Sleeping cause) slot got are no_slot (ap Progress.Sleeping same));
+                subst (λ (b : ℕ). IsHeldByAnother s p b) (sym (ap block_at_stage h.stood)) (held_got disk s then_at p (inode_block m.number) (Progress.Sleeping cause) slot got are no_slot (ap Progress.Sleeping same));
             inode = λ waits. let same : cause ≡ Why.InodeHeld = cc waits in absurd (never_inode disk s then_at p (inode_block m.number) (Progress.Sleeping cause) slot got (ap Progress.Sleeping same));
           };
           apart = no_reply (Progress.Sleeping cause) refl;

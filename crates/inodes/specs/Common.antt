@@ -104,7 +104,7 @@ pub use Rattle.inodes.specs.Itrunc.{address_left, address_or_on, after_trunc, at
 pub use Rattle.inodes.specs.Iupdate.{first_update, Updates, UpdateState}
 pub use Rattle.inodes.specs.LockState.{locks_left, LockState, place_of, slot_of}
 pub use Rattle.inodes.specs.Looks.{AreLooking, CanLook, CanTake, HasAllRead, HasFiles, HasRead, HasRoom, HoldsInode, IsAtRead, IsLate, IsRead, IsTaking, IsWrite, LooksAt, WasAnswered}
-pub use Rattle.inodes.specs.Places.{asked, asked_by, block_at_place, grip_at, grip_by, grip_of, grips_of, HasSlot, is_over, is_unturned, looks_left, most_behind, owes_reply, steps_left}
+pub use Rattle.inodes.specs.Stages.{asked, asked_by, block_at_stage, grip_at, grip_by, grip_of, grips_of, HasSlot, is_over, is_unturned, looks_left, most_behind, owes_reply, steps_left}
 pub use Rattle.inodes.specs.Readi.{first_read, Gathers, HasRoomLeft, is_done, IsMade, IsReading, reads_left, ReadState, ReadSteps, Works}
 pub use Rattle.inodes.specs.Steps.{Commits, is_made, IsHeldByAnother, LeavesLate, LeavesNumber, LeavesShares, Reads, SameShare, Steps, Waits}
 pub use Rattle.inodes.specs.Store.{Agrees, CanBegin, current_of, first_stage, first_taking, HasLogged, HaveLogged, HoldsAt, HoldsForFreeing, HoldsForWriting, IsOpenFor, IsSearching, IsStore, LoggedAt, reply_of, Stands, StoreState, with_begun}

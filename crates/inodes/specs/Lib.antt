@@ -12,7 +12,7 @@ pub mod Iupdate
 pub mod Lemmas
 pub mod LockState
 pub mod Looks
-pub mod Places
+pub mod Stages
 pub mod ReadRuns
 pub mod Readi
 pub mod Routes

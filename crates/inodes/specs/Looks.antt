@@ -17,7 +17,7 @@ use Rattle.inodes.specs.declared.tasks.Stage.{Stage}
 use Rattle.inodes.specs.Grips.{HasNumber, TableIs}
 use Rattle.inodes.specs.Holding.{IsTruncating, claims_of}
 use Rattle.inodes.specs.LockState.{LockState}
-use Rattle.inodes.specs.Places.{asked, grips_of}
+use Rattle.inodes.specs.Stages.{asked, grips_of}
 use Rattle.inodes.specs.Readi.{ReadState}
 use Rattle.inodes.specs.Table.{TableState, copy_at, holder_at}
 use Rattle.inodes.specs.Tasks.{TaskState, task}

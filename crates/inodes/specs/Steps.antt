@@ -21,7 +21,7 @@ use Rattle.wal.specs.Volume.{VolumeCommits, faults_after}
 use Rattle.inodes.specs.Goes.{Goes}
 use Rattle.inodes.specs.Grips.{unlocked_grip, locked_grip}
 use Rattle.inodes.specs.Holding.{claims_of}
-use Rattle.inodes.specs.Places.{asked, asked_by, is_over, owes_reply, HasSlot, block_at_place, grip_of, steps_left}
+use Rattle.inodes.specs.Stages.{asked, asked_by, is_over, owes_reply, HasSlot, block_at_stage, grip_of, steps_left}
 use Rattle.inodes.specs.Store.{StoreState, FitsFiles, KeepsFiles, current_of}
 use Rattle.inodes.specs.Tasks.{task}
 
@@ -55,7 +55,7 @@ pub record Waits {D : Type 0} (old : StoreState D) (p : ℕ) (r : TaskProgress) 
     : Type 0 where
   pub sleeping : (cause : Why) → r ≡ TaskProgress.Sleeping cause → new ≡ old
   pub held : r ≡ TaskProgress.Sleeping Why.BufferHeld
-      → IsHeldByAnother old p (block_at_place (task old.tasks p).stage)
+      → IsHeldByAnother old p (block_at_stage (task old.tasks p).stage)
   pub inode : r ≡ TaskProgress.Sleeping Why.InodeHeld → IsInodeHeld old p
 
 -- the operation is not that of number i, and makes it not

@@ -27,7 +27,7 @@ use Rattle.inodes.specs.declared.tasks.Stage.{Stage}
 use Rattle.inodes.specs.Holding.{claims_of}
 use Rattle.inodes.specs.LockState.{slot_of}
 use Rattle.inodes.specs.Looks.{AreLooking}
-use Rattle.inodes.specs.Places.{asked, HasSlot}
+use Rattle.inodes.specs.Stages.{asked, HasSlot}
 use Rattle.inodes.specs.Table.{TableState}
 use Rattle.inodes.specs.Tasks.{TaskState, task}
 use Rattle.inodes.specs.Writei.{WriteState}

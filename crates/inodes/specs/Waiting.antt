@@ -14,7 +14,7 @@ use Rattle.inodes.specs.declared.ilock.LockAt.{LockAt}
 use Rattle.inodes.specs.declared.tasks.Stage.{Stage}
 use Rattle.inodes.specs.declared.writei.WriteAt.{WriteAt}
 use Rattle.inodes.specs.Freeing.{block_next, now_of, slot_kept}
-use Rattle.inodes.specs.Places.{is_over}
+use Rattle.inodes.specs.Stages.{is_over}
 use Rattle.inodes.specs.Steps.{Steps}
 use Rattle.inodes.specs.Store.{StoreState}
 use Rattle.inodes.specs.Table.{TableState, holder_at}

@@ -4,7 +4,7 @@ ghost use Rattle.model.specs.Format.{most_inodes};
 ghost use Rattle.model.specs.declared.types.operations.Op.{Op};
 ghost use Rattle.model.specs.Operations.{transfer_limit};
 ghost use Rattle.inodes.specs.Looks.{CanLook, HasRoom};
-ghost use Rattle.inodes.specs.Places.{asked};
+ghost use Rattle.inodes.specs.Stages.{asked};
 ghost use Rattle.inodes.specs.Growing.{bytes_of};
 ghost use Rattle.inodes.specs.Writing.{extent_of};
 ghost use Rattle.inodes.specs.Store.{KeepsFiles, with_look};

@@ -12,7 +12,7 @@ ghost use Rattle.inodes.specs.Tasks.{task, no_task};
 ghost use Rattle.inodes.specs.Store.{IsStore, MayBegin, FitsFiles, KeepsFiles, fresh_volume, with_begun, with_log, first_stage, reply_of, CanBegin};
 ghost use Rattle.inodes.specs.Goes.{over};
 ghost use Rattle.inodes.specs.Steps.{Steps, Commits};
-ghost use Rattle.inodes.specs.Places.{is_over};
+ghost use Rattle.inodes.specs.Stages.{is_over};
 ghost use Rattle.inodes.specs.Table.{new_table};
 ghost use Rattle.inodes.specs.Waiting.{NobodyWaitsForEver};
 ghost use Rattle.inodes.specs.declared.tasks.Stage.TheVariants as stage;

@@ -8,7 +8,7 @@ use Rattle.ports.specs.declared.herald.Herald as herald_trait
 use Rattle.ports.specs.declared.intake.Intake as intake_trait
 use Rattle.kernel.specs.Device.{UsesDisk, CountsItsFault, FailsSo, UsesOnce, block_at_step, counts_of}
 use Rattle.std.specs.Option.{option_map}
-use Rattle.kernel.specs.Common.{Acts, append-nil, BeginsWith, Block, block_at_place, Commit, commit_kinds, Commits, CommitSyncs, Committed, CommitWrites, DeviceFault, DiskFault, Elapses, elapses_none, elapses_same, end_answer, Ended, Ends, entry_in, fails_at, FailsAt, FailsToSync, false≢true, fault_of_step, fault_of_task, faults_after, first_in, Goes, is_busy_at, is_committing_at, is_over, is_syncing, is_writing, IsFault, may_begin, NextAt, NextIf, one_more, OnlyReads, Op, Part, Phase, place_at, process, Side, State, Step, step_behind, step_of, step_of_end, step_of_last, step_of_told, step_of_write, Steps, StoreState, Sync, task, TaskProgress, OpClass, class_of, World, world_after, world_behind, world_written}
+use Rattle.kernel.specs.Common.{Acts, append-nil, BeginsWith, Block, block_at_stage, Commit, commit_kinds, Commits, CommitSyncs, Committed, CommitWrites, DeviceFault, DiskFault, Elapses, elapses_none, elapses_same, end_answer, Ended, Ends, entry_in, fails_at, FailsAt, FailsToSync, false≢true, fault_of_step, fault_of_task, faults_after, first_in, Goes, is_busy_at, is_committing_at, is_over, is_syncing, is_writing, IsFault, may_begin, NextAt, NextIf, one_more, OnlyReads, Op, Part, Phase, place_at, process, Side, State, Step, step_behind, step_of, step_of_end, step_of_last, step_of_told, step_of_write, Steps, StoreState, Sync, task, TaskProgress, OpClass, class_of, World, world_after, world_behind, world_written}
 use Rattle.kernel.specs.Begins.{Begins}
 use Rattle.kernel.specs.Heralds.{IsUnasked}
 use Rattle.kernel.specs.Ports.{KeepsOthers, Asks}
@@ -65,7 +65,7 @@ module _ {D N : Type 0} (disk : disk_trait.Ghosts D N) (s t : StoreState D) wher
       }
 
   -- a step of a task reads a block at most, whatever the kernel answers to what it comes to
-  pub reads : (a : Phase) (p : ℕ) (op : Op) (r : TaskProgress) (answer : TaskProgress → Step) → is_committing_at a ≡ false → block_at_step a s p ≡ block_at_place (task s.tasks p).stage
+  pub reads : (a : Phase) (p : ℕ) (op : Op) (r : TaskProgress) (answer : TaskProgress → Step) → is_committing_at a ≡ false → block_at_step a s p ≡ block_at_stage (task s.tasks p).stage
       → ((fault : DiskFault) → answer (TaskProgress.Fault fault) ≡ Step.Halted) → ((q : TaskProgress) → fault_of_task q ≡ None → answer q ≢ Step.Halted) → Steps disk s p op r t → UsesDisk disk a p (answer r) s t
   reads a p op r answer quiet here halts runs steps =
       let tells = by_answer r steps.reads.fault steps.reads.faults steps.goes in
@@ -133,7 +133,7 @@ module _ {D N : Type 0} (disk : disk_trait.Ghosts D N) (s t : StoreState D) wher
       }
 
       here : (f : DeviceFault) → FailsAt (place_at s.volume.log.commit s.volume.log.homes) f → FailsSo (Phase.Committing group k) s p f
-      here (Block f) at_place = at_place
+      here (Block f) at_phase = at_phase
       here (Sync f) never = absurd never
 
       by_result : (q : Committed) → t.volume.fault ≡ fault_of_step q → IsFault q (λ fault. disk.write_count t.volume.device ≡ disk.write_count s.volume.device) More (disk.write_count t.volume.device ≡ one_more (disk.write_count s.volume.device))

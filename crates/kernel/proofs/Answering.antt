@@ -1,7 +1,7 @@
 -- Whose operation is over has its answer, for which there is room.
 use Rattle.std.proofs.Common.{◌≡◌, ℕ, ◌<◌, true, false, List, set, refl, sym, ◌∙◌, ap, subst, Option, Some, None}
 use Rattle.std.specs.Prelude.{IsSome, is_none}
-use Rattle.kernel.specs.Common.{answer_at_commit, answer_at_end, answer_there, answered, behind_there, CanAnswer, decided, ending_there, Entry, entry_in, entry_inside, entry_place, entry_set, false≢true, files_of, form_of, Ghosts, HasEntry, HasFacts, inode_count_of, is_behind, is_busy_at, is_ending, IsBehind, IsEntry, IsItsRoom, IsRight, last_answer, Op, operation_at, Phase, process, replay, Reply, StandsAt, StoreState, task, TaskStands, told, told_at, view_of, where_none, World}
+use Rattle.kernel.specs.Common.{answer_at_commit, answer_at_end, answer_there, answered, behind_there, CanAnswer, decided, ending_there, Entry, entry_in, entry_inside, entry_index, entry_set, false≢true, files_of, form_of, Ghosts, HasEntry, HasFacts, inode_count_of, is_behind, is_busy_at, is_ending, IsBehind, IsEntry, IsItsRoom, IsRight, last_answer, Op, operation_at, Phase, process, replay, Reply, StandsAt, StoreState, task, TaskStands, told, told_at, view_of, where_none, World}
 
 -- process p stands behind its turn, with its entry and its task
 pub record IsThere {D : Type 0} (s : StoreState D) (w : World) (p : ℕ) : Type 0 where
@@ -44,10 +44,10 @@ module _ {D N : Type 0} (disk : Ghosts D N) (opening : D) (s : StoreState D) (w 
 
   module _ (i : IsThere s w p) where
     -- the operation that is looked up is its task's
-    pub op_is : (op : Op) → Some op ≡ operation_at w (entry_place (process w p).at) → op ≡ (entry_in w.journal.list i.k).op
-    op_is op is = let both : Some op ≡ Some (entry_in w.journal.list i.k).op = is ∙ ap (λ (a : Phase). operation_at w (entry_place a)) i.stands in cc both
+    pub op_is : (op : Op) → Some op ≡ operation_at w (entry_index (process w p).at) → op ≡ (entry_in w.journal.list i.k).op
+    op_is op is = let both : Some op ≡ Some (entry_in w.journal.list i.k).op = is ∙ ap (λ (a : Phase). operation_at w (entry_index a)) i.stands in cc both
 
-    pub mine_is : (op : Op) → Some op ≡ operation_at w (entry_place (process w p).at) → (task s.tasks p).op ≡ Some op
+    pub mine_is : (op : Op) → Some op ≡ operation_at w (entry_index (process w p).at) → (task s.tasks p).op ≡ Some op
     mine_is op is = i.its.same ∙ ap (λ (e : Entry). Some e.op) (sym (entry_inside w.journal.list i.k i.entry i.has.at)) ∙ ap (λ (o : Op). Some o) (sym (op_is op is))
 
     its_room : IsItsRoom (Some i.entry.op) (process w p).room
@@ -65,7 +65,7 @@ module _ {D N : Type 0} (disk : Ghosts D N) (opening : D) (s : StoreState D) (w 
         → CanAnswer (last_answer (decided w p reply) (process (decided w p reply) p).at) (process (decided w p reply) p).room
     answer_told reply t still now =
         let y = told_at (Some i.k) w reply in
-        let same : decided w p reply ≡ y = ap (λ (a : Phase). told_at (entry_place a) w reply) i.stands in
+        let same : decided w p reply ≡ y = ap (λ (a : Phase). told_at (entry_index a) w reply) i.stands in
         let f = (where_none t.volume.fault still now.facts).facts.follows in
         let run : replay (form_of (disk.image opening)) (files_of (disk.image opening)) (Rattle.model.specs.Journal.answered y.journal.list) ≡ Some f.files
         = subst (λ (o : World). replay (form_of (disk.image opening)) (files_of (disk.image opening)) (Rattle.model.specs.Journal.answered o.journal.list) ≡ Some f.files) same f.run in

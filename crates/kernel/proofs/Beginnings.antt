@@ -2,7 +2,7 @@
 use Rattle.std.proofs.Common.{◌≡◌, ◌≢◌, ℕ, ◌+◌, ◌<◌, ◌≤◌, Bool, true, false, not, cond, eqb, ltb, length, length-set, refl, sym, ◌∙◌, ap, subst, arith, ⊎_elim, Option, Some, None}
 use Rattle.std.specs.Option.{option_map}
 use Rattle.std.specs.Prelude.{IfSome}
-use Rattle.kernel.specs.Common.{alone_begun, alone_taken, at_once_journal, at_once_reply, at_same, ats_of, begin_cause, begun, CanBegin, CanLook, cases_eq, change_fits, counted_refused, counted_taken, Create, DeviceFault, first_stage, form_of, get_or-set_other, Ghosts, HasFacts, HasRoom, inode_count_of, inv_at_once, inv_begun, inv_taken, is_at_once, is_changing, is_committing_at, is_kind, is_number, is_over, IsItsRoom, IsRight, KeepsFiles, kind_of, le-leb, LogState, ltb-false, no_task, not-false, Op, or_parts, others_back, others_stay, Phase, Process, process, Read, refused, Remove, room_for, Stat, StoreState, taken, task, TaskStands, there_now, Trunc, view_of, OpClass, class_of, where_none, with_begun, with_look, with_place, World, Write}
+use Rattle.kernel.specs.Common.{alone_begun, alone_taken, at_once_journal, at_once_reply, at_same, ats_of, begin_cause, begun, CanBegin, CanLook, cases_eq, change_fits, counted_refused, counted_taken, Create, DeviceFault, first_stage, form_of, get_or-set_other, Ghosts, HasFacts, HasRoom, inode_count_of, inv_at_once, inv_begun, inv_taken, is_at_once, is_changing, is_committing_at, is_kind, is_number, is_over, IsItsRoom, IsRight, KeepsFiles, kind_of, le-leb, LogState, ltb-false, no_task, not-false, Op, or_parts, others_back, others_stay, Phase, Process, process, Read, refused, Remove, room_for, Stat, StoreState, taken, task, TaskStands, there_now, Trunc, view_of, OpClass, class_of, where_none, with_begun, with_look, with_more_room, World, Write}
 use Rattle.kernel.specs.Lasting.{Lasts}
 use Rattle.kernel.proofs.LogCalls.{logs_begun, logs_looked}
 use Rattle.kernel.proofs.Valid.{HasAgreed, valid_joint}
@@ -94,12 +94,12 @@ module _ {D N : Type 0} (disk : Ghosts D N) (opening : D) (s : StoreState D) (w 
 
   -- an operation that looks at a file is taken, and none of the log's
   pub right_looked : (op : Op) (count : Option ℕ) → class_of s.table.inode_count op ≡ OpClass.Look count → HasAgreed disk.image (with_look s p op (room_for count)) → KeepsFiles disk.image s (with_look s p op (room_for count))
-      → IsRight disk opening (with_look s p op (room_for count)) (taken (with_place w) p 0 op (room_for count))
+      → IsRight disk opening (with_look s p op (room_for count)) (taken (with_more_room w) p 0 op (room_for count))
   right_looked op count look agreed keeps =
       let n = inode_count_of (disk.image opening) in
       let room = room_for count in
       let t = with_look s p op room in
-      let z = taken (with_place w) p 0 op room in
+      let z = taken (with_more_room w) p 0 op room in
       let u : Process = record { begun = (process w p).begun + 1; at = Phase.BeforeTurn 0 op; room = room } in
       let others : (q : ℕ) → q ≢ p → ats_of z q ≡ ats_of w q = λ q apart. ap (λ (r : Process). r.at) (others_stay w z p u refl q apart) in
       let now : ats_of z p ≡ Phase.BeforeTurn 0 op = ap (λ (r : Process). r.at) (there_now w z p u refl lt) in
@@ -118,11 +118,11 @@ module _ {D N : Type 0} (disk : Ghosts D N) (opening : D) (s : StoreState D) (w 
   -- an operation is taken, and open in the log
   pub right_taken : (op : Op) → class_of s.table.inode_count op ≡ OpClass.Change → begin_cause s.volume.log ≡ None
       → HasAgreed disk.image (with_begun s p op) → KeepsFiles disk.image s (with_begun s p op)
-      → IsRight disk opening (with_begun s p op) (taken (with_place w) p (begun s.volume.log p).opened op None)
+      → IsRight disk opening (with_begun s p op) (taken (with_more_room w) p (begun s.volume.log p).opened op None)
   right_taken op change free agreed keeps =
       let n = inode_count_of (disk.image opening) in
       let t = with_begun s p op in
-      let z = taken (with_place w) p (begun s.volume.log p).opened op None in
+      let z = taken (with_more_room w) p (begun s.volume.log p).opened op None in
       let u : Process = record { begun = (process w p).begun + 1; at = Phase.BeforeTurn (begun s.volume.log p).opened op; room = None } in
       let others : (q : ℕ) → q ≢ p → ats_of z q ≡ ats_of w q = λ q apart. ap (λ (r : Process). r.at) (others_stay w z p u refl q apart) in
       let now : ats_of z p ≡ Phase.BeforeTurn (begun s.volume.log p).opened op = ap (λ (r : Process). r.at) (there_now w z p u refl lt) in
@@ -140,9 +140,9 @@ module _ {D N : Type 0} (disk : Ghosts D N) (opening : D) (s : StoreState D) (w 
       (right.faults ∙ ap (λ (o : Option _). Rattle.wal.specs.Volume.faults_after o (disk.fault_count opening)) well)
 
   -- an operation is answered at once
-  pub right_refused : (op : Op) → class_of s.table.inode_count op ≡ OpClass.Refused → IsRight disk opening s (refused (with_place w) p op (at_once_reply op))
+  pub right_refused : (op : Op) → class_of s.table.inode_count op ≡ OpClass.Refused → IsRight disk opening s (refused (with_more_room w) p op (at_once_reply op))
   right_refused op refusal =
-      let z = refused (with_place w) p op (at_once_reply op) in
+      let z = refused (with_more_room w) p op (at_once_reply op) in
       let u : Process = record (process w p) { begun = (process w p).begun + 1 } in
       let others : (q : ℕ) → q ≢ p → ats_of z q ≡ ats_of w q = λ q apart. ap (λ (r : Process). r.at) (others_stay w z p u refl q apart) in
       let now : ats_of z p ≡ ats_of w p = ap (λ (r : Process). r.at) (there_now w z p u refl lt) in

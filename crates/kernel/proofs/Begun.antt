@@ -1,6 +1,6 @@
 -- The operations that were begun of each process: a turn leaves their count, or adds one.
 use Rattle.std.proofs.Common.{◌≡◌, inl, inr, ℕ, zero, suc, ◌+◌, ◌<◌, ◌≤◌, Bool, List, [], ◌∷◌, length, get_or, set, refl, sym, ◌∙◌, ap, subst, arith, Option, Some, None}
-use Rattle.kernel.specs.Common.{answered, BeginsWith, Committed, committing, decided, DeviceFault, Ended, entry_place, idle, NextAt, NextIf, Op, over, Phase, Process, process, refused, Reply, Side, Step, StoreState, TaskProgress, there_now, told_at, turned_from, OpClass, with_place, with_process, World, world_after, world_behind, world_ended, world_of_last, world_of_told, world_written}
+use Rattle.kernel.specs.Common.{answered, BeginsWith, Committed, committing, decided, DeviceFault, Ended, entry_index, idle, NextAt, NextIf, Op, over, Phase, Process, process, refused, Reply, Side, Step, StoreState, TaskProgress, there_now, told_at, turned_from, OpClass, with_more_room, with_process, World, world_after, world_behind, world_ended, world_of_last, world_of_told, world_written}
 use Rattle.blocks.specs.declared.disk.Disk as disk_trait
 
 -- none of them falls
@@ -60,8 +60,8 @@ last_grows (suc group) w p = over_grows w p
 
 of_told_grows : (group : ℕ) (w : World) (p : ℕ) (reply : Reply) → Grows w (world_of_told group w p reply)
 of_told_grows zero w p reply q =
-    omega (arith, (told_grows (entry_place (process w p).at) w reply q), (answered_grows (decided w p reply) p q))
-of_told_grows (suc group) w p reply q = told_grows (entry_place (process w p).at) w reply q
+    omega (arith, (told_grows (entry_index (process w p).at) w reply q), (answered_grows (decided w p reply) p q))
+of_told_grows (suc group) w p reply q = told_grows (entry_index (process w p).at) w reply q
 
 behind_grows : (group : ℕ) (r : TaskProgress) (w : World) (p : ℕ) → Grows w (world_behind group r w p)
 behind_grows group TaskProgress.Moved w p q = omega arith
@@ -82,9 +82,9 @@ written_grows Committed.Done w p q = answered_grows w p q
 written_grows (Committed.Fault fault) w p q = omega arith
 
 begins_grows : {D : Type 0} {s t : StoreState D} {w z : World} {what : Option OpClass} {p : ℕ} {ahead : List Op} {side : Side} {r : Step} → BeginsWith what s w p ahead side r t z → Grows w z
-begins_grows {w = w} {z = z} {p = p} (inl change) = grows_along w z _ change.world (λ q. grows_with (with_place w) p _ (omega arith) q)
-begins_grows {w = w} {z = z} {p = p} (inr (inl look)) = grows_along w z _ look.world (λ q. grows_with (with_place w) p _ (omega arith) q)
-begins_grows {w = w} {z = z} {p = p} (inr (inr (inl refused))) = grows_along w z _ refused.world (λ q. grows_with (with_place w) p _ (omega arith) q)
+begins_grows {w = w} {z = z} {p = p} (inl change) = grows_along w z _ change.world (λ q. grows_with (with_more_room w) p _ (omega arith) q)
+begins_grows {w = w} {z = z} {p = p} (inr (inl look)) = grows_along w z _ look.world (λ q. grows_with (with_more_room w) p _ (omega arith) q)
+begins_grows {w = w} {z = z} {p = p} (inr (inr (inl refused))) = grows_along w z _ refused.world (λ q. grows_with (with_more_room w) p _ (omega arith) q)
 begins_grows {w = w} {z = z} (inr (inr (inr none))) = grows_along w z w none.same.1 (grows_none w)
 
 module _ {D N : Type 0} (disk : disk_trait.Ghosts D N) (s t : StoreState D) (w z : World) (p : ℕ) (before : List Op) (side : Side) (told : Bool) (r : Step) where

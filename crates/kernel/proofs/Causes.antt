@@ -7,13 +7,13 @@ use Rattle.inodes.specs.Runs.{SeesTaken}
 use Rattle.ports.specs.declared.herald.Herald as herald_trait
 use Rattle.ports.specs.declared.intake.Intake as intake_trait
 use Rattle.std.specs.Option.{option_map}
-use Rattle.kernel.specs.Common.{at_once_reply, ats_of, BadType, Becomes, BeginsWith, cases_eq, cases_lt, Create, DeviceFault, Entry, entry_new, entry_next, entry_of, entry_same, Extends, extends_same, extends_then, first_in, get_or_past, Goes, idle, is_at_once, is_number, is_over, IsAhead, IsEntry, IsPassedBy, length-append, Made, MakesStep, NextAt, NextIf, no_entry, Op, others_stay, Phase, place_behind, Proc, Process, process, Read, Remove, Reply, reply_of, search_begins, search_sees, SearchesOn, Session, Shut, Side, Stage, Stat, State, Step, Steps, StoreState, task, TaskProgress, TaskState, there_now, Trunc, Turn, turned_from, OpClass, class_of, with_begun, with_ports, with_shutdown, Works, World, world_after, Write}
+use Rattle.kernel.specs.Common.{at_once_reply, ats_of, BadType, Becomes, BeginsWith, cases_eq, cases_lt, Create, DeviceFault, Entry, entry_new, entry_next, entry_of, entry_same, Extends, extends_same, extends_then, first_in, get_or_past, Goes, idle, is_at_once, is_number, is_over, IsAhead, IsEntry, IsPassedBy, length-append, Made, MakesStep, NextAt, NextIf, no_entry, Op, others_stay, Phase, phase_behind, Proc, Process, process, Read, Remove, Reply, reply_of, search_begins, search_sees, SearchesOn, Session, Shut, Side, Stage, Stat, State, Step, Steps, StoreState, task, TaskProgress, TaskState, there_now, Trunc, Turn, turned_from, OpClass, class_of, with_begun, with_ports, with_shutdown, Works, World, world_after, Write}
 use Rattle.kernel.specs.Causes.{IsAnswered, MadeHasCause, NoInodeHasCause, SomeTurnMakes, TurnMakes}
 use Rattle.kernel.proofs.Turned.{AddsEntry, JournalBy, Turned, turned_by}
 
 -- ---- the journal
 
--- an entry stays at its place, but for a reply that comes
+-- an entry stays at its index, but for a reply that comes
 pub extends_entry : (es fs : List Entry) (k : ℕ) (e : Entry) → Extends es fs → IsEntry es k e → (f : Entry) × IsEntry fs k f × Becomes e f
 extends_entry [] fs k e more at = let lt = at.inside in absurd (omega (arith, lt))
 extends_entry (d ∷ es) [] k e more at = absurd more
@@ -39,26 +39,26 @@ pub reply_before : (e f : Entry) (r : Reply) → Becomes e f → f.reply ≡ Som
 reply_before e f r (inl is) has = inl (ap (λ (x : Entry). x.reply) (sym is) ∙ has)
 reply_before e f r (inr is) has = inr is.0
 
--- the entry at a place at the end, as a turn added it
-pub record Added (q : ℕ) (a : Phase) (es fs : List Entry) (place : ℕ) (e : Entry) : Type 0 where
+-- the entry at an index at the end, as a turn added it
+pub record Added (q : ℕ) (a : Phase) (es fs : List Entry) (index : ℕ) (e : Entry) : Type 0 where
   pub adds : AddsEntry q a es fs
-  pub here : place ≡ length es
+  pub here : index ≡ length es
   pub becomes : Becomes adds.entry e
 
 -- an entry that comes behind a journal comes behind the next one, or with this turn
-pub added : (q : ℕ) (a : Phase) (es fs gs : List Entry) (place : ℕ) (e : Entry) → JournalBy q a es fs → Extends fs gs → length es ≤ place → IsEntry gs place e
-    → (length fs ≤ place) ⊎ Added q a es fs place e
-added q a es fs gs place e (inl same) more later at = inl (subst (λ (l : List Entry). length l ≤ place) (sym same) later)
-added q a es fs gs place e (inr (inr tells)) more later at =
-    inl (omega (arith, (ap length tells.list ∙ length-set es tells.place _), later))
-added q a es fs gs place e (inr (inl adds)) more later at = ⊎_elim
-    (λ (other : place ≢ length es).
+pub added : (q : ℕ) (a : Phase) (es fs gs : List Entry) (index : ℕ) (e : Entry) → JournalBy q a es fs → Extends fs gs → length es ≤ index → IsEntry gs index e
+    → (length fs ≤ index) ⊎ Added q a es fs index e
+added q a es fs gs index e (inl same) more later at = inl (subst (λ (l : List Entry). length l ≤ index) (sym same) later)
+added q a es fs gs index e (inr (inr tells)) more later at =
+    inl (omega (arith, (ap length tells.list ∙ length-set es tells.index _), later))
+added q a es fs gs index e (inr (inl adds)) more later at = ⊎_elim
+    (λ (other : index ≢ length es).
     inl (omega (arith, (ap length adds.list ∙ length-append es (adds.entry ∷ [])), later, other)))
-    (λ (same : place ≡ length es).
+    (λ (same : index ≡ length es).
     let on = extends_entry fs gs (length es) adds.entry more (subst (λ (l : List Entry). IsEntry l (length es) adds.entry) (sym adds.list) (entry_new es adds.entry)) in
     let is : on.0 ≡ e = entry_same gs (length es) on.0 e on.1 (subst (λ (n : ℕ). IsEntry gs n e) same at) in
     inr (record { adds = adds; here = same; becomes = subst (Becomes adds.entry) is on.2 }))
-    (⊎_elim (λ (same : place ≡ length es). inr same) (λ (other : place ≢ length es). inl other) (cases_eq place (length es)))
+    (⊎_elim (λ (same : index ≡ length es). inr same) (λ (other : index ≢ length es). inl other) (cases_eq index (length es)))
 
 -- process p is idle past the last one
 pub none_past : (w : World) (p : ℕ) → length w.processes ≤ p → process w p ≡ idle
@@ -198,7 +198,7 @@ module _ {D N I M H : Type 0} (disk : disk_trait.Ghosts D N) (intake : intake_tr
               told : reply ≡ Some (Made is.0)
               told = let e = is.1 in cc e
 
-              never : (over : Bool) (k g : ℕ) (o : Op) → place_behind over group k ≡ Phase.BeforeTurn g o → ⊥
+              never : (over : Bool) (k g : ℕ) (o : Op) → phase_behind over group k ≡ Phase.BeforeTurn g o → ⊥
               never true k g o e = cc e
               never false k g o e = cc e
 
@@ -208,7 +208,7 @@ module _ {D N I M H : Type 0} (disk : disk_trait.Ghosts D N) (intake : intake_tr
 
               turns : (over : Bool) → z ≡ turned_from (Phase.BeforeTurn group (Create kind)) w p reply over → Passes s t w z
               turns over now = record {
-                tracks = now_gone (record (process w p) { at = place_behind over group (length w.journal.list) }) (ap (λ (o : World). o.processes) now) (λ g m e. never over (length w.journal.list) g (Create m) e);
+                tracks = now_gone (record (process w p) { at = phase_behind over group (length w.journal.list) }) (ap (λ (o : World). o.processes) now) (λ g m e. never over (length w.journal.list) g (Create m) e);
                 spares = λ adds. subst Spares (last_same w.journal.list _ adds.entry (sym (ap (λ (o : World). o.journal.list) now) ∙ adds.list)) apart;
               }
           passes (TaskProgress.Decided reply) same on = stays (TaskProgress.Decided reply) (λ r e. cc e) same on
@@ -286,19 +286,19 @@ module _ {D N I M H : Type 0} (disk : disk_trait.Ghosts D N) (intake : intake_tr
       })
 
     -- a run saw the number taken where it ends with such an entry
-    passed_in_run : (ts : List Turn) (k m : State D I H) (run : Session disk intake herald ts k m) (kind at_place : ℕ) (e : Entry) → k.store.table.inode_count ≡ n → Tracks k.store k.world
-        → length k.world.journal.list ≤ at_place → IsEntry m.world.journal.list at_place e → e.pid ≡ p → e.op ≡ Create kind → e.reply ≡ Some (reply_of o)
+    passed_in_run : (ts : List Turn) (k m : State D I H) (run : Session disk intake herald ts k m) (kind at_index : ℕ) (e : Entry) → k.store.table.inode_count ≡ n → Tracks k.store k.world
+        → length k.world.journal.list ≤ at_index → IsEntry m.world.journal.list at_index e → e.pid ≡ p → e.op ≡ Create kind → e.reply ≡ Some (reply_of o)
         → SomeTurnMakes disk intake herald (SeesTaken disk.image p j) p ts k m run
-    passed_in_run [] k m run kind at_place e count tracks later stands mine asked told =
+    passed_in_run [] k m run kind at_index e count tracks later stands mine asked told =
         omega (arith, stands.inside, (ap (λ (o : State D I H). length o.world.journal.list) run.2), later)
-    passed_in_run (Shut ∷ ts) k m run kind at_place e count tracks later stands mine asked told =
+    passed_in_run (Shut ∷ ts) k m run kind at_index e count tracks later stands mine asked told =
         let back : with_shutdown (with_ports k run.1.0 run.1.1) ≡ run.0 = sym run.1.2 in
-        inr (passed_in_run ts run.0 m run.2 kind at_place e
+        inr (passed_in_run ts run.0 m run.2 kind at_index e
         (subst (λ (o : State D I H). o.store.table.inode_count ≡ n) back count)
         (subst (λ (o : State D I H). Tracks o.store o.world) back tracks)
-        (subst (λ (o : State D I H). length o.world.journal.list ≤ at_place) back later) stands mine asked told)
-    passed_in_run (Proc q ∷ ts) k m run kind at_place e count tracks later stands mine asked told =
-        by_process (λ now many low. passed_in_run ts run.0 m run.2 kind at_place e many now low stands mine asked told) (cases_eq q p)
+        (subst (λ (o : State D I H). length o.world.journal.list ≤ at_index) back later) stands mine asked told)
+    passed_in_run (Proc q ∷ ts) k m run kind at_index e count tracks later stands mine asked told =
+        by_process (λ now many low. passed_in_run ts run.0 m run.2 kind at_index e many now low stands mine asked told) (cases_eq q p)
       where
         mid : State D I H
         mid = run.0
@@ -307,13 +307,13 @@ module _ {D N I M H : Type 0} (disk : disk_trait.Ghosts D N) (intake : intake_tr
         turn = turned q run.1.2.0 (with_ports k run.1.0 run.1.1) mid run.1.2.1
 
         Rest : Type 0
-        Rest = Tracks mid.store mid.world → mid.store.table.inode_count ≡ n → length mid.world.journal.list ≤ at_place → SomeTurnMakes disk intake herald (SeesTaken disk.image p j) p ts mid m run.2
+        Rest = Tracks mid.store mid.world → mid.store.table.inode_count ≡ n → length mid.world.journal.list ≤ at_index → SomeTurnMakes disk intake herald (SeesTaken disk.image p j) p ts mid m run.2
 
         many : mid.store.table.inode_count ≡ n
         many = turn.store.numbers ∙ count
 
-        comes : (length mid.world.journal.list ≤ at_place) ⊎ Added q (ats_of k.world q) k.world.journal.list mid.world.journal.list at_place e
-        comes = added q (ats_of k.world q) k.world.journal.list mid.world.journal.list m.world.journal.list at_place e turn.journal (runs_extend ts mid m run.2) later stands
+        comes : (length mid.world.journal.list ≤ at_index) ⊎ Added q (ats_of k.world q) k.world.journal.list mid.world.journal.list at_index e
+        comes = added q (ats_of k.world q) k.world.journal.list mid.world.journal.list m.world.journal.list at_index e turn.journal (runs_extend ts mid m run.2) later stands
 
         theirs : q ≢ p → Tracks mid.store mid.world
         theirs apart group c is =
@@ -325,7 +325,7 @@ module _ {D N I M H : Type 0} (disk : disk_trait.Ghosts D N) (intake : intake_tr
             moved (inl is) same = inl (record { search = is.search; stands = same ∙ is.stands; ahead = is.ahead })
             moved (inr is) same = inr (same ∙ is)
 
-        goes_by : Rest → Passes k.store mid.store k.world mid.world → q ≡ p → (length mid.world.journal.list ≤ at_place) ⊎ Added q (ats_of k.world q) k.world.journal.list mid.world.journal.list at_place e → SomeTurnMakes disk intake herald (SeesTaken disk.image p j) p ts mid m run.2
+        goes_by : Rest → Passes k.store mid.store k.world mid.world → q ≡ p → (length mid.world.journal.list ≤ at_index) ⊎ Added q (ats_of k.world q) k.world.journal.list mid.world.journal.list at_index e → SomeTurnMakes disk intake herald (SeesTaken disk.image p j) p ts mid m run.2
         goes_by rest own same (inl low) = rest own.tracks many low
         goes_by rest own same (inr new) =
             let adds : AddsEntry p (process k.world p).at k.world.journal.list mid.world.journal.list = subst (λ (o : ℕ). AddsEntry o (process k.world o).at k.world.journal.list mid.world.journal.list) same new.adds in
@@ -333,7 +333,7 @@ module _ {D N I M H : Type 0} (disk : disk_trait.Ghosts D N) (intake : intake_tr
             (ap (λ (x : Entry). x.op) (entry_of_adds same new) ∙ sym (same_op new.adds.entry e new.becomes) ∙ asked)
             (subst (λ (x : Entry). (x.reply ≡ Some (reply_of o)) ⊎ (x.reply ≡ None)) (sym (entry_of_adds same new)) (reply_before new.adds.entry e (reply_of o) new.becomes told)))
           where
-            entry_of_adds : (is : q ≡ p) (x : Added q (ats_of k.world q) k.world.journal.list mid.world.journal.list at_place e) → (subst (λ (o : ℕ). AddsEntry o (process k.world o).at k.world.journal.list mid.world.journal.list) is x.adds).entry ≡ x.adds.entry
+            entry_of_adds : (is : q ≡ p) (x : Added q (ats_of k.world q) k.world.journal.list mid.world.journal.list at_index e) → (subst (λ (o : ℕ). AddsEntry o (process k.world o).at k.world.journal.list mid.world.journal.list) is x.adds).entry ≡ x.adds.entry
             entry_of_adds is x = last_same k.world.journal.list _ x.adds.entry (sym (subst (λ (o : ℕ). AddsEntry o (process k.world o).at k.world.journal.list mid.world.journal.list) is x.adds).list ∙ x.adds.list)
 
         by_process : Rest → (q ≡ p) ⊎ (q ≢ p) → SomeTurnMakes disk intake herald (SeesTaken disk.image p j) p (Proc q ∷ ts) k m run
@@ -348,13 +348,13 @@ module _ {D N I M H : Type 0} (disk : disk_trait.Ghosts D N) (intake : intake_tr
             by_own (inr own) = inr (goes_by rest own same comes)
         by_process rest (inr apart) = by_new comes
           where
-            by_new : (length mid.world.journal.list ≤ at_place) ⊎ Added q (ats_of k.world q) k.world.journal.list mid.world.journal.list at_place e → SomeTurnMakes disk intake herald (SeesTaken disk.image p j) p (Proc q ∷ ts) k m run
+            by_new : (length mid.world.journal.list ≤ at_index) ⊎ Added q (ats_of k.world q) k.world.journal.list mid.world.journal.list at_index e → SomeTurnMakes disk intake herald (SeesTaken disk.image p j) p (Proc q ∷ ts) k m run
             by_new (inl low) = inr (rest (theirs apart) many low)
             by_new (inr new) = absurd (apart (sym new.adds.mine ∙ sym (same_pid new.adds.entry e new.becomes) ∙ mine))
 
   passed_has_cause : (o : Option ℕ) (ts : List Turn) (k m : State D I H) (run : Session disk intake herald ts k m) (p kind j : ℕ) → IsAnswered k m p (Create kind) (reply_of o) → IsTrue (is_number k.store.table.inode_count j) → IsPassedBy o j → SomeTurnMakes disk intake herald (SeesTaken disk.image p j) p ts k m run
   passed_has_cause o ts k m run p kind j told number passed =
-      passed_in_run p k.store.table.inode_count j number o passed ts k m run kind told.place told.entry refl
+      passed_in_run p k.store.table.inode_count j number o passed ts k m run kind told.index told.entry refl
       (λ group c is. absurd (let no = sym told.idle ∙ is in cc no)) told.later told.stands told.mine told.same told.told
 
   pub no_inode_has_cause : NoInodeHasCause disk intake herald

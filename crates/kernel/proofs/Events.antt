@@ -2,7 +2,7 @@
 use Rattle.std.proofs.Common.{set, ◌≡◌, ◌≢◌, ◌⊎◌, ⊎_elim, inl, inr, ℕ, zero, suc, ◌+◌, ◌-◌, ◌<◌, ◌≤◌, Bool, true, false, cond, List, length, refl, sym, ◌∙◌, ap, subst, arith, Option, Some, None}
 use Rattle.std.specs.Option.{option_map}
 use Rattle.std.specs.Prelude.{IsSome}
-use Rattle.kernel.specs.Common.{all_steps_left, answered, asked, at_once_reply, at_once_still, at_place, ats_of, BeginsWith, begun, commit_fails, commit_log, commit_makes, CommitMakes, Commits, Committed, committing, committing_at, Create, current_of, decided, DeviceFault, end_answer, Ended, ended, Ends, ends_of, Entry, entry_in, entry_inside, entry_of, entry_place, false≢true, fault_of_step, Finishes, first_in, first_stage, Form, form_of, GatheredBytes, get_or-set_other, get_or-set_same, Ghosts, goes_on, Grows, grows_goes, grows_none, HasEntry, idle, Image, in_reads, inode_count_of, is_at_once, is_busy_at, is_committing_at, is_made, is_over, is_quiet, IsBehind, IsNotTaken, IsTold, JournalGoes, left_outside, LockAt, logs_of, LogState, most_behind, NextAt, NextIf, no_task, none_commits, Op, open_of, others_left, over_at, owes_reply, Phase, place_behind, Process, process, quiet_if_open, Read, refusal, Remove, Reply, room_for, set-get_or, Side, some_write, Stage, Stat, Step, step_behind, step_bound, step_of, step_of_end, step_of_last, step_of_told, step_of_write, StepEnds, stepped_at, Steps, steps_left, StoreState, TableState, task, task_left, TaskProgress, TaskState, told_at, Trunc, turned, turned_from, used_by, OpClass, class_of, Why, with_begun, with_look, Works, World, world_after, world_behind, world_ended, world_of_last, world_of_told, world_written, Write, writes_fall, writes_left}
+use Rattle.kernel.specs.Common.{all_steps_left, answered, asked, at_once_reply, at_once_still, at_phase, ats_of, BeginsWith, begun, commit_fails, commit_log, commit_makes, CommitMakes, Commits, Committed, committing, committing_at, Create, current_of, decided, DeviceFault, end_answer, Ended, ended, Ends, ends_of, Entry, entry_in, entry_inside, entry_of, entry_index, false≢true, fault_of_step, Finishes, first_in, first_stage, Form, form_of, GatheredBytes, get_or-set_other, get_or-set_same, Ghosts, goes_on, Grows, grows_goes, grows_none, HasEntry, idle, Image, in_reads, inode_count_of, is_at_once, is_busy_at, is_committing_at, is_made, is_over, is_quiet, IsBehind, IsNotTaken, IsTold, JournalGoes, left_outside, LockAt, logs_of, LogState, most_behind, NextAt, NextIf, no_task, none_commits, Op, open_of, others_left, over_at, owes_reply, Phase, phase_behind, Process, process, quiet_if_open, Read, refusal, Remove, Reply, room_for, set-get_or, Side, some_write, Stage, Stat, Step, step_behind, step_bound, step_of, step_of_end, step_of_last, step_of_told, step_of_write, StepEnds, stepped_at, Steps, steps_left, StoreState, TableState, task, task_left, TaskProgress, TaskState, told_at, Trunc, turned, turned_from, used_by, OpClass, class_of, Why, with_begun, with_look, Works, World, world_after, world_behind, world_ended, world_of_last, world_of_told, world_written, Write, writes_fall, writes_left}
 use Rattle.history.specs.Lemmas.Commits.{reads_up, reads_written, stepped_count}
 use Rattle.wal.specs.Lemmas.Log.{few_homes, let_in}
 use Rattle.history.specs.Processes.{over as goes_to_end}
@@ -218,7 +218,7 @@ module _ {D N : Type 0} (disk : Ghosts D N) (opening : Image) (p : ℕ) (s t : S
         there : ((task s.tasks p).op ≡ Some op) × (is_over (task s.tasks p).stage ≡ false)
         there = before_there disk.image opening s w p is group op stands
 
-        behind : (b : Bool) (left k : ℕ) → (all_steps_left (place_behind b group k) left t.volume.log ≤ left + 67) × (0 < all_steps_left (place_behind b group k) left t.volume.log)
+        behind : (b : Bool) (left k : ℕ) → (all_steps_left (phase_behind b group k) left t.volume.log ≤ left + 67) × (0 < all_steps_left (phase_behind b group k) left t.volume.log)
         behind true left k = (omega arith, omega arith)
         behind false left k = (omega arith, omega arith)
 
@@ -234,10 +234,10 @@ module _ {D N : Type 0} (disk : Ghosts D N) (opening : Image) (p : ℕ) (s t : S
             let now : turned w p reply over ≡ turned_from (Phase.BeforeTurn group op) w p reply over = ap (λ (a : Phase). turned_from a w p reply over) stands in
             let less = falls_here op there.1 (TaskProgress.Turned reply) refl done in
             let left = behind over (task_left disk.image t p) k in
-            goes Step.Moved (turned_from (Phase.BeforeTurn group op) w p reply over) (record (process w p) { at = place_behind over group k }) (to ∙ now) refl refl (inr refl)
+            goes Step.Moved (turned_from (Phase.BeforeTurn group op) w p reply over) (record (process w p) { at = phase_behind over group k }) (to ∙ now) refl refl (inr refl)
             (inr (inl (record { entry = entry_of p (process w p).begun op group reply; mine = refl; later = later_before disk.image opening s w p is group op stands; list = refl })))
             (counted_at (Phase.BeforeTurn group op) Step.Moved stands (omega (arith, done.groups.committed))) (others_of op there.1 (TaskProgress.Turned reply) done)
-            (λ moved. fewer (record (process w p) { at = place_behind over group k }) (Phase.BeforeTurn group op) (place_behind over group k) stands refl (omega (arith, less, left.0)) left.1)
+            (λ moved. fewer (record (process w p) { at = phase_behind over group k }) (Phase.BeforeTurn group op) (phase_behind over group k) stands refl (omega (arith, less, left.0)) left.1)
         by_progress (TaskProgress.Decided reply) done to = absurd (unread (stops op there.0 there.1 (TaskProgress.Decided reply) done).0)
           where
             unread : owes_reply (task s.tasks p).stage ≡ true → ⊥
@@ -273,7 +273,7 @@ module _ {D N : Type 0} (disk : Ghosts D N) (opening : Image) (p : ℕ) (s t : S
         tells : (reply : Reply) → Steps disk s p op (TaskProgress.Decided reply) t → IsTold n p (in_reads s.volume.log) w.journal.list (set w.journal.list k (Rattle.history.specs.Open.told (entry_in w.journal.list k) reply))
         tells reply done =
             record {
-              place = k;
+              index = k;
               entry = there.0;
               reply = reply;
               at = there.1.at;
@@ -295,12 +295,12 @@ module _ {D N : Type 0} (disk : Ghosts D N) (opening : Image) (p : ℕ) (s t : S
             by_group : (g : ℕ) → (process w p).at ≡ Phase.AfterTurn g k → z ≡ world_of_told g w p reply → Made (step_of_told g)
             by_group zero at_behind to =
                 let same = done.groups.committed in
-                let now : answered (decided w p reply) p ≡ answered (told_at (Some k) w reply) p = ap (λ (a : Phase). answered (told_at (entry_place a) w reply) p) at_behind in
+                let now : answered (decided w p reply) p ≡ answered (told_at (Some k) w reply) p = ap (λ (a : Phase). answered (told_at (entry_index a) w reply) p) at_behind in
                 goes Step.Answered (answered (told_at (Some k) w reply) p) (record (process w p) { at = Phase.Idle; room = None }) (to ∙ now) refl refl (inr refl) (inr (inr (tells reply done)))
                 (counted_at (Phase.AfterTurn zero k) Step.Answered at_behind (omega (arith, same))) (others_of op more (TaskProgress.Decided reply) done) (λ moved. absurd (cc moved))
             by_group (suc g) at_behind to =
                 let less = falls_here op more (TaskProgress.Decided reply) refl done in
-                let now : decided w p reply ≡ told_at (Some k) w reply = ap (λ (a : Phase). told_at (entry_place a) w reply) at_behind in
+                let now : decided w p reply ≡ told_at (Some k) w reply = ap (λ (a : Phase). told_at (entry_index a) w reply) at_behind in
                 goes Step.Moved (told_at (Some k) w reply) (process w p) (to ∙ now) (sym (set-get_or w.processes p idle)) refl (inr refl) (inr (inr (tells reply done)))
                 (counted_at (Phase.AfterTurn (suc g) k) Step.Moved at_behind (omega (arith, done.groups.committed))) (others_of op more (TaskProgress.Decided reply) done)
                 (λ moved. fewer (process w p) (Phase.AfterTurn (suc g) k) (Phase.AfterTurn (suc g) k) at_behind at_behind (omega (arith, less)) (omega arith))
@@ -313,8 +313,8 @@ module _ {D N : Type 0} (disk : Ghosts D N) (opening : Image) (p : ℕ) (s t : S
                 (counted_at (Phase.AfterTurn zero k) Step.Answered at_behind (omega (arith, same))) (others_of op more TaskProgress.Over done) (λ moved. absurd (cc moved))
             by_group (suc g) at_behind to =
                 let less = falls_here op more TaskProgress.Over refl done in
-                let now : goes_to_end w p ≡ at_place w p (Phase.Ending (suc g) k) = ap (λ (a : Phase). at_place w p (over_at a)) at_behind in
-                goes Step.Moved (at_place w p (Phase.Ending (suc g) k)) (record (process w p) { at = Phase.Ending (suc g) k }) (to ∙ now) refl refl (inr refl) (inl refl)
+                let now : goes_to_end w p ≡ at_phase w p (Phase.Ending (suc g) k) = ap (λ (a : Phase). at_phase w p (over_at a)) at_behind in
+                goes Step.Moved (at_phase w p (Phase.Ending (suc g) k)) (record (process w p) { at = Phase.Ending (suc g) k }) (to ∙ now) refl refl (inr refl) (inl refl)
                 (counted_at (Phase.AfterTurn (suc g) k) Step.Moved at_behind (omega (arith, done.groups.committed))) (others_of op more TaskProgress.Over done)
                 (λ moved. fewer (record (process w p) { at = Phase.Ending (suc g) k }) (Phase.AfterTurn (suc g) k) (Phase.Ending (suc g) k) at_behind refl (omega (arith, less)) (omega arith))
         by_progress (TaskProgress.Sleeping cause) done to =

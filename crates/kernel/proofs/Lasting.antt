@@ -14,7 +14,7 @@ use Rattle.kernel.proofs.UnderWay.{has_lock, under_way}
 -- where a task stands whose step failed, and the table, stay
 record Stays {D : Type 0} (a : Stage) (s : StoreState D) (p : ℕ) (t : StoreState D) : Type 0 where
   unfinished : is_over a ≡ false
-  place_stays : (task t.tasks p).stage ≡ a
+  stage_stays : (task t.tasks p).stage ≡ a
   table : t.table ≡ s.table
 
 module _ {D N : Type 0} (disk : Ghosts D N) (s : StoreState D) (p : ℕ) (op : Op) (fault : DiskFault) (t : StoreState D) where
@@ -31,7 +31,7 @@ module _ {D N : Type 0} (disk : Ghosts D N) (s : StoreState D) (p : ℕ) (op : O
 
   stays : (a : Stage) → Goes disk a s p op (TaskProgress.Fault fault) t → Stays a s p t
   stays Stage.Nowhere goes = let no = goes.0 in absurd (cc no)
-  stays (Stage.Creating m) goes = record { unfinished = refl; place_stays = by_slot m.slot goes.0; table = goes.1 }
+  stays (Stage.Creating m) goes = record { unfinished = refl; stage_stays = by_slot m.slot goes.0; table = goes.1 }
     where
       by_slot : (o : Option ℕ) → GoesFrom o s.table.inode_count p m s.volume.buffers (TaskProgress.Fault fault) (task t.tasks p).stage (shown_of disk.image s.volume) (shown_of disk.image t.volume) → (task t.tasks p).stage ≡ Stage.Creating m
       by_slot None goes = goes.0.1
@@ -44,14 +44,14 @@ module _ {D N : Type 0} (disk : Ghosts D N) (s : StoreState D) (p : ℕ) (op : O
       by_answer Progress.Moved is next locks = absurd (cc is)
       by_answer (Progress.Sleeping why) is next locks = absurd (cc is)
       by_answer (Progress.Over used) is next locks = absurd (cc is)
-      by_answer (Progress.Fault other) is next locks = record { unfinished = refl; place_stays = next; table = lock_table m.at m goes.0.now other locks }
+      by_answer (Progress.Fault other) is next locks = record { unfinished = refl; stage_stays = next; table = lock_table m.at m goes.0.now other locks }
   stays (Stage.Reading k m) goes = by_answer goes.0.answer goes.0.gives goes.0.next
     where
       by_answer : (x : Progress (Unit {0})) → TaskProgress.Fault fault ≡ progress_of_read x → (task t.tasks p).stage ≡ stage_of_reading k m goes.0.now x → Stays (Stage.Reading k m) s p t
       by_answer Progress.Moved is next = absurd (cc is)
       by_answer (Progress.Sleeping why) is next = absurd (cc is)
       by_answer (Progress.Over out) is next = absurd (cc is)
-      by_answer (Progress.Fault other) is next = record { unfinished = refl; place_stays = next; table = goes.0.table }
+      by_answer (Progress.Fault other) is next = record { unfinished = refl; stage_stays = next; table = goes.0.table }
   stays (Stage.Delivering k) goes = let no = goes.gives in absurd (cc no)
   stays (Stage.Truncating k m) goes = by_answer goes.answer goes.gives goes.next goes.table
     where
@@ -59,14 +59,14 @@ module _ {D N : Type 0} (disk : Ghosts D N) (s : StoreState D) (p : ℕ) (op : O
       by_answer Progress.Moved is next table = absurd (cc is)
       by_answer (Progress.Sleeping why) is next table = absurd (cc is)
       by_answer (Progress.Over out) is next table = absurd (cc is)
-      by_answer (Progress.Fault other) is next table = record { unfinished = refl; place_stays = next; table = table }
+      by_answer (Progress.Fault other) is next table = record { unfinished = refl; stage_stays = next; table = table }
   stays (Stage.Writing k m) goes = by_answer goes.answer goes.gives goes.next goes.table
     where
       by_answer : (x : Progress (Unit {0})) → TaskProgress.Fault fault ≡ progress_of_write m.done x → (task t.tasks p).stage ≡ stage_of_writing k m goes.now x → t.table ≡ table_of_writing s.table k m x → Stays (Stage.Writing k m) s p t
       by_answer Progress.Moved is next table = absurd (cc is)
       by_answer (Progress.Sleeping why) is next table = absurd (cc is)
       by_answer (Progress.Over out) is next table = absurd (cc is)
-      by_answer (Progress.Fault other) is next table = record { unfinished = refl; place_stays = next; table = table }
+      by_answer (Progress.Fault other) is next table = record { unfinished = refl; stage_stays = next; table = table }
   stays (Stage.Leaving k) goes = let no = goes.0 in absurd (cc no)
 
 module _ {D N : Type 0} (disk : Ghosts D N) (opening : D) (s : StoreState D) (w : World) (store : IsStore disk.image s) (right : IsRight disk opening s w) where
@@ -114,7 +114,7 @@ module _ {D N : Type 0} (disk : Ghosts D N) (opening : D) (s : StoreState D) (w 
       left_stays : (q : ℕ) → new q ≡ old q
       left_stays q = ap (λ (n : ℕ). steps_left now (task t.tasks q).stage n) steps.tasks.numbers ∙ ⊎_elim
           (λ (same : q ≡ p). subst (λ (o : ℕ). steps_left now (task t.tasks o).stage s.table.inode_count ≡ old o) (sym same)
-          (ap (λ (a : Stage). steps_left now a s.table.inode_count) here.place_stays ∙ failed_left disk s p op fault t steps))
+          (ap (λ (a : Stage). steps_left now a s.table.inode_count) here.stage_stays ∙ failed_left disk s p op fault t steps))
           (λ (apart : q ≢ p). others_left disk s p op (TaskProgress.Fault fault) t (where_none s.volume.fault well store.looks) store.numbers steps q apart)
           (cases_eq q p)
 

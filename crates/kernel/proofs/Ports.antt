@@ -1,7 +1,7 @@
 -- What is true of the ports stays true with each event of the processes.
 use Rattle.std.proofs.Common.{◌≡◌, ◌≢◌, ℕ, ◌+◌, ◌<◌, ◌≤◌, Bool, true, false, List, [], ◌∷◌, ◌++◌, length, get_or, set, refl, sym, ◌∙◌, ap, subst, ⊎_elim, Option, Some, None}
 use Rattle.std.specs.Prelude.{IsSome, replicate}
-use Rattle.kernel.specs.Common.{AllFit, Answer, answered, ArePorts, as_many, at_place, cases_eq, cases_lt, committing, committing_at, decided, Entry, entry_inside, entry_of, entry_place, false≢true, FitWith, fresh_world, GatheredBytes, get_or-replicate, get_or_past, gives, HasHistory, History, history_given, idle, is_busy_at, IsEntry, IsHistory, last_answer, length-replicate, LogState, nothing_yet, Op, others_stay, OthersStay, over, over_at, Phase, place_behind, Process, process, refusal, refusal_answer, refused, Reply, Rooms, set-get_or, Side, Step, taken, takes, there_now, told, told_at, turned, turned_from, OpClass, with_place, World}
+use Rattle.kernel.specs.Common.{AllFit, Answer, answered, ArePorts, as_many, at_phase, cases_eq, cases_lt, committing, committing_at, decided, Entry, entry_inside, entry_of, entry_index, false≢true, FitWith, fresh_world, GatheredBytes, get_or-replicate, get_or_past, gives, HasHistory, History, history_given, idle, is_busy_at, IsEntry, IsHistory, last_answer, length-replicate, LogState, nothing_yet, Op, others_stay, OthersStay, over, over_at, Phase, phase_behind, Process, process, refusal, refusal_answer, refused, Reply, Rooms, set-get_or, Side, Step, taken, takes, there_now, told, told_at, turned, turned_from, OpClass, with_more_room, World}
 use Rattle.ports.specs.declared.herald.Herald as herald_trait
 use Rattle.ports.specs.declared.intake.Intake as intake_trait
 use Rattle.history.specs.Lemmas.Histories.{history_new, history_more, history_taken, history_turned, history_turned_over, history_ending, history_committing, history_at_once, history_told, history_replied}
@@ -49,7 +49,7 @@ module _ {I M H : Type 0} (intake : intake_trait.Ghosts I M) (herald : herald_tr
         };
   }
 
-  -- the intake was asked for process p, or a place for its answer was kept
+  -- the intake was asked for process p, or room for its answer was kept
   pub ports_asked : (i j : I) (h : H) (c : ℕ) (w z : World) (p : ℕ) → ArePorts intake herald i h c w → intake.process_count j ≡ intake.process_count i → z.processes ≡ w.processes → z.journal.list ≡ w.journal.list
       → OthersStay (intake.side i) (intake.side j) p → ((intake.side i p).has_room ≡ true → (intake.side j p).has_room ≡ true) → AllFit (intake.fits i) (intake.fits j) → ArePorts intake herald j h c z
   ports_asked i j h c w z p had many same list others room fit = ports_stay i j h h c c w z had many same list (λ q busy. rooms q (had.room q busy)) fit had.told
@@ -113,7 +113,7 @@ module _ {I M H : Type 0} (intake : intake_trait.Ghosts I M) (herald : herald_tr
   module _ (i n : I) (h : H) (c : ℕ) (w y z : World) (p : ℕ) (what : OpClass) (l : LogState) (op : Op) (rooms : Rooms) (had : ArePorts intake herald i h c w) (lt : p < length w.processes) (stands : (process w p).at ≡ Phase.Idle)
       (takes_it : TakesFirst intake what l p op rooms i n w y) where
     -- an operation was taken
-    pub ports_taken : (group : ℕ) (kept : Option GatheredBytes) → z ≡ taken (with_place w) p group op kept → ArePorts intake herald n h c z
+    pub ports_taken : (group : ℕ) (kept : Option GatheredBytes) → z ≡ taken (with_more_room w) p group op kept → ArePorts intake herald n h c z
     ports_taken group kept is = ports_go i n h h c c w z p (record { begun = (process w p).begun + 1; at = Phase.BeforeTurn group op; room = kept }) had
         (record {
           inside = lt;
@@ -132,8 +132,8 @@ module _ {I M H : Type 0} (intake : intake_trait.Ghosts I M) (herald : herald_tr
         }) had.told
 
     -- one was taken, and answered at once
-    pub ports_refused : (j : I) (reply : Reply) → z ≡ refused (with_place w) p op reply
-        → intake.process_count j ≡ intake.process_count n → OthersStay (intake.side n) (intake.side j) p → FitWith (intake.fits n) (intake.fits j) p (gives (refusal_answer (with_place w) p reply)) → ArePorts intake herald j h c z
+    pub ports_refused : (j : I) (reply : Reply) → z ≡ refused (with_more_room w) p op reply
+        → intake.process_count j ≡ intake.process_count n → OthersStay (intake.side n) (intake.side j) p → FitWith (intake.fits n) (intake.fits j) p (gives (refusal_answer (with_more_room w) p reply)) → ArePorts intake herald j h c z
     ports_refused j reply is as_before others_there gives_it = ports_go i j h h c c w z p (record (process w p) { begun = (process w p).begun + 1 }) had
         (record {
           inside = lt;
@@ -158,7 +158,7 @@ module _ {I M H : Type 0} (intake : intake_trait.Ghosts I M) (herald : herald_tr
       → ArePorts intake herald i h c z
   ports_turned i h c w z p group op reply over had lt stands turn =
       let is : z ≡ turned_from (Phase.BeforeTurn group op) w p reply over = turn ∙ ap (λ (a : Phase). turned_from a w p reply over) stands in
-      ports_go i i h h c c w z p (record (process w p) { at = place_behind over group (length w.journal.list) }) had
+      ports_go i i h h c c w z p (record (process w p) { at = phase_behind over group (length w.journal.list) }) had
       (record {
         inside = lt;
         processes = ap (λ (o : World). o.processes) is;
@@ -170,18 +170,18 @@ module _ {I M H : Type 0} (intake : intake_trait.Ghosts I M) (herald : herald_tr
         fits = λ q f other fits. fits;
         mine = λ f history fits. (
           f,
-          subst (λ (o : World). IsHistory o.journal.list (place_behind over group (length w.journal.list)) (process w p).begun p f) (sym is)
+          subst (λ (o : World). IsHistory o.journal.list (phase_behind over group (length w.journal.list)) (process w p).begun p f) (sym is)
               (behind over f (subst (λ (a : Phase). IsHistory w.journal.list a (process w p).begun p f) stands history)),
           fits,
         );
       }) had.told
     where
-      behind : (b : Bool) (f : History) → IsHistory w.journal.list (Phase.BeforeTurn group op) (process w p).begun p f → IsHistory (w.journal.list ++ entry_of p (process w p).begun op group reply ∷ []) (place_behind b group (length w.journal.list)) (process w p).begun p f
+      behind : (b : Bool) (f : History) → IsHistory w.journal.list (Phase.BeforeTurn group op) (process w p).begun p f → IsHistory (w.journal.list ++ entry_of p (process w p).begun op group reply ∷ []) (phase_behind b group (length w.journal.list)) (process w p).begun p f
       behind true f history = history_turned_over w.journal.list (process w p).begun group p (entry_of p (process w p).begun op group reply) f refl refl history
       behind false f history = history_turned w.journal.list (process w p).begun group p (entry_of p (process w p).begun op group reply) f refl refl history
 
   -- one under way goes on to another phase, with the same history
-  ports_placed : (i : I) (h : H) (c : ℕ) (w z : World) (p : ℕ) (a b : Phase) → ArePorts intake herald i h c w → p < length w.processes → (process w p).at ≡ a → is_busy_at a ≡ true → z ≡ at_place w p b
+  ports_placed : (i : I) (h : H) (c : ℕ) (w z : World) (p : ℕ) (a b : Phase) → ArePorts intake herald i h c w → p < length w.processes → (process w p).at ≡ a → is_busy_at a ≡ true → z ≡ at_phase w p b
       → ((f : History) → IsHistory w.journal.list a (process w p).begun p f → IsHistory w.journal.list b (process w p).begun p f) → ArePorts intake herald i h c z
   ports_placed i h c w z p a b had lt stands busy is goes = ports_go i i h h c c w z p (record (process w p) { at = b }) had
       (record {
@@ -201,12 +201,12 @@ module _ {I M H : Type 0} (intake : intake_trait.Ghosts I M) (herald : herald_tr
 
   -- one whose task is over ends in the log next
   pub ports_ending : (i : I) (h : H) (c : ℕ) (w z : World) (p group k : ℕ) → ArePorts intake herald i h c w → p < length w.processes → (process w p).at ≡ Phase.AfterTurn group k → z ≡ over w p → ArePorts intake herald i h c z
-  ports_ending i h c w z p group k had lt stands is = ports_placed i h c w z p (Phase.AfterTurn group k) (Phase.Ending group k) had lt stands refl (is ∙ ap (λ (a : Phase). at_place w p (over_at a)) stands)
+  ports_ending i h c w z p group k had lt stands is = ports_placed i h c w z p (Phase.AfterTurn group k) (Phase.Ending group k) had lt stands refl (is ∙ ap (λ (a : Phase). at_phase w p (over_at a)) stands)
       (λ f history. history_ending w.journal.list k (process w p).begun group p f history)
 
   -- and goes on from its end to its group's commit
   pub ports_committing : (i : I) (h : H) (c : ℕ) (w z : World) (p group k : ℕ) → ArePorts intake herald i h c w → p < length w.processes → (process w p).at ≡ Phase.Ending group k → z ≡ committing w p → ArePorts intake herald i h c z
-  ports_committing i h c w z p group k had lt stands is = ports_placed i h c w z p (Phase.Ending group k) (Phase.Committing group k) had lt stands refl (is ∙ ap (λ (a : Phase). at_place w p (committing_at a)) stands)
+  ports_committing i h c w z p group k had lt stands is = ports_placed i h c w z p (Phase.Ending group k) (Phase.Committing group k) had lt stands refl (is ∙ ap (λ (a : Phase). at_phase w p (committing_at a)) stands)
       (λ f history. history_committing w.journal.list k (process w p).begun group p f history)
 
   -- one's entry was told its reply
@@ -214,7 +214,7 @@ module _ {I M H : Type 0} (intake : intake_trait.Ghosts I M) (herald : herald_tr
       → ArePorts intake herald i h c (decided w p reply)
   ports_decided i h c w p group k e reply had lt stands there mine =
       let z = told_at (Some k) w reply in
-      let same : decided w p reply ≡ z = ap (λ (a : Phase). told_at (entry_place a) w reply) stands in
+      let same : decided w p reply ≡ z = ap (λ (a : Phase). told_at (entry_index a) w reply) stands in
       let list : z.journal.list ≡ set w.journal.list k (told e reply) = ap (λ (f : Entry). set w.journal.list k (told f reply)) (entry_inside w.journal.list k e there) in
       subst (λ (o : World). ArePorts intake herald i h c o) (sym same) (ports_go i i h h c c w z p (process w p) had
       (record {

@@ -1,13 +1,13 @@
 -- What a stop has left since the opening.
 use Rattle.std.proofs.Common.{◌≡◌, ℕ, true, inl, inr, refl, sym, ◌∙◌, ap, subst, arith, None}
-use Rattle.kernel.specs.Common.{at_once_reply, at_once_still, false≢true, Ghosts, Grows, grows_goes, inode_count_of, is_at_once, IsRight, keeps_fewer, keeps_later, KeepsBetween, leaves_wider, LeavesOnly, LeavesSince, most_of, Op, refusal, refused, started, StoreState, OpClass, class_of, with_place, World}
+use Rattle.kernel.specs.Common.{at_once_reply, at_once_still, false≢true, Ghosts, Grows, grows_goes, inode_count_of, is_at_once, IsRight, keeps_fewer, keeps_later, KeepsBetween, leaves_wider, LeavesOnly, LeavesSince, most_of, Op, refusal, refused, started, StoreState, OpClass, class_of, with_more_room, World}
 use Rattle.kernel.proofs.Beginnings.{refused_at_once}
 use Rattle.kernel.proofs.Right.{Survive, keeps_now}
 
 module _ {D N : Type 0} (disk : Ghosts D N) (opening : D) where
   -- a refusal, whose entry is of no group
   pub since_refused : (s : StoreState D) (w z : World) (p : ℕ) (op : Op) → IsRight disk opening s w → s.volume.fault ≡ None → class_of s.table.inode_count op ≡ OpClass.Refused
-      → z ≡ refused (with_place w) p op (at_once_reply op) → LeavesSince disk opening s w → LeavesSince disk opening s z
+      → z ≡ refused (with_more_room w) p op (at_once_reply op) → LeavesSince disk opening s w → LeavesSince disk opening s z
   since_refused s w z p op right well refuses to since =
       let x = disk.image opening in
       let n = inode_count_of x in

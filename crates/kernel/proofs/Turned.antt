@@ -2,7 +2,7 @@
 use Rattle.std.proofs.Common.{◌≡◌, ◌≢◌, ◌⊎◌, inl, inr, ℕ, ◌+◌, zero, suc, Bool, true, false, List, [], ◌∷◌, ◌++◌, length, set, refl, sym, ◌∙◌, ap, Option, Some, None}
 use Rattle.blocks.specs.declared.disk.Disk as disk_trait
 use Rattle.std.specs.Option.{option_map}
-use Rattle.kernel.specs.Common.{at_once_reply, BeginsWith, begun, Commit, commit_log, Commits, Committed, committing_at, decided, DeviceFault, end_answer, Ended, ended, ended_keeps, Ends, Entry, entry_in, entry_of, entry_place, Finishes, first_in, first_stage, get_or-set_other, idle, is_over, LogState, NextAt, NextIf, no_task, Op, over_at, Part, Phase, place_behind, Process, process, refusal, Reply, room_for, set-get_or, Side, Step, stepped_at, Steps, StoreState, task, TaskProgress, TaskState, told, told_at, turned_from, OpClass, class_of, with_begun, with_log, with_look, with_place, Works, World, world_after, world_behind, world_ended, world_written}
+use Rattle.kernel.specs.Common.{at_once_reply, BeginsWith, begun, Commit, commit_log, Commits, Committed, committing_at, decided, DeviceFault, end_answer, Ended, ended, ended_keeps, Ends, Entry, entry_in, entry_of, entry_index, Finishes, first_in, first_stage, get_or-set_other, idle, is_over, LogState, NextAt, NextIf, no_task, Op, over_at, Part, Phase, phase_behind, Process, process, refusal, Reply, room_for, set-get_or, Side, Step, stepped_at, Steps, StoreState, task, TaskProgress, TaskState, told, told_at, turned_from, OpClass, class_of, with_begun, with_log, with_look, with_more_room, Works, World, world_after, world_behind, world_ended, world_written}
 use Rattle.kernel.specs.Next.{Writes}
 
 -- what becomes of the store beside the task of process q
@@ -21,18 +21,18 @@ pub record AddsEntry (q : ℕ) (a : Phase) (es fs : List Entry) : Type 0 where
 
 -- the entry of a process that stands there is told a reply
 pub record TellsEntry (a : Phase) (es fs : List Entry) : Type 0 where
-  pub place : ℕ
+  pub index : ℕ
   pub reply : Reply
-  pub at : entry_place a ≡ Some place
-  pub list : fs ≡ set es place (told (entry_in es place) reply)
+  pub at : entry_index a ≡ Some index
+  pub list : fs ≡ set es index (told (entry_in es index) reply)
 
 abbrev pub JournalBy : ℕ → Phase → List Entry → List Entry → Type 0
 JournalBy q a es fs = (fs ≡ es) ⊎ (AddsEntry q a es fs ⊎ TellsEntry a es fs)
 
 -- where the process then stands: its entry is as it was, or a new one
-abbrev pub EntryPlaces : ℕ → Phase → Phase → List Entry → List Entry → Type 0
-EntryPlaces q a b es fs = (i : ℕ) → entry_place b ≡ Some i →
-    (entry_place a ≡ Some i) ⊎ ((i ≡ length es) × AddsEntry q a es fs)
+abbrev pub EntryIndexes : ℕ → Phase → Phase → List Entry → List Entry → Type 0
+EntryIndexes q a b es fs = (i : ℕ) → entry_index b ≡ Some i →
+    (entry_index a ≡ Some i) ⊎ ((i ≡ length es) × AddsEntry q a es fs)
 
 -- it waits for its turn, as it did before or because it was idle
 abbrev pub BeforeFrom : Phase → Phase → Type 0
@@ -44,7 +44,7 @@ pub record Turned {D : Type 0} (q : ℕ) (a : Phase) (s : StoreState D) (w : Wor
   pub now : Process
   pub processes : z.processes ≡ set w.processes q now
   pub journal : JournalBy q a w.journal.list z.journal.list
-  pub places : EntryPlaces q a now.at w.journal.list z.journal.list
+  pub places : EntryIndexes q a now.at w.journal.list z.journal.list
   pub before : BeforeFrom a now.at
   pub store : LeavesStore q s t
 
@@ -111,7 +111,7 @@ module _ {D N : Type 0} (disk : disk_trait.Ghosts D N) (q : ℕ) (s : StoreState
   To a = Turned q a s w t z
 
   -- the processes are as in o, where process q is u
-  becomes : (a : Phase) (o : World) (u : Process) → z ≡ o → o.processes ≡ set w.processes q u → JournalBy q a w.journal.list o.journal.list → EntryPlaces q a u.at w.journal.list o.journal.list → BeforeFrom a u.at → LeavesStore q s t → To a
+  becomes : (a : Phase) (o : World) (u : Process) → z ≡ o → o.processes ≡ set w.processes q u → JournalBy q a w.journal.list o.journal.list → EntryIndexes q a u.at w.journal.list o.journal.list → BeforeFrom a u.at → LeavesStore q s t → To a
   becomes a o u to here journal places before store = record {
     now = u;
     processes = ap (λ (v : World). v.processes) to ∙ here;
@@ -130,18 +130,18 @@ module _ {D N : Type 0} (disk : disk_trait.Ghosts D N) (q : ℕ) (s : StoreState
       moved : JournalBy q a w.journal.list o.journal.list → JournalBy q a w.journal.list z.journal.list
       moved (inl is) = inl (same ∙ is)
       moved (inr (inl is)) = inr (inl (adds is))
-      moved (inr (inr is)) = inr (inr (record { place = is.place; reply = is.reply; at = is.at; list = same ∙ is.list }))
+      moved (inr (inr is)) = inr (inr (record { index = is.index; reply = is.reply; at = is.at; list = same ∙ is.list }))
 
-      moved_places : EntryPlaces q a u.at w.journal.list o.journal.list → EntryPlaces q a u.at w.journal.list z.journal.list
+      moved_places : EntryIndexes q a u.at w.journal.list o.journal.list → EntryIndexes q a u.at w.journal.list z.journal.list
       moved_places places i at = by_place (places i at)
         where
-          by_place : (entry_place a ≡ Some i) ⊎ ((i ≡ length w.journal.list) × AddsEntry q a w.journal.list o.journal.list) → (entry_place a ≡ Some i) ⊎ ((i ≡ length w.journal.list) × AddsEntry q a w.journal.list z.journal.list)
+          by_place : (entry_index a ≡ Some i) ⊎ ((i ≡ length w.journal.list) × AddsEntry q a w.journal.list o.journal.list) → (entry_index a ≡ Some i) ⊎ ((i ≡ length w.journal.list) × AddsEntry q a w.journal.list z.journal.list)
           by_place (inl is) = inl is
           by_place (inr is) = inr (is.0, adds is.1)
 
   -- process q stays where it stands
   rests : (a : Phase) (o : World) → (process w q).at ≡ a → z ≡ o → o.processes ≡ w.processes → o.journal.list ≡ w.journal.list → LeavesStore q s t → To a
-  rests a o stands to here list store = becomes a o (process w q) to (here ∙ sym (set-get_or w.processes q idle)) (inl list) (λ i at. inl (ap entry_place (sym stands) ∙ at)) (λ group op is. inr (sym stands)) store
+  rests a o stands to here list store = becomes a o (process w q) to (here ∙ sym (set-get_or w.processes q idle)) (inl list) (λ i at. inl (ap entry_index (sym stands) ∙ at)) (λ group op is. inr (sym stands)) store
 
   begins : (what : Option OpClass) (ahead : List Op) (side : Side) (r : Step) → (process w q).at ≡ Phase.Idle → BeginsWith what s w q ahead side r t z → To Phase.Idle
   begins what ahead side r stands (inl made) =
@@ -152,7 +152,7 @@ module _ {D N : Type 0} (disk : disk_trait.Ghosts D N) (q : ℕ) (s : StoreState
       (store_begins q s t (with_look s q made.op (room_for made.count)) _ made.store refl refl refl)
   begins what ahead side r stands (inr (inr (inl made))) =
       becomes Phase.Idle _ _ made.world refl (inr (inl (record { entry = refusal w q made.op (at_once_reply made.op); mine = refl; from = inl refl; list = refl })))
-      (λ i at. inl (ap entry_place (sym stands) ∙ at)) (λ group op is. inl refl) (store_same q s t made.store)
+      (λ i at. inl (ap entry_index (sym stands) ∙ at)) (λ group op is. inl refl) (store_same q s t made.store)
   begins what ahead side r stands (inr (inr (inr made))) = rests Phase.Idle w stands made.same.1 refl refl (store_same q s t made.same.0)
 
   works : (group : ℕ) (op : Op) (r : Step) → (process w q).at ≡ Phase.BeforeTurn group op → Works disk s w q op r t z → To (Phase.BeforeTurn group op)
@@ -161,11 +161,11 @@ module _ {D N : Type 0} (disk : disk_trait.Ghosts D N) (q : ℕ) (s : StoreState
       store : LeavesStore q s t
       store = store_steps q s t disk op made.progress made.steps
 
-      by_over : (over : Bool) (k i : ℕ) → entry_place (place_behind over group k) ≡ Some i → k ≡ i
+      by_over : (over : Bool) (k i : ℕ) → entry_index (phase_behind over group k) ≡ Some i → k ≡ i
       by_over true k i is = cc is
       by_over false k i is = cc is
 
-      never : (over : Bool) (k g : ℕ) (o : Op) → place_behind over group k ≡ Phase.BeforeTurn g o → ⊥
+      never : (over : Bool) (k g : ℕ) (o : Op) → phase_behind over group k ≡ Phase.BeforeTurn g o → ⊥
       never true k g o is = cc is
       never false k g o is = cc is
 
@@ -176,7 +176,7 @@ module _ {D N : Type 0} (disk : disk_trait.Ghosts D N) (q : ℕ) (s : StoreState
           let k = length w.journal.list in
           let adds : AddsEntry q (Phase.BeforeTurn group op) w.journal.list (turned_from (Phase.BeforeTurn group op) w q reply over).journal.list
           = record { entry = entry_of q (process w q).begun op group reply; mine = refl; from = inr (group, op, refl); list = refl } in
-          becomes (Phase.BeforeTurn group op) (turned_from (Phase.BeforeTurn group op) w q reply over) (record (process w q) { at = place_behind over group k })
+          becomes (Phase.BeforeTurn group op) (turned_from (Phase.BeforeTurn group op) w q reply over) (record (process w q) { at = phase_behind over group k })
           (to ∙ ap (λ (a : Phase). turned_from a w q reply over) stands) refl (inr (inl adds)) (λ i is. inr (sym (by_over over k i is), adds)) (λ g o is. absurd (never over k g o is)) store
       by_progress (TaskProgress.Decided reply) to = rests (Phase.BeforeTurn group op) w stands to refl refl store
       by_progress TaskProgress.Over to = rests (Phase.BeforeTurn group op) w stands to refl refl store
@@ -190,10 +190,10 @@ module _ {D N : Type 0} (disk : disk_trait.Ghosts D N) (q : ℕ) (s : StoreState
       store = store_steps q s t disk _ made.progress made.steps
 
       told_here : (reply : Reply) → decided w q reply ≡ told_at (Some k) w reply
-      told_here reply = ap (λ (a : Phase). told_at (entry_place a) w reply) stands
+      told_here reply = ap (λ (a : Phase). told_at (entry_index a) w reply) stands
 
       tells : (reply : Reply) → TellsEntry (Phase.AfterTurn group k) w.journal.list (told_at (Some k) w reply).journal.list
-      tells reply = record { place = k; reply = reply; at = refl; list = refl }
+      tells reply = record { index = k; reply = reply; at = refl; list = refl }
 
       over_here : over_at (process w q).at ≡ Phase.Ending group k
       over_here = ap over_at stands
@@ -204,11 +204,11 @@ module _ {D N : Type 0} (disk : disk_trait.Ghosts D N) (q : ℕ) (s : StoreState
       by_progress (TaskProgress.Decided reply) zero same to =
           becomes (Phase.AfterTurn group k) _ (record (process w q) { at = Phase.Idle; room = None }) (to ∙ ap (λ (o : World). Rattle.history.specs.Processes.answered o q) (told_here reply)) refl (inr (inr (tells reply))) (λ i no. absurd (cc no)) (λ g o is. absurd (cc is)) store
       by_progress (TaskProgress.Decided reply) (suc g) same to =
-          becomes (Phase.AfterTurn group k) (told_at (Some k) w reply) (process w q) (to ∙ told_here reply) (sym (set-get_or w.processes q idle)) (inr (inr (tells reply))) (λ i at. inl (ap entry_place (sym stands) ∙ at)) (λ g o is. inr (sym stands)) store
+          becomes (Phase.AfterTurn group k) (told_at (Some k) w reply) (process w q) (to ∙ told_here reply) (sym (set-get_or w.processes q idle)) (inr (inr (tells reply))) (λ i at. inl (ap entry_index (sym stands) ∙ at)) (λ g o is. inr (sym stands)) store
       by_progress TaskProgress.Over zero same to =
           becomes (Phase.AfterTurn group k) _ (record (process w q) { at = Phase.Idle; room = None }) to refl (inl refl) (λ i no. absurd (cc no)) (λ g o is. absurd (cc is)) store
       by_progress TaskProgress.Over (suc g) same to =
-          becomes (Phase.AfterTurn group k) _ (record (process w q) { at = over_at (process w q).at }) to refl (inl refl) (λ i at. inl (ap entry_place (sym over_here) ∙ at)) (λ g o is. absurd (let no = sym over_here ∙ is in cc no)) store
+          becomes (Phase.AfterTurn group k) _ (record (process w q) { at = over_at (process w q).at }) to refl (inl refl) (λ i at. inl (ap entry_index (sym over_here) ∙ at)) (λ g o is. absurd (let no = sym over_here ∙ is in cc no)) store
       by_progress (TaskProgress.Sleeping cause) g same to = rests (Phase.AfterTurn group k) w stands to refl refl store
       by_progress (TaskProgress.Fault fault) g same to = rests (Phase.AfterTurn group k) w stands to refl refl store
 
@@ -220,7 +220,7 @@ module _ {D N : Type 0} (disk : disk_trait.Ghosts D N) (q : ℕ) (s : StoreState
 
       by_answer : (x : Ended) → z ≡ world_ended x w q → To (Phase.Ending group k)
       by_answer Ended.Commit to =
-          becomes (Phase.Ending group k) _ (record (process w q) { at = committing_at (process w q).at }) to refl (inl refl) (λ i at. inl (ap entry_place (sym committing_here) ∙ at)) (λ g o is. absurd (let no = sym committing_here ∙ is in cc no)) (store_ended q s t made.store)
+          becomes (Phase.Ending group k) _ (record (process w q) { at = committing_at (process w q).at }) to refl (inl refl) (λ i at. inl (ap entry_index (sym committing_here) ∙ at)) (λ g o is. absurd (let no = sym committing_here ∙ is in cc no)) (store_ended q s t made.store)
       by_answer Ended.Left to =
           becomes (Phase.Ending group k) _ (record (process w q) { at = Phase.Idle; room = None }) to refl (inl refl) (λ i no. absurd (cc no)) (λ g o is. absurd (cc is)) (store_ended q s t made.store)
 

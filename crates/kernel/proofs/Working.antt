@@ -2,7 +2,7 @@
 use Rattle.std.proofs.Common.{◌≡◌, ◌≢◌, ℕ, ◌<◌, ◌≤◌, Bool, true, false, cond, List, [], ◌∷◌, ◌++◌, length, set, length-set, ltb, refl, sym, ◌∙◌, ap, subst, inl, inr, Option, Some, None}
 use Rattle.wal.specs.Floats.{Survives as SurvivesAt}
 use Rattle.std.specs.Prelude.{IsTrue, is_none}
-use Rattle.kernel.specs.Common.{alone_stepped, answered, AreLooking, ArePaired, asked, at_place, ats_of, Block, Bytes, CanBegin, changing_in_group, counted_same, counted_turned, Create, current_of, decided, DecisionEnds, DeviceFault, DiskFault, ends_of, Entry, entry_in, entry_inside, entry_new, entry_of, entry_place, entry_same, entry_set, false≢true, fault_of_task, faults_after, form_of, Ghosts, GoesOn, GoesOnTurned, group_tells, HasEntry, HasFacts, idle, Image, in_reads, inode_count_of, is_busy_at, is_changing, is_committing_at, is_making, is_number, is_over, is_unturned, IsBehind, IsCounted, IsEntry, IsItsRoom, IsLate, IsRight, IsStore, IsValidView, JournalGoes, known_keeps, late_is, le-leb, le-ltb, number_of, Op, others_back, others_stay, over, over_at, owes_reply, passes_busy, Phase, place_behind, Process, process, Read, Remove, Reply, set-get_or, Stage, StandsAt, Stat, StepEnds, Steps, StoreState, Takes, task, task_journal, task_next, TaskProgress, TaskStands, there_now, told, told_at, transfer_limit, Trunc, turned, turned_from, TurnEnds, View, view_of, where_none, World, Write, Wrote}
+use Rattle.kernel.specs.Common.{alone_stepped, answered, AreLooking, ArePaired, asked, at_phase, ats_of, Block, Bytes, CanBegin, changing_in_group, counted_same, counted_turned, Create, current_of, decided, DecisionEnds, DeviceFault, DiskFault, ends_of, Entry, entry_in, entry_inside, entry_new, entry_of, entry_index, entry_same, entry_set, false≢true, fault_of_task, faults_after, form_of, Ghosts, GoesOn, GoesOnTurned, group_tells, HasEntry, HasFacts, idle, Image, in_reads, inode_count_of, is_busy_at, is_changing, is_committing_at, is_making, is_number, is_over, is_unturned, IsBehind, IsCounted, IsEntry, IsItsRoom, IsLate, IsRight, IsStore, IsValidView, JournalGoes, known_keeps, late_is, le-leb, le-ltb, number_of, Op, others_back, others_stay, over, over_at, owes_reply, passes_busy, Phase, phase_behind, Process, process, Read, Remove, Reply, set-get_or, Stage, StandsAt, Stat, StepEnds, Steps, StoreState, Takes, task, task_journal, task_next, TaskProgress, TaskStands, there_now, told, told_at, transfer_limit, Trunc, turned, turned_from, TurnEnds, View, view_of, where_none, World, Write, Wrote}
 use Rattle.history.specs.Next.{TaskNext}
 use Rattle.kernel.proofs.TaskSteps.{form_untouched, moves_of, turns_of, opens_of, takes_of, reads_rest, leaves_of, free_then}
 use Rattle.kernel.proofs.Valid.{HasAgreed, valid_joint, over_unread, take_number, unturned_unread}
@@ -42,7 +42,7 @@ pub reply_missing : (o : Option Reply) → is_none o ≡ true → o ≡ None
 reply_missing None is = refl
 reply_missing (Some r) is = absurd (false≢true is)
 
-quiet_behind : (b : Bool) (group k : ℕ) → is_committing_at (place_behind b group k) ≡ false
+quiet_behind : (b : Bool) (group k : ℕ) → is_committing_at (phase_behind b group k) ≡ false
 quiet_behind true group k = refl
 quiet_behind false group k = refl
 
@@ -174,11 +174,11 @@ module _ {D N : Type 0} (disk : Ghosts D N) (opening : D) (s : StoreState D) (w 
       abbrev e : Entry
       e = entry_of p (process w p).begun op group reply
 
-      turned_with : (b : Bool) → is_over next ≡ b → TaskNext (Phase.BeforeTurn group op) (TaskProgress.Turned reply) n form p (process w p).begun before es now (es ++ e ∷ []) (place_behind b group (length es))
-          → TaskStands (es ++ e ∷ []) (task t.tasks p) (place_behind b group (length es)) → IsRight disk opening t (turned w p reply (is_over next))
+      turned_with : (b : Bool) → is_over next ≡ b → TaskNext (Phase.BeforeTurn group op) (TaskProgress.Turned reply) n form p (process w p).begun before es now (es ++ e ∷ []) (phase_behind b group (length es))
+          → TaskStands (es ++ e ∷ []) (task t.tasks p) (phase_behind b group (length es)) → IsRight disk opening t (turned w p reply (is_over next))
       turned_with b over made there =
           let z : World = turned_from (Phase.BeforeTurn group op) w p reply b in
-          let u : Process = record (process w p) { at = place_behind b group (length es) } in
+          let u : Process = record (process w p) { at = phase_behind b group (length es) } in
           let same : turned w p reply (is_over next) ≡ z = ap (λ (c : Bool). turned w p reply c) over ∙ ap (λ (a : Phase). turned_from a w p reply b) stands in
           let same_b : turned w p reply b ≡ z = ap (λ (a : Phase). turned_from a w p reply b) stands in
           subst (λ (y : World). IsRight disk opening t y) (sym same)
@@ -290,7 +290,7 @@ module _ {D N : Type 0} (disk : Ghosts D N) (opening : D) (s : StoreState D) (w 
         let read = read_over none reply ends.0 ends.1 in
         let z : World = answered (told_at (Some k) w reply) p in
         let u : Process = record (process w p) { at = Phase.Idle; room = None } in
-        let same : answered (decided w p reply) p ≡ z = ap (λ (a : Phase). answered (told_at (entry_place a) w reply) p) stands in
+        let same : answered (decided w p reply) p ≡ z = ap (λ (a : Phase). answered (told_at (entry_index a) w reply) p) stands in
         let list : z.journal.list ≡ set es k (told own (Bytes read.1.0)) = list_told reply ∙ ap (λ (r : Reply). set es k (told own r)) read.1.1 in
         subst (λ (y : World). IsRight disk opening t y) (sym same)
         (right_stepped (TaskProgress.Decided reply) steps refl agreed z u refl (Phase.AfterTurn group k) stands TaskProgress.Over (
@@ -316,7 +316,7 @@ module _ {D N : Type 0} (disk : Ghosts D N) (opening : D) (s : StoreState D) (w 
         let ends = ends_now (TaskProgress.Decided reply) its.unfinished steps in
         let write = write_on later reply ends.1 in
         let z : World = told_at (Some k) w reply in
-        let same : decided w p reply ≡ z = ap (λ (a : Phase). told_at (entry_place a) w reply) stands in
+        let same : decided w p reply ≡ z = ap (λ (a : Phase). told_at (entry_index a) w reply) stands in
         let list = list_told reply in
         let there : IsEntry z.journal.list k (told own reply) = subst (λ (l : List Entry). IsEntry l k (told own reply)) (sym list) (entry_set es k own (told own reply) has.at) in
         let goes : TaskNext (Phase.AfterTurn group k) (TaskProgress.Decided reply) n form p (process w p).begun before es now z.journal.list (Phase.AfterTurn group k) = (
@@ -355,8 +355,8 @@ module _ {D N : Type 0} (disk : Ghosts D N) (opening : D) (s : StoreState D) (w 
     right_ends later steps agreed =
         let ends = ends_now TaskProgress.Over its.unfinished steps in
         let reply = reply_there own.reply (sym its.reply ∙ ends.1) in
-        let z : World = at_place w p (Phase.Ending group k) in
-        let same : over w p ≡ z = ap (λ (a : Phase). at_place w p (over_at a)) stands in
+        let z : World = at_phase w p (Phase.Ending group k) in
+        let same : over w p ≡ z = ap (λ (a : Phase). at_phase w p (over_at a)) stands in
         subst (λ (y : World). IsRight disk opening t y) (sym same)
         (right_stepped TaskProgress.Over steps refl agreed z (record (process w p) { at = Phase.Ending group k }) refl (Phase.AfterTurn group k) stands TaskProgress.Over
         (own, has.at, inr (inl (record { reply = reply.0; has = reply.1; changing = grouped later; leaves = leaves_of disk s t p op ends.2 steps; list = refl; now = refl })))

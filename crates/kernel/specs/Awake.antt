@@ -23,9 +23,9 @@ IsBusy k p = is_busy_at (ats_of k.world p) ≡ true
 abbrev pub cause_by : Phase → Option Why → Option Why
 cause_by Phase.Idle cause = None
 cause_by (Phase.BeforeTurn group op) cause = cause
-cause_by (Phase.AfterTurn group place) cause = cause
-cause_by (Phase.Ending group place) cause = None
-cause_by (Phase.Committing group place) cause = None
+cause_by (Phase.AfterTurn group index) cause = cause
+cause_by (Phase.Ending group index) cause = None
+cause_by (Phase.Committing group index) cause = None
 
 abbrev pub cause_of : {D I H : Type 0} → State D I H → ℕ → Option Why
 cause_of k p = cause_by (ats_of k.world p) (sleep_cause k.store p)

@@ -5,7 +5,7 @@ use Rattle.model.specs.declared.types.operations.Why.{Why}
 use Rattle.wal.specs.Machine.{LogState, begin_cause}
 use Rattle.ports.specs.declared.intake.Intake.{Ghosts}
 use Rattle.ports.specs.History.{AllFit, FitWith, takes}
-use Rattle.history.specs.Processes.{World, with_place}
+use Rattle.history.specs.Processes.{World, with_more_room}
 use Rattle.kernel.specs.declared.beginning.Rooms.{Rooms}
 use Rattle.kernel.specs.declared.class.OpClass.{OpClass}
 use Rattle.model.specs.declared.types.operations.Step.{Step}
@@ -39,7 +39,7 @@ pub record TakesFirst {I N : Type 0} (intake : Ghosts I N) (what : OpClass) (l :
   pub fits : FitWith (intake.fits old) (intake.fits new) p (takes (Some op))
   pub free : kept_out what l ≡ None
   pub rooms_are : rooms ≡ rooms_for (count_of what)
-  pub world : z ≡ with_place w
+  pub world : z ≡ with_more_room w
 
 -- it was left, for the cause that the step says
 pub record LeavesFirst {I N : Type 0} (intake : Ghosts I N) (what : OpClass) (l : LogState) (p : ℕ)

@@ -4,7 +4,7 @@ use Rattle.blocks.specs.Disk.{Image}
 use Rattle.model.specs.declared.types.image.Form.{Form}
 use Rattle.model.specs.declared.types.image.Form.TheVariants.{One, Two}
 use Rattle.model.specs.Layout.{form_of}
-use Rattle.inodes.specs.Places.{steps_left}
+use Rattle.inodes.specs.Stages.{steps_left}
 use Rattle.inodes.specs.Store.{StoreState, current_of}
 use Rattle.inodes.specs.Tasks.{task}
 use Rattle.history.specs.Bound.{all_steps_left, is_busy_at}

@@ -46,10 +46,10 @@ SomeTurnMakes disk intake herald P p (t ∷ ts) k m run =
 pub record IsAnswered {D I H : Type 0} (k m : State D I H) (p : ℕ) (op : Op) (reply : Reply)
     : Type 0 where
   pub idle : ats_of k.world p ≡ Phase.Idle
-  pub place : ℕ
+  pub index : ℕ
   pub entry : Entry
-  pub later : length k.world.journal.list ≤ place
-  pub stands : IsEntry m.world.journal.list place entry
+  pub later : length k.world.journal.list ≤ index
+  pub stands : IsEntry m.world.journal.list index entry
   pub mine : entry.pid ≡ p
   pub same : entry.op ≡ op
   pub told : entry.reply ≡ Some reply

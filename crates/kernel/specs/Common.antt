@@ -28,10 +28,10 @@ pub use Rattle.history.specs.Lemmas.Leaving.{elapses_none, elapses_same, keeps_f
 pub use Rattle.history.specs.Lemmas.Lists.{entry_more, entry_new, entry_next, entry_same, entry_set, entry_set_other, last_one}
 pub use Rattle.history.specs.Lemmas.LogEvents.{inv_begun, inv_end_commits, inv_end_leaves, inv_taken, inv_written}
 pub use Rattle.history.specs.Lemmas.Nexts.{at_once_journal, at_same, others_back, task_journal, task_next}
-pub use Rattle.history.specs.Lemmas.Places.{as_many, behind_there, committing_there, ending_there, others_stay, there_now}
+pub use Rattle.history.specs.Lemmas.Phases.{as_many, behind_there, committing_there, ending_there, others_stay, there_now}
 pub use Rattle.history.specs.Most.{most_of}
 pub use Rattle.history.specs.Open.{Held, held_by, is_late, IsEntry, number_of, told}
-pub use Rattle.history.specs.Processes.{answered, at_place, committing, committing_at, decided, entry_place, fresh_world, idle, is_before, is_behind, is_ending, last_answer, operation_at, over, over_at, place_behind, process, refusal, refusal_answer, refused, taken, told_at, turned, turned_from, with_place, with_process, World}
+pub use Rattle.history.specs.Processes.{answered, at_phase, committing, committing_at, decided, entry_index, fresh_world, idle, is_before, is_behind, is_ending, last_answer, operation_at, over, over_at, phase_behind, process, refusal, refusal_answer, refused, taken, told_at, turned, turned_from, with_more_room, with_process, World}
 pub use Rattle.history.specs.Views.{CallsLog, HasEntry, InGroup, IsValidView, KernelFacts, Leaves, LeavesRest, Opens, StandsAt, Takes, Turns, View, Writes}
 pub use Rattle.history.specs.declared.types.Phase.{Phase}
 pub use Rattle.history.specs.declared.types.Process.{Process}
@@ -43,7 +43,7 @@ pub use Rattle.inodes.specs.Lemmas.Sought.{passes_busy, sought}
 pub use Rattle.inodes.specs.Lemmas.StepEnds.{DecisionEnds, ends_of, fails_at, GoesOn, GoesOnTurned, logs_of, StepEnds, TurnEnds}
 pub use Rattle.inodes.specs.Lemmas.StepsLeft.{failed_left, few_in_task, left_outside, others_left}
 pub use Rattle.inodes.specs.Looks.{AreLooking, CanLook, CanTake, HasRoom, HoldsInode, IsLate, IsWrite, LooksAt}
-pub use Rattle.inodes.specs.Places.{asked, asked_by, block_at_place, is_over, is_unturned, most_behind, owes_reply, steps_left}
+pub use Rattle.inodes.specs.Stages.{asked, asked_by, block_at_stage, is_over, is_unturned, most_behind, owes_reply, steps_left}
 pub use Rattle.inodes.specs.Steps.{Commits, is_made, Steps}
 pub use Rattle.inodes.specs.Store.{Agrees, CanBegin, current_of, first_stage, fresh_volume, IsStore, KeepsFiles, reply_of, Stands, StoreState, with_begun, with_log, with_look}
 pub use Rattle.inodes.specs.Table.{copy_at, holder_at, new_table, TableState}

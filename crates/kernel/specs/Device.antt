@@ -8,7 +8,7 @@ use Rattle.wal.specs.declared.types.DeviceFault.TheVariants.{Block, Sync}
 use Rattle.wal.specs.Machine.{is_syncing}
 use Rattle.wal.specs.Joint.{place_at}
 use Rattle.inodes.specs.Store.{StoreState}
-use Rattle.inodes.specs.Places.{block_at_place}
+use Rattle.inodes.specs.Stages.{block_at_stage}
 use Rattle.inodes.specs.Tasks.{task}
 use Rattle.history.specs.declared.types.Phase.{Phase}
 use Rattle.model.specs.declared.types.operations.Step.{Step}
@@ -42,8 +42,8 @@ CountsItsFault (Some fault) old new faults failed =
 -- the block that a step reads or writes; 0 where it does neither
 abbrev pub block_at_step : {D : Type 0} → Phase → StoreState D → ℕ → ℕ
 block_at_step Phase.Idle s p = 0
-block_at_step (Phase.BeforeTurn group op) s p = block_at_place (task s.tasks p).stage
-block_at_step (Phase.AfterTurn group k) s p = block_at_place (task s.tasks p).stage
+block_at_step (Phase.BeforeTurn group op) s p = block_at_stage (task s.tasks p).stage
+block_at_step (Phase.AfterTurn group k) s p = block_at_stage (task s.tasks p).stage
 block_at_step (Phase.Ending group k) s p = 0
 block_at_step (Phase.Committing group k) s p = place_at s.volume.log.commit s.volume.log.homes
 

@@ -11,7 +11,7 @@ use Rattle.model.specs.Layout.{form_of, inode_count_of}
 use Rattle.wal.specs.Volume.{faults_after}
 use Rattle.inodes.specs.Store.{StoreState}
 use Rattle.inodes.specs.Tasks.{TaskState, task}
-use Rattle.inodes.specs.Places.{is_over, owes_reply, is_unturned}
+use Rattle.inodes.specs.Stages.{is_over, owes_reply, is_unturned}
 use Rattle.ports.specs.History.{History}
 use Rattle.ports.specs.declared.herald.Herald as herald_trait
 use Rattle.ports.specs.declared.intake.Intake as intake_trait
@@ -100,7 +100,7 @@ pub record HasHistory (fits : ℕ → History → Type 0) (w : World) (p : ℕ) 
 pub record ArePorts {I M H : Type 0} (intake : intake_trait.Ghosts I M)
     (herald : herald_trait.Ghosts H) (i : I) (h : H) (committed : ℕ) (w : World) : Type 0 where
   pub served : intake.process_count i ≡ length w.processes
-  -- a place for the answer of each operation under way is kept
+  -- there is room for the answer of each operation under way
   pub room : (p : ℕ) → is_busy_at (process w p).at ≡ true → (intake.side i p).has_room ≡ true
   -- the herald was told of each commit
   pub told : herald.count h ≡ committed

@@ -4,7 +4,7 @@ use Rattle.blocks.specs.Disk.{Image}
 use Rattle.model.specs.declared.types.image.Form.{Form}
 use Rattle.model.specs.declared.types.operations.Entry.{Entry}
 use Rattle.inodes.specs.Looks.{HoldsInode}
-use Rattle.inodes.specs.Places.{asked}
+use Rattle.inodes.specs.Stages.{asked}
 use Rattle.inodes.specs.Store.{StoreState}
 use Rattle.inodes.specs.Table.{TableState}
 use Rattle.history.specs.declared.types.Phase.{Phase}
@@ -15,19 +15,19 @@ use Rattle.kernel.specs.State.{ats_of}
 
 -- who goes on behind its turn has the lock of its operation's inode, and keeps it until its finish
 abbrev pub HaveLocks : TableState → World → Type 0
-HaveLocks t w = (p group place : ℕ) (e : Entry) → ats_of w p ≡ Phase.AfterTurn group place
-    → IsEntry w.journal.list place e → HoldsInode t p (asked e.op)
+HaveLocks t w = (p group index : ℕ) (e : Entry) → ats_of w p ≡ Phase.AfterTurn group index
+    → IsEntry w.journal.list index e → HoldsInode t p (asked e.op)
 
--- the entry at this place is a Read's or a Write's, whose process goes on behind its turn
-pub record IsUnderWay (w : World) (place : ℕ) (e : Entry) : Type 0 where
+-- the entry at this index is a Read's or a Write's, whose process goes on behind its turn
+pub record IsUnderWay (w : World) (index : ℕ) (e : Entry) : Type 0 where
   pub late : is_late e.op ≡ true
   pub group : ℕ
-  pub behind : ats_of w e.pid ≡ Phase.AfterTurn group place
+  pub behind : ats_of w e.pid ≡ Phase.AfterTurn group index
 
 -- so is each entry without a reply
 abbrev pub AreUnderWay : World → Type 0
-AreUnderWay w = (place : ℕ) (e : Entry) → IsEntry w.journal.list place e → e.reply ≡ None
-    → IsUnderWay w place e
+AreUnderWay w = (index : ℕ) (e : Entry) → IsEntry w.journal.list index e → e.reply ≡ None
+    → IsUnderWay w index e
 
 pub record Lasts {D : Type 0} (image : D → Image) (form : Form) (s : StoreState D) (w : World)
     : Type 0 where

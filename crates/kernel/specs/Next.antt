@@ -14,13 +14,13 @@ use Rattle.wal.specs.declared.types.Ended.{Ended}
 use Rattle.wal.specs.Machine.{LogState, begin_cause, begun, ended, end_answer}
 use Rattle.inodes.specs.Store.{StoreState, with_begun, with_log, with_look}
 use Rattle.inodes.specs.Tasks.{task}
-use Rattle.inodes.specs.Places.{is_over}
+use Rattle.inodes.specs.Stages.{is_over}
 use Rattle.inodes.specs.Steps.{Steps, Commits}
 use Rattle.ports.specs.History.{Side, first_in}
 use Rattle.history.specs.AtOnce.{at_once_reply}
 use Rattle.history.specs.declared.types.Phase.{Phase}
 use Rattle.history.specs.Journal.{entry_in}
-use Rattle.history.specs.Processes.{World, process, with_place, taken, turned, decided, refused, over, committing, answered}
+use Rattle.history.specs.Processes.{World, process, with_more_room, taken, turned, decided, refused, over, committing, answered}
 use Rattle.kernel.specs.declared.class.OpClass.{OpClass}
 use Rattle.model.specs.declared.types.operations.Step.{Step}
 use Rattle.kernel.specs.State.{class_of, room_for}
@@ -46,7 +46,7 @@ pub record TakesChange {D : Type 0} (what : Option OpClass) (s : StoreState D) (
   pub answer : r ≡ Step.Moved
   pub store : t ≡ with_begun s p op
   pub world : z
-      ≡ Rattle.history.specs.Processes.taken (with_place w) p (begun s.volume.log p).opened op None
+      ≡ Rattle.history.specs.Processes.taken (with_more_room w) p (begun s.volume.log p).opened op None
 
 -- an operation that looks at a file was taken; it is none of the log's, and has room for what it
 -- reads and for its answer
@@ -59,7 +59,7 @@ pub record TakesLook {D : Type 0} (what : Option OpClass) (s : StoreState D) (w 
   pub room : side.has_room ≡ true
   pub answer : r ≡ Step.Moved
   pub store : t ≡ with_look s p op (room_for count)
-  pub world : z ≡ Rattle.history.specs.Processes.taken (with_place w) p 0 op (room_for count)
+  pub world : z ≡ Rattle.history.specs.Processes.taken (with_more_room w) p 0 op (room_for count)
 
 -- an operation that is refused by itself alone was taken, and answered at once
 pub record TakesRefused {D : Type 0} (what : Option OpClass) (s : StoreState D) (w : World) (p : ℕ)
@@ -69,7 +69,7 @@ pub record TakesRefused {D : Type 0} (what : Option OpClass) (s : StoreState D) 
   pub taken : IsTaken s.table.inode_count ahead side OpClass.Refused op
   pub answer : r ≡ Step.Answered
   pub store : t ≡ s
-  pub world : z ≡ refused (with_place w) p op (at_once_reply op)
+  pub world : z ≡ refused (with_more_room w) p op (at_once_reply op)
 
 -- there is room for an answer, but no memory
 abbrev pub HasNoMemory : Bool → Step → Type 0
@@ -197,7 +197,7 @@ world_behind group TaskProgress.Over w p = world_of_last group w p
 world_behind group (TaskProgress.Sleeping cause) w p = w
 world_behind group (TaskProgress.Fault fault) w p = w
 
--- a step of the task of a process whose operation, which has this place in the journal, had its
+-- a step of the task of a process whose operation, which has this index in the journal, had its
 -- turn
 pub record Finishes {D N : Type 0} (disk : Ghosts D N) (s : StoreState D) (w : World)
     (p group k : ℕ) (r : Step) (t : StoreState D) (z : World) : Type 0 where

@@ -24,7 +24,7 @@ WaitsWithCause {D} {N} {I} {M} {H} disk intake herald =
     (k m : State D I H) (p : ℕ) (r : Step) (cause : Why) → k.store.volume.fault ≡ None →
     cause_of k p ≡ Some cause → MakesStep disk intake herald p r k m → r ≡ Step.Sleeping cause
 
--- process p has no operation under way, no place is kept for an answer, and nothing changed
+-- process p has no operation under way, no room is kept for an answer, and nothing changed
 pub record WaitsForRoom {D I M H : Type 0} (intake : intake_trait.Ghosts I M) (k : State D I H)
     (p : ℕ) (cause : Why) (m : State D I H) : Type 0 where
   pub full : cause ≡ Why.AnswersFull

@@ -3,7 +3,7 @@ use Rattle.std.specs.Option.{option_map}
 use Rattle.std.specs.Prelude.{if◌then◌else◌, Option, None}
 use Rattle.blocks.specs.Disk.{Image}
 use Rattle.inodes.specs.Store.{StoreState, FitsFiles, current_of}
-use Rattle.inodes.specs.Places.{owes_reply}
+use Rattle.inodes.specs.Stages.{owes_reply}
 use Rattle.inodes.specs.Tasks.{TaskState, task}
 use Rattle.history.specs.Open.{Held, held_by}
 use Rattle.history.specs.Views.{View}

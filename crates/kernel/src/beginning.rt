@@ -128,7 +128,7 @@ struct Rooms {
 
 // Takes the first operation that waits for a process, which is of this kind, with all the room that
 // it needs, or says why it is left.
-// No method of the kernel: between the kept place and the taking its invariant doesn't hold.
+// No method of the kernel: between the room made and the taking its invariant doesn't hold.
 fn take_first<D: Disk, I: Intake>(
     alloc: Global,
     store: &Store<D>,
@@ -139,7 +139,7 @@ fn take_first<D: Disk, I: Intake>(
 ) -> Result<(Op, Rooms), Step>
     requires pid { pid < I.process_count intake.old }
     requires waits { IsSome (first_in (I.side intake.old pid).ahead) }
-    requires place { processes.old.journal.room + 1 < 2 ^ 64 }
+    requires room { processes.old.journal.room + 1 < 2 ^ 64 }
     ensures taken { IfOk result (λ taken. TakesFirst I.Intake what store.now.volume.log pid taken.0
         taken.1 intake.old intake.new processes.old processes.new) }
     ensures left { IfErr result (λ step. LeavesFirst I.Intake what store.now.volume.log pid step

@@ -23,7 +23,7 @@
 //! told it then, and it is given at the end of its operation. With its last step each gives its inode up. Then a look
 //! is answered, and who changed files ends in the log as a creation does.
 //!
-//! Memory is taken at an operation's beginning: a place in the journal, and for a read room for its
+//! Memory is taken at an operation's beginning: room in the journal, and for a read room for its
 //! bytes, once for the journal and once for the answer. That no later step takes any is by test: no
 //! clause can say it.
 //!

@@ -9,7 +9,7 @@ use Rattle.ports.specs.declared.intake.Intake as intake
 use Rattle.inodes.specs.contracts.tasks.Task as Task
 use Rattle.inodes.specs.contracts.tasks.Tasks as Tasks
 use Rattle.inodes.specs.contracts.store.Store as Store
-use Rattle.inodes.proofs.tasks.Stage.TheSendSync as place
+use Rattle.inodes.proofs.tasks.Stage.TheSendSync as stage
 use Rattle.inodes.proofs.table.Inodes.TheSendSync as inodes
 use Rattle.model.proofs.gathered.Gathered.TheSendSync as gathered
 use Rattle.wal.proofs.volume.Volume.TheSendSync as volume
@@ -21,7 +21,7 @@ use Rattle.sysring.specs.contracts.serving.Serving as Serving
 use Rattle.sysring.specs.contracts.shared.Shared as Shared
 use Rattle.sysring.specs.declared.session.Origin as origin
 
-pub ruleset parts = (crosses, place.the_field_send, gathered.the_send, inodes.the_send, volume.the_send, processes.the_send)
+pub ruleset parts = (crosses, stage.the_field_send, gathered.the_send, inodes.the_send, volume.the_send, processes.the_send)
 
 pub Serving-sync : IsSync Serving.the_row
 Serving-sync = search (sendable, crosses) depth 20

@@ -20,7 +20,7 @@ entry_inside [] k e at = let lt = at.inside in absurd (omega (arith, lt))
 entry_inside (d ∷ es) zero e at = at.is
 entry_inside (d ∷ es) (suc k) e at = let lt = at.inside in entry_inside es k e (record { inside = omega (arith, lt); is = at.is })
 
--- the answer at a place is that of its entry
+-- the answer at an index is that of its entry
 pub answer_inside : (es : List Entry) (k : ℕ) (e : Entry) → IsEntry es k e → answer_in es k ≡ answer_of e
 answer_inside es k e at =
     ap (λ (b : Bool). cond b (answer_of (entry_in es k)) None) (lt-ltb k (length es) at.inside) ∙ ap answer_of (entry_inside es k e at)
@@ -192,7 +192,7 @@ group_tells n group k es e all at same =
 pub changing_in_group : (n group k : ℕ) (es : List Entry) (e : Entry) → All (HasItsGroup n) es → IsEntry es k e → e.group ≡ group → 0 < group → is_changing n e.op ≡ true
 changing_in_group n group k es e all at same some = group_tells n group k es e all at same ∙ lt-ltb 0 group some
 
--- the answer at a place is there, and fits the room
+-- the answer at an index is there, and fits the room
 abbrev pub CanAnswer : Option Answer → Option GatheredBytes → Type 0
 CanAnswer o room = IsSome o × IfSome o (λ (a : Answer). FitsRoom room a.reply)
 

@@ -3,11 +3,11 @@ use Rattle.std.proofs.Common.{◌≡◌, ◌≢◌, ℕ, ◌+◌, ◌-◌, ◌<�
 use Rattle.std.specs.Prelude.{count_by}
 use Rattle.std.proofs.lemmas.List.Sums.{get_or-le-sum_by, sum_by-set}
 use Rattle.history.specs.Common.{cases_eq, Entry, GatheredBytes, length-append, Op, Phase, Process, Reply}
-use Rattle.history.specs.Processes.{World, process, idle, is_before, with_place, taken, refused, place_behind, turned}
+use Rattle.history.specs.Processes.{World, process, idle, is_before, with_more_room, taken, refused, phase_behind, turned}
 use Rattle.history.specs.Counting.{IsCounted}
-use Rattle.history.specs.Lemmas.Places.{there_now, others_stay}
+use Rattle.history.specs.Lemmas.Phases.{there_now, others_stay}
 
--- one for a place before a turn
+-- one for the phase before a turn
 abbrev pub one_before : Phase → ℕ
 one_before a = cond (is_before a) 1 0
 
@@ -34,7 +34,7 @@ counted_goes before opened p w z t had g = record {
   groups = g.groups;
 }
 
--- a place is kept for the entry of an operation that has not had its turn
+-- there is room for the entry of an operation that has not had its turn
 pub room_kept : (opened p : ℕ) (w : World) → IsCounted opened w → p < length w.processes → is_before (process w p).at ≡ true → 0 < w.journal.room
 room_kept opened p w had lt is =
     omega (arith, (get_or-le-sum_by (λ (q : Process). cond {A = ℕ} (is_before q.at) 1 0) w.processes p idle lt), (ap (λ (b : Bool). cond {A = ℕ} b 1 0) is), had.room)
@@ -47,7 +47,7 @@ module _ (before p : ℕ) (w : World) (had : IsCounted before w) (lt : p < lengt
   begun_at a is = subst (λ (b : Phase). (process w p).begun ≤ length w.journal.list + one_before b) is (had.begun p)
 
   -- an operation was taken
-  pub counted_taken : (opened group : ℕ) (op : Op) (kept : Option GatheredBytes) → (process w p).at ≡ Phase.Idle → opened ≤ before + 1 → IsCounted opened (taken (with_place w) p group op kept)
+  pub counted_taken : (opened group : ℕ) (op : Op) (kept : Option GatheredBytes) → (process w p).at ≡ Phase.Idle → opened ≤ before + 1 → IsCounted opened (taken (with_more_room w) p group op kept)
   counted_taken opened group op kept stands more = counted_goes before opened p w _ (record { begun = (process w p).begun + 1; at = Phase.BeforeTurn group op; room = kept }) had (record {
     inside = lt;
     processes = refl;
@@ -58,7 +58,7 @@ module _ (before p : ℕ) (w : World) (had : IsCounted before w) (lt : p < lengt
   })
 
   -- an operation was answered at once
-  pub counted_refused : (op : Op) (reply : Reply) → (process w p).at ≡ Phase.Idle → IsCounted before (refused (with_place w) p op reply)
+  pub counted_refused : (op : Op) (reply : Reply) → (process w p).at ≡ Phase.Idle → IsCounted before (refused (with_more_room w) p op reply)
   counted_refused op reply stands = counted_goes before before p w _ (record (process w p) { begun = (process w p).begun + 1 }) had (record {
     inside = lt;
     processes = refl;
@@ -68,7 +68,7 @@ module _ (before p : ℕ) (w : World) (had : IsCounted before w) (lt : p < lengt
     groups = let more = length-append w.journal.list ((record { pid = p; seq = (process w p).begun + 1; op = op; group = 0; reply = Rattle.std.proofs.Common.Some reply }) ∷ []) in let groups = had.groups in omega (arith, groups, more);
   })
 
-  behind_none : (over : Bool) (group k : ℕ) → one_before (place_behind over group k) ≡ 0
+  behind_none : (over : Bool) (group k : ℕ) → one_before (phase_behind over group k) ≡ 0
   behind_none true group k = refl
   behind_none false group k = refl
 
@@ -79,7 +79,7 @@ module _ (before p : ℕ) (w : World) (had : IsCounted before w) (lt : p < lengt
       let kept = room_kept before p w had lt (ap is_before stands) in
       let more = one_longer w.journal.list e in
       let none = behind_none over group (length w.journal.list) in
-      let t : Process = record (process w p) { at = place_behind over group (length w.journal.list) } in
+      let t : Process = record (process w p) { at = phase_behind over group (length w.journal.list) } in
       let made : turned w p reply over ≡ record w { processes = set w.processes p t; journal = record { list = w.journal.list ++ e ∷ []; room = w.journal.room - 1 } } =
       ap (λ (a : Phase). Rattle.history.specs.Processes.turned_from a w p reply over) stands in
       subst (λ (z : World). IsCounted opened z) (sym made) (counted_goes before opened p w _ t had (record {

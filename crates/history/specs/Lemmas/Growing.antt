@@ -90,19 +90,19 @@ module _ (n p committed : ℕ) (es fs : List Entry) where
   pub goes_extends : JournalGoes n p committed es fs → Extends es fs
   goes_extends (inl same) = subst (Extends es) (sym same) (extends_same es)
   goes_extends (inr (inl more)) = subst (Extends es) (sym more.list) (extends_more es (more.entry ∷ []))
-  goes_extends (inr (inr tells)) = subst (Extends es) (sym tells.list) (extends_told es tells.place tells.entry tells.reply tells.at tells.none)
+  goes_extends (inr (inr tells)) = subst (Extends es) (sym tells.list) (extends_told es tells.index tells.entry tells.reply tells.at tells.none)
 
   -- what is kept of the committed groups stays
   pub goes_stays : JournalGoes n p committed es fs → (c : ℕ) → c ≤ committed → kept n fs c ≡ kept n es c
   goes_stays (inl same) c le = ap (λ (l : List Entry). kept n l c) same
   goes_stays (inr (inl more)) c le = ap (λ (l : List Entry). kept n l c) more.list ∙ kept_turned n c es more.entry (λ changing. let later = more.later changing in omega (arith, le, later))
-  goes_stays (inr (inr tells)) c le = ap (λ (l : List Entry). kept n l c) tells.list ∙ kept_told n c es tells.place tells.entry tells.reply tells.at (λ changing. let later = tells.later changing in omega (arith, le, later))
+  goes_stays (inr (inr tells)) c le = ap (λ (l : List Entry). kept n l c) tells.list ∙ kept_told n c es tells.index tells.entry tells.reply tells.at (λ changing. let later = tells.later changing in omega (arith, le, later))
 
   -- and another's entry stays where it is
   pub goes_entry : JournalGoes n p committed es fs → (k : ℕ) (e : Entry) → e.pid ≢ p → IsEntry es k e → IsEntry fs k e
   goes_entry (inl same) k e other at = subst (λ (l : List Entry). IsEntry l k e) (sym same) at
   goes_entry (inr (inl more)) k e other at = subst (λ (l : List Entry). IsEntry l k e) (sym more.list) (entry_more es k e more.entry at)
-  goes_entry (inr (inr tells)) k e other at = subst (λ (l : List Entry). IsEntry l k e) (sym tells.list) (entry_set_other es k tells.place e tells.entry (told tells.entry tells.reply) at tells.at (λ mine. other (mine ∙ tells.mine)))
+  goes_entry (inr (inr tells)) k e other at = subst (λ (l : List Entry). IsEntry l k e) (sym tells.list) (entry_set_other es k tells.index e tells.entry (told tells.entry tells.reply) at tells.at (λ mine. other (mine ∙ tells.mine)))
 
   -- and it is the same entry
   pub goes_back : JournalGoes n p committed es fs → (k : ℕ) (e f : Entry) → e.pid ≢ p → IsEntry es k e → IsEntry fs k f → IsEntry es k f

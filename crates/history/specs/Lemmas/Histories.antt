@@ -120,7 +120,7 @@ history_committing es k begun group p h is = record { answered = is.answered; ow
 pub history_turned_over : (es : List Entry) (begun group p : ℕ) (e : Entry) (h : History) → e.pid ≡ p → e.seq ≡ begun → IsHistory es (Phase.BeforeTurn group e.op) begun p h → IsHistory (es ++ e ∷ []) (Phase.Ending group (length es)) begun p h
 history_turned_over es begun group p e h mine seq is = history_ending (es ++ e ∷ []) (length es) begun group p h (history_turned es begun group p e h mine seq is)
 
--- it is answered, which it can be only with a reply; the place is one where an answer is owed
+-- it is answered, which it can be only with a reply; the phase is one in which an answer is owed
 pub history_answered : (es : List Entry) (k begun p : ℕ) (a : Phase) (e : Entry) (answer : Answer) (h : History) → Owed a p es ≡ (λ (given : List Entry). Owes p k es given) → pending_at a ≡ [] → IsEntry es k e → entry_answer e ≡ Some answer
     → IsHistory es a begun p h → IsHistory es Phase.Idle begun p (gives answer h)
 history_answered es k begun p a e answer h shape none there tells is =

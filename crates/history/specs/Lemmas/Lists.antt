@@ -131,7 +131,7 @@ entry_set [] k e f at = let lt = at.inside in absurd (omega (arith, lt))
 entry_set (d ∷ es) zero e f at = record { inside = omega arith; is = refl }
 entry_set (d ∷ es) (suc k) e f at = let r = entry_set es k e f (entry_next d es k e at) in let lt = r.inside in record { inside = omega (arith, lt); is = r.is }
 
--- a place has one entry
+-- an index has one entry
 pub entry_same : (es : List Entry) (k : ℕ) (e f : Entry) → IsEntry es k e → IsEntry es k f → e ≡ f
 entry_same [] k e f at there = let lt = at.inside in absurd (omega (arith, lt))
 entry_same (d ∷ es) zero e f at there = sym at.is ∙ there.is

@@ -45,7 +45,7 @@ module _ (opening : Image) (s t : View) (es fs : List Entry) (ats new : ℕ → 
 
   tells : (group k : ℕ) (e : Entry) (r : Reply) → ats p ≡ Phase.AfterTurn group k → IsEntry es k e → e.reply ≡ None → fs ≡ set es k (told e r) → IsTold (inode_count_of opening) p (in_reads s.log) es fs
   tells group k e r stood there none list = record {
-    place = k;
+    index = k;
     entry = e;
     reply = r;
     at = there;

@@ -2,7 +2,7 @@
 use Rattle.std.proofs.Common.{◌≡◌, ◌≢◌, ◌⊎◌, ⊎_elim, inl, inr, ℕ, Bool, true, false, cond, eqb, List, refl, sym, ◌∙◌, ap, subst, Option, Some, None, length}
 use Rattle.model.specs.Layout.{inode_of}
 use Rattle.std.specs.Prelude.{IsSome}
-use Rattle.inodes.specs.Common.{address_at, after_address, after_behind, AllocAt, Allocs, AllocState, behind_at, block_at_place, block_next, block_of, block_of_alloc, block_of_write, block_on_way, Branch, Bytes, bytes_of, CanBegin, CanTake, come_to, copy_at, Create, current_of, Dinode, DiskFault, EntryState, Extent, extent_of, false≢true, FindsEntry, first_read, first_write, Freeing, FreesOn, gets_fails, Ghosts, Goes, GoesFrom, Got, holder_at, inode_block, is_over, is_unturned, LockAt, Locks, LockState, LockSteps, LooksAt, LooksUp, lowest_in, MapAt, MapState, MapSteps, named_by, naming, now_of, one_more, Op, owes_reply, place_of, stage_of_lock, stage_of_reading, stage_of_trunc, stage_of_writing, Progress, progress_of_lock, progress_of_read, progress_of_trunc, progress_of_write, Read, ReadState, Remove, Reply, seen, Shown, shown_of, some_address, Stage, Stands, Stat, StoreState, TableState, TakesLowest, TakesOne, Target, task, TaskProgress, Trunc, Updates, UpdateState, used_by, VolumeState, Works, Write, WriteAt, WriteState, WriteSteps, Wrote}
+use Rattle.inodes.specs.Common.{address_at, after_address, after_behind, AllocAt, Allocs, AllocState, behind_at, block_at_stage, block_next, block_of, block_of_alloc, block_of_write, block_on_way, Branch, Bytes, bytes_of, CanBegin, CanTake, come_to, copy_at, Create, current_of, Dinode, DiskFault, EntryState, Extent, extent_of, false≢true, FindsEntry, first_read, first_write, Freeing, FreesOn, gets_fails, Ghosts, Goes, GoesFrom, Got, holder_at, inode_block, is_over, is_unturned, LockAt, Locks, LockState, LockSteps, LooksAt, LooksUp, lowest_in, MapAt, MapState, MapSteps, named_by, naming, now_of, one_more, Op, owes_reply, place_of, stage_of_lock, stage_of_reading, stage_of_trunc, stage_of_writing, Progress, progress_of_lock, progress_of_read, progress_of_trunc, progress_of_write, Read, ReadState, Remove, Reply, seen, Shown, shown_of, some_address, Stage, Stands, Stat, StoreState, TableState, TakesLowest, TakesOne, Target, task, TaskProgress, Trunc, Updates, UpdateState, used_by, VolumeState, Works, Write, WriteAt, WriteState, WriteSteps, Wrote}
 use Rattle.inodes.specs.Lemmas.Freeing.{IsDone, use_done}
 use Rattle.inodes.specs.Turning.{write_refusal, if_used, reply_when_taken, stage_when_taken, stage_of_read, stage_by_refusal}
 
@@ -302,7 +302,7 @@ module _ {D N : Type 0} (disk : Ghosts D N) (s : StoreState D) (p : ℕ) (op : O
   freeing_fails (Some g) m n steps = absurd (subst IsDone (sym steps.answer) (use_done m.machine.at))
 
   -- the block at which a task's step fails is that which its stage names
-  pub fails_at : (a : Stage) → Goes disk a s p op (TaskProgress.Fault fault) t → fault.0 ≡ block_at_place a
+  pub fails_at : (a : Stage) → Goes disk a s p op (TaskProgress.Fault fault) t → fault.0 ≡ block_at_stage a
   fails_at Stage.Nowhere goes = let no = goes.0 in absurd (cc no)
   fails_at (Stage.Creating m) goes = by_slot m.slot goes.0
     where

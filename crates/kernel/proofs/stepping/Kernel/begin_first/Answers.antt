@@ -1,6 +1,6 @@
 use Rattle.std.proofs.Common.{rules, refl, inl, inr, ◌≡◌, ◌<◌, length, List, None, Some, ◌∷◌, ap, subst, sym, ◌∙◌}
 use Rattle.std.specs.Option.{option_map}
-use Rattle.kernel.specs.Common.{Answer, ArePorts, at_once_reply, begin_cause, BeginsWith, begun, first_in, FitWith, gives, IsRight, KeepsFiles, LeavesSince, Op, Phase, process, refusal_answer, refused, Reply, room_for, Rooms, State, Step, StoreState, taken, OpClass, class_of, with_begun, with_look, with_place, World}
+use Rattle.kernel.specs.Common.{Answer, ArePorts, at_once_reply, begin_cause, BeginsWith, begun, first_in, FitWith, gives, IsRight, KeepsFiles, LeavesSince, Op, Phase, process, refusal_answer, refused, Reply, room_for, Rooms, State, Step, StoreState, taken, OpClass, class_of, with_begun, with_look, with_more_room, World}
 use Rattle.kernel.specs.Begins.{Begins, TakesFirst, kept_out, count_of, rooms_for}
 use Rattle.kernel.specs.Ports.{KeepsOthers, first_waiting}
 use Rattle.kernel.proofs.Beginnings.{right_taken, right_looked, right_refused, first_waits}
@@ -59,9 +59,9 @@ begin-group-requires-clause-may g c =
     let none = free g (goal.at.begin-group-requires-clause-may g c).After-known-2 c.in-Change.is in
     record { none = search rules; free = none; opened = search rules }
 
-changed : (g : Over) (c : After-take g) → c.take.new.self ≡ taken (with_place c.self.inside.processes) c.args.pid (begun c.self.inside.store.volume.log c.args.pid).opened c.in-Ok.taken.0 None
+changed : (g : Over) (c : After-take g) → c.take.new.self ≡ taken (with_more_room c.self.inside.processes) c.args.pid (begun c.self.inside.store.volume.log c.args.pid).opened c.in-Ok.taken.0 None
 changed g c = c.take.ensures ∙ ap (λ (w : World). taken w c.args.pid c.begin-group.result c.in-Ok.taken.0 None) c.in-Ok.ensures.taken.world
-    ∙ ap (λ n. taken (with_place c.self.inside.processes) c.args.pid n c.in-Ok.taken.0 None) c.begin-group.ensures.group
+    ∙ ap (λ n. taken (with_more_room c.self.inside.processes) c.args.pid n c.in-Ok.taken.0 None) c.begin-group.ensures.group
 
 pub invariant_of-self-in-Change : goal.invariant_of-self-in-Change
 invariant_of-self-in-Change g c =
@@ -105,13 +105,13 @@ rooms : (g : Over) (c : After-known-2 g) (count : _) → c.args.what ≡ OpClass
 rooms g c count is = (head g c).takes.rooms_are ∙ ap (λ (o : OpClass). rooms_for (count_of o)) is
 
 looked : (g : Over) (c : After-take-in-Look g) → (c.begin_look.new.self ≡ with_look c.self.inside.store c.args.pid c.in-Ok.taken.0 (room_for c.in-Look.field-0))
-    × (c.take-in-Look.new.self ≡ taken (with_place c.self.inside.processes) c.args.pid 0 c.in-Ok.taken.0 (room_for c.in-Look.field-0))
+    × (c.take-in-Look.new.self ≡ taken (with_more_room c.self.inside.processes) c.args.pid 0 c.in-Ok.taken.0 (room_for c.in-Look.field-0))
 looked g c =
     let has = rooms g (goal.at.After-take-in-Look g c).After-known-2 c.in-Look.field-0 c.in-Look.is in
     let op = c.in-Ok.taken.0 in (
       c.begin_look.ensures.store ∙ ap (λ (o : Rooms). with_look c.self.inside.store c.args.pid op o.read) has,
       c.take-in-Look.ensures ∙ ap (λ (w : World). taken w c.args.pid 0 op c.in-Ok.taken.1.answer) c.in-Ok.ensures.taken.world
-          ∙ ap (λ (o : Rooms). taken (with_place c.self.inside.processes) c.args.pid 0 op o.answer) has,
+          ∙ ap (λ (o : Rooms). taken (with_more_room c.self.inside.processes) c.args.pid 0 op o.answer) has,
     )
 
 pub invariant_of-self-in-Look : goal.invariant_of-self-in-Look
@@ -153,7 +153,7 @@ returns-in-Look g c =
     })))
     h.takes.sides
 
-refusal : (g : Over) (c : After-refuse-answer g) → c.refuse-answer.new.self ≡ refused (with_place c.self.inside.processes) c.args.pid c.in-Ok.taken.0 (at_once_reply c.in-Ok.taken.0)
+refusal : (g : Over) (c : After-refuse-answer g) → c.refuse-answer.new.self ≡ refused (with_more_room c.self.inside.processes) c.args.pid c.in-Ok.taken.0 (at_once_reply c.in-Ok.taken.0)
 refusal g c = c.refuse-answer.ensures.processes ∙ ap (λ (r : Reply). refused c.take_first.new.processes c.args.pid c.in-Ok.taken.0 r) c.at_once_reply-reply.ensures.reply
     ∙ ap (λ (w : World). refused w c.args.pid c.in-Ok.taken.0 (at_once_reply c.in-Ok.taken.0)) c.in-Ok.ensures.taken.world
 
@@ -164,7 +164,7 @@ invariant_of-self-in-Refused g c =
     let h = head g (goal.at.invariant_of-self-in-Refused g c).After-known-2 in
     let op = c.in-Ok.taken.0 in
     let fits = g.I.Intake.fits in
-    let answer : c.refuse-answer.result ≡ refusal_answer (with_place k.processes) c.args.pid (at_once_reply op) =
+    let answer : c.refuse-answer.result ≡ refusal_answer (with_more_room k.processes) c.args.pid (at_once_reply op) =
     c.refuse-answer.ensures.answer ∙ ap (λ (r : Reply). refusal_answer c.take_first.new.processes c.args.pid r) c.at_once_reply-reply.ensures.reply ∙ ap (λ (w : World). refusal_answer w c.args.pid (at_once_reply op)) h.takes.world in
     record {
       right = subst (λ (w : World). IsRight g.D.Disk k.opening.value k.store w) (sym made) (right_refused g.D.Disk k.opening.value k.store k.processes c.self.invariant.right h.well c.args.pid h.lt h.stands op (h.kind ∙ c.in-Refused.is));

@@ -65,15 +65,15 @@ HasSlot (Stage.Writing k m) i =
 HasSlot (Stage.Leaving k) i = None ≡ Some i
 
 -- the block that a task gets or uses next
-abbrev pub block_at_place : Stage → ℕ
-block_at_place Stage.Nowhere = 0
-block_at_place (Stage.Creating m) = m.block
-block_at_place (Stage.Taking m) = inode_block m.number
-block_at_place (Stage.Reading k m) = block_of m.target
-block_at_place (Stage.Delivering k) = 0
-block_at_place (Stage.Truncating k m) = block_next m
-block_at_place (Stage.Writing k m) = block_of_write m.at
-block_at_place (Stage.Leaving k) = 0
+abbrev pub block_at_stage : Stage → ℕ
+block_at_stage Stage.Nowhere = 0
+block_at_stage (Stage.Creating m) = m.block
+block_at_stage (Stage.Taking m) = inode_block m.number
+block_at_stage (Stage.Reading k m) = block_of m.target
+block_at_stage (Stage.Delivering k) = 0
+block_at_stage (Stage.Truncating k m) = block_next m
+block_at_stage (Stage.Writing k m) = block_of_write m.at
+block_at_stage (Stage.Leaving k) = 0
 
 -- what a process has of an inode that it takes
 abbrev pub grip_at : LockAt → ℕ → Option Grip
