@@ -18,7 +18,8 @@ loop-client-init g c =
       reported = record {
         reports = [];
         count = refl;
-        each = λ p text at. absurd (cc at);
+        each = λ p r at. absurd (cc at);
+        whole = refl;
         printed = Appends-nil (g.O.Write.contents c.args.out.now);
       };
       own = λ p low. absurd (omega (arith, low));
@@ -50,7 +51,7 @@ loop-client-preserved g c =
       all = here ∙ sym (append_assoc c.loop-client.yielded (c.in-Some.client ∷ []) c.next.new.self.rest.items);
       few = inv.few;
       reported = reports_then c.report_one-reported.result c.loop-client.reported _ _ _
-          (λ first one. one_more_report g.D.Disk.image k c.loop-client.kernel inv.same ops c.loop-client.pid _ (sym (ap ops_in at)) _ _ _ first one) inv.reported made.reported;
+          (λ were all first one. one_more_report g.D.Disk.image k c.loop-client.kernel inv.same ops c.loop-client.pid _ (sym (ap ops_in at)) were all _ _ _ first one) inv.reported made.reported;
       own = below_more _ _ inv.own (own_still g.D.Disk.image k c.loop-client.kernel inv.same c.loop-client.pid _ (ops c.loop-client.pid) (sym (ap ops_in at)) made.own);
       same = same_still k c.loop-client.kernel c.report_one-reported.new.kernel inv.same made.same;
       names = λ p. made.names p ∙ inv.names p;
