@@ -1,5 +1,6 @@
 -- Lines that are printed one after the other.
-use Rattle.std.proofs.Common.{◌≡◌, ◌∙◌, ◌<◌, ◌+◌, ◌-◌, ℕ, zero, suc, nat_le, refl, List, [], ◌∷◌, ◌++◌, flat_map, length, Option, sym, ap, subst, arith}
+use Rattle.std.proofs.lemmas.Bool.{cases_lt, le-leb, lt-leb}
+use Rattle.std.proofs.Common.{◌≡◌, ◌∙◌, ◌<◌, ◌≤◌, ◌+◌, ◌-◌, ℕ, nat_le, ⊎_elim, List, [], ◌∷◌, ◌++◌, flat_map, length, Option, sym, ap, subst, arith}
 use Rattle.std.proofs.KnownBytes.{Appends-trans}
 use Rattle.std.proofs.lemmas.Grind.{flat_map-append}
 use Rattle.std.proofs.lemmas.List.{append_assoc, flat_map_more}
@@ -31,6 +32,7 @@ next_known a (x ∷ rest) known next behind more one two some =
 
 -- so many behind the first make all
 pub enough : (w a k : ℕ) → nat_le (w - a) k ≡ nat_le w (a + k)
-enough w zero k = refl
-enough zero (suc a) k = refl
-enough (suc w) (suc a) k = enough w a k
+enough w a k = ⊎_elim
+    (λ (over : a + k < w). lt-leb (w - a) k (omega (arith, over)) ∙ sym (lt-leb w (a + k) over))
+    (λ (le : w ≤ a + k). le-leb (w - a) k (omega (arith, le)) ∙ sym (le-leb w (a + k) le))
+    (cases_lt (a + k) w)
