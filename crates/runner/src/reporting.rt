@@ -84,7 +84,7 @@ fn report_one<D: Disk, H: Herald, O: Write>(
             kept: account.kept,
         },
     )?;
-    Ok(before && is_whole)
+    Ok(before & is_whole)
 }
 
 // Prints a line for each of the answers of a process.

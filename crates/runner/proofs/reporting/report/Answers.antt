@@ -57,8 +57,18 @@ loop-client-preserved g c =
       names = λ p. made.names p ∙ inv.names p;
     }
 
-pub returns-in_err-reported-clause-own : goal.returns-in_err-reported-clause-own
-returns-in_err-reported-clause-own g c =
+pub returns-in_err-all-clause-own : goal.returns-in_err-all-clause-own
+returns-in_err-all-clause-own g c =
+    let inv = c.loop-client.invariant in
+    let left = c.loop-client.client-iterator.rest in
+    let none = c.in-None.ensures.steps.0 in
+    let is = left.ok.0 in
+    let pid = inv.pid in
+    let all = ap length inv.all ∙ length-append c.loop-client.yielded left.items in
+    λ p low. inv.own p (omega (arith, low, none, is, pid, all))
+
+pub returns-in_err-pass_on-clause-own : goal.returns-in_err-pass_on-clause-own
+returns-in_err-pass_on-clause-own g c =
     let inv = c.loop-client.invariant in
     let left = c.loop-client.client-iterator.rest in
     let none = c.in-None.ensures.steps.0 in
