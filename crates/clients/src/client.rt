@@ -70,6 +70,13 @@ impl Client {
         moved
     }
 
+    /// How many operations it has in all.
+    pub fn operations(&self) -> usize
+        ensures { result ≡ length (client_ops self.now) }
+    {
+        self.wanted
+    }
+
     /// Whether it has an answer to each operation.
     pub fn is_done(&self) -> bool
         ensures { result ≡ nat_le (length (client_ops self.now)) (length (polled self.now.feeder.caller)) }

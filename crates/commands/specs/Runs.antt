@@ -1,5 +1,5 @@
 -- What became of the disk in a file over which a script's operations were made, or were not.
-use Rattle.std.specs.Prelude.{ℕ, Bool, List, Option, None}
+use Rattle.std.specs.Prelude.{ℕ, Bool, true, List, Option, None}
 use Rattle.blocks.specs.declared.file.FileDisk.{FileDisk}
 use Rattle.cmd.specs.Lemmas.Disks.{faulty_disk, file_disk}
 use Rattle.cmd.specs.Opened.{OpensDisk}
@@ -43,7 +43,7 @@ pub record IsReplayed {F : Type 0} (stop : ℕ) (old new : Option (List ℕ)) (d
 pub record IsRun {F : Type 0} (old new : Option (List ℕ)) (d e : FileDisk F) : Type 0 where
   pub tasks : List Task
   pub processes : ℕ
-  pub runs : Runs file_disk d e tasks processes None old new
+  pub runs : Runs file_disk d e tasks processes None true old new
 
 -- why some operations were not replayed over it in the turns of some words, and what was printed
 pub record IsUnreplayedFor {F : Type 0} (stop : ℕ) (old new : Option (List ℕ)) (none : Type 0)

@@ -66,18 +66,18 @@ module _ {D N : Type 0} (below : Ghosts D N) where
       (subst (λ o. LeavesIfCalm below fd.inner o (RecoversAs (below.image fd.inner))) (sym (ap (λ s. s.volume.device.inner) opened.store)) (λ calm. leaves_below fd k.opening (RecoversAs (below.image fd.inner)) (opened.leaves.any_moment calm)))
 
   -- and below one that was not
-  pub over_name : (processes : ℕ) (d e : D) (fault : OpenFault) → IsUnopenedOver (faulty below) processes d e fault → below.name e ≡ below.name d
-  over_name processes d e fault why =
+  pub over_name : (processes stop : ℕ) (d e : D) (fault : OpenFault) → IsUnopenedOver (faulty below) processes stop d e fault → below.name e ≡ below.name d
+  over_name processes stop d e fault why =
       ⊎_elim (λ refused. ap below.name refused.1) (λ refuses. sym (ap below.name refuses.below_now) ∙ ap (λ n. n.0) refuses.refuses.name ∙ ap below.name refuses.below) why
 
-  pub over_only : (processes : ℕ) (d e : D) (fault : OpenFault) → IsUnopenedOver (faulty below) processes d e fault → LeavesIfCalm below d e (RecoversAs (below.image d))
-  over_only processes d e fault why = ⊎_elim (λ refused. stayed refused.1) told why
+  pub over_only : (processes stop : ℕ) (d e : D) (fault : OpenFault) → IsUnopenedOver (faulty below) processes stop d e fault → LeavesIfCalm below d e (RecoversAs (below.image d))
+  over_only processes stop d e fault why = ⊎_elim (λ refused. stayed refused.1) told why
     where
       stayed : e ≡ d → LeavesIfCalm below d e (RecoversAs (below.image d))
       stayed is = subst (λ o. LeavesIfCalm below d o (RecoversAs (below.image d))) (sym is)
           (λ calm. started below.moment below.leaves d (RecoversAs (below.image d)) (λ x left. subst (RecoversAs (below.image d)) (sym (calm x left)) (record { image = refl; lawful = refl })))
 
-      told : RefusesOver (faulty below) processes d e fault → LeavesIfCalm below d e (RecoversAs (below.image d))
+      told : RefusesOver (faulty below) processes stop d e fault → LeavesIfCalm below d e (RecoversAs (below.image d))
       told refuses =
           subst (λ o. LeavesIfCalm below o e (RecoversAs (below.image o))) refuses.below
           (subst (λ o. LeavesIfCalm below refuses.over.inner o (RecoversAs (below.image refuses.over.inner))) refuses.below_now (λ calm. leaves_below refuses.over refuses.now (RecoversAs (below.image refuses.over.inner)) (refuses.refuses.leaves.any_moment calm)))

@@ -23,12 +23,12 @@ broken_off disk stop base words old new text mid printed plays breaks (Unrecover
 broken_off disk stop base words old new text mid printed plays breaks (Unopened fault) why = absurd why
 
 -- where a replay was not begun
-pub not_begun : {D N : Type 0} (below : Ghosts D N) (disk : Ghosts (FaultyDisk D) (N × Trap)) (processes : ℕ) (d e : D) (tasks : List Task) (words : List Word) (stop : ℕ) (text printed : Option (List ℕ)) (none : Type 0)
-    → (r : ReplayRefusal) → IsNotBegun below disk processes d e r → none → IsNotReplayed below disk d e tasks processes words stop text printed none r
-not_begun below disk processes d e tasks words stop text printed none (Unrecovered refusal) why nothing = (why, nothing)
-not_begun below disk processes d e tasks words stop text printed none (Unopened fault) why nothing = (why, nothing)
-not_begun below disk processes d e tasks words stop text printed none (Disk fault) why nothing = absurd why
-not_begun below disk processes d e tasks words stop text printed none Output why nothing = absurd why
+pub not_begun : {D N : Type 0} (below : Ghosts D N) (disk : Ghosts (FaultyDisk D) (N × Trap)) (processes : ℕ) (d e : D) (tasks : List Task) (words : List Word) (s stop : ℕ) (same : s ≡ stop) (text printed : Option (List ℕ)) (none : Type 0)
+    → (r : ReplayRefusal) → IsNotBegun below disk processes s d e r → none → IsNotReplayed below disk d e tasks processes words stop text printed none r
+not_begun below disk processes d e tasks words s stop same text printed none (Unrecovered refusal) why nothing = (why, nothing)
+not_begun below disk processes d e tasks words s stop same text printed none (Unopened fault) why nothing = (subst (λ n. IsNotBegun below disk processes n d e (Unopened fault)) same why, nothing)
+not_begun below disk processes d e tasks words s stop same text printed none (Disk fault) why nothing = absurd why
+not_begun below disk processes d e tasks words s stop same text printed none Output why nothing = absurd why
 
 -- what a run that was refused is to the whole replay
 module _ {D N : Type 0} (below : Ghosts D N) (disk : Ghosts (FaultyDisk D) (N × Trap)) (d e : D) (tasks : List Task) (processes : ℕ) (words : List Word) (stop s base : ℕ) (same : s ≡ stop) (text printed : Option (List ℕ)) (player last : Player D N)

@@ -120,13 +120,13 @@ pub record HasNotBegun {D N : Type 0} (below : Ghosts D N) (d e : D) (why : Type
   pub name : below.name e ≡ below.name d
   pub leaves : LeavesIfCalm below d e (RecoversAs (below.image d))
 
-abbrev pub IsNotBegun : {D N : Type 0} → Ghosts D N → Ghosts (FaultyDisk D) (N × Trap) → ℕ → D → D
-    → ReplayRefusal → Type 0
-IsNotBegun below disk processes d e (Unrecovered refusal) =
+abbrev pub IsNotBegun : {D N : Type 0} → Ghosts D N → Ghosts (FaultyDisk D) (N × Trap) → ℕ → ℕ → D
+    → D → ReplayRefusal → Type 0
+IsNotBegun below disk processes stop d e (Unrecovered refusal) =
     HasNotBegun below d e (IsUnrecovered below d e refusal)
-IsNotBegun below disk processes d e (Unopened fault) =
-    HasNotBegun below d e (IsUnready below disk processes d e fault)
-IsNotBegun below disk processes d e r = ⊥
+IsNotBegun below disk processes stop d e (Unopened fault) =
+    HasNotBegun below d e (IsUnready below disk processes stop d e fault)
+IsNotBegun below disk processes stop d e r = ⊥
 
 -- why a replay over the disk d, now e, was refused, and what it came to; `none` says that nothing
 -- was printed
@@ -138,4 +138,4 @@ IsNotReplayed below disk d e tasks processes words stop text printed none (Disk 
 IsNotReplayed below disk d e tasks processes words stop text printed none Output =
     ReplaysPart below disk d e tasks processes words stop
 IsNotReplayed below disk d e tasks processes words stop text printed none r =
-    IsNotBegun below disk processes d e r × none
+    IsNotBegun below disk processes stop d e r × none

@@ -110,7 +110,7 @@ fn open_recovered<'a, D: Disk + Drop>(
     ensures base { IfOk result (λ made. made.1
         ≡ ⟦<FaultyDisk<D> as Disk>⟧.write_count made.0.kernel.store.volume.device) }
     ensures refused { IfErr result (λ e. IsNotBegun D.Disk ⟦<FaultyDisk<D> as Disk>⟧
-        processes disk e.1 e.0) }
+        processes stop disk e.1 e.0) }
 {
     if let Err(refusal) = recover_image(alloc, &mut disk) {
         return Err((ReplayRefusal::Unrecovered(refusal), disk));

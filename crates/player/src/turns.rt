@@ -93,7 +93,7 @@ pub fn open_player<'a, D: Disk + Drop>(
     ensures leaves { IfOk result (λ player. LeavesIfCalm D.Disk
         disk (inner_of player.kernel.store.volume.device) (RecoversAs (D.image disk))) }
     ensures refused { IfErr result (λ e. IsUnopenedOver ⟦<FaultyDisk<D> as Disk>⟧
-        processes disk e.1 e.0) }
+        processes stop disk e.1 e.0) }
 {
     let (intake, feeders) = match feeders(alloc, tasks, processes) {
         Ok(made) => made,

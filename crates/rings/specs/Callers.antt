@@ -1,5 +1,5 @@
 -- A caller's ends as contracts see them, and what settling shows.
-use Rattle.std.specs.Prelude.{◌≡◌, ℕ, List, [], ◌∷◌, ◌++◌, Option, Some, length}
+use Rattle.std.specs.Prelude.{◌≡◌, ◌≤◌, ℕ, List, [], ◌∷◌, ◌++◌, Option, Some, length}
 use mathlib.Core.List.{IsPrefix}
 use Rattle.rtrb.specs.Ring.{sent, received, known_free, known_items, all_sent}
 use Rattle.model.specs.declared.types.operations.Op.{Op}
@@ -10,7 +10,7 @@ use Rattle.rings.specs.declared.caller.Caller.{Caller}
 use Rattle.rings.specs.declared.caller.Finished.{Finished}
 use Rattle.rings.specs.declared.intake.RingIntake.{RingIntake}
 use Rattle.rings.specs.declared.ends.Ends.{Ends}
-use Rattle.rings.specs.Rings.{ring_name, ring_names, ring_side, RingFits, names_at, ends_history}
+use Rattle.rings.specs.Rings.{ring_name, ring_names, ring_side, ring_answer_places, RingFits, names_at, ends_history}
 
 -- all operations that the caller submitted, and all answers that it polled
 abbrev pub submitted : Caller → List Op
@@ -59,6 +59,10 @@ intake_count r = length r.ends.items
 abbrev pub intake_side : RingIntake → ℕ → Side
 intake_side r p = ring_side r.ends.items p
 
+-- how many places the kernel knows to be free for a process's answers
+abbrev pub answer_places : RingIntake → ℕ → ℕ
+answer_places r p = ring_answer_places r.ends.items p
+
 abbrev pub IntakeFits : RingIntake → ℕ → History → Type 0
 IntakeFits r p h = RingFits r.ends.items p h
 
@@ -77,6 +81,7 @@ pub record Reconciles (i : RingIntake) (p : ℕ) (c : Caller) (j : RingIntake) (
   pub given : (h : History) → IntakeFits i p h → polled d ++ unpolled d ≡ h.given
   pub submitted_stay : submitted d ≡ submitted c
   pub polled_stay : polled d ≡ polled c
+  pub places_stay : places c ≤ places d
   pub rings : caller_names d ≡ caller_names c
 
 -- What was submitted is what was taken and then what is left, in order, and what was polled is a
@@ -91,6 +96,7 @@ pub record Settles (ops : List Op) (answers : List Answer) (left : ℕ) (h : His
 pub record IsNewPair (e : Ends) (c : Caller) : Type 0 where
   pub caller : IsNewCaller (λ _. names_at (Some e)) 0 c
   pub history : ends_history e ≡ nothing_yet
+  pub room : known_free e.answers ≡ 16
 
 -- each of the kernel's ends has its new caller
 abbrev pub PairUp : List Ends → List Caller → Type 0

@@ -1,5 +1,6 @@
 -- Lines that are printed one after the other.
-use Rattle.std.proofs.Common.{◌≡◌, ◌∙◌, ◌<◌, ℕ, List, [], ◌∷◌, ◌++◌, flat_map, length, Option, sym, ap, subst, arith}
+use Rattle.std.proofs.lemmas.Bool.{cases_lt, le-leb, lt-leb}
+use Rattle.std.proofs.Common.{◌≡◌, ◌∙◌, ◌<◌, ◌≤◌, ◌+◌, ◌-◌, ℕ, nat_le, ⊎_elim, List, [], ◌∷◌, ◌++◌, flat_map, length, Option, sym, ap, subst, arith}
 use Rattle.std.proofs.KnownBytes.{Appends-trans}
 use Rattle.std.proofs.lemmas.Grind.{flat_map-append}
 use Rattle.std.proofs.lemmas.List.{append_assoc, flat_map_more}
@@ -28,3 +29,10 @@ next_known a [] known next behind more one two some = absurd (omega (arith, some
 next_known a (x ∷ rest) known next behind more one two some =
     let all : x ∷ (rest ++ (behind ++ more)) ≡ a ∷ next = sym (append_assoc (x ∷ rest) behind more) ∙ ap (λ (l : List Answer). l ++ more) one ∙ two in
     (rest, ap (λ (h : Answer). h ∷ rest) (head_is x a (rest ++ (behind ++ more)) next all), (behind ++ more, tail_is x a (rest ++ (behind ++ more)) next all))
+
+-- so many behind the first make all
+pub enough : (w a k : ℕ) → nat_le (w - a) k ≡ nat_le w (a + k)
+enough w a k = ⊎_elim
+    (λ (over : a + k < w). lt-leb (w - a) k (omega (arith, over)) ∙ sym (lt-leb w (a + k) over))
+    (λ (le : w ≤ a + k). le-leb (w - a) k (omega (arith, le)) ∙ sym (le-leb w (a + k) le))
+    (cases_lt (a + k) w)

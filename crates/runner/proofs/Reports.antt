@@ -1,7 +1,10 @@
 -- Reports of processes, one after the other.
 use Rattle.std.proofs.Common.{◌≡◌, ◌+◌, ℕ, zero, suc, List, [], ◌∷◌, ◌++◌, length, Option, Some, Result, Ok, Err, refl, subst, ap, sym, ◌∙◌}
 use Rattle.std.proofs.lemmas.List.{append_assoc, length-append}
-use Rattle.std.specs.Prelude.{IsOk, OnOk, slice_get}
+use Rattle.std.specs.Prelude.{Bool, ◌&&◌, IfOk, MatchResult, slice_get}
+use Rattle.std.specs.List.{list_all}
+use Rattle.std.proofs.lemmas.List.Folds.{list_all-append}
+use mathlib.Core.Bool.{and-true}
 use Rattle.std.proofs.lemmas.Option.{same_Some}
 use Rattle.blocks.specs.Disk.{Image}
 use Rattle.blocks.specs.declared.disk.Disk as disk_trait
@@ -23,8 +26,8 @@ use Rattle.runner.specs.Reports.{IsReport, IsReported, PrintsReport}
 use Rattle.runner.proofs.Lines.{one_more_line}
 
 -- a report behind others
-pub each_more : (reports : List (List ℕ)) (t : List ℕ) (P : ℕ → List ℕ → Type 0) → ((p : ℕ) (text : List ℕ) → slice_get reports p ≡ Some text → P p text) → P (length reports) t
-    → (p : ℕ) (text : List ℕ) → slice_get (reports ++ t ∷ []) p ≡ Some text → P p text
+pub each_more : {R : Type 0} (reports : List R) (t : R) (P : ℕ → R → Type 0) → ((p : ℕ) (text : R) → slice_get reports p ≡ Some text → P p text) → P (length reports) t
+    → (p : ℕ) (text : R) → slice_get (reports ++ t ∷ []) p ≡ Some text → P p text
 each_more [] t P old here zero text at = subst (P 0) (same_Some t text at) here
 each_more [] t P old here (suc p) text at = absurd (cc at)
 each_more (r ∷ rs) t P old here zero text at = old zero text at
@@ -36,8 +39,8 @@ client_at [] behind c = refl
 client_at (x ∷ before) behind c = client_at before behind c
 
 -- a report is of a kernel whatever its intake is
-pub report_still : {D I H : Type 0} (n : ℕ) (k : State D I H) (i : I) (p : ℕ) (ops : List Op) (text : List ℕ) → IsReport n (record k { intake = i }) p ops text → IsReport n k p ops text
-report_still n k i p ops text r = record {
+pub report_still : {D I H : Type 0} (n : ℕ) (k : State D I H) (i : I) (p : ℕ) (ops : List Op) (all : Bool) (text : List ℕ) → IsReport n (record k { intake = i }) p ops all text → IsReport n k p ops all text
+report_still n k i p ops all text r = record {
   submitted = r.submitted;
   behind = r.behind;
   first = r.first;
@@ -60,6 +63,7 @@ report_still n k i p ops text r = record {
     all = r.accounts.all;
   };
   is = r.is;
+  whole = r.whole;
 }
 
 -- nothing but the intake changed, and then again
@@ -67,17 +71,20 @@ pub same_still : {D I H : Type 0} (k l m : State D I H) → l ≡ record k { int
 same_still {D} {I} {H} k l m before here = here ∙ ap (λ (s : State D I H). record s { intake = m.intake }) before
 
 -- one report more, of a kernel whose intake has changed
-pub one_more_report : {D I H : Type 0} (image : D → Image) (k l : State D I H) → l ≡ record k { intake = l.intake } → (ops : ℕ → List Op) (p : ℕ) (mine : List Op) → mine ≡ ops p → (old mid new : Option (List ℕ))
-    → IsReported (inode_count_of (image k.opening)) k ops p old mid → PrintsReport (inode_count_of (image l.opening)) l p mine mid new → IsReported (inode_count_of (image k.opening)) k ops (p + 1) old new
-one_more_report {D} {I} {H} image k l same ops p mine are old mid new first (text, is, printed) =
+pub one_more_report : {D I H : Type 0} (image : D → Image) (k l : State D I H) → l ≡ record k { intake = l.intake } → (ops : ℕ → List Op) (p : ℕ) (mine : List Op) → mine ≡ ops p → (were all : Bool) (old mid new : Option (List ℕ))
+    → IsReported (inode_count_of (image k.opening)) k ops p were old mid → PrintsReport (inode_count_of (image l.opening)) l p mine were all mid new → IsReported (inode_count_of (image k.opening)) k ops (p + 1) all old new
+one_more_report {D} {I} {H} image k l same ops p mine are were all old mid new first more =
     let n = inode_count_of (image k.opening) in
-    let here : IsReport n k p mine text = report_still n k l.intake p mine text (subst (λ (m : State D I H). IsReport (inode_count_of (image m.opening)) m p mine text) same is) in
-    let its : IsReport n k p (ops p) text = subst (λ o. IsReport n k p o text) are here in
+    let r : Bool × List ℕ = (more.mine, more.text) in
+    let here : IsReport n k p mine more.mine more.text =
+    report_still n k l.intake p mine more.mine more.text (subst (λ (m : State D I H). IsReport (inode_count_of (image m.opening)) m p mine more.mine more.text) same more.is) in
+    let its : IsReport n k p (ops p) more.mine more.text = subst (λ o. IsReport n k p o more.mine more.text) are here in
     record {
-      reports = first.reports ++ text ∷ [];
-      count = length-append first.reports (text ∷ []) ∙ ap (λ m. m + 1) first.count;
-      each = each_more first.reports text (λ q t. IsReport n k q (ops q) t) first.each (subst (λ q. IsReport n k q (ops q) text) (sym first.count) its);
-      printed = one_more_line (λ t. t) first.reports text old mid new first.printed printed;
+      reports = first.reports ++ r ∷ [];
+      count = length-append first.reports (r ∷ []) ∙ ap (λ m. m + 1) first.count;
+      each = each_more first.reports r (λ q t. IsReport n k q (ops q) t.0 t.1) first.each (subst (λ q. IsReport n k q (ops q) more.mine more.text) (sym first.count) its);
+      whole = more.both ∙ ap (λ b. b && more.mine) first.whole ∙ sym (list_all-append (λ (t : Bool × List ℕ). t.0) first.reports (r ∷ []) ∙ ap (λ b. list_all (λ (t : Bool × List ℕ). t.0) first.reports && b) (and-true more.mine));
+      printed = one_more_line (λ (t : Bool × List ℕ). t.1) first.reports r old mid new first.printed more.printed;
     }
 
 -- what is kept of a process, of a kernel whose intake has changed
@@ -87,10 +94,11 @@ own_still {D} {I} {H} image k l same p mine ops are own =
     subst (λ o. KeepsFirst (inode_count_of (image k.opening)) k.world.journal.list p o) are (subst (λ (m : State D I H). KeepsFirst (inode_count_of (image m.opening)) m.world.journal.list p mine) same own)
 
 -- where the reports before could not be printed, none is
-pub reports_then : (r before : Result (Unit {0}) Unwritten) (A B C : Type 0) → (A → B → C) → OnOk before A → OnOk r (IsOk before × B) → OnOk r C
-reports_then (Ok _) (Ok _) A B C f a b = f a b.1
-reports_then (Ok _) (Err e) A B C f a b = absurd (cc b.0)
-reports_then (Err e) before A B C f a b = b
+pub reports_then : (r before : Result Bool Unwritten) (A : Bool → Type 0) (B : Bool → Bool → Type 0) (C : Bool → Type 0) → ((were all : Bool) → A were → B were all → C all)
+    → IfOk before A → IfOk r (λ all. MatchResult before (λ were. B were all) (λ _. ⊥)) → IfOk r C
+reports_then (Ok all) (Ok were) A B C f a b = f were all a b
+reports_then (Ok all) (Err e) A B C f a b = absurd b
+reports_then (Err e) before A B C f a b = tt
 
 -- the operations of a client, of which the first were handed in and the first of these taken
 taken_first : (ops submitted behind taken rest : List Op) → ops ≡ submitted ++ behind → submitted ≡ taken ++ rest → ops ≡ taken ++ (rest ++ behind)

@@ -1,5 +1,6 @@
 -- A kernel that was opened and served, and what its clients came to.
-use Rattle.std.proofs.Common.{◌≡◌, ◌∙◌, ◌<◌, ℕ, List, length, Option, Some, sym, ap, subst, arith, ⊎_elim}
+use Rattle.std.proofs.Common.{◌≡◌, ◌∙◌, ◌<◌, ℕ, List, length, Option, Some, None, sym, ap, subst, arith, ⊎_elim}
+use Rattle.std.specs.Prelude.{Bool, false}
 use Rattle.std.proofs.lemmas.List.{length-replicate}
 use Rattle.std.proofs.lemmas.Option.{slice_get_cases, slice_get_within}
 use Rattle.blocks.specs.Disk.{Image, LeavesOnly}
@@ -7,6 +8,7 @@ use Rattle.blocks.specs.declared.disk.Disk.{Ghosts}
 use Rattle.wal.specs.declared.types.DeviceFault.{DeviceFault}
 use Rattle.model.specs.Layout.{inode_count_of}
 use Rattle.wal.specs.Recovery.{LeavesIfCalm}
+use Rattle.wal.specs.Volume.{faults_after}
 use Rattle.ports.specs.declared.herald.Herald as herald_trait
 use Rattle.ports.specs.declared.intake.Intake as intake_trait
 use Rattle.rings.specs.Callers.{intake_names}
@@ -28,7 +30,7 @@ use Rattle.kernel.specs.declared.types.OpenFault.{OpenFault}
 use Rattle.opening.specs.Lemmas.Keeping.{not_opened_leaves, not_opened_name}
 use Rattle.opening.specs.Openings.{IsNotOpened}
 use Rattle.runner.specs.declared.refusals.RunRefusal.{RunRefusal}
-use Rattle.runner.specs.declared.refusals.RunRefusal.TheVariants.{Unopened, Thread, Disk, Output}
+use Rattle.runner.specs.declared.refusals.RunRefusal.TheVariants.{Unopened, Thread, Disk, Unanswered, Output}
 use Rattle.runner.specs.Reports.{IsReport}
 use Rattle.runner.specs.Running.{Ends, HasNotBegun, IsEndedBy, IsNotRun, IsServed, KeepsTasks, Ringed}
 
@@ -38,16 +40,17 @@ ops_are names tasks processes cs are p low =
     ⊎_elim (λ here. ap ops_in here.2 ∙ (are.each p here.0 here.2).all) (λ past. let no = past.0 in absurd (omega (arith, low, no))) (slice_get_cases cs p).1
 
 -- what they came to is what its processes did
-pub ends_so : {D I H : Type 0} (n : ℕ) (k : State D I H) (names : ℕ → Option Names) (tasks : List Task) (processes : ℕ) (cs : List Client) (fault : Option DeviceFault) (old new : Option (List ℕ)) → AreClients names tasks processes cs
-    → Ends n k (ops_at cs) (length cs) fault old new → Ends n k (λ p. ops_of p tasks) processes fault old new
-ends_so n k names tasks processes cs fault old new are ends = record {
+pub ends_so : {D I H : Type 0} (n : ℕ) (k : State D I H) (names : ℕ → Option Names) (tasks : List Task) (processes : ℕ) (cs : List Client) (fault : Option DeviceFault) (all : Bool) (old new : Option (List ℕ)) → AreClients names tasks processes cs
+    → Ends n k (ops_at cs) (length cs) fault all old new → Ends n k (λ p. ops_of p tasks) processes fault all old new
+ends_so n k names tasks processes cs fault all old new are ends = record {
   tells = ends.tells;
   reported = record {
     reports = ends.reported.reports;
     count = ends.reported.count ∙ are.count;
-    each = λ p text at. subst (λ ops. IsReport n k p ops text)
-        (ops_are names tasks processes cs are p (subst (λ m. p < m) ends.reported.count (slice_get_within ends.reported.reports p text at)))
-        (ends.reported.each p text at);
+    each = λ p r at. subst (λ ops. IsReport n k p ops r.0 r.1)
+        (ops_are names tasks processes cs are p (subst (λ m. p < m) ends.reported.count (slice_get_within ends.reported.reports p r at)))
+        (ends.reported.each p r at);
+    whole = ends.reported.whole;
     printed = ends.reported.printed;
   };
 }
@@ -84,6 +87,10 @@ module _ {D N H : Type 0} (disk : Ghosts D N) (has_now : (d : D) → disk.leaves
     now = is;
     keeps = subst (λ o. (x : Image) → disk.leaves o (disk.moment o) x → KeepsNow m.store.volume.log.committed (most_of m.store.volume) (disk.image m.opening) m.world.journal.list x) (sym is) known.stop.keeps;
     current = known.current;
+    replays = known.replays;
+    unanswered = known.unanswered;
+    journal = known.journal;
+    faults = ap disk.fault_count is ∙ known.faults ∙ ap (faults_after m.store.volume.fault) (ap disk.fault_count origin.runs.opening ∙ opened.faults);
     leaves = subst (λ o. LeavesIfCalm disk d o P) (sym is) (leaves_some known.stop.since);
   }
 
@@ -91,7 +98,8 @@ module _ {D N : Type 0} (disk : Ghosts D N) (d e : D) (tasks : List Task) (proce
   -- what a run that was refused came to
   pub not_run : (m : Ringed D) (names : ℕ → Option Names) (cs : List Client) → IsServed disk d e processes m → AreClients names tasks processes cs → KeepsTasks disk tasks processes m
       → (r : RunRefusal) → IsEndedBy (inode_count_of (disk.image m.opening)) m (ops_at cs) (length cs) old new r → IsNotRun disk d e tasks processes old new none r
-  not_run m names cs served are own (Disk fault) why = record { last = m; served = served; own = own; ends = ends_so (inode_count_of (disk.image m.opening)) m names tasks processes cs (Some fault) old new are why }
+  not_run m names cs served are own (Disk fault) (all, why) = (all, record { last = m; served = served; own = own; ends = ends_so (inode_count_of (disk.image m.opening)) m names tasks processes cs (Some fault) all old new are why })
+  not_run m names cs served are own Unanswered why = record { last = m; served = served; own = own; ends = ends_so (inode_count_of (disk.image m.opening)) m names tasks processes cs None false old new are why }
   not_run m names cs served are own Output why = record { last = m; served = served; own = own }
   not_run m names cs served are own (Unopened fault) why = absurd why
   not_run m names cs served are own Thread why = absurd why

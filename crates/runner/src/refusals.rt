@@ -15,6 +15,8 @@ pub enum RunRefusal {
     Thread,
     /// A step found that the disk failed.
     Disk(DeviceFault),
+    /// An operation has no answer.
+    Unanswered,
     /// The output can't be written.
     Output,
 }
@@ -27,6 +29,7 @@ impl Reason for RunRefusal {
             RunRefusal::Unopened(fault) => open_told(fault),
             RunRefusal::Thread => Told::new("run", 1, "Thread"),
             RunRefusal::Disk(fault) => fault.told(),
+            RunRefusal::Unanswered => Told::new("run", 3, "Unanswered"),
             RunRefusal::Output => Unwritten.told(),
         }
     }

@@ -1,5 +1,5 @@
 // A script's operations over a disk, by threads.
-ghost use Rattle.std.specs.Prelude.{◌≡◌, ◌<◌, ℕ, false, length, All, IfOk, OnOk, IfErr, IfSome, None};
+ghost use Rattle.std.specs.Prelude.{◌≡◌, ◌<◌, ℕ, false, true, length, All, IfOk, OnOk, IfErr, IfSome, None};
 ghost use Rattle.rings.specs.Boards.{KeeperOf, WatchOf, published};
 ghost use Rattle.clients.specs.Clients.{AreSameClients, HaveRings, ops_at};
 ghost use Rattle.history.specs.Own.{KeepsOwn};
@@ -52,7 +52,8 @@ impl Gate for NoGate {
 /// `Unopened` with a fault of the kernel's opening, with `NoMemory` also where memory for the
 /// operations, the rings or the board is refused: then nothing was printed, and whatever a stop
 /// leaves is recovered to the same image. `Thread` where no thread can be started, and then nothing
-/// was printed either. `Disk` with the kernel's fault, and then all was printed; else `Output`.
+/// was printed either. With these two all was printed: `Disk` with the kernel's fault, and
+/// `Unanswered` where an operation has no answer, which by the code can't come. Else `Output`.
 pub fn run_disk<D: Disk + Drop + Send, R: Threads + Wait + Clock + AllocGlobal + Sync, O: Write>(
     rt: &R,
     disk: D,
@@ -63,7 +64,7 @@ pub fn run_disk<D: Disk + Drop + Send, R: Threads + Wait + Clock + AllocGlobal +
 ) -> (Result<(), RunRefusal>, D)
     requires tasks { All (λ task. task.pid < processes) tasks.items }
     requires workers { AreWorkers workers }
-    ensures ran { OnOk result.0 (Runs D.Disk disk result.1 tasks.items processes None
+    ensures ran { OnOk result.0 (Runs D.Disk disk result.1 tasks.items processes None true
         (O.contents out.old) (O.contents out.new)) }
     ensures refused { IfErr result.0 (IsNotRun D.Disk disk result.1 tasks.items processes
         (O.contents out.old) (O.contents out.new) (out.new ≡ out.old)) }
@@ -146,7 +147,7 @@ fn close<D: Disk + Drop, H: Herald, O: Write>(
     ensures own { KeepsOwn (inode_count_of (D.image kernel.opening)) kernel.world.journal.list
         (length clients.items) (ops_at clients.items) }
     ensures ended { OnOk result.0 (Ends (inode_count_of (D.image kernel.opening)) kernel
-        (ops_at clients.items) (length clients.items) None
+        (ops_at clients.items) (length clients.items) None true
         (O.contents out.old) (O.contents out.new)) }
     ensures refused { IfErr result.0 (IsEndedBy (inode_count_of (D.image kernel.opening)) kernel
         (ops_at clients.items) (length clients.items)
@@ -156,8 +157,9 @@ fn close<D: Disk + Drop, H: Herald, O: Write>(
     let reported = report(&mut kernel, clients, out);
     let disk = kernel.into_disk();
     match (reported, fault) {
-        (Ok(()), Some(fault)) => (Err(RunRefusal::Disk(fault)), disk),
-        (Ok(()), None) => (Ok(()), disk),
+        (Ok(_), Some(fault)) => (Err(RunRefusal::Disk(fault)), disk),
+        (Ok(true), None) => (Ok(()), disk),
+        (Ok(false), None) => (Err(RunRefusal::Unanswered), disk),
         (Err(Unwritten), _) => (Err(RunRefusal::Output), disk),
     }
 }

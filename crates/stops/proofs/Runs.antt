@@ -68,15 +68,16 @@ handed_on made (Ok x) P is has = subst (λ m. IfOk m P) is has
 handed_on made (Err _) P is has = tt
 
 -- over a new image no player was opened: a mismatch is a refusal for another cause than want of memory
-pub unopened_new : {A D N : Type 0} (below : Ghosts D N) (disk : Ghosts (FaultyDisk D) (N × Trap)) (processes : ℕ) (before : D) (made : Result A (OpenFault × D)) (r : Result A StopsFault) → below.image before ≡ new_image
-    → IfErr r (λ f. f ≡ Mismatch → IsErrAnd made (λ e. is_want_of_memory e.0 ≡ false)) → IfErr made (λ e. IsUnopenedOver disk processes before e.1 e.0) → IfErr r (λ f. f ≡ Mismatch → IsUnopenedNew below disk processes)
-unopened_new below disk processes before made (Ok _) new other refused = tt
-unopened_new below disk processes before (Ok _) (Err f) new other refused = λ mismatch. absurd (other mismatch)
-unopened_new below disk processes before (Err e) (Err f) new other refused = λ mismatch. record {
+pub unopened_new : {A D N : Type 0} (below : Ghosts D N) (disk : Ghosts (FaultyDisk D) (N × Trap)) (IsKind : D → Type 0) (processes stop : ℕ) (before : D) (made : Result A (OpenFault × D)) (r : Result A StopsFault) → below.image before ≡ new_image → IsKind before
+    → IfErr r (λ f. f ≡ Mismatch → IsErrAnd made (λ e. is_want_of_memory e.0 ≡ false)) → IfErr made (λ e. IsUnopenedOver disk processes stop before e.1 e.0) → IfErr r (λ f. f ≡ Mismatch → IsUnopenedNew below disk IsKind processes stop)
+unopened_new below disk IsKind processes stop before made (Ok _) new kind other refused = tt
+unopened_new below disk IsKind processes stop before (Ok _) (Err f) new kind other refused = λ mismatch. absurd (other mismatch)
+unopened_new below disk IsKind processes stop before (Err e) (Err f) new kind other refused = λ mismatch. record {
   before = before;
   now = e.1;
   fault = e.0;
   new = new;
+  kind = kind;
   unopened = refused;
   other = other mismatch;
 }

@@ -1,5 +1,5 @@
 -- The runs of a script over a disk that holds writes back, and the images that their stops may leave.
-use Rattle.std.specs.Prelude.{◌≡◌, ◌⊎◌, ◌+◌, ◌-◌, ℕ, zero, suc, Bool, List, length, min, option_map, ◌^◌}
+use Rattle.std.specs.Prelude.{◌≡◌, ◌<◌, ◌⊎◌, ◌+◌, ◌-◌, ℕ, zero, suc, Bool, List, length, min, option_map, ◌^◌}
 use Rattle.blocks.specs.FaultyDisk.{inner_of, kind_of, trap_of}
 use Rattle.blocks.specs.SyncDisk.{held_of}
 use Rattle.blocks.specs.contracts.sync.SyncDiskDisk.TheImpl.{ghosts}
@@ -138,7 +138,8 @@ pub record HasLostHeld (tasks : List Task) (processes : ℕ) (words : List Word)
 -- why a run doesn't pass
 abbrev pub FailsHeld : List Task → ℕ → List Word → ℕ → ℕ → Type 0
 FailsHeld tasks processes words write sync =
-    HasLostHeld tasks processes words write sync ⊎ IsUnopenedNew below over processes
+    HasLostHeld tasks processes words write sync
+    ⊎ IsUnopenedNew below over (FailsSync sync) processes write
 
 -- The call that a run is stopped before, where so many of its kind were made in front of it: the
 -- number of the write, and that of the sync, for which the opening's is the first.
@@ -195,4 +196,6 @@ pub record AllHeldPass (tasks : List Task) (processes : ℕ) (words : List Word)
 -- the whole run doesn't pass, or one of those that are stopped
 abbrev pub SomeHeldFails : List Task → ℕ → List Word → Type 0
 SomeHeldFails tasks processes words = FailsHeld tasks processes words 0 0
-    ⊎ ((calls : Calls) × (before : ℕ) × FailsHeldBehind tasks processes words calls before)
+    ⊎ ((run : HeldRun) × IsTriedHeld tasks processes words 0 0 run
+    × (calls : Calls) × (before : ℕ) × (before < calls_of calls run)
+    × FailsHeldBehind tasks processes words calls before)

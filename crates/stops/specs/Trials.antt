@@ -1,5 +1,5 @@
 -- The runs of a script over a new image, and whether what they leave has the files that it has to.
-use Rattle.std.specs.Prelude.{◌≡◌, ◌≢◌, ◌<◌, ◌⊎◌, ◌+◌, ◌-◌, ℕ, false, List, option_map}
+use Rattle.std.specs.Prelude.{◌≡◌, ◌≢◌, ◌<◌, ◌⊎◌, ◌+◌, ◌-◌, ⊤, ℕ, false, List, option_map}
 use Rattle.blocks.specs.Disk.{counted}
 use Rattle.blocks.specs.contracts.memory.MemDiskDisk.TheImpl.{ghosts}
 use Rattle.blocks.specs.declared.disk.Disk.{Ghosts}
@@ -101,20 +101,23 @@ pub record HasLost (tasks : List Task) (processes : ℕ) (words : List Word) (st
   pub run : MakesRun memory tasks processes words stop player last
   pub lost : ¬ (IsKept last)
 
--- over a new image no player was opened, and not for want of memory
+-- Over a new image, on a disk of that kind of which that write is not made, no player was opened, and
+-- not for want of memory.
 pub record IsUnopenedNew {D N : Type 0} (below : Ghosts D N)
-    (disk : Ghosts (FaultyDisk D) (N × Trap)) (processes : ℕ) : Type 0 where
-  pub before : D
-  pub now : D
-  pub fault : OpenFault
-  pub new : below.image before ≡ new_image
-  pub unopened : IsUnopenedOver disk processes before now fault
-  pub other : is_want_of_memory fault ≡ false
+    (disk : Ghosts (FaultyDisk D) (N × Trap)) (IsKind : D → Type 0) (processes stop : ℕ) : Type 0
+  where
+    pub before : D
+    pub now : D
+    pub fault : OpenFault
+    pub new : below.image before ≡ new_image
+    pub kind : IsKind before
+    pub unopened : IsUnopenedOver disk processes stop before now fault
+    pub other : is_want_of_memory fault ≡ false
 
 -- why a run doesn't pass
 abbrev pub Fails : List Task → ℕ → List Word → ℕ → Type 0
 Fails tasks processes words stop = HasLost tasks processes words stop
-    ⊎ IsUnopenedNew ghosts memory processes
+    ⊎ IsUnopenedNew ghosts memory (λ _. ⊤) processes stop
 
 -- the run that is stopped behind so many writes made just these, and kept its files
 abbrev pub Passes : List Task → ℕ → List Word → ℕ → Type 0
@@ -137,4 +140,5 @@ pub record AllPass (tasks : List Task) (processes : ℕ) (words : List Word) (im
 -- the whole run doesn't pass, or one of those that are stopped
 abbrev pub SomeFails : List Task → ℕ → List Word → Type 0
 SomeFails tasks processes words = Fails tasks processes words 0
-    ⊎ ((before : ℕ) × FailsBehind tasks processes words before)
+    ⊎ ((writes : ℕ) × IsTried tasks processes words 0 writes
+    × (before : ℕ) × (before < writes) × FailsBehind tasks processes words before)

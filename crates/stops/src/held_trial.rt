@@ -215,7 +215,8 @@ fn open<'a>(
         FailsSync sync (inner_of player.kernel.store.volume.device)) }
     ensures processes { IfOk result (λ player. length player.kernel.world.processes ≡ processes) }
     ensures seated { IfOk result IsSeated }
-    ensures fails { IfErr result (λ f. f ≡ fault.Mismatch → IsUnopenedNew below over processes) }
+    ensures fails { IfErr result (λ f. f ≡ fault.Mismatch
+        → IsUnopenedNew below over (FailsSync sync) processes write) }
 {
     let image = new_image(alloc)?;
     let held = SyncDisk::new(alloc, image)?;

@@ -82,7 +82,7 @@ fn try_before<P: Meter>(
     requires words { IsTrue (list_all (is_word_of processes) words.now) }
     requires some { sync_behind calls count ≤ 2 ^ 64 }
     ensures all { IfOk result (PassEach tasks.now processes words.now calls count) }
-    ensures some { IfErr result (λ f. f ≡ fault.Mismatch → (before : ℕ)
+    ensures some { IfErr result (λ f. f ≡ fault.Mismatch → (before : ℕ) × (before < count)
         × FailsHeldBehind tasks.now processes words.now calls before) }
 {
     let mut images = 0u64;

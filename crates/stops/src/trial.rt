@@ -1,5 +1,5 @@
 // One run, and whether the image that it leaves has the files that it has to have.
-ghost use Rattle.std.specs.Prelude.{◌≡◌, ◌<◌, false, All, IfOk, IfErr, IsTrue, length, option_map};
+ghost use Rattle.std.specs.Prelude.{◌≡◌, ◌<◌, ⊤, false, All, IfOk, IfErr, IsTrue, length, option_map};
 ghost use Rattle.std.specs.Result.{IsOkAnd};
 ghost use Rattle.rings.specs.Boards.{KeeperOf, WatchOf, asked, published};
 ghost use Rattle.player.specs.Opening.{IsArmed, IsOpenedOver};
@@ -136,7 +136,7 @@ fn open<'a>(
     ensures processes { IfOk result (λ player. length player.kernel.world.processes ≡ processes) }
     ensures seated { IfOk result IsSeated }
     ensures fails { IfErr result (λ f. f ≡ fault.Mismatch
-        → IsUnopenedNew ⟦<MemDisk as Disk>⟧ memory processes) }
+        → IsUnopenedNew ⟦<MemDisk as Disk>⟧ memory (λ _. ⊤) processes stop) }
 {
     let disk = new_image(alloc)?;
     let tasks = copies_of(alloc, tasks)?;

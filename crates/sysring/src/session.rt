@@ -65,8 +65,8 @@ impl<D: Disk, H: Herald, K: Origin<D, H>> Session<D, H, K> {
         &self.kernel
     }
 
-    /// A step of a process, as `Kernel::step` makes it.
-    pub fn step(&mut self, pid: u32) -> Step
+    // A step of a process, as `Kernel::step` makes it. It wakes nobody: `Shared::step` does.
+    pub(crate) fn step(&mut self, pid: u32) -> Step
         requires { pid < processes_in K.outset }
         ensures { MakesStep D.Disk ⟦<RingIntake as Intake>⟧ H.Herald pid result self.old self.new }
     {

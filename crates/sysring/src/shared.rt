@@ -74,8 +74,9 @@ impl<D: Disk, H: Herald, K: Origin<D, H>> Shared<D, H, K> {
         kernel
     }
 
-    // Makes a step of a process under the lock, and wakes all who wait where it changed something.
-    pub(crate) fn step<R: Wait>(&self, rt: &R, pid: u32) -> Step
+    /// Makes a step of a process under the lock, as `Kernel::step` makes it. By its code it wakes
+    /// all who wait where that changed something.
+    pub fn step<R: Wait>(&self, rt: &R, pid: u32) -> Step
         requires { pid < processes_in K.outset }
     {
         let mut kernel = self.lock(rt);

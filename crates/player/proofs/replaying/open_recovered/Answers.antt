@@ -22,8 +22,8 @@ returns-in-Err-open_player-clause-refused g c =
     let r = c.in_default.ensures.ok in
     record {
       cause = inr (mid, subst (λ n. IsRecovered g.D.Disk n c.args.disk mid) r.count r, c.in-Err-open_player.ensures.refused);
-      name = over_name g.D.Disk c.args.processes mid e fault c.in-Err-open_player.ensures.refused ∙ c.recover_image.ensures.name;
-      leaves = recovered_then g.D.Disk c.args.disk mid e r.sound r.image c.in_default.ensures.settled c.recover_image.ensures.stops.any_moment (over_only g.D.Disk c.args.processes mid e fault c.in-Err-open_player.ensures.refused);
+      name = over_name g.D.Disk c.args.processes c.args.stop mid e fault c.in-Err-open_player.ensures.refused ∙ c.recover_image.ensures.name;
+      leaves = recovered_then g.D.Disk c.args.disk mid e r.sound r.image c.in_default.ensures.settled c.recover_image.ensures.stops.any_moment (over_only g.D.Disk c.args.processes c.args.stop mid e fault c.in-Err-open_player.ensures.refused);
     }
 
 pub returns-in-Ok-clause-ready : goal.returns-in-Ok-clause-ready

@@ -14,7 +14,7 @@ run-ran-requires-clause-words g c = subst (λ n. IsTrue (list_all (is_word_of n)
 
 pub returns-in-Err-opened-clause-refused : goal.returns-in-Err-opened-clause-refused
 returns-in-Err-opened-clause-refused g c =
-    not_begun g.D.Disk (faulty g.D.Disk) c.args.processes c.args.disk c.in-Err-opened.disk c.args.tasks.items c.args.words.now _ (g.O.Write.contents c.args.out.now) (g.O.Write.contents c.args.out.now) _ c.in-Err-opened.refusal c.in-Err-opened.ensures.refused refl
+    not_begun g.D.Disk (faulty g.D.Disk) c.args.processes c.args.disk c.in-Err-opened.disk c.args.tasks.items c.args.words.now c.unwrap_or-stop.result _ c.unwrap_or-stop.ensures (g.O.Write.contents c.args.out.now) (g.O.Write.contents c.args.out.now) _ c.in-Err-opened.refusal c.in-Err-opened.ensures.refused refl
 
 pub returns-clause-printed : goal.returns-clause-printed
 returns-clause-printed g c =

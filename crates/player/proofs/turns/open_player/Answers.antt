@@ -1,5 +1,6 @@
 use Rattle.std.proofs.Common.{◌∙◌, ap, inr, length, subst, sym}
 use Rattle.std.proofs.lemmas.List.{length-replicate}
+use Rattle.blocks.specs.declared.faulty.Trap.{Trap}
 use Rattle.clients.specs.Feeders.{HaveSourceRings}
 use Rattle.rings.specs.Callers.{intake_names}
 use Rattle.player.specs.Disks.{faulty}
@@ -24,6 +25,8 @@ returns-in-Err-open-clause-refused g c =
     inr (record {
       over = c.new-disk.result;
       now = c.in-Err-open.disk;
+      kind = ap (λ (t : Trap). t.kind) c.new-disk.ensures.trap;
+      nth = ap (λ (t : Trap). t.nth) c.new-disk.ensures.trap;
       below = c.new-disk.ensures.inner;
       below_now = sym c.into_inner.ensures;
       refuses = c.in-Err-open.ensures.refused;

@@ -18,7 +18,8 @@ loop-client-init g c =
       reported = record {
         reports = [];
         count = refl;
-        each = λ p text at. absurd (cc at);
+        each = λ p r at. absurd (cc at);
+        whole = refl;
         printed = Appends-nil (g.O.Write.contents c.args.out.now);
       };
       own = λ p low. absurd (omega (arith, low));
@@ -50,14 +51,24 @@ loop-client-preserved g c =
       all = here ∙ sym (append_assoc c.loop-client.yielded (c.in-Some.client ∷ []) c.next.new.self.rest.items);
       few = inv.few;
       reported = reports_then c.report_one-reported.result c.loop-client.reported _ _ _
-          (λ first one. one_more_report g.D.Disk.image k c.loop-client.kernel inv.same ops c.loop-client.pid _ (sym (ap ops_in at)) _ _ _ first one) inv.reported made.reported;
+          (λ were all first one. one_more_report g.D.Disk.image k c.loop-client.kernel inv.same ops c.loop-client.pid _ (sym (ap ops_in at)) were all _ _ _ first one) inv.reported made.reported;
       own = below_more _ _ inv.own (own_still g.D.Disk.image k c.loop-client.kernel inv.same c.loop-client.pid _ (ops c.loop-client.pid) (sym (ap ops_in at)) made.own);
       same = same_still k c.loop-client.kernel c.report_one-reported.new.kernel inv.same made.same;
       names = λ p. made.names p ∙ inv.names p;
     }
 
-pub returns-in_err-reported-clause-own : goal.returns-in_err-reported-clause-own
-returns-in_err-reported-clause-own g c =
+pub returns-in_err-all-clause-own : goal.returns-in_err-all-clause-own
+returns-in_err-all-clause-own g c =
+    let inv = c.loop-client.invariant in
+    let left = c.loop-client.client-iterator.rest in
+    let none = c.in-None.ensures.steps.0 in
+    let is = left.ok.0 in
+    let pid = inv.pid in
+    let all = ap length inv.all ∙ length-append c.loop-client.yielded left.items in
+    λ p low. inv.own p (omega (arith, low, none, is, pid, all))
+
+pub returns-in_err-pass_on-clause-own : goal.returns-in_err-pass_on-clause-own
+returns-in_err-pass_on-clause-own g c =
     let inv = c.loop-client.invariant in
     let left = c.loop-client.client-iterator.rest in
     let none = c.in-None.ensures.steps.0 in

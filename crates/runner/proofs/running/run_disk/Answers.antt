@@ -1,4 +1,4 @@
-use Rattle.std.proofs.Common.{◌≡◌, ◌∙◌, None, refl, sym, subst}
+use Rattle.std.proofs.Common.{◌≡◌, ◌∙◌, None, true, refl, sym, subst}
 use Rattle.std.specs.Prelude.{IfSome}
 use Rattle.std.proofs.lemmas.Result.{IfErr-weaker, on_ok_weaker}
 use Rattle.model.specs.Layout.{inode_count_of}
@@ -38,7 +38,7 @@ returns-in-Some-clause-ran g c =
       last = called.result.1;
       served = is_served g.D.Disk law.has_now c.args.disk c.in-Ok.made.0 c.in-Ok-open.kernel.herald c.args.processes c.in-Ok-open.kernel called.result.1 c.in-Ok-open.ensures.opened called.ensures.origin _ _ called.ensures.known c.close.result.1 c.close.ensures.disk;
       own = keeps_tasks g.D.Disk called.result.1 (intake_names c.in-Ok.made.0) c.args.tasks.items c.args.processes c.in-Some.clients.items are c.close.ensures.own;
-      ends = ends_so (inode_count_of (g.D.Disk.image called.result.1.opening)) called.result.1 (intake_names c.in-Ok.made.0) c.args.tasks.items c.args.processes c.in-Some.clients.items None (g.O.Write.contents c.args.out.now) (g.O.Write.contents c.close.new.out) are ends;
+      ends = ends_so (inode_count_of (g.D.Disk.image called.result.1.opening)) called.result.1 (intake_names c.in-Ok.made.0) c.args.tasks.items c.args.processes c.in-Some.clients.items None true (g.O.Write.contents c.args.out.now) (g.O.Write.contents c.close.new.out) are ends;
     })
     c.close.ensures.ended
 

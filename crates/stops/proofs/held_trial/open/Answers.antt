@@ -31,4 +31,5 @@ returns-clause-trap c = IfOk-weaker c.opened.result _ _ (λ player same. record 
 
 pub returns-clause-fails : goal.returns-clause-fails
 returns-clause-fails c =
-    unopened_new _ _ _ c.new-disk.result c.open_player.result c.opened.result (ap ghosts.image c.new-disk.ensures.inner ∙ c.in_ok-held.ensures.image ∙ c.in_ok-image.ensures) c.opened.ensures.fault c.open_player.ensures.refused
+    unopened_new _ _ _ _ c.args.write c.new-disk.result c.open_player.result c.opened.result (ap ghosts.image c.new-disk.ensures.inner ∙ c.in_ok-held.ensures.image ∙ c.in_ok-image.ensures)
+    (record { kind = ap (λ (t : Trap). t.kind) c.new-disk.ensures.trap; nth = ap (λ (t : Trap). t.nth) c.new-disk.ensures.trap }) c.opened.ensures.fault c.open_player.ensures.refused

@@ -1,6 +1,7 @@
-use Rattle.std.proofs.Common.{arith}
+use Rattle.std.proofs.Common.{arith, inr}
 use Rattle.crash_check.specs.Lemmas.Counting.{one_more_passed}
 use Rattle.stops.specs.Trials.{Passes}
+use Rattle.stops.proofs.HeldRuns.{passed_on}
 use Rattle.stops.proofs.stopping.try_stops.Goals as goal
 
 pub loop-before-preserved : goal.loop-before-preserved
@@ -15,3 +16,8 @@ returns-clause-all g c =
       each = λ before below. c.loop-before.invariant before (omega (arith, below, all));
       count = c.saturating_add.ensures;
     }
+
+pub returns-in_err-try_stop-clause-some : goal.returns-in_err-try_stop-clause-some
+returns-in_err-try_stop-clause-some g c =
+    passed_on c.from_residual-in_err-try_stop.result c.in_err-try_stop.field-0.0 _ c.from_residual-in_err-try_stop.ensures.1
+    (λ mismatch. inr (c.in_ok-writes.writes, c.in_ok-writes.ensures.tried, c.loop-before.before, c.loop-before-test.true, c.in_err-try_stop.ensures.fails mismatch))

@@ -20,4 +20,4 @@ returns-clause-armed c = IfOk-weaker c.opened.result _ _ (λ player armed. armed
 
 pub returns-clause-fails : goal.returns-clause-fails
 returns-clause-fails c =
-    unopened_new _ _ _ c.in_ok-disk.disk c.open_player.result c.opened.result c.in_ok-disk.ensures c.opened.ensures.fault c.open_player.ensures.refused
+    unopened_new _ _ _ _ c.args.stop c.in_ok-disk.disk c.open_player.result c.opened.result c.in_ok-disk.ensures tt c.opened.ensures.fault c.open_player.ensures.refused
