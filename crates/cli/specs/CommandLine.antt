@@ -4,7 +4,7 @@ use Rattle.clap.specs.Words.{App, HasKind, Kinds, Row, Rule, new_app, new_rule, 
 use Rattle.clap.specs.declared.error.Error.{Error}
 use Rattle.clap.specs.declared.error.kind.ErrorKind.TheVariants as kind
 use Rattle.cli.specs.declared.words.Request.{Request}
-use Rattle.cli.specs.declared.words.Request.TheVariants.{Mkfs, Check, Recover, Cat, Ls, Df, Show, Put, Copy, Replay, Run, Stops}
+use Rattle.cli.specs.declared.words.Request.TheVariants.{Mkfs, Check, Recover, Cat, Ls, Df, Show, Put, Copy, Rescue, Replay, Run, Stops}
 use Rattle.clap.specs.declared.builder.command.Command.{Command}
 use Rattle.clap.specs.declared.builder.command.Command.TheViews.{out-Command}
 use Rattle.clap.specs.declared.builder.action.ArgAction.TheVariants.{SetTrue}
@@ -77,6 +77,10 @@ copy_app = with_rule (with_rule (with_rule (with_rule (waiting_app (codes "copy"
     (required_rule (codes "NEW"))) size_rule) (flag_rule (codes "sync")))
     (flag_rule (codes "no-sync"))
 
+abbrev pub rescue_app : App
+rescue_app = with_rule (with_rule (waiting_app (codes "rescue") (codes "OLD"))
+    (required_rule (codes "NEW"))) (flag_rule (codes "no-sync"))
+
 abbrev pub replay_app : App
 replay_app = with_rule (with_rule (with_rule (with_rule (image_app (codes "replay"))
     (required_rule (codes "SCRIPT"))) (required_rule (codes "SCHEDULE"))) stop_rule)
@@ -113,9 +117,9 @@ abbrev pub xvfs_app : App
 xvfs_app =
     with_subcommand (with_subcommand (with_subcommand (with_subcommand (with_subcommand
     (with_subcommand (with_subcommand (with_subcommand (with_subcommand (with_subcommand
-    (with_subcommand (with_subcommand bare_app mkfs_app.top) check_app.top)
+    (with_subcommand (with_subcommand (with_subcommand bare_app mkfs_app.top) check_app.top)
     (image_app (codes "ls")).top) (image_app (codes "df")).top) cat_app.top) show_app.top)
-    put_app.top) copy_app.top)
+    put_app.top) copy_app.top) rescue_app.top)
     recover_app.top) replay_app.top) run_app.top) stops_app.top
 
 -- a command of this shape, whose arguments are its own
@@ -175,6 +179,10 @@ AsksBy name rows (Put image file inum sync no_sync) = (name ≡ codes "put")
 AsksBy name rows (Copy old new size no_sync) = (name ≡ codes "copy")
     × (first_of (codes "OLD") rows ≡ Some old.now)
     × (first_of (codes "NEW") rows ≡ Some new.now) × HasChoice (codes "size") rows size
+    × HasFlag (codes "no-sync") rows no_sync
+AsksBy name rows (Rescue old new no_sync) = (name ≡ codes "rescue")
+    × (first_of (codes "OLD") rows ≡ Some old.now)
+    × (first_of (codes "NEW") rows ≡ Some new.now)
     × HasFlag (codes "no-sync") rows no_sync
 AsksBy name rows (Replay image script schedule stop sync) =
     (name ≡ codes "replay") × (first_of (codes "IMAGE") rows ≡ Some image.now)

@@ -79,7 +79,7 @@ const IMAGE_KEPT: Word = Word {
     help: "The path of the image's file, which is not changed",
 };
 
-pub(crate) static LINES: [Line; 12] = [
+pub(crate) static LINES: [Line; 13] = [
     Line {
         name: "mkfs",
         about: "Makes an image in a new file, or in place of an old one",
@@ -209,6 +209,25 @@ pub(crate) static LINES: [Line; 12] = [
                 name: "sync",
                 kind: Kind::Flag,
                 help: "Changes nothing, since a copy is synced before and after its superblock",
+            },
+            NO_SYNC,
+        ],
+    },
+    Line {
+        name: "rescue",
+        about: "Copies the files of a damaged image that are whole into a new one, and tells which these are",
+        example: "Example: xvfs rescue old.img new.img",
+        words: &[
+            Word {
+                name: "OLD",
+                kind: Kind::Needed,
+                help: "The path of the image's file, which is not changed",
+            },
+            WAIT,
+            Word {
+                name: "NEW",
+                kind: Kind::Needed,
+                help: "The path of the file that is made",
             },
             NO_SYNC,
         ],

@@ -109,6 +109,15 @@ pub enum Request<'a> {
         /// Whether the sync at the end is left out.
         no_sync: bool,
     },
+    /// The whole files of an image, copied into a new one.
+    Rescue {
+        /// The path of the image's file.
+        old: &'a str,
+        /// The path of the file that is made.
+        new: &'a str,
+        /// Whether the sync at the end is left out.
+        no_sync: bool,
+    },
     /// A script's operations over an image.
     Replay {
         /// The path of the image's file.
@@ -205,6 +214,7 @@ fn request_of<'a>(matches: &ArgMatches<'a>) -> Option<Request<'a>>
     match name {
         "stops" => stops_request(values),
         "copy" => copy_request(values),
+        "rescue" => rescue_request(values),
         "replay" => replay_request(values),
         "mkfs" => mkfs_request(values),
         "put" => put_request(values),
@@ -230,6 +240,16 @@ fn copy_request<'a>(values: &ArgMatches<'a>) -> Option<Request<'a>>
         old: values.get_str("OLD")?,
         new: values.get_str("NEW")?,
         size: values.get_one("size"),
+        no_sync: values.get_flag("no-sync"),
+    })
+}
+
+fn rescue_request<'a>(values: &ArgMatches<'a>) -> Option<Request<'a>>
+    ensures { IfSome result (AsksBy (codes "rescue") (rows_of (found_of values.now))) }
+{
+    Some(Request::Rescue {
+        old: values.get_str("OLD")?,
+        new: values.get_str("NEW")?,
         no_sync: values.get_flag("no-sync"),
     })
 }

@@ -1,4 +1,5 @@
 pub mod Copying
+pub mod Rescuing
 pub mod MakingLemmas
 pub mod Ended
 pub mod Putting

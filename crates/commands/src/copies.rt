@@ -157,7 +157,7 @@ fn make_copy<R: Files + AllocGlobal, P: Meter, H: Holder>(
 }
 
 // Takes the file at the path away where no copy was made in it.
-fn remove_refused<R: Files>(rt: &R, path: &str, copied: &Result<u32, CopyRefusal>) {
+pub(crate) fn remove_refused<R: Files, T>(rt: &R, path: &str, copied: &Result<T, CopyRefusal>) {
     if copied.is_err() {
         let _gone = remove_file(rt, path);
     }

@@ -10,6 +10,7 @@ mod inputs;
 mod making;
 mod puts;
 mod refused;
+mod rescues;
 mod runs;
 
 pub use copies::Copy;
@@ -18,4 +19,5 @@ pub use inputs::{schedule_from, script_from};
 pub use making::{Making, Mkfs, make_file};
 pub use puts::Put;
 pub use refused::{CopyRefusal, PutFileRefusal, ReadFault};
+pub use rescues::Rescue;
 pub use runs::{ReplayFilesRefusal, RunFilesRefusal, replay_files, run_files};

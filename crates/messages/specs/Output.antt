@@ -45,3 +45,16 @@ files_text files = codes "copied " ++ decimal files ++ codes "\n"
 -- the number of a file
 abbrev pub number_text : ℕ → List ℕ
 number_text number = decimal number ++ codes "\n"
+
+-- a number whose file was rescued, and one whose file was left out
+abbrev pub rescued_line : ℕ → List ℕ
+rescued_line number = decimal number ++ codes " copied\n"
+
+abbrev pub left_line : ℕ → List ℕ
+left_line number = decimal number ++ codes " left\n"
+
+-- which files were rescued, which were left out, and how many of each there are
+abbrev pub rescued_text : List ℕ → List ℕ → List ℕ
+rescued_text clean left =
+    flat_map rescued_line clean ++ flat_map left_line left ++ codes "rescued "
+    ++ decimal (length clean) ++ codes " left " ++ decimal (length left) ++ codes "\n"

@@ -22,7 +22,7 @@ pub use meter::Meter;
 pub use output::{
     pass_on, print, print_copied, print_counts, print_event, print_faults, print_files,
     print_images, print_last, print_number, print_numbers, print_refusal, print_report,
-    write_bytes,
+    print_rescued, write_bytes,
 };
 pub use printed::Printed;
 pub use told::{Reason, Told, Unwritten};

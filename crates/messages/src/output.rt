@@ -1,10 +1,11 @@
 // What a command prints.
 ghost use Rattle.std.specs.Prelude.{IfSome, OnOk, decimal};
+ghost use Rattle.std.specs.List.{flat_map};
 ghost use Rattle.std.specs.Io.KnownBytes.{Appends, Keeps};
 ghost use Rattle.messages.specs.Events.{event_line};
 ghost use Rattle.messages.specs.declared.events.Event.TheVariants.{Stepped};
 ghost use Rattle.messages.specs.Telling.{telling_line};
-ghost use Rattle.messages.specs.Output.{copied_text, counts_text, fault_line, faults_text, files_text, images_text, number_text, numbers_text, report_text};
+ghost use Rattle.messages.specs.Output.{copied_text, counts_text, fault_line, faults_text, files_text, images_text, left_line, number_text, numbers_text, report_text, rescued_line, rescued_text};
 
 use crate::answers::print_answer;
 use crate::events::{Event, end_of_line};
@@ -156,6 +157,60 @@ pub fn print_files<O: Write>(out: &mut O, files: u32) -> Result<(), Unwritten>
     let mut buffer = Buffer::new();
     let files = buffer.format(files);
     print_last(out, format_args!("copied {files}\n"))
+}
+
+/// Prints which files of an image were rescued and which were left out, a line each, and how many of
+/// each there are, as the last text of a command.
+pub fn print_rescued<O: Write>(out: &mut O, clean: &[u32], left: &[u32]) -> Result<(), Unwritten>
+    ensures ok { OnOk result (Appends (O.contents out.old) (O.contents out.new)
+        (rescued_text clean.now left.now)) }
+{
+    print_clean(out, clean)?;
+    print_left(out, left)?;
+    let mut buffers = (Buffer::new(), Buffer::new());
+    let rescued = buffers.0.format(clean.len());
+    let others = buffers.1.format(left.len());
+    print_last(out, format_args!("rescued {rescued} left {others}\n"))
+}
+
+// Prints numbers whose files were rescued.
+fn print_clean<O: Write>(out: &mut O, clean: &[u32]) -> Result<(), Unwritten>
+    ensures ok { OnOk result (Appends (O.contents out.old) (O.contents out.new)
+        (flat_map rescued_line clean.now)) }
+{
+    for number in clean {
+        print_rescued_line(out, *number)?;
+    }
+    Ok(())
+}
+
+fn print_rescued_line<O: Write>(out: &mut O, number: u32) -> Result<(), Unwritten>
+    ensures ok { OnOk result (Appends (O.contents out.old) (O.contents out.new)
+        (rescued_line number)) }
+{
+    let mut buffer = Buffer::new();
+    let number = buffer.format(number);
+    print(out, format_args!("{number} copied\n"))
+}
+
+// Prints numbers whose files were left out.
+fn print_left<O: Write>(out: &mut O, left: &[u32]) -> Result<(), Unwritten>
+    ensures ok { OnOk result (Appends (O.contents out.old) (O.contents out.new)
+        (flat_map left_line left.now)) }
+{
+    for number in left {
+        print_left_line(out, *number)?;
+    }
+    Ok(())
+}
+
+fn print_left_line<O: Write>(out: &mut O, number: u32) -> Result<(), Unwritten>
+    ensures ok { OnOk result (Appends (O.contents out.old) (O.contents out.new)
+        (left_line number)) }
+{
+    let mut buffer = Buffer::new();
+    let number = buffer.format(number);
+    print(out, format_args!("{number} left\n"))
 }
 
 /// Prints the number of a file, as the last text of a command.

@@ -1,16 +1,20 @@
--- The files of a sound image may be read.
-use Rattle.std.proofs.Common.{◌≡◌, ◌≢◌, ℕ, zero, suc, ◌+◌, ◌-◌, ◌*◌, ◌/◌, ◌%◌, ◌<◌, ◌≤◌, List, [], ◌∷◌, length, get_or, Option, Some, None, refl, ap, sym, subst, ◌∙◌, ⊎_elim, arith}
-use Rattle.std.specs.Prelude.{All}
-use Rattle.std.specs.List.{flat_map, AllByRecursion}
+-- The files of a sound image, and those of clean numbers of any, may be read.
+use Rattle.std.proofs.Common.{◌≡◌, ◌≢◌, ℕ, zero, suc, ◌+◌, ◌-◌, ◌*◌, ◌/◌, ◌%◌, ◌<◌, ◌≤◌, true, not, eqb, ltb, List, [], ◌∷◌, length, get_or, Option, Some, None, refl, ap, sym, subst, ◌∙◌, ⊎_elim, arith}
+use Rattle.std.specs.Prelude.{All, is_none}
+use Rattle.std.specs.List.{flat_map, list_all, AllByRecursion}
+use Rattle.std.proofs.lemmas.Bool.{and_parts, both_ways, eq-eqb, ltb-false, not-true}
 use Rattle.std.proofs.lemmas.List.Elements.{recursion_from_All}
-use Rattle.offline.specs.Common.{address_along, address_under, addresses_in, block_at, cases_eq, cases_lt, depths, Dinode, facts_of, few_homes, filled_whole, form_of, get_or_past, homes_of, Image, inode_block, inode_count_of, inode_in_data, inode_of, IsBlock, IsImage, IsInData, le-ltb, LeadsAlong, LeadsUnder, length-recovered, LiesBehindLog, long_geometry, lt-ltb, MayReadFile, names_used, ne_eqb, place_among, place_below, pointers_named, pointers_of, reach, recovered, source_at, Super, super_of-recovered, under_zero, verdict_sound, words_of}
+use Rattle.offline.specs.Common.{address_along, address_under, addresses_in, addresses_in-append, BadSize, BadType, block_at, cases_eq, cases_lt, depths, Dinode, early_fault, few_homes, filled_whole, Form, form_of, geometry_fault, get_or_past, greatest_size, homes_of, Image, inode_block, inode_count_of, inode_in_data, inode_of, is_lawful_log, IsBlock, IsImage, IsInData, lawful_geometry, le-ltb, LeadsAlong, LeadsUnder, length-recovered, LiesBehindLog, long_geometry, lt-ltb, MayReadFile, names_used, ne_eqb, or_else, place_among, place_below, Pointer, pointer_fault, pointers_named, pointers_of, reach, recovered, source_at, Super, super_of-recovered, under_zero, verdict_sound, words_of}
 use Rattle.model.specs.Names.{names_under, names_along}
-use Rattle.model.specs.Places.{address_in}
-use Rattle.model.specs.Soundness.{IsSound, IsFilled, IsLawfulInode}
-use Rattle.model.specs.Lemmas.Counts.{AllByRecursion-parts, All-range_at, flat_at, all_weaker}
+use Rattle.model.specs.Places.{address_in, pointers_in}
+use Rattle.model.specs.Soundness.{IsFilled, IsLawfulInode}
+use Rattle.model.specs.Lemmas.Counts.{AllByRecursion-append, AllByRecursion-parts, All-range_at, flat_at, all_weaker}
 use Rattle.model.specs.Lemmas.Inodes.{is_dinode-inode_of}
+use Rattle.model.specs.Lemmas.Soundness.{faultless_pointers}
+use Rattle.model.specs.Lemmas.Super.{guard_none, verdict_none}
 use Rattle.model.specs.Lemmas.Words.{length-words_of-block}
-use Rattle.offline.specs.Laws.{CheckedFilesMayBeRead}
+use Rattle.offline.specs.Clean.{is_clean_inode, is_clean_pointer}
+use Rattle.offline.specs.Laws.{CheckedFilesMayBeRead, CleanFilesAreWhole}
 use Rattle.offline.proofs.CheckLemmas.{recovered_source}
 
 -- ---- blocks that recovery leaves
@@ -92,9 +96,15 @@ along_names P y k (depth ∷ ds) (a ∷ addresses) all some =
     let le = le-ltb k (reach depth) high in rw le (along_names P y (k - reach depth) ds addresses parts.1 (rw le at some)))
     (cases_lt k (reach depth))
 
--- ---- a used inode of an image that recovery leaves sound
+-- ---- a used inode whose own pointers have no fault
 
-module _ (x : Image) (i : ℕ) (is : IsImage x) (sound : IsSound (recovered x)) (low : 1 ≤ i) (high : i < inode_count_of (recovered x)) (used : (inode_of (recovered x) i).kind ≢ 0) where
+-- of an inode's pointers: what its size needs is there, and each is to a data block with its bit set
+record AreLawful (y : Image) (pointers : List Pointer) : Type 0 where
+  filled : AllByRecursion IsFilled pointers
+  in_data : AllByRecursion (IsInData y) (addresses_in pointers)
+
+module _ (x : Image) (i : ℕ) (is : IsImage x) (geometry : geometry_fault x ≡ None) (lawful : is_lawful_log x ≡ true) (high : i < inode_count_of x) (used : (inode_of (recovered x) i).kind ≢ 0)
+    (few : (inode_of (recovered x) i).size ≤ greatest_size (form_of (recovered x))) (own : AreLawful (recovered x) (pointers_of (recovered x) i)) where
   abbrev y : Image
   y = recovered x
 
@@ -104,31 +114,33 @@ module _ (x : Image) (i : ℕ) (is : IsImage x) (sound : IsSound (recovered x)) 
   same : length y ≡ length x
   same = length-recovered x
 
-  full : (b : ℕ) → 33 ≤ b → b < length y → IsBlock (block_at y b)
-  full b behind inside =
-      block_behind x b is (omega (arith, (long_geometry y sound.geometry), same)) behind (omega (arith, inside, same))
+  long : 33 ≤ length x
+  long =
+      let f = lawful_geometry x geometry in
+      let room = f.room in
+      let size = f.size in
+      omega arith
 
-  in_data : AllByRecursion (IsInData y) (addresses_in (pointers_of y i))
-  in_data = inode_in_data y i sound low high
+  full : (b : ℕ) → 33 ≤ b → b < length y → IsBlock (block_at y b)
+  full b behind inside = block_behind x b is long behind (omega (arith, inside, same))
 
   behind : AllByRecursion (LiesBehindLog y) (names_along y (depths (form_of y)) d.addrs)
   behind =
       subst (λ (l : List ℕ). AllByRecursion (LiesBehindLog y) l) (pointers_named y d ∙ names_used y d used)
-      (all_weaker (IsInData y) (LiesBehindLog y) (addresses_in (pointers_of y i)) (λ a there. (let from = there.0 in omega (arith, from), there.1)) in_data)
+      (all_weaker (IsInData y) (LiesBehindLog y) (addresses_in (pointers_of y i)) (λ a there. (let from = there.0 in omega (arith, from), there.1)) own.in_data)
 
   count : length d.addrs ≡ 13
   count =
-      let g = facts_of y sound.geometry in
-      (is_dinode-inode_of y i (full (inode_block i) (omega arith) (omega (arith, high, g.size, g.room)))).count
+      let f = lawful_geometry x geometry in
+      let room = f.room in
+      let size = f.size in
+      (is_dinode-inode_of y i (full (inode_block i) (omega arith) (omega (arith, high, size, room, same)))).count
 
   needed : (k : ℕ) → k * 1024 < d.size → address_in y d k ≢ 0
   needed =
-      let n = inode_count_of y - 1 in
-      let inside : i < 1 + n = omega (arith, low, high) in
-      let filled = recursion_from_All IsFilled (pointers_of y i) (All-range_at (λ j. All IsFilled (pointers_of y j)) 1 n i sound.filled low inside) in
       let words = all_weaker (IsInData y) (λ a. length (words_of (block_at y a)) ≡ 256) (addresses_in (pointers_of y i))
-      (λ a there. length-words_of-block (block_at y a) (full a (let from = there.0 in omega (arith, from)) there.1).size) in_data in
-      filled_whole y d used count ((All-range_at (λ j. IsLawfulInode (form_of y) (inode_of y j)) 1 n i sound.inodes low inside).size used) filled words
+      (λ a there. length-words_of-block (block_at y a) (full a (let from = there.0 in omega (arith, from)) there.1).size) own.in_data in
+      filled_whole y d used count few own.filled words
 
   may_read : MayReadFile y d
   unfolding address_in
@@ -137,8 +149,77 @@ module _ (x : Image) (i : ℕ) (is : IsImage x) (sound : IsSound (recovered x)) 
     blocks = λ k need. along_names (LiesBehindLog y) y k (depths (form_of y)) d.addrs behind (needed k need);
   }
 
+-- ---- of an image that recovery leaves sound
+
 pub checked_files_may_be_read : CheckedFilesMayBeRead
 checked_files_may_be_read x i is none low high used =
+    let y = recovered x in
     let sound = verdict_sound x none in
+    let parts = verdict_none x none in
     let long = long_geometry x sound.0 in
-    may_read x i is sound.2 low (omega (arith, high, (ap (λ (s : Super). s.ninodes) (super_of-recovered x sound.1 (omega (arith, long)))))) used
+    let below : i < inode_count_of y = omega (arith, high, (ap (λ (s : Super). s.ninodes) (super_of-recovered x sound.1 (omega (arith, long))))) in
+    let n = inode_count_of y - 1 in
+    let inside : i < 1 + n = omega (arith, low, below) in
+    may_read x i is parts.0 parts.1 high used
+    ((All-range_at (λ j. IsLawfulInode (form_of y) (inode_of y j)) 1 n i sound.2.inodes low inside).size used)
+    (record {
+      filled = recursion_from_All IsFilled (pointers_of y i) (All-range_at (λ j. All IsFilled (pointers_of y j)) 1 n i sound.2.filled low inside);
+      in_data = inode_in_data y i sound.2 low below;
+    })
+
+-- ---- of a clean number
+
+none_there : {A : Type 0} (o : Option A) → is_none o ≡ true → o ≡ None
+none_there None h = refl
+none_there (Some a) h = absurd (cc h)
+
+clean_pointers : (y : Image) (i : ℕ) (pointers : List Pointer) → list_all (is_clean_pointer y i) pointers ≡ true → AreLawful y pointers
+clean_pointers y i [] clean = record { filled = tt; in_data = tt }
+clean_pointers y i (p ∷ pointers) clean =
+    let both = and_parts (is_clean_pointer y i p) (list_all (is_clean_pointer y i) pointers) clean in
+    let own = (and_parts (is_none (pointer_fault y i [] p)) _ both.0).0 in
+    let one = faultless_pointers y i [] (p ∷ []) (ap (λ o. or_else o None) (none_there (pointer_fault y i [] p) own)) in
+    let rest = clean_pointers y i pointers both.1 in
+    record {
+      filled = (one.filled.0, rest.filled);
+      in_data = subst (AllByRecursion (IsInData y)) (sym (addresses_in-append (p ∷ []) pointers))
+          (AllByRecursion-append (IsInData y) (addresses_in (p ∷ [])) (addresses_in pointers) one.in_data rest.in_data);
+    }
+
+-- what is tested of a clean inode
+record IsTested (y : Image) (i : ℕ) (d : Dinode) : Type 0 where
+  used : d.kind ≢ 0
+  early : early_fault i d (form_of y) ≡ None
+  pointers : list_all (is_clean_pointer y i) (pointers_in y d) ≡ true
+
+tested_where_clean : (y : Image) (i : ℕ) (d : Dinode) → is_clean_inode y i d ≡ true → IsTested y i d
+unfolding is_clean_inode
+tested_where_clean y i d clean =
+    let parts = and_parts (not (eqb d.kind 0)) _ clean in
+    let others = and_parts (is_none (early_fault i d (form_of y))) (list_all (is_clean_pointer y i) (pointers_in y d)) parts.1 in
+    record {
+      used = λ free. both_ways (eqb d.kind 0) (not-true (eqb d.kind 0) parts.0) (eq-eqb d.kind 0 free);
+      early = none_there (early_fault i d (form_of y)) others.0;
+      pointers = others.1;
+    }
+
+-- it has a type and a size that there are
+lawful_where_early : (i : ℕ) (d : Dinode) (form : Form) → early_fault i d form ≡ None → (d.kind ≤ 3) × (d.size ≤ greatest_size form)
+lawful_where_early i d form none =
+    let kind = guard_none (ltb 3 d.kind) (BadType i) _ none in (
+      ltb-false 3 d.kind kind.0,
+      ltb-false (greatest_size form) d.size (guard_none (ltb (greatest_size form) d.size) (BadSize i) None kind.1).0,
+    )
+
+pub clean_files_are_whole : CleanFilesAreWhole
+clean_files_are_whole x i is geometry lawful high clean =
+    let y = recovered x in
+    let d = inode_of y i in
+    let tested = tested_where_clean y i d clean in
+    let early = lawful_where_early i d (form_of y) tested.early in
+    record {
+      used = tested.used;
+      kind = early.0;
+      size = early.1;
+      reads = may_read x i is geometry lawful high tested.used early.1 (clean_pointers y i (pointers_of y i) tested.pointers);
+    }

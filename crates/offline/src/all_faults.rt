@@ -23,7 +23,7 @@ use model::types::{CheckFault, Dinode, Form};
 use std::alloc::Global;
 
 // The fault of a used inode for which its pointers aren't judged.
-fn early_fault(i: u32, inode: &Dinode, form: Form) -> Option<CheckFault>
+pub(crate) fn early_fault(i: u32, inode: &Dinode, form: Form) -> Option<CheckFault>
     ensures { result ≡ early_fault i inode.now form }
 {
     if inode.kind > 3 {

@@ -1,5 +1,5 @@
 // Laws of images, each the contract of a function that does nothing.
-ghost use Rattle.offline.specs.Laws.{NewImageIsSound, CheckedFilesMayBeRead};
+ghost use Rattle.offline.specs.Laws.{NewImageIsSound, CheckedFilesMayBeRead, CleanFilesAreWhole};
 
 /// A new image within the limits is sound, and has no file.
 pub fn new_image_is_sound()
@@ -9,4 +9,9 @@ pub fn new_image_is_sound()
 /// Where a check finds no fault, the file of each used inode that recovery leaves may be read.
 pub fn checked_files_may_be_read()
     ensures { CheckedFilesMayBeRead }
+{}
+
+/// Where superblock and log are lawful, each clean inode that recovery leaves is whole.
+pub fn clean_files_are_whole()
+    ensures { CleanFilesAreWhole }
 {}

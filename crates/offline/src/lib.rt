@@ -9,9 +9,13 @@ mod making;
 mod new_image;
 mod notes;
 mod owners;
+mod pointers;
 mod recovered;
+mod sorting;
+mod table;
 
 pub use all_faults::check_all;
 pub use checking::{Report, check};
 pub use making::{mkfs, mkfs_as};
 pub use recovered::Recovered;
+pub use sorting::{Sorted, sort_numbers};

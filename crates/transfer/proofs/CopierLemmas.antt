@@ -1,22 +1,25 @@
 -- What a copy comes to, by what ended it.
-use Rattle.std.proofs.Common.{◌≡◌, ◌∙◌, ℕ, ◌≤◌, Bool, true, false, ◌&&◌, eqb, List, Some, None, length, refl, sym, ap, subst, inl, inr, arith}
+use Rattle.std.proofs.Common.{◌≡◌, ◌∙◌, ◌⊎◌, ℕ, ◌≤◌, Bool, true, false, ◌&&◌, eqb, List, Some, None, length, refl, sym, ap, subst, inl, inr, arith}
 use Rattle.std.proofs.lemmas.Bool.{eq-eqb, le-ltb}
 use Rattle.blocks.specs.Disk.{Image, Rose, counted}
 use Rattle.blocks.specs.declared.disk.Disk.{Ghosts}
 use Rattle.history.specs.Lemmas.Leaving.{leaves_wider}
 use Rattle.layout.specs.declared.geometry.MkfsFault.TheVariants as mkfs
 use Rattle.model.specs.declared.types.fault.CheckFault.TheVariants.{BadMagic}
-use Rattle.model.specs.declared.types.image.Form.TheVariants.{One}
+use Rattle.model.specs.declared.types.image.Form.{Form}
+use Rattle.model.specs.declared.types.image.Form.TheVariants.{One, Two}
 use Rattle.model.specs.Fields.{u32_at}
-use Rattle.model.specs.Files.{file_count, files_of}
+use Rattle.model.specs.Files.{Files, files_of}
 use Rattle.model.specs.Layout.{form_of, has_known_magic, inode_count_of, is_known_magic, is_size}
 use Rattle.model.specs.Log.{recovered}
 use Rattle.model.specs.Verdict.{verdict}
 use Rattle.calls.specs.Stepping.{Plain}
+use Rattle.offline.specs.Clean.{clean_files}
 use Rattle.wal.specs.Recovery.{LeavesIfCalm}
-use Rattle.transfer.specs.Copies.{IsCopied, IsCopyOf, IsNoneOrWhole, IsUncopied, IsUnfilled, IsUnmade, IsUnread}
+use Rattle.transfer.specs.Copies.{HoldsFiles, IsFilledOut, IsMkfsCause, IsNoneOrFilled, IsNotFilledOut, IsUncopied, IsUnfilled, IsUnmade, IsUnread}
 use Rattle.transfer.specs.Holding.{BreaksOff, DontFit, HasNoRoom, Holds, IsUnwritten}
 use Rattle.transfer.specs.Laws.{StoppedCopyIsRefused}
+use Rattle.transfer.specs.Rescues.{IsUnopened, IsUnrescued, opening_fault}
 use Rattle.transfer.specs.Writing.{IsNoneOr, IsNotWrittenOut, KeepsSuperblock, WritesOut}
 use Rattle.transfer.specs.declared.fault.CopyFault.{CopyFault}
 use Rattle.transfer.specs.declared.fault.CopyFault.TheVariants.{Old, NotFirst, Mkfs, Full, NoMemory, Disk}
@@ -24,13 +27,13 @@ use Rattle.transfer.proofs.WritingLemmas.{stops_before}
 
 -- ---- in memory
 
-module _ {D E M N : Type 0} (old : Ghosts D M) (mem : Ghosts E N) (never : (e : E) → mem.fault_count e ≡ 0) (size : ℕ) (d d' : D) where
+module _ {D E M N : Type 0} (old : Ghosts D M) (mem : Ghosts E N) (never : (e : E) → mem.fault_count e ≡ 0) (size : ℕ) (form : Form) (files : Files) (d d' : D) where
   -- a disk in memory never fails
   no_rose : (n e : E) → Rose (mem.fault_count n) (mem.fault_count e) → ⊥
   no_rose n e rose = omega (arith, never n, never e, rose)
 
   -- no kernel was opened over a new image
-  pub unopened_in_memory : (count : ℕ) (n e : E) (fault : CopyFault) → is_size size count ≡ true → length (mem.image n) ≡ size → IsUnmade mem size count n e fault → IsUnfilled old size d d' fault
+  pub unopened_in_memory : (count : ℕ) (n e : E) (fault : CopyFault) → is_size size count ≡ true → length (mem.image n) ≡ size → IsUnmade mem size count n e fault → IsUnfilled old size form files d d' fault
   unopened_in_memory count n e (Old cause) fits long why = why
   unopened_in_memory count n e NotFirst fits long why = why
   unopened_in_memory count n e (Mkfs mkfs.SizeRange) fits long why =
@@ -44,25 +47,96 @@ module _ {D E M N : Type 0} (old : Ghosts D M) (mem : Ghosts E N) (never : (e : 
   unopened_in_memory count n e Disk fits long why = absurd (no_rose n e why)
 
   -- the files were not all written
-  pub unfilled_in_memory : (o e : E) (fault : CopyFault) → length (mem.image o) ≡ size → IsUnwritten old mem (BreaksOff (files_of (recovered (old.image d)))) d d' o e fault → IsUnfilled old size d d' fault
-  unfilled_in_memory o e (Old cause) long why = why
-  unfilled_in_memory o e NotFirst long why = why
-  unfilled_in_memory o e (Mkfs cause) long why = absurd why
-  unfilled_in_memory o e (Full i) long why = record { image = mem.image e; part = why.0; room = subst (λ (n : ℕ). HasNoRoom n (mem.image e)) long why.1 }
-  unfilled_in_memory o e NoMemory long why = tt
-  unfilled_in_memory o e Disk long (inl failed) = failed
-  unfilled_in_memory o e Disk long (inr failed) = absurd (no_rose o e failed)
+  pub unfilled_in_memory : (o e : E) (fault : CopyFault) → length (mem.image o) ≡ size → form_of (mem.image o) ≡ form → IsUnwritten old mem (BreaksOff files) d d' o e fault → IsUnfilled old size form files d d' fault
+  unfilled_in_memory o e (Old cause) long is why = why
+  unfilled_in_memory o e NotFirst long is why = why
+  unfilled_in_memory o e (Mkfs cause) long is why = absurd why
+  unfilled_in_memory o e (Full i) long is why = record {
+    image = mem.image e;
+    part = why.0;
+    room = subst (λ (f : Form). HasNoRoom size f (mem.image e)) is (subst (λ (n : ℕ). HasNoRoom n (form_of (mem.image o)) (mem.image e)) long why.1);
+  }
+  unfilled_in_memory o e NoMemory long is why = tt
+  unfilled_in_memory o e Disk long is (inl failed) = failed
+  unfilled_in_memory o e Disk long is (inr failed) = absurd (no_rose o e failed)
 
 -- all were: the kernel at rest has them
-pub filled_in_memory : {E N : Type 0} (mem : Ghosts E N) (size most : ℕ) (x : Image) (k : Plain E) → length (mem.image k.opening) ≡ size → Holds mem most (files_of (recovered x)) k → IsCopyOf size x (mem.image k.store.volume.device)
-filled_in_memory mem size most x k long holds = record {
+pub filled_in_memory : {E N : Type 0} (mem : Ghosts E N) (size most : ℕ) (form : Form) (files : Files) (k : Plain E) → length (mem.image k.opening) ≡ size → form_of (mem.image k.opening) ≡ form → Holds mem most files k → HoldsFiles size form files (mem.image k.store.volume.device)
+filled_in_memory mem size most form files k long is holds = record {
   sound = holds.sound;
-  form = holds.form;
+  form = holds.form ∙ is;
   long = holds.size ∙ long;
   files = holds.held;
 }
 
 -- ---- on the disk
+
+module _ {D E M N : Type 0} (old : Ghosts D M) (new : Ghosts E N) (size count : ℕ) (form : Form) (files : Files) (d d' : D) (n : E) where
+  -- the disk is not of the size, or none is
+  pub misfit : (numbers : ℕ) (fault : CopyFault) → numbers ≡ count → fault ≡ Mkfs mkfs.SizeRange → (is_size size numbers && eqb size (length (new.image n))) ≡ false → IsNotFilledOut old new size count form files d d' n n fault
+  misfit numbers fault is told off =
+      subst (IsNotFilledOut old new size count form files d d' n n) (sym told)
+      (subst (λ (c : ℕ). (is_size size c && eqb size (length (new.image n))) ≡ false) is off, refl)
+
+  -- there is no new image
+  pub unfilled : (fault : CopyFault) → IsUnfilled old size form files d d' fault → IsNotFilledOut old new size count form files d d' n n fault
+  unfilled (Old cause) why = absurd why
+  unfilled NotFirst why = absurd why
+  unfilled (Mkfs mkfs.SizeRange) why = absurd (cc why)
+  unfilled (Mkfs mkfs.InodeRange) why = absurd (cc why)
+  unfilled (Mkfs mkfs.Disk) why = absurd (cc why)
+  unfilled (Mkfs mkfs.NoMemory) why = (tt, refl)
+  unfilled (Full i) why = (why, refl)
+  unfilled NoMemory why = refl
+  unfilled Disk why = inl (why, refl)
+
+  -- it was not all written
+  pub not_out : (e : E) (fault : CopyFault) → IsNotWrittenOut new n e fault → IsNotFilledOut old new size count form files d d' n e fault
+  not_out e (Old cause) why = absurd why
+  not_out e NotFirst why = absurd why
+  not_out e (Mkfs cause) why = absurd why
+  not_out e (Full i) why = absurd why
+  not_out e NoMemory why = why
+  not_out e Disk why = inr why
+
+  -- what a stop leaves where nothing was written
+  pub untouched : LeavesIfCalm new n n (IsNoneOrFilled size form files (new.image n))
+  untouched calm = leaves_wider new.moment new.leaves n n (KeepsSuperblock (new.image n)) (IsNoneOrFilled size form files (new.image n)) (λ x keeps. inl keeps) (stops_before new n calm)
+
+module _ {E N : Type 0} (new : Ghosts E N) (size : ℕ) (form : Form) (files : Files) (n e : E) where
+  -- it is on the disk
+  pub all_out : (sync : Bool) (x : Image) → HoldsFiles size form files x → WritesOut new x sync n e → LeavesIfCalm new n e (IsNoneOr (new.image n) x) → IsFilledOut new size form files sync n e
+  all_out sync x holds out stops =
+      let here : x ≡ new.image e = sym out.image in
+      record {
+        holds = subst (HoldsFiles size form files) here holds;
+        writes = out.writes ∙ ap (counted (new.write_count n)) holds.long;
+        faults = out.faults;
+        settles = out.settles;
+        stops = subst (λ (y : Image). LeavesIfCalm new n e (IsNoneOr (new.image n) y)) here stops;
+      }
+
+  -- what a stop leaves where an image was written
+  pub none_or_filled : (x : Image) → HoldsFiles size form files x → LeavesIfCalm new n e (IsNoneOr (new.image n) x) → LeavesIfCalm new n e (IsNoneOrFilled size form files (new.image n))
+  none_or_filled x holds stops calm =
+      leaves_wider new.moment new.leaves n e (IsNoneOr (new.image n) x) (IsNoneOrFilled size form files (new.image n)) (whole_of holds) (stops calm)
+    where
+      whole_of : HoldsFiles size form files x → (y : Image) → IsNoneOr (new.image n) x y → IsNoneOrFilled size form files (new.image n) y
+      whole_of holds y (inl keeps) = inl keeps
+      whole_of holds y (inr is) = inr (subst (HoldsFiles size form files) (sym is) holds)
+
+  -- the same, said of other names of form and files
+  module _ (kind : Form) (these : Files) (is : form ≡ kind) (are : files ≡ these) where
+    pub filled_as : (sync : Bool) → IsFilledOut new size form files sync n e → IsFilledOut new size kind these sync n e
+    filled_as sync filled =
+        subst (λ (f : Form). IsFilledOut new size f these sync n e) is (subst (λ (fs : Files). IsFilledOut new size form fs sync n e) are filled)
+
+    pub whole_as : LeavesIfCalm new n e (IsNoneOrFilled size form files (new.image n)) → LeavesIfCalm new n e (IsNoneOrFilled size kind these (new.image n))
+    whole_as whole =
+        subst (λ (f : Form). LeavesIfCalm new n e (IsNoneOrFilled size f these (new.image n))) is
+        (subst (λ (fs : Files). LeavesIfCalm new n e (IsNoneOrFilled size form fs (new.image n))) are whole)
+
+-- ---- a copy, and a rescue
 
 module _ {D E M N : Type 0} (old : Ghosts D M) (new : Ghosts E N) (size : ℕ) (d d' : D) (n : E) where
   -- the old image was not read
@@ -74,64 +148,52 @@ module _ {D E M N : Type 0} (old : Ghosts D M) (new : Ghosts E N) (size : ℕ) (
   unread NoMemory why = refl
   unread Disk why = inl (why, refl)
 
-  -- the new image was not written to the disk
-  pub unwritten : (e : E) (fault : CopyFault) → IsNotWrittenOut new n e fault → IsUncopied old new size d d' n e fault
-  unwritten e (Old cause) why = absurd why
-  unwritten e NotFirst why = absurd why
-  unwritten e (Mkfs cause) why = absurd why
-  unwritten e (Full i) why = absurd why
-  unwritten e NoMemory why = why
-  unwritten e Disk why = inr why
+  pub unopened_rescue : (fault : CopyFault) → IsUnopened old d d' fault → IsUnrescued old new d d' n n fault
+  unopened_rescue (Old cause) why = (why, refl)
+  unopened_rescue NotFirst why = absurd why
+  unopened_rescue (Mkfs cause) why = absurd why
+  unopened_rescue (Full i) why = absurd why
+  unopened_rescue NoMemory why = refl
+  unopened_rescue Disk why = absurd why
 
-  module _ (sound : verdict (old.image d) ≡ None) (first : form_of (old.image d) ≡ One) where
-    -- the disk is not of the size, or none is
-    pub misfit : (count : ℕ) (fault : CopyFault) → count ≡ inode_count_of (old.image d) → fault ≡ Mkfs mkfs.SizeRange → (is_size size count && eqb size (length (new.image n))) ≡ false → IsUncopied old new size d d' n n fault
-    misfit count fault is told off =
-        subst (IsUncopied old new size d d' n n) (sym told)
-        (sound, first, subst (λ (c : ℕ). (is_size size c && eqb size (length (new.image n))) ≡ false) is off, refl)
+  -- there is no new one
+  module _ (mid : D) (kept : old.fault_count mid ≡ old.fault_count d) (count : ℕ) (form : Form) (files : Files) (numbers : count ≡ inode_count_of (old.image d)) where
+    failed : (e : E) → (Rose (old.fault_count mid) (old.fault_count d') × (e ≡ n)) ⊎ Rose (new.fault_count n) (new.fault_count e) →
+        (Rose (old.fault_count d) (old.fault_count d') × (e ≡ n)) ⊎ Rose (new.fault_count n) (new.fault_count e)
+    failed e (inl why) = inl (subst (λ (c : ℕ). Rose c (old.fault_count d')) kept why.0, why.1)
+    failed e (inr why) = inr why
 
-    -- there is no new image
-    pub unfilled : (mid : D) (fault : CopyFault) → old.image mid ≡ old.image d → old.fault_count mid ≡ old.fault_count d → IsUnfilled old size mid d' fault → IsUncopied old new size d d' n n fault
-    unfilled mid (Old cause) same kept why = absurd why
-    unfilled mid NotFirst same kept why = absurd why
-    unfilled mid (Mkfs mkfs.SizeRange) same kept why = absurd (cc why)
-    unfilled mid (Mkfs mkfs.InodeRange) same kept why = absurd (cc why)
-    unfilled mid (Mkfs mkfs.Disk) same kept why = absurd (cc why)
-    unfilled mid (Mkfs mkfs.NoMemory) same kept why = (sound, first, tt, refl)
-    unfilled mid (Full i) same kept why = (sound, first, subst (λ (x : Image). DontFit size i (files_of (recovered x))) same why, refl)
-    unfilled mid NoMemory same kept why = refl
-    unfilled mid Disk same kept why = inl (subst (λ (c : ℕ). Rose c (old.fault_count d')) kept why, refl)
+    fits_not : (kind : Form) (these : Files) (i : ℕ) → form ≡ kind → files ≡ these → DontFit size form i files → DontFit size kind i these
+    fits_not kind these i is are why =
+        subst (λ (f : Form). DontFit size f i these) is (subst (λ (fs : Files). DontFit size form i fs) are why)
 
-    -- it is on the disk
-    pub all_copied : (sync : Bool) (mid : D) (x : Image) (e : E) (count : ℕ) → old.image mid ≡ old.image d → IsCopyOf size (old.image mid) x → count ≡ file_count (files_of (recovered (old.image d))) →
-        WritesOut new x sync n e → LeavesIfCalm new n e (IsNoneOr (new.image n) x) → IsCopied old new size sync d n e count
-    all_copied sync mid x e count same copy told out stops =
-        let here : x ≡ new.image e = sym out.image in
-        let copied : IsCopyOf size (old.image d) x = subst (λ (y : Image). IsCopyOf size y x) same copy in
-        record {
-          old_sound = sound;
-          first = first;
-          copy = subst (IsCopyOf size (old.image d)) here copied;
-          told = told;
-          writes = out.writes ∙ ap (counted (new.write_count n)) copied.long;
-          faults = out.faults;
-          settles = out.settles;
-          stops = subst (λ (y : Image). LeavesIfCalm new n e (IsNoneOr (new.image n) y)) here stops;
-        }
+    pub uncopied : verdict (old.image d) ≡ None → form_of (old.image d) ≡ One → form ≡ Two → files ≡ files_of (recovered (old.image d)) →
+        (e : E) (fault : CopyFault) → IsNotFilledOut old new size count form files mid d' n e fault → IsUncopied old new size d d' n e fault
+    uncopied sound first is are e (Old cause) why = absurd why
+    uncopied sound first is are e NotFirst why = absurd why
+    uncopied sound first is are e (Mkfs cause) why = (sound, first, subst (λ (c : ℕ). IsMkfsCause size c (length (new.image n)) cause) numbers why.0, why.1)
+    uncopied sound first is are e (Full i) why = (sound, first, fits_not Two (files_of (recovered (old.image d))) i is are why.0, why.1)
+    uncopied sound first is are e NoMemory why = why
+    uncopied sound first is are e Disk why = failed e why
 
-  -- what a stop leaves where nothing was written
-  pub untouched : LeavesIfCalm new n n (IsNoneOrWhole size (old.image d) (new.image n))
-  untouched calm = leaves_wider new.moment new.leaves n n (KeepsSuperblock (new.image n)) (IsNoneOrWhole size (old.image d) (new.image n)) (λ x keeps. inl keeps) (stops_before new n calm)
-
-  -- and where a copy was
-  pub none_or_copy : (mid : D) (x : Image) (e : E) → old.image mid ≡ old.image d → IsCopyOf size (old.image mid) x → LeavesIfCalm new n e (IsNoneOr (new.image n) x) → LeavesIfCalm new n e (IsNoneOrWhole size (old.image d) (new.image n))
-  none_or_copy mid x e same copy stops calm =
-      let copied : IsCopyOf size (old.image d) x = subst (λ (y : Image). IsCopyOf size y x) same copy in
-      leaves_wider new.moment new.leaves n e (IsNoneOr (new.image n) x) (IsNoneOrWhole size (old.image d) (new.image n)) (none_or_whole_of copied) (stops calm)
-    where
-      none_or_whole_of : IsCopyOf size (old.image d) x → (y : Image) → IsNoneOr (new.image n) x y → IsNoneOrWhole size (old.image d) (new.image n) y
-      none_or_whole_of copied y (inl keeps) = inl keeps
-      none_or_whole_of copied y (inr is) = inr (subst (IsCopyOf size (old.image d)) (sym is) copied)
+    pub unrescued : opening_fault (old.image d) ≡ None → size ≡ length (old.image d) → form ≡ form_of (old.image d) → files ≡ clean_files (recovered (old.image d)) →
+        (e : E) (fault : CopyFault) → IsNotFilledOut old new size count form files mid d' n e fault → IsUnrescued old new d d' n e fault
+    unrescued opened long is are e (Old cause) why = absurd why
+    unrescued opened long is are e NotFirst why = absurd why
+    unrescued opened long is are e (Mkfs cause) why = (
+      opened,
+      subst (λ (s : ℕ). IsMkfsCause s (inode_count_of (old.image d)) (length (new.image n)) cause) long
+          (subst (λ (c : ℕ). IsMkfsCause size c (length (new.image n)) cause) numbers why.0),
+      why.1,
+    )
+    unrescued opened long is are e (Full i) why = (
+      opened,
+      subst (λ (s : ℕ). DontFit s (form_of (old.image d)) i (clean_files (recovered (old.image d)))) long
+          (fits_not (form_of (old.image d)) (clean_files (recovered (old.image d))) i is are why.0),
+      why.1,
+    )
+    unrescued opened long is are e NoMemory why = why
+    unrescued opened long is are e Disk why = failed e why
 
 -- ---- a disk that had no image
 

@@ -1,38 +1,33 @@
 -- Calls that fill a kernel, one after the other.
-use Rattle.std.proofs.Common.{◌≡◌, ◌≢◌, ◌⊎◌, ◌∙◌, ℕ, ◌+◌, ◌-◌, ◌<◌, ◌≤◌, min, Bool, true, false, cond, eqb, All, List, length, get_or, set, take, drop, Option, Some, None, refl, sym, ap, subst, arith}
-use Rattle.std.proofs.lemmas.List.{take_all}
+use Rattle.std.proofs.Common.{◌≡◌, ◌≢◌, ◌⊎◌, ◌∙◌, ℕ, ◌+◌, ◌-◌, ◌<◌, ◌≤◌, min, Bool, true, false, All, List, length, get_or, map, set, take, drop, Option, Some, None, refl, sym, ap, subst, ⊎_elim, arith}
+use Rattle.std.proofs.lemmas.Bool.{cases_eq}
+use Rattle.std.proofs.lemmas.List.{get_or_past, take_all}
 use Rattle.std.proofs.lemmas.List.Elements.{All-from_get_or}
-use Rattle.blocks.specs.Disk.{Image, IsImage, Rose}
+use Rattle.blocks.specs.Disk.{Image, Rose}
 use Rattle.blocks.specs.declared.disk.Disk.{Ghosts}
 use Rattle.model.specs.declared.types.image.Dinode.{Dinode}
 use Rattle.model.specs.declared.types.image.File.{File}
 use Rattle.model.specs.declared.types.image.Form.{Form}
 use Rattle.model.specs.declared.types.image.Form.TheVariants.{One, Two}
-use Rattle.model.specs.Fields.{u32_at}
 use Rattle.model.specs.Files.{Files, bytes_in, file_in, files_of}
-use Rattle.model.specs.Layout.{form_of, inode_count_of, inode_of, magic_of}
+use Rattle.model.specs.Layout.{form_of, greatest_size, inode_count_of, inode_of}
 use Rattle.model.specs.Log.{recovered}
 use Rattle.model.specs.Operations.{part_of}
-use Rattle.model.specs.Soundness.{IsLawfulInode}
-use Rattle.model.specs.Lemmas.Counts.{All-range_at}
-use Rattle.model.specs.Lemmas.FileNumbers.{length-files_of}
-use Rattle.model.specs.Lemmas.Log.{recovered_low}
-use Rattle.model.specs.Lemmas.Soundness.{verdict_sound}
-use Rattle.model.specs.Lemmas.Super.{lawful_geometry, long_where_sound, verdict_none}
-use Rattle.offline.specs.Laws.{CheckedFilesMayBeRead}
+use Rattle.model.specs.Lemmas.Super.{lawful_geometry}
+use Rattle.offline.specs.Laws.{IsWholeInode}
 use Rattle.offline.specs.Recovered.{MayReadFile}
 use Rattle.calls.specs.Calls.{call_count, image_on}
 use Rattle.calls.specs.Stepping.{Plain}
 use Rattle.calls.specs.Answered.{IsAnswered}
-use Rattle.calls.specs.Files.{Appends, AppendsPart, Creates, MakesFile, MakesNone, MayAppend, appended, files_on, size_of}
+use Rattle.calls.specs.Files.{Appends, AppendsPart, Creates, MakesFile, MakesNone, MayAppend, appended, empty_file, files_on, size_of, without_bytes}
 use Rattle.transfer.specs.Holding.{BreaksOff, CutsShort, HasFirst, HasNoRoom, Holds, IsUnwritten}
-use Rattle.transfer.specs.Source.{IsSourceOf}
-use Rattle.transfer.specs.Stages.{kept_at, kind_or_plain, listed, made_at, written_at}
+use Rattle.transfer.specs.Source.{IsSourceOf, chosen_at, chosen_files}
+use Rattle.transfer.specs.Stages.{kind_at, kept_at, kind_or_plain, listed, made_at, written_at}
 use Rattle.transfer.specs.declared.fault.CopyFault.{CopyFault}
 use Rattle.transfer.specs.declared.fault.CopyFault.TheVariants.{Old, NotFirst, Mkfs, Full, NoMemory, Disk}
 use Rattle.transfer.specs.declared.source.Source.{Source}
-use Rattle.transfer.proofs.SourceLemmas.{count_recovered}
-use Rattle.transfer.proofs.StageLemmas.{few_bytes, file_free, file_used, kept_removed, kept_same, kept_there, length-listed, made_always, made_next, piece_appended, piece_begun, piece_fits, written_empty, written_end, written_next, written_none}
+use Rattle.transfer.proofs.SourceLemmas.{chosen_free, chosen_used, chosen_zero, count_recovered, form_recovered}
+use Rattle.transfer.proofs.StageLemmas.{few_bytes, in_listed, kept_end, kept_removed, kept_same, kept_there, length-listed, made_always, made_next, piece_appended, piece_begun, piece_fits, written_empty, written_end, written_next, written_none, written_start}
 
 module _ {D N : Type 0} (disk : Ghosts D N) where
   -- after a call more
@@ -41,7 +36,7 @@ module _ {D N : Type 0} (disk : Ghosts D N) where
     rests = answered.rests;
     few = let few = before.few in let more = answered.one_more in omega arith;
     sound = answered.whole.sound;
-    form = answered.form ∙ before.form;
+    form = answered.form ∙ before.form ∙ ap (λ (d : D). form_of (disk.image d)) (sym opening);
     size = answered.whole.size ∙ before.size ∙ ap (λ (d : D). length (disk.image d)) (sym opening);
     held = is;
   }
@@ -98,10 +93,11 @@ module _ {D N : Type 0} (disk : Ghosts D N) where
 
   module _ (files : Files) (i : ℕ) (empty : size_of (file_in files i) ≡ Some 0) (all : List ℕ) (size at count : ℕ) (few : length all ≤ size) (inside : at < size) (is : count ≡ min 3072 (size - at))
       (bytes : List ℕ) (read : bytes ≡ take count (drop at all)) (most : ℕ) (l : Plain D) (before : Holds disk most (appended files i (take at all)) l) where
-    pub piece_allowed : size ≤ 274432 → length bytes ≡ count → MayAppend (form_of (image_on disk.image l)) (file_in (files_on disk.image l) i) at (length bytes)
-    piece_allowed small long =
+    pub piece_allowed : (form : Form) → form ≡ form_of (disk.image l.opening) → size ≤ greatest_size form → length bytes ≡ count → MayAppend (form_of (image_on disk.image l)) (file_in (files_on disk.image l) i) at (length bytes)
+    piece_allowed form is_form small long =
+        let here : form ≡ form_of (image_on disk.image l) = is_form ∙ sym before.form in
         subst (λ (now : Files). MayAppend (form_of (image_on disk.image l)) (file_in now i) at (length bytes)) (sym before.held)
-        (piece_fits all size at count few inside is (form_of (image_on disk.image l)) files i bytes empty before.form small read long)
+        (piece_fits all size at count few inside is (form_of (image_on disk.image l)) files i bytes empty (subst (λ (f : Form). size ≤ greatest_size f) here small) read long)
 
     pub one_appended : (m : Plain D) (whole : Bool) → whole ≡ true → Appends whole i bytes (image_on disk.image l) (image_on disk.image m) → IsAnswered disk l m → m.opening ≡ l.opening →
         Holds disk (most + 1) (appended files i (take (at + 3072) all)) m
@@ -113,7 +109,7 @@ module _ {D N : Type 0} (disk : Ghosts D N) where
 
     -- or no block is free, and only the first of its bytes are there
     pub part_appended : (m : Plain D) (whole : Bool) → whole ≡ false → Appends whole i bytes (image_on disk.image l) (image_on disk.image m) → length bytes ≡ count → IsAnswered disk l m →
-        (o : D) → l.opening ≡ o → (these : List ℕ) → all ≡ these → CutsShort i (appended files i these) i (files_on disk.image m) × HasNoRoom (length (disk.image o)) (image_on disk.image m)
+        (o : D) → l.opening ≡ o → (these : List ℕ) → all ≡ these → CutsShort i (appended files i these) i (files_on disk.image m) × HasNoRoom (length (disk.image o)) (form_of (disk.image o)) (image_on disk.image m)
     part_appended m whole false_is appends long answered o opening these same =
         let part : AppendsPart i bytes (image_on disk.image l) (image_on disk.image m)
         = subst (λ (b : Bool). Appends b i bytes (image_on disk.image l) (image_on disk.image m)) false_is appends in (
@@ -125,7 +121,7 @@ module _ {D N : Type 0} (disk : Ghosts D N) where
           ),
           record {
             sound = answered.whole.sound;
-            form = answered.form ∙ before.form;
+            form = answered.form ∙ before.form ∙ ap (λ (d : D). form_of (disk.image d)) opening;
             long = answered.whole.size ∙ before.size ∙ ap (λ (d : D). length (disk.image d)) opening;
             full = part.full;
           },
@@ -168,64 +164,56 @@ module _ {D N : Type 0} (disk : Ghosts D N) where
       one_unwritten from c d c' p o e (Full i) refused same opening =
           let now = ap (λ (now : Files). appended now (k + 1) file.bytes) before.held ∙ written_next files k room file is in (
             subst (λ (n : ℕ). BreaksOff files n (files_of (disk.image e))) (sym refused.0.0) (subst (λ (old : Files). HasFirst (k + 1) old (files_of (disk.image e))) now refused.0.1),
-            subst (λ (d : D). HasNoRoom (length (disk.image d)) (disk.image e)) opening refused.1,
+            subst (λ (d : D). HasNoRoom (length (disk.image d)) (form_of (disk.image d)) (disk.image e)) opening refused.1,
           )
       one_unwritten from c d c' p o e NoMemory refused same opening = refused
       one_unwritten from c d c' p o e Disk refused same opening =
           subst (λ (n : ℕ). Rose n (from.fault_count c') ⊎ Rose (disk.fault_count o) (disk.fault_count e)) same
           (subst (λ (q : D). Rose (from.fault_count c) (from.fault_count c') ⊎ Rose (disk.fault_count q) (disk.fault_count e)) opening refused)
 
-      pub one_written : (m : Plain D) → Holds disk (call_count l + 90) (appended (files_on disk.image l) (k + 1) file.bytes) m → Holds disk (most + 90) (listed (length files) (written_at files (k + 1))) m
+      pub one_written : (m : Plain D) → Holds disk (call_count l + 21935) (appended (files_on disk.image l) (k + 1) file.bytes) m → Holds disk (most + 21935) (listed (length files) (written_at files (k + 1))) m
       one_written m written =
           let few = before.few in
-          holds_as (call_count l + 90) (most + 90) m written (omega arith)
+          holds_as (call_count l + 21935) (most + 21935) m written (omega arith)
           (ap (λ (now : Files). appended now (k + 1) file.bytes) before.held ∙ written_next files k room file is)
 
-    pub none_written : file_in files (k + 1) ≡ None → Holds disk (most + 90) (listed (length files) (written_at files (k + 1))) l
-    none_written none = holds_as most (most + 90) l before (omega arith) (written_none files k none)
+    pub none_written : file_in files (k + 1) ≡ None → Holds disk (most + 21935) (listed (length files) (written_at files (k + 1))) l
+    none_written none = holds_as most (most + 21935) l before (omega arith) (written_none files k none)
 
 -- ---- the old image
 
-form_in : List ℕ → Form
-form_in b = cond (eqb (u32_at b 0) (magic_of Two)) Two One
+-- the most bytes that a file has, in any form
+pub most_bytes : (form : Form) → greatest_size form ≤ 67382272
+most_bytes One = omega arith
+most_bytes Two = omega arith
 
 module _ (x : Image) (source : Source) (is : IsSourceOf x source) where
-  form_recovered : form_of (recovered x) ≡ One
-  unfolding form_in
-  form_recovered =
-      let long = long_where_sound x is.sound in
-      ap form_in (recovered_low x 1 (verdict_none x is.sound).1 (omega arith) (omega arith) (omega (arith, long))) ∙ is.first
+  pub count_source : inode_count_of (recovered x) ≡ inode_count_of x
+  count_source = count_recovered x is.image.geometry is.image.header.lawful
 
   pub few_numbers : inode_count_of x ≤ 1024
-  few_numbers = (lawful_geometry x (verdict_none x is.sound).0).few
+  few_numbers = (lawful_geometry x is.image.geometry).few
 
-  lawful_inode : (i : ℕ) → 1 ≤ i → i < inode_count_of x → IsLawfulInode One (inode_of (recovered x) i)
-  lawful_inode i some low =
-      let y = recovered x in
-      let same = count_recovered x is.sound in
-      let sound = (verdict_sound x is.sound).2 in
-      subst (λ (form : Form). IsLawfulInode form (inode_of y i)) form_recovered
-      (All-range_at (λ j. IsLawfulInode (form_of y) (inode_of y j)) 1 (inode_count_of y - 1) i sound.inodes some (omega (arith, same, some, low)))
-
-  pub small_file : (i : ℕ) (d : Dinode) → 1 ≤ i → i < inode_count_of x → (inode_of (recovered x) i).kind ≢ 0 → d ≡ inode_of (recovered x) i → d.size ≤ 274432
-  small_file i d some low used here =
-      subst (λ (e : Dinode). e.size ≤ 274432) (sym here) ((lawful_inode i some low).size used)
+  pub small_file : (i : ℕ) (d : Dinode) → IsWholeInode (recovered x) (inode_of (recovered x) i) → d ≡ inode_of (recovered x) i → d.size ≤ greatest_size source.form
+  small_file i d whole here =
+      let size = whole.size in
+      let fits = is.fits in
+      let form = ap greatest_size (form_recovered x is.image.geometry is.image.header.lawful) in
+      subst (λ (e : Dinode). e.size ≤ greatest_size source.form) (sym here) (omega (arith, size, fits, form))
 
   pub low_kinds : All (λ kind. kind ≤ 3) source.kinds.items
   low_kinds =
       All-from_get_or (λ kind. kind ≤ 3) source.kinds.items 0
       (λ k low.
-      let few = is.kinds.few in
-      let same = count_recovered x is.sound in
-      let kind = (lawful_inode (k + 1) (omega arith) (omega (arith, few, same, low))).kind in
-      subst (λ (n : ℕ). n ≤ 3) (sym (is.kinds.each k low)) kind)
+      ⊎_elim (λ (free : get_or source.kinds.items k 0 ≡ 0). subst (λ (n : ℕ). n ≤ 3) (sym free) (omega arith))
+      (λ (used : get_or source.kinds.items k 0 ≢ 0). subst (λ (n : ℕ). n ≤ 3) (sym (is.each k low used)) (is.whole k low used).kind)
+      (cases_eq (get_or source.kinds.items k 0) 0))
 
-  -- a used file may be read
-  pub readable : CheckedFilesMayBeRead → IsImage x → (y : Image) (i : ℕ) (d : Dinode) → y ≡ x → 1 ≤ i → i < inode_count_of x → (inode_of (recovered x) i).kind ≢ 0 →
-      d ≡ inode_of (recovered x) i → MayReadFile (recovered y) d
-  readable law image y i d same some low used here =
+  -- a file that is copied may be read
+  pub readable : (y : Image) (i : ℕ) (d : Dinode) → y ≡ x → IsWholeInode (recovered x) (inode_of (recovered x) i) → d ≡ inode_of (recovered x) i → MayReadFile (recovered y) d
+  readable y i d same whole here =
       subst (λ (z : Image). MayReadFile (recovered z) d) (sym same)
-      (subst (MayReadFile (recovered x)) (sym here) (law x i image is.sound some low used))
+      (subst (MayReadFile (recovered x)) (sym here) whole.reads)
 
   -- a piece that was read of it is a part of its bytes
   pub piece_read : (y : Image) (d : Dinode) (at count n : ℕ) (bytes : List ℕ) → y ≡ x → n ≡ count → bytes ≡ part_of (bytes_in (recovered y) d) at n → bytes ≡ take count (drop at (bytes_in (recovered x) d))
@@ -233,34 +221,63 @@ module _ (x : Image) (source : Source) (is : IsSourceOf x source) where
       read ∙ ap (λ (k : ℕ). take k (drop at (bytes_in (recovered y) d))) long
       ∙ ap (λ (z : Image). take count (drop at (bytes_in (recovered z) d))) same
 
-  -- ---- its numbers, from 1 on
+  -- ---- its files that are copied
+
+  abbrev chosen : Files
+  chosen = chosen_files (recovered x) source.kinds.items
+
+  pub long_chosen : length chosen ≡ inode_count_of x
+  long_chosen = length-listed (inode_count_of (recovered x)) (chosen_at (recovered x) source.kinds.items) ∙ count_source
+
+  -- what stands there once the free numbers are removed
+  pub kept_chosen : listed (inode_count_of (recovered x)) (kept_at source.kinds.items (length source.kinds.items)) ≡ map without_bytes chosen
+  kept_chosen =
+      let y = recovered x in
+      let kinds = source.kinds.items in
+      kept_end kinds (inode_count_of y) (chosen_at y kinds) (chosen_zero y kinds) (λ i free. chosen_free y kinds i free)
+      (λ i some low used.
+      let inside : i - 1 < length kinds = omega arith in
+      let at : i - 1 + 1 ≡ i = omega arith in
+      let kind : kind_at kinds i ≡ (inode_of y i).kind = is.each (i - 1) inside used ∙ ap (λ (j : ℕ). (inode_of y j).kind) at in
+      ap without_bytes (chosen_used y kinds i some used kind) ∙ ap empty_file (sym kind))
+
+  none_chosen : file_in chosen 0 ≡ None
+  none_chosen =
+      let few = is.few in
+      in_listed (inode_count_of (recovered x)) (chosen_at (recovered x) source.kinds.items) 0 (omega (arith, count_source, few)) ∙ chosen_zero (recovered x) source.kinds.items
+
+  pub start_chosen : map without_bytes chosen ≡ listed (length chosen) (written_at chosen 0)
+  start_chosen = written_start chosen none_chosen
 
   module _ (k : ℕ) (low : k < length source.kinds.items) where
     pub number_within : k + 1 < inode_count_of x
-    number_within =
-        let few = is.kinds.few in
-        let same = count_recovered x is.sound in
-        omega arith
+    number_within = let few = is.few in omega arith
 
-    pub number_listed : k + 1 < length (files_of (recovered x))
-    number_listed =
-        let few = is.kinds.few in
-        omega (arith, length-files_of (recovered x))
+    pub number_listed : k + 1 < length chosen
+    number_listed = let few = is.few in omega (arith, long_chosen)
 
-    pub file_listed : get_or source.kinds.items k 0 ≢ 0 → file_in (files_of (recovered x)) (k + 1) ≡ Some (record { kind = (inode_of (recovered x) (k + 1)).kind; bytes = bytes_in (recovered x) (inode_of (recovered x) (k + 1)) })
+    chosen_here : file_in chosen (k + 1) ≡ chosen_at (recovered x) source.kinds.items (k + 1)
+    chosen_here =
+        let few = is.few in
+        in_listed (inode_count_of (recovered x)) (chosen_at (recovered x) source.kinds.items) (k + 1) (omega (arith, count_source, few))
+
+    kind_here : kind_at source.kinds.items (k + 1) ≡ get_or source.kinds.items k 0
+    kind_here =
+        let at : (k + 1) - 1 ≡ k = omega arith in
+        ap (λ (n : ℕ). get_or source.kinds.items n 0) at
+
+    pub file_listed : get_or source.kinds.items k 0 ≢ 0 → file_in chosen (k + 1) ≡ Some (record { kind = (inode_of (recovered x) (k + 1)).kind; bytes = bytes_in (recovered x) (inode_of (recovered x) (k + 1)) })
     file_listed used =
-        let few = is.kinds.few in
-        file_used (recovered x) (k + 1) (omega arith) (omega arith) (λ free. used (is.kinds.each k low ∙ free))
+        chosen_here ∙ chosen_used (recovered x) source.kinds.items (k + 1) (omega arith) (λ free. used (sym kind_here ∙ free)) (kind_here ∙ is.each k low used)
 
-    pub none_listed : get_or source.kinds.items k 0 ≡ 0 → file_in (files_of (recovered x)) (k + 1) ≡ None
-    none_listed free =
-        let few = is.kinds.few in
-        file_free (recovered x) (k + 1) (omega arith) (omega arith) (sym (is.kinds.each k low) ∙ free)
+    pub none_listed : get_or source.kinds.items k 0 ≡ 0 → file_in chosen (k + 1) ≡ None
+    none_listed free = chosen_here ∙ chosen_free (recovered x) source.kinds.items (k + 1) (kind_here ∙ free)
 
   -- the last of them has the last file
-  pub all_written : listed (length (files_of (recovered x))) (written_at (files_of (recovered x)) (length source.kinds.items)) ≡ files_of (recovered x)
+  pub all_written : listed (length chosen) (written_at chosen (length source.kinds.items)) ≡ chosen
   all_written =
-      written_end (files_of (recovered x)) (length source.kinds.items)
+      written_end chosen (length source.kinds.items)
       (λ i past low.
-      let within : i < inode_count_of (recovered x) = omega (arith, length-files_of (recovered x)) in
-      file_free (recovered x) i (omega arith) within (is.kinds.rest i past within))
+      let within : i < inode_count_of (recovered x) = omega (arith, low, length-listed (inode_count_of (recovered x)) (chosen_at (recovered x) source.kinds.items)) in
+      in_listed (inode_count_of (recovered x)) (chosen_at (recovered x) source.kinds.items) i within
+      ∙ chosen_free (recovered x) source.kinds.items i (get_or_past source.kinds.items (i - 1) 0 (omega arith)))

@@ -4,7 +4,8 @@ use Rattle.blocks.specs.Disk.{Image, Rose}
 use Rattle.blocks.specs.declared.disk.Disk.{Ghosts}
 use Rattle.model.specs.declared.types.fault.CheckFault.{CheckFault}
 use Rattle.model.specs.declared.types.fault.CheckFault.TheVariants as check
-use Rattle.model.specs.declared.types.image.Form.TheVariants.{Two}
+use Rattle.model.specs.declared.types.image.Form.{Form}
+use Rattle.model.specs.declared.types.image.Form.TheVariants.{One, Two}
 use Rattle.model.specs.Codec.{made_image}
 use Rattle.model.specs.Files.{files_of}
 use Rattle.model.specs.Layout.{form_of, is_inode_count, is_size}
@@ -33,9 +34,12 @@ pub verdict_where_sound : (x : Image) → IsSound x → verdict x ≡ None
 verdict_where_sound x sound =
     sound_verdict x (sound.geometry, empty_lawful x sound.empty_log, subst IsSound (sym (recovered_empty x sound.empty_log)) sound)
 
--- a new image of the second form is of that form
-pub form-made_image : (size n : ℕ) → is_inode_count n ≡ true → is_size size n ≡ true → form_of (made_image Two size n) ≡ Two
-form-made_image size n count fits =
+-- a new image is of its form
+pub form-made_image : (form : Form) (size n : ℕ) → is_inode_count n ≡ true → is_size size n ≡ true → form_of (made_image form size n) ≡ form
+form-made_image One size n count fits =
+    let room = (is_within size n count fits).room in
+    rw (magic-made_image One size n (omega arith)) refl
+form-made_image Two size n count fits =
     let room = (is_within size n count fits).room in
     rw (magic-made_image Two size n (omega arith)) refl
 
@@ -51,11 +55,11 @@ one_process (inr many) = omega arith
 
 module _ {E N : Type 0} (new : Ghosts E N) (size n : ℕ) where
   -- the kernel that was opened over a new image
-  pub new_kernel : (d e : E) (k : Plain E) → is_inode_count n ≡ true → is_size size n ≡ true →
-      MakesAs new Two size n d e → new.name e ≡ new.name d → IsWithoutFiles (made_image Two size n) n →
-      IsOpenedSole new e k → IsNewKernel new size n d k
-  new_kernel d e k count fits made name without opened =
-      let x = made_image Two size n in
+  pub new_kernel : (form : Form) (d e : E) (k : Plain E) → is_inode_count n ≡ true → is_size size n ≡ true →
+      MakesAs new form size n d e → new.name e ≡ new.name d → IsWithoutFiles (made_image form size n) n →
+      IsOpenedSole new e k → IsNewKernel new size n form d k
+  new_kernel form d e k count fits made name without opened =
+      let x = made_image form size n in
       let same : image_on new.image k ≡ x = opened.image ∙ ap recovered made.image ∙ recovered_empty x without.sound.empty_log in
       let long : length (image_on new.image k) ≡ length (new.image k.opening) = ap (λ o. length (new.image o)) opened.device in
       record {
@@ -63,12 +67,13 @@ module _ {E N : Type 0} (new : Ghosts E N) (size n : ℕ) where
           rests = opened.rests;
           few = omega (arith, opened.none_called);
           sound = opened.whole.sound;
-          form = ap form_of same ∙ form-made_image size n count fits;
+          form = ap (λ o. form_of (new.image o)) opened.device;
           size = long;
           held = ap files_of same ∙ without.files;
         };
         device = opened.device;
-        long = sym long ∙ ap length same ∙ length-made_image Two size n;
+        long = sym long ∙ ap length same ∙ length-made_image form size n;
+        form = ap (λ o. form_of (new.image o)) (sym opened.device) ∙ ap form_of same ∙ form-made_image form size n count fits;
         name = opened.name ∙ name;
         faults = opened.faults ∙ made.faults;
       }

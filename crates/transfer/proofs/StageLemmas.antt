@@ -1,23 +1,21 @@
 -- The files of the new image, stage by stage.
 use Rattle.std.proofs.Common.{◌≡◌, ◌≢◌, ◌∙◌, ℕ, ◌+◌, ◌-◌, ◌<◌, ◌≤◌, min, List, [], ◌++◌, length, get_or, map, set, replicate, take, take-take, drop, Option, Some, None, refl, sym, ap, subst, ⊎_elim, arith}
 use Rattle.std.proofs.Math.Seq.{take-add}
-use Rattle.std.proofs.lemmas.Bool.{cases_lt, cases_eq, ne_eqb}
+use Rattle.std.proofs.lemmas.Bool.{cases_lt, cases_eq}
 use Rattle.std.proofs.lemmas.Bool.Decides.{nat_tests}
-use Rattle.std.proofs.lemmas.List.{append-nil, append_assoc, ext_get_or, get_or-map, get_or-replicate, get_or-set_same, get_or-set_other, length-append, length-drop, length-map, length-replicate, length-set, length-take, length-take-le, nil_from_length, set-get_or, set-set, take_all}
+use Rattle.std.proofs.lemmas.List.{append-nil, append_assoc, ext_get_or, get_or-map, get_or-replicate, get_or_past, get_or-set_same, get_or-set_other, length-append, length-drop, length-map, length-replicate, length-set, length-take, length-take-le, nil_from_length, set-get_or, set-set, take_all}
 use Rattle.std.proofs.lemmas.List.FromFn.{length-map-range_with_len, get_or-map-range_with_len}
 use Rattle.blocks.specs.Disk.{Image}
 use Rattle.model.specs.declared.types.image.Dinode.{Dinode}
 use Rattle.model.specs.declared.types.image.File.{File}
 use Rattle.model.specs.declared.types.image.Form.{Form}
-use Rattle.model.specs.declared.types.image.Form.TheVariants.{Two}
-use Rattle.model.specs.Files.{Files, blocks_for, bytes_in, file_in, file_of, files_of, joined}
-use Rattle.model.specs.Layout.{inode_count_of, inode_of}
+use Rattle.model.specs.Files.{Files, blocks_for, bytes_in, file_in, joined}
+use Rattle.model.specs.Layout.{greatest_size}
 use Rattle.model.specs.Operations.{with_bytes}
-use Rattle.model.specs.Lemmas.FileNumbers.{file_in-files_of, file_in-files_of_zero, length-files_of, below_there}
+use Rattle.model.specs.Lemmas.FileNumbers.{below_there}
 use Rattle.calls.specs.Files.{MakesFile, MakesNone, MayAppend, appended, empty_file, size_of, with_more, without_bytes}
 use Rattle.calls.specs.Lemmas.Sizes.{there_of_size}
 use Rattle.transfer.specs.Holding.{HasFirst}
-use Rattle.transfer.specs.Source.{AreKindsOf}
 use Rattle.transfer.specs.Stages.{kept_at, kind_at, kind_or_plain, listed, made_at, written_at}
 
 -- ---- a file at each number
@@ -33,6 +31,10 @@ pub are_listed : (files : Files) (count : ℕ) (at : ℕ → Option File) → le
 are_listed files count at long each =
     ext_get_or None files (listed count at) (long ∙ sym (length-listed count at))
     (λ j low. let within : j < count = omega arith in each j within ∙ sym (in_listed count at j within))
+
+-- the same where they stand below the count
+pub listed_below : (count : ℕ) (f g : ℕ → Option File) → ((j : ℕ) → j < count → f j ≡ g j) → listed count f ≡ listed count g
+listed_below count f g each = are_listed (listed count f) count g (length-listed count f) (λ j low. in_listed count f j low ∙ each j low)
 
 pub listed_same : (count : ℕ) (f g : ℕ → Option File) → ((j : ℕ) → f j ≡ g j) → listed count f ≡ listed count g
 listed_same count f g each = are_listed (listed count f) count g (length-listed count f) (λ j low. in_listed count f j low ∙ each j)
@@ -277,13 +279,12 @@ module _ (all : List ℕ) (size at count : ℕ) (few : length all ≤ size) (ins
   piece_there bytes read long = omega (arith, ap length read, length-take count (drop at all), length-drop at all)
 
   -- it may be written behind the ones before it
-  pub piece_fits : (form : Form) (files : Files) (i : ℕ) (bytes : List ℕ) → size_of (file_in files i) ≡ Some 0 → form ≡ Two → size ≤ 274432 →
+  pub piece_fits : (form : Form) (files : Files) (i : ℕ) (bytes : List ℕ) → size_of (file_in files i) ≡ Some 0 → size ≤ greatest_size form →
       bytes ≡ take count (drop at all) → length bytes ≡ count → MayAppend form (file_in (appended files i (take at all)) i) at (length bytes)
-  piece_fits form files i bytes empty two small read long =
+  piece_fits form files i bytes empty small read long =
       let there = piece_there bytes read long in
       let begun : length (take at all) ≡ at = length-take-le at all there in
-      subst (λ (f : Form). MayAppend f (file_in (appended files i (take at all)) i) at (length bytes)) (sym two)
-      (record { size = appended_size files i empty (take at all) ∙ ap Some begun; few = omega arith; short = omega arith })
+      record { size = appended_size files i empty (take at all) ∙ ap Some begun; few = omega arith; short = omega arith }
 
   pub piece_appended : (files : Files) (i : ℕ) (bytes : List ℕ) → size_of (file_in files i) ≡ Some 0 → bytes ≡ take count (drop at all) →
       appended (appended files i (take at all)) i bytes ≡ appended files i (take (at + 3072) all)
@@ -303,58 +304,38 @@ module _ (all : List ℕ) (size at count : ℕ) (few : length all ≤ size) (ins
       first_appended files i empty all (at + n) (omega (arith, ap length read, length-take count (drop at all), length-drop at all)) new
       (is ∙ appended_more files i empty (take at all) (take n bytes) ∙ ap (appended files i) first)
 
--- ---- the files of an image, by its inodes
-
-module _ (x : Image) (i : ℕ) (some : 1 ≤ i) (low : i < inode_count_of x) where
-  file_here : file_in (files_of x) i ≡ file_of x (inode_of x i)
-  file_here = file_in-files_of x i low ∙ (let other : i ≢ 0 = omega arith in rw (ne_eqb i 0 other) refl)
-
-  pub file_used : (inode_of x i).kind ≢ 0 → file_in (files_of x) i ≡ Some (record { kind = (inode_of x i).kind; bytes = bytes_in x (inode_of x i) })
-  unfolding file_of
-  file_used used = file_here ∙ rw (ne_eqb (inode_of x i).kind 0 used) refl
-
-  pub file_free : (inode_of x i).kind ≡ 0 → file_in (files_of x) i ≡ None
-  unfolding file_of
-  file_free free = file_here ∙ rw free refl
-
--- what is left once the free numbers are removed are the files without their bytes
-module _ (x : Image) (kinds : List ℕ) (are : AreKindsOf x kinds) where
+-- what is left once the free numbers are removed are files at these numbers, without their bytes
+module _ (kinds : List ℕ) (count : ℕ) (at : ℕ → Option File) where
   kept_file : (i : ℕ) → 1 ≤ i → i ≤ length kinds → kind_at kinds i ≢ 0 → kept_at kinds (length kinds) i ≡ empty_file (kind_at kinds i)
   kept_file i some low used = grind (arith, nat_tests)
 
   kept_none : (i : ℕ) → kind_at kinds i ≡ 0 → kept_at kinds (length kinds) i ≡ None
   kept_none i free = grind (arith, nat_tests)
 
-  kept_past : (i : ℕ) → length kinds < i → kept_at kinds (length kinds) i ≡ None
-  kept_past i past = grind (arith, nat_tests)
-
   kept_zero : kept_at kinds (length kinds) 0 ≡ None
   kept_zero = grind (arith, nat_tests)
 
-  kept_each : (i : ℕ) → i < inode_count_of x → without_bytes (file_in (files_of x) i) ≡ kept_at kinds (length kinds) i
-  kept_each i low =
-      ⊎_elim
-      (λ (zero : i ≡ 0).
-      subst (λ (n : ℕ). without_bytes (file_in (files_of x) n) ≡ kept_at kinds (length kinds) n) (sym zero)
-      (ap without_bytes (file_in-files_of_zero x) ∙ sym kept_zero))
-      (λ (other : i ≢ 0).
-      let some : 1 ≤ i = omega arith in
-      ⊎_elim
-      (λ (past : length kinds < i). ap without_bytes (file_free x i some low (are.rest i past low)) ∙ sym (kept_past i past))
-      (λ (within : i ≤ length kinds).
-      let at : (i - 1) + 1 ≡ i = omega arith in
-      let kind : kind_at kinds i ≡ (inode_of x i).kind = are.each (i - 1) (omega arith) ∙ ap (λ (n : ℕ). (inode_of x n).kind) at in
-      ⊎_elim
-      (λ (free : (inode_of x i).kind ≡ 0). ap without_bytes (file_free x i some low free) ∙ sym (kept_none i (kind ∙ free)))
-      (λ (used : (inode_of x i).kind ≢ 0).
-      ap without_bytes (file_used x i some low used) ∙ ap empty_file (sym kind)
-      ∙ sym (kept_file i some within (λ (free : kind_at kinds i ≡ 0). used (sym kind ∙ free))))
-      (cases_eq (inode_of x i).kind 0))
-      (cases_lt (length kinds) i))
-      (cases_eq i 0)
+  module _ (zero : at 0 ≡ None) (free : (i : ℕ) → kind_at kinds i ≡ 0 → at i ≡ None)
+      (used : (i : ℕ) → 1 ≤ i → i ≤ length kinds → kind_at kinds i ≢ 0 → without_bytes (at i) ≡ empty_file (kind_at kinds i)) where
+    kept_each : (i : ℕ) → kept_at kinds (length kinds) i ≡ without_bytes (at i)
+    kept_each i =
+        ⊎_elim
+        (λ (first : i ≡ 0). subst (λ (n : ℕ). kept_at kinds (length kinds) n ≡ without_bytes (at n)) (sym first) (kept_zero ∙ sym (ap without_bytes zero)))
+        (λ (other : i ≢ 0).
+        ⊎_elim
+        (λ (none : kind_at kinds i ≡ 0). kept_none i none ∙ sym (ap without_bytes (free i none)))
+        (λ (some : kind_at kinds i ≢ 0).
+        let within = there i some in
+        kept_file i (omega arith) within some ∙ sym (used i (omega arith) within some))
+        (cases_eq (kind_at kinds i) 0))
+        (cases_eq i 0)
+      where
+        there : (i : ℕ) → kind_at kinds i ≢ 0 → i ≤ length kinds
+        there i some =
+            ⊎_elim (λ (past : length kinds < i). absurd (some (get_or_past kinds (i - 1) 0 (omega arith)))) (λ (within : i ≤ length kinds). within) (cases_lt (length kinds) i)
 
-  pub kept_end : listed (inode_count_of x) (kept_at kinds (length kinds)) ≡ map without_bytes (files_of x)
-  kept_end =
-      sym (are_listed (map without_bytes (files_of x)) (inode_count_of x) (kept_at kinds (length kinds))
-      (length-map (files_of x) without_bytes ∙ length-files_of x)
-      (λ j low. get_or-map without_bytes (files_of x) j None None (omega (arith, length-files_of x, low)) ∙ kept_each j low))
+    pub kept_end : listed count (kept_at kinds (length kinds)) ≡ map without_bytes (listed count at)
+    kept_end =
+        sym (are_listed (map without_bytes (listed count at)) count (kept_at kinds (length kinds))
+        (length-map (listed count at) without_bytes ∙ length-listed count at)
+        (λ j low. get_or-map without_bytes (listed count at) j None None (omega (arith, length-listed count at, low)) ∙ ap without_bytes (in_listed count at j low) ∙ sym (kept_each j)))

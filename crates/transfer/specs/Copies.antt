@@ -2,8 +2,9 @@
 use Rattle.std.specs.Prelude.{◌≡◌, ◌⊎◌, ℕ, ◌==◌, ◌&&◌, ⊤, Bool, false, length, replicate, None, Result, Ok, Err}
 use Rattle.blocks.specs.Disk.{Image, Rose, counted}
 use Rattle.blocks.specs.declared.disk.Disk.{Ghosts}
+use Rattle.model.specs.declared.types.image.Form.{Form}
 use Rattle.model.specs.declared.types.image.Form.TheVariants.{One, Two}
-use Rattle.model.specs.Files.{files_of, file_count}
+use Rattle.model.specs.Files.{Files, files_of, file_count}
 use Rattle.model.specs.Layout.{form_of, inode_count_of, is_size}
 use Rattle.model.specs.Log.{recovered}
 use Rattle.model.specs.Soundness.{IsSound}
@@ -39,11 +40,12 @@ IsMakingCause new size inode_count n e mkfs.Disk = Rose (new.fault_count n) (new
 IsMakingCause new size inode_count n e mkfs.NoMemory = ⊤
 
 -- a kernel without files, over an image that was made on the disk n
-pub record IsNewKernel {E N : Type 0} (new : Ghosts E N) (size inode_count : ℕ) (n : E)
-    (k : Plain E) : Type 0 where
+pub record IsNewKernel {E N : Type 0} (new : Ghosts E N) (size inode_count : ℕ) (kind : Form)
+    (n : E) (k : Plain E) : Type 0 where
   pub holds : Holds new 0 (replicate inode_count None) k
   pub device : k.store.volume.device ≡ k.opening
   pub long : length (new.image k.opening) ≡ size
+  pub form : form_of (new.image k.opening) ≡ kind
   pub name : new.name k.opening ≡ new.name n
   pub faults : new.fault_count k.opening ≡ new.fault_count n
 
@@ -56,42 +58,38 @@ IsUnmade new size inode_count n e (Full i) = ⊥
 IsUnmade new size inode_count n e NoMemory = ⊤
 IsUnmade new size inode_count n e Disk = Rose (new.fault_count n) (new.fault_count e)
 
--- why the files of the disk d, which is d' then, are not all in an image in memory
-abbrev pub IsUnfilled : {D M : Type 0} → Ghosts D M → ℕ → D → D → CopyFault → Type 0
-IsUnfilled old size d d' (Old fault) = ⊥
-IsUnfilled old size d d' NotFirst = ⊥
-IsUnfilled old size d d' (Mkfs fault) = fault ≡ mkfs.NoMemory
-IsUnfilled old size d d' (Full i) = DontFit size i (files_of (recovered (old.image d)))
-IsUnfilled old size d d' NoMemory = ⊤
-IsUnfilled old size d d' Disk = Rose (old.fault_count d) (old.fault_count d')
+-- why these files of the disk d, which is d' then, are not all in an image in memory
+abbrev pub IsUnfilled : {D M : Type 0} → Ghosts D M → ℕ → Form → Files → D → D → CopyFault → Type 0
+IsUnfilled old size form files d d' (Old fault) = ⊥
+IsUnfilled old size form files d d' NotFirst = ⊥
+IsUnfilled old size form files d d' (Mkfs fault) = fault ≡ mkfs.NoMemory
+IsUnfilled old size form files d d' (Full i) = DontFit size form i files
+IsUnfilled old size form files d d' NoMemory = ⊤
+IsUnfilled old size form files d d' Disk = Rose (old.fault_count d) (old.fault_count d')
 
 -- ---- the whole
 
--- Image x has the files of image old, each with its number, as recovery would leave them. It is a
--- sound one of the second form and of that size.
-pub record IsCopyOf (size : ℕ) (old x : Image) : Type 0 where
+-- image x is a sound one of that form and size, with these files
+pub record HoldsFiles (size : ℕ) (kind : Form) (these : Files) (x : Image) : Type 0 where
   pub sound : IsSound x
-  pub form : form_of x ≡ Two
+  pub form : form_of x ≡ kind
   pub long : length x ≡ size
-  pub files : files_of x ≡ files_of (recovered old)
+  pub files : files_of x ≡ these
 
--- Such a copy of the image on d was made on e, by one write for each of its blocks and two syncs,
--- and nothing is held; without a sync at the end by one sync. A stop before left block 1 as it was, or
--- this very image.
-pub record IsCopied {D E M N : Type 0} (old : Ghosts D M) (new : Ghosts E N) (size : ℕ) (sync : Bool)
-    (d : D) (n e : E) (count : ℕ) : Type 0 where
-  pub old_sound : verdict (old.image d) ≡ None
-  pub first : form_of (old.image d) ≡ One
-  pub copy : IsCopyOf size (old.image d) (new.image e)
-  pub told : count ≡ file_count (files_of (recovered (old.image d)))
+-- an image with these files was made on the disk n, which is e then, by one write for each of its
+-- blocks and two syncs, and nothing is held; without a sync at the end by one sync. A stop before left
+-- block 1 as it was, or this very image.
+pub record IsFilledOut {E N : Type 0} (new : Ghosts E N) (size : ℕ) (form : Form) (files : Files)
+    (sync : Bool) (n e : E) : Type 0 where
+  pub holds : HoldsFiles size form files (new.image e)
   pub writes : new.write_count e ≡ counted (new.write_count n) size
   pub faults : new.fault_count e ≡ new.fault_count n
   pub settles : SettlesIf sync new n e
   pub stops : LeavesIfCalm new n e (IsNoneOr (new.image n) (new.image e))
 
--- what a stop leaves of a copy of image old to a disk with image n: block 1 as it was, or the whole
-abbrev pub IsNoneOrWhole : ℕ → Image → Image → Image → Type 0
-IsNoneOrWhole size old n x = KeepsSuperblock n x ⊎ IsCopyOf size old x
+-- what a stop leaves on a disk with image n: block 1 as it was, or an image with these files
+abbrev pub IsNoneOrFilled : ℕ → Form → Files → Image → Image → Type 0
+IsNoneOrFilled size form files n x = KeepsSuperblock n x ⊎ HoldsFiles size form files x
 
 -- why a disk of so many blocks can't have an image of that size, with so many numbers
 abbrev pub IsMkfsCause : ℕ → ℕ → ℕ → MkfsFault → Type 0
@@ -100,6 +98,39 @@ IsMkfsCause size inode_count long mkfs.SizeRange =
 IsMkfsCause size inode_count long mkfs.InodeRange = ⊥
 IsMkfsCause size inode_count long mkfs.Disk = ⊥
 IsMkfsCause size inode_count long mkfs.NoMemory = ⊤
+
+-- why these files of the disk d, which is d' then, are not all on the disk n, which is e then
+abbrev pub IsNotFilledOut : {D E M N : Type 0} → Ghosts D M → Ghosts E N → ℕ → ℕ → Form → Files
+    → D → D → E → E → CopyFault → Type 0
+IsNotFilledOut old new size count form files d d' n e (Old fault) = ⊥
+IsNotFilledOut old new size count form files d d' n e NotFirst = ⊥
+IsNotFilledOut old new size count form files d d' n e (Mkfs fault) =
+    IsMkfsCause size count (length (new.image n)) fault × (e ≡ n)
+IsNotFilledOut old new size count form files d d' n e (Full i) =
+    DontFit size form i files × (e ≡ n)
+IsNotFilledOut old new size count form files d d' n e NoMemory = e ≡ n
+IsNotFilledOut old new size count form files d d' n e Disk =
+    (Rose (old.fault_count d) (old.fault_count d') × (e ≡ n))
+    ⊎ Rose (new.fault_count n) (new.fault_count e)
+
+-- ---- a copy
+
+-- Image x has the files of image old, each with its number, as recovery would leave them. It is a
+-- sound one of the second form and of that size.
+abbrev pub IsCopyOf : ℕ → Image → Image → Type 0
+IsCopyOf size old x = HoldsFiles size Two (files_of (recovered old)) x
+
+-- such a copy of the image on d was made on e, of an image of the first form without a fault
+pub record IsCopied {D E M N : Type 0} (old : Ghosts D M) (new : Ghosts E N) (size : ℕ) (sync : Bool)
+    (d : D) (n e : E) (count : ℕ) : Type 0 where
+  pub old_sound : verdict (old.image d) ≡ None
+  pub first : form_of (old.image d) ≡ One
+  pub copy : IsFilledOut new size Two (files_of (recovered (old.image d))) sync n e
+  pub told : count ≡ file_count (files_of (recovered (old.image d)))
+
+-- what a stop leaves of a copy of image old to a disk with image n: block 1 as it was, or the whole
+abbrev pub IsNoneOrWhole : ℕ → Image → Image → Image → Type 0
+IsNoneOrWhole size old n x = IsNoneOrFilled size Two (files_of (recovered old)) n x
 
 -- why the files of the disk d, which is d' then, were not copied to n, which is e then
 abbrev pub IsUncopied : {D E M N : Type 0} → Ghosts D M → Ghosts E N → ℕ → D → D → E → E
@@ -113,13 +144,13 @@ IsUncopied old new size d d' n e (Mkfs fault) =
     × IsMkfsCause size (inode_count_of (old.image d)) (length (new.image n)) fault × (e ≡ n)
 IsUncopied old new size d d' n e (Full i) =
     (verdict (old.image d) ≡ None) × (form_of (old.image d) ≡ One)
-    × DontFit size i (files_of (recovered (old.image d))) × (e ≡ n)
+    × DontFit size Two i (files_of (recovered (old.image d))) × (e ≡ n)
 IsUncopied old new size d d' n e NoMemory = e ≡ n
 IsUncopied old new size d d' n e Disk =
     (Rose (old.fault_count d) (old.fault_count d') × (e ≡ n))
     ⊎ Rose (new.fault_count n) (new.fault_count e)
 
--- the new disk that a copy hands back, with a count or with a fault
-abbrev pub disk_of : {E : Type 0} → Result (ℕ × E) (CopyFault × E) → E
+-- the new disk that is handed back, with what is told or with a fault
+abbrev pub disk_of : {A E : Type 0} → Result (A × E) (CopyFault × E) → E
 disk_of (Ok copied) = copied.1
 disk_of (Err refused) = refused.1

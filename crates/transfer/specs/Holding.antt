@@ -3,7 +3,7 @@ use Rattle.std.specs.Prelude.{◌≡◌, ℕ, ◌<◌, ◌≤◌, ◌⊎◌, ⊤
 use Rattle.blocks.specs.Disk.{Image, Rose}
 use Rattle.blocks.specs.declared.disk.Disk.{Ghosts}
 use Rattle.model.specs.declared.types.image.File.{File}
-use Rattle.model.specs.declared.types.image.Form.TheVariants.{Two}
+use Rattle.model.specs.declared.types.image.Form.{Form}
 use Rattle.model.specs.Files.{Files, file_in, files_of}
 use Rattle.model.specs.Layout.{form_of}
 use Rattle.model.specs.Operations.{with_bytes}
@@ -17,14 +17,14 @@ use Rattle.transfer.specs.Stages.{listed, written_at}
 use Rattle.transfer.specs.declared.fault.CopyFault.{CopyFault}
 use Rattle.transfer.specs.declared.fault.CopyFault.TheVariants.{Old, NotFirst, Mkfs, Full, NoMemory, Disk}
 
--- The kernel is at rest after at most so many calls. It has these files, in a sound image of the
--- second form that is as long as when the kernel was opened.
+-- The kernel is at rest after at most so many calls. It has these files, in a sound image that has the
+-- form and is as long as when the kernel was opened.
 pub record Holds {D N : Type 0} (disk : Ghosts D N) (most : ℕ) (files : Files) (k : Plain D)
     : Type 0 where
   pub rests : Rests disk.fault_count k
   pub few : call_count k ≤ most
   pub sound : IsSound (image_on disk.image k)
-  pub form : form_of (image_on disk.image k) ≡ Two
+  pub form : form_of (image_on disk.image k) ≡ form_of (disk.image k.opening)
   pub size : length (image_on disk.image k) ≡ length (disk.image k.opening)
   pub held : files_on disk.image k ≡ files
 
@@ -49,18 +49,18 @@ CutsShort i files j new = (j ≡ i) × HasFirst i files new
 abbrev pub BreaksOff : Files → ℕ → Files → Type 0
 BreaksOff files i new = HasFirst i (listed (length files) (written_at files i)) new
 
--- no block is free in a sound image of the second form of that many blocks
-pub record HasNoRoom (size : ℕ) (x : Image) : Type 0 where
+-- no block is free in a sound image of that form and of that many blocks
+pub record HasNoRoom (size : ℕ) (kind : Form) (x : Image) : Type 0 where
   pub sound : IsSound x
-  pub form : form_of x ≡ Two
+  pub form : form_of x ≡ kind
   pub long : length x ≡ size
   pub full : IsFull x
 
--- The files don't fit in an image of that size: in this one file i is cut short.
-pub record DontFit (size i : ℕ) (files : Files) : Type 0 where
+-- The files don't fit in an image of that size and form: in this one file i is cut short.
+pub record DontFit (size : ℕ) (form : Form) (i : ℕ) (files : Files) : Type 0 where
   pub image : Image
   pub part : BreaksOff files i (files_of image)
-  pub room : HasNoRoom size image
+  pub room : HasNoRoom size form image
 
 -- why files, read of the disk d, which is d' then, were not all written to the disk o, which is e
 -- then: where it has no room, they are cut short as `part` says
@@ -70,7 +70,8 @@ IsUnwritten old new part d d' o e (Old fault) = ⊥
 IsUnwritten old new part d d' o e NotFirst = ⊥
 IsUnwritten old new part d d' o e (Mkfs fault) = ⊥
 IsUnwritten old new part d d' o e (Full i) =
-    part i (files_of (new.image e)) × HasNoRoom (length (new.image o)) (new.image e)
+    part i (files_of (new.image e))
+    × HasNoRoom (length (new.image o)) (form_of (new.image o)) (new.image e)
 IsUnwritten old new part d d' o e NoMemory = ⊤
 IsUnwritten old new part d d' o e Disk =
     Rose (old.fault_count d) (old.fault_count d') ⊎ Rose (new.fault_count o) (new.fault_count e)

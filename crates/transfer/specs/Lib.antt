@@ -1,11 +1,12 @@
 pub mod Faults
 pub mod Tellings
-pub mod Source
 pub mod Stages
+pub mod Source
 pub mod Holding
 pub mod Ending
 pub mod Writing
 pub mod Copies
+pub mod Rescues
 pub mod Laws
 pub mod Needs
 pub mod Places

@@ -1,17 +1,13 @@
 // The files of an image of the first form, copied into a new one of the second.
-ghost use Rattle.std.specs.Prelude.{◌≡◌, IsTrue, IfOk, IfErr, OnOk};
+ghost use Rattle.std.specs.Prelude.{◌≡◌, IfOk, IfErr, OnOk};
 ghost use Rattle.blocks.specs.Calls.{OnlyReads};
-ghost use Rattle.model.specs.Layout.{is_size};
 ghost use Rattle.wal.specs.Recovery.{LeavesIfCalm};
-ghost use Rattle.transfer.specs.Copies.{IsCopied, IsCopyOf, IsNoneOrWhole, IsUncopied, IsUnfilled, disk_of};
-ghost use Rattle.transfer.specs.Source.{IsSourceOf};
+ghost use Rattle.transfer.specs.Copies.{IsCopied, IsNoneOrWhole, IsUncopied, disk_of};
 
+use crate::copying::copy_chosen;
 use crate::fault::CopyFault;
-use crate::filling::fill;
-use crate::making::{check_size, make_new};
-use crate::source::{Source, read_source};
-use crate::writing_out::write_out;
-use blocks::{Disk, MemDisk};
+use crate::source::read_source;
+use blocks::Disk;
 use messages::Meter;
 use std::alloc::Global;
 
@@ -87,38 +83,7 @@ fn copy_into<D: Disk, E: Disk, P: Meter>(
     ensures whole { LeavesIfCalm E.Disk new.old new.new
         (IsNoneOrWhole size (D.image old.old) (E.image new.old)) }
 {
-    let source = read_source(alloc, old)?;
-    check_size(new, size, source.image.sup.ninodes)?;
-    let memory = fill_new(alloc, old, &source, size, progress)?;
-    write_out(alloc, memory, new, sync)?;
-    Ok(source.files)
-}
-
-// The new image, in memory.
-fn fill_new<D: Disk, P: Meter>(
-    alloc: Global,
-    old: &mut D,
-    source: &Source,
-    size: u32,
-    progress: &mut P,
-) -> Result<MemDisk, CopyFault>
-    requires source { IsSourceOf (D.image old.old) source.now }
-    requires size { IsTrue (is_size size source.now.image.sup.ninodes) }
-    ensures filled { IfOk result (λ memory.
-        IsCopyOf size (D.image old.old) (⟦<MemDisk as Disk>⟧.image memory)) }
-    ensures refused { IfErr result (IsUnfilled D.Disk size old.old old.new) }
-    ensures reads { OnlyReads D.Disk old.old old.new }
-    ensures faults { OnOk result (D.fault_count old.new ≡ D.fault_count old.old) }
-{
-    let memory = MemDisk::new(alloc, size)?;
-    let mut kernel = match make_new(alloc, memory, size, source.image.sup.ninodes) {
-        Ok(kernel) => kernel,
-        Err((fault, _memory)) => return Err(fault),
-    };
-    let filled = fill(alloc, old, source, &mut kernel, progress);
-    let memory = kernel.into_disk();
-    match filled {
-        Ok(()) => Ok(memory),
-        Err(fault) => Err(fault),
-    }
+    let (source, count) = read_source(alloc, old)?;
+    copy_chosen(alloc, old, &source, new, size, sync, progress)?;
+    Ok(count)
 }

@@ -1,14 +1,14 @@
 // Filling the new image with the files of the old one.
-ghost use Rattle.std.specs.Prelude.{◌≡◌, ◌≢◌, ◌≤◌, ◌<◌, ◌+◌, ◌*◌, ◌^◌, All, length, map, replicate, None, Some, IfErr, OnOk, slice_index};
+ghost use Rattle.std.specs.Prelude.{◌≡◌, ◌≢◌, ◌≤◌, ◌<◌, ◌+◌, ◌*◌, ◌^◌, All, length, replicate, None, Some, IfErr, OnOk, slice_index};
 ghost use Rattle.blocks.specs.Calls.{OnlyReads};
-ghost use Rattle.model.specs.Files.{bytes_in, file_in, files_of};
-ghost use Rattle.model.specs.Layout.{inode_of, inode_count_of};
+ghost use Rattle.model.specs.Files.{bytes_in, file_in};
+ghost use Rattle.model.specs.Layout.{form_of, inode_of, inode_count_of};
 ghost use Rattle.model.specs.Log.{recovered};
 ghost use Rattle.calls.specs.Calls.{call_count};
-ghost use Rattle.calls.specs.Files.{appended, files_on, size_of, without_bytes};
+ghost use Rattle.calls.specs.Files.{appended, files_on, size_of};
 ghost use Rattle.calls.specs.Stopped.{StaysOver};
 ghost use Rattle.transfer.specs.Holding.{BreaksOff, CutsShort, Holds, IsUnanswered, IsUnwritten};
-ghost use Rattle.transfer.specs.Source.{IsFileOf, IsSourceOf};
+ghost use Rattle.transfer.specs.Source.{IsFileOf, IsSourceOf, chosen_files};
 ghost use Rattle.transfer.specs.Stages.{kept_at, kind_or_plain, listed, made_at};
 
 use crate::fault::CopyFault;
@@ -17,13 +17,12 @@ use blocks::{Block, Disk};
 use calls::{CallFault, Sole, append, create, remove};
 use messages::Meter;
 use model::types::TRANSFER_LIMIT;
-use offline::laws::checked_files_may_be_read;
 use std::alloc::Global;
 
 // The type of a plain file, `T_FILE` of xv6.
 pub(crate) const PLAIN: u16 = 2;
 
-/// Writes the files of the old image to a kernel without files, each with its number.
+/// Writes the source's files to a kernel without files, each with its number.
 pub(crate) fn fill<D: Disk, E: Disk, P: Meter>(
     alloc: Global,
     old: &mut D,
@@ -32,12 +31,13 @@ pub(crate) fn fill<D: Disk, E: Disk, P: Meter>(
     progress: &mut P,
 ) -> Result<(), CopyFault>
     requires source { IsSourceOf (D.image old.old) source.now }
+    requires form { source.now.form ≡ form_of (E.image kernel.old.opening) }
     requires none { Holds E.Disk 0 (replicate (inode_count_of (D.image old.old)) None) kernel.old }
-    ensures filled { OnOk result (Holds E.Disk (92 * length source.now.kinds.items)
-        (files_of (recovered (D.image old.old))) kernel.new) }
+    ensures filled { OnOk result (Holds E.Disk (21937 * length source.now.kinds.items)
+        (chosen_files (recovered (D.image old.old)) source.now.kinds.items) kernel.new) }
     ensures refused { IfErr result (IsUnwritten D.Disk E.Disk
-        (BreaksOff (files_of (recovered (D.image old.old)))) old.old old.new
-        kernel.old.opening kernel.new.store.volume.device) }
+        (BreaksOff (chosen_files (recovered (D.image old.old)) source.now.kinds.items))
+        old.old old.new kernel.old.opening kernel.new.store.volume.device) }
     ensures reads { OnlyReads D.Disk old.old old.new }
     ensures faults { OnOk result (D.fault_count old.new ≡ D.fault_count old.old) }
     ensures stays { StaysOver E.Disk kernel.old kernel.new }
@@ -50,7 +50,7 @@ pub(crate) fn fill<D: Disk, E: Disk, P: Meter>(
         if *kind != 0 {
             write_file(alloc, old, source, k as u32 + 1, kernel, &mut block)?;
             copied += 1;
-            progress.reached(u64::from(copied), u64::from(source.files), "files");
+            progress.reached(u64::from(copied), source.files, "files");
         }
     }
     Ok(())
@@ -120,10 +120,11 @@ fn write_file<D: Disk, E: Disk>(
     block: &mut Block,
 ) -> Result<(), CopyFault>
     requires file { IsFileOf (D.image old.old) source.now i }
+    requires form { source.now.form ≡ form_of (E.image kernel.old.opening) }
     requires few { call_count kernel.old < 2 ^ 31 }
     requires empty { Holds E.Disk (call_count kernel.old) (files_on E.image kernel.old) kernel.old
         × (size_of (file_in (files_on E.image kernel.old) i) ≡ Some 0) }
-    ensures written { OnOk result (Holds E.Disk (call_count kernel.old + 90)
+    ensures written { OnOk result (Holds E.Disk (call_count kernel.old + 21935)
         (appended (files_on E.image kernel.old) i
         (bytes_in (recovered (D.image old.old)) (inode_of (recovered (D.image old.old)) i)))
         kernel.new) }
@@ -135,7 +136,6 @@ fn write_file<D: Disk, E: Disk>(
     ensures faults { OnOk result (D.fault_count old.new ≡ D.fault_count old.old) }
     ensures stays { StaysOver E.Disk kernel.old kernel.new }
 {
-    checked_files_may_be_read();
     let mut room = [0; TRANSFER_LIMIT as usize];
     let inode = source.image.inode(old, i, block)?;
     for piece in 0..inode.size.div_ceil(TRANSFER_LIMIT) {

@@ -28,20 +28,21 @@ pub(crate) fn check_size<E: Disk>(new: &E, size: u32, ninodes: u32) -> Result<()
     Ok(())
 }
 
-/// Makes an image of the second form, and opens a kernel of one process over it.
+/// Makes an image of that form, and opens a kernel of one process over it.
 pub(crate) fn make_new<E: Disk + Drop>(
     alloc: Global,
     mut new: E,
     size: u32,
     ninodes: u32,
+    form: Form,
 ) -> Result<Sole<E>, (CopyFault, E)>
     requires { IsTrue (is_inode_count ninodes) }
-    ensures made { IfOk result (IsNewKernel E.Disk size ninodes new) }
+    ensures made { IfOk result (IsNewKernel E.Disk size ninodes form new) }
     ensures refused { IfErr result (λ e. IsUnmade E.Disk size ninodes new e.1 e.0) }
     ensures name { IfErr result (λ e. E.name e.1 ≡ E.name new) }
 {
     new_image_is_sound();
-    if let Err(fault) = mkfs_as(alloc, &mut new, size, ninodes, Form::Two) {
+    if let Err(fault) = mkfs_as(alloc, &mut new, size, ninodes, form) {
         return Err((CopyFault::Mkfs(fault), new));
     }
     match open_sole(alloc, new) {

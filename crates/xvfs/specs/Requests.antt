@@ -8,7 +8,7 @@ use Rattle.cli.specs.Told.{AskForHelp, IsToldOf}
 use Rattle.cli.specs.declared.explanation.Explanation.{Explanation}
 use Rattle.cli.specs.declared.explanation.Explanation.TheVariants.{Help, Mistake, NoMemory}
 use Rattle.cli.specs.declared.words.Request.{Request}
-use Rattle.cli.specs.declared.words.Request.TheVariants.{Mkfs, Check, Recover, Cat, Ls, Df, Show, Put, Copy, Replay, Run, Stops}
+use Rattle.cli.specs.declared.words.Request.TheVariants.{Mkfs, Check, Recover, Cat, Ls, Df, Show, Put, Copy, Rescue, Replay, Run, Stops}
 use Rattle.cmd.specs.Lemmas.Disks.{file_disk}
 use Rattle.cmd.specs.Opened.{OpensDisk}
 use Rattle.cmd.specs.Over.{IsRefusedOn}
@@ -20,6 +20,7 @@ use Rattle.player.specs.Showing.{IsNotShown}
 use Rattle.commands.specs.Runs.{IsNotRun, IsReplayed, IsRun, IsUnreplayed}
 use Rattle.commands.specs.Copies.{HasCopied, OnCopyRefusal}
 use Rattle.commands.specs.Making.{IsMade, IsNotMade}
+use Rattle.commands.specs.Rescues.{HasRescued, OnRescueRefusal}
 use Rattle.commands.specs.Puts.{HasPut, OnPutRefusal}
 use Rattle.xvfs.specs.Files.{FileGhosts}
 use Rattle.xvfs.specs.Scripts.{ChecksScript, IsScriptUnchecked}
@@ -50,6 +51,8 @@ Answers file (Put image path inum sync no_sync) old new =
     HasPut file.remaining inum sync (not no_sync) old new
 Answers file (Copy from to size no_sync) old new =
     HasCopied file.remaining file_disk size (not no_sync) old new
+Answers file (Rescue from to no_sync) old new =
+    HasRescued file.remaining file_disk (not no_sync) old new
 Answers file (Replay image script schedule stop sync) old new =
     OpensDisk file.remaining file_disk sync (IsReplayed (unwrap_or stop 0) old new)
 Answers file (Run image script workers sync) old new =
@@ -82,6 +85,8 @@ OnRefused file (Put image path inum sync no_sync) old new none =
     Refuses (OnPutRefusal file.remaining inum sync (not no_sync) none)
 OnRefused file (Copy from to size no_sync) old new none =
     Refuses (OnCopyRefusal file.remaining file_disk size (not no_sync) none)
+OnRefused file (Rescue from to no_sync) old new none =
+    Refuses (OnRescueRefusal file.remaining file_disk (not no_sync) none)
 OnRefused file (Replay image script schedule stop sync) old new none =
     Refuses (IsUnreplayed file.remaining sync (unwrap_or stop 0) old new none)
 OnRefused file (Run image script workers sync) old new none =

@@ -22,7 +22,7 @@ use crate::stopping::stops_files;
 use blocks::{Disk, FaultyDisk, FileDisk};
 use cli::{Asked, Explanation, Request, parse};
 use cmd::{Access, OverFile, end, perform};
-use commands::{Copy, Making, Mkfs, Put, replay_files, run_files};
+use commands::{Copy, Making, Mkfs, Put, Rescue, replay_files, run_files};
 use inspect::{Df, Ls, Show};
 use messages::print_last;
 use model::types::Form;
@@ -210,6 +210,21 @@ where
                     old,
                     new,
                     size,
+                    sync: !no_sync,
+                    progress,
+                    holder: Keeper::new(rt, wait),
+                },
+                out,
+                err,
+            )
+        }
+        Request::Rescue { old, new, no_sync } => {
+            let progress = TerminalMeter::new(rt);
+            perform(
+                rt,
+                Rescue {
+                    old,
+                    new,
                     sync: !no_sync,
                     progress,
                     holder: Keeper::new(rt, wait),

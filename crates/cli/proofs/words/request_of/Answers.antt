@@ -14,6 +14,11 @@ returns-in-copy c =
     let is : c.in_ok-name.name.now ≡ codes "copy" = search rules in
     IfSome_then c.copy_request.result c.copy_request.ensures (λ request asks. asked_by _ _ c.in_ok-name.name.now (codes "copy") (rows_of (found_of c.in_ok-name.values.now)) request is c.in_ok-name.ensures.name c.in_ok-name.ensures.rows asks)
 
+pub returns-in-rescue : goal.returns-in-rescue
+returns-in-rescue c =
+    let is : c.in_ok-name.name.now ≡ codes "rescue" = search rules in
+    IfSome_then c.rescue_request.result c.rescue_request.ensures (λ request asks. asked_by _ _ c.in_ok-name.name.now (codes "rescue") (rows_of (found_of c.in_ok-name.values.now)) request is c.in_ok-name.ensures.name c.in_ok-name.ensures.rows asks)
+
 pub returns-in-replay : goal.returns-in-replay
 returns-in-replay c =
     let is : c.in_ok-name.name.now ≡ codes "replay" = search rules in

@@ -1,15 +1,21 @@
-use Rattle.blocks.specs.Lemmas.Reads.{reads_then}
-use Rattle.blocks.specs.contracts.memory.MemDiskDisk.TheImpl.{ghosts}
-use Rattle.transfer.proofs.CopierLemmas.{all_copied}
+use Rattle.std.proofs.Common.{◌∙◌, ap}
+use Rattle.std.proofs.lemmas.Result.{err_from_is_err_and}
+use Rattle.blocks.specs.Disk.{Image}
+use Rattle.model.specs.Layout.{inode_count_of}
+use Rattle.model.specs.Log.{recovered}
+use Rattle.transfer.specs.Source.{chosen_files}
+use Rattle.transfer.proofs.CopierLemmas.{uncopied}
 use Rattle.transfer.proofs.copier.copy_into.Goals as goal
 
-pub returns-clause-copied : goal.returns-clause-copied
-returns-clause-copied g c =
-    let source = c.in_ok-source.ensures.source in
-    let out = c.in_ok-write_out.ensures in
-    all_copied g.D.Disk g.E.Disk c.args.size c.args.old.now c.fill_new.new.old c.args.new.now source.sound source.first c.args.sync c.read_source.new.old (ghosts.image c.in_ok-memory.memory) c.write_out.new.disk c.in_ok-source.source.files
-    c.read_source.ensures.reads.image c.in_ok-memory.ensures.filled source.files out.written out.stops
-
-pub returns-clause-reads : goal.returns-clause-reads
-returns-clause-reads g c =
-    reads_then g.D.Disk c.args.old.now c.read_source.new.old c.fill_new.new.old c.read_source.ensures.reads c.fill_new.ensures.reads
+pub returns-in_err-copy_chosen-clause-refused : goal.returns-in_err-copy_chosen-clause-refused
+returns-in_err-copy_chosen-clause-refused g c =
+    let d = g.D.Disk in
+    let mid = c.read_source.new.old in
+    let same = c.read_source.ensures.reads.image in
+    let all = c.in_ok-source.ensures.all in
+    let kinds = c.in_ok-source.source.kinds.items in
+    let p = err_from_is_err_and c.from_residual-in_err-copy_chosen.result c.from_residual-in_err-copy_chosen.ensures.1 in
+    rw (p.1, p.2)
+    (uncopied d g.E.Disk c.args.size c.args.old.now c.copy_chosen.new.old c.args.new.now mid c.in_ok-source.ensures.faults
+    (inode_count_of (d.image mid)) c.in_ok-source.source.form (chosen_files (recovered (d.image mid)) kinds) (ap inode_count_of same)
+    all.sound all.first all.form (ap (λ (z : Image). chosen_files (recovered z) kinds) same ∙ all.files) c.copy_chosen.new.new c.in_err-copy_chosen.field-0.0 c.in_err-copy_chosen.ensures.refused)

@@ -2,11 +2,11 @@ use Rattle.std.proofs.Common.{◌≡◌, ◌∙◌, ℕ, ◌+◌, ◌*◌, lengt
 use Rattle.std.proofs.lemmas.List.{length-take}
 use Rattle.blocks.specs.Lemmas.Reads.{reads_then}
 use Rattle.model.specs.Files.{bytes_in}
-use Rattle.model.specs.Layout.{inode_of}
+use Rattle.model.specs.Layout.{form_of, inode_of}
 use Rattle.model.specs.Log.{recovered}
 use Rattle.calls.specs.Calls.{call_count}
 use Rattle.calls.specs.Files.{appended, files_on}
-use Rattle.transfer.proofs.FillingLemmas.{all_appended, holds_as, one_appended, part_appended, piece_allowed, piece_read, readable, small_file}
+use Rattle.transfer.proofs.FillingLemmas.{all_appended, holds_as, most_bytes, one_appended, part_appended, piece_allowed, piece_read, readable, small_file}
 use Rattle.transfer.proofs.StageLemmas.{appended_none, few_bytes}
 use Rattle.transfer.proofs.filling.write_file.Given.{Over}
 use Rattle.transfer.proofs.filling.write_file.Goals.{In_ok-read}
@@ -36,8 +36,8 @@ loop-piece-init g c =
 pub read-requires-clause-file : goal.read-requires-clause-file
 read-requires-clause-file g c =
     let x = g.D.Disk.image c.args.old.now in
-    readable x c.args.source.now c.requires.file.is c.checked_files_may_be_read.ensures (g.met.D.Disk.is_image c.args.old.now) (g.D.Disk.image c.loop-piece.old) c.args.i c.in_ok-inode.inode
-    c.loop-piece.invariant.reads.image c.requires.file.some c.requires.file.below c.requires.file.used c.in_ok-inode.ensures.ok
+    readable x c.args.source.now c.requires.file.is (g.D.Disk.image c.loop-piece.old) c.args.i c.in_ok-inode.inode
+    c.loop-piece.invariant.reads.image c.requires.file.whole c.in_ok-inode.ensures.ok
 
 pub append-requires-clause-room : goal.append-requires-clause-room
 append-requires-clause-room g c =
@@ -46,9 +46,10 @@ append-requires-clause-room g c =
     let d = c.in_ok-inode.inode in
     let at = c.loop-piece.piece * 3072 in
     let count = c.min.result in
-    let small = small_file x c.args.source.now c.requires.file.is c.args.i d c.requires.file.some c.requires.file.below c.requires.file.used c.in_ok-inode.ensures.ok in
+    let small = small_file x c.args.source.now c.requires.file.is c.args.i d c.requires.file.whole c.in_ok-inode.ensures.ok in
     piece_allowed g.E.Disk (files_on g.E.Disk.image c.args.kernel.now) c.args.i c.requires.empty.1 (bytes_in (recovered x) d) d.size at count (few_bytes (recovered x) d) (omega arith) (omega arith)
-    c.read.new.into (read g here) (call_count c.args.kernel.now + c.loop-piece.piece) c.loop-piece.kernel c.loop-piece.invariant.holds small (c.read.auto.into ∙ long g here)
+    c.read.new.into (read g here) (call_count c.args.kernel.now + c.loop-piece.piece) c.loop-piece.kernel c.loop-piece.invariant.holds c.args.source.now.form
+    (c.requires.form ∙ ap (λ o. form_of (g.E.Disk.image o)) (sym c.loop-piece.invariant.opening)) small (c.read.auto.into ∙ long g here)
 
 pub returns-then-not-branch-clause-refused : goal.returns-then-not-branch-clause-refused
 returns-then-not-branch-clause-refused g c =
@@ -92,6 +93,7 @@ returns-clause-written g c =
     let d = c.in_ok-inode.inode in
     let l = c.args.kernel.now in
     let piece = c.loop-piece.piece in
-    let small = small_file x c.args.source.now c.requires.file.is i d c.requires.file.some c.requires.file.below c.requires.file.used c.in_ok-inode.ensures.ok in
-    all_appended g.E.Disk (files_on g.E.Disk.image l) i (recovered x) d (inode_of (recovered x) i) (piece * 3072) (call_count l + piece) (call_count l + 90) c.loop-piece.kernel
+    let small = small_file x c.args.source.now c.requires.file.is i d c.requires.file.whole c.in_ok-inode.ensures.ok in
+    let most = most_bytes c.args.source.now.form in
+    all_appended g.E.Disk (files_on g.E.Disk.image l) i (recovered x) d (inode_of (recovered x) i) (piece * 3072) (call_count l + piece) (call_count l + 21935) c.loop-piece.kernel
     c.loop-piece.invariant.holds (omega arith) (omega arith) c.in_ok-inode.ensures.ok

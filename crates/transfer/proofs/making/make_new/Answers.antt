@@ -1,5 +1,4 @@
 use Rattle.std.proofs.Common.{◌∙◌, ap, eqb, length}
-use Rattle.model.specs.declared.types.image.Form.TheVariants.{Two}
 use Rattle.model.specs.Codec.{made_image}
 use Rattle.model.specs.Layout.{is_size}
 use Rattle.model.specs.Verdict.{verdict}
@@ -12,8 +11,8 @@ returns-in-Ok-clause-made g c =
     let n = c.args.ninodes in
     let done = c.in_default.ensures in
     let fits = size_fits (is_size size n) (eqb size (length (g.E.Disk.image c.args.new))) (λ off. cc (done.size.1 (c.requires, off))) in
-    new_kernel g.E.Disk size n c.args.new c.mkfs_as.new.disk c.in-Ok.kernel c.requires fits done.made done.name
-    (c.new_image_is_sound.ensures Two size n c.requires fits) c.in-Ok.ensures.opened
+    new_kernel g.E.Disk size n c.args.form c.args.new c.mkfs_as.new.disk c.in-Ok.kernel c.requires fits done.made done.name
+    (c.new_image_is_sound.ensures c.args.form size n c.requires fits) c.in-Ok.ensures.opened
 
 pub returns-in-Err-open_sole-clause-refused : goal.returns-in-Err-open_sole-clause-refused
 returns-in-Err-open_sole-clause-refused g c =
@@ -21,7 +20,7 @@ returns-in-Err-open_sole-clause-refused g c =
     let n = c.args.ninodes in
     let done = c.in_default.ensures in
     let fits = size_fits (is_size size n) (eqb size (length (g.E.Disk.image c.args.new))) (λ off. cc (done.size.1 (c.requires, off))) in
-    let sound = (c.new_image_is_sound.ensures Two size n c.requires fits).sound in
+    let sound = (c.new_image_is_sound.ensures c.args.form size n c.requires fits).sound in
     rw c.fault_of_opening.ensures
-    (unopened g.E.Disk size n c.args.new c.mkfs_as.new.disk c.in-Err-open_sole.new (ap verdict done.made.image ∙ verdict_where_sound (made_image Two size n) sound)
+    (unopened g.E.Disk size n c.args.new c.mkfs_as.new.disk c.in-Err-open_sole.new (ap verdict done.made.image ∙ verdict_where_sound (made_image c.args.form size n) sound)
     done.made.faults c.in-Err-open_sole.fault c.in-Err-open_sole.ensures.refused)

@@ -1,4 +1,4 @@
-use Rattle.std.proofs.Common.{◌≡◌, ◌∙◌, ◌-◌, ◌<◌, ◌≤◌, ℕ, List, length, get_or, sym, subst}
+use Rattle.std.proofs.Common.{◌∙◌, ◌-◌, refl, sym, subst}
 use Rattle.blocks.specs.Disk.{Image}
 use Rattle.model.specs.Layout.{inode_count_of}
 use Rattle.model.specs.Log.{recovered}
@@ -6,7 +6,7 @@ use Rattle.model.specs.Verdict.{geometry_fault, log_fault, or_else}
 use Rattle.offline.specs.Cause.{IsCause}
 use Rattle.offline.specs.Recovered.{IsRecoveredOf}
 use Rattle.transfer.specs.Source.{AreFirstKinds}
-use Rattle.transfer.proofs.SourceLemmas.{kinds_cut, not_two, open_rose}
+use Rattle.transfer.proofs.SourceLemmas.{copies_all, not_two, open_rose, source_of_all}
 use Rattle.transfer.proofs.source.read_source.Goals as goal
 
 pub returns-in-Err-open-clause-refused : goal.returns-in-Err-open-clause-refused
@@ -20,21 +20,18 @@ returns-in-Err-open-clause-refused g c =
 
 pub returns-clause-source : goal.returns-clause-source
 returns-clause-source g c =
-    let d = g.D.Disk in
-    let x = d.image c.args.old.now in
+    let x = g.D.Disk.image c.args.old.now in
     let checked = c.check.ensures.reads.image in
     let kinds = c.in_ok-kinds.kinds.items in
-    let same = c.deref.ensures.value in
-    let used = c.used_count.result in
-    let report = c.in-Ok.ensures.report in
-    record {
-      sound = c.in-Ok.ensures.ok;
-      first = sym report.form ∙ not_two c.in-Ok.report.form c.in_default.not-Two;
-      image = subst (λ (z : Image). IsRecoveredOf z c.in-Ok-open.image) checked c.in-Ok-open.ensures.ok;
-      kinds = kinds_cut x kinds c.truncate.new.self.items used c.in-Ok.ensures.ok
-          (subst (λ (z : Image). AreFirstKinds (recovered z) kinds (inode_count_of z - 1)) (c.open.ensures.reads.image ∙ checked) c.in_ok-kinds.ensures.kinds)
-          (subst (λ (ks : List ℕ). used ≤ length ks) same c.used_count.ensures.few)
-          (subst (λ (ks : List ℕ). (k : ℕ) → used ≤ k → k < length ks → get_or ks k 0 ≡ 0) same c.used_count.ensures.rest)
-          c.truncate.ensures.items;
-      files = report.files;
-    }
+    let first = sym c.in-Ok.ensures.report.form ∙ not_two c.in-Ok.report.form c.in_default.not-Two in
+    let all = subst (λ (z : Image). AreFirstKinds (recovered z) kinds (inode_count_of z - 1)) (c.open.ensures.reads.image ∙ checked) c.in_ok-kinds.ensures.kinds in
+    source_of_all x _ kinds c.checked_files_may_be_read.ensures (g.met.D.Disk.is_image c.args.old.now) c.in-Ok.ensures.ok first refl
+    (subst (λ (z : Image). IsRecoveredOf z c.in-Ok-open.image) checked c.in-Ok-open.ensures.ok) all c.cut_kinds.ensures.few c.cut_kinds.ensures.same
+
+pub returns-clause-all : goal.returns-clause-all
+returns-clause-all g c =
+    let x = g.D.Disk.image c.args.old.now in
+    let kinds = c.in_ok-kinds.kinds.items in
+    let first = sym c.in-Ok.ensures.report.form ∙ not_two c.in-Ok.report.form c.in_default.not-Two in
+    let all = subst (λ (z : Image). AreFirstKinds (recovered z) kinds (inode_count_of z - 1)) (c.open.ensures.reads.image ∙ c.check.ensures.reads.image) c.in_ok-kinds.ensures.kinds in
+    copies_all x _ kinds c.in-Ok.ensures.ok first refl all c.cut_kinds.ensures.same

@@ -41,6 +41,15 @@ pub returns-in-Copy-clause-refused : goal.returns-in-Copy-clause-refused
 returns-in-Copy-clause-refused g c =
     λ refused. subst (λ request. OnRefused (seen_by g.R.File.Read.remaining) request (g.O.Write.contents c.args.out.now) (g.O.Write.contents c.perform-in-Copy.new.out) (c.perform-in-Copy.new.out ≡ c.args.out.now)) (sym c.in-Copy.is) (c.perform-in-Copy.ensures.refused refused)
 
+pub returns-in-Rescue-clause-done : goal.returns-in-Rescue-clause-done
+returns-in-Rescue-clause-done g c =
+    let file = seen_by g.R.File.Read.remaining in
+    λ done. subst (λ request. Answers file request (g.O.Write.contents c.args.out.now) (g.O.Write.contents c.perform-in-Rescue.new.out)) (sym c.in-Rescue.is) (c.perform-in-Rescue.ensures.done done)
+
+pub returns-in-Rescue-clause-refused : goal.returns-in-Rescue-clause-refused
+returns-in-Rescue-clause-refused g c =
+    λ refused. subst (λ request. OnRefused (seen_by g.R.File.Read.remaining) request (g.O.Write.contents c.args.out.now) (g.O.Write.contents c.perform-in-Rescue.new.out) (c.perform-in-Rescue.new.out ≡ c.args.out.now)) (sym c.in-Rescue.is) (c.perform-in-Rescue.ensures.refused refused)
+
 pub returns-in-Replay-clause-done : goal.returns-in-Replay-clause-done
 returns-in-Replay-clause-done g c =
     λ done. subst (λ request. Answers (seen_by g.R.File.Read.remaining) request (g.O.Write.contents c.args.out.now) (g.O.Write.contents c.replay_files.new.out)) (sym c.in-Replay.is) (was_done c.replay_files.result _ c.replay_files.ensures.opened (c.end.ensures.done done))

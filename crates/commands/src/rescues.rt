@@ -1,0 +1,197 @@
+// The command that rescues the whole files of a damaged image into a new one.
+ghost use Rattle.std.specs.Prelude.{◌≡◌, false, length, IfErr, IfOk, OnOk};
+ghost use Rattle.blocks.specs.Calls.{OnlyReads};
+ghost use Rattle.cmd.specs.Lemmas.Disks.{file_disk};
+ghost use Rattle.cmd.specs.Opened.{IsOpened};
+ghost use Rattle.commands.specs.Rescues.{
+  HasFilledRescue,
+  HasRescued,
+  IsFilledRescue,
+  IsUnfilledRescue,
+  IsUnmadeRescue,
+  OnRescueRefusal,
+};
+ghost use Rattle.transfer.specs.Rescues.{IsUnopened};
+
+use crate::copies::remove_refused;
+use crate::holding::Holder;
+use crate::refused::CopyRefusal;
+use blocks::{Block, Disk, FileDisk, FileFault};
+use cmd::{Command, open_to_look};
+use messages::{Meter, print_rescued};
+use offline::Recovered;
+use std::alloc::Global;
+use std::fs::exists;
+use std::io::Write;
+use std::rt::Files;
+use transfer::{CopyFault, Rescued, rescue};
+
+/// Copies the clean files of the image in the file at the path `old` into a new image of as many
+/// blocks, in a new file at the path `new`, as `transfer::rescue`, and prints the numbers of these and
+/// of those left out.
+///
+/// It is refused as `Copy` is, but that of the old image only superblock and log have to be lawful. With
+/// a fault of these no file was made.
+#[derive(Drop)]
+pub struct Rescue<'a, P, H> {
+    /// The path of the old image.
+    pub old: &'a str,
+    /// The path of the new one.
+    pub new: &'a str,
+    /// Whether it is synced at the end.
+    pub sync: bool,
+    /// Who is told how far the rescue is.
+    pub progress: P,
+    /// Who holds the new file.
+    pub holder: H,
+}
+
+impl<'a, R, P, H> Command<R> for Rescue<'a, P, H>
+where
+    R: Files + AllocGlobal,
+    P: Meter + Drop,
+    H: Holder + Drop,
+{
+    type Refusal = CopyRefusal;
+
+    ghost done = { λ rescue. HasRescued R.File.remaining file_disk rescue.sync };
+
+    ghost refused = { λ rescue old new.
+        OnRescueRefusal R.File.remaining file_disk rescue.sync };
+
+    fn run<O: Write>(self, rt: &R, out: &mut O) -> Result<(), CopyRefusal> {
+        let mut progress = self.progress;
+        let mut holder = self.holder;
+        rescue_files(
+            rt,
+            self.old,
+            self.new,
+            self.sync,
+            &mut progress,
+            &mut holder,
+            out,
+        )
+    }
+}
+
+fn rescue_files<R: Files + AllocGlobal, O: Write, P: Meter, H: Holder>(
+    rt: &R,
+    old: &str,
+    new: &str,
+    sync: bool,
+    progress: &mut P,
+    holder: &mut H,
+    out: &mut O,
+) -> Result<(), CopyRefusal>
+    ensures rescued { OnOk result (HasRescued R.File.remaining ⟦<FileDisk<R::File> as Disk>⟧
+        sync (O.contents out.old) (O.contents out.new)) }
+    ensures refused { IfErr result (OnRescueRefusal R.File.remaining
+        ⟦<FileDisk<R::File> as Disk>⟧ sync (out.new ≡ out.old)) }
+{
+    if matches!(exists(rt, new), Ok(true)) {
+        return Err(CopyRefusal::Exists);
+    }
+    let mut disk = open_to_look(rt, old)?;
+    rescue_from(rt, &mut disk, new, sync, progress, holder, out)
+}
+
+// Rescues the files of the image on a disk that was opened into a new file at the path. The disk is
+// lent, so that the proof doesn't repeat its type at each exit.
+fn rescue_from<R: Files + AllocGlobal, O: Write, P: Meter, H: Holder>(
+    rt: &R,
+    disk: &mut FileDisk<R::File>,
+    new: &str,
+    sync: bool,
+    progress: &mut P,
+    holder: &mut H,
+    out: &mut O,
+) -> Result<(), CopyRefusal>
+    requires { IsOpened R.File.remaining ⟦<FileDisk<R::File> as Disk>⟧ false disk.old }
+    ensures rescued { OnOk result (HasRescued R.File.remaining ⟦<FileDisk<R::File> as Disk>⟧
+        sync (O.contents out.old) (O.contents out.new)) }
+    ensures refused { IfErr result (OnRescueRefusal R.File.remaining
+        ⟦<FileDisk<R::File> as Disk>⟧ sync (out.new ≡ out.old)) }
+{
+    plan_rescue(rt.alloc(), disk)?;
+    let told = make_rescue(rt, disk, new, sync, progress, holder)?;
+    match print_rescued(out, told.clean.as_slice(), told.left.as_slice()) {
+        Ok(()) => Ok(()),
+        Err(_) => Err(CopyRefusal::Output),
+    }
+}
+
+// Rescues the files of the image on a disk into a new file at the path.
+fn make_rescue<R: Files + AllocGlobal, P: Meter, H: Holder>(
+    rt: &R,
+    disk: &mut FileDisk<R::File>,
+    new: &str,
+    sync: bool,
+    progress: &mut P,
+    holder: &mut H,
+) -> Result<Rescued, CopyRefusal>
+    ensures filled { IfOk result
+        (HasFilledRescue ⟦<FileDisk<R::File> as Disk>⟧ sync disk.old) }
+    ensures refused { IfErr result
+        (IsUnmadeRescue ⟦<FileDisk<R::File> as Disk>⟧ disk.old disk.new) }
+{
+    match holder.hold_new(new) {
+        Ok(()) => {
+            let rescued = fill_file(rt, disk, new, sync, progress);
+            remove_refused(rt, new, &rescued);
+            rescued
+        }
+        Err(FileFault::Exists | FileFault::Locked) => Err(CopyRefusal::Exists),
+        Err(fault) => Err(CopyRefusal::File(fault)),
+    }
+}
+
+// Rescues the files of the image on a disk into the file at the path, which is held.
+fn fill_file<R: Files + AllocGlobal, P: Meter>(
+    rt: &R,
+    disk: &mut FileDisk<R::File>,
+    new: &str,
+    sync: bool,
+    progress: &mut P,
+) -> Result<Rescued, CopyRefusal>
+    ensures filled { IfOk result
+        (HasFilledRescue ⟦<FileDisk<R::File> as Disk>⟧ sync disk.old) }
+    ensures refused { IfErr result
+        (IsUnmadeRescue ⟦<FileDisk<R::File> as Disk>⟧ disk.old disk.new) }
+{
+    match FileDisk::create(rt, new, disk.size()) {
+        Ok(created) => match fill(rt.alloc(), disk, created, sync, progress) {
+            Ok(told) => Ok(told),
+            Err(fault) => Err(CopyRefusal::Of(fault)),
+        },
+        Err(fault) => Err(CopyRefusal::File(fault)),
+    }
+}
+
+// Rescues the files of the image on a disk to another, which nobody keeps.
+fn fill<D: Disk, E: Disk + Drop, P: Meter>(
+    alloc: Global,
+    old: &mut D,
+    new: E,
+    sync: bool,
+    progress: &mut P,
+) -> Result<Rescued, CopyFault>
+    ensures filled { IfOk result (IsFilledRescue D.Disk E.Disk sync old.old new) }
+    ensures refused { IfErr result (IsUnfilledRescue D.Disk E.Disk old.old old.new new) }
+{
+    match rescue(alloc, old, new, sync, progress) {
+        Ok((told, _made)) => Ok(told),
+        Err((fault, _made)) => Err(fault),
+    }
+}
+
+// Judges superblock and log of a disk's image.
+fn plan_rescue<D: Disk>(alloc: Global, disk: &mut D) -> Result<(), CopyFault>
+    ensures refused { IfErr result (IsUnopened D.Disk disk.old disk.new) }
+    ensures reads { OnlyReads D.Disk disk.old disk.new }
+{
+    let mut block = Block::zeroed(alloc)?;
+    match Recovered::open(disk, &mut block) {
+        Ok(_image) => Ok(()),
+        Err(fault) => Err(CopyFault::Old(fault)),
+    }
+}

@@ -1,9 +1,0 @@
-use Rattle.std.proofs.Common.{refl}
-use Rattle.blocks.specs.contracts.memory.MemDiskDisk.TheImpl.{ghosts}
-use Rattle.transfer.proofs.CopierLemmas.{unfilled_in_memory}
-use Rattle.transfer.proofs.copier.fill_new.Goals as goal
-
-pub returns-in-Err-filled-clause-refused : goal.returns-in-Err-filled-clause-refused
-returns-in-Err-filled-clause-refused g c =
-    unfilled_in_memory g.D.Disk ghosts (λ e. refl) c.args.size c.args.old.now c.fill-filled.new.old c.in-Ok.kernel.opening c.fill-filled.new.kernel.store.volume.device
-    c.in-Err-filled.fault c.in-Ok.ensures.made.long c.in-Err-filled.ensures.refused
