@@ -13,7 +13,7 @@ use Rattle.clap.proofs.OnLiterals.{clap_on_literals}
 use Rattle.clap.proofs.WalkLemmas.{first_value-rows, one_text-rows}
 use Rattle.cli.specs.declared.words.Request.{Request}
 use Rattle.cli.specs.declared.words.Request.TheVariants.{Mkfs, Check, Recover, Cat, Ls, Df, Show, Put, Copy, Replay, Run, Stops}
-use Rattle.cli.specs.CommandLine.{AskFor, AskToWait, Asks, AsksBy, HasApp, HasChoice, HasFewWorkers, HasFlag, IsMistakeIn, Waits, mistakes_in, xvfs_app}
+use Rattle.cli.specs.CommandLine.{AskFor, Asks, AsksBy, Gives, HasApp, HasChoice, HasFewWorkers, HasFlag, IsMistakeIn, mistakes_in, xvfs_app}
 
 pub one_word : (app : App) (rule : Rule) (old : Command) (word : Arg) (new : Command) → HasApp app old → rule_of word ≡ rule → word.global ≡ false → AddsArg old word new → HasApp (with_rule app rule) new
 one_word app rule old word new has is local adds =
@@ -76,15 +76,15 @@ flag_read f id given none set unset = record {
 pub choice_read : (f : Found) (id : List ℕ) (given : Option ℕ) → (one_text f id ≡ None → given ≡ None) → HasChoice id (rows_of f) given
 choice_read f id given none = record { none = λ is. none (one_text-rows f id ∙ is) }
 
--- whether the command that was met waits
-pub waits : {B : Type 0} (f : B → List ℕ × List Row) (sub : Option B) (rows : List Row) (given : Bool) → Some rows ≡ option_map (λ p. p.1) (option_map f sub) → HasFlag (codes "wait") rows given → Waits (option_map f sub) given
-waits f None rows given has flag = absurd (some_is_not_none rows has)
-waits f (Some b) rows given has flag = subst (λ rs. HasFlag (codes "wait") rs given) (same_Some rows (f b).1 has) flag
+-- whether the command that was met has a word that may be given
+pub gives : {B : Type 0} (f : B → List ℕ × List Row) (sub : Option B) (id : List ℕ) (rows : List Row) (given : Bool) → Some rows ≡ option_map (λ p. p.1) (option_map f sub) → HasFlag id rows given → Gives id (option_map f sub) given
+gives f None id rows given has flag = absurd (some_is_not_none rows has)
+gives f (Some b) id rows given has flag = subst (λ rs. HasFlag id rs given) (same_Some rows (f b).1 has) flag
 
--- the command that a parse met waits as the words ask
-pub met_waiting : (app : App) (words : List (List ℕ)) (m : ArgMatches) (given : Bool) → app ≡ xvfs_app → HasMatchesOf app words m → Waits (subcommand_rows_of m) given → AskToWait words given
-met_waiting app words m given is matches wait =
-    subst (λ command. Waits command given) ((matches (ap is_simple is ∙ simple)).1 ∙ ap (λ (a : App). subcommand_of a words) is) wait
+-- the words of the command that a parse met have it too
+pub met_giving : (app : App) (words : List (List ℕ)) (m : ArgMatches) (id : List ℕ) (given : Bool) → app ≡ xvfs_app → HasMatchesOf app words m → Gives id (subcommand_rows_of m) given → Gives id (subcommand_of xvfs_app words) given
+met_giving app words m id given is matches has =
+    subst (λ command. Gives id command given) ((matches (ap is_simple is ∙ simple)).1 ∙ ap (λ (a : App). subcommand_of a words) is) has
 
 few_by : (name : List ℕ) (rows : List Row) (request : Request) → AsksBy name rows request → HasFewWorkers request
 few_by name rows (Mkfs image size ninodes large no_sync) asks = tt

@@ -30,10 +30,14 @@ stop_rule = record (new_rule (codes "stop")) {
 abbrev pub flag_rule : List ℕ → Rule
 flag_rule id = record (new_rule id) { long = Some id; action = Some SetTrue }
 
+-- a command that says more of a refusal where that is asked for
+abbrev pub explained : App → App
+explained app = with_rule app (flag_rule (codes "explain"))
+
 -- a command whose first word is a path of an image, and which waits for it where that is asked for
 abbrev pub waiting_app : List ℕ → List ℕ → App
 waiting_app name word =
-    with_rule (with_rule (new_app name) (required_rule word)) (flag_rule (codes "wait"))
+    explained (with_rule (with_rule (new_app name) (required_rule word)) (flag_rule (codes "wait")))
 
 -- a command over an image
 abbrev pub image_app : List ℕ → App
@@ -99,8 +103,9 @@ run_app = with_rule (with_rule (with_rule (image_app (codes "run"))
     (required_rule (codes "SCRIPT"))) workers_rule) (flag_rule (codes "sync"))
 
 abbrev pub stops_app : App
-stops_app = with_rule (with_rule (with_rule (new_app (codes "stops"))
-    (required_rule (codes "SCRIPT"))) (required_rule (codes "SCHEDULE"))) (flag_rule (codes "held"))
+stops_app = with_rule (explained (with_rule (with_rule (new_app (codes "stops"))
+    (required_rule (codes "SCRIPT"))) (required_rule (codes "SCHEDULE"))))
+    (flag_rule (codes "held"))
 
 -- the program, with no command yet
 abbrev pub bare_app : App
@@ -200,14 +205,18 @@ abbrev pub Asks : Option (List ℕ × List Row) → Request → Type 0
 Asks None request = ⊥
 Asks (Some command) request = AsksBy command.0 command.1 request
 
--- it waits while another program has the image, or doesn't
-abbrev pub Waits : Option (List ℕ × List Row) → Bool → Type 0
-Waits None wait = ⊥
-Waits (Some command) wait = HasFlag (codes "wait") command.1 wait
+-- a command has the word of this name that may be given, or hasn't
+abbrev pub Gives : List ℕ → Option (List ℕ × List Row) → Bool → Type 0
+Gives id None given = ⊥
+Gives id (Some command) given = HasFlag id command.1 given
 
--- the words ask for a command that waits so
+-- the words ask for a command that waits while another program has the image, or doesn't
 abbrev pub AskToWait : List (List ℕ) → Bool → Type 0
-AskToWait words wait = Waits (subcommand_of xvfs_app words) wait
+AskToWait words wait = Gives (codes "wait") (subcommand_of xvfs_app words) wait
+
+-- the words ask for a command that says more of a refusal, or doesn't
+abbrev pub AskToExplain : List (List ℕ) → Bool → Type 0
+AskToExplain words explain = Gives (codes "explain") (subcommand_of xvfs_app words) explain
 
 -- the words make a command, which asks for the request
 pub record AskFor (words : List (List ℕ)) (request : Request) : Type 0 where

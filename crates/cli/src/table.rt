@@ -55,6 +55,12 @@ const WAIT: Word = Word {
     help: "Waits while another program has the image, in place of being refused",
 };
 
+const EXPLAIN: Word = Word {
+    name: "explain",
+    kind: Kind::Flag,
+    help: "Says more of a refusal in a second line, as on a terminal",
+};
+
 const SCRIPT: Word = Word {
     name: "SCRIPT",
     kind: Kind::Needed,
@@ -91,6 +97,7 @@ pub(crate) static LINES: [Line; 13] = [
                 help: "The path of the image's file, which is made or replaced",
             },
             WAIT,
+            EXPLAIN,
             Word {
                 name: "SIZE",
                 kind: Kind::Number,
@@ -116,6 +123,7 @@ pub(crate) static LINES: [Line; 13] = [
         words: &[
             IMAGE_KEPT,
             WAIT,
+            EXPLAIN,
             Word {
                 name: "all",
                 kind: Kind::Flag,
@@ -127,13 +135,13 @@ pub(crate) static LINES: [Line; 13] = [
         name: "ls",
         about: "Lists the files of an image: number, type, bytes and blocks",
         example: "Example: xvfs ls fs.img",
-        words: &[IMAGE_KEPT, WAIT],
+        words: &[IMAGE_KEPT, WAIT, EXPLAIN],
     },
     Line {
         name: "df",
         about: "Counts the blocks and the inodes of an image, used and free ones",
         example: "Example: xvfs df fs.img",
-        words: &[IMAGE_KEPT, WAIT],
+        words: &[IMAGE_KEPT, WAIT, EXPLAIN],
     },
     Line {
         name: "cat",
@@ -142,6 +150,7 @@ pub(crate) static LINES: [Line; 13] = [
         words: &[
             IMAGE,
             WAIT,
+            EXPLAIN,
             Word {
                 name: "INUM",
                 kind: Kind::Number,
@@ -156,6 +165,7 @@ pub(crate) static LINES: [Line; 13] = [
         words: &[
             IMAGE_KEPT,
             WAIT,
+            EXPLAIN,
             Word {
                 name: "INUM",
                 kind: Kind::Choice,
@@ -170,6 +180,7 @@ pub(crate) static LINES: [Line; 13] = [
         words: &[
             IMAGE,
             WAIT,
+            EXPLAIN,
             Word {
                 name: "FILE",
                 kind: Kind::Needed,
@@ -195,6 +206,7 @@ pub(crate) static LINES: [Line; 13] = [
                 help: "The path of the image's file, which is not changed",
             },
             WAIT,
+            EXPLAIN,
             Word {
                 name: "NEW",
                 kind: Kind::Needed,
@@ -236,7 +248,7 @@ pub(crate) static LINES: [Line; 13] = [
         name: "recover",
         about: "Checks an image, and copies the blocks of its log home",
         example: "Example: xvfs recover fs.img",
-        words: &[IMAGE, WAIT, SYNC],
+        words: &[IMAGE, WAIT, EXPLAIN, SYNC],
     },
     Line {
         name: "replay",
@@ -245,6 +257,7 @@ pub(crate) static LINES: [Line; 13] = [
         words: &[
             IMAGE,
             WAIT,
+            EXPLAIN,
             SCRIPT,
             SCHEDULE,
             Word {
@@ -262,6 +275,7 @@ pub(crate) static LINES: [Line; 13] = [
         words: &[
             IMAGE,
             WAIT,
+            EXPLAIN,
             SCRIPT,
             Word {
                 name: "workers",
@@ -278,6 +292,7 @@ pub(crate) static LINES: [Line; 13] = [
         words: &[
             SCRIPT,
             SCHEDULE,
+            EXPLAIN,
             Word {
                 name: "held",
                 kind: Kind::Flag,

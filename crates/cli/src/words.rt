@@ -3,14 +3,15 @@ ghost use Rattle.std.specs.Prelude.{codes, map, IfErr, IfOk, IfSome};
 ghost use Rattle.clap.specs.Words.{found_of, rows_of, subcommand_rows_of};
 ghost use Rattle.cli.specs.CommandLine.{
   AskFor,
+  AskToExplain,
   AskToWait,
   Asks,
   AsksBy,
+  Gives,
   HasApp,
   HasFewWorkers,
   HasWorkers,
   IsMistakeIn,
-  Waits,
   xvfs_app,
 };
 ghost use Rattle.cli.specs.Told.{IsToldOf};
@@ -29,6 +30,8 @@ pub struct Asked<'a> {
     pub request: Request<'a>,
     /// Whether it waits while another program has the image.
     pub wait: bool,
+    /// Whether more is said of a refusal.
+    pub explain: bool,
 }
 
 /// What the words of a command line ask for.
@@ -162,6 +165,8 @@ pub enum Request<'a> {
 pub fn parse<'a, S: AsStr>(alloc: Global, words: &'a [S]) -> Result<Asked<'a>, Explanation>
     ensures ok { IfOk result (λ asked. AskFor (map S.text words.entry.now) asked.request) }
     ensures wait { IfOk result (λ asked. AskToWait (map S.text words.entry.now) asked.wait) }
+    ensures explain { IfOk result
+        (λ asked. AskToExplain (map S.text words.entry.now) asked.explain) }
     ensures workers { IfOk result (λ asked. HasFewWorkers asked.request) }
     ensures err { IfErr result (IsToldOf (map S.text words.entry.now)) }
 {
@@ -175,6 +180,8 @@ pub fn parse<'a, S: AsStr>(alloc: Global, words: &'a [S]) -> Result<Asked<'a>, E
 fn read<'a, S: AsStr>(alloc: Global, words: &'a [S]) -> Result<Asked<'a>, Error>
     ensures ok { IfOk result (λ asked. AskFor (map S.text words.entry.now) asked.request) }
     ensures wait { IfOk result (λ asked. AskToWait (map S.text words.entry.now) asked.wait) }
+    ensures explain { IfOk result
+        (λ asked. AskToExplain (map S.text words.entry.now) asked.explain) }
     ensures err { IfErr result (IsMistakeIn (map S.text words.entry.now)) }
 {
     let mut program = program(alloc)?;
@@ -186,6 +193,8 @@ fn read_by<'a, S: AsStr>(program: &mut Command<'a>, words: &'a [S]) -> Result<As
     requires { HasApp xvfs_app program.old }
     ensures ok { IfOk result (λ asked. AskFor (map S.text words.entry.now) asked.request) }
     ensures wait { IfOk result (λ asked. AskToWait (map S.text words.entry.now) asked.wait) }
+    ensures explain { IfOk result
+        (λ asked. AskToExplain (map S.text words.entry.now) asked.explain) }
     ensures err { IfErr result (IsMistakeIn (map S.text words.entry.now)) }
 {
     let matches = program.try_get_matches_from_mut(words)?;
@@ -195,15 +204,23 @@ fn read_by<'a, S: AsStr>(program: &mut Command<'a>, words: &'a [S]) -> Result<As
     }
 }
 
-// What the words ask for, and whether it waits, if none of them is missing.
+// What the words ask for, and how, if none of them is missing.
 fn asked_of<'a>(matches: &ArgMatches<'a>) -> Option<Asked<'a>>
     ensures asks { IfSome result (λ asked. Asks (subcommand_rows_of matches.now) asked.request) }
-    ensures waits { IfSome result (λ asked. Waits (subcommand_rows_of matches.now) asked.wait) }
+    ensures waits { IfSome result
+        (λ asked. Gives (codes "wait") (subcommand_rows_of matches.now) asked.wait) }
+    ensures explains { IfSome result
+        (λ asked. Gives (codes "explain") (subcommand_rows_of matches.now) asked.explain) }
 {
     let request = request_of(matches)?;
     let (_name, values) = matches.subcommand()?;
     let wait = values.get_flag("wait");
-    Some(Asked { request, wait })
+    let explain = values.get_flag("explain");
+    Some(Asked {
+        request,
+        wait,
+        explain,
+    })
 }
 
 // What the words ask for, if none of them is missing.

@@ -9,3 +9,6 @@ pub mod Drawing
 pub mod Looks
 pub mod Laws
 pub mod Usage
+pub mod Fields
+pub mod Texts
+pub mod Beginnings

@@ -1,20 +1,32 @@
 //! What an image has, as a user sees it: a list of its files, a drawing of its blocks with a sign
 //! for each, the blocks of one file, and how much is used. Each is that of the image which recovery would leave, read
 //! without writing it, behind a check of the disk.
+//!
+//! And what more there is to say of a refusal, which is found by looking once more at the files that
+//! the command was given.
 #![tactic(auto)]
 
 mod drawing;
+mod explaining;
 mod fault;
+mod fields;
+mod given;
 pub mod laws;
 mod listing;
 mod looks;
 mod owned;
+mod paths;
 mod refused;
+mod room;
 mod showing;
 mod signs;
+mod standing;
+mod texts;
 mod usage;
 
 pub use drawing::show_disk;
+pub use explaining::explain;
+pub use given::Given;
 pub use listing::list_disk;
 pub use looks::{Df, Ls, Show};
 pub use owned::Owned;

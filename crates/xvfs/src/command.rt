@@ -19,6 +19,8 @@ ghost use Rattle.messages.specs.declared.told.Unwritten.{Unwritten as IsUnwritte
 use crate::locks::{Keeper, Locks, lock_image};
 use crate::progress::{Screen, TerminalMeter};
 use crate::stopping::stops_files;
+use crate::telling::{Line, tell, tell_fault};
+use arrayvec::ArrayVec;
 use blocks::{Disk, FaultyDisk, FileDisk};
 use cli::{Asked, Explanation, Request, parse};
 use cmd::{Access, OverFile, end, perform};
@@ -34,8 +36,9 @@ use std::sync::Wait;
 use std::thread::Threads;
 
 /// Does the command that these words ask for, the program's name not among them: prints what it
-/// answers to `out`, and why it wasn't done to `err`, as far as that can be written. The exit
-/// status: 0 where it was done, 1 for a refusal, 2 where the words are no command.
+/// answers to `out`, and why it wasn't done to `err`, as far as that can be written, in a second line
+/// more of it where that is asked for, or a terminal is at the standard error. The exit status: 0
+/// where it was done, 1 for a refusal, 2 where the words are no command.
 ///
 /// With 0 the words make a command, and `out` has its answer, which is that of the disk that was
 /// opened from a file; or they ask for help or the version, whose text is clap's. With 1 they do
@@ -109,9 +112,36 @@ where
     ensures silent { result ≡ 0 → err.new ≡ err.old }
 {
     match lock_image(rt, &asked.request, asked.wait) {
-        Ok(_lock) => dispatch(rt, asked.request, asked.wait, out, err),
-        Err(fault) => end(Err(fault), err),
+        Ok(_lock) => dispatch_telling(rt, asked, out, err),
+        Err(fault) => tell_fault(rt, &asked, fault, err),
     }
+}
+
+// Does what is asked for, as `dispatch`, and tells why it was refused. The exit status.
+fn dispatch_telling<
+    R: Files + AllocGlobal + Threads + Wait + Clock + Screen + Locks + Sync,
+    O: Write,
+    E: Write,
+>(rt: &R, asked: Asked<'_>, out: &mut O, err: &mut E) -> u8
+where
+    R::File: Send,
+    requires { HasFewWorkers asked.request }
+    ensures status { result ≤ 1 }
+    ensures done { result ≡ 0 → Answers (ghosts_of R.File.remaining
+        ⟦<FileDisk<R::File> as Disk>⟧ ⟦<FaultyDisk<FileDisk<R::File>> as Disk>⟧)
+        asked.entry.request (O.contents out.old) (O.contents out.new) }
+    ensures refused { result ≡ 1 → OnRefused (ghosts_of R.File.remaining
+        ⟦<FileDisk<R::File> as Disk>⟧ ⟦<FaultyDisk<FileDisk<R::File>> as Disk>⟧)
+        asked.entry.request (O.contents out.old) (O.contents out.new) (out.new ≡ out.old) }
+    ensures silent { result ≡ 0 → err.new ≡ err.old }
+{
+    let mut line: Line = ArrayVec::new();
+    let status = dispatch(rt, asked.request, asked.wait, out, &mut line);
+    if status == 0 {
+        return 0;
+    }
+    tell(rt, &asked, line.as_slice(), err);
+    status
 }
 
 // Does what is asked for, and prints the answer, or why it was refused. The exit status.

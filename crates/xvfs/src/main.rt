@@ -9,16 +9,18 @@ mod input;
 mod locks;
 mod progress;
 mod stopping;
+mod telling;
 
 use arguments::WordsFault;
 use batch::commands;
 use cmd::end;
 use command::command;
 use input::{InputFault, input_unread};
-use std::io::{BufWriter, Stdout, Write};
+use std::io::{BufWriter, IsTerminal, Stdout, Write};
 use std::process::ExitCode;
 
-// How many bytes of the output are held back: ten times the digits of the longest Read.
+// How many bytes of the output are held back where that is no terminal: ten times the digits of the
+// longest Read.
 const HELD_BACK: usize = 65_536;
 
 // Why nothing can be begun.
@@ -48,14 +50,16 @@ fn main(rt: HostRuntime) -> ExitCode {
 }
 
 // The words that the program was started with, and its output, which is held back up to the end of
-// each command.
+// each command; a terminal gets all at once.
 fn words_and_output(rt: &HostRuntime) -> Result<(Vec<String>, BufWriter<Stdout>), Unbegun> {
     let words = match arguments::given(rt) {
         Ok(words) => words,
         Err(WordsFault::NotUtf8) => return Err(Unbegun::NotUtf8),
         Err(WordsFault::NoMemory) => return Err(Unbegun::Input(InputFault::NoMemory)),
     };
-    match BufWriter::with_capacity(rt.alloc(), HELD_BACK, rt.stdout()) {
+    let out = rt.stdout();
+    let held_back = if out.is_terminal() { 0 } else { HELD_BACK };
+    match BufWriter::with_capacity(rt.alloc(), held_back, out) {
         Ok(out) => Ok((words, out)),
         Err(error) => Err(Unbegun::Input(input_unread(error))),
     }
