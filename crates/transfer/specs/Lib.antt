@@ -9,6 +9,7 @@ pub mod Copies
 pub mod Laws
 pub mod Needs
 pub mod Places
+pub mod Rounds
 pub mod Stopped
 pub mod PutWriting
 pub mod Judging
