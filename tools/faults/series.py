@@ -126,8 +126,8 @@ def replay_words(sync):
     return ["replay", "a.img", "script", "schedule", *(["--sync"] if sync else [])]
 
 
-def places(count):
-    return range(1, count + 1, max(1, -(-count // MOST)))
+def places(count, most=MOST):
+    return range(1, count + 1, max(1, -(-count // most)))
 
 
 def count_calls(words, call, image, over="a.img"):
@@ -239,6 +239,24 @@ def put(call, how, seed=None):
             yield at, f"{trial.checked()}, {len(old)} and {len(new)} bytes"
         elif trial.status == 0 and new != FILES["long"]:
             yield at, f"status 0, {len(new)} of {len(FILES['long'])} bytes"
+        else:
+            yield at, None
+
+
+def put_over(call, how, seed=None):
+    """In place of a file, with room for both: its old bytes are there, or the new ones, as its own or a new file's."""
+    words = ["put", "a.img", "long", "1", *(["--sync"] if seed else [])]
+    for at in places(count_calls(words, call, ONE_FILE), max(MOST, 200)):
+        trial = Trial(ONE_FILE, words, call, at, how, power=seed and seed * 1000 + at)
+        whole = trial.run("recover", "a.img").returncode == 0 and trial.checked().startswith("sound")
+        numbers = [line.split()[0] for line in trial.run("ls", "a.img").stdout.decode().splitlines()]
+        files = {number: trial.run("cat", "a.img", number).stdout for number in numbers}
+        new = [text for number, text in files.items() if (number, text) != ("1", FILES["short"])]
+        kept = FILES["long"] in new or files.get("1") == FILES["short"]
+        if not whole or not kept or len(files) > 2 or not all(FILES["long"].startswith(text) for text in new):
+            yield at, f"{trial.checked()}, files of {[len(text) for text in files.values()]} bytes"
+        elif trial.status == 0 and files != {"1": FILES["long"]}:
+            yield at, f"status 0, {len(files)} files"
         else:
             yield at, None
 
@@ -405,6 +423,8 @@ SERIES += [(replaced, old) for old in (None, BASE)] + [(waiting,), (looked_at,)]
 SERIES += [(copy_cut, seed) for seed in (1, 2, 3)]
 SERIES += [(put, call, how) for call in ("write", "lseek") for how in HOWS[call]]
 SERIES += [(put, "write", "kill", seed) for seed in (1, 2, 3)] + [(syncs,)]
+SERIES += [(put_over, call, how) for call in ("write", "lseek") for how in HOWS[call]]
+SERIES += [(put_over, "write", "kill", seed) for seed in (1, 2, 3)]
 with concurrent.futures.ThreadPoolExecutor(os.cpu_count()) as pool:
     found = [line for lines in pool.map(lambda one: told_wrong(*one), SERIES) for line in lines]
 print("\n".join(found + [f"faults: {len(SERIES)} series, {len(found)} ends that are not as they should be"]))

@@ -22,8 +22,13 @@ pub fn empty_disk(alloc: Global) -> Result<MemDisk, Wrong> {
 
 /// A new image of 200 blocks with 32 inode numbers.
 pub fn new_image(alloc: Global) -> Result<MemDisk, Wrong> {
-    let mut disk = MemDisk::new(alloc, 200)?;
-    match mkfs(alloc, &mut disk, 200, 32) {
+    image_of(alloc, 200)
+}
+
+// One of so many blocks.
+fn image_of(alloc: Global, size: u32) -> Result<MemDisk, Wrong> {
+    let mut disk = MemDisk::new(alloc, size)?;
+    match mkfs(alloc, &mut disk, size, 32) {
         Ok(()) => Ok(disk),
         Err(fault) => Err(Wrong::Image(fault)),
     }
@@ -31,7 +36,12 @@ pub fn new_image(alloc: Global) -> Result<MemDisk, Wrong> {
 
 /// Such an image whose file 1, of type 2, has these bytes.
 pub fn with_file(alloc: Global, bytes: &[u8]) -> Result<MemDisk, Wrong> {
-    match new_image(alloc) {
+    with_file_in(alloc, 200, bytes)
+}
+
+// One of so many blocks.
+fn with_file_in(alloc: Global, size: u32, bytes: &[u8]) -> Result<MemDisk, Wrong> {
+    match image_of(alloc, size) {
         Ok(disk) => {
             let mut told = Vec::new(alloc);
             let (put, disk) = put_disk(alloc, disk, bytes, None, true, &mut told);
@@ -46,7 +56,12 @@ pub fn with_file(alloc: Global, bytes: &[u8]) -> Result<MemDisk, Wrong> {
 
 /// The image whose files are copied, and into which bytes are put: its file 1 has the byte `a`.
 pub fn ground(alloc: Global) -> Result<MemDisk, Wrong> {
-    with_file(alloc, b"a")
+    ground_of(alloc, 200)
+}
+
+/// One of so many blocks.
+pub fn ground_of(alloc: Global, size: u32) -> Result<MemDisk, Wrong> {
+    with_file_in(alloc, size, b"a")
 }
 
 /// Refuses a disk that has not that image.

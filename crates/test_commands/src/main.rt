@@ -61,7 +61,8 @@ fn main(rt: HostRuntime) -> anyhow::Result<()> {
 
 // Behind each failed copy the old image is as it was, and the new one is none or whole. Behind each
 // failed put the image is recovered to a sound one, whose files are those before it, or those with
-// the first of the bytes. A `cat` that fails has written the first of the bytes, in whole pieces.
+// the first of the bytes; over a file, where there is room for both, the old bytes are there or the
+// new ones. A `cat` that fails has written the first of the bytes, in whole pieces.
 fn print_failures(rt: &impl Print, alloc: Global) -> anyhow::Result<()> {
     fail_copies(rt, alloc)?;
     fail_puts(rt, alloc)?;

@@ -1,5 +1,5 @@
 -- What calls one after the other come to.
-use Rattle.std.proofs.Common.{◌≡◌, ◌∙◌, ℕ, ◌<◌, List, [], length, take, Option, Some, refl, sym, ap, subst, inl, inr}
+use Rattle.std.proofs.Common.{◌≡◌, ◌∙◌, ℕ, ◌<◌, Bool, true, false, List, [], length, take, Option, Some, refl, sym, ap, subst, inl, inr}
 use Rattle.blocks.specs.Disk.{Image, Rose}
 use Rattle.blocks.specs.declared.disk.Disk.{Ghosts}
 use Rattle.model.specs.Files.{Files, files_of}
@@ -11,7 +11,7 @@ use Rattle.calls.specs.Stepping.{Plain}
 use Rattle.calls.specs.declared.fault.CallFault.{CallFault}
 use Rattle.calls.specs.declared.fault.CallFault.TheVariants as fault
 use Rattle.transfer.specs.Places.{IsPlace, MayPut, PutsAll, put_at}
-use Rattle.transfer.specs.PutWriting.{AreAnswered, IsCutOff, MayCall, PutsPart}
+use Rattle.transfer.specs.PutWriting.{AreAnswered, IsCutOff, MayCall, Puts, PutsPart}
 use Rattle.transfer.proofs.PlaceLemmas.{put_at_again}
 
 pub whole_then : (x y z : Image) → IsWhole x y → IsWhole y z → IsWhole x z
@@ -99,6 +99,10 @@ module _ {D N : Type 0} (disk : Ghosts D N) where
       files = put_behind (take part.count bytes) (files_of y) part.files;
       full = part.full;
     }
+
+    pub puts_behind : (y : Image) (all : Bool) → Puts all i bytes (image_on disk.image l) y → Puts all i bytes (image_on disk.image k) y
+    puts_behind y true puts = put_behind bytes (files_of y) puts
+    puts_behind y false part = part_behind y part
 
     first_behind : (new : Files) → MayPut (files_on disk.image l) (Some i) bytes new → MayPut (files_on disk.image k) inum bytes new
     first_behind new (inl same) = inr (record { number = i; place = begins.place; count = 0; files = same ∙ begins.files })

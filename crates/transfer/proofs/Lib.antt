@@ -12,3 +12,4 @@ pub mod AppendLemmas
 pub mod ImageLemmas
 pub mod OpenedLemmas
 pub mod StopLemmas
+pub mod RoundLemmas

@@ -19,15 +19,17 @@ use Rattle.calls.specs.Opening.{IsNotOpenedSole, IsOpenedSole}
 use Rattle.calls.specs.Stepping.{Plain}
 use Rattle.wal.specs.Recovery.{IsCalm, LeavesIfCalm, RecoversAs}
 use Rattle.transfer.specs.Judging.{IsFit, IsTold}
-use Rattle.transfer.specs.Stopped.{KeepsPut, StaysPut}
+use Rattle.transfer.specs.Needs.{has_room_twice}
+use Rattle.transfer.specs.Stopped.{KeepsPut, KeepsPutOf, StaysPut}
 use Rattle.transfer.specs.Ending.{SyncsIf}
 use Rattle.transfer.specs.Putting.{ComesTo, IsPut, IsUnopenedThen, IsUnput, IsUntold}
-use Rattle.transfer.specs.PutWriting.{CallsTo, Comes, IsUnwritten, KeepsPart}
+use Rattle.transfer.specs.PutWriting.{CallsTo, IsUnwritten, KeepsSome, PutComes, PutComesOf}
 use Rattle.transfer.specs.declared.refused.PutRefusal.{PutRefusal}
 use Rattle.transfer.specs.declared.refused.PutRefusal.TheVariants.{Check, NoFile, NotAFile, TooBig, Full, NoMemory, Unopened, NoInode, Disk, Output}
 use Rattle.transfer.specs.declared.writing.Outcome.{Outcome}
 use Rattle.transfer.specs.declared.writing.Outcome.TheVariants as outcome
 use Rattle.transfer.proofs.CallLemmas.{whole_then}
+use Rattle.transfer.proofs.RoundLemmas.{never_same, stops_same}
 
 -- a disk has the same image, and no fault more, whether it was synced or left alone
 left_same : {D N : Type 0} (disk : Ghosts D N) (sync : Bool) (d e : D) → SyncsIf sync disk d e → (disk.image e ≡ disk.image d) × (disk.fault_count e ≡ disk.fault_count d)
@@ -62,31 +64,33 @@ module _ {D N : Type 0} (disk : Ghosts D N) (inum : Option ℕ) (bytes : List �
 
   -- ---- calls were made
 
-  module _ (k : Plain D) (opened : IsOpenedSole disk mid k) where
+  module _ (k : Plain D) (opened : IsOpenedSole disk mid k) (twice : Bool) (room : twice ≡ has_room_twice (recovered (disk.image d)) inum (length bytes)) where
     begun : image_on disk.image k ≡ recovered (disk.image d)
     begun = opened.image ∙ ap recovered fit.reads.image
 
     faults : disk.fault_count k.store.volume.device ≡ disk.fault_count d
     faults = ap disk.fault_count opened.device ∙ opened.faults ∙ fit.faults
 
-    comes_to : (e : D) (outcome : Outcome) → CallsTo disk inum bytes k.store.volume.device e outcome → ComesTo disk inum bytes d e outcome
+    comes_to : (e : D) (outcome : Outcome) → CallsTo twice disk inum bytes k.store.volume.device e outcome → ComesTo disk inum bytes d e outcome
     comes_to e outcome calls = record {
       sound = fit.sound;
       plain = fit.room.plain;
       whole = subst (λ (x : Image). IsWhole x (disk.image e)) fit.reads.image
           (whole_then (disk.image mid) (image_on disk.image k) (disk.image e) opened.whole calls.whole);
-      comes = subst (λ (x : Image). Comes x inum bytes (disk.image e) outcome) begun calls.comes;
+      comes = subst (λ (t : Bool). PutComes t (recovered (disk.image d)) inum bytes (disk.image e) outcome) room
+          (subst (λ (x : Image). PutComes twice x inum bytes (disk.image e) outcome) begun calls.comes);
       faults = calls.faults ∙ faults;
     }
 
-    pub unwritten_so : (e : D) (none : Type 0) → none → (r : PutRefusal) → IsUnwritten disk inum bytes k.store.volume.device e r → IsUnput disk inum bytes sync d e none r
+    pub unwritten_so : (e : D) (none : Type 0) → none → (r : PutRefusal) → IsUnwritten twice disk inum bytes k.store.volume.device e r → IsUnput disk inum bytes sync d e none r
     unwritten_so e none silent NoInode why = (comes_to e _ why, silent)
     unwritten_so e none silent Full why = (inr (comes_to e _ why), silent)
     unwritten_so e none silent NoMemory why = (
       inr (record {
         sound = fit.sound;
         plain = fit.room.plain;
-        keeps = subst (λ (x : Image). KeepsPart x inum bytes (disk.image e)) begun why.1;
+        keeps = subst (λ (t : Bool). KeepsSome t (recovered (disk.image d)) inum bytes (disk.image e)) room
+            (subst (λ (x : Image). KeepsSome twice x inum bytes (disk.image e)) begun why.1);
         faults = why.0 ∙ faults;
       }),
       silent,
@@ -96,7 +100,7 @@ module _ {D N : Type 0} (disk : Ghosts D N) (inum : Option ℕ) (bytes : List �
 
     -- ---- and then a sync
 
-    module _ (unsynced e : D) (number : ℕ) (calls : CallsTo disk inum bytes k.store.volume.device unsynced (outcome.Put number)) where
+    module _ (unsynced e : D) (number : ℕ) (calls : CallsTo twice disk inum bytes k.store.volume.device unsynced (outcome.Put number)) where
       synced_so : SyncsIf sync disk unsynced e → ComesTo disk inum bytes d e (outcome.Put number)
       synced_so syncs =
           let put = comes_to unsynced _ calls in
@@ -105,7 +109,7 @@ module _ {D N : Type 0} (disk : Ghosts D N) (inum : Option ℕ) (bytes : List �
             sound = put.sound;
             plain = put.plain;
             whole = subst (IsWhole (disk.image d)) (sym left.0) put.whole;
-            comes = subst (λ (y : Image). Comes (recovered (disk.image d)) inum bytes y (outcome.Put number)) (sym left.0) put.comes;
+            comes = subst (λ (y : Image). PutComesOf (recovered (disk.image d)) inum bytes y (outcome.Put number)) (sym left.0) put.comes;
             faults = left.1 ∙ put.faults;
           }
 
@@ -127,37 +131,46 @@ module _ {D N : Type 0} (disk : Ghosts D N) (inum : Option ℕ) (bytes : List �
 module _ {D N : Type 0} (disk : Ghosts D N) (counts_now : (e : D) (t : ℕ) (x : Image) → t ≤ disk.moment e → disk.leaves e (disk.moment e) x → disk.leaves e t x)
     (inum : Option ℕ) (bytes : List ℕ) (d mid : D) (sound : verdict (disk.image d) ≡ None) (reads : OnlyReads disk d mid) (calm : IsCalm disk d) where
   abbrev Keeps : Image → Type 0
-  Keeps = KeepsPut (recovered (disk.image d)) inum bytes
+  Keeps = KeepsPutOf (recovered (disk.image d)) inum bytes
 
   keeps : (z : Image) → RecoversAs (disk.image d) z → Keeps z
   keeps z same =
       let is = verdict_sound (disk.image d) sound in
-      record { log = same.lawful ∙ is.1; sound = subst IsSound (sym same.image) is.2; files = inl (ap files_of same.image) }
+      let twice = has_room_twice (recovered (disk.image d)) inum (length bytes) in
+      let files : files_of (recovered z) ≡ files_of (recovered (disk.image d)) = ap files_of same.image in
+      record {
+        log = same.lawful ∙ is.1;
+        sound = subst IsSound (sym same.image) is.2;
+        files = stops_same inum twice (recovered (disk.image d)) bytes (recovered z) files;
+        either = never_same inum twice (files_of (recovered (disk.image d))) bytes (files_of (recovered z)) files;
+      }
 
   -- the disk was only read
-  pub read_leaves : LeavesOnly disk.moment disk.leaves d mid (KeepsPut (recovered (disk.image d)) inum bytes)
+  pub read_leaves : LeavesOnly disk.moment disk.leaves d mid (KeepsPutOf (recovered (disk.image d)) inum bytes)
   read_leaves =
       stays disk.moment disk.leaves d d mid Keeps
       (started disk.moment disk.leaves d Keeps (λ z left. keeps z (subst (RecoversAs (disk.image d)) (sym (calm z left)) (record { image = refl; lawful = refl }))))
       reads.time
 
   -- then it was recovered, or not
-  pub recovered_leaves : (e : D) → LeavesIfCalm disk mid e (RecoversAs (disk.image mid)) → LeavesOnly disk.moment disk.leaves d e (KeepsPut (recovered (disk.image d)) inum bytes)
+  pub recovered_leaves : (e : D) → LeavesIfCalm disk mid e (RecoversAs (disk.image mid)) → LeavesOnly disk.moment disk.leaves d e (KeepsPutOf (recovered (disk.image d)) inum bytes)
   recovered_leaves e leaves =
       let still : IsCalm disk mid = λ z left. calm z (now_stays disk.moment disk.leaves d mid (counts_now mid) reads.time z left) ∙ sym reads.image in
       joined disk.moment disk.leaves d mid e Keeps read_leaves
       (leaves_wider disk.moment disk.leaves mid e (RecoversAs (disk.image mid)) Keeps (λ z same. keeps z (subst (λ (x : Image). RecoversAs x z) reads.image same)) (leaves still))
 
-  -- and then calls were made
-  pub put_leaves : (k m : Plain D) → IsOpenedSole disk mid k → StaysPut disk (image_on disk.image k) inum bytes k m
-      → LeavesOnly disk.moment disk.leaves d m.store.volume.device (KeepsPut (recovered (disk.image d)) inum bytes)
-  put_leaves k m opened put =
-      let begun : image_on disk.image k ≡ recovered (disk.image d) = opened.image ∙ ap recovered reads.image in
-      joined disk.moment disk.leaves d k.opening m.store.volume.device Keeps (recovered_leaves k.opening opened.leaves)
-      (subst (λ (o : D). LeavesOnly disk.moment disk.leaves o m.store.volume.device Keeps) opened.device
-      (subst (λ (x : Image). LeavesOnly disk.moment disk.leaves k.store.volume.device m.store.volume.device (KeepsPut x inum bytes)) begun put.leaves))
+  module _ (twice : Bool) (room : twice ≡ has_room_twice (recovered (disk.image d)) inum (length bytes)) where
+    -- and then calls were made
+    pub put_leaves : (k m : Plain D) → IsOpenedSole disk mid k → StaysPut disk twice (image_on disk.image k) inum bytes k m
+        → LeavesOnly disk.moment disk.leaves d m.store.volume.device (KeepsPutOf (recovered (disk.image d)) inum bytes)
+    put_leaves k m opened put =
+        let begun : image_on disk.image k ≡ recovered (disk.image d) = opened.image ∙ ap recovered reads.image in
+        joined disk.moment disk.leaves d k.opening m.store.volume.device Keeps (recovered_leaves k.opening opened.leaves)
+        (subst (λ (o : D). LeavesOnly disk.moment disk.leaves o m.store.volume.device Keeps) opened.device
+        (subst (λ (t : Bool). LeavesOnly disk.moment disk.leaves k.store.volume.device m.store.volume.device (KeepsPut t (recovered (disk.image d)) inum bytes)) room
+        (subst (λ (x : Image). LeavesOnly disk.moment disk.leaves k.store.volume.device m.store.volume.device (KeepsPut twice x inum bytes)) begun put.leaves)))
 
-  -- and then a sync
-  pub synced_leaves : (k m : Plain D) (e : D) → IsOpenedSole disk mid k → StaysPut disk (image_on disk.image k) inum bytes k m → AddsNone (disk.moment m.store.volume.device) (disk.moment e) (disk.leaves m.store.volume.device) (disk.leaves e)
-      → LeavesOnly disk.moment disk.leaves d e (KeepsPut (recovered (disk.image d)) inum bytes)
-  synced_leaves k m e opened put time = stays disk.moment disk.leaves d m.store.volume.device e Keeps (put_leaves k m opened put) time
+    -- and then a sync
+    pub synced_leaves : (k m : Plain D) (e : D) → IsOpenedSole disk mid k → StaysPut disk twice (image_on disk.image k) inum bytes k m → AddsNone (disk.moment m.store.volume.device) (disk.moment e) (disk.leaves m.store.volume.device) (disk.leaves e)
+        → LeavesOnly disk.moment disk.leaves d e (KeepsPutOf (recovered (disk.image d)) inum bytes)
+    synced_leaves k m e opened put time = stays disk.moment disk.leaves d m.store.volume.device e Keeps (put_leaves k m opened put) time

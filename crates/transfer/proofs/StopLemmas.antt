@@ -12,7 +12,7 @@ use Rattle.history.specs.Lemmas.Leaving.{leaves_wider}
 use Rattle.calls.specs.Calls.{KeepsFiles, image_on}
 use Rattle.calls.specs.Stepping.{Plain}
 use Rattle.transfer.specs.Places.{put_at}
-use Rattle.transfer.specs.Stopped.{IsSpot, KeepsPut, LeavesFirst, StaysPut}
+use Rattle.transfer.specs.Stopped.{IsSpot, KeepsPlace, LeavesFirst, StaysPlace}
 use Rattle.transfer.proofs.PlaceLemmas.{appended_put, emptied_put, made_put, put_at_again, removed_put}
 
 module _ {D N : Type 0} (disk : Ghosts D N) (x : Image) (inum : Option ℕ) (bytes : List ℕ) where
@@ -22,34 +22,34 @@ module _ {D N : Type 0} (disk : Ghosts D N) (x : Image) (inum : Option ℕ) (byt
 
   -- a change leaves the files that stand on the disk, or those behind it
   pub stays_first : (change : Files → Files → Type 0) (k m : Plain D) → LeavesChange disk change k m → StaysOver disk k m
-      → ((new : Files) → (new ≡ files_on disk.image k) ⊎ change (files_on disk.image k) new → Led new) → StaysPut disk x inum bytes k m
+      → ((new : Files) → (new ≡ files_on disk.image k) ⊎ change (files_on disk.image k) new → Led new) → StaysPlace disk x inum bytes k m
   stays_first change k m only over leads = record {
-    leaves = leaves_wider disk.moment disk.leaves k.store.volume.device m.store.volume.device (KeepsChange change (image_on disk.image k)) (KeepsPut x inum bytes)
+    leaves = leaves_wider disk.moment disk.leaves k.store.volume.device m.store.volume.device (KeepsChange change (image_on disk.image k)) (KeepsPlace x inum bytes)
         (λ z kept. record { log = kept.log; sound = kept.sound; files = leads (files_of (recovered z)) kept.files }) only;
     name = over.name;
   }
 
   -- so does no call
   pub stays_none : (k : Plain D) → LeavesOnly disk.moment disk.leaves k.store.volume.device k.store.volume.device (KeepsFiles (image_on disk.image k))
-      → Led (files_on disk.image k) → StaysPut disk x inum bytes k k
+      → Led (files_on disk.image k) → StaysPlace disk x inum bytes k k
   stays_none k only led = record {
-    leaves = leaves_wider disk.moment disk.leaves k.store.volume.device k.store.volume.device (KeepsFiles (image_on disk.image k)) (KeepsPut x inum bytes)
+    leaves = leaves_wider disk.moment disk.leaves k.store.volume.device k.store.volume.device (KeepsFiles (image_on disk.image k)) (KeepsPlace x inum bytes)
         (λ z kept. record { log = kept.log; sound = kept.sound; files = subst Led (sym kept.files) led }) only;
     name = refl;
   }
 
   -- calls behind calls
-  pub stays_then : (k l m : Plain D) → StaysPut disk x inum bytes k l → StaysPut disk x inum bytes l m → StaysPut disk x inum bytes k m
+  pub stays_then : (k l m : Plain D) → StaysPlace disk x inum bytes k l → StaysPlace disk x inum bytes l m → StaysPlace disk x inum bytes k m
   stays_then k l m first second = record {
-    leaves = joined disk.moment disk.leaves k.store.volume.device l.store.volume.device m.store.volume.device (KeepsPut x inum bytes) first.leaves second.leaves;
+    leaves = joined disk.moment disk.leaves k.store.volume.device l.store.volume.device m.store.volume.device (KeepsPlace x inum bytes) first.leaves second.leaves;
     name = second.name ∙ first.name;
   }
 
   -- pieces that are put behind the call that made the file, or emptied it
   pub stays_behind : (l m : Plain D) (i : ℕ) → ((new : Files) → (new ≡ files_on disk.image l) ⊎ LeavesFirst (files_on disk.image l) (Some i) bytes new → Led new)
-      → StaysPut disk (image_on disk.image l) (Some i) bytes l m → StaysPut disk x inum bytes l m
+      → StaysPlace disk (image_on disk.image l) (Some i) bytes l m → StaysPlace disk x inum bytes l m
   stays_behind l m i leads stays = record {
-    leaves = leaves_wider disk.moment disk.leaves l.store.volume.device m.store.volume.device (KeepsPut (image_on disk.image l) (Some i) bytes) (KeepsPut x inum bytes)
+    leaves = leaves_wider disk.moment disk.leaves l.store.volume.device m.store.volume.device (KeepsPlace (image_on disk.image l) (Some i) bytes) (KeepsPlace x inum bytes)
         (λ z kept. record { log = kept.log; sound = kept.sound; files = leads (files_of (recovered z)) kept.files }) stays.leaves;
     name = stays.name;
   }

@@ -10,6 +10,7 @@ pub mod Rescues
 pub mod Laws
 pub mod Needs
 pub mod Places
+pub mod Rounds
 pub mod Stopped
 pub mod PutWriting
 pub mod Judging

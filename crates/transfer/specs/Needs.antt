@@ -1,5 +1,5 @@
 -- How many blocks a file needs, and how many there are for it.
-use Rattle.std.specs.Prelude.{ℕ, ◌+◌, ◌-◌, ◌/◌, nat_le, not, if◌then◌else◌, length, count_by, Option, Some, None}
+use Rattle.std.specs.Prelude.{ℕ, ◌+◌, ◌-◌, ◌*◌, ◌/◌, ◌&&◌, Bool, nat_le, not, if◌then◌else◌, length, count_by, Option, Some, None}
 use Rattle.std.specs.List.{range_with_len}
 use Rattle.blocks.specs.Disk.{Image}
 use Rattle.model.specs.Files.{blocks_for}
@@ -34,3 +34,12 @@ old_blocks x (Some i) = needed_blocks (form_of x) (inode_of x i).size
 -- up
 abbrev pub room_for : Image → Option ℕ → ℕ
 room_for x inum = free_count x + old_blocks x inum
+
+-- so many blocks fit in the free ones, and once more when that many others are given up, too
+abbrev pub fits_twice : ℕ → ℕ → ℕ → Bool
+fits_twice needed free old = nat_le needed free && nat_le (2 * needed) (free + old)
+
+-- that many bytes have room in a new file, and then beside it in the old one
+abbrev pub has_room_twice : Image → Option ℕ → ℕ → Bool
+has_room_twice x inum count =
+    fits_twice (needed_blocks (form_of x) count) (free_count x) (old_blocks x inum)

@@ -10,7 +10,9 @@ use Rattle.calls.specs.Calls.{IsWhole, Rests, call_count, image_on}
 use Rattle.calls.specs.Stepping.{Plain}
 use Rattle.calls.specs.declared.fault.CallFault.{CallFault}
 use Rattle.calls.specs.declared.fault.CallFault.TheVariants as fault
+use Rattle.transfer.specs.Needs.{has_room_twice}
 use Rattle.transfer.specs.Places.{HasNoFree, IsPlace, MayPut, PutsAll, put_at}
+use Rattle.transfer.specs.Rounds.{Goes}
 use Rattle.transfer.specs.declared.refused.PutRefusal.{PutRefusal}
 use Rattle.transfer.specs.declared.refused.PutRefusal.TheVariants.{Full, NoMemory, NoInode, Disk}
 use Rattle.transfer.specs.declared.writing.Outcome.{Outcome}
@@ -78,18 +80,53 @@ IsCutOff disk inum bytes d e fault.NoMemory =
     (disk.fault_count e ≡ disk.fault_count d)
     × KeepsPart (disk.image d) inum bytes (disk.image e)
 
+-- ---- over a file, where there is room `twice`, a put goes round
+
+-- what a put makes of an image
+abbrev pub PutComes : Bool → Image → Option ℕ → List ℕ → Image → Outcome → Type 0
+PutComes twice x inum bytes y (outcome.Put i) = PutsAll (files_of x) inum bytes (files_of y) i
+PutComes twice x inum bytes y outcome.NoInode = FindsNone x inum y
+PutComes twice x inum bytes y outcome.Full =
+    Goes inum twice (λ w place. FillsUp w place bytes y) x bytes
+
+-- an image is whole, and has its files as before, or as a put that was cut off leaves them
+pub record KeepsSome (twice : Bool) (x : Image) (inum : Option ℕ) (bytes : List ℕ) (y : Image)
+    : Type 0 where
+  pub whole : IsWhole x y
+  pub files : Goes inum twice (λ w place. MayPut (files_of w) place bytes (files_of y)) x bytes
+
+-- why a call of a put was not answered
+abbrev pub IsPutCutOff : {D N : Type 0} → Bool → Ghosts D N → Option ℕ → List ℕ → D → D → CallFault
+    → Type 0
+IsPutCutOff twice disk inum bytes d e (fault.Disk cause) =
+    Rose (disk.fault_count d) (disk.fault_count e)
+IsPutCutOff twice disk inum bytes d e fault.NoMemory =
+    (disk.fault_count e ≡ disk.fault_count d)
+    × KeepsSome twice (disk.image d) inum bytes (disk.image e)
+
 -- the calls came to this, and none failed
-pub record CallsTo {D N : Type 0} (disk : Ghosts D N) (inum : Option ℕ) (bytes : List ℕ) (d e : D)
-    (outcome : Outcome) : Type 0 where
+pub record CallsTo {D N : Type 0} (twice : Bool) (disk : Ghosts D N) (inum : Option ℕ)
+    (bytes : List ℕ) (d e : D) (outcome : Outcome) : Type 0 where
   pub whole : IsWhole (disk.image d) (disk.image e)
-  pub comes : Comes (disk.image d) inum bytes (disk.image e) outcome
+  pub comes : PutComes twice (disk.image d) inum bytes (disk.image e) outcome
   pub faults : disk.fault_count e ≡ disk.fault_count d
 
 -- why the bytes were not all put
-abbrev pub IsUnwritten : {D N : Type 0} → Ghosts D N → Option ℕ → List ℕ → D → D → PutRefusal
-    → Type 0
-IsUnwritten disk inum bytes d e NoInode = CallsTo disk inum bytes d e outcome.NoInode
-IsUnwritten disk inum bytes d e Full = CallsTo disk inum bytes d e outcome.Full
-IsUnwritten disk inum bytes d e NoMemory = IsCutOff disk inum bytes d e fault.NoMemory
-IsUnwritten disk inum bytes d e (Disk cause) = IsCutOff disk inum bytes d e (fault.Disk cause)
-IsUnwritten disk inum bytes d e r = ⊥
+abbrev pub IsUnwritten : {D N : Type 0} → Bool → Ghosts D N → Option ℕ → List ℕ → D → D
+    → PutRefusal → Type 0
+IsUnwritten twice disk inum bytes d e NoInode = CallsTo twice disk inum bytes d e outcome.NoInode
+IsUnwritten twice disk inum bytes d e Full = CallsTo twice disk inum bytes d e outcome.Full
+IsUnwritten twice disk inum bytes d e NoMemory =
+    IsPutCutOff twice disk inum bytes d e fault.NoMemory
+IsUnwritten twice disk inum bytes d e (Disk cause) =
+    IsPutCutOff twice disk inum bytes d e (fault.Disk cause)
+IsUnwritten twice disk inum bytes d e r = ⊥
+
+-- ---- by the room that the image has
+
+abbrev pub PutComesOf : Image → Option ℕ → List ℕ → Image → Outcome → Type 0
+PutComesOf x inum bytes y outcome =
+    PutComes (has_room_twice x inum (length bytes)) x inum bytes y outcome
+
+abbrev pub KeepsSomeOf : Image → Option ℕ → List ℕ → Image → Type 0
+KeepsSomeOf x inum bytes y = KeepsSome (has_room_twice x inum (length bytes)) x inum bytes y

@@ -14,7 +14,7 @@ use Rattle.messages.specs.Output.{number_text}
 use Rattle.transfer.specs.Ending.{SyncsIf}
 use Rattle.transfer.specs.Judging.{IsTold}
 use Rattle.transfer.specs.Places.{IsPlainOld}
-use Rattle.transfer.specs.PutWriting.{Comes, KeepsPart}
+use Rattle.transfer.specs.PutWriting.{KeepsSomeOf, PutComesOf}
 use Rattle.transfer.specs.declared.refused.PutRefusal.{PutRefusal}
 use Rattle.transfer.specs.declared.refused.PutRefusal.TheVariants.{Check, NoFile, NotAFile, TooBig, Full, NoMemory, Unopened, NoInode, Disk, Output}
 use Rattle.transfer.specs.declared.writing.Outcome.{Outcome}
@@ -27,7 +27,7 @@ pub record ComesTo {D N : Type 0} (disk : Ghosts D N) (inum : Option ℕ) (bytes
   pub sound : verdict (disk.image d) ≡ None
   pub plain : IsPlainOld (files_of (recovered (disk.image d))) inum
   pub whole : IsWhole (disk.image d) (disk.image e)
-  pub comes : Comes (recovered (disk.image d)) inum bytes (disk.image e) outcome
+  pub comes : PutComesOf (recovered (disk.image d)) inum bytes (disk.image e) outcome
   pub faults : disk.fault_count e ≡ disk.fault_count d
 
 -- the bytes were put, the last call to the disk was a sync that was done where one is asked for, and
@@ -55,7 +55,7 @@ pub record RunsOut {D N : Type 0} (disk : Ghosts D N) (inum : Option ℕ) (bytes
     : Type 0 where
   pub sound : verdict (disk.image d) ≡ None
   pub plain : IsPlainOld (files_of (recovered (disk.image d))) inum
-  pub keeps : KeepsPart (recovered (disk.image d)) inum bytes (disk.image e)
+  pub keeps : KeepsSomeOf (recovered (disk.image d)) inum bytes (disk.image e)
   pub faults : disk.fault_count e ≡ disk.fault_count d
 
 -- the disk failed, over an image without a fault

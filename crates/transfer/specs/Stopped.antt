@@ -1,5 +1,5 @@
 -- What a stop leaves of an image into which bytes are put.
-use Rattle.std.specs.Prelude.{◌≡◌, ◌≢◌, ◌⊎◌, ◌<◌, ◌≤◌, ℕ, IsTrue, List, length, take, Option, Some, None}
+use Rattle.std.specs.Prelude.{◌≡◌, ◌≢◌, ◌⊎◌, ◌<◌, ◌≤◌, ℕ, Bool, IsTrue, List, length, take, Option, Some, None}
 use Rattle.blocks.specs.Disk.{Image, LeavesOnly}
 use Rattle.blocks.specs.declared.disk.Disk.{Ghosts}
 use Rattle.model.specs.Files.{Files, file_in, files_of}
@@ -7,7 +7,9 @@ use Rattle.model.specs.Log.{is_lawful_log, recovered}
 use Rattle.model.specs.Soundness.{IsSound}
 use Rattle.calls.specs.Stepping.{Plain}
 use Rattle.wal.specs.Recovery.{LeavesIfCalm}
-use Rattle.transfer.specs.Places.{put_at}
+use Rattle.transfer.specs.Needs.{has_room_twice}
+use Rattle.transfer.specs.Places.{PutsAll, put_at}
+use Rattle.transfer.specs.Rounds.{Goes, IsNeverNeither}
 
 -- where a put that is stopped may leave bytes: at the number of the old file, or at a free one
 abbrev pub IsSpot : Files → Option ℕ → ℕ → Type 0
@@ -22,23 +24,53 @@ pub record LeavesFirst (old : Files) (inum : Option ℕ) (bytes : List ℕ) (new
   pub count : ℕ
   pub files : new ≡ put_at old number (take count bytes)
 
--- Recovery of z gives a sound image with the files of image x, or with the old file, or a new one,
--- in which the first of the bytes stand: whole operations were made, and no part of one.
-pub record KeepsPut (x : Image) (inum : Option ℕ) (bytes : List ℕ) (z : Image) : Type 0 where
+-- the files are as before, or with the old file, or a new one, in which the first of the bytes stand
+abbrev pub MayLeave : Files → Option ℕ → List ℕ → Files → Type 0
+MayLeave old inum bytes new = (new ≡ old) ⊎ LeavesFirst old inum bytes new
+
+-- Recovery of z gives a sound image with such files, where bytes are put at one place: whole
+-- operations were made, and no part of one.
+pub record KeepsPlace (x : Image) (inum : Option ℕ) (bytes : List ℕ) (z : Image) : Type 0 where
   pub log : IsTrue (is_lawful_log z)
   pub sound : IsSound (recovered z)
-  pub files : (files_of (recovered z) ≡ files_of x)
-      ⊎ LeavesFirst (files_of x) inum bytes (files_of (recovered z))
+  pub files : MayLeave (files_of x) inum bytes (files_of (recovered z))
+
+-- However a put at one place that begins over k ends, with m: a stop at any moment of it leaves
+-- nothing else, and the disk is the same one. `x` is the image into which the bytes are put.
+pub record StaysPlace {D N : Type 0} (disk : Ghosts D N) (x : Image) (inum : Option ℕ)
+    (bytes : List ℕ) (k m : Plain D) : Type 0 where
+  pub leaves : LeavesOnly disk.moment disk.leaves k.store.volume.device m.store.volume.device
+      (KeepsPlace x inum bytes)
+  pub name : disk.name m.store.volume.device ≡ disk.name k.store.volume.device
+
+-- how far a put that is stopped came, `twice` where there is room twice; or it was done
+abbrev pub MayStop : Bool → Image → Option ℕ → List ℕ → Image → Type 0
+MayStop twice x inum bytes y =
+    Goes inum twice (λ w place. MayLeave (files_of w) place bytes (files_of y)) x bytes
+    ⊎ ((i : ℕ) × PutsAll (files_of x) inum bytes (files_of y) i)
+
+-- Recovery of z gives a sound image that a put into image x may leave: the files as before, or with
+-- the first of the bytes in a file. Over a file, where there is room twice and a number is free,
+-- the old bytes are there, or the new ones, all of them.
+pub record KeepsPut (twice : Bool) (x : Image) (inum : Option ℕ) (bytes : List ℕ) (z : Image)
+    : Type 0 where
+  pub log : IsTrue (is_lawful_log z)
+  pub sound : IsSound (recovered z)
+  pub files : MayStop twice x inum bytes (recovered z)
+  pub either : IsNeverNeither inum twice (files_of x) bytes (files_of (recovered z))
+
+-- that is left of bytes put into the image of a disk without a fault
+abbrev pub KeepsPutOf : Image → Option ℕ → List ℕ → Image → Type 0
+KeepsPutOf x inum bytes = KeepsPut (has_room_twice x inum (length bytes)) x inum bytes
 
 -- whatever a stop leaves of a put over the disk d, now e, where nothing was held back on d
 abbrev pub StopsPut : {D N : Type 0} → Ghosts D N → Option ℕ → List ℕ → D → D → Type 0
 StopsPut disk inum bytes d e =
-    LeavesIfCalm disk d e (KeepsPut (recovered (disk.image d)) inum bytes)
+    LeavesIfCalm disk d e (KeepsPutOf (recovered (disk.image d)) inum bytes)
 
--- However a put that begins over k ends, with m: a stop at any moment of it leaves nothing else, and
--- the disk is the same one. `x` is the image into which the bytes are put.
-pub record StaysPut {D N : Type 0} (disk : Ghosts D N) (x : Image) (inum : Option ℕ)
-    (bytes : List ℕ) (k m : Plain D) : Type 0 where
+-- however a put that begins over k ends, with m, as above
+pub record StaysPut {D N : Type 0} (disk : Ghosts D N) (twice : Bool) (x : Image)
+    (inum : Option ℕ) (bytes : List ℕ) (k m : Plain D) : Type 0 where
   pub leaves : LeavesOnly disk.moment disk.leaves k.store.volume.device m.store.volume.device
-      (KeepsPut x inum bytes)
+      (KeepsPut twice x inum bytes)
   pub name : disk.name m.store.volume.device ≡ disk.name k.store.volume.device

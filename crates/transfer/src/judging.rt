@@ -3,24 +3,27 @@ ghost use Rattle.std.specs.Prelude.{◌≡◌, ◌≤◌, ◌^◌, IfErr, IfOk, 
 ghost use Rattle.blocks.specs.Calls.{OnlyReads};
 ghost use Rattle.model.specs.Log.{recovered};
 ghost use Rattle.transfer.specs.Judging.{FailsByDisk, FindsOld, IsCheckedOf, IsFit, IsOldRefused, IsTold};
-ghost use Rattle.transfer.specs.Needs.{free_count};
+ghost use Rattle.transfer.specs.Needs.{free_count, has_room_twice};
 
 use crate::filling::PLAIN;
-use crate::needs::{count_free, needed_blocks};
+use crate::needs::{count_free, fits_twice, needed_blocks};
 use crate::refused::PutRefusal;
 use blocks::{Block, Disk};
 use layout::{CheckFault, greatest_size};
 use offline::{Recovered, check};
 use std::alloc::Global;
 
-// Checks the image of a disk, and judges whether that many bytes can be put there.
+// Checks the image of a disk, and judges whether that many bytes can be put there. Whether there is
+// room for them twice: in a new file, and then beside it in the old one.
 pub fn judge<D: Disk>(
     alloc: Global,
     disk: &mut D,
     inum: Option<u32>,
     count: usize,
-) -> Result<(), PutRefusal>
+) -> Result<bool, PutRefusal>
     ensures fit { OnOk result (IsFit D.Disk inum count disk.old disk.new) }
+    ensures twice { IfOk result (λ twice.
+        twice ≡ has_room_twice (recovered (D.image disk.old)) inum count) }
     ensures refused { IfErr result (IsTold D.Disk inum count disk.old disk.new) }
 {
     check(alloc, disk)?;
@@ -36,7 +39,7 @@ pub fn judge<D: Disk>(
     if needed_blocks(image.form, count as u32) > free + old {
         return Err(PutRefusal::Full);
     }
-    Ok(())
+    Ok(fits_twice(image.form, count as u32, free, old))
 }
 
 // The blocks that the size of the old file needs, of a disk that was checked. It has to be there, and

@@ -3,7 +3,7 @@ ghost use Rattle.std.specs.Prelude.{◌≡◌, ◌≤◌, ◌^◌, not, count_by
 ghost use Rattle.std.specs.List.{range_with_len};
 ghost use Rattle.model.specs.Fields.{has_bit};
 ghost use Rattle.model.specs.Format.{bits_per_block};
-ghost use Rattle.transfer.specs.Needs.{address_blocks, needed_blocks};
+ghost use Rattle.transfer.specs.Needs.{address_blocks, fits_twice, needed_blocks};
 
 use blocks::{BLOCK_SIZE, Block};
 use layout::bitmap::bit;
@@ -49,4 +49,15 @@ pub fn count_free(bitmap: &Block, size: u32) -> u32
         }
     }
     free
+}
+
+// Whether a file of that many bytes fits in the free blocks, and once more when that many others are
+// given up, too.
+pub fn fits_twice(form: Form, size: u32, free: u32, old: u32) -> bool
+    requires small { free ≤ 2 ^ 13 }
+    requires few { old ≤ 2 ^ 23 }
+    ensures { result ≡ fits_twice (needed_blocks form size) free old }
+{
+    let needed = needed_blocks(form, size);
+    needed <= free && 2 * needed <= free + old
 }

@@ -32,6 +32,11 @@ use wal::DeviceFault;
 /// leaves, once recovered, the files as they were, or with the old file, or a new one, in which the
 /// first of the bytes stand.
 ///
+/// Over a file there is a way round, where the free blocks have room for both and a number is free:
+/// the bytes go into a new file first, all of them, and it is removed once the old one has them, too.
+/// So whatever a stop leaves, the old bytes are there or the new ones, at the number of the old file
+/// or at another. Else the old bytes are given up first.
+///
 /// Hands the disk back.
 ///
 /// # Errors
@@ -44,9 +49,10 @@ use wal::DeviceFault;
 ///
 /// `Unopened` with a fault of the kernel's opening. Then `NoInode` where each number is taken: the
 /// files are as before. `Full` where no block is free for all bytes after all: a new file was removed
-/// again, an old one keeps the first of the bytes. `NoMemory`: the files are as before, or the first
-/// of the bytes are put. `Disk` where the disk failed, in a call or in the sync. With all these nothing
-/// was printed. `Output`: the bytes are put, and the disk is synced as above.
+/// again, an old one keeps the first of the bytes, and where there was a way round, a new one beside
+/// it keeps all. `NoMemory`: the files are as before, or the first of the bytes are put, as a stop
+/// leaves them. `Disk` where the disk failed, in a call or in the sync. With all these nothing was
+/// printed. `Output`: the bytes are put, and the disk is synced as above.
 pub fn put_disk<D: Disk + Drop, O: Write>(
     alloc: Global,
     disk: D,
@@ -64,14 +70,15 @@ pub fn put_disk<D: Disk + Drop, O: Write>(
     ensures name { D.name result.1 ≡ D.name disk }
 {
     let mut disk = disk;
-    if let Err(refusal) = judge(alloc, &mut disk, inum, bytes.len()) {
-        return (Err(refusal), disk);
-    }
+    let twice = match judge(alloc, &mut disk, inum, bytes.len()) {
+        Ok(twice) => twice,
+        Err(refusal) => return (Err(refusal), disk),
+    };
     let mut kernel = match open_sole(alloc, disk) {
         Ok(kernel) => kernel,
         Err((fault, disk)) => return (Err(PutRefusal::Unopened(fault)), disk),
     };
-    match put(alloc, &mut kernel, bytes, inum) {
+    match put(alloc, &mut kernel, bytes, inum, twice) {
         Ok(number) => {
             let mut disk = kernel.into_disk();
             let told = tell(&mut disk, number, sync, out);
@@ -81,24 +88,26 @@ pub fn put_disk<D: Disk + Drop, O: Write>(
     }
 }
 
-// Puts bytes through a kernel. The number of their file.
+// Puts bytes through a kernel, over a file by way of a new one where there is room `twice`. The number of
+// their file.
 fn put<D: Disk>(
     alloc: Global,
     kernel: &mut Sole<D>,
     bytes: &[u8],
     inum: Option<u32>,
+    twice: bool,
 ) -> Result<u32, PutRefusal>
     requires ready { MayCall D.Disk (2 ^ 31) kernel.old }
     requires there { HasOld (files_on D.image kernel.old) inum }
     requires short { length bytes.now ≤ greatest_size (form_of (image_on D.image kernel.old)) }
-    ensures put { IfOk result (λ number. CallsTo D.Disk inum bytes.now
+    ensures put { IfOk result (λ number. CallsTo twice D.Disk inum bytes.now
         kernel.old.store.volume.device kernel.new.store.volume.device (outcome.Put number)) }
-    ensures refused { IfErr result (IsUnwritten D.Disk inum bytes.now
+    ensures refused { IfErr result (IsUnwritten twice D.Disk inum bytes.now
         kernel.old.store.volume.device kernel.new.store.volume.device) }
-    ensures stays { StaysPut D.Disk (image_on D.image kernel.old) inum bytes.now
+    ensures stays { StaysPut D.Disk twice (image_on D.image kernel.old) inum bytes.now
         kernel.old kernel.new }
 {
-    match put_bytes(alloc, kernel, bytes, inum) {
+    match put_bytes(alloc, kernel, bytes, inum, twice) {
         Ok(Outcome::Put(number)) => Ok(number),
         Ok(Outcome::NoInode) => Err(PutRefusal::NoInode),
         Ok(Outcome::Full) => Err(PutRefusal::Full),

@@ -1,12 +1,12 @@
 // Calls that put bytes.
-ghost use Rattle.std.specs.Prelude.{◌≡◌, ◌≢◌, ◌+◌, ◌<◌, ◌≤◌, ◌^◌, length, None, Some, IfErr, IfOk, OnOk};
+ghost use Rattle.std.specs.Prelude.{◌≡◌, ◌≢◌, ◌+◌, ◌<◌, ◌≤◌, ◌^◌, length, true, None, Some, IfErr, IfOk, OnOk};
 ghost use Rattle.model.specs.Files.{file_in};
 ghost use Rattle.model.specs.Layout.{form_of, greatest_size};
 ghost use Rattle.calls.specs.Calls.{call_count, image_on};
 ghost use Rattle.calls.specs.Files.{files_on, size_of};
 ghost use Rattle.transfer.specs.Places.{HasOld};
-ghost use Rattle.transfer.specs.Stopped.{StaysPut};
-ghost use Rattle.transfer.specs.PutWriting.{AreAnswered, Comes, IsCutOff, MayCall, Puts};
+ghost use Rattle.transfer.specs.Stopped.{StaysPlace, StaysPut};
+ghost use Rattle.transfer.specs.PutWriting.{AreAnswered, Comes, IsCutOff, IsPutCutOff, MayCall, PutComes, Puts};
 
 use blocks::Disk;
 use calls::{CallFault, Sole, append, create, empty, remove, rested};
@@ -30,28 +30,68 @@ pub enum Outcome {
     Full,
 }
 
-// Puts bytes in the place of those of a file, or as those of a new one.
+// Puts bytes in the place of those of a file, or as those of a new one. `twice` says whether there is
+// room for them in a new file, and then beside it in the old one.
 pub fn put_bytes<D: Disk>(
     alloc: Global,
     kernel: &mut Sole<D>,
     bytes: &[u8],
     inum: Option<u32>,
+    twice: bool,
 ) -> Result<Outcome, CallFault>
     requires ready { MayCall D.Disk (2 ^ 31) kernel.old }
     requires there { HasOld (files_on D.image kernel.old) inum }
     requires short { length bytes.now ≤ greatest_size (form_of (image_on D.image kernel.old)) }
-    ensures comes { IfOk result (Comes (image_on D.image kernel.old) inum bytes.now
+    ensures comes { IfOk result (PutComes twice (image_on D.image kernel.old) inum bytes.now
         (image_on D.image kernel.new)) }
     ensures answered { OnOk result (AreAnswered D.Disk kernel.old kernel.new) }
-    ensures refused { IfErr result (IsCutOff D.Disk inum bytes.now
+    ensures refused { IfErr result (IsPutCutOff twice D.Disk inum bytes.now
         kernel.old.store.volume.device kernel.new.store.volume.device) }
-    ensures stays { StaysPut D.Disk (image_on D.image kernel.old) inum bytes.now
+    ensures stays { StaysPut D.Disk twice (image_on D.image kernel.old) inum bytes.now
         kernel.old kernel.new }
 {
     match inum {
-        Some(number) => replace(alloc, kernel, bytes, number),
+        Some(number) => {
+            if twice {
+                go_round(alloc, kernel, bytes, number)
+            } else {
+                replace(alloc, kernel, bytes, number)
+            }
+        }
         None => add(alloc, kernel, bytes),
     }
+}
+
+// Puts bytes in the place of those of a file by way of a new one: that gets all of them before the
+// old one is emptied, and is removed once the old one has them, too. Where each number is taken
+// there is no way round.
+fn go_round<D: Disk>(
+    alloc: Global,
+    kernel: &mut Sole<D>,
+    bytes: &[u8],
+    number: u32,
+) -> Result<Outcome, CallFault>
+    requires ready { MayCall D.Disk (2 ^ 31) kernel.old }
+    requires there { file_in (files_on D.image kernel.old) number ≢ None }
+    requires short { length bytes.now ≤ greatest_size (form_of (image_on D.image kernel.old)) }
+    ensures comes { IfOk result (PutComes true (image_on D.image kernel.old) (Some number)
+        bytes.now (image_on D.image kernel.new)) }
+    ensures answered { OnOk result (AreAnswered D.Disk kernel.old kernel.new) }
+    ensures refused { IfErr result (IsPutCutOff true D.Disk (Some number) bytes.now
+        kernel.old.store.volume.device kernel.new.store.volume.device) }
+    ensures stays { StaysPut D.Disk true (image_on D.image kernel.old) (Some number) bytes.now
+        kernel.old kernel.new }
+{
+    let spare = match add(alloc, kernel, bytes)? {
+        Outcome::Put(spare) => spare,
+        Outcome::NoInode => return replace(alloc, kernel, bytes, number),
+        Outcome::Full => return Ok(Outcome::Full),
+    };
+    if !refill(alloc, kernel, bytes, number)? {
+        return Ok(Outcome::Full);
+    }
+    remove(kernel, spare)?;
+    Ok(Outcome::Put(number))
 }
 
 // Puts bytes as those of a new file, which is removed again where no block is free for all.
@@ -61,9 +101,10 @@ fn add<D: Disk>(alloc: Global, kernel: &mut Sole<D>, bytes: &[u8]) -> Result<Out
     ensures comes { IfOk result (Comes (image_on D.image kernel.old) None bytes.now
         (image_on D.image kernel.new)) }
     ensures answered { OnOk result (AreAnswered D.Disk kernel.old kernel.new) }
+    ensures few { OnOk result (call_count kernel.new ≤ 2 ^ 31 + 2 ^ 16) }
     ensures refused { IfErr result (IsCutOff D.Disk None bytes.now
         kernel.old.store.volume.device kernel.new.store.volume.device) }
-    ensures stays { StaysPut D.Disk (image_on D.image kernel.old) None bytes.now
+    ensures stays { StaysPlace D.Disk (image_on D.image kernel.old) None bytes.now
         kernel.old kernel.new }
 {
     let Some(number) = create(kernel, NEW_KIND)? else {
@@ -83,7 +124,7 @@ fn replace<D: Disk>(
     bytes: &[u8],
     number: u32,
 ) -> Result<Outcome, CallFault>
-    requires ready { MayCall D.Disk (2 ^ 31) kernel.old }
+    requires ready { MayCall D.Disk (2 ^ 31 + 2 ^ 16) kernel.old }
     requires there { file_in (files_on D.image kernel.old) number ≢ None }
     requires short { length bytes.now ≤ greatest_size (form_of (image_on D.image kernel.old)) }
     ensures comes { IfOk result (Comes (image_on D.image kernel.old) (Some number) bytes.now
@@ -91,15 +132,37 @@ fn replace<D: Disk>(
     ensures answered { OnOk result (AreAnswered D.Disk kernel.old kernel.new) }
     ensures refused { IfErr result (IsCutOff D.Disk (Some number) bytes.now
         kernel.old.store.volume.device kernel.new.store.volume.device) }
-    ensures stays { StaysPut D.Disk (image_on D.image kernel.old) (Some number) bytes.now
+    ensures stays { StaysPlace D.Disk (image_on D.image kernel.old) (Some number) bytes.now
         kernel.old kernel.new }
 {
-    empty(kernel, number)?;
-    if append_all(alloc, kernel, bytes, number)? {
+    if refill(alloc, kernel, bytes, number)? {
         Ok(Outcome::Put(number))
     } else {
         Ok(Outcome::Full)
     }
+}
+
+// Empties a file, and puts bytes into it. False where no block was free for all.
+fn refill<D: Disk>(
+    alloc: Global,
+    kernel: &mut Sole<D>,
+    bytes: &[u8],
+    number: u32,
+) -> Result<bool, CallFault>
+    requires ready { MayCall D.Disk (2 ^ 31 + 2 ^ 16) kernel.old }
+    requires there { file_in (files_on D.image kernel.old) number ≢ None }
+    requires short { length bytes.now ≤ greatest_size (form_of (image_on D.image kernel.old)) }
+    ensures puts { IfOk result (λ all. Puts all number bytes.now (image_on D.image kernel.old)
+        (image_on D.image kernel.new)) }
+    ensures answered { OnOk result (AreAnswered D.Disk kernel.old kernel.new) }
+    ensures few { OnOk result (call_count kernel.new < 2 ^ 32) }
+    ensures refused { IfErr result (IsCutOff D.Disk (Some number) bytes.now
+        kernel.old.store.volume.device kernel.new.store.volume.device) }
+    ensures stays { StaysPlace D.Disk (image_on D.image kernel.old) (Some number) bytes.now
+        kernel.old kernel.new }
+{
+    empty(kernel, number)?;
+    append_all(alloc, kernel, bytes, number)
 }
 
 // Writes bytes into an empty file, piece by piece. False where no block was free for all.
@@ -109,16 +172,16 @@ fn append_all<D: Disk>(
     bytes: &[u8],
     number: u32,
 ) -> Result<bool, CallFault>
-    requires ready { MayCall D.Disk (2 ^ 31 + 1) kernel.old }
+    requires ready { MayCall D.Disk (2 ^ 31 + 2 ^ 16 + 1) kernel.old }
     requires empty { size_of (file_in (files_on D.image kernel.old) number) ≡ Some 0 }
     requires short { length bytes.now ≤ greatest_size (form_of (image_on D.image kernel.old)) }
     ensures puts { IfOk result (λ all. Puts all number bytes.now (image_on D.image kernel.old)
         (image_on D.image kernel.new)) }
     ensures answered { OnOk result (AreAnswered D.Disk kernel.old kernel.new) }
-    ensures few { OnOk result (call_count kernel.new < 2 ^ 32) }
+    ensures few { OnOk result (call_count kernel.new ≤ call_count kernel.old + 2 ^ 15) }
     ensures refused { IfErr result (IsCutOff D.Disk (Some number) bytes.now
         kernel.old.store.volume.device kernel.new.store.volume.device) }
-    ensures stays { StaysPut D.Disk (image_on D.image kernel.old) (Some number) bytes.now
+    ensures stays { StaysPlace D.Disk (image_on D.image kernel.old) (Some number) bytes.now
         kernel.old kernel.new }
 {
     rested(kernel);

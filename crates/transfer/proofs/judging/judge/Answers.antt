@@ -9,7 +9,7 @@ use Rattle.model.specs.Log.{recovered}
 use Rattle.model.specs.Verdict.{verdict}
 use Rattle.model.specs.declared.types.image.Form.{Form}
 use Rattle.transfer.specs.Judging.{FindsOld}
-use Rattle.transfer.specs.Needs.{free_count, needed_blocks}
+use Rattle.transfer.specs.Needs.{fits_twice, free_count, needed_blocks}
 use Rattle.transfer.proofs.ImageLemmas.{form_recovered, old_told, open_fault}
 use Rattle.transfer.proofs.judging.judge.Given.{Over}
 use Rattle.transfer.proofs.judging.judge.Goals.{After-greatest_size, After-needed_blocks}
@@ -112,3 +112,15 @@ returns-clause-fit g c =
       reads = reads_then g.D.Disk _ _ _ before c.free_blocks.ensures.reads;
       faults = c.in_ok-free.ensures.faults ∙ faults g at.After-greatest_size;
     }
+
+pub returns-clause-twice : goal.returns-clause-twice
+returns-clause-twice g c =
+    let at = goal.at.returns-clause-twice g c in
+    let y = recovered (g.D.Disk.image c.args.disk.now) in
+    let old = found g at.After-greatest_size in
+    let before = reads g at.After-greatest_size in
+    let free = free g at.After-needed_blocks before.image in
+    c.fits_twice.ensures
+    ∙ ap (λ (f : Form). fits_twice (needed_blocks f c.args.count) c.in_ok-free.free c.in_ok-old.old) (form g at.After-greatest_size)
+    ∙ ap (λ (n : ℕ). fits_twice (needed_blocks (form_of y) c.args.count) n c.in_ok-old.old) free
+    ∙ ap (λ (n : ℕ). fits_twice (needed_blocks (form_of y) c.args.count) (free_count y) n) old.count

@@ -6,7 +6,7 @@ use Rattle.opening.specs.Lemmas.Keeping.{not_opened_leaves}
 use Rattle.transfer.specs.Putting.{IsUnput}
 use Rattle.transfer.specs.PutWriting.{CallsTo}
 use Rattle.transfer.specs.declared.writing.Outcome.TheVariants as outcome
-use Rattle.transfer.specs.Stopped.{KeepsPut}
+use Rattle.transfer.specs.Stopped.{KeepsPutOf}
 use Rattle.transfer.proofs.OpenedLemmas.{put_leaves, put_so, put_untold, read_leaves, recovered_leaves, synced_leaves, told_so, unopened_then, unwritten_so}
 use Rattle.transfer.proofs.putting.put_disk.Goals as goal
 
@@ -16,21 +16,21 @@ returns-in-Err-clause-refused g c =
 
 pub returns-in-Err-open_sole-clause-refused : goal.returns-in-Err-open_sole-clause-refused
 returns-in-Err-open_sole-clause-refused g c =
-    (unopened_then g.D.Disk c.args.inum c.args.bytes.now c.args.sync c.args.disk c.judge.new.disk c.in_default.ensures.fit c.in-Err-open_sole.disk c.in-Err-open_sole.fault c.in-Err-open_sole.ensures.refused, refl)
+    (unopened_then g.D.Disk c.args.inum c.args.bytes.now c.args.sync c.args.disk c.judge.new.disk c.in-Ok.ensures.fit c.in-Err-open_sole.disk c.in-Err-open_sole.fault c.in-Err-open_sole.ensures.refused, refl)
 
 pub returns-in-Ok-put-clause-put : goal.returns-in-Ok-put-clause-put
 returns-in-Ok-put-clause-put g c =
     let d = g.D.Disk in
     let contents = g.O.Write.contents in
-    put_so d c.args.inum c.args.bytes.now c.args.sync c.args.disk c.judge.new.disk c.in_default.ensures.fit c.in-Ok.kernel c.in-Ok.ensures.opened c.into_disk-disk.result c.tell-told.new.disk c.in-Ok-put.number
-    (subst (λ e. CallsTo d c.args.inum c.args.bytes.now c.in-Ok.kernel.store.volume.device e (outcome.Put c.in-Ok-put.number)) (sym c.into_disk-disk.ensures) c.in-Ok-put.ensures.put)
+    put_so d c.args.inum c.args.bytes.now c.args.sync c.args.disk c.judge.new.disk c.in-Ok.ensures.fit c.in-Ok-open_sole.kernel c.in-Ok-open_sole.ensures.opened c.in-Ok.twice c.in-Ok.ensures.twice c.into_disk-disk.result c.tell-told.new.disk c.in-Ok-put.number
+    (subst (λ e. CallsTo c.in-Ok.twice d c.args.inum c.args.bytes.now c.in-Ok-open_sole.kernel.store.volume.device e (outcome.Put c.in-Ok-put.number)) (sym c.into_disk-disk.ensures) c.in-Ok-put.ensures.put)
     c.tell-told.result (contents c.args.out.now) (contents c.tell-told.new.out) c.tell-told.ensures.syncs c.tell-told.ensures.printed
 
 pub returns-in-Ok-put-clause-refused : goal.returns-in-Ok-put-clause-refused
 returns-in-Ok-put-clause-refused g c =
     let d = g.D.Disk in
-    put_untold d c.args.inum c.args.bytes.now c.args.sync c.args.disk c.judge.new.disk c.in_default.ensures.fit c.in-Ok.kernel c.in-Ok.ensures.opened c.into_disk-disk.result c.tell-told.new.disk c.in-Ok-put.number
-    (subst (λ e. CallsTo d c.args.inum c.args.bytes.now c.in-Ok.kernel.store.volume.device e (outcome.Put c.in-Ok-put.number)) (sym c.into_disk-disk.ensures) c.in-Ok-put.ensures.put)
+    put_untold d c.args.inum c.args.bytes.now c.args.sync c.args.disk c.judge.new.disk c.in-Ok.ensures.fit c.in-Ok-open_sole.kernel c.in-Ok-open_sole.ensures.opened c.in-Ok.twice c.in-Ok.ensures.twice c.into_disk-disk.result c.tell-told.new.disk c.in-Ok-put.number
+    (subst (λ e. CallsTo c.in-Ok.twice d c.args.inum c.args.bytes.now c.in-Ok-open_sole.kernel.store.volume.device e (outcome.Put c.in-Ok-put.number)) (sym c.into_disk-disk.ensures) c.in-Ok-put.ensures.put)
     c.tell-told.result _ c.tell-told.ensures.refused
 
 pub returns-in-Err-put-clause-refused : goal.returns-in-Err-put-clause-refused
@@ -38,7 +38,7 @@ returns-in-Err-put-clause-refused g c =
     let d = g.D.Disk in
     let none = c.args.out.now ≡ c.args.out.now in
     subst (λ e. IsUnput d c.args.inum c.args.bytes.now c.args.sync c.args.disk e none c.in-Err-put.refusal) (sym c.into_disk.ensures)
-    (unwritten_so d c.args.inum c.args.bytes.now c.args.sync c.args.disk c.judge.new.disk c.in_default.ensures.fit c.in-Ok.kernel c.in-Ok.ensures.opened
+    (unwritten_so d c.args.inum c.args.bytes.now c.args.sync c.args.disk c.judge.new.disk c.in-Ok.ensures.fit c.in-Ok-open_sole.kernel c.in-Ok-open_sole.ensures.opened c.in-Ok.twice c.in-Ok.ensures.twice
     c.put.new.kernel.store.volume.device none refl c.in-Err-put.refusal c.in-Err-put.ensures.refused)
 
 pub returns-in-Err-clause-leaves : goal.returns-in-Err-clause-leaves
@@ -48,18 +48,18 @@ returns-in-Err-clause-leaves g c =
 pub returns-in-Err-open_sole-clause-leaves : goal.returns-in-Err-open_sole-clause-leaves
 returns-in-Err-open_sole-clause-leaves g c =
     let d = g.D.Disk in
-    let fit = c.in_default.ensures.fit in
+    let fit = c.in-Ok.ensures.fit in
     λ sound calm. recovered_leaves d g.met.D.Disk.counts_now c.args.inum c.args.bytes.now c.args.disk c.judge.new.disk sound fit.reads calm c.in-Err-open_sole.disk
     (not_opened_leaves d 1 c.judge.new.disk c.in-Err-open_sole.disk c.in-Err-open_sole.fault c.in-Err-open_sole.ensures.refused)
 
 pub returns-in-Ok-put-clause-leaves : goal.returns-in-Ok-put-clause-leaves
 returns-in-Ok-put-clause-leaves g c =
     let d = g.D.Disk in
-    λ sound calm. synced_leaves d g.met.D.Disk.counts_now c.args.inum c.args.bytes.now c.args.disk c.judge.new.disk sound c.in_default.ensures.fit.reads calm c.in-Ok.kernel c.put.new.kernel c.tell-told.new.disk c.in-Ok.ensures.opened c.put.ensures.stays
+    λ sound calm. synced_leaves d g.met.D.Disk.counts_now c.args.inum c.args.bytes.now c.args.disk c.judge.new.disk sound c.in-Ok.ensures.fit.reads calm c.in-Ok.twice c.in-Ok.ensures.twice c.in-Ok-open_sole.kernel c.put.new.kernel c.tell-told.new.disk c.in-Ok-open_sole.ensures.opened c.put.ensures.stays
     (subst (λ e. AddsNone (d.moment e) (d.moment c.tell-told.new.disk) (d.leaves e) (d.leaves c.tell-told.new.disk)) c.into_disk-disk.ensures c.tell-told.ensures.time)
 
 pub returns-in-Err-put-clause-leaves : goal.returns-in-Err-put-clause-leaves
 returns-in-Err-put-clause-leaves g c =
     let d = g.D.Disk in
-    λ sound calm. subst (λ e. LeavesOnly d.moment d.leaves c.args.disk e (KeepsPut (recovered (d.image c.args.disk)) c.args.inum c.args.bytes.now)) (sym c.into_disk.ensures)
-    (put_leaves d g.met.D.Disk.counts_now c.args.inum c.args.bytes.now c.args.disk c.judge.new.disk sound c.in_default.ensures.fit.reads calm c.in-Ok.kernel c.put.new.kernel c.in-Ok.ensures.opened c.put.ensures.stays)
+    λ sound calm. subst (λ e. LeavesOnly d.moment d.leaves c.args.disk e (KeepsPutOf (recovered (d.image c.args.disk)) c.args.inum c.args.bytes.now)) (sym c.into_disk.ensures)
+    (put_leaves d g.met.D.Disk.counts_now c.args.inum c.args.bytes.now c.args.disk c.judge.new.disk sound c.in-Ok.ensures.fit.reads calm c.in-Ok.twice c.in-Ok.ensures.twice c.in-Ok-open_sole.kernel c.put.new.kernel c.in-Ok-open_sole.ensures.opened c.put.ensures.stays)

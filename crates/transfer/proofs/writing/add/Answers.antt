@@ -4,7 +4,7 @@ use Rattle.model.specs.Files.{Files}
 use Rattle.calls.specs.Files.{Creates, MakesFile, files_on}
 use Rattle.calls.specs.Stopped.{MakesAny, Removes}
 use Rattle.calls.specs.Calls.{image_on}
-use Rattle.transfer.specs.Stopped.{StaysPut}
+use Rattle.transfer.specs.Stopped.{StaysPlace}
 use Rattle.transfer.specs.PutWriting.{AreAnswered, Puts, PutsPart}
 use Rattle.transfer.proofs.CallLemmas.{Begins, all_behind, answered_both, answered_none, answered_then, cut_after, cut_behind, part_behind, part_first}
 use Rattle.transfer.proofs.PlaceLemmas.{lowest_made, made_put, removed_put}
@@ -14,7 +14,7 @@ use Rattle.transfer.proofs.writing.add.Goals.{After-append_all, After-create, Af
 use Rattle.transfer.proofs.writing.add.Goals as goal
 
 -- the file was made
-created : (g : Over) (c : After-create g) → StaysPut g.D.Disk (image_on g.D.Disk.image c.args.kernel.now) None c.args.bytes.now c.args.kernel.now c.create.new.kernel
+created : (g : Over) (c : After-create g) → StaysPlace g.D.Disk (image_on g.D.Disk.image c.args.kernel.now) None c.args.bytes.now c.args.kernel.now c.create.new.kernel
 created g c =
     stays_first g.D.Disk _ None c.args.bytes.now (MakesAny 2) _ _ c.create.ensures.leaves c.create.ensures.stays (led_by_creation (files_on g.D.Disk.image c.args.kernel.now) c.args.bytes.now)
 
@@ -29,8 +29,8 @@ module _ (g : Over) (c : After-append_all g) where
   answered : AreAnswered g.D.Disk c.args.kernel.now c.create.new.kernel
   answered = answered_then g.D.Disk _ _ _ (answered_none g.D.Disk _ c.requires.ready) c.in_ok-number.ensures.answered c.in_ok-number.ensures.stays.opening
 
-  put : StaysPut g.D.Disk (image_on g.D.Disk.image c.args.kernel.now) None c.args.bytes.now c.args.kernel.now c.create.new.kernel
-      → StaysPut g.D.Disk (image_on g.D.Disk.image c.args.kernel.now) None c.args.bytes.now c.args.kernel.now c.append_all.new.kernel
+  put : StaysPlace g.D.Disk (image_on g.D.Disk.image c.args.kernel.now) None c.args.bytes.now c.args.kernel.now c.create.new.kernel
+      → StaysPlace g.D.Disk (image_on g.D.Disk.image c.args.kernel.now) None c.args.bytes.now c.args.kernel.now c.append_all.new.kernel
   put first =
       stays_then g.D.Disk _ None _ _ c.create.new.kernel _ first
       (stays_behind g.D.Disk _ None _ _ _ c.in-Some.number
@@ -45,8 +45,8 @@ module _ (g : Over) (c : After-remove g) where
       (subst (λ (all : Bool). Puts all c.in-Some.number c.args.bytes.now (image_on g.D.Disk.image c.create.new.kernel) (image_on g.D.Disk.image c.append_all.new.kernel)) c.if-branch.false c.in_ok-append_all.ensures.puts)
 
   removed : Begins g.D.Disk None c.args.kernel.now c.create.new.kernel c.in-Some.number
-      → StaysPut g.D.Disk (image_on g.D.Disk.image c.args.kernel.now) None c.args.bytes.now c.args.kernel.now c.append_all.new.kernel
-      → StaysPut g.D.Disk (image_on g.D.Disk.image c.args.kernel.now) None c.args.bytes.now c.args.kernel.now c.remove.new.kernel
+      → StaysPlace g.D.Disk (image_on g.D.Disk.image c.args.kernel.now) None c.args.bytes.now c.args.kernel.now c.append_all.new.kernel
+      → StaysPlace g.D.Disk (image_on g.D.Disk.image c.args.kernel.now) None c.args.bytes.now c.args.kernel.now c.remove.new.kernel
   removed begins before =
       let part = part begins in
       stays_then g.D.Disk _ None _ _ c.append_all.new.kernel _ before

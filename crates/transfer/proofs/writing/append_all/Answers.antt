@@ -7,7 +7,7 @@ use Rattle.calls.specs.Stopped.{AppendsFirst}
 use Rattle.calls.specs.Lemmas.Sizes.{there_of_size}
 use Rattle.calls.specs.Calls.{image_on}
 use Rattle.transfer.specs.Places.{put_at}
-use Rattle.transfer.specs.Stopped.{StaysPut}
+use Rattle.transfer.specs.Stopped.{StaysPlace}
 use Rattle.transfer.proofs.AppendLemmas.{part_put, piece_first, piece_put, piece_room}
 use Rattle.transfer.proofs.CallLemmas.{answered_none, answered_then}
 use Rattle.transfer.proofs.PieceLemmas.{piece_inside}
@@ -35,7 +35,7 @@ module _ (g : Over) (c : After-append g) where
   below = below_there _ _ there
 
   -- what a stop leaves of it
-  stays : StaysPut g.D.Disk (image_on g.D.Disk.image c.args.kernel.now) (Some c.args.number) c.args.bytes.now c.args.kernel.now c.append.new.kernel
+  stays : StaysPlace g.D.Disk (image_on g.D.Disk.image c.args.kernel.now) (Some c.args.number) c.args.bytes.now c.args.kernel.now c.append.new.kernel
   stays =
       stays_then g.D.Disk _ (Some c.args.number) _ _ c.loop-piece.kernel _ c.loop-piece.invariant.stays
       (stays_first g.D.Disk _ (Some c.args.number) _ (AppendsFirst c.args.number piece) _ _ c.append.ensures.leaves c.append.ensures.stays
