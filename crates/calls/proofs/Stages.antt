@@ -363,7 +363,7 @@ module _ {D N : Type 0} (disk : Ghosts D N) (op : Op) (P : Where → StoreState 
     -- A STEP OF THE ONLY PROCESS
     step_after : (r : Step) (k m : Plain D) → MakesPlainStep disk 0 r k m → StageOf es k → After op P es r (waiting m.intake 0) m.store m.world
     step_after r k m made stage =
-        next_if disk op P keeps es (waiting k.intake 0) (waiting m.intake 0) (plain_queues.side m.intake 0) k.store m.store stage.begun stage.room stage.journal k.store.volume.fault stage.index r m.world
+        next_if disk op P keeps es (waiting k.intake 0) (waiting m.intake 0) (plain_queues.side m.intake 0) k.store m.store stage.begun stage.room stage.journal k.store.volume.fault stage.phase r m.world
         (subst (λ (w : World). NextIf disk k.store.volume.fault k.store w 0 (waiting k.intake 0) (plain_queues.side m.intake 0) false r m.store m.world) stage.is made.acts.next)
         (subst (λ (w : World). Extends w.journal.list m.world.journal.list) stage.is made.progress.grows.journal) stage.stands
 
