@@ -1,5 +1,6 @@
-use Rattle.std.proofs.Common.{◌∙◌, Bool, Some, refl, subst}
+use Rattle.std.proofs.Common.{◌≡◌, ◌∙◌, Bool, Some, refl, subst}
 use Rattle.std.proofs.lemmas.Result.{err_from_is_err_and}
+use Rattle.calls.specs.Files.{files_on}
 use Rattle.calls.specs.Stopped.{Empties}
 use Rattle.calls.specs.Calls.{image_on}
 use Rattle.transfer.specs.Stopped.{StaysPut}
