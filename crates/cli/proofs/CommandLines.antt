@@ -12,7 +12,7 @@ use Rattle.clap.specs.declared.parser.matches.Found.{Found}
 use Rattle.clap.proofs.OnLiterals.{clap_on_literals}
 use Rattle.clap.proofs.WalkLemmas.{first_value-rows, one_text-rows}
 use Rattle.cli.specs.declared.words.Request.{Request}
-use Rattle.cli.specs.declared.words.Request.TheVariants.{Mkfs, Check, Recover, Cat, Ls, Df, Show, Put, Copy, Replay, Run, Stops}
+use Rattle.cli.specs.declared.words.Request.TheVariants.{Mkfs, Check, Recover, Cat, Ls, Df, Show, Put, Copy, Rescue, Replay, Run, Stops}
 use Rattle.cli.specs.CommandLine.{AskFor, Asks, AsksBy, Gives, HasApp, HasChoice, HasFewWorkers, HasFlag, IsMistakeIn, mistakes_in, xvfs_app}
 
 pub one_word : (app : App) (rule : Rule) (old : Command) (word : Arg) (new : Command) → HasApp app old → rule_of word ≡ rule → word.global ≡ false → AddsArg old word new → HasApp (with_rule app rule) new
@@ -96,6 +96,7 @@ few_by name rows (Df image) asks = tt
 few_by name rows (Show image inum) asks = tt
 few_by name rows (Put image file inum sync no_sync) asks = tt
 few_by name rows (Copy old new size no_sync) asks = tt
+few_by name rows (Rescue old new no_sync) asks = tt
 few_by name rows (Replay image script schedule stop sync) asks = tt
 few_by name rows (Run image script workers sync) asks = (asks.3.0, asks.3.1)
 few_by name rows (Stops script schedule held) asks = tt

@@ -1,8 +1,12 @@
-use Rattle.std.proofs.Common.{inl, refl}
+use Rattle.std.proofs.Common.{ℕ, List, inl, refl, subst}
+use Rattle.std.specs.Io.KnownBytes.{Appends}
 use Rattle.std.proofs.lemmas.Result.{err_from_is_err_and}
 use Rattle.cmd.specs.Lemmas.Disks.{file_disk}
 use Rattle.commands.specs.Rescues.{HasMadeRescue, HasNotOpened}
+use Rattle.messages.specs.Output.{rescued_text}
 use Rattle.commands.proofs.Rescuing.{unrescued}
+use Rattle.commands.proofs.rescues.rescue_from.Given.{Over}
+use Rattle.commands.proofs.rescues.rescue_from.Goals.{After-print_rescued}
 use Rattle.commands.proofs.rescues.rescue_from.Goals as goal
 
 pub returns-in_err-plan_rescue-clause-refused : goal.returns-in_err-plan_rescue-clause-refused
@@ -21,3 +25,27 @@ returns-in_err-told-clause-refused g c =
     let told = unrescued g.R.File.Read.remaining file_disk c.args.disk.now c.plan_rescue.new.disk c.make_rescue.new.disk _ c.requires c.plan_rescue.ensures.reads refl c.args.sync c.in_err-told.field-0.0 c.in_err-told.ensures.refused in
     let p = err_from_is_err_and c.from_residual-in_err-told.result c.from_residual-in_err-told.ensures.1 in
     rw (p.1, p.2) told
+
+-- what is known of a rescue that was made
+module _ (g : Over) (c : After-print_rescued g) where
+  made : HasMadeRescue g.R.File.Read.remaining file_disk c.args.sync c.in_ok-told.told
+  made = record {
+    opened = c.args.disk.now;
+    read = c.plan_rescue.new.disk;
+    is = c.requires;
+    reads = c.plan_rescue.ensures.reads;
+    filled = c.in_ok-told.ensures.filled;
+  }
+
+pub returns-in-Ok-clause-rescued : goal.returns-in-Ok-clause-rescued
+returns-in-Ok-clause-rescued g c =
+    let here = (goal.at.returns-in-Ok-clause-rescued g c).After-print_rescued in
+    record {
+      told = c.in_ok-told.told;
+      made = made g here;
+      printed = subst (λ (l : List ℕ). Appends (g.O.Write.contents c.args.out.now) (g.O.Write.contents c.print_rescued.new.out) (rescued_text c.in_ok-told.told.clean.items l)) c.as_slice-2.ensures.value
+          (subst (λ (l : List ℕ). Appends (g.O.Write.contents c.args.out.now) (g.O.Write.contents c.print_rescued.new.out) (rescued_text l c.as_slice-2.result.now)) c.as_slice.ensures.value c.in-Ok.ensures.ok);
+    }
+
+pub returns-clause-refused : goal.returns-clause-refused
+returns-clause-refused g c = (c.in_ok-told.told, made g (goal.at.returns-clause-refused g c).After-print_rescued)
