@@ -189,7 +189,7 @@ pub(crate) static LINES: [Line; 13] = [
             Word {
                 name: "INUM",
                 kind: Kind::Choice,
-                help: "The inode number of the file that gets the bytes in place of its own",
+                help: "The inode number of the file that gets the bytes in place of its own; a stop leaves the old or the new, where both have room",
             },
             SYNC,
             NO_SYNC,

@@ -107,12 +107,7 @@ fn judge(alloc: Global, disk: &mut MemDisk, way: Way, put: &Put) -> Result<bool,
 // Whether the image of a disk is recovered to a sound one in which each file is as before, or has the
 // bytes that were put, or where it was not done, the first of them; and where there was a way round,
 // the old bytes are there, or the new ones.
-fn judge_files(
-    alloc: Global,
-    disk: &mut MemDisk,
-    way: Way,
-    is_done: bool,
-) -> Result<(), Wrong> {
+fn judge_files(alloc: Global, disk: &mut MemDisk, way: Way, is_done: bool) -> Result<(), Wrong> {
     let blocks = blocks_of(alloc, disk)?;
     let files = files_after_recovery(alloc, blocks.as_slice())?;
     let mut is_neither = matches!(way, Way::Round);
@@ -127,7 +122,10 @@ fn judge_files(
             is_neither = false;
         }
     }
-    ensure(!is_neither, "neither the old bytes nor the new ones are there")
+    ensure(
+        !is_neither,
+        "neither the old bytes nor the new ones are there",
+    )
 }
 
 // Whether a place is as before: with the file of one byte, or empty.
