@@ -8,7 +8,7 @@ ghost use Rattle.commands.specs.Runs.{IsNotRun, IsReplayed, IsRun, IsUnreplayed,
 use crate::inputs::{schedule_from, script_from};
 use blocks::FileFault;
 use cmd::open;
-use messages::{Reason, Told};
+use messages::{Meter, Reason, Told};
 use player::{ReplayRefusal, replay_disk};
 use runner::{RunRefusal, run_disk};
 use scripts::{ScheduleFault, ScriptFault, processes};
@@ -68,19 +68,21 @@ impl Reason for RunFilesRefusal {
 
 /// Recovers the image in the file at this path, and makes the operations of a script in the turns
 /// of a schedule, as `replay_disk`. With `stop` the write of this number, from 1, is not made, and
-/// ends the run. With `sync` the file is a disk that holds writes back, and is synced.
+/// ends the run. With `sync` the file is a disk that holds writes back, and is synced. The meter is
+/// told how many of the schedule's words were done.
 ///
 /// # Errors
 ///
 /// A fault of the script, then of the schedule, then of `FileDisk::open`, then a refusal of
 /// `replay_disk`.
-pub fn replay_files<R: Files + AllocGlobal, O: Write>(
+pub fn replay_files<R: Files + AllocGlobal, P: Meter, O: Write>(
     rt: &R,
     image: &str,
     script: &str,
     schedule: &str,
     stop: Option<u64>,
     sync: bool,
+    progress: &mut P,
     out: &mut O,
 ) -> Result<(), ReplayFilesRefusal>
     ensures opened { OnOk result (OpensDisk R.File.remaining file_disk sync
@@ -102,6 +104,7 @@ pub fn replay_files<R: Files + AllocGlobal, O: Write>(
         processes,
         words.as_slice(),
         stop,
+        progress,
         out,
     );
     match ran {

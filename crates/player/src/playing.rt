@@ -10,23 +10,24 @@ use crate::player::Player;
 use crate::refusals::ReplayRefusal;
 use blocks::{Disk, FaultyDisk, NoMemory};
 use kernel::Step;
-use messages::{Event, Unwritten, print_counts, print_event};
+use messages::{Event, Meter, Unwritten, print_counts, print_event};
 use scripts::Word;
 use std::io::Write;
 
 /// Makes the turns of the words over a disk that had counted `base` writes before them, and prints
 /// what they came to. The write of number `stop` isn't made. The processes that the words name are
-/// the player's.
+/// the player's. The meter is told how many of the words' turns were made.
 ///
 /// # Errors
 ///
 /// `Output`, and then the turns of the first words were made; else `Disk` where a step found that
 /// the disk failed, and then all was printed.
-pub fn run<D: Disk + Drop, O: Write>(
+pub fn run<D: Disk + Drop, P: Meter, O: Write>(
     player: &mut Player<'_, D>,
     words: &[Word],
     stop: u64,
     base: u64,
+    progress: &mut P,
     out: &mut O,
 ) -> Result<(), ReplayRefusal>
     requires words { IsTrue
@@ -43,7 +44,7 @@ pub fn run<D: Disk + Drop, O: Write>(
         ≡ ⟦<FaultyDisk<D> as Disk>⟧.name player.old.kernel.store.volume.device }
 {
     player.kernel.known();
-    play(player, words, stop, out)?;
+    play(player, words, stop, progress, out)?;
     close(player, base, out)
 }
 
@@ -77,10 +78,11 @@ pub fn make_turns<D: Disk + Drop>(
 }
 
 // Makes the turns of the words, and prints a line for each, up to the last that can be made.
-fn play<D: Disk + Drop, O: Write>(
+fn play<D: Disk + Drop, P: Meter, O: Write>(
     player: &mut Player<'_, D>,
     words: &[Word],
     stop: u64,
+    progress: &mut P,
     out: &mut O,
 ) -> Result<(), Unwritten>
     requires words { IsTrue
@@ -91,12 +93,15 @@ fn play<D: Disk + Drop, O: Write>(
     ensures breaks { BreaksOff ⟦<FaultyDisk<D> as Disk>⟧ stop words.now player.old player.new }
     ensures seated { IsSeated player.new }
 {
+    let mut made = 0u64;
     for word in words {
         let event = player.turn(*word, stop);
         print_event(out, &event)?;
         if event.is_last() {
             return Ok(());
         }
+        made = made.saturating_add(1);
+        progress.reached(made, words.len() as u64, "words");
     }
     Ok(())
 }

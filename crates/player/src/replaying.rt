@@ -12,6 +12,7 @@ use crate::refusals::ReplayRefusal;
 use crate::turns::{Hands, open_player};
 use blocks::{Disk, FaultyDisk, NoMemory};
 use kernel::OpenFault;
+use messages::Meter;
 use opening::recover_image;
 use rings::Board;
 use scripts::{Task, Word};
@@ -22,7 +23,7 @@ use std::io::Write;
 /// turns of a schedule. Prints a line for each word of the schedule, up to the one in whose turn
 /// the disk failed, and then how many blocks were written since the image was recovered, and how
 /// many groups are committed. With `stop` the write of this number, from 1, is not made, and ends
-/// the run.
+/// the run. The meter is told how many words' turns were made.
 ///
 /// Hands the disk back as the last turn left it. Where it held nothing back at the start, whatever a
 /// stop at any moment leaves keeps a beginning of the groups; what is kept of each process, up to
@@ -35,13 +36,14 @@ use std::io::Write;
 /// then nothing was printed, and whatever a stop leaves is recovered to the same image. `Output`,
 /// and then the turns of the first words were made. `Disk` where a step found that the disk failed,
 /// and then all was printed.
-pub fn replay_disk<D: Disk + Drop, O: Write>(
+pub fn replay_disk<D: Disk + Drop, P: Meter, O: Write>(
     alloc: Global,
     disk: D,
     tasks: Vec<Task>,
     processes: u32,
     words: &[Word],
     stop: Option<u64>,
+    progress: &mut P,
     out: &mut O,
 ) -> (Result<(), ReplayRefusal>, D)
     requires tasks { All (λ task. task.pid < processes) tasks.items }
@@ -66,7 +68,8 @@ pub fn replay_disk<D: Disk + Drop, O: Write>(
         Ok(opened) => opened,
         Err((refusal, disk)) => return (Err(refusal), disk),
     };
-    let ran = run(&mut player, words, stop, base, out);
+    let ran = run(&mut player, words, stop, base, progress, out);
+    progress.ended();
     player.reconcile_all();
     (ran, player.into_disk())
 }

@@ -42,9 +42,9 @@ impl Failures {
     }
 }
 
-// Nobody is told how far a copy is.
+/// Nobody is told how far something is.
 #[derive(Drop)]
-struct Nobody;
+pub struct Nobody;
 
 impl Meter for Nobody {
     fn reached(&mut self, _files: u64, _of: u64, _what: &str) {}

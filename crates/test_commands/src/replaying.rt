@@ -1,4 +1,5 @@
 // Replays and runs of scripts over a disk.
+use crate::copies::Nobody;
 use crate::refusals::{Ran, Replayed};
 use crate::wrong::Wrong;
 use blocks::Disk;
@@ -29,6 +30,7 @@ pub fn replayed<D: Disk + Drop>(
                     processes,
                     words.as_slice(),
                     None,
+                    &mut Nobody,
                     out,
                 )),
                 Err(fault) => Err(Wrong::Schedule(fault)),

@@ -269,10 +269,13 @@ where
             schedule,
             stop,
             sync,
-        } => end(
-            replay_files(rt, image, script, schedule, stop, sync, out),
-            err,
-        ),
+        } => {
+            let mut progress = TerminalMeter::beside_lines(rt);
+            end(
+                replay_files(rt, image, script, schedule, stop, sync, &mut progress, out),
+                err,
+            )
+        }
         Request::Run {
             image,
             script,

@@ -1,4 +1,4 @@
-use Rattle.std.proofs.Common.{◌∙◌, ◌+◌, ◌++◌, ap, subst, sym, arith}
+use Rattle.std.proofs.Common.{◌∙◌, ◌++◌, ap, subst, sym, arith}
 use Rattle.blocks.specs.Disk.{Image}
 use Rattle.blocks.specs.Lemmas.Reads.{reads_then}
 use Rattle.model.specs.Layout.{inode_count_of}
