@@ -82,6 +82,10 @@ fn given<'a>(request: &Request<'a>) -> Given<'a> {
             size,
             ..Given::over(old, false)
         },
+        Request::Rescue { old, new, .. } => Given {
+            made: Some(new),
+            ..Given::over(old, false)
+        },
         Request::Replay {
             image,
             script,
