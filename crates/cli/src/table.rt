@@ -236,6 +236,7 @@ pub(crate) static LINES: [Line; 13] = [
                 help: "The path of the image's file, which is not changed",
             },
             WAIT,
+            EXPLAIN,
             Word {
                 name: "NEW",
                 kind: Kind::Needed,
