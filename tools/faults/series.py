@@ -246,7 +246,7 @@ def put(call, how, seed=None):
 def put_over(call, how, seed=None):
     """In place of a file, with room for both: its old bytes are there, or the new ones, as its own or a new file's."""
     words = ["put", "a.img", "long", "1", *(["--sync"] if seed else [])]
-    for at in places(count_calls(words, call, ONE_FILE), max(MOST, 400)):
+    for at in places(count_calls(words, call, ONE_FILE)):
         trial = Trial(ONE_FILE, words, call, at, how, power=seed and seed * 1000 + at)
         whole = trial.run("recover", "a.img").returncode == 0 and trial.checked().startswith("sound")
         numbers = [line.split()[0] for line in trial.run("ls", "a.img").stdout.decode().splitlines()]
