@@ -79,6 +79,18 @@ const IMAGE: Word = Word {
     help: "The path of the image's file",
 };
 
+const OLD: Word = Word {
+    name: "OLD",
+    kind: Kind::Needed,
+    help: "The path of the image's file, which is not changed",
+};
+
+const NEW: Word = Word {
+    name: "NEW",
+    kind: Kind::Needed,
+    help: "The path of the file that is made",
+};
+
 const IMAGE_KEPT: Word = Word {
     name: "IMAGE",
     kind: Kind::Needed,
@@ -200,18 +212,10 @@ pub(crate) static LINES: [Line; 13] = [
         about: "Copies the files of an image into a new one that has room for large files",
         example: "Example: xvfs copy old.img new.img --size 8191",
         words: &[
-            Word {
-                name: "OLD",
-                kind: Kind::Needed,
-                help: "The path of the image's file, which is not changed",
-            },
+            OLD,
             WAIT,
             EXPLAIN,
-            Word {
-                name: "NEW",
-                kind: Kind::Needed,
-                help: "The path of the file that is made",
-            },
+            NEW,
             Word {
                 name: "size",
                 kind: Kind::Valued,
@@ -230,18 +234,10 @@ pub(crate) static LINES: [Line; 13] = [
         about: "Copies the files of a damaged image that are whole into a new one, and tells which these are",
         example: "Example: xvfs rescue old.img new.img",
         words: &[
-            Word {
-                name: "OLD",
-                kind: Kind::Needed,
-                help: "The path of the image's file, which is not changed",
-            },
+            OLD,
             WAIT,
             EXPLAIN,
-            Word {
-                name: "NEW",
-                kind: Kind::Needed,
-                help: "The path of the file that is made",
-            },
+            NEW,
             NO_SYNC,
         ],
     },

@@ -5,6 +5,7 @@ use crate::refused::{PutFileRefusal, ReadFault};
 use blocks::Disk;
 use cmd::{Access, Command, DiskCommand, OverFile};
 use layout::greatest_size;
+use messages::Meter;
 use model::types::Form;
 use std::alloc::Global;
 use std::fs::File;
@@ -19,8 +20,8 @@ use transfer::{PutRefusal, put_disk};
 /// It is refused for the first of these. `Unread` where the file can't be read, or with `NoMemory`,
 /// and then nothing else was done; `Of` with a fault of `FileDisk::open` or a refusal of `put_disk`.
 /// No contract of std says which bytes a path's file has.
-#[derive(Clone, Copy, Drop)]
-pub struct Put<'a> {
+#[derive(Drop)]
+pub struct Put<'a, P> {
     /// The path of the image's file.
     pub image: &'a str,
     /// The path of the file whose bytes are put.
@@ -31,9 +32,11 @@ pub struct Put<'a> {
     pub sync: bool,
     /// Whether it is synced at the end.
     pub last: bool,
+    /// Who is told how far the put is.
+    pub progress: P,
 }
 
-impl<'a, R: Files + AllocGlobal> Command<R> for Put<'a> {
+impl<'a, R: Files + AllocGlobal, P: Meter + Drop> Command<R> for Put<'a, P> {
     type Refusal = PutFileRefusal;
 
     ghost done = { λ put. HasPut R.File.remaining put.inum put.sync put.last };
@@ -47,6 +50,7 @@ impl<'a, R: Files + AllocGlobal> Command<R> for Put<'a> {
             bytes,
             inum: self.inum,
             last: self.last,
+            progress: self.progress,
         };
         let access = Access::Change { sync: self.sync };
         match OverFile(self.image, access, put).run(rt, out) {
@@ -58,13 +62,14 @@ impl<'a, R: Files + AllocGlobal> Command<R> for Put<'a> {
 
 // Puts these bytes.
 #[derive(Drop)]
-struct PutBytes {
+struct PutBytes<P> {
     bytes: Vec<u8>,
     inum: Option<u32>,
     last: bool,
+    progress: P,
 }
 
-impl DiskCommand for PutBytes {
+impl<P: Meter + Drop> DiskCommand for PutBytes<P> {
     type Refusal = PutRefusal;
 
     ghost done = { λ put c. PutsOver c.disk put.inum put.bytes.items put.last c.was c.now };
@@ -78,12 +83,14 @@ impl DiskCommand for PutBytes {
         disk: D,
         out: &mut O,
     ) -> (Result<(), PutRefusal>, D) {
+        let mut progress = self.progress;
         put_disk(
             alloc,
             disk,
             self.bytes.as_slice(),
             self.inum,
             self.last,
+            &mut progress,
             out,
         )
     }

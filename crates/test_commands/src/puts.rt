@@ -1,4 +1,5 @@
 // Puts into the image whose calls fail in turn.
+use crate::copies::Nobody;
 use crate::ground::{KINDS, MOST_CALLS, blocks_of, ground_of};
 use crate::refusals::{Put, is_disk_of_put};
 use crate::wrong::{Wrong, ensure};
@@ -90,7 +91,15 @@ fn fail_call(alloc: Global, way: Way, kind: Kind, nth: u64) -> Result<bool, Wron
         Ok(disk) => {
             let mut told = Vec::new(alloc);
             let disk = FaultyDisk::new(disk, nth, kind);
-            let (put, disk) = put_disk(alloc, disk, &BYTES, way.inum(), true, &mut told);
+            let (put, disk) = put_disk(
+                alloc,
+                disk,
+                &BYTES,
+                way.inum(),
+                true,
+                &mut Nobody,
+                &mut told,
+            );
             judge(alloc, &mut disk.into_inner(), way, &put)
         }
         Err(wrong) => Err(wrong),

@@ -20,7 +20,7 @@ use crate::refused::PutRefusal;
 use crate::writing::{Outcome, put_bytes};
 use blocks::Disk;
 use calls::{CallFault, Sole, open_sole};
-use messages::print_number;
+use messages::{Meter, print_number};
 use std::alloc::Global;
 use std::io::Write;
 use wal::DeviceFault;
@@ -37,7 +37,8 @@ use wal::DeviceFault;
 /// So whatever a stop leaves, the old bytes are there or the new ones, at the number of the old file
 /// or at another. Else the old bytes are given up first.
 ///
-/// Hands the disk back.
+/// The meter is told how many of the bytes were put, for each of the two files anew. Hands the disk
+/// back.
 ///
 /// # Errors
 ///
@@ -53,12 +54,13 @@ use wal::DeviceFault;
 /// it keeps all. `NoMemory`: the files are as before, or the first of the bytes are put, as a stop
 /// leaves them. `Disk` where the disk failed, in a call or in the sync. With all these nothing was
 /// printed. `Output`: the bytes are put, and the disk is synced as above.
-pub fn put_disk<D: Disk + Drop, O: Write>(
+pub fn put_disk<D: Disk + Drop, P: Meter, O: Write>(
     alloc: Global,
     disk: D,
     bytes: &[u8],
     inum: Option<u32>,
     sync: bool,
+    progress: &mut P,
     out: &mut O,
 ) -> (Result<(), PutRefusal>, D)
     ensures put { OnOk result.0 (IsPut D.Disk inum bytes.now sync disk result.1
@@ -78,7 +80,9 @@ pub fn put_disk<D: Disk + Drop, O: Write>(
         Ok(kernel) => kernel,
         Err((fault, disk)) => return (Err(PutRefusal::Unopened(fault)), disk),
     };
-    match put(alloc, &mut kernel, bytes, inum, twice) {
+    let put = put(alloc, &mut kernel, bytes, inum, twice, progress);
+    progress.ended();
+    match put {
         Ok(number) => {
             let mut disk = kernel.into_disk();
             let told = tell(&mut disk, number, sync, out);
@@ -90,12 +94,13 @@ pub fn put_disk<D: Disk + Drop, O: Write>(
 
 // Puts bytes through a kernel, over a file by way of a new one where there is room `twice`. The number of
 // their file.
-fn put<D: Disk>(
+fn put<D: Disk, P: Meter>(
     alloc: Global,
     kernel: &mut Sole<D>,
     bytes: &[u8],
     inum: Option<u32>,
     twice: bool,
+    progress: &mut P,
 ) -> Result<u32, PutRefusal>
     requires ready { MayCall D.Disk (2 ^ 31) kernel.old }
     requires there { HasOld (files_on D.image kernel.old) inum }
@@ -107,7 +112,7 @@ fn put<D: Disk>(
     ensures stays { StaysPut D.Disk twice (image_on D.image kernel.old) inum bytes.now
         kernel.old kernel.new }
 {
-    match put_bytes(alloc, kernel, bytes, inum, twice) {
+    match put_bytes(alloc, kernel, bytes, inum, twice, progress) {
         Ok(Outcome::Put(number)) => Ok(number),
         Ok(Outcome::NoInode) => Err(PutRefusal::NoInode),
         Ok(Outcome::Full) => Err(PutRefusal::Full),

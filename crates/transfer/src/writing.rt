@@ -10,6 +10,7 @@ ghost use Rattle.transfer.specs.PutWriting.{AreAnswered, Comes, IsCutOff, IsPutC
 
 use blocks::Disk;
 use calls::{CallFault, Sole, append, create, empty, remove, rested};
+use messages::Meter;
 use model::types::TRANSFER_LIMIT;
 use std::alloc::Global;
 
@@ -32,12 +33,13 @@ pub enum Outcome {
 
 // Puts bytes in the place of those of a file, or as those of a new one. `twice` says whether there is
 // room for them in a new file, and then beside it in the old one.
-pub fn put_bytes<D: Disk>(
+pub fn put_bytes<D: Disk, P: Meter>(
     alloc: Global,
     kernel: &mut Sole<D>,
     bytes: &[u8],
     inum: Option<u32>,
     twice: bool,
+    progress: &mut P,
 ) -> Result<Outcome, CallFault>
     requires ready { MayCall D.Disk (2 ^ 31) kernel.old }
     requires there { HasOld (files_on D.image kernel.old) inum }
@@ -53,23 +55,24 @@ pub fn put_bytes<D: Disk>(
     match inum {
         Some(number) => {
             if twice {
-                go_round(alloc, kernel, bytes, number)
+                go_round(alloc, kernel, bytes, number, progress)
             } else {
-                replace(alloc, kernel, bytes, number)
+                replace(alloc, kernel, bytes, number, progress)
             }
         }
-        None => add(alloc, kernel, bytes),
+        None => add(alloc, kernel, bytes, progress),
     }
 }
 
 // Puts bytes in the place of those of a file by way of a new one: that gets all of them before the
 // old one is emptied, and is removed once the old one has them, too. Where each number is taken
 // there is no way round.
-fn go_round<D: Disk>(
+fn go_round<D: Disk, P: Meter>(
     alloc: Global,
     kernel: &mut Sole<D>,
     bytes: &[u8],
     number: u32,
+    progress: &mut P,
 ) -> Result<Outcome, CallFault>
     requires ready { MayCall D.Disk (2 ^ 31) kernel.old }
     requires there { file_in (files_on D.image kernel.old) number ≢ None }
@@ -82,12 +85,12 @@ fn go_round<D: Disk>(
     ensures stays { StaysPut D.Disk true (image_on D.image kernel.old) (Some number) bytes.now
         kernel.old kernel.new }
 {
-    let spare = match add(alloc, kernel, bytes)? {
+    let spare = match add(alloc, kernel, bytes, progress)? {
         Outcome::Put(spare) => spare,
-        Outcome::NoInode => return replace(alloc, kernel, bytes, number),
+        Outcome::NoInode => return replace(alloc, kernel, bytes, number, progress),
         Outcome::Full => return Ok(Outcome::Full),
     };
-    if !refill(alloc, kernel, bytes, number)? {
+    if !refill(alloc, kernel, bytes, number, progress)? {
         return Ok(Outcome::Full);
     }
     remove(kernel, spare)?;
@@ -95,7 +98,12 @@ fn go_round<D: Disk>(
 }
 
 // Puts bytes as those of a new file, which is removed again where no block is free for all.
-fn add<D: Disk>(alloc: Global, kernel: &mut Sole<D>, bytes: &[u8]) -> Result<Outcome, CallFault>
+fn add<D: Disk, P: Meter>(
+    alloc: Global,
+    kernel: &mut Sole<D>,
+    bytes: &[u8],
+    progress: &mut P,
+) -> Result<Outcome, CallFault>
     requires ready { MayCall D.Disk (2 ^ 31) kernel.old }
     requires short { length bytes.now ≤ greatest_size (form_of (image_on D.image kernel.old)) }
     ensures comes { IfOk result (Comes (image_on D.image kernel.old) None bytes.now
@@ -110,7 +118,7 @@ fn add<D: Disk>(alloc: Global, kernel: &mut Sole<D>, bytes: &[u8]) -> Result<Out
     let Some(number) = create(kernel, NEW_KIND)? else {
         return Ok(Outcome::NoInode);
     };
-    if append_all(alloc, kernel, bytes, number)? {
+    if append_all(alloc, kernel, bytes, number, progress)? {
         return Ok(Outcome::Put(number));
     }
     remove(kernel, number)?;
@@ -118,11 +126,12 @@ fn add<D: Disk>(alloc: Global, kernel: &mut Sole<D>, bytes: &[u8]) -> Result<Out
 }
 
 // Puts bytes in the place of those of a file.
-fn replace<D: Disk>(
+fn replace<D: Disk, P: Meter>(
     alloc: Global,
     kernel: &mut Sole<D>,
     bytes: &[u8],
     number: u32,
+    progress: &mut P,
 ) -> Result<Outcome, CallFault>
     requires ready { MayCall D.Disk (2 ^ 31 + 2 ^ 16) kernel.old }
     requires there { file_in (files_on D.image kernel.old) number ≢ None }
@@ -135,7 +144,7 @@ fn replace<D: Disk>(
     ensures stays { StaysPlace D.Disk (image_on D.image kernel.old) (Some number) bytes.now
         kernel.old kernel.new }
 {
-    if refill(alloc, kernel, bytes, number)? {
+    if refill(alloc, kernel, bytes, number, progress)? {
         Ok(Outcome::Put(number))
     } else {
         Ok(Outcome::Full)
@@ -143,11 +152,12 @@ fn replace<D: Disk>(
 }
 
 // Empties a file, and puts bytes into it. False where no block was free for all.
-fn refill<D: Disk>(
+fn refill<D: Disk, P: Meter>(
     alloc: Global,
     kernel: &mut Sole<D>,
     bytes: &[u8],
     number: u32,
+    progress: &mut P,
 ) -> Result<bool, CallFault>
     requires ready { MayCall D.Disk (2 ^ 31 + 2 ^ 16) kernel.old }
     requires there { file_in (files_on D.image kernel.old) number ≢ None }
@@ -162,15 +172,16 @@ fn refill<D: Disk>(
         kernel.old kernel.new }
 {
     empty(kernel, number)?;
-    append_all(alloc, kernel, bytes, number)
+    append_all(alloc, kernel, bytes, number, progress)
 }
 
 // Writes bytes into an empty file, piece by piece. False where no block was free for all.
-fn append_all<D: Disk>(
+fn append_all<D: Disk, P: Meter>(
     alloc: Global,
     kernel: &mut Sole<D>,
     bytes: &[u8],
     number: u32,
+    progress: &mut P,
 ) -> Result<bool, CallFault>
     requires ready { MayCall D.Disk (2 ^ 31 + 2 ^ 16 + 1) kernel.old }
     requires empty { size_of (file_in (files_on D.image kernel.old) number) ≡ Some 0 }
@@ -191,6 +202,7 @@ fn append_all<D: Disk>(
         if !append(kernel, alloc, number, from as u32, &bytes[from..to])? {
             return Ok(false);
         }
+        progress.reached(to as u64, bytes.len() as u64, "bytes");
     }
     Ok(true)
 }

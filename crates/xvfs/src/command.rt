@@ -215,18 +215,22 @@ where
             inum,
             sync,
             no_sync,
-        } => perform(
-            rt,
-            Put {
-                image,
-                file,
-                inum,
-                sync,
-                last: !no_sync,
-            },
-            out,
-            err,
-        ),
+        } => {
+            let progress = TerminalMeter::new(rt);
+            perform(
+                rt,
+                Put {
+                    image,
+                    file,
+                    inum,
+                    sync,
+                    last: !no_sync,
+                    progress,
+                },
+                out,
+                err,
+            )
+        }
         Request::Copy {
             old,
             new,

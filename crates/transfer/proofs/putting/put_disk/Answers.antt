@@ -39,7 +39,7 @@ returns-in-Err-put-clause-refused g c =
     let none = c.args.out.now ≡ c.args.out.now in
     subst (λ e. IsUnput d c.args.inum c.args.bytes.now c.args.sync c.args.disk e none c.in-Err-put.refusal) (sym c.into_disk.ensures)
     (unwritten_so d c.args.inum c.args.bytes.now c.args.sync c.args.disk c.judge.new.disk c.in-Ok.ensures.fit c.in-Ok-open_sole.kernel c.in-Ok-open_sole.ensures.opened c.in-Ok.twice c.in-Ok.ensures.twice
-    c.put.new.kernel.store.volume.device none refl c.in-Err-put.refusal c.in-Err-put.ensures.refused)
+    c.put-put.new.kernel.store.volume.device none refl c.in-Err-put.refusal c.in-Err-put.ensures.refused)
 
 pub returns-in-Err-clause-leaves : goal.returns-in-Err-clause-leaves
 returns-in-Err-clause-leaves g c =
@@ -55,11 +55,11 @@ returns-in-Err-open_sole-clause-leaves g c =
 pub returns-in-Ok-put-clause-leaves : goal.returns-in-Ok-put-clause-leaves
 returns-in-Ok-put-clause-leaves g c =
     let d = g.D.Disk in
-    λ sound calm. synced_leaves d g.met.D.Disk.counts_now c.args.inum c.args.bytes.now c.args.disk c.judge.new.disk sound c.in-Ok.ensures.fit.reads calm c.in-Ok.twice c.in-Ok.ensures.twice c.in-Ok-open_sole.kernel c.put.new.kernel c.tell-told.new.disk c.in-Ok-open_sole.ensures.opened c.put.ensures.stays
+    λ sound calm. synced_leaves d g.met.D.Disk.counts_now c.args.inum c.args.bytes.now c.args.disk c.judge.new.disk sound c.in-Ok.ensures.fit.reads calm c.in-Ok.twice c.in-Ok.ensures.twice c.in-Ok-open_sole.kernel c.put-put.new.kernel c.tell-told.new.disk c.in-Ok-open_sole.ensures.opened c.put-put.ensures.stays
     (subst (λ e. AddsNone (d.moment e) (d.moment c.tell-told.new.disk) (d.leaves e) (d.leaves c.tell-told.new.disk)) c.into_disk-disk.ensures c.tell-told.ensures.time)
 
 pub returns-in-Err-put-clause-leaves : goal.returns-in-Err-put-clause-leaves
 returns-in-Err-put-clause-leaves g c =
     let d = g.D.Disk in
     λ sound calm. subst (λ e. LeavesOnly d.moment d.leaves c.args.disk e (KeepsPutOf (recovered (d.image c.args.disk)) c.args.inum c.args.bytes.now)) (sym c.into_disk.ensures)
-    (put_leaves d g.met.D.Disk.counts_now c.args.inum c.args.bytes.now c.args.disk c.judge.new.disk sound c.in-Ok.ensures.fit.reads calm c.in-Ok.twice c.in-Ok.ensures.twice c.in-Ok-open_sole.kernel c.put.new.kernel c.in-Ok-open_sole.ensures.opened c.put.ensures.stays)
+    (put_leaves d g.met.D.Disk.counts_now c.args.inum c.args.bytes.now c.args.disk c.judge.new.disk sound c.in-Ok.ensures.fit.reads calm c.in-Ok.twice c.in-Ok.ensures.twice c.in-Ok-open_sole.kernel c.put-put.new.kernel c.in-Ok-open_sole.ensures.opened c.put-put.ensures.stays)

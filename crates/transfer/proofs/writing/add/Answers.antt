@@ -1,4 +1,4 @@
-use Rattle.std.proofs.Common.{◌≡◌, ◌∙◌, Bool, Option, None, ℕ, set, ap, subst}
+use Rattle.std.proofs.Common.{◌∙◌, Bool, Option, None, ℕ, set, ap, subst}
 use Rattle.std.proofs.lemmas.Result.{err_from_is_err_and}
 use Rattle.model.specs.Files.{Files}
 use Rattle.calls.specs.Files.{Creates, MakesFile, files_on}
