@@ -92,8 +92,8 @@ fn explain<O: Write, E: Write>(explanation: Explanation, out: &mut O, err: &mut 
     }
 }
 
-// Does what is asked for where no other program has the image, as `dispatch`; it may be asked to
-// wait for that. The exit status.
+// Does what is asked for where no other program has the image, as `dispatch`, and tells why it was
+// refused; it may be asked to wait. The exit status.
 fn dispatch_alone<
     R: Files + AllocGlobal + Threads + Wait + Clock + Screen + Locks + Sync,
     O: Write,
@@ -112,36 +112,16 @@ where
     ensures silent { result ≡ 0 → err.new ≡ err.old }
 {
     match lock_image(rt, &asked.request, asked.wait) {
-        Ok(_lock) => dispatch_telling(rt, asked, out, err),
+        Ok(_lock) => {
+            let mut line: Line = ArrayVec::new();
+            let status = dispatch(rt, asked.request, asked.wait, out, &mut line);
+            if status > 0 {
+                tell(rt, &asked, line.as_slice(), err);
+            }
+            status
+        }
         Err(fault) => tell_fault(rt, &asked, fault, err),
     }
-}
-
-// Does what is asked for, as `dispatch`, and tells why it was refused. The exit status.
-fn dispatch_telling<
-    R: Files + AllocGlobal + Threads + Wait + Clock + Screen + Locks + Sync,
-    O: Write,
-    E: Write,
->(rt: &R, asked: Asked<'_>, out: &mut O, err: &mut E) -> u8
-where
-    R::File: Send,
-    requires { HasFewWorkers asked.request }
-    ensures status { result ≤ 1 }
-    ensures done { result ≡ 0 → Answers (ghosts_of R.File.remaining
-        ⟦<FileDisk<R::File> as Disk>⟧ ⟦<FaultyDisk<FileDisk<R::File>> as Disk>⟧)
-        asked.entry.request (O.contents out.old) (O.contents out.new) }
-    ensures refused { result ≡ 1 → OnRefused (ghosts_of R.File.remaining
-        ⟦<FileDisk<R::File> as Disk>⟧ ⟦<FaultyDisk<FileDisk<R::File>> as Disk>⟧)
-        asked.entry.request (O.contents out.old) (O.contents out.new) (out.new ≡ out.old) }
-    ensures silent { result ≡ 0 → err.new ≡ err.old }
-{
-    let mut line: Line = ArrayVec::new();
-    let status = dispatch(rt, asked.request, asked.wait, out, &mut line);
-    if status == 0 {
-        return 0;
-    }
-    tell(rt, &asked, line.as_slice(), err);
-    status
 }
 
 // Does what is asked for, and prints the answer, or why it was refused. The exit status.
