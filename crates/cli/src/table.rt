@@ -233,13 +233,7 @@ pub(crate) static LINES: [Line; 13] = [
         name: "rescue",
         about: "Copies the files of a damaged image that are whole into a new one, and tells which these are",
         example: "Example: xvfs rescue old.img new.img",
-        words: &[
-            OLD,
-            WAIT,
-            EXPLAIN,
-            NEW,
-            NO_SYNC,
-        ],
+        words: &[OLD, WAIT, EXPLAIN, NEW, NO_SYNC],
     },
     Line {
         name: "recover",
