@@ -3,12 +3,11 @@ use Rattle.std.proofs.Common.{◌≡◌, ◌≢◌, ◌∙◌, ℕ, ◌+◌, ◌
 use Rattle.std.specs.Prelude.{is_none, is_some, IfErr, IfOk}
 use Rattle.std.specs.List.{flat_map, range_with_len}
 use Rattle.std.specs.Result.{IsErrAnd}
-use Rattle.offline.specs.Common.{addresses_in, addresses_in-append, append-nil, append_assoc, BadGeometry, BadLog, BadMagic, BadSize, BadType, CheckFault, depths, Dinode, Disk, early_fault, Form, form_of, geometry_fault, GoesThrough, greatest_size, has_known_magic, HasNoted, Image, inode_of, inodes_faults, is_lawful_log, is_lawful_super, IsBreak, IsCause, IsRefusedFor, judged_faults, listed, log_fault, marks_faults, ne_eqb, NoMemory, NotesInode, NotesPointers, one_more, or_else, Owners, places_below, places_below_next, Pointer, pointer_fault, pointer_faults, pointers_along, pointers_of, recovered, Rose, Stand, super_of}
+use Rattle.offline.specs.Common.{addresses_in, addresses_in-append, append-nil, append_assoc, BadGeometry, BadLog, BadMagic, BadSize, BadType, CheckFault, Dinode, Disk, early_fault, Form, form_of, geometry_fault, GoesThrough, greatest_size, has_known_magic, HasNoted, Image, inode_of, inodes_faults, is_lawful_log, is_lawful_super, IsBreak, IsCause, IsRefusedFor, judged_faults, listed, log_fault, marks_faults, ne_eqb, NoMemory, NotesInode, NotesPointers, one_more, or_else, Owners, places_below, places_below_next, Pointer, pointer_fault, pointer_faults, pointers_of, recovered, Rose, Stand, super_of}
 use Rattle.model.specs.Faults.{inode_faults, faults}
 use Rattle.model.specs.Places.{pointers_in}
 use Rattle.model.specs.Lemmas.Faults.{pointer_faults-append}
 use Rattle.offline.specs.declared.notes.Owner.{Owner}
-use Rattle.offline.proofs.InodeLemmas.{pointers_used}
 
 -- ---- how a walk ends
 
@@ -104,13 +103,6 @@ pub noting_last : (y : Image) (owner : Owner) (earlier : List ℕ) (whole rest :
 noting_last y owner earlier whole rest owners before now had none =
     rw (had.split ∙ ap (λ r. had.front ++ r) none ∙ append-nil had.front) had.noted
 
--- the same over an image that is the same
-pub noted_same : (x z : Image) (owner : Owner) (pointers : Image → List Pointer) (owners new : Owners) (before after : List CheckFault) → x ≡ z →
-    NotesPointers (recovered x) owner (pointers (recovered x)) owners new before after →
-    NotesPointers (recovered z) owner (pointers (recovered z)) owners new before after
-noted_same x z owner pointers owners new before after same notes =
-    subst (λ (y : Image). NotesPointers (recovered y) owner (pointers (recovered y)) owners new before after) same notes
-
 -- ---- inodes
 
 pub noted_free : (y : Image) (i : ℕ) (owners : Owners) (faults : List CheckFault) → 1 ≤ i → (inode_of y i).kind ≡ 0 → Stand owners y (places_below y i) →
@@ -140,10 +132,10 @@ faults_used y i form is used =
 
 pub noted_used : (y : Image) (i : ℕ) (d : Dinode) (form : Form) (new : Owners) (fault : Option CheckFault) (before mid after : List CheckFault) → 1 ≤ i →
     d ≡ inode_of y i → form_of y ≡ form → d.kind ≢ 0 → fault ≡ early_fault i d form → mid ≡ before ++ listed fault →
-    HasNoted y (record { number = i; size = d.size; is_judged = is_none fault }) (places_below y i) (pointers_along y d.size 0 (depths form) d.addrs) new mid after →
+    HasNoted y (record { number = i; is_judged = is_none fault }) (places_below y i) (pointers_in y d) new mid after →
     NotesInode y i new before after
 noted_used y i d form new fault before mid after some read is used early add noted =
-    let same : pointers_along y d.size 0 (depths form) d.addrs ≡ pointers_of y i = sym (pointers_used y d form is used) ∙ ap (pointers_in y) read in
+    let same : pointers_in y d ≡ pointers_of y i = ap (pointers_in y) read in
     let told = cond (is_none fault) (pointer_faults y i (places_below y i) (pointers_of y i)) [] in
     let kind : (inode_of y i).kind ≢ 0 = subst (λ (e : Dinode). e.kind ≢ 0) read used in
     let found : fault ≡ early_fault i (inode_of y i) form = early ∙ ap (λ (e : Dinode). early_fault i e form) read in

@@ -1,6 +1,6 @@
 -- The names that most proofs of this crate cite, passed on from one place. Declares nothing.
 pub use Rattle.std.proofs.lemmas.Bool.{cases_eq, cases_lt, le-ltb, lt-ltb, ltb-false, ltb_from_iff, ne_eqb}
-pub use Rattle.std.proofs.lemmas.List.{append-nil, append_assoc, at_drop_all, at_drop_more, drop_all, drop_more, get_or-replicate, get_or-set_other, get_or-set_same, get_or_past, length-append, length-replicate, length-set, length-take-le, take-append-le, take_all, take_more}
+pub use Rattle.std.proofs.lemmas.List.{append-nil, append_assoc, at_drop_all, at_drop_more, drop_all, drop_more, get_or-replicate, get_or-set_other, get_or-set_same, get_or_past, get_or_read, length-append, length-replicate, length-set, length-take-le, take-append-le, take_all, take_more}
 pub use Rattle.std.proofs.lemmas.Option.{get_or_from_slice_get}
 pub use Rattle.std.proofs.lemmas.Result.{err_from_is_err_and, IfOk-weaker, on_ok_weaker}
 pub use Rattle.blocks.specs.Block.{IsBlock, overwritten}

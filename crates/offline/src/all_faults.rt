@@ -37,6 +37,7 @@ pub(crate) fn early_fault(i: u32, inode: &Dinode, form: Form) -> Option<CheckFau
 
 // Notes inode i and its faults.
 fn note_inode<D: Disk>(
+    alloc: Global,
     disk: &mut D,
     image: &Recovered,
     owners: &mut Owners,
@@ -64,14 +65,14 @@ fn note_inode<D: Disk>(
     add_if_some(faults, fault)?;
     let owner = Owner {
         number: i,
-        size: inode.size,
         is_judged: fault.is_none(),
     };
-    note_pointers(disk, image, owners, entries, faults, owner, inode)
+    note_pointers(alloc, disk, image, owners, entries, faults, owner, inode)
 }
 
 // Reads inode i, and notes it and its faults.
 fn note_next<D: Disk>(
+    alloc: Global,
     disk: &mut D,
     image: &Recovered,
     owners: &mut Owners,
@@ -94,11 +95,12 @@ fn note_next<D: Disk>(
         owners.new faults.old.items faults.new.items) }
 {
     let inode = load_inode(disk, image, block, i)?;
-    note_inode(disk, image, owners, entries, faults, i, &inode)
+    note_inode(alloc, disk, image, owners, entries, faults, i, &inode)
 }
 
 // Notes all inodes and their faults.
 fn note_inodes<D: Disk>(
+    alloc: Global,
     disk: &mut D,
     image: &Recovered,
     owners: &mut Owners,
@@ -118,7 +120,7 @@ fn note_inodes<D: Disk>(
         NotesInodes (recovered (D.image disk.old)) owners.new faults.old.items faults.new.items) }
 {
     for i in 1..ninodes {
-        note_next(disk, image, owners, block, entries, faults, i)?;
+        note_next(alloc, disk, image, owners, block, entries, faults, i)?;
     }
     Ok(())
 }
@@ -169,6 +171,7 @@ fn contents_faults<D: Disk>(
     let mut faults = Vec::new(alloc);
     let ninodes = image.sup.ninodes;
     note_inodes(
+        alloc,
         disk,
         image,
         &mut owners,
@@ -206,7 +209,8 @@ fn alone(alloc: Global, fault: CheckFault) -> Result<Vec<CheckFault>, CheckFault
 ///
 /// - `Disk`: a read failed.
 /// - `NoMemory`: memory was refused. It needs three blocks, one byte for each block of the image,
-///   and room for the list, of one fault at most for each address and for each block.
+///   room for the addresses of one inode, and for the list, of one fault at most for each address and
+///   for each block.
 pub fn check_all<D: Disk>(alloc: Global, disk: &mut D) -> Result<Vec<CheckFault>, CheckFault>
     ensures all { IfOk result (λ found. found.items ≡ faults (D.image disk.old)) }
 

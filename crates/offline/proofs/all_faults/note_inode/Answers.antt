@@ -1,5 +1,6 @@
 use Rattle.std.proofs.Common.{◌≡◌, Bool, subst}
-use Rattle.offline.specs.Common.{depths, Dinode, HasNoted, on_ok_weaker, places_below, pointers_along, recovered}
+use Rattle.offline.specs.Common.{Dinode, HasNoted, on_ok_weaker, places_below, recovered}
+use Rattle.model.specs.Places.{pointers_in}
 use Rattle.offline.proofs.NoteLemmas.{is_none_where, noted_free, noted_used}
 use Rattle.offline.proofs.all_faults.note_inode.Goals as goal
 
@@ -18,6 +19,6 @@ returns-clause-noted g c =
     (λ notes stand.
     noted_used y i inode form c.note_pointers.new.owners c.early_fault-fault.result c.args.faults.now.items c.add_if_some.new.faults.items c.note_pointers.new.faults.items
     c.requires.some c.requires.inode c.requires.judging.is_form c.if-inode-eq0.false c.early_fault-fault.ensures c.in_ok-add_if_some.ensures
-    (subst (λ (b : Bool). HasNoted y (record { number = i; size = inode.size; is_judged = b }) (places_below y i) (pointers_along y inode.size 0 (depths form) inode.addrs)
+    (subst (λ (b : Bool). HasNoted y (record { number = i; is_judged = b }) (places_below y i) (pointers_in y inode)
     c.note_pointers.new.owners c.add_if_some.new.faults.items c.note_pointers.new.faults.items) (is_none_where c.early_fault-fault.result c.is_none.result c.is_none.ensures) (notes (places_below y i) stand)))
     c.note_pointers.ensures.noted
