@@ -1,7 +1,6 @@
 -- Noting pointers and inodes one after the other.
-use Rattle.std.proofs.Common.{◌≡◌, ◌≢◌, ◌∙◌, ℕ, ◌+◌, ◌-◌, ◌<◌, ◌≤◌, Bool, true, false, cond, not, ltb, List, [], ◌∷◌, ◌++◌, length, Option, Some, None, Result, Ok, Err, inl, inr, refl, sym, ap, ap₂, subst, arith}
+use Rattle.std.proofs.Common.{◌≡◌, ◌≢◌, ◌∙◌, ℕ, ◌≤◌, Bool, true, false, cond, not, ltb, List, [], ◌∷◌, ◌++◌, length, Option, Some, None, Result, Ok, Err, inl, inr, refl, sym, ap, subst, arith}
 use Rattle.std.specs.Prelude.{is_none, is_some, IfErr, IfOk}
-use Rattle.std.specs.List.{flat_map, range_with_len}
 use Rattle.std.specs.Result.{IsErrAnd}
 use Rattle.offline.specs.Common.{addresses_in, addresses_in-append, append-nil, append_assoc, BadGeometry, BadLog, BadMagic, BadSize, BadType, CheckFault, Dinode, Disk, early_fault, Form, form_of, geometry_fault, GoesThrough, greatest_size, has_known_magic, HasNoted, Image, inode_of, inodes_faults, is_lawful_log, is_lawful_super, IsBreak, IsCause, IsRefusedFor, judged_faults, listed, log_fault, marks_faults, ne_eqb, NoMemory, NotesInode, NotesPointers, one_more, or_else, Owners, places_below, places_below_next, Pointer, pointer_fault, pointer_faults, pointers_of, recovered, Rose, Stand, super_of}
 use Rattle.model.specs.Faults.{inode_faults, faults}

@@ -1,11 +1,9 @@
 // A new image on a disk.
-ghost use Rattle.std.specs.Prelude.{◌≡◌, ◌↔◌, ◌≤◌, ◌<◌, ◌&&◌, ◌==◌, false, length, IsTrue, IsOk, OnOk, OnErr, IfErr};
-ghost use Rattle.std.specs.Result.{IsErrOf};
-ghost use Rattle.blocks.specs.Calls.{UnlessHolds, WritesOne};
-ghost use Rattle.blocks.specs.Disk.{Rose, LeavesOnly};
-ghost use Rattle.model.specs.Layout.{is_inode_count, is_size};
+ghost use Rattle.std.specs.Prelude.{◌≡◌, ◌≤◌, ◌<◌, length, OnOk, OnErr, IfErr};
+ghost use Rattle.blocks.specs.Calls.{WritesOne};
+ghost use Rattle.blocks.specs.Disk.{Rose};
 ghost use Rattle.model.specs.Codec.{made_block};
-ghost use Rattle.offline.specs.Making.{OnRefusal, OnDisk, IsMadeInPart, IsMadeInPartAs, Makes, MakesAs, MakesBehind};
+ghost use Rattle.offline.specs.Making.{Makes, MakesAs, MakesBehind, MakesInOrder, RefusesToMake};
 
 use crate::new_image::NewImage;
 use blocks::Disk;
@@ -29,11 +27,10 @@ fn write_behind<D: Disk>(disk: &mut D, image: &NewImage) -> Result<(), MkfsFault
     requires some { 2 ≤ image.now.size }
     ensures ok { OnOk result
         (MakesBehind D.Disk image.now.form image.now.size image.now.ninodes disk.old disk.new) }
-    ensures name { D.name disk.new ≡ D.name disk.old }
+    ensures writes { MakesInOrder D.Disk
+        image.now.form image.now.size image.now.ninodes disk.old disk.new }
     ensures disk { IfErr result (λ fault. fault ≡ MkfsFault.Disk) }
     ensures rose { OnErr result (Rose (D.fault_count disk.old) (D.fault_count disk.new)) }
-    ensures order { UnlessHolds D.Disk disk.old (LeavesOnly D.moment D.leaves disk.old disk.new
-        (IsMadeInPartAs image.now.form (D.image disk.old) image.now.size image.now.ninodes)) }
 {
     write_block(disk, image, 0)?;
     for b in 2..image.size {
@@ -48,11 +45,10 @@ fn write_image<D: Disk>(disk: &mut D, image: &NewImage) -> Result<(), MkfsFault>
     requires some { 2 ≤ image.now.size }
     ensures made { OnOk result
         (MakesAs D.Disk image.now.form image.now.size image.now.ninodes disk.old disk.new) }
-    ensures name { D.name disk.new ≡ D.name disk.old }
+    ensures writes { MakesInOrder D.Disk
+        image.now.form image.now.size image.now.ninodes disk.old disk.new }
     ensures disk { IfErr result (λ fault. fault ≡ MkfsFault.Disk) }
     ensures rose { OnErr result (Rose (D.fault_count disk.old) (D.fault_count disk.new)) }
-    ensures order { UnlessHolds D.Disk disk.old (LeavesOnly D.moment D.leaves disk.old disk.new
-        (IsMadeInPartAs image.now.form (D.image disk.old) image.now.size image.now.ninodes)) }
 {
     write_behind(disk, image)?;
     write_block(disk, image, 1)?;
@@ -69,20 +65,8 @@ fn write_image<D: Disk>(disk: &mut D, image: &NewImage) -> Result<(), MkfsFault>
 /// where the disk fails: what it holds then is not said, but for block 1.
 pub fn mkfs<D: Disk>(alloc: Global, disk: &mut D, size: u32, ninodes: u32) -> Result<(), MkfsFault>
     ensures made { OnOk result (Makes D.Disk size ninodes disk.old disk.new) }
-    ensures name { D.name disk.new ≡ D.name disk.old }
-
-    // When each error comes.
-    ensures inodes { IsErrOf result MkfsFault.InodeRange ↔ (is_inode_count ninodes ≡ false) }
-    ensures size { IsErrOf result MkfsFault.SizeRange
-        ↔ (IsTrue (is_inode_count ninodes)
-        × ((is_size size ninodes && (size == length (D.image disk.old))) ≡ false)) }
-    ensures disk { OnDisk result (Rose (D.fault_count disk.old) (D.fault_count disk.new)) }
-    ensures refused { OnRefusal result (disk.new ≡ disk.old) }
-
-    // A crash at any moment leaves the image after some of these writes, in this order, unless the
-    // disk holds writes back: it makes no sync.
-    ensures order { UnlessHolds D.Disk disk.old (LeavesOnly D.moment D.leaves disk.old disk.new
-        (IsMadeInPart (D.image disk.old) size ninodes)) }
+    ensures writes { MakesInOrder D.Disk Form.One size ninodes disk.old disk.new }
+    ensures refuses { RefusesToMake D.Disk size ninodes result disk.old disk.new }
 {
     mkfs_as(alloc, disk, size, ninodes, Form::One)
 }
@@ -108,20 +92,8 @@ pub fn mkfs_as<D: Disk>(
     form: Form,
 ) -> Result<(), MkfsFault>
     ensures made { OnOk result (MakesAs D.Disk form size ninodes disk.old disk.new) }
-    ensures name { D.name disk.new ≡ D.name disk.old }
-
-    // When each error comes.
-    ensures inodes { IsErrOf result MkfsFault.InodeRange ↔ (is_inode_count ninodes ≡ false) }
-    ensures size { IsErrOf result MkfsFault.SizeRange
-        ↔ (IsTrue (is_inode_count ninodes)
-        × ((is_size size ninodes && (size == length (D.image disk.old))) ≡ false)) }
-    ensures disk { OnDisk result (Rose (D.fault_count disk.old) (D.fault_count disk.new)) }
-    ensures refused { OnRefusal result (disk.new ≡ disk.old) }
-
-    // A crash at any moment leaves the image after some of these writes, in this order, unless the
-    // disk holds writes back: it makes no sync.
-    ensures order { UnlessHolds D.Disk disk.old (LeavesOnly D.moment D.leaves disk.old disk.new
-        (IsMadeInPartAs form (D.image disk.old) size ninodes)) }
+    ensures writes { MakesInOrder D.Disk form size ninodes disk.old disk.new }
+    ensures refuses { RefusesToMake D.Disk size ninodes result disk.old disk.new }
 {
     let fields = plan(size, ninodes)?;
     if disk.size() != size {

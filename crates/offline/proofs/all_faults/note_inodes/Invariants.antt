@@ -1,4 +1,4 @@
-use Rattle.std.proofs.Common.{◌≡◌, ◌⊎◌, ◌+◌, ◌-◌, ◌++◌, []}
+use Rattle.std.proofs.Common.{◌≡◌, ◌⊎◌, ◌-◌, ◌++◌, []}
 use Rattle.std.specs.List.{flat_map, range_with_len}
 use Rattle.offline.specs.Common.{block_at, inode_block, OnlyReads, places_below, recovered, SameLimits, Stand}
 use Rattle.model.specs.Faults.{inode_faults}

@@ -5,16 +5,20 @@ use Rattle.offline.specs.Making.{made_first}
 use Rattle.offline.proofs.MakingLemmas.{counted_more, has_made_more, made_first-more, made_two, order_behind, part_more, part_started}
 use Rattle.offline.proofs.making.write_behind.Goals as goal
 
-pub returns-in_err-write_block-clause-order : goal.returns-in_err-write_block-clause-order
-returns-in_err-write_block-clause-order g c = λ plain.
+pub returns-in_err-write_block-clause-writes : goal.returns-in_err-write_block-clause-writes
+returns-in_err-write_block-clause-writes g c =
     let d = g.D.Disk in
     let only_now = g.met.D.Disk.only_now in
     let image = c.args.image.now in
     let write = c.write_block.ensures.writes in
-    part_more d.image d.moment d.leaves image.form image.size image.ninodes 0 0 c.args.disk.now c.args.disk.now c.write_block.new.disk
-    (only_now c.write_block.new.disk (ap d.holding write.name ∙ plain))
-    c.requires.some (omega (arith, c.requires.some)) refl refl c.in_err-write_block.ensures.writes.err write.time
-    (part_started d.image d.moment d.leaves image.form image.size image.ninodes c.args.disk.now (only_now c.args.disk.now plain))
+    record {
+      name = write.name;
+      syncs = write.syncs;
+      order = λ plain. part_more d.image d.moment d.leaves image.form image.size image.ninodes 0 0 c.args.disk.now c.args.disk.now c.write_block.new.disk
+          (only_now c.write_block.new.disk (ap d.holding write.name ∙ plain))
+          c.requires.some (omega (arith, c.requires.some)) refl refl c.in_err-write_block.ensures.writes.err write.time
+          (part_started d.image d.moment d.leaves image.form image.size image.ninodes c.args.disk.now (only_now c.args.disk.now plain));
+    }
 
 pub loop-b-init : goal.loop-b-init
 loop-b-init g c =
@@ -27,6 +31,7 @@ loop-b-init g c =
       made = made_two image.form image.size image.ninodes old (d.image c.write_block.new.disk) c.requires.size c.requires.some write.ok;
       first = write.ok ∙ sym (made_first-more image.form image.size image.ninodes 0 0 old c.requires.some (omega (arith, c.requires.some)) refl);
       name = write.name;
+      syncs = write.syncs;
       writes = write.writes;
       faults = write.faults;
       order = λ plain. part_more d.image d.moment d.leaves image.form image.size image.ninodes 0 0 c.args.disk.now c.args.disk.now c.write_block.new.disk
@@ -35,17 +40,21 @@ loop-b-init g c =
           (part_started d.image d.moment d.leaves image.form image.size image.ninodes c.args.disk.now (only_now c.args.disk.now plain));
     }
 
-pub returns-in_err-write_block-2-clause-order : goal.returns-in_err-write_block-2-clause-order
-returns-in_err-write_block-2-clause-order g c = λ plain.
+pub returns-in_err-write_block-2-clause-writes : goal.returns-in_err-write_block-2-clause-writes
+returns-in_err-write_block-2-clause-writes g c =
     let d = g.D.Disk in
     let image = c.args.image.now in
     let b = c.loop-b.b in
     let kept = c.loop-b.invariant in
     let write = c.in_err-write_block-2.ensures.writes in
-    part_more d.image d.moment d.leaves image.form image.size image.ninodes (b - 1) b c.args.disk.now c.loop-b.disk c.write_block-in-loop-b.new.disk
-    (g.met.D.Disk.only_now c.write_block-in-loop-b.new.disk (ap d.holding (write.name ∙ kept.name) ∙ plain))
-    c.requires.some (omega (arith, c.loop-b-test.true, c.loop-b.auto.b)) (order_behind image.size b (omega (arith, c.loop-b.auto.b)) c.loop-b-test.true)
-    kept.first write.err write.time (kept.order plain)
+    record {
+      name = write.name ∙ kept.name;
+      syncs = write.syncs ∙ kept.syncs;
+      order = λ plain. part_more d.image d.moment d.leaves image.form image.size image.ninodes (b - 1) b c.args.disk.now c.loop-b.disk c.write_block-in-loop-b.new.disk
+          (g.met.D.Disk.only_now c.write_block-in-loop-b.new.disk (ap d.holding (write.name ∙ kept.name) ∙ plain))
+          c.requires.some (omega (arith, c.loop-b-test.true, c.loop-b.auto.b)) (order_behind image.size b (omega (arith, c.loop-b.auto.b)) c.loop-b-test.true)
+          kept.first write.err write.time (kept.order plain);
+    }
 
 pub loop-b-preserved : goal.loop-b-preserved
 loop-b-preserved g c =
@@ -64,6 +73,7 @@ loop-b-preserved g c =
           ∙ sym (made_first-more image.form image.size image.ninodes (b - 1) b old c.requires.some (omega (arith, c.loop-b-test.true, c.loop-b.auto.b)) place)
           ∙ ap (λ (k : ℕ). made_first image.form image.size image.ninodes k old) next;
       name = write.name ∙ kept.name;
+      syncs = write.syncs ∙ kept.syncs;
       writes = write.writes ∙ ap one_more kept.writes ∙ counted_more (d.write_count c.args.disk.now) b (omega (arith, c.loop-b.auto.b));
       faults = write.faults ∙ kept.faults;
       order = λ plain. part_more d.image d.moment d.leaves image.form image.size image.ninodes (b - 1) b c.args.disk.now c.loop-b.disk c.write_block-in-loop-b.new.disk

@@ -1,4 +1,4 @@
-use Rattle.std.proofs.Common.{◌≡◌, ℕ, List, drop}
+use Rattle.std.proofs.Common.{ℕ, List, drop}
 use Rattle.offline.specs.Common.{Image, SameLimits, Stand}
 use Rattle.offline.proofs.NoteLemmas.{IsNoting}
 use Rattle.offline.proofs.notes.note_list.Given as goal

@@ -1,4 +1,4 @@
-use Rattle.std.proofs.Common.{◌≡◌, sym}
+use Rattle.std.proofs.Common.{sym}
 use Rattle.offline.specs.Common.{append-nil, on_ok_weaker}
 use Rattle.offline.proofs.NoteLemmas.{noted_one}
 use Rattle.offline.proofs.notes.note_pointer.Goals as goal

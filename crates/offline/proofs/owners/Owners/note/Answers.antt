@@ -1,4 +1,4 @@
-use Rattle.std.proofs.Common.{◌≡◌, ◌∙◌, ◌++◌, List, ℕ, sym, subst}
+use Rattle.std.proofs.Common.{◌∙◌, ◌++◌, List, ℕ, sym, subst}
 use Rattle.offline.specs.Common.{Owners, pointer_fault, Stand}
 use Rattle.offline.proofs.OwnersLemmas.{or_none, there_is}
 use Rattle.offline.proofs.owners.Owners.note.Goals as goal

@@ -1,5 +1,5 @@
 use Rattle.std.proofs.Common.{◌≡◌, ◌≢◌, ◌∙◌, ℕ, [], ap, sym, subst}
-use Rattle.offline.specs.Common.{block_at, get_or_from_slice_get, logged_count, recovered, recovered_at, recovered_block-header, recovered_empty}
+use Rattle.offline.specs.Common.{block_at, get_or_from_slice_get, logged_count, recovered_at, recovered_block-header, recovered_empty}
 use Rattle.offline.proofs.CheckLemmas.{overwritten_by_zeroes}
 use Rattle.offline.proofs.recovered.Recovered.any_block.Goals as goal
 

@@ -1,5 +1,5 @@
-use Rattle.std.proofs.Common.{◌≡◌, ap, arith}
-use Rattle.offline.specs.Common.{inode_count_of, lawful_geometry, Super}
+use Rattle.std.proofs.Common.{ap, arith}
+use Rattle.offline.specs.Common.{lawful_geometry, Super}
 use Rattle.offline.proofs.recovered.Recovered.inode.Goals as goal
 
 pub block-requires-clause-inside : goal.block-requires-clause-inside
