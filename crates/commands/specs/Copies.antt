@@ -105,6 +105,12 @@ pub record HasNotCopied {F N : Type 0} (remaining : F → Option (List ℕ))
   pub reads : OnlyReads disk opened read
   pub why : HasNotFilled disk (size_asked size (disk.image opened)) read left cause
 
+-- a path is to blame
+abbrev pub IsOfPath : CopyRefusal → Type 0
+IsOfPath (File fault) = ⊤
+IsOfPath Exists = ⊤
+IsOfPath refusal = ⊥
+
 -- no file was made at the new path, for this reason; or one was, and no copy in it
 abbrev pub IsUnmade : {F N : Type 0} → Ghosts (FileDisk F) N → ℕ → FileDisk F → FileDisk F
     → CopyRefusal → Type 0

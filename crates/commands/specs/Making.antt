@@ -6,6 +6,7 @@ use Rattle.blocks.specs.declared.disk.Disk.{Ghosts}
 use Rattle.blocks.specs.declared.file.FileDisk.{FileDisk}
 use Rattle.cmd.specs.declared.files.OnFile.{OnFile}
 use Rattle.cmd.specs.declared.files.OnFile.TheVariants.{File, Of}
+use Rattle.commands.specs.declared.making.Making.{Making}
 use Rattle.layout.specs.declared.geometry.MkfsFault.{MkfsFault}
 use Rattle.layout.specs.declared.geometry.MkfsFault.TheVariants.{SizeRange, InodeRange, Disk, NoMemory}
 use Rattle.messages.specs.Output.{numbers_text}
@@ -39,6 +40,10 @@ pub record HasMadeIn {F N : Type 0} (disk : Ghosts (FileDisk F) N) (form : Form)
   pub created : FileDisk F
   pub zeroes : disk.image created ≡ replicate size zero_block
   pub filled : IsFilledWith disk form size inode_count sync created fields
+
+abbrev pub HasMadeAs : {F N : Type 0} → Ghosts (FileDisk F) N → Making → Super → Type 0
+HasMadeAs disk making fields =
+    HasMadeIn disk making.form making.size making.ninodes making.sync fields
 
 -- and its numbers were printed
 pub record IsMade {F N : Type 0} (disk : Ghosts (FileDisk F) N) (form : Form)

@@ -16,23 +16,22 @@ ghost use Rattle.commands.specs.Copies.{
 
 use crate::holding::Holder;
 use crate::refused::CopyRefusal;
-use blocks::{Disk, FileDisk, FileFault};
+use crate::targets::{Target, ensure_free, remove_refused};
+use blocks::{Disk, FileDisk};
 use cmd::{Command, open_to_look};
 use layout::plan;
 use messages::{Meter, print_files};
 use model::types::Form;
 use offline::check;
 use std::alloc::Global;
-use std::fs::{exists, remove_file};
 use std::io::Write;
 use std::rt::Files;
 use transfer::{CopyFault, copy};
 
-/// Copies the image in the file at the path `old` into a new one, in a new file at the path `new`, as
-/// `transfer::copy`, and prints how many files it has. The new image has `size` blocks, as many as the
-/// old one where none is given.
+/// Copies the image in the file at the path `old` into a new file, as `transfer::copy`, and prints how
+/// many files it has. The new image has `size` blocks, as many as the old one where none is given.
 ///
-/// It is refused for the first of these. `Exists` where there is a file at the path `new`; `File`
+/// It is refused for the first of these. `Exists` where there is a file at the target's path; `File`
 /// with a fault of `open_to_look` over the old one; `Of` with `Old` and a fault of the old image,
 /// with `NotFirst`, or with `Mkfs` and `SizeRange`: with these no file was made. A fault of
 /// `Holder::hold_new`, where `Exists` and `Locked` are told as above; one of `FileDisk::create`, and then
@@ -41,144 +40,101 @@ use transfer::{CopyFault, copy};
 pub struct Copy<'a, P, H> {
     /// The path of the old image.
     pub old: &'a str,
-    /// The path of the new one.
-    pub new: &'a str,
     /// How many blocks the new one has.
     pub size: Option<u32>,
-    /// Whether it is synced at the end.
-    pub sync: bool,
-    /// Who is told how far the copy is.
-    pub progress: P,
-    /// Who holds the new file.
-    pub holder: H,
+    /// Where it is made.
+    pub target: Target<'a, P, H>,
 }
 
-impl<'a, R, P, H> Command<R> for Copy<'a, P, H>
-where
-    R: Files + AllocGlobal,
-    P: Meter + Drop,
-    H: Holder + Drop,
-{
+impl<'a, R: Files + AllocGlobal, P: Meter + Drop, H: Holder + Drop> Command<R> for Copy<'a, P, H> {
     type Refusal = CopyRefusal;
 
-    ghost done = { λ copy. HasCopied R.File.remaining file_disk copy.size copy.sync };
+    ghost done = { λ copy. HasCopied R.File.remaining file_disk copy.size copy.target.sync };
 
     ghost refused = { λ copy old new.
-        OnCopyRefusal R.File.remaining file_disk copy.size copy.sync };
+        OnCopyRefusal R.File.remaining file_disk copy.size copy.target.sync };
 
     fn run<O: Write>(self, rt: &R, out: &mut O) -> Result<(), CopyRefusal> {
-        let mut progress = self.progress;
-        let mut holder = self.holder;
-        copy_files(
-            rt,
-            self.old,
-            self.new,
-            self.size,
-            self.sync,
-            &mut progress,
-            &mut holder,
-            out,
-        )
+        let mut target = self.target;
+        copy_files(rt, self.old, self.size, &mut target, out)
     }
 }
 
-fn copy_files<R: Files + AllocGlobal, O: Write, P: Meter, H: Holder>(
+fn copy_files<'a, R: Files + AllocGlobal, O: Write, P: Meter, H: Holder>(
     rt: &R,
     old: &str,
-    new: &str,
     size: Option<u32>,
-    sync: bool,
-    progress: &mut P,
-    holder: &mut H,
+    target: &mut Target<'a, P, H>,
     out: &mut O,
 ) -> Result<(), CopyRefusal>
-    ensures copied { OnOk result (HasCopied R.File.remaining ⟦<FileDisk<R::File> as Disk>⟧ size
-        sync (O.contents out.old) (O.contents out.new)) }
-    ensures refused { IfErr result (OnCopyRefusal R.File.remaining
-        ⟦<FileDisk<R::File> as Disk>⟧ size sync (out.new ≡ out.old)) }
+    ensures copied { OnOk result (HasCopied R.File.remaining file_disk size target.old.sync
+        (O.contents out.old) (O.contents out.new)) }
+    ensures refused { IfErr result
+        (OnCopyRefusal R.File.remaining file_disk size target.old.sync (out.new ≡ out.old)) }
 {
-    if matches!(exists(rt, new), Ok(true)) {
-        return Err(CopyRefusal::Exists);
-    }
+    ensure_free(rt, target.path)?;
     let mut disk = open_to_look(rt, old)?;
-    copy_from(rt, &mut disk, new, size, sync, progress, holder, out)
+    copy_from(rt, &mut disk, size, target, out)
 }
 
-// Copies the image on a disk that was opened into a new file at the path. The disk is lent, so that
-// the proof doesn't repeat its type at each exit.
-fn copy_from<R: Files + AllocGlobal, O: Write, P: Meter, H: Holder>(
+// Copies the image on a disk that was opened into a new file. The disk is lent, so that the proof
+// doesn't repeat its type at each exit.
+fn copy_from<'a, R: Files + AllocGlobal, O: Write, P: Meter, H: Holder>(
     rt: &R,
     disk: &mut FileDisk<R::File>,
-    new: &str,
     size: Option<u32>,
-    sync: bool,
-    progress: &mut P,
-    holder: &mut H,
+    target: &mut Target<'a, P, H>,
     out: &mut O,
 ) -> Result<(), CopyRefusal>
-    requires { IsOpened R.File.remaining ⟦<FileDisk<R::File> as Disk>⟧ false disk.old }
-    ensures copied { OnOk result (HasCopied R.File.remaining ⟦<FileDisk<R::File> as Disk>⟧ size
-        sync (O.contents out.old) (O.contents out.new)) }
-    ensures refused { IfErr result (OnCopyRefusal R.File.remaining
-        ⟦<FileDisk<R::File> as Disk>⟧ size sync (out.new ≡ out.old)) }
+    requires { IsOpened R.File.remaining file_disk false disk.old }
+    ensures copied { OnOk result (HasCopied R.File.remaining file_disk size target.old.sync
+        (O.contents out.old) (O.contents out.new)) }
+    ensures refused { IfErr result
+        (OnCopyRefusal R.File.remaining file_disk size target.old.sync (out.new ≡ out.old)) }
 {
     let size = plan_copy(rt.alloc(), disk, size)?;
-    let files = make_copy(rt, disk, new, size, sync, progress, holder)?;
+    let files = make_copy(rt, disk, size, target)?;
     match print_files(out, files) {
         Ok(()) => Ok(()),
         Err(_) => Err(CopyRefusal::Output),
     }
 }
 
-// Copies the image on a disk into a new file at the path, with so many blocks. How many files it has.
-fn make_copy<R: Files + AllocGlobal, P: Meter, H: Holder>(
+// Copies the image on a disk into a new file, with so many blocks. How many files it has.
+fn make_copy<'a, R: Files + AllocGlobal, P: Meter, H: Holder>(
     rt: &R,
     disk: &mut FileDisk<R::File>,
-    new: &str,
     size: u32,
-    sync: bool,
-    progress: &mut P,
-    holder: &mut H,
+    target: &mut Target<'a, P, H>,
 ) -> Result<u32, CopyRefusal>
-    ensures filled { IfOk result
-        (HasFilled ⟦<FileDisk<R::File> as Disk>⟧ size sync disk.old) }
-    ensures refused { IfErr result
-        (IsUnmade ⟦<FileDisk<R::File> as Disk>⟧ size disk.old disk.new) }
+    ensures filled { IfOk result (HasFilled file_disk size target.old.sync disk.old) }
+    ensures refused { IfErr result (IsUnmade file_disk size disk.old disk.new) }
 {
-    match holder.hold_new(new) {
-        Ok(()) => {
-            let copied = fill_file(rt, disk, new, size, sync, progress);
-            remove_refused(rt, new, &copied);
-            copied
-        }
-        Err(FileFault::Exists | FileFault::Locked) => Err(CopyRefusal::Exists),
-        Err(fault) => Err(CopyRefusal::File(fault)),
-    }
+    target.hold()?;
+    let copied = fill_file(rt, disk, size, target);
+    remove_refused(rt, target.path, &copied);
+    copied
 }
 
-// Takes the file at the path away where no copy was made in it.
-pub(crate) fn remove_refused<R: Files, T>(rt: &R, path: &str, copied: &Result<T, CopyRefusal>) {
-    if copied.is_err() {
-        let _gone = remove_file(rt, path);
-    }
-}
-
-// Copies the image on a disk into the file at the path, which is held.
-fn fill_file<R: Files + AllocGlobal, P: Meter>(
+// Copies the image on a disk into the file, which is held.
+fn fill_file<'a, R: Files + AllocGlobal, P: Meter, H>(
     rt: &R,
     disk: &mut FileDisk<R::File>,
-    new: &str,
     size: u32,
-    sync: bool,
-    progress: &mut P,
+    target: &mut Target<'a, P, H>,
 ) -> Result<u32, CopyRefusal>
-    ensures filled { IfOk result
-        (HasFilled ⟦<FileDisk<R::File> as Disk>⟧ size sync disk.old) }
-    ensures refused { IfErr result
-        (IsUnmade ⟦<FileDisk<R::File> as Disk>⟧ size disk.old disk.new) }
+    ensures filled { IfOk result (HasFilled file_disk size target.old.sync disk.old) }
+    ensures refused { IfErr result (IsUnmade file_disk size disk.old disk.new) }
 {
-    match FileDisk::create(rt, new, size) {
-        Ok(created) => match fill(rt.alloc(), disk, created, size, sync, progress) {
+    match FileDisk::create(rt, target.path, size) {
+        Ok(new) => match fill(
+            rt.alloc(),
+            disk,
+            new,
+            size,
+            target.sync,
+            &mut target.progress,
+        ) {
             Ok(files) => Ok(files),
             Err(fault) => Err(CopyRefusal::Of(fault)),
         },

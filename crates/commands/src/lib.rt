@@ -12,6 +12,7 @@ mod puts;
 mod refused;
 mod rescues;
 mod runs;
+mod targets;
 
 pub use copies::Copy;
 pub use holding::Holder;
@@ -21,3 +22,4 @@ pub use puts::Put;
 pub use refused::{CopyRefusal, PutFileRefusal, ReadFault};
 pub use rescues::Rescue;
 pub use runs::{ReplayFilesRefusal, RunFilesRefusal, replay_files, run_files};
+pub use targets::Target;

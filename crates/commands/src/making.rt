@@ -9,7 +9,7 @@ ghost use Rattle.offline.specs.Making.{MakesAs};
 ghost use Rattle.player.specs.Causes.{IsUnmade};
 ghost use Rattle.player.specs.Looks.{EndsSynced};
 ghost use Rattle.commands.specs.Making.{
-  HasMadeIn,
+  HasMadeAs,
   IsFilledWith,
   IsMade,
   IsNotFilledWith,
@@ -19,6 +19,7 @@ ghost use Rattle.commands.specs.Making.{
 };
 
 use crate::holding::Holder;
+use crate::targets::remove_refused;
 use blocks::{Disk, FileDisk, FileFault};
 use cmd::{Command, OnFile};
 use layout::{MkfsFault, Super, plan};
@@ -125,8 +126,7 @@ fn make_image<R: Files + AllocGlobal, H: Holder>(
     holder: &mut H,
 ) -> Result<Super, OnFile<MkfsFault>>
     requires { IsPlan making.size making.ninodes }
-    ensures made { IfOk result (HasMadeIn ⟦<FileDisk<R::File> as Disk>⟧ making.form making.size
-        making.ninodes making.sync) }
+    ensures made { IfOk result (HasMadeAs ⟦<FileDisk<R::File> as Disk>⟧ making) }
     ensures refused { IfErr result IsNotMadeIn }
 {
     match home_of(rt, image) {
@@ -191,8 +191,7 @@ fn make_there<R: Files + AllocGlobal>(
     making: Making,
 ) -> Result<Super, OnFile<MkfsFault>>
     requires { IsPlan making.size making.ninodes }
-    ensures made { IfOk result (HasMadeIn ⟦<FileDisk<R::File> as Disk>⟧ making.form making.size
-        making.ninodes making.sync) }
+    ensures made { IfOk result (HasMadeAs ⟦<FileDisk<R::File> as Disk>⟧ making) }
     ensures refused { IfErr result IsNotMadeIn }
 {
     match FileDisk::create(rt, path, making.size) {
@@ -214,8 +213,7 @@ fn make_beside<R: Files + AllocGlobal, H: Holder>(
     holder: &mut H,
 ) -> Result<Super, OnFile<MkfsFault>>
     requires { IsPlan making.size making.ninodes }
-    ensures made { IfOk result (HasMadeIn ⟦<FileDisk<R::File> as Disk>⟧ making.form making.size
-        making.ninodes making.sync) }
+    ensures made { IfOk result (HasMadeAs ⟦<FileDisk<R::File> as Disk>⟧ making) }
     ensures refused { IfErr result IsNotMadeIn }
 {
     if let Err(fault) = holder.hold_left(path) {
@@ -224,13 +222,6 @@ fn make_beside<R: Files + AllocGlobal, H: Holder>(
     let made = make_held(rt, path, home, making, holder);
     remove_refused(rt, path, &made);
     made
-}
-
-// Takes the file at the path away where no image was made in it.
-fn remove_refused<R: Files>(rt: &R, path: &str, made: &Result<Super, OnFile<MkfsFault>>) {
-    if made.is_err() {
-        let _gone = remove_file(rt, path);
-    }
 }
 
 // Makes an image in a file at the path that is held, and gives that the name `home`.
@@ -242,8 +233,7 @@ fn make_held<R: Files + AllocGlobal, H: Holder>(
     holder: &mut H,
 ) -> Result<Super, OnFile<MkfsFault>>
     requires { IsPlan making.size making.ninodes }
-    ensures made { IfOk result (HasMadeIn ⟦<FileDisk<R::File> as Disk>⟧ making.form making.size
-        making.ninodes making.sync) }
+    ensures made { IfOk result (HasMadeAs ⟦<FileDisk<R::File> as Disk>⟧ making) }
     ensures refused { IfErr result IsNotMadeIn }
 {
     let is_old = match holder.hold_there(home) {

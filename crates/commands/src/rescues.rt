@@ -13,22 +13,20 @@ ghost use Rattle.commands.specs.Rescues.{
 };
 ghost use Rattle.transfer.specs.Rescues.{IsUnopened};
 
-use crate::copies::remove_refused;
 use crate::holding::Holder;
 use crate::refused::CopyRefusal;
-use blocks::{Block, Disk, FileDisk, FileFault};
+use crate::targets::{Target, ensure_free, remove_refused};
+use blocks::{Block, Disk, FileDisk};
 use cmd::{Command, open_to_look};
 use messages::{Meter, print_rescued};
 use offline::Recovered;
 use std::alloc::Global;
-use std::fs::exists;
 use std::io::Write;
 use std::rt::Files;
 use transfer::{CopyFault, Rescued, rescue};
 
 /// Copies the clean files of the image in the file at the path `old` into a new image of as many
-/// blocks, in a new file at the path `new`, as `transfer::rescue`, and prints the numbers of these and
-/// of those left out.
+/// blocks, in a new file, as `transfer::rescue`, and prints the numbers of these and of those left out.
 ///
 /// It is refused as `Copy` is, but that of the old image only superblock and log have to be lawful. With
 /// a fault of these no file was made.
@@ -36,130 +34,89 @@ use transfer::{CopyFault, Rescued, rescue};
 pub struct Rescue<'a, P, H> {
     /// The path of the old image.
     pub old: &'a str,
-    /// The path of the new one.
-    pub new: &'a str,
-    /// Whether it is synced at the end.
-    pub sync: bool,
-    /// Who is told how far the rescue is.
-    pub progress: P,
-    /// Who holds the new file.
-    pub holder: H,
+    /// Where the new one is made.
+    pub target: Target<'a, P, H>,
 }
 
-impl<'a, R, P, H> Command<R> for Rescue<'a, P, H>
-where
-    R: Files + AllocGlobal,
-    P: Meter + Drop,
-    H: Holder + Drop,
-{
+impl<'a, R: Files + AllocGlobal, P: Meter + Drop, H: Holder + Drop> Command<R>
+    for Rescue<'a, P, H> {
     type Refusal = CopyRefusal;
 
-    ghost done = { λ rescue. HasRescued R.File.remaining file_disk rescue.sync };
+    ghost done = { λ rescue. HasRescued R.File.remaining file_disk rescue.target.sync };
 
     ghost refused = { λ rescue old new.
-        OnRescueRefusal R.File.remaining file_disk rescue.sync };
+        OnRescueRefusal R.File.remaining file_disk rescue.target.sync };
 
     fn run<O: Write>(self, rt: &R, out: &mut O) -> Result<(), CopyRefusal> {
-        let mut progress = self.progress;
-        let mut holder = self.holder;
-        rescue_files(
-            rt,
-            self.old,
-            self.new,
-            self.sync,
-            &mut progress,
-            &mut holder,
-            out,
-        )
+        let mut target = self.target;
+        rescue_files(rt, self.old, &mut target, out)
     }
 }
 
-fn rescue_files<R: Files + AllocGlobal, O: Write, P: Meter, H: Holder>(
+fn rescue_files<'a, R: Files + AllocGlobal, O: Write, P: Meter, H: Holder>(
     rt: &R,
     old: &str,
-    new: &str,
-    sync: bool,
-    progress: &mut P,
-    holder: &mut H,
+    target: &mut Target<'a, P, H>,
     out: &mut O,
 ) -> Result<(), CopyRefusal>
-    ensures rescued { OnOk result (HasRescued R.File.remaining ⟦<FileDisk<R::File> as Disk>⟧
-        sync (O.contents out.old) (O.contents out.new)) }
-    ensures refused { IfErr result (OnRescueRefusal R.File.remaining
-        ⟦<FileDisk<R::File> as Disk>⟧ sync (out.new ≡ out.old)) }
+    ensures rescued { OnOk result (HasRescued R.File.remaining file_disk target.old.sync
+        (O.contents out.old) (O.contents out.new)) }
+    ensures refused { IfErr result
+        (OnRescueRefusal R.File.remaining file_disk target.old.sync (out.new ≡ out.old)) }
 {
-    if matches!(exists(rt, new), Ok(true)) {
-        return Err(CopyRefusal::Exists);
-    }
+    ensure_free(rt, target.path)?;
     let mut disk = open_to_look(rt, old)?;
-    rescue_from(rt, &mut disk, new, sync, progress, holder, out)
+    rescue_from(rt, &mut disk, target, out)
 }
 
-// Rescues the files of the image on a disk that was opened into a new file at the path. The disk is
-// lent, so that the proof doesn't repeat its type at each exit.
-fn rescue_from<R: Files + AllocGlobal, O: Write, P: Meter, H: Holder>(
+// Rescues the files of the image on a disk that was opened into a new file. The disk is lent, so that
+// the proof doesn't repeat its type at each exit.
+fn rescue_from<'a, R: Files + AllocGlobal, O: Write, P: Meter, H: Holder>(
     rt: &R,
     disk: &mut FileDisk<R::File>,
-    new: &str,
-    sync: bool,
-    progress: &mut P,
-    holder: &mut H,
+    target: &mut Target<'a, P, H>,
     out: &mut O,
 ) -> Result<(), CopyRefusal>
-    requires { IsOpened R.File.remaining ⟦<FileDisk<R::File> as Disk>⟧ false disk.old }
-    ensures rescued { OnOk result (HasRescued R.File.remaining ⟦<FileDisk<R::File> as Disk>⟧
-        sync (O.contents out.old) (O.contents out.new)) }
-    ensures refused { IfErr result (OnRescueRefusal R.File.remaining
-        ⟦<FileDisk<R::File> as Disk>⟧ sync (out.new ≡ out.old)) }
+    requires { IsOpened R.File.remaining file_disk false disk.old }
+    ensures rescued { OnOk result (HasRescued R.File.remaining file_disk target.old.sync
+        (O.contents out.old) (O.contents out.new)) }
+    ensures refused { IfErr result
+        (OnRescueRefusal R.File.remaining file_disk target.old.sync (out.new ≡ out.old)) }
 {
     plan_rescue(rt.alloc(), disk)?;
-    let told = make_rescue(rt, disk, new, sync, progress, holder)?;
+    let told = make_rescue(rt, disk, target)?;
     match print_rescued(out, told.clean.as_slice(), told.left.as_slice()) {
         Ok(()) => Ok(()),
         Err(_) => Err(CopyRefusal::Output),
     }
 }
 
-// Rescues the files of the image on a disk into a new file at the path.
-fn make_rescue<R: Files + AllocGlobal, P: Meter, H: Holder>(
+// Rescues the files of the image on a disk into a new file.
+fn make_rescue<'a, R: Files + AllocGlobal, P: Meter, H: Holder>(
     rt: &R,
     disk: &mut FileDisk<R::File>,
-    new: &str,
-    sync: bool,
-    progress: &mut P,
-    holder: &mut H,
+    target: &mut Target<'a, P, H>,
 ) -> Result<Rescued, CopyRefusal>
-    ensures filled { IfOk result
-        (HasFilledRescue ⟦<FileDisk<R::File> as Disk>⟧ sync disk.old) }
-    ensures refused { IfErr result
-        (IsUnmadeRescue ⟦<FileDisk<R::File> as Disk>⟧ disk.old disk.new) }
+    ensures filled { IfOk result (HasFilledRescue file_disk target.old.sync disk.old) }
+    ensures refused { IfErr result (IsUnmadeRescue file_disk disk.old disk.new) }
 {
-    match holder.hold_new(new) {
-        Ok(()) => {
-            let rescued = fill_file(rt, disk, new, sync, progress);
-            remove_refused(rt, new, &rescued);
-            rescued
-        }
-        Err(FileFault::Exists | FileFault::Locked) => Err(CopyRefusal::Exists),
-        Err(fault) => Err(CopyRefusal::File(fault)),
-    }
+    target.hold()?;
+    let rescued = fill_file(rt, disk, target);
+    remove_refused(rt, target.path, &rescued);
+    rescued
 }
 
-// Rescues the files of the image on a disk into the file at the path, which is held.
-fn fill_file<R: Files + AllocGlobal, P: Meter>(
+// Rescues the files of the image on a disk into the file, which is held.
+fn fill_file<'a, R: Files + AllocGlobal, P: Meter, H>(
     rt: &R,
     disk: &mut FileDisk<R::File>,
-    new: &str,
-    sync: bool,
-    progress: &mut P,
+    target: &mut Target<'a, P, H>,
 ) -> Result<Rescued, CopyRefusal>
-    ensures filled { IfOk result
-        (HasFilledRescue ⟦<FileDisk<R::File> as Disk>⟧ sync disk.old) }
-    ensures refused { IfErr result
-        (IsUnmadeRescue ⟦<FileDisk<R::File> as Disk>⟧ disk.old disk.new) }
+    ensures filled { IfOk result (HasFilledRescue file_disk target.old.sync disk.old) }
+    ensures refused { IfErr result (IsUnmadeRescue file_disk disk.old disk.new) }
 {
-    match FileDisk::create(rt, new, disk.size()) {
-        Ok(created) => match fill(rt.alloc(), disk, created, sync, progress) {
+    match FileDisk::create(rt, target.path, disk.size()) {
+        Ok(new) => match fill(rt.alloc(), disk, new, target.sync, &mut target.progress) {
             Ok(told) => Ok(told),
             Err(fault) => Err(CopyRefusal::Of(fault)),
         },

@@ -24,7 +24,7 @@ use arrayvec::ArrayVec;
 use blocks::{Disk, FaultyDisk, FileDisk};
 use cli::{Asked, Explanation, Request, parse};
 use cmd::{Access, OverFile, end, perform};
-use commands::{Copy, Making, Mkfs, Put, Rescue, replay_files, run_files};
+use commands::{Copy, Making, Mkfs, Put, Rescue, Target, replay_files, run_files};
 use inspect::{Df, Ls, Show};
 use messages::print_last;
 use model::types::Form;
@@ -69,6 +69,23 @@ where
     match parse(rt.alloc(), words) {
         Ok(asked) => dispatch_alone(rt, asked, out, err),
         Err(explanation) => explain(explanation, out, err),
+    }
+}
+
+// The new file at a path, with who tells how far its image is, and who holds it.
+fn target_at<'a, R: Clock + Screen + Locks>(
+    rt: &'a R,
+    path: &'a str,
+    sync: bool,
+    wait: bool,
+) -> Target<'a, TerminalMeter<'a, R>, Keeper<'a, R>>
+    ensures { result.sync ≡ sync }
+{
+    Target {
+        path,
+        sync,
+        progress: TerminalMeter::new(rt),
+        holder: Keeper::new(rt, wait),
     }
 }
 
@@ -217,35 +234,12 @@ where
             size,
             no_sync,
         } => {
-            let progress = TerminalMeter::new(rt);
-            perform(
-                rt,
-                Copy {
-                    old,
-                    new,
-                    size,
-                    sync: !no_sync,
-                    progress,
-                    holder: Keeper::new(rt, wait),
-                },
-                out,
-                err,
-            )
+            let target = target_at(rt, new, !no_sync, wait);
+            perform(rt, Copy { old, size, target }, out, err)
         }
         Request::Rescue { old, new, no_sync } => {
-            let progress = TerminalMeter::new(rt);
-            perform(
-                rt,
-                Rescue {
-                    old,
-                    new,
-                    sync: !no_sync,
-                    progress,
-                    holder: Keeper::new(rt, wait),
-                },
-                out,
-                err,
-            )
+            let target = target_at(rt, new, !no_sync, wait);
+            perform(rt, Rescue { old, target }, out, err)
         }
         Request::Replay {
             image,

@@ -19,15 +19,15 @@ returns-in_err-size-clause-refused g c =
 
 pub returns-in_err-files-clause-refused : goal.returns-in_err-files-clause-refused
 returns-in_err-files-clause-refused g c =
-    let told = uncopied g.R.File.Read.remaining file_disk c.args.size c.in_ok-size.size c.args.disk.now c.plan_copy.new.disk c.make_copy.new.disk _ c.requires c.plan_copy.ensures.reads c.in_ok-size.ensures.planned.asked refl c.args.sync c.in_err-files.field-0.0 c.in_err-files.ensures.refused in
+    let told = uncopied g.R.File.Read.remaining file_disk c.args.size c.in_ok-size.size c.args.disk.now c.plan_copy.new.disk c.make_copy.new.disk _ c.requires c.plan_copy.ensures.reads c.in_ok-size.ensures.planned.asked refl c.args.target.now.sync c.in_err-files.field-0.0 c.in_err-files.ensures.refused in
     let p = err_from_is_err_and c.from_residual-in_err-files.result c.from_residual-in_err-files.ensures.1 in
     rw (p.1, p.2) told
 
 pub returns-in-Ok-clause-copied : goal.returns-in-Ok-clause-copied
 returns-in-Ok-clause-copied g c =
-    let made = has_made g.R.File.Read.remaining file_disk c.args.size c.args.sync c.in_ok-size.size c.in_ok-files.files c.args.disk.now c.plan_copy.new.disk c.requires c.plan_copy.ensures.reads c.in_ok-size.ensures.planned.asked c.in_ok-files.ensures.filled in
+    let made = has_made g.R.File.Read.remaining file_disk c.args.size c.args.target.now.sync c.in_ok-size.size c.in_ok-files.files c.args.disk.now c.plan_copy.new.disk c.requires c.plan_copy.ensures.reads c.in_ok-size.ensures.planned.asked c.in_ok-files.ensures.filled in
     record { count = c.in_ok-files.files; made = made; printed = c.in-Ok.ensures.ok }
 
 pub returns-in-Err-clause-refused : goal.returns-in-Err-clause-refused
 returns-in-Err-clause-refused g c =
-    (c.in_ok-files.files, has_made g.R.File.Read.remaining file_disk c.args.size c.args.sync c.in_ok-size.size c.in_ok-files.files c.args.disk.now c.plan_copy.new.disk c.requires c.plan_copy.ensures.reads c.in_ok-size.ensures.planned.asked c.in_ok-files.ensures.filled)
+    (c.in_ok-files.files, has_made g.R.File.Read.remaining file_disk c.args.size c.args.target.now.sync c.in_ok-size.size c.in_ok-files.files c.args.disk.now c.plan_copy.new.disk c.requires c.plan_copy.ensures.reads c.in_ok-size.ensures.planned.asked c.in_ok-files.ensures.filled)

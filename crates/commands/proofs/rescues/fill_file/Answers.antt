@@ -4,14 +4,14 @@ use Rattle.commands.proofs.rescues.fill_file.Goals as goal
 
 pub returns-in-Ok-fill-clause-filled : goal.returns-in-Ok-fill-clause-filled
 returns-in-Ok-fill-clause-filled g c = record {
-  created = c.in-Ok.created;
+  created = c.in-Ok.new;
   zeroes = c.in-Ok.ensures.made.image ∙ ap (λ (n : ℕ). replicate n zero_block) c.size.ensures;
   filled = c.in-Ok-fill.ensures.filled;
 }
 
 pub returns-in-Err-fill-clause-refused : goal.returns-in-Err-fill-clause-refused
 returns-in-Err-fill-clause-refused g c = record {
-  created = c.in-Ok.created;
+  created = c.in-Ok.new;
   zeroes = c.in-Ok.ensures.made.image ∙ ap (λ (n : ℕ). replicate n zero_block) c.size.ensures;
   unfilled = c.in-Err-fill.ensures.refused;
 }

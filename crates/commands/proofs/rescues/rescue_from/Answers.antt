@@ -22,13 +22,13 @@ returns-in_err-plan_rescue-clause-refused g c =
 
 pub returns-in_err-told-clause-refused : goal.returns-in_err-told-clause-refused
 returns-in_err-told-clause-refused g c =
-    let told = unrescued g.R.File.Read.remaining file_disk c.args.disk.now c.plan_rescue.new.disk c.make_rescue.new.disk _ c.requires c.plan_rescue.ensures.reads refl c.args.sync c.in_err-told.field-0.0 c.in_err-told.ensures.refused in
+    let told = unrescued g.R.File.Read.remaining file_disk c.args.disk.now c.plan_rescue.new.disk c.make_rescue.new.disk _ c.requires c.plan_rescue.ensures.reads refl c.args.target.now.sync c.in_err-told.field-0.0 c.in_err-told.ensures.refused in
     let p = err_from_is_err_and c.from_residual-in_err-told.result c.from_residual-in_err-told.ensures.1 in
     rw (p.1, p.2) told
 
 -- what is known of a rescue that was made
 module _ (g : Over) (c : After-print_rescued g) where
-  made : HasMadeRescue g.R.File.Read.remaining file_disk c.args.sync c.in_ok-told.told
+  made : HasMadeRescue g.R.File.Read.remaining file_disk c.args.target.now.sync c.in_ok-told.told
   made = record {
     opened = c.args.disk.now;
     read = c.plan_rescue.new.disk;
