@@ -1,6 +1,10 @@
-use Rattle.std.proofs.Common.{subst, sym}
+use Rattle.std.proofs.Common.{Bool, subst, sym}
 use Rattle.std.specs.Prelude.{◌≡◌, not}
+use Rattle.cmd.specs.Lemmas.Disks.{file_disk}
+use Rattle.commands.specs.Copies.{HasCopied, OnCopyRefusal}
 use Rattle.commands.specs.Making.{IsMade}
+use Rattle.commands.specs.Rescues.{HasRescued, OnRescueRefusal}
+use Rattle.commands.specs.declared.refused.CopyRefusal.{CopyRefusal}
 use Rattle.xvfs.specs.Requests.{Answers, OnRefused}
 use Rattle.xvfs.proofs.Disks.{seen_by}
 use Rattle.xvfs.proofs.Dispatch.{was_done, was_refused}
@@ -35,20 +39,24 @@ returns-in-Put-clause-refused g c =
 pub returns-in-Copy-clause-done : goal.returns-in-Copy-clause-done
 returns-in-Copy-clause-done g c =
     let file = seen_by g.R.File.Read.remaining in
-    λ done. subst (λ request. Answers file request (g.O.Write.contents c.args.out.now) (g.O.Write.contents c.perform-in-Copy.new.out)) (sym c.in-Copy.is) (c.perform-in-Copy.ensures.done done)
+    λ done. subst (λ request. Answers file request (g.O.Write.contents c.args.out.now) (g.O.Write.contents c.perform-in-Copy.new.out)) (sym c.in-Copy.is)
+    (subst (λ (sync : Bool). HasCopied g.R.File.Read.remaining file_disk c.in-Copy.size sync (g.O.Write.contents c.args.out.now) (g.O.Write.contents c.perform-in-Copy.new.out)) c.target_at-target.ensures (c.perform-in-Copy.ensures.done done))
 
 pub returns-in-Copy-clause-refused : goal.returns-in-Copy-clause-refused
 returns-in-Copy-clause-refused g c =
-    λ refused. subst (λ request. OnRefused (seen_by g.R.File.Read.remaining) request (g.O.Write.contents c.args.out.now) (g.O.Write.contents c.perform-in-Copy.new.out) (c.perform-in-Copy.new.out ≡ c.args.out.now)) (sym c.in-Copy.is) (c.perform-in-Copy.ensures.refused refused)
+    λ refused. subst (λ request. OnRefused (seen_by g.R.File.Read.remaining) request (g.O.Write.contents c.args.out.now) (g.O.Write.contents c.perform-in-Copy.new.out) (c.perform-in-Copy.new.out ≡ c.args.out.now)) (sym c.in-Copy.is)
+    (subst (λ (sync : Bool). (x : CopyRefusal) × OnCopyRefusal g.R.File.Read.remaining file_disk c.in-Copy.size sync (c.perform-in-Copy.new.out ≡ c.args.out.now) x) c.target_at-target.ensures (c.perform-in-Copy.ensures.refused refused))
 
 pub returns-in-Rescue-clause-done : goal.returns-in-Rescue-clause-done
 returns-in-Rescue-clause-done g c =
     let file = seen_by g.R.File.Read.remaining in
-    λ done. subst (λ request. Answers file request (g.O.Write.contents c.args.out.now) (g.O.Write.contents c.perform-in-Rescue.new.out)) (sym c.in-Rescue.is) (c.perform-in-Rescue.ensures.done done)
+    λ done. subst (λ request. Answers file request (g.O.Write.contents c.args.out.now) (g.O.Write.contents c.perform-in-Rescue.new.out)) (sym c.in-Rescue.is)
+    (subst (λ (sync : Bool). HasRescued g.R.File.Read.remaining file_disk sync (g.O.Write.contents c.args.out.now) (g.O.Write.contents c.perform-in-Rescue.new.out)) c.target_at-target-in-Rescue.ensures (c.perform-in-Rescue.ensures.done done))
 
 pub returns-in-Rescue-clause-refused : goal.returns-in-Rescue-clause-refused
 returns-in-Rescue-clause-refused g c =
-    λ refused. subst (λ request. OnRefused (seen_by g.R.File.Read.remaining) request (g.O.Write.contents c.args.out.now) (g.O.Write.contents c.perform-in-Rescue.new.out) (c.perform-in-Rescue.new.out ≡ c.args.out.now)) (sym c.in-Rescue.is) (c.perform-in-Rescue.ensures.refused refused)
+    λ refused. subst (λ request. OnRefused (seen_by g.R.File.Read.remaining) request (g.O.Write.contents c.args.out.now) (g.O.Write.contents c.perform-in-Rescue.new.out) (c.perform-in-Rescue.new.out ≡ c.args.out.now)) (sym c.in-Rescue.is)
+    (subst (λ (sync : Bool). (x : CopyRefusal) × OnRescueRefusal g.R.File.Read.remaining file_disk sync (c.perform-in-Rescue.new.out ≡ c.args.out.now) x) c.target_at-target-in-Rescue.ensures (c.perform-in-Rescue.ensures.refused refused))
 
 pub returns-in-Replay-clause-done : goal.returns-in-Replay-clause-done
 returns-in-Replay-clause-done g c =
