@@ -3,8 +3,11 @@ use Rattle.std.proofs.KnownBytes.{Appends-nil}
 use Rattle.std.proofs.lemmas.List.{append_assoc, length-append}
 use Rattle.std.specs.Prelude.{slice_get}
 use Rattle.clients.specs.Clients.{ops_at, ops_in}
+use Rattle.history.specs.Own.{KeepsOwn}
 use Rattle.model.specs.Layout.{inode_count_of}
 use Rattle.runner.proofs.Reports.{client_at, one_more_report, own_still, reports_then, same_still}
+use Rattle.runner.proofs.reporting.report.Given.{Over}
+use Rattle.runner.proofs.reporting.report.Goals.{In-None}
 use Rattle.runner.proofs.reporting.report.Goals as goal
 
 pub loop-client-init : goal.loop-client-init
@@ -57,32 +60,20 @@ loop-client-preserved g c =
       names = λ p. made.names p ∙ inv.names p;
     }
 
+-- once all clients were met, each has what is told of it
+module _ (g : Over) (c : In-None g) where
+  own : KeepsOwn (inode_count_of (g.D.Disk.image c.args.kernel.now.opening)) c.args.kernel.now.world.journal.list (length c.args.clients.items) (ops_at c.args.clients.items)
+  own p low =
+      let inv = c.loop-client.invariant in
+      let left = c.loop-client.client-iterator.rest in
+      let all = ap length inv.all ∙ length-append c.loop-client.yielded left.items in
+      inv.own p (omega (arith, low, c.in-None.ensures.steps.0, left.ok.0, inv.pid, all))
+
 pub returns-in_err-all-clause-own : goal.returns-in_err-all-clause-own
-returns-in_err-all-clause-own g c =
-    let inv = c.loop-client.invariant in
-    let left = c.loop-client.client-iterator.rest in
-    let none = c.in-None.ensures.steps.0 in
-    let is = left.ok.0 in
-    let pid = inv.pid in
-    let all = ap length inv.all ∙ length-append c.loop-client.yielded left.items in
-    λ p low. inv.own p (omega (arith, low, none, is, pid, all))
+returns-in_err-all-clause-own g c = own g (goal.at.returns-in_err-all-clause-own g c).In-None
 
 pub returns-in_err-pass_on-clause-own : goal.returns-in_err-pass_on-clause-own
-returns-in_err-pass_on-clause-own g c =
-    let inv = c.loop-client.invariant in
-    let left = c.loop-client.client-iterator.rest in
-    let none = c.in-None.ensures.steps.0 in
-    let is = left.ok.0 in
-    let pid = inv.pid in
-    let all = ap length inv.all ∙ length-append c.loop-client.yielded left.items in
-    λ p low. inv.own p (omega (arith, low, none, is, pid, all))
+returns-in_err-pass_on-clause-own g c = own g (goal.at.returns-in_err-pass_on-clause-own g c).In-None
 
 pub returns-clause-own : goal.returns-clause-own
-returns-clause-own g c =
-    let inv = c.loop-client.invariant in
-    let left = c.loop-client.client-iterator.rest in
-    let none = c.in-None.ensures.steps.0 in
-    let is = left.ok.0 in
-    let pid = inv.pid in
-    let all = ap length inv.all ∙ length-append c.loop-client.yielded left.items in
-    λ p low. inv.own p (omega (arith, low, none, is, pid, all))
+returns-clause-own g c = own g (goal.at.returns-clause-own g c).In-None
