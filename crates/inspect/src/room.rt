@@ -76,14 +76,19 @@ fn room_on<D: Disk + Drop>(
     room_of_put(alloc, &mut disk, inum, size)
 }
 
-fn room_of_put<D: Disk>(alloc: Global, disk: &mut D, inum: Option<u32>, size: u32) -> Option<Room> {
+// The image of a disk, if it has no fault.
+fn checked_image<D: Disk>(alloc: Global, disk: &mut D, block: &mut Block) -> Option<Recovered>
+    ensures { IfSome result (IsCheckedOf (D.image disk.new)) }
+{
     let Ok(_report) = check(alloc, disk) else {
         return None;
     };
+    open(disk, block).ok()
+}
+
+fn room_of_put<D: Disk>(alloc: Global, disk: &mut D, inum: Option<u32>, size: u32) -> Option<Room> {
     let mut block = Block::zeroed(alloc).ok()?;
-    let Ok(image) = open(disk, &mut block) else {
-        return None;
-    };
+    let image = checked_image(alloc, disk, &mut block)?;
     let old = old_blocks(disk, &image, &mut block, inum)?;
     let free = free_blocks(alloc, disk, &image)?;
     Some(Room {
@@ -132,13 +137,8 @@ fn room_for_all<D: Disk + Drop>(alloc: Global, mut disk: D, size: Option<u32>) -
 }
 
 fn room_of_copy<D: Disk>(alloc: Global, disk: &mut D, size: Option<u32>) -> Option<Room> {
-    let Ok(_report) = check(alloc, disk) else {
-        return None;
-    };
     let mut block = Block::zeroed(alloc).ok()?;
-    let Ok(image) = open(disk, &mut block) else {
-        return None;
-    };
+    let image = checked_image(alloc, disk, &mut block)?;
     let Ok(needed) = needed_by_all(disk, &image, &mut block) else {
         return None;
     };
