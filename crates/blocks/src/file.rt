@@ -65,12 +65,7 @@ impl<F: Read + Write + Seek + OpenFile + Drop> FileDisk<F> {
     ) -> Result<FileDisk<F>, FileFault>
         ensures { IfOk result (IsFirstRead F.remaining ⟦<FileDisk<F> as Disk>⟧) }
     {
-        let file = OpenOptions::new()
-            .read(true)
-            .write(true)
-            .open(rt, path)
-            .map_err(fault_of)?;
-        FileDisk::whole_file(rt.alloc(), file)
+        FileDisk::whole_file(rt.alloc(), open_file(rt, path, true)?)
     }
 
     /// As `open`, for a file that is only to be read: the system refuses each write of this disk.
@@ -84,11 +79,7 @@ impl<F: Read + Write + Seek + OpenFile + Drop> FileDisk<F> {
     ) -> Result<FileDisk<F>, FileFault>
         ensures { IfOk result (IsFirstRead F.remaining ⟦<FileDisk<F> as Disk>⟧) }
     {
-        let file = OpenOptions::new()
-            .read(true)
-            .open(rt, path)
-            .map_err(fault_of)?;
-        FileDisk::whole_file(rt.alloc(), file)
+        FileDisk::whole_file(rt.alloc(), open_file(rt, path, false)?)
     }
 
     // The disk that a file holds which was just opened.
@@ -137,6 +128,7 @@ impl<F: Read + Write + Seek + OpenFile + Drop> FileDisk<F> {
         size: u32,
     ) -> Result<FileDisk<F>, FileFault>
         ensures made { IfOk result (IsZeroed size ⟦<FileDisk<F> as Disk>⟧) }
+        ensures exists { IfErr result (λ fault. fault ≢ FileFault.Exists) }
         ensures err { IfErr result (λ fault. fault ≢ FileFault.Length) }
     {
         let copy = MemDisk::new(rt.alloc(), size)?;
@@ -179,6 +171,7 @@ impl<F: Read + Write + Seek + OpenFile + Drop> FileDisk<F> {
         ensures copy { IfOk result (λ disk. disk.copy ≡ copy) }
         ensures faults { IfOk result (λ disk. disk.faults ≡ 0) }
         ensures plain { IfOk result (λ disk. disk.holds ≡ false) }
+        ensures exists { IfErr result (λ fault. fault ≢ FileFault.Exists) }
         ensures err { IfErr result (λ fault. fault ≢ FileFault.Length) }
     {
         file.set_len(copy.size() as u64 * BLOCK_SIZE as u64)
@@ -239,6 +232,15 @@ impl<F> FileDisk<F> {
             shadow,
         }
     }
+}
+
+// The file at this path, opened for reading, and for writing where it is to be written.
+fn open_file<R: Files>(rt: &R, path: &str, writes: bool) -> Result<R::File, FileFault> {
+    OpenOptions::new()
+        .read(true)
+        .write(writes)
+        .open(rt, path)
+        .map_err(fault_of)
 }
 
 // What an error of the system's means: memory that it was refused, or a file that can't be used.

@@ -143,24 +143,24 @@ impl Disk for SyncDisk {
 
     ghost only_now = { λ d free x left. absurd (true≢false free) };
 
-    fn size(&self) -> u32 {
-        self.size
+    fn holds(&self) -> bool {
+        true
     }
 
-    fn writes(&self) -> u64 {
-        self.writes
+    fn size(&self) -> u32 {
+        self.size
     }
 
     fn faults(&self) -> u64 {
         self.faults
     }
 
-    fn syncs(&self) -> u64 {
-        self.syncs
+    fn writes(&self) -> u64 {
+        self.writes
     }
 
-    fn holds(&self) -> bool {
-        true
+    fn syncs(&self) -> u64 {
+        self.syncs
     }
 
     /// Never fails.
