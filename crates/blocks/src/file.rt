@@ -5,8 +5,8 @@ ghost use Rattle.std.specs.List.{concat};
 ghost use Rattle.std.specs.IoError.{error_kind};
 ghost use Rattle.std.specs.Io.KnownBytes.{Consumes};
 ghost use Rattle.blocks.specs.Block.{zero_block, block_size};
-ghost use Rattle.blocks.specs.Calls.{HasCountsOf, IsPlain, ReadsOne, UnlessHolds, WritesOne};
-ghost use Rattle.blocks.specs.Disk.{AddsNone, IsImage, IsSettled};
+ghost use Rattle.blocks.specs.Calls.{HasCountsOf, Holds, IsPlain, ReadsOne, WritesOne};
+ghost use Rattle.blocks.specs.Disk.{Elapses, IsImage};
 ghost use Rattle.blocks.specs.File.{IsReadFrom, IsWrittenAt, is_disk_size};
 ghost use Rattle.blocks.specs.Held.{IsShadow, LeftSince};
 ghost use Rattle.blocks.specs.Lemmas.Held.{left_whole, shadow_has, shadow_now, shadow_plain};
@@ -183,16 +183,15 @@ impl<F: Read + Write + Seek + OpenFile + Drop> FileDisk<F> {
 impl<F: Write + Seek + OpenFile + Drop> FileDisk<F> {
     ghost use Rattle.blocks.specs.FileDisk.{file_of};
 
-    /// The same disk, which from here on holds its writes back until a sync.
+    /// The same disk, which from here on holds its writes back until a sync. What was written to the
+    /// file earlier, by another process, say, may be held back still: up to the first sync a stop may
+    /// leave more than what reads give. A disk that holds them back already stays as it is.
     pub fn hold_back(self) -> FileDisk<F>
-        ensures holds { ⟦<FileDisk<F> as Disk>⟧.holding (⟦<FileDisk<F> as Disk>⟧.name result)
-            ≡ true }
+        ensures holds { Holds ⟦<FileDisk<F> as Disk>⟧ result }
+        ensures same { Holds ⟦<FileDisk<F> as Disk>⟧ self → result ≡ self }
         ensures image { ⟦<FileDisk<F> as Disk>⟧.image result
             ≡ ⟦<FileDisk<F> as Disk>⟧.image self }
-        ensures settled { UnlessHolds ⟦<FileDisk<F> as Disk>⟧ self (IsSettled
-            (⟦<FileDisk<F> as Disk>⟧.image result) (⟦<FileDisk<F> as Disk>⟧.leaves result
-            (⟦<FileDisk<F> as Disk>⟧.moment result))) }
-        ensures time { AddsNone (⟦<FileDisk<F> as Disk>⟧.moment self)
+        ensures time { Elapses (⟦<FileDisk<F> as Disk>⟧.moment self)
             (⟦<FileDisk<F> as Disk>⟧.moment result) (⟦<FileDisk<F> as Disk>⟧.leaves self)
             (⟦<FileDisk<F> as Disk>⟧.leaves result) }
         ensures file { file_of result ≡ file_of self }
