@@ -1,8 +1,9 @@
 -- How what may be held back goes on.
 use Rattle.std.proofs.Common.{◌≡◌, ◌⊎◌, inl, inr, ⊎_elim, ℕ, zero, suc, ◌<◌, ◌≤◌, Bool, true, false, List, [], ◌∷◌, get_or, take, map, ◌+◌, ◌++◌, length, drop, set, length-set, subst, sym, ◌∙◌, ap, refl, arith, length-append}
+use Rattle.std.specs.Prelude.{Ok, Result}
 use Rattle.std.proofs.Math.Nat.{min-eq_left}
 use Rattle.std.proofs.Math.Seq.{drop-cons}
-use Rattle.blocks.specs.Common.{AddsNone, applied, AreInside, AreWhole, CanFloat, chosen, Elapses, Floating, get_or-map, get_or-take, HadLeft, Held, held_by, HeldImages, Holding, Image, IsBlock, IsImage, IsNoted, IsOldOrNew, IsSettled, IsSettledOn, IsShadow, LeavesOldOrNew, LeftSince, length-map, length-take, noted_by, Shadow, true≢false, Write}
+use Rattle.blocks.specs.Common.{AddsNone, applied, AreInside, AreWhole, CanFloat, chosen, Elapses, Floating, get_or-map, get_or-take, HadLeft, Held, held_by, HeldImages, Holding, Image, IsBlock, IsImage, IsNoted, IsOldOrNew, IsSettled, IsSettledOn, IsShadow, LeavesOldOrNew, LeftSince, length-map, length-take, MayLose, noted_by, Shadow, true≢false, Write}
 use Rattle.blocks.specs.Lemmas.Held.{chosen_held, held_all, only_left}
 use Rattle.blocks.proofs.BlockLemmas.{is_image-set}
 
@@ -33,9 +34,24 @@ held_push synced [] write x (inr is) = (synced, refl, inr is)
 held_push synced (w ∷ held) write x (inl without) = let r = held_push synced held write x without in (r.0, inl r.1, r.2)
 held_push synced (w ∷ held) write x (inr with_it) = let r = held_push (set synced w.0 w.1) held write x with_it in (r.0, inr r.1, r.2)
 
+-- and each such image is left
+held_stays : (synced : Image) (held : List Write) (write : Write) (x : Image) → HeldImages synced held x → HeldImages synced (held ++ write ∷ []) x
+held_stays synced [] write x is = inl is
+held_stays synced (w ∷ held) write x (inl without) = inl (held_stays synced held write x without)
+held_stays synced (w ∷ held) write x (inr with_it) = inr (held_stays (set synced w.0 w.1) held write x with_it)
+
+held_goes : (synced : Image) (held : List Write) (write : Write) (x : Image) → HeldImages synced held x → HeldImages synced (held ++ write ∷ []) (set x write.0 write.1)
+held_goes synced [] write x is = inr (ap (λ (z : Image). set z write.0 write.1) is)
+held_goes synced (w ∷ held) write x (inl without) = inl (held_goes synced held write x without)
+held_goes synced (w ∷ held) write x (inr with_it) = inr (held_goes (set synced w.0 w.1) held write x with_it)
+
 applied_push : (synced : Image) (held : List Write) (write : Write) → applied synced (held ++ write ∷ []) ≡ set (applied synced held) write.0 write.1
 applied_push synced [] write = refl
 applied_push synced (w ∷ held) write = applied_push (set synced w.0 w.1) held write
+
+-- a write that was made
+abbrev pub done : {E : Type 0} → Result (Unit {0}) E
+done = Ok tt
 
 -- the state of before is remembered, and another takes its place
 module _ (old new : Shadow) (past : new.past ≡ old.past ++ old.state ∷ []) where
@@ -73,6 +89,15 @@ module _ (old new : Shadow) (past : new.past ≡ old.past ++ old.state ∷ []) w
 
     pub crash_noted : LeavesOldOrNew at bytes (LeftSince old (length old.past)) (LeftSince new (length new.past))
     crash_noted x left = let r = more x (only_left new x left) in (r.0, inl r.1, r.2)
+
+    from_old : (x : Image) → HeldImages old.state.synced.value.items (noted_by old.state ++ (at, bytes) ∷ []) x → CanFloat new.state x
+    from_old x left = subst (λ s. HeldImages s.value.items (noted_by new.state) x) (sym noted.synced) (subst (λ (h : List Write). HeldImages old.state.synced.value.items h x) (sym noted.held) left)
+
+    pub lost_noted : {E : Type 0} → MayLose at bytes (done {E = E}) (LeftSince old (length old.past)) (LeftSince new (length new.past))
+    lost_noted = record {
+      lost = λ x left. inl (from_old x (held_stays old.state.synced.value.items (noted_by old.state) (at, bytes) x (only_left old x left)));
+      kept = λ x left. inl (from_old (set x at bytes) (held_goes old.state.synced.value.items (noted_by old.state) (at, bytes) x (only_left old x left)));
+    }
 
     pub shadow_noted : (shown : Image) → IsBlock bytes → IsShadow true shown old → IsShadow true (set shown at bytes) new
     shadow_noted shown block is = record {

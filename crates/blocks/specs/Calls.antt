@@ -1,11 +1,15 @@
 -- What a call does to a disk.
-use Rattle.std.specs.Prelude.{◌≡◌, ℕ, false, List, Some, Result, OnOk, OnErr, slice_get, slice_set}
+use Rattle.std.specs.Prelude.{◌≡◌, ℕ, false, true, List, Some, Result, OnOk, OnErr, slice_get, slice_set}
 use Rattle.blocks.specs.declared.disk.Disk.{Ghosts}
-use Rattle.blocks.specs.Disk.{AddsNone, CountsFault, CountsSuccess, Elapses, IsOldOrNew, IsSettled, LeavesOldOrNew}
+use Rattle.blocks.specs.Disk.{AddsNone, CountsFault, CountsSuccess, Elapses, IsOldOrNew, IsSettled, LeavesOldOrNew, MayLose}
 
 -- the disk holds no write back
 abbrev pub IsPlain : {D N : Type 0} → Ghosts D N → D → Type 0
 IsPlain disk d = disk.holding (disk.name d) ≡ false
+
+-- the disk holds writes back
+abbrev pub Holds : {D N : Type 0} → Ghosts D N → D → Type 0
+Holds disk d = disk.holding (disk.name d) ≡ true
 
 -- P holds where the disk holds no write back
 abbrev pub UnlessHolds : {D N : Type 0} → Ghosts D N → D → Type 0 → Type 0
@@ -43,6 +47,8 @@ pub record WritesOne {D N T E : Type 0} (disk : Ghosts D N) (block : ℕ) (bytes
   pub syncs : disk.sync_count new ≡ disk.sync_count old
   pub time : Elapses (disk.moment old) (disk.moment new) (disk.leaves old) (disk.leaves new)
   pub crash : LeavesOldOrNew block bytes
+      (disk.leaves old (disk.moment old)) (disk.leaves new (disk.moment new))
+  pub may_lose : Holds disk old → MayLose block bytes result
       (disk.leaves old (disk.moment old)) (disk.leaves new (disk.moment new))
 
 -- it makes one sync, which is done or fails

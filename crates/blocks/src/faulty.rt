@@ -1,6 +1,7 @@
 // A disk of which one call fails.
-ghost use Rattle.std.specs.Prelude.{◌≡◌, ◌≢◌, ◌<◌, ◌^◌, ◌⊎◌, ◌||◌, false, length, IsTrue, IsErr, IfErr};
+ghost use Rattle.std.specs.Prelude.{◌≡◌, ◌≢◌, ◌<◌, ◌^◌, ◌⊎◌, ◌||◌, false, if◌then◌else◌, length, IsTrue, IsErr, IfErr};
 ghost use Rattle.blocks.specs.Calls.{ReadsOne, SyncsOne, WritesOne};
+ghost use Rattle.blocks.specs.Disk.{one_more};
 ghost use Rattle.blocks.specs.Trap.{KeepsCounts, is_due, is_read, is_sync, is_write, left_after};
 
 use crate::{Block, Disk, DiskFault, SyncFault};
@@ -145,6 +146,25 @@ impl<D: Disk> FaultyDisk<D> {
         self.inner.write(block, from)
     }
 
+    // Counts a read or a sync that was made, and its fault where it failed.
+    fn tally(&mut self, is_counted: bool, due: bool, failed: bool)
+        requires kind { IsTrue is_counted → is_write (kind_of self.old) ≡ false }
+        requires due { due ≡ is_due is_counted (left_of self.old) }
+        ensures inner { inner_of self.new ≡ inner_of self.old }
+        ensures trap { trap_of self.new ≡ trap_of self.old }
+        ensures left { left_of self.new ≡ left_after is_counted (left_of self.old) }
+        ensures fired { has_fired self.new ≡ (has_fired self.old || due) }
+        ensures writes { self.new.writes ≡ self.old.writes }
+        ensures faults { self.new.faults
+            ≡ (if failed then one_more self.old.faults else self.old.faults) }
+    {
+        self.left = left_after(is_counted, self.left);
+        self.fired = either(self.fired, due);
+        if failed {
+            self.faults = self.faults.saturating_add(1);
+        }
+    }
+
     /// Does nothing: it says what is true of every such disk: how its counts stand to the call
     /// that fails.
     pub fn known(&self)
@@ -232,11 +252,7 @@ impl<D: Disk> Disk for FaultyDisk<D> {
         } else {
             self.inner.read(block, into)
         };
-        self.left = left_after(is_counted, self.left);
-        self.fired = either(self.fired, is_due);
-        if done.is_err() {
-            self.faults = self.faults.saturating_add(1);
-        }
+        self.tally(is_counted, is_due, done.is_err());
         done
     }
 
@@ -286,11 +302,7 @@ impl<D: Disk> Disk for FaultyDisk<D> {
         } else {
             self.inner.sync()
         };
-        self.left = left_after(is_counted, self.left);
-        self.fired = either(self.fired, is_due);
-        if done.is_err() {
-            self.faults = self.faults.saturating_add(1);
-        }
+        self.tally(is_counted, is_due, done.is_err());
         done
     }
 }

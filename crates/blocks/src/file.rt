@@ -5,8 +5,8 @@ ghost use Rattle.std.specs.List.{concat};
 ghost use Rattle.std.specs.IoError.{error_kind};
 ghost use Rattle.std.specs.Io.KnownBytes.{Consumes};
 ghost use Rattle.blocks.specs.Block.{zero_block, block_size};
-ghost use Rattle.blocks.specs.Calls.{HasCountsOf, IsPlain, ReadsOne, UnlessHolds, WritesOne};
-ghost use Rattle.blocks.specs.Disk.{AddsNone, IsImage, IsSettled};
+ghost use Rattle.blocks.specs.Calls.{HasCountsOf, Holds, IsPlain, ReadsOne, WritesOne};
+ghost use Rattle.blocks.specs.Disk.{Elapses, IsImage};
 ghost use Rattle.blocks.specs.File.{IsReadFrom, IsWrittenAt, is_disk_size};
 ghost use Rattle.blocks.specs.Held.{IsShadow, LeftSince};
 ghost use Rattle.blocks.specs.Lemmas.Held.{left_whole, shadow_has, shadow_now, shadow_plain};
@@ -65,12 +65,7 @@ impl<F: Read + Write + Seek + OpenFile + Drop> FileDisk<F> {
     ) -> Result<FileDisk<F>, FileFault>
         ensures { IfOk result (IsFirstRead F.remaining ⟦<FileDisk<F> as Disk>⟧) }
     {
-        let file = OpenOptions::new()
-            .read(true)
-            .write(true)
-            .open(rt, path)
-            .map_err(fault_of)?;
-        FileDisk::whole_file(rt.alloc(), file)
+        FileDisk::whole_file(rt.alloc(), open_file(rt, path, true)?)
     }
 
     /// As `open`, for a file that is only to be read: the system refuses each write of this disk.
@@ -84,11 +79,7 @@ impl<F: Read + Write + Seek + OpenFile + Drop> FileDisk<F> {
     ) -> Result<FileDisk<F>, FileFault>
         ensures { IfOk result (IsFirstRead F.remaining ⟦<FileDisk<F> as Disk>⟧) }
     {
-        let file = OpenOptions::new()
-            .read(true)
-            .open(rt, path)
-            .map_err(fault_of)?;
-        FileDisk::whole_file(rt.alloc(), file)
+        FileDisk::whole_file(rt.alloc(), open_file(rt, path, false)?)
     }
 
     // The disk that a file holds which was just opened.
@@ -137,6 +128,7 @@ impl<F: Read + Write + Seek + OpenFile + Drop> FileDisk<F> {
         size: u32,
     ) -> Result<FileDisk<F>, FileFault>
         ensures made { IfOk result (IsZeroed size ⟦<FileDisk<F> as Disk>⟧) }
+        ensures exists { IfErr result (λ fault. fault ≢ FileFault.Exists) }
         ensures err { IfErr result (λ fault. fault ≢ FileFault.Length) }
     {
         let copy = MemDisk::new(rt.alloc(), size)?;
@@ -179,6 +171,7 @@ impl<F: Read + Write + Seek + OpenFile + Drop> FileDisk<F> {
         ensures copy { IfOk result (λ disk. disk.copy ≡ copy) }
         ensures faults { IfOk result (λ disk. disk.faults ≡ 0) }
         ensures plain { IfOk result (λ disk. disk.holds ≡ false) }
+        ensures exists { IfErr result (λ fault. fault ≢ FileFault.Exists) }
         ensures err { IfErr result (λ fault. fault ≢ FileFault.Length) }
     {
         file.set_len(copy.size() as u64 * BLOCK_SIZE as u64)
@@ -190,16 +183,15 @@ impl<F: Read + Write + Seek + OpenFile + Drop> FileDisk<F> {
 impl<F: Write + Seek + OpenFile + Drop> FileDisk<F> {
     ghost use Rattle.blocks.specs.FileDisk.{file_of};
 
-    /// The same disk, which from here on holds its writes back until a sync.
+    /// The same disk, which from here on holds its writes back until a sync. What was written to the
+    /// file earlier, by another process, say, may be held back still: up to the first sync a stop may
+    /// leave more than what reads give. A disk that holds them back already stays as it is.
     pub fn hold_back(self) -> FileDisk<F>
-        ensures holds { ⟦<FileDisk<F> as Disk>⟧.holding (⟦<FileDisk<F> as Disk>⟧.name result)
-            ≡ true }
+        ensures holds { Holds ⟦<FileDisk<F> as Disk>⟧ result }
+        ensures same { Holds ⟦<FileDisk<F> as Disk>⟧ self → result ≡ self }
         ensures image { ⟦<FileDisk<F> as Disk>⟧.image result
             ≡ ⟦<FileDisk<F> as Disk>⟧.image self }
-        ensures settled { UnlessHolds ⟦<FileDisk<F> as Disk>⟧ self (IsSettled
-            (⟦<FileDisk<F> as Disk>⟧.image result) (⟦<FileDisk<F> as Disk>⟧.leaves result
-            (⟦<FileDisk<F> as Disk>⟧.moment result))) }
-        ensures time { AddsNone (⟦<FileDisk<F> as Disk>⟧.moment self)
+        ensures time { Elapses (⟦<FileDisk<F> as Disk>⟧.moment self)
             (⟦<FileDisk<F> as Disk>⟧.moment result) (⟦<FileDisk<F> as Disk>⟧.leaves self)
             (⟦<FileDisk<F> as Disk>⟧.leaves result) }
         ensures file { file_of result ≡ file_of self }
@@ -239,6 +231,15 @@ impl<F> FileDisk<F> {
             shadow,
         }
     }
+}
+
+// The file at this path, opened for reading, and for writing where it is to be written.
+fn open_file<R: Files>(rt: &R, path: &str, writes: bool) -> Result<R::File, FileFault> {
+    OpenOptions::new()
+        .read(true)
+        .write(writes)
+        .open(rt, path)
+        .map_err(fault_of)
 }
 
 // What an error of the system's means: memory that it was refused, or a file that can't be used.

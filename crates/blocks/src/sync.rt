@@ -1,9 +1,9 @@
 // A disk in memory that holds writes back until a sync.
-ghost use Rattle.std.specs.Prelude.{◌≡◌, ◌≤◌, ◌^◌, ◌<◌, ◌∷◌, ◌++◌, [], length, true, IfOk, IfErr, IsErr, IsOk, OnErr, OnOk};
+ghost use Rattle.std.specs.Prelude.{◌≡◌, ◌≤◌, ◌^◌, ◌<◌, ◌↔◌, ◌∷◌, ◌++◌, [], length, true, IfOk, IfErr, IsErr, IsOk, OnErr, OnOk};
 ghost use Rattle.std.proofs.lemmas.Bool.{true≢false};
 ghost use Rattle.blocks.specs.Calls.{ReadsOne, SyncsOne, WritesOne};
-ghost use Rattle.blocks.specs.Disk.{IsImage, IsSettled};
-ghost use Rattle.blocks.specs.Held.{AreInside, IsShadow, LeftSince, chosen, held_by, noted_by};
+ghost use Rattle.blocks.specs.Disk.{Image, IsImage, IsSettled};
+ghost use Rattle.blocks.specs.Held.{AreInside, HeldImages, IsShadow, LeftSince, chosen, held_by, noted_by};
 ghost use Rattle.blocks.specs.Lemmas.Held.{left_whole, shadow_has, shadow_now};
 
 use crate::floating::Shadow;
@@ -107,6 +107,16 @@ impl SyncDisk {
         let blocks = self.state.left(self.alloc, keep)?;
         Ok(MemDisk::of(self.alloc, blocks, self.size))
     }
+
+    /// Does nothing: it says what is true of every such disk: a crash now leaves the blocks of its
+    /// last sync with any of the writes that it holds, and nothing else.
+    pub fn known(&self)
+        ensures { (x : Image) → (⟦<SyncDisk as Disk>⟧.leaves self.now
+            (⟦<SyncDisk as Disk>⟧.moment self.now) x
+            ↔ HeldImages (synced_of self.now) (held_of self.now) x) }
+    {
+        let _ = &self.state;
+    }
 }
 
 impl Disk for SyncDisk {
@@ -143,24 +153,24 @@ impl Disk for SyncDisk {
 
     ghost only_now = { λ d free x left. absurd (true≢false free) };
 
-    fn size(&self) -> u32 {
-        self.size
+    fn holds(&self) -> bool {
+        true
     }
 
-    fn writes(&self) -> u64 {
-        self.writes
+    fn size(&self) -> u32 {
+        self.size
     }
 
     fn faults(&self) -> u64 {
         self.faults
     }
 
-    fn syncs(&self) -> u64 {
-        self.syncs
+    fn writes(&self) -> u64 {
+        self.writes
     }
 
-    fn holds(&self) -> bool {
-        true
+    fn syncs(&self) -> u64 {
+        self.syncs
     }
 
     /// Never fails.

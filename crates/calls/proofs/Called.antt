@@ -41,7 +41,8 @@ use Rattle.model.specs.declared.types.operations.Step.TheVariants as step
 use Rattle.kernel.specs.declared.class.OpClass.TheVariants as waiting_as
 use Rattle.kernel.specs.Moves.{MakesSteps}
 use Rattle.calls.specs.Calls.{Rests, call_count, is_look, is_own}
-use Rattle.calls.specs.Stepping.{Plain, plain_herald, plain_queues}
+use Rattle.calls.specs.Lemmas.Reaching.{reached_ports, reached_steps, reached_then}
+use Rattle.calls.specs.Stepping.{IsReached, Plain, plain_herald, plain_queues}
 use Rattle.calls.proofs.Idle.{unopened}
 use Rattle.calls.proofs.Stages.{After, BeforeTurn, AfterTurn, Committing, Over, IsKept, IsLeft, IsOver, ListIs, StageOf, Waits, Where, is_left, kind_then, stage_first, stages_move, steps_after}
 
@@ -88,6 +89,12 @@ module _ {D N : Type 0} (disk : Ghosts D N) (op : Op) (r : Step) (k m : Plain D)
 
   pub call_opening : m.opening ≡ k.opening
   call_opening = call_runs.opening
+
+  -- its steps are turns of the process
+  pub call_reached : IsReached disk k m
+  call_reached =
+      let l = with_intake k call.i in
+      reached_then disk k l m (reached_ports disk k l refl) (reached_steps disk r l m call.makes)
 
   -- and the disk is the same one
   pub call_names : disk.name m.store.volume.device ≡ disk.name k.store.volume.device

@@ -2,7 +2,7 @@
 use Rattle.std.proofs.Common.{◌≡◌, ◌∙◌, ◌<◌, ◌≤◌, inl, inr, ℕ, ◌+◌, ◌^◌, ◌-◌, false, List, length, Option, Some, None, refl, sym, ap, subst, arith}
 use Rattle.std.specs.Prelude.{min, nat_lt, ◌⊎◌, ◌↔◌, IsSome}
 use Rattle.std.specs.List.{list_all}
-use Rattle.blocks.specs.Disk.{Rose, one_more}
+use Rattle.blocks.specs.Disk.{one_more}
 use Rattle.blocks.specs.declared.disk.Disk.{Ghosts}
 use Rattle.wal.specs.declared.types.DeviceFault.{DeviceFault}
 use Rattle.wal.specs.Volume.{faults_after}
@@ -17,7 +17,7 @@ use Rattle.kernel.specs.Known.{Known}
 use Rattle.kernel.specs.Sleeping.{SoleWaitsForAnswers}
 use Rattle.model.specs.declared.types.operations.Step.{Step}
 use Rattle.model.specs.declared.types.operations.Step.TheVariants as step
-use Rattle.calls.specs.Calls.{Rests, call_count, is_own}
+use Rattle.calls.specs.Calls.{HasFailed, Rests, call_count, is_own}
 use Rattle.calls.specs.Stepping.{Plain, plain_herald, plain_queues}
 use Rattle.calls.proofs.Called.{IsCall, Quiet, all_given, call_opening, call_stage, call_then, counts, quiet_kept}
 use Rattle.calls.proofs.Stages.{StandsAt}
@@ -87,10 +87,12 @@ module _ {D N : Type 0} (disk : Ghosts D N) (op : Op) (r : Step) (k m : Plain D)
   before = ap disk.fault_count (call_opening disk op r k m call) ∙ sym call.rests.faultless
 
   -- the disk failed
-  pub has_failed : (fault : DeviceFault) → m.store.volume.fault ≡ Some fault → Rose (disk.fault_count k.store.volume.device) (disk.fault_count m.store.volume.device)
-  has_failed fault is =
-      same_at_most (one_more (disk.fault_count k.store.volume.device)) (disk.fault_count m.store.volume.device)
-      (call.known_now.faults ∙ ap (λ (f : Option DeviceFault). faults_after f (disk.fault_count m.opening)) is ∙ ap one_more before)
+  pub has_failed : (fault : DeviceFault) → m.store.volume.fault ≡ Some fault → HasFailed disk k m fault
+  has_failed fault is = record {
+    is = is;
+    rose = same_at_most (one_more (disk.fault_count k.store.volume.device)) (disk.fault_count m.store.volume.device)
+        (call.known_now.faults ∙ ap (λ (f : Option DeviceFault). faults_after f (disk.fault_count m.opening)) is ∙ ap one_more before);
+  }
 
   -- where it didn't fail, it counted no fault
   pub is_faultless : m.store.volume.fault ≡ None → disk.fault_count m.store.volume.device ≡ disk.fault_count k.store.volume.device

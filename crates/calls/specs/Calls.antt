@@ -16,6 +16,7 @@ use Rattle.model.specs.declared.types.operations.Op.TheVariants.{Create, Write, 
 use Rattle.model.specs.declared.types.operations.Reply.{Reply}
 use Rattle.model.specs.declared.types.operations.Reply.TheVariants.{Made, NoInode, Wrote}
 use Rattle.ports.specs.Queues.{polled, waiting}
+use Rattle.wal.specs.declared.types.DeviceFault.{DeviceFault}
 use Rattle.history.specs.declared.types.Phase.TheVariants as at
 use Rattle.history.specs.Processes.{process}
 use Rattle.calls.specs.declared.fault.CallFault.{CallFault}
@@ -42,6 +43,10 @@ call_count k = length k.world.journal.list
 -- the image on a kernel's disk
 abbrev pub image_on : {D : Type 0} → (D → Image) → Plain D → Image
 image_on image k = image k.store.volume.device
+
+-- the faults that a kernel's disk counts
+abbrev pub faults_on : {D : Type 0} → (D → ℕ) → Plain D → ℕ
+faults_on faults k = faults k.store.volume.device
 
 -- The kernel's only process has no operation under way and none that waits, and its answers were
 -- fetched. No call of the disk failed, and nothing was shut.
@@ -88,11 +93,18 @@ pub record Calls {D : Type 0} (image : D → Image) (op : Op) (k m : Plain D) (r
   pub short : ShortIsFull (image_on image m) op reply
   pub one_more : call_count m ≡ call_count k + 1
 
--- why a call is not answered, over a disk that was d and is e
-abbrev pub IsUncalled : {D N : Type 0} → Ghosts D N → D → D → CallFault → Type 0
-IsUncalled disk d e (fault.Disk cause) = Rose (disk.fault_count d) (disk.fault_count e)
-IsUncalled disk d e fault.NoMemory =
-    OnlyReads disk d e × (disk.fault_count e ≡ disk.fault_count d)
+-- the disk of kernel k, which is m now, failed, and m has just this fault
+pub record HasFailed {D N : Type 0} (disk : Ghosts D N) (k m : Plain D) (cause : DeviceFault)
+    : Type 0 where
+  pub is : m.store.volume.fault ≡ Some cause
+  pub rose : Rose (faults_on disk.fault_count k) (faults_on disk.fault_count m)
+
+-- why a call of kernel k, which is m now, is not answered
+abbrev pub IsUncalled : {D N : Type 0} → Ghosts D N → Plain D → Plain D → CallFault → Type 0
+IsUncalled disk k m (fault.Disk cause) = HasFailed disk k m cause
+IsUncalled disk k m fault.NoMemory =
+    OnlyReads disk k.store.volume.device m.store.volume.device
+    × (faults_on disk.fault_count m ≡ faults_on disk.fault_count k)
 
 -- What a stop between two calls leaves of image x: recovery gives a sound image with its files.
 pub record KeepsFiles (x z : Image) : Type 0 where

@@ -3,6 +3,7 @@ ghost use Rattle.std.specs.Prelude.{◌≡◌, ◌<◌, ◌^◌, IsTrue, IfOk, I
 ghost use Rattle.blocks.specs.Calls.{OnlyReads};
 ghost use Rattle.blocks.specs.Disk.{LeavesOnly};
 ghost use Rattle.calls.specs.Calls.{Calls, IsUncalled, KeepsCall, Rests, call_count, image_on, is_look};
+ghost use Rattle.calls.specs.Stepping.{IsReached};
 
 use crate::fault::CallFault;
 use crate::stepping::make_steps;
@@ -21,7 +22,7 @@ pub type Sole<D> = Kernel<D, QueueIntake, PlainHerald>;
 ///
 /// # Errors
 ///
-/// - `Disk`: the disk failed.
+/// - `Disk`: the disk failed, and the kernel tells the same fault.
 /// - `NoMemory`: memory for the operation was refused, and the disk was only read. That it was
 ///   refused no clause can say; the only process of a kernel waits for nobody.
 ///
@@ -31,8 +32,7 @@ pub fn call<D: Disk>(kernel: &mut Sole<D>, op: Op) -> Result<Reply, CallFault>
     requires few { call_count kernel.old < 2 ^ 32 }
     ensures rests { OnOk result (Rests D.fault_count kernel.new) }
     ensures calls { IfOk result (Calls D.image op kernel.old kernel.new) }
-    ensures refused { IfErr result (IsUncalled D.Disk
-        kernel.old.store.volume.device kernel.new.store.volume.device) }
+    ensures refused { IfErr result (IsUncalled D.Disk kernel.old kernel.new) }
     ensures leaves { LeavesOnly D.moment D.leaves
         kernel.old.store.volume.device kernel.new.store.volume.device
         (KeepsCall (image_on D.image kernel.old) op result) }
@@ -40,6 +40,7 @@ pub fn call<D: Disk>(kernel: &mut Sole<D>, op: Op) -> Result<Reply, CallFault>
         kernel.old.store.volume.device kernel.new.store.volume.device }
     ensures opening { kernel.new.opening ≡ kernel.old.opening }
     ensures name { D.name kernel.new.store.volume.device ≡ D.name kernel.old.store.volume.device }
+    ensures reached { IsReached D.Disk kernel.old kernel.new }
 {
     kernel.known();
     let Ok(_number) = kernel.submit(0, op) else {

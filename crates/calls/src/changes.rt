@@ -7,6 +7,7 @@ ghost use Rattle.model.specs.Operations.{is_kind};
 ghost use Rattle.calls.specs.Calls.{IsUncalled, Rests, call_count, image_on};
 ghost use Rattle.calls.specs.Files.{Appends, Creates, MayAppend, files_on};
 ghost use Rattle.calls.specs.Answered.{IsAnswered};
+ghost use Rattle.calls.specs.Stepping.{IsReached};
 ghost use Rattle.calls.specs.Stopped.{AppendsFirst, Empties, LeavesChange, MakesAny, Removes, StaysOver};
 
 use crate::calling::{Sole, call};
@@ -30,10 +31,10 @@ pub fn create<D: Disk>(kernel: &mut Sole<D>, kind: u16) -> Result<Option<u32>, C
     ensures creates { IfOk result (λ made.
         Creates kind made (files_on D.image kernel.old) (files_on D.image kernel.new)) }
     ensures answered { OnOk result (IsAnswered D.Disk kernel.old kernel.new) }
-    ensures refused { IfErr result (IsUncalled D.Disk
-        kernel.old.store.volume.device kernel.new.store.volume.device) }
+    ensures refused { IfErr result (IsUncalled D.Disk kernel.old kernel.new) }
     ensures leaves { LeavesChange D.Disk (MakesAny kind) kernel.old kernel.new }
     ensures stays { StaysOver D.Disk kernel.old kernel.new }
+    ensures reached { IsReached D.Disk kernel.old kernel.new }
 {
     match call(kernel, Op::Create(kind))? {
         Reply::Made(number) => Ok(Some(number)),
@@ -54,10 +55,10 @@ pub fn remove<D: Disk>(kernel: &mut Sole<D>, i: u32) -> Result<(), CallFault>
     ensures removes { OnOk result
         (Removes i (files_on D.image kernel.old) (files_on D.image kernel.new)) }
     ensures answered { OnOk result (IsAnswered D.Disk kernel.old kernel.new) }
-    ensures refused { IfErr result (IsUncalled D.Disk
-        kernel.old.store.volume.device kernel.new.store.volume.device) }
+    ensures refused { IfErr result (IsUncalled D.Disk kernel.old kernel.new) }
     ensures leaves { LeavesChange D.Disk (Removes i) kernel.old kernel.new }
     ensures stays { StaysOver D.Disk kernel.old kernel.new }
+    ensures reached { IsReached D.Disk kernel.old kernel.new }
 {
     let Reply::Done = call(kernel, Op::Remove(i))? else {
         unreachable!()
@@ -77,10 +78,10 @@ pub fn empty<D: Disk>(kernel: &mut Sole<D>, i: u32) -> Result<(), CallFault>
     ensures empties { OnOk result
         (Empties i (files_on D.image kernel.old) (files_on D.image kernel.new)) }
     ensures answered { OnOk result (IsAnswered D.Disk kernel.old kernel.new) }
-    ensures refused { IfErr result (IsUncalled D.Disk
-        kernel.old.store.volume.device kernel.new.store.volume.device) }
+    ensures refused { IfErr result (IsUncalled D.Disk kernel.old kernel.new) }
     ensures leaves { LeavesChange D.Disk (Empties i) kernel.old kernel.new }
     ensures stays { StaysOver D.Disk kernel.old kernel.new }
+    ensures reached { IsReached D.Disk kernel.old kernel.new }
 {
     let Reply::Done = call(kernel, Op::Trunc(i))? else {
         unreachable!()
@@ -108,10 +109,10 @@ pub fn append<D: Disk>(
     ensures appends { IfOk result (λ all.
         Appends all i bytes.now (image_on D.image kernel.old) (image_on D.image kernel.new)) }
     ensures answered { OnOk result (IsAnswered D.Disk kernel.old kernel.new) }
-    ensures refused { IfErr result (IsUncalled D.Disk
-        kernel.old.store.volume.device kernel.new.store.volume.device) }
+    ensures refused { IfErr result (IsUncalled D.Disk kernel.old kernel.new) }
     ensures leaves { LeavesChange D.Disk (AppendsFirst i bytes.now) kernel.old kernel.new }
     ensures stays { StaysOver D.Disk kernel.old kernel.new }
+    ensures reached { IsReached D.Disk kernel.old kernel.new }
 {
     rested(kernel);
     let Ok(content) = Content::copy_of(alloc, bytes) else {

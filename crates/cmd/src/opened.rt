@@ -70,7 +70,8 @@ fn read_alone<R: Files + AllocGlobal>(rt: &R, image: &str) -> Result<FileDisk<R:
     FileDisk::open_to_read(rt, image)
 }
 
-/// The disk in the file at this path. With `sync` it holds writes back until it is synced.
+/// The disk in the file at this path. With `sync` it holds writes back until it is synced, also such
+/// as were made to the file before.
 ///
 /// # Errors
 ///

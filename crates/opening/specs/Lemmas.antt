@@ -1,3 +1,4 @@
 -- What follows from the definitions, for the crates above.
 pub mod Keeping
 pub mod Recovered
+pub mod Stopping

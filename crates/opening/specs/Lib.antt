@@ -1,3 +1,4 @@
 pub mod Openings
 pub mod Recoveries
+pub mod Stops
 pub mod Lemmas

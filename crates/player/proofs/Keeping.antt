@@ -1,26 +1,25 @@
 -- What a run of turns keeps.
-use Rattle.std.proofs.Common.{◌≡◌, ◌∙◌, ℕ, zero, suc, Bool, true, false, List, [], ◌∷◌, length, refl, sym, ap, subst, arith, inl, inr, ⊎_elim, None}
-use Rattle.blocks.specs.Disk.{Image}
+use Rattle.std.proofs.Common.{◌≡◌, ◌∙◌, ℕ, zero, suc, Bool, true, false, List, [], ◌∷◌, length, refl, sym, ap, subst, arith, inl, inr, ⊎_elim}
+use Rattle.blocks.specs.Disk.{Image, LeavesOnly}
 use Rattle.blocks.specs.declared.disk.Disk.{Ghosts}
 use Rattle.blocks.specs.declared.faulty.FaultyDisk.{FaultyDisk}
 use Rattle.blocks.specs.declared.faulty.Trap.{Trap}
 use Rattle.model.specs.Layout.{inode_count_of}
-use Rattle.model.specs.Log.{is_lawful_log, recovered}
-use Rattle.model.specs.Lemmas.Recovery.{logged_count-left, recovers_once}
-use Rattle.model.specs.Lemmas.Soundness.{verdict_sound}
-use Rattle.model.specs.Verdict.{verdict}
-use Rattle.wal.specs.Lemmas.Commits.{empty_lawful}
-use Rattle.wal.specs.Recovery.{LeavesIfCalm, RecoversAs}
+use Rattle.model.specs.Log.{recovered}
+use Rattle.model.specs.Lemmas.Recovery.{recovers_once}
+use Rattle.wal.specs.Recovery.{RecoversAs}
 use Rattle.history.specs.Keeps.{KeepsBetween}
 use Rattle.history.specs.Most.{most_of}
 use Rattle.history.specs.Own.{KeepsOwn}
+use Rattle.opening.specs.Lemmas.Stopping.{run_leaves}
+use Rattle.opening.specs.Stops.{LeavesFromSync}
 use Rattle.clients.specs.Backlogs.{ops_of}
 use Rattle.model.specs.declared.types.operations.Step.{Step}
 use Rattle.model.specs.declared.types.operations.Step.TheVariants as step
 use Rattle.kernel.specs.Lemmas.Turns.{Keeps, runs_on_none, runs_on_step, runs_on_then}
 use Rattle.kernel.specs.Runs.{RunsOn}
 use Rattle.kernel.specs.Moves.{MakesSteps, Moves}
-use Rattle.history.specs.Lemmas.Leaving.{kept_whole}
+use Rattle.history.specs.Lemmas.Leaving.{kept_alike}
 use Rattle.scripts.specs.declared.schedule.Word.{Word}
 use Rattle.scripts.specs.declared.schedule.Word.TheVariants as word
 use Rattle.scripts.specs.declared.script.Task.{Task}
@@ -83,13 +82,6 @@ module _ {D N : Type 0} (disk : Ghosts (FaultyDisk D) (N × Trap)) (stop : ℕ) 
   pub turns_keep : (words : List Word) (events : List Event) (old new : Player D N) → Keeps disk ring_ends board_herald old.kernel → MakesTurns disk stop words events old new → KeepsOn disk old.kernel new.kernel
   turns_keep words events old new keeps makes = keeps_turns words events old.kernel old new (keeps_none disk old.kernel keeps) makes
 
--- what is recovered as the recovered image is recovered as the image before
-pub recovers_before : (x y z : Image) → verdict x ≡ None → y ≡ recovered x → RecoversAs y z → RecoversAs x z
-recovers_before x y z sound is alike = record {
-  image = alike.image ∙ ap recovered is ∙ recovers_once x;
-  lawful = alike.lawful ∙ ap is_lawful_log is ∙ empty_lawful (recovered x) (logged_count-left x) ∙ sym (verdict_sound x sound).1;
-}
-
 module _ {D N : Type 0} (below : Ghosts D N) (has_now : (d : D) → below.leaves d (below.moment d) (below.image d)) (d : D) (tasks : List Task) (processes stop : ℕ) (player last : Player D N)
     (ready : IsReadyOver below (faulty below) d tasks processes stop player) (runs : RunsOn (faulty below) player.kernel last.kernel) where
   abbrev first : D
@@ -108,14 +100,10 @@ module _ {D N : Type 0} (below : Ghosts D N) (has_now : (d : D) → below.leaves
     own = subst (λ n. KeepsOwn (inode_count_of ((faulty below).image last.kernel.opening)) last.kernel.world.journal.list n (λ p. ops_of p tasks)) (runs.many ∙ many)
         (own (λ p. ops_of p tasks) (ops (λ p. ops_of p tasks) (λ p s at. (ready.opened.feeders.each p s at).all)));
     name = ap below.name is ∙ ap (λ n. n.0) name ∙ ready.name;
-    leaves = subst (λ o. LeavesIfCalm below d o P) (sym is)
-        (kept_whole below has_now d first last.kernel.store.volume.device.inner (most_of last.kernel.store.volume) ((faulty below).image last.kernel.opening) last.kernel.world.journal.list ready.sound recovers_first
-        (record {
-          later = runs.stop.leaves.later;
-          each = λ x left. lower x (runs.stop.leaves.each x left);
-          before = λ t x le left. ⊎_elim (λ was. inl was) (λ k. inr (lower x k)) (runs.stop.leaves.before t x le left);
-          keeps = runs.stop.leaves.keeps;
-        }) ready.leaves);
+    leaves = subst (λ o. LeavesFromSync below d o P) (sym is)
+        (run_leaves below d first last.kernel.store.volume.device.inner (RecoversAs (below.image d)) P
+        (kept_alike below has_now d first last.kernel.store.volume.device.inner (most_of last.kernel.store.volume) ((faulty below).image last.kernel.opening) last.kernel.world.journal.list ready.sound recovers_first on)
+        ready.leaves on);
   }
     where
       P : Image → Type 0
@@ -123,3 +111,11 @@ module _ {D N : Type 0} (below : Ghosts D N) (has_now : (d : D) → below.leaves
 
       lower : (x : Image) → KeepsBetween player.kernel.store.volume.log.committed (most_of last.kernel.store.volume) ((faulty below).image last.kernel.opening) last.kernel.world.journal.list x → P x
       lower x k = record { groups = k.groups; low = omega arith; high = k.high; keeps = k.keeps }
+
+      on : LeavesOnly below.moment below.leaves first last.kernel.store.volume.device.inner P
+      on = record {
+        later = runs.stop.leaves.later;
+        each = λ x left. lower x (runs.stop.leaves.each x left);
+        before = λ t x le left. ⊎_elim (λ was. inl was) (λ k. inr (lower x k)) (runs.stop.leaves.before t x le left);
+        keeps = runs.stop.leaves.keeps;
+      }

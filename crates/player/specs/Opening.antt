@@ -20,8 +20,9 @@ use Rattle.scripts.specs.declared.script.Task.{Task}
 use Rattle.history.specs.Keeps.{KeepsBetween}
 use Rattle.history.specs.Own.{KeepsOwn}
 use Rattle.history.specs.Most.{most_of}
+use Rattle.kernel.specs.Opening.{LeavesRecovered}
 use Rattle.kernel.specs.Runs.{RunsOn}
-use Rattle.wal.specs.Recovery.{LeavesIfCalm, RecoversAs, writes_to_recover}
+use Rattle.wal.specs.Recovery.{RecoversAs, writes_to_recover}
 use Rattle.player.specs.Afterwards.{IsUnready}
 use Rattle.rings.specs.Boards.{asked}
 use Rattle.clients.specs.Backlogs.{ops_of}
@@ -29,6 +30,7 @@ use Rattle.clients.specs.Feeders.{AreNewFeeders}
 use Rattle.rings.specs.Callers.{intake_names}
 use Rattle.player.specs.Stepping.{BreaksOff, Ringed, RunsTo}
 use Rattle.opening.specs.Recoveries.{IsUnrecovered}
+use Rattle.opening.specs.Stops.{LeavesFromSync}
 use Rattle.player.specs.declared.player.Player.{Player}
 use Rattle.player.specs.declared.refusals.ReplayRefusal.{ReplayRefusal}
 use Rattle.player.specs.declared.refusals.ReplayRefusal.TheVariants.{Unrecovered, Unopened, Disk, Output}
@@ -60,7 +62,8 @@ IsArmed disk stop d = trap_of d ≡ record {
 }
 
 -- The disk d was recovered, and a player of these operations opened over it, which made no write.
--- Whatever a stop left until then, where nothing was held on d, is recovered as d is.
+-- Whatever a stop left until then is recovered as d is: from the recovery's first sync on, or from
+-- the start where nothing was held on d.
 pub record IsReadyOver {D N : Type 0} (below : Ghosts D N) (disk : Ghosts (FaultyDisk D) (N × Trap))
     (d : D) (tasks : List Task) (processes stop : ℕ) (player : Player D N) : Type 0 where
   pub sound : verdict (below.image d) ≡ None
@@ -69,7 +72,7 @@ pub record IsReadyOver {D N : Type 0} (below : Ghosts D N) (disk : Ghosts (Fault
       ≡ counted (below.write_count d) (writes_to_recover (logged_count (below.image d)))
   pub armed : IsArmed disk stop player.kernel.store.volume.device
   pub name : below.name (inner_of player.kernel.store.volume.device) ≡ below.name d
-  pub leaves : LeavesIfCalm below d (inner_of player.kernel.store.volume.device)
+  pub leaves : LeavesFromSync below d (inner_of player.kernel.store.volume.device)
       (RecoversAs (below.image d))
 
 -- what a stop leaves that keeps some of the groups that a kernel committed, on a disk that was d
@@ -79,8 +82,9 @@ KeepsSome disk k x = KeepsBetween 0 (most_of k.store.volume) (disk.image k.openi
     k.world.journal.list x
 
 -- What turns make of a player of these operations over the disk d, now e. No group that is committed
--- is lost, and whatever a stop leaves, from the recovery on, keeps some beginning of the run's
--- groups; up to any group, what is kept of each process is a beginning of its changing operations.
+-- is lost, and whatever a stop leaves keeps some beginning of the run's groups, from the recovery's
+-- first sync on, or from the start where nothing was held on d; up to any group, what is kept of
+-- each process is a beginning of its changing operations.
 pub record IsPlayedOn {D N : Type 0} (below : Ghosts D N) (disk : Ghosts (FaultyDisk D) (N × Trap))
     (d e : D) (tasks : List Task) (processes : ℕ) (player last : Player D N) : Type 0 where
   pub now : e ≡ inner_of last.kernel.store.volume.device
@@ -88,7 +92,7 @@ pub record IsPlayedOn {D N : Type 0} (below : Ghosts D N) (disk : Ghosts (Faulty
   pub own : KeepsOwn (inode_count_of (disk.image last.kernel.opening))
       last.kernel.world.journal.list processes (λ p. ops_of p tasks)
   pub name : below.name e ≡ below.name d
-  pub leaves : LeavesIfCalm below d e (KeepsSome disk last.kernel)
+  pub leaves : LeavesFromSync below d e (KeepsSome disk last.kernel)
 
 -- The disk d, now e, was recovered. A player was opened over it, and made the turns of these words.
 -- Printed are their lines and the counts, of writes from behind the recovery on; the write to be
@@ -114,11 +118,11 @@ pub record ReplaysPart {D N : Type 0} (below : Ghosts D N)
   pub played : IsPlayedOn below disk d e tasks processes player last
 
 -- the disk d, now e, wasn't recovered, or no kernel was opened over it, and this is why; whatever a
--- stop left is recovered as d is
+-- stop left is recovered as d is, as a recovery promises it
 pub record HasNotBegun {D N : Type 0} (below : Ghosts D N) (d e : D) (why : Type 0) : Type 0 where
   pub cause : why
   pub name : below.name e ≡ below.name d
-  pub leaves : LeavesIfCalm below d e (RecoversAs (below.image d))
+  pub leaves : LeavesRecovered below d e
 
 abbrev pub IsNotBegun : {D N : Type 0} → Ghosts D N → Ghosts (FaultyDisk D) (N × Trap) → ℕ → ℕ → D
     → D → ReplayRefusal → Type 0

@@ -25,9 +25,10 @@ use std::io::Write;
 /// many groups are committed. With `stop` the write of this number, from 1, is not made, and ends
 /// the run. The meter is told how many words' turns were made.
 ///
-/// Hands the disk back as the last turn left it. Where it held nothing back at the start, whatever a
-/// stop at any moment leaves keeps a beginning of the groups; what is kept of each process, up to
-/// any group, is a beginning of its changing operations.
+/// Hands the disk back as the last turn left it. Whatever a stop leaves keeps a beginning of the
+/// groups: one at any moment, or, where the disk held writes back at the start, one since the sync
+/// with which the recovery began. What is kept of each process, up to any group, is a beginning of
+/// its changing operations.
 ///
 /// # Errors
 ///

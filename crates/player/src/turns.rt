@@ -7,7 +7,8 @@ ghost use Rattle.model.specs.Log.{logged_count};
 ghost use Rattle.model.specs.declared.types.operations.Answer.{Answer as SomeAnswer};
 ghost use Rattle.kernel.specs.Moves.{MakesSteps};
 ghost use Rattle.scripts.specs.Schedule.{is_word_of};
-ghost use Rattle.wal.specs.Recovery.{LeavesIfCalm, RecoversAs, writes_to_recover};
+ghost use Rattle.opening.specs.Stops.{LeavesFromSync};
+ghost use Rattle.wal.specs.Recovery.{RecoversAs, writes_to_recover};
 ghost use Rattle.player.specs.Afterwards.{IsUnopenedOver};
 ghost use Rattle.player.specs.Stepping.{
   HandsIn,
@@ -90,7 +91,7 @@ pub fn open_player<'a, D: Disk + Drop>(
         → IsArmed ⟦<FaultyDisk<D> as Disk>⟧ stop player.kernel.store.volume.device) }
     ensures name { IfOk result (λ player.
         D.name (inner_of player.kernel.store.volume.device) ≡ D.name disk) }
-    ensures leaves { IfOk result (λ player. LeavesIfCalm D.Disk
+    ensures leaves { IfOk result (λ player. LeavesFromSync D.Disk
         disk (inner_of player.kernel.store.volume.device) (RecoversAs (D.image disk))) }
     ensures refused { IfErr result (λ e. IsUnopenedOver ⟦<FaultyDisk<D> as Disk>⟧
         processes stop disk e.1 e.0) }

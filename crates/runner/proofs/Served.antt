@@ -7,7 +7,7 @@ use Rattle.blocks.specs.Disk.{Image, LeavesOnly}
 use Rattle.blocks.specs.declared.disk.Disk.{Ghosts}
 use Rattle.wal.specs.declared.types.DeviceFault.{DeviceFault}
 use Rattle.model.specs.Layout.{inode_count_of}
-use Rattle.wal.specs.Recovery.{LeavesIfCalm}
+use Rattle.wal.specs.Recovery.{RecoversAs}
 use Rattle.wal.specs.Volume.{faults_after}
 use Rattle.ports.specs.declared.herald.Herald as herald_trait
 use Rattle.ports.specs.declared.intake.Intake as intake_trait
@@ -25,9 +25,11 @@ use Rattle.sysring.specs.Origins.{HasOriginOf}
 use Rattle.clients.specs.Backlogs.{ops_of}
 use Rattle.clients.specs.Clients.{AreClients, HaveRings, ops_at, ops_in}
 use Rattle.clients.specs.declared.client.Client.{Client}
-use Rattle.history.specs.Lemmas.Leaving.{kept_whole}
+use Rattle.history.specs.Lemmas.Leaving.{kept_alike}
 use Rattle.kernel.specs.declared.types.OpenFault.{OpenFault}
-use Rattle.opening.specs.Lemmas.Keeping.{not_opened_leaves, not_opened_name}
+use Rattle.opening.specs.Lemmas.Keeping.{not_opened_name, not_opened_recovered}
+use Rattle.opening.specs.Lemmas.Stopping.{opened_leaves, run_leaves}
+use Rattle.opening.specs.Stops.{LeavesFromSync}
 use Rattle.opening.specs.Openings.{IsNotOpened}
 use Rattle.runner.specs.declared.refusals.RunRefusal.{RunRefusal}
 use Rattle.runner.specs.declared.refusals.RunRefusal.TheVariants.{Unopened, Thread, Disk, Unanswered, Output}
@@ -75,9 +77,12 @@ module _ {D N H : Type 0} (disk : Ghosts D N) (has_now : (d : D) → disk.leaves
   abbrev P : Image → Type 0
   P = KeepsBetween 0 (most_of m.store.volume) (disk.image m.opening) m.world.journal.list
 
-  leaves_some : LeavesOnly disk.moment disk.leaves m.opening m.store.volume.device P → LeavesIfCalm disk d m.store.volume.device P
-  leaves_some since = kept_whole disk has_now d k.opening m.store.volume.device (most_of m.store.volume) (disk.image m.opening) m.world.journal.list opened.sound opened.opening
-      (subst (λ o. LeavesOnly disk.moment disk.leaves o m.store.volume.device P) origin.runs.opening since) opened.leaves.any_moment
+  leaves_some : LeavesOnly disk.moment disk.leaves m.opening m.store.volume.device P → LeavesFromSync disk d m.store.volume.device P
+  leaves_some since =
+      let run = subst (λ o. LeavesOnly disk.moment disk.leaves o m.store.volume.device P) origin.runs.opening since in
+      run_leaves disk d k.opening m.store.volume.device (RecoversAs (disk.image d)) P
+      (kept_alike disk has_now d k.opening m.store.volume.device (most_of m.store.volume) (disk.image m.opening) m.world.journal.list opened.sound opened.opening run)
+      (opened_leaves disk d k.opening opened.sound opened.opening opened.settled opened.leaves) run
 
   pub is_served : {M : Type 0} (intake : intake_trait.Ghosts RingIntake M) (herald : herald_trait.Ghosts H) → Known disk intake herald m → (e : D) → e ≡ m.store.volume.device → IsServed disk d e processes m
   is_served intake herald known e is = record {
@@ -91,7 +96,7 @@ module _ {D N H : Type 0} (disk : Ghosts D N) (has_now : (d : D) → disk.leaves
     unanswered = known.unanswered;
     journal = known.journal;
     faults = ap disk.fault_count is ∙ known.faults ∙ ap (faults_after m.store.volume.fault) (ap disk.fault_count origin.runs.opening ∙ opened.faults);
-    leaves = subst (λ o. LeavesIfCalm disk d o P) (sym is) (leaves_some known.stop.since);
+    leaves = subst (λ o. LeavesFromSync disk d o P) (sym is) (leaves_some known.stop.since);
   }
 
 module _ {D N : Type 0} (disk : Ghosts D N) (d e : D) (tasks : List Task) (processes : ℕ) (old new : Option (List ℕ)) (none : Type 0) where
@@ -109,5 +114,5 @@ pub not_begun : {D N : Type 0} (disk : Ghosts D N) (d e : D) (processes : ℕ) (
 not_begun disk d e processes fault why = record {
   cause = why;
   name = not_opened_name disk processes d e fault why;
-  leaves = not_opened_leaves disk processes d e fault why;
+  leaves = not_opened_recovered disk processes d e fault why;
 }

@@ -7,7 +7,6 @@ use Rattle.model.specs.Layout.{inode_count_of}
 use Rattle.model.specs.Log.{recovered}
 use Rattle.model.specs.Verdict.{verdict}
 use Rattle.model.specs.declared.types.operations.Op.{Op}
-use Rattle.wal.specs.Recovery.{LeavesIfCalm, RecoversAs}
 use Rattle.wal.specs.Volume.{faults_after}
 use Rattle.rings.specs.declared.herald.BoardHerald.{BoardHerald}
 use Rattle.rings.specs.declared.intake.RingIntake.{RingIntake}
@@ -18,11 +17,13 @@ use Rattle.history.specs.Follows.{IsJournal}
 use Rattle.kernel.specs.Invariant.{CanReplay}
 use Rattle.kernel.specs.Known.{IsCurrent}
 use Rattle.kernel.specs.Lasting.{AreUnderWay}
+use Rattle.kernel.specs.Opening.{LeavesRecovered}
 use Rattle.kernel.specs.State.{State}
 use Rattle.scripts.specs.declared.script.Task.{Task}
 use Rattle.clients.specs.Backlogs.{ops_of}
 use Rattle.kernel.specs.declared.types.OpenFault.{OpenFault}
 use Rattle.opening.specs.Openings.{IsNotOpened}
+use Rattle.opening.specs.Stops.{LeavesFromSync}
 use Rattle.runner.specs.declared.refusals.RunRefusal.{RunRefusal}
 use Rattle.runner.specs.declared.refusals.RunRefusal.TheVariants.{Unopened, Thread, Disk, Unanswered, Output}
 use Rattle.runner.specs.Reports.{IsReported}
@@ -33,7 +34,8 @@ Ringed D = State D RingIntake BoardHerald
 
 -- A kernel of so many processes was opened over the disk d, whose image was sound, and steps made m
 -- of it. What a stop leaves on its disk e keeps all groups that it committed; at any moment since
--- the recovery began one leaves an image that keeps some of them, in order.
+-- the recovery's first sync one leaves an image that keeps some of them, in order, and at any since
+-- the recovery began where nothing was held on d.
 pub record IsServed {D N H : Type 0} (disk : Ghosts D N) (d e : D) (processes : ℕ)
     (m : State D RingIntake H) : Type 0 where
   pub sound : verdict (disk.image d) ≡ None
@@ -50,8 +52,8 @@ pub record IsServed {D N H : Type 0} (disk : Ghosts D N) (d e : D) (processes : 
       (inode_count_of (disk.image m.opening)) m.store.volume.log.opened m.world.journal.list
   -- the disk counted no fault, or the one after which nothing is done
   pub faults : disk.fault_count e ≡ faults_after m.store.volume.fault (disk.fault_count d)
-  pub leaves : LeavesIfCalm disk d e (KeepsBetween 0 (most_of m.store.volume) (disk.image m.opening)
-      m.world.journal.list)
+  pub leaves : LeavesFromSync disk d e (KeepsBetween 0 (most_of m.store.volume)
+      (disk.image m.opening) m.world.journal.list)
 
 -- what a kernel's processes came to was printed, and this fault is told of its disk; each operation
 -- has its answer, or not
@@ -101,12 +103,12 @@ pub record IsUndriven {D N : Type 0} (disk : Ghosts D N) (d e : D) (processes : 
   pub served : IsServed disk d e processes last
 
 -- no kernel was opened over the disk d, now e, for this reason; whatever a stop left is recovered
--- as d is
+-- as d is, as a recovery promises it
 pub record HasNotBegun {D N : Type 0} (disk : Ghosts D N) (d e : D) (processes : ℕ)
     (fault : OpenFault) : Type 0 where
   pub cause : IsNotOpened disk processes d e fault
   pub name : disk.name e ≡ disk.name d
-  pub leaves : LeavesIfCalm disk d e (RecoversAs (disk.image d))
+  pub leaves : LeavesRecovered disk d e
 
 -- why a script's operations were not run over the disk d, now e, and what it came to; `none` says
 -- that nothing was printed

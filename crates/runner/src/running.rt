@@ -42,10 +42,10 @@ impl Gate for NoGate {
 /// process's in order, with so many workers, from 1 to 32, on threads of their own. Prints, process
 /// by process, a line for each answer and one for what became of the operations.
 ///
-/// Hands the disk back as the last step left it. Where it held nothing back at the start, whatever a
-/// stop at any moment leaves keeps a beginning of the groups, and what one now leaves keeps all that
-/// were committed; what is kept of each process, up to any group, is a beginning of its changing
-/// operations.
+/// Hands the disk back as the last step left it. Whatever a stop leaves keeps a beginning of the
+/// groups: one at any moment, or, where the disk held writes back at the start, one since the sync
+/// with which the recovery began; and what one now leaves keeps all that were committed. What is
+/// kept of each process, up to any group, is a beginning of its changing operations.
 ///
 /// # Errors
 ///

@@ -6,7 +6,8 @@ use Rattle.model.specs.Files.{Files, files_of}
 use Rattle.model.specs.Soundness.{IsSound}
 use Rattle.calls.specs.Answered.{IsAnswered}
 use Rattle.calls.specs.Files.{files_on}
-use Rattle.calls.specs.Calls.{IsUncalled, IsWhole, Rests, image_on}
+use Rattle.wal.specs.declared.types.DeviceFault.{DeviceFault}
+use Rattle.calls.specs.Calls.{HasFailed, IsUncalled, IsWhole, Rests, faults_on, image_on}
 use Rattle.calls.specs.Stepping.{Plain}
 use Rattle.calls.specs.declared.fault.CallFault.{CallFault}
 use Rattle.calls.specs.declared.fault.CallFault.TheVariants as fault
@@ -57,23 +58,28 @@ module _ {D N : Type 0} (disk : Ghosts D N) where
 
   -- ---- a call that is not answered
 
-  cut_memory : (inum : Option ℕ) (bytes : List ℕ) (k l : Plain D) (e : D) → Rests disk.fault_count k → AreAnswered disk k l →
-      MayPut (files_on disk.image k) inum bytes (files_on disk.image l) → IsUncalled disk l.store.volume.device e fault.NoMemory →
-      IsCutOff disk inum bytes k.store.volume.device e fault.NoMemory
+  pub failed_after : (k l e : Plain D) (cause : DeviceFault) → Rests disk.fault_count k → AreAnswered disk k l → HasFailed disk l e cause → HasFailed disk k e cause
+  failed_after k l e cause rests before why = record {
+    is = why.is;
+    rose = subst (λ (n : ℕ). Rose n (faults_on disk.fault_count e)) (faults_same k l rests before) why.rose;
+  }
+
+  cut_memory : (inum : Option ℕ) (bytes : List ℕ) (k l e : Plain D) → Rests disk.fault_count k → AreAnswered disk k l →
+      MayPut (files_on disk.image k) inum bytes (files_on disk.image l) → IsUncalled disk l e fault.NoMemory →
+      IsCutOff disk inum bytes k e fault.NoMemory
   cut_memory inum bytes k l e rests before files why =
-      let same : disk.image e ≡ image_on disk.image l = why.0.image in (
+      let same : image_on disk.image e ≡ image_on disk.image l = why.0.image in (
         why.1 ∙ faults_same k l rests before,
         record {
-          whole = whole_then (image_on disk.image k) (image_on disk.image l) (disk.image e) before.whole (whole_same (image_on disk.image l) (disk.image e) before.whole.sound same);
+          whole = whole_then (image_on disk.image k) (image_on disk.image l) (image_on disk.image e) before.whole (whole_same (image_on disk.image l) (image_on disk.image e) before.whole.sound same);
           files = subst (λ (y : Image). MayPut (files_on disk.image k) inum bytes (files_of y)) (sym same) files;
         },
       )
 
-  pub cut_after : (inum : Option ℕ) (bytes : List ℕ) (k l : Plain D) (e : D) (cause : CallFault) → Rests disk.fault_count k → AreAnswered disk k l →
-      MayPut (files_on disk.image k) inum bytes (files_on disk.image l) → IsUncalled disk l.store.volume.device e cause →
-      IsCutOff disk inum bytes k.store.volume.device e cause
-  cut_after inum bytes k l e (fault.Disk cause) rests before files why =
-      subst (λ (n : ℕ). Rose n (disk.fault_count e)) (faults_same k l rests before) why
+  pub cut_after : (inum : Option ℕ) (bytes : List ℕ) (k l e : Plain D) (cause : CallFault) → Rests disk.fault_count k → AreAnswered disk k l →
+      MayPut (files_on disk.image k) inum bytes (files_on disk.image l) → IsUncalled disk l e cause →
+      IsCutOff disk inum bytes k e cause
+  cut_after inum bytes k l e (fault.Disk cause) rests before files why = failed_after k l e cause rests before why
   cut_after inum bytes k l e fault.NoMemory rests before files why = cut_memory inum bytes k l e rests before files why
 
   -- ---- behind the call that made the file, or emptied it
@@ -117,14 +123,13 @@ module _ {D N : Type 0} (disk : Ghosts D N) where
     pub part_first : (y : Image) → PutsPart i bytes (image_on disk.image k) y → MayPut (files_on disk.image k) inum bytes (files_of y)
     part_first y part = inr (record { number = i; place = begins.place; count = part.count; files = part.files })
 
-    pub cut_behind : (e : D) (cause : CallFault) → Rests disk.fault_count k → AreAnswered disk k l → IsCutOff disk (Some i) bytes l.store.volume.device e cause →
-        IsCutOff disk inum bytes k.store.volume.device e cause
-    cut_behind e (fault.Disk cause) rests before why =
-        subst (λ (n : ℕ). Rose n (disk.fault_count e)) (faults_same k l rests before) why
+    pub cut_behind : (e : Plain D) (cause : CallFault) → Rests disk.fault_count k → AreAnswered disk k l → IsCutOff disk (Some i) bytes l e cause →
+        IsCutOff disk inum bytes k e cause
+    cut_behind e (fault.Disk cause) rests before why = failed_after k l e cause rests before why
     cut_behind e fault.NoMemory rests before why = (
       why.0 ∙ faults_same k l rests before,
       record {
-        whole = whole_then (image_on disk.image k) (image_on disk.image l) (disk.image e) before.whole why.1.whole;
-        files = first_behind (files_of (disk.image e)) why.1.files;
+        whole = whole_then (image_on disk.image k) (image_on disk.image l) (image_on disk.image e) before.whole why.1.whole;
+        files = first_behind (files_of (image_on disk.image e)) why.1.files;
       },
     )

@@ -16,7 +16,7 @@ use Rattle.kernel.specs.declared.types.OpenFault.{OpenFault}
 use Rattle.history.specs.Lemmas.Leaving.{leaves_wider}
 use Rattle.calls.specs.Calls.{IsWhole, image_on}
 use Rattle.calls.specs.Opening.{IsNotOpenedSole, IsOpenedSole}
-use Rattle.calls.specs.Stepping.{Plain}
+use Rattle.calls.specs.Stepping.{IsReached, Plain}
 use Rattle.wal.specs.Recovery.{IsCalm, LeavesIfCalm, RecoversAs}
 use Rattle.transfer.specs.Judging.{IsFit, IsTold}
 use Rattle.transfer.specs.Needs.{has_room_twice}
@@ -71,39 +71,52 @@ module _ {D N : Type 0} (disk : Ghosts D N) (inum : Option ℕ) (bytes : List �
     faults : disk.fault_count k.store.volume.device ≡ disk.fault_count d
     faults = ap disk.fault_count opened.device ∙ opened.faults ∙ fit.faults
 
-    comes_to : (e : D) (outcome : Outcome) → CallsTo twice disk inum bytes k.store.volume.device e outcome → ComesTo disk inum bytes d e outcome
-    comes_to e outcome calls = record {
+    comes_to : (m : Plain D) (outcome : Outcome) → CallsTo twice disk inum bytes k m outcome → ComesTo disk inum bytes d m.store.volume.device outcome
+    comes_to m outcome calls = record {
       sound = fit.sound;
       plain = fit.room.plain;
-      whole = subst (λ (x : Image). IsWhole x (disk.image e)) fit.reads.image
-          (whole_then (disk.image mid) (image_on disk.image k) (disk.image e) opened.whole calls.whole);
-      comes = subst (λ (t : Bool). PutComes t (recovered (disk.image d)) inum bytes (disk.image e) outcome) room
-          (subst (λ (x : Image). PutComes twice x inum bytes (disk.image e) outcome) begun calls.comes);
+      whole = subst (λ (x : Image). IsWhole x (image_on disk.image m)) fit.reads.image
+          (whole_then (disk.image mid) (image_on disk.image k) (image_on disk.image m) opened.whole calls.whole);
+      comes = subst (λ (t : Bool). PutComes t (recovered (disk.image d)) inum bytes (image_on disk.image m) outcome) room
+          (subst (λ (x : Image). PutComes twice x inum bytes (image_on disk.image m) outcome) begun calls.comes);
       faults = calls.faults ∙ faults;
     }
 
-    pub unwritten_so : (e : D) (none : Type 0) → none → (r : PutRefusal) → IsUnwritten twice disk inum bytes k.store.volume.device e r → IsUnput disk inum bytes sync d e none r
-    unwritten_so e none silent NoInode why = (comes_to e _ why, silent)
-    unwritten_so e none silent Full why = (inr (comes_to e _ why), silent)
-    unwritten_so e none silent NoMemory why = (
+    pub unwritten_so : (m : Plain D) (none : Type 0) → IsReached disk k m → none → (r : PutRefusal) → IsUnwritten twice disk inum bytes k m r → IsUnput disk inum bytes sync d m.store.volume.device none r
+    unwritten_so m none reached silent NoInode why = (comes_to m _ why, silent)
+    unwritten_so m none reached silent Full why = (inr (comes_to m _ why), silent)
+    unwritten_so m none reached silent NoMemory why = (
       inr (record {
         sound = fit.sound;
         plain = fit.room.plain;
-        keeps = subst (λ (t : Bool). KeepsSome t (recovered (disk.image d)) inum bytes (disk.image e)) room
-            (subst (λ (x : Image). KeepsSome twice x inum bytes (disk.image e)) begun why.1);
+        keeps = subst (λ (t : Bool). KeepsSome t (recovered (disk.image d)) inum bytes (image_on disk.image m)) room
+            (subst (λ (x : Image). KeepsSome twice x inum bytes (image_on disk.image m)) begun why.1);
         faults = why.0 ∙ faults;
       }),
       silent,
     )
-    unwritten_so e none silent (Disk cause) why = (record { sound = fit.sound; plain = fit.room.plain; faults = subst (λ (n : ℕ). Rose n (disk.fault_count e)) faults why }, silent)
-    unwritten_so e none silent r why = absurd why
+    unwritten_so m none reached silent (Disk cause) why = (
+      inl (record {
+        sound = fit.sound;
+        plain = fit.room.plain;
+        mid = mid;
+        reads = fit.reads;
+        failed = record { first = k; opened = opened; last = m; reached = reached; fault = why.is; device = refl };
+        faults = subst (λ (n : ℕ). Rose n (disk.fault_count m.store.volume.device)) faults why.rose;
+      }),
+      silent,
+    )
+    unwritten_so m none reached silent r why = absurd why
 
     -- ---- and then a sync
 
-    module _ (unsynced e : D) (number : ℕ) (calls : CallsTo twice disk inum bytes k.store.volume.device unsynced (outcome.Put number)) where
+    module _ (m : Plain D) (unsynced e : D) (same : unsynced ≡ m.store.volume.device) (number : ℕ) (calls : CallsTo twice disk inum bytes k m (outcome.Put number)) where
+      put_first : ComesTo disk inum bytes d unsynced (outcome.Put number)
+      put_first = subst (λ (o : D). ComesTo disk inum bytes d o (outcome.Put number)) (sym same) (comes_to m _ calls)
+
       synced_so : SyncsIf sync disk unsynced e → ComesTo disk inum bytes d e (outcome.Put number)
       synced_so syncs =
-          let put = comes_to unsynced _ calls in
+          let put = put_first in
           let left = left_same disk sync unsynced e syncs in
           record {
             sound = put.sound;
@@ -118,7 +131,10 @@ module _ {D N : Type 0} (disk : Ghosts D N) (inum : Option ℕ) (bytes : List �
       put_so (Err r) old new syncs printed = tt
 
       untold_so : (none : Type 0) (r : PutRefusal) → IsUntold disk sync unsynced e none r → IsUnput disk inum bytes sync d e none r
-      untold_so none (Disk cause) why = (record { sound = fit.sound; plain = fit.room.plain; faults = subst (λ (n : ℕ). Rose n (disk.fault_count e)) (calls.faults ∙ faults) why.0 }, why.1)
+      untold_so none (Disk cause) why = (
+        inr (record { number = number; unsynced = unsynced; put = put_first; asked = why.0; is = why.1; faults = why.2 }),
+        why.3,
+      )
       untold_so none Output why = record { number = number; put = synced_so why; unsynced = unsynced; syncs = why }
       untold_so none r why = absurd why
 

@@ -2,7 +2,7 @@
 use Rattle.std.proofs.Common.{◌≡◌, ◌≢◌, ◌∙◌, ℕ, ◌<◌, Bool, true, false, List, length, take, set, Option, Some, None, refl, sym, ap, subst, inl, inr, arith}
 use Rattle.std.specs.Prelude.{◌⊎◌, ⊤, IsTrue}
 use Rattle.std.proofs.lemmas.List.{get_or-set_other, set-get_or, set-set, set_comm, take_all}
-use Rattle.blocks.specs.Disk.{Image, Rose}
+use Rattle.blocks.specs.Disk.{Image}
 use Rattle.blocks.specs.Lemmas.Moments.{joined}
 use Rattle.blocks.specs.declared.disk.Disk.{Ghosts}
 use Rattle.model.specs.Files.{Files, file_in, files_of}
@@ -13,7 +13,8 @@ use Rattle.model.specs.declared.types.image.File.{File}
 use Rattle.history.specs.Lemmas.Leaving.{leaves_wider}
 use Rattle.calls.specs.Calls.{Rests, image_on}
 use Rattle.calls.specs.Files.{files_on}
-use Rattle.calls.specs.Stepping.{Plain}
+use Rattle.calls.specs.Lemmas.Reaching.{reached_then}
+use Rattle.calls.specs.Stepping.{IsReached, Plain}
 use Rattle.calls.specs.Stopped.{KeepsChange, LeavesChange, Removes, StaysOver}
 use Rattle.calls.specs.declared.fault.CallFault.{CallFault}
 use Rattle.calls.specs.declared.fault.CallFault.TheVariants as fault
@@ -23,7 +24,7 @@ use Rattle.transfer.specs.Rounds.{Goes, GoesRound, HasBytes, HasFree, HasOldOrNe
 use Rattle.transfer.specs.Stopped.{KeepsPlace, KeepsPut, MayLeave, MayStop, StaysPlace, StaysPut}
 use Rattle.transfer.specs.declared.writing.Outcome.{Outcome}
 use Rattle.transfer.specs.declared.writing.Outcome.TheVariants as outcome
-use Rattle.transfer.proofs.CallLemmas.{faults_same, whole_then}
+use Rattle.transfer.proofs.CallLemmas.{failed_after, faults_same, whole_then}
 use Rattle.transfer.proofs.PlaceLemmas.{file_put}
 
 -- ---- two files
@@ -139,16 +140,15 @@ comes_alone x m inum bytes y same none outcome.Full fills = inr (inr (none, fill
 
 module _ {D N : Type 0} (disk : Ghosts D N) (inum : ℕ) (bytes : List ℕ) where
   -- a call that is not answered, behind others
-  pub cut_round : (k l : Plain D) (place : Option ℕ) (e : D) → Rests disk.fault_count k → AreAnswered disk k l
+  pub cut_round : (k l : Plain D) (place : Option ℕ) (e : Plain D) → Rests disk.fault_count k → AreAnswered disk k l
       → ((y : Image) → MayPut (files_on disk.image l) place bytes (files_of y) → GoesRound (λ w at. MayPut (files_of w) at bytes (files_of y)) (image_on disk.image k) inum bytes)
-      → (cause : CallFault) → IsCutOff disk place bytes l.store.volume.device e cause → IsPutCutOff true disk (Some inum) bytes k.store.volume.device e cause
-  cut_round k l place e rests before goes (fault.Disk cause) why =
-      subst (λ (n : ℕ). Rose n (disk.fault_count e)) (faults_same disk k l rests before) why
+      → (cause : CallFault) → IsCutOff disk place bytes l e cause → IsPutCutOff true disk (Some inum) bytes k e cause
+  cut_round k l place e rests before goes (fault.Disk cause) why = failed_after disk k l e cause rests before why
   cut_round k l place e rests before goes fault.NoMemory why = (
     why.0 ∙ faults_same disk k l rests before,
     record {
-      whole = whole_then (image_on disk.image k) (image_on disk.image l) (disk.image e) before.whole why.1.whole;
-      files = goes (disk.image e) why.1.files;
+      whole = whole_then (image_on disk.image k) (image_on disk.image l) (image_on disk.image e) before.whole why.1.whole;
+      files = goes (image_on disk.image e) why.1.files;
     },
   )
 
@@ -166,6 +166,7 @@ module _ {D N : Type 0} (disk : Ghosts D N) (inum : ℕ) (bytes : List ℕ) wher
       leaves = leaves_wider disk.moment disk.leaves l.store.volume.device m.store.volume.device (KeepsPlace w place bytes) (KeepsPut true x (Some inum) bytes)
           (λ z kept. keeps_round z kept.log kept.sound (inl (goes (recovered z) kept.files))) stays.leaves;
       name = stays.name;
+      reached = stays.reached;
     }
 
     -- of calls behind calls
@@ -173,6 +174,7 @@ module _ {D N : Type 0} (disk : Ghosts D N) (inum : ℕ) (bytes : List ℕ) wher
     round_then k l m first second = record {
       leaves = joined disk.moment disk.leaves k.store.volume.device l.store.volume.device m.store.volume.device (KeepsPut true x (Some inum) bytes) first.leaves second.leaves;
       name = second.name ∙ first.name;
+      reached = reached_then disk k l m first.reached second.reached;
     }
 
     -- of the removal of the new file, once the old one has all bytes
@@ -199,11 +201,12 @@ module _ {D N : Type 0} (disk : Ghosts D N) (inum : ℕ) (bytes : List ℕ) wher
             },
           )
 
-      pub round_removed : LeavesChange disk (Removes spare.number) m n → StaysOver disk m n → StaysPut disk true x (Some inum) bytes m n
-      round_removed only over = record {
+      pub round_removed : LeavesChange disk (Removes spare.number) m n → StaysOver disk m n → IsReached disk m n → StaysPut disk true x (Some inum) bytes m n
+      round_removed only over reached = record {
         leaves = leaves_wider disk.moment disk.leaves m.store.volume.device n.store.volume.device (KeepsChange (Removes spare.number) (image_on disk.image m)) (KeepsPut true x (Some inum) bytes)
             (λ z kept. keeps_round z kept.log kept.sound (stops_removed (recovered z) kept.files)) only;
         name = over.name;
+        reached = reached;
       }
 
 -- ---- a put that goes no way round
@@ -228,13 +231,13 @@ module _ (inum : Option ℕ) (twice : Bool) (straight : IsStraight inum twice) (
   comes_straight x y outcome.NoInode comes = comes
   comes_straight x y outcome.Full comes = goes_straight inum twice (λ w place. FillsUp w place bytes y) x bytes straight comes
 
-  pub cut_straight : {D N : Type 0} (disk : Ghosts D N) (d e : D) (cause : CallFault) → IsCutOff disk inum bytes d e cause → IsPutCutOff twice disk inum bytes d e cause
+  pub cut_straight : {D N : Type 0} (disk : Ghosts D N) (d e : Plain D) (cause : CallFault) → IsCutOff disk inum bytes d e cause → IsPutCutOff twice disk inum bytes d e cause
   cut_straight disk d e (fault.Disk cause) why = why
   cut_straight disk d e fault.NoMemory why = (
     why.0,
     record {
       whole = why.1.whole;
-      files = goes_straight inum twice (λ w place. MayPut (files_of w) place bytes (files_of (disk.image e))) (disk.image d) bytes straight why.1.files;
+      files = goes_straight inum twice (λ w place. MayPut (files_of w) place bytes (files_of (image_on disk.image e))) (image_on disk.image d) bytes straight why.1.files;
     },
   )
 
@@ -249,6 +252,7 @@ module _ (inum : Option ℕ) (twice : Bool) (straight : IsStraight inum twice) (
         })
         stays.leaves;
     name = stays.name;
+    reached = stays.reached;
   }
 
 -- ---- before anything was put

@@ -10,7 +10,8 @@ use Rattle.calls.specs.Files.{appended, files_on}
 use Rattle.calls.specs.Stopped.{AppendsFirst, Empties, KeepsChange, LeavesChange, MakesAny, Removes, StaysOver}
 use Rattle.history.specs.Lemmas.Leaving.{leaves_wider}
 use Rattle.calls.specs.Calls.{KeepsFiles, image_on}
-use Rattle.calls.specs.Stepping.{Plain}
+use Rattle.calls.specs.Lemmas.Reaching.{reached_none, reached_then}
+use Rattle.calls.specs.Stepping.{IsReached, Plain}
 use Rattle.transfer.specs.Places.{put_at}
 use Rattle.transfer.specs.Stopped.{IsSpot, KeepsPlace, LeavesFirst, StaysPlace}
 use Rattle.transfer.proofs.PlaceLemmas.{appended_put, emptied_put, made_put, put_at_again, removed_put}
@@ -21,12 +22,13 @@ module _ {D N : Type 0} (disk : Ghosts D N) (x : Image) (inum : Option ℕ) (byt
   Led new = (new ≡ files_of x) ⊎ LeavesFirst (files_of x) inum bytes new
 
   -- a change leaves the files that stand on the disk, or those behind it
-  pub stays_first : (change : Files → Files → Type 0) (k m : Plain D) → LeavesChange disk change k m → StaysOver disk k m
+  pub stays_first : (change : Files → Files → Type 0) (k m : Plain D) → LeavesChange disk change k m → StaysOver disk k m → IsReached disk k m
       → ((new : Files) → (new ≡ files_on disk.image k) ⊎ change (files_on disk.image k) new → Led new) → StaysPlace disk x inum bytes k m
-  stays_first change k m only over leads = record {
+  stays_first change k m only over reached leads = record {
     leaves = leaves_wider disk.moment disk.leaves k.store.volume.device m.store.volume.device (KeepsChange change (image_on disk.image k)) (KeepsPlace x inum bytes)
         (λ z kept. record { log = kept.log; sound = kept.sound; files = leads (files_of (recovered z)) kept.files }) only;
     name = over.name;
+    reached = reached;
   }
 
   -- so does no call
@@ -36,6 +38,7 @@ module _ {D N : Type 0} (disk : Ghosts D N) (x : Image) (inum : Option ℕ) (byt
     leaves = leaves_wider disk.moment disk.leaves k.store.volume.device k.store.volume.device (KeepsFiles (image_on disk.image k)) (KeepsPlace x inum bytes)
         (λ z kept. record { log = kept.log; sound = kept.sound; files = subst Led (sym kept.files) led }) only;
     name = refl;
+    reached = reached_none disk k;
   }
 
   -- calls behind calls
@@ -43,6 +46,7 @@ module _ {D N : Type 0} (disk : Ghosts D N) (x : Image) (inum : Option ℕ) (byt
   stays_then k l m first second = record {
     leaves = joined disk.moment disk.leaves k.store.volume.device l.store.volume.device m.store.volume.device (KeepsPlace x inum bytes) first.leaves second.leaves;
     name = second.name ∙ first.name;
+    reached = reached_then disk k l m first.reached second.reached;
   }
 
   -- pieces that are put behind the call that made the file, or emptied it
@@ -52,6 +56,7 @@ module _ {D N : Type 0} (disk : Ghosts D N) (x : Image) (inum : Option ℕ) (byt
     leaves = leaves_wider disk.moment disk.leaves l.store.volume.device m.store.volume.device (KeepsPlace (image_on disk.image l) (Some i) bytes) (KeepsPlace x inum bytes)
         (λ z kept. record { log = kept.log; sound = kept.sound; files = leads (files_of (recovered z)) kept.files }) stays.leaves;
     name = stays.name;
+    reached = stays.reached;
   }
 
 -- ---- which files a call leads to

@@ -1,12 +1,12 @@
 -- What calls that put bytes come to.
 use Rattle.std.specs.Prelude.{◌≡◌, ◌<◌, ◌≤◌, ℕ, Bool, true, false, List, length, take, Option, Some, None}
-use Rattle.blocks.specs.Disk.{Image, Rose}
+use Rattle.blocks.specs.Disk.{Image}
 use Rattle.blocks.specs.declared.disk.Disk.{Ghosts}
 use Rattle.model.specs.Files.{files_of}
 use Rattle.model.specs.Layout.{form_of}
 use Rattle.model.specs.Soundness.{IsSound}
 use Rattle.calls.specs.Files.{IsFull}
-use Rattle.calls.specs.Calls.{IsWhole, Rests, call_count, image_on}
+use Rattle.calls.specs.Calls.{HasFailed, IsWhole, Rests, call_count, faults_on, image_on}
 use Rattle.calls.specs.Stepping.{Plain}
 use Rattle.calls.specs.declared.fault.CallFault.{CallFault}
 use Rattle.calls.specs.declared.fault.CallFault.TheVariants as fault
@@ -73,12 +73,13 @@ pub record KeepsPart (x : Image) (inum : Option ℕ) (bytes : List ℕ) (y : Ima
   pub whole : IsWhole x y
   pub files : MayPut (files_of x) inum bytes (files_of y)
 
--- why a call was not answered, over a disk that was d before all calls and is e
-abbrev pub IsCutOff : {D N : Type 0} → Ghosts D N → Option ℕ → List ℕ → D → D → CallFault → Type 0
-IsCutOff disk inum bytes d e (fault.Disk cause) = Rose (disk.fault_count d) (disk.fault_count e)
-IsCutOff disk inum bytes d e fault.NoMemory =
-    (disk.fault_count e ≡ disk.fault_count d)
-    × KeepsPart (disk.image d) inum bytes (disk.image e)
+-- why a call was not answered, of a kernel that was k before all calls and is m
+abbrev pub IsCutOff : {D N : Type 0} → Ghosts D N → Option ℕ → List ℕ → Plain D → Plain D
+    → CallFault → Type 0
+IsCutOff disk inum bytes k m (fault.Disk cause) = HasFailed disk k m cause
+IsCutOff disk inum bytes k m fault.NoMemory =
+    (faults_on disk.fault_count m ≡ faults_on disk.fault_count k)
+    × KeepsPart (image_on disk.image k) inum bytes (image_on disk.image m)
 
 -- ---- over a file, where there is room `twice`, a put goes round
 
@@ -96,31 +97,30 @@ pub record KeepsSome (twice : Bool) (x : Image) (inum : Option ℕ) (bytes : Lis
   pub files : Goes inum twice (λ w place. MayPut (files_of w) place bytes (files_of y)) x bytes
 
 -- why a call of a put was not answered
-abbrev pub IsPutCutOff : {D N : Type 0} → Bool → Ghosts D N → Option ℕ → List ℕ → D → D → CallFault
-    → Type 0
-IsPutCutOff twice disk inum bytes d e (fault.Disk cause) =
-    Rose (disk.fault_count d) (disk.fault_count e)
-IsPutCutOff twice disk inum bytes d e fault.NoMemory =
-    (disk.fault_count e ≡ disk.fault_count d)
-    × KeepsSome twice (disk.image d) inum bytes (disk.image e)
+abbrev pub IsPutCutOff : {D N : Type 0} → Bool → Ghosts D N → Option ℕ → List ℕ → Plain D → Plain D
+    → CallFault → Type 0
+IsPutCutOff twice disk inum bytes k m (fault.Disk cause) = HasFailed disk k m cause
+IsPutCutOff twice disk inum bytes k m fault.NoMemory =
+    (faults_on disk.fault_count m ≡ faults_on disk.fault_count k)
+    × KeepsSome twice (image_on disk.image k) inum bytes (image_on disk.image m)
 
 -- the calls came to this, and none failed
 pub record CallsTo {D N : Type 0} (twice : Bool) (disk : Ghosts D N) (inum : Option ℕ)
-    (bytes : List ℕ) (d e : D) (outcome : Outcome) : Type 0 where
-  pub whole : IsWhole (disk.image d) (disk.image e)
-  pub comes : PutComes twice (disk.image d) inum bytes (disk.image e) outcome
-  pub faults : disk.fault_count e ≡ disk.fault_count d
+    (bytes : List ℕ) (k m : Plain D) (outcome : Outcome) : Type 0 where
+  pub whole : IsWhole (image_on disk.image k) (image_on disk.image m)
+  pub comes : PutComes twice (image_on disk.image k) inum bytes (image_on disk.image m) outcome
+  pub faults : faults_on disk.fault_count m ≡ faults_on disk.fault_count k
 
 -- why the bytes were not all put
-abbrev pub IsUnwritten : {D N : Type 0} → Bool → Ghosts D N → Option ℕ → List ℕ → D → D
+abbrev pub IsUnwritten : {D N : Type 0} → Bool → Ghosts D N → Option ℕ → List ℕ → Plain D → Plain D
     → PutRefusal → Type 0
-IsUnwritten twice disk inum bytes d e NoInode = CallsTo twice disk inum bytes d e outcome.NoInode
-IsUnwritten twice disk inum bytes d e Full = CallsTo twice disk inum bytes d e outcome.Full
-IsUnwritten twice disk inum bytes d e NoMemory =
-    IsPutCutOff twice disk inum bytes d e fault.NoMemory
-IsUnwritten twice disk inum bytes d e (Disk cause) =
-    IsPutCutOff twice disk inum bytes d e (fault.Disk cause)
-IsUnwritten twice disk inum bytes d e r = ⊥
+IsUnwritten twice disk inum bytes k m NoInode = CallsTo twice disk inum bytes k m outcome.NoInode
+IsUnwritten twice disk inum bytes k m Full = CallsTo twice disk inum bytes k m outcome.Full
+IsUnwritten twice disk inum bytes k m NoMemory =
+    IsPutCutOff twice disk inum bytes k m fault.NoMemory
+IsUnwritten twice disk inum bytes k m (Disk cause) =
+    IsPutCutOff twice disk inum bytes k m (fault.Disk cause)
+IsUnwritten twice disk inum bytes k m r = ⊥
 
 -- ---- by the room that the image has
 

@@ -1,5 +1,5 @@
 -- What putting a file's bytes into an image comes to.
-use Rattle.std.specs.Prelude.{◌≡◌, ◌⊎◌, ℕ, Bool, List, length, Option, None}
+use Rattle.std.specs.Prelude.{◌≡◌, ◌⊎◌, ℕ, Bool, IsTrue, List, length, Option, None, Some}
 use Rattle.std.specs.Io.KnownBytes.{Appends}
 use Rattle.blocks.specs.Calls.{OnlyReads}
 use Rattle.blocks.specs.Disk.{Rose}
@@ -7,9 +7,12 @@ use Rattle.blocks.specs.declared.disk.Disk.{Ghosts}
 use Rattle.model.specs.Files.{files_of}
 use Rattle.model.specs.Log.{recovered}
 use Rattle.model.specs.Verdict.{verdict}
+use Rattle.wal.specs.Step.{FailsToSync}
+use Rattle.wal.specs.declared.types.DeviceFault.{DeviceFault}
 use Rattle.kernel.specs.declared.types.OpenFault.{OpenFault}
 use Rattle.calls.specs.Calls.{IsWhole}
-use Rattle.calls.specs.Opening.{IsNotOpenedSole}
+use Rattle.calls.specs.Opening.{IsNotOpenedSole, IsOpenedSole}
+use Rattle.calls.specs.Stepping.{IsReached, Plain}
 use Rattle.messages.specs.Output.{number_text}
 use Rattle.transfer.specs.Ending.{SyncsIf}
 use Rattle.transfer.specs.Judging.{IsTold}
@@ -58,12 +61,35 @@ pub record RunsOut {D N : Type 0} (disk : Ghosts D N) (inum : Option ℕ) (bytes
   pub keeps : KeepsSomeOf (recovered (disk.image d)) inum bytes (disk.image e)
   pub faults : disk.fault_count e ≡ disk.fault_count d
 
--- the disk failed, over an image without a fault
-pub record FailsSound {D N : Type 0} (disk : Ghosts D N) (inum : Option ℕ) (d e : D) : Type 0
+-- a kernel that was opened over the disk d, now e, made turns, and then had just this fault
+pub record EndsFailed {D N : Type 0} (disk : Ghosts D N) (d e : D) (cause : DeviceFault) : Type 0
   where
-    pub sound : verdict (disk.image d) ≡ None
-    pub plain : IsPlainOld (files_of (recovered (disk.image d))) inum
-    pub faults : Rose (disk.fault_count d) (disk.fault_count e)
+    pub first : Plain D
+    pub opened : IsOpenedSole disk d first
+    pub last : Plain D
+    pub reached : IsReached disk first last
+    pub fault : last.store.volume.fault ≡ Some cause
+    pub device : last.store.volume.device ≡ e
+
+-- the disk failed in a call, over an image without a fault; before the kernel it was only read
+pub record FailsSound {D N : Type 0} (disk : Ghosts D N) (inum : Option ℕ) (d e : D)
+    (cause : DeviceFault) : Type 0 where
+  pub sound : verdict (disk.image d) ≡ None
+  pub plain : IsPlainOld (files_of (recovered (disk.image d))) inum
+  pub mid : D
+  pub reads : OnlyReads disk d mid
+  pub failed : EndsFailed disk mid e cause
+  pub faults : Rose (disk.fault_count d) (disk.fault_count e)
+
+-- the bytes were put, and the sync that was asked for failed
+pub record FailsSynced {D N : Type 0} (disk : Ghosts D N) (inum : Option ℕ) (bytes : List ℕ)
+    (sync : Bool) (d e : D) (cause : DeviceFault) : Type 0 where
+  pub number : ℕ
+  pub unsynced : D
+  pub put : ComesTo disk inum bytes d unsynced (outcome.Put number)
+  pub asked : IsTrue sync
+  pub is : FailsToSync cause
+  pub faults : Rose (disk.fault_count unsynced) (disk.fault_count e)
 
 -- the same, but the number of their file could not be printed
 pub record HasPutUntold {D N : Type 0} (disk : Ghosts D N) (inum : Option ℕ) (bytes : List ℕ)
@@ -75,7 +101,8 @@ pub record HasPutUntold {D N : Type 0} (disk : Ghosts D N) (inum : Option ℕ) (
 
 -- why the number of a file that was put on the disk d, now e, was not printed
 abbrev pub IsUntold : {D N : Type 0} → Ghosts D N → Bool → D → D → Type 0 → PutRefusal → Type 0
-IsUntold disk sync d e none (Disk fault) = Rose (disk.fault_count d) (disk.fault_count e) × none
+IsUntold disk sync d e none (Disk cause) = IsTrue sync × FailsToSync cause
+    × Rose (disk.fault_count d) (disk.fault_count e) × none
 IsUntold disk sync d e none Output = SyncsIf sync disk d e
 IsUntold disk sync d e none r = ⊥
 
@@ -98,6 +125,6 @@ IsUnput disk inum bytes sync d e none (Unopened fault) =
     IsUnopenedThen disk inum d e fault × none
 IsUnput disk inum bytes sync d e none NoInode =
     ComesTo disk inum bytes d e outcome.NoInode × none
-IsUnput disk inum bytes sync d e none (Disk fault) =
-    FailsSound disk inum d e × none
+IsUnput disk inum bytes sync d e none (Disk cause) =
+    (FailsSound disk inum d e cause ⊎ FailsSynced disk inum bytes sync d e cause) × none
 IsUnput disk inum bytes sync d e none Output = HasPutUntold disk inum bytes sync d e

@@ -5,7 +5,7 @@ use Rattle.blocks.specs.declared.disk.Disk.{Ghosts}
 use Rattle.model.specs.Files.{Files, file_in, files_of}
 use Rattle.model.specs.Log.{is_lawful_log, recovered}
 use Rattle.model.specs.Soundness.{IsSound}
-use Rattle.calls.specs.Stepping.{Plain}
+use Rattle.calls.specs.Stepping.{IsReached, Plain}
 use Rattle.wal.specs.Recovery.{LeavesIfCalm}
 use Rattle.transfer.specs.Needs.{has_room_twice}
 use Rattle.transfer.specs.Places.{PutsAll, put_at}
@@ -42,6 +42,7 @@ pub record StaysPlace {D N : Type 0} (disk : Ghosts D N) (x : Image) (inum : Opt
   pub leaves : LeavesOnly disk.moment disk.leaves k.store.volume.device m.store.volume.device
       (KeepsPlace x inum bytes)
   pub name : disk.name m.store.volume.device ≡ disk.name k.store.volume.device
+  pub reached : IsReached disk k m
 
 -- how far a put that is stopped came, `twice` where there is room twice; or it was done
 abbrev pub MayStop : Bool → Image → Option ℕ → List ℕ → Image → Type 0
@@ -74,3 +75,4 @@ pub record StaysPut {D N : Type 0} (disk : Ghosts D N) (twice : Bool) (x : Image
   pub leaves : LeavesOnly disk.moment disk.leaves k.store.volume.device m.store.volume.device
       (KeepsPut twice x inum bytes)
   pub name : disk.name m.store.volume.device ≡ disk.name k.store.volume.device
+  pub reached : IsReached disk k m

@@ -1,5 +1,5 @@
 // How a disk is left.
-ghost use Rattle.std.specs.Prelude.{◌≡◌, OnErr, OnOk};
+ghost use Rattle.std.specs.Prelude.{◌≡◌, IsTrue, OnErr, OnOk};
 ghost use Rattle.blocks.specs.Disk.{AddsNone, Rose};
 ghost use Rattle.transfer.specs.Ending.{SyncsIf};
 
@@ -12,6 +12,7 @@ use blocks::{Disk, SyncFault};
 /// That of the disk's sync.
 pub(crate) fn sync_if<D: Disk>(sync: bool, disk: &mut D) -> Result<(), SyncFault>
     ensures syncs { OnOk result (SyncsIf sync D.Disk disk.old disk.new) }
+    ensures asked { OnErr result (IsTrue sync) }
     ensures rose { OnErr result (Rose (D.fault_count disk.old) (D.fault_count disk.new)) }
     ensures name { D.name disk.new ≡ D.name disk.old }
     ensures time { AddsNone (D.moment disk.old) (D.moment disk.new)

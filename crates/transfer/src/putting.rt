@@ -52,7 +52,8 @@ use wal::DeviceFault;
 /// files are as before. `Full` where no block is free for all bytes after all: a new file was removed
 /// again, an old one keeps the first of the bytes, and where there was a way round, a new one beside
 /// it keeps all. `NoMemory`: the files are as before, or the first of the bytes are put, as a stop
-/// leaves them. `Disk` where the disk failed, in a call or in the sync. With all these nothing was
+/// leaves them. `Disk` with the disk's fault, that of a call's step, or that of the sync where the
+/// bytes were put. With all these nothing was
 /// printed. `Output`: the bytes are put, and the disk is synced as above.
 pub fn put_disk<D: Disk + Drop, P: Meter, O: Write>(
     alloc: Global,
@@ -106,9 +107,9 @@ fn put<D: Disk, P: Meter>(
     requires there { HasOld (files_on D.image kernel.old) inum }
     requires short { length bytes.now ≤ greatest_size (form_of (image_on D.image kernel.old)) }
     ensures put { IfOk result (λ number. CallsTo twice D.Disk inum bytes.now
-        kernel.old.store.volume.device kernel.new.store.volume.device (outcome.Put number)) }
+        kernel.old kernel.new (outcome.Put number)) }
     ensures refused { IfErr result (IsUnwritten twice D.Disk inum bytes.now
-        kernel.old.store.volume.device kernel.new.store.volume.device) }
+        kernel.old kernel.new) }
     ensures stays { StaysPut D.Disk twice (image_on D.image kernel.old) inum bytes.now
         kernel.old kernel.new }
 {

@@ -48,7 +48,7 @@ pub fn put_bytes<D: Disk, P: Meter>(
         (image_on D.image kernel.new)) }
     ensures answered { OnOk result (AreAnswered D.Disk kernel.old kernel.new) }
     ensures refused { IfErr result (IsPutCutOff twice D.Disk inum bytes.now
-        kernel.old.store.volume.device kernel.new.store.volume.device) }
+        kernel.old kernel.new) }
     ensures stays { StaysPut D.Disk twice (image_on D.image kernel.old) inum bytes.now
         kernel.old kernel.new }
 {
@@ -81,7 +81,7 @@ fn go_round<D: Disk, P: Meter>(
         bytes.now (image_on D.image kernel.new)) }
     ensures answered { OnOk result (AreAnswered D.Disk kernel.old kernel.new) }
     ensures refused { IfErr result (IsPutCutOff true D.Disk (Some number) bytes.now
-        kernel.old.store.volume.device kernel.new.store.volume.device) }
+        kernel.old kernel.new) }
     ensures stays { StaysPut D.Disk true (image_on D.image kernel.old) (Some number) bytes.now
         kernel.old kernel.new }
 {
@@ -111,7 +111,7 @@ fn add<D: Disk, P: Meter>(
     ensures answered { OnOk result (AreAnswered D.Disk kernel.old kernel.new) }
     ensures few { OnOk result (call_count kernel.new ≤ 2 ^ 31 + 2 ^ 16) }
     ensures refused { IfErr result (IsCutOff D.Disk None bytes.now
-        kernel.old.store.volume.device kernel.new.store.volume.device) }
+        kernel.old kernel.new) }
     ensures stays { StaysPlace D.Disk (image_on D.image kernel.old) None bytes.now
         kernel.old kernel.new }
 {
@@ -140,7 +140,7 @@ fn replace<D: Disk, P: Meter>(
         (image_on D.image kernel.new)) }
     ensures answered { OnOk result (AreAnswered D.Disk kernel.old kernel.new) }
     ensures refused { IfErr result (IsCutOff D.Disk (Some number) bytes.now
-        kernel.old.store.volume.device kernel.new.store.volume.device) }
+        kernel.old kernel.new) }
     ensures stays { StaysPlace D.Disk (image_on D.image kernel.old) (Some number) bytes.now
         kernel.old kernel.new }
 {
@@ -167,7 +167,7 @@ fn refill<D: Disk, P: Meter>(
     ensures answered { OnOk result (AreAnswered D.Disk kernel.old kernel.new) }
     ensures few { OnOk result (call_count kernel.new < 2 ^ 32) }
     ensures refused { IfErr result (IsCutOff D.Disk (Some number) bytes.now
-        kernel.old.store.volume.device kernel.new.store.volume.device) }
+        kernel.old kernel.new) }
     ensures stays { StaysPlace D.Disk (image_on D.image kernel.old) (Some number) bytes.now
         kernel.old kernel.new }
 {
@@ -191,7 +191,7 @@ fn append_all<D: Disk, P: Meter>(
     ensures answered { OnOk result (AreAnswered D.Disk kernel.old kernel.new) }
     ensures few { OnOk result (call_count kernel.new ≤ call_count kernel.old + 2 ^ 15) }
     ensures refused { IfErr result (IsCutOff D.Disk (Some number) bytes.now
-        kernel.old.store.volume.device kernel.new.store.volume.device) }
+        kernel.old kernel.new) }
     ensures stays { StaysPlace D.Disk (image_on D.image kernel.old) (Some number) bytes.now
         kernel.old kernel.new }
 {

@@ -12,8 +12,9 @@ use Rattle.model.specs.declared.types.operations.Step.TheVariants as step
 use Rattle.kernel.specs.Moves.{MakesSteps}
 use Rattle.calls.specs.declared.fault.CallFault.TheVariants as fault
 use Rattle.calls.specs.Calls.{Calls, KeepsCall, image_on}
+use Rattle.calls.specs.Lemmas.Reaching.{reached_ports, reached_then}
 use Rattle.calls.specs.Stepping.{Plain, plain_herald, plain_queues}
-use Rattle.calls.proofs.Called.{IsCall, call_looks, call_names, call_opening, is_answered, refused_reads, rests_again}
+use Rattle.calls.proofs.Called.{IsCall, call_looks, call_names, call_opening, call_reached, is_answered, refused_reads, rests_again}
 use Rattle.calls.proofs.Leaving.{call_leaves, may_given}
 use Rattle.calls.proofs.Rest.{call_made}
 use Rattle.calls.proofs.Unanswered.{EndsSo, call_ends, has_failed, is_faultless, is_handed_in}
@@ -56,10 +57,11 @@ returns-in-Some g c =
       rests = search rules;
       calls = search rules;
       refused = has_failed g.D.Disk op r k m call c.in-Some.fault (search rules);
-      leaves = call_leaves g.D.Disk g.met.D.Disk.has_now op r k m call (Err (fault.Disk c.in-Some.fault)) (λ e reply list told. tt);
+      leaves = call_leaves g.D.Disk g.met.D.Disk.has_now op r k m call (Err (fault.Disk _)) (λ e reply list told. tt);
       looks = call_looks g.D.Disk op r k m call;
       opening = call_opening g.D.Disk op r k m call;
       name = call_names g.D.Disk op r k m call;
+      reached = call_reached g.D.Disk op r k m call;
     }
 
 -- memory was refused
@@ -78,6 +80,7 @@ returns-in-NoMemory g c =
       looks = call_looks g.D.Disk op r k m call;
       opening = call_opening g.D.Disk op r k m call;
       name = call_names g.D.Disk op r k m call;
+      reached = call_reached g.D.Disk op r k m call;
     }
 
 -- the operation was answered
@@ -103,6 +106,7 @@ returns-in-Some-poll g c =
       looks = λ look. subst (λ n. OnlyReads g.D.Disk k.store.volume.device n.store.volume.device) (sym c.poll.ensures.same) (call_looks g.D.Disk op r k m call look);
       opening = ap (λ n. n.opening) c.poll.ensures.same ∙ call_opening g.D.Disk op r k m call;
       name = ap (λ n. g.D.Disk.name n.store.volume.device) c.poll.ensures.same ∙ call_names g.D.Disk op r k m call;
+      reached = reached_then g.D.Disk k m c.poll.new.self (call_reached g.D.Disk op r k m call) (reached_ports g.D.Disk m c.poll.new.self c.poll.ensures.same);
     }
 
 pub unreachable-requires-in-None : goal.unreachable-requires-in-None

@@ -1,5 +1,6 @@
 use Rattle.calls.proofs.Calls.{appends, of_copy, writes}
 use Rattle.calls.proofs.Stopping.{leaves_appended}
+use Rattle.calls.specs.Lemmas.Reaching.{reached_none}
 use Rattle.calls.proofs.changes.append.Goals as goal
 
 pub unreachable-requires : goal.unreachable-requires
@@ -20,3 +21,7 @@ returns-in_err-count-clause-leaves g c =
 pub returns-clause-leaves : goal.returns-clause-leaves
 returns-clause-leaves g c =
     leaves_appended g.D.Disk (g.D.Disk.image c.args.kernel.now.store.volume.device) c.args.i c.args.off c.in-Ok.content c.args.bytes.now c.in-Ok.ensures c.requires.room c.call.result _ _ c.call.ensures.leaves
+
+-- no copy was made
+pub returns-in_default-clause-reached : goal.returns-in_default-clause-reached
+returns-in_default-clause-reached g c = reached_none g.D.Disk c.args.kernel.now

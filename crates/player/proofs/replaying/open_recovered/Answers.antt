@@ -2,16 +2,17 @@ use Rattle.std.proofs.Common.{◌∙◌, ap, inr, subst}
 use Rattle.blocks.specs.Disk.{counted}
 use Rattle.model.specs.Log.{logged_count}
 use Rattle.wal.specs.Recovery.{writes_to_recover}
+use Rattle.opening.specs.Lemmas.Stopping.{again_recovered, leaves_again}
 use Rattle.opening.specs.Recoveries.{IsRecovered}
 use Rattle.player.specs.Disks.{faulty}
-use Rattle.player.proofs.Openings.{none_counted, opened_again, over_name, over_only, recovered_then}
+use Rattle.player.proofs.Openings.{none_counted, opened_again, over_name, over_only}
 use Rattle.player.proofs.replaying.open_recovered.Goals as goal
 
 pub returns-in-Err-clause-refused : goal.returns-in-Err-clause-refused
 returns-in-Err-clause-refused g c = record {
   cause = c.in-Err.ensures.refused;
   name = c.recover_image.ensures.name;
-  leaves = c.recover_image.ensures.stops.any_moment;
+  leaves = c.recover_image.ensures.stops;
 }
 
 pub returns-in-Err-open_player-clause-refused : goal.returns-in-Err-open_player-clause-refused
@@ -23,7 +24,8 @@ returns-in-Err-open_player-clause-refused g c =
     record {
       cause = inr (mid, subst (λ n. IsRecovered g.D.Disk n c.args.disk mid) r.count r, c.in-Err-open_player.ensures.refused);
       name = over_name g.D.Disk c.args.processes c.args.stop mid e fault c.in-Err-open_player.ensures.refused ∙ c.recover_image.ensures.name;
-      leaves = recovered_then g.D.Disk c.args.disk mid e r.sound r.image c.in_default.ensures.settled c.recover_image.ensures.stops.any_moment (over_only g.D.Disk c.args.processes c.args.stop mid e fault c.in-Err-open_player.ensures.refused);
+      leaves = again_recovered g.D.Disk c.args.disk e (leaves_again g.D.Disk c.args.disk mid r.sound r.image c.in_default.ensures.settled c.recover_image.ensures.stops e
+          (over_only g.D.Disk c.args.processes c.args.stop mid e fault c.in-Err-open_player.ensures.refused));
     }
 
 pub returns-in-Ok-clause-ready : goal.returns-in-Ok-clause-ready
@@ -37,5 +39,6 @@ returns-in-Ok-clause-ready g c =
       writes = made.writes ∙ none_counted (g.D.Disk.write_count mid) (logged_count (g.D.Disk.image mid)) r.none ∙ r.writes ∙ ap (λ n. counted (g.D.Disk.write_count c.args.disk) (writes_to_recover n)) r.count;
       armed = made.armed r.none;
       name = made.name ∙ c.recover_image.ensures.name;
-      leaves = recovered_then g.D.Disk c.args.disk mid c.in-Ok.player.kernel.store.volume.device.inner r.sound r.image c.in_default.ensures.settled c.recover_image.ensures.stops.any_moment made.leaves;
+      leaves = leaves_again g.D.Disk c.args.disk mid r.sound r.image c.in_default.ensures.settled c.recover_image.ensures.stops c.in-Ok.player.kernel.store.volume.device.inner
+          (again_recovered g.D.Disk mid c.in-Ok.player.kernel.store.volume.device.inner made.leaves);
     }

@@ -4,8 +4,6 @@ use Rattle.blocks.specs.Disk.{AddsNone, LeavesOnly}
 use Rattle.model.specs.Log.{recovered}
 use Rattle.opening.specs.Lemmas.Keeping.{not_opened_leaves}
 use Rattle.transfer.specs.Putting.{IsUnput}
-use Rattle.transfer.specs.PutWriting.{CallsTo}
-use Rattle.transfer.specs.declared.writing.Outcome.TheVariants as outcome
 use Rattle.transfer.specs.Stopped.{KeepsPutOf}
 use Rattle.transfer.proofs.OpenedLemmas.{put_leaves, put_so, put_untold, read_leaves, recovered_leaves, synced_leaves, told_so, unopened_then, unwritten_so}
 use Rattle.transfer.proofs.putting.put_disk.Goals as goal
@@ -22,15 +20,13 @@ pub returns-in-Ok-put-clause-put : goal.returns-in-Ok-put-clause-put
 returns-in-Ok-put-clause-put g c =
     let d = g.D.Disk in
     let contents = g.O.Write.contents in
-    put_so d c.args.inum c.args.bytes.now c.args.sync c.args.disk c.judge.new.disk c.in-Ok.ensures.fit c.in-Ok-open_sole.kernel c.in-Ok-open_sole.ensures.opened c.in-Ok.twice c.in-Ok.ensures.twice c.into_disk-disk.result c.tell-told.new.disk c.in-Ok-put.number
-    (subst (λ e. CallsTo c.in-Ok.twice d c.args.inum c.args.bytes.now c.in-Ok-open_sole.kernel.store.volume.device e (outcome.Put c.in-Ok-put.number)) (sym c.into_disk-disk.ensures) c.in-Ok-put.ensures.put)
+    put_so d c.args.inum c.args.bytes.now c.args.sync c.args.disk c.judge.new.disk c.in-Ok.ensures.fit c.in-Ok-open_sole.kernel c.in-Ok-open_sole.ensures.opened c.in-Ok.twice c.in-Ok.ensures.twice c.put-put.new.kernel c.into_disk-disk.result c.tell-told.new.disk c.into_disk-disk.ensures c.in-Ok-put.number c.in-Ok-put.ensures.put
     c.tell-told.result (contents c.args.out.now) (contents c.tell-told.new.out) c.tell-told.ensures.syncs c.tell-told.ensures.printed
 
 pub returns-in-Ok-put-clause-refused : goal.returns-in-Ok-put-clause-refused
 returns-in-Ok-put-clause-refused g c =
     let d = g.D.Disk in
-    put_untold d c.args.inum c.args.bytes.now c.args.sync c.args.disk c.judge.new.disk c.in-Ok.ensures.fit c.in-Ok-open_sole.kernel c.in-Ok-open_sole.ensures.opened c.in-Ok.twice c.in-Ok.ensures.twice c.into_disk-disk.result c.tell-told.new.disk c.in-Ok-put.number
-    (subst (λ e. CallsTo c.in-Ok.twice d c.args.inum c.args.bytes.now c.in-Ok-open_sole.kernel.store.volume.device e (outcome.Put c.in-Ok-put.number)) (sym c.into_disk-disk.ensures) c.in-Ok-put.ensures.put)
+    put_untold d c.args.inum c.args.bytes.now c.args.sync c.args.disk c.judge.new.disk c.in-Ok.ensures.fit c.in-Ok-open_sole.kernel c.in-Ok-open_sole.ensures.opened c.in-Ok.twice c.in-Ok.ensures.twice c.put-put.new.kernel c.into_disk-disk.result c.tell-told.new.disk c.into_disk-disk.ensures c.in-Ok-put.number c.in-Ok-put.ensures.put
     c.tell-told.result _ c.tell-told.ensures.refused
 
 pub returns-in-Err-put-clause-refused : goal.returns-in-Err-put-clause-refused
@@ -39,7 +35,7 @@ returns-in-Err-put-clause-refused g c =
     let none = c.args.out.now ≡ c.args.out.now in
     subst (λ e. IsUnput d c.args.inum c.args.bytes.now c.args.sync c.args.disk e none c.in-Err-put.refusal) (sym c.into_disk.ensures)
     (unwritten_so d c.args.inum c.args.bytes.now c.args.sync c.args.disk c.judge.new.disk c.in-Ok.ensures.fit c.in-Ok-open_sole.kernel c.in-Ok-open_sole.ensures.opened c.in-Ok.twice c.in-Ok.ensures.twice
-    c.put-put.new.kernel.store.volume.device none refl c.in-Err-put.refusal c.in-Err-put.ensures.refused)
+    c.put-put.new.kernel none c.put-put.ensures.stays.reached refl c.in-Err-put.refusal c.in-Err-put.ensures.refused)
 
 pub returns-in-Err-clause-leaves : goal.returns-in-Err-clause-leaves
 returns-in-Err-clause-leaves g c =

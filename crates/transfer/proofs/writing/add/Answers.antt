@@ -16,7 +16,7 @@ use Rattle.transfer.proofs.writing.add.Goals as goal
 -- the file was made
 created : (g : Over) (c : After-create g) → StaysPlace g.D.Disk (image_on g.D.Disk.image c.args.kernel.now) None c.args.bytes.now c.args.kernel.now c.create.new.kernel
 created g c =
-    stays_first g.D.Disk _ None c.args.bytes.now (MakesAny 2) _ _ c.create.ensures.leaves c.create.ensures.stays (led_by_creation (files_on g.D.Disk.image c.args.kernel.now) c.args.bytes.now)
+    stays_first g.D.Disk _ None c.args.bytes.now (MakesAny 2) _ _ c.create.ensures.leaves c.create.ensures.stays c.create.ensures.reached (led_by_creation (files_on g.D.Disk.image c.args.kernel.now) c.args.bytes.now)
 
 -- and then bytes were put into it
 module _ (g : Over) (c : After-append_all g) where
@@ -50,7 +50,7 @@ module _ (g : Over) (c : After-remove g) where
   removed begins before =
       let part = part begins in
       stays_then g.D.Disk _ None _ _ c.append_all.new.kernel _ before
-      (stays_first g.D.Disk _ None _ (Removes c.in-Some.number) _ _ c.remove.ensures.leaves c.remove.ensures.stays
+      (stays_first g.D.Disk _ None _ (Removes c.in-Some.number) _ _ c.remove.ensures.leaves c.remove.ensures.stays c.remove.ensures.reached
       (λ new. led_by_removal _ _ _ part.count _ new (begins.place.some, begins.below, begins.place.free) part.files))
 
 pub returns-in_err-append_all-clause-refused : goal.returns-in_err-append_all-clause-refused
@@ -58,7 +58,7 @@ returns-in_err-append_all-clause-refused g c =
     let at = (goal.at.returns-in_err-append_all-clause-refused g c).After-append_all in
     let p = err_from_is_err_and c.from_residual-in_err-append_all.result c.from_residual-in_err-append_all.ensures.1 in
     rw (p.1, p.2)
-    (cut_behind g.D.Disk (begins g at) c.args.bytes.now c.append_all.new.kernel.store.volume.device c.in_err-append_all.field-0.0 c.requires.ready.rests (answered g at) c.in_err-append_all.ensures.refused)
+    (cut_behind g.D.Disk (begins g at) c.args.bytes.now c.append_all.new.kernel c.in_err-append_all.field-0.0 c.requires.ready.rests (answered g at) c.in_err-append_all.ensures.refused)
 
 pub returns-then-branch-clause-comes : goal.returns-then-branch-clause-comes
 returns-then-branch-clause-comes g c =
@@ -71,7 +71,7 @@ returns-in_err-remove-clause-refused g c =
     let begins = begins g at.After-append_all in
     let p = err_from_is_err_and c.from_residual-in_err-remove.result c.from_residual-in_err-remove.ensures.1 in
     rw (p.1, p.2)
-    (cut_after g.D.Disk None c.args.bytes.now _ c.append_all.new.kernel c.remove.new.kernel.store.volume.device c.in_err-remove.field-0.0 c.requires.ready.rests
+    (cut_after g.D.Disk None c.args.bytes.now _ c.append_all.new.kernel c.remove.new.kernel c.in_err-remove.field-0.0 c.requires.ready.rests
     (answered_both g.D.Disk _ _ _ (answered g at.After-append_all) c.in_ok-append_all.ensures.answered)
     (part_first g.D.Disk begins c.args.bytes.now _ (part g at.After-remove begins)) c.in_err-remove.ensures.refused)
 

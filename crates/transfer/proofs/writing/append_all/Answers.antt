@@ -38,7 +38,7 @@ module _ (g : Over) (c : After-append g) where
   stays : StaysPlace g.D.Disk (image_on g.D.Disk.image c.args.kernel.now) (Some c.args.number) c.args.bytes.now c.args.kernel.now c.append.new.kernel
   stays =
       stays_then g.D.Disk _ (Some c.args.number) _ _ c.loop-piece.kernel _ c.loop-piece.invariant.stays
-      (stays_first g.D.Disk _ (Some c.args.number) _ (AppendsFirst c.args.number piece) _ _ c.append.ensures.leaves c.append.ensures.stays
+      (stays_first g.D.Disk _ (Some c.args.number) _ (AppendsFirst c.args.number piece) _ _ c.append.ensures.leaves c.append.ensures.stays c.append.ensures.reached
       (λ new. led_by_piece _ (Some c.args.number) c.args.bytes.now c.args.number (refl, there) below _ new from piece c.loop-piece.invariant.files
       (piece_first (image_on g.D.Disk.image c.args.kernel.now) (image_on g.D.Disk.image c.loop-piece.kernel) c.args.number c.args.bytes.now from c.min-to.result below c.loop-piece.invariant.files (omega (arith, inside)) c.min-to.ensures)))
 

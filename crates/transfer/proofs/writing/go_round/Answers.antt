@@ -48,7 +48,7 @@ module _ (g : Over) (c : After-remove g) where
   removed : PutsAll (files_on g.D.Disk.image c.args.kernel.now) None c.args.bytes.now (files_on g.D.Disk.image c.add.new.kernel) c.in-Put.spare
       → StaysPut g.D.Disk true (image_on g.D.Disk.image c.args.kernel.now) (Some c.args.number) c.args.bytes.now c.refill.new.kernel c.remove.new.kernel
   removed put =
-      round_removed g.D.Disk c.args.number c.args.bytes.now (image_on g.D.Disk.image c.args.kernel.now) c.requires.there (image_on g.D.Disk.image c.add.new.kernel) (record { number = c.in-Put.spare; put = put }) c.refill.new.kernel c.remove.new.kernel filled c.remove.ensures.leaves c.remove.ensures.stays
+      round_removed g.D.Disk c.args.number c.args.bytes.now (image_on g.D.Disk.image c.args.kernel.now) c.requires.there (image_on g.D.Disk.image c.add.new.kernel) (record { number = c.in-Put.spare; put = put }) c.refill.new.kernel c.remove.new.kernel filled c.remove.ensures.leaves c.remove.ensures.stays c.remove.ensures.reached
 
 -- ---- what the calls require
 
@@ -115,14 +115,14 @@ pub returns-in_err-spare-clause-refused : goal.returns-in_err-spare-clause-refus
 returns-in_err-spare-clause-refused g c =
     let p = err_from_is_err_and c.from_residual.result c.from_residual.ensures.1 in
     rw (p.1, p.2)
-    (cut_round g.D.Disk c.args.number c.args.bytes.now c.args.kernel.now c.args.kernel.now None c.add.new.kernel.store.volume.device c.requires.ready.rests (answered_none g.D.Disk _ c.requires.ready)
+    (cut_round g.D.Disk c.args.number c.args.bytes.now c.args.kernel.now c.args.kernel.now None c.add.new.kernel c.requires.ready.rests (answered_none g.D.Disk _ c.requires.ready)
     (λ y may. inl may) c.in_err-spare.field-0.0 c.in_err-spare.ensures.refused)
 
 pub returns-in-NoInode-clause-refused : goal.returns-in-NoInode-clause-refused
 returns-in-NoInode-clause-refused g c =
     let none = none g (goal.at.returns-in-NoInode-clause-refused g c).After-replace in
     IfErr-weaker c.replace.result _ _
-    (cut_round g.D.Disk c.args.number c.args.bytes.now c.args.kernel.now c.add.new.kernel (Some c.args.number) c.replace.new.kernel.store.volume.device c.requires.ready.rests c.in_ok-spare.ensures.answered
+    (cut_round g.D.Disk c.args.number c.args.bytes.now c.args.kernel.now c.add.new.kernel (Some c.args.number) c.replace.new.kernel c.requires.ready.rests c.in_ok-spare.ensures.answered
     (λ y may. inr (inr (none.full, subst (λ (f : Files). MayPut f (Some c.args.number) c.args.bytes.now (files_of y)) none.files may))))
     c.replace.ensures.refused
 
@@ -131,7 +131,7 @@ returns-in_err-refill-clause-refused g c =
     let spared = spared g (goal.at.returns-in_err-refill-clause-refused g c).After-refill in
     let p = err_from_is_err_and c.from_residual-in_err-refill.result c.from_residual-in_err-refill.ensures.1 in
     rw (p.1, p.2)
-    (cut_round g.D.Disk c.args.number c.args.bytes.now c.args.kernel.now c.add.new.kernel (Some c.args.number) c.refill.new.kernel.store.volume.device c.requires.ready.rests c.in_ok-spare.ensures.answered
+    (cut_round g.D.Disk c.args.number c.args.bytes.now c.args.kernel.now c.add.new.kernel (Some c.args.number) c.refill.new.kernel c.requires.ready.rests c.in_ok-spare.ensures.answered
     (λ y may. inr (inl (image_on g.D.Disk.image c.add.new.kernel, spared, may))) c.in_err-refill.field-0.0 c.in_err-refill.ensures.refused)
 
 pub returns-in_err-remove-clause-refused : goal.returns-in_err-remove-clause-refused
@@ -144,9 +144,9 @@ returns-in_err-remove-clause-refused g c =
     let spared = spared g at.After-refill in
     let p = err_from_is_err_and c.from_residual-in_err-remove.result c.from_residual-in_err-remove.ensures.1 in
     rw (p.1, p.2)
-    (cut_round d number bytes c.args.kernel.now c.add.new.kernel (Some number) c.remove.new.kernel.store.volume.device c.requires.ready.rests c.in_ok-spare.ensures.answered
+    (cut_round d number bytes c.args.kernel.now c.add.new.kernel (Some number) c.remove.new.kernel c.requires.ready.rests c.in_ok-spare.ensures.answered
     (λ y may. inr (inl (image_on d.image c.add.new.kernel, spared, may))) c.in_err-remove.field-0.0
-    (cut_after d (Some number) bytes c.add.new.kernel c.refill.new.kernel c.remove.new.kernel.store.volume.device c.in_err-remove.field-0.0 c.in_ok-spare.ensures.answered.rests c.in_ok-refill.ensures.answered
+    (cut_after d (Some number) bytes c.add.new.kernel c.refill.new.kernel c.remove.new.kernel c.in_err-remove.field-0.0 c.in_ok-spare.ensures.answered.rests c.in_ok-refill.ensures.answered
     (all_first (files_on d.image c.add.new.kernel) number bytes _ (old_beside _ _ c.in-Put.spare number bytes spared.put.place.free c.requires.there spared.put.files) (filled g at.After-remove))
     c.in_err-remove.ensures.refused))
 

@@ -17,8 +17,8 @@ returns-then-twice-clause-comes g c =
 
 pub returns-then-twice-clause-refused : goal.returns-then-twice-clause-refused
 returns-then-twice-clause-refused g c =
-    subst (λ (o : Option ℕ). IfErr c.go_round.result (IsPutCutOff c.args.twice g.D.Disk o c.args.bytes.now c.args.kernel.now.store.volume.device c.go_round.new.kernel.store.volume.device)) (sym c.in-Some.is)
-    (subst (λ (t : Bool). IfErr c.go_round.result (IsPutCutOff t g.D.Disk (Some c.in-Some.number) c.args.bytes.now c.args.kernel.now.store.volume.device c.go_round.new.kernel.store.volume.device)) (sym c.if-twice.true)
+    subst (λ (o : Option ℕ). IfErr c.go_round.result (IsPutCutOff c.args.twice g.D.Disk o c.args.bytes.now c.args.kernel.now c.go_round.new.kernel)) (sym c.in-Some.is)
+    (subst (λ (t : Bool). IfErr c.go_round.result (IsPutCutOff t g.D.Disk (Some c.in-Some.number) c.args.bytes.now c.args.kernel.now c.go_round.new.kernel)) (sym c.if-twice.true)
     c.go_round.ensures.refused)
 
 pub returns-then-twice-clause-stays : goal.returns-then-twice-clause-stays
@@ -36,8 +36,8 @@ returns-else-twice-clause-comes g c =
 
 pub returns-else-twice-clause-refused : goal.returns-else-twice-clause-refused
 returns-else-twice-clause-refused g c =
-    subst (λ (o : Option ℕ). IfErr c.replace.result (IsPutCutOff c.args.twice g.D.Disk o c.args.bytes.now c.args.kernel.now.store.volume.device c.replace.new.kernel.store.volume.device)) (sym c.in-Some.is)
-    (IfErr-weaker c.replace.result _ _ (cut_straight (Some c.in-Some.number) c.args.twice c.if-twice.false c.args.bytes.now g.D.Disk c.args.kernel.now.store.volume.device c.replace.new.kernel.store.volume.device) c.replace.ensures.refused)
+    subst (λ (o : Option ℕ). IfErr c.replace.result (IsPutCutOff c.args.twice g.D.Disk o c.args.bytes.now c.args.kernel.now c.replace.new.kernel)) (sym c.in-Some.is)
+    (IfErr-weaker c.replace.result _ _ (cut_straight (Some c.in-Some.number) c.args.twice c.if-twice.false c.args.bytes.now g.D.Disk c.args.kernel.now c.replace.new.kernel) c.replace.ensures.refused)
 
 pub returns-else-twice-clause-stays : goal.returns-else-twice-clause-stays
 returns-else-twice-clause-stays g c =
@@ -53,8 +53,8 @@ returns-in-None-clause-comes g c =
 
 pub returns-in-None-clause-refused : goal.returns-in-None-clause-refused
 returns-in-None-clause-refused g c =
-    subst (λ (o : Option ℕ). IfErr c.add.result (IsPutCutOff c.args.twice g.D.Disk o c.args.bytes.now c.args.kernel.now.store.volume.device c.add.new.kernel.store.volume.device)) (sym c.in-None.is)
-    (IfErr-weaker c.add.result _ _ (cut_straight None c.args.twice tt c.args.bytes.now g.D.Disk c.args.kernel.now.store.volume.device c.add.new.kernel.store.volume.device) c.add.ensures.refused)
+    subst (λ (o : Option ℕ). IfErr c.add.result (IsPutCutOff c.args.twice g.D.Disk o c.args.bytes.now c.args.kernel.now c.add.new.kernel)) (sym c.in-None.is)
+    (IfErr-weaker c.add.result _ _ (cut_straight None c.args.twice tt c.args.bytes.now g.D.Disk c.args.kernel.now c.add.new.kernel) c.add.ensures.refused)
 
 pub returns-in-None-clause-stays : goal.returns-in-None-clause-stays
 returns-in-None-clause-stays g c =

@@ -15,7 +15,7 @@ use Rattle.model.specs.Lemmas.FileNumbers.{below_there}
 -- the file was emptied
 emptied : (g : Over) (c : After-empty g) → StaysPlace g.D.Disk (image_on g.D.Disk.image c.args.kernel.now) (Some c.args.number) c.args.bytes.now c.args.kernel.now c.empty.new.kernel
 emptied g c =
-    stays_first g.D.Disk _ (Some c.args.number) c.args.bytes.now (Empties c.args.number) _ _ c.empty.ensures.leaves c.empty.ensures.stays (λ new. led_by_emptying _ _ _ new c.requires.there)
+    stays_first g.D.Disk _ (Some c.args.number) c.args.bytes.now (Empties c.args.number) _ _ c.empty.ensures.leaves c.empty.ensures.stays c.empty.ensures.reached (λ new. led_by_emptying _ _ _ new c.requires.there)
 
 -- and then bytes were put into it
 module _ (g : Over) (c : After-append_all g) where

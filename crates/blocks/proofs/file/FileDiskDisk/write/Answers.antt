@@ -1,6 +1,6 @@
 use Rattle.std.proofs.Common.{◌≡◌, ◌∙◌, ap, false, refl, subst, sym, [], arith, length-set}
 use Rattle.blocks.specs.Common.{get_or-set_same, Image, IsBlock, IsImage, IsSettledOn, IsShadow}
-use Rattle.blocks.proofs.HeldLemmas.{crash_shadow, elapses_on, shadow_written}
+use Rattle.blocks.proofs.HeldLemmas.{crash_shadow, elapses_on, lost_noted, shadow_written}
 use Rattle.blocks.proofs.file.FileDiskDisk.write.Goals as goal
 
 pub invariant_of-self-2-clause-shadowed : goal.invariant_of-self-2-clause-shadowed
@@ -27,4 +27,5 @@ returns-clause-writes g c =
       syncs = done.syncs;
       time = elapses_on d.shadow c.write-2.new.self c.write-2.ensures.past;
       crash = crash_shadow d.holds d.shadow c.write-2.new.self c.write-2.ensures.past d.copy.blocks.items c.args.block c.args.from.now d.shadowed c.write-2.ensures.held plain;
+      may_lose = λ holds. lost_noted d.shadow c.write-2.new.self c.write-2.ensures.past c.args.block c.args.from.now (c.write-2.ensures.held holds);
     }

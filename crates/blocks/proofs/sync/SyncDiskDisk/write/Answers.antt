@@ -1,7 +1,7 @@
 use Rattle.std.proofs.Common.{◌∙◌, ap, subst, sym, refl, arith, length, length-set, set, true, List, ◌++◌, ◌∷◌, []}
 use Rattle.blocks.specs.Common.{AreInside, held_by, IsBlock, IsShadow, Write}
 use Rattle.blocks.proofs.BlockLemmas.{is_image-set}
-use Rattle.blocks.proofs.HeldLemmas.{crash_noted, elapses_on, inside_push, shadow_noted}
+use Rattle.blocks.proofs.HeldLemmas.{crash_noted, elapses_on, inside_push, lost_noted, shadow_noted}
 use Rattle.blocks.proofs.sync.SyncDiskDisk.write.Goals as goal
 
 pub invariant_of-self-2-clause-same_size : goal.invariant_of-self-2-clause-same_size
@@ -43,4 +43,5 @@ returns-clause-writes c =
       syncs = refl;
       time = elapses_on d.shadow c.note.new.self c.note.ensures.past;
       crash = crash_noted d.shadow c.note.new.self c.note.ensures.past c.args.block c.args.from.now c.note.ensures.state;
+      may_lose = λ holds. lost_noted d.shadow c.note.new.self c.note.ensures.past c.args.block c.args.from.now c.note.ensures.state;
     }
