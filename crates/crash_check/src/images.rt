@@ -8,6 +8,7 @@ ghost use Rattle.crash_check.specs.Images.{IsFound, IsRecoveredTo, as_of_opening
 use blocks::{Block, Disk, MemDisk, NoMemory};
 use kernel::OpenFault;
 use layout::CheckFault;
+use messages::Silent;
 use offline::mkfs;
 use opening::{RecoverRefusal, recover_image};
 use reference::files::Files;
@@ -92,7 +93,7 @@ fn recover(alloc: Global, disk: &mut MemDisk) -> Result<Option<u32>, NoMemory>
     ensures none { IfOk result (λ copied. IfNone copied
         (¬ (verdict (⟦<MemDisk as Disk>⟧.image disk.old) ≡ None))) }
 {
-    match recover_image(alloc, disk) {
+    match recover_image(alloc, disk, &mut Silent) {
         Ok(copied) => Ok(Some(copied)),
         Err(refusal) if is_want_of_memory(&as_of_opening(refusal)) => Err(NoMemory),
         Err(_) => Ok(None),

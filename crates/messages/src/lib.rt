@@ -18,7 +18,7 @@ mod told;
 
 pub use events::Event;
 pub use lines::{AccountLine, AnswerLine};
-pub use meter::Meter;
+pub use meter::{Meter, Silent};
 pub use output::{
     pass_on, print, print_copied, print_counts, print_event, print_faults, print_files,
     print_images, print_last, print_number, print_numbers, print_refusal, print_report,

@@ -9,3 +9,13 @@ pub trait Meter {
     /// It is over, however it ended.
     fn ended(&mut self);
 }
+
+/// Nobody is told.
+#[derive(Clone, Copy, Drop)]
+pub struct Silent;
+
+impl Meter for Silent {
+    fn reached(&mut self, _count: u64, _of: u64, _what: &str) {}
+
+    fn ended(&mut self) {}
+}

@@ -10,7 +10,7 @@ ghost use Rattle.opening.specs.Recoveries.{
 };
 
 use blocks::Disk;
-use messages::{Reason, Told};
+use messages::{Meter, Reason, Told};
 use model::types::CheckFault;
 use offline::check;
 use std::alloc::Global;
@@ -46,7 +46,8 @@ impl From<CheckFault> for RecoverRefusal {
     }
 }
 
-/// Checks the image of a disk, and copies the blocks of its log home. How many these were.
+/// Checks the image of a disk, and copies the blocks of its log home. How many these were. The meter is
+/// told when the first of these two steps is done, and when it is over.
 ///
 /// # Errors
 ///
@@ -56,7 +57,11 @@ impl From<CheckFault> for RecoverRefusal {
 ///
 /// Whatever a crash at any moment leaves is recovered to the same image: of a disk that holds
 /// writes back from the first sync on, or from the start where nothing was held then.
-pub fn recover_image<D: Disk>(alloc: Global, disk: &mut D) -> Result<u32, RecoverRefusal>
+pub fn recover_image<D: Disk, P: Meter>(
+    alloc: Global,
+    disk: &mut D,
+    progress: &mut P,
+) -> Result<u32, RecoverRefusal>
     ensures ok { IfOk result (λ copied. IsRecovered D.Disk copied disk.old disk.new) }
     ensures name { D.name disk.new ≡ D.name disk.old }
     ensures refused { IfErr result (IsUnrecovered D.Disk disk.old disk.new) }
@@ -65,7 +70,10 @@ pub fn recover_image<D: Disk>(alloc: Global, disk: &mut D) -> Result<u32, Recove
     ensures settled { OnOk result (IsCalm D.Disk disk.new) }
 {
     let report = check(alloc, disk)?;
-    match recover(alloc, disk, &report.sup) {
+    progress.reached(1, 2, "steps");
+    let recovered = recover(alloc, disk, &report.sup);
+    progress.ended();
+    match recovered {
         Ok(copied) => Ok(copied),
         Err(fault) => Err(RecoverRefusal::Recover(fault)),
     }

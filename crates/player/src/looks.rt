@@ -9,7 +9,7 @@ use crate::refusals::CatRefusal;
 use crate::showing::cat_disk;
 use blocks::Disk;
 use cmd::DiskCommand;
-use messages::Printed;
+use messages::{Meter, Printed};
 use model::types::CheckFault;
 use opening::RecoverRefusal;
 use std::alloc::Global;
@@ -46,10 +46,13 @@ impl DiskCommand for Check {
 }
 
 /// Recovers an image, as `recover_disk`.
-#[derive(Clone, Copy, Drop)]
-pub struct Recover;
+#[derive(Drop)]
+pub struct Recover<P> {
+    /// Who is told how far the recovery is.
+    pub progress: P,
+}
 
-impl DiskCommand for Recover {
+impl<P: Meter + Drop> DiskCommand for Recover<P> {
     type Refusal = Printed<RecoverRefusal>;
 
     ghost done = { λ recover c. HasRecovered c.disk c.was c.now };
@@ -63,7 +66,8 @@ impl DiskCommand for Recover {
         out: &mut O,
     ) -> (Result<(), Printed<RecoverRefusal>>, D) {
         let mut disk = disk;
-        let ended = recover_disk(alloc, &mut disk, out);
+        let mut progress = self.progress;
+        let ended = recover_disk(alloc, &mut disk, &mut progress, out);
         (ended, disk)
     }
 }

@@ -9,12 +9,13 @@ ghost use Rattle.player.specs.Causes.{IsNotRecovered};
 ghost use Rattle.messages.specs.Output.{copied_text};
 
 use blocks::Disk;
-use messages::{Printed, print_copied};
+use messages::{Meter, Printed, print_copied};
 use opening::{RecoverRefusal, recover_image};
 use std::alloc::Global;
 use std::io::Write;
 
-/// Checks the image of a disk, copies the blocks of its log home, and prints how many these were.
+/// Checks the image of a disk, copies the blocks of its log home, and prints how many these were. The
+/// meter is told as by `recover_image`.
 ///
 /// # Errors
 ///
@@ -24,9 +25,10 @@ use std::io::Write;
 ///
 /// Whatever a crash at any moment leaves is recovered to the same image: of a disk that holds
 /// writes back from the first sync on, or from the start where nothing was held then.
-pub fn recover_disk<D: Disk, O: Write>(
+pub fn recover_disk<D: Disk, P: Meter, O: Write>(
     alloc: Global,
     disk: &mut D,
+    progress: &mut P,
     out: &mut O,
 ) -> Result<(), Printed<RecoverRefusal>>
     ensures recovered { OnOk result (IsRecovered D.Disk
@@ -38,7 +40,7 @@ pub fn recover_disk<D: Disk, O: Write>(
     ensures stops { LeavesRecovered D.Disk disk.old disk.new }
     ensures settled { OnOk result (IsCalm D.Disk disk.new) }
 {
-    let copied = match recover_image(alloc, disk) {
+    let copied = match recover_image(alloc, disk, progress) {
         Ok(copied) => copied,
         Err(refusal) => return Err(Printed::Fault(refusal)),
     };

@@ -12,7 +12,7 @@ use crate::refusals::ReplayRefusal;
 use crate::turns::{Hands, open_player};
 use blocks::{Disk, FaultyDisk, NoMemory};
 use kernel::OpenFault;
-use messages::Meter;
+use messages::{Meter, Silent};
 use opening::recover_image;
 use rings::Board;
 use scripts::{Task, Word};
@@ -116,7 +116,7 @@ fn open_recovered<'a, D: Disk + Drop>(
     ensures refused { IfErr result (λ e. IsNotBegun D.Disk ⟦<FaultyDisk<D> as Disk>⟧
         processes stop disk e.1 e.0) }
 {
-    if let Err(refusal) = recover_image(alloc, &mut disk) {
+    if let Err(refusal) = recover_image(alloc, &mut disk, &mut Silent) {
         return Err((ReplayRefusal::Unrecovered(refusal), disk));
     }
     let base = disk.writes();

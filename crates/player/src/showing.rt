@@ -15,7 +15,7 @@ use crate::refusals::CatRefusal;
 use blocks::{BLOCK_SIZE, Block, Disk, DiskFault};
 use layout::header::Header;
 use layout::{Dinode, LOG_START, superblock};
-use messages::{pass_on, write_bytes};
+use messages::{Silent, pass_on, write_bytes};
 use offline::Recovered;
 use offline::laws::checked_files_may_be_read;
 use opening::recover_image;
@@ -59,7 +59,7 @@ pub fn cat_disk<D: Disk + Drop, O: Write>(
         Err(_) => return (Err(CatRefusal::NoMemory), disk),
     };
     let mut disk = disk;
-    if let Err(refusal) = recover_image(alloc, &mut disk) {
+    if let Err(refusal) = recover_image(alloc, &mut disk, &mut Silent) {
         return (Err(CatRefusal::Unrecovered(refusal)), disk);
     }
     let shown = show(&mut disk, number, &mut block, out);

@@ -4,7 +4,7 @@ use crate::wrong::{Wrong, ensure};
 use anyhow::{Context, bail};
 use blocks::{FaultyDisk, Kind, MemDisk};
 use layout::CheckFault;
-use messages::Meter;
+use messages::Silent;
 use offline::check;
 use std::alloc::Global;
 use std::io;
@@ -40,16 +40,6 @@ impl Failures {
             self.checks, self.later
         )
     }
-}
-
-/// Nobody is told how far something is.
-#[derive(Drop)]
-pub struct Nobody;
-
-impl Meter for Nobody {
-    fn reached(&mut self, _files: u64, _of: u64, _what: &str) {}
-
-    fn ended(&mut self) {}
 }
 
 /// Makes each call of a copy fail in turn: the reads of the old disk, and the reads, the writes and
@@ -105,7 +95,7 @@ fn copy_all(
     mut old: FaultyDisk<MemDisk>,
     new: FaultyDisk<MemDisk>,
 ) -> Result<Option<CopyFault>, Wrong> {
-    match copy(alloc, &mut old, new, 200, true, &mut Nobody) {
+    match copy(alloc, &mut old, new, 200, true, &mut Silent) {
         Ok((files, _new)) => judge_whole(alloc, &mut old.into_inner(), files),
         Err((fault, new)) => {
             judge_failed(alloc, &mut old.into_inner(), &mut new.into_inner(), fault)

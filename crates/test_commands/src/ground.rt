@@ -1,7 +1,7 @@
 // The images with which the tests begin.
-use crate::copies::Nobody;
 use crate::wrong::{Wrong, ensure};
 use blocks::{Block, Disk, Kind, MemDisk};
+use messages::Silent;
 use offline::mkfs;
 use std::alloc::Global;
 use transfer::put_disk;
@@ -45,7 +45,7 @@ fn with_file_in(alloc: Global, size: u32, bytes: &[u8]) -> Result<MemDisk, Wrong
     match image_of(alloc, size) {
         Ok(disk) => {
             let mut told = Vec::new(alloc);
-            let (put, disk) = put_disk(alloc, disk, bytes, None, true, &mut Nobody, &mut told);
+            let (put, disk) = put_disk(alloc, disk, bytes, None, true, &mut Silent, &mut told);
             match put {
                 Ok(()) => Ok(disk),
                 Err(_refusal) => Err(Wrong::Other("the first file was not put")),

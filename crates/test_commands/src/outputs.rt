@@ -3,6 +3,7 @@ use crate::ground::new_image;
 use crate::refusals::{is_output_of_check, is_output_of_recovery};
 use crate::wrong::{Wrong, ensure};
 use blocks::MemDisk;
+use messages::Silent;
 use player::{check_disk, recover_disk};
 use std::alloc::Global;
 use std::io::{self, BufWriter, ErrorKind, Write};
@@ -65,7 +66,7 @@ fn refuse_recovery(alloc: Global, disk: &mut MemDisk) -> Result<(), Wrong> {
         return Err(Wrong::NoMemory);
     };
     let is_checked = check_disk(alloc, disk, &mut out).is_ok();
-    let ended = recover_disk(alloc, disk, &mut out);
+    let ended = recover_disk(alloc, disk, &mut Silent, &mut out);
     ensure(is_checked, "the output of the check was refused")?;
     ensure(is_output_of_recovery(&ended), "the output was not refused")
 }

@@ -1,10 +1,10 @@
 // Puts into the image whose calls fail in turn.
-use crate::copies::Nobody;
 use crate::ground::{KINDS, MOST_CALLS, blocks_of, ground_of};
 use crate::refusals::{Put, is_disk_of_put};
 use crate::wrong::{Wrong, ensure};
 use anyhow::{Context, bail};
 use blocks::{FaultyDisk, Kind, MemDisk};
+use messages::Silent;
 use model::types::File;
 use reference::report::files_after_recovery;
 use std::alloc::Global;
@@ -97,7 +97,7 @@ fn fail_call(alloc: Global, way: Way, kind: Kind, nth: u64) -> Result<bool, Wron
                 &BYTES,
                 way.inum(),
                 true,
-                &mut Nobody,
+                &mut Silent,
                 &mut told,
             );
             judge(alloc, &mut disk.into_inner(), way, &put)

@@ -1,8 +1,8 @@
 // Replays and runs of scripts over a disk.
-use crate::copies::Nobody;
 use crate::refusals::{Ran, Replayed};
 use crate::wrong::Wrong;
 use blocks::Disk;
+use messages::Silent;
 use player::replay_disk;
 use runner::run_disk;
 use scripts::{processes, read_schedule, read_script};
@@ -30,7 +30,7 @@ pub fn replayed<D: Disk + Drop>(
                     processes,
                     words.as_slice(),
                     None,
-                    &mut Nobody,
+                    &mut Silent,
                     out,
                 )),
                 Err(fault) => Err(Wrong::Schedule(fault)),

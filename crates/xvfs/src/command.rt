@@ -185,9 +185,12 @@ where
             perform(rt, OverFile(image, Access::Look, Check { all }), out, err)
         }
         Request::Recover { image, sync } => {
+            let recover = Recover {
+                progress: TerminalMeter::new(rt),
+            };
             perform(
                 rt,
-                OverFile(image, Access::Change { sync }, Recover),
+                OverFile(image, Access::Change { sync }, recover),
                 out,
                 err,
             )

@@ -23,16 +23,16 @@ refused_by T disk d mid e recover.BadLog none reads same r = absurd (false≢tru
 refused_by T disk d mid e recover.NoMemory none reads same r = (none, ap disk.image r.memory ∙ reads.image)
 refused_by T disk d mid e recover.Sync none reads same r = (none, (subst (λ (n : ℕ). Rose n (disk.fault_count e)) same r.unsynced, sym (ap disk.holding reads.name) ∙ r.holds))
 
-pub recover-requires : goal.recover-requires
-recover-requires g c =
+pub recover-recovered-requires : goal.recover-recovered-requires
+recover-recovered-requires g c =
     ap (λ x. is_lawful_super c.in_ok-report.report.sup (length x)) c.check.ensures.reads.image ∙ lawful_super (g.D.Disk.image c.args.disk.now) c.in_ok-report.report.sup c.in_ok-report.ensures.ok c.in_ok-report.ensures.report.sup
 
 pub returns-in-Err-clause-refused : goal.returns-in-Err-clause-refused
 returns-in-Err-clause-refused g c =
-    refused_by ℕ g.D.Disk c.args.disk.now c.check.new.disk c.recover.new.disk c.in-Err.fault c.in_ok-report.ensures.ok c.check.ensures.reads c.in_ok-report.ensures.faults c.in-Err.ensures.refused
+    refused_by ℕ g.D.Disk c.args.disk.now c.check.new.disk c.recover-recovered.new.disk c.in-Err.fault c.in_ok-report.ensures.ok c.check.ensures.reads c.in_ok-report.ensures.faults c.in-Err.ensures.refused
 
 pub returns-in-Err-clause-stops : goal.returns-in-Err-clause-stops
-returns-in-Err-clause-stops g c = opened_leaves g.D.Disk c.args.disk.now c.check.new.disk c.recover.new.disk c.check.ensures.reads c.recover.ensures.stops
+returns-in-Err-clause-stops g c = opened_leaves g.D.Disk c.args.disk.now c.check.new.disk c.recover-recovered.new.disk c.check.ensures.reads c.recover-recovered.ensures.stops
 
 pub returns-in-Ok-clause-stops : goal.returns-in-Ok-clause-stops
-returns-in-Ok-clause-stops g c = opened_leaves g.D.Disk c.args.disk.now c.check.new.disk c.recover.new.disk c.check.ensures.reads c.recover.ensures.stops
+returns-in-Ok-clause-stops g c = opened_leaves g.D.Disk c.args.disk.now c.check.new.disk c.recover-recovered.new.disk c.check.ensures.reads c.recover-recovered.ensures.stops
