@@ -1,5 +1,5 @@
 -- Why what an image has was not printed.
-use Rattle.std.specs.Prelude.{◌≡◌, ℕ, Option, Some, None}
+use Rattle.std.specs.Prelude.{◌≡◌, ℕ, Option, Some, None, IsSome}
 use Rattle.blocks.specs.declared.disk.Disk.{Ghosts}
 use Rattle.offline.specs.Cause.{IsCause}
 use Rattle.model.specs.Files.{file_in, files_of}
@@ -32,6 +32,8 @@ IsUndrawn disk d e none show.Output = verdict (disk.image d) ≡ None
 abbrev pub IsUnshown : {D N : Type 0} → Ghosts D N → ℕ → D → D → Type 0 → ShowRefusal → Type 0
 IsUnshown disk i d e none show.NoFile = (verdict (disk.image d) ≡ None)
     × (file_in (files_of (recovered (disk.image d))) i ≡ None) × none
+IsUnshown disk i d e none show.Output = (verdict (disk.image d) ≡ None)
+    × IsSome (file_in (files_of (recovered (disk.image d))) i)
 IsUnshown disk i d e none r = IsUndrawn disk d e none r
 
 -- what was asked for of these: the whole image, or a file of a number
