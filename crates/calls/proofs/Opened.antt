@@ -68,5 +68,5 @@ opened_sole disk d i h k opened empty fits =
       syncs = opened.syncs;
       faults = opened.faults;
       settled = opened.settled;
-      leaves = opened.leaves.any_moment;
+      leaves = opened.leaves;
     }

@@ -13,7 +13,7 @@ use Rattle.commands.specs.declared.refused.PutFileRefusal.{PutFileRefusal}
 use Rattle.commands.specs.declared.refused.PutFileRefusal.TheVariants.{Unread, Of}
 
 -- the bytes were put on the disk d, now e, which was synced at the end where `last` says so, here and
--- below; and what a stop leaves of that at any moment
+-- below; and what a stop leaves of that
 pub record PutsOver {D N : Type 0} (disk : Ghosts D N) (inum : Option ℕ) (bytes : List ℕ)
     (last : Bool) (d e : D) (old new : Option (List ℕ)) : Type 0 where
   pub put : IsPut disk inum bytes last d e old new

@@ -27,7 +27,7 @@ use Rattle.clients.specs.Clients.{AreClients, HaveRings, ops_at, ops_in}
 use Rattle.clients.specs.declared.client.Client.{Client}
 use Rattle.history.specs.Lemmas.Leaving.{kept_alike}
 use Rattle.kernel.specs.declared.types.OpenFault.{OpenFault}
-use Rattle.opening.specs.Lemmas.Keeping.{not_opened_name, not_opened_recovered}
+use Rattle.opening.specs.Lemmas.Keeping.{not_opened_leaves, not_opened_name}
 use Rattle.opening.specs.Lemmas.Stopping.{opened_leaves, run_leaves}
 use Rattle.opening.specs.Stops.{LeavesFromSync}
 use Rattle.opening.specs.Openings.{IsNotOpened}
@@ -114,5 +114,5 @@ pub not_begun : {D N : Type 0} (disk : Ghosts D N) (d e : D) (processes : ℕ) (
 not_begun disk d e processes fault why = record {
   cause = why;
   name = not_opened_name disk processes d e fault why;
-  leaves = not_opened_recovered disk processes d e fault why;
+  leaves = not_opened_leaves disk processes d e fault why;
 }

@@ -1,11 +1,11 @@
 -- What calls come to over a disk that was judged, and recovered as its kernel was opened.
-use Rattle.std.proofs.Common.{◌≡◌, ◌∙◌, ◌≤◌, ℕ, Bool, true, false, List, Option, None, length, refl, sym, ap, subst, inl, inr}
+use Rattle.std.proofs.Common.{◌≡◌, ◌∙◌, ℕ, Bool, true, false, List, Option, None, length, refl, sym, ap, subst, inl, inr}
 use Rattle.blocks.specs.Calls.{OnlyReads}
 use Rattle.std.specs.Io.KnownBytes.{Appends}
 use Rattle.std.specs.Prelude.{Result, Ok, Err, IfErr, OnOk}
 use Rattle.blocks.specs.Disk.{AddsNone, Image, LeavesOnly, Rose}
 use Rattle.messages.specs.Output.{number_text}
-use Rattle.blocks.specs.Lemmas.Moments.{joined, now_stays, started, stays}
+use Rattle.blocks.specs.Lemmas.Moments.{stays}
 use Rattle.blocks.specs.declared.disk.Disk.{Ghosts}
 use Rattle.model.specs.Files.{files_of}
 use Rattle.model.specs.Lemmas.Soundness.{verdict_sound}
@@ -13,14 +13,15 @@ use Rattle.model.specs.Log.{recovered}
 use Rattle.model.specs.Soundness.{IsSound}
 use Rattle.model.specs.Verdict.{verdict}
 use Rattle.kernel.specs.declared.types.OpenFault.{OpenFault}
-use Rattle.history.specs.Lemmas.Leaving.{leaves_wider}
 use Rattle.calls.specs.Calls.{IsWhole, image_on}
 use Rattle.calls.specs.Opening.{IsNotOpenedSole, IsOpenedSole}
 use Rattle.calls.specs.Stepping.{IsReached, Plain}
-use Rattle.wal.specs.Recovery.{IsCalm, LeavesIfCalm, RecoversAs}
+use Rattle.kernel.specs.Opening.{LeavesRecovered}
+use Rattle.opening.specs.Lemmas.Stopping.{if_synced, opened_leaves, recovered_behind, recovered_if_synced, run_leaves, unopened_leaves}
+use Rattle.wal.specs.Recovery.{RecoversAs}
 use Rattle.transfer.specs.Judging.{IsFit, IsTold}
 use Rattle.transfer.specs.Needs.{has_room_twice}
-use Rattle.transfer.specs.Stopped.{KeepsPut, KeepsPutOf, StaysPut}
+use Rattle.transfer.specs.Stopped.{KeepsPut, KeepsPutOf, StaysPut, StopsPut}
 use Rattle.transfer.specs.Ending.{SyncsIf}
 use Rattle.transfer.specs.Putting.{ComesTo, IsPut, IsUnopenedThen, IsUnput, IsUntold}
 use Rattle.transfer.specs.PutWriting.{CallsTo, IsUnwritten, KeepsSome, PutComes, PutComesOf}
@@ -144,8 +145,7 @@ module _ {D N : Type 0} (disk : Ghosts D N) (inum : Option ℕ) (bytes : List �
 
 -- ---- what a stop leaves of the whole
 
-module _ {D N : Type 0} (disk : Ghosts D N) (counts_now : (e : D) (t : ℕ) (x : Image) → t ≤ disk.moment e → disk.leaves e (disk.moment e) x → disk.leaves e t x)
-    (inum : Option ℕ) (bytes : List ℕ) (d mid : D) (sound : verdict (disk.image d) ≡ None) (reads : OnlyReads disk d mid) (calm : IsCalm disk d) where
+module _ {D N : Type 0} (disk : Ghosts D N) (inum : Option ℕ) (bytes : List ℕ) (d mid : D) (sound : verdict (disk.image d) ≡ None) (reads : OnlyReads disk d mid) where
   abbrev Keeps : Image → Type 0
   Keeps = KeepsPutOf (recovered (disk.image d)) inum bytes
 
@@ -161,32 +161,34 @@ module _ {D N : Type 0} (disk : Ghosts D N) (counts_now : (e : D) (t : ℕ) (x :
         either = never_same inum twice (files_of (recovered (disk.image d))) bytes (files_of (recovered z)) files;
       }
 
-  -- the disk was only read
-  pub read_leaves : LeavesOnly disk.moment disk.leaves d mid (KeepsPutOf (recovered (disk.image d)) inum bytes)
-  read_leaves =
-      stays disk.moment disk.leaves d d mid Keeps
-      (started disk.moment disk.leaves d Keeps (λ z left. keeps z (subst (RecoversAs (disk.image d)) (sym (calm z left)) (record { image = refl; lawful = refl }))))
-      reads.time
+  -- the disk was only read, and then recovered, or not
+  pub recovered_leaves : (e : D) → LeavesRecovered disk mid e → StopsPut disk inum bytes d e
+  recovered_leaves e leaves = recovered_if_synced disk d e Keeps keeps (recovered_behind disk d mid e reads leaves)
 
-  -- then it was recovered, or not
-  pub recovered_leaves : (e : D) → LeavesIfCalm disk mid e (RecoversAs (disk.image mid)) → LeavesOnly disk.moment disk.leaves d e (KeepsPutOf (recovered (disk.image d)) inum bytes)
-  recovered_leaves e leaves =
-      let still : IsCalm disk mid = λ z left. calm z (now_stays disk.moment disk.leaves d mid (counts_now mid) reads.time z left) ∙ sym reads.image in
-      joined disk.moment disk.leaves d mid e Keeps read_leaves
-      (leaves_wider disk.moment disk.leaves mid e (RecoversAs (disk.image mid)) Keeps (λ z same. keeps z (subst (λ (x : Image). RecoversAs x z) reads.image same)) (leaves still))
+  pub read_leaves : StopsPut disk inum bytes d mid
+  read_leaves = recovered_leaves mid (unopened_leaves disk mid)
 
-  module _ (twice : Bool) (room : twice ≡ has_room_twice (recovered (disk.image d)) inum (length bytes)) where
-    -- and then calls were made
-    pub put_leaves : (k m : Plain D) → IsOpenedSole disk mid k → StaysPut disk twice (image_on disk.image k) inum bytes k m
-        → LeavesOnly disk.moment disk.leaves d m.store.volume.device (KeepsPutOf (recovered (disk.image d)) inum bytes)
-    put_leaves k m opened put =
-        let begun : image_on disk.image k ≡ recovered (disk.image d) = opened.image ∙ ap recovered reads.image in
-        joined disk.moment disk.leaves d k.opening m.store.volume.device Keeps (recovered_leaves k.opening opened.leaves)
-        (subst (λ (o : D). LeavesOnly disk.moment disk.leaves o m.store.volume.device Keeps) opened.device
+  module _ (twice : Bool) (room : twice ≡ has_room_twice (recovered (disk.image d)) inum (length bytes)) (k m : Plain D) (opened : IsOpenedSole disk mid k) (put : StaysPut disk twice (image_on disk.image k) inum bytes k m) where
+    at_first : image_on disk.image k ≡ recovered (disk.image d)
+    at_first = opened.image ∙ ap recovered reads.image
+
+    -- what a run since the opening leaves
+    since : (e : D) → LeavesOnly disk.moment disk.leaves k.opening e Keeps → StopsPut disk inum bytes d e
+    since e run =
+        let is : disk.image k.opening ≡ recovered (disk.image d) = subst (λ (o : D). disk.image o ≡ recovered (disk.image d)) opened.device at_first in
+        if_synced disk d e Keeps (run_leaves disk d k.opening e (RecoversAs (disk.image d)) Keeps keeps
+        (opened_leaves disk d k.opening sound is opened.settled (recovered_behind disk d mid k.opening reads opened.leaves)) run)
+
+    run : LeavesOnly disk.moment disk.leaves k.opening m.store.volume.device Keeps
+    run =
+        subst (λ (o : D). LeavesOnly disk.moment disk.leaves o m.store.volume.device Keeps) opened.device
         (subst (λ (t : Bool). LeavesOnly disk.moment disk.leaves k.store.volume.device m.store.volume.device (KeepsPut t (recovered (disk.image d)) inum bytes)) room
-        (subst (λ (x : Image). LeavesOnly disk.moment disk.leaves k.store.volume.device m.store.volume.device (KeepsPut twice x inum bytes)) begun put.leaves)))
+        (subst (λ (x : Image). LeavesOnly disk.moment disk.leaves k.store.volume.device m.store.volume.device (KeepsPut twice x inum bytes)) at_first put.leaves))
+
+    -- and then calls were made
+    pub put_leaves : StopsPut disk inum bytes d m.store.volume.device
+    put_leaves = since m.store.volume.device run
 
     -- and then a sync
-    pub synced_leaves : (k m : Plain D) (e : D) → IsOpenedSole disk mid k → StaysPut disk twice (image_on disk.image k) inum bytes k m → AddsNone (disk.moment m.store.volume.device) (disk.moment e) (disk.leaves m.store.volume.device) (disk.leaves e)
-        → LeavesOnly disk.moment disk.leaves d e (KeepsPutOf (recovered (disk.image d)) inum bytes)
-    synced_leaves k m e opened put time = stays disk.moment disk.leaves d m.store.volume.device e Keeps (put_leaves k m opened put) time
+    pub synced_leaves : (e : D) → AddsNone (disk.moment m.store.volume.device) (disk.moment e) (disk.leaves m.store.volume.device) (disk.leaves e) → StopsPut disk inum bytes d e
+    synced_leaves e time = since e (stays disk.moment disk.leaves k.opening m.store.volume.device e Keeps run time)

@@ -6,7 +6,7 @@ use Rattle.model.specs.Files.{Files, file_in, files_of}
 use Rattle.model.specs.Log.{is_lawful_log, recovered}
 use Rattle.model.specs.Soundness.{IsSound}
 use Rattle.calls.specs.Stepping.{IsReached, Plain}
-use Rattle.wal.specs.Recovery.{LeavesIfCalm}
+use Rattle.opening.specs.Stops.{LeavesIfSynced}
 use Rattle.transfer.specs.Needs.{has_room_twice}
 use Rattle.transfer.specs.Places.{PutsAll, put_at}
 use Rattle.transfer.specs.Rounds.{Goes, IsNeverNeither}
@@ -64,10 +64,11 @@ pub record KeepsPut (twice : Bool) (x : Image) (inum : Option ℕ) (bytes : List
 abbrev pub KeepsPutOf : Image → Option ℕ → List ℕ → Image → Type 0
 KeepsPutOf x inum bytes = KeepsPut (has_room_twice x inum (length bytes)) x inum bytes
 
--- whatever a stop leaves of a put over the disk d, now e, where nothing was held back on d
+-- whatever a stop leaves of a put over the disk d, now e: one since the first sync of its recovery,
+-- or at any moment where nothing was held back on d
 abbrev pub StopsPut : {D N : Type 0} → Ghosts D N → Option ℕ → List ℕ → D → D → Type 0
 StopsPut disk inum bytes d e =
-    LeavesIfCalm disk d e (KeepsPutOf (recovered (disk.image d)) inum bytes)
+    LeavesIfSynced disk d e (KeepsPutOf (recovered (disk.image d)) inum bytes)
 
 -- however a put that begins over k ends, with m, as above
 pub record StaysPut {D N : Type 0} (disk : Ghosts D N) (twice : Bool) (x : Image)

@@ -3,21 +3,16 @@ use Rattle.std.proofs.Common.{◌≡◌, ℕ, sym, ap, subst, ⊎_elim}
 use Rattle.blocks.specs.declared.disk.Disk.{Ghosts}
 use Rattle.kernel.specs.Opening.{LeavesRecovered}
 use Rattle.kernel.specs.declared.types.OpenFault.{OpenFault}
-use Rattle.wal.specs.Recovery.{LeavesIfCalm, RecoversAs}
 use Rattle.opening.specs.Lemmas.Stopping.{unopened_leaves}
 use Rattle.opening.specs.Openings.{IsNotOpened}
 
 module _ {D N : Type 0} (disk : Ghosts D N) (processes : ℕ) (d e : D) where
   -- of a disk over which none was, and which disk it is
-  pub not_opened_recovered : (fault : OpenFault) → IsNotOpened disk processes d e fault
+  pub not_opened_leaves : (fault : OpenFault) → IsNotOpened disk processes d e fault
       → LeavesRecovered disk d e
-  not_opened_recovered fault why = ⊎_elim
+  not_opened_leaves fault why = ⊎_elim
       (λ refused. subst (LeavesRecovered disk d) (sym refused.1) (unopened_leaves disk d))
       (λ refuses. refuses.leaves) why
-
-  pub not_opened_leaves : (fault : OpenFault) → IsNotOpened disk processes d e fault
-      → LeavesIfCalm disk d e (RecoversAs (disk.image d))
-  not_opened_leaves fault why = (not_opened_recovered fault why).any_moment
 
   pub not_opened_name : (fault : OpenFault) → IsNotOpened disk processes d e fault
       → disk.name e ≡ disk.name d

@@ -1,12 +1,16 @@
 -- What a stop leaves of an opening, and of what follows it.
 use Rattle.std.proofs.Common.{◌≡◌, ◌∙◌, None, refl, sym, ap, subst, arith, inl, inr, ⊎_elim}
-use Rattle.blocks.specs.Disk.{HasTurned, Image, LeavesOnly}
+use Rattle.blocks.specs.Calls.{OnlyReads}
+use Rattle.blocks.specs.Disk.{AddsOnly, HasTurned, Image, LeavesOnly}
 use Rattle.blocks.specs.Lemmas.Moments.{
+  adds_behind,
   adds_joined,
   adds_wider,
   joined,
+  only_added,
   started,
   turned,
+  turned_behind,
   turned_joined,
   turned_wider,
 }
@@ -19,7 +23,7 @@ use Rattle.wal.specs.Lemmas.Commits.{empty_lawful}
 use Rattle.wal.specs.Recovery.{IsCalm, RecoversAs}
 use Rattle.history.specs.Lemmas.Leaving.{leaves_wider}
 use Rattle.kernel.specs.Opening.{LeavesRecovered}
-use Rattle.opening.specs.Stops.{LeavesFromSync}
+use Rattle.opening.specs.Stops.{LeavesFromSync, LeavesIfSynced}
 
 -- what is recovered as the recovered image is recovered as the image before
 pub recovers_before : (x y z : Image) → verdict x ≡ None → y ≡ recovered x → RecoversAs y z
@@ -102,3 +106,45 @@ module _ {D N : Type 0} (disk : Ghosts D N) where
     from_sync = turned_joined disk.moment disk.leaves d mid e Q
         (turned_wider disk.moment disk.leaves d mid P Q wider leaves.from_sync) run;
   }
+
+  pub if_synced : (d e : D) (P : Image → Type 0) → LeavesFromSync disk d e P
+      → LeavesIfSynced disk d e P
+  if_synced d e P leaves = record {
+    any_moment = leaves.any_moment;
+    adds = leaves.adds;
+    from_sync = inr leaves.from_sync;
+  }
+
+  -- of one that recovered a disk, or was refused before
+  pub recovered_if_synced : (d e : D) (P : Image → Type 0)
+      → ((x : Image) → RecoversAs (disk.image d) x → P x) → LeavesRecovered disk d e
+      → LeavesIfSynced disk d e P
+  recovered_if_synced d e P wider leaves =
+      let Q : Image → Type 0 = RecoversAs (disk.image d) in
+      record {
+        any_moment = λ calm. leaves_wider disk.moment disk.leaves d e Q P wider
+            (leaves.any_moment calm);
+        adds = adds_wider disk.moment disk.leaves d e Q P wider leaves.adds;
+        from_sync = ⊎_elim (λ unsynced. inl unsynced)
+            (λ later. inr (turned_wider disk.moment disk.leaves d e Q P wider later))
+            leaves.from_sync;
+      }
+
+  -- of an opening after reads
+  pub recovered_behind : (d mid e : D) → OnlyReads disk d mid → LeavesRecovered disk mid e
+      → LeavesRecovered disk d e
+  recovered_behind d mid e reads leaves =
+      let P : Image → Type 0 = RecoversAs (disk.image d) in
+      let added : AddsOnly disk.moment disk.leaves d e P =
+      adds_behind disk.moment disk.leaves d mid e P reads.time
+      (subst (λ (y : Image). AddsOnly disk.moment disk.leaves mid e (RecoversAs y))
+      reads.image leaves.adds) in
+      record {
+        any_moment = λ calm. only_added disk.moment disk.leaves d e P
+            (λ x left. subst P (sym (calm x left)) (record { image = refl; lawful = refl })) added;
+        adds = added;
+        from_sync = ⊎_elim (λ unsynced. inl (unsynced ∙ reads.syncs))
+            (λ later. inr (turned_behind disk.moment disk.leaves d mid e P reads.time.later
+            (subst (λ (y : Image). HasTurned disk.moment disk.leaves mid e (RecoversAs y))
+            reads.image later))) leaves.from_sync;
+      }

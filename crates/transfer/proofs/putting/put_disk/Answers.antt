@@ -1,10 +1,9 @@
 use Rattle.std.proofs.Common.{refl, sym, subst}
 use Rattle.std.specs.Prelude.{◌≡◌}
-use Rattle.blocks.specs.Disk.{AddsNone, LeavesOnly}
-use Rattle.model.specs.Log.{recovered}
+use Rattle.blocks.specs.Disk.{AddsNone}
 use Rattle.opening.specs.Lemmas.Keeping.{not_opened_leaves}
 use Rattle.transfer.specs.Putting.{IsUnput}
-use Rattle.transfer.specs.Stopped.{KeepsPutOf}
+use Rattle.transfer.specs.Stopped.{StopsPut}
 use Rattle.transfer.proofs.OpenedLemmas.{put_leaves, put_so, put_untold, read_leaves, recovered_leaves, synced_leaves, told_so, unopened_then, unwritten_so}
 use Rattle.transfer.proofs.putting.put_disk.Goals as goal
 
@@ -39,23 +38,23 @@ returns-in-Err-put-clause-refused g c =
 
 pub returns-in-Err-clause-leaves : goal.returns-in-Err-clause-leaves
 returns-in-Err-clause-leaves g c =
-    λ sound calm. read_leaves g.D.Disk g.met.D.Disk.counts_now c.args.inum c.args.bytes.now c.args.disk c.judge.new.disk sound c.in-Err.ensures.refused.reads calm
+    λ sound. read_leaves g.D.Disk c.args.inum c.args.bytes.now c.args.disk c.judge.new.disk sound c.in-Err.ensures.refused.reads
 
 pub returns-in-Err-open_sole-clause-leaves : goal.returns-in-Err-open_sole-clause-leaves
 returns-in-Err-open_sole-clause-leaves g c =
     let d = g.D.Disk in
-    let fit = c.in-Ok.ensures.fit in
-    λ sound calm. recovered_leaves d g.met.D.Disk.counts_now c.args.inum c.args.bytes.now c.args.disk c.judge.new.disk sound fit.reads calm c.in-Err-open_sole.disk
-    (not_opened_leaves d 1 c.judge.new.disk c.in-Err-open_sole.disk c.in-Err-open_sole.fault c.in-Err-open_sole.ensures.refused)
+    let e = c.in-Err-open_sole.disk in
+    λ sound. recovered_leaves d c.args.inum c.args.bytes.now c.args.disk c.judge.new.disk sound c.in-Ok.ensures.fit.reads e
+    (not_opened_leaves d 1 c.judge.new.disk e c.in-Err-open_sole.fault c.in-Err-open_sole.ensures.refused)
 
 pub returns-in-Ok-put-clause-leaves : goal.returns-in-Ok-put-clause-leaves
 returns-in-Ok-put-clause-leaves g c =
     let d = g.D.Disk in
-    λ sound calm. synced_leaves d g.met.D.Disk.counts_now c.args.inum c.args.bytes.now c.args.disk c.judge.new.disk sound c.in-Ok.ensures.fit.reads calm c.in-Ok.twice c.in-Ok.ensures.twice c.in-Ok-open_sole.kernel c.put-put.new.kernel c.tell-told.new.disk c.in-Ok-open_sole.ensures.opened c.put-put.ensures.stays
+    λ sound. synced_leaves d c.args.inum c.args.bytes.now c.args.disk c.judge.new.disk sound c.in-Ok.ensures.fit.reads c.in-Ok.twice c.in-Ok.ensures.twice c.in-Ok-open_sole.kernel c.put-put.new.kernel c.in-Ok-open_sole.ensures.opened c.put-put.ensures.stays c.tell-told.new.disk
     (subst (λ e. AddsNone (d.moment e) (d.moment c.tell-told.new.disk) (d.leaves e) (d.leaves c.tell-told.new.disk)) c.into_disk-disk.ensures c.tell-told.ensures.time)
 
 pub returns-in-Err-put-clause-leaves : goal.returns-in-Err-put-clause-leaves
 returns-in-Err-put-clause-leaves g c =
     let d = g.D.Disk in
-    λ sound calm. subst (λ e. LeavesOnly d.moment d.leaves c.args.disk e (KeepsPutOf (recovered (d.image c.args.disk)) c.args.inum c.args.bytes.now)) (sym c.into_disk.ensures)
-    (put_leaves d g.met.D.Disk.counts_now c.args.inum c.args.bytes.now c.args.disk c.judge.new.disk sound c.in-Ok.ensures.fit.reads calm c.in-Ok.twice c.in-Ok.ensures.twice c.in-Ok-open_sole.kernel c.put-put.new.kernel c.in-Ok-open_sole.ensures.opened c.put-put.ensures.stays)
+    λ sound. subst (λ e. StopsPut d c.args.inum c.args.bytes.now c.args.disk e) (sym c.into_disk.ensures)
+    (put_leaves d c.args.inum c.args.bytes.now c.args.disk c.judge.new.disk sound c.in-Ok.ensures.fit.reads c.in-Ok.twice c.in-Ok.ensures.twice c.in-Ok-open_sole.kernel c.put-put.new.kernel c.in-Ok-open_sole.ensures.opened c.put-put.ensures.stays)
