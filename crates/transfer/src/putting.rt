@@ -30,7 +30,7 @@ use wal::DeviceFault;
 /// number. The image is checked and recovered first, and with `sync` the disk is synced at the end; each
 /// call is a whole operation (the xv6 book, the chapter "File system": "Logging layer"). So a stop at any moment
 /// leaves, once recovered, the files as they were, or with the old file, or a new one, in which the
-/// first of the bytes stand.
+/// first of the bytes stand. What no file shows stays, as in `calls::call`.
 ///
 /// Over a file there is a way round, where the free blocks have room for both and a number is free:
 /// the bytes go into a new file first, all of them, and it is removed once the old one has them, too.
