@@ -31,7 +31,7 @@ use wal::DeviceFault;
 /// call is a whole operation (the xv6 book, the chapter "File system": "Logging layer"). So a stop at any moment
 /// leaves, once recovered, the files as they were, or with the old file, or a new one, in which the
 /// first of the bytes stand; of a disk that held writes back at the start, a stop since the sync with
-/// which the recovery began.
+/// which the recovery began. What no file shows stays, as in `calls::call`.
 ///
 /// Over a file there is a way round, where the free blocks have room for both and a number is free:
 /// the bytes go into a new file first, all of them, and it is removed once the old one has them, too.
