@@ -10,7 +10,7 @@ use Rattle.kernel.specs.Device.{UsesDisk, CountsItsFault, FailsSo, UsesOnce, blo
 use Rattle.std.specs.Option.{option_map}
 use Rattle.kernel.specs.Common.{Acts, append-nil, BeginsWith, Block, block_at_stage, Commit, commit_kinds, Commits, CommitSyncs, Committed, CommitWrites, DeviceFault, DiskFault, Elapses, elapses_none, elapses_same, end_answer, Ended, Ends, entry_in, fails_at, FailsAt, FailsToSync, false≢true, fault_of_step, fault_of_task, faults_after, first_in, Goes, is_busy_at, is_committing_at, is_over, is_syncing, is_writing, IsFault, may_begin, NextAt, NextIf, one_more, OnlyReads, Op, Part, Phase, place_at, process, Side, State, Step, step_behind, step_of, step_of_end, step_of_last, step_of_told, step_of_write, Steps, StoreState, Sync, task, TaskProgress, OpClass, class_of, World, world_after, world_behind, world_written}
 use Rattle.kernel.specs.Begins.{Begins}
-use Rattle.kernel.specs.Heralds.{IsUnasked}
+use Rattle.kernel.specs.Heralds.{IsUnasked, SameBoard}
 use Rattle.kernel.specs.Ports.{KeepsOthers, Asks}
 use Rattle.kernel.proofs.Events.{not_taken}
 
@@ -213,20 +213,21 @@ begins_not true true false under begins = false≢true under
 begins_not true true true under begins = false≢true begins
 
 pub same_unasked : {H : Type 0} (herald : herald_trait.Ghosts H) (h : H) → IsUnasked herald h h
-same_unasked herald h = record { told = refl; same = inl refl }
+same_unasked herald h = record { board = refl; told = refl; same = inl refl }
 
 module _ {D N I M H : Type 0} (disk : disk_trait.Ghosts D N) (intake : intake_trait.Ghosts I M) (herald : herald_trait.Ghosts H) (p : ℕ) (k m : State D I H) where
   -- what a process makes of store and processes where it stands, while the disk has not failed
   pub acts_at : (r : Step) (a : Phase) → k.store.volume.fault ≡ None → (process k.world p).at ≡ a
-      → NextAt disk a k.store k.world p (intake.side k.intake p).ahead (intake.side m.intake p) (herald.told m.herald) r m.store m.world → UsesDisk disk a p r k.store m.store → m.opening ≡ k.opening
+      → NextAt disk a k.store k.world p (intake.side k.intake p).ahead (intake.side m.intake p) (herald.told m.herald) r m.store m.world → UsesDisk disk a p r k.store m.store → m.opening ≡ k.opening → SameBoard herald k.herald m.herald
       → KeepsOthers intake p k.intake m.intake → (r ≢ Step.Moved → r ≢ Step.Answered → IsPrefix (intake.side k.intake p).ahead (intake.side m.intake p).ahead)
       → (is_busy_at a ≡ true → (intake.side m.intake p).ahead ≡ (intake.side k.intake p).ahead) → (may_begin k p ≡ true → herald.asks k.herald m.herald) → (may_begin k p ≡ false → IsUnasked herald k.herald m.herald) → Acts disk intake herald p r k m
-  acts_at r a well stands next device opening sides waits ahead asked unasked = record {
+  acts_at r a well stands next device opening board sides waits ahead asked unasked = record {
     next = subst (λ (o : Option DeviceFault). NextIf disk o k.store k.world p (intake.side k.intake p).ahead (intake.side m.intake p) (herald.told m.herald) r m.store m.world) (sym well)
         (subst (λ (b : Phase). NextAt disk b k.store k.world p (intake.side k.intake p).ahead (intake.side m.intake p) (herald.told m.herald) r m.store m.world) (sym stands) next);
     device = subst (λ (b : Phase). UsesDisk disk b p r k.store m.store) (sym stands) device;
     opening = opening;
     ports = record {
+      board = board;
       asked = asked;
       unasked = unasked;
       sides = sides;
@@ -240,7 +241,7 @@ module _ {D N I M H : Type 0} (disk : disk_trait.Ghosts D N) (intake : intake_tr
       → NextAt disk a k.store k.world p (intake.side k.intake p).ahead (intake.side m.intake p) (herald.told m.herald) r m.store m.world → UsesDisk disk a p r k.store m.store → m.opening ≡ k.opening
       → KeepsOthers intake p k.intake m.intake → (intake.side m.intake p).ahead ≡ (intake.side k.intake p).ahead → is_busy_at a ≡ true → IsUnasked herald k.herald m.herald → Acts disk intake herald p r k m
   acts_busy r a well stands next device opening sides same busy unasked =
-      acts_at r a well stands next device opening sides (λ moved answered. same_prefix (intake.side k.intake p).ahead (intake.side m.intake p).ahead same) (λ busy. same)
+      acts_at r a well stands next device opening unasked.board sides (λ moved answered. same_prefix (intake.side k.intake p).ahead (intake.side m.intake p).ahead same) (λ busy. same)
       (λ begins. absurd (begins_not (is_none k.store.volume.fault) (not k.world.is_shut) (is_busy_at (process k.world p).at) (ap is_busy_at stands ∙ busy) begins)) (λ never. unasked)
 
 module _ {D N I M H : Type 0} (disk : disk_trait.Ghosts D N) (intake : intake_trait.Ghosts I M) (herald : herald_trait.Ghosts H) (p : ℕ) (s t : StoreState D) (d : D) (i : I) (h : H) (w z : World) (well : s.volume.fault ≡ None) where
@@ -320,11 +321,11 @@ begins_still {D} s t w z p ahead side what r (inr (inr (inr made))) = record { r
 module _ {D N I M H : Type 0} (disk : disk_trait.Ghosts D N) (intake : intake_trait.Ghosts I M) (herald : herald_trait.Ghosts H) (p : ℕ) (k asked looked m : State D I H) (well : k.store.volume.fault ≡ None)
     (stands : (process k.world p).at ≡ Phase.Idle) where
   -- nobody told of a shutdown, what waits was looked up, and the first of it begins
-  pub acts_begun : (r : Step) (o : Option OpClass) → asked.store ≡ k.store → asked.opening ≡ k.opening → asked.intake ≡ k.intake → asked.world ≡ record k.world { is_shut = false }
+  pub acts_begun : (r : Step) (o : Option OpClass) → asked.store ≡ k.store → asked.opening ≡ k.opening → asked.intake ≡ k.intake → asked.world ≡ record k.world { is_shut = false } → SameBoard herald k.herald asked.herald
       → (k.world.is_shut ≡ false) × (herald.told asked.herald ≡ false) → herald.asks k.herald asked.herald → looked ≡ record asked { intake = looked.intake } → Asks intake p asked.intake looked.intake
       → o ≡ option_map (class_of looked.store.table.inode_count) (first_in (intake.side looked.intake p).ahead)
       → Begins intake o p r looked m → Acts disk intake herald p r k m
-  acts_begun r o store opening same world open_still once is asks waits made =
+  acts_begun r o store opening same world board open_still once is asks waits made =
       let world_is : looked.world ≡ k.world = ap (λ (s : State D I H). s.world) is ∙ world ∙ ap (λ (b : Bool). record k.world { is_shut = b }) (sym open_still.0) in
       let store_is : looked.store ≡ k.store = ap (λ (s : State D I H). s.store) is ∙ store in
       let here : BeginsWith o k.store k.world p (intake.side looked.intake p).ahead (intake.side m.intake p) r m.store m.world =
@@ -342,6 +343,7 @@ module _ {D N I M H : Type 0} (disk : disk_trait.Ghosts D N) (intake : intake_tr
       }))
       (rests disk k.store m.store Phase.Idle p r refl still.runs well still.fault still.device)
       (made.opening ∙ ap (λ (s : State D I H). s.opening) is ∙ opening)
+      (ap herald.board (made.herald ∙ ap (λ (s : State D I H). s.herald) is) ∙ board)
       (record {
         names = λ q. made.sides.names q ∙ asks.keeps.names q ∙ ap (λ (i : I). intake.name i q) same;
         others = λ q apart. made.sides.others q apart ∙ asks.keeps.others q apart ∙ ap (λ (i : I). intake.side i q) same;

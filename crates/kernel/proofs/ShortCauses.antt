@@ -1,5 +1,5 @@
 -- The cause of a short write: what the turns of a run saw.
-use Rattle.std.proofs.Common.{◌≡◌, ◌≢◌, ◌⊎◌, ◌<◌, ◌≤◌, ◌+◌, inl, inr, ℕ, zero, suc, Bool, true, false, cond, ltb, List, [], ◌∷◌, ◌++◌, length, set, refl, sym, ◌∙◌, ap, subst, ⊎_elim, arith, Option, Some, None}
+use Rattle.std.proofs.Common.{◌≡◌, ◌≢◌, ◌⊎◌, ◌<◌, ◌≤◌, inl, inr, ℕ, zero, suc, Bool, true, false, cond, ltb, List, [], ◌∷◌, ◌++◌, length, set, refl, sym, ◌∙◌, ap, subst, ⊎_elim, arith, Option, Some, None}
 use Rattle.blocks.specs.declared.disk.Disk as disk_trait
 use Rattle.inodes.specs.Lemmas.WriteRuns.{IsGoingOn}
 use Rattle.inodes.specs.WriteRuns.{SeesFull}

@@ -2,7 +2,7 @@
 use Rattle.std.proofs.Common.{◌≡◌, ◌≢◌, ◌⊎◌, inl, inr, ℕ, ◌+◌, zero, suc, Bool, true, false, List, [], ◌∷◌, ◌++◌, length, set, refl, sym, ◌∙◌, ap, Option, Some, None}
 use Rattle.blocks.specs.declared.disk.Disk as disk_trait
 use Rattle.std.specs.Option.{option_map}
-use Rattle.kernel.specs.Common.{at_once_reply, BeginsWith, begun, Commit, commit_log, Commits, Committed, committing_at, decided, DeviceFault, end_answer, Ended, ended, ended_keeps, Ends, Entry, entry_in, entry_of, entry_index, Finishes, first_in, first_stage, get_or-set_other, idle, is_over, LogState, NextAt, NextIf, no_task, Op, over_at, Part, Phase, phase_behind, Process, process, refusal, Reply, room_for, set-get_or, Side, Step, stepped_at, Steps, StoreState, task, TaskProgress, TaskState, told, told_at, turned_from, OpClass, class_of, with_begun, with_log, with_look, with_more_room, Works, World, world_after, world_behind, world_ended, world_written}
+use Rattle.kernel.specs.Common.{at_once_reply, BeginsWith, begun, Commit, commit_log, Commits, Committed, committing_at, decided, DeviceFault, end_answer, Ended, ended, ended_keeps, Ends, Entry, entry_in, entry_of, entry_index, Finishes, first_in, first_stage, get_or-set_other, idle, is_over, LogState, NextAt, NextIf, no_task, Op, over_at, Part, Phase, phase_behind, Process, process, refusal, Reply, room_for, set-get_or, Side, Step, stepped_at, Steps, StoreState, task, TaskProgress, TaskState, told, told_at, turned_from, OpClass, class_of, with_begun, with_log, with_look, Works, World, world_after, world_behind, world_ended, world_written}
 use Rattle.kernel.specs.Next.{Writes}
 
 -- what becomes of the store beside the task of process q

@@ -8,7 +8,7 @@ use Rattle.history.specs.Bound.{is_busy_at}
 use Rattle.history.specs.Processes.{process}
 use Rattle.model.specs.declared.types.operations.Step.{Step}
 use Rattle.kernel.specs.Device.{UsesDisk}
-use Rattle.kernel.specs.Heralds.{IsUnasked}
+use Rattle.kernel.specs.Heralds.{IsUnasked, SameBoard}
 use Rattle.kernel.specs.Next.{Next, StepFrom, StepTo}
 use Rattle.kernel.specs.Ports.{KeepsOthers}
 use Rattle.kernel.specs.State.{State}
@@ -37,6 +37,7 @@ step_to intake herald p r m = record {
 -- what it does at its ports
 pub record UsesPorts {D I M H : Type 0} (intake : intake_trait.Ghosts I M)
     (herald : herald_trait.Ghosts H) (p : ℕ) (r : Step) (k m : State D I H) : Type 0 where
+  pub board : SameBoard herald k.herald m.herald
   -- a step that comes to a beginning asks the herald once, and no other asks it
   pub asked : may_begin k p ≡ true → herald.asks k.herald m.herald
   pub unasked : may_begin k p ≡ false → IsUnasked herald k.herald m.herald

@@ -6,6 +6,7 @@ ghost use Rattle.history.specs.Processes.{process};
 ghost use Rattle.kernel.specs.Begins.{Begins, TakesFirst, LeavesFirst, kept_out, count_of, rooms_for};
 ghost use Rattle.kernel.specs.Ports.{Asks, first_waiting};
 ghost use Rattle.kernel.specs.Acts.{Acts};
+ghost use Rattle.kernel.specs.Heralds.{SameBoard};
 
 use crate::Step;
 use crate::class::{OpClass, at_once_reply, class_of};
@@ -44,6 +45,7 @@ impl<D: Disk, I: Intake, H: Herald> Kernel<D, I, H> {
         ensures intake { self.new.intake ≡ self.old.intake }
         ensures told { result ≡ true
             → (self.old.world.is_shut ≡ true) ⊎ (H.told self.new.herald ≡ true) }
+        ensures board { SameBoard H.Herald self.old.herald self.new.herald }
         ensures asked { self.old.world.is_shut ≡ false → H.asks self.old.herald self.new.herald }
         ensures unasked { self.old.world.is_shut ≡ true → self.new.herald ≡ self.old.herald }
         ensures open { result ≡ false

@@ -52,4 +52,4 @@ pub use model::types::Step;
 pub use runs::run;
 pub use stepping::Kernel;
 pub use types::{OpenFault, Turn};
-pub use visiting::{Visit, VisitWith};
+pub use visiting::{Consult, Visit, VisitWith};

@@ -6,6 +6,7 @@ ghost use Rattle.model.specs.Layout.{inode_count_of};
 ghost use Rattle.history.specs.Grows.{Grows};
 ghost use Rattle.history.specs.Keeps.{KeepsNow, KeepsBetween};
 ghost use Rattle.history.specs.Most.{most_of};
+ghost use Rattle.kernel.specs.Heralds.{SameBoard};
 ghost use Rattle.kernel.specs.Progress.{KeepsShutdown, StaysShut};
 ghost use Rattle.kernel.specs.Runs.{is_turn_of, Makes, Runs, RunsOn};
 
@@ -26,6 +27,7 @@ pub fn run<D: Disk, I: Intake, H: Herald>(kernel: &mut Kernel<D, I, H>, turns: &
     ensures made { result ≡ length turns.now }
     ensures runs { Runs D.Disk I.Intake H.Herald turns.now kernel.old kernel.new }
     ensures keeps { RunsOn D.Disk kernel.old kernel.new }
+    ensures board { SameBoard H.Herald kernel.old.herald kernel.new.herald }
 {
     kernel.known();
     for turn in turns {
@@ -40,6 +42,7 @@ impl<D: Disk, I: Intake, H: Herald> Kernel<D, I, H> {
         requires { IsTrue (is_turn_of (length self.old.world.processes) turn) }
         ensures turn { Makes D.Disk I.Intake H.Herald turn self.old self.new }
         ensures keeps { RunsOn D.Disk self.old self.new }
+        ensures board { SameBoard H.Herald self.old.herald self.new.herald }
     {
         self.known();
         match turn {

@@ -1,6 +1,7 @@
-// A look at a kernel's intake from outside.
+// A look at a kernel's intake, or at its herald, from outside.
 ghost use Rattle.std.specs.Prelude.{◌≡◌};
 ghost use Rattle.ports.specs.History.{SameNames, AllFit, RoomStays};
+ghost use Rattle.kernel.specs.Heralds.{SameHerald};
 
 use crate::stepping::Kernel;
 use blocks::Disk;
@@ -53,7 +54,37 @@ pub trait VisitWith<I: Intake> {
         ensures fits { AllFit (I.fits intake.old) (I.fits intake.new) };
 }
 
+/// What is asked of a herald between two steps, beside the kernel's own calls.
+pub trait Consult<H: Herald> {
+    ghost use Rattle.std.specs.Prelude.{◌≡◌};
+
+    /// Another value, which may change.
+    type Other;
+
+    /// What it asks of the herald and of the other value.
+    ghost asks: { Self → H → Self.Other → Type 0 };
+
+    /// What it tells of the herald as it was, and of the other value.
+    ghost tells: { Self → H → Self.Other → Self.Other → Type 0 };
+
+    /// Consults the herald.
+    fn consult(self, herald: &mut H, other: &mut Self::Other)
+        requires { asks self herald.old other.old }
+        ensures tells { tells self herald.old other.old other.new }
+        ensures same { SameHerald H.Herald herald.old herald.new };
+}
+
 impl<D: Disk, I: Intake, H: Herald> Kernel<D, I, H> {
+    /// Consults the herald. It takes no step, and nothing but the other value changes.
+    pub fn consult<V: Consult<H>>(&mut self, question: V, other: &mut V::Other)
+        requires { V.asks question self.old.herald other.old }
+        ensures tells { V.tells question self.old.herald other.old other.new }
+        ensures herald { SameHerald H.Herald self.old.herald self.new.herald }
+        ensures same { self.new ≡ record self.old { herald = self.new.herald } }
+    {
+        question.consult(&mut self.herald, other);
+    }
+
     /// Lets a visitor to the intake. It takes no step, and nothing but the intake changes.
     pub fn visit<V: Visit<I>>(&mut self, visitor: V) -> V::Gift
         requires { V.asks visitor self.old.intake }

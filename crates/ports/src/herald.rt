@@ -1,9 +1,13 @@
 // Whom the kernel tells of its commits, and who tells it of a shutdown.
-ghost use Rattle.std.specs.Prelude.{◌≡◌, ℕ, ◌+◌, Bool, true, false};
+ghost use Rattle.std.specs.Prelude.{◌≡◌, ℕ, ◌+◌, Bool, true, false, None};
 
 /// Hears how many groups are committed, and may tell of a shutdown.
 pub trait Herald: Drop {
-    ghost use Rattle.std.specs.Prelude.{ℕ, Bool};
+    ghost use Rattle.std.specs.Prelude.{ℕ, Bool, Option};
+    ghost use Rattle.atomic_table.specs.Seated.{TableId};
+
+    /// The table of the board at which it publishes them, if it has one. It stays the same.
+    ghost board: { Self → Option TableId };
 
     /// How many groups it was told are committed.
     ghost count: { Self → ℕ };
@@ -20,12 +24,14 @@ pub trait Herald: Drop {
     /// Hears that the group of this number is committed: one more than it was told before.
     fn durable(&mut self, group: u64)
         requires { group ≡ count self.old + 1 }
+        ensures board { board self.new ≡ board self.old }
         ensures count { count self.new ≡ group }
         ensures told { told self.new ≡ told self.old }
         ensures hears { hears self.old self.new };
 
     /// Whether a shutdown was asked for. Once true, it stays so.
     fn is_shut(&mut self) -> bool
+        ensures board { board self.new ≡ board self.old }
         ensures count { count self.new ≡ count self.old }
         ensures told { told self.new ≡ result }
         ensures stays { told self.old ≡ true → result ≡ true }
@@ -58,6 +64,8 @@ impl PlainHerald {
 
 impl Herald for PlainHerald {
     ghost use Rattle.ports.specs.PlainHerald.{count_of, IsSame, CountsOne};
+
+    ghost board = { λ _. None };
 
     ghost count = { count_of };
 

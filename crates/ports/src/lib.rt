@@ -14,8 +14,8 @@
 //!
 //! What stays kept: the kernel's calls for one process leave those of the others as they are. An
 //! operation that waits stays first, and a place stays kept, until they are used. A port needn't
-//! store what left it: `fits` ties it to the history that the kernel keeps. Its name is what the
-//! kernel's calls can't change.
+//! store what left it: `fits` ties it to the history that the kernel keeps. The kernel's calls change
+//! neither an intake's name nor a herald's board.
 #![tactic(auto)]
 
 mod herald;

@@ -1,6 +1,6 @@
 // The two words, and who may use them.
-ghost use Rattle.std.specs.Prelude.{◌≡◌, [], true, false};
-ghost use Rattle.rings.specs.Rules.{is_keeper};
+ghost use Rattle.std.specs.Prelude.{◌≡◌, [], true};
+ghost use Rattle.rings.specs.Rules.{is_keeper, is_watch};
 
 use crate::rule::{Admit, Ask, Look, Ruled};
 use crate::view::View;
@@ -33,7 +33,7 @@ pub struct Keeper {
 #[derive(Drop)]
 pub struct Watch {
     pub(crate) seat: Seat<(), View>,
-    ghost watch: { is_keeper seat.me.0 ≡ false },
+    ghost watch: { is_watch seat.me.0 ≡ true },
     ghost bare: { seat.me.1 ≡ [] },
 }
 
@@ -70,7 +70,7 @@ impl Board {
     }
 
     // One more watch.
-    fn admit(&self, keeper: &mut Keeper) -> Watch
+    pub(crate) fn admit(&self, keeper: &mut Keeper) -> Watch
         requires { KeeperOf self.now keeper.old }
         ensures keeper { KeeperOf self.now keeper.new × (published keeper.new ≡ published keeper.old)
             × (heard keeper.new ≡ heard keeper.old) }

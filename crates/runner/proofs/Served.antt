@@ -64,7 +64,7 @@ keeps_tasks disk m names tasks processes cs are own p low =
     let here : p < length cs = subst (λ n. p < n) (sym are.count) low in
     subst (KeepsFirst (inode_count_of (disk.image m.opening)) m.world.journal.list p) (ops_are names tasks processes cs are p here) (own p here)
 
-module _ {D N H : Type 0} (disk : Ghosts D N) (d : D) (i : RingIntake) (h : H) (processes : ℕ) (k m : State D RingIntake H) (opened : IsOpened disk d i h processes k) (origin : HasOriginOf disk k m) where
+module _ {D N H : Type 0} (disk : Ghosts D N) {heralds : herald_trait.Ghosts H} (d : D) (i : RingIntake) (h : H) (processes : ℕ) (k m : State D RingIntake H) (opened : IsOpened disk d i h processes k) (origin : HasOriginOf disk heralds k m) where
   pub many_are : length m.world.processes ≡ processes
   many_are = origin.runs.many ∙ ap (λ w. length w.processes) opened.world ∙ length-replicate processes _
 
@@ -72,8 +72,8 @@ module _ {D N H : Type 0} (disk : Ghosts D N) (d : D) (i : RingIntake) (h : H) (
   pub have_rings : (tasks : List Task) (cs : List Client) → AreClients (intake_names i) tasks processes cs → HaveRings (intake_names m.intake) cs
   have_rings tasks cs are p c at = origin.rings p ∙ ap (λ j. intake_names j p) opened.intake ∙ (are.each p c at).rings
 
-module _ {D N H : Type 0} (disk : Ghosts D N) (has_now : (d : D) → disk.leaves d (disk.moment d) (disk.image d)) (d : D) (i : RingIntake) (h : H) (processes : ℕ) (k m : State D RingIntake H)
-    (opened : IsOpened disk d i h processes k) (origin : HasOriginOf disk k m) where
+module _ {D N H : Type 0} (disk : Ghosts D N) {heralds : herald_trait.Ghosts H} (has_now : (d : D) → disk.leaves d (disk.moment d) (disk.image d)) (d : D) (i : RingIntake) (h : H) (processes : ℕ) (k m : State D RingIntake H)
+    (opened : IsOpened disk d i h processes k) (origin : HasOriginOf disk heralds k m) where
   abbrev P : Image → Type 0
   P = KeepsBetween 0 (most_of m.store.volume) (disk.image m.opening) m.world.journal.list
 

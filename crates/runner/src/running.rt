@@ -120,7 +120,7 @@ fn call<D: Disk + Send, H: Herald + Send, R: Threads + Wait + Clock + Sync>(
     requires watches { All (WatchOf board.now) watches.items }
     ensures same { IfSome result.0 (λ after. AreSameClients clients.items after.items) }
     ensures known { Known D.Disk ⟦<RingIntake as Intake>⟧ H.Herald result.1 }
-    ensures origin { HasOriginOf D.Disk kernel result.1 }
+    ensures origin { HasOriginOf D.Disk H.Herald kernel result.1 }
 {
     serve_while(
         rt,

@@ -14,13 +14,14 @@ use Rattle.kernel.specs.Steps.{MakesStep}
 use Rattle.sysring.specs.Origins.{IsOfOrigin, HasOriginOf}
 
 module _ {D N M H : Type 0} (disk : disk_trait.Ghosts D N) (intake : intake_trait.Ghosts RingIntake M) (herald : herald_trait.Ghosts H) where
-  pub of_origin_now : (k : State D RingIntake H) → Known disk intake herald k → HasOriginOf disk k k
-  of_origin_now k known = record { runs = runs_on_none disk intake herald k known.stop.keeps; rings = λ p. refl }
+  pub of_origin_now : (k : State D RingIntake H) → Known disk intake herald k → HasOriginOf disk herald k k
+  of_origin_now k known = record { runs = runs_on_none disk intake herald k known.stop.keeps; rings = λ p. refl; board = refl }
 
-  pub of_origin_then : (o : Option (State D RingIntake H)) (p : ℕ) (r : Step) (k m : State D RingIntake H) → IsOfOrigin disk o k → MakesStep disk intake herald p r k m
-      → SameNames (intake_names k.intake) (intake_names m.intake) → IsOfOrigin disk o m
+  pub of_origin_then : (o : Option (State D RingIntake H)) (p : ℕ) (r : Step) (k m : State D RingIntake H) → IsOfOrigin disk herald o k → MakesStep disk intake herald p r k m
+      → SameNames (intake_names k.intake) (intake_names m.intake) → IsOfOrigin disk herald o m
   of_origin_then None p r k m had made same = had
   of_origin_then (Some a) p r k m had made same = record {
     runs = runs_on_then disk intake herald a k m had.runs (runs_on_step disk intake herald p r k m made);
     rings = λ q. same q ∙ had.rings q;
+    board = made.acts.ports.board ∙ had.board;
   }

@@ -10,6 +10,7 @@
 #![tactic(auto)]
 
 mod accounting;
+mod comparing;
 mod serving;
 mod session;
 mod settling;
@@ -17,6 +18,7 @@ mod shared;
 mod workers;
 
 pub use accounting::{Reconciling, account};
+pub use comparing::{Comparing, compare};
 pub use rings::{Board, BoardHerald, Caller, Finished, Keeper, RingIntake, Watch, rings};
 pub use serving::{Serving, serve_while};
 pub use session::{Origin, Session};

@@ -68,7 +68,7 @@ pub fn serve_while<
     requires callers { F.IsAlwaysCallable callers }
     ensures done { IfSome result.0 (λ gift. (at : _) × F.post callers at gift) }
     ensures known { Known D.Disk ⟦<RingIntake as Intake>⟧ H.Herald result.1 }
-    ensures origin { HasOriginOf D.Disk kernel result.1 }
+    ensures origin { HasOriginOf D.Disk H.Herald kernel result.1 }
 {
     kernel.known();
     serve_under::<D, H, Brand, R, G, T, F>(rt, kernel, workers, gate, callers)
@@ -92,10 +92,10 @@ fn serve_under<
 ) -> (Option<T>, Kernel<D, RingIntake, H>)
     requires workers { AreWorkers workers }
     requires callers { F.IsAlwaysCallable callers }
-    requires origin { IsOfOrigin D.Disk K.outset kernel }
+    requires origin { IsOfOrigin D.Disk H.Herald K.outset kernel }
     ensures done { IfSome result.0 (λ gift. (at : _) × F.post callers at gift) }
     ensures known { Known D.Disk ⟦<RingIntake as Intake>⟧ H.Herald result.1 }
-    ensures origin { IsOfOrigin D.Disk K.outset result.1 }
+    ensures origin { IsOfOrigin D.Disk H.Herald K.outset result.1 }
 {
     let shared = Shared::<D, H, K>::new(kernel);
     let serving = Serving::new();

@@ -38,7 +38,7 @@ impl<D: Disk, H: Herald, K: Origin<D, H>> Model for Session<D, H, K> {
 
     ghost view = { λ f. f.kernel };
 
-    ghost invariant = { λ f. IsOfOrigin D.Disk K.outset f.kernel };
+    ghost invariant = { λ f. IsOfOrigin D.Disk H.Herald K.outset f.kernel };
 }
 
 impl<D: Disk, H: Herald, K: Origin<D, H>> Session<D, H, K> {
@@ -48,7 +48,7 @@ impl<D: Disk, H: Herald, K: Origin<D, H>> Session<D, H, K> {
 
     // Puts a kernel into a session.
     pub(crate) fn new(kernel: Kernel<D, RingIntake, H>) -> Session<D, H, K>
-        requires { IsOfOrigin D.Disk K.outset kernel }
+        requires { IsOfOrigin D.Disk H.Herald K.outset kernel }
         ensures { result ≡ kernel }
     {
         Session {
@@ -60,7 +60,7 @@ impl<D: Disk, H: Herald, K: Origin<D, H>> Session<D, H, K> {
     /// The kernel, for who only asks.
     pub fn kernel(&self) -> &Kernel<D, RingIntake, H>
         ensures same { result.now ≡ self.now }
-        ensures origin { IsOfOrigin D.Disk K.outset self.now }
+        ensures origin { IsOfOrigin D.Disk H.Herald K.outset self.now }
     {
         &self.kernel
     }
@@ -76,7 +76,7 @@ impl<D: Disk, H: Herald, K: Origin<D, H>> Session<D, H, K> {
     // The kernel, out of its session.
     pub(crate) fn into_kernel(self) -> Kernel<D, RingIntake, H>
         ensures same { result ≡ self }
-        ensures origin { IsOfOrigin D.Disk K.outset result }
+        ensures origin { IsOfOrigin D.Disk H.Herald K.outset result }
     {
         let Session { kernel, .. } = self;
         kernel

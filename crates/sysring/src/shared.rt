@@ -30,7 +30,7 @@ pub struct Shared<D: Disk, H: Herald, K: Origin<D, H>> {
 impl<D: Disk, H: Herald, K: Origin<D, H>> Shared<D, H, K> {
     /// Puts a lock round a kernel.
     pub fn new(kernel: Kernel<D, RingIntake, H>) -> Shared<D, H, K>
-        requires { IsOfOrigin D.Disk K.outset kernel }
+        requires { IsOfOrigin D.Disk H.Herald K.outset kernel }
     {
         Shared {
             kernel: Mutex::new(Session::new(kernel)),
@@ -44,7 +44,7 @@ impl<D: Disk, H: Herald, K: Origin<D, H>> Shared<D, H, K> {
     /// above all what a stop now leaves, and it goes on from the one that threads began to share.
     pub fn lock<R: Wait>(&self, rt: &R) -> MutexGuard<'_, Session<D, H, K>>
         ensures known { Known D.Disk ⟦<RingIntake as Intake>⟧ H.Herald (mutex_guard_value result) }
-        ensures origin { IsOfOrigin D.Disk K.outset (mutex_guard_value result) }
+        ensures origin { IsOfOrigin D.Disk H.Herald K.outset (mutex_guard_value result) }
     {
         let kernel = self.acquire(rt);
         kernel.kernel().known();
@@ -66,7 +66,7 @@ impl<D: Disk, H: Herald, K: Origin<D, H>> Shared<D, H, K> {
     /// The kernel, once nobody shares it any more.
     pub fn into_kernel(self) -> Kernel<D, RingIntake, H>
         ensures known { Known D.Disk ⟦<RingIntake as Intake>⟧ H.Herald result }
-        ensures origin { IsOfOrigin D.Disk K.outset result }
+        ensures origin { IsOfOrigin D.Disk H.Herald K.outset result }
     {
         let Shared { kernel, .. } = self;
         let kernel = kernel.into_inner().into_kernel();

@@ -1,6 +1,6 @@
 // A kernel over rings and a board, and the calls of it.
 ghost use Rattle.std.specs.Prelude.{◌≡◌, ◌<◌, ℕ, All, IfOk, Some, length, map};
-ghost use Rattle.rings.specs.Boards.{KeeperOf, WatchOf, published};
+ghost use Rattle.rings.specs.Boards.{KeeperOf, WatchOf, board_id, kept_board, published};
 ghost use Rattle.ports.specs.History.{nothing_yet};
 ghost use Rattle.rings.specs.Callers.{IntakeFits, intake_count};
 ghost use Rattle.test_rows.specs.Sessions.{AreCallersOf};
@@ -10,7 +10,7 @@ use blocks::{MemDisk, NoMemory};
 use kernel::{Kernel, OpenFault, Step};
 use model::types::Op;
 use std::alloc::{AllocError, Global};
-use sysring::{Board, BoardHerald, Caller, Keeper, RingIntake, Watch, rings, settle};
+use sysring::{Board, BoardHerald, Caller, Keeper, RingIntake, Watch, compare, rings, settle};
 
 // A kernel over rings and a board.
 type Opened<'a> = Kernel<MemDisk, RingIntake, BoardHerald<'a>>;
@@ -23,6 +23,7 @@ pub struct Session<'a> {
     kernel: Opened<'a>,
     // Those that have not finished.
     callers: Vec<Option<Caller>>,
+    ghost kernel_is: { kept_board kernel.herald.keeper ≡ Some (board_id board.now) },
     ghost watches_are: { All (WatchOf board.now) watches.items },
     ghost callers_are: { AreCallersOf kernel.intake callers.items },
 }
@@ -161,10 +162,12 @@ impl<'a> Session<'a> {
     }
 
     fn durable(&mut self, watch: usize) -> Told {
-        match self.watches.get_mut(watch) {
-            Some(watch) => Told::Number(self.board.durable(watch)),
-            None => Told::Refused,
-        }
+        let Some(watch) = self.watches.get_mut(watch) else {
+            return Told::Refused;
+        };
+        let seen = self.board.durable(watch);
+        compare(&mut self.kernel, watch);
+        Told::Number(seen)
     }
 
     fn ask(&mut self, watch: usize) -> Told {

@@ -1,5 +1,5 @@
 // A herald that tells of a shutdown.
-ghost use Rattle.std.specs.Prelude.{◌≡◌};
+ghost use Rattle.std.specs.Prelude.{◌≡◌, None};
 
 use ports::Herald;
 
@@ -23,6 +23,8 @@ impl Teller {
 
 impl Herald for Teller {
     ghost use Rattle.test_rows.specs.Teller.{count_of, has_told, CountsQuestion, CountsOne};
+
+    ghost board = { λ _. None };
 
     ghost count = { count_of };
 

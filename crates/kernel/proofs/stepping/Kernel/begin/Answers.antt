@@ -13,7 +13,7 @@ begun g c r m made =
     let quiet : c.hears_shutdown.result ≡ false = search rules in
     acts_begun g.D.Disk g.I.Intake g.H.Herald c.args.pid k c.hears_shutdown.new.self c.waiting.new.self m c.requires.fault c.requires.at r c.waiting.result
     c.hears_shutdown.ensures.store c.hears_shutdown.ensures.opening c.hears_shutdown.ensures.intake
-    (c.hears_shutdown.ensures.world ∙ ap (λ b. record k.world { is_shut = b }) quiet) (c.hears_shutdown.ensures.open quiet) (c.hears_shutdown.ensures.asked (c.hears_shutdown.ensures.open quiet).0) c.waiting.ensures.same c.waiting.ensures.asks c.waiting.ensures.waiting made
+    (c.hears_shutdown.ensures.world ∙ ap (λ b. record k.world { is_shut = b }) quiet) c.hears_shutdown.ensures.board (c.hears_shutdown.ensures.open quiet) (c.hears_shutdown.ensures.asked (c.hears_shutdown.ensures.open quiet).0) c.waiting.ensures.same c.waiting.ensures.asks c.waiting.ensures.waiting made
 
 pub returns-in_default : goal.returns-in_default
 returns-in_default g c =

@@ -145,7 +145,7 @@ returns-in-Durable g c =
     let t = c.commit_step-committed.new.self in
     let made : Commits g.D.Disk k.store (Committed.Durable c.in-Durable.group) t = subst (λ (r : Committed). Commits g.D.Disk k.store r t) c.in-Durable.is c.commit_step-committed.ensures.commits in
     subst (λ (o : State _ _ _). Acts g.D.Disk g.I.Intake g.H.Herald c.args.pid Step.Moved o (record { store = t; opening = k.opening.value; intake = k.intake; herald = c.durable.new.self; world = k.processes })) c.self.view_is
-    (acts_written g.D.Disk g.I.Intake g.H.Herald c.args.pid k.store t k.opening.value k.intake k.herald k.processes k.processes h.well h.group h.index k.intake c.durable.new.self (Committed.Durable c.in-Durable.group) h.stands made refl (sides_same g.I.Intake c.args.pid k.intake) refl (record { told = c.durable.ensures.told; same = inr c.durable.ensures.hears }))
+    (acts_written g.D.Disk g.I.Intake g.H.Herald c.args.pid k.store t k.opening.value k.intake k.herald k.processes k.processes h.well h.group h.index k.intake c.durable.new.self (Committed.Durable c.in-Durable.group) h.stands made refl (sides_same g.I.Intake c.args.pid k.intake) refl (record { board = c.durable.ensures.board; told = c.durable.ensures.told; same = inr c.durable.ensures.hears }))
 
 pub returns-in-Done : goal.returns-in-Done
 returns-in-Done g c =

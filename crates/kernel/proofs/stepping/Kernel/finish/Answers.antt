@@ -1,5 +1,5 @@
-use Rattle.std.proofs.Common.{rules, refl, ◌≡◌, ◌<◌, ◌≤◌, true, length, None, Some, ◌∙◌, sym, ap, subst, ℕ, suc, ◌-◌, arith}
-use Rattle.kernel.specs.Common.{Acts, answered, ArePorts, CanAnswer, decided, entry_in, fault_of_task, Ghosts, Inv, is_behind, IsRight, last_answer, LeavesSince, Op, Phase, process, Reply, State, Step, step_behind, step_of, step_of_last, step_of_told, Steps, StoreState, task, TaskProgress, World, world_behind, world_of_last, world_of_told}
+use Rattle.std.proofs.Common.{rules, refl, ◌≡◌, ◌<◌, ◌≤◌, length, None, Some, ◌∙◌, sym, ap, subst, ℕ, suc, ◌-◌, arith}
+use Rattle.kernel.specs.Common.{Acts, answered, ArePorts, CanAnswer, decided, entry_in, fault_of_task, Ghosts, Inv, IsRight, last_answer, LeavesSince, Op, Phase, process, Reply, State, Step, step_behind, step_of, step_of_last, step_of_told, Steps, StoreState, task, TaskProgress, World, world_behind, world_of_last, world_of_told}
 use Rattle.kernel.specs.Ports.{KeepsOthers}
 use Rattle.kernel.proofs.Acting.{acts_finished, sides_same}
 use Rattle.kernel.proofs.Answering.{IsThere, is_there, op_is, mine_is, answer_over, answer_told, some_reply}
