@@ -35,11 +35,10 @@ pub record IsRecoveredTo (x : Image) (count : ℕ) (y : Image) : Type 0 where
   pub logged : count ≡ logged_count x
   pub image : y ≡ recovered x
 
--- it can be recovered, its log holds so many blocks, and these are its files then
-pub record IsFound (x : Image) (count : ℕ) (found : Files) : Type 0 where
-  pub sound : verdict x ≡ None
-  pub logged : count ≡ logged_count x
-  pub files : found ≡ files_of (recovered x)
+-- the same, and these are the files of that one
+pub record IsFound (x : Image) (count : ℕ) (y : Image) (found : Files) : Type 0 where
+  pub recovered_to : IsRecoveredTo x count y
+  pub files : found ≡ files_of y
 
 -- the refusal of a recovery as that of an opening
 abbrev pub as_of_opening : RecoverRefusal → OpenFault

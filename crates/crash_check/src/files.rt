@@ -1,5 +1,6 @@
 // The files that a run has to leave, by a plain replay, and whether an image has them.
 ghost use Rattle.std.specs.Prelude.{◌≡◌, ◌↔◌, IfOk, IsTrue, None, option_map, replicate};
+ghost use Rattle.model.specs.Log.{recovered};
 ghost use Rattle.crash_check.specs.Images.{HasFiles, kept_files};
 
 use crate::images::{INODES, recovered_files};
@@ -37,10 +38,13 @@ fn no_files(alloc: Global) -> Result<Files, NoMemory>
     Ok(files)
 }
 
-/// Whether the image of a disk can be recovered, and has these files then.
+/// Whether the image of a disk can be recovered, and has these files then. It is left recovered where
+/// it has.
 pub fn has_files(alloc: Global, disk: &mut MemDisk, files: Option<Files>) -> Result<bool, NoMemory>
-    ensures { IfOk result (λ yes. IsTrue yes ↔ HasFiles (⟦<MemDisk as Disk>⟧.image disk.old)
+    ensures has { IfOk result (λ yes. IsTrue yes ↔ HasFiles (⟦<MemDisk as Disk>⟧.image disk.old)
         (option_map (λ f. f.items) files)) }
+    ensures left { IfOk result (λ yes. IsTrue yes
+        → ⟦<MemDisk as Disk>⟧.image disk.new ≡ recovered (⟦<MemDisk as Disk>⟧.image disk.old)) }
 {
     let Some(files) = files else {
         return Ok(false);

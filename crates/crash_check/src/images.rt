@@ -32,11 +32,12 @@ pub fn new_image(alloc: Global) -> Result<MemDisk, NoMemory>
     Ok(disk)
 }
 
-/// How many blocks the log of a disk's image holds, and the files that it has once it is recovered;
-/// None where it can't be recovered, twice.
+/// Recovers the image of a disk, twice: how many blocks its log held, and the files that it has then.
+/// None where it can't be recovered.
 pub fn recovered_files(alloc: Global, disk: &mut MemDisk) -> Result<Option<(u32, Files)>, NoMemory>
     ensures some { IfOk result (λ found. IfSome found (λ f.
-        IsFound (⟦<MemDisk as Disk>⟧.image disk.old) f.0 f.1.items)) }
+        IsFound (⟦<MemDisk as Disk>⟧.image disk.old) f.0
+        (⟦<MemDisk as Disk>⟧.image disk.new) f.1.items)) }
     ensures none { IfOk result (λ found. IfNone found
         (¬ (verdict (⟦<MemDisk as Disk>⟧.image disk.old) ≡ None))) }
 {
@@ -53,7 +54,8 @@ pub fn recovered_files(alloc: Global, disk: &mut MemDisk) -> Result<Option<(u32,
 
 // The blocks of a disk.
 fn blocks_of(alloc: Global, disk: &mut MemDisk) -> Result<Vec<Block>, NoMemory>
-    ensures { IfOk result (λ blocks. blocks.items ≡ ⟦<MemDisk as Disk>⟧.image disk.old) }
+    ensures blocks { IfOk result (λ blocks. blocks.items ≡ ⟦<MemDisk as Disk>⟧.image disk.old) }
+    ensures same { ⟦<MemDisk as Disk>⟧.image disk.new ≡ ⟦<MemDisk as Disk>⟧.image disk.old }
 {
     let mut blocks = Vec::new(alloc);
     for b in 0..disk.size() {

@@ -6,6 +6,7 @@ use Rattle.kernel.specs.Common.{ArePaired, block_at, cases_lt, counted, empty_la
 use Rattle.model.specs.Lemmas.Super.{super_of-recovered}
 use Rattle.wal.specs.declared.faults.RecoverFault.{RecoverFault}
 use Rattle.kernel.specs.Lemmas.Openings.{lawful_super}
+use Rattle.kernel.specs.Device.{SameUse, counts_of}
 use Rattle.kernel.specs.Opening.{MayWrite, IsRecoverCause}
 use Rattle.kernel.specs.declared.types.OpenFault.TheVariants.{Recover}
 
@@ -34,10 +35,10 @@ opens_again opening x journal c k =
 -- the fault of a recovery after that check
 pub recover_cause : {D N : Type 0} (T : Type 0) (disk : Ghosts D N) (d e f : D) (fault : RecoverFault) → verdict (disk.image d) ≡ None → OnlyReads disk d e → disk.fault_count e ≡ disk.fault_count d → RefusesToRecover {T = T} disk e f (Err fault)
     → IsRecoverCause disk d f fault
-recover_cause T disk d e f RecoverFault.Disk none reads same r = subst (λ (n : ℕ). Rose n (disk.fault_count f)) same r.fault
+recover_cause T disk d e f RecoverFault.Disk none reads same r = let once = r.fault in omega (arith, once, same)
 recover_cause T disk d e f RecoverFault.BadLog none reads same r = false≢true (sym r.bad ∙ ap is_lawful_log reads.image ∙ (verdict_sound (disk.image d) none).1)
 recover_cause T disk d e f RecoverFault.NoMemory none reads same r = tt
-recover_cause T disk d e f RecoverFault.Sync none reads same r = (subst (λ (n : ℕ). Rose n (disk.fault_count f)) same r.unsynced, sym (ap disk.holding reads.name) ∙ r.holds)
+recover_cause T disk d e f RecoverFault.Sync none reads same r = (let once = r.unsynced in omega (arith, once, same), sym (ap disk.holding reads.name) ∙ r.holds)
 
 -- the syncs of an opening
 pub syncs_at_open : {D N : Type 0} (disk : Ghosts D N) (d e f : D) (n : ℕ) → OnlyReads disk d e → Recovers disk n e f → disk.sync_count f ≡ counted (disk.sync_count d) (syncs_to_recover (disk.holding (disk.name d)) (logged_count (disk.image d)))
@@ -109,12 +110,12 @@ pub empty_left : (x y : Image) → y ≡ recovered x → is_lawful_log y ≡ tru
 empty_left x y is = empty_lawful y (ap logged_count is ∙ logged_count-left x)
 
 -- only a recovery that failed by the disk, or by a sync, may have written
-pub recover_unwritten : {D N : Type 0} (T : Type 0) (disk : Ghosts D N) (d e f : D) (fault : RecoverFault) → OnlyReads disk d e → OnBadLog {T = T} (Err fault) (Looks disk e f) → OnNoMemory {T = T} (Err fault) (f ≡ e)
-    → MayWrite (Recover fault) ⊎ ((disk.image f ≡ disk.image d) × (disk.write_count f ≡ disk.write_count d))
-recover_unwritten T disk d e f RecoverFault.Disk reads looks same = inl tt
-recover_unwritten T disk d e f RecoverFault.BadLog reads looks same = inr (looks.rests.image ∙ reads.image, looks.rests.writes ∙ reads.writes)
-recover_unwritten T disk d e f RecoverFault.NoMemory reads looks same = inr (ap disk.image same ∙ reads.image, ap disk.write_count same ∙ reads.writes)
-recover_unwritten T disk d e f RecoverFault.Sync reads looks same = inl tt
+pub recover_unwritten : {D N : Type 0} (T : Type 0) (disk : Ghosts D N) (d e f : D) (fault : RecoverFault) → OnlyReads disk d e → IsRecoverCause disk d f fault → OnNoMemory {T = T} (Err fault) (f ≡ e)
+    → MayWrite (Recover fault) ⊎ ((disk.image f ≡ disk.image d) × SameUse (counts_of disk d) (counts_of disk f))
+recover_unwritten T disk d e f RecoverFault.Disk reads cause same = inl tt
+recover_unwritten T disk d e f RecoverFault.BadLog reads cause same = absurd cause
+recover_unwritten T disk d e f RecoverFault.NoMemory reads cause same = inr (ap disk.image same ∙ reads.image, (ap disk.write_count same ∙ reads.writes, ap disk.sync_count same ∙ reads.syncs))
+recover_unwritten T disk d e f RecoverFault.Sync reads cause same = inl tt
 
 -- a store by its parts
 pub store_is : {D : Type 0} (v u : VolumeState D) (ts us : List TaskState) (f g : Form) (m n : ℕ) → v ≡ u → ts ≡ us → f ≡ g → m ≡ n

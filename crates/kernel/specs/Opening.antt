@@ -13,6 +13,7 @@ use Rattle.inodes.specs.Store.{fresh_volume}
 use Rattle.inodes.specs.Table.{new_table}
 use Rattle.inodes.specs.Tasks.{no_task}
 use Rattle.history.specs.Processes.{fresh_world}
+use Rattle.kernel.specs.Device.{SameUse, counts_of}
 use Rattle.kernel.specs.State.{State}
 use Rattle.kernel.specs.declared.types.OpenFault.{OpenFault}
 use Rattle.kernel.specs.declared.types.OpenFault.TheVariants.{Check, Recover, NoMemory, ProcRange}
@@ -81,12 +82,12 @@ IsOpenCause disk d e processes NoMemory =
     (1 ≤ processes) × (processes ≤ 32) × (verdict (disk.image d) ≡ None)
 IsOpenCause disk d e processes ProcRange = ((processes < 1) ⊎ (32 < processes)) × (e ≡ d)
 
--- and nothing of it was written but by a recovery that failed
+-- and nothing of it was written, nor was it synced, but by a recovery that failed
 pub record RefusesToOpen {D N : Type 0} (disk : Ghosts D N) (d e : D) (processes : ℕ)
     (fault : OpenFault) : Type 0 where
   pub cause : IsOpenCause disk d e processes fault
   pub unwritten : MayWrite fault
-      ⊎ ((disk.image e ≡ disk.image d) × (disk.write_count e ≡ disk.write_count d))
+      ⊎ ((disk.image e ≡ disk.image d) × SameUse (counts_of disk d) (counts_of disk e))
   pub name : disk.name e ≡ disk.name d
   pub leaves : LeavesRecovered disk d e
   -- a disk that holds no writes back is not synced

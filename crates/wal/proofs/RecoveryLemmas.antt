@@ -2,7 +2,7 @@
 use Rattle.std.proofs.Common.{◌≡◌, ◌≢◌, ◌⊎◌, inl, inr, ⊎_elim, ℕ, ◌+◌, ◌<◌, ◌≤◌, Bool, true, false, cond, eqb, ◌&&◌, leb, List, [], length, set, Some, Result, Ok, Err, refl, sym, ◌∙◌, ap, subst, arith}
 use Rattle.std.specs.Prelude.{slice_get, IfOk}
 use Rattle.std.proofs.lemmas.Option.{get_or_from_slice_get}
-use Rattle.wal.specs.Common.{adds_after, AddsNone, are_distinct, are_in_place, block_at, both_of, counted, Elapses, few_homes, Ghosts, goes_on, HasCopied, homes_of, Image, is_lawful_log, IsBlock, IsOldOrNew, IsRecoveredInPart, IsSettled, joined, LeavesOldOrNew, LeavesOnly, leb-true, logged_count, Looks, MayStop, ne_eqb, none_cleared, OnBadLog, OnDisk, only_added, OnlyReads, OnNoMemory, OnSync, recovered, recovered_empty, Recovers, RecoversAs, RecoversBy, RefusesToRecover, Rests, Rose, Settles, started, stays, StopsAlike, syncs_to_restore, syncs_to_settle, turned, writes_to_recover, zero_block}
+use Rattle.wal.specs.Common.{adds_after, AddsNone, are_distinct, are_in_place, block_at, both_of, counted, FailsOnce, few_homes, Ghosts, HasCopied, homes_of, Image, is_lawful_log, IsBlock, IsOldOrNew, IsRecoveredInPart, IsSettled, joined, LeavesOldOrNew, LeavesOnly, leb-true, logged_count, Looks, MayStop, ne_eqb, none_cleared, OnBadLog, OnDisk, one_more, only_added, OnlyReads, OnNoMemory, OnSync, recovered, recovered_empty, Recovers, RecoversAs, RecoversBy, RefusesToRecover, Rests, Settles, started, stays, StopsAlike, syncs_to_restore, syncs_to_settle, turned, writes_to_recover, zero_block}
 use Rattle.wal.specs.declared.faults.RecoverFault.{RecoverFault}
 use Rattle.blocks.specs.Lemmas.Reads.{reads_then}
 use Rattle.wal.proofs.CopyLemmas.{SameBesides, home_at, besides_copied, besides_old_or_new, recovers_besides, recovers_same, copied_more, copied_none, low_stays, cleared, length-homes_of}
@@ -240,19 +240,19 @@ module _ {D N : Type 0} (disk : Ghosts D N) where
       by_memory (Err RecoverFault.NoMemory) p = absurd p
       by_memory (Err RecoverFault.Sync) p = p
 
-      by_fault : (o : Result T RecoverFault) → OnDisk o (Rose (disk.fault_count mid) (disk.fault_count new)) → OnDisk o (Rose (disk.fault_count old) (disk.fault_count new))
+      by_fault : (o : Result T RecoverFault) → OnDisk o (FailsOnce disk mid new) → OnDisk o (FailsOnce disk old new)
       by_fault (Ok v) p = p
-      by_fault (Err RecoverFault.Disk) p = subst (λ (k : ℕ). Rose k (disk.fault_count new)) faults p
+      by_fault (Err RecoverFault.Disk) p = p ∙ ap one_more faults
       by_fault (Err RecoverFault.BadLog) p = p
       by_fault (Err RecoverFault.NoMemory) p = p
       by_fault (Err RecoverFault.Sync) p = p
 
-      by_unsynced : (o : Result T RecoverFault) → OnSync o (Rose (disk.fault_count mid) (disk.fault_count new)) → OnSync o (Rose (disk.fault_count old) (disk.fault_count new))
+      by_unsynced : (o : Result T RecoverFault) → OnSync o (FailsOnce disk mid new) → OnSync o (FailsOnce disk old new)
       by_unsynced (Ok v) p = p
       by_unsynced (Err RecoverFault.Disk) p = p
       by_unsynced (Err RecoverFault.BadLog) p = p
       by_unsynced (Err RecoverFault.NoMemory) p = p
-      by_unsynced (Err RecoverFault.Sync) p = subst (λ (k : ℕ). Rose k (disk.fault_count new)) faults p
+      by_unsynced (Err RecoverFault.Sync) p = p ∙ ap one_more faults
 
       by_holds : (o : Result T RecoverFault) → OnSync o (disk.holding (disk.name mid) ≡ true) → OnSync o (disk.holding (disk.name old) ≡ true)
       by_holds (Ok v) p = p
@@ -268,13 +268,13 @@ module _ {D N : Type 0} (disk : Ghosts D N) where
 
   -- behind the first write a recovery fails by the disk or by a sync alone
   pub refuses_late : {T : Type 0} (old mid new : D) (e : RecoverFault) → disk.fault_count mid ≡ disk.fault_count old → disk.holding (disk.name mid) ≡ disk.holding (disk.name old)
-      → (e ≡ RecoverFault.Disk) ⊎ ((e ≡ RecoverFault.Sync) × (disk.holding (disk.name mid) ≡ true)) → Rose (disk.fault_count mid) (disk.fault_count new) → RefusesToRecover {T = T} disk old new (Err e)
-  refuses_late {T} old mid new e faults kind (inl is) rose =
-      let grown : Rose (disk.fault_count old) (disk.fault_count new) = subst (λ (k : ℕ). Rose k (disk.fault_count new)) faults rose in
-      subst (λ (f : RecoverFault). RefusesToRecover {T = T} disk old new (Err f)) (sym is) (record { bad = tt; unwritten = tt; memory = tt; fault = grown; unsynced = tt; holds = tt })
-  refuses_late {T} old mid new e faults kind (inr is) rose =
-      let grown : Rose (disk.fault_count old) (disk.fault_count new) = subst (λ (k : ℕ). Rose k (disk.fault_count new)) faults rose in
-      subst (λ (f : RecoverFault). RefusesToRecover {T = T} disk old new (Err f)) (sym is.0) (record { bad = tt; unwritten = tt; memory = tt; fault = tt; unsynced = grown; holds = sym kind ∙ is.1 })
+      → (e ≡ RecoverFault.Disk) ⊎ ((e ≡ RecoverFault.Sync) × (disk.holding (disk.name mid) ≡ true)) → FailsOnce disk mid new → RefusesToRecover {T = T} disk old new (Err e)
+  refuses_late {T} old mid new e faults kind (inl is) once =
+      let fault : FailsOnce disk old new = once ∙ ap one_more faults in
+      subst (λ (f : RecoverFault). RefusesToRecover {T = T} disk old new (Err f)) (sym is) (record { bad = tt; unwritten = tt; memory = tt; fault = fault; unsynced = tt; holds = tt })
+  refuses_late {T} old mid new e faults kind (inr is) once =
+      let fault : FailsOnce disk old new = once ∙ ap one_more faults in
+      subst (λ (f : RecoverFault). RefusesToRecover {T = T} disk old new (Err f)) (sym is.0) (record { bad = tt; unwritten = tt; memory = tt; fault = tt; unsynced = fault; holds = sym kind ∙ is.1 })
 
   pub none_late : (T : Type 0) (mid : D) (e : RecoverFault) → (e ≡ RecoverFault.Disk) ⊎ ((e ≡ RecoverFault.Sync) × (disk.holding (disk.name mid) ≡ true)) → OnNoMemory {T = T} (Err e) ⊥
   none_late T mid e (inl is) = subst (λ (f : RecoverFault). OnNoMemory {T = T} (Err f) ⊥) (sym is) tt

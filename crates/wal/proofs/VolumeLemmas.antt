@@ -1,7 +1,7 @@
 -- What the calls on a disk with its buffers and its log keep, and what they give.
 use Rattle.std.proofs.Common.{◌≡◌, ⊎_elim, ℕ, ◌<◌, Bool, true, false, cond, eqb, List, length, refl, sym, ◌∙◌, ap, subst, arith, Option, Some, None}
 use Rattle.std.specs.Prelude.{IfNone, IsSome}
-use Rattle.wal.specs.Common.{after_acquire, after_acquire_by, after_begin, after_begin_by, after_lock, after_take, answer_at, answer_synced, appended, AreBlocks, begin_cause, block_at, block_or_zero, Buffer, buffer, buffer_same, Buffers, changed, closed, Commit, CommitSteps, CommitStepsAt, CommitsTo, CommitSyncs, Committed, CommitWrites, current_filled, current_hidden, current_kept, current_unfilled, DeviceFault, ended, EndsUnfilled, eq-eqb, Faulted, filled, found, Ghosts, HasRoom, header_block, Holds, Image, is_among, is_lawful_log, is_number_in, is_of, is_syncing, IsCache, IsSameOutsideLog, IsSettled, Joint, JointAt, left_by, LogState, noted, noted_cache, OnGot, Part, seen, Stepped, Synced, UnlessFault, Unsynced, used_by, victim, victim_free, VolumeState, Why}
+use Rattle.wal.specs.Common.{after_acquire, after_acquire_by, after_begin, after_begin_by, after_lock, after_take, answer_at, answer_synced, appended, AreBlocks, begin_cause, block_at, block_or_zero, Buffer, buffer, buffer_same, Buffers, changed, closed, Commit, CommitSteps, CommitStepsAt, CommitsTo, CommitSyncs, Committed, CommitWrites, current_filled, current_hidden, current_kept, current_unfilled, DeviceFault, ended, EndsUnfilled, eq-eqb, Faulted, filled, found, Ghosts, HasRoom, header_block, Holds, Image, is_among, is_lawful_log, is_number_in, is_syncing, IsCache, IsSameOutsideLog, IsSettled, Joint, JointAt, left_by, LogState, noted, noted_cache, OnGot, Part, seen, Stepped, Synced, UnlessFault, Unsynced, used_by, victim, victim_free, VolumeState, Why}
 use Rattle.wal.specs.Floats.{AreAfloat, IsAfloat, IsVolume, Survives}
 use Rattle.wal.specs.Lemmas.Log.{some_open, is_open, quiet_of}
 use Rattle.wal.proofs.FloatLemmas.{floats_here, survives}
@@ -26,6 +26,11 @@ if_joint holds x c l left (Some f) whole = tt
 pub if_survives : (holds : Bool) (x : Image) (c : Buffers) (l : LogState) (left : Image → Type 0) (fault : Option DeviceFault) → IfNone fault (IsVolume holds x c l left) → IfNone fault ((z : Image) → left z → Survives l.commit x z)
 if_survives holds x c l left None whole = λ z now. survives l.commit x c l z whole.joint (joint_lawful x c l whole.joint) (whole.floats.each z now)
 if_survives holds x c l left (Some f) whole = tt
+
+-- of a disk that holds no writes back no part waits for its sync
+pub if_plain : (holds : Bool) (x : Image) (c : Buffers) (l : LogState) (left : Image → Type 0) (fault : Option DeviceFault) → IfNone fault (IsVolume holds x c l left) → IfNone fault (holds ≡ false → is_syncing l.commit ≡ false)
+if_plain holds x c l left None whole = whole.floats.plain
+if_plain holds x c l left (Some f) whole = tt
 
 -- where the disk hasn't failed: v is what the fields of w were
 pub joint_here : {D N : Type 0} (disk : Ghosts D N) (v w : VolumeState D) → v ≡ w → w.fault ≡ None → IfNone v.fault (IsVolume (disk.holding (disk.name v.device)) (disk.image v.device) v.buffers v.log (disk.leaves v.device (disk.moment v.device))) → Joint (disk.image v.device) v.buffers v.log

@@ -3,7 +3,7 @@ use Rattle.std.specs.Prelude.{◌≡◌, ◌⊎◌, ◌≤◌, ℕ, Bool, true, 
 use Rattle.blocks.specs.Block.{zero_block}
 use Rattle.blocks.specs.Calls.{OnlyReads, UnlessHolds}
 use Rattle.blocks.specs.declared.disk.Disk.{Ghosts}
-use Rattle.blocks.specs.Disk.{Image, AddsNone, AddsOnly, HasTurned, IsSettled, block_at, counted, one_more, Rose, LeavesOnly}
+use Rattle.blocks.specs.Disk.{Image, AddsNone, AddsOnly, HasTurned, IsSettled, block_at, counted, one_more, LeavesOnly}
 use Rattle.layout.specs.declared.header.Header.{Header}
 use Rattle.model.specs.Log.{homes_of, is_lawful_log, logged_count, place_among, recovered}
 use Rattle.wal.specs.declared.faults.RecoverFault.{RecoverFault}
@@ -106,14 +106,18 @@ pub record ReadsHeader {D N : Type 0} (disk : Ghosts D N) (old new : D) (header 
   pub homes : header.homes.items ≡ homes_of (disk.image old)
   pub faults : disk.fault_count new ≡ disk.fault_count old
 
+-- one call failed, and none was made behind it, since it might have failed, too
+abbrev pub FailsOnce : {D N : Type 0} → Ghosts D N → D → D → Type 0
+FailsOnce disk old new = disk.fault_count new ≡ one_more (disk.fault_count old)
+
 -- when each fault of a recovery comes, and how the disk is then
 pub record RefusesToRecover {D N T : Type 0} (disk : Ghosts D N) (old new : D)
     (result : Result T RecoverFault) : Type 0 where
   pub bad : OnBadLog result (is_lawful_log (disk.image old) ≡ false)
   pub unwritten : OnBadLog result (Looks disk old new)
   pub memory : OnNoMemory result (new ≡ old)
-  pub fault : OnDisk result (Rose (disk.fault_count old) (disk.fault_count new))
-  pub unsynced : OnSync result (Rose (disk.fault_count old) (disk.fault_count new))
+  pub fault : OnDisk result (FailsOnce disk old new)
+  pub unsynced : OnSync result (FailsOnce disk old new)
   pub holds : OnSync result (disk.holding (disk.name old) ≡ true)
 
 -- the first n logged blocks were copied home, and no call failed
@@ -144,7 +148,7 @@ pub record FailsLate {D N T : Type 0} (disk : Ghosts D N) (old new : D)
     (result : Result T RecoverFault) : Type 0 where
   pub name : disk.name new ≡ disk.name old
   pub kinds : IfErr result (λ e. (e ≡ Disk) ⊎ ((e ≡ Sync) × (disk.holding (disk.name old) ≡ true)))
-  pub rose : OnErr result (Rose (disk.fault_count old) (disk.fault_count new))
+  pub once : OnErr result (FailsOnce disk old new)
   pub plain : UnlessHolds disk old (disk.sync_count new ≡ disk.sync_count old)
 
 -- A crash at any moment leaves an image that is recovered to the same one, and whose log is lawful

@@ -2,11 +2,11 @@
 ghost use Rattle.std.specs.Prelude.{◌≡◌, ◌⊎◌, ◌<◌, ◌≤◌, ◌+◌, false, true, length, slice_set, IsTrue, IfErr, IfOk, IsOk, OnOk, OnErr};
 ghost use Rattle.blocks.specs.Block.{zero_block};
 ghost use Rattle.blocks.specs.Calls.{OnlyReads, UnlessHolds, WritesOne};
-ghost use Rattle.blocks.specs.Disk.{AddsNone, CountsFault, IsOldOrNew, IsSettled, LeavesOnly, Rose, one_more};
+ghost use Rattle.blocks.specs.Disk.{AddsNone, CountsFault, IsOldOrNew, IsSettled, LeavesOnly, one_more};
 ghost use Rattle.model.specs.Format.{log_capacity, inode_start, log_start};
 ghost use Rattle.model.specs.Layout.{is_lawful_super};
 ghost use Rattle.model.specs.Log.{is_lawful_log, homes_of};
-ghost use Rattle.wal.specs.Recovery.{BringsHome, Clears, Copies, FailsLate, IsCalm, MayStop, OnNoMemory, ReadsHeader, Recovers, RecoversBy, RefusesToRecover, Rests, Settles, StopsAlike, syncs_to_restore, syncs_to_settle};
+ghost use Rattle.wal.specs.Recovery.{BringsHome, Clears, Copies, FailsLate, FailsOnce, IsCalm, MayStop, OnNoMemory, ReadsHeader, Recovers, RecoversBy, RefusesToRecover, Rests, Settles, StopsAlike, syncs_to_restore, syncs_to_settle};
 
 use crate::RecoverFault;
 use blocks::{Block, Disk, DiskFault, SyncFault};
@@ -78,7 +78,7 @@ fn copy_home<D: Disk>(disk: &mut D, block: &mut Block, homes: &[u32]) -> Result<
     requires settled { IsCalm D.Disk disk.old }
     ensures ok { OnOk result (Copies D.Disk (length homes.now) disk.old disk.new) }
     ensures name { D.name disk.new ≡ D.name disk.old }
-    ensures disk { OnErr result (Rose (D.fault_count disk.old) (D.fault_count disk.new)) }
+    ensures disk { OnErr result (FailsOnce D.Disk disk.old disk.new) }
     ensures syncs { D.sync_count disk.new ≡ D.sync_count disk.old }
     ensures stops { StopsAlike D.Disk disk.old disk.new }
 {
@@ -144,8 +144,9 @@ fn restore<D: Disk>(
 /// # Errors
 ///
 /// `NoMemory` where the allocator refuses two blocks; nothing was read or written. `BadLog` where
-/// the header is not lawful; nothing was written. `Disk` where the disk failed: recovery is not at
-/// its end, and may be run again. `Sync` where a sync failed: as with `Disk`.
+/// the header is not lawful; nothing was written. `Disk` where a read or a write failed, behind which
+/// none was made: recovery is not at its end, and may be run again. `Sync` where a sync failed: as
+/// with `Disk`.
 pub fn recover<D: Disk>(alloc: Global, disk: &mut D, sup: &Super) -> Result<u32, RecoverFault>
     requires { IsTrue (is_lawful_super sup.now (length (D.image disk.old))) }
     ensures ok { IfOk result (λ n. Recovers D.Disk n disk.old disk.new) }

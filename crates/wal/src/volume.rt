@@ -1,12 +1,13 @@
 // A disk with its buffer cache and its log, as the layers above use them.
 ghost use Rattle.std.specs.Prelude.{◌≡◌, ◌<◌, ◌≤◌, ◌+◌, ◌^◌, ℕ, false, length, slice_set, Some, None, IsSome, IfNone};
 ghost use Rattle.blocks.specs.Block.{IsBlock, overwritten, block_size};
+ghost use Rattle.blocks.specs.Calls.{UnlessHolds};
 ghost use Rattle.blocks.specs.Disk.{Image, IsImage, IsSettled, block_at};
 ghost use Rattle.model.specs.Format.{inode_start};
 ghost use Rattle.wal.specs.Floats.{Survives};
 ghost use Rattle.model.specs.Log.{logged_count};
 ghost use Rattle.bcache.specs.Buffers.{buffer, block_or_zero, filled, fresh_buffers, released, EndsUnfilled};
-ghost use Rattle.wal.specs.Machine.{is_quiet, new_log, begin_cause, begin_answer, after_begin, used_by, ended, end_answer};
+ghost use Rattle.wal.specs.Machine.{is_quiet, is_syncing, new_log, begin_cause, begin_answer, after_begin, used_by, ended, end_answer};
 ghost use Rattle.wal.specs.Joint.{Joint, seen};
 ghost use Rattle.wal.specs.Held.{HoldsBlock, LeavesLocks, GivesUpLock};
 ghost use Rattle.wal.specs.Volume.{Holds, IsNewMemory, MayChange, LacksBlock, GetsFor, ReadsFor, VolumeCommits, why_busy, after_change, fault_of_step, OnFault, UnlessFault, fill_answer, progress_of, slot_of};
@@ -76,13 +77,16 @@ impl<D: Disk> Volume<D> {
     }
 
     /// Does nothing: where the disk hasn't failed, it says what is true of disk, buffers and log
-    /// together, and what recovery gives for each image that a crash now may leave.
+    /// together, and what recovery gives for each image that a crash now may leave. Over a disk that
+    /// holds no writes back a commit never waits for a sync.
     pub fn known(&self)
         ensures joint { IfNone self.now.fault (Joint
             (D.image self.now.device) self.now.buffers self.now.log) }
         ensures survives { IfNone self.now.fault ((z : Image)
             → D.leaves self.now.device (D.moment self.now.device) z
             → Survives self.now.log.commit (D.image self.now.device) z) }
+        ensures plain { IfNone self.now.fault (UnlessHolds D.Disk self.now.device
+            (is_syncing self.now.log.commit ≡ false)) }
     {
         let _ = &self.fault;
     }

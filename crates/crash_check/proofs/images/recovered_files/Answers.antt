@@ -14,10 +14,10 @@ returns-in-Ok-clause-some c =
     let y = ghosts.image c.recover_twice.new.disk in
     let whole = subst (λ logged. IfSome logged (λ n. IsRecoveredTo x n y)) c.in-Some.is c.in_ok-logged.ensures.some in
     let found : c.in-Ok.files.items ≡ files_of (recovered y) = search rules in
+    let same : ghosts.image c.blocks_of.new.disk ≡ y = c.blocks_of.ensures.same in
     record {
-      sound = whole.sound;
-      logged = whole.logged;
-      files = found ∙ ap (λ z. files_of (recovered z)) whole.image ∙ ap files_of (once x whole.sound);
+      recovered_to = record { sound = whole.sound; logged = whole.logged; image = same ∙ whole.image };
+      files = found ∙ ap (λ z. files_of (recovered z)) whole.image ∙ ap files_of (once x whole.sound ∙ sym whole.image ∙ sym same);
     }
 
 pub returns-clause-none : goal.returns-clause-none

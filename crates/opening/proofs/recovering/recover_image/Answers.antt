@@ -1,6 +1,5 @@
-use Rattle.std.proofs.Common.{◌≡◌, ℕ, ◌∙◌, sym, ap, subst, length, None, Err}
+use Rattle.std.proofs.Common.{◌≡◌, ℕ, ◌∙◌, sym, ap, arith, length, None, Err}
 use Rattle.std.proofs.lemmas.Bool.{false≢true}
-use Rattle.blocks.specs.Disk.{Rose}
 use Rattle.blocks.specs.Calls.{OnlyReads}
 use Rattle.blocks.specs.declared.disk.Disk.{Ghosts}
 use Rattle.model.specs.Layout.{is_lawful_super}
@@ -18,10 +17,10 @@ use Rattle.opening.proofs.recovering.recover_image.Goals as goal
 -- the fault of a recovery that follows a check without one
 refused_by : {D N : Type 0} (T : Type 0) (disk : Ghosts D N) (d mid e : D) (fault : RecoverFault) → verdict (disk.image d) ≡ None → OnlyReads disk d mid → disk.fault_count mid ≡ disk.fault_count d → RefusesToRecover {T = T} disk mid e (Err fault)
     → IsUnrecovered disk d e (refusal.Recover fault)
-refused_by T disk d mid e recover.Disk none reads same r = (none, subst (λ (n : ℕ). Rose n (disk.fault_count e)) same r.fault)
+refused_by T disk d mid e recover.Disk none reads same r = (none, let once = r.fault in omega (arith, once, same))
 refused_by T disk d mid e recover.BadLog none reads same r = absurd (false≢true (sym r.bad ∙ ap is_lawful_log reads.image ∙ (verdict_sound (disk.image d) none).1))
 refused_by T disk d mid e recover.NoMemory none reads same r = (none, ap disk.image r.memory ∙ reads.image)
-refused_by T disk d mid e recover.Sync none reads same r = (none, (subst (λ (n : ℕ). Rose n (disk.fault_count e)) same r.unsynced, sym (ap disk.holding reads.name) ∙ r.holds))
+refused_by T disk d mid e recover.Sync none reads same r = (none, (let once = r.unsynced in omega (arith, once, same), sym (ap disk.holding reads.name) ∙ r.holds))
 
 pub recover-recovered-requires : goal.recover-recovered-requires
 recover-recovered-requires g c =

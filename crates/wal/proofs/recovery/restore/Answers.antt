@@ -109,7 +109,7 @@ pub returns-in_err-bring_home-clause-refused : goal.returns-in_err-bring_home-cl
 returns-in_err-bring_home-clause-refused g c =
     let is : c.from_residual-in_err-bring_home.result ≡ Err c.in_err-bring_home.field-0.0 = search rules in
     subst (λ r. RefusesToRecover g.D.Disk c.args.disk.now c.bring_home.new.disk r) (sym is)
-    (refuses_late g.D.Disk c.args.disk.now c.read_header.new.disk c.bring_home.new.disk _ c.in_ok-header.ensures.ok.faults (ap g.D.Disk.holding c.in_ok-header.ensures.reads.name) c.in_err-bring_home.ensures.fails.kinds c.in_err-bring_home.ensures.fails.rose)
+    (refuses_late g.D.Disk c.args.disk.now c.read_header.new.disk c.bring_home.new.disk _ c.in_ok-header.ensures.ok.faults (ap g.D.Disk.holding c.in_ok-header.ensures.reads.name) c.in_err-bring_home.ensures.fails.kinds c.in_err-bring_home.ensures.fails.once)
 
 pub returns-in_err-bring_home-clause-memory : goal.returns-in_err-bring_home-clause-memory
 returns-in_err-bring_home-clause-memory g c =
@@ -120,7 +120,7 @@ pub returns-in_err-clear_header-clause-refused : goal.returns-in_err-clear_heade
 returns-in_err-clear_header-clause-refused g c =
     let is : c.from_residual-in_err-clear_header.result ≡ Err c.in_err-clear_header.field-0.0 = search rules in
     subst (λ r. RefusesToRecover g.D.Disk c.args.disk.now c.clear_header.new.disk r) (sym is)
-    (refuses_late g.D.Disk c.args.disk.now c.bring_home.new.disk c.clear_header.new.disk _ (c.in_ok-bring_home.ensures.ok.copies.faults ∙ c.in_ok-header.ensures.ok.faults) (ap g.D.Disk.holding (c.in_ok-bring_home.ensures.fails.name ∙ c.in_ok-header.ensures.reads.name)) c.in_err-clear_header.ensures.fails.kinds c.in_err-clear_header.ensures.fails.rose)
+    (refuses_late g.D.Disk c.args.disk.now c.bring_home.new.disk c.clear_header.new.disk _ (c.in_ok-bring_home.ensures.ok.copies.faults ∙ c.in_ok-header.ensures.ok.faults) (ap g.D.Disk.holding (c.in_ok-bring_home.ensures.fails.name ∙ c.in_ok-header.ensures.reads.name)) c.in_err-clear_header.ensures.fails.kinds c.in_err-clear_header.ensures.fails.once)
 
 pub returns-in_err-clear_header-clause-memory : goal.returns-in_err-clear_header-clause-memory
 returns-in_err-clear_header-clause-memory g c =

@@ -81,9 +81,10 @@ pub returns-in-Err-recover-clause-refused : goal.returns-in-Err-recover-clause-r
 returns-in-Err-recover-clause-refused g c =
     let refused = c.in-Err-recover.ensures.refused in
     let reads = c.check.ensures.reads in
+    let cause = recover_cause ℕ g.D.Disk c.args.disk c.check.new.disk c.recover.new.disk c.in-Err-recover.fault c.in-Ok.ensures.ok reads c.in-Ok.ensures.faults refused in
     record {
-      cause = (search rules, search rules, c.in-Ok.ensures.ok, recover_cause ℕ g.D.Disk c.args.disk c.check.new.disk c.recover.new.disk c.in-Err-recover.fault c.in-Ok.ensures.ok reads c.in-Ok.ensures.faults refused);
-      unwritten = recover_unwritten ℕ g.D.Disk c.args.disk c.check.new.disk c.recover.new.disk c.in-Err-recover.fault reads refused.unwritten refused.memory;
+      cause = (search rules, search rules, c.in-Ok.ensures.ok, cause);
+      unwritten = recover_unwritten ℕ g.D.Disk c.args.disk c.check.new.disk c.recover.new.disk c.in-Err-recover.fault reads cause refused.memory;
       name = c.recover.ensures.name ∙ reads.name;
       leaves = opened_leaves g.D.Disk c.args.disk c.check.new.disk c.recover.new.disk reads c.recover.ensures.stops;
       plain = λ free. c.recover.ensures.stops.plain (ap g.D.Disk.holding reads.name ∙ free) ∙ reads.syncs;
@@ -93,11 +94,7 @@ pub returns-clause-opened : goal.returns-clause-opened
 returns-clause-opened g c =
     let x = g.D.Disk.image c.args.disk in
     let d = c.recover.new.disk in
-    let s = c.open-store.result in
-    let volume : s.volume ≡ fresh_volume g.D.Disk.image d = ap (λ (o : StoreState _). o.volume) c.open-store.ensures.store ∙ c.open.ensures.volume in
-    let device : s.volume.device ≡ d = ap (λ (v : VolumeState _). v.device) volume in
     let opening : c.of-opening.result.value ≡ d = c.of-opening.ensures in
-    let tasks : s.tasks ≡ replicate c.args.processes no_task = ap (λ (o : StoreState _). o.tasks) c.open-store.ensures.store ∙ c.in-Ok-take_memory.ensures.tasks in
     let some : 1 ≤ c.args.processes = search rules in
     let few : c.args.processes ≤ 32 = search rules in
     record {

@@ -94,9 +94,9 @@ still g c (TaskProgress.Fault fault) is none =
     let right = right_fault g.D.Disk k.opening.value k.store k.processes c.self.invariant.right h.well c.args.pid h.within c.in-BeforeTurn.op h.mine c.known.ensures.store c.step-progress.new.self c.in-BeforeTurn.group h.stands fault
     (survives_reading g.D.Disk k.opening.value k.store c.step-progress.new.self g.met.D.Disk.counts_now steps.reads.device h.well c.known.ensures.survives) steps in
     record {
+      ports = subst (λ (n : ℕ). ArePorts g.I.Intake g.H.Herald k.intake k.herald n k.processes) (sym steps.groups.committed) c.self.invariant.ports;
       right = right;
       since = since g c (TaskProgress.Fault fault) k.processes is refl right;
-      ports = subst (λ (n : ℕ). ArePorts g.I.Intake g.H.Herald k.intake k.herald n k.processes) (sym steps.groups.committed) c.self.invariant.ports;
     }
 
 pub invariant_of-self : goal.invariant_of-self
