@@ -82,7 +82,7 @@ pub fn put_disk<D: Disk + Drop, P: Meter, O: Write>(
         Ok(kernel) => kernel,
         Err((fault, disk)) => return (Err(PutRefusal::Unopened(fault)), disk),
     };
-    let put = put(alloc, &mut kernel, bytes, inum, twice, progress);
+    let put = put(&mut kernel, alloc, bytes, inum, twice, progress);
     progress.ended();
     match put {
         Ok(number) => {
@@ -97,8 +97,8 @@ pub fn put_disk<D: Disk + Drop, P: Meter, O: Write>(
 // Puts bytes through a kernel, over a file by way of a new one where there is room `twice`. The number of
 // their file.
 fn put<D: Disk, P: Meter>(
-    alloc: Global,
     kernel: &mut Sole<D>,
+    alloc: Global,
     bytes: &[u8],
     inum: Option<u32>,
     twice: bool,
