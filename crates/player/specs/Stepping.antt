@@ -10,7 +10,7 @@ use Rattle.blocks.specs.declared.faulty.FaultyDisk.{FaultyDisk}
 use Rattle.model.specs.declared.types.operations.Answer.{Answer}
 use Rattle.ports.specs.declared.herald.Herald.{Ghosts as Heralds}
 use Rattle.ports.specs.declared.intake.Intake.{Ghosts as Intakes}
-use Rattle.rings.specs.Boards.{HasHeeded, HasPublished, WatchOf, asked, heard, published}
+use Rattle.rings.specs.Boards.{HasHeeded, HasPublished, WatchOf, asked, heard, kept_board, published}
 use Rattle.rings.specs.declared.herald.BoardHerald.{BoardHerald}
 use Rattle.rings.specs.Callers.{Reconciles, intake_count, intake_names, intake_side, polled, submitted, unpolled, IntakeFits}
 use Rattle.rings.specs.declared.caller.Caller.{Caller}
@@ -53,6 +53,7 @@ ring_ends = record {
 -- and of a board's herald
 abbrev pub board_herald : Heralds BoardHerald
 board_herald = record {
+  board = λ h. kept_board h.keeper;
   count = λ h. published h.keeper;
   told = λ h. heard h.keeper;
   asks = λ old new. HasHeeded old.keeper new.keeper;
