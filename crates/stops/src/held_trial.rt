@@ -115,7 +115,7 @@ pub fn try_held_run(
         → FailsHeld tasks.now processes words.now write sync) }
 {
     let (board, hands) = take_board(alloc)?;
-    let player = open(alloc, &board, hands, tasks, processes, write, sync)?;
+    let player = open_held(alloc, &board, hands, tasks, processes, write, sync)?;
     finish(alloc, player, words, write)
 }
 
@@ -196,7 +196,7 @@ fn judge(
 
 // A player of these operations over a new image. The hands are of that board.
 #[tactic(auto, using(crate::proofs::Runs::handed_on))]
-fn open<'a>(
+fn open_held<'a>(
     alloc: Global,
     board: &'a Board,
     hands: Hands,

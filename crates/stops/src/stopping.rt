@@ -43,7 +43,7 @@ pub fn check_stops<P: Meter, O: Write>(
     ensures refused { IfErr result (IsUnchecked held tasks.now processes words.now
         (out.new ≡ out.old)) }
 {
-    let tried = try_all(alloc, tasks, processes, words, held, progress);
+    let tried = try_all(alloc, tasks, processes, words, progress, held);
     progress.ended();
     let images = tried.map_err(Printed::Fault)?;
     print_images(out, images).map_err(|_| Printed::Output)
@@ -55,8 +55,8 @@ fn try_all<P: Meter>(
     tasks: &[Task],
     processes: u32,
     words: &[Word],
-    held: bool,
     progress: &mut P,
+    held: bool,
 ) -> Result<u64, StopsFault>
     requires tasks { All (λ task. task.pid < processes) tasks.now }
     requires words { IsTrue (list_all (is_word_of processes) words.now) }
@@ -67,17 +67,17 @@ fn try_all<P: Meter>(
     if held {
         try_held_stops(alloc, tasks, processes, words, progress)
     } else {
-        try_stops(alloc, tasks, processes, words, progress)
+        try_stops(alloc, progress, tasks, processes, words)
     }
 }
 
 // Makes the whole run, and then one up to each of its writes. How many images there were.
 fn try_stops<P: Meter>(
     alloc: Global,
+    progress: &mut P,
     tasks: &[Task],
     processes: u32,
     words: &[Word],
-    progress: &mut P,
 ) -> Result<u64, StopsFault>
     requires tasks { All (λ task. task.pid < processes) tasks.now }
     requires words { IsTrue (list_all (is_word_of processes) words.now) }
@@ -87,14 +87,14 @@ fn try_stops<P: Meter>(
 {
     let writes = try_run(alloc, tasks, processes, words, 0)?;
     for before in 0..writes {
-        try_stop(alloc, tasks, processes, words, before)?;
+        try_behind(alloc, tasks, processes, words, before)?;
         progress.reached(before + 1, writes, "stops");
     }
     Ok(writes.saturating_add(1))
 }
 
 // Makes the run up to the write behind so many.
-fn try_stop(
+fn try_behind(
     alloc: Global,
     tasks: &[Task],
     processes: u32,

@@ -71,24 +71,24 @@ pub fn serve_while<
     ensures origin { HasOriginOf D.Disk H.Herald kernel result.1 }
 {
     kernel.known();
-    serve_under::<D, H, Brand, R, G, T, F>(rt, kernel, workers, gate, callers)
+    serve_under::<D, H, R, G, Brand, T, F>(kernel, callers, rt, workers, gate)
 }
 
 // The same with an origin.
 fn serve_under<
     D: Disk + Send,
     H: Herald + Send,
-    K: Origin<D, H> + Send,
     R: Threads + Wait + Clock + Sync,
     G: Gate + Sync,
+    K: Origin<D, H> + Send,
     T,
     F: FnOnce(&Serving) -> T,
 >(
-    rt: &R,
     kernel: Kernel<D, RingIntake, H>,
+    callers: F,
+    rt: &R,
     workers: u32,
     gate: &G,
-    callers: F,
 ) -> (Option<T>, Kernel<D, RingIntake, H>)
     requires workers { AreWorkers workers }
     requires callers { F.IsAlwaysCallable callers }
@@ -105,13 +105,13 @@ fn serve_under<
 
 // Serves the kernel on another thread, while this one does `callers`.
 fn serve_beside<
+    T,
+    F: FnOnce(&Serving) -> T,
     D: Disk + Send,
     H: Herald + Send,
     K: Origin<D, H> + Send,
     R: Threads + Wait + Clock + Sync,
     G: Gate + Sync,
-    T,
-    F: FnOnce(&Serving) -> T,
 >(
     rt: &R,
     shared: &Shared<D, H, K>,

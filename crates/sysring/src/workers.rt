@@ -29,6 +29,34 @@ pub trait Gate {
     fn after(&self, pid: u32);
 }
 
+// The processes of some workers: bit w is set where worker w is among them.
+#[derive(Clone, Copy)]
+struct Share {
+    processes: u32,
+    mine: u32,
+    workers: u32,
+    ghost are: { AreWorkers workers },
+}
+
+impl Share {
+    ghost use Rattle.std.specs.Prelude.{◌≡◌};
+
+    fn of(processes: u32, mine: u32, workers: u32) -> Share
+        requires { AreWorkers workers }
+        ensures { result.processes ≡ processes }
+    {
+        Share {
+            processes,
+            mine,
+            workers,
+        }
+    }
+
+    fn has(self, pid: u32) -> bool {
+        (self.mine >> (pid % self.workers)) & 1 == 1
+    }
+}
+
 // What a round of steps came to, one of each process.
 enum Round {
     // No process goes on any more.
@@ -72,14 +100,14 @@ pub fn serve<
                     move ||
                         requires { AreWorkers workers × (processes ≡ processes_in K.outset) }
                     {
-                        work(rt, shared, processes, theirs, workers, gate);
+                        work(rt, shared, Share::of(processes, theirs, workers), gate);
                     },
                 );
                 if started.is_err() {
                     mine |= theirs;
                 }
             }
-            work(rt, shared, processes, mine, workers, gate);
+            work(rt, shared, Share::of(processes, mine, workers), gate);
         },
     );
 }
@@ -94,21 +122,19 @@ fn processes_of<D: Disk, H: Herald, K: Origin<D, H>, R: Wait>(
     shared.lock(rt).kernel().processes() as u32
 }
 
-// Makes rounds of steps of the processes of some workers, until none of them goes on.
+// Makes rounds of steps of these processes, until none of them goes on.
 fn work<D: Disk, H: Herald, K: Origin<D, H>, R: Wait + Clock, G: Gate>(
     rt: &R,
     shared: &Shared<D, H, K>,
-    processes: u32,
-    mine: u32,
-    workers: u32,
+    share: Share,
     gate: &G,
 )
-    requires { AreWorkers workers × (processes ≡ processes_in K.outset) }
+    requires { share.processes ≡ processes_in K.outset }
 {
     let mut rest = SHORTEST_REST;
     for _ in rt.forever() {
         let seen = shared.changes();
-        match make_round(rt, shared, processes, mine, workers, gate) {
+        match make_round(rt, shared, share, gate) {
             Round::Over => return,
             Round::Asleep => shared.wait_past(rt, seen),
             Round::Quiet => {
@@ -120,22 +146,20 @@ fn work<D: Disk, H: Herald, K: Origin<D, H>, R: Wait + Clock, G: Gate>(
     }
 }
 
-// Makes a step of each process of some workers.
+// Makes a step of each of these processes.
 fn make_round<D: Disk, H: Herald, K: Origin<D, H>, R: Wait, G: Gate>(
     rt: &R,
     shared: &Shared<D, H, K>,
-    processes: u32,
-    mine: u32,
-    workers: u32,
+    share: Share,
     gate: &G,
 ) -> Round
-    requires { AreWorkers workers × (processes ≡ processes_in K.outset) }
+    requires { share.processes ≡ processes_in K.outset }
 {
     let mut over = true;
     let mut asleep = true;
     let mut quiet = true;
-    for pid in 0..processes {
-        if (mine >> (pid % workers)) & 1 == 0 {
+    for pid in 0..share.processes {
+        if !share.has(pid) {
             continue;
         }
         gate.before(pid);

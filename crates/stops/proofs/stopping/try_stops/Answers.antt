@@ -5,7 +5,7 @@ use Rattle.stops.proofs.HeldRuns.{passed_on}
 use Rattle.stops.proofs.stopping.try_stops.Goals as goal
 
 pub loop-before-preserved : goal.loop-before-preserved
-loop-before-preserved g c = one_more_passed (Passes c.args.tasks.now c.args.processes c.args.words.now) c.loop-before.before c.loop-before.invariant c.in_ok-try_stop.ensures.passes
+loop-before-preserved g c = one_more_passed (Passes c.args.tasks.now c.args.processes c.args.words.now) c.loop-before.before c.loop-before.invariant c.in_ok-try_behind.ensures.passes
 
 pub returns-clause-all : goal.returns-clause-all
 returns-clause-all g c =
@@ -17,7 +17,7 @@ returns-clause-all g c =
       count = c.saturating_add.ensures;
     }
 
-pub returns-in_err-try_stop-clause-some : goal.returns-in_err-try_stop-clause-some
-returns-in_err-try_stop-clause-some g c =
-    passed_on c.from_residual-in_err-try_stop.result c.in_err-try_stop.field-0.0 _ c.from_residual-in_err-try_stop.ensures.1
-    (λ mismatch. inr (c.in_ok-writes.writes, c.in_ok-writes.ensures.tried, c.loop-before.before, c.loop-before-test.true, c.in_err-try_stop.ensures.fails mismatch))
+pub returns-in_err-try_behind-clause-some : goal.returns-in_err-try_behind-clause-some
+returns-in_err-try_behind-clause-some g c =
+    passed_on c.from_residual-in_err-try_behind.result c.in_err-try_behind.field-0.0 _ c.from_residual-in_err-try_behind.ensures.1
+    (λ mismatch. inr (c.in_ok-writes.writes, c.in_ok-writes.ensures.tried, c.loop-before.before, c.loop-before-test.true, c.in_err-try_behind.ensures.fails mismatch))

@@ -9,7 +9,7 @@ use Rattle.crash_check.specs.Lemmas.NewImages.{new_empty}
 use Rattle.stops.specs.Holding.{below, over}
 use Rattle.stops.proofs.Runs.{handed_on, unopened_new}
 use Rattle.std.proofs.lemmas.Result.{IfOk-weaker}
-use Rattle.stops.proofs.held_trial.open.Goals as goal
+use Rattle.stops.proofs.held_trial.open_held.Goals as goal
 
 pub returns-clause-opened : goal.returns-clause-opened
 returns-clause-opened c =
