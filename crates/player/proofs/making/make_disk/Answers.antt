@@ -14,4 +14,4 @@ returns-clause-synced g c = record {
 pub returns-clause-order : goal.returns-clause-order
 returns-clause-order g c =
     let d = g.D.Disk in
-    λ plain. stays d.moment d.leaves c.args.disk.now c.mkfs_as.new.disk c.sync.new.self (IsMadeInPartAs c.args.form (d.image c.args.disk.now) c.args.size c.args.ninodes) (c.mkfs_as.ensures.order plain) c.sync.ensures.time
+    λ plain. stays d.moment d.leaves c.args.disk.now c.mkfs_as.new.disk c.sync.new.self (IsMadeInPartAs c.args.form (d.image c.args.disk.now) c.args.size c.args.ninodes) (c.mkfs_as.ensures.writes.order plain) c.sync.ensures.time
