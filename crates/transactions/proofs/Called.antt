@@ -28,7 +28,7 @@ use Rattle.kernel.specs.Sleeping.{SleepsForCause}
 use Rattle.kernel.specs.State.{class_of}
 use Rattle.kernel.specs.declared.class.OpClass.{OpClass}
 use Rattle.kernel.specs.declared.class.OpClass.TheVariants as waiting_as
-use Rattle.transactions.proofs.Waiting.{log_waits, waits_for_buffer}
+use Rattle.transactions.proofs.Waiting.{has_begun, waits_for_buffer}
 use Rattle.history.specs.Processes.{World, process}
 use Rattle.kernel.specs.Known.{Known}
 use Rattle.kernel.specs.Runs.{RunsOn}
@@ -37,7 +37,7 @@ use Rattle.model.specs.declared.types.operations.Step.TheVariants as step
 use Rattle.kernel.specs.Moves.{MakesSteps, Moves}
 use Rattle.calls.specs.Stepping.{Plain, MakesPlainStep, plain_herald, plain_queues}
 use Rattle.calls.specs.Calls.{HasFailed, image_on, is_look}
-use Rattle.transactions.specs.Transactions.{Adds, IsFetched, IsInside, IsOpenBy, KeepsFiles, IsOnlyRead, anchor}
+use Rattle.transactions.specs.Transactions.{Adds, IsFetched, IsInside, IsOpenBy, KeepsFiles, IsOnlyRead, anchor, has_room}
 use Rattle.transactions.proofs.Going.{tasks_none, Any, LeavesOthers, Over, Stage, logs_move, moves_read, stage_goes, stage_lists, stage_logs, stage_over, stages_move, leaves_step, steps_name, steps_run, stage_moves, busy_moves, stays_busy}
 use Rattle.transactions.proofs.Counting.{IsAnswered, IsFree, all_given, counts, fetched_again, fetched_still, is_answered}
 use Rattle.transactions.proofs.Holding.{LogIs}
@@ -45,7 +45,7 @@ use Rattle.transactions.proofs.Looking.{Holds, holds_idle, holds_log, idle_holds
 use Rattle.transactions.proofs.Keeping.{leaves_before, settled}
 use Rattle.transactions.proofs.Files.{files_then, of_two, told_files}
 use Rattle.transactions.proofs.Stages.{BusyAt, ListIs, StageAt}
-use Rattle.transactions.proofs.Unshut.{GoesOnOrEnds}
+use Rattle.transactions.proofs.Unshut.{GoesOnOrEnds, first_waits}
 
 -- a kernel with other queues
 abbrev pub with_intake : {D : Type 0} → Plain D → QueueIntake → Plain D
@@ -107,6 +107,7 @@ pub record IsCall {D N : Type 0} (disk : Ghosts D N) (op : Op) (r : Step) (k m :
   pub i : QueueIntake
   pub inside : IsInside disk.fault_count k
   pub few : length k.world.journal.list < 2 ^ 32
+  pub room : has_room op k.store.volume.log ≡ true
   pub waits : waiting i 0 ≡ waiting k.intake 0 ++ op ∷ []
   pub fetched : polled i 0 ≡ polled k.intake 0
   pub others : OthersWait k.intake i 0
@@ -114,12 +115,13 @@ pub record IsCall {D N : Type 0} (disk : Ghosts D N) (op : Op) (r : Step) (k m :
   pub known_now : Known disk plain_queues plain_herald m
   pub makes : MakesSteps disk plain_queues plain_herald 0 r (with_intake k i) m
 
-pub is_call : {D N : Type 0} (disk : Ghosts D N) (op : Op) (r : Step) (k l m : Plain D) → IsInside disk.fault_count k → length k.world.journal.list < 2 ^ 32 → l ≡ with_intake k l.intake → waiting l.intake 0 ≡ waiting k.intake 0 ++ op ∷ [] → polled l.intake 0 ≡ polled k.intake 0 → OthersWait k.intake l.intake 0
+pub is_call : {D N : Type 0} (disk : Ghosts D N) (op : Op) (r : Step) (k l m : Plain D) → IsInside disk.fault_count k → length k.world.journal.list < 2 ^ 32 → has_room op k.store.volume.log ≡ true → l ≡ with_intake k l.intake → waiting l.intake 0 ≡ waiting k.intake 0 ++ op ∷ [] → polled l.intake 0 ≡ polled k.intake 0 → OthersWait k.intake l.intake 0
     → Known disk plain_queues plain_herald l → Known disk plain_queues plain_herald m → MakesSteps disk plain_queues plain_herald 0 r l m → IsCall disk op r k m
-is_call disk op r k l m inside few same waits fetched others known_then known_now makes = record {
+is_call disk op r k l m inside few room same waits fetched others known_then known_now makes = record {
   i = l.intake;
   inside = inside;
   few = few;
+  room = room;
   waits = waits;
   fetched = fetched;
   others = others;
@@ -228,41 +230,38 @@ module _ {D N : Type 0} (disk : Ghosts D N) (op : Op) (r : Step) (k m : Plain D)
       let none : length (answers m.intake 0) ≡ 0 = grind (arith, polled_m, few, less, given, own_same) in
       ap (λ (n : ℕ). nat_lt n 16) none
 
-  abbrev Lacks : Why → Type 0
-  Lacks cause = ((cause ≡ why.LogFull) × (10 < length k.store.volume.log.homes)) ⊎ (cause ≡ why.NoBuffer)
+  full_not : (cause : Why) → m.world ≡ k.world → HasNoRoom (nat_lt (length (answers m.intake 0)) 16) (step.Sleeping cause) → ⊥
+  full_not cause same full = let no : false ≡ true = sym full.1 ∙ room_left same in cc no
 
-  full_not : (cause : Why) → m.world ≡ k.world → HasNoRoom (nat_lt (length (answers m.intake 0)) 16) (step.Sleeping cause) → Lacks cause
-  full_not cause same full = let no : false ≡ true = sym full.1 ∙ room_left same in absurd (cc no)
+  not_taken : (cause : Why) (what : OpClass) → class_of k.store.table.inode_count op ≡ what → m.world ≡ k.world → IsNotTaken (Some what) k.store.volume.log (nat_lt (length (answers m.intake 0)) 16) (step.Sleeping cause) → ⊥
+  not_taken cause waiting_as.Refused is same (inl full) = full_not cause same full
+  not_taken cause waiting_as.Refused is same (inr none) = let e = none.0 in cc e
+  not_taken cause (waiting_as.Look count) is same (inl full) = full_not cause same full
+  not_taken cause (waiting_as.Look count) is same (inr none) = let e = none.0 in cc e
+  not_taken cause waiting_as.Change is same (inl full) = full_not cause same full
+  not_taken cause waiting_as.Change is same (inr (inr none)) = let e = none.0.0 in cc e
+  not_taken cause waiting_as.Change is same (inr (inl out)) = has_begun k.store.table.inode_count op k.store.volume.log out.0 is call.room out.2
 
-  not_taken : (cause : Why) (what : Option OpClass) → m.world ≡ k.world → IsNotTaken what k.store.volume.log (nat_lt (length (answers m.intake 0)) 16) (step.Sleeping cause) → Lacks cause
-  not_taken cause None same is = absurd (cc is)
-  not_taken cause (Some waiting_as.Refused) same (inl full) = full_not cause same full
-  not_taken cause (Some waiting_as.Refused) same (inr none) = let e = none.0 in absurd (cc e)
-  not_taken cause (Some (waiting_as.Look count)) same (inl full) = full_not cause same full
-  not_taken cause (Some (waiting_as.Look count)) same (inr none) = let e = none.0 in absurd (cc e)
-  not_taken cause (Some waiting_as.Change) same (inl full) = full_not cause same full
-  not_taken cause (Some waiting_as.Change) same (inr (inr none)) = let e = none.0.0 in absurd (cc e)
-  not_taken cause (Some waiting_as.Change) same (inr (inl out)) =
-      let is : cause ≡ out.0 = (let e = out.1 in cc e) in
-      let log = log_waits k.store.volume.log out.0 call.inside.open_one.outstanding call.inside.open_one.quiet out.2 in
-      inl (is ∙ log.0, log.1)
-
-  begins_not : (cause : Why) (before : List Op) → BeginsNext k.store k.world 0 before (plain_queues.side m.intake 0) false (step.Sleeping cause) m.store m.world → Lacks cause
-  begins_not cause before (inl shut) = let e = shut.answer in absurd (cc e)
-  begins_not cause before (inr none) = by none.ahead none.begins
+  begins_not : (cause : Why) (before : List Op) → before ≡ op ∷ [] → BeginsNext k.store k.world 0 before (plain_queues.side m.intake 0) false (step.Sleeping cause) m.store m.world → ⊥
+  begins_not cause before was (inl shut) = let e = shut.answer in cc e
+  begins_not cause before was (inr none) = by none.ahead (first_waits op before none.ahead was none.prefix) none.begins
     where
-      by : (ahead : List Op) → BeginsWith (option_map (class_of k.store.table.inode_count) (first_in ahead)) k.store k.world 0 ahead (plain_queues.side m.intake 0) (step.Sleeping cause) m.store m.world → Lacks cause
-      by ahead (inl takes) = let e = takes.answer in absurd (cc e)
-      by ahead (inr (inl takes)) = let e = takes.answer in absurd (cc e)
-      by ahead (inr (inr (inl takes))) = let e = takes.answer in absurd (cc e)
-      by ahead (inr (inr (inr takes))) = not_taken cause (option_map (class_of k.store.table.inode_count) (first_in ahead)) takes.same.1 takes.answer
+      by : (ahead : List Op) → first_in ahead ≡ Some op → BeginsWith (option_map (class_of k.store.table.inode_count) (first_in ahead)) k.store k.world 0 ahead (plain_queues.side m.intake 0) (step.Sleeping cause) m.store m.world → ⊥
+      by ahead first (inl takes) = let e = takes.answer in cc e
+      by ahead first (inr (inl takes)) = let e = takes.answer in cc e
+      by ahead first (inr (inr (inl takes))) = let e = takes.answer in cc e
+      by ahead first (inr (inr (inr takes))) =
+          not_taken cause (class_of k.store.table.inode_count op) refl takes.same.1
+          (subst (λ (o : Option Op). IsNotTaken (option_map (class_of k.store.table.inode_count) o) k.store.volume.log (nat_lt (length (answers m.intake 0)) 16) (step.Sleeping cause)) first takes.answer)
 
-  next_not : (cause : Why) (f : Option DeviceFault) → f ≡ None → NextIf disk f k.store k.world 0 (waiting call.i 0) (plain_queues.side m.intake 0) false (step.Sleeping cause) m.store m.world → Lacks cause
-  next_not cause None well next = begins_not cause (waiting call.i 0) (subst (λ (a : Phase). NextAt disk a k.store k.world 0 (waiting call.i 0) (plain_queues.side m.intake 0) false (step.Sleeping cause) m.store m.world) call.inside.pair.free next)
-  next_not cause (Some fault) well next = absurd (cc well)
+  next_not : (cause : Why) (f : Option DeviceFault) → f ≡ None → NextIf disk f k.store k.world 0 (waiting call.i 0) (plain_queues.side m.intake 0) false (step.Sleeping cause) m.store m.world → ⊥
+  next_not cause None well next =
+      begins_not cause (waiting call.i 0) (call.waits ∙ ap (λ (xs : List Op). xs ++ op ∷ []) call.inside.pair.first.waits)
+      (subst (λ (a : Phase). NextAt disk a k.store k.world 0 (waiting call.i 0) (plain_queues.side m.intake 0) false (step.Sleeping cause) m.store m.world) call.inside.pair.free next)
+  next_not cause (Some fault) well next = cc well
 
-  -- for room in the log, or for a buffer; never for the anchor
-  pub call_waits : SleepsForCause disk plain_queues plain_herald → (cause : Why) → r ≡ step.Sleeping cause → ((cause ≡ why.LogFull) × (10 < length k.store.volume.log.homes)) ⊎ (cause ≡ why.NoBuffer)
+  -- for a buffer; never for the anchor, and room in the log was left
+  pub call_waits : SleepsForCause disk plain_queues plain_herald → (cause : Why) → r ≡ step.Sleeping cause → cause ≡ why.NoBuffer
   call_waits sleeps cause so =
       let mid = call.makes.mid in
       let made : MakesPlainStep disk 0 (step.Sleeping cause) mid m = subst (λ (q : Step). MakesPlainStep disk 0 q mid m) so call.makes.made in
@@ -270,8 +269,8 @@ module _ {D N : Type 0} (disk : Ghosts D N) (op : Op) (r : Step) (k m : Plain D)
       let one_not : 1 ≢ zero = λ (e : 1 ≡ zero). (let no : ⊥ = omega (arith, e) in no) in
       ⊎_elim
       (λ (same : mid ≡ with_intake k call.i). (let there : MakesPlainStep disk 0 (step.Sleeping cause) (with_intake k call.i) m = subst (λ (n : Plain D). MakesPlainStep disk 0 (step.Sleeping cause) n m) same made in
-      next_not cause k.store.volume.fault call.inside.pair.well there.acts.next))
-      (λ (busy : is_busy_at (process mid.world 0).at ≡ true). inr (waits_for_buffer mid.store (tasks.many ∙ call.inside.pair.tasks) (ap (λ (u : TaskState). u.stage) (tasks.others 1 one_not) ∙ call.inside.empty_handed) disk mid.world (waiting mid.intake 0) (plain_queues.side m.intake 0) false m.store m.world cause mid.store.volume.fault
+      absurd (next_not cause k.store.volume.fault call.inside.pair.well there.acts.next)))
+      (λ (busy : is_busy_at (process mid.world 0).at ≡ true). (waits_for_buffer mid.store (tasks.many ∙ call.inside.pair.tasks) (ap (λ (u : TaskState). u.stage) (tasks.others 1 one_not) ∙ call.inside.empty_handed) disk mid.world (waiting mid.intake 0) (plain_queues.side m.intake 0) false m.store m.world cause mid.store.volume.fault
       (sleeps mid m 0 cause busy made) made.acts.next busy))
       (first_or_busy call.makes.moved mid call.makes.moves)
 

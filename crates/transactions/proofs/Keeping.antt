@@ -28,6 +28,7 @@ use Rattle.history.specs.Most.{most_kept, most_of}
 use Rattle.history.specs.Lemmas.Kept.{kept-append, kept_up_to}
 use Rattle.history.specs.Lemmas.Quiet.{kept_replays}
 use Rattle.kernel.specs.Known.{IsCurrent, Known}
+use Rattle.kernel.specs.Lemmas.Turns.{runs_on_none}
 use Rattle.kernel.specs.Runs.{RunsOn}
 use Rattle.calls.specs.Stepping.{Plain, plain_herald, plain_queues}
 use Rattle.calls.specs.Calls.{image_on}
@@ -177,3 +178,7 @@ module _ {D N : Type 0} (disk : Ghosts D N) (k m : Plain D) (was : IsSettled dis
           before = λ t z le left. ⊎_elim (λ old. inl old) (λ kept_so. inr (keeps_either z kept_so)) (leaves.before t z le left);
           keeps = leaves.keeps;
         }
+
+-- where nothing is done, a stop keeps the files on the disk
+pub leaves_still : {D N : Type 0} (disk : Ghosts D N) (has_now : (d : D) → disk.leaves d (disk.moment d) (disk.image d)) (k : Plain D) → Known disk plain_queues plain_herald k → k.store.volume.fault ≡ None → k.store.volume.log.commit ≡ commit.Quiet → LeavesOnly disk.moment disk.leaves k.store.volume.device k.store.volume.device (KeepsFiles (image_on disk.image k))
+leaves_still disk has_now k known well quiet = leaves_before disk k k (settled disk has_now k known well quiet) (runs_on_none disk plain_queues plain_herald k known.stop.keeps) quiet refl

@@ -141,7 +141,7 @@ of_waiting waiting_as.Change l room r why =
     ⊎_elim (λ full. as_said r _ full.0 tt) (λ o. ⊎_elim (λ out. as_said r (step.Sleeping out.0) out.1 tt) (λ none. as_said r step.NoMemory none.0.0 tt) o) why
 
 -- what waits first is that which waited
-first_waits : (op : Op) (before ahead : List Op) → before ≡ op ∷ [] → IsPrefix before ahead → first_in ahead ≡ Some op
+pub first_waits : (op : Op) (before ahead : List Op) → before ≡ op ∷ [] → IsPrefix before ahead → first_in ahead ≡ Some op
 first_waits op before ahead was prefix = let is : ahead ≡ op ∷ prefix.0 = cc (was, prefix.1) in ap first_in is
 
 module _ {D N : Type 0} (disk : Ghosts D N) (C : Type 0) (p : ℕ) (op : Op) (es list : List Entry) (s : StoreState D) (w : World) (before : List Op) (side : Side) (heard : Bool) (t : StoreState D) (z : World) where

@@ -1,6 +1,7 @@
--- Why a call in a transaction has to wait: for room in the log, or for a buffer, and not for the anchor.
+-- Why a call in a transaction has to wait: for a buffer, and not for the anchor; nor for room in the
+-- log, where that has room for its operation.
 use Rattle.std.proofs.Common.{◌≡◌, ◌≢◌, ◌∙◌, ◌⊎◌, ◌<◌, inl, inr, ℕ, zero, suc, ◌+◌, ◌*◌, Bool, true, false, not, List, length, Option, Some, None, refl, sym, ap, subst, arith}
-use Rattle.std.specs.Prelude.{if◌then◌else◌, nat_lt}
+use Rattle.std.specs.Prelude.{if◌then◌else◌, is_none, nat_lt}
 use Rattle.std.proofs.lemmas.Bool.Decides.{nat_tests}
 use Rattle.std.proofs.lemmas.List.{get_or_past}
 use Rattle.blocks.specs.declared.disk.Disk.{Ghosts}
@@ -9,6 +10,8 @@ use Rattle.bcache.specs.declared.types.Acquired.{Acquired}
 use Rattle.bcache.specs.declared.types.Acquired.TheVariants as acquired
 use Rattle.bcache.specs.declared.types.Busy.TheVariants as busy
 use Rattle.model.specs.declared.types.operations.Op.{Op}
+use Rattle.model.specs.declared.types.operations.Op.TheVariants.{Create, Write, Read, Trunc, Remove, Stat}
+use Rattle.model.specs.Journal.{is_at_once}
 use Rattle.model.specs.declared.types.operations.TaskProgress.{TaskProgress}
 use Rattle.model.specs.declared.types.operations.TaskProgress.TheVariants as progress
 use Rattle.model.specs.declared.types.operations.Why.{Why}
@@ -35,6 +38,10 @@ use Rattle.history.specs.Bound.{is_busy_at}
 use Rattle.history.specs.Processes.{World, process}
 use Rattle.kernel.specs.Awake.{cause_by}
 use Rattle.kernel.specs.Next.{NextAt, NextIf}
+use Rattle.kernel.specs.State.{class_of}
+use Rattle.kernel.specs.declared.class.OpClass.TheVariants as waiting_as
+use Rattle.calls.specs.Calls.{is_look}
+use Rattle.transactions.specs.Transactions.{has_room}
 use Rattle.model.specs.declared.types.operations.Step.TheVariants as step
 use Rattle.ports.specs.History.{Side}
 use Rattle.wal.specs.declared.types.DeviceFault.{DeviceFault}
@@ -137,3 +144,36 @@ log_waits l cause one quiet is =
     by : (b : Bool) → nat_lt 30 (length l.homes + (1 + 1) * 10) ≡ b → (if b then Some why.LogFull else None) ≡ Some cause → (cause ≡ why.LogFull) × (10 < length l.homes)
     by true test is = ((let e : why.LogFull ≡ cause = cc is in sym e), grind (arith, nat_tests, test))
     by false test is = absurd (cc is)
+
+-- ---- room for an operation
+
+free_not : (o : Option Why) (cause : Why) → is_none o ≡ true → o ≡ Some cause → ⊥
+free_not None cause free out = cc out
+free_not (Some w) cause free out = cc free
+
+looks_not : (refused : Bool) (count : Option ℕ) → (if refused then waiting_as.Refused else waiting_as.Look count) ≡ waiting_as.Change → ⊥
+looks_not true count is = cc is
+looks_not false count is = cc is
+
+-- an operation that the log has room for is not kept out by it
+pub has_begun : (n : ℕ) (op : Op) (l : LogState) (cause : Why) → class_of n op ≡ waiting_as.Change → has_room op l ≡ true → begin_cause l ≡ Some cause → ⊥
+has_begun n (Create kind) l cause is room out = free_not (begin_cause l) cause room out
+has_begun n (Write i off bytes) l cause is room out = free_not (begin_cause l) cause room out
+has_begun n (Read i off count) l cause is room out = looks_not (is_at_once n (Read i off count)) (Some count) is
+has_begun n (Trunc i) l cause is room out = free_not (begin_cause l) cause room out
+has_begun n (Remove i) l cause is room out = free_not (begin_cause l) cause room out
+has_begun n (Stat i) l cause is room out = looks_not (is_at_once n (Stat i)) None is
+
+module _ (l : LogState) (one : l.outstanding ≡ 1) (quiet : l.commit ≡ commit.Quiet) where
+  full_by : (o : Option Why) → begin_cause l ≡ o → is_none o ≡ false → 10 < length l.homes
+  full_by None is room = absurd (cc room)
+  full_by (Some cause) is room = (log_waits l cause one quiet is).1
+
+  -- where it has none for an operation, the operation changes files, and ten blocks were logged
+  pub log_is_full : (op : Op) → has_room op l ≡ false → (is_look op ≡ false) × (10 < length l.homes)
+  log_is_full (Create kind) room = (refl, full_by (begin_cause l) refl room)
+  log_is_full (Write i off bytes) room = (refl, full_by (begin_cause l) refl room)
+  log_is_full (Read i off count) room = absurd (cc room)
+  log_is_full (Trunc i) room = (refl, full_by (begin_cause l) refl room)
+  log_is_full (Remove i) room = (refl, full_by (begin_cause l) refl room)
+  log_is_full (Stat i) room = absurd (cc room)

@@ -1,6 +1,6 @@
--- What a transaction comes to: calls of process 0 between the beginning of the anchor's operation and
--- its end. The anchor is process 1.
-use Rattle.std.specs.Prelude.{◌≡◌, ◌⊎◌, ⊤, ℕ, ◌+◌, ◌<◌, false, IsTrue, [], length, Some, None}
+-- What a transaction comes to: calls of process 0 between the beginning of the anchor's operation
+-- and its end. The anchor is process 1.
+use Rattle.std.specs.Prelude.{◌≡◌, ◌⊎◌, ℕ, ◌+◌, ◌<◌, Bool, true, false, is_none, IsTrue, [], length, Some, None}
 use Rattle.blocks.specs.Calls.{OnlyReads}
 use Rattle.blocks.specs.Disk.{Image, block_at}
 use Rattle.blocks.specs.declared.disk.Disk.{Ghosts}
@@ -11,17 +11,16 @@ use Rattle.model.specs.Log.{is_lawful_log, recovered}
 use Rattle.model.specs.Operations.{after}
 use Rattle.model.specs.Soundness.{IsSound}
 use Rattle.model.specs.declared.types.operations.Op.{Op}
-use Rattle.model.specs.declared.types.operations.Op.TheVariants.{Write}
+use Rattle.model.specs.declared.types.operations.Op.TheVariants.{Create, Write, Read, Trunc, Remove, Stat}
 use Rattle.model.specs.declared.types.operations.Reply.{Reply}
-use Rattle.model.specs.declared.types.operations.Why.TheVariants.{LogFull, NoBuffer}
 use Rattle.ports.specs.Queues.{polled, waiting}
 use Rattle.inodes.specs.Store.{first_taking}
 use Rattle.inodes.specs.Tasks.{task}
 use Rattle.history.specs.declared.types.Phase.TheVariants as at
 use Rattle.history.specs.Processes.{process}
-use Rattle.wal.specs.Machine.{LogState}
+use Rattle.wal.specs.Machine.{LogState, begin_cause}
 use Rattle.wal.specs.declared.types.Commit.TheVariants as commit
-use Rattle.calls.specs.Calls.{HasFailed, call_count, faults_on, image_on}
+use Rattle.calls.specs.Calls.{HasFailed, call_count, faults_on, image_on, is_look}
 use Rattle.calls.specs.Stepping.{Plain}
 use Rattle.transactions.specs.declared.fault.TransactionFault.{TransactionFault}
 use Rattle.transactions.specs.declared.fault.TransactionFault.TheVariants as fault
@@ -35,8 +34,8 @@ pub record IsFetched {D : Type 0} (k : Plain D) (p : ℕ) : Type 0 where
   pub waits : waiting k.intake p ≡ []
   pub fetched : polled k.intake p ≡ length (own p k.world.journal.list)
 
--- A kernel of two processes, whose first one has no operation under way. No call of the disk failed,
--- and nothing was shut.
+-- A kernel of two processes, whose first one has no operation under way. No call of the disk
+-- failed, and nothing was shut.
 pub record IsPair {D : Type 0} (faults : D → ℕ) (k : Plain D) : Type 0 where
   pub two : length k.world.processes ≡ 2
   pub tasks : length k.store.tasks ≡ 2
@@ -102,26 +101,44 @@ IsOnlyRead disk k m =
     OnlyReads disk k.store.volume.device m.store.volume.device
     × (faults_on disk.fault_count m ≡ faults_on disk.fault_count k)
 
--- why kernel k, which is m now, does not go on in a transaction
-abbrev pub IsRefused : {D N : Type 0} → Ghosts D N → Plain D → Plain D → TransactionFault → Type 0
-IsRefused disk k m (fault.Disk cause) = HasFailed disk k m cause
-IsRefused disk k m fault.NoMemory = IsOnlyRead disk k m
-IsRefused disk k m (fault.NoRoom why) = IsOnlyRead disk k m
+-- why no transaction of kernel k, which is m now, begins
+abbrev pub IsUnbegun : {D N : Type 0} → Ghosts D N → Plain D → Plain D → TransactionFault → Type 0
+IsUnbegun disk k m (fault.Disk cause) = HasFailed disk k m cause
+IsUnbegun disk k m fault.NoMemory = IsOnlyRead disk k m
+IsUnbegun disk k m fault.NoRoom = ⊥
+IsUnbegun disk k m fault.NoBuffer = ⊥
+
+-- the log has room for an operation; one that looks at a file needs none
+abbrev pub has_room : Op → LogState → Bool
+has_room (Create kind) l = is_none (begin_cause l)
+has_room (Write i off bytes) l = is_none (begin_cause l)
+has_room (Read i off n) l = true
+has_room (Trunc i) l = is_none (begin_cause l)
+has_room (Remove i) l = is_none (begin_cause l)
+has_room (Stat i) l = true
+
+-- The transaction of k logged more than ten blocks, and no operation that changes files may begin
+-- behind them. Nothing was done, and the transaction goes on.
+pub record FindsNoRoom {D : Type 0} (op : Op) (k m : Plain D) : Type 0 where
+  pub same : m ≡ k
+  pub changes : is_look op ≡ false
+  pub full : 10 < length k.store.volume.log.homes
+
+-- why a call of an operation in kernel k, which is m now, is not answered
+abbrev pub IsUncalled : {D N : Type 0} → Ghosts D N → Op → Plain D → Plain D → TransactionFault
+    → Type 0
+IsUncalled disk op k m (fault.Disk cause) = HasFailed disk k m cause
+IsUncalled disk op k m fault.NoMemory = IsOnlyRead disk k m
+IsUncalled disk op k m fault.NoRoom = FindsNoRoom op k m
+IsUncalled disk op k m fault.NoBuffer = IsOnlyRead disk k m
 
 -- a commit is refused for a fault of the disk alone
 abbrev pub IsUncommitted : {D N : Type 0} → Ghosts D N → Plain D → Plain D → TransactionFault
     → Type 0
 IsUncommitted disk k m (fault.Disk cause) = HasFailed disk k m cause
 IsUncommitted disk k m fault.NoMemory = ⊥
-IsUncommitted disk k m (fault.NoRoom why) = ⊥
-
--- The transaction of k logged more than ten blocks, and no call that changes files may begin behind
--- them; or no buffer was left for a call under way.
-abbrev pub WantsRoom : {D : Type 0} → Plain D → TransactionFault → Type 0
-WantsRoom k (fault.Disk cause) = ⊤
-WantsRoom k fault.NoMemory = ⊤
-WantsRoom k (fault.NoRoom why) =
-    ((why ≡ LogFull) × (10 < length k.store.volume.log.homes)) ⊎ (why ≡ NoBuffer)
+IsUncommitted disk k m fault.NoRoom = ⊥
+IsUncommitted disk k m fault.NoBuffer = ⊥
 
 -- what a stop leaves of image x: recovery gives a sound image with its files
 pub record KeepsFiles (x z : Image) : Type 0 where
@@ -129,8 +146,9 @@ pub record KeepsFiles (x z : Image) : Type 0 where
   pub sound : IsSound (recovered z)
   pub files : files_of (recovered z) ≡ files_of x
 
--- ALL OR NOTHING: what a stop in the commit of a transaction leaves: recovery gives a sound image with
--- the files of image x, which stood on the disk before it, or with those that the whole of it made.
+-- ALL OR NOTHING: what a stop in the commit of a transaction leaves: recovery gives a sound image
+-- with the files of image x, which stood on the disk before it, or with those that the whole of it
+-- made.
 pub record KeepsEither (x : Image) (made : Files) (z : Image) : Type 0 where
   pub log : IsTrue (is_lawful_log z)
   pub sound : IsSound (recovered z)

@@ -2,7 +2,7 @@
 ghost use Rattle.std.specs.Prelude.{◌≡◌, ◌<◌, ◌^◌, IfErr, OnOk};
 ghost use Rattle.blocks.specs.Disk.{LeavesOnly};
 ghost use Rattle.calls.specs.Calls.{call_count, image_on};
-ghost use Rattle.transactions.specs.Transactions.{Begins, IsInside, IsRefused, KeepsFiles, Rests};
+ghost use Rattle.transactions.specs.Transactions.{Begins, IsInside, IsUnbegun, KeepsFiles, Rests};
 
 use crate::fault::TransactionFault;
 use blocks::Disk;
@@ -29,7 +29,7 @@ pub fn begin<D: Disk>(alloc: Global, kernel: &mut Pair<D>) -> Result<(), Transac
     requires few { call_count kernel.old < 2 ^ 32 }
     ensures inside { OnOk result (IsInside D.fault_count kernel.new) }
     ensures begins { OnOk result (Begins D.image kernel.old kernel.new) }
-    ensures refused { IfErr result (IsRefused D.Disk kernel.old kernel.new) }
+    ensures refused { IfErr result (IsUnbegun D.Disk kernel.old kernel.new) }
     ensures leaves { LeavesOnly D.moment D.leaves
         kernel.old.store.volume.device kernel.new.store.volume.device
         (KeepsFiles (image_on D.image kernel.old)) }

@@ -1,10 +1,9 @@
 // Why a transaction doesn't go on.
-use model::types::Why;
 use thiserror::Error;
 use wal::DeviceFault;
 
-/// Why a transaction doesn't go on. The kernel is of no use behind it; nothing of the transaction is
-/// kept, unless the disk failed in its commit.
+/// Why a transaction doesn't go on. Behind each but `NoRoom` no other call may be made; nothing of
+/// the transaction is kept, unless the disk failed in its commit.
 #[derive(Clone, Copy, Debug, Error)]
 pub enum TransactionFault {
     /// The disk failed.
@@ -13,8 +12,10 @@ pub enum TransactionFault {
     /// Memory for the operation was refused, and the disk was only read.
     #[error("memory was refused")]
     NoMemory,
-    /// The log, or the buffers, have no room for the operation beside those of the transaction, and
-    /// the disk was only read.
-    #[error("the transaction is too large: {0:?}")]
-    NoRoom(Why),
+    /// The log has no room for the operation beside those of the transaction. Nothing was done.
+    #[error("the transaction is too large")]
+    NoRoom,
+    /// No buffer was left for the operation, and the disk was only read.
+    #[error("no buffer was left")]
+    NoBuffer,
 }

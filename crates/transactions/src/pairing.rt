@@ -18,7 +18,8 @@ use std::alloc::Global;
 ///
 /// # Errors
 ///
-/// Those of `begin`, `call` and `commit`. After each no other call may be made.
+/// Those of `begin`, `call` and `commit`. After each no other call may be made, for the transaction
+/// isn't at its end: `abandon` hands the disk back.
 pub fn make_both<D: Disk>(
     alloc: Global,
     kernel: &mut Pair<D>,
@@ -28,7 +29,8 @@ pub fn make_both<D: Disk>(
     requires rests { Rests D.fault_count kernel.old }
     requires few { call_count kernel.old + 3 < 2 ^ 32 }
     ensures rests { OnOk result (Rests D.fault_count kernel.new) }
-    ensures makes { IfOk result (λ r. MakesBoth D.image first second kernel.old kernel.new r.0 r.1) }
+    ensures makes { IfOk result (λ replies.
+        MakesBoth D.image first second kernel.old kernel.new replies.0 replies.1) }
     ensures leaves { LeavesOnly D.moment D.leaves
         kernel.old.store.volume.device kernel.new.store.volume.device
         (KeepsBoth (image_on D.image kernel.old) first second) }

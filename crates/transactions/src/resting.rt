@@ -19,8 +19,8 @@ pub fn rested<D: Disk>(kernel: &Pair<D>)
     kernel.known();
 }
 
-/// Gives a transaction up, or what a refusal left of one: nothing of it was written. The disk may be
-/// opened again.
+/// Gives a transaction up, or what a refusal left of one: nothing of it was written, unless the disk
+/// failed in its commit. The disk may be opened again.
 pub fn abandon<D: Disk>(kernel: Pair<D>) -> D
     ensures disk { result ≡ kernel.store.volume.device }
     ensures opens { verdict (D.image result) ≡ None }
