@@ -1,6 +1,7 @@
 // Opening a kernel, and what may be asked of it between two steps.
 ghost use Rattle.std.specs.Prelude.{◌≡◌, ◌<◌, ℕ, true, length, replicate, IfOk, IfErr, IsTrue};
 ghost use Rattle.model.specs.Layout.{is_lawful_super};
+ghost use Rattle.wal.specs.Machine.{begin_cause};
 ghost use Rattle.wal.specs.Volume.{IsNewMemory};
 ghost use Rattle.inodes.specs.Tasks.{no_task};
 ghost use Rattle.history.specs.Processes.{fresh_world, process};
@@ -14,7 +15,7 @@ use blocks::{Disk, NoMemory};
 use history::Processes;
 use inodes::{Store, Tasks};
 use layout::Super;
-use model::types::Entry;
+use model::types::{Entry, Why};
 use offline::check;
 use ports::{Herald, Intake};
 use std::alloc::Global;
@@ -156,6 +157,14 @@ impl<D: Disk, I: Intake, H: Herald> Kernel<D, I, H> {
         ensures { result ≡ self.now.store.volume.fault }
     {
         self.store.volume().fault()
+    }
+
+    /// Why an operation that changes files would have to sleep now before it begins, as the log's
+    /// `may_begin`; none where one could begin.
+    pub fn may_begin(&self) -> Option<Why>
+        ensures { result ≡ begin_cause self.now.store.volume.log }
+    {
+        self.store.volume().may_begin()
     }
 
     /// The disk as it is.

@@ -1,0 +1,3 @@
+pub mod Transactions
+pub mod Opening
+pub mod Pairing

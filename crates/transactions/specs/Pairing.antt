@@ -1,0 +1,31 @@
+-- Two operations in one transaction.
+use Rattle.std.specs.Prelude.{◌≡◌, ◌⊎◌, IsTrue, Some}
+use Rattle.blocks.specs.Disk.{Image}
+use Rattle.model.specs.Files.{Files, files_of}
+use Rattle.model.specs.Layout.{form_of}
+use Rattle.model.specs.Log.{is_lawful_log, recovered}
+use Rattle.model.specs.Operations.{after}
+use Rattle.model.specs.Soundness.{IsSound}
+use Rattle.model.specs.declared.types.operations.Op.{Op}
+use Rattle.model.specs.declared.types.operations.Reply.{Reply}
+use Rattle.calls.specs.Calls.{image_on}
+use Rattle.calls.specs.Stepping.{Plain}
+
+-- these are the files of image x after both operations, with these replies
+pub record AreAfterBoth (x : Image) (first second : Op) (r s : Reply) (made : Files) : Type 0 where
+  pub between : Files
+  pub one : after (form_of x) (files_of x) first r ≡ Some between
+  pub two : after (form_of x) between second s ≡ Some made
+
+-- the files on the disk are those after both
+pub record MakesBoth {D : Type 0} (image : D → Image) (first second : Op) (k m : Plain D)
+    (r s : Reply) : Type 0 where
+  pub files : AreAfterBoth (image_on image k) first second r s (files_of (image_on image m))
+  pub sound : IsSound (image_on image m)
+
+-- BOTH OR NEITHER: what a stop leaves of image x
+pub record KeepsBoth (x : Image) (first second : Op) (z : Image) : Type 0 where
+  pub log : IsTrue (is_lawful_log z)
+  pub sound : IsSound (recovered z)
+  pub files : (files_of (recovered z) ≡ files_of x)
+      ⊎ ((r s : Reply) × AreAfterBoth x first second r s (files_of (recovered z)))
