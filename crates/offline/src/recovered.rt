@@ -73,6 +73,7 @@ impl Recovered {
         requires other { b ≢ log_start }
         requires inside { b < length (D.image disk.old) }
         ensures ok { OnOk result (into.new ≡ block_at (recovered (D.image disk.old)) b) }
+        ensures fault { IfErr result (λ fault. fault.0 < length (D.image disk.old)) }
         ensures reads { OnlyReads D.Disk disk.old disk.new }
         ensures faults { CountsFault result (D.fault_count disk.old) (D.fault_count disk.new) }
     {
@@ -90,6 +91,7 @@ impl Recovered {
         requires recovered { IsRecoveredOf (D.image disk.old) self.now }
         requires inside { b < length (D.image disk.old) }
         ensures ok { OnOk result (into.new ≡ block_at (recovered (D.image disk.old)) b) }
+        ensures fault { IfErr result (λ fault. fault.0 < length (D.image disk.old)) }
         ensures reads { OnlyReads D.Disk disk.old disk.new }
         ensures faults { CountsFault result (D.fault_count disk.old) (D.fault_count disk.new) }
     {
@@ -121,6 +123,7 @@ impl Recovered {
         ensures addresses { IfOk result (λ inode. length inode.addrs ≡ 13) }
         ensures block { OnOk result
             (block.new ≡ block_at (recovered (D.image disk.old)) (inode_block i)) }
+        ensures fault { IfErr result (λ fault. fault.0 < length (D.image disk.old)) }
         ensures reads { OnlyReads D.Disk disk.old disk.new }
         ensures faults { CountsFault result (D.fault_count disk.old) (D.fault_count disk.new) }
     {
@@ -146,6 +149,7 @@ impl Recovered {
         requires way { HasWay (recovered (D.image disk.old)) inode.now k }
         ensures ok { IfOk result
             (λ address. address ≡ address_in (recovered (D.image disk.old)) inode.now k) }
+        ensures fault { IfErr result (λ fault. fault.0 < length (D.image disk.old)) }
         ensures reads { OnlyReads D.Disk disk.old disk.new }
         ensures faults { CountsFault result (D.fault_count disk.old) (D.fault_count disk.new) }
     {
@@ -176,6 +180,7 @@ impl Recovered {
         requires leads { LeadsUnder (recovered (D.image disk.old)) depth k address }
         ensures ok { IfOk result
             (λ b. b ≡ address_under (recovered (D.image disk.old)) depth k address) }
+        ensures fault { IfErr result (λ fault. fault.0 < length (D.image disk.old)) }
         ensures reads { OnlyReads D.Disk disk.old disk.new }
         ensures faults { CountsFault result (D.fault_count disk.old) (D.fault_count disk.new) }
     {
@@ -209,6 +214,7 @@ impl Recovered {
             (address_in (recovered (D.image disk.old)) inode.now k) }
         ensures ok { OnOk result (into.new ≡ block_at (recovered (D.image disk.old))
             (address_in (recovered (D.image disk.old)) inode.now k)) }
+        ensures fault { IfErr result (λ fault. fault.0 < length (D.image disk.old)) }
         ensures reads { OnlyReads D.Disk disk.old disk.new }
         ensures faults { CountsFault result (D.fault_count disk.old) (D.fault_count disk.new) }
     {
@@ -236,6 +242,7 @@ impl Recovered {
         requires inside { at + length into.old ≤ inode.now.size }
         ensures ok { OnOk result (into.new
             ≡ part_of (bytes_in (recovered (D.image disk.old)) inode.now) at (length into.old)) }
+        ensures fault { IfErr result (λ fault. fault.0 < length (D.image disk.old)) }
         ensures reads { OnlyReads D.Disk disk.old disk.new }
         ensures faults { CountsFault result (D.fault_count disk.old) (D.fault_count disk.new) }
     {

@@ -22,6 +22,7 @@ use Rattle.model.specs.declared.types.image.Super.{Super}
 use Rattle.model.specs.Lemmas.FileNumbers.{file_in-files_of, file_in-files_of_past}
 use Rattle.model.specs.Lemmas.Super.{long_where_sound, super_of-recovered, verdict_none}
 use Rattle.model.specs.Lemmas.Bytes.{file_used}
+use Rattle.model.specs.Lemmas.Log.{length-recovered}
 use Rattle.offline.specs.Laws.{CheckedFilesMayBeRead}
 use Rattle.offline.specs.Recovered.{IsHeaderOf}
 use Rattle.layout.specs.declared.header.Header.{Header}
@@ -136,7 +137,11 @@ module _ {D N : Type 0} (disk : Ghosts D N) (d mid e : D) (is : IsRecovered disk
 
   pub not_shown : (i : ℕ) (old new : Option (List ℕ)) (none : Type 0) (r : CatRefusal) → IsUnshown disk mid e i old new none r → IsNotShown disk d e i old new none r
   not_shown i old new none NoFile why = (recovered_still why.0, (is.sound, subst (λ (y : Image). file_in (files_of y) i ≡ None) (recovered_again disk d mid is) why.1), why.2)
-  not_shown i old new none (Disk fault) why = (failed_still why.0, ⊎_elim (λ nothing. inl nothing) (λ part. inr (is.sound, subst (λ (y : Image). ShowsFirst y i old new) (recovered_again disk d mid is) part)) why.1)
+  not_shown i old new none (Disk fault) why = (
+    subst (λ (n : ℕ). fault.0 < n) (ap (λ (x : Image). length x) is.image ∙ length-recovered (disk.image d)) why.0,
+    failed_still why.1,
+    ⊎_elim (λ nothing. inl nothing) (λ part. inr (is.sound, subst (λ (y : Image). ShowsFirst y i old new) (recovered_again disk d mid is) part)) why.2,
+  )
   not_shown i old new none Output why = recovered_still why
   not_shown i old new none NoMemory why = absurd why
   not_shown i old new none (Unrecovered refusal) why = absurd why
@@ -145,12 +150,13 @@ module _ {D N : Type 0} (disk : Ghosts D N) (d mid e : D) (is : IsRecovered disk
 pub part_unshown : {D N : Type 0} (disk : Ghosts D N) (d mid e : D) (i : ℕ) (inode : Dinode) (old new : Option (List ℕ)) (none : Type 0) → disk.image mid ≡ disk.image d → disk.fault_count mid ≡ disk.fault_count d → IsInodeOf (recovered (disk.image d)) i inode
     → (r : CatRefusal) → IsPartly disk mid e (bytes_in (recovered (disk.image mid)) inode) old new r → IsUnshown disk d e i old new none r
 part_unshown disk d mid e i inode old new none image same is (Disk fault) why = (
-  subst (λ (n : ℕ). Rose n (disk.fault_count e)) same why.0,
+  subst (λ (x : Image). fault.0 < length x) image why.0,
+  subst (λ (n : ℕ). Rose n (disk.fault_count e)) same why.1,
   inr (record {
     file = record { kind = inode.kind; bytes = bytes_in (recovered (disk.image d)) inode };
     is = is.file;
-    count = why.1.0;
-    bytes = subst (λ (y : Image). Appends old new (take why.1.0 (bytes_in (recovered y) inode))) image why.1.1;
+    count = why.2.0;
+    bytes = subst (λ (y : Image). Appends old new (take why.2.0 (bytes_in (recovered y) inode))) image why.2.1;
   }),
 )
 part_unshown disk d mid e i inode old new none image same is Output why = why ∙ same

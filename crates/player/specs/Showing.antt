@@ -1,8 +1,9 @@
 -- What is written of a file of an image.
-use Rattle.std.specs.Prelude.{◌≡◌, ◌⊎◌, ℕ, List, take, Option, Some, None}
+use Rattle.std.specs.Prelude.{◌≡◌, ◌<◌, ◌⊎◌, ℕ, List, length, take, Option, Some, None}
 use Rattle.std.specs.Io.KnownBytes.{Appends}
 use Rattle.blocks.specs.Disk.{Image, Rose}
 use Rattle.blocks.specs.declared.disk.Disk.{Ghosts}
+use Rattle.blocks.specs.declared.errors.DiskFault.{DiskFault}
 use Rattle.model.specs.Files.{bytes_in, files_of, file_in}
 use Rattle.model.specs.Log.{logged_count, recovered}
 use Rattle.model.specs.Verdict.{verdict}
@@ -54,11 +55,16 @@ pub record IsInodeOf (x : Image) (i : ℕ) (d : Dinode) : Type 0 where
   pub file : file_in (files_of x) i ≡ Some (record { kind = d.kind; bytes = bytes_in x d })
   pub readable : MayReadFile x d
 
+-- the fault names a block of image x
+abbrev pub IsOfBlock : Image → DiskFault → Type 0
+IsOfBlock x fault = fault.0 < length x
+
 -- why these bytes were not written whole, over a disk that was d and is e
 abbrev pub IsPartly : {D N : Type 0} → Ghosts D N → D → D → List ℕ → Option (List ℕ)
     → Option (List ℕ) → CatRefusal → Type 0
-IsPartly disk d e bytes old new (Disk fault) =
-    Rose (disk.fault_count d) (disk.fault_count e) × ((count : ℕ) × Appends old new (take count bytes))
+IsPartly disk d e bytes old new (Disk fault) = IsOfBlock (disk.image d) fault
+    × Rose (disk.fault_count d) (disk.fault_count e)
+    × ((count : ℕ) × Appends old new (take count bytes))
 IsPartly disk d e bytes old new Output = disk.fault_count e ≡ disk.fault_count d
 IsPartly disk d e bytes old new _ = ⊥
 
@@ -67,7 +73,8 @@ abbrev pub IsUnshown : {D N : Type 0} → Ghosts D N → D → D → ℕ → Opt
     → Option (List ℕ) → Type 0 → CatRefusal → Type 0
 IsUnshown disk d e i old new none NoFile = (disk.fault_count e ≡ disk.fault_count d)
     × (file_in (files_of (recovered (disk.image d))) i ≡ None) × none
-IsUnshown disk d e i old new none (Disk fault) = Rose (disk.fault_count d) (disk.fault_count e)
+IsUnshown disk d e i old new none (Disk fault) = IsOfBlock (disk.image d) fault
+    × Rose (disk.fault_count d) (disk.fault_count e)
     × (none ⊎ ShowsFirst (recovered (disk.image d)) i old new)
 IsUnshown disk d e i old new none Output = disk.fault_count e ≡ disk.fault_count d
 IsUnshown disk d e i old new none _ = ⊥
@@ -81,5 +88,6 @@ IsNotShown disk d e i old new none (Unrecovered r) = FailsToRecover disk d e r �
 IsNotShown disk d e i old new none NoFile =
     IsRecovered disk (logged_count (disk.image d)) d e × HasNoFile (disk.image d) i × none
 IsNotShown disk d e i old new none (Disk fault) =
-    FailsRecovered disk d e × (none ⊎ ShowsPart (disk.image d) i old new)
+    IsOfBlock (disk.image d) fault × FailsRecovered disk d e
+    × (none ⊎ ShowsPart (disk.image d) i old new)
 IsNotShown disk d e i old new none Output = IsRecovered disk (logged_count (disk.image d)) d e

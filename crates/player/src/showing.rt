@@ -9,7 +9,7 @@ ghost use Rattle.model.specs.Verdict.{verdict};
 ghost use Rattle.offline.specs.Recovered.{IsRecoveredOf, MayReadFile};
 ghost use Rattle.wal.specs.Recovery.{LeavesIfCalm, RecoversAs};
 ghost use Rattle.opening.specs.Recoveries.{IsRecovered};
-ghost use Rattle.player.specs.Showing.{IsInodeOf, IsLeftUnlogged, IsNotShown, IsPartly, IsReaderOf, IsUnshown, Shows, ShowsFile};
+ghost use Rattle.player.specs.Showing.{IsInodeOf, IsLeftUnlogged, IsNotShown, IsOfBlock, IsPartly, IsReaderOf, IsUnshown, Shows, ShowsFile};
 
 use crate::refusals::CatRefusal;
 use blocks::{BLOCK_SIZE, Block, Disk, DiskFault};
@@ -96,6 +96,7 @@ fn show<D: Disk, O: Write>(
 fn open_reader<D: Disk>(disk: &mut D, block: &mut Block) -> Result<Recovered, DiskFault>
     requires sound { verdict (D.image disk.old) ≡ None }
     ensures ok { IfOk result (IsReaderOf (D.image disk.old)) }
+    ensures fault { IfErr result (IsOfBlock (D.image disk.old)) }
     ensures reads { OnlyReads D.Disk disk.old disk.new }
     ensures faults { CountsFault result (D.fault_count disk.old) (D.fault_count disk.new) }
 {
@@ -119,6 +120,7 @@ fn inode_at<D: Disk>(
         IfSome found (IsInodeOf (recovered (D.image disk.old)) number)) }
     ensures none { IfOk result (λ found.
         IfNone found (file_in (files_of (recovered (D.image disk.old))) number ≡ None)) }
+    ensures fault { IfErr result (IsOfBlock (D.image disk.old)) }
     ensures reads { OnlyReads D.Disk disk.old disk.new }
     ensures faults { CountsFault result (D.fault_count disk.old) (D.fault_count disk.new) }
 {

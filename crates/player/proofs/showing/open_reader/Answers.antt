@@ -1,5 +1,6 @@
-use Rattle.std.proofs.Common.{◌≡◌, ◌∙◌, Some, ap, arith, length, subst}
+use Rattle.std.proofs.Common.{◌≡◌, ◌∙◌, ◌<◌, Some, ap, arith, length, subst}
 use Rattle.std.specs.Prelude.{slice_get}
+use Rattle.std.proofs.lemmas.Result.{err_from_is_err_and}
 use Rattle.blocks.specs.Disk.{Image}
 use Rattle.model.specs.Layout.{super_in}
 use Rattle.model.specs.Log.{homes_in, logged_in}
@@ -31,3 +32,17 @@ returns-clause-ok g c =
         header = header_read x c.read-2.new.into c.read-header.result c.requires.sound second (c.read-header.ensures.count ∙ ap logged_in same) (c.read-header.ensures.homes ∙ ap homes_in same) c.read-header.ensures.few;
       };
     }
+
+pub returns-in_err-read-clause-fault : goal.returns-in_err-read-clause-fault
+returns-in_err-read-clause-fault g c =
+    let p = err_from_is_err_and c.from_residual.result c.from_residual.ensures.1 in
+    let is = c.in_err-read.ensures.fault in
+    let within : c.in_err-read.field-0.0.0 < length (g.D.Disk.image c.args.disk.now) = omega (arith, long_where_sound (g.D.Disk.image c.args.disk.now) c.requires.sound, is) in
+    rw (p.1, p.2) within
+
+pub returns-in_err-read-2-clause-fault : goal.returns-in_err-read-2-clause-fault
+returns-in_err-read-2-clause-fault g c =
+    let p = err_from_is_err_and c.from_residual-in_err-read-2.result c.from_residual-in_err-read-2.ensures.1 in
+    let is = c.in_err-read-2.ensures.fault in
+    let within : c.in_err-read-2.field-0.0.0 < length (g.D.Disk.image c.args.disk.now) = omega (arith, long_where_sound (g.D.Disk.image c.args.disk.now) c.requires.sound, is) in
+    rw (p.1, p.2) within
