@@ -6,7 +6,7 @@ use Rattle.ports.specs.declared.herald.Herald.{Ghosts}
 abbrev pub SameBoard : {H : Type 0} → Ghosts H → H → H → Type 0
 SameBoard herald g h = herald.board h ≡ herald.board g
 
--- and it was told of as many groups, and told of no shutdown since
+-- and it was told of as many groups, and tells the same of a shutdown
 pub record SameHerald {H : Type 0} (herald : Ghosts H) (g h : H) : Type 0 where
   pub board : SameBoard herald g h
   pub count : herald.count h ≡ herald.count g

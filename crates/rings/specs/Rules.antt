@@ -1,4 +1,4 @@
--- The rule of the board, and what each of its four steps tells.
+-- The rule of the board, and what each of its steps tells.
 use Rattle.std.specs.Prelude.{◌≡◌, ℕ, ◌+◌, ◌≤◌, Bool, true, false, List, [], ◌==◌, length, slice_index, ◌⊎◌}
 use mathlib.Core.Option.{some}
 use lib.ListN.{get_elem?}

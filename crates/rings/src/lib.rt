@@ -16,7 +16,8 @@
 //!
 //! The kernel's side is a `BoardHerald`, which has the one `Keeper`: it publishes each commit, and
 //! heeds a shutdown. Each caller may have a `Watch`, with which it looks at the count and asks for a
-//! shutdown. By its code each use is one atomic step on one word, and none waits.
+//! shutdown. By its code each use is one atomic step on one word, and none waits. Who has the herald
+//! may compare a watch with its keeper (`BoardHerald::compare`, four such steps).
 #![tactic(auto)]
 
 mod board;
