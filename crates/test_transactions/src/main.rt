@@ -1,5 +1,5 @@
-//! Transactions over a disk in memory. One is made to its end, stopped before each of its writes, given
-//! up, and made too large for the log; what the disk holds then is printed.
+//! Transactions over a disk in memory. One is made to its end, stopped before each of its writes,
+//! given up, and made too large for the log; what the disk holds then is printed.
 #![tactic(auto)]
 
 mod filling;
