@@ -1,4 +1,4 @@
-use Rattle.transactions.proofs.Both.{both_leave, both_made}
+use Rattle.transactions.specs.Lemmas.Both.{both_leave, both_made}
 use Rattle.transactions.proofs.pairing.make_both.Goals as goal
 
 pub returns-in_err-commit-clause-leaves : goal.returns-in_err-commit-clause-leaves
