@@ -34,6 +34,7 @@ use Rattle.model.specs.declared.types.operations.Step.TheVariants as step
 use Rattle.kernel.specs.declared.class.OpClass.{OpClass}
 use Rattle.kernel.specs.declared.class.OpClass.TheVariants as waiting_as
 use Rattle.history.specs.Alone.{is_committing_at}
+use Rattle.model.specs.Lemmas.Frames.{form_same}
 use Rattle.calls.specs.Stepping.{MakesPlainStep, Plain, plain_herald, plain_queues}
 use Rattle.calls.specs.Calls.{HasFailed, image_on}
 use Rattle.transactions.specs.Transactions.{Begins, IsInside, KeepsFiles, Rests, IsOnlyRead, anchor}
@@ -43,7 +44,7 @@ use Rattle.transactions.proofs.Counting.{all_given, counts, none_left}
 use Rattle.transactions.proofs.Going.{tasks_none, Any, LeavesOthers, Stage, leaves_step}
 use Rattle.transactions.proofs.Holding.{changes_only}
 use Rattle.transactions.proofs.Keeping.{leaves_before, settled}
-use Rattle.transactions.proofs.Files.{all_committed, disk_files, quiet, same_form, super, two_idle, unopened}
+use Rattle.transactions.proofs.Files.{all_committed, disk_files, quiet, super, two_idle, unopened}
 use Rattle.transactions.proofs.Stages.{StageAt}
 
 -- The anchor's operation was handed in to k, which rested, and a step of its process made m of it.
@@ -253,7 +254,7 @@ module _ {D N : Type 0} (disk : Ghosts D N) (has_now : (d : D) → disk.leaves d
                 (ap (λ (es : List Entry). replay (form_of (disk.image k.opening)) (files_of (disk.image k.opening)) es) takes.list ∙ on_disk.run);
           };
           sound = (settled disk has_now k call.known call.rests.pair.well (quiet disk k call.known all call.rests.pair.well)).sound;
-          form = same_form (disk.image k.opening) (image_on disk.image k) (super disk k call.known all call.rests.pair.well);
+          form = form_same (disk.image k.opening) (image_on disk.image k) (super disk k call.known all call.rests.pair.well);
           list = takes.list;
         }
 

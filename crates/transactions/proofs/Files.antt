@@ -1,19 +1,17 @@
 -- A kernel of two processes between its operations: its image, and the files that its journal tells.
 use Rattle.std.proofs.Common.{◌≡◌, ◌∙◌, zero, suc, ℕ, true, cond, List, [], ◌∷◌, ◌++◌, length, Option, Some, None, refl, sym, ap, subst, arith, length-set}
-use Rattle.std.specs.Prelude.{IfNone, is_some, if◌then◌else◌, ◌==◌}
+use Rattle.std.specs.Prelude.{IfNone, is_some}
 use Rattle.std.proofs.lemmas.List.{get_or-set_other, get_or_past}
 use Rattle.blocks.specs.Block.{zero_block}
 use Rattle.blocks.specs.Disk.{Image, block_at}
 use Rattle.blocks.specs.declared.disk.Disk.{Ghosts}
 use Rattle.model.specs.declared.types.image.Form.{Form}
-use Rattle.model.specs.declared.types.image.Form.TheVariants.{One, Two}
 use Rattle.model.specs.declared.types.operations.Entry.{Entry}
 use Rattle.model.specs.declared.types.operations.Op.{Op}
 use Rattle.model.specs.declared.types.operations.Reply.{Reply}
-use Rattle.model.specs.Fields.{u32_at}
 use Rattle.model.specs.Files.{Files, files_of}
 use Rattle.model.specs.Journal.{after_answer, and_then, answered, kept, replay}
-use Rattle.model.specs.Layout.{form_of, inode_count_of, magic_of}
+use Rattle.model.specs.Layout.{form_of, inode_count_of}
 use Rattle.model.specs.Lemmas.Runs.{and_then_some, replays_in_parts}
 use Rattle.model.specs.Log.{cleared}
 use Rattle.model.specs.Operations.{after}
@@ -135,7 +133,3 @@ module _ {D N : Type 0} (disk : Ghosts D N) (k : Plain D) (known : Known disk pl
       record {
         run = current.idle all ∙ sym files.files ∙ ap (λ (c : ℕ). replay form start (kept n es c)) (sym all_committed) ∙ (settled disk has_now k known well quiet).kept_run;
       }
-
--- images with the same superblock have the same form
-pub same_form : (x y : Image) → block_at y 1 ≡ block_at x 1 → form_of y ≡ form_of x
-same_form x y super = ap (λ (bytes : List ℕ). if u32_at bytes 0 == magic_of Two then Two else One) super

@@ -16,4 +16,3 @@ pub mod Begun
 pub mod Called
 pub mod Committed
 pub mod Opened
-pub mod Both

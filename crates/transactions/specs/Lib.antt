@@ -1,3 +1,4 @@
 pub mod Transactions
 pub mod Opening
 pub mod Pairing
+pub mod Lemmas

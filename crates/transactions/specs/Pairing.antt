@@ -1,5 +1,5 @@
 -- Two operations in one transaction.
-use Rattle.std.specs.Prelude.{◌≡◌, ◌⊎◌, IsTrue, Some}
+use Rattle.std.specs.Prelude.{◌≡◌, ◌⊎◌, ◌+◌, IsTrue, Some}
 use Rattle.blocks.specs.Disk.{Image}
 use Rattle.model.specs.Files.{Files, files_of}
 use Rattle.model.specs.Layout.{form_of}
@@ -8,7 +8,7 @@ use Rattle.model.specs.Operations.{after}
 use Rattle.model.specs.Soundness.{IsSound}
 use Rattle.model.specs.declared.types.operations.Op.{Op}
 use Rattle.model.specs.declared.types.operations.Reply.{Reply}
-use Rattle.calls.specs.Calls.{image_on}
+use Rattle.calls.specs.Calls.{call_count, image_on}
 use Rattle.calls.specs.Stepping.{Plain}
 
 -- these are the files of image x after both operations, with these replies
@@ -17,11 +17,14 @@ pub record AreAfterBoth (x : Image) (first second : Op) (r s : Reply) (made : Fi
   pub one : after (form_of x) (files_of x) first r ≡ Some between
   pub two : after (form_of x) between second s ≡ Some made
 
--- the files on the disk are those after both
+-- The files on the disk are those after both; the image is sound and of the same form. Three calls
+-- more were answered, that of the anchor too.
 pub record MakesBoth {D : Type 0} (image : D → Image) (first second : Op) (k m : Plain D)
     (r s : Reply) : Type 0 where
   pub files : AreAfterBoth (image_on image k) first second r s (files_of (image_on image m))
   pub sound : IsSound (image_on image m)
+  pub form : form_of (image_on image m) ≡ form_of (image_on image k)
+  pub three_more : call_count m ≡ call_count k + 3
 
 -- BOTH OR NEITHER: what a stop leaves of image x
 pub record KeepsBoth (x : Image) (first second : Op) (z : Image) : Type 0 where

@@ -2,6 +2,7 @@
 ghost use Rattle.std.specs.Prelude.{◌≡◌, ◌+◌, ◌<◌, ◌^◌, IfOk, OnOk};
 ghost use Rattle.blocks.specs.Disk.{LeavesOnly};
 ghost use Rattle.calls.specs.Calls.{call_count, image_on};
+ghost use Rattle.calls.specs.Stopped.{StaysOver};
 ghost use Rattle.transactions.specs.Pairing.{KeepsBoth, MakesBoth};
 ghost use Rattle.transactions.specs.Transactions.{Rests};
 
@@ -34,6 +35,7 @@ pub fn make_both<D: Disk>(
     ensures leaves { LeavesOnly D.moment D.leaves
         kernel.old.store.volume.device kernel.new.store.volume.device
         (KeepsBoth (image_on D.image kernel.old) first second) }
+    ensures stays { StaysOver D.Disk kernel.old kernel.new }
 {
     begin(alloc, kernel)?;
     let one = call(kernel, first)?;

@@ -3,7 +3,7 @@ ghost use Rattle.std.specs.Prelude.{◌≡◌, None};
 ghost use Rattle.blocks.specs.Disk.{LeavesOnly};
 ghost use Rattle.calls.specs.Calls.{image_on};
 ghost use Rattle.model.specs.Verdict.{verdict};
-ghost use Rattle.transactions.specs.Transactions.{KeepsFiles, Rests};
+ghost use Rattle.transactions.specs.Transactions.{IsInside, KeepsFiles, Rests};
 
 use crate::beginning::Pair;
 use blocks::Disk;
@@ -20,10 +20,13 @@ pub fn rested<D: Disk>(kernel: &Pair<D>)
 }
 
 /// Gives a transaction up, or what a refusal left of one: nothing of it was written, unless the disk
-/// failed in its commit. The disk may be opened again.
+/// failed in its commit. The disk may be opened again. One that is given up in the midst of a
+/// transaction has the files that were on it, for `begin` and `call` leave its image.
 pub fn abandon<D: Disk>(kernel: Pair<D>) -> D
     ensures disk { result ≡ kernel.store.volume.device }
     ensures opens { verdict (D.image result) ≡ None }
+    ensures keeps { IsInside D.fault_count kernel
+        → KeepsFiles (image_on D.image kernel) (D.image result) }
 {
     kernel.known();
     kernel.into_disk()

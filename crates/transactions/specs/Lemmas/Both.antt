@@ -1,5 +1,5 @@
 -- Two calls of a transaction, by the promises of its parts alone.
-use Rattle.std.proofs.Common.{◌≡◌, ◌∙◌, ℕ, Some, sym, ap, subst, inl, inr, ⊎_elim}
+use Rattle.std.proofs.Common.{arith, List, length, ◌≡◌, ◌∙◌, ℕ, Some, sym, ap, subst, inl, inr, ⊎_elim}
 use Rattle.blocks.specs.Disk.{Image, LeavesOnly}
 use Rattle.blocks.specs.Lemmas.Moments.{joined}
 use Rattle.blocks.specs.declared.disk.Disk.{Ghosts}
@@ -11,7 +11,9 @@ use Rattle.model.specs.Layout.{form_of}
 use Rattle.model.specs.Operations.{after}
 use Rattle.transactions.specs.Pairing.{AreAfterBoth, KeepsBoth, MakesBoth}
 use Rattle.calls.specs.Stepping.{Plain}
-use Rattle.calls.specs.Calls.{image_on}
+use Rattle.calls.specs.Calls.{call_count, image_on}
+use Rattle.model.specs.declared.types.operations.Entry.{Entry}
+use Rattle.model.specs.Lemmas.Frames.{form_same}
 use Rattle.transactions.specs.Transactions.{Adds, Begins, Commits, HasFiles, KeepsEither, KeepsFiles}
 
 -- what a stop leaves may be said with less
@@ -23,7 +25,7 @@ weaker moment leaves old new P Q less all = record {
   keeps = all.keeps;
 }
 
-module _ {D N : Type 0} (disk : Ghosts D N) (first second : Op) (k a b d : Plain D) (r s : Reply) (begins : Begins disk.image k a) (one : Adds disk.image first a b r) (two : Adds disk.image second b d s) (opening_a : a.opening ≡ k.opening) (opening_b : b.opening ≡ a.opening) where
+module _ {D N : Type 0} (disk : Ghosts D N) (first second : Op) (k a b d : Plain D) (r s : Reply) (begins : Begins disk.image k a) (one : Adds disk.image first a b r) (two : Adds disk.image second b d s) (opening_a : a.opening ≡ k.opening) (opening_b : b.opening ≡ a.opening) (opening_d : d.opening ≡ b.opening) where
   made : (f : Files) × AreAfterBoth (image_on disk.image k) first second r s f × HasFiles disk.image d f
   made =
       let mid = one.files (files_of (image_on disk.image k)) begins.files in
@@ -72,7 +74,15 @@ module _ {D N : Type 0} (disk : Ghosts D N) (first second : Op) (k a b d : Plain
 
   -- and the files on the disk are those after both
   pub both_made : (m : Plain D) → Commits disk.image d m → MakesBoth disk.image first second k m r s
-  both_made m commits = record {
-    files = subst (λ (f : Files). AreAfterBoth (image_on disk.image k) first second r s f) (sym (commits.files made.0 made.2)) made.1;
-    sound = commits.sound;
-  }
+  both_made m commits =
+      let none_more : call_count a ≡ call_count k = ap (λ (es : List Entry). length es) begins.list in
+      let first_more = one.one_more in
+      let second_more = two.one_more in
+      let last_more = commits.one_more in
+      let opening : d.opening ≡ k.opening = opening_d ∙ opening_b ∙ opening_a in
+      record {
+        files = subst (λ (f : Files). AreAfterBoth (image_on disk.image k) first second r s f) (sym (commits.files made.0 made.2)) made.1;
+        sound = commits.sound;
+        form = form_same (disk.image d.opening) (image_on disk.image m) commits.super ∙ ap (λ (o : D). form_of (disk.image o)) opening ∙ sym begins.form;
+        three_more = omega (arith, none_more, first_more, second_more, last_more);
+      }
