@@ -8,7 +8,7 @@ use Rattle.blocks.specs.declared.disk.Disk.{Ghosts}
 use Rattle.model.specs.Journal.{kept}
 use Rattle.model.specs.Layout.{bitmap_block, inode_count_of, super_in}
 use Rattle.model.specs.Lemmas.Soundness.{facts_of}
-use Rattle.model.specs.Log.{cleared}
+use Rattle.model.specs.Log.{cleared, logged_count}
 use Rattle.wal.specs.declared.types.DeviceFault.{DeviceFault}
 use Rattle.inodes.specs.Store.{current_of}
 use Rattle.history.specs.Keeps.{HasFilesAfter}
@@ -35,6 +35,10 @@ module _ {D N : Type 0} (disk : Ghosts D N) (k : Plain D) (known : Known disk pl
   -- nothing stands in buffers alone
   pub on_disk : current_of disk.image k.store.volume ≡ image_on disk.image k
   on_disk = current.shown (current.rests all_idle)
+
+  -- and nothing is logged
+  pub nothing_logged : logged_count (image_on disk.image k) ≡ 0
+  nothing_logged = current.clear (current.rests all_idle).quiet
 
   files : HasFilesAfter (disk.image k.opening) (kept (inode_count_of (disk.image k.opening)) k.world.journal.list k.store.volume.log.opened) (cleared (current_of disk.image k.store.volume))
   files = current.files unopened

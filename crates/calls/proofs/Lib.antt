@@ -4,6 +4,8 @@ pub mod Idle
 pub mod Searches
 pub mod Shorts
 pub mod Unanswered
+pub mod Making
+pub mod Unshown
 pub mod Rest
 pub mod Leaving
 pub mod Opened

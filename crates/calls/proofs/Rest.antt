@@ -29,7 +29,9 @@ use Rattle.model.specs.declared.types.operations.Step.{Step}
 use Rattle.model.specs.declared.types.operations.Step.TheVariants as step
 use Rattle.calls.specs.Calls.{Calls, IsWhole, KeepsFiles, image_on}
 use Rattle.calls.specs.Stepping.{Plain, plain_herald, plain_queues}
+use Rattle.calls.specs.Unshown.{KeepsUnshown}
 use Rattle.calls.proofs.Idle.{all_idle, current, long, super}
+use Rattle.calls.proofs.Unshown.{HasMarks, unshown_same}
 use Rattle.calls.proofs.Called.{IsAnswered, IsCall, call_opening, with_intake}
 use Rattle.calls.proofs.Searches.{lowest, none_free}
 use Rattle.calls.proofs.Shorts.{short_full}
@@ -46,6 +48,12 @@ pub record IsSettledDisk {D N : Type 0} (disk : Ghosts D N) (k : Plain D) : Type
       (kept (inode_count_of (disk.image k.opening)) k.world.journal.list k.store.volume.log.committed)
       ≡ Some (files_of (image_on disk.image k))
   pub groups : AreUpTo k.store.volume.log.committed k.world.journal.list
+  pub marks : HasMarks (disk.image k.opening)
+      (kept (inode_count_of (disk.image k.opening)) k.world.journal.list k.store.volume.log.committed)
+      (image_on disk.image k)
+
+pub kept_marks : (opening : Image) (es : List Entry) (x : Image) (c : ℕ) → Keeps opening es x c → HasMarks opening (kept (inode_count_of opening) es c) (recovered x)
+kept_marks opening es x c keeps = record { untouched = keeps.untouched; labels = keeps.labels }
 
 pub settled_disk : {D N : Type 0} (disk : Ghosts D N) (has_now : (d : D) → disk.leaves d (disk.moment d) (disk.image d)) (k : Plain D) → Known disk plain_queues plain_herald k → k.store.volume.fault ≡ None → length k.world.processes ≡ 1 → (process k.world 0).at ≡ at.Idle → IsSettledDisk disk k
 settled_disk disk has_now k known well one stands =
@@ -73,6 +81,7 @@ settled_disk disk has_now k known well one stands =
       run = at_rest.idle idle_all ∙ sym current_files ∙ ap (λ (c : ℕ). replay form start (kept n es c)) (sym settled) ∙ kept_files;
       kept_run = kept_files;
       groups = subst (λ (c : ℕ). AreUpTo c es) (sym settled) known.journal.groups;
+      marks = subst (HasMarks (disk.image k.opening) (kept n es l.committed)) same (kept_marks (disk.image k.opening) es x l.committed keeps);
     }
 
 module _ {D N : Type 0} (disk : Ghosts D N) (k : Plain D) (was : IsSettledDisk disk k) where
@@ -83,12 +92,24 @@ module _ {D N : Type 0} (disk : Ghosts D N) (k : Plain D) (was : IsSettledDisk d
       ap (λ (es : List Entry). replay (form_of (disk.image k.opening)) (files_of (disk.image k.opening)) es) (kept_up_to (inode_count_of (disk.image k.opening)) k.store.volume.log.committed c k.world.journal.list was.groups low)
       ∙ was.kept_run
 
+  -- and so are its marks
+  pub marks_before : (c : ℕ) → k.store.volume.log.committed ≤ c
+      → HasMarks (disk.image k.opening) (kept (inode_count_of (disk.image k.opening)) k.world.journal.list c) (image_on disk.image k)
+  marks_before c low =
+      subst (λ (es : List Entry). HasMarks (disk.image k.opening) es (image_on disk.image k)) (sym (kept_up_to (inode_count_of (disk.image k.opening)) k.store.volume.log.committed c k.world.journal.list was.groups low)) was.marks
+
   -- so each image that a stop leaves then is recovered to these files
   pub keeps_files : (z : Image) → KeepsNow k.store.volume.log.committed (most_of k.store.volume) (disk.image k.opening) k.world.journal.list z → KeepsFiles (image_on disk.image k) z
   keeps_files z now =
       let keeps = now.between.keeps in
       let same : Some (files_of (recovered z)) ≡ Some (files_of (image_on disk.image k)) = sym keeps.files ∙ kept_before now.between.groups now.between.low in
-      record { log = keeps.log; sound = keeps.sound; files = cc same }
+      record {
+        log = keeps.log;
+        sound = keeps.sound;
+        files = cc same;
+        unshown = unshown_same (disk.image k.opening) (image_on disk.image k) (recovered z) (kept (inode_count_of (disk.image k.opening)) k.world.journal.list now.between.groups) was.size (marks_before now.between.groups now.between.low)
+            (kept_marks (disk.image k.opening) k.world.journal.list z now.between.groups keeps) (cc same);
+      }
 
 -- one entry more of a replay
 pub one_entry : (form : Form) (start mid last : Files) (es : List Entry) (e : Entry) (r : Reply) → replay form start es ≡ Some mid → e.reply ≡ Some r → replay form start (es ++ e ∷ []) ≡ Some last → after form mid e.op r ≡ Some last
@@ -128,11 +149,12 @@ module _ {D N : Type 0} (disk : Ghosts D N) (has_now : (d : D) → disk.leaves d
   }
 
   -- what an answered call has made, whatever its queues are then
-  pub call_made : (i : QueueIntake) → Calls disk.image op k (with_intake m i) is.answer.reply
-  call_made i =
+  pub call_made : (i : QueueIntake) → KeepsUnshown (image_on disk.image k) (image_on disk.image m) → Calls disk.image op k (with_intake m i) is.answer.reply
+  call_made i unshown =
       record {
         files = call_files;
         whole = call_whole;
+        unshown = unshown;
         lowest = lowest disk op r k m call so is (files_of (image_on disk.image m)) call_files;
         none = none_free disk op r k m call so is;
         short = short_full disk op r k m call so is well;

@@ -30,6 +30,7 @@ module _ {D N : Type 0} (disk : Ghosts D N) (x : Image) where
         log = kept.log;
         sound = kept.sound;
         files = ⊎_elim (λ same. inl same) (λ (r, may, made). leads r (files_of (recovered z)) made) kept.files;
+        unshown = kept.unshown;
       } in
       record {
         later = only.later;

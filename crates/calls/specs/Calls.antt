@@ -22,6 +22,7 @@ use Rattle.history.specs.Processes.{process}
 use Rattle.calls.specs.declared.fault.CallFault.{CallFault}
 use Rattle.calls.specs.declared.fault.CallFault.TheVariants as fault
 use Rattle.calls.specs.Stepping.{Plain}
+use Rattle.calls.specs.Unshown.{KeepsUnshown}
 
 -- an operation that looks at a file, and changes none
 abbrev pub is_look : Op → Bool
@@ -82,12 +83,13 @@ ShortIsFull y op reply = (i off done : ℕ) (bytes : List ℕ) → op ≡ Write 
     reply ≡ Wrote done → done < length bytes → (b : ℕ) → b < length y → is_marked y b ≡ true
 
 -- THE PROMISE OF A CALL that is answered so: the files on the disk are those before it, after this
--- operation with this reply, and the image is sound.
+-- operation with this reply, the image is sound, and what no file shows stays.
 pub record Calls {D : Type 0} (image : D → Image) (op : Op) (k m : Plain D) (reply : Reply)
     : Type 0 where
   pub files : after (form_of (image_on image k)) (files_of (image_on image k)) op reply
       ≡ Some (files_of (image_on image m))
   pub whole : IsWhole (image_on image k) (image_on image m)
+  pub unshown : KeepsUnshown (image_on image k) (image_on image m)
   pub lowest : MakesLowest (image_on image k) op reply
   pub none : MakesNoneIfFull (image_on image k) op reply
   pub short : ShortIsFull (image_on image m) op reply
@@ -111,6 +113,7 @@ pub record KeepsFiles (x z : Image) : Type 0 where
   pub log : IsTrue (is_lawful_log z)
   pub sound : IsSound (recovered z)
   pub files : files_of (recovered z) ≡ files_of x
+  pub unshown : KeepsUnshown x (recovered z)
 
 -- a reply that a call may have had
 abbrev pub MayReply : Result Reply CallFault → Reply → Type 0
@@ -126,3 +129,4 @@ pub record KeepsCall (x : Image) (op : Op) (result : Result Reply CallFault) (z 
   pub files : (files_of (recovered z) ≡ files_of x)
       ⊎ ((r : Reply) × MayReply result r
       × (after (form_of x) (files_of x) op r ≡ Some (files_of (recovered z))))
+  pub unshown : KeepsUnshown x (recovered z)

@@ -1,3 +1,4 @@
 -- What follows from the definitions, for the crates above.
 pub mod Sizes
 pub mod Reaching
+pub mod Unshown

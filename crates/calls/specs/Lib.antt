@@ -1,4 +1,5 @@
 pub mod Stepping
+pub mod Unshown
 pub mod Calls
 pub mod Opening
 pub mod Answered

@@ -7,6 +7,7 @@ use Rattle.model.specs.Log.{is_lawful_log, recovered}
 use Rattle.model.specs.Soundness.{IsSound}
 use Rattle.calls.specs.Calls.{image_on}
 use Rattle.calls.specs.Stepping.{Plain}
+use Rattle.calls.specs.Unshown.{KeepsUnshown}
 use Rattle.calls.specs.Files.{appended, emptied, empty_file}
 
 -- an empty file of that type was made at a free number
@@ -36,6 +37,7 @@ pub record KeepsChange (change : Files → Files → Type 0) (x z : Image) : Typ
   pub log : IsTrue (is_lawful_log z)
   pub sound : IsSound (recovered z)
   pub files : (files_of (recovered z) ≡ files_of x) ⊎ change (files_of x) (files_of (recovered z))
+  pub unshown : KeepsUnshown x (recovered z)
 
 -- A stop at any moment from k to m leaves the files on the disk of k, or those after the change:
 -- the change is made whole or not at all.

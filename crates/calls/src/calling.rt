@@ -18,7 +18,9 @@ pub type Sole<D> = Kernel<D, QueueIntake, PlainHerald>;
 
 /// Makes an operation from its submission to its answer. Where it is answered, the files on the disk
 /// are those before it after this operation, and its group is committed. A stop at any moment of it
-/// keeps all of it or nothing.
+/// keeps all of it or nothing. What no file shows stays: block 0, inode 0, the inodes behind the
+/// last number, the bits behind the last block, and the labels of each file; those of a new one are
+/// 0, 0 and 1.
 ///
 /// # Errors
 ///

@@ -1,21 +1,22 @@
 -- What calls on the directory come to.
-use Rattle.std.proofs.Common.{◌≡◌, ◌≢◌, ◌⊎◌, inl, inr, ℕ, ◌≤◌, List, length, Some, refl, sym, ap, subst, ◌∙◌, ⊎_elim, arith}
-use Rattle.std.proofs.lemmas.List.{take_all}
+use Rattle.std.proofs.Common.{◌≡◌, ◌≢◌, inl, inr, ℕ, ◌≤◌, List, length, Some, None, refl, sym, ap, subst, ◌∙◌, ⊎_elim, arith}
+use Rattle.std.proofs.lemmas.List.{get_or-set_other, take_all}
 use Rattle.blocks.specs.Disk.{Image, Rose}
 use Rattle.blocks.specs.declared.disk.Disk.{Ghosts}
 use Rattle.names.specs.declared.entries.EntryWrite.{EntryWrite}
-use Rattle.names.specs.Entries.{lookup}
-use Rattle.names.specs.Writes.{operation_of, written, KeepsOthers, Links}
+use Rattle.names.specs.Entries.{HasOnce, lookup}
+use Rattle.names.specs.Writes.{operation_of, written, KeepsOthers, Links, Unlinks}
 use Rattle.model.specs.declared.types.image.File.{File}
 use Rattle.model.specs.declared.types.operations.Op.{Op}
 use Rattle.model.specs.declared.types.operations.Op.TheVariants.{Read, Stat}
 use Rattle.model.specs.declared.types.operations.Reply.{Reply}
 use Rattle.model.specs.declared.types.operations.Reply.TheVariants.{Wrote, Bytes, StatOf}
-use Rattle.model.specs.Files.{file_in, files_of}
+use Rattle.model.specs.Files.{Files, file_in, files_of}
 use Rattle.model.specs.Layout.{form_of}
 use Rattle.calls.specs.Calls.{Calls, image_on}
+use Rattle.calls.specs.Files.{MakesFile}
 use Rattle.calls.specs.Stepping.{Plain}
-use Rattle.names.specs.NamedFiles.{HasDirectory, KeepsOrFails, LinksName, WritesEntry}
+use Rattle.names.specs.NamedFiles.{HasDirectory, KeepsOrFails, LinksName, MakesNamed, UnlinksName, WritesEntry}
 use Rattle.names.proofs.Writes.{bytes_read, size_told, stands, unwritten, written_whole}
 
 -- a read of the directory, whose size was told before, reads all of it
@@ -78,6 +79,39 @@ links_name x mid y bytes name number write directory same links leads others wro
         leads = subst (λ (b : List ℕ). lookup (written b write) name ≡ Some number) bytes_are leads;
       };
       others = subst (λ (b : List ℕ). KeepsOthers name b (written b write)) bytes_are others;
+    }
+
+-- the write of a free entry over them frees the name's
+pub unlinks_name : (x mid y : Image) (bytes name : List ℕ) (write : EntryWrite) → HasDirectory x bytes → mid ≡ x →
+    Unlinks bytes name write → (HasOnce bytes name → lookup (written bytes write) name ≡ None) → KeepsOthers name bytes (written bytes write) →
+    WritesEntry write mid y → UnlinksName name x y
+unlinks_name x mid y bytes name write directory same unlinks gone others wrote =
+    let writes = subst (λ (i : Image). WritesEntry write i y) same wrote in
+    let both : Some directory.file ≡ Some writes.file = sym directory.is ∙ writes.was in
+    let one : directory.file ≡ writes.file = cc both in
+    let bytes_are : bytes ≡ writes.file.bytes = sym directory.bytes_are ∙ ap (λ (f : File). f.bytes) one in
+    record {
+      write = write;
+      writes = writes;
+      unlinks = subst (λ (b : List ℕ). Unlinks b name write) bytes_are unlinks;
+      gone = subst (λ (b : List ℕ). HasOnce b name → lookup (written b write) name ≡ None) bytes_are gone;
+      others = subst (λ (b : List ℕ). KeepsOthers name b (written b write)) bytes_are others;
+    }
+
+-- a file was made, and then linked under a name that may be
+pub makes_named : (x l mid y : Image) (bytes name : List ℕ) (number : ℕ) (write : EntryWrite) → HasDirectory x bytes → l ≡ x →
+    MakesFile 2 number (files_of l) (files_of mid) → Links bytes name number write → lookup (written bytes write) name ≡ Some number →
+    KeepsOthers name bytes (written bytes write) → WritesEntry write mid y → MakesNamed name number x y
+makes_named x l mid y bytes name number write directory same made links leads others wrote =
+    let makes = subst (λ (i : Image). MakesFile 2 number (files_of i) (files_of mid)) same made in
+    let apart : 1 ≢ number = λ one. let both = sym directory.is ∙ ap (file_in (files_of x)) one ∙ makes.free in cc both in
+    let stays : file_in (files_of mid) 1 ≡ file_in (files_of x) 1
+    = ap (λ (f : Files). file_in f 1) makes.files ∙ get_or-set_other (files_of x) number 1 _ None apart in
+    record {
+      mid = mid;
+      made = makes;
+      directory = stays;
+      links = links_name mid mid y bytes name number write (record { file = directory.file; is = stays ∙ directory.is; bytes_are = directory.bytes_are }) refl links leads others wrote;
     }
 
 -- behind looks that changed nothing

@@ -1,4 +1,6 @@
 // Why a call of files with names is refused.
+ghost use Rattle.std.specs.Prelude.{◌≡◌};
+
 use crate::entries::LinkFault;
 use blocks::NoMemory;
 use calls::CallFault;
@@ -40,18 +42,30 @@ pub enum FilesFault {
 }
 
 impl From<CallFault> for FilesFault {
+    ghost use Rattle.names.specs.declared.fault.FilesFault.TheVariants as files;
+
+    ghost from_gives = { λ cause e. e ≡ files.Call cause };
+
     fn from(fault: CallFault) -> FilesFault {
         FilesFault::Call(fault)
     }
 }
 
 impl From<LinkFault> for FilesFault {
+    ghost use Rattle.names.specs.declared.fault.FilesFault.TheVariants as files;
+
+    ghost from_gives = { λ cause e. e ≡ files.Link cause };
+
     fn from(fault: LinkFault) -> FilesFault {
         FilesFault::Link(fault)
     }
 }
 
 impl From<NoMemory> for FilesFault {
+    ghost use Rattle.names.specs.declared.fault.FilesFault.TheVariants as files;
+
+    ghost from_gives = { λ _ e. e ≡ files.NoMemory };
+
     fn from(_refused: NoMemory) -> FilesFault {
         FilesFault::NoMemory
     }

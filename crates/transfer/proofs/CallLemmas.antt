@@ -8,7 +8,9 @@ use Rattle.calls.specs.Answered.{IsAnswered}
 use Rattle.calls.specs.Files.{files_on}
 use Rattle.wal.specs.declared.types.DeviceFault.{DeviceFault}
 use Rattle.calls.specs.Calls.{HasFailed, IsUncalled, IsWhole, Rests, faults_on, image_on}
+use Rattle.calls.specs.Lemmas.Unshown.{unshown_none, unshown_then}
 use Rattle.calls.specs.Stepping.{Plain}
+use Rattle.calls.specs.Unshown.{KeepsUnshown, LosesNone}
 use Rattle.calls.specs.declared.fault.CallFault.{CallFault}
 use Rattle.calls.specs.declared.fault.CallFault.TheVariants as fault
 use Rattle.transfer.specs.Places.{IsPlace, MayPut, PutsAll, put_at}
@@ -25,20 +27,42 @@ whole_then x y z first second = record {
 whole_same : (x y : Image) → IsSound x → y ≡ x → IsWhole x y
 whole_same x y sound same = subst (λ (z : Image). IsWhole x z) (sym same) (record { sound = sound; size = refl; super = refl })
 
+-- image y is as long as image x, and has of it what no file shows, and its files
+pub record Leads (x y : Image) : Type 0 where
+  pub size : length y ≡ length x
+  pub unshown : KeepsUnshown x y
+  pub none_lost : LosesNone (files_of x) (files_of y)
+
+pub leads_none : (x : Image) → Leads x x
+leads_none x = record { size = refl; unshown = unshown_none x; none_lost = λ i there. there }
+
+pub leads_on : (x y z : Image) → Leads x y → KeepsUnshown y z → KeepsUnshown x z
+leads_on x y z leads second = unshown_then x y z leads.size leads.none_lost leads.unshown second
+
 module _ {D N : Type 0} (disk : Ghosts D N) where
+  pub leads_answered : (k l : Plain D) → AreAnswered disk k l → Leads (image_on disk.image k) (image_on disk.image l)
+  leads_answered k l before = record { size = before.whole.size; unshown = before.unshown; none_lost = before.none_lost }
+
+  unshown_behind : (k l : Plain D) (z : Image) → AreAnswered disk k l → KeepsUnshown (image_on disk.image l) z → KeepsUnshown (image_on disk.image k) z
+  unshown_behind k l z before = leads_on (image_on disk.image k) (image_on disk.image l) z (leads_answered k l before)
+
   pub answered_none : {most : ℕ} (k : Plain D) → MayCall disk most k → AreAnswered disk k k
   answered_none k ready = record {
     rests = ready.rests;
     whole = record { sound = ready.sound; size = refl; super = refl };
+    unshown = unshown_none (image_on disk.image k);
+    none_lost = λ i there. there;
     form = refl;
     opening = refl;
   }
 
   -- a call more
-  pub answered_then : (k l m : Plain D) → AreAnswered disk k l → IsAnswered disk l m → m.opening ≡ l.opening → AreAnswered disk k m
-  answered_then k l m before call opening = record {
+  pub answered_then : (k l m : Plain D) → AreAnswered disk k l → IsAnswered disk l m → m.opening ≡ l.opening → LosesNone (files_on disk.image k) (files_on disk.image m) → AreAnswered disk k m
+  answered_then k l m before call opening none_lost = record {
     rests = call.rests;
     whole = whole_then (image_on disk.image k) (image_on disk.image l) (image_on disk.image m) before.whole call.whole;
+    unshown = unshown_behind k l (image_on disk.image m) before call.unshown;
+    none_lost = none_lost;
     form = call.form ∙ before.form;
     opening = opening ∙ before.opening;
   }
@@ -47,6 +71,8 @@ module _ {D N : Type 0} (disk : Ghosts D N) where
   answered_both k l m before calls = record {
     rests = calls.rests;
     whole = whole_then (image_on disk.image k) (image_on disk.image l) (image_on disk.image m) before.whole calls.whole;
+    unshown = unshown_behind k l (image_on disk.image m) before calls.unshown;
+    none_lost = λ i there. calls.none_lost i (before.none_lost i there);
     form = calls.form ∙ before.form;
     opening = calls.opening ∙ before.opening;
   }
@@ -72,6 +98,7 @@ module _ {D N : Type 0} (disk : Ghosts D N) where
         why.1 ∙ faults_same k l rests before,
         record {
           whole = whole_then (image_on disk.image k) (image_on disk.image l) (image_on disk.image e) before.whole (whole_same (image_on disk.image l) (image_on disk.image e) before.whole.sound same);
+          unshown = subst (KeepsUnshown (image_on disk.image k)) (sym same) before.unshown;
           files = subst (λ (y : Image). MayPut (files_on disk.image k) inum bytes (files_of y)) (sym same) files;
         },
       )
@@ -130,6 +157,7 @@ module _ {D N : Type 0} (disk : Ghosts D N) where
       why.0 ∙ faults_same k l rests before,
       record {
         whole = whole_then (image_on disk.image k) (image_on disk.image l) (image_on disk.image e) before.whole why.1.whole;
+        unshown = unshown_behind k l (image_on disk.image e) before why.1.unshown;
         files = first_behind (files_of (image_on disk.image e)) why.1.files;
       },
     )

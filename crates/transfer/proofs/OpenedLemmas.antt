@@ -15,7 +15,9 @@ use Rattle.model.specs.Verdict.{verdict}
 use Rattle.kernel.specs.declared.types.OpenFault.{OpenFault}
 use Rattle.calls.specs.Calls.{IsWhole, image_on}
 use Rattle.calls.specs.Opening.{IsNotOpenedSole, IsOpenedSole}
+use Rattle.calls.specs.Lemmas.Unshown.{unshown_none}
 use Rattle.calls.specs.Stepping.{IsReached, Plain}
+use Rattle.calls.specs.Unshown.{KeepsUnshown}
 use Rattle.kernel.specs.Opening.{LeavesRecovered}
 use Rattle.opening.specs.Lemmas.Stopping.{if_synced, opened_leaves, recovered_behind, recovered_if_synced, run_leaves, unopened_leaves}
 use Rattle.wal.specs.Recovery.{RecoversAs}
@@ -78,6 +80,7 @@ module _ {D N : Type 0} (disk : Ghosts D N) (inum : Option ℕ) (bytes : List �
       plain = fit.room.plain;
       whole = subst (λ (x : Image). IsWhole x (image_on disk.image m)) fit.reads.image
           (whole_then (disk.image mid) (image_on disk.image k) (image_on disk.image m) opened.whole calls.whole);
+      unshown = subst (λ (x : Image). KeepsUnshown x (image_on disk.image m)) begun calls.unshown;
       comes = subst (λ (t : Bool). PutComes t (recovered (disk.image d)) inum bytes (image_on disk.image m) outcome) room
           (subst (λ (x : Image). PutComes twice x inum bytes (image_on disk.image m) outcome) begun calls.comes);
       faults = calls.faults ∙ faults;
@@ -123,6 +126,7 @@ module _ {D N : Type 0} (disk : Ghosts D N) (inum : Option ℕ) (bytes : List �
             sound = put.sound;
             plain = put.plain;
             whole = subst (IsWhole (disk.image d)) (sym left.0) put.whole;
+            unshown = subst (KeepsUnshown (recovered (disk.image d))) (sym left.0) put.unshown;
             comes = subst (λ (y : Image). PutComesOf (recovered (disk.image d)) inum bytes y (outcome.Put number)) (sym left.0) put.comes;
             faults = left.1 ∙ put.faults;
           }
@@ -159,6 +163,7 @@ module _ {D N : Type 0} (disk : Ghosts D N) (inum : Option ℕ) (bytes : List �
         sound = subst IsSound (sym same.image) is.2;
         files = stops_same inum twice (recovered (disk.image d)) bytes (recovered z) files;
         either = never_same inum twice (files_of (recovered (disk.image d))) bytes (files_of (recovered z)) files;
+        unshown = subst (KeepsUnshown (recovered (disk.image d))) (sym same.image) (unshown_none (recovered (disk.image d)));
       }
 
   -- the disk was only read, and then recovered, or not

@@ -1,8 +1,11 @@
 -- What becomes of files where bytes are put, call by call.
-use Rattle.std.proofs.Common.{◌≡◌, ◌≢◌, ◌∙◌, ℕ, ◌<◌, List, [], ◌++◌, length, set, Option, Some, None, refl, sym, ap}
-use Rattle.std.proofs.lemmas.List.{get_or-set_same, set-get_or, set-set, nil_from_length}
+use Rattle.std.proofs.Common.{◌≡◌, ◌≢◌, ◌∙◌, ℕ, ◌<◌, List, [], ◌++◌, length, set, Option, Some, None, refl, sym, ap, subst, ⊎_elim}
+use Rattle.std.proofs.lemmas.Bool.{cases_eq}
+use Rattle.std.proofs.lemmas.List.{get_or-set_other, get_or-set_same, set-get_or, set-set, nil_from_length}
 use Rattle.calls.specs.Files.{MakesFile, appended, emptied, empty_file, size_of, with_more, without_bytes}
+use Rattle.calls.specs.Unshown.{LosesNone}
 use Rattle.model.specs.Files.{Files, file_in}
+use Rattle.model.specs.Lemmas.FileNumbers.{below_there}
 use Rattle.model.specs.declared.types.image.File.{File}
 use Rattle.transfer.specs.Places.{IsLowestFree, put_at, put_file}
 
@@ -32,10 +35,33 @@ same_empty : (o : Option File) → size_of o ≡ Some 0 → put_file o [] ≡ o
 same_empty None h = absurd (cc h)
 same_empty (Some file) h = let none : length file.bytes ≡ 0 = cc h in ap (λ (b : List ℕ). Some (record file { bytes = b })) (sym (nil_from_length file.bytes none))
 
+put_there : (o : Option File) (bytes : List ℕ) → put_file o bytes ≢ None
+put_there None bytes none = absurd (cc none)
+put_there (Some file) bytes none = absurd (cc none)
+
 -- ---- among files
 
 pub file_put : (files : Files) (i : ℕ) (bytes : List ℕ) → i < length files → file_in (put_at files i bytes) i ≡ put_file (file_in files i) bytes
 file_put files i bytes below = get_or-set_same files i (put_file (file_in files i) bytes) None below
+
+-- bytes that are put at one number leave another file alone
+pub file_beside : (files : Files) (i j : ℕ) (bytes : List ℕ) → j ≢ i → file_in (put_at files i bytes) j ≡ file_in files j
+file_beside files i j bytes other = get_or-set_other files i j (put_file (file_in files i) bytes) None other
+
+-- and where they are put there is a file
+pub put_stands : (files : Files) (i : ℕ) (bytes : List ℕ) → i < length files → file_in (put_at files i bytes) i ≢ None
+put_stands files i bytes below none = put_there (file_in files i) bytes (sym (file_put files i bytes below) ∙ none)
+
+-- so no file is gone
+pub put_loses_none : (files : Files) (i : ℕ) (bytes : List ℕ) (new : Files) → new ≡ put_at files i bytes → LosesNone files new
+put_loses_none files i bytes new is j there none =
+    let gone : file_in (put_at files i bytes) j ≡ None = ap (λ (f : Files). file_in f j) (sym is) ∙ none in
+    ⊎_elim
+    (λ (same : j ≡ i). put_stands files i bytes (subst (λ (n : ℕ). n < length files) same (below_there files j there)) (ap (file_in (put_at files i bytes)) (sym same) ∙ gone))
+    (λ (other : j ≢ i). there (sym (file_beside files i j bytes other) ∙ gone)) (cases_eq j i)
+
+pub same_loses_none : (files new : Files) → new ≡ files → LosesNone files new
+same_loses_none files new is j there none = there (ap (λ (f : Files). file_in f j) (sym is) ∙ none)
 
 pub size_put : (files : Files) (i : ℕ) (bytes : List ℕ) → i < length files → size_of (file_in (put_at files i bytes) i) ≡ Some (length bytes)
 size_put files i bytes below = ap size_of (file_put files i bytes below) ∙ put_size (file_in files i) bytes

@@ -15,6 +15,7 @@ use Rattle.calls.specs.Calls.{Rests, image_on}
 use Rattle.calls.specs.Files.{files_on}
 use Rattle.calls.specs.Lemmas.Reaching.{reached_then}
 use Rattle.calls.specs.Stepping.{IsReached, Plain}
+use Rattle.calls.specs.Unshown.{KeepsUnshown}
 use Rattle.calls.specs.Stopped.{KeepsChange, LeavesChange, Removes, StaysOver}
 use Rattle.calls.specs.declared.fault.CallFault.{CallFault}
 use Rattle.calls.specs.declared.fault.CallFault.TheVariants as fault
@@ -24,8 +25,8 @@ use Rattle.transfer.specs.Rounds.{Goes, GoesRound, HasBytes, HasFree, HasOldOrNe
 use Rattle.transfer.specs.Stopped.{KeepsPlace, KeepsPut, MayLeave, MayStop, StaysPlace, StaysPut}
 use Rattle.transfer.specs.declared.writing.Outcome.{Outcome}
 use Rattle.transfer.specs.declared.writing.Outcome.TheVariants as outcome
-use Rattle.transfer.proofs.CallLemmas.{failed_after, faults_same, whole_then}
-use Rattle.transfer.proofs.PlaceLemmas.{file_put}
+use Rattle.transfer.proofs.CallLemmas.{Leads, failed_after, faults_same, leads_answered, leads_on, whole_then}
+use Rattle.transfer.proofs.PlaceLemmas.{file_beside, file_put, put_stands}
 
 -- ---- two files
 
@@ -33,20 +34,12 @@ use Rattle.transfer.proofs.PlaceLemmas.{file_put}
 apart : (files : Files) (spare inum : ℕ) → file_in files spare ≡ None → file_in files inum ≢ None → inum ≢ spare
 apart files spare inum free there same = there (ap (file_in files) same ∙ free)
 
--- bytes that are put at one number leave another file alone
-file_beside : (files : Files) (i j : ℕ) (bytes : List ℕ) → j ≢ i → file_in (put_at files i bytes) j ≡ file_in files j
-file_beside files i j bytes other = get_or-set_other files i j (put_file (file_in files i) bytes) None other
-
 put_has : (o : Option File) (bytes : List ℕ) → HasBytes (put_file o bytes) bytes
 put_has None bytes = refl
 put_has (Some file) bytes = refl
 
 has_put : (files : Files) (i : ℕ) (bytes : List ℕ) → i < length files → HasBytes (file_in (put_at files i bytes) i) bytes
 has_put files i bytes below = subst (λ (o : Option File). HasBytes o bytes) (sym (file_put files i bytes below)) (put_has (file_in files i) bytes)
-
-put_there : (o : Option File) (bytes : List ℕ) → put_file o bytes ≢ None
-put_there None bytes none = absurd (cc none)
-put_there (Some file) bytes none = absurd (cc none)
 
 module _ (files mid : Files) (spare inum : ℕ) (bytes : List ℕ) (free : file_in files spare ≡ None) (there : file_in files inum ≢ None) (put : mid ≡ put_at files spare bytes) where
   other : inum ≢ spare
@@ -59,8 +52,8 @@ module _ (files mid : Files) (spare inum : ℕ) (bytes : List ℕ) (free : file_
   -- the new one is there, also once bytes were put into the old one
   pub spare_there : spare < length files → (new : Files) (more : List ℕ) → new ≡ put_at mid inum more → file_in new spare ≢ None
   spare_there below new more is none =
-      put_there (file_in files spare) bytes
-      (sym (file_put files spare bytes below) ∙ sym (ap (λ (f : Files). file_in f spare) put)
+      put_stands files spare bytes below
+      (sym (ap (λ (f : Files). file_in f spare) put)
       ∙ sym (file_beside mid inum spare more (λ same. other (sym same))) ∙ sym (ap (λ (f : Files). file_in f spare) is) ∙ none)
 
   -- and once it is removed, only the old one has changed
@@ -148,6 +141,7 @@ module _ {D N : Type 0} (disk : Ghosts D N) (inum : ℕ) (bytes : List ℕ) wher
     why.0 ∙ faults_same disk k l rests before,
     record {
       whole = whole_then (image_on disk.image k) (image_on disk.image l) (image_on disk.image e) before.whole why.1.whole;
+      unshown = leads_on (image_on disk.image k) (image_on disk.image l) (image_on disk.image e) (leads_answered disk k l before) why.1.unshown;
       files = goes (image_on disk.image e) why.1.files;
     },
   )
@@ -155,16 +149,16 @@ module _ {D N : Type 0} (disk : Ghosts D N) (inum : ℕ) (bytes : List ℕ) wher
   -- ---- what a stop leaves
 
   module _ (x : Image) (there : file_in (files_of x) inum ≢ None) where
-    keeps_round : (z : Image) → IsTrue (is_lawful_log z) → IsSound (recovered z) → MayStop true x (Some inum) bytes (recovered z) → KeepsPut true x (Some inum) bytes z
-    keeps_round z log sound files = record { log = log; sound = sound; files = files; either = either_round x inum bytes (recovered z) there files }
+    keeps_round : (z : Image) → IsTrue (is_lawful_log z) → IsSound (recovered z) → MayStop true x (Some inum) bytes (recovered z) → KeepsUnshown x (recovered z) → KeepsPut true x (Some inum) bytes z
+    keeps_round z log sound files unshown = record { log = log; sound = sound; files = files; either = either_round x inum bytes (recovered z) there files; unshown = unshown }
 
     -- of a put at one place
-    pub round_place : (w : Image) (place : Option ℕ) (l m : Plain D)
+    pub round_place : (w : Image) (place : Option ℕ) (l m : Plain D) → Leads x w
         → ((y : Image) → MayLeave (files_of w) place bytes (files_of y) → GoesRound (λ v at. MayLeave (files_of v) at bytes (files_of y)) x inum bytes)
         → StaysPlace disk w place bytes l m → StaysPut disk true x (Some inum) bytes l m
-    round_place w place l m goes stays = record {
+    round_place w place l m behind goes stays = record {
       leaves = leaves_wider disk.moment disk.leaves l.store.volume.device m.store.volume.device (KeepsPlace w place bytes) (KeepsPut true x (Some inum) bytes)
-          (λ z kept. keeps_round z kept.log kept.sound (inl (goes (recovered z) kept.files))) stays.leaves;
+          (λ z kept. keeps_round z kept.log kept.sound (inl (goes (recovered z) kept.files)) (leads_on x w (recovered z) behind kept.unshown)) stays.leaves;
       name = stays.name;
       reached = stays.reached;
     }
@@ -201,10 +195,10 @@ module _ {D N : Type 0} (disk : Ghosts D N) (inum : ℕ) (bytes : List ℕ) wher
             },
           )
 
-      pub round_removed : LeavesChange disk (Removes spare.number) m n → StaysOver disk m n → IsReached disk m n → StaysPut disk true x (Some inum) bytes m n
-      round_removed only over reached = record {
+      pub round_removed : LeavesChange disk (Removes spare.number) m n → StaysOver disk m n → IsReached disk m n → Leads x (image_on disk.image m) → StaysPut disk true x (Some inum) bytes m n
+      round_removed only over reached behind = record {
         leaves = leaves_wider disk.moment disk.leaves m.store.volume.device n.store.volume.device (KeepsChange (Removes spare.number) (image_on disk.image m)) (KeepsPut true x (Some inum) bytes)
-            (λ z kept. keeps_round z kept.log kept.sound (stops_removed (recovered z) kept.files)) only;
+            (λ z kept. keeps_round z kept.log kept.sound (stops_removed (recovered z) kept.files) (leads_on x (image_on disk.image m) (recovered z) behind kept.unshown)) only;
         name = over.name;
         reached = reached;
       }
@@ -237,6 +231,7 @@ module _ (inum : Option ℕ) (twice : Bool) (straight : IsStraight inum twice) (
     why.0,
     record {
       whole = why.1.whole;
+      unshown = why.1.unshown;
       files = goes_straight inum twice (λ w place. MayPut (files_of w) place bytes (files_of (image_on disk.image e))) (image_on disk.image d) bytes straight why.1.files;
     },
   )
@@ -249,6 +244,7 @@ module _ (inum : Option ℕ) (twice : Bool) (straight : IsStraight inum twice) (
           sound = kept.sound;
           files = inl (goes_straight inum twice (λ w place. MayLeave (files_of w) place bytes (files_of (recovered z))) x bytes straight kept.files);
           either = never_straight inum twice (files_of x) bytes (files_of (recovered z)) straight;
+          unshown = kept.unshown;
         })
         stays.leaves;
     name = stays.name;

@@ -14,6 +14,7 @@ use Rattle.calls.specs.Lemmas.Reaching.{reached_none, reached_then}
 use Rattle.calls.specs.Stepping.{IsReached, Plain}
 use Rattle.transfer.specs.Places.{put_at}
 use Rattle.transfer.specs.Stopped.{IsSpot, KeepsPlace, LeavesFirst, StaysPlace}
+use Rattle.transfer.proofs.CallLemmas.{Leads, leads_on}
 use Rattle.transfer.proofs.PlaceLemmas.{appended_put, emptied_put, made_put, put_at_again, removed_put}
 
 module _ {D N : Type 0} (disk : Ghosts D N) (x : Image) (inum : Option ℕ) (bytes : List ℕ) where
@@ -22,21 +23,21 @@ module _ {D N : Type 0} (disk : Ghosts D N) (x : Image) (inum : Option ℕ) (byt
   Led new = (new ≡ files_of x) ⊎ LeavesFirst (files_of x) inum bytes new
 
   -- a change leaves the files that stand on the disk, or those behind it
-  pub stays_first : (change : Files → Files → Type 0) (k m : Plain D) → LeavesChange disk change k m → StaysOver disk k m → IsReached disk k m
+  pub stays_first : (change : Files → Files → Type 0) (k m : Plain D) → LeavesChange disk change k m → StaysOver disk k m → IsReached disk k m → Leads x (image_on disk.image k)
       → ((new : Files) → (new ≡ files_on disk.image k) ⊎ change (files_on disk.image k) new → Led new) → StaysPlace disk x inum bytes k m
-  stays_first change k m only over reached leads = record {
+  stays_first change k m only over reached behind leads = record {
     leaves = leaves_wider disk.moment disk.leaves k.store.volume.device m.store.volume.device (KeepsChange change (image_on disk.image k)) (KeepsPlace x inum bytes)
-        (λ z kept. record { log = kept.log; sound = kept.sound; files = leads (files_of (recovered z)) kept.files }) only;
+        (λ z kept. record { log = kept.log; sound = kept.sound; files = leads (files_of (recovered z)) kept.files; unshown = leads_on x (image_on disk.image k) (recovered z) behind kept.unshown }) only;
     name = over.name;
     reached = reached;
   }
 
   -- so does no call
   pub stays_none : (k : Plain D) → LeavesOnly disk.moment disk.leaves k.store.volume.device k.store.volume.device (KeepsFiles (image_on disk.image k))
-      → Led (files_on disk.image k) → StaysPlace disk x inum bytes k k
-  stays_none k only led = record {
+      → Leads x (image_on disk.image k) → Led (files_on disk.image k) → StaysPlace disk x inum bytes k k
+  stays_none k only behind led = record {
     leaves = leaves_wider disk.moment disk.leaves k.store.volume.device k.store.volume.device (KeepsFiles (image_on disk.image k)) (KeepsPlace x inum bytes)
-        (λ z kept. record { log = kept.log; sound = kept.sound; files = subst Led (sym kept.files) led }) only;
+        (λ z kept. record { log = kept.log; sound = kept.sound; files = subst Led (sym kept.files) led; unshown = leads_on x (image_on disk.image k) (recovered z) behind kept.unshown }) only;
     name = refl;
     reached = reached_none disk k;
   }
@@ -50,11 +51,11 @@ module _ {D N : Type 0} (disk : Ghosts D N) (x : Image) (inum : Option ℕ) (byt
   }
 
   -- pieces that are put behind the call that made the file, or emptied it
-  pub stays_behind : (l m : Plain D) (i : ℕ) → ((new : Files) → (new ≡ files_on disk.image l) ⊎ LeavesFirst (files_on disk.image l) (Some i) bytes new → Led new)
+  pub stays_behind : (l m : Plain D) (i : ℕ) → Leads x (image_on disk.image l) → ((new : Files) → (new ≡ files_on disk.image l) ⊎ LeavesFirst (files_on disk.image l) (Some i) bytes new → Led new)
       → StaysPlace disk (image_on disk.image l) (Some i) bytes l m → StaysPlace disk x inum bytes l m
-  stays_behind l m i leads stays = record {
+  stays_behind l m i behind leads stays = record {
     leaves = leaves_wider disk.moment disk.leaves l.store.volume.device m.store.volume.device (KeepsPlace (image_on disk.image l) (Some i) bytes) (KeepsPlace x inum bytes)
-        (λ z kept. record { log = kept.log; sound = kept.sound; files = leads (files_of (recovered z)) kept.files }) stays.leaves;
+        (λ z kept. record { log = kept.log; sound = kept.sound; files = leads (files_of (recovered z)) kept.files; unshown = leads_on x (image_on disk.image l) (recovered z) behind kept.unshown }) stays.leaves;
     name = stays.name;
     reached = stays.reached;
   }

@@ -5,7 +5,8 @@ use Rattle.blocks.specs.declared.disk.Disk.{Ghosts}
 use Rattle.model.specs.Files.{files_of}
 use Rattle.model.specs.Layout.{form_of}
 use Rattle.model.specs.Soundness.{IsSound}
-use Rattle.calls.specs.Files.{IsFull}
+use Rattle.calls.specs.Files.{IsFull, files_on}
+use Rattle.calls.specs.Unshown.{KeepsUnshown, LosesNone}
 use Rattle.calls.specs.Calls.{HasFailed, IsWhole, Rests, call_count, faults_on, image_on}
 use Rattle.calls.specs.Stepping.{Plain}
 use Rattle.calls.specs.declared.fault.CallFault.{CallFault}
@@ -24,10 +25,12 @@ pub record MayCall {D N : Type 0} (disk : Ghosts D N) (most : ℕ) (k : Plain D)
   pub few : call_count k ≤ most
   pub sound : IsSound (image_on disk.image k)
 
--- calls were answered, and nothing is under way
+-- calls were answered, and nothing is under way; no file is gone, and what none shows stays
 pub record AreAnswered {D N : Type 0} (disk : Ghosts D N) (k m : Plain D) : Type 0 where
   pub rests : Rests disk.fault_count m
   pub whole : IsWhole (image_on disk.image k) (image_on disk.image m)
+  pub unshown : KeepsUnshown (image_on disk.image k) (image_on disk.image m)
+  pub none_lost : LosesNone (files_on disk.image k) (files_on disk.image m)
   pub form : form_of (image_on disk.image m) ≡ form_of (image_on disk.image k)
   pub opening : m.opening ≡ k.opening
 
@@ -68,9 +71,11 @@ Comes x inum bytes y (outcome.Put i) = PutsAll (files_of x) inum bytes (files_of
 Comes x inum bytes y outcome.NoInode = FindsNone x inum y
 Comes x inum bytes y outcome.Full = FillsUp x inum bytes y
 
--- an image is whole, and has its files as before, or with the first of the bytes put
+-- An image is whole, and has its files as before, or with the first of the bytes put. What no file
+-- shows stays, here and below.
 pub record KeepsPart (x : Image) (inum : Option ℕ) (bytes : List ℕ) (y : Image) : Type 0 where
   pub whole : IsWhole x y
+  pub unshown : KeepsUnshown x y
   pub files : MayPut (files_of x) inum bytes (files_of y)
 
 -- why a call was not answered, of a kernel that was k before all calls and is m
@@ -94,6 +99,7 @@ PutComes twice x inum bytes y outcome.Full =
 pub record KeepsSome (twice : Bool) (x : Image) (inum : Option ℕ) (bytes : List ℕ) (y : Image)
     : Type 0 where
   pub whole : IsWhole x y
+  pub unshown : KeepsUnshown x y
   pub files : Goes inum twice (λ w place. MayPut (files_of w) place bytes (files_of y)) x bytes
 
 -- why a call of a put was not answered
@@ -108,6 +114,7 @@ IsPutCutOff twice disk inum bytes k m fault.NoMemory =
 pub record CallsTo {D N : Type 0} (twice : Bool) (disk : Ghosts D N) (inum : Option ℕ)
     (bytes : List ℕ) (k m : Plain D) (outcome : Outcome) : Type 0 where
   pub whole : IsWhole (image_on disk.image k) (image_on disk.image m)
+  pub unshown : KeepsUnshown (image_on disk.image k) (image_on disk.image m)
   pub comes : PutComes twice (image_on disk.image k) inum bytes (image_on disk.image m) outcome
   pub faults : faults_on disk.fault_count m ≡ faults_on disk.fault_count k
 

@@ -13,6 +13,7 @@ use Rattle.kernel.specs.declared.types.OpenFault.{OpenFault}
 use Rattle.calls.specs.Calls.{IsWhole}
 use Rattle.calls.specs.Opening.{IsNotOpenedSole, IsOpenedSole}
 use Rattle.calls.specs.Stepping.{IsReached, Plain}
+use Rattle.calls.specs.Unshown.{KeepsUnshown}
 use Rattle.messages.specs.Output.{number_text}
 use Rattle.transfer.specs.Ending.{SyncsIf}
 use Rattle.transfer.specs.Judging.{IsTold}
@@ -23,13 +24,15 @@ use Rattle.transfer.specs.declared.refused.PutRefusal.TheVariants.{Check, NoFile
 use Rattle.transfer.specs.declared.writing.Outcome.{Outcome}
 use Rattle.transfer.specs.declared.writing.Outcome.TheVariants as outcome
 
--- The disk d, now e, had no fault, and the old file, if one is named, was a plain one. Its image is sound, with nothing logged, of the same size and
--- superblock, and calls came to this; none failed.
+-- The disk d, now e, had no fault, and the old file, if one is named, was a plain one. Its image is
+-- sound, of the same size and superblock, what no file shows is as recovery leaves it, and calls
+-- came to this; none failed.
 pub record ComesTo {D N : Type 0} (disk : Ghosts D N) (inum : Option ℕ) (bytes : List ℕ) (d e : D)
     (outcome : Outcome) : Type 0 where
   pub sound : verdict (disk.image d) ≡ None
   pub plain : IsPlainOld (files_of (recovered (disk.image d))) inum
   pub whole : IsWhole (disk.image d) (disk.image e)
+  pub unshown : KeepsUnshown (recovered (disk.image d)) (disk.image e)
   pub comes : PutComesOf (recovered (disk.image d)) inum bytes (disk.image e) outcome
   pub faults : disk.fault_count e ≡ disk.fault_count d
 

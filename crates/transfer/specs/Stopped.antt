@@ -6,6 +6,7 @@ use Rattle.model.specs.Files.{Files, file_in, files_of}
 use Rattle.model.specs.Log.{is_lawful_log, recovered}
 use Rattle.model.specs.Soundness.{IsSound}
 use Rattle.calls.specs.Stepping.{IsReached, Plain}
+use Rattle.calls.specs.Unshown.{KeepsUnshown}
 use Rattle.opening.specs.Stops.{LeavesIfSynced}
 use Rattle.transfer.specs.Needs.{has_room_twice}
 use Rattle.transfer.specs.Places.{PutsAll, put_at}
@@ -34,6 +35,7 @@ pub record KeepsPlace (x : Image) (inum : Option ℕ) (bytes : List ℕ) (z : Im
   pub log : IsTrue (is_lawful_log z)
   pub sound : IsSound (recovered z)
   pub files : MayLeave (files_of x) inum bytes (files_of (recovered z))
+  pub unshown : KeepsUnshown x (recovered z)
 
 -- However a put at one place that begins over k ends, with m: a stop at any moment of it leaves
 -- nothing else, and the disk is the same one. `x` is the image into which the bytes are put.
@@ -52,13 +54,14 @@ MayStop twice x inum bytes y =
 
 -- Recovery of z gives a sound image that a put into image x may leave: the files as before, or with
 -- the first of the bytes in a file. Over a file, where there is room twice and a number is free,
--- the old bytes are there, or the new ones, all of them.
+-- the old bytes are there, or the new ones, all of them. What no file shows stays.
 pub record KeepsPut (twice : Bool) (x : Image) (inum : Option ℕ) (bytes : List ℕ) (z : Image)
     : Type 0 where
   pub log : IsTrue (is_lawful_log z)
   pub sound : IsSound (recovered z)
   pub files : MayStop twice x inum bytes (recovered z)
   pub either : IsNeverNeither inum twice (files_of x) bytes (files_of (recovered z))
+  pub unshown : KeepsUnshown x (recovered z)
 
 -- that is left of bytes put into the image of a disk without a fault
 abbrev pub KeepsPutOf : Image → Option ℕ → List ℕ → Image → Type 0

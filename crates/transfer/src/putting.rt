@@ -31,7 +31,7 @@ use wal::DeviceFault;
 /// call is a whole operation (the xv6 book, the chapter "File system": "Logging layer"). So a stop at any moment
 /// leaves, once recovered, the files as they were, or with the old file, or a new one, in which the
 /// first of the bytes stand; of a disk that held writes back at the start, a stop since the sync with
-/// which the recovery began.
+/// which the recovery began. What no file shows stays, as in `calls::call`.
 ///
 /// Over a file there is a way round, where the free blocks have room for both and a number is free:
 /// the bytes go into a new file first, all of them, and it is removed once the old one has them, too.
@@ -82,7 +82,7 @@ pub fn put_disk<D: Disk + Drop, P: Meter, O: Write>(
         Ok(kernel) => kernel,
         Err((fault, disk)) => return (Err(PutRefusal::Unopened(fault)), disk),
     };
-    let put = put(alloc, &mut kernel, bytes, inum, twice, progress);
+    let put = put(&mut kernel, alloc, bytes, inum, twice, progress);
     progress.ended();
     match put {
         Ok(number) => {
@@ -97,8 +97,8 @@ pub fn put_disk<D: Disk + Drop, P: Meter, O: Write>(
 // Puts bytes through a kernel, over a file by way of a new one where there is room `twice`. The number of
 // their file.
 fn put<D: Disk, P: Meter>(
-    alloc: Global,
     kernel: &mut Sole<D>,
+    alloc: Global,
     bytes: &[u8],
     inum: Option<u32>,
     twice: bool,

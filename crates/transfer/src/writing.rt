@@ -55,7 +55,7 @@ pub fn put_bytes<D: Disk, P: Meter>(
     match inum {
         Some(number) => {
             if twice {
-                go_round(alloc, kernel, bytes, number, progress)
+                go_round(kernel, alloc, number, bytes, progress)
             } else {
                 replace(alloc, kernel, bytes, number, progress)
             }
@@ -68,10 +68,10 @@ pub fn put_bytes<D: Disk, P: Meter>(
 // old one is emptied, and is removed once the old one has them, too. Where each number is taken
 // there is no way round.
 fn go_round<D: Disk, P: Meter>(
-    alloc: Global,
     kernel: &mut Sole<D>,
-    bytes: &[u8],
+    alloc: Global,
     number: u32,
+    bytes: &[u8],
     progress: &mut P,
 ) -> Result<Outcome, CallFault>
     requires ready { MayCall D.Disk (2 ^ 31) kernel.old }
@@ -118,7 +118,7 @@ fn add<D: Disk, P: Meter>(
     let Some(number) = create(kernel, NEW_KIND)? else {
         return Ok(Outcome::NoInode);
     };
-    if append_all(alloc, kernel, bytes, number, progress)? {
+    if append_all(kernel, alloc, number, bytes, progress)? {
         return Ok(Outcome::Put(number));
     }
     remove(kernel, number)?;
@@ -172,15 +172,15 @@ fn refill<D: Disk, P: Meter>(
         kernel.old kernel.new }
 {
     empty(kernel, number)?;
-    append_all(alloc, kernel, bytes, number, progress)
+    append_all(kernel, alloc, number, bytes, progress)
 }
 
 // Writes bytes into an empty file, piece by piece. False where no block was free for all.
 fn append_all<D: Disk, P: Meter>(
-    alloc: Global,
     kernel: &mut Sole<D>,
-    bytes: &[u8],
+    alloc: Global,
     number: u32,
+    bytes: &[u8],
     progress: &mut P,
 ) -> Result<bool, CallFault>
     requires ready { MayCall D.Disk (2 ^ 31 + 2 ^ 16 + 1) kernel.old }

@@ -15,7 +15,8 @@ use Rattle.calls.specs.Calls.{Calls, KeepsCall, image_on}
 use Rattle.calls.specs.Lemmas.Reaching.{reached_ports, reached_then}
 use Rattle.calls.specs.Stepping.{Plain, plain_herald, plain_queues}
 use Rattle.calls.proofs.Called.{IsCall, call_looks, call_names, call_opening, call_reached, is_answered, refused_reads, rests_again}
-use Rattle.calls.proofs.Leaving.{call_leaves, may_given}
+use Rattle.calls.proofs.Idle.{nothing_logged}
+use Rattle.calls.proofs.Leaving.{call_leaves, call_unshown, may_given}
 use Rattle.calls.proofs.Rest.{call_made}
 use Rattle.calls.proofs.Unanswered.{EndsSo, call_ends, has_failed, is_faultless, is_handed_in}
 use Rattle.calls.proofs.calling.call.Given.{Over}
@@ -94,11 +95,13 @@ returns-in-Some-poll g c =
     let done = is_answered g.D.Disk op r k m call (search rules) in
     let same = sym c.in-Some-poll.is ∙ c.poll.ensures.oldest ∙ ap first_in done.only in
     let answer : c.in-Some-poll.answer ≡ done.answer = cc same in
+    let clear = nothing_logged g.D.Disk m c.known-3.ensures done.one done.idle (search rules) in
     record {
       rests = rests_again g.D.Disk op k m c.poll.new.self c.known-3.ensures done (search rules) c.poll.ensures.same c.poll.ensures.waiting
           (c.poll.ensures.polled ∙ ap (λ a. polled_after a (polled m.intake 0)) c.poll.ensures.oldest);
       calls = subst (λ n. Calls g.D.Disk.image op k n c.in-Some-poll.answer.reply) (sym c.poll.ensures.same)
-          (subst (λ a. Calls g.D.Disk.image op k (record m { intake = c.poll.new.self.intake }) a.reply) (sym answer) (call_made g.D.Disk g.met.D.Disk.has_now op r k m call (search rules) (search rules) done c.poll.new.self.intake));
+          (subst (λ a. Calls g.D.Disk.image op k (record m { intake = c.poll.new.self.intake }) a.reply) (sym answer) (call_made g.D.Disk g.met.D.Disk.has_now op r k m call (search rules) (search rules) done c.poll.new.self.intake
+          (call_unshown g.D.Disk g.met.D.Disk.has_now op r k m call (Ok done.answer.reply) (λ e reply. may_given op k m done e reply) g.met.D.Disk.counts_now clear)));
       refused = search rules;
       leaves = subst (λ n. LeavesOnly g.D.Disk.moment g.D.Disk.leaves k.store.volume.device n.store.volume.device (KeepsCall (image_on g.D.Disk.image k) op (Ok c.in-Some-poll.answer.reply))) (sym c.poll.ensures.same)
           (subst (λ a. LeavesOnly g.D.Disk.moment g.D.Disk.leaves k.store.volume.device m.store.volume.device (KeepsCall (image_on g.D.Disk.image k) op (Ok a.reply))) (sym answer)

@@ -2,16 +2,17 @@ use Rattle.std.proofs.Common.{◌≡◌, ◌∙◌, ◌+◌, ◌-◌, ◌*◌, �
 use Rattle.model.specs.Files.{file_in}
 use Rattle.model.specs.Layout.{form_of}
 use Rattle.model.specs.Lemmas.FileNumbers.{below_there}
-use Rattle.calls.specs.Files.{Appends, files_on}
+use Rattle.calls.specs.Files.{Appends, AppendsPart, files_on}
 use Rattle.calls.specs.Stopped.{AppendsFirst}
 use Rattle.calls.specs.Lemmas.Sizes.{there_of_size}
 use Rattle.calls.specs.Calls.{image_on}
 use Rattle.transfer.specs.Places.{put_at}
 use Rattle.transfer.specs.Stopped.{StaysPlace}
+use Rattle.transfer.specs.PutWriting.{PutsPart}
 use Rattle.transfer.proofs.AppendLemmas.{part_put, piece_first, piece_put, piece_room}
-use Rattle.transfer.proofs.CallLemmas.{answered_none, answered_then}
+use Rattle.transfer.proofs.CallLemmas.{answered_none, answered_then, leads_answered, leads_none}
 use Rattle.transfer.proofs.PieceLemmas.{piece_inside}
-use Rattle.transfer.proofs.PlaceLemmas.{empty_put}
+use Rattle.transfer.proofs.PlaceLemmas.{empty_put, put_loses_none}
 use Rattle.transfer.proofs.StopLemmas.{led_by_piece, stays_first, stays_none, stays_then}
 use Rattle.transfer.proofs.writing.append_all.Given.{Over}
 use Rattle.transfer.proofs.writing.append_all.Goals.{After-append}
@@ -38,7 +39,7 @@ module _ (g : Over) (c : After-append g) where
   stays : StaysPlace g.D.Disk (image_on g.D.Disk.image c.args.kernel.now) (Some c.args.number) c.args.bytes.now c.args.kernel.now c.append.new.kernel
   stays =
       stays_then g.D.Disk _ (Some c.args.number) _ _ c.loop-piece.kernel _ c.loop-piece.invariant.stays
-      (stays_first g.D.Disk _ (Some c.args.number) _ (AppendsFirst c.args.number piece) _ _ c.append.ensures.leaves c.append.ensures.stays c.append.ensures.reached
+      (stays_first g.D.Disk _ (Some c.args.number) _ (AppendsFirst c.args.number piece) _ _ c.append.ensures.leaves c.append.ensures.stays c.append.ensures.reached (leads_answered g.D.Disk _ _ c.loop-piece.invariant.answered)
       (λ new. led_by_piece _ (Some c.args.number) c.args.bytes.now c.args.number (refl, there) below _ new from piece c.loop-piece.invariant.files
       (piece_first (image_on g.D.Disk.image c.args.kernel.now) (image_on g.D.Disk.image c.loop-piece.kernel) c.args.number c.args.bytes.now from c.min-to.result below c.loop-piece.invariant.files (omega (arith, inside)) c.min-to.ensures)))
 
@@ -49,7 +50,7 @@ loop-piece-init g c =
       answered = answered_none g.D.Disk k c.requires.ready;
       calls = omega arith;
       files = sym (empty_put (files_on g.D.Disk.image k) c.args.number c.requires.empty);
-      stays = stays_none g.D.Disk (image_on g.D.Disk.image k) (Some c.args.number) c.args.bytes.now k c.rested.ensures (inl refl);
+      stays = stays_none g.D.Disk (image_on g.D.Disk.image k) (Some c.args.number) c.args.bytes.now k c.rested.ensures (leads_none _) (inl refl);
     }
 
 pub append-requires-clause-room : goal.append-requires-clause-room
@@ -65,13 +66,25 @@ append-requires-clause-room g c =
     (below_there (files_on d.image k) i (there_of_size _ 0 c.requires.empty)) before.files (omega (arith, inside)) c.min-to.ensures
     (form_of (image_on d.image m)) (form_of (image_on d.image k)) before.answered.form c.requires.short
 
+-- only the first of it was written
+part : (g : Over) (c : After-append g) → AppendsPart c.args.number (piece g c) (image_on g.D.Disk.image c.loop-piece.kernel) (image_on g.D.Disk.image c.append.new.kernel)
+    → PutsPart c.args.number c.args.bytes.now (image_on g.D.Disk.image c.args.kernel.now) (image_on g.D.Disk.image c.append.new.kernel)
+part g c appends =
+    let inside = inside g c in
+    part_put (image_on g.D.Disk.image c.args.kernel.now) (image_on g.D.Disk.image c.loop-piece.kernel) c.args.number c.args.bytes.now (from g c) c.min-to.result
+    (below g c) c.loop-piece.invariant.files (omega (arith, inside)) c.min-to.ensures (image_on g.D.Disk.image c.append.new.kernel) appends
+
 pub returns-then-not-branch-clause-puts : goal.returns-then-not-branch-clause-puts
 returns-then-not-branch-clause-puts g c =
     let at = (goal.at.returns-then-not-branch-clause-puts g c).After-append in
-    let inside = inside g at in
-    part_put (image_on g.D.Disk.image c.args.kernel.now) (image_on g.D.Disk.image c.loop-piece.kernel) c.args.number c.args.bytes.now (from g at) c.min-to.result
-    (below g at) c.loop-piece.invariant.files (omega (arith, inside)) c.min-to.ensures (image_on g.D.Disk.image c.append.new.kernel)
-    (subst (λ (all : Bool). Appends all c.args.number (piece g at) (image_on g.D.Disk.image c.loop-piece.kernel) (image_on g.D.Disk.image c.append.new.kernel)) c.if-not-branch.true c.in_ok-append.ensures.appends)
+    part g at (subst (λ (all : Bool). Appends all c.args.number (piece g at) (image_on g.D.Disk.image c.loop-piece.kernel) (image_on g.D.Disk.image c.append.new.kernel)) c.if-not-branch.true c.in_ok-append.ensures.appends)
+
+pub returns-then-not-branch-clause-answered : goal.returns-then-not-branch-clause-answered
+returns-then-not-branch-clause-answered g c =
+    let at = (goal.at.returns-then-not-branch-clause-answered g c).After-append in
+    let call = c.in_ok-append.ensures in
+    let part = part g at (subst (λ (all : Bool). Appends all c.args.number (piece g at) (image_on g.D.Disk.image c.loop-piece.kernel) (image_on g.D.Disk.image c.append.new.kernel)) c.if-not-branch.true call.appends) in
+    answered_then g.D.Disk _ c.loop-piece.kernel _ c.loop-piece.invariant.answered call.answered call.stays.opening (put_loses_none _ c.args.number _ _ part.files)
 
 pub loop-piece-preserved : goal.loop-piece-preserved
 loop-piece-preserved g c =
@@ -83,13 +96,15 @@ loop-piece-preserved g c =
     let call = c.in_ok-append.ensures in
     let inside = inside g at in
     let next : c.loop-piece.piece * 3072 + 3072 ≡ (c.loop-piece.piece + 1) * 3072 = omega arith in
+    let files : files_on g.D.Disk.image e ≡ put_at (files_on g.D.Disk.image k) c.args.number (take ((c.loop-piece.piece + 1) * 3072) c.args.bytes.now)
+    = piece_put (image_on g.D.Disk.image k) (image_on g.D.Disk.image m) c.args.number c.args.bytes.now (from g at) c.min-to.result
+    (below g at) before.files (omega (arith, inside)) c.min-to.ensures (image_on g.D.Disk.image e)
+    (subst (λ (all : Bool). Appends all c.args.number (piece g at) (image_on g.D.Disk.image m) (image_on g.D.Disk.image e)) c.if-not-branch.false call.appends)
+    ∙ ap (λ (n : ℕ). put_at (files_on g.D.Disk.image k) c.args.number (take n c.args.bytes.now)) next in
     record {
-      answered = answered_then g.D.Disk k m e before.answered call.answered call.stays.opening;
+      answered = answered_then g.D.Disk k m e before.answered call.answered call.stays.opening (put_loses_none _ c.args.number _ _ files);
       calls = omega (arith, call.answered.one_more, before.calls);
-      files = piece_put (image_on g.D.Disk.image k) (image_on g.D.Disk.image m) c.args.number c.args.bytes.now (from g at) c.min-to.result
-          (below g at) before.files (omega (arith, inside)) c.min-to.ensures (image_on g.D.Disk.image e)
-          (subst (λ (all : Bool). Appends all c.args.number (piece g at) (image_on g.D.Disk.image m) (image_on g.D.Disk.image e)) c.if-not-branch.false call.appends)
-          ∙ ap (λ (n : ℕ). put_at (files_on g.D.Disk.image k) c.args.number (take n c.args.bytes.now)) next;
+      files = files;
       stays = stays g at;
     }
 

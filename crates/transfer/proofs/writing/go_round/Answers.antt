@@ -2,12 +2,14 @@ use Rattle.std.proofs.Common.{◌≡◌, ◌∙◌, Bool, true, None, Some, refl
 use Rattle.std.proofs.lemmas.Result.{IfErr-weaker, IfOk-weaker, err_from_is_err_and, on_ok_weaker}
 use Rattle.model.specs.Files.{Files, file_in, files_of}
 use Rattle.calls.specs.Files.{files_on}
+use Rattle.calls.specs.Stopped.{Removes}
+use Rattle.transfer.proofs.PlaceLemmas.{put_loses_none}
 use Rattle.calls.specs.Calls.{image_on}
 use Rattle.transfer.specs.Places.{MayPut, PutsAll, put_at}
 use Rattle.transfer.specs.PutWriting.{Comes, FindsNone, Puts}
 use Rattle.transfer.specs.Rounds.{HasSpare}
 use Rattle.transfer.specs.Stopped.{MayLeave, StaysPut}
-use Rattle.transfer.proofs.CallLemmas.{answered_both, answered_none, cut_after}
+use Rattle.transfer.proofs.CallLemmas.{answered_both, answered_none, answered_then, cut_after, leads_answered, leads_none}
 use Rattle.transfer.proofs.RoundLemmas.{all_first, comes_alone, cut_round, old_beside, round_place, round_removed, round_then, spare_removed, spare_there}
 use Rattle.transfer.proofs.writing.go_round.Given.{Over}
 use Rattle.transfer.proofs.writing.go_round.Goals.{After-add, After-refill, After-remove, After-replace}
@@ -15,7 +17,7 @@ use Rattle.transfer.proofs.writing.go_round.Goals as goal
 
 -- the new file is being made
 added : (g : Over) (c : After-add g) → StaysPut g.D.Disk true (image_on g.D.Disk.image c.args.kernel.now) (Some c.args.number) c.args.bytes.now c.args.kernel.now c.add.new.kernel
-added g c = round_place g.D.Disk c.args.number c.args.bytes.now _ c.requires.there _ None _ _ (λ y may. inl may) c.add.ensures.stays
+added g c = round_place g.D.Disk c.args.number c.args.bytes.now _ c.requires.there _ None _ _ (leads_none _) (λ y may. inl may) c.add.ensures.stays
 
 -- no number is free, and the old file alone is written
 module _ (g : Over) (c : After-replace g) where
@@ -24,7 +26,7 @@ module _ (g : Over) (c : After-replace g) where
 
   alone : StaysPut g.D.Disk true (image_on g.D.Disk.image c.args.kernel.now) (Some c.args.number) c.args.bytes.now c.add.new.kernel c.replace.new.kernel
   alone =
-      round_place g.D.Disk c.args.number c.args.bytes.now _ c.requires.there (image_on g.D.Disk.image c.add.new.kernel) (Some c.args.number) _ _
+      round_place g.D.Disk c.args.number c.args.bytes.now _ c.requires.there (image_on g.D.Disk.image c.add.new.kernel) (Some c.args.number) _ _ (leads_answered g.D.Disk _ _ c.in_ok-spare.ensures.answered)
       (λ y may. inr (inr (none.full, subst (λ (f : Files). MayLeave f (Some c.args.number) c.args.bytes.now (files_of y)) none.files may))) c.replace.ensures.stays
 
 -- the new file has all bytes, and the old one is written
@@ -37,7 +39,7 @@ module _ (g : Over) (c : After-refill g) where
 
   refilled : StaysPut g.D.Disk true (image_on g.D.Disk.image c.args.kernel.now) (Some c.args.number) c.args.bytes.now c.add.new.kernel c.refill.new.kernel
   refilled =
-      round_place g.D.Disk c.args.number c.args.bytes.now _ c.requires.there (image_on g.D.Disk.image c.add.new.kernel) (Some c.args.number) _ _
+      round_place g.D.Disk c.args.number c.args.bytes.now _ c.requires.there (image_on g.D.Disk.image c.add.new.kernel) (Some c.args.number) _ _ (leads_answered g.D.Disk _ _ c.in_ok-spare.ensures.answered)
       (λ y may. inr (inl (image_on g.D.Disk.image c.add.new.kernel, spared, may))) c.refill.ensures.stays
 
 -- and has them, too, and the new one is removed
@@ -45,10 +47,15 @@ module _ (g : Over) (c : After-remove g) where
   filled : files_on g.D.Disk.image c.refill.new.kernel ≡ put_at (files_on g.D.Disk.image c.add.new.kernel) c.args.number c.args.bytes.now
   filled = subst (λ (all : Bool). Puts all c.args.number c.args.bytes.now (image_on g.D.Disk.image c.add.new.kernel) (image_on g.D.Disk.image c.refill.new.kernel)) c.if-not-branch.false c.in_ok-refill.ensures.puts
 
+  put_round : PutsAll (files_on g.D.Disk.image c.args.kernel.now) None c.args.bytes.now (files_on g.D.Disk.image c.add.new.kernel) c.in-Put.spare
+      → Removes c.in-Put.spare (files_on g.D.Disk.image c.refill.new.kernel) (files_on g.D.Disk.image c.remove.new.kernel) → files_on g.D.Disk.image c.remove.new.kernel ≡ put_at (files_on g.D.Disk.image c.args.kernel.now) c.args.number c.args.bytes.now
+  put_round put removes =
+      removes ∙ spare_removed _ (files_on g.D.Disk.image c.add.new.kernel) c.in-Put.spare c.args.number c.args.bytes.now put.place.free c.requires.there put.files _ c.args.bytes.now filled
+
   removed : PutsAll (files_on g.D.Disk.image c.args.kernel.now) None c.args.bytes.now (files_on g.D.Disk.image c.add.new.kernel) c.in-Put.spare
       → StaysPut g.D.Disk true (image_on g.D.Disk.image c.args.kernel.now) (Some c.args.number) c.args.bytes.now c.refill.new.kernel c.remove.new.kernel
   removed put =
-      round_removed g.D.Disk c.args.number c.args.bytes.now (image_on g.D.Disk.image c.args.kernel.now) c.requires.there (image_on g.D.Disk.image c.add.new.kernel) (record { number = c.in-Put.spare; put = put }) c.refill.new.kernel c.remove.new.kernel filled c.remove.ensures.leaves c.remove.ensures.stays c.remove.ensures.reached
+      round_removed g.D.Disk c.args.number c.args.bytes.now (image_on g.D.Disk.image c.args.kernel.now) c.requires.there (image_on g.D.Disk.image c.add.new.kernel) (record { number = c.in-Put.spare; put = put }) c.refill.new.kernel c.remove.new.kernel filled c.remove.ensures.leaves c.remove.ensures.stays c.remove.ensures.reached (leads_answered g.D.Disk _ _ (answered_both g.D.Disk _ _ _ c.in_ok-spare.ensures.answered c.in_ok-refill.ensures.answered))
 
 -- ---- what the calls require
 
@@ -103,11 +110,14 @@ unfolding spared
 returns-clause-comes g c =
     let at = goal.at.returns-clause-comes g c in
     let spared = spared g at.After-refill in
-    record {
-      place = (refl, c.requires.there);
-      files = c.in_ok-remove.ensures.removes
-          ∙ spare_removed _ (files_on g.D.Disk.image c.add.new.kernel) c.in-Put.spare c.args.number c.args.bytes.now spared.put.place.free c.requires.there spared.put.files _ c.args.bytes.now (filled g at.After-remove);
-    }
+    record { place = (refl, c.requires.there); files = put_round g at.After-remove spared.put c.in_ok-remove.ensures.removes }
+
+pub returns-clause-answered : goal.returns-clause-answered
+unfolding spared
+returns-clause-answered g c =
+    let at = goal.at.returns-clause-answered g c in
+    answered_then g.D.Disk _ c.refill.new.kernel _ (answered_both g.D.Disk _ _ _ c.in_ok-spare.ensures.answered c.in_ok-refill.ensures.answered) c.in_ok-remove.ensures.answered c.in_ok-remove.ensures.stays.opening
+    (put_loses_none _ c.args.number c.args.bytes.now _ (put_round g at.After-remove (spared g at.After-refill).put c.in_ok-remove.ensures.removes))
 
 -- ---- why one is not answered
 

@@ -4,8 +4,8 @@ use Rattle.calls.specs.Stopped.{Empties}
 use Rattle.calls.specs.Calls.{image_on}
 use Rattle.transfer.specs.Stopped.{StaysPlace}
 use Rattle.transfer.specs.PutWriting.{AreAnswered}
-use Rattle.transfer.proofs.CallLemmas.{Begins, answered_both, answered_none, answered_then, cut_behind, puts_behind}
-use Rattle.transfer.proofs.PlaceLemmas.{emptied_put}
+use Rattle.transfer.proofs.CallLemmas.{Begins, answered_both, answered_none, answered_then, cut_behind, leads_answered, leads_none, puts_behind}
+use Rattle.transfer.proofs.PlaceLemmas.{emptied_put, put_loses_none}
 use Rattle.transfer.proofs.StopLemmas.{led_behind, led_by_emptying, stays_behind, stays_first, stays_then}
 use Rattle.transfer.proofs.writing.refill.Given.{Over}
 use Rattle.transfer.proofs.writing.refill.Goals.{After-append_all, After-empty}
@@ -15,7 +15,7 @@ use Rattle.model.specs.Lemmas.FileNumbers.{below_there}
 -- the file was emptied
 emptied : (g : Over) (c : After-empty g) → StaysPlace g.D.Disk (image_on g.D.Disk.image c.args.kernel.now) (Some c.args.number) c.args.bytes.now c.args.kernel.now c.empty.new.kernel
 emptied g c =
-    stays_first g.D.Disk _ (Some c.args.number) c.args.bytes.now (Empties c.args.number) _ _ c.empty.ensures.leaves c.empty.ensures.stays c.empty.ensures.reached (λ new. led_by_emptying _ _ _ new c.requires.there)
+    stays_first g.D.Disk _ (Some c.args.number) c.args.bytes.now (Empties c.args.number) _ _ c.empty.ensures.leaves c.empty.ensures.stays c.empty.ensures.reached (leads_none _) (λ new. led_by_emptying _ _ _ new c.requires.there)
 
 -- and then bytes were put into it
 module _ (g : Over) (c : After-append_all g) where
@@ -27,7 +27,7 @@ module _ (g : Over) (c : After-append_all g) where
   }
 
   answered : AreAnswered g.D.Disk c.args.kernel.now c.empty.new.kernel
-  answered = answered_then g.D.Disk _ _ _ (answered_none g.D.Disk _ c.requires.ready) c.in_ok-empty.ensures.answered c.in_ok-empty.ensures.stays.opening
+  answered = answered_then g.D.Disk _ _ _ (answered_none g.D.Disk _ c.requires.ready) c.in_ok-empty.ensures.answered c.in_ok-empty.ensures.stays.opening (put_loses_none _ c.args.number _ _ begins.files)
 
 pub returns-clause-puts : goal.returns-clause-puts
 returns-clause-puts g c =
@@ -55,4 +55,4 @@ returns-clause-stays g c =
     let at = goal.at.returns-clause-stays g c in
     let begins = begins g at.After-append_all in
     stays_then g.D.Disk _ (Some c.args.number) _ _ c.empty.new.kernel _ (emptied g at.After-empty)
-    (stays_behind g.D.Disk _ (Some c.args.number) _ _ _ c.args.number (λ new. led_behind _ (Some c.args.number) c.args.bytes.now _ begins.place begins.below _ new begins.files) c.append_all.ensures.stays)
+    (stays_behind g.D.Disk _ (Some c.args.number) _ _ _ c.args.number (leads_answered g.D.Disk _ _ (answered g at.After-append_all)) (λ new. led_behind _ (Some c.args.number) c.args.bytes.now _ begins.place begins.below _ new begins.files) c.append_all.ensures.stays)

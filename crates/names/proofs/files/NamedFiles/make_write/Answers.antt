@@ -19,6 +19,7 @@ pub returns-in_default : goal.returns-in_default
 returns-in_default g c =
     let size : length c.args.write.entry ≡ 16 = first_of (search rules, grind (arith, common_steps)) in
     record {
+      plain = tt;
       writes = tt;
       refused = inl (short_keeps _ _ _ c.args.write _ _ c.in_ok-operation.ensures (c.in_default.not-Wrote 16) size c.in_ok-count.ensures.calls);
     }
