@@ -1,6 +1,6 @@
 -- A call of a kernel's only process, from its submission to its answer.
 use Rattle.std.proofs.Common.{◌≡◌, ◌∙◌, ◌<◌, ◌≤◌, ℕ, ◌+◌, ◌^◌, ◌-◌, true, false, List, [], ◌∷◌, ◌++◌, length, map, Option, Some, None, refl, sym, ap, subst, arith}
-use Rattle.std.specs.Prelude.{min, ◌==◌, if◌then◌else◌, option_map, slice_get}
+use Rattle.std.specs.Prelude.{min, ◌==◌, if◌then◌else◌, slice_get}
 use Rattle.std.specs.List.{list_all}
 use Rattle.std.proofs.lemmas.Bool.{and_parts}
 use Rattle.std.proofs.lemmas.List.{length-append, length-map, map-append, nil_from_length}
@@ -40,6 +40,7 @@ use Rattle.model.specs.declared.types.operations.Step.{Step}
 use Rattle.model.specs.declared.types.operations.Step.TheVariants as step
 use Rattle.kernel.specs.declared.class.OpClass.TheVariants as waiting_as
 use Rattle.kernel.specs.Moves.{MakesSteps}
+use Rattle.calls.specs.Lemmas.Entries.{last_same, replied}
 use Rattle.calls.specs.Calls.{Rests, call_count, is_look, is_own}
 use Rattle.calls.specs.Lemmas.Reaching.{reached_ports, reached_steps, reached_then}
 use Rattle.calls.specs.Stepping.{IsReached, Plain, plain_herald, plain_queues}
@@ -245,33 +246,11 @@ pub all_given : {D : Type 0} (k : Plain D) (c : Counts k) → length c.before + 
 all_given k c =
     sym (ap (λ (l : List Answer). length l) c.split ∙ length-append c.before (answers k.intake 0)) ∙ sym (length-map c.given (λ (a : Answer). Some a)) ∙ ap (λ (l : List (Option Answer)). length l) c.told ∙ length-map k.world.journal.list entry_answer
 
--- the last of a list
-last_of : {A : Type 0} → List A → A → A
-last_of [] d = d
-last_of (x ∷ xs) d = last_of xs x
-
-last_of_snoc : {A : Type 0} (xs : List A) (x d : A) → last_of (xs ++ x ∷ []) d ≡ x
-unfolding last_of
-last_of_snoc [] x d = refl
-last_of_snoc (y ∷ xs) x d = last_of_snoc xs x y
-
--- lists that are the same end with the same one
-pub last_same : {A : Type 0} (xs ys : List A) (x y : A) → xs ++ x ∷ [] ≡ ys ++ y ∷ [] → x ≡ y
-last_same xs ys x y is = sym (last_of_snoc xs x x) ∙ ap (λ (l : List _). last_of l x) is ∙ last_of_snoc ys y x
-
 -- a list of one
 only_one : {A : Type 0} (xs : List A) → length xs ≡ 1 → (x : A) × (xs ≡ x ∷ [])
 only_one [] one = absurd (cc one)
 only_one (x ∷ []) one = (x, refl)
 only_one (x ∷ (y ∷ xs)) one = absurd (cc one)
-
--- an entry tells the reply of its answer
-replied : (e : Entry) (a : Answer) → Some a ≡ entry_answer e → e.reply ≡ Some a.reply
-replied e a is = by_reply e.reply is
-  where
-    by_reply : (o : Option Reply) → Some a ≡ option_map (λ (r : Reply). record { seq = e.seq; reply = r; group = e.group }) o → o ≡ Some a.reply
-    by_reply None is = absurd (cc is)
-    by_reply (Some r) is = let same : a ≡ record { seq = e.seq; reply = r; group = e.group } = cc is in sym (ap (λ (b : Answer). Some b.reply) same)
 
 -- what waits to be fetched, once the operation is over
 pub record IsAnswered {D : Type 0} (op : Op) (k m : Plain D) : Type 0 where

@@ -21,11 +21,12 @@ use Rattle.history.specs.Keeps.{KeepsBetween}
 use Rattle.history.specs.Most.{most_of}
 use Rattle.history.specs.Lemmas.Kept.{kept-append}
 use Rattle.model.specs.declared.types.operations.Step.{Step}
+use Rattle.calls.specs.Lemmas.Entries.{last_same}
 use Rattle.calls.specs.declared.fault.CallFault.{CallFault}
 use Rattle.calls.specs.Calls.{KeepsCall, MayReply, image_on}
 use Rattle.calls.specs.Stepping.{Plain}
 use Rattle.calls.specs.Unshown.{KeepsUnshown}
-use Rattle.calls.proofs.Called.{IsAnswered, IsCall, call_lists, call_opening, call_runs, last_same}
+use Rattle.calls.proofs.Called.{IsAnswered, IsCall, call_lists, call_opening, call_runs}
 use Rattle.calls.proofs.Rest.{IsSettledDisk, kept_before, kept_marks, marks_before, settled_disk}
 use Rattle.calls.proofs.Unshown.{HasMarks, unshown_more, unshown_same}
 use Rattle.calls.proofs.Stages.{HasMore, ListIs}

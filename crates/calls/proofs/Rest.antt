@@ -1,22 +1,20 @@
 -- What the disk of a kernel of one process has while no operation is under way, and what a call makes
 -- of it.
-use Rattle.std.proofs.Common.{◌≡◌, ◌∙◌, ◌≤◌, ℕ, List, [], ◌∷◌, ◌++◌, length, Option, Some, None, sym, ap, subst}
+use Rattle.std.proofs.Common.{◌≡◌, ◌∙◌, ◌≤◌, ℕ, List, [], ◌∷◌, ◌++◌, length, Some, None, sym, ap, subst}
 use Rattle.std.specs.Prelude.{if◌then◌else◌, ◌==◌}
 use Rattle.blocks.specs.Disk.{Image, block_at}
 use Rattle.blocks.specs.declared.disk.Disk.{Ghosts}
 use Rattle.model.specs.declared.types.image.Form.{Form}
 use Rattle.model.specs.declared.types.operations.Entry.{Entry}
 use Rattle.model.specs.declared.types.operations.Op.{Op}
-use Rattle.model.specs.declared.types.operations.Reply.{Reply}
 use Rattle.model.specs.Crash.{Keeps}
-use Rattle.model.specs.Files.{Files, files_of}
-use Rattle.model.specs.Journal.{after_answer, and_then, kept, replay}
+use Rattle.model.specs.Files.{files_of}
+use Rattle.model.specs.Journal.{kept, replay}
 use Rattle.model.specs.Layout.{form_of, inode_count_of}
 use Rattle.model.specs.Log.{logged_count, recovered}
 use Rattle.model.specs.Operations.{after}
 use Rattle.model.specs.Soundness.{IsSound}
 use Rattle.model.specs.Lemmas.Log.{recovered_empty}
-use Rattle.model.specs.Lemmas.Runs.{and_then_some, replays_in_parts}
 use Rattle.model.specs.Lemmas.Frames.{form_same}
 use Rattle.ports.specs.declared.queues.QueueIntake.{QueueIntake}
 use Rattle.history.specs.declared.types.Phase.TheVariants as at
@@ -27,6 +25,7 @@ use Rattle.history.specs.Processes.{process}
 use Rattle.kernel.specs.Known.{Known}
 use Rattle.model.specs.declared.types.operations.Step.{Step}
 use Rattle.model.specs.declared.types.operations.Step.TheVariants as step
+use Rattle.calls.specs.Lemmas.Entries.{one_entry}
 use Rattle.calls.specs.Calls.{Calls, IsWhole, KeepsFiles, image_on}
 use Rattle.calls.specs.Stepping.{Plain, plain_herald, plain_queues}
 use Rattle.calls.specs.Unshown.{KeepsUnshown}
@@ -110,14 +109,6 @@ module _ {D N : Type 0} (disk : Ghosts D N) (k : Plain D) (was : IsSettledDisk d
         unshown = unshown_same (disk.image k.opening) (image_on disk.image k) (recovered z) (kept (inode_count_of (disk.image k.opening)) k.world.journal.list now.between.groups) was.size (marks_before now.between.groups now.between.low)
             (kept_marks (disk.image k.opening) k.world.journal.list z now.between.groups keeps) (cc same);
       }
-
--- one entry more of a replay
-pub one_entry : (form : Form) (start mid last : Files) (es : List Entry) (e : Entry) (r : Reply) → replay form start es ≡ Some mid → e.reply ≡ Some r → replay form start (es ++ e ∷ []) ≡ Some last → after form mid e.op r ≡ Some last
-one_entry form start mid last es e r before replied run =
-    let both = sym (replays_in_parts form start es (e ∷ [])) ∙ run in
-    let one : and_then (after_answer form mid e.op e.reply) (λ f. Some f) ≡ Some last = subst (λ (o : Option Files). and_then o (λ f. replay form f (e ∷ [])) ≡ Some last) before both in
-    let found = and_then_some (after_answer form mid e.op (Some r)) (λ f. Some f) last (subst (λ (o : Option Reply). and_then (after_answer form mid e.op o) (λ f. Some f) ≡ Some last) replied one) in
-    found.1 ∙ found.2
 
 module _ {D N : Type 0} (disk : Ghosts D N) (has_now : (d : D) → disk.leaves d (disk.moment d) (disk.image d)) (op : Op) (r : Step) (k m : Plain D) (call : IsCall disk op r k m) (so : r ≡ step.Answered) (well : m.store.volume.fault ≡ None) (is : IsAnswered op k m) where
   opening : m.opening ≡ k.opening

@@ -2,3 +2,4 @@
 pub mod Sizes
 pub mod Reaching
 pub mod Unshown
+pub mod Entries

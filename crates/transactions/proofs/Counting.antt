@@ -1,12 +1,11 @@
 -- What the queues of a process count, and the answer that waits once its operation is over.
 use Rattle.std.proofs.Common.{◌≡◌, ◌≢◌, ◌∙◌, ◌⊎◌, ◌<◌, ℕ, ◌+◌, ◌^◌, ◌-◌, zero, suc, List, [], ◌∷◌, ◌++◌, length, map, Option, Some, None, refl, sym, ap, subst, inl, inr, arith}
-use Rattle.std.specs.Prelude.{min, option_map, slice_get}
+use Rattle.std.specs.Prelude.{min, slice_get}
 use Rattle.std.proofs.lemmas.List.{length-append, length-map, map-append}
 use Rattle.blocks.specs.declared.disk.Disk.{Ghosts}
 use Rattle.model.specs.declared.types.operations.Answer.{Answer}
 use Rattle.model.specs.declared.types.operations.Entry.{Entry}
 use Rattle.model.specs.declared.types.operations.Op.{Op}
-use Rattle.model.specs.declared.types.operations.Reply.{Reply}
 use Rattle.model.specs.Journal.{own}
 use Rattle.ports.specs.History.{History, first_in}
 use Rattle.ports.specs.Lanes.{polled_after}
@@ -19,6 +18,7 @@ use Rattle.history.specs.Histories.{Owed, entry_answer, pending_at}
 use Rattle.history.specs.Lemmas.Lists.{own_mine, own_other}
 use Rattle.history.specs.Processes.{process}
 use Rattle.kernel.specs.Known.{Known}
+use Rattle.calls.specs.Lemmas.Entries.{last_same, replied}
 use Rattle.calls.specs.Stepping.{Plain, plain_herald, plain_queues}
 use Rattle.transactions.specs.Transactions.{IsFetched}
 use Rattle.transactions.proofs.Going.{LeavesOthers, Over}
@@ -84,19 +84,6 @@ pub all_given : (i : QueueIntake) (p : ℕ) (es : List Entry) (n b : ℕ) (c : C
 all_given i p es n b c =
     sym (ap (λ (l : List Answer). length l) c.split ∙ length-append c.before (answers i p)) ∙ sym (length-map c.given (λ (a : Answer). Some a)) ∙ ap (λ (l : List (Option Answer)). length l) c.told ∙ length-map (own p es) entry_answer
 
-last_of : {A : Type 0} → List A → A → A
-last_of [] d = d
-last_of (x ∷ xs) d = last_of xs x
-
-last_of_snoc : {A : Type 0} (xs : List A) (x d : A) → last_of (xs ++ x ∷ []) d ≡ x
-unfolding last_of
-last_of_snoc [] x d = refl
-last_of_snoc (y ∷ xs) x d = last_of_snoc xs x y
-
--- lists that are the same end with the same one
-last_same : {A : Type 0} (xs ys : List A) (x y : A) → xs ++ x ∷ [] ≡ ys ++ y ∷ [] → x ≡ y
-last_same xs ys x y is = sym (last_of_snoc xs x x) ∙ ap (λ (l : List _). last_of l x) is ∙ last_of_snoc ys y x
-
 -- a list of one
 only_one : {A : Type 0} (xs : List A) → length xs ≡ 1 → (x : A) × (xs ≡ x ∷ [])
 only_one [] one = absurd (cc one)
@@ -106,13 +93,6 @@ only_one (x ∷ (y ∷ xs)) one = absurd (cc one)
 pub none_left : {A : Type 0} (xs : List A) → length xs ≡ 0 → xs ≡ []
 none_left [] none = refl
 none_left (x ∷ xs) none = absurd (cc none)
-
-replied : (e : Entry) (a : Answer) → Some a ≡ entry_answer e → e.reply ≡ Some a.reply
-replied e a is = by_reply e.reply is
-  where
-    by_reply : (o : Option Reply) → Some a ≡ option_map (λ (r : Reply). record { seq = e.seq; reply = r; group = e.group }) o → o ≡ Some a.reply
-    by_reply None is = absurd (cc is)
-    by_reply (Some r) is = let same : a ≡ record { seq = e.seq; reply = r; group = e.group } = cc is in sym (ap (λ (b : Answer). Some b.reply) same)
 
 -- what waits to be fetched, once the operation of process p is over, which was handed in to k or stood
 -- at its beginning in it

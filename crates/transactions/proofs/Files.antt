@@ -5,14 +5,12 @@ use Rattle.std.proofs.lemmas.List.{get_or-set_other, get_or_past}
 use Rattle.blocks.specs.Block.{zero_block}
 use Rattle.blocks.specs.Disk.{Image, block_at}
 use Rattle.blocks.specs.declared.disk.Disk.{Ghosts}
-use Rattle.model.specs.declared.types.image.Form.{Form}
 use Rattle.model.specs.declared.types.operations.Entry.{Entry}
 use Rattle.model.specs.declared.types.operations.Op.{Op}
 use Rattle.model.specs.declared.types.operations.Reply.{Reply}
 use Rattle.model.specs.Files.{Files, files_of}
-use Rattle.model.specs.Journal.{after_answer, and_then, answered, kept, replay}
+use Rattle.model.specs.Journal.{answered, kept, replay}
 use Rattle.model.specs.Layout.{form_of, inode_count_of}
-use Rattle.model.specs.Lemmas.Runs.{and_then_some, replays_in_parts}
 use Rattle.model.specs.Log.{cleared}
 use Rattle.model.specs.Operations.{after}
 use Rattle.wal.specs.Machine.{is_quiet}
@@ -28,6 +26,7 @@ use Rattle.history.specs.Open.{IsEntry}
 use Rattle.history.specs.Processes.{World, process}
 use Rattle.kernel.specs.Awake.{AreIdle}
 use Rattle.kernel.specs.Known.{Known, IsCurrent}
+use Rattle.calls.specs.Lemmas.Entries.{one_entry}
 use Rattle.calls.specs.Stepping.{Plain, plain_herald, plain_queues}
 use Rattle.calls.specs.Calls.{image_on}
 use Rattle.transactions.specs.Transactions.{HasFiles}
@@ -71,14 +70,6 @@ told_files disk k known free =
     let es = k.world.journal.list in
     let all : answered es ≡ es = all_replied es (λ j e there none. (let under = known.unanswered j e there none in none_behind k.world e.pid under.group j (free e.pid) under.behind)) in
     (known.replays.files, record { run = ap (λ (l : List Entry). replay (form_of (disk.image k.opening)) (files_of (disk.image k.opening)) l) (sym all) ∙ known.replays.run })
-
--- one entry more of a replay
-pub one_entry : (form : Form) (start mid last : Files) (es : List Entry) (e : Entry) (r : Reply) → replay form start es ≡ Some mid → e.reply ≡ Some r → replay form start (es ++ e ∷ []) ≡ Some last → after form mid e.op r ≡ Some last
-one_entry form start mid last es e r before replied run =
-    let both = sym (replays_in_parts form start es (e ∷ [])) ∙ run in
-    let one : and_then (after_answer form mid e.op e.reply) (λ f. Some f) ≡ Some last = subst (λ (o : Option Files). and_then o (λ f. replay form f (e ∷ [])) ≡ Some last) before both in
-    let found = and_then_some (after_answer form mid e.op (Some r)) (λ f. Some f) last (subst (λ (o : Option Reply). and_then (after_answer form mid e.op o) (λ f. Some f) ≡ Some last) replied one) in
-    found.1 ∙ found.2
 
 -- the files with one operation more
 pub files_then : {D N : Type 0} (disk : Ghosts D N) (k m : Plain D) (e : Entry) (op : Op) (r : Reply) → m.opening ≡ k.opening → m.world.journal.list ≡ k.world.journal.list ++ e ∷ [] → e.op ≡ op → e.reply ≡ Some r → (f g : Files) → HasFiles disk.image k f → HasFiles disk.image m g → after (form_of (disk.image k.opening)) f op r ≡ Some g
