@@ -1,5 +1,5 @@
 // Kernels that threads share.
-ghost use Rattle.std.specs.Prelude.{◌≡◌, ◌<◌, ℕ, All};
+ghost use Rattle.std.specs.Prelude.{◌≡◌, ◌≤◌, ◌<◌, ℕ, All};
 ghost use Rattle.rings.specs.Boards.{KeeperOf, WatchOf, published};
 ghost use Rattle.ports.specs.History.{nothing_yet};
 ghost use Rattle.rings.specs.Callers.{IntakeFits, intake_count};
@@ -67,6 +67,81 @@ impl Gate for Reconciling {
     fn after(&self, _pid: u32) {}
 }
 
+fn zeroes() -> [AtomicU64; 4] {
+    [
+        AtomicU64::new(0),
+        AtomicU64::new(0),
+        AtomicU64::new(0),
+        AtomicU64::new(0),
+    ]
+}
+
+// What the steps of four processes pass, which two workers make: 0 and 2, and 1 and 3.
+#[derive(Drop)]
+struct Passing {
+    come: [AtomicU64; 4],
+    gone: [AtomicU64; 4],
+    broken: AtomicU64,
+}
+
+impl Passing {
+    fn new() -> Passing {
+        Passing {
+            come: zeroes(),
+            gone: zeroes(),
+            broken: AtomicU64::new(0),
+        }
+    }
+
+    // Waits for the first step that is counted here.
+    fn wait_for(&self, count: &AtomicU64) {
+        for _turn in 0..TURNS {
+            if count.load(Ordering::SeqCst) > 0 {
+                return;
+            }
+        }
+        self.broken.store(1, Ordering::SeqCst);
+    }
+
+    // Whether all waited in vain for nothing, and each step that came has gone.
+    fn is_kept(&self) -> bool {
+        let mut kept = self.broken.load(Ordering::SeqCst) == 0;
+        for pid in 0..4 {
+            let come = self.come[pid].load(Ordering::SeqCst);
+            kept &= come > 0 && come == self.gone[pid].load(Ordering::SeqCst);
+        }
+        kept
+    }
+}
+
+impl Gate for Passing {
+    fn before(&self, pid: u32) {
+        let mine = (pid % 4) as usize;
+        self.come[mine].fetch_add(1, Ordering::SeqCst);
+        // The worker's other process has no step under way.
+        let other = (mine + 2) % 4;
+        if self.come[other].load(Ordering::SeqCst) != self.gone[other].load(Ordering::SeqCst) {
+            self.broken.store(1, Ordering::SeqCst);
+        }
+        // The lock is free between two steps of a worker: the other worker makes one meanwhile.
+        match mine {
+            0 => self.wait_for(&self.come[1]),
+            1 => self.wait_for(&self.come[0]),
+            2 => self.wait_for(&self.gone[1]),
+            _ => self.wait_for(&self.gone[0]),
+        }
+    }
+
+    fn after(&self, pid: u32) {
+        let mine = (pid % 4) as usize;
+        self.gone[mine].fetch_add(1, Ordering::SeqCst);
+        if mine == 1 {
+            // Process 2 has the other worker.
+            self.wait_for(&self.come[2]);
+        }
+    }
+}
+
 // No gate.
 struct NoGate;
 
@@ -96,11 +171,13 @@ fn opened<'a>(
     }
 }
 
-/// Two workers reconcile, and then 1, 2 and 8 of them serve 32 processes. Prints what came of it.
+/// Two workers reconcile, and step four processes each in its turn; then 1, 2 and 8 workers serve 32
+/// processes. Prints what came of it.
 pub fn print_sharing<R: Print + AllocGlobal + Threads + Wait + Clock + Sync>(
     rt: &R,
 ) -> anyhow::Result<()> {
     print_meeting(rt)?;
+    print_passing(rt)?;
     for workers in [1, 2, 8] {
         let created = created_by(rt, workers)?;
         println!(rt; "{workers} workers: {created:?}")?;
@@ -113,18 +190,34 @@ fn print_meeting<R: Print + AllocGlobal + Threads + Wait + Clock + Sync>(
     rt: &R,
 ) -> anyhow::Result<()> {
     let gate = Reconciling::new();
-    let is_done = reconcile(rt, &gate)?;
+    let is_done = pass(rt, &gate, 2)?;
     let (first, second) = (gate.has_met(0), gate.has_met(1));
     println!(rt; "two workers: done {is_done}, met {first} and {second}")?;
     Ok(())
 }
 
-fn reconcile<R: AllocGlobal + Threads + Wait + Clock + Sync>(
+// Each step of a worker gets the lock anew, and is between its two calls of the gate.
+fn print_passing<R: Print + AllocGlobal + Threads + Wait + Clock + Sync>(
     rt: &R,
-    gate: &Reconciling,
-) -> Result<bool, MkfsFault> {
+) -> anyhow::Result<()> {
+    let gate = Passing::new();
+    let is_done = pass(rt, &gate, 4)?;
+    println!(rt;
+        "two workers, four processes: done {is_done}, kept {}",
+        gate.is_kept()
+    )?;
+    Ok(())
+}
+
+fn pass<R: AllocGlobal + Threads + Wait + Clock + Sync, G: Gate + Sync>(
+    rt: &R,
+    gate: &G,
+    processes: u32,
+) -> Result<bool, MkfsFault>
+    requires { (1 ≤ processes) × (processes ≤ 32) }
+{
     match new_image(rt.alloc()) {
-        Ok(disk) => Ok(serve_two(rt, disk, gate)),
+        Ok(disk) => Ok(serve_by_two(rt, disk, gate, processes)),
         Err(fault) => Err(fault),
     }
 }
@@ -141,20 +234,23 @@ fn created_by<R: AllocGlobal + Threads + Wait + Clock + Sync>(
     }
 }
 
-// Serves a kernel of two processes with two workers, whose shutdown is asked for before. Whether
+// Serves a kernel of so many processes with two workers, whose shutdown is asked for before. Whether
 // that was done.
-fn serve_two<R: AllocGlobal + Threads + Wait + Clock + Sync>(
+fn serve_by_two<R: AllocGlobal + Threads + Wait + Clock + Sync, G: Gate + Sync>(
     rt: &R,
     disk: MemDisk,
-    gate: &Reconciling,
-) -> bool {
+    gate: &G,
+    processes: u32,
+) -> bool
+    requires { (1 ≤ processes) × (processes ≤ 32) }
+{
     let (Ok((intake, _callers)), Ok((board, keeper, watches))) = (
-        rings(rt.alloc(), 2),
+        rings(rt.alloc(), processes),
         Board::new(rt.alloc(), 1),
     ) else {
         return false;
     };
-    match opened(rt.alloc(), disk, intake, &board, keeper, 2) {
+    match opened(rt.alloc(), disk, intake, &board, keeper, processes) {
         Some(kernel) => {
             shut(&board, watches);
             let (done, _kernel) = serve_while(rt, kernel, 2, gate, |_serving| ());
