@@ -1,18 +1,24 @@
 //! Programs that stand on these crates, as examples. With the word `using` it does what docs/USING.md
 //! shows: an image is made and opened, operations are called one after the other, and two processes
 //! take turns up to a stop. With `names` it makes, finds and unlinks names in a directory, and stops
-//! a link before each of its writes. With no word it does both.
+//! a link before each of its writes. With `transactions` one is made to its end, stopped before each of
+//! its writes, given up, and made too large for the log. With no word it does all three.
 #![tactic(auto)]
 
 mod calling;
+mod filling;
+mod keeping;
 mod knowing;
 mod making;
 mod naming;
+mod pairing;
 mod stopping;
 mod stops;
 mod turning;
 mod using;
 
+use crate::filling::print_full;
+use crate::keeping::{print_abandoned, print_stopped};
 use crate::naming::print_names;
 use crate::using::print_using;
 use anyhow::bail;
@@ -25,7 +31,8 @@ fn main(rt: HostRuntime) -> anyhow::Result<()> {
         Some(word) => print_part(&rt, rt.alloc(), word.as_str()),
         None => {
             print_using(&rt, rt.alloc())?;
-            print_names(&rt, rt.alloc())
+            print_names(&rt, rt.alloc())?;
+            print_transactions(&rt, rt.alloc())
         }
     }
 }
@@ -34,6 +41,13 @@ fn print_part(rt: &impl Print, alloc: Global, part: &str) -> anyhow::Result<()> 
     match part {
         "using" => print_using(rt, alloc),
         "names" => print_names(rt, alloc),
-        _ => bail!("the word is using or names"),
+        "transactions" => print_transactions(rt, alloc),
+        _ => bail!("the word is using, names or transactions"),
     }
+}
+
+fn print_transactions(rt: &impl Print, alloc: Global) -> anyhow::Result<()> {
+    print_stopped(rt, alloc)?;
+    print_abandoned(rt, alloc)?;
+    print_full(rt, alloc)
 }

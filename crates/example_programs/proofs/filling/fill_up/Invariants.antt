@@ -1,7 +1,7 @@
 use Rattle.std.proofs.Common.{◌+◌, ◌<◌}
 use Rattle.calls.specs.Calls.{call_count}
 use Rattle.transactions.specs.Transactions.{IsInside}
-use Rattle.test_transactions.proofs.filling.fill_up.Given as goal
+use Rattle.example_programs.proofs.filling.fill_up.Given as goal
 
 -- the transaction is under way, and each write was one call
 abbrev pub invariant-loop-third : goal.invariant-loop-third

@@ -3,7 +3,7 @@ ghost use Rattle.std.specs.Prelude.{◌≡◌, ◌+◌, ◌<◌, OnOk};
 ghost use Rattle.calls.specs.Calls.{call_count};
 ghost use Rattle.transactions.specs.Transactions.{IsInside};
 
-use crate::making::{new_disk, open, print_file};
+use crate::pairing::{new_disk, open, print_file};
 use anyhow::bail;
 use blocks::Disk;
 use model::content::Content;

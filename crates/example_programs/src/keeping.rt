@@ -3,7 +3,7 @@ ghost use Rattle.std.specs.Prelude.{◌≡◌};
 ghost use Rattle.calls.specs.Calls.{call_count};
 ghost use Rattle.transactions.specs.Transactions.{Rests};
 
-use crate::making::{new_disk, open, print_file};
+use crate::pairing::{new_disk, open, print_file};
 use anyhow::bail;
 use blocks::{Disk, FaultyDisk, Kind};
 use model::content::Content;
@@ -32,7 +32,7 @@ fn make_file<D: Disk>(
 
 /// Stops the transaction before each of its writes, until one is made to its end, and prints what
 /// each leaves.
-pub fn print_stops(rt: &impl Print, alloc: Global) -> anyhow::Result<()> {
+pub fn print_stopped(rt: &impl Print, alloc: Global) -> anyhow::Result<()> {
     for write in 1..=MOST_WRITES {
         let disk = FaultyDisk::new(new_disk(alloc)?, write, Kind::WriteOld);
         let mut kernel = open(alloc, disk)?;
