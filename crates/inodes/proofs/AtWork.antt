@@ -1,6 +1,6 @@
 -- A step of a process that works on its inode behind its turn: what it does, and that it promises so.
 use Rattle.std.proofs.Common.{◌≡◌, ◌≢◌, ℕ, ◌<◌, true, List, length, set, refl, sym, ◌∙◌, ap, subst, Option, Some, None}
-use Rattle.inodes.specs.Common.{AreLooking, asked_by, block_at_stage, claim_by, claim_of, Claims, claims_of, current_of, fault_of_task, Files, FilesThen, FitsHeld, form_of, Ghosts, Goes, Grip, grip_by, grip_of, grips_of, HasLock, HasSlot, Image, is_made, IsClaimedNow, IsHeldByAnother, IsStore, KeepsTable, LeavesNumber, locked_grip, LoggedAt, LooksAt, Marks, no_task, Op, Reads, Reply, reply_at_turn, SameGroups, set-get_or, Stage, Stands, StaysForOthers, Steps, steps_left, StoreState, super_in, TableState, task, TaskProgress, TaskState, VolumeState, Waits, Why, with_grip}
+use Rattle.inodes.specs.Common.{AreLooking, asked_by, block_at_stage, claim_by, claim_of, Claims, claims_of, current_of, fault_of_task, Files, FilesThen, FitsHeld, form_of, Ghosts, Goes, Grip, grip_by, grip_of, grips_of, HasLock, HasSlot, Image, is_made, IsClaimedNow, IsHeldByAnother, IsStore, KeepsTable, LeavesNumber, locked_grip, LoggedAt, LooksAt, Marks, no_task, Op, Reads, Reply, reply_at_turn, SameGroups, set-get_or, Stage, Stands, StaysForOthers, Steps, steps_left, StoreState, super_in, TableState, task, TaskProgress, TaskState, VolumeState, Waits, Why, with_grip, LogsAtMost, most_logged}
 use Rattle.inodes.specs.Store.{FitsFiles}
 use Rattle.inodes.specs.Lemmas.Holding.{claimed_now}
 use Rattle.inodes.proofs.Looking.{Stepped, store_stepped, steps_stepped}
@@ -58,6 +58,7 @@ module _ {D N : Type 0} (disk : Ghosts D N) (s : StoreState D) (p k i : ℕ) (he
       pub numbers : tab.inode_count ≡ count
       pub form : tab.form ≡ s.table.form
       pub groups : SameGroups s.volume.log w.log
+      pub logs : LogsAtMost (most_logged s.table.form its) s.volume.log p w.log
       pub marks : Marks None cur now
       pub keeps : KeepsUsed count i claims cur now
       pub table : KeepsTable s.table tab p (grips_of s.tasks) (grips_of s.tasks) now
@@ -102,6 +103,7 @@ module _ {D N : Type 0} (disk : Ghosts D N) (s : StoreState D) (p k i : ℕ) (he
         numbers = ap (λ (b : List ℕ). (super_in b).ninodes) does.marks.untouched.super;
         reads = does.reads;
         groups = does.groups;
+        logs = does.logs;
         marks = subst (λ (o : Option Reply). Marks o cur now) (sym does.late) does.marks;
         files = files_then;
         alone = works.alone;

@@ -1,8 +1,8 @@
 -- What a step of a task makes of a store.
-use Rattle.std.proofs.Common.{◌≡◌, ◌≢◌, ℕ, ◌<◌, true, false, List, length, length-set, set, refl, sym, ◌∙◌, ap, subst, arith, ⊎_elim, Option, Some, None}
+use Rattle.std.proofs.Common.{◌≡◌, ◌≢◌, ℕ, ◌<◌, true, false, List, length, length-set, set, refl, sym, ◌∙◌, ap, subst, arith, ⊎_elim, Option, Some, None, inl}
 use Rattle.inodes.specs.Store.{FitsFiles}
 use Rattle.std.specs.Prelude.{IfNone}
-use Rattle.inodes.specs.Common.{Agrees, AreLooking, asked_by, cases_eq, claim_of, claims_of, copy_at, current_of, DeviceFault, Dinode, fault_of_task, Files, FilesThen, FitsHeld, Form, form_of, form_same, get_or-set_other, get_or-set_same, Ghosts, Goes, Grip, grip_by, grip_of, grips_of, groups_same, HasAllRead, HasFiles, HasLock, HasSlot, HaveLogged, held_alike, Image, inode_count_of, is_made, is_making, is_over, IsAtRead, IsStore, IsTaking, IsTruncating, IsWriting, KeepsTable, LeavesLate, locked_grip, LoggedAt, LogState, LooksAt, Marks, no_task, Op, Reads, reply_at_turn, SameGroups, Shown, ShowsSame, Stage, Stands, StaysForOthers, Steps, steps_left, StoreState, TableIs, task, TaskProgress, TaskState, Waits, WasAnswered, with_grip}
+use Rattle.inodes.specs.Common.{Agrees, AreLooking, asked_by, cases_eq, claim_of, claims_of, copy_at, current_of, DeviceFault, Dinode, fault_of_task, Files, FilesThen, FitsHeld, Form, form_of, form_same, get_or-set_other, get_or-set_same, Ghosts, Goes, Grip, grip_by, grip_of, grips_of, groups_same, HasAllRead, HasFiles, HasLock, HasSlot, HaveLogged, held_alike, Image, inode_count_of, is_made, is_making, is_over, IsAtRead, IsStore, IsTaking, IsTruncating, IsWriting, KeepsTable, LeavesLate, locked_grip, LoggedAt, LogState, LooksAt, Marks, no_task, Op, Reads, reply_at_turn, SameGroups, Shown, ShowsSame, Stage, Stands, StaysForOthers, Steps, steps_left, StoreState, TableIs, task, TaskProgress, TaskState, Waits, WasAnswered, with_grip, LogsAtMost, most_logged}
 use Rattle.inodes.specs.Lemmas.Holding.{claim_stays}
 use Rattle.inodes.specs.Lemmas.Faults.{where_none, if_none, if_some}
 use Rattle.inodes.proofs.Agreeing.{agrees_now}
@@ -29,6 +29,7 @@ pub record Stepped {D N : Type 0} (disk : Ghosts D N) (s : StoreState D) (p i : 
   pub numbers : inode_count_of (current_of disk.image t.volume) ≡ inode_count_of (current_of disk.image s.volume)
   pub reads : Reads disk s r t
   pub groups : SameGroups s.volume.log t.volume.log
+  pub logs : LogsAtMost (most_logged s.table.form its) s.volume.log p t.volume.log
   pub marks : Marks (reply_at_turn r) (current_of disk.image s.volume) (current_of disk.image t.volume)
   pub files : (files : Files) → FitsFiles disk.image s files → FilesThen (form_of (current_of disk.image s.volume)) its r files (FitsFiles disk.image t)
   -- no other process has that number's lock, and the task holds no other number
@@ -199,6 +200,7 @@ module _ {D N : Type 0} (disk : Ghosts D N) (s : StoreState D) (p i : ℕ) (op :
         form = stepped.form;
       };
       groups = stepped.groups;
+      logs = stepped.logs;
       marks = stepped.marks;
       waits = waits;
       reads = stepped.reads;
@@ -237,6 +239,7 @@ module _ {D N : Type 0} (disk : Ghosts D N) (s : StoreState D) (p i : ℕ) (op :
       numbers = ap inode_count_of same_current;
       reads = looked.reads;
       groups = subst (λ (l : LogState). SameGroups s.volume.log l) (sym same_log) (groups_same s.volume.log);
+      logs = inl same_log;
       marks = subst (λ (x : Image). Marks (reply_at_turn r) cur x) (sym same_current) (marks_same (reply_at_turn r) cur makes);
       files = files;
       alone = looked.alone;

@@ -2,7 +2,7 @@
 use Rattle.std.proofs.Common.{◌≡◌, ◌≢◌, ℕ, zero, suc, ◌-◌, ◌*◌, ◌/◌, ◌≤◌, ◌<◌, true, ltb, List, [], ◌∷◌, length, set, replicate, refl, sym, ◌∙◌, ap, subst, ⊎_elim, arith, Option, Some, None}
 use Rattle.std.specs.Prelude.{IsTrue, slice_index}
 use Rattle.std.proofs.lemmas.List.{length-set}
-use Rattle.inodes.specs.Common.{address_in, ahead_of, ahead_root, AreLooking, asked_by, at_hand, between, block_at, both_of, branch_of, bytes_by, bytes_in, CanBegin, cases_eq, Claim, claim_by, claim_fits, claim_of, Claims, claims_of, copy_at, count_of, Create, depths, Dinode, Extent, extent_of, file_in, Files, first_left, first_stage, Fits, FitsHeld, FitsThen, Form, form_of, form_same, free_tells, Freeing, frees, get_or-set_other, get_or-set_same, Grip, grip, grip_by, grip_of, grips_of, grows, Growth, growth_of, hand_in, HasClaimed, HasFiles, HasGivenUp, HasLoggedWrite, HasSameFile, Held, held_alike, held_of, held_outside, Image, inode_block, inode_count_of, inode_of-with_inode_other, inode_same, is_among, is_kind, is_number, IsApart, IsClaimedNow, IsDinode, IsHeldIn, IsInHand, IsMapped, IsPlaced, IsSameOutsideLog, IsWriting, Keeps, KeepsUsedInodes, last_fields, last_inode, leads_still, locked_grip, LogState, LooksAt, ltb-true, mapped, MayRead, named_held, names_claimed, names_left, needed_within, new_inode, new_table, no_task, Op, part_of, Read, Remove, resting_may_be_read, root_of, same_keeps, SameInside, Stage, Stat, StaysHeld, super_of, TableIs, TableState, taken_by, taken_owned, task, TaskState, Trunc, TruncAt, unmarked, used_by, way_of, whole_names, with_inode, with_inode_bytes, without_bit, Write, write_back_rests, WriteState}
+use Rattle.inodes.specs.Common.{address_in, ahead_of, ahead_root, AreLooking, asked_by, at_hand, between, block_at, both_of, branch_of, bytes_by, bytes_in, CanBegin, cases_eq, Claim, claim_by, claim_fits, claim_of, Claims, claims_of, copy_at, count_of, Create, depths, Dinode, Extent, extent_of, file_in, Files, first_left, first_stage, Fits, FitsHeld, FitsThen, Form, form_of, form_same, free_tells, Freeing, frees, get_or-set_other, get_or-set_same, Grip, grip, grip_by, grip_of, grips_of, grows, Growth, growth_of, hand_in, HasClaimed, HasFiles, HasGivenUp, HasLoggedWrite, HasSameFile, Held, held_alike, held_of, held_outside, Image, inode_block, inode_count_of, inode_of-with_inode_other, inode_same, is_among, is_kind, is_number, IsApart, IsClaimedNow, IsDinode, IsHeldIn, IsInHand, IsMapped, IsPlaced, IsSameOutsideLog, IsWriting, Keeps, KeepsUsedInodes, last_fields, last_inode, leads_still, locked_grip, LogState, LooksAt, ltb-true, mapped, MayRead, named_held, names_claimed, names_left, needed_within, new_inode, new_table, no_task, Op, part_of, Read, Remove, resting_may_be_read, root_of, SameInside, Stage, Stat, StaysHeld, super_of, TableIs, TableState, taken_by, taken_owned, task, TaskState, Trunc, TruncAt, unmarked, used_by, way_of, whole_names, with_inode, with_inode_bytes, without_bit, Write, write_back_rests, WriteState}
 use Rattle.model.specs.Layout.{inode_of}
 use Rattle.in_flight.specs.Lemmas.GivenUp.{held_of as is_held}
 use Rattle.in_flight.specs.Lemmas.HeldFrames.{stays_same}

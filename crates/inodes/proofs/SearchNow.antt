@@ -2,7 +2,7 @@
 use Rattle.std.proofs.Common.{◌≡◌, ◌<◌, ◌≤◌, ℕ, leb, length, List, refl, sym, ◌∙◌, ap, subst, arith, Option, Some, None}
 use Rattle.inodes.specs.Store.{FitsFiles}
 use Rattle.std.specs.Prelude.{IfNone}
-use Rattle.inodes.specs.Common.{Agrees, AreLooking, block_at_stage, both_of, claims_of, Create, current_of, DeviceFault, fault_of_task, faults_after, get_or-set_same, Ghosts, Goes, GoesFrom, Grip, grips_of, Image, IsHeldByAnother, IsImage, IsSearching, IsStore, Joint, LeavesLate, leb-true, LoggedAt, LogState, MayStep, no_task, Op, Progress, progress_of_search, SameGroups, SearchState, SearchSteps, shown_of, Stage, Steps, steps_left, StoreState, TableIs, task, TaskState, VolumeState}
+use Rattle.inodes.specs.Common.{Agrees, AreLooking, block_at_stage, both_of, claims_of, Create, current_of, DeviceFault, fault_of_task, faults_after, get_or-set_same, Ghosts, Goes, GoesFrom, Grip, grips_of, Image, IsHeldByAnother, IsImage, IsSearching, IsStore, Joint, LeavesLate, leb-true, LoggedAt, LogState, MayStep, no_task, Op, Progress, progress_of_search, SameGroups, SearchState, SearchSteps, shown_of, Stage, Steps, steps_left, StoreState, TableIs, task, TaskState, VolumeState, LogsAtMost, most_logged}
 use Rattle.inodes.specs.Lemmas.Faults.{where_none}
 use Rattle.inodes.specs.Lemmas.Grips.{kept_by_image}
 use Rattle.inodes.proofs.Gripping.{grips_same, grips_set}
@@ -10,7 +10,7 @@ use Rattle.inodes.proofs.Looking.{IsNow, Stepped, steps_stepped, store_stepped}
 use Rattle.inodes.proofs.LooksKept.{KeepsUsed}
 use Rattle.inodes.proofs.Searching.{ready_of, search as searching}
 use Rattle.inodes.proofs.StoreKeeps.{geometry_then, task_then}
-use Rattle.inodes.proofs.StoreSteps.{apart_then, asleep_then, claims_then, fault_then, falls_then, files_then, goes_now, groups_after, held_then, keeps_now, looks_at_then, marks_now, no_inode_held, stage_then, same_op, set_then, store_then, unclaimed_then, ungripped_then}
+use Rattle.inodes.proofs.StoreSteps.{apart_then, asleep_then, claims_then, fault_then, falls_then, files_then, goes_now, groups_after, held_then, keeps_now, looks_at_then, marks_now, no_inode_held, stage_then, same_op, set_then, store_then, unclaimed_then, ungripped_then, logs_after}
 use Rattle.inodes.proofs.Taking.{none_of_zero}
 
 -- the files that a store stands for
@@ -65,6 +65,9 @@ module _ {D N : Type 0} (disk : Ghosts D N) (s now : StoreState D) (p : ℕ) (m 
         omega (arith, lt, is.few, joint.log.pids)
 
     module _ (op : Op) (is_op : (task s.tasks p).op ≡ Some op) where
+      creates : Create m.kind ≡ op
+      creates = let both : Some (Create m.kind) ≡ Some op = sym mine.op ∙ is_op in cc both
+
       claimed_same : (j : ℕ) → claims_of t.tasks j ≡ claims_of s.tasks j
       claimed_same j = claims_then s.tasks p m new r stood j
 
@@ -108,6 +111,7 @@ module _ {D N : Type 0} (disk : Ghosts D N) (s now : StoreState D) (p : ℕ) (m 
           faults = steps.faults ∙ ap (λ (o : Option DeviceFault). faults_after o (disk.fault_count s.volume.device)) (sym (fault_then r));
         };
         groups = subst (λ (l : LogState). SameGroups s.volume.log l) (sym steps.log) (groups_after s.volume.log p m.block r pid);
+        logs = subst (λ (most : ℕ). LogsAtMost most s.volume.log p u.log) (ap (most_logged s.table.form) creates) (subst (LogsAtMost 1 s.volume.log p) (sym steps.log) (logs_after s.volume.log p m.block r mine.used));
         marks = marks_now disk.image s t p m new op r agrees is.numbers lt stood is_op steps.current claimed_same is.geometry filled few m.slot steps.goes;
         files = files_then disk.image s t p m new op r agrees is.numbers lt stood is_op steps.current claimed_same m.slot steps.goes;
         alone = λ q k apart has. none_of_zero (current_of disk.image s.volume) s.table s.tasks looks q k has;

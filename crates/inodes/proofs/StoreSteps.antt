@@ -1,7 +1,7 @@
 -- What a step of a search promises, of the store in which it is made.
-use Rattle.std.proofs.Common.{◌≡◌, ◌≢◌, ℕ, ◌+◌, ◌-◌, ◌*◌, ◌<◌, ◌≤◌, true, ltb, List, length, set, refl, sym, ◌∙◌, ap, subst, arith, Option, Some, None}
+use Rattle.std.proofs.Common.{◌≡◌, ◌≢◌, ℕ, ◌-◌, ◌<◌, ◌≤◌, true, ltb, List, length, set, refl, sym, ◌∙◌, ap, subst, arith, Option, Some, None, inl, inr}
 use Rattle.std.specs.Prelude.{IsTrue}
-use Rattle.inodes.specs.Common.{Agrees, Answers, AreLooking, asked_by, block_at, both_of, Buffers, BuffersAfter, claim_by, claim_fits, claim_of, claims, claims_of, Create, current_after, current_of, Dinode, eq-eqb, eqb-false, eqb-true, false≢true, fault_in, fault_of_task, Files, FilesThen, FindsNone, FitsHeld, form_of, free_tells, GetsBlock, GoesFrom, grip_by, grip_of, groups_noted, groups_same, HasClaimed, HasNoFreeInode, HasSlot, held_alike, Image, inode_block, inode_count_of, is_made, is_making, is_number, IsFree, IsHeldByAnother, IsImage, IsLawfulGeometry, IsSearching, LeavesLate, LeavesNumber, log_after, LogState, looks_left, LooksAt, LooksAtBlock, lowest_free, ltb-true, Made, Marks, ne_eqb, new_inode, NoInode, Op, Progress, progress_of_search, Reply, reply_at_turn, SameGroups, SearchGoes, SearchLocks, SearchState, Shown, shown_of, Stage, steps_left, StoreState, TableState, task, TaskProgress, TaskState, VolumeState, Why, with_inode, with_new_file}
+use Rattle.inodes.specs.Common.{Agrees, Answers, AreLooking, asked_by, block_at, both_of, Buffers, BuffersAfter, claim_by, claim_fits, claim_of, claims, claims_of, Create, current_after, current_of, Dinode, eq-eqb, eqb-false, eqb-true, false≢true, fault_in, fault_of_task, Files, FilesThen, FindsNone, FitsHeld, form_of, free_tells, GetsBlock, GoesFrom, grip_by, grip_of, groups_noted, groups_same, HasClaimed, HasNoFreeInode, HasSlot, held_alike, Image, inode_block, inode_count_of, is_made, is_making, is_number, IsFree, IsHeldByAnother, IsImage, IsLawfulGeometry, IsSearching, LeavesLate, LeavesNumber, log_after, LogState, looks_left, LooksAt, LooksAtBlock, lowest_free, ltb-true, Made, Marks, ne_eqb, new_inode, NoInode, Op, Progress, progress_of_search, Reply, reply_at_turn, SameGroups, SearchGoes, SearchLocks, SearchState, Shown, shown_of, Stage, steps_left, StoreState, TableState, task, TaskProgress, TaskState, VolumeState, Why, with_inode, with_new_file, LogsAtMost, used_by}
 use Rattle.inodes.specs.Store.{FitsFiles}
 use Rattle.model.specs.Layout.{inode_of}
 use Rattle.model.specs.Crash.{labels_of}
@@ -109,6 +109,13 @@ groups_after l p b (Progress.Sleeping cause) lt = groups_same l
 groups_after l p b (Progress.Over None) lt = groups_same l
 groups_after l p b (Progress.Over (Some i)) lt = groups_noted l p b lt
 groups_after l p b (Progress.Fault fault) lt = groups_same l
+
+pub logs_after : (l : LogState) (p b : ℕ) (r : Progress (Option ℕ)) → used_by l p ≡ Some 0 → LogsAtMost 1 l p (log_after l p b r)
+logs_after l p b Progress.Moved used = inl refl
+logs_after l p b (Progress.Sleeping cause) used = inl refl
+logs_after l p b (Progress.Over None) used = inl refl
+logs_after l p b (Progress.Over (Some i)) used = inr (record { added = 0; used = used; few = omega arith; block = b; is = refl })
+logs_after l p b (Progress.Fault fault) used = inl refl
 
 -- what a step of the search came to, in a store with these files
 module _ {D : Type 0} (image : D → Image) (s t : StoreState D) (p : ℕ) (m new : SearchState) (op : Op) (r : Progress (Option ℕ))

@@ -1,7 +1,7 @@
 -- Each step of a truncation keeps what is true of every store, and does what a step promises.
-use Rattle.std.proofs.Common.{◌≡◌, ◌≢◌, ⊎_elim, ℕ, ◌<◌, Bool, true, false, cond, eqb, List, length, set, refl, sym, ◌∙◌, ap, subst, arith, Option, Some, None}
+use Rattle.std.proofs.Common.{◌≡◌, ◌≢◌, ⊎_elim, ℕ, ◌<◌, Bool, true, false, cond, eqb, List, length, set, refl, sym, ◌∙◌, ap, subst, arith, Option, Some, None, inl, inr}
 use Rattle.std.specs.Prelude.{IsTrue}
-use Rattle.inodes.specs.Common.{after_trunc, Agrees, answer_by, AreLooking, asked_by, block_at, block_next, block_of_got, Buffers, CanTake, Changes, Claim, claim_by, Claims, claims_of, cond-false, current_of, DiskFault, entries_kept, false≢true, fault_of_task, Files, FitsHeld, form_same, Freeing, frees, FreesOn, Get, get_or-set_same, GetsFor, GetsNext, Ghosts, GivesUpLock, Got, grips_of, groups_noted, groups_same, HasLock, HasLogged, HasSlot, held_alike, held_of, Image, inode_left, is_number, IsClaimedNow, IsHeldByAnother, IsKept, IsLocked, IsStore, IsTruncating, Itrunc, Joint, KeepsTable, locked_grip, LogState, LooksAt, Marks, ne_eqb, no_task, now_of, Op, stage_of_trunc, Progress, progress_of, progress_of_trunc, Reads, Remove, renewed, SameGroups, seen, slot_kept, Stage, Stands, stays_got, stays_left, stays_noted, stays_same, StaysForOthers, Steps, StoreState, table_of_trunc, TableState, task, TaskProgress, TaskState, Trunc, trunc_op, TruncAt, VolumeState, WaitsFor, when_got, Why}
+use Rattle.inodes.specs.Common.{after_trunc, Agrees, answer_by, AreLooking, asked_by, block_at, block_next, block_of_got, Buffers, CanTake, Changes, Claim, claim_by, Claims, claims_of, cond-false, current_of, DiskFault, entries_kept, false≢true, fault_of_task, Files, FitsHeld, form_same, Freeing, frees, FreesOn, Get, get_or-set_same, GetsFor, GetsNext, Ghosts, GivesUpLock, Got, grips_of, groups_noted, groups_same, HasLock, HasLogged, HasSlot, held_alike, held_of, Image, inode_left, is_number, IsClaimedNow, IsHeldByAnother, IsKept, IsLocked, IsStore, IsTruncating, Itrunc, Joint, KeepsTable, locked_grip, LogState, LooksAt, Marks, ne_eqb, no_task, now_of, Op, stage_of_trunc, Progress, progress_of, progress_of_trunc, Reads, Remove, renewed, SameGroups, seen, slot_kept, Stage, Stands, stays_got, stays_left, stays_noted, stays_same, StaysForOthers, Steps, StoreState, table_of_trunc, TableState, task, TaskProgress, TaskState, Trunc, trunc_op, TruncAt, VolumeState, WaitsFor, when_got, Why, LogsAtMost, most_logged, used_by}
 use Rattle.wal.specs.Get as get
 use Rattle.inodes.specs.Lemmas.Freeing.{IsDone, use_done}
 use Rattle.inodes.specs.Lemmas.Holding.{own_holds}
@@ -15,7 +15,7 @@ use Rattle.inodes.proofs.TruncFiles.{same_claims}
 use Rattle.inodes.proofs.TruncGot.{HasGot, has_taken, has_used, waits_apart}
 use Rattle.inodes.proofs.TruncMakes.{HasNone, Makes, makes}
 use Rattle.inodes.proofs.TruncSlots.{gains, never_over, reads_for, sleeps, waiting}
-use Rattle.inodes.proofs.Truncating.{agrees, alone, got, gripped, keeps_apart, looking, never_gets, one_kept, second_apart, work}
+use Rattle.inodes.proofs.Truncating.{agrees, alone, got, gripped, keeps_apart, looking, never_gets, one_kept, second_apart, work, holds}
 
 -- it holds no other number
 no_claim : (k j : ℕ) (m : Freeing) → m.machine.number ≢ j → claim_by None (Stage.Truncating k m) j ≡ None
@@ -47,6 +47,7 @@ record Leaves {D : Type 0} (v w : VolumeState D) (p i : ℕ) : Type 0 where
   locks : GivesUpLock v.buffers w.buffers p i
   others : StaysForOthers v.buffers w.buffers v.log w.log p
   groups : p < length v.log.used → SameGroups v.log w.log
+  logs : (u : ℕ) → used_by v.log p ≡ Some u → u < 2 → LogsAtMost 2 v.log p w.log
 
 leaves : {D N : Type 0} (disk : Ghosts D N) (v w : VolumeState D) (p i b : ℕ) (o : Option Image) → Changes disk v p i b o w → Leaves v w p i
 leaves disk v w p i b None does =
@@ -57,6 +58,7 @@ leaves disk v w p i b None does =
       locks = does.locks;
       others = subst (λ (l : LogState). StaysForOthers v.buffers w.buffers v.log l p) log (stays_left v.buffers w.buffers v.log p i does.locks);
       groups = λ lt. subst (SameGroups v.log) log (groups_same v.log);
+      logs = λ u used few. subst (LogsAtMost 2 v.log p) log (inl refl);
     }
 leaves disk v w p i b (Some y) does = record {
   device = does.device;
@@ -64,7 +66,13 @@ leaves disk v w p i b (Some y) does = record {
   locks = does.locks;
   others = subst (λ (l : LogState). StaysForOthers v.buffers w.buffers v.log l p) (sym does.log) (stays_noted v.buffers w.buffers v.log p i b does.locks);
   groups = λ lt. subst (SameGroups v.log) (sym does.log) (groups_noted v.log p b lt);
+  logs = λ u used few. subst (LogsAtMost 2 v.log p) (sym does.log) (inr (record { added = u; used = used; few = few; block = b; is = refl }));
 }
+
+-- what frees blocks added one at most
+few_logged : (l : LogState) (p b : ℕ) → HasLogged l p b → (u : ℕ) × (used_by l p ≡ Some u) × (u < 2)
+few_logged l p b (inl none) = (0, none, omega arith)
+few_logged l p b (inr one) = (1, one.0, omega arith)
 
 -- process p frees a file's blocks
 module _ {D N : Type 0} (disk : Ghosts D N) (s : StoreState D) (p k : ℕ) (m : Freeing) (is : IsStore disk.image s) (well : s.volume.fault ≡ None)
@@ -165,6 +173,25 @@ module _ {D N : Type 0} (disk : Ghosts D N) (s : StoreState D) (p k : ℕ) (m : 
       by_used (Some g) steps =
           (leaves disk s.volume w p g.slot (block_next m) _ steps.changes).groups (omega (arith, is.few, joint.log.pids, inside))
 
+  two : LogsAtMost 2 s.volume.log p w.log
+  two = by_used (now_of m) steps
+    where
+      by_used : (o : Option Got) → FreesOn disk o s.volume p m q n w → LogsAtMost 2 s.volume.log p w.log
+      by_used None steps = subst (LogsAtMost 2 s.volume.log p) (sym steps.gets.reads.log) (inl refl)
+      by_used (Some g) steps =
+          let some = few_logged s.volume.log p m.machine.bitmap (holds disk s p k m is well stood).logged in
+          (leaves disk s.volume w p g.slot (block_next m) _ steps.changes).logs some.0 some.1 some.2
+
+  most_two : most_logged s.table.form (trunc_op m.machine) ≡ 2
+  most_two = by m.machine.removes
+    where
+      by : (b : Bool) → most_logged s.table.form (cond b (Remove m.machine.number) (Trunc m.machine.number)) ≡ 2
+      by true = refl
+      by false = refl
+
+  logs : (its : Op) → its ≡ trunc_op m.machine → LogsAtMost (most_logged s.table.form its) s.volume.log p w.log
+  logs its mine = subst (λ (most : ℕ). LogsAtMost most s.volume.log p w.log) (sym (ap (most_logged s.table.form) mine ∙ most_two)) two
+
   -- ---- the step was made
 
   -- what it got then, and what it leaves to the others
@@ -202,8 +229,8 @@ module _ {D N : Type 0} (disk : Ghosts D N) (s : StoreState D) (p k : ℕ) (m : 
   table_then r is = subst (λ (r : Progress (Unit {0})). KeepsTable s.table (table_of_trunc s.table k m r) p (grips_of s.tasks) (grips_of s.tasks) now) is made.table
 
   -- it goes on
-  does_go : (its : Op) → q ≡ Progress.Moved → Does disk s p k i here TaskProgress.Moved (Stage.Truncating k n) w s.table ts its
-  does_go its moved =
+  does_go : (its : Op) → its ≡ trunc_op m.machine → q ≡ Progress.Moved → Does disk s p k i here TaskProgress.Moved (Stage.Truncating k n) w s.table ts its
+  does_go its mine moved =
       let to = comes (subst IsDone (sym moved) tt) in
       let on = made.on moved in
       let number : n.machine.number ≡ i = ap (λ (o : Itrunc). o.number) on.same in
@@ -214,6 +241,7 @@ module _ {D N : Type 0} (disk : Ghosts D N) (s : StoreState D) (p k : ℕ) (m : 
         numbers = refl;
         form = refl;
         groups = groups;
+        logs = logs its mine;
         marks = made.marks;
         keeps = made.keeps;
         table = table_then Progress.Moved moved;
@@ -243,8 +271,8 @@ module _ {D N : Type 0} (disk : Ghosts D N) (s : StoreState D) (p k : ℕ) (m : 
       }
 
   -- or is at its end
-  does_end : (its : Op) → q ≡ Progress.Over tt → Does disk s p k i here TaskProgress.Moved (Stage.Leaving k) w (renewed s.table k (inode_left m.machine)) ts its
-  does_end its over =
+  does_end : (its : Op) → its ≡ trunc_op m.machine → q ≡ Progress.Over tt → Does disk s p k i here TaskProgress.Moved (Stage.Leaving k) w (renewed s.table k (inode_left m.machine)) ts its
+  does_end its mine over =
       let to = comes (subst IsDone (sym over) tt) in
       let some = (made.over over).1 in
       record {
@@ -252,6 +280,7 @@ module _ {D N : Type 0} (disk : Ghosts D N) (s : StoreState D) (p k : ℕ) (m : 
         numbers = refl;
         form = refl;
         groups = groups;
+        logs = logs its mine;
         marks = made.marks;
         keeps = made.keeps;
         table = table_then (Progress.Over tt) over;
@@ -320,12 +349,13 @@ module _ {D N : Type 0} (disk : Ghosts D N) (s : StoreState D) (p k : ℕ) (m : 
           got = agrees_now.holders locked.0 (block_next m) locked.1 locked.2;
         }
 
-    does_wait : (its : Op) → Does disk s p k i here (TaskProgress.Sleeping cause) here w s.table ts its
-    does_wait its = record {
+    does_wait : (its : Op) → its ≡ trunc_op m.machine → Does disk s p k i here (TaskProgress.Sleeping cause) here w s.table ts its
+    does_wait its mine = record {
       reads = reads (TaskProgress.Sleeping cause) s.table (sym (ap fault_of waits));
       numbers = refl;
       form = refl;
       groups = groups;
+      logs = logs its mine;
       marks = marks_still undone;
       keeps = keeps_still undone;
       table = table_still undone;
@@ -347,14 +377,15 @@ module _ {D N : Type 0} (disk : Ghosts D N) (s : StoreState D) (p k : ℕ) (m : 
     }
 
   -- or the disk fails
-  does_fail : (its : Op) (fault : DiskFault) → q ≡ Progress.Fault fault → Does disk s p k i here (TaskProgress.Fault fault) here w s.table ts its
-  does_fail its fault fails =
+  does_fail : (its : Op) → its ≡ trunc_op m.machine → (fault : DiskFault) → q ≡ Progress.Fault fault → Does disk s p k i here (TaskProgress.Fault fault) here w s.table ts its
+  does_fail its mine fault fails =
       let undone : IsDone q → ⊥ = subst IsDone fails in
       record {
         reads = reads (TaskProgress.Fault fault) s.table (sym (ap fault_of fails));
         numbers = refl;
         form = refl;
         groups = groups;
+        logs = logs its mine;
         marks = marks_still undone;
         keeps = keeps_still undone;
         table = table_still undone;
@@ -371,23 +402,23 @@ module _ {D N : Type 0} (disk : Ghosts D N) (s : StoreState D) (p k : ℕ) (m : 
 
   -- ---- THE STEP
 
-  does : (its : Op) (r : Progress (Unit {0})) → q ≡ r → Does disk s p k i here (progress_of_trunc r) (stage_of_trunc k m n r) w (table_of_trunc s.table k m r) ts its
-  does its Progress.Moved is = does_go its is
-  does its (Progress.Sleeping cause) is = does_wait cause is its
-  does its (Progress.Over out) is = does_end its is
-  does its (Progress.Fault fault) is = does_fail its fault is
+  does : (its : Op) → its ≡ trunc_op m.machine → (r : Progress (Unit {0})) → q ≡ r → Does disk s p k i here (progress_of_trunc r) (stage_of_trunc k m n r) w (table_of_trunc s.table k m r) ts its
+  does its mine Progress.Moved is = does_go its mine is
+  does its mine (Progress.Sleeping cause) is = does_wait cause is its mine
+  does its mine (Progress.Over out) is = does_end its mine is
+  does its mine (Progress.Fault fault) is = does_fail its mine fault is
 
   module _ (tasks : ts ≡ set s.tasks p task_then) where
     -- what is true of every store
     pub store_truncated : IsStore disk.image store_then
-    store_truncated = store_worked disk s p k i here (progress_of_trunc q) next w tab ts (trunc_op m.machine) works (does (trunc_op m.machine) q refl) tasks
+    store_truncated = store_worked disk s p k i here (progress_of_trunc q) next w tab ts (trunc_op m.machine) works (does (trunc_op m.machine) refl q refl) tasks
 
     -- what it promises
     now_is : task ts p ≡ task_then
     now_is = ap (λ (l : List TaskState). task l p) tasks ∙ get_or-set_same s.tasks p task_then no_task inside
 
-    pub steps_truncated : (op : Op) → Steps disk s p op (progress_of_trunc q) store_then
-    steps_truncated op = steps_worked disk s p k i here (progress_of_trunc q) next w tab ts op works (does op q refl) tasks (record {
+    pub steps_truncated : (op : Op) → (task s.tasks p).op ≡ Some op → Steps disk s p op (progress_of_trunc q) store_then
+    steps_truncated op is_op = steps_worked disk s p k i here (progress_of_trunc q) next w tab ts op works (does op (let both : Some op ≡ Some (trunc_op m.machine) = sym is_op ∙ working.op in cc both) q refl) tasks (record {
       answer = q;
       now = n;
       steps = steps;

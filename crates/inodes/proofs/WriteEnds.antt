@@ -1,7 +1,7 @@
 -- The last step of a writing, which writes the inode back and knows the reply; and any step of a writing.
-use Rattle.std.proofs.Common.{◌⊎◌, ⊎_elim, get_or-set_same, ◌≡◌, ℕ, List, length, refl, sym, ◌∙◌, ap, subst, arith, Option, Some, None, set}
+use Rattle.std.proofs.Common.{◌⊎◌, ⊎_elim, get_or-set_same, ◌≡◌, ℕ, List, length, refl, sym, ◌∙◌, ap, subst, arith, Option, Some, None, set, inr}
 use Rattle.std.proofs.lemmas.List.{length-set}
-use Rattle.inodes.specs.Common.{address_in, after, asked_by, block_at, block_of_write, bytes_by, bytes_of, Claims, current_of, Dinode, File, file_in, Files, files_grown, FilesThen, FitsHeld, FitsThen, form_of, Get, Ghosts, greatest_size, grips_of, groups_noted, growing_of, growth_keeps, growth_rests, HasComeTo, Image, inode_block, inode_of-with_inode, inode_of-with_inode_other, IsClaimedNow, IsCopy, IsDinode, IsPlaced, IsStore, KeepsTable, kept_by_write, locked_grip, LogState, MapAt, MapsOn, MapState, MapSteps, Marks, named_by, next_block, no_task, node_of_write, one_more, Op, stage_of_writing, Progress, progress_of, progress_of_write, renewed, SameGroups, some_address, Stage, stays_noted, StaysForOthers, Steps, StoreState, table_of_writing, taken_by, task, TaskProgress, TaskState, Updates, UpdateState, used_by_write, uses_left, VolumeState, with_inode, with_inode_bytes, Write, WriteAt, writes_left, writes_left_at, WritesBlock, WriteState, WriteSteps, Wrote}
+use Rattle.inodes.specs.Common.{address_in, after, asked_by, block_at, block_of_write, bytes_by, bytes_of, Claims, current_of, Dinode, File, file_in, Files, files_grown, FilesThen, FitsHeld, FitsThen, form_of, Get, Ghosts, greatest_size, grips_of, groups_noted, growing_of, growth_keeps, growth_rests, HasComeTo, Image, inode_block, inode_of-with_inode, inode_of-with_inode_other, IsClaimedNow, IsCopy, IsDinode, IsPlaced, IsStore, KeepsTable, kept_by_write, locked_grip, LogState, MapAt, MapsOn, MapState, MapSteps, Marks, named_by, next_block, no_task, node_of_write, one_more, Op, stage_of_writing, Progress, progress_of, progress_of_write, renewed, SameGroups, some_address, Stage, stays_noted, StaysForOthers, Steps, StoreState, table_of_writing, taken_by, task, TaskProgress, TaskState, Updates, UpdateState, used_by_write, uses_left, VolumeState, with_inode, with_inode_bytes, Write, WriteAt, writes_left, writes_left_at, WritesBlock, WriteState, WriteSteps, Wrote, LogsAtMost, most_logged}
 use Rattle.inodes.specs.Lemmas.Grips.{kept_by_renew}
 use Rattle.inodes.proofs.Standing.{StandsAt}
 use Rattle.inodes.proofs.AtWork.{steps_worked, store_then, store_worked}
@@ -13,7 +13,7 @@ use Rattle.inodes.proofs.WriteBlocks.{does_address, does_behind}
 use Rattle.inodes.proofs.WriteDoes.{does_block, does_inode, does_piece}
 use Rattle.inodes.proofs.WriteEntries.{does_entry, does_look, does_setting}
 use Rattle.inodes.proofs.WriteFiles.{answers_written}
-use Rattle.inodes.proofs.WriteMoves.{DoesSo, here, its, logs, works}
+use Rattle.inodes.proofs.WriteMoves.{DoesSo, here, its, logs, logs_block, works}
 use Rattle.inodes.proofs.Writing as of
 use Rattle.wal.specs.Get as get
 
@@ -110,6 +110,7 @@ module _ {D N : Type 0} {disk : Ghosts D N} {s : StoreState D} {p k : ℕ} {m : 
         numbers = refl;
         form = refl;
         groups = subst (SameGroups s.volume.log) (sym writes.log) (groups_noted s.volume.log p (inode_block u.number) (logs h));
+        logs = subst (LogsAtMost (most_logged s.table.form (its h)) s.volume.log p) (sym writes.log) (inr (logs_block h (inode_block u.number)));
         marks = subst (Marks None (of.cur h)) (sym shown)
             (growth_keeps (of.looking h).files.0 (of.cur h) (of.claims h) m.number (of.grown h) (of.held_in h (of.looking h).files.0 (of.looking h).files.1));
         keeps = subst (KeepsUsed s.table.inode_count m.number (of.claims h) (of.cur h)) (sym shown) keeps;

@@ -1,8 +1,8 @@
 -- The kinds of steps that write a file's bytes: a block is got, or put, or released, or nothing is done to the volume.
-use Rattle.std.proofs.Common.{◌≡◌, ◌≢◌, ℕ, ◌+◌, ◌<◌, ◌≤◌, List, set, refl, sym, ◌∙◌, ap, subst, arith, Option, Some, None, length}
+use Rattle.std.proofs.Common.{◌≡◌, ◌≢◌, ℕ, ◌+◌, ◌<◌, ◌≤◌, List, set, refl, sym, ◌∙◌, ap, subst, arith, Option, Some, None, length, inl, inr}
 use Rattle.std.specs.Prelude.{IsTrue}
 use Rattle.std.proofs.lemmas.List.{length-set}
-use Rattle.inodes.specs.Common.{apart, asked_by, between, block_of_write, Claim, claim_by, Claims, current_of, DiskFault, Extent, extent_of, false≢true, Files, FitsHeld, FitsThen, Form, form_of, form_same, GetsFor, GetsLock, Ghosts, greatest_size, Grip, grips_of, groups_noted, groups_same, grows, growth_of, HasComeTo, HasLock, HasLoggedWrite, held_alike, HoldsForWriting, Image, inode_elsewhere, is_number, IsClaimedNow, IsHeldByAnother, IsWriting, KeepsTable, KeepsUsedInodes, kept_by_write, locked_grip, LogState, Marks, ne_eqb, node_of_write, Op, stage_of_writing, Progress, progress_of_write, Reads, Releases, SameGroups, Stage, stays_got, stays_left, stays_noted, stays_same, StaysForOthers, StoreState, super_of, table_of_writing, task, TaskProgress, TaskState, used_by_write, VolumeState, Why, Write, writes_left, WritesBlock, WriteState}
+use Rattle.inodes.specs.Common.{apart, asked_by, between, block_of_write, Claim, claim_by, Claims, current_of, DiskFault, Extent, extent_of, false≢true, Files, FitsHeld, FitsThen, Form, form_of, form_same, GetsFor, GetsLock, Ghosts, greatest_size, Grip, grips_of, groups_noted, groups_same, grows, growth_of, HasComeTo, HasLock, HasLoggedWrite, held_alike, HoldsForWriting, Image, inode_elsewhere, is_number, IsClaimedNow, IsHeldByAnother, IsWriting, KeepsTable, KeepsUsedInodes, kept_by_write, locked_grip, LogState, Marks, ne_eqb, node_of_write, Op, stage_of_writing, Progress, progress_of_write, Reads, Releases, SameGroups, Stage, stays_got, stays_left, stays_noted, stays_same, StaysForOthers, StoreState, super_of, table_of_writing, task, TaskProgress, TaskState, used_by_write, VolumeState, Why, Write, writes_left, WritesBlock, WriteState, LogsAtMost, most_logged, LogsBlock, most_beside, noted}
 use Rattle.inodes.specs.Lemmas.Grips.{kept_by_image}
 use Rattle.inodes.specs.Lemmas.Holding.{own_grows}
 use Rattle.inodes.proofs.Standing.{StandsAt}
@@ -13,6 +13,7 @@ use Rattle.inodes.proofs.Getting.{reads_none, fault_of}
 use Rattle.inodes.proofs.LooksKept.{KeepsUsed, keeps_same, keeps_then}
 use Rattle.inodes.proofs.TruncFiles.{same_claims, with_claim, with_claim_is}
 use Rattle.inodes.proofs.TruncSlots.{Gains, Slots, gains, held_for, never_inode, never_over, reads_for, sleeps}
+use Rattle.inodes.proofs.Writing.{logs_few}
 use Rattle.inodes.proofs.Writing as of
 
 -- in a store whose process p writes a file's bytes
@@ -33,6 +34,14 @@ module _ {D N : Type 0} {disk : Ghosts D N} {s : StoreState D} {p k : ℕ} {m : 
   pub logs : p < length s.volume.log.used
   logs =
       omega (arith, h.is.few, h.joint.log.pids, h.inside)
+
+  -- one block more may be logged, and that of the inode
+  pub logs_block : (b : ℕ) → LogsBlock (most_logged s.table.form its) s.volume.log p (noted s.volume.log p b)
+  logs_block b =
+      let on = of.logged h in
+      let few = logs_few (of.cur h) s.table.inode_count (task s.tasks p) m s.volume.log p on.homes (of.work h) (logged_of (of.cur h) s.volume.log p m on) on.used in
+      let same = ap most_beside (of.form h ∙ sym h.is.form) in
+      record { added = on.homes; used = on.used; few = omega (arith, few, same); block = b; is = refl }
 
   no_claim : (j : ℕ) → j ≢ m.number → claim_by op here j ≡ None
   no_claim j other = rw (ne_eqb m.number j (λ same. other (sym same))) refl
@@ -93,6 +102,7 @@ module _ {D N : Type 0} {disk : Ghosts D N} {s : StoreState D} {p k : ℕ} {m : 
       pub size : length y ≡ length (of.cur h)
       pub reads : Reads disk s TaskProgress.Moved (then_at Progress.Moved)
       pub groups : SameGroups s.volume.log w.log
+      pub logs : LogsAtMost (most_logged s.table.form its) s.volume.log p w.log
       pub others : StaysForOthers s.volume.buffers w.buffers s.volume.log w.log p
       pub marks : Marks None (of.cur h) y
       pub keeps : KeepsUsed s.table.inode_count m.number (of.claims h) (of.cur h) y
@@ -131,6 +141,7 @@ module _ {D N : Type 0} {disk : Ghosts D N} {s : StoreState D} {p k : ℕ} {m : 
         numbers = refl;
         form = refl;
         groups = shows.groups;
+        logs = shows.logs;
         marks = subst (Marks None (of.cur h)) (sym shows.shown) shows.marks;
         keeps = subst (KeepsUsed s.table.inode_count m.number (of.claims h) (of.cur h)) (sym shows.shown) shows.keeps;
         table = subst (KeepsTable s.table s.table p gs gs) (sym shows.shown) shows.table;
@@ -163,6 +174,7 @@ module _ {D N : Type 0} {disk : Ghosts D N} {s : StoreState D} {p k : ℕ} {m : 
         numbers = refl;
         form = refl;
         groups = subst (λ (v : VolumeState D). SameGroups s.volume.log v.log) (sym same) (groups_same s.volume.log);
+        logs = subst (λ (v : VolumeState D). LogsAtMost (most_logged s.table.form its) s.volume.log p v.log) (sym same) (inl refl);
         marks = subst (λ (v : VolumeState D). Marks None (of.cur h) (current_of disk.image v)) (sym same) marks_still;
         keeps = subst (λ (v : VolumeState D). KeepsUsed s.table.inode_count m.number (of.claims h) (of.cur h) (current_of disk.image v)) (sym same) keeps_still;
         table = subst (λ (v : VolumeState D). KeepsTable s.table s.table p gs gs (current_of disk.image v)) (sym same) table_still;
@@ -192,6 +204,7 @@ module _ {D N : Type 0} {disk : Ghosts D N} {s : StoreState D} {p k : ℕ} {m : 
         numbers = refl;
         form = refl;
         groups = subst (SameGroups s.volume.log) (sym log) (groups_same s.volume.log);
+        logs = subst (LogsAtMost (most_logged s.table.form its) s.volume.log p) (sym log) (inl refl);
         marks = subst (Marks None (of.cur h)) (sym shown) marks_still;
         keeps = subst (KeepsUsed s.table.inode_count m.number (of.claims h) (of.cur h)) (sym shown) keeps_still;
         table = subst (KeepsTable s.table s.table p gs gs) (sym shown) table_still;
@@ -223,6 +236,7 @@ module _ {D N : Type 0} {disk : Ghosts D N} {s : StoreState D} {p k : ℕ} {m : 
             size = refl;
             reads = reads_for disk s (then_at Progress.Moved) p b q slot gets TaskProgress.Moved (ap fault_of (sym moved));
             groups = subst (SameGroups s.volume.log) (sym gets.reads.log) (groups_same s.volume.log);
+            logs = subst (LogsAtMost (most_logged s.table.form its) s.volume.log p) (sym gets.reads.log) (inl refl);
             others = subst (λ (l : LogState). StaysForOthers s.volume.buffers w.buffers s.volume.log l p) (sym gets.reads.log) (stays_got s.volume.buffers w.buffers s.volume.log p b g.at g.locks);
             marks = marks_still;
             keeps = keeps_still;
@@ -265,6 +279,7 @@ module _ {D N : Type 0} {disk : Ghosts D N} {s : StoreState D} {p k : ℕ} {m : 
             size = length-set (of.cur h) b content;
             reads = reads_none disk s (then_at Progress.Moved) writes.device (writes.fault ∙ h.well) TaskProgress.Moved refl;
             groups = subst (SameGroups s.volume.log) (sym writes.log) (groups_noted s.volume.log p b logs);
+            logs = subst (LogsAtMost (most_logged s.table.form its) s.volume.log p) (sym writes.log) (inr (logs_block b));
             others = subst (λ (l : LogState). StaysForOthers s.volume.buffers w.buffers s.volume.log l p) (sym writes.log) (stays_noted s.volume.buffers w.buffers s.volume.log p i b writes.locks);
             marks = marks;
             keeps = keeps_then s.table.inode_count m.number _ (of.cur h) y (of.claims h) _ h.is.numbers then (length-set (of.cur h) b content) marks.untouched.super (used_still m.number);
@@ -285,6 +300,7 @@ module _ {D N : Type 0} {disk : Ghosts D N} {s : StoreState D} {p k : ℕ} {m : 
             size = refl;
             reads = reads_none disk s (then_at Progress.Moved) (ap (λ (v : VolumeState D). v.device) leaves.volume) (ap (λ (v : VolumeState D). v.fault) leaves.volume ∙ h.well) TaskProgress.Moved refl;
             groups = subst (SameGroups s.volume.log) (sym log) (groups_same s.volume.log);
+            logs = subst (LogsAtMost (most_logged s.table.form its) s.volume.log p) (sym log) (inl refl);
             others = subst (λ (l : LogState). StaysForOthers s.volume.buffers w.buffers s.volume.log l p) (sym log) (stays_left s.volume.buffers w.buffers s.volume.log p i leaves.locks);
             marks = marks_still;
             keeps = keeps_still;
@@ -299,6 +315,7 @@ module _ {D N : Type 0} {disk : Ghosts D N} {s : StoreState D} {p k : ℕ} {m : 
       size = refl;
       reads = reads_none disk s (then_at Progress.Moved) (ap (λ (v : VolumeState D). v.device) same) (ap (λ (v : VolumeState D). v.fault) same ∙ h.well) TaskProgress.Moved refl;
       groups = subst (λ (v : VolumeState D). SameGroups s.volume.log v.log) (sym same) (groups_same s.volume.log);
+      logs = subst (λ (v : VolumeState D). LogsAtMost (most_logged s.table.form its) s.volume.log p v.log) (sym same) (inl refl);
       others = subst (λ (v : VolumeState D). StaysForOthers s.volume.buffers v.buffers s.volume.log v.log p) (sym same) (stays_same s.volume.buffers s.volume.log p);
       marks = marks_still;
       keeps = keeps_still;

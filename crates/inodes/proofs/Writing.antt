@@ -1,5 +1,5 @@
 -- What is true of a process that writes a file's bytes: what it holds, and that it may make its next step.
-use Rattle.std.proofs.Common.{◌≡◌, ◌≢◌, ℕ, ◌-◌, ◌<◌, ◌≤◌, List, length, refl, sym, ◌∙◌, ap, subst, arith, Some}
+use Rattle.std.proofs.Common.{◌≡◌, ◌≢◌, ℕ, ◌<◌, ◌≤◌, List, length, refl, sym, ◌∙◌, ap, subst, arith, Some}
 use Rattle.std.specs.Prelude.{IsTrue, slice_index, IsSome}
 use Rattle.inodes.specs.Common.{address_in, addresses_in, Agrees, AllocAt, AllocState, apart, AreLooking, at_hand, between, bitmap_block, block_at, block_limit, block_of_alloc, block_of_write, block_on_way, blocks_left, Branch, branch_of, branch_shallow, bytes_by, Claims, claims_of, copy_marked, count_of, counted, current_of, data_apart, data_marked, depth_of, depths, entry_at, Extent, facts_of, File, file_in, Files, FitsHeld, Form, form_of, Ghosts, grip, grip_of, grips_of, growing_of, grows, Growth, growth_of, hand_on_way, HasComeTo, HasLoggedWrite, HasSlot, HoldsForWriting, HoldsWhereGot, Image, inode_block, inode_count_of, is_branch, is_number, IsApart, IsGrowing, IsHeldIn, IsMapped, IsMarkedData, IsNode, IsOnWay, IsWriting, kept_by_write, kept_on_way, led_to, length-current, lies_short, LiesInData, LiesOnWay, locked_grip, LoggedAt, LogState, MapAt, mapped, MapState, MayAlloc, MayAllocAt, MayMapAt, MayWrite, MayWriteAt, next_block, Node, node_of_write, node_on_way, pointers_in, SameInside, slot_of_alloc, Stage, Stands, StoreState, super_of, taken_apart, taken_at, taken_by, taken_marked, taken_on_way, TakesIn, task, used_by, used_by_write, used_on_way, WriteAt, WriteState}
 use Rattle.wal.specs.Machine.{HasRoom}

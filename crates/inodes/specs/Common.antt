@@ -106,12 +106,12 @@ pub use Rattle.inodes.specs.LockState.{locks_left, LockState, place_of, slot_of}
 pub use Rattle.inodes.specs.Looks.{AreLooking, CanLook, CanTake, HasAllRead, HasFiles, HasRead, HasRoom, HoldsInode, IsAtRead, IsLate, IsRead, IsTaking, IsWrite, LooksAt, WasAnswered}
 pub use Rattle.inodes.specs.Stages.{asked, asked_by, block_at_stage, grip_at, grip_by, grip_of, grips_of, HasSlot, is_over, is_unturned, looks_left, most_behind, owes_reply, steps_left}
 pub use Rattle.inodes.specs.Readi.{first_read, Gathers, HasRoomLeft, is_done, IsMade, IsReading, reads_left, ReadState, ReadSteps, Works}
-pub use Rattle.inodes.specs.Steps.{Commits, is_made, IsHeldByAnother, LeavesLate, LeavesNumber, LeavesShares, Reads, SameShare, Steps, Waits}
+pub use Rattle.inodes.specs.Steps.{Commits, is_made, IsHeldByAnother, LeavesLate, LeavesNumber, LeavesShares, Reads, SameShare, Steps, Waits, LogsBlock, LogsAtMost}
 pub use Rattle.inodes.specs.Store.{Agrees, CanBegin, current_of, first_stage, first_taking, HasLogged, HaveLogged, HoldsAt, HoldsForFreeing, HoldsForWriting, IsOpenFor, IsSearching, IsStore, LoggedAt, reply_of, Stands, StoreState, with_begun}
 pub use Rattle.inodes.specs.Table.{AreCounted, copy_at, copy_in, entry_at, HasNot, HasPlace, HasPlaceFor, holder_at, holder_in, is_of, IsNumbered, kept, left, locked, new_table, or_else, place_for, references_at, references_in, referred, renewed, TableState, with_copy, with_holder, with_reference, without_reference}
 pub use Rattle.inodes.specs.Tasks.{no_task, task, TaskState}
 pub use Rattle.inodes.specs.Writei.{first_write, MapsOn, MayWrite, MayWriteAt, next_byte, next_place, piece, piece_of, place_of_mapped, with_piece, with_written, write_mapped, WritesNext, WriteState, WriteSteps}
-pub use Rattle.inodes.specs.Writing.{alloc_left, at_hand, block_of_alloc, block_of_write, block_on_way, blocks_behind, blocks_left, counted, counted_of, extent_of, first_branch, hand_on_way, HasLoggedWrite, HasOpen, homes_beside, IsWriting, kept_by_write, kept_on_way, last_branch, most_beside, node_of_write, node_on_way, routes_of, slot_of_alloc, used_by_write, used_on_way, way_left, writes_for, writes_left, writes_left_at}
+pub use Rattle.inodes.specs.Writing.{alloc_left, at_hand, block_of_alloc, block_of_write, block_on_way, blocks_behind, blocks_left, counted, counted_of, extent_of, first_branch, hand_on_way, HasLoggedWrite, HasOpen, homes_beside, IsWriting, kept_by_write, kept_on_way, last_branch, most_beside, node_of_write, node_on_way, routes_of, slot_of_alloc, used_by_write, used_on_way, way_left, writes_for, writes_left, writes_left_at, most_logged}
 pub use Rattle.inodes.specs.declared.freeing.Freeing.{Freeing}
 pub use Rattle.inodes.specs.declared.freeing.Got.{Got}
 pub use Rattle.inodes.specs.declared.freeing.Kept.{Kept}

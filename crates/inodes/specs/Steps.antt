@@ -1,5 +1,5 @@
 -- What a step of a task promises.
-use Rattle.std.specs.Prelude.{◌≡◌, ◌≢◌, ◌<◌, ℕ, Bool, true, false, length, Option, Some, None}
+use Rattle.std.specs.Prelude.{◌≡◌, ◌≢◌, ◌<◌, ◌⊎◌, ℕ, Bool, true, false, length, Option, Some, None}
 use Rattle.blocks.specs.Calls.{OnlyReads}
 use Rattle.blocks.specs.Disk.{Image}
 use Rattle.blocks.specs.declared.disk.Disk.{Ghosts}
@@ -16,7 +16,7 @@ use Rattle.in_flight.specs.Held.{Claim, names_claimed}
 use Rattle.in_flight.specs.HeldLaws.{HasSameFile}
 use Rattle.wal.specs.declared.types.Committed.{Committed}
 use Rattle.wal.specs.Held.{HasLock}
-use Rattle.wal.specs.Machine.{SameGroups}
+use Rattle.wal.specs.Machine.{LogState, SameGroups, noted, used_by}
 use Rattle.wal.specs.Volume.{VolumeCommits, faults_after}
 use Rattle.inodes.specs.Goes.{Goes}
 use Rattle.inodes.specs.Grips.{unlocked_grip, locked_grip}
@@ -24,6 +24,7 @@ use Rattle.inodes.specs.Holding.{claims_of}
 use Rattle.inodes.specs.Stages.{asked, asked_by, is_over, owes_reply, HasSlot, block_at_stage, grip_of, steps_left}
 use Rattle.inodes.specs.Store.{StoreState, FitsFiles, KeepsFiles, current_of}
 use Rattle.inodes.specs.Tasks.{task}
+use Rattle.inodes.specs.Writing.{most_logged}
 
 -- block b's buffer is locked by another process than p, whose task has got it
 pub record IsHeldByAnother {D : Type 0} (s : StoreState D) (p b : ℕ) : Type 0 where
@@ -104,6 +105,18 @@ pub record Reads {D N : Type 0} (disk : Ghosts D N) (old : StoreState D) (r : Ta
   pub faults : disk.fault_count new.volume.device
       ≡ faults_after (fault_of_task r) (disk.fault_count old.volume.device)
 
+-- process p's operation, which is open in the log, and added fewer blocks than so many, logs one more
+pub record LogsBlock (most : ℕ) (l : LogState) (p : ℕ) (m : LogState) : Type 0 where
+  pub added : ℕ
+  pub used : used_by l p ≡ Some added
+  pub few : added < most
+  pub block : ℕ
+  pub is : m ≡ noted l p block
+
+-- a step logs one block at most, and an operation never more than so many
+abbrev pub LogsAtMost : ℕ → LogState → ℕ → LogState → Type 0
+LogsAtMost most l p m = (m ≡ l) ⊎ LogsBlock most l p m
+
 -- THE PROMISE OF A STEP of process p's task, which carries out this operation.
 pub record Steps {D N : Type 0} (disk : Ghosts D N) (old : StoreState D) (p : ℕ) (op : Op)
     (r : TaskProgress) (new : StoreState D) : Type 0 where
@@ -114,6 +127,7 @@ pub record Steps {D N : Type 0} (disk : Ghosts D N) (old : StoreState D) (p : �
   pub goes : Goes disk (task old.tasks p).stage old p op r new
   pub tasks : LeavesTasks old p new
   pub groups : SameGroups old.volume.log new.volume.log
+  pub logs : LogsAtMost (most_logged old.table.form op) old.volume.log p new.volume.log
   pub marks : Marks (reply_at_turn r)
       (current_of disk.image old.volume) (current_of disk.image new.volume)
   pub waits : Waits old p r new

@@ -1,5 +1,5 @@
 -- Why a task's next step has to wait, and that of the tasks under way one need not.
-use Rattle.std.specs.Prelude.{◌≡◌, ℕ, false, Option, Some, None}
+use Rattle.std.specs.Prelude.{◌≡◌, ◌≢◌, ℕ, false, Option, Some, None}
 use Rattle.blocks.specs.declared.disk.Disk.{Ghosts}
 use Rattle.model.specs.declared.types.operations.Op.{Op}
 use Rattle.model.specs.declared.types.operations.TaskProgress.{TaskProgress}
@@ -14,7 +14,7 @@ use Rattle.inodes.specs.declared.ilock.LockAt.{LockAt}
 use Rattle.inodes.specs.declared.tasks.Stage.{Stage}
 use Rattle.inodes.specs.declared.writei.WriteAt.{WriteAt}
 use Rattle.inodes.specs.Freeing.{block_next, now_of, slot_kept}
-use Rattle.inodes.specs.Stages.{is_over}
+use Rattle.inodes.specs.Stages.{HasSlot, is_over}
 use Rattle.inodes.specs.Steps.{Steps}
 use Rattle.inodes.specs.Store.{StoreState}
 use Rattle.inodes.specs.Table.{TableState, holder_at}
@@ -78,6 +78,15 @@ pub record SomeoneGoesOn {D : Type 0} (s : StoreState D) : Type 0 where
 -- NOBODY WAITS FOR EVER: where a task is under way, one is that need not wait
 abbrev pub NobodyWaitsForEver : {D : Type 0} → StoreState D → Type 0
 NobodyWaitsForEver s = (p : ℕ) → is_over (task s.tasks p).stage ≡ false → SomeoneGoesOn s
+
+-- a task that stands there holds no buffer
+abbrev pub HoldsNone : Stage → Type 0
+HoldsNone a = (i : ℕ) → HasSlot a i → ⊥
+
+-- WHO HOLDS BUFFERS ALONE never waits for one that is free
+abbrev pub AloneGetsBuffers : {D : Type 0} → StoreState D → Type 0
+AloneGetsBuffers s = (p : ℕ) → ((q : ℕ) → q ≢ p → HoldsNone (task s.tasks q).stage)
+    → sleep_cause s p ≢ Some Why.NoBuffer
 
 -- a step that has to wait has this cause
 abbrev pub SleepsForCause : {D N : Type 0} → Ghosts D N → Type 0

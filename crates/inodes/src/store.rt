@@ -14,7 +14,7 @@ ghost use Rattle.inodes.specs.Goes.{over};
 ghost use Rattle.inodes.specs.Steps.{Steps, Commits};
 ghost use Rattle.inodes.specs.Stages.{is_over};
 ghost use Rattle.inodes.specs.Table.{new_table};
-ghost use Rattle.inodes.specs.Waiting.{NobodyWaitsForEver};
+ghost use Rattle.inodes.specs.Waiting.{AloneGetsBuffers, NobodyWaitsForEver};
 ghost use Rattle.inodes.specs.declared.tasks.Stage.TheVariants as stage;
 
 use crate::{Ialloc, Ilock, Inodes, Progress, Stage, Tasks};
@@ -89,7 +89,8 @@ impl<D: Disk> Store<D> {
 
     /// Does nothing: it says what is true of every store. Where a task is under way, one is whose
     /// next step need not wait: xv6 and Bach argue so of their sleep locks and buffers (Bach, "The
-    /// Buffer Cache": "Scenarios for retrieval of a buffer"); here it is proved.
+    /// Buffer Cache": "Scenarios for retrieval of a buffer"); here it is proved. A task that alone
+    /// holds buffers never waits for a free one.
     pub fn known(&self)
         ensures store { IsStore D.image self.now }
         ensures volume { IfNone self.now.volume.fault (Joint (D.image self.now.volume.device)
@@ -98,6 +99,7 @@ impl<D: Disk> Store<D> {
             → D.leaves self.now.volume.device (D.moment self.now.volume.device) z
             → Survives self.now.volume.log.commit (D.image self.now.volume.device) z) }
         ensures goes { IfNone self.now.volume.fault (NobodyWaitsForEver self.now) }
+        ensures alone { IfNone self.now.volume.fault (AloneGetsBuffers self.now) }
     {
         self.volume.known();
     }

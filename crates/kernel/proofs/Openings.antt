@@ -2,7 +2,7 @@
 use Rattle.std.proofs.Common.{get_or, ◌≡◌, ℕ, ◌+◌, ◌*◌, ◌<◌, ◌≤◌, true, cond, List, [], length, replicate, refl, sym, ◌∙◌, ap, subst, arith, ⊎_elim, None, Err, inl, inr}
 use Rattle.std.specs.Prelude.{count_by, Result, Ok, IfOk, OnErr, ◌⊎◌}
 use Rattle.std.proofs.lemmas.List.Folds.{sum_by-replicate}
-use Rattle.kernel.specs.Common.{ArePaired, block_at, cases_lt, counted, empty_lawful, Entry, facts_of, false≢true, Form, form_of, fresh_world, get_or-replicate, get_or_past, Ghosts, idle, Image, inode_count_of, is_before, is_known_magic, is_lawful_log, is_lawful_super, is_over, IsCounted, IsPaired, Keeps, length-recovered, length-replicate, logged_count, logged_count-left, long_geometry, Looks, new_table, no_task, OnBadLog, OnlyReads, OnNoMemory, Process, process, recovered, recovered_low, Recovers, RefusesToRecover, Rose, sound_verdict, StoreState, Super, super_of, syncs_to_recover, task, TaskState, u32_at, verdict, verdict_sound, VolumeState}
+use Rattle.kernel.specs.Common.{ArePaired, block_at, cases_lt, counted, empty_lawful, Entry, facts_of, false≢true, Form, form_of, fresh_world, get_or-replicate, get_or_past, Ghosts, idle, Image, inode_count_of, is_before, is_known_magic, is_lawful_log, is_lawful_super, is_over, IsCounted, IsPaired, Keeps, length-recovered, length-replicate, logged_count, logged_count-left, long_geometry, new_table, no_task, OnlyReads, OnNoMemory, Process, process, recovered, recovered_low, Recovers, RefusesToRecover, sound_verdict, StoreState, Super, super_of, syncs_to_recover, task, TaskState, u32_at, verdict, verdict_sound, VolumeState}
 use Rattle.model.specs.Lemmas.Super.{super_of-recovered}
 use Rattle.wal.specs.declared.faults.RecoverFault.{RecoverFault}
 use Rattle.kernel.specs.Lemmas.Openings.{lawful_super}

@@ -49,9 +49,11 @@ impl<D: Disk, I: Intake, H: Herald> Model for Kernel<D, I, H> {
 }
 
 impl<D: Disk, I: Intake, H: Herald> Kernel<D, I, H> {
-    ghost use Rattle.std.specs.Prelude.{◌≡◌, ◌<◌, length, None, true};
+    ghost use Rattle.std.specs.Prelude.{◌≡◌, ◌<◌, length, IfNone, None, true};
     ghost use Rattle.history.specs.Processes.{process, is_before, is_behind, is_ending};
+    ghost use Rattle.inodes.specs.Waiting.{AloneGetsBuffers};
     ghost use Rattle.kernel.specs.Known.{Known};
+    ghost use Rattle.wal.specs.Machine.{IsLog};
     ghost use Rattle.history.specs.Alone.{is_committing_at};
     ghost use Rattle.kernel.specs.Acts.{Acts};
     ghost use Rattle.kernel.specs.Progress.{MakesProgress};
@@ -66,6 +68,16 @@ impl<D: Disk, I: Intake, H: Herald> Kernel<D, I, H> {
     {
         self.store.known();
         self.store.volume().cache().known();
+    }
+
+    /// Does nothing: it says what room there is between two steps. Where the disk hasn't failed, the log
+    /// has its homes and its reservations in order, and a process that alone holds buffers never waits
+    /// for a free one.
+    pub fn room_known(&self)
+        ensures log { IfNone self.now.store.volume.fault (IsLog self.now.store.volume.log) }
+        ensures alone { IfNone self.now.store.volume.fault (AloneGetsBuffers self.now.store) }
+    {
+        self.store.known();
     }
 
     /// One step of a process: the next of its operation, or the beginning of the one that waits.

@@ -1,5 +1,5 @@
 -- What a whole run of a reading gathers.
-use Rattle.std.proofs.Common.{◌≡◌, ◌≢◌, ℕ, ◌+◌, ◌-◌, ◌/◌, ◌<◌, ◌≤◌, ◌++◌, Bool, true, false, List, [], ◌∷◌, length, min, refl, sym, ap, ◌∙◌, append_assoc, Some, arith}
+use Rattle.std.proofs.Common.{◌≡◌, ◌≢◌, ℕ, ◌+◌, ◌-◌, ◌/◌, ◌<◌, ◌++◌, Bool, true, false, List, [], ◌∷◌, length, min, refl, sym, ap, ◌∙◌, append_assoc, Some, arith}
 use Rattle.std.specs.Prelude.{◌||◌, nat_le, ◌==◌}
 use Rattle.inodes.specs.Common.{Dinode, eqb-false, eqb-true, first_read, Form, GatheredBytes, Ghosts, leb-false, length-bytes, or_parts, part_cut, part_in_two, part_of, ReadState, target_for}
 use Rattle.inodes.specs.ReadRuns.{ReadMade, IsReadRun, EndsWithBytes, ReadsPart}

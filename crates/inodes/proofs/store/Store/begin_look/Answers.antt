@@ -1,7 +1,7 @@
-use Rattle.std.proofs.Common.{rules, ◌≡◌, ◌<◌, ℕ, length, sym, ◌∙◌, ap, subst, List, Some}
+use Rattle.std.proofs.Common.{rules, ◌≡◌, ℕ, sym, ◌∙◌, ap, subst, List, Some}
 use Rattle.inodes.specs.Store.{FitsFiles}
 use Rattle.std.specs.Prelude.{slice_set}
-use Rattle.inodes.specs.Common.{asked, CanLook, IsStore, LockAt, LockState, Stage, StoreState, TaskState}
+use Rattle.inodes.specs.Common.{CanLook, IsStore, LockAt, LockState, Stage, StoreState, TaskState}
 use Rattle.inodes.proofs.Taking.{look_task, store_looks, files_look}
 use Rattle.inodes.proofs.store.Store.begin_look.Given.{Over}
 use Rattle.inodes.proofs.store.Store.begin_look.Goals.{After-begin}

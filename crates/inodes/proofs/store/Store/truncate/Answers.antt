@@ -1,4 +1,4 @@
-use Rattle.std.proofs.Common.{rules, ◌≡◌, ◌<◌, length, set, get_or-set_same, sym, ◌∙◌, ap, subst, List, Option, None}
+use Rattle.std.proofs.Common.{rules, ◌≡◌, ◌<◌, length, set, get_or-set_same, sym, ◌∙◌, ap, subst, List, Option, None, Some}
 use Rattle.std.specs.Prelude.{IfSome}
 use Rattle.inodes.specs.Common.{Dinode, FreesOn, inode_left, IsStore, no_task, now_of, stage_of_trunc, Progress, progress_of_trunc, renewed, Stage, Steps, StoreState, table_of_trunc, TableState, task, TaskProgress, TaskState}
 use Rattle.inodes.specs.InPlace.{freeing_at}
@@ -69,7 +69,7 @@ returns-in-Ok g c =
       step = λ op is. subst (λ (t : TableState). Steps g.D.Disk c.args.self.now c.args.pid op TaskProgress.Moved (record { volume = c.trunc_on.new.volume; tasks = c.go.new.self; table = t })) (sym left)
           (subst (λ (o : StoreState _). Steps g.D.Disk o c.args.pid op TaskProgress.Moved (record { volume = c.trunc_on.new.volume; tasks = c.go.new.self; table = renewed s.table c.args.place (inode_left c.args.trunc.value.machine) })) c.self.view_is
           (steps_truncated g.D.Disk s c.args.pid c.args.place c.args.trunc.value c.self.invariant well stood lt (where_none s.volume.fault well c.known.ensures.joint)
-          (Progress.Over tt) c.trunc_on.ensures.now c.trunc_on.new.volume c.go.new.self steps tasks op));
+          (Progress.Over tt) c.trunc_on.ensures.now c.trunc_on.new.volume c.go.new.self steps tasks op (subst (λ (o : StoreState _). (task o.tasks c.args.pid).op ≡ Some op) (sym c.self.view_is) is)));
     }
 
 pub returns-in-Err : goal.returns-in-Err
@@ -88,5 +88,5 @@ returns-in-Err g c =
           (subst (λ (t : TableState). Steps g.D.Disk c.args.self.now c.args.pid op (progress_of_trunc r) (record { volume = c.trunc_on.new.volume; tasks = c.trunc_on.new.self; table = t })) table
           (subst (λ (o : StoreState _). Steps g.D.Disk o c.args.pid op (progress_of_trunc r) (record { volume = c.trunc_on.new.volume; tasks = c.trunc_on.new.self; table = table_of_trunc s.table c.args.place m r })) c.self.view_is
           (steps_truncated g.D.Disk s c.args.pid c.args.place m c.self.invariant well (search rules) (search rules) (where_none s.volume.fault well c.known.ensures.joint)
-          r n c.trunc_on.new.volume c.trunc_on.new.self c.trunc_on.ensures.steps goes op)));
+          r n c.trunc_on.new.volume c.trunc_on.new.self c.trunc_on.ensures.steps goes op (subst (λ (o : StoreState _). (task o.tasks c.args.pid).op ≡ Some op) (sym c.self.view_is) is))));
     }
