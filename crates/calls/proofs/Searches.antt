@@ -1,4 +1,4 @@
--- A creation of a kernel's only process makes the lowest free number, or none where each is taken.
+-- A creation makes the lowest free number, or none where each is taken.
 use Rattle.std.proofs.Common.{◌≡◌, ◌≢◌, ◌⊎◌, ◌∙◌, inl, inr, ◌<◌, ◌≤◌, ℕ, true, false, Bool, cond, ltb, ◌&&◌, length, Option, Some, None, refl, sym, ap, subst, ⊎_elim, arith}
 use Rattle.std.specs.Prelude.{IsTrue, is_none}
 use Rattle.std.proofs.lemmas.Bool.{and_parts, cases_eq, lt-ltb, ltb-true, ne_eqb}
@@ -33,9 +33,11 @@ use Rattle.model.specs.declared.types.operations.Step.TheVariants as step
 use Rattle.kernel.specs.declared.class.OpClass.TheVariants as waiting_as
 use Rattle.calls.specs.Calls.{MakesLowest, MakesNoneIfFull, image_on}
 use Rattle.calls.specs.Stepping.{Plain}
-use Rattle.calls.proofs.Called.{IsAnswered, IsCall, kept_then}
-use Rattle.calls.proofs.Idle.{numbers, on_disk}
-use Rattle.calls.proofs.Stages.{BeforeTurn, AfterTurn, Committing, Over, IsKept, IsUnturned, Waits, Where, kind_then}
+use Rattle.calls.proofs.Called.{IsCall, given, kept_then}
+use Rattle.calls.proofs.Counting.{IsAnswered}
+use Rattle.calls.proofs.Idle.{lone_idle, numbers, on_disk}
+use Rattle.calls.proofs.Sole.{IsSole}
+use Rattle.calls.proofs.Stages.{AfterTurn, Answered, BeforeTurn, Committing, IsKept, IsUnturned, Over, Waits, Where, kind_then}
 
 -- ---- a creation, where number j is free in the image before it
 
@@ -56,10 +58,11 @@ module _ {D N : Type 0} (disk : Ghosts D N) (cur : Image) (n j kind : ℕ) (numb
   -- what is kept of the creation
   abbrev Searching : Where → StoreState D → Type 0
   Searching Waits s = IsUnchanged s
-  Searching BeforeTurn s = IsUnchanged s × MayCome s
-  Searching (AfterTurn r) s = Spares r × (r ≢ None)
-  Searching (Over r) s = Spares r
+  Searching (BeforeTurn g) s = IsUnchanged s × MayCome s
+  Searching (AfterTurn g r) s = Spares r × (r ≢ None)
+  Searching (Over g r) s = Spares r
   Searching (Committing r) s = Spares r
+  Searching (Answered r) s = Spares r
 
   -- a step of the search doesn't see the number taken
   sees_free : (s t : StoreState D) (x : TaskProgress) → Steps disk s 0 (Create kind) x t → IsUnchanged s → IsAhead 0 j s → SearchesOn 0 j x t
@@ -104,19 +107,21 @@ module _ {D N : Type 0} (disk : Ghosts D N) (cur : Image) (n j kind : ℕ) (numb
   refused_so None told passed = cc told
   refused_so (Some i) told passed = cc told
 
-  searching_kept : IsKept disk (Create kind) Searching
+  searching_kept : IsKept disk 0 (Create kind) Searching
   searching_kept = record {
     begins = λ s change was. (record { same = was.same; count = was.count }, search_begins 0 j kind s);
     looks = λ s count look was. absurd (let no = (kind_then (is_at_once s.table.inode_count (Create kind)) (kind_of (Create kind)) (waiting_as.Look count) (λ e. cc e) look).1 in cc no);
     refused = λ s was. refused_so;
-    works = works_on;
-    turns = λ s t r steps was. let so = turns_so s t r steps was in (so, so.0);
-    goes = λ s t r x going steps spares. spares;
-    decides = λ s t r reply was steps spares. ⊎_elim (λ (none : r ≡ None). absurd (spares.1 none)) (λ (same : r ≡ Some reply). (subst Spares same spares.0, λ e. cc e)) was;
-    ends = λ s t r steps spares. spares.0;
+    works = λ g. works_on;
+    turns = λ g. turns_so;
+    turns_over = λ g s t r over steps was. (turns_so s t r steps was).0;
+    goes = λ g s t r x going steps spares. spares;
+    decides = λ g s t r reply was steps spares. ⊎_elim (λ (none : r ≡ None). absurd (spares.1 none)) (λ (same : r ≡ Some reply). (subst Spares same spares.0, λ e. cc e)) was;
+    ends = λ g s t r steps spares. spares.0;
     told = λ s r spares. spares.0;
-    leaves = λ s r spares. spares;
-    closes = λ s r commits spares. spares;
+    ends_alone = λ s t r steps spares. spares.0;
+    leaves = λ g s r spares. spares;
+    closes = λ g s r commits spares. spares;
     commits = λ s t r x commits spares. spares;
     committed = λ s r spares. spares;
   }
@@ -147,26 +152,34 @@ made_below form files last kind i is = by_kind (is_kind kind) is
 
 -- ---- its call
 
-module _ {D N : Type 0} (disk : Ghosts D N) (op : Op) (r : Step) (k m : Plain D) (call : IsCall disk op r k m) (so : r ≡ step.Answered) (is : IsAnswered op k m) where
+-- a creation passes no number by that is free in the current image
+pub passes_none : {D N : Type 0} (disk : Ghosts D N) (op : Op) (r : Step) (k m : Plain D) (call : IsCall disk 0 op r k m) → r ≡ step.Answered → (is : IsAnswered 0 op (given disk 0 op r k m call) m) (kind j : ℕ) (o : Option ℕ) → op ≡ Create kind → is.answer.reply ≡ reply_of o → IsTrue (is_number k.store.table.inode_count j)
+    → (inode_of (current_of disk.image k.store.volume) j).kind ≡ 0 → IsPassedBy o j → ⊥
+passes_none disk op r k m call so is kind j o creates told number free passed =
+    let cur = current_of disk.image k.store.volume in
+    let n = k.store.table.inode_count in
+    let keeps = subst (λ (p : Op). IsKept disk 0 p (Searching disk cur n j kind number free)) (sym creates) (searching_kept disk cur n j kind number free) in
+    kept_then disk 0 op r k m call (Searching disk cur n j kind number free) keeps (record { same = refl; count = refl }) so is o (ap (λ (q : Reply). Some q) told) passed
+
+module _ {D N : Type 0} (disk : Ghosts D N) (op : Op) (r : Step) (k m : Plain D) (sole : IsSole disk op r k m) (so : r ≡ step.Answered) (is : IsAnswered 0 op (given disk 0 op r k m sole.call) m) where
   abbrev x : Image
   x = image_on disk.image k
 
   -- no number without a file is passed by
-  passes_none : (kind j : ℕ) (o : Option ℕ) → op ≡ Create kind → is.answer.reply ≡ reply_of o → 1 ≤ j → j < inode_count_of x → file_in (files_of x) j ≡ None → IsPassedBy o j → ⊥
-  passes_none kind j o creates told low high none passed =
+  passes_no_file : (kind j : ℕ) (o : Option ℕ) → op ≡ Create kind → is.answer.reply ≡ reply_of o → 1 ≤ j → j < inode_count_of x → file_in (files_of x) j ≡ None → IsPassedBy o j → ⊥
+  passes_no_file kind j o creates told low high none passed =
+      let all = lone_idle k.world sole.rests.one sole.rests.idle in
       let number : IsTrue (is_number (inode_count_of x) j) = rw (lt-ltb 0 j low, lt-ltb j (inode_count_of x) high) refl in
-      let free = free_number x j low high none in
-      let keeps = subst (λ (p : Op). IsKept disk p (Searching disk x (inode_count_of x) j kind number free)) (sym creates) (searching_kept disk x (inode_count_of x) j kind number free) in
-      kept_then disk op r k m call so is (Searching disk x (inode_count_of x) j kind number free) keeps
-      (record { same = on_disk disk k call.known call.rests.one call.rests.idle call.rests.well; count = numbers disk k call.known call.rests.one call.rests.idle call.rests.well })
-      o (ap (λ (q : Reply). Some q) told) passed
+      passes_none disk op r k m sole.call so is kind j o creates told
+      (subst (λ (n : ℕ). IsTrue (is_number n j)) (sym (numbers disk k sole.known all sole.rests.well)) number)
+      (ap (λ (y : Image). (inode_of y j).kind) (on_disk disk k sole.known all sole.rests.well) ∙ free_number x j low high none) passed
 
   pub lowest : (last : Files) → after (form_of x) (files_of x) op is.answer.reply ≡ Some last → MakesLowest x op is.answer.reply
   lowest last runs kind i j creates made low lower none =
       let made_so = sym (ap (λ (p : Op). after (form_of x) (files_of x) p is.answer.reply) creates ∙ ap (after (form_of x) (files_of x) (Create kind)) made) ∙ runs in
       let below = made_below (form_of x) (files_of x) last kind i made_so in
       let count = length-files_of x in
-      passes_none kind j (Some i) creates made low (omega (arith, below, lower, count)) none lower
+      passes_no_file kind j (Some i) creates made low (omega (arith, below, lower, count)) none lower
 
   pub none_free : MakesNoneIfFull x op is.answer.reply
-  none_free kind j creates made low high none = passes_none kind j None creates made low high none tt
+  none_free kind j creates made low high none = passes_no_file kind j None creates made low high none tt

@@ -35,9 +35,10 @@ use Rattle.model.specs.declared.types.operations.Step.TheVariants as step
 use Rattle.kernel.specs.declared.class.OpClass.TheVariants as waiting_as
 use Rattle.calls.specs.Calls.{ShortIsFull, image_on}
 use Rattle.calls.specs.Stepping.{Plain}
-use Rattle.calls.proofs.Called.{IsAnswered, IsCall, call_opening, kept_then}
-use Rattle.calls.proofs.Idle.{bitmap, current, long, on_disk}
-use Rattle.calls.proofs.Stages.{BeforeTurn, AfterTurn, Committing, Over, IsGoing, IsKept, Waits, Where, kind_then}
+use Rattle.calls.proofs.Called.{call_opening, given, kept_then}
+use Rattle.calls.proofs.Idle.{bitmap, current, lone_idle, long, on_disk}
+use Rattle.calls.proofs.Sole.{IsDone, IsSole}
+use Rattle.calls.proofs.Stages.{AfterTurn, Answered, BeforeTurn, Committing, IsGoing, IsKept, Over, Waits, Where, kind_then}
 
 -- ---- a write that gives fewer bytes
 
@@ -84,10 +85,11 @@ module _ {D N : Type 0} (disk : Ghosts D N) (i off done : ℕ) (bytes : List ℕ
   -- what is kept of the write
   abbrev Writing : Where → StoreState D → Type 0
   Writing Waits s = HasCounts s
-  Writing BeforeTurn s = HasNumber × HasCounts s
-  Writing (AfterTurn r) s = BehindTurn r s
-  Writing (Over r) s = Judged r s
+  Writing (BeforeTurn g) s = HasNumber × HasCounts s
+  Writing (AfterTurn g r) s = BehindTurn r s
+  Writing (Over g r) s = Judged r s
   Writing (Committing r) s = Judged r s
+  Writing (Answered r) s = Judged r s
 
   -- the inode's block is not the bitmap's
   apart_of : HasNumber → inode_block i ≢ e.bitmap
@@ -95,7 +97,7 @@ module _ {D N : Type 0} (disk : Ghosts D N) (i off done : ℕ) (bytes : List ℕ
 
   -- ---- its turn
 
-  turns_so : (s t : StoreState D) (r : Option Reply) → Steps disk s 0 op (progress.Turned r) t → HasNumber × HasCounts s → Writing (AfterTurn r) t × Writing (Over r) t
+  turns_so : (s t : StoreState D) (r : Option Reply) → Steps disk s 0 op (progress.Turned r) t → HasNumber × HasCounts s → BehindTurn r t × Judged r t
   turns_so s t r steps (number, counts) = (by_reply r turned.begins turned.other, λ is. absurd (turned.other done is))
     where
       turned : TurnsToWrite 0 i (length bytes) (extent_of s.table.form s.table.inode_count s.volume.log.size) r t
@@ -169,35 +171,41 @@ module _ {D N : Type 0} (disk : Ghosts D N) (i off done : ℕ) (bytes : List ℕ
       let unrefused = (kind_then (is_at_once s.table.inode_count op) (kind_of op) waiting_as.Change (λ e. cc e) change).0 in
       subst (λ (c : ℕ). IsTrue (is_number c i)) counts.numbers (not-false (is_number s.table.inode_count i) (or_parts (ltb transfer_limit (length bytes)) (not (is_number s.table.inode_count i)) unrefused).1)
 
-  writing_kept : IsKept disk op Writing
+  writing_kept : IsKept disk 0 op Writing
   writing_kept = record {
     begins = λ s change counts. (number_of s change counts, record { form_is = counts.form_is; numbers = counts.numbers; size_is = counts.size_is });
     looks = λ s count look counts. absurd (let no = (kind_then (is_at_once s.table.inode_count op) (kind_of op) (waiting_as.Look count) (λ e. cc e) look).1 in cc no);
     refused = λ s counts is. absurd (refused_by (ltb transfer_limit (length bytes)) is);
-    works = λ s t x unturned steps from. (from.0, record { form_is = steps.tasks.form ∙ from.1.form_is; numbers = steps.tasks.numbers ∙ from.1.numbers; size_is = steps.groups.size ∙ from.1.size_is });
-    turns = turns_so;
-    goes = goes_by;
-    decides = decides_by;
-    ends = ends_by;
+    works = λ g s t x unturned steps from. (from.0, record { form_is = steps.tasks.form ∙ from.1.form_is; numbers = steps.tasks.numbers ∙ from.1.numbers; size_is = steps.groups.size ∙ from.1.size_is });
+    turns = λ g s t r steps from. (turns_so s t r steps from).0;
+    turns_over = λ g s t r over steps from. (turns_so s t r steps from).1;
+    goes = λ g. goes_by;
+    decides = λ g. decides_by;
+    ends = λ g. ends_by;
     told = told_by;
-    leaves = λ s r judged. judged;
-    closes = λ s r commits judged. judged;
+    ends_alone = ends_by;
+    leaves = λ g s r judged. judged;
+    closes = λ g s r commits judged. judged;
     commits = λ s t r x commits judged is b below. ap (λ (bits : List ℕ). has_bit bits b) (commits.volume.current.agree e.bitmap (behind_log e.bitmap (omega arith))) ∙ judged is b below;
     committed = λ s r judged. judged;
   }
 
 -- ---- so no block is free on the disk
 
-pub short_full : {D N : Type 0} (disk : Ghosts D N) (op : Op) (r : Step) (k m : Plain D) (call : IsCall disk op r k m) → r ≡ step.Answered → (is : IsAnswered op k m) → m.store.volume.fault ≡ None → ShortIsFull (image_on disk.image m) op is.answer.reply
-short_full {D} disk op r k m call so is well i off done bytes writes wrote short b below =
+pub short_full : {D N : Type 0} (disk : Ghosts D N) (op : Op) (r : Step) (k m : Plain D) (sole : IsSole disk op r k m) → r ≡ step.Answered → (done : IsDone op (given disk 0 op r k m sole.call) m) → m.store.volume.fault ≡ None → ShortIsFull (image_on disk.image m) op done.is.answer.reply
+short_full {D} disk op r k m sole so done well i off count bytes writes wrote short b below =
     let y = image_on disk.image m in
-    let opening = call_opening disk op r k m call in
+    let opening = call_opening disk 0 op r k m sole.call in
     let n = k.store.table.inode_count in
     let size = k.store.volume.log.size in
-    let keeps = subst (λ (o : Op). IsKept disk o (Writing disk i off done bytes short k.store.table.form n size)) (sym writes) (writing_kept disk i off done bytes short k.store.table.form n size) in
-    let full = kept_then disk op r k m call so is (Writing disk i off done bytes short k.store.table.form n size) keeps (record { form_is = refl; numbers = refl; size_is = refl }) (ap (λ (q : Reply). Some q) wrote) in
-    let same : m.store.table.inode_count ≡ n = call.known_now.numbers ∙ ap (λ (d : D). inode_count_of (disk.image d)) opening ∙ sym call.known.numbers in
-    let length_then : length y ≡ size = long disk m call.known_now is.one is.idle well ∙ ap (λ (d : D). length (disk.image d)) opening ∙ sym (current disk k call.known call.rests.one call.rests.idle call.rests.well).size in
-    ap (λ (c : ℕ). has_bit (block_at y c) b) (bitmap disk m call.known_now is.one is.idle well ∙ ap bitmap_block same)
-    ∙ ap (λ (x : Image). has_bit (block_at x (bitmap_block n)) b) (sym (on_disk disk m call.known_now is.one is.idle well))
+    let all = lone_idle k.world sole.rests.one sole.rests.idle in
+    let all_now = lone_idle m.world done.one done.idle in
+    let known = sole.call.known_now in
+    let P = Writing disk i off count bytes short k.store.table.form n size in
+    let keeps = subst (λ (o : Op). IsKept disk 0 o P) (sym writes) (writing_kept disk i off count bytes short k.store.table.form n size) in
+    let full = kept_then disk 0 op r k m sole.call P keeps (record { form_is = refl; numbers = refl; size_is = refl }) so done.is (ap (λ (q : Reply). Some q) wrote) in
+    let same : m.store.table.inode_count ≡ n = known.numbers ∙ ap (λ (d : D). inode_count_of (disk.image d)) opening ∙ sym sole.known.numbers in
+    let length_then : length y ≡ size = long disk m known all_now well ∙ ap (λ (d : D). length (disk.image d)) opening ∙ sym (current disk k sole.known all sole.rests.well).size in
+    ap (λ (c : ℕ). has_bit (block_at y c) b) (bitmap disk m known all_now well ∙ ap bitmap_block same)
+    ∙ ap (λ (x : Image). has_bit (block_at x (bitmap_block n)) b) (sym (on_disk disk m known all_now well))
     ∙ full b (omega (arith, below, length_then))

@@ -9,11 +9,12 @@ use Rattle.model.specs.declared.types.image.File.{File}
 use Rattle.model.specs.declared.types.image.Form.{Form}
 use Rattle.model.specs.declared.types.operations.Entry.{Entry}
 use Rattle.model.specs.declared.types.operations.Reply.{Reply}
-use Rattle.model.specs.Crash.{IsUntouched, due_labels, labels_of}
+use Rattle.model.specs.Crash.{IsUntouched, Keeps, due_labels, labels_of}
 use Rattle.model.specs.Files.{Files, file_in, file_of, files_of}
-use Rattle.model.specs.Journal.{is_making, is_number}
+use Rattle.model.specs.Journal.{is_making, is_number, kept}
 use Rattle.model.specs.Layout.{inode_of, inode_count_of, super_in}
 use Rattle.model.specs.Lemmas.FileNumbers.{below_there, file_in-files_of, length-files_of, none_at_zero}
+use Rattle.model.specs.Log.{recovered}
 use Rattle.model.specs.Operations.{after}
 use Rattle.calls.specs.Lemmas.Unshown.{due_there}
 use Rattle.calls.specs.Unshown.{KeepsUnshown}
@@ -44,6 +45,9 @@ used_there x i there =
 pub record HasMarks (opening : Image) (entries : List Entry) (x : Image) : Type 0 where
   pub untouched : IsUntouched opening x
   pub labels : (i : ℕ) → (inode_of x i).kind ≢ 0 → IsTrue (is_number (inode_count_of opening) i) → labels_of x i ≡ due_labels opening entries i
+
+pub kept_marks : (opening : Image) (es : List Entry) (x : Image) (c : ℕ) → Keeps opening es x c → HasMarks opening (kept (inode_count_of opening) es c) (recovered x)
+kept_marks opening es x c keeps = record { untouched = keeps.untouched; labels = keeps.labels }
 
 module _ (o x y : Image) (es : List Entry) (size : length x ≡ length o) (was : HasMarks o es x) where
   untouched_since : IsUntouched o y → IsUntouched x y

@@ -3,3 +3,4 @@ pub mod Sizes
 pub mod Reaching
 pub mod Unshown
 pub mod Entries
+pub mod Both

@@ -1,8 +1,10 @@
 pub mod Stepping
 pub mod Unshown
 pub mod Calls
+pub mod Transactions
 pub mod Opening
 pub mod Answered
 pub mod Files
 pub mod Stopped
+pub mod Pairing
 pub mod Lemmas

@@ -7,7 +7,8 @@
 //! (`kernel::laws`), so a call ends with its answer, with a fault of the disk, or with `NoMemory`.
 //!
 //! Changes of files, each a call of a kernel of one process: what they make of the files on its
-//! disk, said of lists of files alone.
+//! disk, said of lists of files alone. With a second process (`transactions`) several calls are kept
+//! together or not at all.
 #![tactic(auto)]
 
 mod calling;
@@ -16,6 +17,7 @@ mod fault;
 mod opening;
 mod resting;
 mod stepping;
+pub mod transactions;
 
 pub use calling::{Sole, call};
 pub use changes::{append, create, empty, remove};

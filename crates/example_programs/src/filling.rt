@@ -1,7 +1,7 @@
 // A transaction that is too large.
 ghost use Rattle.std.specs.Prelude.{◌≡◌, ◌+◌, ◌<◌, OnOk};
 ghost use Rattle.calls.specs.Calls.{call_count};
-ghost use Rattle.transactions.specs.Transactions.{IsInside};
+ghost use Rattle.calls.specs.Transactions.{IsInside};
 
 use crate::pairing::{new_disk, open, print_file};
 use anyhow::bail;
@@ -9,7 +9,7 @@ use blocks::Disk;
 use model::content::Content;
 use model::types::Op;
 use std::alloc::Global;
-use transactions::{Pair, TransactionFault, abandon, begin, call, commit};
+use calls::transactions::{Pair, TransactionFault, abandon, begin, call, commit};
 
 // The bytes of a write, which are three blocks.
 const BYTES: &[u8] = &[7; 3072];

@@ -1,7 +1,7 @@
 // A file that is made and written in one transaction: all of it or nothing.
 ghost use Rattle.std.specs.Prelude.{◌≡◌};
 ghost use Rattle.calls.specs.Calls.{call_count};
-ghost use Rattle.transactions.specs.Transactions.{Rests};
+ghost use Rattle.calls.specs.Transactions.{Rests};
 
 use crate::pairing::{new_disk, open, print_file};
 use anyhow::bail;
@@ -9,7 +9,7 @@ use blocks::{Disk, FaultyDisk, Kind};
 use model::content::Content;
 use model::types::{Op, Reply};
 use std::alloc::Global;
-use transactions::{Pair, TransactionFault, abandon, begin, call, make_both};
+use calls::transactions::{Pair, TransactionFault, abandon, begin, call, make_both};
 
 // More writes than the transaction makes.
 const MOST_WRITES: u64 = 20;

@@ -1,13 +1,13 @@
 // A new image on a disk, a kernel of two processes over one, and what it has as file 1.
 ghost use Rattle.std.specs.Prelude.{◌≡◌, IfOk};
 ghost use Rattle.calls.specs.Calls.{call_count};
-ghost use Rattle.transactions.specs.Transactions.{Rests};
+ghost use Rattle.calls.specs.Transactions.{Rests};
 
 use blocks::{Disk, MemDisk};
 use model::types::{Op, Reply};
 use offline::mkfs;
 use std::alloc::Global;
-use transactions::{Pair, abandon, begin, call, open_pair};
+use calls::transactions::{Pair, abandon, begin, call, open_pair};
 
 // The blocks and the inode numbers of an image.
 const SIZE: u32 = 200;

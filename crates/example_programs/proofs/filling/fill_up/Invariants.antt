@@ -1,6 +1,6 @@
 use Rattle.std.proofs.Common.{◌+◌, ◌<◌}
 use Rattle.calls.specs.Calls.{call_count}
-use Rattle.transactions.specs.Transactions.{IsInside}
+use Rattle.calls.specs.Transactions.{IsInside}
 use Rattle.example_programs.proofs.filling.fill_up.Given as goal
 
 -- the transaction is under way, and each write was one call

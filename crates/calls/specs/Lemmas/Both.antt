@@ -1,0 +1,88 @@
+-- Two calls of a transaction, by the promises of its parts alone.
+use Rattle.std.proofs.Common.{arith, List, length, ◌≡◌, ◌∙◌, ℕ, Some, sym, ap, subst, inl, inr, ⊎_elim}
+use Rattle.blocks.specs.Disk.{Image, LeavesOnly}
+use Rattle.blocks.specs.Lemmas.Moments.{joined}
+use Rattle.blocks.specs.declared.disk.Disk.{Ghosts}
+use Rattle.model.specs.declared.types.image.Form.{Form}
+use Rattle.model.specs.declared.types.operations.Op.{Op}
+use Rattle.model.specs.declared.types.operations.Reply.{Reply}
+use Rattle.model.specs.Files.{Files, files_of}
+use Rattle.model.specs.Layout.{form_of}
+use Rattle.model.specs.Operations.{after}
+use Rattle.calls.specs.Pairing.{AreAfterBoth, KeepsBoth, MakesBoth}
+use Rattle.calls.specs.Stepping.{Plain}
+use Rattle.calls.specs.Calls.{call_count, image_on}
+use Rattle.model.specs.declared.types.operations.Entry.{Entry}
+use Rattle.model.specs.Lemmas.Frames.{form_same}
+use Rattle.calls.specs.Transactions.{Adds, Begins, Commits, HasFiles, KeepsEither, KeepsFiles}
+
+-- what a stop leaves may be said with less
+weaker : {D : Type 0} (moment : D → ℕ) (leaves : D → ℕ → Image → Type 0) (old new : D) (P Q : Image → Type 0) → ((z : Image) → P z → Q z) → LeavesOnly moment leaves old new P → LeavesOnly moment leaves old new Q
+weaker moment leaves old new P Q less all = record {
+  later = all.later;
+  each = λ z left. less z (all.each z left);
+  before = λ t z le left. ⊎_elim (λ was. inl was) (λ p. inr (less z p)) (all.before t z le left);
+  keeps = all.keeps;
+}
+
+module _ {D N : Type 0} (disk : Ghosts D N) (first second : Op) (k a b d : Plain D) (r s : Reply) (begins : Begins disk.image k a) (one : Adds disk.image first a b r) (two : Adds disk.image second b d s) (opening_a : a.opening ≡ k.opening) (opening_b : b.opening ≡ a.opening) (opening_d : d.opening ≡ b.opening) where
+  made : (f : Files) × AreAfterBoth (image_on disk.image k) first second r s f × HasFiles disk.image d f
+  made =
+      let mid = one.files (files_of (image_on disk.image k)) begins.files in
+      let last = two.files mid.0 mid.2 in
+      let form_a : form_of (image_on disk.image k) ≡ form_of (disk.image a.opening) = begins.form ∙ ap (λ (o : D). form_of (disk.image o)) (sym opening_a) in
+      let form_b : form_of (image_on disk.image k) ≡ form_of (disk.image b.opening) = form_a ∙ ap (λ (o : D). form_of (disk.image o)) (sym opening_b) in (
+        last.0,
+        record {
+          between = mid.0;
+          one = subst (λ (form : Form). after form (files_of (image_on disk.image k)) first r ≡ Some mid.0) (sym form_a) mid.1;
+          two = subst (λ (form : Form). after form mid.0 second s ≡ Some last.0) (sym form_b) last.1;
+        },
+        last.2,
+      )
+
+  keeps_none : (y : Image) → y ≡ image_on disk.image k → (z : Image) → KeepsFiles y z → KeepsBoth (image_on disk.image k) first second z
+  keeps_none y same z keeps = record { log = keeps.log; sound = keeps.sound; files = inl (keeps.files ∙ ap files_of same) }
+
+  keeps_either : (y : Image) → y ≡ image_on disk.image k → (z : Image) → KeepsEither y made.0 z → KeepsBoth (image_on disk.image k) first second z
+  keeps_either y same z keeps = record {
+    log = keeps.log;
+    sound = keeps.sound;
+    files = ⊎_elim (λ none. inl (none ∙ ap files_of same))
+        (λ all. inr (r, s, subst (λ (f : Files). AreAfterBoth (image_on disk.image k) first second r s f) (sym all) made.1)) keeps.files;
+  }
+
+  -- a stop in it keeps both or neither
+  pub both_leave : (m : Plain D) → LeavesOnly disk.moment disk.leaves k.store.volume.device a.store.volume.device (KeepsFiles (image_on disk.image k)) → LeavesOnly disk.moment disk.leaves a.store.volume.device b.store.volume.device (KeepsFiles (image_on disk.image a)) → LeavesOnly disk.moment disk.leaves b.store.volume.device d.store.volume.device (KeepsFiles (image_on disk.image b))
+      → ((f : Files) → HasFiles disk.image d f → LeavesOnly disk.moment disk.leaves d.store.volume.device m.store.volume.device (KeepsEither (image_on disk.image d) f)) → LeavesOnly disk.moment disk.leaves k.store.volume.device m.store.volume.device (KeepsBoth (image_on disk.image k) first second)
+  both_leave m first_leaves one_leaves two_leaves last_leaves =
+      let P : Image → Type 0 = KeepsBoth (image_on disk.image k) first second in
+      let same_b : image_on disk.image b ≡ image_on disk.image k = one.same ∙ begins.same in
+      let same_d : image_on disk.image d ≡ image_on disk.image k = two.same ∙ same_b in
+      let dk = k.store.volume.device in
+      let da = a.store.volume.device in
+      let db = b.store.volume.device in
+      let dd = d.store.volume.device in
+      let dm = m.store.volume.device in
+      joined disk.moment disk.leaves dk dd dm P
+      (joined disk.moment disk.leaves dk db dd P
+      (joined disk.moment disk.leaves dk da db P
+      (weaker disk.moment disk.leaves dk da (KeepsFiles (image_on disk.image k)) P (λ z keeps. record { log = keeps.log; sound = keeps.sound; files = inl keeps.files }) first_leaves)
+      (weaker disk.moment disk.leaves da db (KeepsFiles (image_on disk.image a)) P (keeps_none (image_on disk.image a) begins.same) one_leaves))
+      (weaker disk.moment disk.leaves db dd (KeepsFiles (image_on disk.image b)) P (keeps_none (image_on disk.image b) same_b) two_leaves))
+      (weaker disk.moment disk.leaves dd dm (KeepsEither (image_on disk.image d) made.0) P (keeps_either (image_on disk.image d) same_d) (last_leaves made.0 made.2))
+
+  -- and the files on the disk are those after both
+  pub both_made : (m : Plain D) → Commits disk.image d m → MakesBoth disk.image first second k m r s
+  both_made m commits =
+      let none_more : call_count a ≡ call_count k = ap (λ (es : List Entry). length es) begins.list in
+      let first_more = one.one_more in
+      let second_more = two.one_more in
+      let last_more = commits.one_more in
+      let opening : d.opening ≡ k.opening = opening_d ∙ opening_b ∙ opening_a in
+      record {
+        files = subst (λ (f : Files). AreAfterBoth (image_on disk.image k) first second r s f) (sym (commits.files made.0 made.2)) made.1;
+        sound = commits.sound;
+        form = form_same (disk.image d.opening) (image_on disk.image m) commits.super ∙ ap (λ (o : D). form_of (disk.image o)) opening ∙ sym begins.form;
+        three_more = omega (arith, none_more, first_more, second_more, last_more);
+      }

@@ -1,2 +1,0 @@
--- What follows from the definitions, for the crates above.
-pub mod Both

@@ -1,4 +1,0 @@
-pub mod Transactions
-pub mod Opening
-pub mod Pairing
-pub mod Lemmas
