@@ -1,6 +1,6 @@
 -- A call in a transaction.
 use Rattle.std.proofs.Common.{◌≡◌, ◌≢◌, ◌∙◌, ◌<◌, inl, inr, ℕ, zero, suc, ◌+◌, ◌^◌, Bool, true, false, List, [], ◌∷◌, ◌++◌, length, Option, Some, None, refl, sym, ap, subst, ⊎_elim, arith}
-use Rattle.std.specs.Prelude.{nat_lt}
+use Rattle.std.specs.Prelude.{nat_lt, IfNone}
 use Rattle.std.specs.Option.{option_map}
 use Rattle.std.proofs.lemmas.List.{length-append}
 use Rattle.blocks.specs.Calls.{OnlyReads}
@@ -43,7 +43,9 @@ use Rattle.calls.proofs.Inside.{HasOpen, Inside, LogIs, inside_kept, still_open}
 use Rattle.calls.proofs.Keeping.{leaves_before, settled}
 use Rattle.calls.proofs.Stages.{Comes, IsKept, IsLeft, IsOver, Where, first_waits, is_left, waits_or_busy}
 use Rattle.calls.proofs.Telling.{files_then, told_files}
-use Rattle.calls.proofs.Waiting.{has_begun, waits_for_buffer}
+use Rattle.calls.proofs.Waiting.{has_begun, waits_for_buffer, by_causes, has_no_slot}
+use Rattle.calls.proofs.Sleeping.{asleep_same}
+use Rattle.inodes.specs.Waiting.{AloneGetsBuffers, sleep_cause}
 
 -- An operation of process 0 was handed in to k, in a transaction, and steps made m of it, of which the
 -- last answered r.
@@ -188,6 +190,22 @@ module _ {D N : Type 0} (disk : Ghosts D N) (op : Op) (r : Step) (k m : Plain D)
       (sleeps mid m 0 cause busy made) made.acts.next busy))
       (waits_or_busy 0 op P k.world.journal.list (process mid.world 0).at (waiting mid.intake 0) mid.store mid.world.journal.list mid_stage.stands)
 
+  -- and not for a buffer, for the anchor holds none
+  pub call_wakes : SleepsForCause disk plain_queues plain_herald → m.store.volume.fault ≡ None → IfNone m.store.volume.fault (AloneGetsBuffers m.store) → (cause : Why) → r ≡ step.Sleeping cause → ⊥
+  call_wakes sleeps well alone cause so =
+      let mid = adding.call.makes.mid in
+      let made : MakesPlainStep disk 0 (step.Sleeping cause) mid m = subst (λ (q : Step). MakesPlainStep disk 0 q mid m) so adding.call.makes.made in
+      let tasks = mid_stage.rest.tasks in
+      ⊎_elim
+      (λ (stands, waits, list, same). (let empty : m.world ≡ mid.world → nat_lt (length (answers m.intake 0)) 16 ≡ true = λ (still : m.world ≡ mid.world). room_left disk l m 0 adding.call.known_now adding.call.inside rest (adding.call.fetched ∙ adding.call.own.fetched) adding.call.few (ap (λ (w : World). (process w 0).at) still ∙ stands) (ap (λ (w : World). w.journal.list) still ∙ list) in
+      absurd (next_not disk op cause mid.store m.store mid.world m.world (subst (λ (s : StoreState D). has_room op s.volume.log ≡ true) (sym same) adding.room) (waiting mid.intake 0) waits (plain_queues.side m.intake 0) false empty mid.store.volume.fault made.acts.next stands)))
+      (λ (busy : is_busy_at (process mid.world 0).at ≡ true). (
+      let same : m.store ≡ mid.store = (asleep_same disk mid.store mid.world 0 cause (waiting mid.intake 0) (plain_queues.side m.intake 0) false m.store m.world mid.store.volume.fault made.acts.next busy).0 in
+      let here : AloneGetsBuffers mid.store = subst AloneGetsBuffers same (subst (λ (f : Option DeviceFault). IfNone f (AloneGetsBuffers m.store)) well alone) in
+      here 0 (λ q apart_q i has. has_no_slot mid.store (tasks.many ∙ adding.inside.pair.tasks) (ap (λ (u : TaskState). u.stage) (tasks.others 1 apart) ∙ adding.inside.empty_handed) q i apart_q has)
+      (by_causes (process mid.world 0).at (sleep_cause mid.store 0) cause (sleeps mid m 0 cause busy made) ∙ ap (λ (w : Why). Some w) (call_waits sleeps cause so))))
+      (waits_or_busy 0 op P k.world.journal.list (process mid.world 0).at (waiting mid.intake 0) mid.store mid.world.journal.list mid_stage.stands)
+
   -- its steps end with the answer, or for want of memory or a buffer
   pub call_ends : m.store.volume.fault ≡ None → (q : Step) → r ≡ q → EndsSo q
   call_ends well q is = by q is (subst (λ (s : Step). MakesPlainStep disk 0 s adding.call.makes.mid m) is adding.call.makes.made) (subst (λ (s : Step). Comes 0 op P k.world.journal.list s (waiting m.intake 0) m.store m.world) is now.comes)
@@ -224,6 +242,7 @@ module _ {D N : Type 0} (disk : Ghosts D N) (op : Op) (r : Step) (k m : Plain D)
           same = call_reads.image;
           files = λ f has. (told.0, files_then disk l m is.entry op is.answer.reply (call_run disk 0 op r k m adding.call).opening is.list is.same is.replied f told.0 (record { run = has.run }) told.1, record { run = told.1.run });
           one_more = ap (λ (es : List Entry). length es) is.list ∙ length-append k.world.journal.list (is.entry ∷ []);
+          room = over.holds.1;
         })
 
     pub call_inside : (n : Plain D) → m.store.volume.fault ≡ None → n ≡ with_intake m n.intake → waiting n.intake 0 ≡ waiting m.intake 0 → polled n.intake 0 ≡ polled_after (first_in (answers m.intake 0)) (polled m.intake 0) → OthersWait m.intake n.intake 0 → IsInside disk.fault_count n
@@ -234,7 +253,7 @@ module _ {D N : Type 0} (disk : Ghosts D N) (op : Op) (r : Step) (k m : Plain D)
         let pair = adding.inside.pair in
         let l_second : IsFetched l 1 = record { waits = (adding.others 1 apart).0 ∙ pair.second.waits; fetched = (adding.others 1 apart).2 ∙ pair.second.fetched } in
         let second : IsFetched m 1 = fetched_still 0 1 op l m apart l_second rest left.lists in
-        let log_over = over.holds.log in
+        let log_over = over.holds.0.log in
         let opened : m.store.volume.log.opened ≡ k.store.volume.log.opened = log_over.opened in
         record {
           pair = record {

@@ -17,7 +17,9 @@ use Rattle.ports.specs.Queues.{OthersWait, answers, polled, submitted, waiting}
 use Rattle.ports.specs.declared.queues.QueueIntake.{QueueIntake}
 use Rattle.inodes.specs.Store.{StoreState, first_stage, first_taking}
 use Rattle.inodes.specs.Tasks.{TaskState, no_task, task}
-use Rattle.wal.specs.Machine.{LogState, begin_cause, begun}
+use Rattle.wal.specs.Machine.{Idle, IsLog, LogState, begin_cause, begun}
+use Rattle.wal.specs.declared.types.Commit.{Commit}
+use Rattle.wal.specs.declared.types.Commit.TheVariants as commit
 use Rattle.wal.specs.declared.types.DeviceFault.{DeviceFault}
 use Rattle.history.specs.declared.types.Phase.{Phase}
 use Rattle.history.specs.declared.types.Phase.TheVariants as at
@@ -53,13 +55,14 @@ pub record IsBeginning {D N : Type 0} (disk : Ghosts D N) (r : Step) (k m : Plai
   pub fetched : polled i 1 ≡ polled k.intake 1
   pub others : OthersWait k.intake i 1
   pub known : Known disk plain_queues plain_herald k
+  pub log : IfNone k.store.volume.fault (IsLog k.store.volume.log)
   pub known_then : Known disk plain_queues plain_herald (with_intake k i)
   pub known_now : Known disk plain_queues plain_herald m
   pub makes : MakesPlainStep disk 1 r (with_intake k i) m
 
 pub is_beginning : {D N : Type 0} (disk : Ghosts D N) (r : Step) (k l m : Plain D) → Rests disk.fault_count k → length k.world.journal.list < 2 ^ 32 → l ≡ with_intake k l.intake → waiting l.intake 1 ≡ waiting k.intake 1 ++ anchor ∷ [] → polled l.intake 1 ≡ polled k.intake 1 → OthersWait k.intake l.intake 1
-    → Known disk plain_queues plain_herald k → Known disk plain_queues plain_herald l → Known disk plain_queues plain_herald m → MakesPlainStep disk 1 r l m → IsBeginning disk r k m
-is_beginning disk r k l m rests few same waits fetched others known known_then known_now makes = record {
+    → Known disk plain_queues plain_herald k → IfNone k.store.volume.fault (IsLog k.store.volume.log) → Known disk plain_queues plain_herald l → Known disk plain_queues plain_herald m → MakesPlainStep disk 1 r l m → IsBeginning disk r k m
+is_beginning disk r k l m rests few same waits fetched others known log known_then known_now makes = record {
   i = l.intake;
   rests = rests;
   few = few;
@@ -67,10 +70,16 @@ is_beginning disk r k l m rests few same waits fetched others known known_then k
   fetched = fetched;
   others = others;
   known = known;
+  log = log;
   known_then = subst (λ (s : Plain _). Known disk plain_queues plain_herald s) same known_then;
   known_now = known_now;
   makes = subst (λ (s : Plain _). MakesPlainStep disk 1 r s m) same makes;
 }
+
+-- at rest the log has no homes
+no_homes : (l : LogState) (f : Option DeviceFault) → f ≡ None → l.commit ≡ commit.Quiet → l.outstanding ≡ 0 → IfNone f (IsLog l) → length l.homes ≡ 0
+no_homes l None well quiet closed is = (subst (λ (c : Commit). Idle c l) quiet is.idle) closed
+no_homes l (Some fault) well quiet closed is = absurd (cc well)
 
 -- it moves, or memory is refused
 abbrev pub EndsSo : Step → Type 0
@@ -252,6 +261,8 @@ module _ {D N : Type 0} (disk : Ghosts D N) (has_now : (d : D) → disk.leaves d
           sound = (settled disk has_now k call.known call.rests.pair.well (quiet disk k call.known all call.rests.pair.well)).sound;
           form = form_same (disk.image k.opening) (image_on disk.image k) (super disk k call.known all call.rests.pair.well);
           list = takes.list;
+          none = ap (λ (l : LogState). length l.homes) takes.log ∙ no_homes k.store.volume.log k.store.volume.fault call.rests.pair.well
+              (quiet disk k call.known all call.rests.pair.well) (unopened disk k call.known all call.rests.pair.well) call.log;
         }
 
     pub begin_inside : m.store.volume.fault ≡ None → IsInside disk.fault_count m

@@ -1,6 +1,7 @@
 -- An operation in a transaction: it closes no group, for the anchor's operation is open beside it, or,
--- where it looks at a file, it is of no group and ends in none. The disk is only read.
-use Rattle.std.proofs.Common.{◌≡◌, ◌∙◌, ◌⊎◌, ◌+◌, ◌-◌, inl, inr, ℕ, zero, Bool, true, false, List, length, set, Option, Some, None, refl, sym, ap, subst, ⊎_elim, arith, length-set}
+-- where it looks at a file, it is of no group and ends in none. The disk is only read, and the log
+-- gets few homes more.
+use Rattle.std.proofs.Common.{◌≡◌, ◌∙◌, ◌⊎◌, ◌+◌, ◌-◌, inl, inr, ℕ, zero, Bool, true, false, List, length, set, Option, Some, None, refl, sym, ap, subst, ⊎_elim, arith, length-set, ◌≤◌}
 use Rattle.std.specs.Prelude.{◌==◌, if◌then◌else◌}
 use Rattle.std.proofs.lemmas.Bool.{cases_lt}
 use Rattle.std.proofs.lemmas.List.{get_or-set_same, get_or_past}
@@ -27,16 +28,18 @@ use Rattle.inodes.specs.Goes.{Goes, TakesInode, stage_of_lock, progress_of_lock}
 use Rattle.inodes.specs.LockState.{LockState, place_of}
 use Rattle.inodes.specs.Readi.{ReadState, first_read}
 use Rattle.inodes.specs.Stages.{is_over}
-use Rattle.inodes.specs.Steps.{Steps}
+use Rattle.inodes.specs.Steps.{Steps, LogsAtMost}
 use Rattle.inodes.specs.Store.{StoreState, current_of}
 use Rattle.inodes.specs.Tasks.{TaskState, no_task, task}
 use Rattle.inodes.specs.Turning.{if_used, stage_of_read, stage_when_taken, reply_when_taken}
-use Rattle.inodes.specs.Writing.{extent_of}
+use Rattle.inodes.specs.Writing.{extent_of, most_logged}
 use Rattle.kernel.specs.State.{kind_of}
 use Rattle.kernel.specs.declared.class.OpClass.TheVariants as waiting_as
 use Rattle.calls.specs.Calls.{is_look}
 use Rattle.calls.proofs.Sole.{looks_only}
 use Rattle.calls.proofs.Stages.{AfterTurn, Answered, BeforeTurn, Committing, IsKept, IsUnturned, Over, Waits, Where, kind_then}
+use Rattle.calls.proofs.Logging.{Grown, grown_begun, grown_ended, grown_on, look_leaves}
+use Rattle.model.specs.declared.types.image.Form.{Form}
 
 -- ---- the log
 
@@ -148,27 +151,51 @@ module _ {D N : Type 0} (disk : Ghosts D N) (p : ℕ) (op : Op) (old : StoreStat
   pub record HasOpen (n : ℕ) (s : StoreState D) : Type 0 where
     pub log : LogIs n c o s.volume.log
     pub reads : OnlyReads disk old.volume.device s.volume.device
+    pub form : s.table.form ≡ old.table.form
+
+  -- the log's homes of before, and what the operation may log
+  abbrev had : ℕ
+  had = length old.volume.log.homes
+
+  abbrev most : ℕ
+  most = most_logged old.table.form op
+
+  abbrev Grows : StoreState D → Type 0
+  Grows s = Grown most had p s.volume.log
+
+  abbrev HasFew : ℕ → StoreState D → Type 0
+  HasFew n s = length s.volume.log.homes ≤ had + n
 
   -- nothing is done while the operation waits; its own is open beside the anchor's, unless it looks
   abbrev pub Inside : Bool → Where → StoreState D → Type 0
   Inside look Waits s = s ≡ old
-  Inside true (BeforeTurn g) s = (g ≡ 0) × HasOpen 1 s × IsTaking (task s.tasks p).stage
-  Inside true (AfterTurn g r) s = (g ≡ 0) × HasOpen 1 s
+  Inside true (BeforeTurn g) s = (g ≡ 0) × HasOpen 1 s × HasFew 0 s × IsTaking (task s.tasks p).stage
+  Inside true (AfterTurn g r) s = (g ≡ 0) × HasOpen 1 s × HasFew 0 s
   Inside true (Over g r) s = ⊥
-  Inside false (BeforeTurn g) s = (g ≡ o) × HasOpen 2 s
-  Inside false (AfterTurn g r) s = (g ≡ o) × HasOpen 2 s
-  Inside false (Over g r) s = (g ≡ o) × HasOpen 2 s
+  Inside false (BeforeTurn g) s = (g ≡ o) × HasOpen 2 s × Grows s
+  Inside false (AfterTurn g r) s = (g ≡ o) × HasOpen 2 s × Grows s
+  Inside false (Over g r) s = (g ≡ o) × HasOpen 2 s × Grows s
   Inside look (Committing r) s = ⊥
-  Inside look (Answered r) s = HasOpen 1 s
+  Inside look (Answered r) s = HasOpen 1 s × HasFew most s
 
   first : (s : StoreState D) → s ≡ old → HasOpen 1 s
-  first s same = subst (HasOpen 1) (sym same) (record { log = open_one; reads = reads_none disk old.volume.device })
+  first s same = subst (HasOpen 1) (sym same) (record { log = open_one; reads = reads_none disk old.volume.device; form = refl })
+
+  few_first : (n : ℕ) (s : StoreState D) → s ≡ old → HasFew n s
+  few_first n s same = let homes = ap (λ (y : StoreState D). length y.volume.log.homes) same in omega (arith, homes)
 
   on : (n : ℕ) (s t : StoreState D) (x : TaskProgress) → Steps disk s p op x t → HasOpen n s → HasOpen n t
   on n s t x steps was = record {
     log = same_groups n c o s.volume.log t.volume.log steps.groups was.log;
     reads = reads_then disk old.volume.device s.volume.device t.volume.device was.reads steps.reads.device;
+    form = steps.tasks.form ∙ was.form;
   }
+
+  logs_few : (n : ℕ) (s t : StoreState D) (x : TaskProgress) → Steps disk s p op x t → HasOpen n s → LogsAtMost most s.volume.log p t.volume.log
+  logs_few n s t x steps was = subst (λ (f : Form). LogsAtMost (most_logged f op) s.volume.log p t.volume.log) was.form steps.logs
+
+  grows : (n : ℕ) (s t : StoreState D) (x : TaskProgress) → Steps disk s p op x t → HasOpen n s → Grows s → Grows t
+  grows n s t x steps was grown = grown_on most had p s.volume.log t.volume.log (logs_few n s t x steps was) grown
 
   none_zero : zero ≡ o → ⊥
   none_zero is = absurd (omega (arith, is, positive))
@@ -178,18 +205,18 @@ module _ {D N : Type 0} (disk : Ghosts D N) (p : ℕ) (op : Op) (old : StoreStat
     begins = λ s kind same.
         let was = first s same in
         let two = one_begun c o p s.volume.log was.log in
-        (two.opened, record { log = two; reads = was.reads });
+        (two.opened, record { log = two; reads = was.reads; form = was.form }, grown_begun most had p s.volume.log (let few = few_first 0 s same in omega (arith, few)));
     looks = λ s count kind same. absurd (changes_only op count change (kind_then (is_at_once s.table.inode_count op) (kind_of op) (waiting_as.Look count) (λ e. cc e) kind).1);
-    refused = first;
-    works = λ g s t x unturned steps was. (was.0, on 2 s t x steps was.1);
-    turns = λ g s t r steps was. (was.0, on 2 s t (progress.Turned r) steps was.1);
-    turns_over = λ g s t r over steps was. (was.0, on 2 s t (progress.Turned r) steps was.1);
-    goes = λ g s t r x going steps was. (was.0, on 2 s t x steps was.1);
-    decides = λ g s t r reply untold steps was. (was.0, on 2 s t (progress.Decided reply) steps was.1);
-    ends = λ g s t r steps was. (was.0, on 2 s t progress.Over steps was.1);
+    refused = λ s same. (first s same, few_first most s same);
+    works = λ g s t x unturned steps was. (was.0, on 2 s t x steps was.1, grows 2 s t x steps was.1 was.2);
+    turns = λ g s t r steps was. (was.0, on 2 s t (progress.Turned r) steps was.1, grows 2 s t (progress.Turned r) steps was.1 was.2);
+    turns_over = λ g s t r over steps was. (was.0, on 2 s t (progress.Turned r) steps was.1, grows 2 s t (progress.Turned r) steps was.1 was.2);
+    goes = λ g s t r x going steps was. (was.0, on 2 s t x steps was.1, grows 2 s t x steps was.1 was.2);
+    decides = λ g s t r reply untold steps was. (was.0, on 2 s t (progress.Decided reply) steps was.1, grows 2 s t (progress.Decided reply) steps was.1 was.2);
+    ends = λ g s t r steps was. (was.0, on 2 s t progress.Over steps was.1, grows 2 s t progress.Over steps was.1 was.2);
     told = λ s r was. absurd (none_zero was.0);
     ends_alone = λ s t r steps was. absurd (none_zero was.0);
-    leaves = λ g s r was. record { log = two_ended c o p s.volume.log was.1.log; reads = was.1.reads };
+    leaves = λ g s r was. (record { log = two_ended c o p s.volume.log was.1.log; reads = was.1.reads; form = was.1.form }, grown_ended most had p s.volume.log was.2);
     closes = λ g s r commits was. (let both = sym commits ∙ two_left c o s.volume.log was.1.log in cc both);
     commits = λ s t r x commits none. none;
     committed = λ s r none. absurd none;
@@ -199,22 +226,30 @@ module _ {D N : Type 0} (disk : Ghosts D N) (p : ℕ) (op : Op) (old : StoreStat
     takes_still : (s t : StoreState D) (x : TaskProgress) → IsUnturned x → Steps disk s p op x t → IsTaking (task s.tasks p).stage → IsTaking (task t.tasks p).stage
     takes_still s t x unturned steps taking = ⊎_elim (λ still. still.1) (λ turned. absurd (unturned turned.0 turned.1)) (takes_on disk p op look s t x steps taking)
 
+    stays : (n : ℕ) (s t : StoreState D) (x : TaskProgress) → Steps disk s p op x t → HasOpen n s → HasFew 0 s → HasFew 0 t
+    stays n s t x steps was few =
+        let less = look_leaves old.table.form op had p s.volume.log t.volume.log look (logs_few n s t x steps was) (omega (arith, few)) in
+        omega (arith, less)
+
+    fewer : (s : StoreState D) → HasFew 0 s → HasFew most s
+    fewer s few = omega (arith, few)
+
     never_over : (s t : StoreState D) (r : Option Reply) → is_over (task t.tasks p).stage ≡ true → Steps disk s p op (progress.Turned r) t → IsTaking (task s.tasks p).stage → ⊥
     never_over s t r over steps taking = ⊎_elim (λ still. still.0 r refl) (λ turned. (let both = sym turned.2 ∙ over in cc both)) (takes_on disk p op look s t (progress.Turned r) steps taking)
 
     looking_kept : IsKept disk p op (Inside true)
     looking_kept = record {
       begins = λ s kind same. absurd (looks_only op look (kind_then (is_at_once s.table.inode_count op) (kind_of op) waiting_as.Change (λ e. cc e) kind).1);
-      looks = λ s count kind same. let was = first s same in (refl, record { log = was.log; reads = was.reads }, taking_first _ _ refl p s.tasks);
-      refused = first;
-      works = λ g s t x unturned steps was. (was.0, on 1 s t x steps was.1, takes_still s t x unturned steps was.2);
-      turns = λ g s t r steps was. (was.0, on 1 s t (progress.Turned r) steps was.1);
-      turns_over = λ g s t r over steps was. never_over s t r over steps was.2;
-      goes = λ g s t r x going steps was. (was.0, on 1 s t x steps was.1);
-      decides = λ g s t r reply untold steps was. (was.0, on 1 s t (progress.Decided reply) steps was.1);
+      looks = λ s count kind same. let was = first s same in (refl, record { log = was.log; reads = was.reads; form = was.form }, few_first 0 s same, taking_first _ _ refl p s.tasks);
+      refused = λ s same. (first s same, few_first most s same);
+      works = λ g s t x unturned steps was. (was.0, on 1 s t x steps was.1, stays 1 s t x steps was.1 was.2, takes_still s t x unturned steps was.3);
+      turns = λ g s t r steps was. (was.0, on 1 s t (progress.Turned r) steps was.1, stays 1 s t (progress.Turned r) steps was.1 was.2);
+      turns_over = λ g s t r over steps was. never_over s t r over steps was.3;
+      goes = λ g s t r x going steps was. (was.0, on 1 s t x steps was.1, stays 1 s t x steps was.1 was.2);
+      decides = λ g s t r reply untold steps was. (was.0, on 1 s t (progress.Decided reply) steps was.1, stays 1 s t (progress.Decided reply) steps was.1 was.2);
       ends = λ g s t r steps was. (let no = was.0 in cc no);
-      told = λ s r was. was.1;
-      ends_alone = λ s t r steps was. on 1 s t progress.Over steps was.1;
+      told = λ s r was. (was.1, fewer s was.2);
+      ends_alone = λ s t r steps was. (on 1 s t progress.Over steps was.1, fewer t (stays 1 s t progress.Over steps was.1 was.2));
       leaves = λ g s r none. absurd none;
       closes = λ g s r commits none. none;
       commits = λ s t r x commits none. none;
@@ -235,4 +270,4 @@ module _ {D N : Type 0} (disk : Ghosts D N) (p : ℕ) (op : Op) (old : StoreStat
   still_open false (AfterTurn g r) s was = (2, was.1)
   still_open false (Over g r) s was = (2, was.1)
   still_open look (Committing r) s none = absurd none
-  still_open look (Answered r) s was = (1, was)
+  still_open look (Answered r) s was = (1, was.0)

@@ -20,6 +20,7 @@ pub mod Calls
 pub mod Stopping
 pub mod Sleeping
 pub mod Waiting
+pub mod Logging
 pub mod Inside
 pub mod Adding
 pub mod Begun

@@ -81,7 +81,7 @@ task_causes c t (stage.Truncating k m) cause is = get_causes c _ cause is
 task_causes c t (stage.Writing k m) cause is = get_causes c _ cause is
 task_causes c t (stage.Leaving k) cause is = absurd (cc is)
 
-by_causes : (a : Phase) (o : Option Why) (cause : Why) → cause_by a o ≡ Some cause → o ≡ Some cause
+pub by_causes : (a : Phase) (o : Option Why) (cause : Why) → cause_by a o ≡ Some cause → o ≡ Some cause
 by_causes at.Idle o cause is = absurd (cc is)
 by_causes (at.BeforeTurn group op) o cause is = is
 by_causes (at.AfterTurn group k) o cause is = is
@@ -91,7 +91,7 @@ by_causes (at.Committing group k) o cause is = absurd (cc is)
 -- ---- the anchor has got nothing
 
 module _ {D : Type 0} (s : StoreState D) (many : length s.tasks ≡ 2) (handed : (task s.tasks 1).stage ≡ first_taking 1) where
-  has_no_slot : (q i : ℕ) → q ≢ 0 → HasSlot (task s.tasks q).stage i → ⊥
+  pub has_no_slot : (q i : ℕ) → q ≢ 0 → HasSlot (task s.tasks q).stage i → ⊥
   has_no_slot zero i apart has = absurd (apart refl)
   has_no_slot (suc zero) i apart has = let there : HasSlot (first_taking 1) i = subst (λ (a : Stage). HasSlot a i) handed has in cc there
   has_no_slot (suc (suc q)) i apart has =

@@ -1,6 +1,6 @@
 -- What a transaction comes to: calls of process 0 between the beginning of the anchor's operation
 -- and its end. The anchor is process 1.
-use Rattle.std.specs.Prelude.{◌≡◌, ◌⊎◌, ℕ, ◌+◌, ◌<◌, Bool, true, false, is_none, IsTrue, [], length, Some, None}
+use Rattle.std.specs.Prelude.{◌≡◌, ◌⊎◌, ℕ, ◌+◌, ◌<◌, ◌≤◌, Bool, true, false, is_none, IsTrue, [], length, Some, None}
 use Rattle.blocks.specs.Calls.{OnlyReads}
 use Rattle.blocks.specs.Disk.{Image, block_at}
 use Rattle.blocks.specs.declared.disk.Disk.{Ghosts}
@@ -24,6 +24,7 @@ use Rattle.calls.specs.Calls.{HasFailed, call_count, faults_on, image_on, is_loo
 use Rattle.calls.specs.Stepping.{Plain}
 use Rattle.calls.specs.declared.transactions.fault.TransactionFault.{TransactionFault}
 use Rattle.calls.specs.declared.transactions.fault.TransactionFault.TheVariants as fault
+use Rattle.inodes.specs.Writing.{most_logged}
 
 -- the anchor's operation: it is refused at its turn, whatever the files are
 abbrev pub anchor : Op
@@ -77,6 +78,7 @@ pub record Begins {D : Type 0} (image : D → Image) (k m : Plain D) : Type 0 wh
   pub sound : IsSound (image_on image k)
   pub form : form_of (image_on image k) ≡ form_of (image k.opening)
   pub list : m.world.journal.list ≡ k.world.journal.list
+  pub none : length m.store.volume.log.homes ≡ 0
 
 -- THE PROMISE OF A CALL in a transaction: it adds this operation with this reply to what the
 -- transaction made, and the disk stays as it was.
@@ -86,6 +88,9 @@ pub record Adds {D : Type 0} (image : D → Image) (op : Op) (k m : Plain D) (re
   pub files : (f : Files) → HasFiles image k f → (g : Files)
       × (after (form_of (image k.opening)) f op reply ≡ Some g) × HasFiles image m g
   pub one_more : call_count m ≡ call_count k + 1
+  -- what it logged, beside what the transaction had logged
+  pub room : length m.store.volume.log.homes
+      ≤ length k.store.volume.log.homes + most_logged k.store.table.form op
 
 -- THE PROMISE OF A COMMIT: the files on the disk are those that the transaction made.
 pub record Commits {D : Type 0} (image : D → Image) (k m : Plain D) : Type 0 where
@@ -106,7 +111,6 @@ abbrev pub IsUnbegun : {D N : Type 0} → Ghosts D N → Plain D → Plain D →
 IsUnbegun disk k m (fault.Disk cause) = HasFailed disk k m cause
 IsUnbegun disk k m fault.NoMemory = IsOnlyRead disk k m
 IsUnbegun disk k m fault.NoRoom = ⊥
-IsUnbegun disk k m fault.NoBuffer = ⊥
 
 -- the log has room for an operation; one that looks at a file needs none
 abbrev pub has_room : Op → LogState → Bool
@@ -130,7 +134,6 @@ abbrev pub IsUncalled : {D N : Type 0} → Ghosts D N → Op → Plain D → Pla
 IsUncalled disk op k m (fault.Disk cause) = HasFailed disk k m cause
 IsUncalled disk op k m fault.NoMemory = IsOnlyRead disk k m
 IsUncalled disk op k m fault.NoRoom = FindsNoRoom op k m
-IsUncalled disk op k m fault.NoBuffer = IsOnlyRead disk k m
 
 -- a commit is refused for a fault of the disk alone
 abbrev pub IsUncommitted : {D N : Type 0} → Ghosts D N → Plain D → Plain D → TransactionFault
@@ -138,7 +141,6 @@ abbrev pub IsUncommitted : {D N : Type 0} → Ghosts D N → Plain D → Plain D
 IsUncommitted disk k m (fault.Disk cause) = HasFailed disk k m cause
 IsUncommitted disk k m fault.NoMemory = ⊥
 IsUncommitted disk k m fault.NoRoom = ⊥
-IsUncommitted disk k m fault.NoBuffer = ⊥
 
 -- what a stop leaves of image x: recovery gives a sound image with its files
 pub record KeepsFiles (x z : Image) : Type 0 where

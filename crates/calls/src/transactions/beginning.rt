@@ -37,6 +37,7 @@ pub fn begin<D: Disk>(alloc: Global, kernel: &mut Pair<D>) -> Result<(), Transac
     ensures name { D.name kernel.new.store.volume.device ≡ D.name kernel.old.store.volume.device }
 {
     kernel.known();
+    kernel.room_known();
     let Ok(_number) = kernel.submit(1, Op::Write(1, u32::MAX, Content::new(Vec::new(alloc)))) else {
         // None waits, and so many were not handed in.
         unreachable!()

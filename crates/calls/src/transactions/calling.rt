@@ -10,11 +10,12 @@ use crate::transactions::fault::TransactionFault;
 use blocks::Disk;
 use kernel::Step;
 use kernel::laws::sleeps_for_cause;
-use model::types::{Op, Reply, Why};
+use model::types::{Op, Reply};
 use ports::{PlainHerald, QueueIntake};
 
 /// Makes an operation in a transaction, from its submission to its answer. Nothing of it is kept
-/// until the commit, and the disk is only read.
+/// until the commit, and the disk is only read. A creation logs one block at most, a write nine, what
+/// frees blocks two and a look none; so two calls always have room.
 ///
 /// # Errors
 ///
@@ -23,7 +24,6 @@ use ports::{PlainHerald, QueueIntake};
 ///   refused no clause can say.
 /// - `NoRoom`: the operation changes files, and the transaction logged more than ten blocks. Nothing
 ///   was done, and the transaction goes on.
-/// - `NoBuffer`: no buffer was left for the operation, and the disk was only read.
 ///
 /// After each but `NoRoom` no other call may be made, and the disk has the files from before the
 /// transaction: `abandon` hands it back.
@@ -50,6 +50,7 @@ pub fn call<D: Disk>(kernel: &mut Pair<D>, op: Op) -> Result<Reply, TransactionF
     kernel.known();
     let step = make_steps(kernel, 0);
     kernel.known();
+    kernel.room_known();
     sleeps_for_cause::<D, QueueIntake, PlainHerald>();
     if let Some(fault) = kernel.fault() {
         return Err(TransactionFault::Disk(fault));
@@ -60,12 +61,9 @@ pub fn call<D: Disk>(kernel: &mut Pair<D>, op: Op) -> Result<Reply, TransactionF
             None => unreachable!(),
         },
         Step::NoMemory => Err(TransactionFault::NoMemory),
-        Step::Sleeping(why) => {
-            // Room in the log is left, and the anchor holds nothing.
-            prove!(why == Why::NoBuffer);
-            Err(TransactionFault::NoBuffer)
-        }
-        Step::Moved | Step::Idle | Step::ShutDown | Step::Halted => unreachable!(),
+        // Room in the log is left, and the anchor holds nothing: neither an inode nor a buffer.
+        Step::Sleeping(_) | Step::Moved | Step::Idle | Step::ShutDown | Step::Halted =>
+            unreachable!(),
     }
 }
 

@@ -15,7 +15,4 @@ pub enum TransactionFault {
     /// The log has no room for the operation beside those of the transaction. Nothing was done.
     #[error("the transaction is too large")]
     NoRoom,
-    /// No buffer was left for the operation, and the disk was only read.
-    #[error("no buffer was left")]
-    NoBuffer,
 }

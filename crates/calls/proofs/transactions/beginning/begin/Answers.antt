@@ -16,7 +16,7 @@ begun g c =
     let k = c.args.kernel.now in
     is_beginning g.D.Disk c.step-step.result k c.submit.new.self c.step-step.new.self c.requires.rests c.requires.few c.submit.ensures.same
     (c.in-Ok.ensures.ok ∙ ap (λ bytes. waiting k.intake 1 ++ Write 1 4294967295 bytes ∷ []) (c.new-2.ensures ∙ c.new.ensures.items)) c.submit.ensures.answers.1 c.submit.ensures.others
-    c.known.ensures c.known-2.ensures c.known-3.ensures
+    c.known.ensures c.room_known.ensures.log c.known-2.ensures c.known-3.ensures
     (record { acts = c.step-step.ensures.acts; progress = c.step-step.ensures.progress; stop = c.step-step.ensures.stop })
 
 pub unreachable-requires : goal.unreachable-requires

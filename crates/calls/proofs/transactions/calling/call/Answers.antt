@@ -1,4 +1,4 @@
-use Rattle.std.proofs.Common.{◌≡◌, ◌∙◌, refl, true, false, ◌≤◌, ◌⊎◌, ◌+◌, ◌^◌, length, rules, subst, sym, ap, ⊎_elim, arith}
+use Rattle.std.proofs.Common.{◌≡◌, ◌∙◌, refl, ◌≤◌, ◌⊎◌, ◌+◌, ◌^◌, length, rules, subst, sym, ap, ⊎_elim, arith}
 use Rattle.blocks.specs.Disk.{LeavesOnly}
 use Rattle.ports.specs.History.{first_in}
 use Rattle.ports.specs.Lanes.{polled_after}
@@ -8,7 +8,7 @@ use Rattle.model.specs.declared.types.operations.Step.{Step}
 use Rattle.model.specs.declared.types.operations.Step.TheVariants as step
 use Rattle.calls.specs.Calls.{image_on}
 use Rattle.calls.specs.Transactions.{Adds, KeepsFiles}
-use Rattle.calls.proofs.Adding.{EndsSo, IsAdding, call_adds, call_done, call_ends, call_inside, call_leaves, call_stays, call_waits, is_adding}
+use Rattle.calls.proofs.Adding.{EndsSo, IsAdding, call_adds, call_done, call_ends, call_inside, call_leaves, call_stays, call_wakes, is_adding}
 use Rattle.calls.proofs.Called.{call_failed, call_name, call_opening}
 use Rattle.calls.proofs.Counting.{is_handed_in}
 use Rattle.calls.proofs.Keeping.{leaves_still}
@@ -78,23 +78,6 @@ returns-in-NoMemory g c =
       name = call_name g.D.Disk 0 op r k m call.call;
     }
 
--- no buffer was left
-pub returns-in-Sleeping : goal.returns-in-Sleeping
-returns-in-Sleeping g c =
-    let op = c.args.op in
-    let k = c.args.kernel.now in
-    let m = c.make_steps-step.new.kernel in
-    let r = c.make_steps-step.result in
-    let call = called g (goal.at.returns-in-Sleeping g c).After-sleeps_for_cause in
-    record {
-      inside = search rules;
-      adds = search rules;
-      refused = call_stays g.D.Disk op r k m call (search rules);
-      leaves = call_leaves g.D.Disk op r k m call g.met.D.Disk.has_now;
-      opening = call_opening g.D.Disk 0 op r k m call.call;
-      name = call_name g.D.Disk 0 op r k m call.call;
-    }
-
 -- the operation was answered
 pub returns-in-Some-poll : goal.returns-in-Some-poll
 returns-in-Some-poll g c =
@@ -125,22 +108,16 @@ unreachable-requires-in-None g c =
     let none = sym c.in-None.is ∙ c.poll.ensures.oldest ∙ ap first_in done.only in
     cc none
 
-pub prove-unreachable-requires : goal.prove-unreachable-requires
-prove-unreachable-requires g c =
-    let call = called g (goal.at.prove-unreachable-requires g c).After-sleeps_for_cause in
-    let is = call_waits g.D.Disk c.args.op c.make_steps-step.result c.args.kernel.now c.make_steps-step.new.kernel call c.sleeps_for_cause.ensures.cause c.in-Sleeping.why c.in-Sleeping.is in
-    let same : c.eq.result ≡ true = c.eq.ensures ∙ rw is refl in
-    let no : false ≡ true = sym c.if-prove.true ∙ same in
-    cc no
-
--- its steps end with its answer, or for want of memory or a buffer
-pub unreachable-requires-in-Moved : goal.unreachable-requires-in-Moved
-unreachable-requires-in-Moved g c =
+-- its steps end with its answer, or for want of memory
+pub unreachable-requires-in-Sleeping : goal.unreachable-requires-in-Sleeping
+unreachable-requires-in-Sleeping g c =
+    let k = c.args.kernel.now in
     let m = c.make_steps-step.new.kernel in
     let r = c.make_steps-step.result in
-    let call = called g (goal.at.unreachable-requires-in-Moved g c).After-sleeps_for_cause in
+    let call = called g (goal.at.unreachable-requires-in-Sleeping g c).After-sleeps_for_cause in
     let well = sym c.fault.ensures ∙ c.in_default-fault.is in
-    let ends : (q : Step) → r ≡ q → EndsSo q = λ q is. call_ends g.D.Disk c.args.op r c.args.kernel.now m call well q is in
-    ⊎_elim (λ moved. ends step.Moved moved)
-    (λ o. ⊎_elim (λ idle. ends step.Idle idle) (λ p. ⊎_elim (λ shut. ends step.ShutDown shut) (λ halted. ends step.Halted halted) p) o)
-    c.in-Moved.is
+    let ends : (q : Step) → r ≡ q → EndsSo q = λ q is. call_ends g.D.Disk c.args.op r k m call well q is in
+    ⊎_elim (λ asleep. call_wakes g.D.Disk c.args.op r k m call c.sleeps_for_cause.ensures.cause well c.room_known.ensures.alone asleep.0 asleep.1)
+    (λ n. ⊎_elim (λ moved. ends step.Moved moved)
+    (λ o. ⊎_elim (λ idle. ends step.Idle idle) (λ p. ⊎_elim (λ shut. ends step.ShutDown shut) (λ halted. ends step.Halted halted) p) o) n)
+    c.in-Sleeping.is
