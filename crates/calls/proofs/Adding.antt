@@ -35,14 +35,14 @@ use Rattle.kernel.specs.declared.class.OpClass.TheVariants as waiting_as
 use Rattle.calls.specs.Stepping.{MakesPlainStep, Plain, plain_herald, plain_queues}
 use Rattle.calls.specs.Calls.{image_on, is_look}
 use Rattle.calls.specs.Transactions.{Adds, IsFetched, IsInside, IsOnlyRead, IsOpenBy, KeepsFiles, anchor, has_room}
-use Rattle.calls.proofs.Called.{IsCall, call_after, call_answered, call_over, call_run, call_stage, given, halts_not, is_faultless, still_faultless, with_intake}
+use Rattle.calls.proofs.Called.{IsCall, call_after, call_answered, call_opening, call_over, call_run, call_stage, given, halts_not, is_faultless, still_faultless, with_intake}
 use Rattle.calls.proofs.Counting.{IsAnswered, IsFree, fetched_again, fetched_still, room_left}
 use Rattle.calls.proofs.Going.{After, LeavesOthers, Stage}
 use Rattle.calls.proofs.Idle.{of_two}
 use Rattle.calls.proofs.Inside.{HasOpen, Inside, LogIs, inside_kept, still_open}
 use Rattle.calls.proofs.Keeping.{leaves_before, settled}
 use Rattle.calls.proofs.Stages.{Comes, IsKept, IsLeft, IsOver, Where, first_waits, is_left, waits_or_busy}
-use Rattle.calls.proofs.Telling.{files_then, told_files}
+use Rattle.calls.proofs.Telling.{files_then, labels_then_made, told_files}
 use Rattle.calls.proofs.Waiting.{has_begun, waits_for_buffer, by_causes, has_no_slot}
 use Rattle.calls.proofs.Sleeping.{asleep_same}
 use Rattle.inodes.specs.Waiting.{AloneGetsBuffers, sleep_cause}
@@ -241,6 +241,7 @@ module _ {D N : Type 0} (disk : Ghosts D N) (op : Op) (r : Step) (k m : Plain D)
         subst (λ (s : Plain D). Adds disk.image op k s call_done.answer.reply) (sym same) (record {
           same = call_reads.image;
           files = λ f has. (told.0, files_then disk l m is.entry op is.answer.reply (call_run disk 0 op r k m adding.call).opening is.list is.same is.replied f told.0 (record { run = has.run }) told.1, record { run = told.1.run });
+          labels = labels_then_made disk.image k m is.entry is.answer.reply (call_opening disk 0 op r k m adding.call) is.list is.replied;
           one_more = ap (λ (es : List Entry). length es) is.list ∙ length-append k.world.journal.list (is.entry ∷ []);
           room = over.holds.1;
         })

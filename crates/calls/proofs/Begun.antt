@@ -8,6 +8,7 @@ use Rattle.blocks.specs.Disk.{LeavesOnly}
 use Rattle.blocks.specs.declared.disk.Disk.{Ghosts}
 use Rattle.model.specs.declared.types.operations.Entry.{Entry}
 use Rattle.model.specs.declared.types.operations.Op.{Op}
+use Rattle.model.specs.Crash.{due_labels}
 use Rattle.model.specs.Files.{files_of}
 use Rattle.model.specs.Journal.{is_at_once, own, replay}
 use Rattle.model.specs.Layout.{form_of, inode_count_of}
@@ -43,7 +44,7 @@ use Rattle.calls.specs.Transactions.{Begins, IsInside, KeepsFiles, Rests, IsOnly
 use Rattle.calls.proofs.Called.{has_failed, still_faultless, with_intake}
 use Rattle.calls.proofs.Counting.{counts, room_left}
 use Rattle.calls.proofs.Going.{LeavesOthers, others_none, others_step}
-use Rattle.calls.proofs.Idle.{all_committed, disk_files, numbers, quiet, super, two_idle, unopened}
+use Rattle.calls.proofs.Idle.{all_committed, disk_files, disk_labels, numbers, quiet, super, two_idle, unopened}
 use Rattle.calls.proofs.Keeping.{leaves_before, settled}
 
 -- The anchor's operation was handed in to k, which rested, and a step of its process made m of it.
@@ -263,6 +264,7 @@ module _ {D N : Type 0} (disk : Ghosts D N) (has_now : (d : D) → disk.leaves d
           list = takes.list;
           none = ap (λ (l : LogState). length l.homes) takes.log ∙ no_homes k.store.volume.log k.store.volume.fault call.rests.pair.well
               (quiet disk k call.known all call.rests.pair.well) (unopened disk k call.known all call.rests.pair.well) call.log;
+          labels = λ i there. disk_labels disk k call.known all call.rests.pair.well has_now i there ∙ ap (λ (es : List Entry). due_labels (disk.image k.opening) es i) (sym takes.list) ∙ ap (λ (d : D). due_labels (disk.image d) m.world.journal.list i) (sym opening);
         }
 
     pub begin_inside : m.store.volume.fault ≡ None → IsInside disk.fault_count m

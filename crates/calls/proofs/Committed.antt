@@ -1,5 +1,5 @@
 -- The commit of a transaction.
-use Rattle.std.proofs.Common.{◌≡◌, ◌≢◌, ◌∙◌, ◌<◌, inl, inr, ℕ, zero, suc, ◌^◌, true, false, List, [], ◌∷◌, length, Option, Some, None, refl, sym, ap, subst, ⊎_elim, arith}
+use Rattle.std.proofs.Common.{◌≡◌, ◌≢◌, ◌∙◌, ◌<◌, inl, inr, ℕ, zero, suc, ◌^◌, Bool, true, false, cond, List, [], ◌∷◌, length, Option, Some, None, refl, sym, ap, subst, ⊎_elim, arith}
 use Rattle.std.specs.Prelude.{IfNone}
 use Rattle.std.proofs.lemmas.List.{length-append, get_or_past}
 use Rattle.blocks.specs.Disk.{LeavesOnly, block_at}
@@ -8,8 +8,9 @@ use Rattle.model.specs.declared.types.operations.Entry.{Entry}
 use Rattle.model.specs.declared.types.operations.Op.{Op}
 use Rattle.model.specs.declared.types.operations.Why.{Why}
 use Rattle.model.specs.Files.{Files, files_of}
-use Rattle.model.specs.Journal.{own}
-use Rattle.model.specs.Layout.{form_of}
+use Rattle.model.specs.Crash.{IsUntouched}
+use Rattle.model.specs.Journal.{kept, own}
+use Rattle.model.specs.Layout.{form_of, inode_count_of}
 use Rattle.ports.specs.History.{first_in}
 use Rattle.ports.specs.Lanes.{polled_after}
 use Rattle.ports.specs.Queues.{OthersWait, answers, polled, waiting}
@@ -30,16 +31,17 @@ use Rattle.model.specs.declared.types.operations.Step.TheVariants as step
 use Rattle.kernel.specs.Moves.{MakesSteps}
 use Rattle.calls.specs.Stepping.{Plain, MakesPlainStep, plain_herald, plain_queues}
 use Rattle.calls.specs.Calls.{HasFailed, image_on}
-use Rattle.calls.specs.Transactions.{Commits, HasFiles, IsFetched, IsInside, KeepsEither, Rests, anchor}
-use Rattle.calls.proofs.Anchoring.{anchor_keeps}
+use Rattle.calls.specs.Transactions.{Commits, HasFiles, IsFetched, IsInside, KeepsEither, Rests, anchor, labels_made}
+use Rattle.calls.proofs.Anchoring.{anchor_keeps, anchor_makes_none}
 use Rattle.calls.proofs.Called.{halts_not, has_failed, still_faultless, with_intake}
-use Rattle.calls.proofs.Counting.{IsAnswered, fetched_again, fetched_still, is_answered}
+use Rattle.calls.proofs.Counting.{IsAnswered, IsFree, fetched_again, fetched_still, is_answered}
 use Rattle.calls.proofs.Going.{After, LeavesOthers, Stage, others_none, stages_move, steps_after, steps_name, steps_run}
-use Rattle.calls.proofs.Idle.{disk_files, long, quiet, super, two_idle}
+use Rattle.calls.proofs.Idle.{disk_files, disk_labels, long, of_two, quiet, super, two_idle}
 use Rattle.calls.proofs.Keeping.{leaves_either, settled}
 use Rattle.calls.proofs.Sleeping.{asleep_same}
 use Rattle.calls.proofs.Stages.{AfterTurn, Answered, BeforeTurn, Committing, Comes, IsKept, IsOver, ListIs, Over, StandsAt, Waits, Where, is_left, waits_or_busy}
-use Rattle.calls.proofs.Telling.{files_then}
+use Rattle.calls.proofs.Telling.{files_then, labels_then_made, told_files}
+use Rattle.calls.proofs.Unshown.{untouched_since}
 
 -- Steps of the anchor made m of k, where a transaction was under way; the last of them answered r.
 pub record IsCommit {D N : Type 0} (disk : Ghosts D N) (r : Step) (k m : Plain D) : Type 0 where
@@ -188,10 +190,29 @@ module _ {D N : Type 0} (disk : Ghosts D N) (r : Step) (k m : Plain D) (call : I
         anchor_keeps form f (files_of (image_on disk.image m)) is.answer.reply
         (files_then disk k m is.entry anchor is.answer.reply run.opening is.list is.same is.replied f (files_of (image_on disk.image m)) has (disk_files disk m call.known_now all well has_now))
 
+    -- the anchor's entry tells no number
+    labels_still : ((d : D) → disk.leaves d (disk.moment d) (disk.image d)) → (f : Files) → HasFiles disk.image k f → (i : ℕ) → labels_made disk.image m i ≡ labels_made disk.image k i
+    labels_still has_now f has i =
+        let is = commit_answered in
+        let form = form_of (disk.image k.opening) in
+        let none = anchor_makes_none form f (files_of (image_on disk.image m)) is.answer.reply i
+            (files_then disk k m is.entry anchor is.answer.reply run.opening is.list is.same is.replied f (files_of (image_on disk.image m)) has (disk_files disk m call.known_now all well has_now)) in
+        labels_then_made disk.image k m is.entry is.answer.reply run.opening is.list is.replied i ∙ ap (λ (b : Bool). cond b (0, 0, 1) (labels_made disk.image k i)) none
+
+    -- the files from before are told by the journal
+    told_before : (f : Files) × HasFiles disk.image k f
+    told_before = told_files disk k call.known_then (of_two k.world IsFree call.inside.pair.two tt (subst IsFree (sym call.inside.pair.free) tt) (subst IsFree (sym call.inside.anchored) tt))
+
     pub commit_made : ((d : D) → disk.leaves d (disk.moment d) (disk.image d)) → (n : Plain D) → n ≡ with_intake m n.intake → Commits disk.image k n
-    commit_made has_now n same = subst (λ (s : Plain D). Commits disk.image k s) (sym same) (record {
+    commit_made has_now n same =
+      let was = settled disk has_now k call.known_then call.inside.pair.well call.inside.open_one.quiet in
+      let set_m = settled disk has_now m call.known_now well (quiet disk m call.known_now all well) in
+      let untouched : IsUntouched (disk.image k.opening) (image_on disk.image m) = subst (λ (d : D). IsUntouched (disk.image d) (image_on disk.image m)) run.opening set_m.marks.untouched in
+      subst (λ (s : Plain D). Commits disk.image k s) (sym same) (record {
       files = made_files has_now;
-      sound = (settled disk has_now m call.known_now well (quiet disk m call.known_now all well)).sound;
+      sound = set_m.sound;
+      untouched = untouched_since (disk.image k.opening) (image_on disk.image k) (image_on disk.image m) (kept (inode_count_of (disk.image k.opening)) k.world.journal.list k.store.volume.log.committed) was.size was.marks untouched;
+      labels = λ i there. disk_labels disk m call.known_now all well has_now i there ∙ labels_still has_now told_before.0 told_before.1 i;
       size = long disk m call.known_now all well ∙ ap (λ (d : D). length (disk.image d)) run.opening;
       super = super disk m call.known_now all well ∙ ap (λ (d : D). block_at (disk.image d) 1) run.opening;
       one_more = ap (λ (es : List Entry). length es) commit_answered.list ∙ length-append k.world.journal.list (commit_answered.entry ∷ []);

@@ -1,11 +1,12 @@
 -- The image of a kernel all of whose processes are idle.
-use Rattle.std.proofs.Common.{◌≡◌, ◌∙◌, zero, suc, ℕ, true, List, [], length, Option, None, refl, sym, ap, subst, arith, length-set}
+use Rattle.std.proofs.Common.{◌≡◌, ◌≢◌, ◌∙◌, zero, suc, ℕ, true, List, [], length, Option, None, refl, sym, ap, subst, arith, length-set}
 use Rattle.std.specs.Prelude.{IfNone}
 use Rattle.std.proofs.lemmas.List.{get_or-set_other, get_or_past}
 use Rattle.blocks.specs.Block.{zero_block}
 use Rattle.blocks.specs.Disk.{Image, block_at}
 use Rattle.blocks.specs.declared.disk.Disk.{Ghosts}
-use Rattle.model.specs.Files.{files_of}
+use Rattle.model.specs.Crash.{due_labels, labels_of}
+use Rattle.model.specs.Files.{file_in, files_of}
 use Rattle.model.specs.Journal.{kept, replay}
 use Rattle.model.specs.Layout.{bitmap_block, form_of, inode_count_of, super_in}
 use Rattle.model.specs.Lemmas.Soundness.{facts_of}
@@ -16,6 +17,7 @@ use Rattle.wal.specs.declared.types.Commit.TheVariants as commit
 use Rattle.wal.specs.declared.types.DeviceFault.{DeviceFault}
 use Rattle.inodes.specs.Store.{current_of}
 use Rattle.history.specs.Keeps.{HasFilesAfter}
+use Rattle.history.specs.Lemmas.Making.{due_kept}
 use Rattle.history.specs.Processes.{World, process}
 use Rattle.history.specs.declared.types.Phase.{Phase}
 use Rattle.history.specs.declared.types.Phase.TheVariants as at
@@ -24,8 +26,9 @@ use Rattle.kernel.specs.Awake.{AreIdle}
 use Rattle.kernel.specs.Known.{Known, IsCurrent}
 use Rattle.calls.specs.Calls.{image_on}
 use Rattle.calls.specs.Stepping.{Plain, plain_herald, plain_queues}
-use Rattle.calls.specs.Transactions.{HasFiles}
+use Rattle.calls.specs.Transactions.{HasFiles, labels_made}
 use Rattle.calls.proofs.Keeping.{settled}
+use Rattle.calls.proofs.Unshown.{labels_then}
 
 -- a kernel of one process, or of two: what each of them is, all are
 pub lone_idle : (w : World) → length w.processes ≡ 1 → (process w 0).at ≡ at.Idle → AreIdle w
@@ -108,3 +111,14 @@ module _ {D N : Type 0} (disk : Ghosts D N) (k : Plain D) (known : Known disk pl
       record {
         run = current.idle all ∙ sym files.files ∙ ap (λ (c : ℕ). replay form start (kept n es c)) (sym all_committed) ∙ (settled disk has_now k known well quiet).kept_run;
       }
+
+  -- and so are the labels of each
+  pub disk_labels : ((d : D) → disk.leaves d (disk.moment d) (disk.image d)) → (i : ℕ) → file_in (files_of (image_on disk.image k)) i ≢ None → labels_of (image_on disk.image k) i ≡ labels_made disk.image k i
+  disk_labels has_now i there =
+      let o = disk.image k.opening in
+      let x = image_on disk.image k in
+      let n = inode_count_of o in
+      let es = k.world.journal.list in
+      let set_k = settled disk has_now k known well quiet in
+      labels_then o x x (kept n es k.store.volume.log.committed) set_k.size set_k.marks i there ∙ ap (λ (c : ℕ). due_labels o (kept n es c) i) all_committed
+      ∙ due_kept o known.replays.files k.store.volume.log.opened i es known.journal.groups known.replays.run

@@ -71,7 +71,7 @@ module _ {D N : Type 0} (disk : Ghosts D N) (has_now : (d : D) → disk.leaves d
   left_same : (c : ℕ) (z : Image) → k.store.volume.log.committed ≤ c → files_of (recovered z) ≡ files_of x → HasMarks (disk.image k.opening) (kept n k.world.journal.list c) (recovered z) → Leaves z
   left_same c z low same marks = record {
     files = inl same;
-    unshown = unshown_same (disk.image k.opening) x (recovered z) (kept n k.world.journal.list c) before.size (marks_before disk k before c low) marks same;
+    unshown = unshown_same (disk.image k.opening) x (recovered z) (kept n k.world.journal.list c) before.settled.size (marks_before disk k before c low) marks same;
   }
 
   -- or one that may be
@@ -87,10 +87,10 @@ module _ {D N : Type 0} (disk : Ghosts D N) (has_now : (d : D) → disk.leaves d
         files = inr (
           r,
           may e r more.is replied,
-          subst (λ (f : Form). after f (files_of x) op r ≡ Some (files_of (recovered z))) (sym (form_same (disk.image k.opening) x before.super))
+          subst (λ (f : Form). after f (files_of x) op r ≡ Some (files_of (recovered z))) (sym (form_same (disk.image k.opening) x before.settled.marks.untouched.super))
               (subst (λ (o : Op). after form (files_of x) o r ≡ Some (files_of (recovered z))) more.same made),
         );
-        unshown = unshown_more (disk.image k.opening) x (recovered z) (kept n k.world.journal.list c) before.size (marks_before disk k before c low) form e r replied made marks;
+        unshown = unshown_more (disk.image k.opening) x (recovered z) (kept n k.world.journal.list c) before.settled.size (marks_before disk k before c low) form e r replied made marks;
       }
 
   kept_after : (c : ℕ) (z : Image) → k.store.volume.log.committed ≤ c → ListIs 0 op k.world.journal.list m.world.journal.list → Keeps (disk.image k.opening) m.world.journal.list z c → Leaves z

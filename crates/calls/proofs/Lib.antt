@@ -4,7 +4,6 @@ pub mod Going
 pub mod Counting
 pub mod Called
 pub mod Unshown
-pub mod Making
 pub mod Anchoring
 pub mod Keeping
 pub mod Idle

@@ -33,20 +33,16 @@ use Rattle.calls.proofs.Sole.{IsDone, IsSole}
 use Rattle.calls.proofs.Telling.{files_then}
 use Rattle.calls.proofs.Unshown.{HasMarks, kept_marks, unshown_same}
 
--- The image on the disk is settled, and of the opening's size and superblock. No entry is of a later
--- group than the committed ones.
+-- The image on the disk is settled, with the opening's files after all of the journal. No entry is of
+-- a later group than the committed ones.
 pub record IsSettledDisk {D N : Type 0} (disk : Ghosts D N) (k : Plain D) : Type 0 where
   pub settled : IsSettled disk k
-  pub super : block_at (image_on disk.image k) 1 ≡ block_at (disk.image k.opening) 1
-  pub size : length (image_on disk.image k) ≡ length (disk.image k.opening)
   pub files : HasFiles disk.image k (files_of (image_on disk.image k))
   pub groups : AreUpTo k.store.volume.log.committed k.world.journal.list
 
 pub settled_disk : {D N : Type 0} (disk : Ghosts D N) (has_now : (d : D) → disk.leaves d (disk.moment d) (disk.image d)) (k : Plain D) → Known disk plain_queues plain_herald k → AreIdle k.world → k.store.volume.fault ≡ None → IsSettledDisk disk k
 settled_disk disk has_now k known all well = record {
   settled = settled disk has_now k known well (quiet disk k known all well);
-  super = super disk k known all well;
-  size = long disk k known all well;
   files = disk_files disk k known all well has_now;
   groups = subst (λ (c : ℕ). AreUpTo c k.world.journal.list) (sym (all_committed disk k known all well)) known.journal.groups;
 }
@@ -65,19 +61,6 @@ module _ {D N : Type 0} (disk : Ghosts D N) (k : Plain D) (was : IsSettledDisk d
   marks_before c low =
       subst (λ (es : List Entry). HasMarks (disk.image k.opening) es (image_on disk.image k)) (sym (kept_up_to (inode_count_of (disk.image k.opening)) k.store.volume.log.committed c k.world.journal.list was.groups low)) was.settled.marks
 
-  -- so each image that a stop leaves then is recovered to these files
-  pub keeps_files : (z : Image) → KeepsNow k.store.volume.log.committed (most_of k.store.volume) (disk.image k.opening) k.world.journal.list z → KeepsFiles (image_on disk.image k) z
-  keeps_files z now =
-      let keeps = now.between.keeps in
-      let same : Some (files_of (recovered z)) ≡ Some (files_of (image_on disk.image k)) = sym keeps.files ∙ kept_before now.between.groups now.between.low in
-      record {
-        log = keeps.log;
-        sound = keeps.sound;
-        files = cc same;
-        unshown = unshown_same (disk.image k.opening) (image_on disk.image k) (recovered z) (kept (inode_count_of (disk.image k.opening)) k.world.journal.list now.between.groups) was.size (marks_before now.between.groups now.between.low)
-            (kept_marks (disk.image k.opening) k.world.journal.list z now.between.groups keeps) (cc same);
-      }
-
 module _ {D N : Type 0} (disk : Ghosts D N) (has_now : (d : D) → disk.leaves d (disk.moment d) (disk.image d)) (op : Op) (r : Step) (k m : Plain D) (sole : IsSole disk op r k m) where
   pub was : IsSettledDisk disk k
   was = settled_disk disk has_now k sole.known (lone_idle k.world sole.rests.one sole.rests.idle) sole.rests.well
@@ -92,14 +75,14 @@ module _ {D N : Type 0} (disk : Ghosts D N) (has_now : (d : D) → disk.leaves d
     -- the files after a call
     call_files : after (form_of (image_on disk.image k)) (files_of (image_on disk.image k)) op done.is.answer.reply ≡ Some (files_of (image_on disk.image m))
     call_files =
-        subst (λ (f : Form). after f (files_of (image_on disk.image k)) op done.is.answer.reply ≡ Some (files_of (image_on disk.image m))) (sym (form_same (disk.image k.opening) (image_on disk.image k) was.super))
+        subst (λ (f : Form). after f (files_of (image_on disk.image k)) op done.is.answer.reply ≡ Some (files_of (image_on disk.image m))) (sym (form_same (disk.image k.opening) (image_on disk.image k) was.settled.marks.untouched.super))
         (files_then disk k m done.is.entry op done.is.answer.reply opening done.is.list done.is.same done.is.replied (files_of (image_on disk.image k)) (files_of (image_on disk.image m)) was.files now.files)
 
     call_whole : IsWhole (image_on disk.image k) (image_on disk.image m)
     call_whole = record {
       sound = now.settled.sound;
-      size = now.size ∙ ap (λ (d : D). length (disk.image d)) opening ∙ sym was.size;
-      super = now.super ∙ ap (λ (d : D). block_at (disk.image d) 1) opening ∙ sym was.super;
+      size = now.settled.size ∙ ap (λ (d : D). length (disk.image d)) opening ∙ sym was.settled.size;
+      super = now.settled.marks.untouched.super ∙ ap (λ (d : D). block_at (disk.image d) 1) opening ∙ sym was.settled.marks.untouched.super;
     }
 
     -- what an answered call has made, whatever its queues are then

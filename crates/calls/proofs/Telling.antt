@@ -1,21 +1,24 @@
 -- The files that a journal tells.
-use Rattle.std.proofs.Common.{◌≡◌, ◌∙◌, suc, ℕ, cond, List, [], ◌∷◌, ◌++◌, Option, Some, None, refl, sym, ap, subst, arith}
+use Rattle.std.proofs.Common.{◌≡◌, ◌∙◌, suc, ℕ, Bool, true, false, cond, ◌||◌, List, [], ◌∷◌, ◌++◌, Option, Some, None, refl, sym, ap, subst, arith}
 use Rattle.std.specs.Prelude.{is_some}
+use Rattle.blocks.specs.Disk.{Image}
 use Rattle.blocks.specs.declared.disk.Disk.{Ghosts}
 use Rattle.model.specs.declared.types.operations.Entry.{Entry}
 use Rattle.model.specs.declared.types.operations.Op.{Op}
 use Rattle.model.specs.declared.types.operations.Reply.{Reply}
+use Rattle.model.specs.Crash.{due_labels, labels_of}
 use Rattle.model.specs.Files.{Files, files_of}
-use Rattle.model.specs.Journal.{answered, replay}
+use Rattle.model.specs.Journal.{answered, is_making, replay}
 use Rattle.model.specs.Layout.{form_of}
 use Rattle.model.specs.Operations.{after}
 use Rattle.history.specs.declared.types.Phase.TheVariants as at
+use Rattle.history.specs.Lemmas.Making.{makes, makes_more}
 use Rattle.history.specs.Open.{IsEntry}
 use Rattle.history.specs.Processes.{World, process}
 use Rattle.kernel.specs.Known.{Known}
 use Rattle.calls.specs.Lemmas.Entries.{one_entry}
 use Rattle.calls.specs.Stepping.{Plain, plain_herald, plain_queues}
-use Rattle.calls.specs.Transactions.{HasFiles}
+use Rattle.calls.specs.Transactions.{HasFiles, labels_after, labels_made}
 use Rattle.calls.proofs.Counting.{IsFree}
 
 none_behind : (w : World) (q group place : ℕ) → IsFree (process w q).at → (process w q).at ≡ at.AfterTurn group place → ⊥
@@ -46,3 +49,15 @@ files_then {D} disk k m e op r opening list same replied f g was now =
     = subst (λ (d : D). replay (form_of (disk.image d)) (files_of (disk.image d)) (es ++ e ∷ []) ≡ Some g) opening
     (subst (λ (l : List Entry). replay (form_of (disk.image m.opening)) (files_of (disk.image m.opening)) l ≡ Some g) list now.run) in
     subst (λ (o : Op). after form f o r ≡ Some g) same (one_entry form start f g es e r was.run replied run)
+
+-- and the labels
+pub labels_then_made : {D : Type 0} (image : D → Image) (k m : Plain D) (e : Entry) (r : Reply) → m.opening ≡ k.opening → m.world.journal.list ≡ k.world.journal.list ++ e ∷ [] → e.reply ≡ Some r → (i : ℕ) → labels_made image m i ≡ labels_after r i (labels_made image k i)
+labels_then_made {D} image k m e r opening list replied i =
+    let es = k.world.journal.list in
+    ap (λ (d : D). due_labels (image d) m.world.journal.list i) opening ∙ ap (λ (l : List Entry). due_labels (image k.opening) l i) list
+    ∙ ap (λ (b : Bool). cond b (0, 0, 1) (labels_of (image k.opening) i)) (makes_more i es e ∙ ap (λ (o : Option Reply). is_making i o || makes i es) replied)
+    ∙ by (is_making i (Some r)) (makes i es)
+  where
+    by : (a b : Bool) → cond (a || b) (0, 0, 1) (labels_of (image k.opening) i) ≡ cond a (0, 0, 1) (cond b (0, 0, 1) (labels_of (image k.opening) i))
+    by true b = refl
+    by false b = refl

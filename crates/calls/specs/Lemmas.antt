@@ -3,4 +3,5 @@ pub mod Sizes
 pub mod Reaching
 pub mod Unshown
 pub mod Entries
+pub mod Making
 pub mod Both

@@ -1,7 +1,8 @@
 -- Two operations in one transaction.
-use Rattle.std.specs.Prelude.{◌≡◌, ◌⊎◌, ◌+◌, IsTrue, Some}
+use Rattle.std.specs.Prelude.{◌≡◌, ◌≢◌, ◌⊎◌, ℕ, ◌+◌, IsTrue, Some, None}
 use Rattle.blocks.specs.Disk.{Image}
-use Rattle.model.specs.Files.{Files, files_of}
+use Rattle.model.specs.Crash.{IsUntouched, labels_of}
+use Rattle.model.specs.Files.{Files, file_in, files_of}
 use Rattle.model.specs.Layout.{form_of}
 use Rattle.model.specs.Log.{is_lawful_log, recovered}
 use Rattle.model.specs.Operations.{after}
@@ -10,6 +11,8 @@ use Rattle.model.specs.declared.types.operations.Op.{Op}
 use Rattle.model.specs.declared.types.operations.Reply.{Reply}
 use Rattle.calls.specs.Calls.{call_count, image_on}
 use Rattle.calls.specs.Stepping.{Plain}
+use Rattle.calls.specs.Transactions.{labels_after}
+use Rattle.calls.specs.Unshown.{KeepsOrRenews}
 
 -- these are the files of image x after both operations, with these replies
 pub record AreAfterBoth (x : Image) (first second : Op) (r s : Reply) (made : Files) : Type 0 where
@@ -17,13 +20,18 @@ pub record AreAfterBoth (x : Image) (first second : Op) (r s : Reply) (made : Fi
   pub one : after (form_of x) (files_of x) first r ≡ Some between
   pub two : after (form_of x) between second s ≡ Some made
 
--- The files on the disk are those after both; the image is sound and of the same form. Three calls
--- more were answered, that of the anchor too.
+-- The files on the disk are those after both; the image is sound and of the same form, and what no
+-- file shows stays, but for the labels of files that were made. Three calls more were answered, that
+-- of the anchor too.
 pub record MakesBoth {D : Type 0} (image : D → Image) (first second : Op) (k m : Plain D)
     (r s : Reply) : Type 0 where
   pub files : AreAfterBoth (image_on image k) first second r s (files_of (image_on image m))
   pub sound : IsSound (image_on image m)
   pub form : form_of (image_on image m) ≡ form_of (image_on image k)
+  pub untouched : IsUntouched (image_on image k) (image_on image m)
+  pub labels : (i : ℕ) → file_in (files_of (image_on image m)) i ≢ None
+      → labels_of (image_on image m) i
+      ≡ labels_after s i (labels_after r i (labels_of (image_on image k) i))
   pub three_more : call_count m ≡ call_count k + 3
 
 -- BOTH OR NEITHER: what a stop leaves of image x
@@ -32,3 +40,4 @@ pub record KeepsBoth (x : Image) (first second : Op) (z : Image) : Type 0 where
   pub sound : IsSound (recovered z)
   pub files : (files_of (recovered z) ≡ files_of x)
       ⊎ ((r s : Reply) × AreAfterBoth x first second r s (files_of (recovered z)))
+  pub unshown : KeepsOrRenews x (recovered z)

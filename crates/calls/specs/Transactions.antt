@@ -1,11 +1,12 @@
 -- What a transaction comes to: calls of process 0 between the beginning of the anchor's operation
 -- and its end. The anchor is process 1.
-use Rattle.std.specs.Prelude.{◌≡◌, ◌⊎◌, ℕ, ◌+◌, ◌<◌, ◌≤◌, Bool, true, false, is_none, IsTrue, [], length, Some, None}
+use Rattle.std.specs.Prelude.{◌≡◌, ◌≢◌, ◌⊎◌, ℕ, ◌+◌, ◌<◌, ◌≤◌, Bool, true, false, if◌then◌else◌, is_none, IsTrue, [], length, Some, None}
 use Rattle.blocks.specs.Calls.{OnlyReads}
 use Rattle.blocks.specs.Disk.{Image, block_at}
 use Rattle.blocks.specs.declared.disk.Disk.{Ghosts}
-use Rattle.model.specs.Files.{Files, files_of}
-use Rattle.model.specs.Journal.{own, replay}
+use Rattle.model.specs.Crash.{IsUntouched, due_labels, labels_of}
+use Rattle.model.specs.Files.{Files, file_in, files_of}
+use Rattle.model.specs.Journal.{is_making, own, replay}
 use Rattle.model.specs.Layout.{form_of}
 use Rattle.model.specs.Log.{is_lawful_log, recovered}
 use Rattle.model.specs.Operations.{after}
@@ -20,8 +21,10 @@ use Rattle.history.specs.declared.types.Phase.TheVariants as at
 use Rattle.history.specs.Processes.{process}
 use Rattle.wal.specs.Machine.{LogState, begin_cause}
 use Rattle.wal.specs.declared.types.Commit.TheVariants as commit
+pub use Rattle.calls.specs.Calls.{KeepsFiles}
 use Rattle.calls.specs.Calls.{HasFailed, call_count, faults_on, image_on, is_look}
 use Rattle.calls.specs.Stepping.{Plain}
+use Rattle.calls.specs.Unshown.{KeepsOrRenews}
 use Rattle.calls.specs.declared.transactions.fault.TransactionFault.{TransactionFault}
 use Rattle.calls.specs.declared.transactions.fault.TransactionFault.TheVariants as fault
 use Rattle.inodes.specs.Writing.{most_logged}
@@ -71,6 +74,14 @@ pub record HasFiles {D : Type 0} (image : D → Image) (k : Plain D) (f : Files)
   pub run : replay (form_of (image k.opening)) (files_of (image k.opening)) k.world.journal.list
       ≡ Some f
 
+-- the labels of a file that they have made or left: those of a new one where one of them made it
+abbrev pub labels_made : {D : Type 0} → (D → Image) → Plain D → ℕ → ℕ × ℕ × ℕ
+labels_made image k i = due_labels (image k.opening) k.world.journal.list i
+
+-- the labels of a file behind an operation with this reply
+abbrev pub labels_after : Reply → ℕ → ℕ × ℕ × ℕ → ℕ × ℕ × ℕ
+labels_after reply i labels = if is_making i (Some reply) then (0, 0, 1) else labels
+
 -- a transaction begins with the files on the disk
 pub record Begins {D : Type 0} (image : D → Image) (k m : Plain D) : Type 0 where
   pub same : image_on image m ≡ image_on image k
@@ -79,6 +90,8 @@ pub record Begins {D : Type 0} (image : D → Image) (k m : Plain D) : Type 0 wh
   pub form : form_of (image_on image k) ≡ form_of (image k.opening)
   pub list : m.world.journal.list ≡ k.world.journal.list
   pub none : length m.store.volume.log.homes ≡ 0
+  pub labels : (i : ℕ) → file_in (files_of (image_on image k)) i ≢ None
+      → labels_of (image_on image k) i ≡ labels_made image m i
 
 -- THE PROMISE OF A CALL in a transaction: it adds this operation with this reply to what the
 -- transaction made, and the disk stays as it was.
@@ -87,17 +100,22 @@ pub record Adds {D : Type 0} (image : D → Image) (op : Op) (k m : Plain D) (re
   pub same : image_on image m ≡ image_on image k
   pub files : (f : Files) → HasFiles image k f → (g : Files)
       × (after (form_of (image k.opening)) f op reply ≡ Some g) × HasFiles image m g
+  pub labels : (i : ℕ) → labels_made image m i ≡ labels_after reply i (labels_made image k i)
   pub one_more : call_count m ≡ call_count k + 1
   -- what it logged, beside what the transaction had logged
   pub room : length m.store.volume.log.homes
       ≤ length k.store.volume.log.homes + most_logged k.store.table.form op
 
--- THE PROMISE OF A COMMIT: the files on the disk are those that the transaction made.
+-- THE PROMISE OF A COMMIT: the files on the disk are those that the transaction made, with their
+-- labels, and what no operation touches stays.
 pub record Commits {D : Type 0} (image : D → Image) (k m : Plain D) : Type 0 where
   pub files : (f : Files) → HasFiles image k f → files_of (image_on image m) ≡ f
   pub sound : IsSound (image_on image m)
   pub size : length (image_on image m) ≡ length (image k.opening)
   pub super : block_at (image_on image m) 1 ≡ block_at (image k.opening) 1
+  pub untouched : IsUntouched (image_on image k) (image_on image m)
+  pub labels : (i : ℕ) → file_in (files_of (image_on image m)) i ≢ None
+      → labels_of (image_on image m) i ≡ labels_made image k i
   pub one_more : call_count m ≡ call_count k + 1
 
 -- the disk was only read, and counted no fault
@@ -142,12 +160,6 @@ IsUncommitted disk k m (fault.Disk cause) = HasFailed disk k m cause
 IsUncommitted disk k m fault.NoMemory = ⊥
 IsUncommitted disk k m fault.NoRoom = ⊥
 
--- what a stop leaves of image x: recovery gives a sound image with its files
-pub record KeepsFiles (x z : Image) : Type 0 where
-  pub log : IsTrue (is_lawful_log z)
-  pub sound : IsSound (recovered z)
-  pub files : files_of (recovered z) ≡ files_of x
-
 -- ALL OR NOTHING: what a stop in the commit of a transaction leaves: recovery gives a sound image
 -- with the files of image x, which stood on the disk before it, or with those that the whole of it
 -- made.
@@ -155,3 +167,4 @@ pub record KeepsEither (x : Image) (made : Files) (z : Image) : Type 0 where
   pub log : IsTrue (is_lawful_log z)
   pub sound : IsSound (recovered z)
   pub files : (files_of (recovered z) ≡ files_of x) ⊎ (files_of (recovered z) ≡ made)
+  pub unshown : KeepsOrRenews x (recovered z)

@@ -1,12 +1,15 @@
 -- Two calls of a transaction, by the promises of its parts alone.
-use Rattle.std.proofs.Common.{arith, List, length, ◌≡◌, ◌∙◌, ℕ, Some, sym, ap, subst, inl, inr, ⊎_elim}
+use Rattle.std.proofs.Common.{arith, List, length, ◌≡◌, ◌≢◌, ◌∙◌, ℕ, Bool, true, false, cond, Some, None, refl, sym, ap, subst, inl, inr, ⊎_elim}
 use Rattle.blocks.specs.Disk.{Image, LeavesOnly}
 use Rattle.blocks.specs.Lemmas.Moments.{joined}
 use Rattle.blocks.specs.declared.disk.Disk.{Ghosts}
 use Rattle.model.specs.declared.types.image.Form.{Form}
 use Rattle.model.specs.declared.types.operations.Op.{Op}
 use Rattle.model.specs.declared.types.operations.Reply.{Reply}
-use Rattle.model.specs.Files.{Files, files_of}
+use Rattle.model.specs.Crash.{IsUntouched, labels_of}
+use Rattle.model.specs.Files.{Files, file_in, files_of}
+use Rattle.model.specs.Journal.{is_making}
+use Rattle.model.specs.Log.{recovered}
 use Rattle.model.specs.Layout.{form_of}
 use Rattle.model.specs.Operations.{after}
 use Rattle.calls.specs.Pairing.{AreAfterBoth, KeepsBoth, MakesBoth}
@@ -14,7 +17,10 @@ use Rattle.calls.specs.Stepping.{Plain}
 use Rattle.calls.specs.Calls.{call_count, image_on}
 use Rattle.model.specs.declared.types.operations.Entry.{Entry}
 use Rattle.model.specs.Lemmas.Frames.{form_same}
-use Rattle.calls.specs.Transactions.{Adds, Begins, Commits, HasFiles, KeepsEither, KeepsFiles}
+use Rattle.calls.specs.Transactions.{Adds, Begins, Commits, HasFiles, KeepsEither, KeepsFiles, labels_after, labels_made}
+use Rattle.calls.specs.Unshown.{KeepsOrRenews}
+use Rattle.calls.specs.Lemmas.Making.{after_tells}
+use Rattle.calls.specs.Lemmas.Unshown.{unshown_renews}
 
 -- what a stop leaves may be said with less
 weaker : {D : Type 0} (moment : D → ℕ) (leaves : D → ℕ → Image → Type 0) (old new : D) (P Q : Image → Type 0) → ((z : Image) → P z → Q z) → LeavesOnly moment leaves old new P → LeavesOnly moment leaves old new Q
@@ -42,7 +48,7 @@ module _ {D N : Type 0} (disk : Ghosts D N) (first second : Op) (k a b d : Plain
       )
 
   keeps_none : (y : Image) → y ≡ image_on disk.image k → (z : Image) → KeepsFiles y z → KeepsBoth (image_on disk.image k) first second z
-  keeps_none y same z keeps = record { log = keeps.log; sound = keeps.sound; files = inl (keeps.files ∙ ap files_of same) }
+  keeps_none y same z keeps = record { log = keeps.log; sound = keeps.sound; files = inl (keeps.files ∙ ap files_of same); unshown = subst (λ (x : Image). KeepsOrRenews x (recovered z)) same (unshown_renews y (recovered z) keeps.unshown) }
 
   keeps_either : (y : Image) → y ≡ image_on disk.image k → (z : Image) → KeepsEither y made.0 z → KeepsBoth (image_on disk.image k) first second z
   keeps_either y same z keeps = record {
@@ -50,6 +56,7 @@ module _ {D N : Type 0} (disk : Ghosts D N) (first second : Op) (k a b d : Plain
     sound = keeps.sound;
     files = ⊎_elim (λ none. inl (none ∙ ap files_of same))
         (λ all. inr (r, s, subst (λ (f : Files). AreAfterBoth (image_on disk.image k) first second r s f) (sym all) made.1)) keeps.files;
+    unshown = subst (λ (x : Image). KeepsOrRenews x (recovered z)) same keeps.unshown;
   }
 
   -- a stop in it keeps both or neither
@@ -67,10 +74,28 @@ module _ {D N : Type 0} (disk : Ghosts D N) (first second : Op) (k a b d : Plain
       joined disk.moment disk.leaves dk dd dm P
       (joined disk.moment disk.leaves dk db dd P
       (joined disk.moment disk.leaves dk da db P
-      (weaker disk.moment disk.leaves dk da (KeepsFiles (image_on disk.image k)) P (λ z keeps. record { log = keeps.log; sound = keeps.sound; files = inl keeps.files }) first_leaves)
+      (weaker disk.moment disk.leaves dk da (KeepsFiles (image_on disk.image k)) P (keeps_none (image_on disk.image k) refl) first_leaves)
       (weaker disk.moment disk.leaves da db (KeepsFiles (image_on disk.image a)) P (keeps_none (image_on disk.image a) begins.same) one_leaves))
       (weaker disk.moment disk.leaves db dd (KeepsFiles (image_on disk.image b)) P (keeps_none (image_on disk.image b) same_b) two_leaves))
       (weaker disk.moment disk.leaves dd dm (KeepsEither (image_on disk.image d) made.0) P (keeps_either (image_on disk.image d) same_d) (last_leaves made.0 made.2))
+
+  -- a file that neither made was there, with its labels
+  both_labels : (m : Plain D) → Commits disk.image d m → (i : ℕ) → file_in (files_of (image_on disk.image m)) i ≢ None → (b c : Bool) → is_making i (Some s) ≡ b → is_making i (Some r) ≡ c →
+      labels_of (image_on disk.image m) i ≡ labels_after s i (labels_after r i (labels_of (image_on disk.image k) i))
+  both_labels m commits i there b c is_s is_r =
+      commits.labels i there ∙ two.labels i ∙ ap (labels_after s i) (one.labels i)
+      ∙ ap (λ (q : Bool). cond q (0, 0, 1) (labels_after r i (labels_made disk.image a i))) is_s ∙ ap (λ (q : Bool). cond b (0, 0, 1) (cond q (0, 0, 1) (labels_made disk.image a i))) is_r
+      ∙ by b c is_s is_r
+      ∙ ap (λ (q : Bool). cond b (0, 0, 1) (cond q (0, 0, 1) (labels_of (image_on disk.image k) i))) (sym is_r) ∙ ap (λ (q : Bool). cond q (0, 0, 1) (labels_after r i (labels_of (image_on disk.image k) i))) (sym is_s)
+    where
+      by : (b c : Bool) → is_making i (Some s) ≡ b → is_making i (Some r) ≡ c → cond b (0, 0, 1) (cond c (0, 0, 1) (labels_made disk.image a i)) ≡ cond b (0, 0, 1) (cond c (0, 0, 1) (labels_of (image_on disk.image k) i))
+      by true c is_s is_r = refl
+      by false true is_s is_r = refl
+      by false false is_s is_r =
+          let x = image_on disk.image k in
+          let there_last : file_in made.0 i ≢ None = λ none. there (ap (λ (f : Files). file_in f i) (commits.files made.0 made.2) ∙ none) in
+          let there_mid = (after_tells (form_of x) made.1.between made.0 second s made.1.two).others i is_s there_last in
+          sym (begins.labels i ((after_tells (form_of x) (files_of x) made.1.between first r made.1.one).others i is_r there_mid))
 
   -- and the files on the disk are those after both
   pub both_made : (m : Plain D) → Commits disk.image d m → MakesBoth disk.image first second k m r s
@@ -83,6 +108,8 @@ module _ {D N : Type 0} (disk : Ghosts D N) (first second : Op) (k a b d : Plain
       record {
         files = subst (λ (f : Files). AreAfterBoth (image_on disk.image k) first second r s f) (sym (commits.files made.0 made.2)) made.1;
         sound = commits.sound;
+        untouched = subst (λ (x : Image). IsUntouched x (image_on disk.image m)) (two.same ∙ one.same ∙ begins.same) commits.untouched;
+        labels = λ i there. both_labels m commits i there (is_making i (Some s)) (is_making i (Some r)) refl refl;
         form = form_same (disk.image d.opening) (image_on disk.image m) commits.super ∙ ap (λ (o : D). form_of (disk.image o)) opening ∙ sym begins.form;
         three_more = omega (arith, none_more, first_more, second_more, last_more);
       }

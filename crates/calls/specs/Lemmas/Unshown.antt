@@ -1,12 +1,12 @@
 -- What no file shows stays, one change after the other.
-use Rattle.std.proofs.Common.{◌≡◌, ◌≢◌, ◌∙◌, ℕ, Bool, true, cond, length, Option, Some, None, refl, sym, ap}
+use Rattle.std.proofs.Common.{◌≡◌, ◌≢◌, ◌∙◌, ℕ, Bool, true, cond, length, Option, Some, None, refl, sym, ap, inl}
 use Rattle.std.specs.Prelude.{is_some}
 use Rattle.blocks.specs.Disk.{Image}
 use Rattle.model.specs.Crash.{labels_of}
 use Rattle.model.specs.Files.{file_in, files_of}
 use Rattle.model.specs.declared.types.image.File.{File}
 use Rattle.history.specs.Lemmas.Stops.{untouched_same, untouched_then}
-use Rattle.calls.specs.Unshown.{KeepsUnshown, LosesNone, labels_due}
+use Rattle.calls.specs.Unshown.{KeepsOrRenews, KeepsUnshown, LosesNone, labels_due}
 
 some_there : (o : Option File) → o ≢ None → is_some o ≡ true
 some_there None there = absurd (there refl)
@@ -33,3 +33,6 @@ unshown_then x y z size lost first second = record {
     due : (i : ℕ) (o : Option File) → file_in (files_of y) i ≡ o → cond (is_some o) (labels_of y i) (0, 0, 1) ≡ labels_due x i
     due i None is = none_before i is (file_in (files_of x) i) refl
     due i (Some file) is = first.labels i (λ none. let both = sym is ∙ none in cc both)
+
+pub unshown_renews : (x y : Image) → KeepsUnshown x y → KeepsOrRenews x y
+unshown_renews x y keeps = record { untouched = keeps.untouched; labels = λ i there. inl (keeps.labels i there) }

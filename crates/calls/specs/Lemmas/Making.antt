@@ -51,7 +51,7 @@ never_at : (files new : Files) (i j : ℕ) (o : Option File) (op : Op) → after
 never_at files new i j None op h = cc h
 never_at files new i j (Some file) op h = never_on files new i j file op h
 
-never_refused : (refusal : Reply) (j : ℕ) → is_refusal refusal (Made j) ≡ true → ⊥
+pub never_refused : (refusal : Reply) (j : ℕ) → is_refusal refusal (Made j) ≡ true → ⊥
 never_refused NoFile j h = cc h
 never_refused refusal j h = cc h
 
