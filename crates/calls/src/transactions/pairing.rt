@@ -1,9 +1,9 @@
 // Two operations, both or none.
-ghost use Rattle.std.specs.Prelude.{◌≡◌, ◌+◌, ◌<◌, ◌^◌, IfOk, OnOk};
+ghost use Rattle.std.specs.Prelude.{◌≡◌, ◌+◌, ◌<◌, ◌^◌, IfErr, IfOk, OnOk};
 ghost use Rattle.blocks.specs.Disk.{LeavesOnly};
 ghost use Rattle.calls.specs.Calls.{call_count, image_on};
 ghost use Rattle.calls.specs.Stopped.{StaysOver};
-ghost use Rattle.calls.specs.Pairing.{KeepsBoth, MakesBoth};
+ghost use Rattle.calls.specs.Pairing.{IsUnmade, KeepsBoth, MakesBoth};
 ghost use Rattle.calls.specs.Transactions.{Rests};
 
 use crate::transactions::beginning::{Pair, begin};
@@ -19,8 +19,11 @@ use std::alloc::Global;
 ///
 /// # Errors
 ///
-/// Those of `begin`, `call` and `commit`. After each no other call may be made, for the transaction
-/// isn't at its end: `abandon` hands the disk back.
+/// - `Disk`: the disk failed, and the kernel tells the same fault.
+/// - `NoMemory`: memory was refused, and nothing was written. That it was refused no clause can say.
+///
+/// Two operations always have room. After either no other call may be made, for the transaction isn't
+/// at its end: `abandon` hands the disk back.
 pub fn make_both<D: Disk>(
     alloc: Global,
     kernel: &mut Pair<D>,
@@ -32,6 +35,7 @@ pub fn make_both<D: Disk>(
     ensures rests { OnOk result (Rests D.fault_count kernel.new) }
     ensures makes { IfOk result (λ replies.
         MakesBoth D.image first second kernel.old kernel.new replies.0 replies.1) }
+    ensures refused { IfErr result (IsUnmade D.Disk kernel.old kernel.new) }
     ensures leaves { LeavesOnly D.moment D.leaves
         kernel.old.store.volume.device kernel.new.store.volume.device
         (KeepsBoth (image_on D.image kernel.old) first second) }
