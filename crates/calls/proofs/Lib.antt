@@ -20,6 +20,7 @@ pub mod Stopping
 pub mod Sleeping
 pub mod Waiting
 pub mod Inside
+pub mod Released
 pub mod Adding
 pub mod Begun
 pub mod Committed

@@ -118,7 +118,7 @@ module _ {D N : Type 0} (disk : Ghosts D N) (cur : Image) (n j kind : ℕ) (numb
     goes = λ g s t r x going steps spares. spares;
     decides = λ g s t r reply was steps spares. ⊎_elim (λ (none : r ≡ None). absurd (spares.1 none)) (λ (same : r ≡ Some reply). (subst Spares same spares.0, λ e. cc e)) was;
     ends = λ g s t r steps spares. spares.0;
-    told = λ s r spares. spares.0;
+    decides_alone = λ s t r reply was steps spares. ⊎_elim (λ (none : r ≡ None). absurd (spares.1 none)) (λ (same : r ≡ Some reply). subst Spares same spares.0) was;
     ends_alone = λ s t r steps spares. spares.0;
     leaves = λ g s r spares. spares;
     closes = λ g s r commits spares. spares;
@@ -129,7 +129,7 @@ module _ {D N : Type 0} (disk : Ghosts D N) (cur : Image) (n j kind : ℕ) (numb
 -- ---- numbers without a file
 
 -- a used inode has a file
-used_file : (x : Image) (i : ℕ) → 0 < i → (inode_of x i).kind ≢ 0 → (f : File) × (file_at x i ≡ Some f)
+pub used_file : (x : Image) (i : ℕ) → 0 < i → (inode_of x i).kind ≢ 0 → (f : File) × (file_at x i ≡ Some f)
 unfolding file_of
 used_file x i low used = (record { kind = (inode_of x i).kind; bytes = bytes_in x (inode_of x i) }, rw (ne_eqb i 0 (λ e. omega (arith, low, e)), ne_eqb (inode_of x i).kind 0 used) refl)
 
@@ -140,7 +140,7 @@ free_number x i low high none = ⊎_elim (λ (free : (inode_of x i).kind ≡ 0).
     (cases_eq (inode_of x i).kind 0)
 
 -- a number that is made is one of the image's
-made_below : (form : Form) (files last : Files) (kind i : ℕ) → after form files (Create kind) (Made i) ≡ Some last → i < length files
+pub made_below : (form : Form) (files last : Files) (kind i : ℕ) → after form files (Create kind) (Made i) ≡ Some last → i < length files
 unfolding after
 made_below form files last kind i is = by_kind (is_kind kind) is
   where
