@@ -198,7 +198,7 @@ module _ {D N : Type 0} (disk : Ghosts D N) (r : Step) (k m : Plain D) (call : I
         let is = commit_answered in
         let form = form_of (disk.image k.opening) in
         let none = anchor_makes_none form f (files_of (image_on disk.image m)) is.answer.reply i
-            (files_then disk k m is.entry anchor is.answer.reply run.opening is.list is.same is.replied f (files_of (image_on disk.image m)) has (disk_files disk m call.known_now all well has_now)) in
+        (files_then disk k m is.entry anchor is.answer.reply run.opening is.list is.same is.replied f (files_of (image_on disk.image m)) has (disk_files disk m call.known_now all well has_now)) in
         labels_then_made disk.image k m is.entry is.answer.reply run.opening is.list is.replied i ∙ ap (λ (b : Bool). cond b (0, 0, 1) (labels_made disk.image k i)) none
 
     -- the files from before are told by the journal
@@ -207,18 +207,18 @@ module _ {D N : Type 0} (disk : Ghosts D N) (r : Step) (k m : Plain D) (call : I
 
     pub commit_made : ((d : D) → disk.leaves d (disk.moment d) (disk.image d)) → (n : Plain D) → n ≡ with_intake m n.intake → Commits disk.image k n
     commit_made has_now n same =
-      let was = settled disk has_now k call.known_then call.inside.pair.well call.inside.open_one.quiet in
-      let set_m = settled disk has_now m call.known_now well (quiet disk m call.known_now all well) in
-      let untouched : IsUntouched (disk.image k.opening) (image_on disk.image m) = subst (λ (d : D). IsUntouched (disk.image d) (image_on disk.image m)) run.opening set_m.marks.untouched in
-      subst (λ (s : Plain D). Commits disk.image k s) (sym same) (record {
-      files = made_files has_now;
-      sound = set_m.sound;
-      untouched = untouched_since (disk.image k.opening) (image_on disk.image k) (image_on disk.image m) (kept (inode_count_of (disk.image k.opening)) k.world.journal.list k.store.volume.log.committed) was.size was.marks untouched;
-      labels = λ i there. disk_labels disk m call.known_now all well has_now i there ∙ labels_still has_now told_before.0 told_before.1 i;
-      size = long disk m call.known_now all well ∙ ap (λ (d : D). length (disk.image d)) run.opening;
-      super = super disk m call.known_now all well ∙ ap (λ (d : D). block_at (disk.image d) 1) run.opening;
-      one_more = ap (λ (es : List Entry). length es) commit_answered.list ∙ length-append k.world.journal.list (commit_answered.entry ∷ []);
-    })
+        let was = settled disk has_now k call.known_then call.inside.pair.well call.inside.open_one.quiet in
+        let set_m = settled disk has_now m call.known_now well (quiet disk m call.known_now all well) in
+        let untouched : IsUntouched (disk.image k.opening) (image_on disk.image m) = subst (λ (d : D). IsUntouched (disk.image d) (image_on disk.image m)) run.opening set_m.marks.untouched in
+        subst (λ (s : Plain D). Commits disk.image k s) (sym same) (record {
+          files = made_files has_now;
+          sound = set_m.sound;
+          untouched = untouched_since (disk.image k.opening) (image_on disk.image k) (image_on disk.image m) (kept (inode_count_of (disk.image k.opening)) k.world.journal.list k.store.volume.log.committed) was.size was.marks untouched;
+          labels = λ i there. disk_labels disk m call.known_now all well has_now i there ∙ labels_still has_now told_before.0 told_before.1 i;
+          size = long disk m call.known_now all well ∙ ap (λ (d : D). length (disk.image d)) run.opening;
+          super = super disk m call.known_now all well ∙ ap (λ (d : D). block_at (disk.image d) 1) run.opening;
+          one_more = ap (λ (es : List Entry). length es) commit_answered.list ∙ length-append k.world.journal.list (commit_answered.entry ∷ []);
+        })
 
     pub commit_rests : (n : Plain D) → n ≡ with_intake m n.intake → waiting n.intake 1 ≡ waiting m.intake 1 → polled n.intake 1 ≡ polled_after (first_in (answers m.intake 1)) (polled m.intake 1) → OthersWait m.intake n.intake 1 → Rests disk.fault_count n
     commit_rests n same waits fetched others =

@@ -1,21 +1,22 @@
 -- A task holds no file once its operation is over; and where no task does, the current image has the
 -- files that the journal tells.
-use Rattle.std.proofs.Common.{◌≡◌, ◌≢◌, ◌∙◌, ◌⊎◌, inl, inr, ◌<◌, ◌≤◌, ℕ, Bool, zero, suc, true, false, List, [], ◌∷◌, length, Option, Some, None, refl, sym, ap, subst, ⊎_elim, arith}
+use Rattle.std.proofs.Common.{◌≡◌, ◌≢◌, ◌∙◌, ◌<◌, ◌≤◌, ℕ, true, List, [], ◌∷◌, length, Option, Some, None, refl, sym, ap, subst, ⊎_elim, arith}
 use Rattle.std.specs.Prelude.{IfNone, IsTrue}
 use Rattle.std.proofs.lemmas.Bool.{cases_eq, lt-ltb}
 use Rattle.blocks.specs.Disk.{Image}
 use Rattle.blocks.specs.declared.disk.Disk.{Ghosts}
+use Rattle.blocks.specs.declared.errors.DiskFault.{DiskFault}
 use Rattle.model.specs.declared.types.operations.Op.{Op}
 use Rattle.model.specs.declared.types.operations.Op.TheVariants.{Create}
 use Rattle.model.specs.declared.types.operations.Reply.{Reply}
-use Rattle.model.specs.declared.types.operations.Reply.TheVariants.{Made}
 use Rattle.model.specs.declared.types.operations.TaskProgress.{TaskProgress}
 use Rattle.model.specs.declared.types.operations.TaskProgress.TheVariants as progress
+use Rattle.model.specs.declared.types.operations.Why.{Why}
 use Rattle.model.specs.declared.types.progress.Progress.{Progress}
 use Rattle.model.specs.declared.types.progress.Progress.TheVariants as machine
 use Rattle.model.specs.Files.{Files, file_in, files_of}
 use Rattle.model.specs.Journal.{is_number, replay}
-use Rattle.model.specs.Layout.{form_of, inode_count_of, inode_of}
+use Rattle.model.specs.Layout.{form_of, inode_of}
 use Rattle.model.specs.Lemmas.FileNumbers.{length-files_of}
 use Rattle.model.specs.Lemmas.Runs.{count_stays}
 use Rattle.model.specs.Operations.{after}
@@ -24,24 +25,27 @@ use Rattle.in_flight.specs.Held.{Claim, IsFine}
 use Rattle.in_flight.specs.Loose.{IsAtRest}
 use Rattle.inodes.specs.declared.tasks.Stage.{Stage}
 use Rattle.inodes.specs.declared.tasks.Stage.TheVariants as stage
-use Rattle.inodes.specs.Goes.{Goes, GoesFrom, progress_of_lock, progress_of_read, progress_of_trunc, progress_of_write, shown_of, stage_of_writing}
+use Rattle.inodes.specs.Goes.{Goes, GoesFrom, progress_by, progress_of_write, shown_of, stage_of_writing}
 use Rattle.inodes.specs.Holding.{claim_by, claim_of, claims_of}
 use Rattle.inodes.specs.Lemmas.Looks.{IsPassedBy}
+use Rattle.inodes.specs.Ialloc.{SearchState}
 use Rattle.inodes.specs.Stages.{is_over}
 use Rattle.inodes.specs.Steps.{Steps}
 use Rattle.inodes.specs.Store.{FitsFiles, StoreState, current_of, first_taking, reply_of}
 use Rattle.inodes.specs.Table.{or_else}
 use Rattle.inodes.specs.Tasks.{TaskState, task}
+use Rattle.inodes.specs.Writei.{WriteState}
 use Rattle.history.specs.Processes.{process}
-use Rattle.kernel.specs.Known.{IsCurrent, Known}
+use Rattle.kernel.specs.Known.{IsCurrent}
 use Rattle.model.specs.declared.types.operations.Step.{Step}
 use Rattle.model.specs.declared.types.operations.Step.TheVariants as step
 use Rattle.calls.specs.Calls.{MakesLowestOf, MakesNoneOf}
-use Rattle.calls.specs.Stepping.{Plain, plain_herald, plain_queues}
+use Rattle.calls.specs.Lemmas.Creations.{creation_makes}
+use Rattle.calls.specs.Stepping.{Plain}
 use Rattle.calls.specs.Transactions.{HasFiles}
 use Rattle.calls.proofs.Called.{IsCall, call_over, given}
 use Rattle.calls.proofs.Counting.{IsAnswered, IsFree}
-use Rattle.calls.proofs.Searches.{made_below, passes_none, used_file}
+use Rattle.calls.proofs.Searches.{passes_none, used_file}
 use Rattle.calls.proofs.Stages.{AfterTurn, Answered, BeforeTurn, Committing, IsKept, Over, Waits, Where}
 use Rattle.calls.proofs.Telling.{all_told}
 
@@ -68,83 +72,46 @@ module _ {D N : Type 0} (disk : Ghosts D N) (p : ℕ) (op : Op) (s t : StoreStat
   at_stage : (a : Stage) → (task t.tasks p).stage ≡ a → HoldsNone (task t.tasks p).op a → Held
   at_stage a is none = subst (HoldsNone (task t.tasks p).op) (sym is) none
 
-  -- with the last step of a task it is over
-  over_from : (a : Stage) → (task s.tasks p).stage ≡ a → Goes disk a s p op progress.Over t → Held
-  over_from stage.Nowhere is goes = at_stage stage.Nowhere (ap (λ (y : StoreState D). (task y.tasks p).stage) goes.1 ∙ is) (λ i. refl)
-  over_from (stage.Creating m) is goes = absurd (by m.slot goes.0)
-    where
-      by : (o : Option ℕ) → GoesFrom o s.table.inode_count p m s.volume.buffers progress.Over (task t.tasks p).stage (shown_of disk.image s.volume) (shown_of disk.image t.volume) → ⊥
-      by None goes = goes.0
-      by (Some i) goes = goes
-  over_from (stage.Taking m) is goes = absurd (by goes.0.answer goes.0.gives)
-    where
-      by : (x : Progress Bool) → progress.Over ≡ progress_of_lock s.table.form (inode_of (current_of disk.image s.volume) m.number) op x → ⊥
-      by machine.Moved e = cc e
-      by (machine.Sleeping cause) e = cc e
-      by (machine.Over used) e = cc e
-      by (machine.Fault fault) e = cc e
-  over_from (stage.Reading k m) is goes = absurd (by goes.0.answer goes.0.gives)
-    where
-      by : (x : Progress (Unit {0})) → progress.Over ≡ progress_of_read x → ⊥
-      by machine.Moved e = cc e
-      by (machine.Sleeping cause) e = cc e
-      by (machine.Over out) e = cc e
-      by (machine.Fault fault) e = cc e
-  over_from (stage.Delivering k) is goes = at_stage stage.Nowhere goes.up.next (λ i. refl)
-  over_from (stage.Truncating k m) is goes = absurd (by goes.answer goes.gives)
-    where
-      by : (x : Progress (Unit {0})) → progress.Over ≡ progress_of_trunc x → ⊥
-      by machine.Moved e = cc e
-      by (machine.Sleeping cause) e = cc e
-      by (machine.Over out) e = cc e
-      by (machine.Fault fault) e = cc e
-  over_from (stage.Writing k m) is goes = absurd (by goes.answer goes.gives)
-    where
-      by : (x : Progress (Unit {0})) → progress.Over ≡ progress_of_write m.done x → ⊥
-      by machine.Moved e = cc e
-      by (machine.Sleeping cause) e = cc e
-      by (machine.Over out) e = cc e
-      by (machine.Fault fault) e = cc e
-  over_from (stage.Leaving k) is goes = at_stage stage.Nowhere goes.1.next (λ i. refl)
+  -- With the last step of a task, and with a reply that is decided behind its turn, it holds none: a
+  -- machine's other steps are neither.
+  module _ (x : TaskProgress) (moves : x ≢ progress.Moved) (turns : (r : Option Reply) → x ≢ progress.Turned r) (sleeps : (cause : Why) → x ≢ progress.Sleeping cause) (fails : (fault : DiskFault) → x ≢ progress.Fault fault) where
+    by_machine : {T : Type 0} (last : T → TaskProgress) → ((out : T) → x ≢ last out) → (answer : Progress T) → x ≢ progress_by last answer
+    by_machine last other machine.Moved e = moves e
+    by_machine last other (machine.Sleeping cause) e = sleeps cause e
+    by_machine last other (machine.Over out) e = other out e
+    by_machine last other (machine.Fault fault) e = fails fault e
 
-  -- and with a reply that is decided behind its turn it holds none any more
-  decided_from : (reply : Reply) (a : Stage) → Goes disk a s p op (progress.Decided reply) t → Held
-  decided_from reply stage.Nowhere goes = (let e = goes.0 in absurd (cc e))
-  decided_from reply (stage.Creating m) goes = absurd (by m.slot goes.0)
-    where
-      by : (o : Option ℕ) → GoesFrom o s.table.inode_count p m s.volume.buffers (progress.Decided reply) (task t.tasks p).stage (shown_of disk.image s.volume) (shown_of disk.image t.volume) → ⊥
-      by None goes = goes.0
-      by (Some i) goes = goes
-  decided_from reply (stage.Taking m) goes = absurd (by goes.0.answer goes.0.gives)
-    where
-      by : (x : Progress Bool) → progress.Decided reply ≡ progress_of_lock s.table.form (inode_of (current_of disk.image s.volume) m.number) op x → ⊥
-      by machine.Moved e = cc e
-      by (machine.Sleeping cause) e = cc e
-      by (machine.Over used) e = cc e
-      by (machine.Fault fault) e = cc e
-  decided_from reply (stage.Reading k m) goes = absurd (by goes.0.answer goes.0.gives)
-    where
-      by : (x : Progress (Unit {0})) → progress.Decided reply ≡ progress_of_read x → ⊥
-      by machine.Moved e = cc e
-      by (machine.Sleeping cause) e = cc e
-      by (machine.Over out) e = cc e
-      by (machine.Fault fault) e = cc e
-  decided_from reply (stage.Delivering k) goes = at_stage stage.Nowhere goes.up.next (λ i. refl)
-  decided_from reply (stage.Truncating k m) goes = absurd (by goes.answer goes.gives)
-    where
-      by : (x : Progress (Unit {0})) → progress.Decided reply ≡ progress_of_trunc x → ⊥
-      by machine.Moved e = cc e
-      by (machine.Sleeping cause) e = cc e
-      by (machine.Over out) e = cc e
-      by (machine.Fault fault) e = cc e
-  decided_from reply (stage.Writing k m) goes = by goes.answer goes.gives goes.next
-    where
-      by : (x : Progress (Unit {0})) → progress.Decided reply ≡ progress_of_write m.done x → (task t.tasks p).stage ≡ stage_of_writing k m goes.now x → Held
-      by machine.Moved e next = absurd (cc e)
-      by (machine.Sleeping cause) e next = absurd (cc e)
-      by (machine.Over out) e next = at_stage (stage.Leaving k) next (λ i. refl)
-      by (machine.Fault fault) e next = absurd (cc e)
-  decided_from reply (stage.Leaving k) goes = (let e = goes.0 in absurd (cc e))
+    by_search : (slot : Option ℕ) (m : SearchState) (q : TaskProgress) → x ≡ q → GoesFrom slot s.table.inode_count p m s.volume.buffers q (task t.tasks p).stage (shown_of disk.image s.volume) (shown_of disk.image t.volume) → ⊥
+    by_search slot m progress.Moved is goes = moves is
+    by_search slot m (progress.Turned reply) is goes = turns reply is
+    by_search None m (progress.Decided reply) is goes = goes.0
+    by_search (Some i) m (progress.Decided reply) is goes = goes
+    by_search None m progress.Over is goes = goes.0
+    by_search (Some i) m progress.Over is goes = goes
+    by_search slot m (progress.Sleeping cause) is goes = sleeps cause is
+    by_search slot m (progress.Fault fault) is goes = fails fault is
+
+    by_write : (k : ℕ) (m n : WriteState) (answer : Progress (Unit {0})) → x ≡ progress_of_write m.done answer → (task t.tasks p).stage ≡ stage_of_writing k m n answer → Held
+    by_write k m n machine.Moved e next = absurd (moves e)
+    by_write k m n (machine.Sleeping cause) e next = absurd (sleeps cause e)
+    by_write k m n (machine.Over out) e next = at_stage (stage.Leaving k) next (λ i. refl)
+    by_write k m n (machine.Fault fault) e next = absurd (fails fault e)
+
+    holds_none : (a : Stage) → (task s.tasks p).stage ≡ a → Goes disk a s p op x t → Held
+    holds_none stage.Nowhere is goes = at_stage stage.Nowhere (ap (λ (y : StoreState D). (task y.tasks p).stage) goes.1 ∙ is) (λ i. refl)
+    holds_none (stage.Creating m) is goes = absurd (by_search m.slot m x refl goes.0)
+    holds_none (stage.Taking m) is goes = absurd (by_machine _ (λ used. turns _) goes.0.answer goes.0.gives)
+    holds_none (stage.Reading k m) is goes = absurd (by_machine _ (λ out. moves) goes.0.answer goes.0.gives)
+    holds_none (stage.Delivering k) is goes = at_stage stage.Nowhere goes.up.next (λ i. refl)
+    holds_none (stage.Truncating k m) is goes = absurd (by_machine _ (λ out. moves) goes.answer goes.gives)
+    holds_none (stage.Writing k m) is goes = by_write k m goes.now goes.answer goes.gives goes.next
+    holds_none (stage.Leaving k) is goes = at_stage stage.Nowhere goes.1.next (λ i. refl)
+
+  over_none : Steps disk s p op progress.Over t → Held
+  over_none steps = holds_none progress.Over (λ e. cc e) (λ r e. cc e) (λ cause e. cc e) (λ fault e. cc e) (task s.tasks p).stage refl steps.goes
+
+  decided_none : (reply : Reply) → Steps disk s p op (progress.Decided reply) t → Held
+  decided_none reply steps = holds_none (progress.Decided reply) (λ e. cc e) (λ r e. cc e) (λ cause e. cc e) (λ fault e. cc e) (task s.tasks p).stage refl steps.goes
 
 -- what is kept of that
 module _ {D N : Type 0} (disk : Ghosts D N) (p : ℕ) (op : Op) (old : StoreState D) (none : (i : ℕ) → claim_of (task old.tasks p) i ≡ None) where
@@ -169,9 +136,9 @@ module _ {D N : Type 0} (disk : Ghosts D N) (p : ℕ) (op : Op) (old : StoreStat
     turns_over = λ g s t r over steps was. none_over (task t.tasks p).op (task t.tasks p).stage over;
     goes = λ g s t r x going steps was. tt;
     decides = λ g s t r reply untold steps was. tt;
-    ends = λ g s t r steps was. over_from disk p op s t (task s.tasks p).stage refl steps.goes;
-    decides_alone = λ s t r reply untold steps was. decided_from disk p op s t reply (task s.tasks p).stage steps.goes;
-    ends_alone = λ s t r steps was. over_from disk p op s t (task s.tasks p).stage refl steps.goes;
+    ends = λ g s t r steps was. over_none disk p op s t steps;
+    decides_alone = λ s t r reply untold steps was. decided_none disk p op s t reply steps;
+    ends_alone = λ s t r steps was. over_none disk p op s t steps;
     leaves = λ g s r was i. was i;
     closes = λ g s r commits was i. was i;
     commits = λ s t r x commits was i. ap (λ (ts : List TaskState). claim_of (task ts p) i) commits.tasks ∙ was i;
@@ -227,7 +194,7 @@ module _ {D N : Type 0} (disk : Ghosts D N) (op : Op) (r : Step) (k m : Plain D)
   adds_lowest f g has runs kind i j creates made low lower none =
       let form = form_of (disk.image k.opening) in
       let made_so = sym (ap (λ (p : Op). after form f p is.answer.reply) creates ∙ ap (after form f (Create kind)) made) ∙ runs in
-      let below = made_below form f g kind i made_so in
+      let below = (creation_makes form f kind i g made_so).below in
       passes_no_file f has kind j (Some i) creates made low (omega (arith, below, lower)) none lower
 
   pub adds_none : (f : Files) → HasFiles disk.image k f → MakesNoneOf f op is.answer.reply

@@ -1,7 +1,7 @@
 -- What the disk of a kernel of one process has while no operation is under way, and what a call makes
 -- of it.
 use Rattle.std.proofs.Common.{◌≡◌, ◌∙◌, ◌≤◌, ℕ, List, length, Some, None, sym, ap, subst}
-use Rattle.blocks.specs.Disk.{Image, block_at}
+use Rattle.blocks.specs.Disk.{block_at}
 use Rattle.blocks.specs.declared.disk.Disk.{Ghosts}
 use Rattle.model.specs.declared.types.image.Form.{Form}
 use Rattle.model.specs.declared.types.operations.Entry.{Entry}
@@ -9,29 +9,27 @@ use Rattle.model.specs.declared.types.operations.Op.{Op}
 use Rattle.model.specs.Files.{files_of}
 use Rattle.model.specs.Journal.{kept, replay}
 use Rattle.model.specs.Layout.{form_of, inode_count_of}
-use Rattle.model.specs.Log.{recovered}
 use Rattle.model.specs.Operations.{after}
 use Rattle.model.specs.Lemmas.Frames.{form_same}
 use Rattle.ports.specs.declared.queues.QueueIntake.{QueueIntake}
-use Rattle.history.specs.Keeps.{AreUpTo, KeepsNow}
-use Rattle.history.specs.Most.{most_of}
+use Rattle.history.specs.Keeps.{AreUpTo}
 use Rattle.history.specs.Lemmas.Kept.{kept_up_to}
 use Rattle.kernel.specs.Awake.{AreIdle}
 use Rattle.kernel.specs.Known.{Known}
 use Rattle.model.specs.declared.types.operations.Step.{Step}
 use Rattle.model.specs.declared.types.operations.Step.TheVariants as step
-use Rattle.calls.specs.Calls.{Calls, IsWhole, KeepsFiles, image_on}
+use Rattle.calls.specs.Calls.{Calls, IsWhole, image_on}
 use Rattle.calls.specs.Stepping.{Plain, plain_herald, plain_queues}
 use Rattle.calls.specs.Transactions.{HasFiles}
 use Rattle.calls.specs.Unshown.{KeepsUnshown}
 use Rattle.calls.proofs.Called.{call_opening, given, with_intake}
-use Rattle.calls.proofs.Idle.{all_committed, disk_files, lone_idle, long, quiet, super}
+use Rattle.calls.proofs.Idle.{all_committed, disk_files, lone_idle, quiet}
 use Rattle.calls.proofs.Keeping.{IsSettled, settled}
 use Rattle.calls.proofs.Searches.{lowest, none_free}
 use Rattle.calls.proofs.Shorts.{short_full}
 use Rattle.calls.proofs.Sole.{IsDone, IsSole}
 use Rattle.calls.proofs.Telling.{files_then}
-use Rattle.calls.proofs.Unshown.{HasMarks, kept_marks, unshown_same}
+use Rattle.calls.proofs.Unshown.{HasMarks}
 
 -- The image on the disk is settled, with the opening's files after all of the journal. No entry is of
 -- a later group than the committed ones.

@@ -5,3 +5,4 @@ pub mod Unshown
 pub mod Entries
 pub mod Making
 pub mod Both
+pub mod Creations
