@@ -10,9 +10,13 @@ use Rattle.model.specs.declared.types.operations.Entry.{Entry}
 use Rattle.model.specs.declared.types.operations.Op.{Op}
 use Rattle.model.specs.declared.types.operations.Why.{Why}
 use Rattle.model.specs.declared.types.operations.Why.TheVariants as why
+use Rattle.model.specs.Files.{Files}
 use Rattle.model.specs.Journal.{own}
+use Rattle.model.specs.Layout.{form_of}
+use Rattle.model.specs.Operations.{after}
 use Rattle.wal.specs.Machine.{LogState}
 use Rattle.wal.specs.declared.types.DeviceFault.{DeviceFault}
+use Rattle.inodes.specs.Holding.{claim_of}
 use Rattle.inodes.specs.Store.{StoreState}
 use Rattle.inodes.specs.Tasks.{TaskState, task}
 use Rattle.ports.specs.History.{Side, first_in}
@@ -34,13 +38,14 @@ use Rattle.kernel.specs.declared.class.OpClass.{OpClass}
 use Rattle.kernel.specs.declared.class.OpClass.TheVariants as waiting_as
 use Rattle.calls.specs.Stepping.{MakesPlainStep, Plain, plain_herald, plain_queues}
 use Rattle.calls.specs.Calls.{image_on, is_look}
-use Rattle.calls.specs.Transactions.{Adds, IsFetched, IsInside, IsOnlyRead, IsOpenBy, KeepsFiles, anchor, has_room}
+use Rattle.calls.specs.Transactions.{Adds, HasFiles, IsFetched, IsInside, IsOnlyRead, IsOpenBy, KeepsFiles, anchor, has_room}
 use Rattle.calls.proofs.Called.{IsCall, call_after, call_answered, call_opening, call_over, call_run, call_stage, given, halts_not, is_faultless, still_faultless, with_intake}
 use Rattle.calls.proofs.Counting.{IsAnswered, IsFree, fetched_again, fetched_still, room_left}
 use Rattle.calls.proofs.Going.{After, LeavesOthers, Stage}
 use Rattle.calls.proofs.Idle.{of_two}
 use Rattle.calls.proofs.Inside.{HasOpen, Inside, LogIs, inside_kept, still_open}
 use Rattle.calls.proofs.Keeping.{leaves_before, settled}
+use Rattle.calls.proofs.Released.{adds_lowest, adds_none, call_releases}
 use Rattle.calls.proofs.Stages.{Comes, IsKept, IsLeft, IsOver, Where, first_waits, is_left, waits_or_busy}
 use Rattle.calls.proofs.Telling.{files_then, labels_then_made, told_files}
 use Rattle.calls.proofs.Waiting.{has_begun, waits_for_buffer, by_causes, has_no_slot}
@@ -234,13 +239,21 @@ module _ {D N : Type 0} (disk : Ghosts D N) (op : Op) (r : Step) (k m : Plain D)
     all_free : (p : ℕ) → IsFree (process m.world p).at
     all_free = of_two m.world IsFree (rest.many ∙ adding.inside.pair.two) tt (subst IsFree (sym over.idle) tt) (subst IsFree (sym anchored) tt)
 
+    free_before : (p : ℕ) → IsFree (process k.world p).at
+    free_before = of_two k.world IsFree adding.inside.pair.two tt (subst IsFree (sym adding.inside.pair.free) tt) (subst IsFree (sym adding.inside.anchored) tt)
+
     pub call_adds : (n : Plain D) → n ≡ with_intake m n.intake → Adds disk.image op k n call_done.answer.reply
     call_adds n same =
         let is = call_done in
         let told = told_files disk m adding.call.known_now all_free in
+        let adds : (f : Files) → HasFiles disk.image k f → after (form_of (disk.image k.opening)) f op is.answer.reply ≡ Some told.0
+        = λ f has. files_then disk l m is.entry op is.answer.reply (call_run disk 0 op r k m adding.call).opening is.list is.same is.replied f told.0 (record { run = has.run }) told.1 in
+        let pair = adding.inside.pair in
         subst (λ (s : Plain D). Adds disk.image op k s call_done.answer.reply) (sym same) (record {
           same = call_reads.image;
-          files = λ f has. (told.0, files_then disk l m is.entry op is.answer.reply (call_run disk 0 op r k m adding.call).opening is.list is.same is.replied f told.0 (record { run = has.run }) told.1, record { run = told.1.run });
+          files = λ f has. (told.0, adds f has, record { run = told.1.run });
+          lowest = λ f has. adds_lowest disk op r k m adding.call so is pair.well pair.tasks pair.released adding.inside.empty_handed free_before f told.0 has (adds f has);
+          none = λ f has. adds_none disk op r k m adding.call so is pair.well pair.tasks pair.released adding.inside.empty_handed free_before f has;
           labels = labels_then_made disk.image k m is.entry is.answer.reply (call_opening disk 0 op r k m adding.call) is.list is.replied;
           one_more = ap (λ (es : List Entry). length es) is.list ∙ length-append k.world.journal.list (is.entry ∷ []);
           room = over.holds.1;
@@ -261,6 +274,7 @@ module _ {D N : Type 0} (disk : Ghosts D N) (op : Op) (r : Step) (k m : Plain D)
             two = ap (λ (w : World). length w.processes) world ∙ rest.many ∙ pair.two;
             tasks = ap (λ (s : Plain D). length s.store.tasks) same ∙ rest.tasks.many ∙ pair.tasks;
             free = ap (λ (w : World). (process w 0).at) world ∙ over.idle;
+            released = λ i. ap (λ (s : Plain D). claim_of (task s.store.tasks 0) i) same ∙ call_releases disk 0 op r k m adding.call pair.released so i;
             first = fetched_again 0 op l m n call_done adding.call.few world waits fetched;
             second = record { waits = (others 1 apart).0 ∙ second.waits; fetched = (others 1 apart).2 ∙ second.fetched ∙ ap (λ (w : World). length (own 1 w.journal.list)) (sym world) };
             well = ap (λ (s : Plain D). s.store.volume.fault) same ∙ well;

@@ -1,7 +1,6 @@
 -- What an answered operation makes of the files, reply by reply.
-use Rattle.std.proofs.Common.{◌≡◌, ◌≢◌, ℕ, ◌+◌, ◌<◌, ◌≤◌, ◌⊎◌, Bool, true, false, cond, ltb, leb, List, [], ◌++◌, length, take, drop, set, Option, Some, None, refl, ap, subst, ◌∙◌, inl, inr, arith}
-use Rattle.std.specs.Prelude.{is_none, ◌&&◌}
-use Rattle.std.proofs.lemmas.Bool.{le-ltb, ltb-true, leb-true, and_parts}
+use Rattle.std.proofs.Common.{◌≡◌, ◌≢◌, ℕ, ◌+◌, ◌≤◌, ◌⊎◌, Bool, true, false, cond, ltb, leb, List, [], ◌++◌, length, take, drop, set, Option, Some, None, refl, ap, subst, ◌∙◌, inl, inr, arith}
+use Rattle.std.proofs.lemmas.Bool.{le-ltb, leb-true, and_parts}
 use Rattle.std.proofs.lemmas.List.{take_all, append-nil}
 use Rattle.std.proofs.Math.ListN.{drop_of_length-le}
 use Rattle.blocks.specs.Block.{overwritten}
@@ -13,40 +12,16 @@ use Rattle.model.specs.declared.types.operations.Reply.{Reply}
 use Rattle.model.specs.declared.types.operations.Reply.TheVariants.{Made, NoInode, Wrote, Done, BadOffset, TooBig, TooLong, BadType}
 use Rattle.model.specs.Files.{Files, file_in}
 use Rattle.model.specs.Layout.{greatest_size}
-use Rattle.model.specs.Operations.{after, after_refusal, after_done, after_create, after_at, after_on, write_refusal, no_file_refusal, is_kind, transfer_limit, may_have_written, with_bytes}
+use Rattle.model.specs.Operations.{after, after_refusal, after_done, after_at, after_on, write_refusal, no_file_refusal, is_kind, transfer_limit, may_have_written, with_bytes}
 use Rattle.model.specs.Lemmas.Runs.{where_true_some}
-use Rattle.calls.specs.Files.{without_bytes, with_more, emptied, appended, empty_file, MayAppend}
+use Rattle.calls.specs.Lemmas.Creations.{HasMade, done_makes}
+use Rattle.calls.specs.Files.{without_bytes, with_more, emptied, appended, MayAppend}
 
 -- ---- a creation
 
--- the file of a free number was made
-pub record HasMade (files : Files) (kind i : ℕ) (new : Files) : Type 0 where
-  pub some : 1 ≤ i
-  pub below : i < length files
-  pub free : file_in files i ≡ None
-  pub made : new ≡ set files i (empty_file kind)
-
-free_of : (o : Option File) → is_none o ≡ true → o ≡ None
-free_of None h = refl
-free_of (Some file) h = absurd (cc h)
-
-created : (files : Files) (kind : ℕ) (reply : Reply) (new : Files) → after_create files kind reply ≡ Some new →
+created : (files : Files) (kind : ℕ) (reply : Reply) (new : Files) → after_done files (Create kind) reply ≡ Some new →
     ((i : ℕ) × (reply ≡ Made i) × HasMade files kind i new) ⊎ ((reply ≡ NoInode) × (new ≡ files))
-created files kind (Made i) new h =
-    let made = where_true_some (ltb 0 i && ltb i (length files) && is_none (file_in files i)) _ new h in
-    let first = and_parts (ltb 0 i && ltb i (length files)) (is_none (file_in files i)) made.0 in
-    let within = and_parts (ltb 0 i) (ltb i (length files)) first.0 in
-    let low = ltb-true 0 i within.0 in
-    inl (
-      i,
-      refl,
-      record {
-        some = omega arith;
-        below = ltb-true i (length files) within.1;
-        free = free_of (file_in files i) first.1;
-        made = made.1;
-      },
-    )
+created files kind (Made i) new h = inl (i, refl, done_makes files kind i new h)
 created files kind NoInode new h = inr (refl, cc h)
 created files kind reply new h = absurd (cc h)
 

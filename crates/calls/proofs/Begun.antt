@@ -16,6 +16,7 @@ use Rattle.model.specs.Lemmas.Soundness.{facts_of}
 use Rattle.ports.specs.History.{Side, first_in}
 use Rattle.ports.specs.Queues.{OthersWait, answers, polled, submitted, waiting}
 use Rattle.ports.specs.declared.queues.QueueIntake.{QueueIntake}
+use Rattle.inodes.specs.Holding.{claim_of}
 use Rattle.inodes.specs.Store.{StoreState, first_stage, first_taking}
 use Rattle.inodes.specs.Tasks.{TaskState, no_task, task}
 use Rattle.wal.specs.Machine.{Idle, IsLog, LogState, begin_cause, begun}
@@ -287,6 +288,7 @@ module _ {D N : Type 0} (disk : Ghosts D N) (has_now : (d : D) → disk.leaves d
             two = rest_now.many ∙ call.rests.pair.two;
             tasks = rest_now.tasks.many ∙ call.rests.pair.tasks;
             free = ap (λ (u : Process). u.at) (rest_now.others 0 apart) ∙ call.rests.pair.free;
+            released = λ i. ap (λ (u : TaskState). claim_of u i) (rest_now.tasks.others 0 apart) ∙ call.rests.pair.released i;
             first = record {
               waits = rest_now.sides 0 apart ∙ (call.others 0 apart).0 ∙ call.rests.pair.first.waits;
               fetched = ap (λ (n : ℕ × ℕ). n.1) (rest_now.names 0) ∙ (call.others 0 apart).2 ∙ call.rests.pair.first.fetched ∙ ap (λ (es : List Entry). length (own 0 es)) (sym takes.list);

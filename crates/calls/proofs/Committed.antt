@@ -14,7 +14,9 @@ use Rattle.model.specs.Layout.{form_of, inode_count_of}
 use Rattle.ports.specs.History.{first_in}
 use Rattle.ports.specs.Lanes.{polled_after}
 use Rattle.ports.specs.Queues.{OthersWait, answers, polled, waiting}
+use Rattle.inodes.specs.Holding.{claim_of}
 use Rattle.inodes.specs.Store.{StoreState}
+use Rattle.inodes.specs.Tasks.{TaskState, task}
 use Rattle.inodes.specs.Waiting.{sleep_cause}
 use Rattle.wal.specs.declared.types.DeviceFault.{DeviceFault}
 use Rattle.history.specs.declared.types.Phase.{Phase}
@@ -81,7 +83,7 @@ under_way disk = record {
   goes = λ g s t r x going steps was. tt;
   decides = λ g s t r reply untold steps was. tt;
   ends = λ g s t r steps was. tt;
-  told = λ s r was. tt;
+  decides_alone = λ s t r reply untold steps was. tt;
   ends_alone = λ s t r steps was. tt;
   leaves = λ g s r was. tt;
   closes = λ g s r commits was. tt;
@@ -228,6 +230,7 @@ module _ {D N : Type 0} (disk : Ghosts D N) (r : Step) (k m : Plain D) (call : I
             two = ap (λ (w : World). length w.processes) world ∙ rest_now.many ∙ call.inside.pair.two;
             tasks = ap (λ (s : Plain D). length s.store.tasks) same ∙ rest_now.tasks.many ∙ call.inside.pair.tasks;
             free = ap (λ (w : World). (process w 0).at) world ∙ free_now;
+            released = λ i. ap (λ (s : Plain D). claim_of (task s.store.tasks 0) i) same ∙ ap (λ (u : TaskState). claim_of u i) (rest_now.tasks.others 0 apart) ∙ call.inside.pair.released i;
             first = record { waits = (others 0 apart).0 ∙ first_now.waits; fetched = (others 0 apart).2 ∙ first_now.fetched ∙ ap (λ (w : World). length (own 0 w.journal.list)) (sym world) };
             second = second;
             well = ap (λ (s : Plain D). s.store.volume.fault) same ∙ well;

@@ -214,7 +214,7 @@ module _ {D N : Type 0} (disk : Ghosts D N) (p : ℕ) (op : Op) (old : StoreStat
     goes = λ g s t r x going steps was. (was.0, on 2 s t x steps was.1, grows 2 s t x steps was.1 was.2);
     decides = λ g s t r reply untold steps was. (was.0, on 2 s t (progress.Decided reply) steps was.1, grows 2 s t (progress.Decided reply) steps was.1 was.2);
     ends = λ g s t r steps was. (was.0, on 2 s t progress.Over steps was.1, grows 2 s t progress.Over steps was.1 was.2);
-    told = λ s r was. absurd (none_zero was.0);
+    decides_alone = λ s t r reply untold steps was. absurd (none_zero was.0);
     ends_alone = λ s t r steps was. absurd (none_zero was.0);
     leaves = λ g s r was. (record { log = two_ended c o p s.volume.log was.1.log; reads = was.1.reads; form = was.1.form }, grown_ended most had p s.volume.log was.2);
     closes = λ g s r commits was. (let both = sym commits ∙ two_left c o s.volume.log was.1.log in cc both);
@@ -248,7 +248,7 @@ module _ {D N : Type 0} (disk : Ghosts D N) (p : ℕ) (op : Op) (old : StoreStat
       goes = λ g s t r x going steps was. (was.0, on 1 s t x steps was.1, stays 1 s t x steps was.1 was.2);
       decides = λ g s t r reply untold steps was. (was.0, on 1 s t (progress.Decided reply) steps was.1, stays 1 s t (progress.Decided reply) steps was.1 was.2);
       ends = λ g s t r steps was. (let no = was.0 in cc no);
-      told = λ s r was. (was.1, fewer s was.2);
+      decides_alone = λ s t r reply untold steps was. (on 1 s t (progress.Decided reply) steps was.1, fewer t (stays 1 s t (progress.Decided reply) steps was.1 was.2));
       ends_alone = λ s t r steps was. (on 1 s t progress.Over steps was.1, fewer t (stays 1 s t progress.Over steps was.1 was.2));
       leaves = λ g s r none. absurd none;
       closes = λ g s r commits none. none;

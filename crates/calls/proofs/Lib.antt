@@ -21,6 +21,7 @@ pub mod Sleeping
 pub mod Waiting
 pub mod Logging
 pub mod Inside
+pub mod Released
 pub mod Adding
 pub mod Begun
 pub mod Committed

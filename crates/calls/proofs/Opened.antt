@@ -10,6 +10,8 @@ use Rattle.ports.specs.History.{nothing_yet}
 use Rattle.ports.specs.Queues.{QueueFits, polled, waiting}
 use Rattle.ports.specs.declared.herald.PlainHerald.{PlainHerald}
 use Rattle.ports.specs.declared.queues.QueueIntake.{QueueIntake}
+use Rattle.inodes.specs.Holding.{claim_of}
+use Rattle.inodes.specs.Tasks.{task}
 use Rattle.history.specs.Processes.{process}
 use Rattle.kernel.specs.Opening.{IsOpened}
 use Rattle.calls.specs.Calls.{image_on, is_own}
@@ -70,6 +72,7 @@ opened_pair disk d i h k opened empty fits =
         two = ap (λ w. length w.processes) world;
         tasks = ap (λ s. length s.tasks) opened.store;
         free = ap (λ w. (process w 0).at) world;
+        released = λ i. ap (λ s. claim_of (task s.tasks 0) i) opened.store;
         first = none_fetched disk d i h 2 k opened 0 (empty 0) (fits 0);
         second = none_fetched disk d i h 2 k opened 1 (empty 1) (fits 1);
         well = ap (λ s. s.volume.fault) opened.store;

@@ -1,11 +1,10 @@
 -- A creation makes the lowest free number, or none where each is taken.
-use Rattle.std.proofs.Common.{◌≡◌, ◌≢◌, ◌⊎◌, ◌∙◌, inl, inr, ◌<◌, ◌≤◌, ℕ, true, false, Bool, cond, ltb, ◌&&◌, length, Option, Some, None, refl, sym, ap, subst, ⊎_elim, arith}
-use Rattle.std.specs.Prelude.{IsTrue, is_none}
-use Rattle.std.proofs.lemmas.Bool.{and_parts, cases_eq, lt-ltb, ltb-true, ne_eqb}
+use Rattle.std.proofs.Common.{◌≡◌, ◌≢◌, ◌⊎◌, ◌∙◌, inl, inr, ◌<◌, ◌≤◌, ℕ, Option, Some, None, refl, sym, ap, subst, ⊎_elim, arith}
+use Rattle.std.specs.Prelude.{IsTrue}
+use Rattle.std.proofs.lemmas.Bool.{cases_eq, lt-ltb, ne_eqb}
 use Rattle.blocks.specs.Disk.{Image}
 use Rattle.blocks.specs.declared.disk.Disk.{Ghosts}
 use Rattle.model.specs.declared.types.image.File.{File}
-use Rattle.model.specs.declared.types.image.Form.{Form}
 use Rattle.model.specs.declared.types.operations.Op.{Op}
 use Rattle.model.specs.declared.types.operations.Op.TheVariants.{Create}
 use Rattle.model.specs.declared.types.operations.Reply.{Reply}
@@ -16,8 +15,7 @@ use Rattle.model.specs.Files.{Files, bytes_in, file_at, file_in, file_of, files_
 use Rattle.model.specs.Journal.{is_at_once, is_number}
 use Rattle.model.specs.Layout.{form_of, inode_count_of, inode_of}
 use Rattle.model.specs.Lemmas.FileNumbers.{file_in-files_of, length-files_of}
-use Rattle.model.specs.Lemmas.Runs.{where_true_some}
-use Rattle.model.specs.Operations.{after, after_refusal, is_kind}
+use Rattle.model.specs.Operations.{after}
 use Rattle.inodes.specs.Goes.{Goes, Shown}
 use Rattle.inodes.specs.Lemmas.Causes.{IsAhead, SearchesOn, search_begins, search_sees, search_shows}
 use Rattle.inodes.specs.Lemmas.Looks.{IsPassedBy}
@@ -32,6 +30,7 @@ use Rattle.model.specs.declared.types.operations.Step.{Step}
 use Rattle.model.specs.declared.types.operations.Step.TheVariants as step
 use Rattle.kernel.specs.declared.class.OpClass.TheVariants as waiting_as
 use Rattle.calls.specs.Calls.{MakesLowest, MakesNoneIfFull, image_on}
+use Rattle.calls.specs.Lemmas.Creations.{creation_makes}
 use Rattle.calls.specs.Stepping.{Plain}
 use Rattle.calls.proofs.Called.{IsCall, given, kept_then}
 use Rattle.calls.proofs.Counting.{IsAnswered}
@@ -118,7 +117,7 @@ module _ {D N : Type 0} (disk : Ghosts D N) (cur : Image) (n j kind : ℕ) (numb
     goes = λ g s t r x going steps spares. spares;
     decides = λ g s t r reply was steps spares. ⊎_elim (λ (none : r ≡ None). absurd (spares.1 none)) (λ (same : r ≡ Some reply). (subst Spares same spares.0, λ e. cc e)) was;
     ends = λ g s t r steps spares. spares.0;
-    told = λ s r spares. spares.0;
+    decides_alone = λ s t r reply was steps spares. ⊎_elim (λ (none : r ≡ None). absurd (spares.1 none)) (λ (same : r ≡ Some reply). subst Spares same spares.0) was;
     ends_alone = λ s t r steps spares. spares.0;
     leaves = λ g s r spares. spares;
     closes = λ g s r commits spares. spares;
@@ -129,7 +128,7 @@ module _ {D N : Type 0} (disk : Ghosts D N) (cur : Image) (n j kind : ℕ) (numb
 -- ---- numbers without a file
 
 -- a used inode has a file
-used_file : (x : Image) (i : ℕ) → 0 < i → (inode_of x i).kind ≢ 0 → (f : File) × (file_at x i ≡ Some f)
+pub used_file : (x : Image) (i : ℕ) → 0 < i → (inode_of x i).kind ≢ 0 → (f : File) × (file_at x i ≡ Some f)
 unfolding file_of
 used_file x i low used = (record { kind = (inode_of x i).kind; bytes = bytes_in x (inode_of x i) }, rw (ne_eqb i 0 (λ e. omega (arith, low, e)), ne_eqb (inode_of x i).kind 0 used) refl)
 
@@ -138,17 +137,6 @@ free_number : (x : Image) (i : ℕ) → 0 < i → i < inode_count_of x → file_
 free_number x i low high none = ⊎_elim (λ (free : (inode_of x i).kind ≡ 0). free)
     (λ (used : (inode_of x i).kind ≢ 0). let has = used_file x i low used in let both : None ≡ Some has.0 = sym none ∙ file_in-files_of x i high ∙ has.1 in absurd (cc both))
     (cases_eq (inode_of x i).kind 0)
-
--- a number that is made is one of the image's
-made_below : (form : Form) (files last : Files) (kind i : ℕ) → after form files (Create kind) (Made i) ≡ Some last → i < length files
-unfolding after
-made_below form files last kind i is = by_kind (is_kind kind) is
-  where
-    by_kind : (b : Bool) → after_refusal (cond b None (Some BadType)) files (Create kind) (Made i) ≡ Some last → i < length files
-    by_kind false is = absurd (cc is)
-    by_kind true is =
-        let parts = and_parts (ltb 0 i && ltb i (length files)) (is_none (file_in files i)) (where_true_some _ _ last is).0 in
-        ltb-true i (length files) (and_parts (ltb 0 i) (ltb i (length files)) parts.0).1
 
 -- ---- its call
 
@@ -177,7 +165,7 @@ module _ {D N : Type 0} (disk : Ghosts D N) (op : Op) (r : Step) (k m : Plain D)
   pub lowest : (last : Files) → after (form_of x) (files_of x) op is.answer.reply ≡ Some last → MakesLowest x op is.answer.reply
   lowest last runs kind i j creates made low lower none =
       let made_so = sym (ap (λ (p : Op). after (form_of x) (files_of x) p is.answer.reply) creates ∙ ap (after (form_of x) (files_of x) (Create kind)) made) ∙ runs in
-      let below = made_below (form_of x) (files_of x) last kind i made_so in
+      let below = (creation_makes (form_of x) (files_of x) kind i last made_so).below in
       let count = length-files_of x in
       passes_no_file kind j (Some i) creates made low (omega (arith, below, lower, count)) none lower
 

@@ -182,7 +182,7 @@ module _ {D N : Type 0} (disk : Ghosts D N) (i off done : ℕ) (bytes : List ℕ
     goes = λ g. goes_by;
     decides = λ g. decides_by;
     ends = λ g. ends_by;
-    told = told_by;
+    decides_alone = λ s t r reply was steps from. told_by t (Some reply) (decides_by s t r reply was steps from);
     ends_alone = ends_by;
     leaves = λ g s r judged. judged;
     closes = λ g s r commits judged. judged;

@@ -140,7 +140,7 @@ module _ {D N : Type 0} (disk : Ghosts D N) (op : Op) (old : StoreState D) where
     goes = λ g s t told x going. looks_on s t x;
     decides = λ g s t told reply untold. looks_on s t (progress.Decided reply);
     ends = λ g s t told. looks_on s t progress.Over;
-    told = λ s told was. was;
+    decides_alone = λ s t told reply untold. looks_on s t (progress.Decided reply);
     ends_alone = λ s t told. looks_on s t progress.Over;
     leaves = λ g s told was look.
         let left : ended s.volume.log 0 ≡ left_by s.volume.log 0 = ap (λ (n : ℕ). if n == 1 then closed (left_by s.volume.log 0) else left_by s.volume.log 0) (was look).unopened in

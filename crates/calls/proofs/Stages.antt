@@ -76,7 +76,7 @@ pub record IsKept {D N : Type 0} (disk : Ghosts D N) (p : ℕ) (op : Op) (P : Wh
   pub decides : (g : ℕ) (s t : StoreState D) (r : Option Reply) (reply : Reply) → (r ≡ None) ⊎ (r ≡ Some reply) → Steps disk s p op (progress.Decided reply) t → P (AfterTurn g r) s → P (AfterTurn g (Some reply)) t
   pub ends : (g : ℕ) (s t : StoreState D) (r : Option Reply) → Steps disk s p op progress.Over t → P (AfterTurn (suc g) r) s → P (Over (suc g) r) t
   -- one of no group is answered with its reply, or with its last step
-  pub told : (s : StoreState D) (r : Option Reply) → P (AfterTurn 0 r) s → P (Answered r) s
+  pub decides_alone : (s t : StoreState D) (r : Option Reply) (reply : Reply) → (r ≡ None) ⊎ (r ≡ Some reply) → Steps disk s p op (progress.Decided reply) t → P (AfterTurn 0 r) s → P (Answered (Some reply)) t
   pub ends_alone : (s t : StoreState D) (r : Option Reply) → Steps disk s p op progress.Over t → P (AfterTurn 0 r) s → P (Answered r) t
   -- others end in the log, and may commit their group
   pub leaves : (g : ℕ) (s : StoreState D) (r : Option Reply) → P (Over g r) s → P (Answered r) (with_log s (ended s.volume.log p))
@@ -293,7 +293,7 @@ module _ {D N : Type 0} (disk : Ghosts D N) (p : ℕ) (op : Op) (P : Where → S
     finished zero (progress.Decided reply) at_a holds steps grows =
         let was = untold reply (subst (λ (a : Phase). Extends w.journal.list (told_at (entry_index a) w reply).journal.list) at_a grows) in
         subst (λ (a : Phase). To step.Answered (answered (told_at (entry_index a) w reply) p)) (sym at_a)
-        (over_now (told_at (Some k) w reply) refl k (told_more p op P es k w.journal.list reply more) (keeps.told t (Some reply) (keeps.decides 0 s t r reply was steps holds)))
+        (over_now (told_at (Some k) w reply) refl k (told_more p op P es k w.journal.list reply more) (keeps.decides_alone s t r reply was steps holds))
     finished (suc group) (progress.Decided reply) at_a holds steps grows =
         let was = untold reply (subst (λ (a : Phase). Extends w.journal.list (told_at (entry_index a) w reply).journal.list) at_a grows) in
         subst (λ (a : Phase). To step.Moved (told_at (entry_index a) w reply)) (sym at_a)

@@ -32,12 +32,16 @@ all_replied (e ∷ es) none = by_reply e.reply refl (all_replied es (λ k f ther
     by_reply None is rest = absurd (none 0 e (record { inside = omega arith; is = refl }) is)
     by_reply (Some r) is rest = ap (λ (o : Option Reply). cond (is_some o) (e ∷ answered es) (answered es)) is ∙ ap (λ (l : List Entry). e ∷ l) rest
 
--- where no operation is behind its turn, the journal tells the files
+-- where no operation is behind its turn, each entry has its reply
+pub all_told : {D N : Type 0} (disk : Ghosts D N) (k : Plain D) → Known disk plain_queues plain_herald k → ((p : ℕ) → IsFree (process k.world p).at) → answered k.world.journal.list ≡ k.world.journal.list
+all_told disk k known free = all_replied k.world.journal.list (λ j e there none. (let under = known.unanswered j e there none in none_behind k.world e.pid under.group j (free e.pid) under.behind))
+
+-- and the journal tells the files
 pub told_files : {D N : Type 0} (disk : Ghosts D N) (k : Plain D) → Known disk plain_queues plain_herald k → ((p : ℕ) → IsFree (process k.world p).at) → (f : Files) × HasFiles disk.image k f
-told_files disk k known free =
-    let es = k.world.journal.list in
-    let all : answered es ≡ es = all_replied es (λ j e there none. (let under = known.unanswered j e there none in none_behind k.world e.pid under.group j (free e.pid) under.behind)) in
-    (known.replays.files, record { run = ap (λ (l : List Entry). replay (form_of (disk.image k.opening)) (files_of (disk.image k.opening)) l) (sym all) ∙ known.replays.run })
+told_files disk k known free = (
+  known.replays.files,
+  record { run = ap (λ (l : List Entry). replay (form_of (disk.image k.opening)) (files_of (disk.image k.opening)) l) (sym (all_told disk k known free)) ∙ known.replays.run },
+)
 
 -- the files with one operation more
 pub files_then : {D N : Type 0} (disk : Ghosts D N) (k m : Plain D) (e : Entry) (op : Op) (r : Reply) → m.opening ≡ k.opening → m.world.journal.list ≡ k.world.journal.list ++ e ∷ [] → e.op ≡ op → e.reply ≡ Some r → (f g : Files) → HasFiles disk.image k f → HasFiles disk.image m g → after (form_of (disk.image k.opening)) f op r ≡ Some g

@@ -5,7 +5,7 @@ use Rattle.std.specs.List.{list_all}
 use Rattle.blocks.specs.Calls.{OnlyReads}
 use Rattle.blocks.specs.Disk.{Image, Rose, block_at}
 use Rattle.blocks.specs.declared.disk.Disk.{Ghosts}
-use Rattle.model.specs.Files.{files_of, file_in}
+use Rattle.model.specs.Files.{Files, files_of, file_in}
 use Rattle.model.specs.Layout.{form_of, inode_count_of, is_marked}
 use Rattle.model.specs.Log.{is_lawful_log, recovered}
 use Rattle.model.specs.Operations.{after}
@@ -67,12 +67,19 @@ pub record IsWhole (x y : Image) : Type 0 where
   pub size : length y ≡ length x
   pub super : block_at y 1 ≡ block_at x 1
 
--- a creation makes the lowest free number
+-- a creation makes the lowest number that is free among these files
+abbrev pub MakesLowestOf : Files → Op → Reply → Type 0
+MakesLowestOf files op reply = (kind i j : ℕ) → op ≡ Create kind → reply ≡ Made i → 1 ≤ j → j < i →
+    file_in files j ≢ None
+
 abbrev pub MakesLowest : Image → Op → Reply → Type 0
-MakesLowest x op reply = (kind i j : ℕ) → op ≡ Create kind → reply ≡ Made i → 1 ≤ j → j < i →
-    file_in (files_of x) j ≢ None
+MakesLowest x op reply = MakesLowestOf (files_of x) op reply
 
 -- and none only where each is taken
+abbrev pub MakesNoneOf : Files → Op → Reply → Type 0
+MakesNoneOf files op reply = (kind j : ℕ) → op ≡ Create kind → reply ≡ NoInode → 1 ≤ j →
+    j < length files → file_in files j ≢ None
+
 abbrev pub MakesNoneIfFull : Image → Op → Reply → Type 0
 MakesNoneIfFull x op reply = (kind j : ℕ) → op ≡ Create kind → reply ≡ NoInode → 1 ≤ j →
     j < inode_count_of x → file_in (files_of x) j ≢ None

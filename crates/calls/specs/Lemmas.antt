@@ -6,3 +6,4 @@ pub mod Entries
 pub mod Making
 pub mod Both
 pub mod Room
+pub mod Creations

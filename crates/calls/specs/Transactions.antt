@@ -15,6 +15,7 @@ use Rattle.model.specs.declared.types.operations.Op.{Op}
 use Rattle.model.specs.declared.types.operations.Op.TheVariants.{Create, Write, Read, Trunc, Remove, Stat}
 use Rattle.model.specs.declared.types.operations.Reply.{Reply}
 use Rattle.ports.specs.Queues.{polled, waiting}
+use Rattle.inodes.specs.Holding.{claim_of}
 use Rattle.inodes.specs.Store.{first_taking}
 use Rattle.inodes.specs.Tasks.{task}
 use Rattle.history.specs.declared.types.Phase.TheVariants as at
@@ -22,7 +23,7 @@ use Rattle.history.specs.Processes.{process}
 use Rattle.wal.specs.Machine.{LogState, begin_cause}
 use Rattle.wal.specs.declared.types.Commit.TheVariants as commit
 pub use Rattle.calls.specs.Calls.{KeepsFiles}
-use Rattle.calls.specs.Calls.{HasFailed, call_count, faults_on, image_on, is_look}
+use Rattle.calls.specs.Calls.{HasFailed, MakesLowestOf, MakesNoneOf, call_count, faults_on, image_on, is_look}
 use Rattle.calls.specs.Stepping.{Plain}
 use Rattle.calls.specs.Unshown.{KeepsOrRenews}
 use Rattle.calls.specs.declared.transactions.fault.TransactionFault.{TransactionFault}
@@ -38,12 +39,13 @@ pub record IsFetched {D : Type 0} (k : Plain D) (p : ℕ) : Type 0 where
   pub waits : waiting k.intake p ≡ []
   pub fetched : polled k.intake p ≡ length (own p k.world.journal.list)
 
--- A kernel of two processes, whose first one has no operation under way. No call of the disk
--- failed, and nothing was shut.
+-- A kernel of two processes, whose first one has no operation under way, and holds no file. No call
+-- of the disk failed, and nothing was shut.
 pub record IsPair {D : Type 0} (faults : D → ℕ) (k : Plain D) : Type 0 where
   pub two : length k.world.processes ≡ 2
   pub tasks : length k.store.tasks ≡ 2
   pub free : (process k.world 0).at ≡ at.Idle
+  pub released : (i : ℕ) → claim_of (task k.store.tasks 0) i ≡ None
   pub first : IsFetched k 0
   pub second : IsFetched k 1
   pub well : k.store.volume.fault ≡ None
@@ -94,13 +96,16 @@ pub record Begins {D : Type 0} (image : D → Image) (k m : Plain D) : Type 0 wh
       → labels_of (image_on image k) i ≡ labels_made image m i
 
 -- THE PROMISE OF A CALL in a transaction: it adds this operation with this reply to what the
--- transaction made, and the disk stays as it was.
+-- transaction made, and the disk stays as it was. A creation makes the lowest number that is free
+-- among the files made so far, and none only where each is taken.
 pub record Adds {D : Type 0} (image : D → Image) (op : Op) (k m : Plain D) (reply : Reply)
     : Type 0 where
   pub same : image_on image m ≡ image_on image k
   pub files : (f : Files) → HasFiles image k f → (g : Files)
       × (after (form_of (image k.opening)) f op reply ≡ Some g) × HasFiles image m g
   pub labels : (i : ℕ) → labels_made image m i ≡ labels_after reply i (labels_made image k i)
+  pub lowest : (f : Files) → HasFiles image k f → MakesLowestOf f op reply
+  pub none : (f : Files) → HasFiles image k f → MakesNoneOf f op reply
   pub one_more : call_count m ≡ call_count k + 1
   -- what it logged, beside what the transaction had logged
   pub room : length m.store.volume.log.homes

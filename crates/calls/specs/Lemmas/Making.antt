@@ -70,7 +70,7 @@ tells_none files new reply never adds = record {
   others = λ i is. adds i;
 }
 
-free_of : (o : Option File) → is_none o ≡ true → o ≡ None
+pub free_of : (o : Option File) → is_none o ≡ true → o ≡ None
 free_of None h = refl
 free_of (Some file) h = absurd (cc h)
 
