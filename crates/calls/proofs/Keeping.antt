@@ -34,7 +34,7 @@ use Rattle.kernel.specs.Lemmas.Turns.{runs_on_none}
 use Rattle.kernel.specs.Runs.{RunsOn}
 use Rattle.calls.specs.Stepping.{Plain, plain_herald, plain_queues}
 use Rattle.calls.specs.Calls.{image_on}
-use Rattle.calls.specs.Lemmas.Unshown.{unshown_renews}
+use Rattle.calls.specs.Lemmas.Both.{keeps_nothing}
 use Rattle.calls.specs.Transactions.{HasFiles, KeepsEither, KeepsFiles, anchor}
 use Rattle.calls.specs.Unshown.{KeepsUnshown}
 use Rattle.calls.proofs.Anchoring.{anchor_keeps}
@@ -246,12 +246,7 @@ module _ {D N : Type 0} (disk : Ghosts D N) (k m : Plain D) (was : IsSettled dis
         none : c ≤ k.store.volume.log.committed → KeepsEither (image_on disk.image k) f z
         none high =
             let both : Some (files_of (recovered z)) ≡ Some (files_of (image_on disk.image k)) = sym (from_opening c z keeps) ∙ kept_still c high low in
-            record {
-              log = keeps.log;
-              sound = keeps.sound;
-              files = inl (cc both);
-              unshown = unshown_renews (image_on disk.image k) (recovered z) (unshown_still c z high low keeps (cc both));
-            }
+            keeps_nothing (image_on disk.image k) f z (record { log = keeps.log; sound = keeps.sound; files = cc both; unshown = unshown_still c z high low keeps (cc both) })
 
     keeps_either : (z : Image) → KeepsBetween k.store.volume.log.committed (most_of m.store.volume) (disk.image m.opening) m.world.journal.list z → KeepsEither (image_on disk.image k) f z
     keeps_either z kept_so = either kept_so.groups z kept_so.low kept_so.keeps

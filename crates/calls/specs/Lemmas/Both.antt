@@ -22,8 +22,12 @@ use Rattle.calls.specs.Unshown.{KeepsOrRenews}
 use Rattle.calls.specs.Lemmas.Making.{after_tells}
 use Rattle.calls.specs.Lemmas.Unshown.{unshown_renews}
 
+-- where nothing of a transaction was kept
+pub keeps_nothing : (x : Image) (made : Files) (z : Image) → KeepsFiles x z → KeepsEither x made z
+keeps_nothing x made z keeps = record { log = keeps.log; sound = keeps.sound; files = inl keeps.files; unshown = unshown_renews x (recovered z) keeps.unshown }
+
 -- what a stop leaves may be said with less
-weaker : {D : Type 0} (moment : D → ℕ) (leaves : D → ℕ → Image → Type 0) (old new : D) (P Q : Image → Type 0) → ((z : Image) → P z → Q z) → LeavesOnly moment leaves old new P → LeavesOnly moment leaves old new Q
+pub weaker : {D : Type 0} (moment : D → ℕ) (leaves : D → ℕ → Image → Type 0) (old new : D) (P Q : Image → Type 0) → ((z : Image) → P z → Q z) → LeavesOnly moment leaves old new P → LeavesOnly moment leaves old new Q
 weaker moment leaves old new P Q less all = record {
   later = all.later;
   each = λ z left. less z (all.each z left);
