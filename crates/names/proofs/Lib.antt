@@ -5,3 +5,4 @@ pub mod Changes
 pub mod Keeping
 pub mod Writes
 pub mod Calls
+pub mod Parts

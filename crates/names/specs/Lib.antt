@@ -1,5 +1,6 @@
 pub mod Entries
 pub mod Names
+pub mod Paths
 pub mod Writes
 pub mod Laws
 pub mod Lemmas

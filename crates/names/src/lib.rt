@@ -16,6 +16,7 @@ mod files;
 pub mod kernel_laws;
 pub mod laws;
 mod name;
+mod path;
 
 pub use entries::{
     DIRECTORY, DIRECTORY_SIZE, ENTRY_SIZE, EntryWrite, LinkFault, link, lookup, unlink,
@@ -23,3 +24,4 @@ pub use entries::{
 pub use fault::FilesFault;
 pub use files::NamedFiles;
 pub use name::{NAME_SIZE, Name, NameFault};
+pub use path::{PathFault, names_of};
