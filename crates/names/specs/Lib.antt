@@ -1,6 +1,8 @@
 pub mod Entries
 pub mod Names
 pub mod Writes
+pub mod Trees
+pub mod TreeChanges
 pub mod Laws
 pub mod Lemmas
 pub mod NamedFiles
