@@ -2,6 +2,8 @@ pub mod Entries
 pub mod Names
 pub mod Paths
 pub mod Writes
+pub mod Trees
+pub mod TreeChanges
 pub mod Laws
 pub mod Lemmas
 pub mod NamedFiles

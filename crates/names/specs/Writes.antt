@@ -12,9 +12,9 @@ use Rattle.names.specs.Entries.{entry_size, name_size, directory_size, entries_o
 abbrev pub directory_number : ℕ
 directory_number = 1
 
--- the operation that makes the write
-abbrev pub operation_of : EntryWrite → Op
-operation_of write = Write directory_number (entry_size * write.place) write.entry
+-- the operation that makes the write in the directory of a number
+abbrev pub operation_of : ℕ → EntryWrite → Op
+operation_of directory write = Write directory (entry_size * write.place) write.entry
 
 -- the directory's bytes after the write
 abbrev pub written : List ℕ → EntryWrite → List ℕ

@@ -12,7 +12,7 @@ use model::types::Op;
 use std::alloc::Global;
 use thiserror::Error;
 
-/// The number of the file whose bytes are the directory.
+/// The number of the root directory, which all paths begin at.
 pub const DIRECTORY: u32 = 1;
 
 /// The bytes of an entry.
@@ -31,17 +31,17 @@ pub struct EntryWrite {
 }
 
 impl EntryWrite {
-    /// The operation that makes this write.
+    /// The operation that makes this write in the directory of that number.
     ///
     /// # Errors
     ///
     /// `NoMemory` where memory for its 16 bytes was refused.
-    pub fn operation(self, alloc: Global) -> Result<Op, NoMemory>
+    pub fn operation(self, alloc: Global, directory: u32) -> Result<Op, NoMemory>
         requires { self.place < most_entries }
-        ensures { IfOk result (λ op. op ≡ operation_of self) }
+        ensures { IfOk result (λ op. op ≡ operation_of directory self) }
     {
         let bytes = Content::copy_of(alloc, &self.entry)?;
-        Ok(Op::Write(DIRECTORY, self.place * 16, bytes))
+        Ok(Op::Write(directory, self.place * 16, bytes))
     }
 }
 
