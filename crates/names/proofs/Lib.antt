@@ -6,3 +6,4 @@ pub mod Keeping
 pub mod Writes
 pub mod Calls
 pub mod Parts
+pub mod Going

@@ -1,6 +1,7 @@
 pub mod Entries
 pub mod Names
 pub mod Paths
+pub mod Inside
 pub mod Writes
 pub mod Trees
 pub mod TreeChanges

@@ -17,6 +17,8 @@ pub mod kernel_laws;
 pub mod laws;
 mod name;
 mod path;
+mod refusal;
+mod tree;
 
 pub use entries::{
     DIRECTORY, DIRECTORY_SIZE, ENTRY_SIZE, EntryWrite, LinkFault, link, lookup, unlink,
@@ -25,3 +27,5 @@ pub use fault::FilesFault;
 pub use files::NamedFiles;
 pub use name::{NAME_SIZE, Name, NameFault};
 pub use path::{PathFault, names_of};
+pub use refusal::{Refusal, TreeFault};
+pub use tree::Tree;

@@ -1,0 +1,64 @@
+-- Calls of a transaction, one after the other.
+use Rattle.std.proofs.Common.{◌≡◌, ℕ, ◌+◌, ◌<◌, ◌≤◌, ◌^◌, List, [], length, Option, Some, None, refl, sym, ap, subst, ◌∙◌, arith}
+use Rattle.std.specs.Prelude.{unwrap_or}
+use Rattle.blocks.specs.Disk.{Image, LeavesOnly}
+use Rattle.blocks.specs.Lemmas.Moments.{joined}
+use Rattle.blocks.specs.declared.disk.Disk.{Ghosts}
+use Rattle.model.specs.Files.{Files, files_of}
+use Rattle.model.specs.Journal.{replay}
+use Rattle.model.specs.Layout.{form_of}
+use Rattle.model.specs.Operations.{after}
+use Rattle.model.specs.declared.types.image.Form.{Form}
+use Rattle.model.specs.declared.types.operations.Op.{Op}
+use Rattle.model.specs.declared.types.operations.Reply.{Reply}
+use Rattle.calls.specs.Calls.{call_count, image_on}
+use Rattle.calls.specs.Stepping.{Plain}
+use Rattle.transactions.specs.Transactions.{Adds, HasFiles, IsInside, KeepsFiles}
+use Rattle.names.specs.Inside.{files_seen, form_seen, Answers, Goes, IsUnderWay, LeavesFiles, Looks, StaysOn}
+
+module _ {D N : Type 0} (disk : Ghosts D N) where
+  -- a transaction sees the files that its kernel has
+  pub seen : (k : Plain D) (f : Files) → HasFiles disk.image k f → files_seen disk.image k ≡ f
+  seen k f has = ap (λ (o : Option Files). unwrap_or o []) has.run
+
+  pub has_seen : (k : Plain D) (f : Files) → HasFiles disk.image k f → HasFiles disk.image k (files_seen disk.image k)
+  has_seen k f has = subst (λ (g : Files). HasFiles disk.image k g) (sym (seen k f has)) has
+
+  -- a call goes on
+  pub call_goes : (op : Op) (k m : Plain D) (reply : Reply) (left less : ℕ) → less + 1 ≡ left → IsUnderWay disk k left → IsInside disk.fault_count m →
+      m.opening ≡ k.opening → Adds disk.image op k m reply → Goes disk k m less
+  call_goes op k m reply left less one way inside opening adds =
+      let made = adds.files (files_seen disk.image k) way.files in
+      record {
+        way = record {
+          inside = inside;
+          few = omega (arith, adds.one_more, way.few);
+          files = has_seen m made.0 made.2;
+        };
+        same = adds.same;
+        opening = opening;
+      }
+
+  pub call_answers : (op : Op) (k m : Plain D) (reply : Reply) (left : ℕ) → IsUnderWay disk k left → Adds disk.image op k m reply → Answers disk.image op k m reply
+  call_answers op k m reply left way adds =
+      let made = adds.files (files_seen disk.image k) way.files in
+      made.1 ∙ ap (λ (f : Files). Some f) (sym (seen m made.0 made.2))
+
+  -- what a stop leaves
+  pub leaves_on : (k m : Plain D) → m.opening ≡ k.opening → disk.name m.store.volume.device ≡ disk.name k.store.volume.device →
+      LeavesOnly disk.moment disk.leaves k.store.volume.device m.store.volume.device (KeepsFiles (image_on disk.image k)) → StaysOn disk k m
+  leaves_on k m opening name leaves o same so_far = record {
+    opening = opening ∙ so_far.opening;
+    name = name ∙ so_far.name;
+    leaves = joined disk.moment disk.leaves o.store.volume.device k.store.volume.device m.store.volume.device (KeepsFiles (image_on disk.image o)) so_far.leaves
+        (subst (λ (x : Image). LeavesOnly disk.moment disk.leaves k.store.volume.device m.store.volume.device (KeepsFiles x)) same leaves);
+  }
+
+  pub stays_on : (k a m : Plain D) (left : ℕ) → Goes disk k a left → StaysOn disk k a → StaysOn disk a m → StaysOn disk k m
+  stays_on k a m left goes first then_on o same so_far = then_on o (goes.same ∙ same) (first o same so_far)
+
+  pub goes_on : (k a m : Plain D) (left less : ℕ) → Goes disk k a left → Goes disk a m less → Goes disk k m less
+  goes_on k a m left less first then_on = record { way = then_on.way; same = then_on.same ∙ first.same; opening = then_on.opening ∙ first.opening }
+
+  pub looks_on : (k a m : Plain D) (left less : ℕ) → Looks disk k a left → Looks disk a m less → Looks disk k m less
+  looks_on k a m left less first then_on = record { goes = goes_on k a m left less first.goes then_on.goes; files = then_on.files ∙ first.files }
