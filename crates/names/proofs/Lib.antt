@@ -5,3 +5,5 @@ pub mod Changes
 pub mod Keeping
 pub mod Writes
 pub mod Calls
+pub mod FileMaps
+pub mod Answered

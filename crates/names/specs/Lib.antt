@@ -3,6 +3,7 @@ pub mod Names
 pub mod Writes
 pub mod Trees
 pub mod TreeChanges
+pub mod TreeLaws
 pub mod Laws
 pub mod Lemmas
 pub mod NamedFiles
