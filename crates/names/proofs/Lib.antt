@@ -7,3 +7,5 @@ pub mod Writes
 pub mod Calls
 pub mod FileMaps
 pub mod Answered
+pub mod EntrySteps
+pub mod Unnamed
