@@ -9,3 +9,5 @@ pub mod FileMaps
 pub mod Answered
 pub mod EntrySteps
 pub mod Unnamed
+pub mod Rooted
+pub mod TreeBy
