@@ -5,5 +5,11 @@ pub mod Changes
 pub mod Keeping
 pub mod Writes
 pub mod Calls
+pub mod FileMaps
+pub mod Answered
+pub mod EntrySteps
+pub mod Unnamed
+pub mod Rooted
+pub mod TreeBy
 pub mod Parts
 pub mod Going

@@ -5,6 +5,7 @@ pub mod Inside
 pub mod Writes
 pub mod Trees
 pub mod TreeChanges
+pub mod TreeLaws
 pub mod Laws
 pub mod Lemmas
 pub mod NamedFiles

@@ -1,5 +1,5 @@
 -- What a change of one name makes of the files, in names.
-use Rattle.std.specs.Prelude.{◌≡◌, ◌≢◌, ◌⊎◌, ℕ, List, [], Some, None}
+use Rattle.std.specs.Prelude.{◌≡◌, ◌≢◌, ◌⊎◌, ℕ, ◌<◌, List, [], length, slice_set, Option, Some, None}
 use Rattle.model.specs.declared.types.image.File.{File}
 use Rattle.model.specs.Files.{Files, file_in}
 use Rattle.names.specs.Trees.{directory_in, directory_kind, kind_of, new_directory, number_of, parent_name, IsDirectory, IsEmpty, IsTidy}
@@ -10,6 +10,25 @@ pub record ChangesName (files new : Files) (from : ℕ) (name : List ℕ) : Type
   pub tidy : IsTidy (directory_in new from)
   pub others : (other : List ℕ) → other ≢ name
       → number_of new from other ≡ number_of files from other
+
+-- ---- steps
+
+-- One name of a directory leads elsewhere or nowhere, and nothing else changed.
+pub record LeadsTo (files new : Files) (from : ℕ) (name : List ℕ)
+    (number : Option ℕ) : Type 0 where
+  pub changes : ChangesName files new from name
+  pub leads : number_of new from name ≡ number
+  pub rest : (i : ℕ) → i ≢ from → file_in new i ≡ file_in files i
+
+-- A file is there that was not, yet without a name, and nothing else changed.
+pub record IsUnnamed (files new : Files) (number : ℕ) (file : File) : Type 0 where
+  pub inside : number < length files
+  pub free : file_in files number ≡ None
+  pub is : new ≡ slice_set files number (Some file)
+  pub there : file_in new number ≡ Some file
+  pub rest : (i : ℕ) → i ≢ number → file_in new i ≡ file_in files i
+
+-- ---- changes
 
 -- A file is there that was not, under a new name of a directory, and nothing else changed.
 pub record AddsName (files new : Files) (from : ℕ) (name : List ℕ) (number : ℕ)
