@@ -1,7 +1,7 @@
 -- Calls of a transaction, one after the other.
 use Rattle.std.proofs.Common.{◌≡◌, ℕ, ◌+◌, ◌<◌, ◌≤◌, ◌^◌, List, [], length, Option, Some, None, refl, sym, ap, subst, ◌∙◌, arith}
 use Rattle.std.specs.Prelude.{unwrap_or}
-use Rattle.blocks.specs.Disk.{Image, LeavesOnly}
+use Rattle.blocks.specs.Disk.{Image, LeavesOnly, Rose}
 use Rattle.blocks.specs.Lemmas.Moments.{joined}
 use Rattle.blocks.specs.declared.disk.Disk.{Ghosts}
 use Rattle.model.specs.Files.{Files, files_of}
@@ -11,10 +11,14 @@ use Rattle.model.specs.Operations.{after}
 use Rattle.model.specs.declared.types.image.Form.{Form}
 use Rattle.model.specs.declared.types.operations.Op.{Op}
 use Rattle.model.specs.declared.types.operations.Reply.{Reply}
-use Rattle.calls.specs.Calls.{call_count, image_on}
+use Rattle.calls.specs.Calls.{call_count, faults_on, image_on}
 use Rattle.calls.specs.Stepping.{Plain}
-use Rattle.transactions.specs.Transactions.{Adds, HasFiles, IsInside, KeepsFiles}
-use Rattle.names.specs.Inside.{files_seen, form_seen, Answers, Goes, IsUnderWay, LeavesFiles, Looks, StaysOn}
+use Rattle.transactions.specs.Transactions.{Adds, HasFiles, IsInside, IsUncalled, KeepsFiles}
+use Rattle.transactions.specs.declared.fault.TransactionFault.{TransactionFault}
+use Rattle.transactions.specs.declared.fault.TransactionFault.TheVariants as fault
+use Rattle.names.specs.declared.refusal.TreeFault.{TreeFault}
+use Rattle.names.specs.declared.refusal.TreeFault.TheVariants.{Path, Refused, Call, NoCall}
+use Rattle.names.specs.Inside.{files_seen, form_seen, Answers, Ends, Goes, IsBroken, IsUnderWay, LeavesFiles, Looks, StaysOn}
 
 module _ {D N : Type 0} (disk : Ghosts D N) where
   -- a transaction sees the files that its kernel has
@@ -45,20 +49,50 @@ module _ {D N : Type 0} (disk : Ghosts D N) where
       made.1 ∙ ap (λ (f : Files). Some f) (sym (seen m made.0 made.2))
 
   -- what a stop leaves
+  pub stays_here : (k : Plain D) → StaysOn disk k k
+  stays_here k = record { on = λ o same so_far. so_far }
+
   pub leaves_on : (k m : Plain D) → m.opening ≡ k.opening → disk.name m.store.volume.device ≡ disk.name k.store.volume.device →
       LeavesOnly disk.moment disk.leaves k.store.volume.device m.store.volume.device (KeepsFiles (image_on disk.image k)) → StaysOn disk k m
-  leaves_on k m opening name leaves o same so_far = record {
-    opening = opening ∙ so_far.opening;
-    name = name ∙ so_far.name;
-    leaves = joined disk.moment disk.leaves o.store.volume.device k.store.volume.device m.store.volume.device (KeepsFiles (image_on disk.image o)) so_far.leaves
-        (subst (λ (x : Image). LeavesOnly disk.moment disk.leaves k.store.volume.device m.store.volume.device (KeepsFiles x)) same leaves);
+  leaves_on k m opening name leaves = record {
+    on = λ o same so_far. record {
+      opening = opening ∙ so_far.opening;
+      name = name ∙ so_far.name;
+      leaves = joined disk.moment disk.leaves o.store.volume.device k.store.volume.device m.store.volume.device (KeepsFiles (image_on disk.image o)) so_far.leaves
+          (subst (λ (x : Image). LeavesOnly disk.moment disk.leaves k.store.volume.device m.store.volume.device (KeepsFiles x)) same leaves);
+    };
   }
 
   pub stays_on : (k a m : Plain D) (left : ℕ) → Goes disk k a left → StaysOn disk k a → StaysOn disk a m → StaysOn disk k m
-  stays_on k a m left goes first then_on o same so_far = then_on o (goes.same ∙ same) (first o same so_far)
+  stays_on k a m left goes first then_on = record { on = λ o same so_far. then_on.on o (goes.same ∙ same) (first.on o same so_far) }
 
   pub goes_on : (k a m : Plain D) (left less : ℕ) → Goes disk k a left → Goes disk a m less → Goes disk k m less
   goes_on k a m left less first then_on = record { way = then_on.way; same = then_on.same ∙ first.same; opening = then_on.opening ∙ first.opening }
 
   pub looks_on : (k a m : Plain D) (left less : ℕ) → Looks disk k a left → Looks disk a m less → Looks disk k m less
   looks_on k a m left less first then_on = record { goes = goes_on k a m left less first.goes then_on.goes; files = then_on.files ∙ first.files }
+
+  -- why a later call ended the transaction
+  pub same_faults : (k a : Plain D) (left less : ℕ) → IsUnderWay disk k left → Goes disk k a less → faults_on disk.fault_count a ≡ faults_on disk.fault_count k
+  same_faults k a left less way goes = goes.way.inside.pair.faultless ∙ ap disk.fault_count goes.opening ∙ sym way.inside.pair.faultless
+
+  broken_on : (k a m : Plain D) (cause : TreeFault) → image_on disk.image a ≡ image_on disk.image k → faults_on disk.fault_count a ≡ faults_on disk.fault_count k →
+      IsBroken disk a m cause → IsBroken disk k m cause
+  broken_on k a m (Path cause) same faults why = why
+  broken_on k a m (Refused cause) same faults why = why
+  broken_on k a m (Call (fault.Disk cause)) same faults why = record { is = why.is; rose = subst (λ (n : ℕ). Rose n (faults_on disk.fault_count m)) faults why.rose }
+  broken_on k a m (Call fault.NoMemory) same faults why = record { image = why.image ∙ same; faults = why.faults ∙ faults }
+  broken_on k a m (Call fault.NoRoom) same faults why = record { image = why.image ∙ same; faults = why.faults ∙ faults }
+  broken_on k a m (Call fault.NoBuffer) same faults why = record { image = why.image ∙ same; faults = why.faults ∙ faults }
+  broken_on k a m NoCall same faults why = record { image = why.image ∙ same; faults = why.faults ∙ faults }
+
+  pub ends_on : (k a m : Plain D) (left less none : ℕ) (cause : TreeFault) → IsUnderWay disk k left → Goes disk k a less → Ends disk a m none cause →
+      Ends disk k m none cause
+  ends_on k a m left less none cause way goes ends = record { none = ends.none; broken = broken_on k a m cause goes.same (same_faults k a left less way goes) ends.broken }
+
+  -- a call ended it
+  pub call_broken : (op : Op) (k m : Plain D) (cause : TransactionFault) → IsUncalled disk op k m cause → IsBroken disk k m (Call cause)
+  call_broken op k m (fault.Disk cause) why = why
+  call_broken op k m fault.NoMemory why = record { image = why.0.image; faults = why.1 }
+  call_broken op k m fault.NoRoom why = record { image = ap (image_on disk.image) why.same; faults = ap (faults_on disk.fault_count) why.same }
+  call_broken op k m fault.NoBuffer why = record { image = why.0.image; faults = why.1 }

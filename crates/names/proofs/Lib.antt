@@ -13,3 +13,5 @@ pub mod Rooted
 pub mod TreeBy
 pub mod Parts
 pub mod Going
+pub mod FileLooks
+pub mod SeenLooks

@@ -56,11 +56,11 @@ pub record LeavesFiles {D N : Type 0} (disk : Ghosts D N) (k m : Plain D) : Type
   pub leaves : LeavesOnly disk.moment disk.leaves k.store.volume.device m.store.volume.device
       (KeepsFiles (image_on disk.image k))
 
--- What a stop left since the transaction began, it leaves up to m too: of a kernel o with the image
--- of k.
-abbrev pub StaysOn : {D N : Type 0} → Ghosts D N → Plain D → Plain D → Type 0
-StaysOn disk k m = (o : Plain D) → image_on disk.image k ≡ image_on disk.image o
-    → LeavesFiles disk o k → LeavesFiles disk o m
+-- What a stop left since the transaction began, in a kernel o with the image of k, it leaves up to m
+-- too.
+pub record StaysOn {D N : Type 0} (disk : Ghosts D N) (k m : Plain D) : Type 0 where
+  pub on : (o : Plain D) → image_on disk.image k ≡ image_on disk.image o → LeavesFiles disk o k
+      → LeavesFiles disk o m
 
 -- the disk has the same image, and counted no fault
 pub record IsSame {D N : Type 0} (disk : Ghosts D N) (k m : Plain D) : Type 0 where
@@ -76,3 +76,9 @@ IsBroken disk k m (Call fault.NoMemory) = IsSame disk k m
 IsBroken disk k m (Call fault.NoRoom) = IsSame disk k m
 IsBroken disk k m (Call fault.NoBuffer) = IsSame disk k m
 IsBroken disk k m NoCall = IsSame disk k m
+
+-- behind it no other call is made
+pub record Ends {D N : Type 0} (disk : Ghosts D N) (k m : Plain D) (left : ℕ) (cause : TreeFault)
+    : Type 0 where
+  pub none : left ≡ 0
+  pub broken : IsBroken disk k m cause

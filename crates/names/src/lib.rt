@@ -18,6 +18,7 @@ pub mod laws;
 mod name;
 mod path;
 mod refusal;
+mod looking;
 mod tree;
 
 pub use entries::{

@@ -1,6 +1,6 @@
 // A kernel whose files are a tree of directories, and the calls of its transactions.
-ghost use Rattle.std.specs.Prelude.{◌≡◌, ◌+◌, ◌<◌, ◌≤◌, ◌^◌, IfErr, IfOk, OnErr, OnOk};
-ghost use Rattle.names.specs.Inside.{Answers, Goes, IsBroken, IsUnderWay, StaysOn};
+ghost use Rattle.std.specs.Prelude.{◌≡◌, ◌+◌, ◌<◌, ◌≤◌, ◌^◌, IfErr, IfOk, OnOk};
+ghost use Rattle.names.specs.Inside.{Answers, Ends, Goes, IsUnderWay, StaysOn};
 
 use crate::refusal::TreeFault;
 use blocks::Disk;
@@ -24,8 +24,8 @@ impl<D: Disk> Tree<D> {
             self.old.kernel self.new.kernel self.new.calls_left) }
         ensures answers { IfOk result (Answers D.image op self.old.kernel self.new.kernel) }
         ensures stays { StaysOn D.Disk self.old.kernel self.new.kernel }
-        ensures ends { OnErr result (self.new.calls_left ≡ 0) }
-        ensures broken { IfErr result (IsBroken D.Disk self.old.kernel self.new.kernel) }
+        ensures ends { IfErr result (Ends D.Disk
+            self.old.kernel self.new.kernel self.new.calls_left) }
     {
         if self.calls_left == 0 {
             return Err(TreeFault::NoCall);
