@@ -11,3 +11,4 @@ pub mod EntrySteps
 pub mod Unnamed
 pub mod Rooted
 pub mod TreeBy
+pub mod Adding
