@@ -12,3 +12,4 @@ pub mod Unnamed
 pub mod Rooted
 pub mod TreeBy
 pub mod Adding
+pub mod Dropping
