@@ -13,3 +13,4 @@ pub mod Rooted
 pub mod TreeBy
 pub mod Adding
 pub mod Dropping
+pub mod Moving
