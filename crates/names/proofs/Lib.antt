@@ -14,3 +14,6 @@ pub mod TreeBy
 pub mod Adding
 pub mod Dropping
 pub mod Moving
+pub mod Moves
+pub mod Plain
+pub mod NewDirectory

@@ -63,6 +63,31 @@ RemoveUndoes = (form : Form) (files made new : Files) (number : ℕ) (file : Fil
     → after form made (Remove number) reply ≡ Some new
     → (reply ≡ Done) × (new ≡ files)
 
+-- An entry was freed, so a link in the same directory is written whole.
+abbrev pub RelinkLeads : Type 0
+RelinkLeads = (form : Form) (files freed new : Files) (from number : ℕ) (old name : List ℕ)
+    (unlink link : EntryWrite) (reply : Reply)
+    → IsDirectory files from → IsTidy (directory_in files from)
+    → Unlinks (directory_in files from) old unlink
+    → after form files (operation_of from unlink) (Wrote entry_size) ≡ Some freed
+    → Links (directory_in freed from) name number link
+    → after form freed (operation_of from link) reply ≡ Some new
+    → (reply ≡ Wrote entry_size) × LeadsTo freed new from name (Some number)
+
+-- an operation that makes and removes no file, and writes no directory
+abbrev pub IsPlain : Files → Op → Type 0
+IsPlain files (Create kind) = ⊥
+IsPlain files (Write i off bytes) = IsDirectory files i → ⊥
+IsPlain files (Read i off n) = Unit {0}
+IsPlain files (Trunc i) = IsDirectory files i → ⊥
+IsPlain files (Remove i) = ⊥
+IsPlain files (Stat i) = Unit {0}
+
+-- It leaves each name as it was, whatever it was answered.
+abbrev pub PlainKeeps : Type 0
+PlainKeeps = (form : Form) (files new : Files) (op : Op) (reply : Reply)
+    → IsPlain files op → after form files op reply ≡ Some new → KeepsNames files new
+
 -- ---- changes
 
 -- a new file is no directory, or has the two entries alone
@@ -86,7 +111,36 @@ RemoveDrops = (form : Form) (files freed new : Files) (from number : ℕ) (name 
     → after form freed (Remove number) reply ≡ Some new
     → (reply ≡ Done) × DropsName files new from name number
 
+-- A name is unlinked, and then a new one linked to its file.
+abbrev pub LinkMoves : Type 0
+LinkMoves = (files freed new : Files) (from to number : ℕ) (old name : List ℕ)
+    → IsDirectory files from → IsDirectory files to
+    → number_of files from old ≡ Some number → number_of files to name ≡ None
+    → LeadsTo files freed from old None → LeadsTo freed new to name (Some number)
+    → MovesName files new from old to name number
+
+-- A new name is linked to a file, and then its old one unlinked.
+abbrev pub UnlinkMoves : Type 0
+UnlinkMoves = (files both new : Files) (from to number : ℕ) (old name : List ℕ)
+    → IsDirectory files from → IsDirectory files to
+    → number_of files from old ≡ Some number → number_of files to name ≡ None
+    → LeadsTo files both to name (Some number) → LeadsTo both new from old None
+    → MovesName files new from old to name number
+
+-- A file of another type is no new directory, and one with the two entries alone is one.
+abbrev pub FilesAreNew : Type 0
+FilesAreNew = ((kind number parent : ℕ) → kind ≢ directory_kind
+    → IsNew (empty_file kind) number parent)
+    × ((number parent : ℕ) → 0 < number → number < 2 ^ 16 → 0 < parent → parent < 2 ^ 16
+    → IsNew (directory_file number parent) number parent)
+
 -- ---- what stays a tree
+
+-- The root with its two entries alone is a tree.
+abbrev pub RootIsTree : Type 0
+RootIsTree = (files : Files) → file_in files root ≡ Some (directory_file root root)
+    → ((i : ℕ) → i ≢ root → file_in files i ≡ None)
+    → IsTree files
 
 -- A tree stays one where a file is added under a name.
 abbrev pub AddingKeeps : Type 0
