@@ -17,3 +17,4 @@ pub mod Moving
 pub mod Moves
 pub mod Plain
 pub mod NewDirectory
+pub mod TreeMeaning

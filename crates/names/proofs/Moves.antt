@@ -20,7 +20,7 @@ use Rattle.names.proofs.Moving.{IsOther}
 
 -- ---- one change
 
-other_leads : (files new : Files) (from : ℕ) (name : List ℕ) (o : Option ℕ) → LeadsTo files new from name o →
+pub other_leads : (files new : Files) (from : ℕ) (name : List ℕ) (o : Option ℕ) → LeadsTo files new from name o →
     (i : ℕ) (other : List ℕ) → IsOther i other from name → number_of new i other ≡ number_of files i other
 other_leads files new from name o led i other apart =
     ⊎_elim
@@ -30,7 +30,7 @@ other_leads files new from name o led i other apart =
     ap (λ (k : ℕ). number_of new k other) in_from ∙ led.changes.others other differ ∙ ap (λ (k : ℕ). number_of files k other) (sym in_from)) apart)
     (λ (elsewhere : i ≢ from). number_same files new i other (led.rest i elsewhere)) (cases_eq i from)
 
-other_kinds : (files new : Files) (from : ℕ) (name : List ℕ) (o : Option ℕ) → IsDirectory files from → LeadsTo files new from name o →
+pub other_kinds : (files new : Files) (from : ℕ) (name : List ℕ) (o : Option ℕ) → IsDirectory files from → LeadsTo files new from name o →
     (i : ℕ) → kind_of (file_in new i) ≡ kind_of (file_in files i)
 other_kinds files new from name o is led i =
     ⊎_elim
@@ -38,7 +38,7 @@ other_kinds files new from name o is led i =
     ap (λ (k : ℕ). kind_of (file_in new k)) in_from ∙ led.changes.directory ∙ sym (ap (λ (k : ℕ). kind_of (file_in files k)) in_from ∙ is))
     (λ (elsewhere : i ≢ from). ap kind_of (led.rest i elsewhere)) (cases_eq i from)
 
-other_tidy : (files new : Files) (from : ℕ) (name : List ℕ) (o : Option ℕ) → LeadsTo files new from name o →
+pub other_tidy : (files new : Files) (from : ℕ) (name : List ℕ) (o : Option ℕ) → LeadsTo files new from name o →
     (i : ℕ) → IsTidy (directory_in files i) → IsTidy (directory_in new i)
 other_tidy files new from name o led i tidy =
     ⊎_elim (λ (in_from : i ≡ from). subst (λ (k : ℕ). IsTidy (directory_in new k)) (sym in_from) led.changes.tidy)

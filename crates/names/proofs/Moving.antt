@@ -13,7 +13,7 @@ use Rattle.names.proofs.Adding.{same_name}
 abbrev pub IsOther : ℕ → List ℕ → ℕ → List ℕ → Type 0
 IsOther i other from name = (i ≢ from) ⊎ (other ≢ name)
 
-same_entry : (i from : ℕ) (other name : List ℕ) → ((i ≡ from) × (other ≡ name)) ⊎ IsOther i other from name
+pub same_entry : (i from : ℕ) (other name : List ℕ) → ((i ≡ from) × (other ≡ name)) ⊎ IsOther i other from name
 same_entry i from other name =
     ⊎_elim
     (λ (in_from : i ≡ from).

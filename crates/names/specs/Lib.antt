@@ -4,6 +4,7 @@ pub mod Writes
 pub mod Trees
 pub mod TreeChanges
 pub mod TreeLaws
+pub mod TreeMeaning
 pub mod Laws
 pub mod Lemmas
 pub mod NamedFiles

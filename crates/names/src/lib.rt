@@ -16,6 +16,7 @@ mod files;
 pub mod kernel_laws;
 pub mod laws;
 mod name;
+pub mod tree_laws;
 
 pub use entries::{
     DIRECTORY, DIRECTORY_SIZE, ENTRY_SIZE, EntryWrite, LinkFault, link, lookup, unlink,
