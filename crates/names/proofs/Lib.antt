@@ -18,3 +18,4 @@ pub mod Moves
 pub mod Plain
 pub mod NewDirectory
 pub mod TreeMeaning
+pub mod WholeChanges

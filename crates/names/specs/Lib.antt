@@ -5,6 +5,7 @@ pub mod Trees
 pub mod TreeChanges
 pub mod TreeLaws
 pub mod TreeMeaning
+pub mod WholeChanges
 pub mod Laws
 pub mod Lemmas
 pub mod NamedFiles

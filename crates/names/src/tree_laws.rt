@@ -1,6 +1,7 @@
 //! What changes of names make of a tree of directories, the contracts of functions that do nothing.
 ghost use Rattle.names.specs.TreeLaws.{AddingKeeps, CreateMakes, DroppingKeeps, FilesAreNew, KeepingKeeps, LinkAdds, LinkLeads, LinkMoves, MovingKeeps, PlainKeeps, ReadsWhole, RelinkLeads, RemoveDrops, RemoveUndoes, RootIsTree, UnlinkLeads, UnlinkMoves, WriteFills};
 ghost use Rattle.names.specs.TreeMeaning.{DirectoriesAreTidy, EntriesLead, NoHalfIsTree, NumbersStandOnce, StepsLead};
+ghost use Rattle.names.specs.WholeChanges.{MakesDirectoryWhole, MakesFileWhole, MakesRootWhole, MovesFileWhole, RemovesFileWhole, RenamesFileWhole};
 
 /// What one operation on a directory, with its reply, makes of where its names lead. A read brings
 /// the whole directory. The write of an entry is whole, unless it is behind the last entry and no
@@ -37,6 +38,17 @@ pub fn trees_stay()
     ensures dropped { DroppingKeeps }
     ensures moved { MovingKeeps }
     ensures kept { KeepingKeeps }
+{}
+
+/// The operations of each whole change, with their replies, leave a tree, in which just that changed.
+/// An unlink, a removal and a link into a freed entry are not refused.
+pub fn changes_leave_trees()
+    ensures root { MakesRootWhole }
+    ensures file { MakesFileWhole }
+    ensures directory { MakesDirectoryWhole }
+    ensures removed { RemovesFileWhole }
+    ensures renamed { RenamesFileWhole }
+    ensures moved { MovesFileWhole }
 {}
 
 /// In a tree each directory has its own two entries, each other used entry's name leads to a file, and
