@@ -19,3 +19,6 @@ pub mod Plain
 pub mod NewDirectory
 pub mod TreeMeaning
 pub mod WholeChanges
+pub mod Repoints
+pub mod Below
+pub mod MovingDirectory

@@ -132,7 +132,7 @@ moves_by files new depth deep from to i old name tree is is_to old_down down mov
 -- ---- a name alone
 
 -- a directory's own two names stay
-moved_directory : (files new : Files) (from to i : ℕ) (old name : List ℕ) → IsDown old → IsDown name → MovesName files new from old to name i →
+pub moved_directory : (files new : Files) (from to i : ℕ) (old name : List ℕ) → IsDown old → IsDown name → MovesName files new from old to name i →
     (j parent : ℕ) → IsDirectoryOf (directory_in files j) j parent → IsDirectoryOf (directory_in new j) j parent
 moved_directory files new from to i old name old_down down moves j parent is = record {
   tidy = moves.tidy j is.tidy;

@@ -82,14 +82,12 @@ pub record MovesName (files new : Files) (from : ℕ) (old : List ℕ) (to : ℕ
   pub tidy : (i : ℕ) → IsTidy (directory_in files i) → IsTidy (directory_in new i)
   pub rest : (i : ℕ) → i ≢ from → i ≢ to → file_in new i ≡ file_in files i
 
--- The same of a directory that has another parent behind it: its name for that leads there.
+-- The same of a directory, whose name for its parent leads to its new one.
 pub record MovesDirectory (files new : Files) (from : ℕ) (old : List ℕ) (to : ℕ) (name : List ℕ)
     (number : ℕ) : Type 0 where
   pub mid : Files
   pub moves : MovesName files mid from old to name number
-  pub changes : ChangesName mid new number parent_name
-  pub up : number_of new number parent_name ≡ Some to
-  pub rest : (i : ℕ) → i ≢ number → file_in new i ≡ file_in mid i
+  pub up : LeadsTo mid new number parent_name (Some to)
 
 -- The same files are there, each has the type it had, and every directory its bytes: each name leads
 -- where it led.

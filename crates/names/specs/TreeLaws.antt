@@ -12,7 +12,7 @@ use Rattle.names.specs.declared.entries.EntryWrite.{EntryWrite}
 use Rattle.names.specs.Entries.{directory_size, entry_size, most_entries}
 use Rattle.names.specs.Trees.{directory_in, directory_kind, new_directory, number_of, root, IsDirectory, IsDirectoryOf, IsDown, IsEmpty, IsFile, IsOutside, IsTidy, IsTree}
 use Rattle.names.specs.TreeChanges.{directory_file, empty_file, AddsName, DropsName, IsUnnamed, KeepsNames, LeadsTo, MovesDirectory, MovesName}
-use Rattle.names.specs.Writes.{operation_of, Links, Unlinks}
+use Rattle.names.specs.Writes.{operation_of, Links, Repoints, Unlinks}
 
 -- ---- single operations
 
@@ -73,6 +73,15 @@ RelinkLeads = (form : Form) (files freed new : Files) (from number : ℕ) (old n
     → Links (directory_in freed from) name number link
     → after form freed (operation_of from link) reply ≡ Some new
     → (reply ≡ Wrote entry_size) × LeadsTo freed new from name (Some number)
+
+-- An entry that is there is written whole.
+abbrev pub RepointLeads : Type 0
+RepointLeads = (form : Form) (files new : Files) (from number : ℕ) (name : List ℕ)
+    (write : EntryWrite) (reply : Reply)
+    → IsDirectory files from → IsTidy (directory_in files from)
+    → Repoints (directory_in files from) name number write
+    → after form files (operation_of from write) reply ≡ Some new
+    → (reply ≡ Wrote entry_size) × LeadsTo files new from name (Some number)
 
 -- an operation that makes and removes no file, and writes no directory
 abbrev pub IsPlain : Files → Op → Type 0
@@ -163,6 +172,14 @@ MovingKeeps = (files new : Files) (from to number : ℕ) (old name : List ℕ)
     → IsTree files → IsDirectory files from → IsDirectory files to → IsDown old → IsDown name
     → (IsDirectory files number → from ≡ to)
     → MovesName files new from old to name number
+    → IsTree new
+
+-- A tree stays one where a directory moves to another one that is not below it.
+abbrev pub MovingDirectoryKeeps : Type 0
+MovingDirectoryKeeps = (files new : Files) (from to number : ℕ) (old name : List ℕ)
+    → IsTree files → IsDirectory files from → IsDirectory files to → IsDirectory files number
+    → IsDown old → IsDown name → IsOutside files number to
+    → MovesDirectory files new from old to name number
     → IsTree new
 
 -- A tree stays one where the files that are no directories are written.

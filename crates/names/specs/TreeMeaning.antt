@@ -3,7 +3,7 @@ use Rattle.std.specs.Prelude.{◌≡◌, ◌≢◌, ℕ, ◌<◌, false, List, l
 use Rattle.model.specs.declared.types.image.File.{File}
 use Rattle.model.specs.Files.{Files, file_in}
 use Rattle.names.specs.Entries.{entries_of, entry_at, is_free, name_in, number_in}
-use Rattle.names.specs.Trees.{directory_in, number_of, root, IsDirectory, IsDirectoryOf, IsDown, IsFile, IsTidy, IsTree, Steps}
+use Rattle.names.specs.Trees.{directory_in, number_of, parent_name, root, IsDirectory, IsDirectoryOf, IsDown, IsFile, IsOutside, IsTidy, IsTree, Steps}
 use Rattle.names.specs.TreeChanges.{IsUnnamed, LeadsTo, MovesName}
 
 -- Each directory of a tree has its own two entries.
@@ -17,6 +17,19 @@ abbrev pub StepsLead : Type 0
 StepsLead = (files : Files) (from number : ℕ) (name : List ℕ) → IsTree files → IsDown name
     → Steps files from name number
     → IsFile files number × (number ≢ root) × (number ≢ from)
+
+-- The root is below no file but itself.
+abbrev pub RootIsOutside : Type 0
+RootIsOutside = (files : Files) (number : ℕ) → IsTree files → number ≢ root
+    → IsOutside files number root
+
+-- What is below a directory's parent, or is not, is so for the directory, unless it is that itself.
+abbrev pub ParentsDecide : Type 0
+ParentsDecide = (files : Files) (number from parent : ℕ) → IsTree files
+    → IsDirectory files from → from ≢ root → number_of files from parent_name ≡ Some parent
+    → (from ≢ number → IsOutside files number parent → IsOutside files number from)
+    × ((IsOutside files number parent → ⊥) → IsOutside files number from → ⊥)
+    × IsDirectory files parent
 
 -- an entry of a directory is used
 pub record IsUsed (files : Files) (from place : ℕ) : Type 0 where
