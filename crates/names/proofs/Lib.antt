@@ -11,6 +11,17 @@ pub mod EntrySteps
 pub mod Unnamed
 pub mod Rooted
 pub mod TreeBy
+pub mod Adding
+pub mod Dropping
+pub mod Moving
+pub mod Moves
+pub mod Plain
+pub mod NewDirectory
+pub mod TreeMeaning
+pub mod WholeChanges
+pub mod Repoints
+pub mod Below
+pub mod MovingDirectory
 pub mod Parts
 pub mod Going
 pub mod FileLooks

@@ -21,7 +21,7 @@ use Rattle.names.proofs.FileMaps.{creates, removes, unnamed_by}
 pub create_makes : CreateMakes
 create_makes form files new kind number h = creates form files new kind number h
 
-some_ne_none : (file : File) → Some file ≢ None
+pub some_ne_none : (file : File) → Some file ≢ None
 some_ne_none file e = absurd (cc e)
 
 pub is_there : (files new : Files) (i : ℕ) (file : File) → IsUnnamed files new i file → IsFile new i

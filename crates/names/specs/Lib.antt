@@ -7,6 +7,8 @@ pub mod Writes
 pub mod Trees
 pub mod TreeChanges
 pub mod TreeLaws
+pub mod TreeMeaning
+pub mod WholeChanges
 pub mod Laws
 pub mod Lemmas
 pub mod NamedFiles

@@ -2,7 +2,7 @@
 use Rattle.std.specs.Prelude.{◌≡◌, ◌≢◌, ◌⊎◌, ℕ, ◌<◌, List, [], length, slice_set, Option, Some, None}
 use Rattle.model.specs.declared.types.image.File.{File}
 use Rattle.model.specs.Files.{Files, file_in}
-use Rattle.names.specs.Trees.{directory_in, directory_kind, kind_of, new_directory, number_of, parent_name, IsDirectory, IsEmpty, IsTidy}
+use Rattle.names.specs.Trees.{directory_in, directory_kind, kind_of, new_directory, number_of, parent_name, IsDirectory, IsEmpty, IsFile, IsTidy}
 
 -- A directory is one still, and tidy; each name but one leads where it led.
 pub record ChangesName (files new : Files) (from : ℕ) (name : List ℕ) : Type 0 where
@@ -82,16 +82,17 @@ pub record MovesName (files new : Files) (from : ℕ) (old : List ℕ) (to : ℕ
   pub tidy : (i : ℕ) → IsTidy (directory_in files i) → IsTidy (directory_in new i)
   pub rest : (i : ℕ) → i ≢ from → i ≢ to → file_in new i ≡ file_in files i
 
--- The same of a directory that has another parent behind it: its name for that leads there.
+-- The same of a directory, whose name for its parent leads to its new one.
 pub record MovesDirectory (files new : Files) (from : ℕ) (old : List ℕ) (to : ℕ) (name : List ℕ)
     (number : ℕ) : Type 0 where
   pub mid : Files
   pub moves : MovesName files mid from old to name number
-  pub changes : ChangesName mid new number parent_name
-  pub up : number_of new number parent_name ≡ Some to
-  pub rest : (i : ℕ) → i ≢ number → file_in new i ≡ file_in mid i
+  pub up : LeadsTo mid new number parent_name (Some to)
 
--- Every file has the type it had, and every directory its bytes: each name leads where it led.
+-- The same files are there, each has the type it had, and every directory its bytes: each name leads
+-- where it led.
 pub record KeepsNames (files new : Files) : Type 0 where
+  pub still : (i : ℕ) → IsFile files i → IsFile new i
+  pub was : (i : ℕ) → IsFile new i → IsFile files i
   pub kinds : (i : ℕ) → kind_of (file_in new i) ≡ kind_of (file_in files i)
   pub directories : (i : ℕ) → IsDirectory files i → file_in new i ≡ file_in files i

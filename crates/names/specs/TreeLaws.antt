@@ -12,7 +12,7 @@ use Rattle.names.specs.declared.entries.EntryWrite.{EntryWrite}
 use Rattle.names.specs.Entries.{directory_size, entry_size, most_entries}
 use Rattle.names.specs.Trees.{directory_in, directory_kind, new_directory, number_of, root, IsDirectory, IsDirectoryOf, IsDown, IsEmpty, IsFile, IsOutside, IsTidy, IsTree}
 use Rattle.names.specs.TreeChanges.{directory_file, empty_file, AddsName, DropsName, IsUnnamed, KeepsNames, LeadsTo, MovesDirectory, MovesName}
-use Rattle.names.specs.Writes.{operation_of, Links, Unlinks}
+use Rattle.names.specs.Writes.{operation_of, Links, Repoints, Unlinks}
 
 -- ---- single operations
 
@@ -63,6 +63,40 @@ RemoveUndoes = (form : Form) (files made new : Files) (number : ℕ) (file : Fil
     → after form made (Remove number) reply ≡ Some new
     → (reply ≡ Done) × (new ≡ files)
 
+-- An entry was freed, so a link in the same directory is written whole.
+abbrev pub RelinkLeads : Type 0
+RelinkLeads = (form : Form) (files freed new : Files) (from number : ℕ) (old name : List ℕ)
+    (unlink link : EntryWrite) (reply : Reply)
+    → IsDirectory files from → IsTidy (directory_in files from)
+    → Unlinks (directory_in files from) old unlink
+    → after form files (operation_of from unlink) (Wrote entry_size) ≡ Some freed
+    → Links (directory_in freed from) name number link
+    → after form freed (operation_of from link) reply ≡ Some new
+    → (reply ≡ Wrote entry_size) × LeadsTo freed new from name (Some number)
+
+-- An entry that is there is written whole.
+abbrev pub RepointLeads : Type 0
+RepointLeads = (form : Form) (files new : Files) (from number : ℕ) (name : List ℕ)
+    (write : EntryWrite) (reply : Reply)
+    → IsDirectory files from → IsTidy (directory_in files from)
+    → Repoints (directory_in files from) name number write
+    → after form files (operation_of from write) reply ≡ Some new
+    → (reply ≡ Wrote entry_size) × LeadsTo files new from name (Some number)
+
+-- an operation that makes and removes no file, and writes no directory
+abbrev pub IsPlain : Files → Op → Type 0
+IsPlain files (Create kind) = ⊥
+IsPlain files (Write i off bytes) = IsDirectory files i → ⊥
+IsPlain files (Read i off n) = Unit {0}
+IsPlain files (Trunc i) = IsDirectory files i → ⊥
+IsPlain files (Remove i) = ⊥
+IsPlain files (Stat i) = Unit {0}
+
+-- It leaves each name as it was, whatever it was answered.
+abbrev pub PlainKeeps : Type 0
+PlainKeeps = (form : Form) (files new : Files) (op : Op) (reply : Reply)
+    → IsPlain files op → after form files op reply ≡ Some new → KeepsNames files new
+
 -- ---- changes
 
 -- a new file is no directory, or has the two entries alone
@@ -86,7 +120,36 @@ RemoveDrops = (form : Form) (files freed new : Files) (from number : ℕ) (name 
     → after form freed (Remove number) reply ≡ Some new
     → (reply ≡ Done) × DropsName files new from name number
 
+-- A name is unlinked, and then a new one linked to its file.
+abbrev pub LinkMoves : Type 0
+LinkMoves = (files freed new : Files) (from to number : ℕ) (old name : List ℕ)
+    → IsDirectory files from → IsDirectory files to
+    → number_of files from old ≡ Some number → number_of files to name ≡ None
+    → LeadsTo files freed from old None → LeadsTo freed new to name (Some number)
+    → MovesName files new from old to name number
+
+-- A new name is linked to a file, and then its old one unlinked.
+abbrev pub UnlinkMoves : Type 0
+UnlinkMoves = (files both new : Files) (from to number : ℕ) (old name : List ℕ)
+    → IsDirectory files from → IsDirectory files to
+    → number_of files from old ≡ Some number → number_of files to name ≡ None
+    → LeadsTo files both to name (Some number) → LeadsTo both new from old None
+    → MovesName files new from old to name number
+
+-- A file of another type is no new directory, and one with the two entries alone is one.
+abbrev pub FilesAreNew : Type 0
+FilesAreNew = ((kind number parent : ℕ) → kind ≢ directory_kind
+    → IsNew (empty_file kind) number parent)
+    × ((number parent : ℕ) → 0 < number → number < 2 ^ 16 → 0 < parent → parent < 2 ^ 16
+    → IsNew (directory_file number parent) number parent)
+
 -- ---- what stays a tree
+
+-- The root with its two entries alone is a tree.
+abbrev pub RootIsTree : Type 0
+RootIsTree = (files : Files) → file_in files root ≡ Some (directory_file root root)
+    → ((i : ℕ) → i ≢ root → file_in files i ≡ None)
+    → IsTree files
 
 -- A tree stays one where a file is added under a name.
 abbrev pub AddingKeeps : Type 0
@@ -109,6 +172,14 @@ MovingKeeps = (files new : Files) (from to number : ℕ) (old name : List ℕ)
     → IsTree files → IsDirectory files from → IsDirectory files to → IsDown old → IsDown name
     → (IsDirectory files number → from ≡ to)
     → MovesName files new from old to name number
+    → IsTree new
+
+-- A tree stays one where a directory moves to another one that is not below it.
+abbrev pub MovingDirectoryKeeps : Type 0
+MovingDirectoryKeeps = (files new : Files) (from to number : ℕ) (old name : List ℕ)
+    → IsTree files → IsDirectory files from → IsDirectory files to → IsDirectory files number
+    → IsDown old → IsDown name → IsOutside files number to
+    → MovesDirectory files new from old to name number
     → IsTree new
 
 -- A tree stays one where the files that are no directories are written.

@@ -42,6 +42,14 @@ pub record Unlinks (bytes name : List ℕ) (write : EntryWrite) : Type 0 where
   pub place : place_of bytes name ≡ Some write.place
   pub entry : write.entry ≡ replicate entry_size 0
 
+-- the write gives the first entry of a name another number
+pub record Repoints (bytes name : List ℕ) (number : ℕ) (write : EntryWrite) : Type 0 where
+  pub place : place_of bytes name ≡ Some write.place
+  pub entry : write.entry ≡ entry_bytes number name
+  pub used : 0 < number
+  pub fits : number < 2 ^ 16
+  pub size : length name ≡ name_size
+
 -- Every other name leads where it led before, and no name that stood once at most stands twice.
 pub record KeepsOthers (name old new : List ℕ) : Type 0 where
   pub others : (other : List ℕ) → other ≢ name → lookup new other ≡ lookup old other

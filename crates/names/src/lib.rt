@@ -20,6 +20,7 @@ mod path;
 mod refusal;
 mod looking;
 mod tree;
+pub mod tree_laws;
 
 pub use entries::{
     DIRECTORY, DIRECTORY_SIZE, ENTRY_SIZE, EntryWrite, LinkFault, link, lookup, unlink,
