@@ -1,5 +1,5 @@
 -- Calls of a transaction, one after the other.
-use Rattle.std.proofs.Common.{◌≡◌, ℕ, ◌+◌, ◌<◌, ◌≤◌, ◌^◌, List, [], length, Option, Some, None, refl, sym, ap, subst, ◌∙◌, arith}
+use Rattle.std.proofs.Common.{◌≡◌, ℕ, ◌+◌, ◌<◌, ◌≤◌, ◌^◌, List, [], length, Option, Some, None, refl, sym, ap, subst, ◌∙◌, inl, inr, ⊎_elim, arith}
 use Rattle.std.specs.Prelude.{unwrap_or}
 use Rattle.blocks.specs.Disk.{Image, LeavesOnly, Rose}
 use Rattle.blocks.specs.Lemmas.Moments.{joined}
@@ -13,7 +13,10 @@ use Rattle.model.specs.declared.types.operations.Op.{Op}
 use Rattle.model.specs.declared.types.operations.Reply.{Reply}
 use Rattle.calls.specs.Calls.{call_count, faults_on, image_on}
 use Rattle.calls.specs.Stepping.{Plain}
-use Rattle.transactions.specs.Transactions.{Adds, HasFiles, IsInside, IsUncalled, KeepsFiles}
+use Rattle.transactions.specs.Transactions.{Adds, Begins, Commits, HasFiles, IsInside, IsUnbegun, IsUncalled, IsUncommitted, KeepsEither, KeepsFiles, Rests}
+use Rattle.names.specs.Ready.{EndsOn, HasBegun, HasCommitted, LeavesEither}
+use Rattle.names.specs.Trees.{IsTree}
+use Rattle.model.specs.declared.types.operations.Entry.{Entry}
 use Rattle.transactions.specs.declared.fault.TransactionFault.{TransactionFault}
 use Rattle.transactions.specs.declared.fault.TransactionFault.TheVariants as fault
 use Rattle.names.specs.declared.refusal.TreeFault.{TreeFault}
@@ -96,3 +99,76 @@ module _ {D N : Type 0} (disk : Ghosts D N) where
   call_broken op k m fault.NoMemory why = record { image = why.0.image; faults = why.1 }
   call_broken op k m fault.NoRoom why = record { image = ap (image_on disk.image) why.same; faults = ap (faults_on disk.fault_count) why.same }
   call_broken op k m fault.NoBuffer why = record { image = why.0.image; faults = why.1 }
+
+  -- ---- the beginning and the end
+
+  pub begin_goes : (k m : Plain D) (left : ℕ) → call_count k + left ≤ 2 ^ 32 → IsInside disk.fault_count m → m.opening ≡ k.opening → Begins disk.image k m →
+      HasBegun disk k m left
+  begin_goes k m left few inside opening begins =
+      let count : call_count m ≡ call_count k = ap (λ (es : List Entry). length es) begins.list in
+      record {
+        goes = record {
+          way = record { inside = inside; few = omega (arith, count, few); files = has_seen m (files_of (image_on disk.image k)) begins.files };
+          same = begins.same;
+          opening = opening;
+        };
+        files = seen m (files_of (image_on disk.image k)) begins.files;
+      }
+
+  pub begin_broken : (k m : Plain D) (cause : TransactionFault) → IsUnbegun disk k m cause → IsBroken disk k m (Call cause)
+  begin_broken k m (fault.Disk cause) why = why
+  begin_broken k m fault.NoMemory why = record { image = why.0.image; faults = why.1 }
+  begin_broken k m fault.NoRoom why = absurd why
+  begin_broken k m fault.NoBuffer why = absurd why
+
+  pub commit_broken : (k m : Plain D) (cause : TransactionFault) → IsUncommitted disk k m cause → IsBroken disk k m (Call cause)
+  commit_broken k m (fault.Disk cause) why = why
+  commit_broken k m fault.NoMemory why = absurd why
+  commit_broken k m fault.NoRoom why = absurd why
+  commit_broken k m fault.NoBuffer why = absurd why
+
+  pub commit_ends : (k m : Plain D) (left less : ℕ) → less + 1 ≡ left → IsUnderWay disk k left → IsTree (files_seen disk.image k) → Rests disk.fault_count m →
+      Commits disk.image k m → HasCommitted disk k m less
+  commit_ends k m left less one way tree rests commits =
+      let same : files_of (image_on disk.image m) ≡ files_seen disk.image k = commits.files (files_seen disk.image k) way.files in
+      record {
+        ready = record { rests = rests; few = omega (arith, commits.one_more, way.few); tree = subst (λ (f : Files). IsTree f) (sym same) tree };
+        files = same;
+      }
+
+  either : (x : Image) (made : Files) (z : Image) → KeepsFiles x z → KeepsEither x made z
+  either x made z keeps = record { log = keeps.log; sound = keeps.sound; files = inl keeps.files }
+
+  pub wider : (a b : D) (P Q : Image → Type 0) → ((z : Image) → P z → Q z) → LeavesOnly disk.moment disk.leaves a b P → LeavesOnly disk.moment disk.leaves a b Q
+  wider a b P Q less all = record {
+    later = all.later;
+    each = λ z left. less z (all.each z left);
+    before = λ t z le left. ⊎_elim (λ was. inl was) (λ p. inr (less z p)) (all.before t z le left);
+    keeps = all.keeps;
+  }
+
+  -- the end was refused before it began
+  pub ends_here : (k : Plain D) → EndsOn disk k k
+  ends_here k = record {
+    on = λ o same so_far. record {
+      opening = so_far.opening;
+      name = so_far.name;
+      leaves = wider o.store.volume.device k.store.volume.device (KeepsFiles (image_on disk.image o)) (KeepsEither (image_on disk.image o) (files_seen disk.image k))
+          (either (image_on disk.image o) (files_seen disk.image k)) so_far.leaves;
+    };
+  }
+
+  pub commit_leaves : (k m : Plain D) → m.opening ≡ k.opening → disk.name m.store.volume.device ≡ disk.name k.store.volume.device →
+      LeavesOnly disk.moment disk.leaves k.store.volume.device m.store.volume.device (KeepsEither (image_on disk.image k) (files_seen disk.image k)) → EndsOn disk k m
+  commit_leaves k m opening name leaves =
+      let made : Files = files_seen disk.image k in
+      record {
+        on = λ o same so_far. record {
+          opening = opening ∙ so_far.opening;
+          name = name ∙ so_far.name;
+          leaves = joined disk.moment disk.leaves o.store.volume.device k.store.volume.device m.store.volume.device (KeepsEither (image_on disk.image o) made)
+              (wider o.store.volume.device k.store.volume.device (KeepsFiles (image_on disk.image o)) (KeepsEither (image_on disk.image o) made)
+              (either (image_on disk.image o) made) so_far.leaves)
+              (subst (λ (x : Image). LeavesOnly disk.moment disk.leaves k.store.volume.device m.store.volume.device (KeepsEither x made)) same leaves);
+        };
+      }

@@ -2,6 +2,7 @@ pub mod Entries
 pub mod Names
 pub mod Paths
 pub mod Inside
+pub mod Ready
 pub mod Walks
 pub mod Writes
 pub mod Trees
