@@ -79,7 +79,7 @@ module _ {D N : Type 0} (disk : Ghosts D N) where
   pub same_faults : (k a : Plain D) (left less : ℕ) → IsUnderWay disk k left → Goes disk k a less → faults_on disk.fault_count a ≡ faults_on disk.fault_count k
   same_faults k a left less way goes = goes.way.inside.pair.faultless ∙ ap disk.fault_count goes.opening ∙ sym way.inside.pair.faultless
 
-  broken_on : (k a m : Plain D) (cause : TreeFault) → image_on disk.image a ≡ image_on disk.image k → faults_on disk.fault_count a ≡ faults_on disk.fault_count k →
+  pub broken_on : (k a m : Plain D) (cause : TreeFault) → image_on disk.image a ≡ image_on disk.image k → faults_on disk.fault_count a ≡ faults_on disk.fault_count k →
       IsBroken disk a m cause → IsBroken disk k m cause
   broken_on k a m (Path cause) same faults why = why
   broken_on k a m (Refused cause) same faults why = why

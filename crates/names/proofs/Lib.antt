@@ -26,3 +26,6 @@ pub mod Parts
 pub mod Going
 pub mod FileLooks
 pub mod SeenLooks
+pub mod Transacting
+pub mod FileMakes
+pub mod Entering

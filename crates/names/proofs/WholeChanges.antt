@@ -25,7 +25,7 @@ tidy_in : (files : Files) (from : ℕ) → IsTree files → IsDirectory files fr
 tidy_in files from tree is = (directories_are_tidy files from tree is).0
 
 -- a file that was made is linked
-linked_new : (form : Form) (files made new : Files) (from number : ℕ) (name : List ℕ) (file : File) (write : EntryWrite) (reply : Reply) →
+pub linked_new : (form : Form) (files made new : Files) (from number : ℕ) (name : List ℕ) (file : File) (write : EntryWrite) (reply : Reply) →
     IsTree files → IsDirectory files from → IsUnnamed files made number file → Links (directory_in files from) name number write →
     write.place < 192 → after form made (operation_of from write) reply ≡ Some new →
     ((reply ≡ Wrote 16) × AddsName files new from name number file) ⊎ ((reply ≡ Wrote 0) × (new ≡ made))

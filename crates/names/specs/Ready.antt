@@ -75,13 +75,21 @@ LeavesTree disk change k m =
     LeavesOnly disk.moment disk.leaves k.store.volume.device m.store.volume.device
     (KeepsTree change (image_on disk.image k))
 
--- Why a call at a path is not answered, in kernel k, which is m now: the path is none, and nothing was
--- done; or the files refuse, which are as they were; or a call of the kernel failed.
+-- Why a call is not answered, in kernel k, which is m now: the files refuse, which are as they were, or
+-- a call of the kernel failed.
+abbrev pub IsUnanswered : {D N : Type 0} → Ghosts D N → (Files → Refusal → Type 0) → Plain D
+    → Plain D → TreeFault → Type 0
+IsUnanswered disk why k m (Path cause) = ⊥
+IsUnanswered disk why k m (Refused cause) =
+    (files_of (image_on disk.image m) ≡ files_of (image_on disk.image k))
+    × why (files_of (image_on disk.image k)) cause
+IsUnanswered disk why k m (Call cause) = IsBroken disk k m (Call cause)
+IsUnanswered disk why k m NoCall = IsBroken disk k m NoCall
+
+-- why a call at a path is not: the path is none, and nothing was done; or as above
 abbrev pub IsUndone : {D N : Type 0} → Ghosts D N → List ℕ → (Files → Refusal → Type 0)
     → Plain D → Plain D → TreeFault → Type 0
 IsUndone disk path why k m (Path cause) = (m ≡ k) × IsPathCause path cause
-IsUndone disk path why k m (Refused cause) =
-    (files_of (image_on disk.image m) ≡ files_of (image_on disk.image k))
-    × why (files_of (image_on disk.image k)) cause
-IsUndone disk path why k m (Call cause) = IsBroken disk k m (Call cause)
-IsUndone disk path why k m NoCall = IsBroken disk k m NoCall
+IsUndone disk path why k m (Refused cause) = IsUnanswered disk why k m (Refused cause)
+IsUndone disk path why k m (Call cause) = IsUnanswered disk why k m (Call cause)
+IsUndone disk path why k m NoCall = IsUnanswered disk why k m NoCall

@@ -18,7 +18,9 @@ pub mod laws;
 mod name;
 mod path;
 mod refusal;
+mod asking;
 mod looking;
+mod making;
 mod tree;
 pub mod tree_laws;
 
