@@ -29,3 +29,4 @@ pub mod SeenLooks
 pub mod Transacting
 pub mod FileMakes
 pub mod Entering
+pub mod Leading

@@ -5,6 +5,7 @@ pub mod Inside
 pub mod Ready
 pub mod Walks
 pub mod Making
+pub mod Removing
 pub mod Writes
 pub mod Trees
 pub mod TreeChanges

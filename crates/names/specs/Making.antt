@@ -15,7 +15,7 @@ use Rattle.names.specs.Entries.{entry_size}
 use Rattle.names.specs.Inside.{Answers}
 use Rattle.names.specs.TreeChanges.{empty_file, AddsName, IsUnnamed}
 use Rattle.names.specs.Trees.{directory_in, number_of, IsDirectory}
-use Rattle.names.specs.Walks.{LeadsIn}
+use Rattle.names.specs.Walks.{AtLast}
 use Rattle.names.specs.Writes.{operation_of, IsLinkCause}
 
 -- the type of a file that is no directory
@@ -69,9 +69,6 @@ IsUnmadeIn files from name NotFound = ⊥
 IsUnmadeIn files from name IsRoot = ⊥
 IsUnmadeIn files from name IsADirectory = ⊥
 
--- An empty file was made under the last of these names, in the directory that the others lead to.
-pub record MakesAt (names : List (List ℕ)) (number : ℕ) (files new : Files) : Type 0 where
-  pub from : ℕ
-  pub name : List ℕ
-  pub led : LeadsIn names files from name
-  pub made : MakesIn from name number files new
+-- an empty file was made under the last of these names, in the directory that the others lead to
+abbrev pub MakesAt : List (List ℕ) → ℕ → Files → Files → Type 0
+MakesAt names = AtLast MakesIn names

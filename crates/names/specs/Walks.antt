@@ -62,3 +62,11 @@ abbrev pub IsUndoneIn : (Files → ℕ → List ℕ → Refusal → Type 0) → 
 IsUndoneIn why names files cause =
     IsUnled names files cause
     ⊎ ((from : ℕ) × (name : List ℕ) × LeadsIn names files from name × why files from name cause)
+
+-- A change was made at the last of these names, in the directory that the others lead to.
+pub record AtLast {T : Type 0} (change : ℕ → List ℕ → T → Files → Files → Type 0)
+    (names : List (List ℕ)) (made : T) (files new : Files) : Type 0 where
+  pub from : ℕ
+  pub name : List ℕ
+  pub led : LeadsIn names files from name
+  pub made_is : change from name made files new

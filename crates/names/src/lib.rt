@@ -21,6 +21,7 @@ mod refusal;
 mod asking;
 mod looking;
 mod making;
+mod removing;
 mod tree;
 pub mod tree_laws;
 

@@ -179,7 +179,7 @@ impl<D: Disk> Tree<D> {
     }
 
     // Writes an entry of a directory. Whether it was written: all of it is, or nothing.
-    fn entered(&mut self, alloc: Global, from: u32, write: EntryWrite) -> Result<bool, TreeFault>
+    pub(crate) fn entered(&mut self, alloc: Global, from: u32, write: EntryWrite) -> Result<bool, TreeFault>
         requires way { IsUnderWay D.Disk self.old.kernel self.old.calls_left }
         requires within { write.place < most_entries }
         ensures goes { OnOk result (Goes D.Disk
