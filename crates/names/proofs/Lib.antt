@@ -30,3 +30,4 @@ pub mod Transacting
 pub mod FileMakes
 pub mod Entering
 pub mod Leading
+pub mod Leaving

@@ -1,6 +1,6 @@
 use Rattle.names.specs.Removing.{IsUnremovedIn, RemovesAt}
 use Rattle.names.specs.Walks.{IsUndoneIn}
-use Rattle.names.proofs.Transacting.{whole_leaves}
+use Rattle.names.proofs.Transacting.{happens_ok, whole_happens, whole_leaves}
 use Rattle.names.proofs.tree.Tree.remove_named.Goals as goal
 
 pub returns-in_err-committed-clause-leaves : goal.returns-in_err-committed-clause-leaves
@@ -16,3 +16,6 @@ returns-in-Ok-clause-leaves g c = λ some.
     c.remove_at.new.self.kernel c.committed.new.self.kernel c.args.self.now.calls_left c.begun.new.self.calls_left c.in_ok-removed.removed (c.requires.ready some)
     c.in_ok-begun.ensures.begins c.begun.ensures.leaves c.in_ok-removed.ensures.goes.same c.remove_at.ensures.stays c.in_ok-removed.ensures.tree
     c.in_ok-removed.ensures.removed c.committed.ensures.leaves
+
+pub returns-in-Ok-clause-removes : goal.returns-in-Ok-clause-removes
+returns-in-Ok-clause-removes g c = ?
