@@ -70,3 +70,17 @@ pub record AtLast {T : Type 0} (change : ℕ → List ℕ → T → Files → Fi
   pub name : List ℕ
   pub led : LeadsIn names files from name
   pub made_is : change from name made files new
+
+-- names lead to a directory of these bytes, and no file changes
+pub record Lists (names : List (List ℕ)) (bytes : List ℕ) (files new : Files) : Type 0 where
+  pub same : new ≡ files
+  pub number : ℕ
+  pub led : walked files root names ≡ Ok number
+  pub directory : IsDirectory files number
+  pub bytes_are : bytes ≡ directory_in files number
+
+-- why they lead to none
+abbrev pub IsUnlisted : List (List ℕ) → Files → Refusal → Type 0
+IsUnlisted names files cause = (walked files root names ≡ Err cause)
+    ⊎ ((cause ≡ NotADirectory) × ((number : ℕ) × (walked files root names ≡ Ok number)
+    × (IsDirectory files number → ⊥)))
