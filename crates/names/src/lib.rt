@@ -22,11 +22,13 @@ mod asking;
 mod looking;
 mod making;
 mod removing;
+mod rooting;
 mod tree;
 pub mod tree_laws;
 
 pub use entries::{
-    DIRECTORY, DIRECTORY_SIZE, ENTRY_SIZE, EntryWrite, LinkFault, link, lookup, unlink,
+    DIRECTORY, DIRECTORY_SIZE, ENTRY_SIZE, EntryWrite, LinkFault, link, lookup, new_directory,
+    unlink,
 };
 pub use fault::FilesFault;
 pub use files::NamedFiles;
