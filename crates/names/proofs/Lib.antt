@@ -31,3 +31,4 @@ pub mod FileMakes
 pub mod Entering
 pub mod Leading
 pub mod Leaving
+pub mod RootMaking

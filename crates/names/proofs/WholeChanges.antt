@@ -50,7 +50,7 @@ makes_file_whole form files made new from i kind name write reply tree is down p
     (linked_new form files made new from i name (empty_file kind) write reply tree is unnamed links below h)
 
 -- the two entries of a new directory were written
-filled_by : (form : Form) (files made filled : Files) (number parent : ℕ) → IsUnnamed files made number (empty_file 1) →
+pub filled_by : (form : Form) (files made filled : Files) (number parent : ℕ) → IsUnnamed files made number (empty_file 1) →
     after form made (Write number 0 (new_directory number parent)) (Wrote 32) ≡ Some filled → IsUnnamed files filled number (directory_file number parent)
 filled_by form files made filled i parent unnamed h =
     ⊎_elim (λ (done : (Wrote 32 ≡ Wrote 32) × IsUnnamed files filled i (directory_file i parent)). done.1)

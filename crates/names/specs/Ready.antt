@@ -1,5 +1,5 @@
 -- A tree of directories on a kernel's disk, and what a transaction makes of it.
-use Rattle.std.specs.Prelude.{◌≡◌, ◌≢◌, ◌⊎◌, ℕ, ◌+◌, ◌^◌, ◌<◌, ◌≤◌, ◌==◌, Bool, false, IsTrue, List, Some, None, Result, Ok, Err}
+use Rattle.std.specs.Prelude.{◌≡◌, ◌≢◌, ◌⊎◌, ⊤, ℕ, ◌+◌, ◌^◌, ◌<◌, ◌≤◌, ◌==◌, Bool, false, IsTrue, List, Option, Some, None, Result, Ok, Err}
 use Rattle.blocks.specs.Disk.{Image, LeavesOnly}
 use Rattle.blocks.specs.declared.disk.Disk.{Ghosts}
 use Rattle.model.specs.Files.{Files, file_in, files_of}
@@ -38,6 +38,11 @@ HasNoFile files = (i : ℕ) → i ≢ root → file_in files i ≡ None
 pub record IsRootAlone (files : Files) : Type 0 where
   pub there : file_in files root ≡ Some (directory_file root root)
   pub none : HasNoFile files
+
+-- it was made where no file was, or a cause hindered it
+abbrev pub MakesRoot : Files → Files → Option Refusal → Type 0
+MakesRoot files new None = HasNoFile files → IsRootAlone new × IsTree new
+MakesRoot files new (Some cause) = ⊤
 
 -- What a stop in its making leaves of image x: recovery gives a sound image with the files of x, or
 -- with the root alone.

@@ -6,7 +6,7 @@ ghost use Rattle.calls.specs.Stopped.{StaysOver};
 ghost use Rattle.model.specs.Files.{files_of};
 ghost use Rattle.model.specs.Log.{recovered};
 ghost use Rattle.names.specs.Inside.{files_seen, Ends, Goes, IsUnderWay, StaysOn};
-ghost use Rattle.names.specs.Ready.{HasFilled, HasNoFile, IsIdle, IsReady, IsRootAlone, IsRootless, KeepsRoot};
+ghost use Rattle.names.specs.Ready.{HasFilled, HasNoFile, IsIdle, IsReady, IsRootAlone, IsRootless, KeepsRoot, MakesRoot, is_filled};
 ghost use Rattle.names.specs.Trees.{IsTree};
 ghost use Rattle.transactions.specs.Opening.{IsNotOpenedPair, IsOpenedPair};
 ghost use Rattle.transactions.specs.Transactions.{Rests};
@@ -81,9 +81,70 @@ impl<D: Disk> Tree<D> {
             self.calls_left = 0;
             return Err(TreeFault::Call(TransactionFault::NoMemory));
         };
-        match self.called(Op::Write(DIRECTORY, 0, bytes))? {
-            Reply::Wrote(count) => Ok(count == 32),
-            _ => Ok(false),
+        let reply = self.called(Op::Write(DIRECTORY, 0, bytes))?;
+        Ok(is_filled(&reply))
+    }
+
+    // Makes the root in the transaction under way. Why not, where it is not made.
+    fn root_made(&mut self, alloc: Global) -> Result<Option<Refusal>, TreeFault>
+        requires { IsUnderWay D.Disk self.old.kernel self.old.calls_left }
+        ensures goes { OnOk result (Goes D.Disk
+            self.old.kernel self.new.kernel self.new.calls_left) }
+        ensures made { IfOk result (MakesRoot
+            (files_seen D.image self.old.kernel) (files_seen D.image self.new.kernel)) }
+        ensures stays { StaysOn D.Disk self.old.kernel self.new.kernel }
+        ensures ends { IfErr result (Ends D.Disk
+            self.old.kernel self.new.kernel self.new.calls_left) }
+    {
+        let Reply::Made(number) = self.called(Op::Create(1))? else {
+            return Ok(Some(Refusal::NoNumber));
+        };
+        if number != DIRECTORY {
+            return Ok(Some(Refusal::NoNumber));
         }
+        if self.filled(alloc)? {
+            Ok(None)
+        } else {
+            Ok(Some(Refusal::NoBlock))
+        }
+    }
+
+    /// Makes the root directory on a disk that has no file. Behind a refusal nothing of it is kept, and
+    /// no other call is made.
+    ///
+    /// # Errors
+    ///
+    /// - `Refused`: `NoNumber` where number 1 was not given, `NoBlock` where no block is free.
+    /// - `Call`, `NoCall`: as every call of a tree.
+    pub fn make_root(&mut self, alloc: Global) -> Result<(), TreeFault>
+        requires idle { IsIdle D.Disk self.old.kernel self.old.calls_left }
+        requires none { HasNoFile (files_of (image_on D.image self.old.kernel)) }
+        ensures ready { OnOk result (IsReady D.Disk self.new.kernel self.new.calls_left) }
+        ensures root { OnOk result (IsRootAlone (files_of (image_on D.image self.new.kernel))) }
+        ensures refused { IfErr result (IsRootless D.Disk self.old.kernel self.new.kernel) }
+        ensures leaves { 0 < self.old.calls_left → LeavesOnly D.moment D.leaves
+            self.old.kernel.store.volume.device self.new.kernel.store.volume.device
+            (KeepsRoot (image_on D.image self.old.kernel)) }
+        ensures stays { StaysOver D.Disk self.old.kernel self.new.kernel }
+    {
+        if self.calls_left == 0 {
+            return Err(TreeFault::NoCall);
+        }
+        self.begun_idle(alloc)?;
+        if let Some(refusal) = self.root_made(alloc)? {
+            self.calls_left = 0;
+            return Err(TreeFault::Refused(refusal));
+        }
+        self.committed()
+    }
+}
+
+// Whether the two entries of a new directory were written.
+fn is_filled(reply: &Reply) -> bool
+    ensures { result ≡ is_filled reply.now }
+{
+    match reply {
+        Reply::Wrote(count) => *count == 32,
+        _ => false,
     }
 }
