@@ -39,11 +39,11 @@ reads_directory image k m n kind size bytes told read is_told is_read looks read
 
 -- a write of an entry that is answered as done
 pub writes_entry : {D : Type 0} (image : D → Image) (k m : Plain D) (write : EntryWrite) (op : Op) (reply : Reply) (count : ℕ) →
-    op ≡ operation_of write → reply ≡ Wrote count → count ≡ 16 → length write.entry ≡ 16 → Calls image op k m reply →
+    op ≡ operation_of 1 write → reply ≡ Wrote count → count ≡ 16 → length write.entry ≡ 16 → Calls image op k m reply →
     WritesEntry write (image_on image k) (image_on image m)
 writes_entry image k m write op reply count is_op is_reply all size calls =
     let as_op = subst (λ (o : Op). Calls image o k m reply) is_op calls in
-    let done = subst (λ (r : Reply). Calls image (operation_of write) k m r) (is_reply ∙ ap Wrote all) as_op in
+    let done = subst (λ (r : Reply). Calls image (operation_of 1 write) k m r) (is_reply ∙ ap Wrote all) as_op in
     let (file, was, made) = written_whole (form_of (image_on image k)) (files_of (image_on image k)) (files_of (image_on image m)) write.place write.entry size done.files in
     record {
       file = file;
@@ -54,7 +54,7 @@ writes_entry image k m write op reply count is_op is_reply all size calls =
 
 -- one that isn't changes no file
 pub short_keeps : {D : Type 0} (image : D → Image) (k m : Plain D) (write : EntryWrite) (op : Op) (reply : Reply) →
-    op ≡ operation_of write → reply ≢ Wrote 16 → length write.entry ≡ 16 → Calls image op k m reply →
+    op ≡ operation_of 1 write → reply ≢ Wrote 16 → length write.entry ≡ 16 → Calls image op k m reply →
     files_of (image_on image m) ≡ files_of (image_on image k)
 short_keeps image k m write op reply is_op short size calls =
     let as_op = subst (λ (o : Op). Calls image o k m reply) is_op calls in

@@ -13,9 +13,9 @@ use Rattle.names.proofs.Chunks.{length-entries_of, puts_entry}
 use Rattle.names.proofs.EntryBytes.{length-entry_bytes, name_in-entry_bytes, number_in-entry_bytes, is_for-entry_bytes, is_for-other, name_of_entry, is_for-free, zeroes_free}
 
 -- a place for a new entry: it is free, or behind the last
-record HasRoom (es : List (List ℕ)) (place : ℕ) : Type 0 where
-  low : place ≤ length es
-  free : place < length es → is_free (get_or es place []) ≡ true
+pub record HasRoom (es : List (List ℕ)) (place : ℕ) : Type 0 where
+  pub low : place ≤ length es
+  pub free : place < length es → is_free (get_or es place []) ≡ true
 
 room_by : (es : List (List ℕ)) (o : Option ℕ) → position is_free es ≡ o → HasRoom es (unwrap_or o (length es))
 room_by es None e = record { low = omega arith; free = λ h. absurd (omega arith) }
@@ -24,7 +24,7 @@ room_by es (Some k) e =
     let within : k < length es = at.within in
     record { low = omega arith; free = λ h. at.passes }
 
-link_room : (bytes name : List ℕ) (number : ℕ) (write : EntryWrite) → Links bytes name number write → HasRoom (entries_of bytes) write.place
+pub link_room : (bytes name : List ℕ) (number : ℕ) (write : EntryWrite) → Links bytes name number write → HasRoom (entries_of bytes) write.place
 link_room bytes name number write links =
     subst (λ (k : ℕ). HasRoom (entries_of bytes) k) (sym links.place) (room_by (entries_of bytes) (position is_free (entries_of bytes)) refl)
 
@@ -86,10 +86,10 @@ pub lookup_absent : (bytes name : List ℕ) → place_of bytes name ≡ None →
 unfolding lookup
 lookup_absent bytes name none = ap (λ (o : Option ℕ). option_map (λ (i : ℕ). number_in (get_or (entries_of bytes) i [])) o) none
 
-unlink_stands : (bytes name : List ℕ) (write : EntryWrite) → Unlinks bytes name write → StandsAt (is_for name) (entries_of bytes) write.place
+pub unlink_stands : (bytes name : List ℕ) (write : EntryWrite) → Unlinks bytes name write → StandsAt (is_for name) (entries_of bytes) write.place
 unlink_stands bytes name write unlinks = stands_at (is_for name) (entries_of bytes) write.place unlinks.place
 
-unlink_puts : (bytes name : List ℕ) (write : EntryWrite) → Unlinks bytes name write →
+pub unlink_puts : (bytes name : List ℕ) (write : EntryWrite) → Unlinks bytes name write →
     Puts (entries_of bytes) (entries_of (written bytes write)) write.place write.entry
 unlink_puts bytes name write unlinks =
     let within : write.place < length (entries_of bytes) = (unlink_stands bytes name write unlinks).within in

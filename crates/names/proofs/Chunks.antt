@@ -41,7 +41,7 @@ range_same xs ys i j in_xs in_ys each =
     same_lists (slice_range xs i j) (slice_range ys i j) (omega arith)
     (λ k d below. get_or-between xs i j k d (omega arith) ∙ each (i + k) d (omega arith) (omega arith) ∙ sym (get_or-between ys i j k d (omega arith)))
 
-length-written : (old : List ℕ) (at : ℕ) (entry : List ℕ) → at ≤ length old → length entry ≡ 16 →
+pub length-written : (old : List ℕ) (at : ℕ) (entry : List ℕ) → at ≤ length old → length entry ≡ 16 →
     length (overwritten old at entry) ≡ at + 16 + (length old - (at + 16))
 length-written old at entry h size =
     omega (

@@ -31,12 +31,12 @@ use Rattle.names.specs.Lemmas.Writes.{nothing_written, whole_entry}
 
 -- ---- what an operation makes of the files
 
-at_cases : (files new : Files) (i : ℕ) (o : Option File) (op : Op) (reply : Reply) → after_at files i o op reply ≡ Some new →
+pub at_cases : (files new : Files) (i : ℕ) (o : Option File) (op : Op) (reply : Reply) → after_at files i o op reply ≡ Some new →
     (file : File) × (o ≡ Some file) × (after_on files i file op reply ≡ Some new)
 at_cases files new i None op reply h = absurd (cc h)
 at_cases files new i (Some file) op reply h = (file, refl, h)
 
-write_on : (files new : Files) (i : ℕ) (file : File) (j off : ℕ) (bytes : List ℕ) (reply : Reply) →
+pub write_on : (files new : Files) (i : ℕ) (file : File) (j off : ℕ) (bytes : List ℕ) (reply : Reply) →
     after_on files i file (Write j off bytes) reply ≡ Some new →
     (k : ℕ) × (may_have_written (length file.bytes) off (length bytes) k ≡ true)
     × (new ≡ set files i (with_bytes file (overwritten file.bytes off (take k bytes))))
@@ -46,22 +46,22 @@ write_on files new i file j off bytes (Wrote k) h =
     (k, both.0, both.1)
 write_on files new i file j off bytes reply h = absurd (cc h)
 
-read_on : (files new : Files) (i : ℕ) (file : File) (j off n : ℕ) (reply : Reply) → after_on files i file (Read j off n) reply ≡ Some new →
+pub read_on : (files new : Files) (i : ℕ) (file : File) (j off n : ℕ) (reply : Reply) → after_on files i file (Read j off n) reply ≡ Some new →
     new ≡ files
 read_on files new i file j off n (Bytes bytes) h = (where_true_some _ files new h).1
 read_on files new i file j off n reply h = absurd (cc h)
 
-trunc_on : (files new : Files) (i : ℕ) (file : File) (j : ℕ) (reply : Reply) → after_on files i file (Trunc j) reply ≡ Some new →
+pub trunc_on : (files new : Files) (i : ℕ) (file : File) (j : ℕ) (reply : Reply) → after_on files i file (Trunc j) reply ≡ Some new →
     new ≡ set files i (with_bytes file [])
 trunc_on files new i file j Done h = (where_true_some true (set files i (with_bytes file [])) new h).1
 trunc_on files new i file j reply h = absurd (cc h)
 
-remove_on : (files new : Files) (i : ℕ) (file : File) (j : ℕ) (reply : Reply) → after_on files i file (Remove j) reply ≡ Some new →
+pub remove_on : (files new : Files) (i : ℕ) (file : File) (j : ℕ) (reply : Reply) → after_on files i file (Remove j) reply ≡ Some new →
     new ≡ set files i None
 remove_on files new i file j Done h = (where_true_some true (set files i None) new h).1
 remove_on files new i file j reply h = absurd (cc h)
 
-stat_on : (files new : Files) (i : ℕ) (file : File) (j : ℕ) (reply : Reply) → after_on files i file (Stat j) reply ≡ Some new →
+pub stat_on : (files new : Files) (i : ℕ) (file : File) (j : ℕ) (reply : Reply) → after_on files i file (Stat j) reply ≡ Some new →
     new ≡ files
 stat_on files new i file j (StatOf kind size) h = (where_true_some _ files new h).1
 stat_on files new i file j reply h = absurd (cc h)
@@ -117,7 +117,7 @@ begins_within form files d off bytes is h =
     (subst (λ (o : Option File). write_refusal form o off (length bytes) ≡ None) is later.1) in
     ltb-false (length d.bytes) off here.0
 
-all_written : (old : List ℕ) (at k : ℕ) (entry : List ℕ) → length entry ≡ 16 → k ≡ 16 → overwritten old at (take k entry) ≡ overwritten old at entry
+pub all_written : (old : List ℕ) (at k : ℕ) (entry : List ℕ) → length entry ≡ 16 → k ≡ 16 → overwritten old at (take k entry) ≡ overwritten old at entry
 all_written old at k entry size all =
     ap (λ (l : List ℕ). overwritten old at l) (ap (λ (i : ℕ). take i entry) all ∙ take_all 16 entry (omega arith))
 

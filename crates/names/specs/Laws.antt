@@ -62,7 +62,7 @@ pub record HasLinked (opening : Image) (journal : List Entry) (c : ℕ) (name : 
   -- what it wrote
   pub write : EntryWrite
   pub links : Links directory.bytes name number write
-  pub op : link.op ≡ operation_of write
+  pub op : link.op ≡ operation_of directory_number write
   pub reply : link.reply ≡ Some (Wrote entry_size)
   pub spared : AreSparing write.place name later
 

@@ -1,6 +1,17 @@
 pub mod Entries
 pub mod Names
+pub mod Paths
+pub mod Inside
+pub mod Ready
+pub mod Walks
+pub mod Making
+pub mod Removing
 pub mod Writes
+pub mod Trees
+pub mod TreeChanges
+pub mod TreeLaws
+pub mod TreeMeaning
+pub mod WholeChanges
 pub mod Laws
 pub mod Lemmas
 pub mod NamedFiles

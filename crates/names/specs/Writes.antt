@@ -12,9 +12,9 @@ use Rattle.names.specs.Entries.{entry_size, name_size, directory_size, entries_o
 abbrev pub directory_number : ℕ
 directory_number = 1
 
--- the operation that makes the write
-abbrev pub operation_of : EntryWrite → Op
-operation_of write = Write directory_number (entry_size * write.place) write.entry
+-- the operation that makes the write in the directory of a number
+abbrev pub operation_of : ℕ → EntryWrite → Op
+operation_of directory write = Write directory (entry_size * write.place) write.entry
 
 -- the directory's bytes after the write
 abbrev pub written : List ℕ → EntryWrite → List ℕ
@@ -41,6 +41,14 @@ pub record Links (bytes name : List ℕ) (number : ℕ) (write : EntryWrite) : T
 pub record Unlinks (bytes name : List ℕ) (write : EntryWrite) : Type 0 where
   pub place : place_of bytes name ≡ Some write.place
   pub entry : write.entry ≡ replicate entry_size 0
+
+-- the write gives the first entry of a name another number
+pub record Repoints (bytes name : List ℕ) (number : ℕ) (write : EntryWrite) : Type 0 where
+  pub place : place_of bytes name ≡ Some write.place
+  pub entry : write.entry ≡ entry_bytes number name
+  pub used : 0 < number
+  pub fits : number < 2 ^ 16
+  pub size : length name ≡ name_size
 
 -- Every other name leads where it led before, and no name that stood once at most stands twice.
 pub record KeepsOthers (name old new : List ℕ) : Type 0 where

@@ -199,7 +199,7 @@ impl<D: Disk + Drop> NamedFiles<D> {
         ensures refused { OnErr result (KeepsOrFails D.Disk
             self.old.kernel.store.volume.device self.new.kernel.store.volume.device) }
     {
-        let Reply::Wrote(count) = self.called(write.operation(alloc)?)? else {
+        let Reply::Wrote(count) = self.called(write.operation(alloc, DIRECTORY)?)? else {
             return Err(FilesFault::NotWritten);
         };
         if count as usize != ENTRY_SIZE {

@@ -16,10 +16,23 @@ mod files;
 pub mod kernel_laws;
 pub mod laws;
 mod name;
+mod path;
+mod refusal;
+mod asking;
+mod looking;
+mod making;
+mod removing;
+mod rooting;
+mod tree;
+pub mod tree_laws;
 
 pub use entries::{
-    DIRECTORY, DIRECTORY_SIZE, ENTRY_SIZE, EntryWrite, LinkFault, link, lookup, unlink,
+    DIRECTORY, DIRECTORY_SIZE, ENTRY_SIZE, EntryWrite, LinkFault, link, lookup, new_directory,
+    unlink,
 };
 pub use fault::FilesFault;
 pub use files::NamedFiles;
 pub use name::{NAME_SIZE, Name, NameFault};
+pub use path::{PathFault, names_of};
+pub use refusal::{Refusal, TreeFault};
+pub use tree::Tree;

@@ -2,6 +2,7 @@
 ghost use Rattle.std.specs.Prelude.{◌≡◌, ◌<◌, [], length, Contains, OnOk, IfOk, IfErr};
 ghost use Rattle.names.specs.Entries.{name_size, padded};
 ghost use Rattle.names.specs.Names.{IsName, IsNameCause};
+ghost use Rattle.names.specs.Trees.{parent_name, self_name};
 
 use std::marker::Model;
 use thiserror::Error;
@@ -59,6 +60,24 @@ impl Name {
         let mut bytes = [0; NAME_SIZE];
         bytes[..text.len()].copy_from_slice(text);
         Ok(Name { bytes })
+    }
+
+    /// The name `.`, by which a directory has itself.
+    pub fn own() -> Name
+        ensures { result ≡ self_name }
+    {
+        Name {
+            bytes: [46, 0, 0, 0, 0, 0, 0, 0, 0, 0, 0, 0, 0, 0],
+        }
+    }
+
+    /// The name `..`, by which a directory has its parent.
+    pub fn parent() -> Name
+        ensures { result ≡ parent_name }
+    {
+        Name {
+            bytes: [46, 46, 0, 0, 0, 0, 0, 0, 0, 0, 0, 0, 0, 0],
+        }
     }
 
     /// The name with zeroes behind it: 14 bytes.

@@ -1,0 +1,63 @@
+//! What changes of names make of a tree of directories, the contracts of functions that do nothing.
+ghost use Rattle.names.specs.TreeLaws.{AddingKeeps, CreateMakes, DroppingKeeps, FilesAreNew, KeepingKeeps, LinkAdds, LinkLeads, LinkMoves, MovingKeeps, PlainKeeps, ReadsWhole, RelinkLeads, RemoveDrops, RemoveUndoes, RootIsTree, UnlinkLeads, UnlinkMoves, WriteFills};
+ghost use Rattle.names.specs.TreeMeaning.{DirectoriesAreTidy, EntriesLead, NoHalfIsTree, NumbersStandOnce, StepsLead};
+ghost use Rattle.names.specs.WholeChanges.{MakesDirectoryWhole, MakesFileWhole, MakesRootWhole, MovesFileWhole, RemovesFileWhole, RenamesFileWhole};
+
+/// What one operation on a directory, with its reply, makes of where its names lead. A read brings
+/// the whole directory. The write of an entry is whole, unless it is behind the last entry and no
+/// block is free: then nothing is written. A file that was made and has no name yet is removed again
+/// without a trace. What is done to files that are no directories changes no name.
+pub fn operations_lead()
+    ensures read { ReadsWhole }
+    ensures linked { LinkLeads }
+    ensures unlinked { UnlinkLeads }
+    ensures linked_again { RelinkLeads }
+    ensures made { CreateMakes }
+    ensures filled { WriteFills }
+    ensures undone { RemoveUndoes }
+    ensures plain { PlainKeeps }
+{}
+
+/// What two or three operations come to: a file was added under a name, was dropped with its name, or
+/// has another name, and nothing else changed.
+pub fn operations_change()
+    ensures added { LinkAdds }
+    ensures dropped { RemoveDrops }
+    ensures moved { LinkMoves }
+    ensures moved_behind { UnlinkMoves }
+    ensures fresh { FilesAreNew }
+{}
+
+/// In a tree each path leads to a file, and each file has one path. The root alone is one. It stays
+/// one where a file or an empty directory is added under a name, where a file or an empty directory is
+/// dropped with its name, where a file has another name in any directory, or a directory in its own,
+/// and where files that are no directories are written.
+pub fn trees_stay()
+    ensures begun { RootIsTree }
+    ensures added { AddingKeeps }
+    ensures dropped { DroppingKeeps }
+    ensures moved { MovingKeeps }
+    ensures kept { KeepingKeeps }
+{}
+
+/// The operations of each whole change, with their replies, leave a tree, in which just that changed.
+/// An unlink, a removal and a link into a freed entry are not refused.
+pub fn changes_leave_trees()
+    ensures root { MakesRootWhole }
+    ensures file { MakesFileWhole }
+    ensures directory { MakesDirectoryWhole }
+    ensures removed { RemovesFileWhole }
+    ensures renamed { RenamesFileWhole }
+    ensures moved { MovesFileWhole }
+{}
+
+/// In a tree each directory has its own two entries, each other used entry's name leads to a file, and
+/// no number stands in two of these. And one of the operations that make, remove or rename a file is
+/// never enough for a tree: they belong into one transaction.
+pub fn trees_mean()
+    ensures tidy { DirectoriesAreTidy }
+    ensures steps { StepsLead }
+    ensures entries { EntriesLead }
+    ensures once { NumbersStandOnce }
+    ensures halves { NoHalfIsTree }
+{}
