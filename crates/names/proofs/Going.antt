@@ -132,7 +132,7 @@ module _ {D N : Type 0} (disk : Ghosts D N) where
   commit_ends k m left less one way tree rests commits =
       let same : files_of (image_on disk.image m) ≡ files_seen disk.image k = commits.files (files_seen disk.image k) way.files in
       record {
-        ready = record { rests = rests; few = omega (arith, commits.one_more, way.few); tree = subst (λ (f : Files). IsTree f) (sym same) tree };
+        ready = record { rests = rests; few = omega (arith, commits.one_more, way.few); sound = commits.sound; tree = subst (λ (f : Files). IsTree f) (sym same) tree };
         files = same;
       }
 
