@@ -1,6 +1,6 @@
 -- A change of a tree in one transaction, from the promises of its parts.
-use Rattle.std.proofs.Common.{◌≡◌, ◌⊎◌, ℕ, ◌<◌, List, Result, Ok, Err, refl, sym, ap, subst, ◌∙◌, inl, inr, ⊎_elim, arith}
-use Rattle.blocks.specs.Disk.{Image, LeavesOnly}
+use Rattle.std.proofs.Common.{◌≡◌, ◌⊎◌, ℕ, List, Result, Ok, Err, sym, ap, subst, ◌∙◌, inl, inr, ⊎_elim, arith}
+use Rattle.blocks.specs.Disk.{Image}
 use Rattle.blocks.specs.declared.disk.Disk.{Ghosts}
 use Rattle.model.specs.Files.{Files, files_of}
 use Rattle.model.specs.Log.{recovered}
@@ -11,7 +11,7 @@ use Rattle.transactions.specs.Transactions.{KeepsEither, KeepsFiles}
 use Rattle.names.specs.declared.refusal.Refusal.{Refusal}
 use Rattle.names.specs.declared.refusal.TreeFault.{TreeFault}
 use Rattle.names.specs.declared.refusal.TreeFault.TheVariants.{Path, Refused, Call, NoCall}
-use Rattle.names.specs.Inside.{files_seen, Ends, Goes, LeavesFiles, Looks, StaysOn}
+use Rattle.names.specs.Inside.{files_seen, Ends, LeavesFiles, Looks, StaysOn}
 use Rattle.names.specs.Ready.{EndsOn, Happens, HasBegun, HasCommitted, IsReady, IsUnanswered, IsUndone, KeepsTree, LeavesEither, LeavesTree, MayGoOn}
 use Rattle.names.specs.Trees.{IsTree}
 use Rattle.names.specs.Walks.{walked, Finds, IsUnfound}

@@ -1,6 +1,6 @@
-use Rattle.std.proofs.Common.{sym, ap, subst}
+use Rattle.std.proofs.Common.{sym, subst}
 use Rattle.blocks.specs.Disk.{Image}
-use Rattle.model.specs.Files.{Files, files_of}
+use Rattle.model.specs.Files.{files_of}
 use Rattle.model.specs.Lemmas.Log.{recovered_empty}
 use Rattle.model.specs.Log.{recovered}
 use Rattle.names.specs.Trees.{IsTree}
