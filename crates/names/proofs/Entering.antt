@@ -1,9 +1,9 @@
 -- A file that was made gets its name, or none where no block is free.
-use Rattle.std.proofs.Common.{◌≡◌, ◌≢◌, ◌⊎◌, ℕ, ◌<◌, ◌≤◌, Bool, true, false, List, length, Option, Some, None, refl, sym, ap, subst, ◌∙◌, ⊎_elim, arith}
+use Rattle.std.proofs.Common.{◌≡◌, ◌⊎◌, ℕ, ◌<◌, ◌≤◌, Bool, true, false, List, length, Option, Some, None, sym, ap, subst, ◌∙◌, ⊎_elim, arith}
 use Rattle.model.specs.declared.types.image.Form.{Form}
 use Rattle.model.specs.declared.types.operations.Reply.{Reply}
 use Rattle.model.specs.declared.types.operations.Reply.TheVariants.{Wrote}
-use Rattle.model.specs.Files.{Files, file_in}
+use Rattle.model.specs.Files.{Files}
 use Rattle.model.specs.Operations.{after}
 use Rattle.names.specs.declared.entries.EntryWrite.{EntryWrite}
 use Rattle.blocks.specs.declared.disk.Disk.{Ghosts}
@@ -12,7 +12,7 @@ use Rattle.names.specs.Inside.{files_seen, form_seen}
 use Rattle.names.specs.Making.{is_entered, HasCreated, HasEntered, MakesIn, Uncreates}
 use Rattle.names.specs.Walks.{IsDirectoryFound}
 use Rattle.names.specs.TreeChanges.{empty_file, AddsName, IsUnnamed}
-use Rattle.names.specs.Trees.{directory_in, number_of, parent_name, self_name, IsDirectory, IsDown, IsTree}
+use Rattle.names.specs.Trees.{directory_in, number_of, IsDirectory, IsDown, IsTree}
 use Rattle.names.specs.Writes.{operation_of, Links}
 use Rattle.names.proofs.Adding.{adding_keeps}
 use Rattle.names.proofs.NewDirectory.{files_are_new}

@@ -1,8 +1,7 @@
 -- What a creation comes to.
-use Rattle.std.proofs.Common.{◌≡◌, ℕ, ◌<◌, ◌&&◌, ltb, length, set, refl, Option, Some, None, sym, arith}
+use Rattle.std.proofs.Common.{◌≡◌, ℕ, ◌<◌, ◌&&◌, ltb, length, set, refl, Some, sym}
 use Rattle.std.specs.Prelude.{is_none}
 use Rattle.std.proofs.lemmas.Bool.{and_parts, ltb-true}
-use Rattle.model.specs.declared.types.image.File.{File}
 use Rattle.model.specs.declared.types.image.Form.{Form}
 use Rattle.model.specs.declared.types.operations.Op.TheVariants.{Create}
 use Rattle.model.specs.declared.types.operations.Reply.{Reply}
@@ -11,7 +10,7 @@ use Rattle.model.specs.Files.{Files, file_in}
 use Rattle.model.specs.Lemmas.Runs.{where_true_some}
 use Rattle.model.specs.Operations.{after, after_create}
 use Rattle.names.specs.Making.{HasCreated}
-use Rattle.names.specs.TreeChanges.{empty_file, IsUnnamed}
+use Rattle.names.specs.TreeChanges.{empty_file}
 use Rattle.names.proofs.Unnamed.{create_makes}
 
 none_by : (files new : Files) (reply : Reply) → after_create files 2 reply ≡ Some new → ((i : ℕ) → reply ≡ Made i → ⊥) → new ≡ files

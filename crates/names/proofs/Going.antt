@@ -1,27 +1,25 @@
 -- Calls of a transaction, one after the other.
-use Rattle.std.proofs.Common.{◌≡◌, ℕ, ◌+◌, ◌<◌, ◌≤◌, ◌^◌, List, [], length, Option, Some, None, refl, sym, ap, subst, ◌∙◌, inl, inr, ⊎_elim, arith}
+use Rattle.std.proofs.Common.{◌≡◌, ℕ, ◌+◌, ◌≤◌, ◌^◌, List, [], length, Option, Some, sym, ap, subst, ◌∙◌, inl, inr, ⊎_elim, arith}
 use Rattle.std.specs.Prelude.{unwrap_or}
 use Rattle.blocks.specs.Disk.{Image, LeavesOnly, Rose}
 use Rattle.blocks.specs.Lemmas.Moments.{joined}
 use Rattle.blocks.specs.declared.disk.Disk.{Ghosts}
 use Rattle.model.specs.Files.{Files, files_of}
-use Rattle.model.specs.Journal.{replay}
-use Rattle.model.specs.Layout.{form_of}
-use Rattle.model.specs.Operations.{after}
-use Rattle.model.specs.declared.types.image.Form.{Form}
 use Rattle.model.specs.declared.types.operations.Op.{Op}
 use Rattle.model.specs.declared.types.operations.Reply.{Reply}
 use Rattle.calls.specs.Calls.{call_count, faults_on, image_on}
+use Rattle.calls.specs.Lemmas.Unshown.{unshown_renews}
 use Rattle.calls.specs.Stepping.{Plain}
+use Rattle.model.specs.Log.{recovered}
 use Rattle.calls.specs.Transactions.{Adds, Begins, Commits, HasFiles, IsInside, IsUnbegun, IsUncalled, IsUncommitted, KeepsEither, KeepsFiles, Rests}
-use Rattle.names.specs.Ready.{EndsOn, HasBegun, HasCommitted, LeavesEither}
+use Rattle.names.specs.Ready.{EndsOn, HasBegun, HasCommitted}
 use Rattle.names.specs.Trees.{IsTree}
 use Rattle.model.specs.declared.types.operations.Entry.{Entry}
 use Rattle.calls.specs.declared.transactions.fault.TransactionFault.{TransactionFault}
 use Rattle.calls.specs.declared.transactions.fault.TransactionFault.TheVariants as fault
 use Rattle.names.specs.declared.refusal.TreeFault.{TreeFault}
 use Rattle.names.specs.declared.refusal.TreeFault.TheVariants.{Path, Refused, Call, NoCall}
-use Rattle.names.specs.Inside.{files_seen, form_seen, Answers, Ends, Goes, IsBroken, IsUnderWay, LeavesFiles, Looks, StaysOn}
+use Rattle.names.specs.Inside.{files_seen, Answers, Ends, Goes, IsBroken, IsUnderWay, Looks, StaysOn}
 
 module _ {D N : Type 0} (disk : Ghosts D N) where
   -- a transaction sees the files that its kernel has
@@ -86,7 +84,6 @@ module _ {D N : Type 0} (disk : Ghosts D N) where
   broken_on k a m (Call (fault.Disk cause)) same faults why = record { is = why.is; rose = subst (λ (n : ℕ). Rose n (faults_on disk.fault_count m)) faults why.rose }
   broken_on k a m (Call fault.NoMemory) same faults why = record { image = why.image ∙ same; faults = why.faults ∙ faults }
   broken_on k a m (Call fault.NoRoom) same faults why = record { image = why.image ∙ same; faults = why.faults ∙ faults }
-  broken_on k a m (Call fault.NoBuffer) same faults why = record { image = why.image ∙ same; faults = why.faults ∙ faults }
   broken_on k a m NoCall same faults why = record { image = why.image ∙ same; faults = why.faults ∙ faults }
 
   pub ends_on : (k a m : Plain D) (left less none : ℕ) (cause : TreeFault) → IsUnderWay disk k left → Goes disk k a less → Ends disk a m none cause →
@@ -98,7 +95,6 @@ module _ {D N : Type 0} (disk : Ghosts D N) where
   call_broken op k m (fault.Disk cause) why = why
   call_broken op k m fault.NoMemory why = record { image = why.0.image; faults = why.1 }
   call_broken op k m fault.NoRoom why = record { image = ap (image_on disk.image) why.same; faults = ap (faults_on disk.fault_count) why.same }
-  call_broken op k m fault.NoBuffer why = record { image = why.0.image; faults = why.1 }
 
   -- ---- the beginning and the end
 
@@ -119,25 +115,23 @@ module _ {D N : Type 0} (disk : Ghosts D N) where
   begin_broken k m (fault.Disk cause) why = why
   begin_broken k m fault.NoMemory why = record { image = why.0.image; faults = why.1 }
   begin_broken k m fault.NoRoom why = absurd why
-  begin_broken k m fault.NoBuffer why = absurd why
 
   pub commit_broken : (k m : Plain D) (cause : TransactionFault) → IsUncommitted disk k m cause → IsBroken disk k m (Call cause)
   commit_broken k m (fault.Disk cause) why = why
   commit_broken k m fault.NoMemory why = absurd why
   commit_broken k m fault.NoRoom why = absurd why
-  commit_broken k m fault.NoBuffer why = absurd why
 
   pub commit_ends : (k m : Plain D) (left less : ℕ) → less + 1 ≡ left → IsUnderWay disk k left → IsTree (files_seen disk.image k) → Rests disk.fault_count m →
       Commits disk.image k m → HasCommitted disk k m less
   commit_ends k m left less one way tree rests commits =
       let same : files_of (image_on disk.image m) ≡ files_seen disk.image k = commits.files (files_seen disk.image k) way.files in
       record {
-        ready = record { rests = rests; few = omega (arith, commits.one_more, way.few); tree = subst (λ (f : Files). IsTree f) (sym same) tree };
+        ready = record { rests = rests; few = omega (arith, commits.one_more, way.few); sound = commits.sound; tree = subst (λ (f : Files). IsTree f) (sym same) tree };
         files = same;
       }
 
   either : (x : Image) (made : Files) (z : Image) → KeepsFiles x z → KeepsEither x made z
-  either x made z keeps = record { log = keeps.log; sound = keeps.sound; files = inl keeps.files }
+  either x made z keeps = record { log = keeps.log; sound = keeps.sound; files = inl keeps.files; unshown = unshown_renews x (recovered z) keeps.unshown }
 
   pub wider : (a b : D) (P Q : Image → Type 0) → ((z : Image) → P z → Q z) → LeavesOnly disk.moment disk.leaves a b P → LeavesOnly disk.moment disk.leaves a b Q
   wider a b P Q less all = record {

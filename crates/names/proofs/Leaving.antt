@@ -1,5 +1,5 @@
 -- A file goes from a tree with its name.
-use Rattle.std.proofs.Common.{◌≡◌, ◌≢◌, ℕ, ◌<◌, ◌≤◌, Bool, List, Option, Some, None, refl, sym, ap, subst, ◌∙◌, ⊎_elim}
+use Rattle.std.proofs.Common.{◌≡◌, ◌≢◌, ℕ, Bool, List, Option, Some, None, refl, sym, ap, subst, ◌∙◌, ⊎_elim}
 use Rattle.std.proofs.lemmas.Bool.{cases_eq}
 use Rattle.blocks.specs.declared.disk.Disk.{Ghosts}
 use Rattle.model.specs.declared.types.image.Form.{Form}
@@ -14,7 +14,7 @@ use Rattle.names.specs.Entries.{lookup}
 use Rattle.names.specs.Inside.{files_seen, form_seen, Answers}
 use Rattle.names.specs.Making.{HasEntered}
 use Rattle.names.specs.TreeChanges.{DropsName}
-use Rattle.names.specs.Trees.{directory_in, number_of, parent_name, self_name, IsDirectory, IsDown, IsTree}
+use Rattle.names.specs.Trees.{directory_in, number_of, parent_name, IsDirectory, IsDown, IsTree}
 use Rattle.names.specs.Walks.{IsDirectoryFound}
 use Rattle.names.specs.Writes.{operation_of, Unlinks}
 use Rattle.names.proofs.Below.{parents_decide}
@@ -43,7 +43,7 @@ pub down_file : (files : Files) (from number : ℕ) (name : List ℕ) → IsTree
 down_file files from number name tree is led plain =
     let of = (directories_are_tidy files from tree is).1 in (
       (λ own. let both : Some number ≡ Some from = sym led ∙ ap (number_of files from) own ∙ of.1.own in
-      let same : number ≡ from = cc both in plain (subst (λ (i : ℕ). IsDirectory files i) (sym same) is)),
+          let same : number ≡ from = cc both in plain (subst (λ (i : ℕ). IsDirectory files i) (sym same) is)),
       (λ up. plain (parent_is files from number tree is (ap (number_of files from) (sym up) ∙ led))),
     )
 

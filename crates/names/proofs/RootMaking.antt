@@ -1,15 +1,15 @@
 -- The root is made on a disk without files.
-use Rattle.std.proofs.Common.{◌≡◌, ◌≢◌, ℕ, Bool, true, false, eqb, Option, Some, None, Result, refl, sym, ap, subst, ◌∙◌, inl, inr, ⊎_elim}
+use Rattle.std.proofs.Common.{◌≡◌, ℕ, Bool, true, Option, Some, None, Result, refl, sym, ap, subst, ◌∙◌, inl, inr, ⊎_elim}
 use Rattle.std.specs.Prelude.{OnOk}
 use Rattle.std.proofs.lemmas.Bool.{eqb-true}
 use Rattle.std.proofs.lemmas.Result.{on_ok_weaker}
-use Rattle.blocks.specs.Disk.{Image, LeavesOnly}
+use Rattle.blocks.specs.Disk.{LeavesOnly}
 use Rattle.blocks.specs.declared.disk.Disk.{Ghosts}
 use Rattle.model.specs.declared.types.image.Form.{Form}
 use Rattle.model.specs.declared.types.operations.Op.TheVariants.{Create, Write}
 use Rattle.model.specs.declared.types.operations.Reply.{Reply}
 use Rattle.model.specs.declared.types.operations.Reply.TheVariants.{Made, Wrote}
-use Rattle.model.specs.Files.{Files, file_in, files_of}
+use Rattle.model.specs.Files.{Files, files_of}
 use Rattle.model.specs.Layout.{form_of}
 use Rattle.model.specs.Log.{recovered}
 use Rattle.model.specs.Operations.{after}
@@ -18,7 +18,7 @@ use Rattle.calls.specs.Stepping.{Plain}
 use Rattle.calls.specs.Transactions.{KeepsEither}
 use Rattle.names.specs.declared.refusal.Refusal.{Refusal}
 use Rattle.names.specs.declared.refusal.TreeFault.{TreeFault}
-use Rattle.names.specs.Inside.{files_seen, form_seen, Answers, Goes, LeavesFiles, StaysOn}
+use Rattle.names.specs.Inside.{files_seen, form_seen, Answers, LeavesFiles, StaysOn}
 use Rattle.names.specs.Ready.{is_filled, EndsOn, HasBegun, HasCommitted, HasFilled, HasNoFile, IsRootAlone, KeepsRoot, LeavesEither, MakesRoot}
 use Rattle.names.specs.Trees.{new_directory, IsTree}
 use Rattle.names.proofs.Going.{wider}

@@ -1,6 +1,6 @@
 -- A change of a tree in one transaction, from the promises of its parts.
-use Rattle.std.proofs.Common.{◌≡◌, ◌⊎◌, ℕ, ◌<◌, List, Result, Ok, Err, refl, sym, ap, subst, ◌∙◌, inl, inr, ⊎_elim, arith}
-use Rattle.blocks.specs.Disk.{Image, LeavesOnly}
+use Rattle.std.proofs.Common.{◌≡◌, ◌⊎◌, ℕ, List, Result, Ok, Err, sym, ap, subst, ◌∙◌, inl, inr, ⊎_elim, arith}
+use Rattle.blocks.specs.Disk.{Image}
 use Rattle.blocks.specs.declared.disk.Disk.{Ghosts}
 use Rattle.model.specs.Files.{Files, files_of}
 use Rattle.model.specs.Log.{recovered}
@@ -11,9 +11,10 @@ use Rattle.calls.specs.Transactions.{KeepsEither, KeepsFiles}
 use Rattle.names.specs.declared.refusal.Refusal.{Refusal}
 use Rattle.names.specs.declared.refusal.TreeFault.{TreeFault}
 use Rattle.names.specs.declared.refusal.TreeFault.TheVariants.{Path, Refused, Call, NoCall}
-use Rattle.names.specs.Inside.{files_seen, Ends, Goes, LeavesFiles, StaysOn}
+use Rattle.names.specs.Inside.{files_seen, Ends, LeavesFiles, Looks, StaysOn}
 use Rattle.names.specs.Ready.{EndsOn, Happens, HasBegun, HasCommitted, IsReady, IsUnanswered, IsUndone, KeepsTree, LeavesEither, LeavesTree, MayGoOn}
 use Rattle.names.specs.Trees.{IsTree}
+use Rattle.names.specs.Walks.{walked, Finds, IsUnfound}
 use Rattle.names.proofs.Going.{broken_on, wider}
 
 module _ {D N : Type 0} (disk : Ghosts D N) where
@@ -110,3 +111,14 @@ module _ {D N : Type 0} (disk : Ghosts D N) where
 
     pub happens_err : (f g : Files) (r : Result T Refusal) (cause : Refusal) → r ≡ Err cause → Happens change why f g r → (g ≡ f) × why f cause
     happens_err f g r cause is happens = subst (λ (s : Result T Refusal). Happens change why f g s) is happens
+
+-- names lead to a number, or nowhere
+pub found_happens : (names : List (List ℕ)) (files new : Files) (r : Result ℕ Refusal) → new ≡ files → r ≡ walked files 1 names →
+    Happens (Finds names) (IsUnfound names) files new r
+found_happens names files new (Ok number) same led = record { same = same; led = sym led }
+found_happens names files new (Err cause) same led = (same, sym led)
+
+-- a transaction of looks leaves a tree
+pub looked_tree : {D N : Type 0} (disk : Ghosts D N) (k a b : Plain D) (left less rest : ℕ) → IsReady disk k left → HasBegun disk k a less → Looks disk a b rest →
+    IsTree (files_seen disk.image b)
+looked_tree disk k a b left less rest ready begun looks = subst (λ (f : Files). IsTree f) (sym (looks.files ∙ begun.files)) ready.tree

@@ -23,6 +23,7 @@ use Rattle.names.specs.TreeChanges.{directory_file}
 pub record IsReady {D N : Type 0} (disk : Ghosts D N) (k : Plain D) (left : ℕ) : Type 0 where
   pub rests : Rests disk.fault_count k
   pub few : call_count k + left ≤ 2 ^ 32
+  pub sound : IsSound (image_on disk.image k)
   pub tree : IsTree (files_of (image_on disk.image k))
 
 -- the same of files that may be no tree

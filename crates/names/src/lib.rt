@@ -6,21 +6,25 @@
 //! change is the write of one entry, and that a write of the lower storey stays whole over a stop
 //! makes a change of a directory stay whole.
 //!
+//! `Tree` are files in directories within directories, found by their paths, over a kernel of two
+//! processes. Each of its calls is one transaction: a stop at any moment leaves the tree as it was or
+//! as the call makes it, in which each file has one path.
+//!
 //! `NamedFiles` are files whose names stand in such a directory, over a kernel of one process: a layer
 //! above the lower storey, by public calls alone.
 #![tactic(auto)]
 
+mod asking;
 mod entries;
 mod fault;
 mod files;
 pub mod kernel_laws;
 pub mod laws;
+mod looking;
+mod making;
 mod name;
 mod path;
 mod refusal;
-mod asking;
-mod looking;
-mod making;
 mod removing;
 mod rooting;
 mod tree;

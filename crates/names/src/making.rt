@@ -106,7 +106,12 @@ impl<D: Disk> Tree<D> {
     }
 
     // Makes an empty file in a directory.
-    fn make_in(&mut self, alloc: Global, from: u32, name: &Name) -> Result<Result<u16, Refusal>, TreeFault>
+    fn make_in(
+        &mut self,
+        alloc: Global,
+        from: u32,
+        name: &Name,
+    ) -> Result<Result<u16, Refusal>, TreeFault>
         requires way { IsUnderWay D.Disk self.old.kernel self.old.calls_left }
         requires tree { IsTree (files_seen D.image self.old.kernel) }
         ensures goes { OnOk result (Goes D.Disk
@@ -179,7 +184,12 @@ impl<D: Disk> Tree<D> {
     }
 
     // Writes an entry of a directory. Whether it was written: all of it is, or nothing.
-    pub(crate) fn entered(&mut self, alloc: Global, from: u32, write: EntryWrite) -> Result<bool, TreeFault>
+    pub(crate) fn entered(
+        &mut self,
+        alloc: Global,
+        from: u32,
+        write: EntryWrite,
+    ) -> Result<bool, TreeFault>
         requires way { IsUnderWay D.Disk self.old.kernel self.old.calls_left }
         requires within { write.place < most_entries }
         ensures goes { OnOk result (Goes D.Disk

@@ -98,7 +98,12 @@ impl<D: Disk> Tree<D> {
     }
 
     // Removes a file from a directory.
-    fn remove_in(&mut self, alloc: Global, from: u32, name: &Name) -> Result<Result<(), Refusal>, TreeFault>
+    fn remove_in(
+        &mut self,
+        alloc: Global,
+        from: u32,
+        name: &Name,
+    ) -> Result<Result<(), Refusal>, TreeFault>
         requires way { IsUnderWay D.Disk self.old.kernel self.old.calls_left }
         requires tree { IsTree (files_seen D.image self.old.kernel) }
         ensures goes { OnOk result (Goes D.Disk

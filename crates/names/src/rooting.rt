@@ -59,9 +59,11 @@ impl<D: Disk> Tree<D> {
         }
     }
 
-    /// The disk as it is.
+    /// The disk as it is. Where other calls might be made, it can be opened again.
     pub fn into_disk(self) -> D
-        ensures { result ≡ self.kernel.store.volume.device }
+        ensures disk { result ≡ self.kernel.store.volume.device }
+        ensures tree { IsReady D.Disk self.kernel self.calls_left
+            → IsTree (files_of (recovered (D.image result))) }
     {
         let Tree { kernel, .. } = self;
         kernel.into_disk()

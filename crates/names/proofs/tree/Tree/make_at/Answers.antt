@@ -1,4 +1,4 @@
-use Rattle.std.proofs.Common.{◌≡◌, ◌∙◌, ◌-◌, ◌+◌, ℕ, List, [], ◌∷◌, ◌++◌, length, take, get_or, Ok, Err, sym, subst, ap, rules, arith}
+use Rattle.std.proofs.Common.{◌≡◌, ◌∙◌, ◌-◌, ◌+◌, ℕ, List, [], ◌∷◌, ◌++◌, length, take, get_or, Ok, Err, sym, ap, rules, arith}
 use Rattle.std.proofs.lemmas.Grind.{common_steps}
 use Rattle.names.specs.Inside.{files_seen}
 use Rattle.names.specs.Making.{IsUnmadeIn, MakesIn}
@@ -23,7 +23,8 @@ returns-in-Err-clause-made g c =
     let names : List (List ℕ) = c.args.names.now in
     let last : ℕ = length names - 1 in
     let some : (length names - 1) + 1 ≡ length names = first_of (search rules, grind (arith, common_steps)) in
-    let led : walked (files_seen g.D.Disk.image c.args.self.now.kernel) 1 (take last names) ≡ Err c.in-Err.refusal = sym c.in_ok-from.ensures.led ∙ c.in-Err.is in
-    (c.in_ok-from.ensures.looks.files,
-    unled_at IsUnmadeIn names (take last names) (get_or names last []) (files_seen g.D.Disk.image c.args.self.now.kernel) c.in-Err.refusal
-    (split_last names last [] some) led)
+    let led : walked (files_seen g.D.Disk.image c.args.self.now.kernel) 1 (take last names) ≡ Err c.in-Err.refusal = sym c.in_ok-from.ensures.led ∙ c.in-Err.is in (
+      c.in_ok-from.ensures.looks.files,
+      unled_at IsUnmadeIn names (take last names) (get_or names last []) (files_seen g.D.Disk.image c.args.self.now.kernel) c.in-Err.refusal
+          (split_last names last [] some) led,
+    )

@@ -39,15 +39,14 @@ returns-clause-tree g c =
     subst (λ f. IsTree f) (sym same) c.requires.tree
 
 pub returns-clause-made : goal.returns-clause-made
-returns-clause-made g c =
-    (
-    made_undone g.D.Disk c.args.self.now.kernel c.directory.new.self.kernel c.created.new.self.kernel c.entered.new.self.kernel c.args.from c.in-Some-2.number c.args.name.now
-    c.in-Some.bytes c.as_slice-2.result.now c.in_ok-bytes.field-0 c.in_ok-number.field-0 c.in-Ok.write c.in_ok-entered.field-0 c.requires.tree
-    c.in_ok-bytes.ensures.looks.files c.in_ok-bytes.ensures.found c.in-Some.is c.in_ok-number.ensures.made c.in-Some-2.is c.as_slice-2.ensures
-    c.in-Ok.ensures.links c.in-Ok.ensures.within c.in_ok-entered.ensures.entered
-    c.uncreated.new.self.kernel c.from.result c.from.ensures c.if-branch.false c.in_ok-uncreated.ensures.undoes,
-    made_absent g.D.Disk c.args.self.now.kernel c.directory.new.self.kernel c.created.new.self.kernel c.entered.new.self.kernel c.args.from c.in-Some-2.number c.args.name.now
-    c.in-Some.bytes c.as_slice-2.result.now c.in_ok-bytes.field-0 c.in_ok-number.field-0 c.in-Ok.write c.in_ok-entered.field-0 c.requires.tree
-    c.in_ok-bytes.ensures.looks.files c.in_ok-bytes.ensures.found c.in-Some.is c.in_ok-number.ensures.made c.in-Some-2.is c.as_slice-2.ensures
-    c.in-Ok.ensures.links c.in-Ok.ensures.within c.in_ok-entered.ensures.entered
-    )
+returns-clause-made g c = (
+  made_undone g.D.Disk c.args.self.now.kernel c.directory.new.self.kernel c.created.new.self.kernel c.entered.new.self.kernel c.args.from c.in-Some-2.number c.args.name.now
+      c.in-Some.bytes c.as_slice-2.result.now c.in_ok-bytes.field-0 c.in_ok-number.field-0 c.in-Ok.write c.in_ok-entered.field-0 c.requires.tree
+      c.in_ok-bytes.ensures.looks.files c.in_ok-bytes.ensures.found c.in-Some.is c.in_ok-number.ensures.made c.in-Some-2.is c.as_slice-2.ensures
+      c.in-Ok.ensures.links c.in-Ok.ensures.within c.in_ok-entered.ensures.entered
+      c.uncreated.new.self.kernel c.from.result c.from.ensures c.if-branch.false c.in_ok-uncreated.ensures.undoes,
+  made_absent g.D.Disk c.args.self.now.kernel c.directory.new.self.kernel c.created.new.self.kernel c.entered.new.self.kernel c.args.from c.in-Some-2.number c.args.name.now
+      c.in-Some.bytes c.as_slice-2.result.now c.in_ok-bytes.field-0 c.in_ok-number.field-0 c.in-Ok.write c.in_ok-entered.field-0 c.requires.tree
+      c.in_ok-bytes.ensures.looks.files c.in_ok-bytes.ensures.found c.in-Some.is c.in_ok-number.ensures.made c.in-Some-2.is c.as_slice-2.ensures
+      c.in-Ok.ensures.links c.in-Ok.ensures.within c.in_ok-entered.ensures.entered,
+)
