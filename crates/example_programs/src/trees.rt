@@ -8,7 +8,7 @@ use crate::stops::new_disk;
 use blocks::{Disk, MemDisk};
 use names::{ENTRY_SIZE, Tree};
 use std::alloc::Global;
-use transactions::open_pair;
+use calls::transactions::open_pair;
 
 /// Makes a root, and files in it by their paths, finds and removes some, and prints what came of each.
 pub fn print_trees(rt: &impl Print, alloc: Global) -> anyhow::Result<()> {
