@@ -1,5 +1,5 @@
 -- An image that keeps its files, or all of the bytes that are put, keeps what a put may leave.
-use Rattle.std.proofs.Common.{◌≡◌, ◌≢◌, ◌∙◌, ℕ, ◌<◌, Bool, true, false, List, length, Option, Some, None, refl, sym, ap, subst, inl, inr, ⊎_elim}
+use Rattle.std.proofs.Common.{◌∙◌, ℕ, ◌<◌, Bool, true, false, List, length, Option, Some, None, refl, sym, ap, subst, inl, inr, ⊎_elim}
 use Rattle.blocks.specs.Disk.{Image}
 use Rattle.model.specs.Files.{Files, file_in, files_of}
 use Rattle.model.specs.Lemmas.FileNumbers.{below_there}
@@ -8,10 +8,10 @@ use Rattle.model.specs.Soundness.{IsSound}
 use Rattle.model.specs.declared.types.image.File.{File}
 use Rattle.calls.specs.Lemmas.Unshown.{unshown_none}
 use Rattle.transfer.specs.Needs.{has_room_twice}
-use Rattle.transfer.specs.Places.{MayPut, PutsAll, put_at, put_file}
+use Rattle.transfer.specs.Places.{MayPut, PutsAll, put_file}
 use Rattle.transfer.specs.PutWriting.{KeepsSomeOf}
 use Rattle.transfer.specs.Rounds.{Goes, HasBytes, IsNeverNeither}
-use Rattle.transfer.specs.Stopped.{IsNoneOrAll, KeepsPutOf}
+use Rattle.transfer.specs.Stopped.{KeepsPutOf}
 use Rattle.transfer.specs.Whole.{KeepsWhole}
 use Rattle.transfer.proofs.PlaceLemmas.{file_put}
 use Rattle.transfer.proofs.RoundLemmas.{never_same, stops_same}

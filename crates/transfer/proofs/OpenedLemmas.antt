@@ -127,6 +127,7 @@ module _ {D N : Type 0} (disk : Ghosts D N) (inum : Option ℕ) (bytes : List �
         sound = fit.sound;
         plain = fit.room.plain;
         keeps = subst (λ (y : Image). KeepsSomeOf (recovered (disk.image d)) inum bytes y) (sym (why.0 ∙ begun)) (keeps_same (recovered (disk.image d)) inum bytes (verdict_sound (disk.image d) fit.sound).2);
+        none = λ few_still. why.0 ∙ begun;
         faults = why.1 ∙ faults;
       }),
       silent,
@@ -134,21 +135,22 @@ module _ {D N : Type 0} (disk : Ghosts D N) (inum : Option ℕ) (bytes : List �
     unwhole_so m none few pair reached silent (Disk cause) why = (inl (failed_so m cause reached (inr pair) why), silent)
     unwhole_so m none few pair reached silent r why = absurd why
 
-    pub unwritten_so : (m : Plain D) (none : Type 0) → IsOpenedSole disk mid k → IsReached disk k m → none → (r : PutRefusal) → IsUnwritten twice disk inum bytes k m r → IsUnput disk inum bytes sync d m.store.volume.device none r
-    unwritten_so m none sole reached silent NoInode why = (comes_to m _ why, silent)
-    unwritten_so m none sole reached silent Full why = (inr (inl (comes_to m _ why)), silent)
-    unwritten_so m none sole reached silent NoMemory why = (
+    pub unwritten_so : (m : Plain D) (none : Type 0) → transfer_limit < length bytes → IsOpenedSole disk mid k → IsReached disk k m → none → (r : PutRefusal) → IsUnwritten twice disk inum bytes k m r → IsUnput disk inum bytes sync d m.store.volume.device none r
+    unwritten_so m none many sole reached silent NoInode why = (comes_to m _ why, silent)
+    unwritten_so m none many sole reached silent Full why = (inr (inl (many, comes_to m _ why)), silent)
+    unwritten_so m none many sole reached silent NoMemory why = (
       inr (record {
         sound = fit.sound;
         plain = fit.room.plain;
         keeps = subst (λ (t : Bool). KeepsSome t (recovered (disk.image d)) inum bytes (image_on disk.image m)) room
             (subst (λ (x : Image). KeepsSome twice x inum bytes (image_on disk.image m)) begun why.1);
+        none = λ few. absurd (omega (arith, few, many));
         faults = why.0 ∙ faults;
       }),
       silent,
     )
-    unwritten_so m none sole reached silent (Disk cause) why = (inl (failed_so m cause reached (inl sole) why), silent)
-    unwritten_so m none sole reached silent r why = absurd why
+    unwritten_so m none many sole reached silent (Disk cause) why = (inl (failed_so m cause reached (inl sole) why), silent)
+    unwritten_so m none many sole reached silent r why = absurd why
 
     -- ---- and then a sync
 

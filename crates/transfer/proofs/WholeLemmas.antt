@@ -1,5 +1,5 @@
 -- A put in one transaction, from its beginning to its commit, or given up.
-use Rattle.std.proofs.Common.{◌≡◌, ◌≢◌, ◌∙◌, ℕ, ◌<◌, Bool, List, length, take, Option, None, refl, sym, ap, subst, inl, inr, ⊎_elim}
+use Rattle.std.proofs.Common.{◌≡◌, ◌≢◌, ◌∙◌, ℕ, List, length, take, Option, None, refl, sym, ap, subst, inl, inr, ⊎_elim}
 use Rattle.blocks.specs.Disk.{Image, LeavesOnly, block_at}
 use Rattle.blocks.specs.Lemmas.Moments.{joined}
 use Rattle.blocks.specs.declared.disk.Disk.{Ghosts}
@@ -12,12 +12,11 @@ use Rattle.calls.specs.Files.{files_on}
 use Rattle.calls.specs.Lemmas.Reaching.{reached_then}
 use Rattle.calls.specs.Lemmas.Unshown.{unshown_none}
 use Rattle.calls.specs.Stepping.{IsReached, Plain}
-use Rattle.calls.specs.Stopped.{StaysOver}
 use Rattle.calls.specs.Transactions.{Begins, Commits, HasFiles, IsPair, KeepsEither, labels_made}
 use Rattle.calls.specs.Unshown.{KeepsUnshown, labels_due}
 use Rattle.transfer.specs.Midst.{HasTried, IsMidst, IsSame, PutsShort, StaysMidst}
 use Rattle.transfer.specs.Places.{HasNoFree, IsPlace, put_at}
-use Rattle.transfer.specs.Whole.{AllTo, GivesUp, KeepsWhole, StaysWhole, WholeTo}
+use Rattle.transfer.specs.Whole.{AllTo, KeepsWhole, StaysWhole, WholeTo}
 use Rattle.transfer.specs.declared.writing.Outcome.{Outcome}
 use Rattle.transfer.specs.declared.writing.Outcome.TheVariants as outcome
 use Rattle.transfer.proofs.PlaceLemmas.{put_loses_none}

@@ -1,5 +1,5 @@
 -- What putting a file's bytes into an image comes to.
-use Rattle.std.specs.Prelude.{◌≡◌, ◌≤◌, ◌⊎◌, ℕ, Bool, IsTrue, List, length, Option, None, Some}
+use Rattle.std.specs.Prelude.{◌≡◌, ◌<◌, ◌≤◌, ◌⊎◌, ℕ, Bool, IsTrue, List, length, Option, None, Some}
 use Rattle.std.specs.Io.KnownBytes.{Appends}
 use Rattle.blocks.specs.Calls.{OnlyReads}
 use Rattle.blocks.specs.Disk.{Rose}
@@ -58,12 +58,13 @@ pub record IsUnopenedThen {D N : Type 0} (disk : Ghosts D N) (inum : Option ℕ)
   pub faults : disk.fault_count mid ≡ disk.fault_count d
   pub unopened : IsNotOpenedSole disk mid e fault ⊎ IsNotOpenedPair disk mid e fault
 
--- memory was refused to a call: the first of the bytes may be put
+-- memory was refused to a call: the first of the bytes may be put; of as few as one write moves none
 pub record RunsOut {D N : Type 0} (disk : Ghosts D N) (inum : Option ℕ) (bytes : List ℕ) (d e : D)
     : Type 0 where
   pub sound : verdict (disk.image d) ≡ None
   pub plain : IsPlainOld (files_of (recovered (disk.image d))) inum
   pub keeps : KeepsSomeOf (recovered (disk.image d)) inum bytes (disk.image e)
+  pub none : length bytes ≤ transfer_limit → disk.image e ≡ recovered (disk.image d)
   pub faults : disk.fault_count e ≡ disk.fault_count d
 
 -- No block was free for all of as few bytes as one write moves, so their transaction was given up:
@@ -142,7 +143,8 @@ IsUnput disk inum bytes sync d e none NotAFile =
     IsTold disk inum (length bytes) d e NotAFile × none
 IsUnput disk inum bytes sync d e none TooBig = IsTold disk inum (length bytes) d e TooBig × none
 IsUnput disk inum bytes sync d e none Full =
-    (IsTold disk inum (length bytes) d e Full ⊎ ComesTo disk inum bytes d e outcome.Full
+    (IsTold disk inum (length bytes) d e Full
+    ⊎ ((transfer_limit < length bytes) × ComesTo disk inum bytes d e outcome.Full)
     ⊎ PutsNone disk inum bytes d e) × none
 IsUnput disk inum bytes sync d e none NoMemory =
     (IsTold disk inum (length bytes) d e NoMemory ⊎ RunsOut disk inum bytes d e) × none

@@ -1,11 +1,10 @@
 -- A put in one transaction: it is made whole or not at all.
-use Rattle.std.specs.Prelude.{◌≡◌, ◌⊎◌, ℕ, Bool, IsTrue, List, Option}
+use Rattle.std.specs.Prelude.{◌≡◌, ℕ, Bool, IsTrue, List, Option}
 use Rattle.blocks.specs.Disk.{Image, LeavesOnly}
 use Rattle.blocks.specs.declared.disk.Disk.{Ghosts}
-use Rattle.model.specs.Files.{files_of}
 use Rattle.model.specs.Log.{is_lawful_log, recovered}
 use Rattle.model.specs.Soundness.{IsSound}
-use Rattle.calls.specs.Calls.{HasFailed, faults_on, image_on}
+use Rattle.calls.specs.Calls.{faults_on, image_on}
 use Rattle.calls.specs.Pairing.{IsUnmade}
 use Rattle.calls.specs.Stepping.{IsReached, Plain}
 use Rattle.calls.specs.Unshown.{KeepsUnshown}

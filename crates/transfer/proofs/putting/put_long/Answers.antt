@@ -34,7 +34,7 @@ returns-in-Err-put-clause-refused g c =
     let none = c.args.out.now ≡ c.args.out.now in
     subst (λ e. IsUnput d c.args.inum c.args.bytes.now c.args.sync c.args.disk e none c.in-Err-put.refusal) (sym c.into_disk.ensures)
     (unwritten_so d c.args.inum c.args.bytes.now c.args.sync c.args.disk c.judge.new.disk c.in-Ok.ensures.fit _ c.in-Ok-open_sole.kernel c.in-Ok-open_sole.ensures.opened c.in-Ok.twice c.in-Ok.ensures.twice
-    c.put-put.new.kernel none c.in-Ok-open_sole.ensures.opened c.put-put.ensures.stays.reached refl c.in-Err-put.refusal c.in-Err-put.ensures.refused)
+    c.put-put.new.kernel none c.requires.many c.in-Ok-open_sole.ensures.opened c.put-put.ensures.stays.reached refl c.in-Err-put.refusal c.in-Err-put.ensures.refused)
 
 pub returns-in-Err-clause-leaves : goal.returns-in-Err-clause-leaves
 returns-in-Err-clause-leaves g c =

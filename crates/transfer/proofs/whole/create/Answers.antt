@@ -1,4 +1,4 @@
-use Rattle.std.proofs.Common.{◌≡◌, ◌∙◌, None, Some, ⊎_elim, sym, ap, subst}
+use Rattle.std.proofs.Common.{◌≡◌, ◌∙◌, None, Some, ⊎_elim, sym, subst}
 use Rattle.transfer.specs.Midst.{IsCleared}
 use Rattle.transfer.proofs.MidstLemmas.{creates}
 use Rattle.transfer.proofs.whole.create.Goals as goal
