@@ -154,10 +154,7 @@ fn try_put<D: Disk>(
 }
 
 // Empties the old file, or makes a new one. None where each number is taken.
-fn clear<D: Disk>(
-    kernel: &mut Pair<D>,
-    inum: Option<u32>,
-) -> Result<Option<u32>, TransactionFault>
+fn clear<D: Disk>(kernel: &mut Pair<D>, inum: Option<u32>) -> Result<Option<u32>, TransactionFault>
     requires midst { IsMidst D.Disk 0 (files_on D.image kernel.old) kernel.old }
     requires there { HasOld (files_on D.image kernel.old) inum }
     ensures cleared { IfOk result (IsCleared D.Disk inum kernel.old kernel.new) }
