@@ -36,7 +36,8 @@ use Rattle.model.specs.declared.types.operations.Step.{Step}
 use Rattle.model.specs.declared.types.operations.Step.TheVariants as step
 use Rattle.kernel.specs.declared.class.OpClass.{OpClass}
 use Rattle.kernel.specs.declared.class.OpClass.TheVariants as waiting_as
-use Rattle.calls.specs.Stepping.{MakesPlainStep, Plain, plain_herald, plain_queues}
+use Rattle.calls.specs.Lemmas.Reaching.{reached_ports, reached_steps, reached_then}
+use Rattle.calls.specs.Stepping.{IsReached, MakesPlainStep, Plain, plain_herald, plain_queues}
 use Rattle.calls.specs.Calls.{image_on, is_look}
 use Rattle.calls.specs.Transactions.{Adds, HasFiles, IsFetched, IsInside, IsOnlyRead, IsOpenBy, KeepsFiles, anchor, has_room}
 use Rattle.calls.proofs.Called.{IsCall, call_after, call_answered, call_opening, call_over, call_run, call_stage, given, halts_not, is_faultless, still_faultless, with_intake}
@@ -174,6 +175,10 @@ module _ {D N : Type 0} (disk : Ghosts D N) (op : Op) (r : Step) (k m : Plain D)
   call_leaves has_now =
       let set_l = settled disk has_now l adding.call.known_then adding.inside.pair.well adding.inside.open_one.quiet in
       leaves_before disk l m set_l (call_run disk 0 op r k m adding.call) open_still.1.log.quiet open_still.1.log.committed
+
+  -- its steps are turns of the process
+  pub call_reached : IsReached disk k m
+  call_reached = reached_then disk k l m (reached_ports disk k l refl) (reached_steps disk 0 r l m adding.call.makes)
 
   -- it may only have read
   pub call_stays : m.store.volume.fault ≡ None → IsOnlyRead disk k m

@@ -39,7 +39,8 @@ use Rattle.kernel.specs.declared.class.OpClass.{OpClass}
 use Rattle.kernel.specs.declared.class.OpClass.TheVariants as waiting_as
 use Rattle.history.specs.Alone.{is_committing_at}
 use Rattle.model.specs.Lemmas.Frames.{form_same}
-use Rattle.calls.specs.Stepping.{MakesPlainStep, Plain, plain_herald, plain_queues}
+use Rattle.calls.specs.Lemmas.Reaching.{reached_ports, reached_step, reached_then}
+use Rattle.calls.specs.Stepping.{IsReached, MakesPlainStep, Plain, plain_herald, plain_queues}
 use Rattle.calls.specs.Calls.{HasFailed, image_on}
 use Rattle.calls.specs.Transactions.{Begins, IsInside, KeepsFiles, Rests, IsOnlyRead, anchor}
 use Rattle.calls.proofs.Called.{has_failed, still_faultless, with_intake}
@@ -212,6 +213,11 @@ module _ {D N : Type 0} (disk : Ghosts D N) (has_now : (d : D) → disk.leaves d
       let set_k = settled disk has_now (with_intake k call.i) call.known_then call.rests.pair.well quiet_then in
       let log = log_stays disk k.store k.world room (waiting call.i 1) was (plain_queues.side m.intake 1) false m.store m.world r k.store.volume.fault call.makes.acts.next call.rests.idle in
       leaves_before disk (with_intake k call.i) m set_k (runs_on_step disk plain_queues plain_herald 1 r (with_intake k call.i) m call.makes) (log.0 ∙ quiet_then) log.1
+
+  pub begin_reached : IsReached disk k m
+  begin_reached =
+      let l = with_intake k call.i in
+      reached_then disk k l m (reached_ports disk k l refl) (reached_step disk 1 r l m call.makes)
 
   pub begin_opening : m.opening ≡ k.opening
   begin_opening = call.makes.acts.opening

@@ -13,7 +13,7 @@ use Rattle.model.specs.Operations.{is_kind}
 use Rattle.calls.specs.Calls.{Calls, image_on}
 use Rattle.calls.specs.Stepping.{Plain}
 use Rattle.calls.specs.Files.{Appends, MakesFile, MakesNone, MayAppend, appended, emptied, empty_file, files_on}
-use Rattle.calls.proofs.After.{after_creation, after_emptying, after_removal, after_write, HasWritten}
+use Rattle.calls.specs.Lemmas.After.{after_creation, after_emptying, after_removal, after_write, HasWritten}
 
 -- ---- a creation
 

@@ -31,7 +31,8 @@ use Rattle.kernel.specs.Sleeping.{SleepsForCause}
 use Rattle.model.specs.declared.types.operations.Step.{Step}
 use Rattle.model.specs.declared.types.operations.Step.TheVariants as step
 use Rattle.kernel.specs.Moves.{MakesSteps}
-use Rattle.calls.specs.Stepping.{Plain, MakesPlainStep, plain_herald, plain_queues}
+use Rattle.calls.specs.Lemmas.Reaching.{reached_steps}
+use Rattle.calls.specs.Stepping.{IsReached, Plain, MakesPlainStep, plain_herald, plain_queues}
 use Rattle.calls.specs.Calls.{HasFailed, image_on}
 use Rattle.calls.specs.Transactions.{Commits, HasFiles, IsFetched, IsInside, KeepsEither, Rests, anchor, labels_made}
 use Rattle.calls.proofs.Anchoring.{anchor_keeps, anchor_makes_none}
@@ -136,11 +137,14 @@ module _ {D N : Type 0} (disk : Ghosts D N) (r : Step) (k m : Plain D) (call : I
   pub commit_name : disk.name m.store.volume.device ≡ disk.name k.store.volume.device
   commit_name = steps_name disk 1 r k m call.makes
 
+  pub commit_reached : IsReached disk k m
+  commit_reached = reached_steps disk 1 r k m call.makes
+
   pub commit_failed : (fault : DeviceFault) → m.store.volume.fault ≡ Some fault → HasFailed disk k m fault
   commit_failed fault is = has_failed disk k m fault call.known_now run.opening call.inside.pair.faultless is
 
   -- ALL OR NOTHING
-  pub commit_leaves : ((d : D) → disk.leaves d (disk.moment d) (disk.image d)) → (f : Files) → HasFiles disk.image k f → LeavesOnly disk.moment disk.leaves k.store.volume.device m.store.volume.device (KeepsEither (image_on disk.image k) f)
+  pub commit_leaves : ((d : D) → disk.leaves d (disk.moment d) (disk.image d)) → (f : Files) → HasFiles disk.image k f → LeavesOnly disk.moment disk.leaves k.store.volume.device m.store.volume.device (KeepsEither (image_on disk.image k) f (labels_made disk.image k))
   commit_leaves has_now f has =
       let was = settled disk has_now k call.known_then call.inside.pair.well call.inside.open_one.quiet in
       leaves_either disk k m was run f has call.known_then call.inside.open_one.opened (⊎_elim (λ same. inl same) (λ more. inr (more.entry, more.is, more.same)) lists)

@@ -1,7 +1,8 @@
 -- What a stop keeps of a transaction: nothing before its commit, and in it all or nothing.
-use Rattle.std.proofs.Common.{◌≡◌, ◌∙◌, ◌+◌, ◌<◌, ◌≤◌, ℕ, Bool, true, false, cond, ◌&&◌, leb, List, [], ◌∷◌, ◌++◌, length, append_assoc, Option, Some, None, refl, sym, ap, subst, inl, inr, ⊎_elim, arith}
+use Rattle.std.proofs.Common.{◌≡◌, ◌∙◌, ◌+◌, ◌<◌, ◌≤◌, ℕ, Bool, true, false, cond, ◌&&◌, ◌||◌, leb, List, [], ◌∷◌, ◌++◌, length, append_assoc, Option, Some, None, refl, sym, ap, subst, inl, inr, ⊎_elim, arith}
 use Rattle.std.specs.Prelude.{◌⊎◌, ◌==◌, if◌then◌else◌, IfNone}
 use Rattle.std.proofs.lemmas.Bool.{cases_lt}
+use Rattle.std.proofs.lemmas.List.Folds.{list_any-append}
 use mathlib.Core.List.{IsPrefix}
 use Rattle.blocks.specs.Disk.{Image, LeavesOnly, block_at}
 use Rattle.blocks.specs.declared.disk.Disk.{Ghosts}
@@ -9,9 +10,9 @@ use Rattle.model.specs.declared.types.image.Form.{Form}
 use Rattle.model.specs.declared.types.operations.Entry.{Entry}
 use Rattle.model.specs.declared.types.operations.Op.{Op}
 use Rattle.model.specs.declared.types.operations.Reply.{Reply}
-use Rattle.model.specs.Crash.{Keeps}
+use Rattle.model.specs.Crash.{Keeps, due_labels, labels_of}
 use Rattle.model.specs.Files.{Files, files_of}
-use Rattle.model.specs.Journal.{after_answer, and_then, is_changing, kept, replay}
+use Rattle.model.specs.Journal.{after_answer, and_then, is_changing, is_making, kept, replay}
 use Rattle.model.specs.Layout.{form_of, inode_count_of, super_in}
 use Rattle.model.specs.Log.{logged_count, recovered}
 use Rattle.model.specs.Operations.{after}
@@ -28,6 +29,7 @@ use Rattle.wal.specs.Volume.{VolumeState}
 use Rattle.history.specs.Keeps.{KeepsBetween}
 use Rattle.history.specs.Most.{most_kept, most_of}
 use Rattle.history.specs.Lemmas.Kept.{kept-append, kept_up_to}
+use Rattle.history.specs.Lemmas.Making.{due_kept, makes}
 use Rattle.history.specs.Lemmas.Quiet.{kept_replays}
 use Rattle.kernel.specs.Known.{IsCurrent, Known}
 use Rattle.kernel.specs.Lemmas.Turns.{runs_on_none}
@@ -35,10 +37,10 @@ use Rattle.kernel.specs.Runs.{RunsOn}
 use Rattle.calls.specs.Stepping.{Plain, plain_herald, plain_queues}
 use Rattle.calls.specs.Calls.{image_on}
 use Rattle.calls.specs.Lemmas.Both.{keeps_nothing}
-use Rattle.calls.specs.Transactions.{HasFiles, KeepsEither, KeepsFiles, anchor}
+use Rattle.calls.specs.Transactions.{HasFiles, HasLabels, KeepsEither, KeepsFiles, anchor, labels_made}
 use Rattle.calls.specs.Unshown.{KeepsUnshown}
-use Rattle.calls.proofs.Anchoring.{anchor_keeps}
-use Rattle.calls.proofs.Unshown.{HasMarks, kept_marks, renews, unshown_same}
+use Rattle.calls.proofs.Anchoring.{anchor_keeps, anchor_makes_none}
+use Rattle.calls.proofs.Unshown.{HasMarks, kept_marks, labels_now, renews, unshown_same}
 
 -- no commit is under way: the image on the disk is sound, with the opening's files after what is kept
 -- of the committed groups
@@ -229,11 +231,56 @@ module _ {D N : Type 0} (disk : Ghosts D N) (k m : Plain D) (was : IsSettled dis
                   ∙ append_assoc (kept (inode_count_of (disk.image k.opening)) k.world.journal.list k.store.volume.log.committed) first.0 one),
             )
 
-    either : (c : ℕ) (z : Image) → k.store.volume.log.committed ≤ c → Keeps (disk.image m.opening) m.world.journal.list z c → KeepsEither (image_on disk.image k) f z
+    -- and it makes no number
+    anchor_makes : (last : Files) (e : Entry) (b : Bool) (i : ℕ) → e.op ≡ anchor → replay form f (cond b (e ∷ []) []) ≡ Some last → makes i (cond b (e ∷ []) []) ≡ false
+    anchor_makes last e false i is done = refl
+    anchor_makes last e true i is done = by_reply e.reply refl
+      where
+        found : (o : Option Reply) → e.reply ≡ o → (mid : Files) × (after_answer form f e.op o ≡ Some mid) × (Some mid ≡ Some last)
+        found o same = and_then_some (after_answer form f e.op o) (λ g. Some g) last (subst (λ (p : Option Reply). and_then (after_answer form f e.op p) (λ g. Some g) ≡ Some last) same done)
+
+        by_reply : (o : Option Reply) → e.reply ≡ o → (is_making i e.reply || false) ≡ false
+        by_reply None same = ap (λ (o : Option Reply). is_making i o || false) same
+        by_reply (Some r) same =
+            let g = found (Some r) same in
+            ap (λ (o : Option Reply). is_making i o || false) same
+            ∙ ap (λ (b : Bool). b || false) (anchor_makes_none form f last r i (subst (λ (o : Op). after form f o r ≡ Some last) is (g.1 ∙ g.2)))
+
+    or_nothing : (b : Bool) → (b || false) ≡ b
+    or_nothing true = refl
+    or_nothing false = refl
+
+    -- what is kept then makes the numbers that the journal before the commit told
+    makes_all : (c : ℕ) (last : Files) (i : ℕ) → k.store.volume.log.opened ≤ c → replay form start (kept n m.world.journal.list c) ≡ Some last → makes i (kept n m.world.journal.list c) ≡ makes i (kept n k.world.journal.list c)
+    makes_all c last i high done = by_list lists
+      where
+        by_list : HasAnchors m.world.journal.list → makes i (kept n m.world.journal.list c) ≡ makes i (kept n k.world.journal.list c)
+        by_list (inl same) = ap (λ (es : List Entry). makes i (kept n es c)) same
+        by_list (inr more) =
+            let e = more.0 in
+            let es = k.world.journal.list in
+            let split : kept n m.world.journal.list c ≡ kept n es c ++ kept n (e ∷ []) c = ap (λ (l : List Entry). kept n l c) more.1 ∙ kept-append n c es (e ∷ []) in
+            let both = sym (replays_in_parts form start (kept n es c) (kept n (e ∷ []) c)) ∙ ap (λ (l : List Entry). replay form start l) (sym split) ∙ done in
+            let rest : replay form f (kept n (e ∷ []) c) ≡ Some last = subst (λ (o : Option Files). and_then o (λ g. replay form g (kept n (e ∷ []) c)) ≡ Some last) (kept_all c high) both in
+            ap (makes i) split ∙ list_any-append (λ (x : Entry). is_making i x.reply) (kept n es c) (kept n (e ∷ []) c)
+            ∙ ap (λ (b : Bool). makes i (kept n es c) || b) (anchor_makes last e (is_changing n e.op && leb e.group c) i more.2 rest) ∙ or_nothing (makes i (kept n es c))
+
+    -- so the labels of files are those that it tells
+    labels_all : (c : ℕ) (z : Image) → k.store.volume.log.opened ≤ c → Keeps (disk.image m.opening) m.world.journal.list z c → HasLabels (labels_made disk.image k) (recovered z)
+    unfolding n form start
+    labels_all c z high keeps i there =
+        let o = disk.image k.opening in
+        let es = k.world.journal.list in
+        labels_now o (image_on disk.image k) (recovered z) (kept (inode_count_of o) es k.store.volume.log.committed) was.size was.marks (kept (inode_count_of o) m.world.journal.list c) (marks_from c z keeps) i there
+        ∙ ap (λ (b : Bool). cond b (0, 0, 1) (labels_of o i)) (makes_all c (files_of (recovered z)) i high (from_opening c z keeps))
+        ∙ ap (λ (fs : List Entry). due_labels o fs i) (kept_up_to (inode_count_of o) k.store.volume.log.opened c es known.journal.groups high)
+        ∙ due_kept o known.replays.files k.store.volume.log.opened i es known.journal.groups known.replays.run
+
+    either : (c : ℕ) (z : Image) → k.store.volume.log.committed ≤ c → Keeps (disk.image m.opening) m.world.journal.list z c → KeepsEither (image_on disk.image k) f (labels_made disk.image k) z
     unfolding form start
     either c z low keeps = ⊎_elim all none (cases_lt k.store.volume.log.committed c)
       where
-        all : k.store.volume.log.committed < c → KeepsEither (image_on disk.image k) f z
+        all : k.store.volume.log.committed < c → KeepsEither (image_on disk.image k) f (labels_made disk.image k) z
         all more =
             let high : k.store.volume.log.opened ≤ c = omega (arith, more, opened) in
             record {
@@ -241,18 +288,19 @@ module _ {D N : Type 0} (disk : Ghosts D N) (k m : Plain D) (was : IsSettled dis
               sound = keeps.sound;
               files = inr (all_kept c (files_of (recovered z)) high (from_opening c z keeps));
               unshown = renews (disk.image k.opening) (image_on disk.image k) (recovered z) (kept n k.world.journal.list k.store.volume.log.committed) (kept n m.world.journal.list c) was.size marks_then (marks_from c z keeps) (more_kept c high) form start run_then (from_opening c z keeps);
+              labels = inr (labels_all c z high keeps);
             }
 
-        none : c ≤ k.store.volume.log.committed → KeepsEither (image_on disk.image k) f z
+        none : c ≤ k.store.volume.log.committed → KeepsEither (image_on disk.image k) f (labels_made disk.image k) z
         none high =
             let both : Some (files_of (recovered z)) ≡ Some (files_of (image_on disk.image k)) = sym (from_opening c z keeps) ∙ kept_still c high low in
-            keeps_nothing (image_on disk.image k) f z (record { log = keeps.log; sound = keeps.sound; files = cc both; unshown = unshown_still c z high low keeps (cc both) })
+            keeps_nothing (image_on disk.image k) f (labels_made disk.image k) z (record { log = keeps.log; sound = keeps.sound; files = cc both; unshown = unshown_still c z high low keeps (cc both) })
 
-    keeps_either : (z : Image) → KeepsBetween k.store.volume.log.committed (most_of m.store.volume) (disk.image m.opening) m.world.journal.list z → KeepsEither (image_on disk.image k) f z
+    keeps_either : (z : Image) → KeepsBetween k.store.volume.log.committed (most_of m.store.volume) (disk.image m.opening) m.world.journal.list z → KeepsEither (image_on disk.image k) f (labels_made disk.image k) z
     keeps_either z kept_so = either kept_so.groups z kept_so.low kept_so.keeps
 
     -- A STOP IN THE COMMIT keeps all of the transaction or nothing
-    pub leaves_either : LeavesOnly disk.moment disk.leaves k.store.volume.device m.store.volume.device (KeepsEither (image_on disk.image k) f)
+    pub leaves_either : LeavesOnly disk.moment disk.leaves k.store.volume.device m.store.volume.device (KeepsEither (image_on disk.image k) f (labels_made disk.image k))
     leaves_either =
         let leaves = run.stop.leaves in
         record {

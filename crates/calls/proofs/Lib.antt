@@ -14,7 +14,6 @@ pub mod Shorts
 pub mod Rest
 pub mod Leaving
 pub mod Opened
-pub mod After
 pub mod Calls
 pub mod Stopping
 pub mod Sleeping

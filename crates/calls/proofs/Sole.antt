@@ -198,7 +198,7 @@ module _ {D N : Type 0} (disk : Ghosts D N) (op : Op) (r : Step) (k m : Plain D)
   pub call_reached : IsReached disk k m
   call_reached =
       let l = given disk 0 op r k m sole.call in
-      reached_then disk k l m (reached_ports disk k l refl) (reached_steps disk r l m sole.call.makes)
+      reached_then disk k l m (reached_ports disk k l refl) (reached_steps disk 0 r l m sole.call.makes)
 
   -- a look only reads
   pub call_looks : is_look op ≡ true → OnlyReads disk k.store.volume.device m.store.volume.device

@@ -14,7 +14,7 @@ use Rattle.calls.specs.Calls.{KeepsCall}
 use Rattle.calls.specs.declared.fault.CallFault.{CallFault}
 use Rattle.calls.specs.Files.{MayAppend}
 use Rattle.calls.specs.Stopped.{AppendsFirst, Empties, KeepsChange, MakesAny, Removes}
-use Rattle.calls.proofs.After.{after_creation, after_emptying, after_removal, after_write}
+use Rattle.calls.specs.Lemmas.After.{after_creation, after_emptying, after_removal, after_write}
 
 -- the files after an operation with a reply are those before it, or those after the change
 abbrev Leads : Image → Op → (Files → Files → Type 0) → Type 0

@@ -7,3 +7,4 @@ pub mod Making
 pub mod Both
 pub mod Room
 pub mod Creations
+pub mod After

@@ -25,7 +25,7 @@ use Rattle.wal.specs.declared.types.Commit.TheVariants as commit
 pub use Rattle.calls.specs.Calls.{KeepsFiles}
 use Rattle.calls.specs.Calls.{HasFailed, MakesLowestOf, MakesNoneOf, call_count, faults_on, image_on, is_look}
 use Rattle.calls.specs.Stepping.{Plain}
-use Rattle.calls.specs.Unshown.{KeepsOrRenews}
+use Rattle.calls.specs.Unshown.{KeepsOrRenews, KeepsUnshown}
 use Rattle.calls.specs.declared.transactions.fault.TransactionFault.{TransactionFault}
 use Rattle.calls.specs.declared.transactions.fault.TransactionFault.TheVariants as fault
 use Rattle.inodes.specs.Writing.{most_logged}
@@ -165,11 +165,17 @@ IsUncommitted disk k m (fault.Disk cause) = HasFailed disk k m cause
 IsUncommitted disk k m fault.NoMemory = ⊥
 IsUncommitted disk k m fault.NoRoom = ⊥
 
+-- the files of an image have these labels
+abbrev pub HasLabels : (ℕ → ℕ × ℕ × ℕ) → Image → Type 0
+HasLabels labels x = (i : ℕ) → file_in (files_of x) i ≢ None → labels_of x i ≡ labels i
+
 -- ALL OR NOTHING: what a stop in the commit of a transaction leaves: recovery gives a sound image
 -- with the files of image x, which stood on the disk before it, or with those that the whole of it
--- made.
-pub record KeepsEither (x : Image) (made : Files) (z : Image) : Type 0 where
+-- made. What no file shows stays, or the labels of files are those that are told.
+pub record KeepsEither (x : Image) (made : Files) (told : ℕ → ℕ × ℕ × ℕ) (z : Image)
+    : Type 0 where
   pub log : IsTrue (is_lawful_log z)
   pub sound : IsSound (recovered z)
   pub files : (files_of (recovered z) ≡ files_of x) ⊎ (files_of (recovered z) ≡ made)
   pub unshown : KeepsOrRenews x (recovered z)
+  pub labels : KeepsUnshown x (recovered z) ⊎ HasLabels told (recovered z)

@@ -20,4 +20,4 @@ pub use committing::commit;
 pub use fault::TransactionFault;
 pub use opening::open_pair;
 pub use pairing::make_both;
-pub use resting::{abandon, rested};
+pub use resting::{abandon, rested, still};

@@ -201,7 +201,7 @@ pub(crate) static LINES: [Line; 13] = [
             Word {
                 name: "INUM",
                 kind: Kind::Choice,
-                help: "The inode number of the file that gets the bytes in place of its own; a stop leaves the old or the new, where both have room",
+                help: "The inode number of the file that gets the bytes in place of its own; a stop leaves the old or the new; of more than 3072 bytes only where both have room",
             },
             SYNC,
             NO_SYNC,

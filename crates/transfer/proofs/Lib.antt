@@ -10,6 +10,9 @@ pub mod NeedLemmas
 pub mod PieceLemmas
 pub mod AppendLemmas
 pub mod ImageLemmas
+pub mod MidstLemmas
+pub mod WholeLemmas
+pub mod KeptLemmas
 pub mod OpenedLemmas
 pub mod StopLemmas
 pub mod RoundLemmas

@@ -1,5 +1,5 @@
 -- What calls come to over a disk that was judged, and recovered as its kernel was opened.
-use Rattle.std.proofs.Common.{◌≡◌, ◌∙◌, ℕ, Bool, true, false, List, Option, None, length, refl, sym, ap, subst, inl, inr}
+use Rattle.std.proofs.Common.{◌≡◌, ◌∙◌, ◌<◌, ◌≤◌, ◌⊎◌, ℕ, Bool, true, false, List, Option, None, length, refl, sym, ap, subst, inl, inr, arith}
 use Rattle.blocks.specs.Calls.{OnlyReads}
 use Rattle.std.specs.Io.KnownBytes.{Appends}
 use Rattle.std.specs.Prelude.{Result, Ok, Err, IfErr, OnOk}
@@ -13,26 +13,31 @@ use Rattle.model.specs.Log.{recovered}
 use Rattle.model.specs.Soundness.{IsSound}
 use Rattle.model.specs.Verdict.{verdict}
 use Rattle.kernel.specs.declared.types.OpenFault.{OpenFault}
-use Rattle.calls.specs.Calls.{IsWhole, image_on}
-use Rattle.calls.specs.Opening.{IsNotOpenedSole, IsOpenedSole}
+use Rattle.calls.specs.Calls.{HasFailed, IsWhole, image_on}
+use Rattle.calls.specs.Opening.{IsNotOpenedPair, IsNotOpenedSole, IsOpenedOver, IsOpenedPair, IsOpenedSole}
 use Rattle.calls.specs.Lemmas.Unshown.{unshown_none}
 use Rattle.calls.specs.Stepping.{IsReached, Plain}
 use Rattle.calls.specs.Unshown.{KeepsUnshown}
 use Rattle.kernel.specs.Opening.{LeavesRecovered}
 use Rattle.opening.specs.Lemmas.Stopping.{if_synced, opened_leaves, recovered_behind, recovered_if_synced, run_leaves, unopened_leaves}
+use Rattle.history.specs.Lemmas.Leaving.{leaves_wider}
+use Rattle.model.specs.Operations.{transfer_limit}
 use Rattle.wal.specs.Recovery.{RecoversAs}
+use Rattle.wal.specs.declared.types.DeviceFault.{DeviceFault}
 use Rattle.transfer.specs.Judging.{IsFit, IsTold}
 use Rattle.transfer.specs.Needs.{has_room_twice}
 use Rattle.transfer.specs.Stopped.{KeepsPut, KeepsPutOf, StaysPut, StopsPut}
 use Rattle.transfer.specs.Ending.{SyncsIf}
-use Rattle.transfer.specs.Putting.{ComesTo, IsPut, IsUnopenedThen, IsUnput, IsUntold}
-use Rattle.transfer.specs.PutWriting.{CallsTo, IsUnwritten, KeepsSome, PutComes, PutComesOf}
+use Rattle.transfer.specs.Putting.{ComesTo, FailsSound, IsPut, IsUnopenedThen, IsUnput, IsUntold}
+use Rattle.transfer.specs.PutWriting.{CallsTo, IsUnwritten, KeepsSome, KeepsSomeOf, PutComes, PutComesOf}
+use Rattle.transfer.specs.Whole.{IsUnwhole, KeepsWhole, StaysWhole}
 use Rattle.transfer.specs.declared.refused.PutRefusal.{PutRefusal}
 use Rattle.transfer.specs.declared.refused.PutRefusal.TheVariants.{Check, NoFile, NotAFile, TooBig, Full, NoMemory, Unopened, NoInode, Disk, Output}
 use Rattle.transfer.specs.declared.writing.Outcome.{Outcome}
 use Rattle.transfer.specs.declared.writing.Outcome.TheVariants as outcome
 use Rattle.transfer.proofs.CallLemmas.{whole_then}
 use Rattle.transfer.proofs.RoundLemmas.{never_same, stops_same}
+use Rattle.transfer.proofs.KeptLemmas.{keeps_same, whole_kept}
 
 -- a disk has the same image, and no fault more, whether it was synced or left alone
 left_same : {D N : Type 0} (disk : Ghosts D N) (sync : Bool) (d e : D) → SyncsIf sync disk d e → (disk.image e ≡ disk.image d) × (disk.fault_count e ≡ disk.fault_count d)
@@ -55,7 +60,7 @@ told_so disk inum bytes sync d e none silent Output why = absurd why.cause
 module _ {D N : Type 0} (disk : Ghosts D N) (inum : Option ℕ) (bytes : List ℕ) (sync : Bool) (d mid : D) (fit : IsFit disk inum (length bytes) d mid) where
   -- ---- no kernel is opened
 
-  pub unopened_then : (e : D) (fault : OpenFault) → IsNotOpenedSole disk mid e fault → IsUnopenedThen disk inum d e fault
+  pub unopened_then : (e : D) (fault : OpenFault) → IsNotOpenedSole disk mid e fault ⊎ IsNotOpenedPair disk mid e fault → IsUnopenedThen disk inum d e fault
   unopened_then e fault why = record {
     mid = mid;
     sound = fit.sound;
@@ -67,7 +72,7 @@ module _ {D N : Type 0} (disk : Ghosts D N) (inum : Option ℕ) (bytes : List �
 
   -- ---- calls were made
 
-  module _ (k : Plain D) (opened : IsOpenedSole disk mid k) (twice : Bool) (room : twice ≡ has_room_twice (recovered (disk.image d)) inum (length bytes)) where
+  module _ (resting : Type 0) (k : Plain D) (opened : IsOpenedOver disk resting mid k) (twice : Bool) (room : twice ≡ has_room_twice (recovered (disk.image d)) inum (length bytes)) where
     begun : image_on disk.image k ≡ recovered (disk.image d)
     begun = opened.image ∙ ap recovered fit.reads.image
 
@@ -86,31 +91,66 @@ module _ {D N : Type 0} (disk : Ghosts D N) (inum : Option ℕ) (bytes : List �
       faults = calls.faults ∙ faults;
     }
 
-    pub unwritten_so : (m : Plain D) (none : Type 0) → IsReached disk k m → none → (r : PutRefusal) → IsUnwritten twice disk inum bytes k m r → IsUnput disk inum bytes sync d m.store.volume.device none r
-    unwritten_so m none reached silent NoInode why = (comes_to m _ why, silent)
-    unwritten_so m none reached silent Full why = (inr (comes_to m _ why), silent)
-    unwritten_so m none reached silent NoMemory why = (
+    failed_so : (m : Plain D) (cause : DeviceFault) → IsReached disk k m → IsOpenedSole disk mid k ⊎ IsOpenedPair disk mid k → HasFailed disk k m cause → FailsSound disk inum d m.store.volume.device cause
+    failed_so m cause reached which why = record {
+      sound = fit.sound;
+      plain = fit.room.plain;
+      mid = mid;
+      reads = fit.reads;
+      failed = record { first = k; opened = which; last = m; reached = reached; fault = why.is; device = refl };
+      faults = subst (λ (n : ℕ). Rose n (disk.fault_count m.store.volume.device)) faults why.rose;
+    }
+
+    -- in one transaction
+    pub unwhole_so : (m : Plain D) (none : Type 0) → length bytes ≤ transfer_limit → IsOpenedPair disk mid k → IsReached disk k m → none → (r : PutRefusal) → IsUnwhole disk inum bytes k m r → IsUnput disk inum bytes sync d m.store.volume.device none r
+    unwhole_so m none few pair reached silent NoInode why = (comes_to m _ (why twice), silent)
+    unwhole_so m none few pair reached silent Full why = (
+      inr (inr (record {
+        small = few;
+        sound = fit.sound;
+        plain = fit.room.plain;
+        mid = mid;
+        reads = fit.reads;
+        first = k;
+        opened = pair;
+        last = m;
+        reached = reached;
+        part = why.part;
+        device = refl;
+        image = why.same ∙ begun;
+        faults = why.faults ∙ faults;
+      })),
+      silent,
+    )
+    unwhole_so m none few pair reached silent NoMemory why = (
+      inr (record {
+        sound = fit.sound;
+        plain = fit.room.plain;
+        keeps = subst (λ (y : Image). KeepsSomeOf (recovered (disk.image d)) inum bytes y) (sym (why.0 ∙ begun)) (keeps_same (recovered (disk.image d)) inum bytes (verdict_sound (disk.image d) fit.sound).2);
+        none = λ few_still. why.0 ∙ begun;
+        faults = why.1 ∙ faults;
+      }),
+      silent,
+    )
+    unwhole_so m none few pair reached silent (Disk cause) why = (inl (failed_so m cause reached (inr pair) why), silent)
+    unwhole_so m none few pair reached silent r why = absurd why
+
+    pub unwritten_so : (m : Plain D) (none : Type 0) → transfer_limit < length bytes → IsOpenedSole disk mid k → IsReached disk k m → none → (r : PutRefusal) → IsUnwritten twice disk inum bytes k m r → IsUnput disk inum bytes sync d m.store.volume.device none r
+    unwritten_so m none many sole reached silent NoInode why = (comes_to m _ why, silent)
+    unwritten_so m none many sole reached silent Full why = (inr (inl (many, comes_to m _ why)), silent)
+    unwritten_so m none many sole reached silent NoMemory why = (
       inr (record {
         sound = fit.sound;
         plain = fit.room.plain;
         keeps = subst (λ (t : Bool). KeepsSome t (recovered (disk.image d)) inum bytes (image_on disk.image m)) room
             (subst (λ (x : Image). KeepsSome twice x inum bytes (image_on disk.image m)) begun why.1);
+        none = λ few. absurd (omega (arith, few, many));
         faults = why.0 ∙ faults;
       }),
       silent,
     )
-    unwritten_so m none reached silent (Disk cause) why = (
-      inl (record {
-        sound = fit.sound;
-        plain = fit.room.plain;
-        mid = mid;
-        reads = fit.reads;
-        failed = record { first = k; opened = opened; last = m; reached = reached; fault = why.is; device = refl };
-        faults = subst (λ (n : ℕ). Rose n (disk.fault_count m.store.volume.device)) faults why.rose;
-      }),
-      silent,
-    )
-    unwritten_so m none reached silent r why = absurd why
+    unwritten_so m none many sole reached silent (Disk cause) why = (inl (failed_so m cause reached (inl sole) why), silent)
+    unwritten_so m none many sole reached silent r why = absurd why
 
     -- ---- and then a sync
 
@@ -159,11 +199,14 @@ module _ {D N : Type 0} (disk : Ghosts D N) (inum : Option ℕ) (bytes : List �
       let twice = has_room_twice (recovered (disk.image d)) inum (length bytes) in
       let files : files_of (recovered z) ≡ files_of (recovered (disk.image d)) = ap files_of same.image in
       record {
-        log = same.lawful ∙ is.1;
-        sound = subst IsSound (sym same.image) is.2;
-        files = stops_same inum twice (recovered (disk.image d)) bytes (recovered z) files;
-        either = never_same inum twice (files_of (recovered (disk.image d))) bytes (files_of (recovered z)) files;
-        unshown = subst (KeepsUnshown (recovered (disk.image d))) (sym same.image) (unshown_none (recovered (disk.image d)));
+        put = record {
+          log = same.lawful ∙ is.1;
+          sound = subst IsSound (sym same.image) is.2;
+          files = stops_same inum twice (recovered (disk.image d)) bytes (recovered z) files;
+          either = never_same inum twice (files_of (recovered (disk.image d))) bytes (files_of (recovered z)) files;
+          unshown = subst (KeepsUnshown (recovered (disk.image d))) (sym same.image) (unshown_none (recovered (disk.image d)));
+        };
+        whole = λ few. inl files;
       }
 
   -- the disk was only read, and then recovered, or not
@@ -173,7 +216,7 @@ module _ {D N : Type 0} (disk : Ghosts D N) (inum : Option ℕ) (bytes : List �
   pub read_leaves : StopsPut disk inum bytes d mid
   read_leaves = recovered_leaves mid (unopened_leaves disk mid)
 
-  module _ (twice : Bool) (room : twice ≡ has_room_twice (recovered (disk.image d)) inum (length bytes)) (k m : Plain D) (opened : IsOpenedSole disk mid k) (put : StaysPut disk twice (image_on disk.image k) inum bytes k m) where
+  module _ (resting : Type 0) (k m : Plain D) (opened : IsOpenedOver disk resting mid k) where
     at_first : image_on disk.image k ≡ recovered (disk.image d)
     at_first = opened.image ∙ ap recovered reads.image
 
@@ -184,16 +227,28 @@ module _ {D N : Type 0} (disk : Ghosts D N) (inum : Option ℕ) (bytes : List �
         if_synced disk d e Keeps (run_leaves disk d k.opening e (RecoversAs (disk.image d)) Keeps keeps
         (opened_leaves disk d k.opening sound is opened.settled (recovered_behind disk d mid k.opening reads opened.leaves)) run)
 
-    run : LeavesOnly disk.moment disk.leaves k.opening m.store.volume.device Keeps
-    run =
+    -- many bytes are put call by call
+    pub long_run : (twice : Bool) → twice ≡ has_room_twice (recovered (disk.image d)) inum (length bytes) → transfer_limit < length bytes → StaysPut disk twice (image_on disk.image k) inum bytes k m → LeavesOnly disk.moment disk.leaves k.opening m.store.volume.device Keeps
+    long_run twice room many put =
         subst (λ (o : D). LeavesOnly disk.moment disk.leaves o m.store.volume.device Keeps) opened.device
-        (subst (λ (t : Bool). LeavesOnly disk.moment disk.leaves k.store.volume.device m.store.volume.device (KeepsPut t (recovered (disk.image d)) inum bytes)) room
-        (subst (λ (x : Image). LeavesOnly disk.moment disk.leaves k.store.volume.device m.store.volume.device (KeepsPut twice x inum bytes)) at_first put.leaves))
+        (leaves_wider disk.moment disk.leaves k.store.volume.device m.store.volume.device (KeepsPut twice (image_on disk.image k) inum bytes) Keeps
+        (λ z kept. record {
+          put = subst (λ (t : Bool). KeepsPut t (recovered (disk.image d)) inum bytes z) room (subst (λ (x : Image). KeepsPut twice x inum bytes z) at_first kept);
+          whole = λ few. absurd (omega (arith, few, many));
+        })
+        put.leaves)
+
+    -- few in one transaction
+    pub whole_run : StaysWhole disk inum bytes k m → LeavesOnly disk.moment disk.leaves k.opening m.store.volume.device Keeps
+    whole_run put =
+        subst (λ (o : D). LeavesOnly disk.moment disk.leaves o m.store.volume.device Keeps) opened.device
+        (leaves_wider disk.moment disk.leaves k.store.volume.device m.store.volume.device (KeepsWhole (image_on disk.image k) inum bytes) Keeps
+        (λ z kept. whole_kept (recovered (disk.image d)) inum bytes z (subst (λ (x : Image). KeepsWhole x inum bytes z) at_first kept)) put.leaves)
 
     -- and then calls were made
-    pub put_leaves : StopsPut disk inum bytes d m.store.volume.device
-    put_leaves = since m.store.volume.device run
+    pub put_leaves : LeavesOnly disk.moment disk.leaves k.opening m.store.volume.device Keeps → StopsPut disk inum bytes d m.store.volume.device
+    put_leaves run = since m.store.volume.device run
 
     -- and then a sync
-    pub synced_leaves : (e : D) → AddsNone (disk.moment m.store.volume.device) (disk.moment e) (disk.leaves m.store.volume.device) (disk.leaves e) → StopsPut disk inum bytes d e
-    synced_leaves e time = since e (stays disk.moment disk.leaves k.opening m.store.volume.device e Keeps run time)
+    pub synced_leaves : LeavesOnly disk.moment disk.leaves k.opening m.store.volume.device Keeps → (e : D) → AddsNone (disk.moment m.store.volume.device) (disk.moment e) (disk.leaves m.store.volume.device) (disk.leaves e) → StopsPut disk inum bytes d e
+    synced_leaves run e time = since e (stays disk.moment disk.leaves k.opening m.store.volume.device e Keeps run time)

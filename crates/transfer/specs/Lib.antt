@@ -13,5 +13,7 @@ pub mod Places
 pub mod Rounds
 pub mod Stopped
 pub mod PutWriting
+pub mod Midst
+pub mod Whole
 pub mod Judging
 pub mod Putting

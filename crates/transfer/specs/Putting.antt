@@ -1,22 +1,24 @@
 -- What putting a file's bytes into an image comes to.
-use Rattle.std.specs.Prelude.{◌≡◌, ◌⊎◌, ℕ, Bool, IsTrue, List, length, Option, None, Some}
+use Rattle.std.specs.Prelude.{◌≡◌, ◌<◌, ◌≤◌, ◌⊎◌, ℕ, Bool, IsTrue, List, length, Option, None, Some}
 use Rattle.std.specs.Io.KnownBytes.{Appends}
 use Rattle.blocks.specs.Calls.{OnlyReads}
 use Rattle.blocks.specs.Disk.{Rose}
 use Rattle.blocks.specs.declared.disk.Disk.{Ghosts}
 use Rattle.model.specs.Files.{files_of}
 use Rattle.model.specs.Log.{recovered}
+use Rattle.model.specs.Operations.{transfer_limit}
 use Rattle.model.specs.Verdict.{verdict}
 use Rattle.wal.specs.Step.{FailsToSync}
 use Rattle.wal.specs.declared.types.DeviceFault.{DeviceFault}
 use Rattle.kernel.specs.declared.types.OpenFault.{OpenFault}
 use Rattle.calls.specs.Calls.{IsWhole}
-use Rattle.calls.specs.Opening.{IsNotOpenedSole, IsOpenedSole}
+use Rattle.calls.specs.Opening.{IsNotOpenedPair, IsNotOpenedSole, IsOpenedPair, IsOpenedSole}
 use Rattle.calls.specs.Stepping.{IsReached, Plain}
 use Rattle.calls.specs.Unshown.{KeepsUnshown}
 use Rattle.messages.specs.Output.{number_text}
 use Rattle.transfer.specs.Ending.{SyncsIf}
 use Rattle.transfer.specs.Judging.{IsTold}
+use Rattle.transfer.specs.Midst.{PutsShort}
 use Rattle.transfer.specs.Places.{IsPlainOld}
 use Rattle.transfer.specs.PutWriting.{KeepsSomeOf, PutComesOf}
 use Rattle.transfer.specs.declared.refused.PutRefusal.{PutRefusal}
@@ -54,21 +56,41 @@ pub record IsUnopenedThen {D N : Type 0} (disk : Ghosts D N) (inum : Option ℕ)
   pub plain : IsPlainOld (files_of (recovered (disk.image d))) inum
   pub reads : OnlyReads disk d mid
   pub faults : disk.fault_count mid ≡ disk.fault_count d
-  pub unopened : IsNotOpenedSole disk mid e fault
+  pub unopened : IsNotOpenedSole disk mid e fault ⊎ IsNotOpenedPair disk mid e fault
 
--- memory was refused to a call: the first of the bytes may be put
+-- memory was refused to a call: the first of the bytes may be put; of as few as one write moves none
 pub record RunsOut {D N : Type 0} (disk : Ghosts D N) (inum : Option ℕ) (bytes : List ℕ) (d e : D)
     : Type 0 where
   pub sound : verdict (disk.image d) ≡ None
   pub plain : IsPlainOld (files_of (recovered (disk.image d))) inum
   pub keeps : KeepsSomeOf (recovered (disk.image d)) inum bytes (disk.image e)
+  pub none : length bytes ≤ transfer_limit → disk.image e ≡ recovered (disk.image d)
+  pub faults : disk.fault_count e ≡ disk.fault_count d
+
+-- No block was free for all of as few bytes as one write moves, so their transaction was given up:
+-- a kernel that was opened over the disk d, now e, made turns, and its calls wrote only the first of
+-- them. The image is as recovery leaves it.
+pub record PutsNone {D N : Type 0} (disk : Ghosts D N) (inum : Option ℕ) (bytes : List ℕ) (d e : D)
+    : Type 0 where
+  pub small : length bytes ≤ transfer_limit
+  pub sound : verdict (disk.image d) ≡ None
+  pub plain : IsPlainOld (files_of (recovered (disk.image d))) inum
+  pub mid : D
+  pub reads : OnlyReads disk d mid
+  pub first : Plain D
+  pub opened : IsOpenedPair disk mid first
+  pub last : Plain D
+  pub reached : IsReached disk first last
+  pub part : PutsShort disk inum bytes first last
+  pub device : last.store.volume.device ≡ e
+  pub image : disk.image e ≡ recovered (disk.image d)
   pub faults : disk.fault_count e ≡ disk.fault_count d
 
 -- a kernel that was opened over the disk d, now e, made turns, and then had just this fault
 pub record EndsFailed {D N : Type 0} (disk : Ghosts D N) (d e : D) (cause : DeviceFault) : Type 0
   where
     pub first : Plain D
-    pub opened : IsOpenedSole disk d first
+    pub opened : IsOpenedSole disk d first ⊎ IsOpenedPair disk d first
     pub last : Plain D
     pub reached : IsReached disk first last
     pub fault : last.store.volume.fault ≡ Some cause
@@ -121,7 +143,9 @@ IsUnput disk inum bytes sync d e none NotAFile =
     IsTold disk inum (length bytes) d e NotAFile × none
 IsUnput disk inum bytes sync d e none TooBig = IsTold disk inum (length bytes) d e TooBig × none
 IsUnput disk inum bytes sync d e none Full =
-    (IsTold disk inum (length bytes) d e Full ⊎ ComesTo disk inum bytes d e outcome.Full) × none
+    (IsTold disk inum (length bytes) d e Full
+    ⊎ ((transfer_limit < length bytes) × ComesTo disk inum bytes d e outcome.Full)
+    ⊎ PutsNone disk inum bytes d e) × none
 IsUnput disk inum bytes sync d e none NoMemory =
     (IsTold disk inum (length bytes) d e NoMemory ⊎ RunsOut disk inum bytes d e) × none
 IsUnput disk inum bytes sync d e none (Unopened fault) =

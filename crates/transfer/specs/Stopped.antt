@@ -4,6 +4,7 @@ use Rattle.blocks.specs.Disk.{Image, LeavesOnly}
 use Rattle.blocks.specs.declared.disk.Disk.{Ghosts}
 use Rattle.model.specs.Files.{Files, file_in, files_of}
 use Rattle.model.specs.Log.{is_lawful_log, recovered}
+use Rattle.model.specs.Operations.{transfer_limit}
 use Rattle.model.specs.Soundness.{IsSound}
 use Rattle.calls.specs.Stepping.{IsReached, Plain}
 use Rattle.calls.specs.Unshown.{KeepsUnshown}
@@ -63,9 +64,16 @@ pub record KeepsPut (twice : Bool) (x : Image) (inum : Option ℕ) (bytes : List
   pub either : IsNeverNeither inum twice (files_of x) bytes (files_of (recovered z))
   pub unshown : KeepsUnshown x (recovered z)
 
--- that is left of bytes put into the image of a disk without a fault
-abbrev pub KeepsPutOf : Image → Option ℕ → List ℕ → Image → Type 0
-KeepsPutOf x inum bytes = KeepsPut (has_room_twice x inum (length bytes)) x inum bytes
+-- the files are as before, or all of the bytes were put
+abbrev pub IsNoneOrAll : Image → Option ℕ → List ℕ → Image → Type 0
+IsNoneOrAll x inum bytes y =
+    (files_of y ≡ files_of x) ⊎ ((i : ℕ) × PutsAll (files_of x) inum bytes (files_of y) i)
+
+-- That is left of bytes put into the image of a disk without a fault. As few as one write moves are
+-- put whole or not at all.
+pub record KeepsPutOf (x : Image) (inum : Option ℕ) (bytes : List ℕ) (z : Image) : Type 0 where
+  pub put : KeepsPut (has_room_twice x inum (length bytes)) x inum bytes z
+  pub whole : length bytes ≤ transfer_limit → IsNoneOrAll x inum bytes (recovered z)
 
 -- whatever a stop leaves of a put over the disk d, now e: one since the first sync of its recovery,
 -- or at any moment where nothing was held back on d

@@ -8,6 +8,7 @@
 //! the calls.
 #![tactic(auto)]
 
+mod choosing;
 mod copier;
 mod copying;
 mod ending;
@@ -22,12 +23,13 @@ mod putting;
 mod refused;
 mod rescuer;
 mod source;
+mod whole;
 mod writing;
 mod writing_out;
 
+pub use choosing::put_disk;
 pub use copier::copy;
 pub use fault::CopyFault;
 pub use picking::Rescued;
-pub use putting::put_disk;
 pub use refused::PutRefusal;
 pub use rescuer::rescue;

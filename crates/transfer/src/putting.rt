@@ -1,9 +1,10 @@
-// A file's bytes put into an image.
-ghost use Rattle.std.specs.Prelude.{◌≡◌, ◌≤◌, ◌^◌, IfErr, IfOk, OnOk, length};
+// Many bytes put into an image.
+ghost use Rattle.std.specs.Prelude.{◌≡◌, ◌<◌, ◌≤◌, ◌^◌, IfErr, IfOk, OnOk, length};
 ghost use Rattle.std.specs.Io.KnownBytes.{Appends};
 ghost use Rattle.blocks.specs.Disk.{AddsNone};
 ghost use Rattle.messages.specs.Output.{number_text};
 ghost use Rattle.model.specs.Layout.{form_of, greatest_size};
+ghost use Rattle.model.specs.Operations.{transfer_limit};
 ghost use Rattle.model.specs.Verdict.{verdict};
 ghost use Rattle.calls.specs.Calls.{image_on};
 ghost use Rattle.calls.specs.Files.{files_on};
@@ -25,38 +26,8 @@ use std::alloc::Global;
 use std::io::Write;
 use wal::DeviceFault;
 
-/// Puts bytes into the image of a disk, and prints the number of their file: they take the place of
-/// those of the plain file of this number, of type 2, or are those of a new one at the lowest free
-/// number. The image is checked and recovered first, and with `sync` the disk is synced at the end; each
-/// call is a whole operation (the xv6 book, the chapter "File system": "Logging layer"). So a stop at any moment
-/// leaves, once recovered, the files as they were, or with the old file, or a new one, in which the
-/// first of the bytes stand; of a disk that held writes back at the start, a stop since the sync with
-/// which the recovery began. What no file shows stays, as in `calls::call`.
-///
-/// Over a file there is a way round, where the free blocks have room for both and a number is free:
-/// the bytes go into a new file first, all of them, and it is removed once the old one has them, too.
-/// So whatever a stop leaves, the old bytes are there or the new ones, at the number of the old file
-/// or at another. Else the old bytes are given up first.
-///
-/// The meter is told how many of the bytes were put, for each of the two files anew. Hands the disk
-/// back.
-///
-/// # Errors
-///
-/// `Check` with a fault of the image or of its check, or with `Disk` where a read behind the check
-/// failed. `NoFile` where there is no file of that number, `NotAFile` where that has another type than
-/// 2, `TooBig` where a file of the image's form
-/// can't have so many bytes, `Full` where they need more blocks than are free or needed by the old
-/// file, and `NoMemory`. With these the disk was only read.
-///
-/// `Unopened` with a fault of the kernel's opening. Then `NoInode` where each number is taken: the
-/// files are as before. `Full` where no block is free for all bytes after all: a new file was removed
-/// again, an old one keeps the first of the bytes, and where there was a way round, a new one beside
-/// it keeps all. `NoMemory`: the files are as before, or the first of the bytes are put, as a stop
-/// leaves them. `Disk` with the disk's fault, that of a call's step, or that of the sync where the
-/// bytes were put. With all these nothing was
-/// printed. `Output`: the bytes are put, and the disk is synced as above.
-pub fn put_disk<D: Disk + Drop, P: Meter, O: Write>(
+// Puts more bytes than one write moves, call by call: `put_disk` says how.
+pub fn put_long<D: Disk + Drop, P: Meter, O: Write>(
     alloc: Global,
     disk: D,
     bytes: &[u8],
@@ -65,6 +36,7 @@ pub fn put_disk<D: Disk + Drop, P: Meter, O: Write>(
     progress: &mut P,
     out: &mut O,
 ) -> (Result<(), PutRefusal>, D)
+    requires many { transfer_limit < length bytes.now }
     ensures put { OnOk result.0 (IsPut D.Disk inum bytes.now sync disk result.1
         (O.contents out.old) (O.contents out.new)) }
     ensures refused { IfErr result.0 (IsUnput D.Disk inum bytes.now sync disk result.1
@@ -124,7 +96,7 @@ fn put<D: Disk, P: Meter>(
 }
 
 // Syncs a disk on which bytes were put, where that is asked for, and prints the number of their file.
-fn tell<D: Disk, O: Write>(
+pub fn tell<D: Disk, O: Write>(
     disk: &mut D,
     number: u32,
     sync: bool,

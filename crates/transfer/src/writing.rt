@@ -15,7 +15,7 @@ use model::types::TRANSFER_LIMIT;
 use std::alloc::Global;
 
 // The type of a new file.
-const NEW_KIND: u16 = 2;
+pub const NEW_KIND: u16 = 2;
 
 // The most bytes of a piece.
 const PIECE: usize = TRANSFER_LIMIT as usize;

@@ -23,8 +23,14 @@ use Rattle.calls.specs.Lemmas.Making.{after_tells}
 use Rattle.calls.specs.Lemmas.Unshown.{unshown_renews}
 
 -- where nothing of a transaction was kept
-pub keeps_nothing : (x : Image) (made : Files) (z : Image) → KeepsFiles x z → KeepsEither x made z
-keeps_nothing x made z keeps = record { log = keeps.log; sound = keeps.sound; files = inl keeps.files; unshown = unshown_renews x (recovered z) keeps.unshown }
+pub keeps_nothing : (x : Image) (made : Files) (told : ℕ → ℕ × ℕ × ℕ) (z : Image) → KeepsFiles x z → KeepsEither x made told z
+keeps_nothing x made told z keeps = record {
+  log = keeps.log;
+  sound = keeps.sound;
+  files = inl keeps.files;
+  unshown = unshown_renews x (recovered z) keeps.unshown;
+  labels = inl keeps.unshown;
+}
 
 -- what a stop leaves may be said with less
 pub weaker : {D : Type 0} (moment : D → ℕ) (leaves : D → ℕ → Image → Type 0) (old new : D) (P Q : Image → Type 0) → ((z : Image) → P z → Q z) → LeavesOnly moment leaves old new P → LeavesOnly moment leaves old new Q
@@ -34,6 +40,31 @@ weaker moment leaves old new P Q less all = record {
   before = λ t z le left. ⊎_elim (λ was. inl was) (λ p. inr (less z p)) (all.before t z le left);
   keeps = all.keeps;
 }
+
+-- neither, where the files are as before
+keeps_neither : (x : Image) (first second : Op) (y : Image) → y ≡ x → (z : Image) → KeepsFiles y z → KeepsBoth x first second z
+keeps_neither x first second y same z keeps = record {
+  log = keeps.log;
+  sound = keeps.sound;
+  files = inl (keeps.files ∙ ap files_of same);
+  unshown = subst (λ (w : Image). KeepsOrRenews w (recovered z)) same (unshown_renews y (recovered z) keeps.unshown);
+}
+
+-- a stop before the commit keeps neither
+pub neither_leaves : {D N : Type 0} (disk : Ghosts D N) (first second : Op) (k a b d : Plain D) → image_on disk.image a ≡ image_on disk.image k → image_on disk.image b ≡ image_on disk.image a → LeavesOnly disk.moment disk.leaves k.store.volume.device a.store.volume.device (KeepsFiles (image_on disk.image k)) → LeavesOnly disk.moment disk.leaves a.store.volume.device b.store.volume.device (KeepsFiles (image_on disk.image a))
+    → LeavesOnly disk.moment disk.leaves b.store.volume.device d.store.volume.device (KeepsFiles (image_on disk.image b)) → LeavesOnly disk.moment disk.leaves k.store.volume.device d.store.volume.device (KeepsBoth (image_on disk.image k) first second)
+neither_leaves disk first second k a b d same_a same_b begin one two =
+    let x = image_on disk.image k in
+    let P : Image → Type 0 = KeepsBoth x first second in
+    let dk = k.store.volume.device in
+    let da = a.store.volume.device in
+    let db = b.store.volume.device in
+    let dd = d.store.volume.device in
+    joined disk.moment disk.leaves dk db dd P
+    (joined disk.moment disk.leaves dk da db P
+    (weaker disk.moment disk.leaves dk da (KeepsFiles x) P (keeps_neither x first second x refl) begin)
+    (weaker disk.moment disk.leaves da db (KeepsFiles (image_on disk.image a)) P (keeps_neither x first second (image_on disk.image a) same_a) one))
+    (weaker disk.moment disk.leaves db dd (KeepsFiles (image_on disk.image b)) P (keeps_neither x first second (image_on disk.image b) (same_b ∙ same_a)) two)
 
 module _ {D N : Type 0} (disk : Ghosts D N) (first second : Op) (k a b d : Plain D) (r s : Reply) (begins : Begins disk.image k a) (one : Adds disk.image first a b r) (two : Adds disk.image second b d s) (opening_a : a.opening ≡ k.opening) (opening_b : b.opening ≡ a.opening) (opening_d : d.opening ≡ b.opening) where
   made : (f : Files) × AreAfterBoth (image_on disk.image k) first second r s f × HasFiles disk.image d f
@@ -52,9 +83,9 @@ module _ {D N : Type 0} (disk : Ghosts D N) (first second : Op) (k a b d : Plain
       )
 
   keeps_none : (y : Image) → y ≡ image_on disk.image k → (z : Image) → KeepsFiles y z → KeepsBoth (image_on disk.image k) first second z
-  keeps_none y same z keeps = record { log = keeps.log; sound = keeps.sound; files = inl (keeps.files ∙ ap files_of same); unshown = subst (λ (x : Image). KeepsOrRenews x (recovered z)) same (unshown_renews y (recovered z) keeps.unshown) }
+  keeps_none = keeps_neither (image_on disk.image k) first second
 
-  keeps_either : (y : Image) → y ≡ image_on disk.image k → (z : Image) → KeepsEither y made.0 z → KeepsBoth (image_on disk.image k) first second z
+  keeps_either : (y : Image) → y ≡ image_on disk.image k → (z : Image) → KeepsEither y made.0 (labels_made disk.image d) z → KeepsBoth (image_on disk.image k) first second z
   keeps_either y same z keeps = record {
     log = keeps.log;
     sound = keeps.sound;
@@ -65,7 +96,7 @@ module _ {D N : Type 0} (disk : Ghosts D N) (first second : Op) (k a b d : Plain
 
   -- a stop in it keeps both or neither
   pub both_leave : (m : Plain D) → LeavesOnly disk.moment disk.leaves k.store.volume.device a.store.volume.device (KeepsFiles (image_on disk.image k)) → LeavesOnly disk.moment disk.leaves a.store.volume.device b.store.volume.device (KeepsFiles (image_on disk.image a)) → LeavesOnly disk.moment disk.leaves b.store.volume.device d.store.volume.device (KeepsFiles (image_on disk.image b))
-      → ((f : Files) → HasFiles disk.image d f → LeavesOnly disk.moment disk.leaves d.store.volume.device m.store.volume.device (KeepsEither (image_on disk.image d) f)) → LeavesOnly disk.moment disk.leaves k.store.volume.device m.store.volume.device (KeepsBoth (image_on disk.image k) first second)
+      → ((f : Files) → HasFiles disk.image d f → LeavesOnly disk.moment disk.leaves d.store.volume.device m.store.volume.device (KeepsEither (image_on disk.image d) f (labels_made disk.image d))) → LeavesOnly disk.moment disk.leaves k.store.volume.device m.store.volume.device (KeepsBoth (image_on disk.image k) first second)
   both_leave m first_leaves one_leaves two_leaves last_leaves =
       let P : Image → Type 0 = KeepsBoth (image_on disk.image k) first second in
       let same_b : image_on disk.image b ≡ image_on disk.image k = one.same ∙ begins.same in
@@ -81,7 +112,7 @@ module _ {D N : Type 0} (disk : Ghosts D N) (first second : Op) (k a b d : Plain
       (weaker disk.moment disk.leaves dk da (KeepsFiles (image_on disk.image k)) P (keeps_none (image_on disk.image k) refl) first_leaves)
       (weaker disk.moment disk.leaves da db (KeepsFiles (image_on disk.image a)) P (keeps_none (image_on disk.image a) begins.same) one_leaves))
       (weaker disk.moment disk.leaves db dd (KeepsFiles (image_on disk.image b)) P (keeps_none (image_on disk.image b) same_b) two_leaves))
-      (weaker disk.moment disk.leaves dd dm (KeepsEither (image_on disk.image d) made.0) P (keeps_either (image_on disk.image d) same_d) (last_leaves made.0 made.2))
+      (weaker disk.moment disk.leaves dd dm (KeepsEither (image_on disk.image d) made.0 (labels_made disk.image d)) P (keeps_either (image_on disk.image d) same_d) (last_leaves made.0 made.2))
 
   -- a file that neither made was there, with its labels
   both_labels : (m : Plain D) → Commits disk.image d m → (i : ℕ) → file_in (files_of (image_on disk.image m)) i ≢ None → (b c : Bool) → is_making i (Some s) ≡ b → is_making i (Some r) ≡ c →

@@ -37,15 +37,15 @@ module _ {D N : Type 0} (disk : Ghosts D N) where
   pub reached_ports : (k m : Plain D) → m ≡ record k { intake = m.intake } → IsReached disk k m
   reached_ports k m same = record { turns = []; session = (m.intake, k.herald, same) }
 
-  -- a step
-  pub reached_step : (r : Step) (k m : Plain D) → MakesPlainStep disk 0 r k m → IsReached disk k m
-  reached_step r k m made = record { turns = Proc 0 ∷ []; session = (m, (k.intake, k.herald, (r, made)), (m.intake, m.herald, refl)) }
+  -- a step of a process
+  pub reached_step : (p : ℕ) (r : Step) (k m : Plain D) → MakesPlainStep disk p r k m → IsReached disk k m
+  reached_step p r k m made = record { turns = Proc p ∷ []; session = (m, (k.intake, k.herald, (r, made)), (m.intake, m.herald, refl)) }
 
-  reached_moves : (n : ℕ) (k m : Plain D) → Moves (MakesPlainStep disk 0) n k m → IsReached disk k m
+  reached_moves : (p : ℕ) (n : ℕ) (k m : Plain D) → Moves (MakesPlainStep disk p) n k m → IsReached disk k m
   unfolding Moves
-  reached_moves zero k m is = subst (IsReached disk k) (sym is) (reached_none k)
-  reached_moves (suc n) k m (mid, made, moves) = reached_then k mid m (reached_step step.Moved k mid made) (reached_moves n mid m moves)
+  reached_moves p zero k m is = subst (IsReached disk k) (sym is) (reached_none k)
+  reached_moves p (suc n) k m (mid, made, moves) = reached_then k mid m (reached_step p step.Moved k mid made) (reached_moves p n mid m moves)
 
   -- steps
-  pub reached_steps : (r : Step) (k m : Plain D) → MakesSteps disk plain_queues plain_herald 0 r k m → IsReached disk k m
-  reached_steps r k m makes = reached_then k makes.mid m (reached_moves makes.moved k makes.mid makes.moves) (reached_step r makes.mid m makes.made)
+  pub reached_steps : (p : ℕ) (r : Step) (k m : Plain D) → MakesSteps disk plain_queues plain_herald p r k m → IsReached disk k m
+  reached_steps p r k m makes = reached_then k makes.mid m (reached_moves p makes.moved k makes.mid makes.moves) (reached_step p r makes.mid m makes.made)

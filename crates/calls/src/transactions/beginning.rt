@@ -3,6 +3,7 @@ ghost use Rattle.std.specs.Prelude.{◌≡◌, ◌<◌, ◌^◌, IfErr, OnOk};
 ghost use Rattle.blocks.specs.Disk.{LeavesOnly};
 ghost use Rattle.calls.specs.Calls.{call_count, image_on};
 ghost use Rattle.calls.specs.Transactions.{Begins, IsInside, IsUnbegun, KeepsFiles, Rests};
+ghost use Rattle.calls.specs.Stepping.{IsReached};
 
 use crate::transactions::fault::TransactionFault;
 use blocks::Disk;
@@ -33,6 +34,7 @@ pub fn begin<D: Disk>(alloc: Global, kernel: &mut Pair<D>) -> Result<(), Transac
     ensures leaves { LeavesOnly D.moment D.leaves
         kernel.old.store.volume.device kernel.new.store.volume.device
         (KeepsFiles (image_on D.image kernel.old)) }
+    ensures reached { IsReached D.Disk kernel.old kernel.new }
     ensures opening { kernel.new.opening ≡ kernel.old.opening }
     ensures name { D.name kernel.new.store.volume.device ≡ D.name kernel.old.store.volume.device }
 {

@@ -3,6 +3,7 @@ ghost use Rattle.std.specs.Prelude.{◌≡◌, ◌<◌, ◌^◌, IfErr, IfOk, On
 ghost use Rattle.blocks.specs.Disk.{LeavesOnly};
 ghost use Rattle.calls.specs.Calls.{call_count, image_on};
 ghost use Rattle.calls.specs.Transactions.{Adds, IsInside, IsUncalled, KeepsFiles, has_room};
+ghost use Rattle.calls.specs.Stepping.{IsReached};
 
 use crate::stepping::make_steps;
 use crate::transactions::beginning::Pair;
@@ -36,6 +37,7 @@ pub fn call<D: Disk>(kernel: &mut Pair<D>, op: Op) -> Result<Reply, TransactionF
     ensures leaves { LeavesOnly D.moment D.leaves
         kernel.old.store.volume.device kernel.new.store.volume.device
         (KeepsFiles (image_on D.image kernel.old)) }
+    ensures reached { IsReached D.Disk kernel.old kernel.new }
     ensures opening { kernel.new.opening ≡ kernel.old.opening }
     ensures name { D.name kernel.new.store.volume.device ≡ D.name kernel.old.store.volume.device }
 {

@@ -3,7 +3,8 @@ ghost use Rattle.std.specs.Prelude.{◌≡◌, ◌<◌, ◌^◌, IfErr, OnOk};
 ghost use Rattle.blocks.specs.Disk.{LeavesOnly};
 ghost use Rattle.calls.specs.Calls.{call_count, image_on};
 ghost use Rattle.model.specs.Files.{Files};
-ghost use Rattle.calls.specs.Transactions.{Commits, HasFiles, IsInside, IsUncommitted, KeepsEither, Rests};
+ghost use Rattle.calls.specs.Transactions.{Commits, HasFiles, IsInside, IsUncommitted, KeepsEither, Rests, labels_made};
+ghost use Rattle.calls.specs.Stepping.{IsReached};
 
 use crate::stepping::make_steps;
 use crate::transactions::beginning::Pair;
@@ -28,7 +29,8 @@ pub fn commit<D: Disk>(kernel: &mut Pair<D>) -> Result<(), TransactionFault>
     ensures refused { IfErr result (IsUncommitted D.Disk kernel.old kernel.new) }
     ensures leaves { (f : Files) → HasFiles D.image kernel.old f → LeavesOnly D.moment D.leaves
         kernel.old.store.volume.device kernel.new.store.volume.device
-        (KeepsEither (image_on D.image kernel.old) f) }
+        (KeepsEither (image_on D.image kernel.old) f (labels_made D.image kernel.old)) }
+    ensures reached { IsReached D.Disk kernel.old kernel.new }
     ensures opening { kernel.new.opening ≡ kernel.old.opening }
     ensures name { D.name kernel.new.store.volume.device ≡ D.name kernel.old.store.volume.device }
 {

@@ -19,6 +19,17 @@ pub fn rested<D: Disk>(kernel: &Pair<D>)
     kernel.known();
 }
 
+/// Does nothing: it says what a stop leaves in the midst of a transaction. Recovery gives a sound image
+/// with the files that were on the disk before it.
+pub fn still<D: Disk>(kernel: &Pair<D>)
+    requires { IsInside D.fault_count kernel.now }
+    ensures { LeavesOnly D.moment D.leaves
+        kernel.now.store.volume.device kernel.now.store.volume.device
+        (KeepsFiles (image_on D.image kernel.now)) }
+{
+    kernel.known();
+}
+
 /// Gives a transaction up, or what a refusal left of one: nothing of it was written, unless the disk
 /// failed in its commit. The disk may be opened again. One that is given up in the midst of a
 /// transaction has the files that were on it, for `begin` and `call` leave its image.

@@ -4,7 +4,7 @@ use Rattle.ports.specs.Queues.{waiting}
 use Rattle.history.specs.Processes.{process}
 use Rattle.model.specs.declared.types.operations.Step.{Step}
 use Rattle.model.specs.declared.types.operations.Step.TheVariants as step
-use Rattle.calls.proofs.Begun.{EndsSo, IsBeginning, begin_begins, begin_ends, begin_failed, begin_inside, begin_leaves, begin_name, begin_opening, begin_stays, is_beginning}
+use Rattle.calls.proofs.Begun.{EndsSo, IsBeginning, begin_begins, begin_ends, begin_failed, begin_inside, begin_leaves, begin_name, begin_opening, begin_reached, begin_stays, is_beginning}
 use Rattle.calls.proofs.Counting.{is_handed_in}
 use Rattle.calls.proofs.transactions.beginning.begin.Given.{Over}
 use Rattle.calls.proofs.transactions.beginning.begin.Goals.{After-known-3}
@@ -49,6 +49,7 @@ returns-in-Some g c =
       begins = search rules;
       refused = begin_failed g.D.Disk g.met.D.Disk.has_now r k m call c.in-Some.fault (search rules);
       leaves = begin_leaves g.D.Disk g.met.D.Disk.has_now r k m call;
+      reached = begin_reached g.D.Disk g.met.D.Disk.has_now r k m call;
       opening = begin_opening g.D.Disk g.met.D.Disk.has_now r k m call;
       name = begin_name g.D.Disk g.met.D.Disk.has_now r k m call;
     }
@@ -65,6 +66,7 @@ returns-in-Moved g c =
       begins = begin_begins g.D.Disk g.met.D.Disk.has_now r k m call (search rules);
       refused = search rules;
       leaves = begin_leaves g.D.Disk g.met.D.Disk.has_now r k m call;
+      reached = begin_reached g.D.Disk g.met.D.Disk.has_now r k m call;
       opening = begin_opening g.D.Disk g.met.D.Disk.has_now r k m call;
       name = begin_name g.D.Disk g.met.D.Disk.has_now r k m call;
     }
@@ -81,6 +83,7 @@ returns-in-NoMemory g c =
       begins = search rules;
       refused = begin_stays g.D.Disk g.met.D.Disk.has_now r k m call (search rules);
       leaves = begin_leaves g.D.Disk g.met.D.Disk.has_now r k m call;
+      reached = begin_reached g.D.Disk g.met.D.Disk.has_now r k m call;
       opening = begin_opening g.D.Disk g.met.D.Disk.has_now r k m call;
       name = begin_name g.D.Disk g.met.D.Disk.has_now r k m call;
     }

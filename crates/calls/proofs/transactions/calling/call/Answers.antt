@@ -7,8 +7,9 @@ use Rattle.history.specs.Processes.{process}
 use Rattle.model.specs.declared.types.operations.Step.{Step}
 use Rattle.model.specs.declared.types.operations.Step.TheVariants as step
 use Rattle.calls.specs.Calls.{image_on}
+use Rattle.calls.specs.Lemmas.Reaching.{reached_none, reached_ports, reached_then}
 use Rattle.calls.specs.Transactions.{Adds, KeepsFiles}
-use Rattle.calls.proofs.Adding.{EndsSo, IsAdding, call_adds, call_done, call_ends, call_inside, call_leaves, call_stays, call_wakes, is_adding}
+use Rattle.calls.proofs.Adding.{EndsSo, IsAdding, call_adds, call_done, call_ends, call_inside, call_leaves, call_reached, call_stays, call_wakes, is_adding}
 use Rattle.calls.proofs.Called.{call_failed, call_name, call_opening}
 use Rattle.calls.proofs.Counting.{is_handed_in}
 use Rattle.calls.proofs.Keeping.{leaves_still}
@@ -40,6 +41,7 @@ returns-then-not-has_room g c =
       adds = search rules;
       refused = record { same = refl; changes = full.0; full = full.1 };
       leaves = leaves_still g.D.Disk g.met.D.Disk.has_now k c.known.ensures c.requires.inside.pair.well open_one.quiet;
+      reached = reached_none g.D.Disk k;
       opening = refl;
       name = refl;
     }
@@ -57,6 +59,7 @@ returns-in-Some g c =
       adds = search rules;
       refused = call_failed g.D.Disk 0 op r k m call.call c.in-Some.fault (search rules);
       leaves = call_leaves g.D.Disk op r k m call g.met.D.Disk.has_now;
+      reached = call_reached g.D.Disk op r k m call;
       opening = call_opening g.D.Disk 0 op r k m call.call;
       name = call_name g.D.Disk 0 op r k m call.call;
     }
@@ -74,6 +77,7 @@ returns-in-NoMemory g c =
       adds = search rules;
       refused = call_stays g.D.Disk op r k m call (search rules);
       leaves = call_leaves g.D.Disk op r k m call g.met.D.Disk.has_now;
+      reached = call_reached g.D.Disk op r k m call;
       opening = call_opening g.D.Disk 0 op r k m call.call;
       name = call_name g.D.Disk 0 op r k m call.call;
     }
@@ -97,6 +101,7 @@ returns-in-Some-poll g c =
       adds = subst (λ a. Adds g.D.Disk.image op k c.poll.new.self a.reply) (sym answer) (call_adds g.D.Disk op r k m call so c.poll.new.self c.poll.ensures.same);
       refused = search rules;
       leaves = subst (λ n. LeavesOnly g.D.Disk.moment g.D.Disk.leaves k.store.volume.device n.store.volume.device (KeepsFiles (image_on g.D.Disk.image k))) (sym c.poll.ensures.same) (call_leaves g.D.Disk op r k m call g.met.D.Disk.has_now);
+      reached = reached_then g.D.Disk k m c.poll.new.self (call_reached g.D.Disk op r k m call) (reached_ports g.D.Disk m c.poll.new.self c.poll.ensures.same);
       opening = ap (λ n. n.opening) c.poll.ensures.same ∙ call_opening g.D.Disk 0 op r k m call.call;
       name = ap (λ n. g.D.Disk.name n.store.volume.device) c.poll.ensures.same ∙ call_name g.D.Disk 0 op r k m call.call;
     }

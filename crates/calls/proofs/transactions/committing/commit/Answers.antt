@@ -6,8 +6,9 @@ use Rattle.ports.specs.Queues.{polled}
 use Rattle.model.specs.declared.types.operations.Step.{Step}
 use Rattle.model.specs.declared.types.operations.Step.TheVariants as step
 use Rattle.calls.specs.Calls.{image_on}
-use Rattle.calls.specs.Transactions.{KeepsEither}
-use Rattle.calls.proofs.Committed.{EndsSo, IsCommit, commit_answered, commit_ends, commit_failed, commit_leaves, commit_made, commit_name, commit_opening, commit_rests}
+use Rattle.calls.specs.Transactions.{KeepsEither, labels_made}
+use Rattle.calls.specs.Lemmas.Reaching.{reached_ports, reached_then}
+use Rattle.calls.proofs.Committed.{EndsSo, IsCommit, commit_answered, commit_ends, commit_failed, commit_leaves, commit_made, commit_name, commit_opening, commit_reached, commit_rests}
 use Rattle.calls.proofs.transactions.committing.commit.Given.{Over}
 use Rattle.calls.proofs.transactions.committing.commit.Goals.{After-sleeps_for_cause}
 use Rattle.calls.proofs.transactions.committing.commit.Goals as goal
@@ -34,6 +35,7 @@ returns-in-Some g c =
       commits = search rules;
       refused = commit_failed g.D.Disk r k m call c.in-Some.fault (search rules);
       leaves = λ f has. commit_leaves g.D.Disk r k m call g.met.D.Disk.has_now f has;
+      reached = commit_reached g.D.Disk r k m call;
       opening = commit_opening g.D.Disk r k m call;
       name = commit_name g.D.Disk r k m call;
     }
@@ -77,7 +79,8 @@ returns g c =
       rests = commit_rests g.D.Disk r k m call so well n c.poll.ensures.same c.poll.ensures.waiting (c.poll.ensures.polled ∙ ap (λ a. polled_after a (polled m.intake 1)) c.poll.ensures.oldest) c.poll.ensures.others;
       commits = commit_made g.D.Disk r k m call so well g.met.D.Disk.has_now n c.poll.ensures.same;
       refused = search rules;
-      leaves = λ f has. subst (λ o. LeavesOnly g.D.Disk.moment g.D.Disk.leaves k.store.volume.device o.store.volume.device (KeepsEither (image_on g.D.Disk.image k) f)) (sym c.poll.ensures.same) (commit_leaves g.D.Disk r k m call g.met.D.Disk.has_now f has);
+      leaves = λ f has. subst (λ o. LeavesOnly g.D.Disk.moment g.D.Disk.leaves k.store.volume.device o.store.volume.device (KeepsEither (image_on g.D.Disk.image k) f (labels_made g.D.Disk.image k))) (sym c.poll.ensures.same) (commit_leaves g.D.Disk r k m call g.met.D.Disk.has_now f has);
+      reached = reached_then g.D.Disk k m n (commit_reached g.D.Disk r k m call) (reached_ports g.D.Disk m n c.poll.ensures.same);
       opening = ap (λ o. o.opening) c.poll.ensures.same ∙ commit_opening g.D.Disk r k m call;
       name = ap (λ o. g.D.Disk.name o.store.volume.device) c.poll.ensures.same ∙ commit_name g.D.Disk r k m call;
     }

@@ -1,5 +1,9 @@
-use Rattle.calls.specs.Lemmas.Both.{both_leave, both_made}
+use Rattle.calls.specs.Lemmas.Both.{both_leave, both_made, neither_leaves}
 use Rattle.calls.proofs.transactions.pairing.make_both.Goals as goal
+
+pub returns-in_err-two-clause-leaves : goal.returns-in_err-two-clause-leaves
+returns-in_err-two-clause-leaves g c =
+    neither_leaves g.D.Disk c.args.first c.args.second c.args.kernel.now c.begin.new.kernel c.call.new.kernel c.call-2.new.kernel c.in_ok-begin.ensures.begins.same c.in_ok-one.ensures.adds.same c.begin.ensures.leaves c.call.ensures.leaves c.call-2.ensures.leaves
 
 pub returns-in_err-commit-clause-leaves : goal.returns-in_err-commit-clause-leaves
 returns-in_err-commit-clause-leaves g c =

@@ -1,11 +1,11 @@
-use Rattle.std.proofs.Common.{refl, sym, subst}
+use Rattle.std.proofs.Common.{refl, sym, subst, inl}
 use Rattle.std.specs.Prelude.{◌≡◌}
 use Rattle.blocks.specs.Disk.{AddsNone}
 use Rattle.opening.specs.Lemmas.Keeping.{not_opened_leaves}
 use Rattle.transfer.specs.Putting.{IsUnput}
 use Rattle.transfer.specs.Stopped.{StopsPut}
-use Rattle.transfer.proofs.OpenedLemmas.{put_leaves, put_so, put_untold, read_leaves, recovered_leaves, synced_leaves, told_so, unopened_then, unwritten_so}
-use Rattle.transfer.proofs.putting.put_disk.Goals as goal
+use Rattle.transfer.proofs.OpenedLemmas.{long_run, put_leaves, put_so, put_untold, read_leaves, recovered_leaves, synced_leaves, told_so, unopened_then, unwritten_so}
+use Rattle.transfer.proofs.putting.put_long.Goals as goal
 
 pub returns-in-Err-clause-refused : goal.returns-in-Err-clause-refused
 returns-in-Err-clause-refused g c =
@@ -13,19 +13,19 @@ returns-in-Err-clause-refused g c =
 
 pub returns-in-Err-open_sole-clause-refused : goal.returns-in-Err-open_sole-clause-refused
 returns-in-Err-open_sole-clause-refused g c =
-    (unopened_then g.D.Disk c.args.inum c.args.bytes.now c.args.sync c.args.disk c.judge.new.disk c.in-Ok.ensures.fit c.in-Err-open_sole.disk c.in-Err-open_sole.fault c.in-Err-open_sole.ensures.refused, refl)
+    (unopened_then g.D.Disk c.args.inum c.args.bytes.now c.args.sync c.args.disk c.judge.new.disk c.in-Ok.ensures.fit c.in-Err-open_sole.disk c.in-Err-open_sole.fault (inl c.in-Err-open_sole.ensures.refused), refl)
 
 pub returns-in-Ok-put-clause-put : goal.returns-in-Ok-put-clause-put
 returns-in-Ok-put-clause-put g c =
     let d = g.D.Disk in
     let contents = g.O.Write.contents in
-    put_so d c.args.inum c.args.bytes.now c.args.sync c.args.disk c.judge.new.disk c.in-Ok.ensures.fit c.in-Ok-open_sole.kernel c.in-Ok-open_sole.ensures.opened c.in-Ok.twice c.in-Ok.ensures.twice c.put-put.new.kernel c.into_disk-disk.result c.tell-told.new.disk c.into_disk-disk.ensures c.in-Ok-put.number c.in-Ok-put.ensures.put
+    put_so d c.args.inum c.args.bytes.now c.args.sync c.args.disk c.judge.new.disk c.in-Ok.ensures.fit _ c.in-Ok-open_sole.kernel c.in-Ok-open_sole.ensures.opened c.in-Ok.twice c.in-Ok.ensures.twice c.put-put.new.kernel c.into_disk-disk.result c.tell-told.new.disk c.into_disk-disk.ensures c.in-Ok-put.number c.in-Ok-put.ensures.put
     c.tell-told.result (contents c.args.out.now) (contents c.tell-told.new.out) c.tell-told.ensures.syncs c.tell-told.ensures.printed
 
 pub returns-in-Ok-put-clause-refused : goal.returns-in-Ok-put-clause-refused
 returns-in-Ok-put-clause-refused g c =
     let d = g.D.Disk in
-    put_untold d c.args.inum c.args.bytes.now c.args.sync c.args.disk c.judge.new.disk c.in-Ok.ensures.fit c.in-Ok-open_sole.kernel c.in-Ok-open_sole.ensures.opened c.in-Ok.twice c.in-Ok.ensures.twice c.put-put.new.kernel c.into_disk-disk.result c.tell-told.new.disk c.into_disk-disk.ensures c.in-Ok-put.number c.in-Ok-put.ensures.put
+    put_untold d c.args.inum c.args.bytes.now c.args.sync c.args.disk c.judge.new.disk c.in-Ok.ensures.fit _ c.in-Ok-open_sole.kernel c.in-Ok-open_sole.ensures.opened c.in-Ok.twice c.in-Ok.ensures.twice c.put-put.new.kernel c.into_disk-disk.result c.tell-told.new.disk c.into_disk-disk.ensures c.in-Ok-put.number c.in-Ok-put.ensures.put
     c.tell-told.result _ c.tell-told.ensures.refused
 
 pub returns-in-Err-put-clause-refused : goal.returns-in-Err-put-clause-refused
@@ -33,8 +33,8 @@ returns-in-Err-put-clause-refused g c =
     let d = g.D.Disk in
     let none = c.args.out.now ≡ c.args.out.now in
     subst (λ e. IsUnput d c.args.inum c.args.bytes.now c.args.sync c.args.disk e none c.in-Err-put.refusal) (sym c.into_disk.ensures)
-    (unwritten_so d c.args.inum c.args.bytes.now c.args.sync c.args.disk c.judge.new.disk c.in-Ok.ensures.fit c.in-Ok-open_sole.kernel c.in-Ok-open_sole.ensures.opened c.in-Ok.twice c.in-Ok.ensures.twice
-    c.put-put.new.kernel none c.put-put.ensures.stays.reached refl c.in-Err-put.refusal c.in-Err-put.ensures.refused)
+    (unwritten_so d c.args.inum c.args.bytes.now c.args.sync c.args.disk c.judge.new.disk c.in-Ok.ensures.fit _ c.in-Ok-open_sole.kernel c.in-Ok-open_sole.ensures.opened c.in-Ok.twice c.in-Ok.ensures.twice
+    c.put-put.new.kernel none c.requires.many c.in-Ok-open_sole.ensures.opened c.put-put.ensures.stays.reached refl c.in-Err-put.refusal c.in-Err-put.ensures.refused)
 
 pub returns-in-Err-clause-leaves : goal.returns-in-Err-clause-leaves
 returns-in-Err-clause-leaves g c =
@@ -50,11 +50,14 @@ returns-in-Err-open_sole-clause-leaves g c =
 pub returns-in-Ok-put-clause-leaves : goal.returns-in-Ok-put-clause-leaves
 returns-in-Ok-put-clause-leaves g c =
     let d = g.D.Disk in
-    λ sound. synced_leaves d c.args.inum c.args.bytes.now c.args.disk c.judge.new.disk sound c.in-Ok.ensures.fit.reads c.in-Ok.twice c.in-Ok.ensures.twice c.in-Ok-open_sole.kernel c.put-put.new.kernel c.in-Ok-open_sole.ensures.opened c.put-put.ensures.stays c.tell-told.new.disk
+    λ sound. synced_leaves d c.args.inum c.args.bytes.now c.args.disk c.judge.new.disk sound c.in-Ok.ensures.fit.reads _ c.in-Ok-open_sole.kernel c.put-put.new.kernel c.in-Ok-open_sole.ensures.opened
+    (long_run d c.args.inum c.args.bytes.now c.args.disk c.judge.new.disk sound c.in-Ok.ensures.fit.reads _ c.in-Ok-open_sole.kernel c.put-put.new.kernel c.in-Ok-open_sole.ensures.opened c.in-Ok.twice c.in-Ok.ensures.twice c.requires.many c.put-put.ensures.stays)
+    c.tell-told.new.disk
     (subst (λ e. AddsNone (d.moment e) (d.moment c.tell-told.new.disk) (d.leaves e) (d.leaves c.tell-told.new.disk)) c.into_disk-disk.ensures c.tell-told.ensures.time)
 
 pub returns-in-Err-put-clause-leaves : goal.returns-in-Err-put-clause-leaves
 returns-in-Err-put-clause-leaves g c =
     let d = g.D.Disk in
     λ sound. subst (λ e. StopsPut d c.args.inum c.args.bytes.now c.args.disk e) (sym c.into_disk.ensures)
-    (put_leaves d c.args.inum c.args.bytes.now c.args.disk c.judge.new.disk sound c.in-Ok.ensures.fit.reads c.in-Ok.twice c.in-Ok.ensures.twice c.in-Ok-open_sole.kernel c.put-put.new.kernel c.in-Ok-open_sole.ensures.opened c.put-put.ensures.stays)
+    (put_leaves d c.args.inum c.args.bytes.now c.args.disk c.judge.new.disk sound c.in-Ok.ensures.fit.reads _ c.in-Ok-open_sole.kernel c.put-put.new.kernel c.in-Ok-open_sole.ensures.opened
+    (long_run d c.args.inum c.args.bytes.now c.args.disk c.judge.new.disk sound c.in-Ok.ensures.fit.reads _ c.in-Ok-open_sole.kernel c.put-put.new.kernel c.in-Ok-open_sole.ensures.opened c.in-Ok.twice c.in-Ok.ensures.twice c.requires.many c.put-put.ensures.stays))
