@@ -22,3 +22,4 @@ pub mod WholeChanges
 pub mod Repoints
 pub mod Below
 pub mod MovingDirectory
+pub mod Emptiness

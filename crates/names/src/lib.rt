@@ -10,6 +10,7 @@
 //! above the lower storey, by public calls alone.
 #![tactic(auto)]
 
+mod directory;
 mod entries;
 mod fault;
 mod files;
@@ -18,8 +19,9 @@ pub mod laws;
 mod name;
 pub mod tree_laws;
 
+pub use directory::{NEW_DIRECTORY_SIZE, is_empty, new_directory};
 pub use entries::{
-    DIRECTORY, DIRECTORY_SIZE, ENTRY_SIZE, EntryWrite, LinkFault, link, lookup, unlink,
+    DIRECTORY, DIRECTORY_SIZE, ENTRY_SIZE, EntryWrite, LinkFault, link, lookup, repoint, unlink,
 };
 pub use fault::FilesFault;
 pub use files::NamedFiles;

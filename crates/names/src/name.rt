@@ -1,7 +1,8 @@
 // Names of files.
-ghost use Rattle.std.specs.Prelude.{◌≡◌, ◌<◌, [], length, Contains, OnOk, IfOk, IfErr};
+ghost use Rattle.std.specs.Prelude.{◌≡◌, ◌↔◌, ◌<◌, [], length, Contains, IsTrue, OnOk, IfOk, IfErr};
 ghost use Rattle.names.specs.Entries.{name_size, padded};
 ghost use Rattle.names.specs.Names.{IsName, IsNameCause};
+ghost use Rattle.names.specs.Trees.{parent_name, self_name, IsDown};
 
 use std::marker::Model;
 use thiserror::Error;
@@ -59,6 +60,32 @@ impl Name {
         let mut bytes = [0; NAME_SIZE];
         bytes[..text.len()].copy_from_slice(text);
         Ok(Name { bytes })
+    }
+
+    /// A directory's name for itself, a dot.
+    pub fn own() -> Name
+        ensures { result ≡ self_name }
+    {
+        Name {
+            bytes: *b".\0\0\0\0\0\0\0\0\0\0\0\0\0",
+        }
+    }
+
+    /// A directory's name for its parent, two dots.
+    pub fn parent() -> Name
+        ensures { result ≡ parent_name }
+    {
+        Name {
+            bytes: *b"..\0\0\0\0\0\0\0\0\0\0\0\0",
+        }
+    }
+
+    /// Whether the name leads down: it is a directory's name neither for itself nor for its parent.
+    pub fn is_down(&self) -> bool
+        ensures { IsTrue result ↔ IsDown self.now }
+    {
+        *self.as_slice() != *Name::own().as_slice()
+            && *self.as_slice() != *Name::parent().as_slice()
     }
 
     /// The name with zeroes behind it: 14 bytes.
