@@ -1,11 +1,11 @@
 -- A directory is empty where no entry has a name that leads down.
-use Rattle.std.proofs.Common.{◌≡◌, ◌≢◌, ◌⊎◌, ℕ, ◌<◌, Bool, true, false, not, ◌&&◌, ◌||◌, List, [], length, get_or, Option, Some, None, refl, sym, ap, subst, ◌∙◌, ⊎_elim, arith}
+use Rattle.std.proofs.Common.{◌≡◌, ◌≢◌, ℕ, Bool, true, false, not, ◌||◌, List, [], get_or, None, refl, ap, ⊎_elim}
 use Rattle.std.specs.Prelude.{EachIndex}
 use Rattle.std.specs.List.{position}
 use Rattle.std.specs.Str.{bytes_eq}
-use Rattle.std.proofs.lemmas.Bool.{and_from, and_parts, both_ways, cases_Bool, false_from_ne_true, not_from_false, or_cases}
+use Rattle.std.proofs.lemmas.Bool.{and_from, both_ways, cases_Bool, not_from_false, or_cases}
 use Rattle.std.proofs.lemmas.Slice.Eq.{bytes_eq-Decides}
-use Rattle.names.specs.Entries.{entries_of, entry_at, is_free, is_for, lookup, name_in, number_in}
+use Rattle.names.specs.Entries.{entries_of, entry_at, is_free, is_for, name_in}
 use Rattle.names.specs.Trees.{is_none_down, leads_down, parent_name, self_name, IsDown, IsEmpty}
 use Rattle.names.proofs.Adding.{same_name}
 use Rattle.names.proofs.EntryBytes.{is_for-free, is_for-other}

@@ -23,3 +23,4 @@ pub mod Repoints
 pub mod Below
 pub mod MovingDirectory
 pub mod Emptiness
+pub mod Witness

@@ -1,12 +1,11 @@
 -- What a tree says of its directories, and that no half of a change leaves one.
-use Rattle.std.proofs.Common.{◌≡◌, ◌≢◌, ◌⊎◌, inl, inr, ℕ, ◌<◌, true, false, not, List, [], length, get_or, Option, Some, None, refl, sym, ap, subst, ◌∙◌, ⊎_elim, arith}
+use Rattle.std.proofs.Common.{◌≡◌, ◌≢◌, inr, ℕ, ◌<◌, true, false, not, List, [], length, get_or, Option, Some, None, refl, sym, ap, subst, ◌∙◌, ⊎_elim, arith}
 use Rattle.std.specs.Str.{bytes_eq}
 use Rattle.std.proofs.lemmas.Bool.{cases_eq, and_from, not_from_false, false_from_ne_true}
 use Rattle.std.proofs.lemmas.Slice.Eq.{bytes_eq-Decides}
-use Rattle.model.specs.declared.types.image.File.{File}
-use Rattle.model.specs.Files.{Files, file_in}
-use Rattle.names.specs.Entries.{entries_of, entry_at, number_in, name_in, is_free, is_for, lookup, HasOnce, IsFor}
-use Rattle.names.specs.Trees.{directory_in, kind_of, number_of, parent_name, IsDirectory, IsDirectoryOf, IsDown, IsFile, IsTree, Steps}
+use Rattle.model.specs.Files.{Files}
+use Rattle.names.specs.Entries.{entries_of, entry_at, name_in, is_free, is_for, HasOnce, IsFor}
+use Rattle.names.specs.Trees.{directory_in, number_of, parent_name, IsDirectory, IsDirectoryOf, IsFile, IsTree, Steps}
 use Rattle.names.specs.TreeChanges.{LeadsTo}
 use Rattle.names.specs.TreeMeaning.{name_at, number_at, DirectoriesAreTidy, EntriesLead, IsUsed, NoHalfIsTree, NumbersStandOnce, StepsLead}
 use Rattle.names.proofs.Standing.{StandsAt, lookup_at}

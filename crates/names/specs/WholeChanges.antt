@@ -9,7 +9,7 @@ use Rattle.model.specs.Operations.{after}
 use Rattle.names.specs.declared.entries.EntryWrite.{EntryWrite}
 use Rattle.names.specs.Entries.{entry_size, most_entries}
 use Rattle.names.specs.Trees.{directory_in, directory_kind, new_directory, number_of, parent_name, root, IsDirectory, IsDown, IsEmpty, IsOutside, IsTree}
-use Rattle.names.specs.TreeChanges.{directory_file, empty_file, AddsDirectory, AddsName, DropsName, MovesDirectory, MovesName}
+use Rattle.names.specs.TreeChanges.{empty_file, AddsDirectory, AddsName, DropsName, MovesDirectory, MovesName}
 use Rattle.names.specs.Writes.{operation_of, Links, Repoints, Unlinks}
 
 -- A file is made and then linked. Where no block is free for one more entry, nothing is written: the
