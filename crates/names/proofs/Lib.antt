@@ -24,3 +24,7 @@ pub mod Below
 pub mod MovingDirectory
 pub mod Emptiness
 pub mod Witness
+pub mod Parts
+pub mod Going
+pub mod FileLooks
+pub mod SeenLooks

@@ -1,5 +1,9 @@
 pub mod Entries
 pub mod Names
+pub mod Paths
+pub mod Inside
+pub mod Ready
+pub mod Walks
 pub mod Writes
 pub mod Trees
 pub mod TreeChanges

@@ -17,6 +17,10 @@ mod files;
 pub mod kernel_laws;
 pub mod laws;
 mod name;
+mod path;
+mod refusal;
+mod looking;
+mod tree;
 pub mod tree_laws;
 
 pub use directory::{NEW_DIRECTORY_SIZE, is_empty, new_directory};
@@ -26,3 +30,6 @@ pub use entries::{
 pub use fault::FilesFault;
 pub use files::NamedFiles;
 pub use name::{NAME_SIZE, Name, NameFault};
+pub use path::{PathFault, names_of};
+pub use refusal::{Refusal, TreeFault};
+pub use tree::Tree;

@@ -1,0 +1,174 @@
+-- Calls of a transaction, one after the other.
+use Rattle.std.proofs.Common.{◌≡◌, ℕ, ◌+◌, ◌<◌, ◌≤◌, ◌^◌, List, [], length, Option, Some, None, refl, sym, ap, subst, ◌∙◌, inl, inr, ⊎_elim, arith}
+use Rattle.std.specs.Prelude.{unwrap_or}
+use Rattle.blocks.specs.Disk.{Image, LeavesOnly, Rose}
+use Rattle.blocks.specs.Lemmas.Moments.{joined}
+use Rattle.blocks.specs.declared.disk.Disk.{Ghosts}
+use Rattle.model.specs.Files.{Files, files_of}
+use Rattle.model.specs.Journal.{replay}
+use Rattle.model.specs.Layout.{form_of}
+use Rattle.model.specs.Operations.{after}
+use Rattle.model.specs.declared.types.image.Form.{Form}
+use Rattle.model.specs.declared.types.operations.Op.{Op}
+use Rattle.model.specs.declared.types.operations.Reply.{Reply}
+use Rattle.calls.specs.Calls.{call_count, faults_on, image_on}
+use Rattle.calls.specs.Stepping.{Plain}
+use Rattle.transactions.specs.Transactions.{Adds, Begins, Commits, HasFiles, IsInside, IsUnbegun, IsUncalled, IsUncommitted, KeepsEither, KeepsFiles, Rests}
+use Rattle.names.specs.Ready.{EndsOn, HasBegun, HasCommitted, LeavesEither}
+use Rattle.names.specs.Trees.{IsTree}
+use Rattle.model.specs.declared.types.operations.Entry.{Entry}
+use Rattle.transactions.specs.declared.fault.TransactionFault.{TransactionFault}
+use Rattle.transactions.specs.declared.fault.TransactionFault.TheVariants as fault
+use Rattle.names.specs.declared.refusal.TreeFault.{TreeFault}
+use Rattle.names.specs.declared.refusal.TreeFault.TheVariants.{Path, Refused, Call, NoCall}
+use Rattle.names.specs.Inside.{files_seen, form_seen, Answers, Ends, Goes, IsBroken, IsUnderWay, LeavesFiles, Looks, StaysOn}
+
+module _ {D N : Type 0} (disk : Ghosts D N) where
+  -- a transaction sees the files that its kernel has
+  pub seen : (k : Plain D) (f : Files) → HasFiles disk.image k f → files_seen disk.image k ≡ f
+  seen k f has = ap (λ (o : Option Files). unwrap_or o []) has.run
+
+  pub has_seen : (k : Plain D) (f : Files) → HasFiles disk.image k f → HasFiles disk.image k (files_seen disk.image k)
+  has_seen k f has = subst (λ (g : Files). HasFiles disk.image k g) (sym (seen k f has)) has
+
+  -- a call goes on
+  pub call_goes : (op : Op) (k m : Plain D) (reply : Reply) (left less : ℕ) → less + 1 ≡ left → IsUnderWay disk k left → IsInside disk.fault_count m →
+      m.opening ≡ k.opening → Adds disk.image op k m reply → Goes disk k m less
+  call_goes op k m reply left less one way inside opening adds =
+      let made = adds.files (files_seen disk.image k) way.files in
+      record {
+        way = record {
+          inside = inside;
+          few = omega (arith, adds.one_more, way.few);
+          files = has_seen m made.0 made.2;
+        };
+        same = adds.same;
+        opening = opening;
+      }
+
+  pub call_answers : (op : Op) (k m : Plain D) (reply : Reply) (left : ℕ) → IsUnderWay disk k left → Adds disk.image op k m reply → Answers disk.image op k m reply
+  call_answers op k m reply left way adds =
+      let made = adds.files (files_seen disk.image k) way.files in
+      made.1 ∙ ap (λ (f : Files). Some f) (sym (seen m made.0 made.2))
+
+  -- what a stop leaves
+  pub stays_here : (k : Plain D) → StaysOn disk k k
+  stays_here k = record { on = λ o same so_far. so_far }
+
+  pub leaves_on : (k m : Plain D) → m.opening ≡ k.opening → disk.name m.store.volume.device ≡ disk.name k.store.volume.device →
+      LeavesOnly disk.moment disk.leaves k.store.volume.device m.store.volume.device (KeepsFiles (image_on disk.image k)) → StaysOn disk k m
+  leaves_on k m opening name leaves = record {
+    on = λ o same so_far. record {
+      opening = opening ∙ so_far.opening;
+      name = name ∙ so_far.name;
+      leaves = joined disk.moment disk.leaves o.store.volume.device k.store.volume.device m.store.volume.device (KeepsFiles (image_on disk.image o)) so_far.leaves
+          (subst (λ (x : Image). LeavesOnly disk.moment disk.leaves k.store.volume.device m.store.volume.device (KeepsFiles x)) same leaves);
+    };
+  }
+
+  pub stays_on : (k a m : Plain D) (left : ℕ) → Goes disk k a left → StaysOn disk k a → StaysOn disk a m → StaysOn disk k m
+  stays_on k a m left goes first then_on = record { on = λ o same so_far. then_on.on o (goes.same ∙ same) (first.on o same so_far) }
+
+  pub goes_on : (k a m : Plain D) (left less : ℕ) → Goes disk k a left → Goes disk a m less → Goes disk k m less
+  goes_on k a m left less first then_on = record { way = then_on.way; same = then_on.same ∙ first.same; opening = then_on.opening ∙ first.opening }
+
+  pub looks_on : (k a m : Plain D) (left less : ℕ) → Looks disk k a left → Looks disk a m less → Looks disk k m less
+  looks_on k a m left less first then_on = record { goes = goes_on k a m left less first.goes then_on.goes; files = then_on.files ∙ first.files }
+
+  -- why a later call ended the transaction
+  pub same_faults : (k a : Plain D) (left less : ℕ) → IsUnderWay disk k left → Goes disk k a less → faults_on disk.fault_count a ≡ faults_on disk.fault_count k
+  same_faults k a left less way goes = goes.way.inside.pair.faultless ∙ ap disk.fault_count goes.opening ∙ sym way.inside.pair.faultless
+
+  broken_on : (k a m : Plain D) (cause : TreeFault) → image_on disk.image a ≡ image_on disk.image k → faults_on disk.fault_count a ≡ faults_on disk.fault_count k →
+      IsBroken disk a m cause → IsBroken disk k m cause
+  broken_on k a m (Path cause) same faults why = why
+  broken_on k a m (Refused cause) same faults why = why
+  broken_on k a m (Call (fault.Disk cause)) same faults why = record { is = why.is; rose = subst (λ (n : ℕ). Rose n (faults_on disk.fault_count m)) faults why.rose }
+  broken_on k a m (Call fault.NoMemory) same faults why = record { image = why.image ∙ same; faults = why.faults ∙ faults }
+  broken_on k a m (Call fault.NoRoom) same faults why = record { image = why.image ∙ same; faults = why.faults ∙ faults }
+  broken_on k a m (Call fault.NoBuffer) same faults why = record { image = why.image ∙ same; faults = why.faults ∙ faults }
+  broken_on k a m NoCall same faults why = record { image = why.image ∙ same; faults = why.faults ∙ faults }
+
+  pub ends_on : (k a m : Plain D) (left less none : ℕ) (cause : TreeFault) → IsUnderWay disk k left → Goes disk k a less → Ends disk a m none cause →
+      Ends disk k m none cause
+  ends_on k a m left less none cause way goes ends = record { none = ends.none; broken = broken_on k a m cause goes.same (same_faults k a left less way goes) ends.broken }
+
+  -- a call ended it
+  pub call_broken : (op : Op) (k m : Plain D) (cause : TransactionFault) → IsUncalled disk op k m cause → IsBroken disk k m (Call cause)
+  call_broken op k m (fault.Disk cause) why = why
+  call_broken op k m fault.NoMemory why = record { image = why.0.image; faults = why.1 }
+  call_broken op k m fault.NoRoom why = record { image = ap (image_on disk.image) why.same; faults = ap (faults_on disk.fault_count) why.same }
+  call_broken op k m fault.NoBuffer why = record { image = why.0.image; faults = why.1 }
+
+  -- ---- the beginning and the end
+
+  pub begin_goes : (k m : Plain D) (left : ℕ) → call_count k + left ≤ 2 ^ 32 → IsInside disk.fault_count m → m.opening ≡ k.opening → Begins disk.image k m →
+      HasBegun disk k m left
+  begin_goes k m left few inside opening begins =
+      let count : call_count m ≡ call_count k = ap (λ (es : List Entry). length es) begins.list in
+      record {
+        goes = record {
+          way = record { inside = inside; few = omega (arith, count, few); files = has_seen m (files_of (image_on disk.image k)) begins.files };
+          same = begins.same;
+          opening = opening;
+        };
+        files = seen m (files_of (image_on disk.image k)) begins.files;
+      }
+
+  pub begin_broken : (k m : Plain D) (cause : TransactionFault) → IsUnbegun disk k m cause → IsBroken disk k m (Call cause)
+  begin_broken k m (fault.Disk cause) why = why
+  begin_broken k m fault.NoMemory why = record { image = why.0.image; faults = why.1 }
+  begin_broken k m fault.NoRoom why = absurd why
+  begin_broken k m fault.NoBuffer why = absurd why
+
+  pub commit_broken : (k m : Plain D) (cause : TransactionFault) → IsUncommitted disk k m cause → IsBroken disk k m (Call cause)
+  commit_broken k m (fault.Disk cause) why = why
+  commit_broken k m fault.NoMemory why = absurd why
+  commit_broken k m fault.NoRoom why = absurd why
+  commit_broken k m fault.NoBuffer why = absurd why
+
+  pub commit_ends : (k m : Plain D) (left less : ℕ) → less + 1 ≡ left → IsUnderWay disk k left → IsTree (files_seen disk.image k) → Rests disk.fault_count m →
+      Commits disk.image k m → HasCommitted disk k m less
+  commit_ends k m left less one way tree rests commits =
+      let same : files_of (image_on disk.image m) ≡ files_seen disk.image k = commits.files (files_seen disk.image k) way.files in
+      record {
+        ready = record { rests = rests; few = omega (arith, commits.one_more, way.few); tree = subst (λ (f : Files). IsTree f) (sym same) tree };
+        files = same;
+      }
+
+  either : (x : Image) (made : Files) (z : Image) → KeepsFiles x z → KeepsEither x made z
+  either x made z keeps = record { log = keeps.log; sound = keeps.sound; files = inl keeps.files }
+
+  pub wider : (a b : D) (P Q : Image → Type 0) → ((z : Image) → P z → Q z) → LeavesOnly disk.moment disk.leaves a b P → LeavesOnly disk.moment disk.leaves a b Q
+  wider a b P Q less all = record {
+    later = all.later;
+    each = λ z left. less z (all.each z left);
+    before = λ t z le left. ⊎_elim (λ was. inl was) (λ p. inr (less z p)) (all.before t z le left);
+    keeps = all.keeps;
+  }
+
+  -- the end was refused before it began
+  pub ends_here : (k : Plain D) → EndsOn disk k k
+  ends_here k = record {
+    on = λ o same so_far. record {
+      opening = so_far.opening;
+      name = so_far.name;
+      leaves = wider o.store.volume.device k.store.volume.device (KeepsFiles (image_on disk.image o)) (KeepsEither (image_on disk.image o) (files_seen disk.image k))
+          (either (image_on disk.image o) (files_seen disk.image k)) so_far.leaves;
+    };
+  }
+
+  pub commit_leaves : (k m : Plain D) → m.opening ≡ k.opening → disk.name m.store.volume.device ≡ disk.name k.store.volume.device →
+      LeavesOnly disk.moment disk.leaves k.store.volume.device m.store.volume.device (KeepsEither (image_on disk.image k) (files_seen disk.image k)) → EndsOn disk k m
+  commit_leaves k m opening name leaves =
+      let made : Files = files_seen disk.image k in
+      record {
+        on = λ o same so_far. record {
+          opening = opening ∙ so_far.opening;
+          name = name ∙ so_far.name;
+          leaves = joined disk.moment disk.leaves o.store.volume.device k.store.volume.device m.store.volume.device (KeepsEither (image_on disk.image o) made)
+              (wider o.store.volume.device k.store.volume.device (KeepsFiles (image_on disk.image o)) (KeepsEither (image_on disk.image o) made)
+              (either (image_on disk.image o) made) so_far.leaves)
+              (subst (λ (x : Image). LeavesOnly disk.moment disk.leaves k.store.volume.device m.store.volume.device (KeepsEither x made)) same leaves);
+        };
+      }

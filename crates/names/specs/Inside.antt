@@ -1,0 +1,84 @@
+-- Calls of a transaction, and the files that it sees.
+use Rattle.std.specs.Prelude.{◌≡◌, ◌≢◌, ℕ, ◌+◌, ◌^◌, ◌<◌, ◌≤◌, [], Some, unwrap_or}
+use Rattle.blocks.specs.Disk.{Image, LeavesOnly}
+use Rattle.blocks.specs.declared.disk.Disk.{Ghosts}
+use Rattle.model.specs.Files.{Files, files_of}
+use Rattle.model.specs.Journal.{replay}
+use Rattle.model.specs.Layout.{form_of}
+use Rattle.model.specs.Operations.{after}
+use Rattle.model.specs.declared.types.image.Form.{Form}
+use Rattle.model.specs.declared.types.operations.Op.{Op}
+use Rattle.model.specs.declared.types.operations.Reply.{Reply}
+use Rattle.calls.specs.Calls.{HasFailed, call_count, faults_on, image_on}
+use Rattle.calls.specs.Stepping.{Plain}
+use Rattle.transactions.specs.Transactions.{HasFiles, IsInside, KeepsFiles, Rests}
+use Rattle.transactions.specs.declared.fault.TransactionFault.{TransactionFault}
+use Rattle.transactions.specs.declared.fault.TransactionFault.TheVariants as fault
+use Rattle.names.specs.declared.refusal.TreeFault.{TreeFault}
+use Rattle.names.specs.declared.refusal.TreeFault.TheVariants.{Path, Refused, Call, NoCall}
+
+-- the files that a transaction sees: those that a kernel's calls made, its own included
+abbrev pub files_seen : {D : Type 0} → (D → Image) → Plain D → Files
+files_seen image k =
+    unwrap_or (replay (form_of (image k.opening)) (files_of (image k.opening)) k.world.journal.list) []
+
+-- the form of a kernel's image
+abbrev pub form_seen : {D : Type 0} → (D → Image) → Plain D → Form
+form_seen image k = form_of (image k.opening)
+
+-- A transaction is under way, in which so many calls may be made yet, its commit among them.
+pub record IsUnderWay {D N : Type 0} (disk : Ghosts D N) (k : Plain D) (left : ℕ) : Type 0 where
+  pub inside : IsInside disk.fault_count k
+  pub few : call_count k + left ≤ 2 ^ 32
+  pub files : HasFiles disk.image k (files_seen disk.image k)
+
+-- The transaction of k goes on in m: nothing was written.
+pub record Goes {D N : Type 0} (disk : Ghosts D N) (k m : Plain D) (left : ℕ) : Type 0 where
+  pub way : IsUnderWay disk m left
+  pub same : image_on disk.image m ≡ image_on disk.image k
+  pub opening : m.opening ≡ k.opening
+
+-- The same, and the files are as they were.
+pub record Looks {D N : Type 0} (disk : Ghosts D N) (k m : Plain D) (left : ℕ) : Type 0 where
+  pub goes : Goes disk k m left
+  pub files : files_seen disk.image m ≡ files_seen disk.image k
+
+-- an operation was answered so
+abbrev pub Answers : {D : Type 0} → (D → Image) → Op → Plain D → Plain D → Reply → Type 0
+Answers image op k m reply =
+    after (form_seen image k) (files_seen image k) op reply ≡ Some (files_seen image m)
+
+-- From kernel k to m a stop leaves the files on the disk as they were, and m is over the same disk, as
+-- it was opened.
+pub record LeavesFiles {D N : Type 0} (disk : Ghosts D N) (k m : Plain D) : Type 0 where
+  pub opening : m.opening ≡ k.opening
+  pub name : disk.name m.store.volume.device ≡ disk.name k.store.volume.device
+  pub leaves : LeavesOnly disk.moment disk.leaves k.store.volume.device m.store.volume.device
+      (KeepsFiles (image_on disk.image k))
+
+-- What a stop left since the transaction began, in a kernel o with the image of k, it leaves up to m
+-- too.
+pub record StaysOn {D N : Type 0} (disk : Ghosts D N) (k m : Plain D) : Type 0 where
+  pub on : (o : Plain D) → image_on disk.image k ≡ image_on disk.image o → LeavesFiles disk o k
+      → LeavesFiles disk o m
+
+-- the disk has the same image, and counted no fault
+pub record IsSame {D N : Type 0} (disk : Ghosts D N) (k m : Plain D) : Type 0 where
+  pub image : image_on disk.image m ≡ image_on disk.image k
+  pub faults : faults_on disk.fault_count m ≡ faults_on disk.fault_count k
+
+-- why a transaction of kernel k, which is m now, doesn't go on
+abbrev pub IsBroken : {D N : Type 0} → Ghosts D N → Plain D → Plain D → TreeFault → Type 0
+IsBroken disk k m (Path cause) = ⊥
+IsBroken disk k m (Refused cause) = ⊥
+IsBroken disk k m (Call (fault.Disk cause)) = HasFailed disk k m cause
+IsBroken disk k m (Call fault.NoMemory) = IsSame disk k m
+IsBroken disk k m (Call fault.NoRoom) = IsSame disk k m
+IsBroken disk k m (Call fault.NoBuffer) = IsSame disk k m
+IsBroken disk k m NoCall = IsSame disk k m
+
+-- behind it no other call is made
+pub record Ends {D N : Type 0} (disk : Ghosts D N) (k m : Plain D) (left : ℕ) (cause : TreeFault)
+    : Type 0 where
+  pub none : left ≡ 0
+  pub broken : IsBroken disk k m cause

@@ -1,0 +1,87 @@
+-- A tree of directories on a kernel's disk, and what a transaction makes of it.
+use Rattle.std.specs.Prelude.{◌≡◌, ◌⊎◌, ℕ, ◌+◌, ◌^◌, ◌<◌, ◌≤◌, IsTrue, List, Result, Ok, Err}
+use Rattle.blocks.specs.Disk.{Image, LeavesOnly}
+use Rattle.blocks.specs.declared.disk.Disk.{Ghosts}
+use Rattle.model.specs.Files.{Files, files_of}
+use Rattle.model.specs.Log.{is_lawful_log, recovered}
+use Rattle.model.specs.Soundness.{IsSound}
+use Rattle.calls.specs.Calls.{call_count, image_on}
+use Rattle.calls.specs.Stepping.{Plain}
+use Rattle.transactions.specs.Transactions.{KeepsEither, Rests}
+use Rattle.names.specs.declared.refusal.Refusal.{Refusal}
+use Rattle.names.specs.declared.refusal.TreeFault.{TreeFault}
+use Rattle.names.specs.declared.refusal.TreeFault.TheVariants.{Path, Refused, Call, NoCall}
+use Rattle.names.specs.Inside.{files_seen, Goes, IsBroken, LeavesFiles}
+use Rattle.names.specs.Paths.{IsPathCause}
+use Rattle.names.specs.Trees.{IsTree}
+
+-- No transaction is under way, so many calls may be made yet, and the files on the disk are a tree.
+pub record IsReady {D N : Type 0} (disk : Ghosts D N) (k : Plain D) (left : ℕ) : Type 0 where
+  pub rests : Rests disk.fault_count k
+  pub few : call_count k + left ≤ 2 ^ 32
+  pub tree : IsTree (files_of (image_on disk.image k))
+
+-- the same, unless no call is left
+abbrev pub MayGoOn : {D N : Type 0} → Ghosts D N → Plain D → ℕ → Type 0
+MayGoOn disk k left = 0 < left → IsReady disk k left
+
+-- a transaction began with the files on the disk
+pub record HasBegun {D N : Type 0} (disk : Ghosts D N) (k m : Plain D) (left : ℕ) : Type 0 where
+  pub goes : Goes disk k m left
+  pub files : files_seen disk.image m ≡ files_of (image_on disk.image k)
+
+-- it ended, and the files on the disk are those that it saw
+pub record HasCommitted {D N : Type 0} (disk : Ghosts D N) (k m : Plain D) (left : ℕ)
+    : Type 0 where
+  pub ready : IsReady disk m left
+  pub files : files_of (image_on disk.image m) ≡ files_seen disk.image k
+
+-- From kernel k to m a stop leaves the files on the disk as they were or these, and m is over the
+-- same disk, as it was opened.
+pub record LeavesEither {D N : Type 0} (disk : Ghosts D N) (made : Files) (k m : Plain D)
+    : Type 0 where
+  pub opening : m.opening ≡ k.opening
+  pub name : disk.name m.store.volume.device ≡ disk.name k.store.volume.device
+  pub leaves : LeavesOnly disk.moment disk.leaves k.store.volume.device m.store.volume.device
+      (KeepsEither (image_on disk.image k) made)
+
+-- What a stop left since the transaction of k began, in a kernel o with the image of k, it leaves up
+-- to m too, or the files that the transaction made.
+pub record EndsOn {D N : Type 0} (disk : Ghosts D N) (k m : Plain D) : Type 0 where
+  pub on : (o : Plain D) → image_on disk.image k ≡ image_on disk.image o → LeavesFiles disk o k
+      → LeavesEither disk (files_seen disk.image k) o m
+
+-- What became of a change of files: it was made, or was refused for a cause, with the files as they
+-- were.
+abbrev pub Happens : {T : Type 0} → (T → Files → Files → Type 0) → (Files → Refusal → Type 0)
+    → Files → Files → Result T Refusal → Type 0
+Happens change why files new (Ok made) = change made files new
+Happens change why files new (Err cause) = (new ≡ files) × why files cause
+
+-- ALL OR NOTHING: what a stop leaves of image x: recovery gives a sound image whose files are a tree,
+-- those of x or those after a change of them.
+pub record KeepsTree {T : Type 0} (change : T → Files → Files → Type 0) (x z : Image)
+    : Type 0 where
+  pub log : IsTrue (is_lawful_log z)
+  pub sound : IsSound (recovered z)
+  pub tree : IsTree (files_of (recovered z))
+  pub files : (files_of (recovered z) ≡ files_of x)
+      ⊎ ((made : T) × change made (files_of x) (files_of (recovered z)))
+
+-- a stop at any moment from k to m leaves such an image
+abbrev pub LeavesTree : {D N T : Type 0} → Ghosts D N → (T → Files → Files → Type 0) → Plain D
+    → Plain D → Type 0
+LeavesTree disk change k m =
+    LeavesOnly disk.moment disk.leaves k.store.volume.device m.store.volume.device
+    (KeepsTree change (image_on disk.image k))
+
+-- Why a call at a path is not answered, in kernel k, which is m now: the path is none, and nothing was
+-- done; or the files refuse, which are as they were; or a call of the kernel failed.
+abbrev pub IsUndone : {D N : Type 0} → Ghosts D N → List ℕ → (Files → Refusal → Type 0)
+    → Plain D → Plain D → TreeFault → Type 0
+IsUndone disk path why k m (Path cause) = (m ≡ k) × IsPathCause path cause
+IsUndone disk path why k m (Refused cause) =
+    (files_of (image_on disk.image m) ≡ files_of (image_on disk.image k))
+    × why (files_of (image_on disk.image k)) cause
+IsUndone disk path why k m (Call cause) = IsBroken disk k m (Call cause)
+IsUndone disk path why k m NoCall = IsBroken disk k m NoCall

@@ -1,0 +1,94 @@
+// Looks at the directories of a tree, in a transaction.
+ghost use Rattle.std.specs.Prelude.{◌≡◌, IfErr, IfOk, OnOk};
+ghost use Rattle.names.specs.Inside.{files_seen, Ends, IsUnderWay, Looks, StaysOn};
+ghost use Rattle.names.specs.Trees.{root, IsTree};
+ghost use Rattle.names.specs.Walks.{stepped, walked, IsDirectoryFound, found_or};
+ghost use Rattle.names.specs.Entries.{lookup};
+
+use crate::entries::{DIRECTORY, lookup};
+use crate::name::Name;
+use crate::refusal::{Refusal, TreeFault};
+use crate::tree::Tree;
+use blocks::Disk;
+use model::content::Content;
+use model::types::{Op, Reply, TRANSFER_LIMIT};
+
+// The type of a directory.
+const DIRECTORY_KIND: u16 = 1;
+
+impl<D: Disk> Tree<D> {
+    // The bytes of a directory, or none where the file is no directory.
+    pub(crate) fn directory(&mut self, number: u32) -> Result<Option<Content>, TreeFault>
+        requires way { IsUnderWay D.Disk self.old.kernel self.old.calls_left }
+        requires tree { IsTree (files_seen D.image self.old.kernel) }
+        ensures looks { OnOk result (Looks D.Disk
+            self.old.kernel self.new.kernel self.new.calls_left) }
+        ensures found { IfOk result (IsDirectoryFound
+            (files_seen D.image self.old.kernel) number) }
+        ensures stays { StaysOn D.Disk self.old.kernel self.new.kernel }
+        ensures ends { IfErr result (Ends D.Disk
+            self.old.kernel self.new.kernel self.new.calls_left) }
+    {
+        let Reply::StatOf(kind, _size) = self.called(Op::Stat(number))? else {
+            return Ok(None);
+        };
+        if kind != DIRECTORY_KIND {
+            return Ok(None);
+        }
+        let Reply::Bytes(bytes) = self.called(Op::Read(number, 0, TRANSFER_LIMIT))? else {
+            // A file that is there can be read.
+            unreachable!()
+        };
+        Ok(Some(bytes))
+    }
+
+    // Where a name leads from a file.
+    pub(crate) fn step(&mut self, from: u32, name: &Name) -> Result<Result<u32, Refusal>, TreeFault>
+        requires way { IsUnderWay D.Disk self.old.kernel self.old.calls_left }
+        requires tree { IsTree (files_seen D.image self.old.kernel) }
+        ensures looks { OnOk result (Looks D.Disk
+            self.old.kernel self.new.kernel self.new.calls_left) }
+        ensures led { IfOk result (λ led.
+            led ≡ stepped (files_seen D.image self.old.kernel) from name.now) }
+        ensures stays { StaysOn D.Disk self.old.kernel self.new.kernel }
+        ensures ends { IfErr result (Ends D.Disk
+            self.old.kernel self.new.kernel self.new.calls_left) }
+    {
+        let Some(bytes) = self.directory(from)? else {
+            return Ok(Err(Refusal::NotADirectory));
+        };
+        Ok(led_by(bytes.as_slice(), name))
+    }
+
+    // Where names lead from the root, one after the other.
+    pub(crate) fn walk(&mut self, names: &[Name]) -> Result<Result<u32, Refusal>, TreeFault>
+        requires way { IsUnderWay D.Disk self.old.kernel self.old.calls_left }
+        requires tree { IsTree (files_seen D.image self.old.kernel) }
+        ensures looks { OnOk result (Looks D.Disk
+            self.old.kernel self.new.kernel self.new.calls_left) }
+        ensures led { IfOk result (λ led.
+            led ≡ walked (files_seen D.image self.old.kernel) root names.now) }
+        ensures stays { StaysOn D.Disk self.old.kernel self.new.kernel }
+        ensures ends { IfErr result (Ends D.Disk
+            self.old.kernel self.new.kernel self.new.calls_left) }
+    {
+        let mut number = DIRECTORY;
+        for name in names {
+            match self.step(number, name)? {
+                Ok(next) => number = next,
+                Err(refusal) => return Ok(Err(refusal)),
+            }
+        }
+        Ok(Ok(number))
+    }
+}
+
+// Where a name leads in a directory of these bytes.
+fn led_by(bytes: &[u8], name: &Name) -> Result<u32, Refusal>
+    ensures { result ≡ found_or (lookup bytes.now name.now) }
+{
+    match lookup(bytes, name) {
+        Some(number) => Ok(u32::from(number)),
+        None => Err(Refusal::NotFound),
+    }
+}
