@@ -24,6 +24,7 @@ pub mod Below
 pub mod MovingDirectory
 pub mod Emptiness
 pub mod Witness
+pub mod PathLaws
 pub mod Parts
 pub mod Going
 pub mod FileLooks

@@ -18,16 +18,17 @@ use Rattle.names.proofs.Unnamed.{apart_from}
 
 -- ---- directories
 
-directory_by : (files : Files) (depth : ℕ → ℕ) (i : ℕ) → IsTreeBy files depth → IsDirectory files i →
-    (parent : ℕ) × IsDirectoryOf (directory_in files i) i parent
+-- a directory has a parent, which is a directory
+pub directory_by : (files : Files) (depth : ℕ → ℕ) (i : ℕ) → IsTreeBy files depth → IsDirectory files i →
+    (parent : ℕ) × IsDirectoryOf (directory_in files i) i parent × IsDirectory files parent
 directory_by files depth i tree is =
-    ⊎_elim (λ (at_root : i ≡ 1). (1, subst (λ (k : ℕ). IsDirectoryOf (directory_in files k) k 1) (sym at_root) tree.top))
+    ⊎_elim (λ (at_root : i ≡ 1). (1, subst (λ (k : ℕ). IsDirectoryOf (directory_in files k) k 1) (sym at_root) tree.top, tree.rooted))
     (λ (ne : i ≢ 1). let named = tree.shape.named i ne (directory_is_file files i is) in
-    (named.0, tree.below named.0 i named.1 named.2.0 named.2.1 is)) (cases_eq i 1)
+    (named.0, tree.below named.0 i named.1 named.2.0 named.2.1 is, named.2.1.0)) (cases_eq i 1)
 
 pub directories_are_tidy : DirectoriesAreTidy
 directories_are_tidy files from tree is =
-    let of = directory_by files (depth_in files tree) from (tree_makes_steps files tree) is in (of.1.tidy, of)
+    let of = directory_by files (depth_in files tree) from (tree_makes_steps files tree) is in (of.1.tidy, (of.0, of.1))
 
 pub steps_lead : StepsLead
 steps_lead files from i name tree down step =

@@ -10,6 +10,7 @@ pub mod TreeChanges
 pub mod TreeLaws
 pub mod TreeMeaning
 pub mod WholeChanges
+pub mod PathLaws
 pub mod Laws
 pub mod Lemmas
 pub mod NamedFiles

@@ -16,10 +16,10 @@ mod fault;
 mod files;
 pub mod kernel_laws;
 pub mod laws;
+mod looking;
 mod name;
 mod path;
 mod refusal;
-mod looking;
 mod tree;
 pub mod tree_laws;
 

@@ -1,4 +1,5 @@
 //! What changes of names make of a tree of directories, the contracts of functions that do nothing.
+ghost use Rattle.names.specs.PathLaws.{FilesAreReached, NamesAreOne, NamesLead};
 ghost use Rattle.names.specs.TreeLaws.{AddingKeeps, CreateMakes, DroppingKeeps, FilesAreNew, KeepingKeeps, LinkAdds, LinkLeads, LinkMoves, MovingDirectoryKeeps, MovingKeeps, PlainKeeps, ReadsWhole, RelinkLeads, RemoveDrops, RemoveUndoes, RepointLeads, RootIsTree, UnlinkLeads, UnlinkMoves, WriteFills};
 ghost use Rattle.names.specs.TreeMeaning.{DirectoriesAreTidy, EntriesLead, NoHalfIsTree, NumbersStandOnce, ParentsDecide, RootIsOutside, StepsLead};
 ghost use Rattle.names.specs.WholeChanges.{MakesDirectoryWhole, MakesFileWhole, MakesRootWhole, MovesDirectoryWhole, MovesFileWhole, RemovesFileWhole, RenamesFileWhole};
@@ -67,4 +68,12 @@ pub fn trees_mean()
     ensures root { RootIsOutside }
     ensures parents { ParentsDecide }
     ensures halves { NoHalfIsTree }
+{}
+
+/// In a tree the names of a path lead to a file, wherever they lead, those for a directory and for its
+/// parent among them. And each file is reached from the root, by one list of names that lead down.
+pub fn paths_name_files()
+    ensures lead { NamesLead }
+    ensures reached { FilesAreReached }
+    ensures one { NamesAreOne }
 {}
