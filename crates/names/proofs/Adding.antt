@@ -6,11 +6,11 @@ use Rattle.std.proofs.lemmas.Slice.Eq.{bytes_eq-Decides}
 use Rattle.model.specs.declared.types.image.File.{File}
 use Rattle.model.specs.Files.{Files, file_in}
 use Rattle.names.specs.Entries.{lookup}
-use Rattle.names.specs.Trees.{bytes_of, directory_in, kind_of, number_of, parent_name, self_name, IsDirectory, IsDirectoryOf, IsDown, IsFile, Steps}
+use Rattle.names.specs.Trees.{bytes_of, directory_in, kind_of, number_of, parent_name, self_name, IsDirectory, IsDirectoryOf, IsDown, IsFile, Steps, StepsDown}
 use Rattle.names.specs.TreeChanges.{AddsName, ChangesName}
 use Rattle.names.specs.TreeLaws.{AddingKeeps, IsNew}
 use Rattle.names.proofs.Rooted.{AddsDown, depth_with, rooted_added}
-use Rattle.names.proofs.TreeBy.{depth_in, directory_is_file, steps_make_tree, tree_makes_steps, IsTreeBy, StepsDown}
+use Rattle.names.proofs.TreeBy.{depth_in, directory_is_file, steps_make_tree, tree_makes_steps, IsTreeBy}
 use Rattle.names.proofs.Unnamed.{apart_from, some_ne_none}
 
 pub same_name : (a b : List ℕ) → (a ≡ b) ⊎ (a ≢ b)

@@ -2,11 +2,11 @@
 use Rattle.std.proofs.Common.{◌≡◌, ◌≢◌, ℕ, List, Some, None, sym, ap, subst, ◌∙◌, ⊎_elim, arith}
 use Rattle.std.proofs.lemmas.Bool.{cases_eq}
 use Rattle.model.specs.Files.{Files, file_in}
-use Rattle.names.specs.Trees.{directory_in, kind_of, number_of, IsDirectory, IsDirectoryOf, IsDown, IsEmpty, IsFile, Steps}
+use Rattle.names.specs.Trees.{directory_in, kind_of, number_of, IsDirectory, IsDirectoryOf, IsDown, IsEmpty, IsFile, Steps, StepsDown}
 use Rattle.names.specs.TreeChanges.{ChangesName, DropsName, KeepsNames}
 use Rattle.names.specs.TreeLaws.{DroppingKeeps, KeepingKeeps}
 use Rattle.names.proofs.Rooted.{DropsDown, rooted_dropped}
-use Rattle.names.proofs.TreeBy.{depth_in, directory_is_file, steps_make_tree, tree_makes_steps, IsTreeBy, StepsDown}
+use Rattle.names.proofs.TreeBy.{depth_in, directory_is_file, steps_make_tree, tree_makes_steps, IsTreeBy}
 use Rattle.names.proofs.Adding.{directory_changed, directory_same, step_same}
 
 -- what a name leads to lies deeper, and is another

@@ -29,3 +29,4 @@ pub mod Parts
 pub mod Going
 pub mod FileLooks
 pub mod SeenLooks
+pub mod Found

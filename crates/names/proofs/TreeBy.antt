@@ -3,12 +3,8 @@ use Rattle.std.proofs.Common.{◌≡◌, ◌≢◌, ℕ, zero, suc, ◌≤◌, L
 use Rattle.std.proofs.lemmas.Bool.{cases_eq}
 use Rattle.model.specs.declared.types.image.File.{File}
 use Rattle.model.specs.Files.{Files, file_in}
-use Rattle.names.specs.Trees.{directory_in, kind_of, number_of, root, IsDirectory, IsDirectoryOf, IsDown, IsFile, IsPath, IsTree, Steps}
+use Rattle.names.specs.Trees.{directory_in, kind_of, number_of, root, IsDirectory, IsDirectoryOf, IsDown, IsFile, IsPath, IsTree, Steps, StepsDown}
 use Rattle.names.proofs.Rooted.{IsRooted}
-
--- a name leads down
-abbrev pub StepsDown : Files → ℕ → List ℕ → ℕ → Type 0
-StepsDown files from name number = IsDown name × Steps files from name number
 
 -- a tree, step by step, as a proof of a change wants it
 pub record IsTreeBy (files : Files) (depth : ℕ → ℕ) : Type 0 where

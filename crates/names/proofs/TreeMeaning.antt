@@ -5,7 +5,7 @@ use Rattle.std.proofs.lemmas.Bool.{cases_eq, and_from, not_from_false, false_fro
 use Rattle.std.proofs.lemmas.Slice.Eq.{bytes_eq-Decides}
 use Rattle.model.specs.Files.{Files}
 use Rattle.names.specs.Entries.{entries_of, entry_at, name_in, is_free, is_for, HasOnce, IsFor}
-use Rattle.names.specs.Trees.{directory_in, number_of, parent_name, IsDirectory, IsDirectoryOf, IsFile, IsTree, Steps}
+use Rattle.names.specs.Trees.{directory_in, number_of, parent_name, IsDirectory, IsDirectoryOf, IsFile, IsTree, Steps, StepsDown}
 use Rattle.names.specs.TreeChanges.{LeadsTo}
 use Rattle.names.specs.TreeMeaning.{name_at, number_at, DirectoriesAreTidy, EntriesLead, IsUsed, NoHalfIsTree, NumbersStandOnce, StepsLead}
 use Rattle.names.proofs.Standing.{StandsAt, lookup_at}
@@ -13,7 +13,7 @@ use Rattle.names.proofs.Adding.{step_same}
 use Rattle.names.proofs.Dropping.{apart_below}
 use Rattle.names.proofs.Moves.{other_kinds, other_leads}
 use Rattle.names.proofs.Moving.{same_entry, IsOther}
-use Rattle.names.proofs.TreeBy.{depth_in, directory_is_file, tree_makes_steps, IsTreeBy, StepsDown}
+use Rattle.names.proofs.TreeBy.{depth_in, directory_is_file, tree_makes_steps, IsTreeBy}
 use Rattle.names.proofs.Unnamed.{apart_from}
 
 -- ---- directories

@@ -11,6 +11,7 @@ pub mod TreeLaws
 pub mod TreeMeaning
 pub mod WholeChanges
 pub mod PathLaws
+pub mod Checks
 pub mod Laws
 pub mod Lemmas
 pub mod NamedFiles

@@ -54,6 +54,10 @@ IsDown name = (name ≢ self_name) × (name ≢ parent_name)
 abbrev pub Steps : Files → ℕ → List ℕ → ℕ → Type 0
 Steps files from name number = IsDirectory files from × (number_of files from name ≡ Some number)
 
+-- a name that leads down leads from a directory to a number
+abbrev pub StepsDown : Files → ℕ → List ℕ → ℕ → Type 0
+StepsDown files from name number = IsDown name × Steps files from name number
+
 -- names that lead down from a file to a number, the last of them first
 abbrev pub IsPath : Files → ℕ → List (List ℕ) → ℕ → Type 0
 IsPath files from [] number = from ≡ number
