@@ -30,3 +30,4 @@ pub mod Going
 pub mod FileLooks
 pub mod SeenLooks
 pub mod Found
+pub mod NumbersDown
