@@ -15,7 +15,7 @@ use Rattle.names.proofs.Standing.{lookup_none, none_from_lookup, none_stands, po
 abbrev pub NoneDown : List (List ℕ) → Type 0
 NoneDown entries = EachIndex entries (λ k. is_none_down (get_or entries k []) ≡ true)
 
-not_for : (entry name : List ℕ) → IsDown name → is_none_down entry ≡ true → is_for name entry ≡ false
+pub not_for : (entry name : List ℕ) → IsDown name → is_none_down entry ≡ true → is_for name entry ≡ false
 not_for entry name down none =
     ⊎_elim
     (λ (own : (is_free entry || bytes_eq (name_in entry) self_name) ≡ true).
@@ -30,10 +30,10 @@ not_for entry name down none =
 pub empty_from : (bytes : List ℕ) → NoneDown (entries_of bytes) → IsEmpty bytes
 empty_from bytes none name down = lookup_none bytes name (λ j inside. not_for (entry_at bytes j) name down (none j inside))
 
-or_first : (a b : Bool) → a ≡ true → (a || b) ≡ true
+pub or_first : (a b : Bool) → a ≡ true → (a || b) ≡ true
 or_first a b h = ap (λ (c : Bool). c || b) h
 
-or_second : (a b : Bool) → b ≡ true → (a || b) ≡ true
+pub or_second : (a b : Bool) → b ≡ true → (a || b) ≡ true
 or_second true b h = refl
 or_second false b h = h
 
@@ -64,7 +64,7 @@ none_from_empty bytes empty j inside =
 
 -- ---- by the first entry that leads down
 
-true_from_not : (b : Bool) → not b ≡ false → b ≡ true
+pub true_from_not : (b : Bool) → not b ≡ false → b ≡ true
 true_from_not true h = refl
 true_from_not false h = absurd (cc h)
 

@@ -21,14 +21,14 @@ place_is numbers number m apart inside is =
     (λ same. let one : k ≡ m = apart.same k m (omega arith) inside (same ∙ sym is) in omega arith))
     (λ h. eq-eqb (get_or numbers m 0) number is)
 
-directory_at : (files : Files) (looked : ℕ) (numbers parents : List ℕ) → HasFound files looked numbers parents → (j from parent : ℕ) → j < looked →
+pub directory_at : (files : Files) (looked : ℕ) (numbers parents : List ℕ) → HasFound files looked numbers parents → (j from parent : ℕ) → j < looked →
     get_or numbers j 0 ≡ from → get_or parents j 0 ≡ parent → IsDirectory files from → IsDirectoryOf (directory_in files from) from parent
 directory_at files looked numbers parents found j from parent seen is up directory =
     subst (λ (k : ℕ). IsDirectoryOf (directory_in files from) from k) up
     (subst (λ (k : ℕ). IsDirectoryOf (directory_in files k) k (get_or parents j 0)) is
     (found.directories j seen (subst (λ (k : ℕ). IsDirectory files k) (sym is) directory)))
 
-step_at : (files : Files) (j from to : ℕ) (numbers : List ℕ) (name : List ℕ) → get_or numbers j 0 ≡ from → StepsDown files from name to →
+pub step_at : (files : Files) (j from to : ℕ) (numbers : List ℕ) (name : List ℕ) → get_or numbers j 0 ≡ from → StepsDown files from name to →
     StepsDown files (get_or numbers j 0) name to
 step_at files j from to numbers name is step = subst (λ (k : ℕ). StepsDown files k name to) (sym is) step
 

@@ -31,3 +31,6 @@ pub mod FileLooks
 pub mod SeenLooks
 pub mod Found
 pub mod NumbersDown
+pub mod EntryPaths
+pub mod FoundNext
+pub mod FoundDirectory

@@ -37,12 +37,12 @@ steps_lead files from i name tree down step =
 
 -- ---- entries
 
-for_itself : (entry : List ℕ) → is_free entry ≡ false → is_for (name_in entry) entry ≡ true
+pub for_itself : (entry : List ℕ) → is_free entry ≡ false → is_for (name_in entry) entry ≡ true
 for_itself entry used =
     and_from (not (is_free entry)) (bytes_eq (name_in entry) (name_in entry)) (not_from_false (is_free entry) used)
     ((bytes_eq-Decides (name_in entry) (name_in entry)).1 refl)
 
-is_first : (bytes name : List ℕ) (j : ℕ) → HasOnce bytes name → IsFor bytes name j → StandsAt (is_for name) (entries_of bytes) j
+pub is_first : (bytes name : List ℕ) (j : ℕ) → HasOnce bytes name → IsFor bytes name j → StandsAt (is_for name) (entries_of bytes) j
 is_first bytes name j once is =
     let within : j < length (entries_of bytes) = is.0 in
     record {
