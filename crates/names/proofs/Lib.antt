@@ -34,3 +34,5 @@ pub mod NumbersDown
 pub mod EntryPaths
 pub mod FoundNext
 pub mod FoundDirectory
+pub mod Children
+pub mod FirstNames

@@ -1,8 +1,8 @@
 -- How files are seen to be a tree: they are looked into from the root on, in the order that they are
 -- found.
-use Rattle.std.specs.Prelude.{◌≡◌, ℕ, ◌<◌, ◌≤◌, if◌then◌else◌, List, [], ◌∷◌, length, slice_index}
+use Rattle.std.specs.Prelude.{◌≡◌, ℕ, ◌<◌, ◌≤◌, if◌then◌else◌, Bool, true, false, List, [], ◌∷◌, ◌++◌, length, position, replicate, slice_index, slice_index_or, Some}
 use Rattle.model.specs.Files.{Files}
-use Rattle.names.specs.Entries.{number_in}
+use Rattle.names.specs.Entries.{is_for, is_free, name_in, number_in}
 use Rattle.names.specs.Trees.{directory_in, leads_down, root, IsDirectory, IsDirectoryOf, IsFile, StepsDown}
 
 -- the numbers of the entries whose names lead down, in order
@@ -60,3 +60,20 @@ pub record HasFound (files : Files) (looked : ℕ) (numbers parents : List ℕ) 
       → StepsDown files (slice_index numbers j) x number
       → StepsDown files (slice_index numbers j) y number → x ≡ y
   pub up : (m : ℕ) → 0 < m → m < length numbers → HasName files looked numbers parents m
+
+-- ---- what is seen in the bytes
+
+-- a used entry is the first of its name
+abbrev pub IsFirst : List (List ℕ) → ℕ → Type 0
+IsFirst entries place = is_free (slice_index_or entries place []) ≡ false
+    → position (is_for (name_in (slice_index_or entries place []))) entries ≡ Some place
+
+-- The numbers of the entries that lead down are found behind the others, with the directory as their
+-- parent; or a number is not new.
+abbrev pub AddsChildren : List (List ℕ) → ℕ → List ℕ → List ℕ → List ℕ → List ℕ → Bool → Type 0
+AddsChildren entries from numbers parents new_numbers new_parents true =
+    (new_numbers ≡ numbers ++ numbers_down entries)
+    × (new_parents ≡ parents ++ replicate (length (numbers_down entries)) from)
+    × AreApart new_numbers
+AddsChildren entries from numbers parents new_numbers new_parents false =
+    AreApart (numbers ++ numbers_down entries) → ⊥

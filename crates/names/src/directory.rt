@@ -35,7 +35,7 @@ fn first_down(entries: &[[u8; ENTRY_SIZE]]) -> Option<usize>
     entries.iter().position(|entry| leads_down(entry))
 }
 
-fn leads_down(entry: &[u8; ENTRY_SIZE]) -> bool
+pub(crate) fn leads_down(entry: &[u8; ENTRY_SIZE]) -> bool
     ensures { result ≡ leads_down entry.now }
 {
     !is_none_down(entry)

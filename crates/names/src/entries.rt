@@ -132,7 +132,7 @@ pub(crate) fn entries(bytes: &[u8]) -> &[[u8; ENTRY_SIZE]]
 
 // The number of an entry's file.
 #[tactic(auto, unfolding(crate::specs::Entries::number_in))]
-fn number_in(entry: &[u8; ENTRY_SIZE]) -> u16
+pub(crate) fn number_in(entry: &[u8; ENTRY_SIZE]) -> u16
     ensures { result ≡ number_in entry.now }
 {
     LittleEndian::read_u16(entry)

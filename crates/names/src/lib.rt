@@ -10,6 +10,7 @@
 //! above the lower storey, by public calls alone.
 #![tactic(auto)]
 
+mod checking;
 mod directory;
 mod entries;
 mod fault;
@@ -23,6 +24,7 @@ mod refusal;
 mod tree;
 pub mod tree_laws;
 
+pub use checking::is_directory_of;
 pub use directory::{NEW_DIRECTORY_SIZE, is_empty, new_directory};
 pub use entries::{
     DIRECTORY, DIRECTORY_SIZE, ENTRY_SIZE, EntryWrite, LinkFault, link, lookup, repoint, unlink,
