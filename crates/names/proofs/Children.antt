@@ -1,12 +1,12 @@
 -- The numbers of a directory's first entries are added behind others.
-use Rattle.std.proofs.Common.{◌≡◌, ◌≢◌, ◌⊎◌, ℕ, zero, suc, ◌+◌, ◌<◌, ◌≤◌, true, false, List, [], ◌∷◌, ◌++◌, length, take, drop, get_or, replicate, refl, sym, ap, subst, ◌∙◌, ⊎_elim, arith}
+use Rattle.std.proofs.Common.{◌≡◌, ℕ, zero, suc, ◌+◌, ◌<◌, ◌≤◌, true, false, List, [], ◌∷◌, ◌++◌, length, take, drop, get_or, replicate, sym, ap, subst, ◌∙◌, arith}
 use Rattle.std.specs.Prelude.{Contains}
 use Rattle.std.proofs.lemmas.Bool.{cond-false, cond-true}
 use Rattle.std.proofs.lemmas.List.{append_assoc, append-nil, get_or_default, get_or_append_left, get_or-append-add, length-append, replicate_more, take-append-drop, take_all, take_more}
 use Rattle.names.specs.Checks.{numbers_down, AddsChildren, AreApart}
 use Rattle.names.specs.Entries.{number_in}
 use Rattle.names.specs.Trees.{leads_down}
-use Rattle.names.proofs.NumbersDown.{apart_more, apart_left, apart_parts, numbers_down-append, StandsIn}
+use Rattle.names.proofs.NumbersDown.{apart_left, apart_parts, numbers_down-append, StandsIn}
 
 -- what of the first entries leads down was added
 pub record Took (entries : List (List ℕ)) (from : ℕ) (numbers parents : List ℕ) (k : ℕ) (now up : List ℕ) : Type 0 where

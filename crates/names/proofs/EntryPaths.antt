@@ -1,16 +1,14 @@
 -- An entry that leads down, and the step by its name.
-use Rattle.std.proofs.Common.{◌≡◌, ◌≢◌, ◌⊎◌, ℕ, ◌<◌, Bool, true, false, not, ◌||◌, List, [], length, get_or, Option, Some, None, refl, sym, ap, subst, ◌∙◌, ⊎_elim}
-use Rattle.std.specs.List.{position}
+use Rattle.std.proofs.Common.{◌≡◌, ℕ, ◌<◌, true, false, not, ◌||◌, List, [], length, get_or, Option, Some, None, refl, ap, ⊎_elim}
 use Rattle.std.specs.Option.{option_map}
 use Rattle.std.specs.Str.{bytes_eq}
 use Rattle.std.proofs.lemmas.Bool.{both_ways, cases_Bool}
 use Rattle.std.proofs.lemmas.Slice.Eq.{bytes_eq-Decides}
 use Rattle.model.specs.Files.{Files}
-use Rattle.names.specs.Entries.{entries_of, is_for, is_free, lookup, name_in, number_in, place_of, HasOnce, IsFor}
+use Rattle.names.specs.Entries.{entries_of, is_for, is_free, lookup, name_in, number_in, place_of}
 use Rattle.names.specs.Trees.{directory_in, is_none_down, leads_down, parent_name, self_name, IsDirectory, IsDown, IsTidy, StepsDown}
 use Rattle.names.proofs.Emptiness.{not_for, or_first, or_second, true_from_not}
-use Rattle.names.proofs.EntryBytes.{name_of_entry}
-use Rattle.names.proofs.Standing.{lookup_at, stands_at, StandsAt}
+use Rattle.names.proofs.Standing.{lookup_at, stands_at}
 use Rattle.names.proofs.TreeMeaning.{for_itself, is_first}
 
 -- the entry of a name that leads down to a number

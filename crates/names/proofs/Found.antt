@@ -1,9 +1,9 @@
 -- Files that were all found from the root on are a tree, and in a tree all are found.
-use Rattle.std.proofs.Common.{◌≡◌, ◌≢◌, ◌⊎◌, ℕ, ◌<◌, ◌≤◌, Bool, true, false, eqb, List, [], ◌∷◌, length, get_or, Some, None, refl, sym, ap, subst, ◌∙◌, ⊎_elim, arith}
+use Rattle.std.proofs.Common.{◌≡◌, ◌≢◌, ℕ, ◌<◌, eqb, List, [], ◌∷◌, length, get_or, sym, ap, subst, ◌∙◌, ⊎_elim, arith}
 use Rattle.std.specs.List.{position_or_len}
 use Rattle.std.proofs.lemmas.Bool.{cases_eq, eq-eqb, ne_eqb}
 use Rattle.std.proofs.lemmas.List.Sums.{position_or_len_is}
-use Rattle.model.specs.Files.{Files, file_in}
+use Rattle.model.specs.Files.{Files}
 use Rattle.names.specs.Checks.{AreApart, HasFound, IsAmong}
 use Rattle.names.specs.Trees.{directory_in, IsDirectory, IsDirectoryOf, IsFile, IsPath, IsTree, StepsDown}
 use Rattle.names.proofs.TreeBy.{directory_is_file, steps_make_tree, tree_makes_steps, IsTreeBy}

@@ -1,11 +1,11 @@
 -- The next file that was found is a directory: what it leads down to is found behind the others.
-use Rattle.std.proofs.Common.{◌≡◌, ◌≢◌, ◌⊎◌, ℕ, ◌+◌, ◌-◌, ◌<◌, ◌≤◌, true, List, [], ◌++◌, length, get_or, replicate, refl, sym, ap, subst, ◌∙◌, ⊎_elim, arith}
+use Rattle.std.proofs.Common.{◌≡◌, ◌≢◌, ℕ, ◌+◌, ◌-◌, ◌<◌, ◌≤◌, true, List, [], ◌++◌, length, get_or, replicate, refl, sym, ap, subst, ◌∙◌, ⊎_elim, arith}
 use Rattle.std.proofs.lemmas.Bool.{cases_eq, cases_lt}
 use Rattle.std.proofs.lemmas.List.{get_or_append_left, get_or-replicate, length-append, length-replicate}
 use Rattle.model.specs.Files.{Files}
 use Rattle.names.specs.Checks.{numbers_down, AreApart, HasFound, HasName, WasFound}
 use Rattle.names.specs.Entries.{entries_of, is_for, name_in, number_in}
-use Rattle.names.specs.Trees.{directory_in, leads_down, IsDirectory, IsDirectoryOf, IsFile, IsTree, StepsDown}
+use Rattle.names.specs.Trees.{directory_in, IsDirectory, IsDirectoryOf, IsFile, IsTree, StepsDown}
 use Rattle.names.proofs.EntryBytes.{name_of_entry}
 use Rattle.names.proofs.EntryPaths.{entry_of_step, for_its_name, step_of_entry}
 use Rattle.names.proofs.Found.{found_directory}

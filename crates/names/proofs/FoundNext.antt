@@ -1,16 +1,10 @@
 -- The next file that was found is looked into.
-use Rattle.std.proofs.Common.{◌≡◌, ◌≢◌, ◌⊎◌, inl, inr, ℕ, zero, suc, ◌+◌, ◌-◌, ◌<◌, ◌≤◌, true, List, [], ◌∷◌, ◌++◌, length, get_or, replicate, refl, sym, ap, subst, ◌∙◌, ⊎_elim, arith}
-use Rattle.std.proofs.lemmas.Bool.{cases_eq, cases_lt}
-use Rattle.std.proofs.lemmas.List.{get_or_append_left, get_or-append-add, length-append, length-replicate, get_or-replicate}
+use Rattle.std.proofs.Common.{◌≡◌, ◌⊎◌, inl, inr, ℕ, ◌+◌, ◌<◌, ◌≤◌, List, [], ◌∷◌, ◌++◌, length, get_or, refl, sym, ap, subst, ◌∙◌, ⊎_elim, arith}
+use Rattle.std.proofs.lemmas.Bool.{cases_lt}
+use Rattle.std.proofs.lemmas.List.{get_or_append_left, get_or-append-add, length-append}
 use Rattle.model.specs.Files.{Files}
-use Rattle.names.specs.Checks.{numbers_down, AreApart, HasFound, HasName, WasFound}
-use Rattle.names.specs.Entries.{entries_of, is_for, name_in, number_in}
-use Rattle.names.specs.Trees.{directory_in, leads_down, IsDirectory, IsDirectoryOf, IsFile, IsTree, StepsDown}
-use Rattle.names.proofs.EntryBytes.{name_of_entry}
-use Rattle.names.proofs.EntryPaths.{entry_of_step, for_its_name, step_of_entry}
-use Rattle.names.proofs.Found.{found_directory}
-use Rattle.names.proofs.NumbersDown.{apart_entries, apart_left, apart_parts, apart_right, from_down, in_down, one_entry, StandsIn}
-use Rattle.names.proofs.TreeBy.{directory_is_file, tree_makes_steps}
+use Rattle.names.specs.Checks.{AreApart, HasFound, HasName, WasFound}
+use Rattle.names.specs.Trees.{IsDirectory, IsFile}
 
 -- ---- at the beginning
 

@@ -65,7 +65,7 @@ fn is_named(entry: &[u8; ENTRY_SIZE], named: &[u8; ENTRY_SIZE]) -> bool
 /// # Errors
 ///
 /// `NoMemory` where memory for a number was refused.
-pub(crate) fn add_children(
+pub fn add_children(
     entries: &[[u8; ENTRY_SIZE]],
     from: u16,
     numbers: &mut Vec<u16>,
@@ -89,7 +89,7 @@ pub(crate) fn add_children(
 }
 
 // Whether a number is one of those.
-pub(crate) fn is_among(numbers: &[u16], number: u16) -> bool
+fn is_among(numbers: &[u16], number: u16) -> bool
     ensures { IsTrue result ↔ Contains numbers.now number }
 {
     numbers.contains(&number)

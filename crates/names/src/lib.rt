@@ -8,6 +8,8 @@
 //!
 //! `NamedFiles` are files whose names stand in such a directory, over a kernel of one process: a layer
 //! above the lower storey, by public calls alone.
+//!
+//! `tree_laws` says when directories within directories are a tree, and that changes leave one.
 #![tactic(auto)]
 
 mod checking;
@@ -24,7 +26,7 @@ mod refusal;
 mod tree;
 pub mod tree_laws;
 
-pub use checking::is_directory_of;
+pub use checking::{add_children, is_directory_of};
 pub use directory::{NEW_DIRECTORY_SIZE, is_empty, new_directory};
 pub use entries::{
     DIRECTORY, DIRECTORY_SIZE, ENTRY_SIZE, EntryWrite, LinkFault, link, lookup, repoint, unlink,

@@ -1,7 +1,5 @@
-use Rattle.std.proofs.Common.{◌≡◌, ℕ, ◌%◌, ◌<◌, ◌≤◌, true, List, length, sym, subst, rules, arith}
-use Rattle.std.proofs.lemmas.Grind.{common_steps}
+use Rattle.std.proofs.Common.{ℕ, ◌<◌, List, length, sym, subst}
 use Rattle.names.specs.Checks.{IsFirst}
-use Rattle.names.specs.Entries.{entries_of}
 use Rattle.names.proofs.FirstNames.{first_from_once, once_from_first}
 use Rattle.names.proofs.checking.is_tidy.Goals as goal
 
