@@ -1,5 +1,5 @@
 -- What looks at a file tell.
-use Rattle.std.proofs.Common.{◌≡◌, ◌≢◌, ℕ, ◌≤◌, true, false, cond, eqb, ◌&&◌, ltb, List, [], ◌∷◌, length, take, drop, Option, Some, None, refl, sym, ap, subst, ◌∙◌, arith}
+use Rattle.std.proofs.Common.{◌≡◌, ◌≢◌, ℕ, ◌≤◌, true, eqb, ◌&&◌, ltb, List, [], ◌∷◌, length, Option, Some, None, refl, sym, ap, subst, ◌∙◌}
 use Rattle.std.specs.Str.{bytes_eq}
 use Rattle.std.proofs.lemmas.Bool.{and_parts, eqb-true, le-ltb, cond-false}
 use Rattle.std.proofs.lemmas.Slice.Eq.{bytes_eq-Decides}
@@ -11,8 +11,8 @@ use Rattle.model.specs.declared.types.operations.Reply.{Reply}
 use Rattle.model.specs.declared.types.operations.Reply.TheVariants.{Bytes, StatOf, NoFile, TooLong}
 use Rattle.model.specs.Files.{Files, file_in}
 use Rattle.model.specs.Lemmas.Runs.{where_true_some}
-use Rattle.model.specs.Operations.{after, after_refusal, after_done, after_at, after_on, no_file_refusal, is_refusal, part_of}
-use Rattle.names.specs.Trees.{bytes_of, directory_in, kind_of, root, IsDirectory, IsDirectoryOf, IsFile, IsPath, IsTidy, IsTree, Steps}
+use Rattle.model.specs.Operations.{after, after_refusal, after_at, after_on, no_file_refusal, part_of}
+use Rattle.names.specs.Trees.{directory_in, kind_of, IsDirectory, IsPath, IsTidy, IsTree}
 use Rattle.names.proofs.Answered.{done_where}
 use Rattle.names.proofs.TreeBy.{directory_is_file}
 

@@ -1,27 +1,23 @@
 -- Calls of a transaction, one after the other.
-use Rattle.std.proofs.Common.{◌≡◌, ℕ, ◌+◌, ◌<◌, ◌≤◌, ◌^◌, List, [], length, Option, Some, None, refl, sym, ap, subst, ◌∙◌, inl, inr, ⊎_elim, arith}
+use Rattle.std.proofs.Common.{◌≡◌, ℕ, ◌+◌, ◌≤◌, ◌^◌, List, [], length, Option, Some, sym, ap, subst, ◌∙◌, inl, inr, ⊎_elim, arith}
 use Rattle.std.specs.Prelude.{unwrap_or}
 use Rattle.blocks.specs.Disk.{Image, LeavesOnly, Rose}
 use Rattle.blocks.specs.Lemmas.Moments.{joined}
 use Rattle.blocks.specs.declared.disk.Disk.{Ghosts}
 use Rattle.model.specs.Files.{Files, files_of}
-use Rattle.model.specs.Journal.{replay}
-use Rattle.model.specs.Layout.{form_of}
-use Rattle.model.specs.Operations.{after}
-use Rattle.model.specs.declared.types.image.Form.{Form}
 use Rattle.model.specs.declared.types.operations.Op.{Op}
 use Rattle.model.specs.declared.types.operations.Reply.{Reply}
 use Rattle.calls.specs.Calls.{call_count, faults_on, image_on}
 use Rattle.calls.specs.Stepping.{Plain}
 use Rattle.transactions.specs.Transactions.{Adds, Begins, Commits, HasFiles, IsInside, IsUnbegun, IsUncalled, IsUncommitted, KeepsEither, KeepsFiles, Rests}
-use Rattle.names.specs.Ready.{EndsOn, HasBegun, HasCommitted, LeavesEither}
+use Rattle.names.specs.Ready.{EndsOn, HasBegun, HasCommitted}
 use Rattle.names.specs.Trees.{IsTree}
 use Rattle.model.specs.declared.types.operations.Entry.{Entry}
 use Rattle.transactions.specs.declared.fault.TransactionFault.{TransactionFault}
 use Rattle.transactions.specs.declared.fault.TransactionFault.TheVariants as fault
 use Rattle.names.specs.declared.refusal.TreeFault.{TreeFault}
 use Rattle.names.specs.declared.refusal.TreeFault.TheVariants.{Path, Refused, Call, NoCall}
-use Rattle.names.specs.Inside.{files_seen, form_seen, Answers, Ends, Goes, IsBroken, IsUnderWay, LeavesFiles, Looks, StaysOn}
+use Rattle.names.specs.Inside.{files_seen, Answers, Ends, Goes, IsBroken, IsUnderWay, Looks, StaysOn}
 
 module _ {D N : Type 0} (disk : Ghosts D N) where
   -- a transaction sees the files that its kernel has
@@ -79,7 +75,7 @@ module _ {D N : Type 0} (disk : Ghosts D N) where
   pub same_faults : (k a : Plain D) (left less : ℕ) → IsUnderWay disk k left → Goes disk k a less → faults_on disk.fault_count a ≡ faults_on disk.fault_count k
   same_faults k a left less way goes = goes.way.inside.pair.faultless ∙ ap disk.fault_count goes.opening ∙ sym way.inside.pair.faultless
 
-  broken_on : (k a m : Plain D) (cause : TreeFault) → image_on disk.image a ≡ image_on disk.image k → faults_on disk.fault_count a ≡ faults_on disk.fault_count k →
+  pub broken_on : (k a m : Plain D) (cause : TreeFault) → image_on disk.image a ≡ image_on disk.image k → faults_on disk.fault_count a ≡ faults_on disk.fault_count k →
       IsBroken disk a m cause → IsBroken disk k m cause
   broken_on k a m (Path cause) same faults why = why
   broken_on k a m (Refused cause) same faults why = why
@@ -132,7 +128,7 @@ module _ {D N : Type 0} (disk : Ghosts D N) where
   commit_ends k m left less one way tree rests commits =
       let same : files_of (image_on disk.image m) ≡ files_seen disk.image k = commits.files (files_seen disk.image k) way.files in
       record {
-        ready = record { rests = rests; few = omega (arith, commits.one_more, way.few); tree = subst (λ (f : Files). IsTree f) (sym same) tree };
+        ready = record { rests = rests; few = omega (arith, commits.one_more, way.few); sound = commits.sound; tree = subst (λ (f : Files). IsTree f) (sym same) tree };
         files = same;
       }
 

@@ -36,3 +36,9 @@ pub mod FoundNext
 pub mod FoundDirectory
 pub mod Children
 pub mod FirstNames
+pub mod Transacting
+pub mod FileMakes
+pub mod Entering
+pub mod Leading
+pub mod Leaving
+pub mod RootMaking

@@ -80,19 +80,21 @@ part_there (b ∷ bs) cause why = (0, lit< tt, refl)
 pub refused_at : (path : List ℕ) (names : List (List ℕ)) (start i : ℕ) (cause : PathFault) → i < length path → get_or path i 0 ≡ 47 →
     Parted path names start i → IsPartCause (slice_range path start i) cause → IsPathCause path cause
 refused_at path names start i cause inside is parted why =
-    let part : List ℕ = slice_range path start i in
-    (part,
-    subst (λ (l : List (List ℕ)). Contains l part) (sym (parted.whole ∙ ap (λ (l : List (List ℕ)). parted.done ++ l) (slashed path part i inside is)))
-    (Contains-append_right parted.done (one_part part ++ parts_behind [] (drop (i + 1) path)) part
-    (Contains-append_left (one_part part) (parts_behind [] (drop (i + 1) path)) part (part_there part cause why))),
-    why)
+    let part : List ℕ = slice_range path start i in (
+      part,
+      subst (λ (l : List (List ℕ)). Contains l part) (sym (parted.whole ∙ ap (λ (l : List (List ℕ)). parted.done ++ l) (slashed path part i inside is)))
+          (Contains-append_right parted.done (one_part part ++ parts_behind [] (drop (i + 1) path)) part
+          (Contains-append_left (one_part part) (parts_behind [] (drop (i + 1) path)) part (part_there part cause why))),
+      why,
+    )
 
 pub refused_last : (path : List ℕ) (names : List (List ℕ)) (start i : ℕ) (cause : PathFault) → i ≡ length path →
     Parted path names start i → IsPartCause (slice_range path start (length path)) cause → IsPathCause path cause
 refused_last path names start i cause behind parted why =
     let part : List ℕ = slice_range path start (length path) in
-    let all : Parted path names start (length path) = subst (λ (j : ℕ). Parted path names start j) behind parted in
-    (part,
-    subst (λ (l : List (List ℕ)). Contains l part) (sym (all.whole ∙ ap (λ (l : List ℕ). all.done ++ parts_behind part l) (drop_all (length path) path (omega arith))))
-    (Contains-append_right all.done (one_part part) part (part_there part cause why)),
-    why)
+    let all : Parted path names start (length path) = subst (λ (j : ℕ). Parted path names start j) behind parted in (
+      part,
+      subst (λ (l : List (List ℕ)). Contains l part) (sym (all.whole ∙ ap (λ (l : List ℕ). all.done ++ parts_behind part l) (drop_all (length path) path (omega arith))))
+          (Contains-append_right all.done (one_part part) part (part_there part cause why)),
+      why,
+    )

@@ -27,7 +27,7 @@ tidy_in : (files : Files) (from : ℕ) → IsTree files → IsDirectory files fr
 tidy_in files from tree is = (directories_are_tidy files from tree is).0
 
 -- a file that was made is linked
-linked_new : (form : Form) (files made new : Files) (from number : ℕ) (name : List ℕ) (file : File) (write : EntryWrite) (reply : Reply) →
+pub linked_new : (form : Form) (files made new : Files) (from number : ℕ) (name : List ℕ) (file : File) (write : EntryWrite) (reply : Reply) →
     IsTree files → IsDirectory files from → IsUnnamed files made number file → Links (directory_in files from) name number write →
     write.place < 192 → after form made (operation_of from write) reply ≡ Some new →
     ((reply ≡ Wrote 16) × AddsName files new from name number file) ⊎ ((reply ≡ Wrote 0) × (new ≡ made))
@@ -52,7 +52,7 @@ makes_file_whole form files made new from i kind name write reply tree is down p
     (linked_new form files made new from i name (empty_file kind) write reply tree is unnamed links below h)
 
 -- the two entries of a new directory were written
-filled_by : (form : Form) (files made filled : Files) (number parent : ℕ) → IsUnnamed files made number (empty_file 1) →
+pub filled_by : (form : Form) (files made filled : Files) (number parent : ℕ) → IsUnnamed files made number (empty_file 1) →
     after form made (Write number 0 (new_directory number parent)) (Wrote 32) ≡ Some filled → IsUnnamed files filled number (directory_file number parent)
 filled_by form files made filled i parent unnamed h =
     ⊎_elim (λ (done : (Wrote 32 ≡ Wrote 32) × IsUnnamed files filled i (directory_file i parent)). done.1)

@@ -1,5 +1,5 @@
 -- Calls of a transaction, and the files that it sees.
-use Rattle.std.specs.Prelude.{◌≡◌, ◌≢◌, ℕ, ◌+◌, ◌^◌, ◌<◌, ◌≤◌, [], Some, unwrap_or}
+use Rattle.std.specs.Prelude.{◌≡◌, ℕ, ◌+◌, ◌^◌, ◌≤◌, [], Some, unwrap_or}
 use Rattle.blocks.specs.Disk.{Image, LeavesOnly}
 use Rattle.blocks.specs.declared.disk.Disk.{Ghosts}
 use Rattle.model.specs.Files.{Files, files_of}
@@ -11,8 +11,7 @@ use Rattle.model.specs.declared.types.operations.Op.{Op}
 use Rattle.model.specs.declared.types.operations.Reply.{Reply}
 use Rattle.calls.specs.Calls.{HasFailed, call_count, faults_on, image_on}
 use Rattle.calls.specs.Stepping.{Plain}
-use Rattle.transactions.specs.Transactions.{HasFiles, IsInside, KeepsFiles, Rests}
-use Rattle.transactions.specs.declared.fault.TransactionFault.{TransactionFault}
+use Rattle.transactions.specs.Transactions.{HasFiles, IsInside, KeepsFiles}
 use Rattle.transactions.specs.declared.fault.TransactionFault.TheVariants as fault
 use Rattle.names.specs.declared.refusal.TreeFault.{TreeFault}
 use Rattle.names.specs.declared.refusal.TreeFault.TheVariants.{Path, Refused, Call, NoCall}

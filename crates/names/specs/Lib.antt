@@ -4,6 +4,8 @@ pub mod Paths
 pub mod Inside
 pub mod Ready
 pub mod Walks
+pub mod Making
+pub mod Removing
 pub mod Writes
 pub mod Trees
 pub mod TreeChanges

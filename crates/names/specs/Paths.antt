@@ -1,5 +1,5 @@
 -- The names of a path.
-use Rattle.std.specs.Prelude.{◌≡◌, ◌≢◌, ℕ, ◌<◌, ◌==◌, if◌then◌else◌, List, [], ◌∷◌, ◌++◌, length, map, Contains}
+use Rattle.std.specs.Prelude.{◌≢◌, ℕ, ◌<◌, ◌==◌, if◌then◌else◌, List, [], ◌∷◌, ◌++◌, length, map, Contains}
 use Rattle.names.specs.declared.path.PathFault.{PathFault}
 use Rattle.names.specs.declared.path.PathFault.TheVariants.{NameTooLong, ZeroByte, NoMemory}
 use Rattle.names.specs.Entries.{name_size, padded}

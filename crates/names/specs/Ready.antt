@@ -1,8 +1,11 @@
 -- A tree of directories on a kernel's disk, and what a transaction makes of it.
-use Rattle.std.specs.Prelude.{◌≡◌, ◌⊎◌, ℕ, ◌+◌, ◌^◌, ◌<◌, ◌≤◌, IsTrue, List, Result, Ok, Err}
+use Rattle.std.specs.Prelude.{◌≡◌, ◌≢◌, ◌⊎◌, ⊤, ℕ, ◌+◌, ◌^◌, ◌<◌, ◌≤◌, ◌==◌, Bool, false, IsTrue, List, Option, Some, None, Result, Ok, Err}
 use Rattle.blocks.specs.Disk.{Image, LeavesOnly}
 use Rattle.blocks.specs.declared.disk.Disk.{Ghosts}
-use Rattle.model.specs.Files.{Files, files_of}
+use Rattle.model.specs.Files.{Files, file_in, files_of}
+use Rattle.model.specs.declared.types.operations.Op.TheVariants.{Write}
+use Rattle.model.specs.declared.types.operations.Reply.{Reply}
+use Rattle.model.specs.declared.types.operations.Reply.TheVariants.{Wrote}
 use Rattle.model.specs.Log.{is_lawful_log, recovered}
 use Rattle.model.specs.Soundness.{IsSound}
 use Rattle.calls.specs.Calls.{call_count, image_on}
@@ -11,17 +14,63 @@ use Rattle.transactions.specs.Transactions.{KeepsEither, Rests}
 use Rattle.names.specs.declared.refusal.Refusal.{Refusal}
 use Rattle.names.specs.declared.refusal.TreeFault.{TreeFault}
 use Rattle.names.specs.declared.refusal.TreeFault.TheVariants.{Path, Refused, Call, NoCall}
-use Rattle.names.specs.Inside.{files_seen, Goes, IsBroken, LeavesFiles}
+use Rattle.names.specs.Inside.{files_seen, Answers, Goes, IsBroken, IsSame, LeavesFiles}
 use Rattle.names.specs.Paths.{IsPathCause}
-use Rattle.names.specs.Trees.{IsTree}
+use Rattle.names.specs.Trees.{new_directory, root, IsTree}
+use Rattle.names.specs.TreeChanges.{directory_file}
 
 -- No transaction is under way, so many calls may be made yet, and the files on the disk are a tree.
 pub record IsReady {D N : Type 0} (disk : Ghosts D N) (k : Plain D) (left : ℕ) : Type 0 where
   pub rests : Rests disk.fault_count k
   pub few : call_count k + left ≤ 2 ^ 32
+  pub sound : IsSound (image_on disk.image k)
   pub tree : IsTree (files_of (image_on disk.image k))
 
--- the same, unless no call is left
+-- the same of files that may be no tree
+pub record IsIdle {D N : Type 0} (disk : Ghosts D N) (k : Plain D) (left : ℕ) : Type 0 where
+  pub rests : Rests disk.fault_count k
+  pub few : call_count k + left ≤ 2 ^ 32
+
+-- there is no file, but for one that may be the root
+abbrev pub HasNoFile : Files → Type 0
+HasNoFile files = (i : ℕ) → i ≢ root → file_in files i ≡ None
+
+-- the root is the only file, and nothing is in it
+pub record IsRootAlone (files : Files) : Type 0 where
+  pub there : file_in files root ≡ Some (directory_file root root)
+  pub none : HasNoFile files
+
+-- it was made where no file was, or a cause hindered it
+abbrev pub MakesRoot : Files → Files → Option Refusal → Type 0
+MakesRoot files new None = HasNoFile files → IsRootAlone new × IsTree new
+MakesRoot files new (Some cause) = ⊤
+
+-- What a stop in its making leaves of image x: recovery gives a sound image with the files of x, or
+-- with the root alone.
+pub record KeepsRoot (x z : Image) : Type 0 where
+  pub log : IsTrue (is_lawful_log z)
+  pub sound : IsSound (recovered z)
+  pub files : (files_of (recovered z) ≡ files_of x) ⊎ IsRootAlone (files_of (recovered z))
+
+-- the two entries of a new directory were written
+abbrev pub is_filled : Reply → Bool
+is_filled (Wrote count) = count == 32
+is_filled reply = false
+
+-- its two entries are written, and whether they are whole
+pub record HasFilled {D : Type 0} (image : D → Image) (k m : Plain D) (whole : Bool) : Type 0 where
+  pub reply : Reply
+  pub answers : Answers image (Write root 0 (new_directory root root)) k m reply
+  pub told : whole ≡ is_filled reply
+
+-- why it was not made: nothing of it is kept, and no other call may be made
+abbrev pub IsRootless : {D N : Type 0} → Ghosts D N → Plain D → Plain D → TreeFault → Type 0
+IsRootless disk k m (Path cause) = ⊥
+IsRootless disk k m (Refused cause) = IsSame disk k m
+IsRootless disk k m (Call cause) = IsBroken disk k m (Call cause)
+IsRootless disk k m NoCall = IsBroken disk k m NoCall
+
+-- the same as being ready, unless no call is left
 abbrev pub MayGoOn : {D N : Type 0} → Ghosts D N → Plain D → ℕ → Type 0
 MayGoOn disk k left = 0 < left → IsReady disk k left
 
@@ -75,13 +124,21 @@ LeavesTree disk change k m =
     LeavesOnly disk.moment disk.leaves k.store.volume.device m.store.volume.device
     (KeepsTree change (image_on disk.image k))
 
--- Why a call at a path is not answered, in kernel k, which is m now: the path is none, and nothing was
--- done; or the files refuse, which are as they were; or a call of the kernel failed.
+-- Why a call is not answered, in kernel k, which is m now: the files refuse, which are as they were, or
+-- a call of the kernel failed.
+abbrev pub IsUnanswered : {D N : Type 0} → Ghosts D N → (Files → Refusal → Type 0) → Plain D
+    → Plain D → TreeFault → Type 0
+IsUnanswered disk why k m (Path cause) = ⊥
+IsUnanswered disk why k m (Refused cause) =
+    (files_of (image_on disk.image m) ≡ files_of (image_on disk.image k))
+    × why (files_of (image_on disk.image k)) cause
+IsUnanswered disk why k m (Call cause) = IsBroken disk k m (Call cause)
+IsUnanswered disk why k m NoCall = IsBroken disk k m NoCall
+
+-- why a call at a path is not: the path is none, and nothing was done; or as above
 abbrev pub IsUndone : {D N : Type 0} → Ghosts D N → List ℕ → (Files → Refusal → Type 0)
     → Plain D → Plain D → TreeFault → Type 0
 IsUndone disk path why k m (Path cause) = (m ≡ k) × IsPathCause path cause
-IsUndone disk path why k m (Refused cause) =
-    (files_of (image_on disk.image m) ≡ files_of (image_on disk.image k))
-    × why (files_of (image_on disk.image k)) cause
-IsUndone disk path why k m (Call cause) = IsBroken disk k m (Call cause)
-IsUndone disk path why k m NoCall = IsBroken disk k m NoCall
+IsUndone disk path why k m (Refused cause) = IsUnanswered disk why k m (Refused cause)
+IsUndone disk path why k m (Call cause) = IsUnanswered disk why k m (Call cause)
+IsUndone disk path why k m NoCall = IsUnanswered disk why k m NoCall

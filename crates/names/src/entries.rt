@@ -2,6 +2,7 @@
 ghost use Rattle.std.specs.Prelude.{◌≡◌, ◌<◌, ◌≤◌, ◌/◌, replicate, length, position, Some, None, IfSome, IfNone, IfOk, IfErr};
 ghost use Rattle.std.specs.Str.{bytes_eq};
 ghost use Rattle.names.specs.Entries.{directory_size, most_entries, entry_size, entries_of, entry_bytes, is_for, is_free, lookup, name_in, number_in, place_of, HasOnce};
+ghost use Rattle.names.specs.Trees.{new_directory};
 ghost use Rattle.names.specs.Writes.{free_place, operation_of, written, IsLinkCause, KeepsOthers, Links, Repoints, Unlinks};
 
 use crate::name::Name;
@@ -195,6 +196,22 @@ fn link_at(place: u32, name: &Name, number: u16) -> EntryWrite
     LittleEndian::write_u16(&mut entry[..2], number);
     entry[2..].copy_from_slice(name.as_slice());
     EntryWrite { place, entry }
+}
+
+/// The bytes of a new directory: its entries for itself and for its parent.
+///
+/// # Errors
+///
+/// `NoMemory` where memory for the 32 bytes was refused.
+pub fn new_directory(alloc: Global, number: u16, parent: u16) -> Result<Content, NoMemory>
+    ensures { IfOk result (λ bytes. bytes ≡ new_directory number parent) }
+{
+    let own = link_at(0, &Name::own(), number);
+    let up = link_at(1, &Name::parent(), parent);
+    let mut bytes = [0; 32];
+    bytes[..ENTRY_SIZE].copy_from_slice(&own.entry);
+    bytes[ENTRY_SIZE..].copy_from_slice(&up.entry);
+    Content::copy_of(alloc, &bytes)
 }
 
 // The write of a free entry.

@@ -6,12 +6,17 @@
 //! change is the write of one entry, and that a write of the lower storey stays whole over a stop
 //! makes a change of a directory stay whole.
 //!
+//! `Tree` are files in directories within directories, found by their paths, over a kernel of two
+//! processes. Each of its calls is one transaction: a stop at any moment leaves the tree as it was or
+//! as the call makes it, in which each file has one path.
+//!
 //! `NamedFiles` are files whose names stand in such a directory, over a kernel of one process: a layer
 //! above the lower storey, by public calls alone.
 //!
 //! `tree_laws` says when directories within directories are a tree, and that changes leave one.
 #![tactic(auto)]
 
+mod asking;
 mod checking;
 mod directory;
 mod entries;
@@ -20,16 +25,20 @@ mod files;
 pub mod kernel_laws;
 pub mod laws;
 mod looking;
+mod making;
 mod name;
 mod path;
 mod refusal;
+mod removing;
+mod rooting;
 mod tree;
 pub mod tree_laws;
 
 pub use checking::{add_children, is_directory_of};
-pub use directory::{NEW_DIRECTORY_SIZE, is_empty, new_directory};
+pub use directory::is_empty;
 pub use entries::{
-    DIRECTORY, DIRECTORY_SIZE, ENTRY_SIZE, EntryWrite, LinkFault, link, lookup, repoint, unlink,
+    DIRECTORY, DIRECTORY_SIZE, ENTRY_SIZE, EntryWrite, LinkFault, link, lookup, new_directory,
+    repoint, unlink,
 };
 pub use fault::FilesFault;
 pub use files::NamedFiles;

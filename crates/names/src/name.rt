@@ -62,21 +62,21 @@ impl Name {
         Ok(Name { bytes })
     }
 
-    /// A directory's name for itself, a dot.
+    /// The name `.`, by which a directory has itself.
     pub fn own() -> Name
         ensures { result ≡ self_name }
     {
         Name {
-            bytes: *b".\0\0\0\0\0\0\0\0\0\0\0\0\0",
+            bytes: [46, 0, 0, 0, 0, 0, 0, 0, 0, 0, 0, 0, 0, 0],
         }
     }
 
-    /// A directory's name for its parent, two dots.
+    /// The name `..`, by which a directory has its parent.
     pub fn parent() -> Name
         ensures { result ≡ parent_name }
     {
         Name {
-            bytes: *b"..\0\0\0\0\0\0\0\0\0\0\0\0",
+            bytes: [46, 46, 0, 0, 0, 0, 0, 0, 0, 0, 0, 0, 0, 0],
         }
     }
 

@@ -1,14 +1,14 @@
 // A kernel whose files are a tree of directories, and the calls of its transactions.
 ghost use Rattle.std.specs.Prelude.{◌≡◌, ◌+◌, ◌<◌, ◌≤◌, ◌^◌, IfErr, IfOk, OnOk};
 ghost use Rattle.names.specs.Inside.{files_seen, Answers, Ends, Goes, IsUnderWay, LeavesFiles, StaysOn};
-ghost use Rattle.names.specs.Ready.{EndsOn, HasBegun, HasCommitted, IsReady};
+ghost use Rattle.names.specs.Ready.{EndsOn, HasBegun, HasCommitted, IsIdle, IsReady, MayGoOn};
 ghost use Rattle.names.specs.Trees.{IsTree};
 
 use crate::refusal::TreeFault;
 use blocks::Disk;
 use model::types::{Op, Reply};
 use std::alloc::Global;
-use transactions::{Pair, begin, call, commit};
+use transactions::{Pair, begin, call, commit, rested};
 
 /// Files with names in directories within directories, over a kernel of two processes. Behind a call
 /// that failed there is no other.
@@ -20,9 +20,32 @@ pub struct Tree<D: Disk> {
 }
 
 impl<D: Disk> Tree<D> {
+    // Does nothing: it says what a stop leaves between transactions.
+    pub(crate) fn stands(&self)
+        requires { MayGoOn D.Disk self.now.kernel self.now.calls_left }
+        ensures { 0 < self.now.calls_left → LeavesFiles D.Disk self.now.kernel self.now.kernel }
+    {
+        if self.calls_left > 0 {
+            rested(&self.kernel);
+        }
+    }
+
     // Begins a transaction.
     pub(crate) fn begun(&mut self, alloc: Global) -> Result<(), TreeFault>
         requires ready { IsReady D.Disk self.old.kernel self.old.calls_left }
+        requires some { 0 < self.old.calls_left }
+        ensures begins { OnOk result (HasBegun D.Disk
+            self.old.kernel self.new.kernel self.new.calls_left) }
+        ensures leaves { LeavesFiles D.Disk self.old.kernel self.new.kernel }
+        ensures ends { IfErr result (Ends D.Disk
+            self.old.kernel self.new.kernel self.new.calls_left) }
+    {
+        self.begun_idle(alloc)
+    }
+
+    // The same where the files may be no tree.
+    pub(crate) fn begun_idle(&mut self, alloc: Global) -> Result<(), TreeFault>
+        requires idle { IsIdle D.Disk self.old.kernel self.old.calls_left }
         requires some { 0 < self.old.calls_left }
         ensures begins { OnOk result (HasBegun D.Disk
             self.old.kernel self.new.kernel self.new.calls_left) }

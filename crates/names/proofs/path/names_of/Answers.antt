@@ -1,8 +1,7 @@
-use Rattle.std.proofs.Common.{◌≡◌, ◌≢◌, ◌≤◌, ◌++◌, ℕ, List, map, get_or, length, Result, Ok, Err, subst, sym, rules, arith}
+use Rattle.std.proofs.Common.{◌≡◌, ◌≢◌, get_or, Err, subst, sym, rules, arith}
 use Rattle.std.specs.Prelude.{IfErr}
 use Rattle.std.proofs.lemmas.Grind.{common_steps}
-use Rattle.names.specs.Paths.{IsPartCause, IsPathCause, one_part}
-use Rattle.names.specs.Entries.{padded}
+use Rattle.names.specs.Paths.{IsPathCause}
 use Rattle.names.proofs.Parts.{parted_on, parted_at, parted_all, refused_at, refused_last}
 use Rattle.names.proofs.path.names_of.Goals.{then-byte-eq-SLASH+in_ok-push_part, else-byte-eq-SLASH}
 use Rattle.names.proofs.path.names_of.Goals as goal
@@ -17,13 +16,13 @@ returns-in_err-push_part-clause-refused c =
 pub loop-i-preserved : goal.loop-i-preserved
 loop-i-preserved c =
     elim c.if-byte-eq-SLASH.branch [
-      then-byte-eq-SLASH+in_ok-push_part w ↦
-      let slash : get_or c.args.path.now c.loop-i.i 0 ≡ 47 = w.if-byte-eq-SLASH.true in
-      rw (w.names-is, w.start-is)
-      (parted_at c.args.path.now c.loop-i.names.items w.push_part.new.names.items c.loop-i.start c.loop-i.i (omega arith) slash w.in_ok-push_part.ensures.adds c.loop-i.invariant)
+      | then-byte-eq-SLASH+in_ok-push_part w ↦
+          let slash : get_or c.args.path.now c.loop-i.i 0 ≡ 47 = w.if-byte-eq-SLASH.true in
+          rw (w.names-is, w.start-is)
+          (parted_at c.args.path.now c.loop-i.names.items w.push_part.new.names.items c.loop-i.start c.loop-i.i (omega arith) slash w.in_ok-push_part.ensures.adds c.loop-i.invariant)
       | else-byte-eq-SLASH w ↦
-      let other : get_or c.args.path.now c.loop-i.i 0 ≢ 47 = w.if-byte-eq-SLASH.false in
-      rw (w.names-is, w.start-is) (parted_on c.args.path.now c.loop-i.names.items c.loop-i.start c.loop-i.i (omega arith) other c.loop-i.invariant)
+          let other : get_or c.args.path.now c.loop-i.i 0 ≢ 47 = w.if-byte-eq-SLASH.false in
+          rw (w.names-is, w.start-is) (parted_on c.args.path.now c.loop-i.names.items c.loop-i.start c.loop-i.i (omega arith) other c.loop-i.invariant)
     ]
 
 pub returns-in_err-push_part-2-clause-refused : goal.returns-in_err-push_part-2-clause-refused

@@ -1,6 +1,5 @@
-use Rattle.std.proofs.Common.{◌≡◌, ◌≢◌, ◌∙◌, List, ℕ, Err, refl, sym, ap, subst, rules, arith}
+use Rattle.std.proofs.Common.{◌≡◌, ◌≢◌, ◌∙◌, List, ℕ, Err, sym, ap, subst, rules, arith}
 use Rattle.std.specs.Prelude.{IfErr}
-use Rattle.model.specs.declared.types.operations.Reply.{Reply}
 use Rattle.model.specs.declared.types.operations.Reply.TheVariants.{Bytes}
 use Rattle.model.specs.Files.{Files}
 use Rattle.names.specs.Inside.{files_seen, Ends, Looks}

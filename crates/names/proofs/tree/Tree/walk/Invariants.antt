@@ -1,6 +1,4 @@
-use Rattle.std.proofs.Common.{◌≡◌, drop}
-use Rattle.names.specs.Inside.{files_seen, Looks, StaysOn}
-use Rattle.names.specs.Walks.{walked}
+use Rattle.std.proofs.Common.{drop}
 use Rattle.names.proofs.SeenLooks.{HasWalked}
 use Rattle.names.proofs.tree.Tree.walk.Given as goal
 

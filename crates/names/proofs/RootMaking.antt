@@ -1,0 +1,85 @@
+-- The root is made on a disk without files.
+use Rattle.std.proofs.Common.{◌≡◌, ℕ, Bool, true, Option, Some, None, Result, refl, sym, ap, subst, ◌∙◌, inl, inr, ⊎_elim}
+use Rattle.std.specs.Prelude.{OnOk}
+use Rattle.std.proofs.lemmas.Bool.{eqb-true}
+use Rattle.std.proofs.lemmas.Result.{on_ok_weaker}
+use Rattle.blocks.specs.Disk.{LeavesOnly}
+use Rattle.blocks.specs.declared.disk.Disk.{Ghosts}
+use Rattle.model.specs.declared.types.image.Form.{Form}
+use Rattle.model.specs.declared.types.operations.Op.TheVariants.{Create, Write}
+use Rattle.model.specs.declared.types.operations.Reply.{Reply}
+use Rattle.model.specs.declared.types.operations.Reply.TheVariants.{Made, Wrote}
+use Rattle.model.specs.Files.{Files, files_of}
+use Rattle.model.specs.Layout.{form_of}
+use Rattle.model.specs.Log.{recovered}
+use Rattle.model.specs.Operations.{after}
+use Rattle.calls.specs.Calls.{image_on}
+use Rattle.calls.specs.Stepping.{Plain}
+use Rattle.transactions.specs.Transactions.{KeepsEither}
+use Rattle.names.specs.declared.refusal.Refusal.{Refusal}
+use Rattle.names.specs.declared.refusal.TreeFault.{TreeFault}
+use Rattle.names.specs.Inside.{files_seen, form_seen, Answers, LeavesFiles, StaysOn}
+use Rattle.names.specs.Ready.{is_filled, EndsOn, HasBegun, HasCommitted, HasFilled, HasNoFile, IsRootAlone, KeepsRoot, LeavesEither, MakesRoot}
+use Rattle.names.specs.Trees.{new_directory, IsTree}
+use Rattle.names.proofs.Going.{wider}
+use Rattle.names.proofs.Unnamed.{create_makes}
+use Rattle.names.proofs.WholeChanges.{filled_by, makes_root_whole}
+
+whole_fill : (reply : Reply) → is_filled reply ≡ true → reply ≡ Wrote 32
+whole_fill (Wrote count) h = ap (λ (n : ℕ). Wrote n) (eqb-true count 32 h)
+whole_fill reply h = absurd (cc h)
+
+root_of : (form : Form) (files made new : Files) → HasNoFile files → after form files (Create 1) (Made 1) ≡ Some made →
+    after form made (Write 1 0 (new_directory 1 1)) (Wrote 32) ≡ Some new → IsRootAlone new × IsTree new
+root_of form files made new none create fill =
+    let unnamed = filled_by form files made new 1 1 (create_makes form files made 1 1 create) fill in (
+      record { there = unnamed.there; none = λ i ne. unnamed.rest i ne ∙ none i ne },
+      makes_root_whole form files made new none create fill,
+    )
+
+-- the cause that hindered it is none
+none_by : (o : Option Refusal) → ((x : Refusal) → o ≡ Some x → ⊥) → o ≡ None
+none_by None not = refl
+none_by (Some x) not = absurd (not x refl)
+
+root_by : (files seen new : Files) (o : Option Refusal) → MakesRoot seen new o → ((x : Refusal) → o ≡ Some x → ⊥) → seen ≡ files → HasNoFile files →
+    IsRootAlone new × IsTree new
+root_by files seen new o made not same none =
+    let done : MakesRoot seen new None = subst (λ (p : Option Refusal). MakesRoot seen new p) (none_by o not) made in
+    done (subst (λ (f : Files). HasNoFile f) (sym same) none)
+
+module _ {D N : Type 0} (disk : Ghosts D N) where
+  pub root_filled : (k a b : Plain D) (i : ℕ) (reply : Reply) (whole : Bool) → a.opening ≡ k.opening → reply ≡ Made i → i ≡ 1 →
+      Answers disk.image (Create 1) k a reply → HasFilled disk.image a b whole → whole ≡ true → HasNoFile (files_seen disk.image k) →
+      IsRootAlone (files_seen disk.image b) × IsTree (files_seen disk.image b)
+  root_filled k a b i reply whole opening is one create filled all none =
+      let made : Answers disk.image (Create 1) k a (Made 1) =
+      subst (λ (r : Reply). Answers disk.image (Create 1) k a r) (is ∙ ap (λ (n : ℕ). Made n) one) create in
+      let form : Form = form_seen disk.image k in
+      let fill : after form (files_seen disk.image a) (Write 1 0 (new_directory 1 1)) filled.reply ≡ Some (files_seen disk.image b) =
+      subst (λ (o : D). after (form_of (disk.image o)) (files_seen disk.image a) (Write 1 0 (new_directory 1 1)) filled.reply ≡ Some (files_seen disk.image b))
+      opening filled.answers in
+      root_of form (files_seen disk.image k) (files_seen disk.image a) (files_seen disk.image b) none made
+      (subst (λ (r : Reply). after form (files_seen disk.image a) (Write 1 0 (new_directory 1 1)) r ≡ Some (files_seen disk.image b))
+      (whole_fill filled.reply (sym filled.told ∙ all)) fill)
+
+  -- it began in k, was a in the transaction and b behind its calls, and is over in m
+  module _ (k a b m : Plain D) (less rest : ℕ) (o : Option Refusal) (begun : HasBegun disk k a less) (made : MakesRoot (files_seen disk.image a) (files_seen disk.image b) o)
+      (not : (x : Refusal) → o ≡ Some x → ⊥) (none : HasNoFile (files_of (image_on disk.image k))) where
+    root : IsRootAlone (files_seen disk.image b) × IsTree (files_seen disk.image b)
+    root = root_by (files_of (image_on disk.image k)) (files_seen disk.image a) (files_seen disk.image b) o made not begun.files none
+
+    pub root_alone : (r : Result (Unit {0}) TreeFault) → OnOk r (HasCommitted disk b m rest) → OnOk r (IsRootAlone (files_of (image_on disk.image m)))
+    root_alone r all = on_ok_weaker r (λ (done : HasCommitted disk b m rest). subst (λ (f : Files). IsRootAlone f) (sym done.files) root.0) all
+
+    pub root_leaves : LeavesFiles disk k a → image_on disk.image b ≡ image_on disk.image a → StaysOn disk a b → EndsOn disk b m →
+        LeavesOnly disk.moment disk.leaves k.store.volume.device m.store.volume.device (KeepsRoot (image_on disk.image k))
+    root_leaves first same stays over =
+        let all : LeavesEither disk (files_seen disk.image b) k m = over.on k (same ∙ begun.goes.same) (stays.on k begun.goes.same first) in
+        wider disk k.store.volume.device m.store.volume.device (KeepsEither (image_on disk.image k) (files_seen disk.image b)) (KeepsRoot (image_on disk.image k))
+        (λ z keeps. record {
+          log = keeps.log;
+          sound = keeps.sound;
+          files = ⊎_elim (λ (was : files_of (recovered z) ≡ files_of (image_on disk.image k)). inl was)
+              (λ (is : files_of (recovered z) ≡ files_seen disk.image b). inr (subst (λ (f : Files). IsRootAlone f) (sym is) root.0)) keeps.files;
+        }) all.leaves

@@ -1,0 +1,37 @@
+use Rattle.std.proofs.Common.{◌≡◌, ℕ, Some, sym, subst}
+use Rattle.blocks.specs.declared.disk.Disk.{Ghosts}
+use Rattle.calls.specs.Stepping.{Plain}
+use Rattle.model.specs.declared.types.operations.Op.TheVariants.{Create}
+use Rattle.model.specs.declared.types.operations.Reply.{Reply}
+use Rattle.model.specs.declared.types.operations.Reply.TheVariants.{Made}
+use Rattle.names.specs.Inside.{files_seen, form_seen, Answers}
+use Rattle.names.specs.Making.{HasCreated}
+use Rattle.names.proofs.FileMakes.{create_none, create_some}
+use Rattle.names.proofs.tree.Tree.created.Goals as goal
+
+pub returns-in_default : goal.returns-in_default
+returns-in_default g c = record {
+  goes = c.in_ok-number.ensures.goes;
+  made = create_none (form_seen g.D.Disk.image c.args.self.now.kernel) (files_seen g.D.Disk.image c.args.self.now.kernel)
+      (files_seen g.D.Disk.image c.called.new.self.kernel) c.in_ok-number.field-0 c.in_ok-number.ensures.answers c.in_default.not-Made;
+  stays = c.called.ensures.stays;
+  ends = tt;
+}
+
+module _ {D N : Type 0} (disk : Ghosts D N) where
+  made : (k m : Plain D) (reply : Reply) (i : ℕ) → reply ≡ Made i → Answers disk.image (Create 2) k m reply →
+      HasCreated (files_seen disk.image k) (files_seen disk.image m) (Some i)
+  made k m reply i is answers =
+      create_some (form_seen disk.image k) (files_seen disk.image k) (files_seen disk.image m) i
+      (subst (λ (r : Reply). Answers disk.image (Create 2) k m r) is answers)
+
+pub returns-in-Ok-clause-made : goal.returns-in-Ok-clause-made
+returns-in-Ok-clause-made g c =
+    subst (λ (i : ℕ). HasCreated (files_seen g.D.Disk.image c.args.self.now.kernel) (files_seen g.D.Disk.image c.called.new.self.kernel) (Some i))
+    (sym c.in-Ok.ensures.1)
+    (made g.D.Disk c.args.self.now.kernel c.called.new.self.kernel c.in_ok-number.field-0 c.in-Made.number c.in-Made.is c.in_ok-number.ensures.answers)
+
+pub returns-in_ok-uncreated-in-Err-clause-made : goal.returns-in_ok-uncreated-in-Err-clause-made
+returns-in_ok-uncreated-in-Err-clause-made g c =
+    c.in_ok-uncreated-in-Err.ensures.undoes (files_seen g.D.Disk.image c.args.self.now.kernel) _
+    (made g.D.Disk c.args.self.now.kernel c.called.new.self.kernel c.in_ok-number.field-0 c.in-Made.number c.in-Made.is c.in_ok-number.ensures.answers).0

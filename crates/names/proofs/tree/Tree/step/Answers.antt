@@ -1,3 +1,0 @@
-use Rattle.std.proofs.Common.{◌≡◌, ◌≢◌, ◌∙◌, List, ℕ, Err, refl, sym, ap, subst, rules, arith}
-use Rattle.names.proofs.tree.Tree.step.Given.{Over}
-use Rattle.names.proofs.tree.Tree.step.Goals as goal

@@ -1,0 +1,74 @@
+-- A file made in a tree.
+use Rattle.std.specs.Prelude.{◌≡◌, ◌<◌, ℕ, ◌==◌, Bool, false, List, Option, Some, None}
+use Rattle.blocks.specs.Disk.{Image}
+use Rattle.model.specs.declared.types.image.File.{File}
+use Rattle.model.specs.declared.types.operations.Reply.{Reply}
+use Rattle.model.specs.declared.types.operations.Reply.TheVariants.{Wrote}
+use Rattle.model.specs.Files.{Files}
+use Rattle.calls.specs.Stepping.{Plain}
+use Rattle.names.specs.declared.entries.EntryWrite.{EntryWrite}
+use Rattle.names.specs.declared.entries.LinkFault.{LinkFault}
+use Rattle.names.specs.declared.entries.LinkFault.TheVariants as link_fault
+use Rattle.names.specs.declared.refusal.Refusal.{Refusal}
+use Rattle.names.specs.declared.refusal.Refusal.TheVariants.{NotFound, NotADirectory, IsRoot, Exists, Full, NoNumber, NoBlock, IsADirectory}
+use Rattle.names.specs.Entries.{entry_size}
+use Rattle.names.specs.Inside.{Answers}
+use Rattle.names.specs.TreeChanges.{empty_file, AddsName, IsUnnamed}
+use Rattle.names.specs.Trees.{directory_in, number_of, IsDirectory}
+use Rattle.names.specs.Walks.{AtLast}
+use Rattle.names.specs.Writes.{operation_of, IsLinkCause}
+
+-- the type of a file that is no directory
+abbrev pub file_kind : ℕ
+file_kind = 2
+
+-- a file was made, which has no name yet, or none was
+abbrev pub HasCreated : Files → Files → Option ℕ → Type 0
+HasCreated files new None = new ≡ files
+HasCreated files new (Some number) =
+    IsUnnamed files new number (empty_file file_kind) × (0 < number)
+
+-- a file that was made and not named is gone again, and the files are as before it
+abbrev pub Uncreates : ℕ → Files → Files → Type 0
+Uncreates number made new =
+    (files : Files) (file : File) → IsUnnamed files made number file → new ≡ files
+
+-- a whole entry was written
+abbrev pub is_entered : Reply → Bool
+is_entered (Wrote count) = count == entry_size
+is_entered reply = false
+
+-- the write of an entry of a directory was answered, and whether it is whole
+pub record HasEntered {D : Type 0} (image : D → Image) (from : ℕ) (write : EntryWrite)
+    (k m : Plain D) (whole : Bool) : Type 0 where
+  pub reply : Reply
+  pub answers : Answers image (operation_of from write) k m reply
+  pub told : whole ≡ is_entered reply
+
+-- an empty file was made under a name of a directory
+abbrev pub MakesIn : ℕ → List ℕ → ℕ → Files → Files → Type 0
+MakesIn from name number files new = AddsName files new from name number (empty_file file_kind)
+
+-- the refusal of a link
+abbrev pub unlinked : LinkFault → Refusal
+unlinked link_fault.Exists = Exists
+unlinked link_fault.Full = Full
+
+-- why none is
+abbrev pub IsUnmadeIn : Files → ℕ → List ℕ → Refusal → Type 0
+IsUnmadeIn files from name NotADirectory = IsDirectory files from → ⊥
+IsUnmadeIn files from name Exists =
+    IsDirectory files from × IsLinkCause (directory_in files from) name link_fault.Exists
+IsUnmadeIn files from name Full =
+    IsDirectory files from × IsLinkCause (directory_in files from) name link_fault.Full
+IsUnmadeIn files from name NoNumber =
+    IsDirectory files from × (number_of files from name ≡ None)
+IsUnmadeIn files from name NoBlock =
+    IsDirectory files from × (number_of files from name ≡ None)
+IsUnmadeIn files from name NotFound = ⊥
+IsUnmadeIn files from name IsRoot = ⊥
+IsUnmadeIn files from name IsADirectory = ⊥
+
+-- an empty file was made under the last of these names, in the directory that the others lead to
+abbrev pub MakesAt : List (List ℕ) → ℕ → Files → Files → Type 0
+MakesAt names = AtLast MakesIn names

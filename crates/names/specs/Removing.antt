@@ -1,0 +1,29 @@
+-- A file removed from a tree.
+use Rattle.std.specs.Prelude.{◌≡◌, ℕ, List, Some, None}
+use Rattle.model.specs.Files.{Files}
+use Rattle.names.specs.declared.refusal.Refusal.{Refusal}
+use Rattle.names.specs.declared.refusal.Refusal.TheVariants.{NotFound, NotADirectory, IsRoot, Exists, Full, NoNumber, NoBlock, IsADirectory}
+use Rattle.names.specs.TreeChanges.{DropsName}
+use Rattle.names.specs.Trees.{number_of, IsDirectory}
+use Rattle.names.specs.Walks.{AtLast}
+
+-- a name of a directory is gone, and its file
+abbrev pub RemovesIn : ℕ → List ℕ → Unit {0} → Files → Files → Type 0
+RemovesIn from name done files new = (number : ℕ) × DropsName files new from name number
+
+-- why none is
+abbrev pub IsUnremovedIn : Files → ℕ → List ℕ → Refusal → Type 0
+IsUnremovedIn files from name NotADirectory = IsDirectory files from → ⊥
+IsUnremovedIn files from name NotFound =
+    IsDirectory files from × (number_of files from name ≡ None)
+IsUnremovedIn files from name IsADirectory = IsDirectory files from
+    × ((number : ℕ) × (number_of files from name ≡ Some number) × IsDirectory files number)
+IsUnremovedIn files from name IsRoot = ⊥
+IsUnremovedIn files from name Exists = ⊥
+IsUnremovedIn files from name Full = ⊥
+IsUnremovedIn files from name NoNumber = ⊥
+IsUnremovedIn files from name NoBlock = ⊥
+
+-- the last of these names is gone, and its file, from the directory that the others lead to
+abbrev pub RemovesAt : List (List ℕ) → Unit {0} → Files → Files → Type 0
+RemovesAt names = AtLast RemovesIn names

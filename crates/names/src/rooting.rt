@@ -1,0 +1,152 @@
+// The beginning and the end of a tree.
+ghost use Rattle.std.specs.Prelude.{◌≡◌, ◌<◌, ◌^◌, IfErr, IfOk, OnErr, OnOk};
+ghost use Rattle.blocks.specs.Disk.{LeavesOnly};
+ghost use Rattle.calls.specs.Calls.{call_count, image_on};
+ghost use Rattle.calls.specs.Stopped.{StaysOver};
+ghost use Rattle.model.specs.Files.{files_of};
+ghost use Rattle.model.specs.Log.{recovered};
+ghost use Rattle.names.specs.Inside.{files_seen, Ends, Goes, IsUnderWay, StaysOn};
+ghost use Rattle.names.specs.Ready.{HasFilled, HasNoFile, IsIdle, IsReady, IsRootAlone, IsRootless, KeepsRoot, MakesRoot, is_filled};
+ghost use Rattle.names.specs.Trees.{IsTree};
+ghost use Rattle.transactions.specs.Opening.{IsNotOpenedPair, IsOpenedPair};
+ghost use Rattle.transactions.specs.Transactions.{Rests};
+
+use crate::entries::{DIRECTORY, new_directory};
+use crate::refusal::{Refusal, TreeFault};
+use crate::tree::Tree;
+use blocks::Disk;
+use kernel::OpenFault;
+use model::types::{Op, Reply};
+use std::alloc::Global;
+use transactions::{Pair, TransactionFault, open_pair};
+
+// The calls that a tree may make.
+const MOST_CALLS: u32 = 2147483648;
+
+impl<D: Disk + Drop> Tree<D> {
+    /// Opens the tree on a disk, whose image is checked and recovered first. That its files are a tree,
+    /// the caller knows.
+    ///
+    /// # Errors
+    ///
+    /// Those of `open_pair`, which hands the disk back.
+    pub fn open(alloc: Global, disk: D) -> Result<Tree<D>, (OpenFault, D)>
+        requires { IsTree (files_of (recovered (D.image disk))) }
+        ensures ready { IfOk result (λ tree. IsReady D.Disk tree.kernel tree.calls_left) }
+        ensures opened { IfOk result (λ tree. IsOpenedPair D.Disk disk tree.kernel) }
+        ensures refused { IfErr result (λ e. IsNotOpenedPair D.Disk disk e.1 e.0) }
+    {
+        match open_pair(alloc, disk) {
+            Ok(kernel) => Ok(Tree::over(kernel)),
+            Err(refused) => Err(refused),
+        }
+    }
+}
+
+impl<D: Disk> Tree<D> {
+    /// A tree over a kernel between two transactions. That the files on its disk are a tree, or that
+    /// `make_root` is to make them one, the caller knows.
+    pub fn over(kernel: Pair<D>) -> Tree<D>
+        requires rests { Rests D.fault_count kernel }
+        requires few { call_count kernel < 2 ^ 31 }
+        ensures kernel { result.kernel ≡ kernel }
+        ensures idle { IsIdle D.Disk result.kernel result.calls_left }
+        ensures some { 0 < result.calls_left }
+    {
+        Tree {
+            kernel,
+            calls_left: MOST_CALLS,
+        }
+    }
+
+    /// The disk as it is. Where other calls might be made, it can be opened again.
+    pub fn into_disk(self) -> D
+        ensures disk { result ≡ self.kernel.store.volume.device }
+        ensures tree { IsReady D.Disk self.kernel self.calls_left
+            → IsTree (files_of (recovered (D.image result))) }
+    {
+        let Tree { kernel, .. } = self;
+        kernel.into_disk()
+    }
+
+    // The root's two entries are written into it. Whether they were: all of them are, or none.
+    fn filled(&mut self, alloc: Global) -> Result<bool, TreeFault>
+        requires { IsUnderWay D.Disk self.old.kernel self.old.calls_left }
+        ensures goes { OnOk result (Goes D.Disk
+            self.old.kernel self.new.kernel self.new.calls_left) }
+        ensures filled { IfOk result (HasFilled D.image self.old.kernel self.new.kernel) }
+        ensures stays { StaysOn D.Disk self.old.kernel self.new.kernel }
+        ensures ends { IfErr result (Ends D.Disk
+            self.old.kernel self.new.kernel self.new.calls_left) }
+    {
+        let Ok(bytes) = new_directory(alloc, 1, 1) else {
+            self.calls_left = 0;
+            return Err(TreeFault::Call(TransactionFault::NoMemory));
+        };
+        let reply = self.called(Op::Write(DIRECTORY, 0, bytes))?;
+        Ok(is_filled(&reply))
+    }
+
+    // Makes the root in the transaction under way. Why not, where it is not made.
+    fn root_made(&mut self, alloc: Global) -> Result<Option<Refusal>, TreeFault>
+        requires { IsUnderWay D.Disk self.old.kernel self.old.calls_left }
+        ensures goes { OnOk result (Goes D.Disk
+            self.old.kernel self.new.kernel self.new.calls_left) }
+        ensures made { IfOk result (MakesRoot
+            (files_seen D.image self.old.kernel) (files_seen D.image self.new.kernel)) }
+        ensures stays { StaysOn D.Disk self.old.kernel self.new.kernel }
+        ensures ends { IfErr result (Ends D.Disk
+            self.old.kernel self.new.kernel self.new.calls_left) }
+    {
+        let Reply::Made(number) = self.called(Op::Create(1))? else {
+            return Ok(Some(Refusal::NoNumber));
+        };
+        if number != DIRECTORY {
+            return Ok(Some(Refusal::NoNumber));
+        }
+        if self.filled(alloc)? {
+            Ok(None)
+        } else {
+            Ok(Some(Refusal::NoBlock))
+        }
+    }
+
+    /// Makes the root directory on a disk that has no file. Behind a refusal nothing of it is kept, and
+    /// no other call is made.
+    ///
+    /// # Errors
+    ///
+    /// - `Refused`: `NoNumber` where number 1 was not given, `NoBlock` where no block is free.
+    /// - `Call`, `NoCall`: as every call of a tree.
+    pub fn make_root(&mut self, alloc: Global) -> Result<(), TreeFault>
+        requires idle { IsIdle D.Disk self.old.kernel self.old.calls_left }
+        requires none { HasNoFile (files_of (image_on D.image self.old.kernel)) }
+        ensures ready { OnOk result (IsReady D.Disk self.new.kernel self.new.calls_left) }
+        ensures root { OnOk result (IsRootAlone (files_of (image_on D.image self.new.kernel))) }
+        ensures refused { IfErr result (IsRootless D.Disk self.old.kernel self.new.kernel) }
+        ensures leaves { 0 < self.old.calls_left → LeavesOnly D.moment D.leaves
+            self.old.kernel.store.volume.device self.new.kernel.store.volume.device
+            (KeepsRoot (image_on D.image self.old.kernel)) }
+        ensures stays { StaysOver D.Disk self.old.kernel self.new.kernel }
+    {
+        if self.calls_left == 0 {
+            return Err(TreeFault::NoCall);
+        }
+        self.begun_idle(alloc)?;
+        if let Some(refusal) = self.root_made(alloc)? {
+            self.calls_left = 0;
+            return Err(TreeFault::Refused(refusal));
+        }
+        self.committed()
+    }
+}
+
+// Whether the two entries of a new directory were written.
+fn is_filled(reply: &Reply) -> bool
+    ensures { result ≡ is_filled reply.now }
+{
+    match reply {
+        Reply::Wrote(count) => *count == 32,
+        _ => false,
+    }
+}
