@@ -1,16 +1,16 @@
 -- A tree stays one where a file is added under a name.
-use Rattle.std.proofs.Common.{◌≡◌, ◌≢◌, ◌⊎◌, inl, inr, true, false, ℕ, List, Option, Some, None, sym, ap, subst, ◌∙◌, ⊎_elim, arith}
+use Rattle.std.proofs.Common.{◌≡◌, ◌≢◌, ◌⊎◌, inl, inr, true, false, ℕ, List, Option, Some, None, sym, ap, subst, ◌∙◌, ⊎_elim}
 use Rattle.std.proofs.lemmas.Bool.{cases_eq, both_ways, cases_Bool}
 use Rattle.std.specs.Str.{bytes_eq}
 use Rattle.std.proofs.lemmas.Slice.Eq.{bytes_eq-Decides}
 use Rattle.model.specs.declared.types.image.File.{File}
 use Rattle.model.specs.Files.{Files, file_in}
 use Rattle.names.specs.Entries.{lookup}
-use Rattle.names.specs.Trees.{bytes_of, directory_in, kind_of, number_of, parent_name, self_name, IsDirectory, IsDirectoryOf, IsDown, IsFile, IsTree, Steps}
+use Rattle.names.specs.Trees.{bytes_of, directory_in, kind_of, number_of, parent_name, self_name, IsDirectory, IsDirectoryOf, IsDown, IsFile, Steps, StepsDown}
 use Rattle.names.specs.TreeChanges.{AddsName, ChangesName}
 use Rattle.names.specs.TreeLaws.{AddingKeeps, IsNew}
 use Rattle.names.proofs.Rooted.{AddsDown, depth_with, rooted_added}
-use Rattle.names.proofs.TreeBy.{depth_in, directory_is_file, steps_make_tree, tree_makes_steps, IsTreeBy, StepsDown}
+use Rattle.names.proofs.TreeBy.{depth_in, directory_is_file, steps_make_tree, tree_makes_steps, IsTreeBy}
 use Rattle.names.proofs.Unnamed.{apart_from, some_ne_none}
 
 pub same_name : (a b : List ℕ) → (a ≡ b) ⊎ (a ≢ b)
@@ -64,9 +64,9 @@ from_old files new from i name file is is_new adds at to other step =
     inr (
       step.0,
       (
-          ap (λ (k : ℕ). kind_of (file_in files k)) in_from ∙ is,
-          ap (λ (k : ℕ). number_of files k other) in_from ∙ sym (adds.changes.others other another) ∙ led,
-        ),
+        ap (λ (k : ℕ). kind_of (file_in files k)) in_from ∙ is,
+        ap (λ (k : ℕ). number_of files k other) in_from ∙ sym (adds.changes.others other another) ∙ led,
+      ),
     ))
     (same_name other name))
     (λ (elsewhere : at ≢ from). inr (step.0, step_same new files at to other (sym (adds.rest at elsewhere not_new)) step.1))
@@ -89,9 +89,9 @@ adds_down files new depth from i name file tree is down is_new adds = record {
       let another : other ≢ name = λ this. let both : None ≡ Some to = sym adds.absent ∙ ap (number_of files from) (sym this) ∙ led in absurd (cc both) in (
         step.0,
         (
-            ap (λ (k : ℕ). kind_of (file_in new k)) in_from ∙ adds.changes.directory,
-            ap (λ (k : ℕ). number_of new k other) in_from ∙ adds.changes.others other another ∙ led,
-          ),
+          ap (λ (k : ℕ). kind_of (file_in new k)) in_from ∙ adds.changes.directory,
+          ap (λ (k : ℕ). number_of new k other) in_from ∙ adds.changes.others other another ∙ led,
+        ),
       ))
       (λ (elsewhere : at ≢ from).
       (step.0, step_same files new at to other (adds.rest at elsewhere (apart_from files i at adds.free step.1.0)) step.1))

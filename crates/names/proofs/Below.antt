@@ -1,11 +1,11 @@
 -- Which files are below another: their paths go through it.
-use Rattle.std.proofs.Common.{◌≡◌, ◌≢◌, ◌⊎◌, inl, inr, ℕ, Bool, true, false, ◌||◌, eqb, List, [], ◌∷◌, Option, Some, None, refl, sym, ap, ap₂, subst, ◌∙◌, ⊎_elim}
+use Rattle.std.proofs.Common.{◌≡◌, ◌≢◌, ℕ, Bool, true, false, ◌||◌, eqb, List, [], ◌∷◌, Option, Some, None, refl, sym, ap, ap₂, subst, ◌∙◌, ⊎_elim}
 use Rattle.std.proofs.lemmas.Bool.{eqb-true, eq-eqb, false_from_ne_true, ne_eqb, or_cases}
 use Rattle.model.specs.declared.types.image.File.{File}
 use Rattle.model.specs.Files.{Files, file_in}
-use Rattle.names.specs.Trees.{number_of, parent_name, root, IsDirectory, IsFile, IsOutside, IsPath, IsTree}
+use Rattle.names.specs.Trees.{number_of, parent_name, IsDirectory, IsFile, IsOutside, IsPath, IsTree, StepsDown}
 use Rattle.names.specs.TreeMeaning.{ParentsDecide, RootIsOutside}
-use Rattle.names.proofs.TreeBy.{depth_in, directory_is_file, one_number, tree_makes_steps, StepsDown}
+use Rattle.names.proofs.TreeBy.{directory_is_file, one_number, tree_makes_steps}
 
 -- names lead from the root through a file
 pub passes : (files : Files) (number : ℕ) (names : List (List ℕ)) (i : ℕ) → IsPath files 1 names i → Bool

@@ -1,15 +1,13 @@
 -- A tree stays one where a name is dropped with its file, and where the files that are no directories are written.
-use Rattle.std.proofs.Common.{◌≡◌, ◌≢◌, ◌⊎◌, ℕ, List, Option, Some, None, sym, ap, subst, ◌∙◌, ⊎_elim, arith}
+use Rattle.std.proofs.Common.{◌≡◌, ◌≢◌, ℕ, List, Some, None, sym, ap, subst, ◌∙◌, ⊎_elim, arith}
 use Rattle.std.proofs.lemmas.Bool.{cases_eq}
-use Rattle.model.specs.declared.types.image.File.{File}
 use Rattle.model.specs.Files.{Files, file_in}
-use Rattle.names.specs.Entries.{lookup}
-use Rattle.names.specs.Trees.{bytes_of, directory_in, kind_of, number_of, IsDirectory, IsDirectoryOf, IsDown, IsEmpty, IsFile, IsTree, Steps}
+use Rattle.names.specs.Trees.{directory_in, kind_of, number_of, IsDirectory, IsDirectoryOf, IsDown, IsEmpty, IsFile, Steps, StepsDown}
 use Rattle.names.specs.TreeChanges.{ChangesName, DropsName, KeepsNames}
 use Rattle.names.specs.TreeLaws.{DroppingKeeps, KeepingKeeps}
 use Rattle.names.proofs.Rooted.{DropsDown, rooted_dropped}
-use Rattle.names.proofs.TreeBy.{depth_in, directory_is_file, steps_make_tree, tree_makes_steps, IsTreeBy, StepsDown}
-use Rattle.names.proofs.Adding.{directory_changed, directory_same, same_name, step_same}
+use Rattle.names.proofs.TreeBy.{depth_in, directory_is_file, steps_make_tree, tree_makes_steps, IsTreeBy}
+use Rattle.names.proofs.Adding.{directory_changed, directory_same, step_same}
 
 -- what a name leads to lies deeper, and is another
 pub apart_below : (files : Files) (depth : ℕ → ℕ) (from i : ℕ) (name : List ℕ) → IsTreeBy files depth → StepsDown files from name i → i ≢ from

@@ -1,5 +1,5 @@
 -- What single operations on a directory make of where its names lead.
-use Rattle.std.proofs.Common.{◌≡◌, ◌≢◌, ◌⊎◌, inl, inr, ℕ, ◌+◌, ◌*◌, ◌%◌, ◌<◌, ◌≤◌, true, List, [], length, take, set, get_or, Option, Some, None, refl, sym, ap, subst, ◌∙◌, ⊎_elim, arith}
+use Rattle.std.proofs.Common.{◌≡◌, inl, inr, ℕ, ◌+◌, ◌*◌, ◌%◌, ◌<◌, ◌≤◌, true, List, [], length, take, set, get_or, Option, Some, None, refl, sym, ap, subst, ◌∙◌, ⊎_elim, arith}
 use Rattle.std.specs.List.{position}
 use Rattle.std.specs.Option.{unwrap_or}
 use Rattle.std.specs.Str.{bytes_eq}
@@ -17,10 +17,10 @@ use Rattle.model.specs.Lemmas.Replies.{wrote_done}
 use Rattle.model.specs.Lemmas.Runs.{where_true_some}
 use Rattle.model.specs.Operations.{after, after_at, after_on, no_file_refusal, may_have_written, part_of, with_bytes}
 use Rattle.names.specs.declared.entries.EntryWrite.{EntryWrite}
-use Rattle.names.specs.Entries.{entries_of, is_free, lookup, HasOnce}
+use Rattle.names.specs.Entries.{entries_of, is_free, lookup}
 use Rattle.names.specs.Writes.{written, operation_of, KeepsOthers, Links, Unlinks}
 use Rattle.names.specs.Lemmas.Writes.{nothing_written}
-use Rattle.names.specs.Trees.{bytes_of, directory_in, number_of, IsDirectory, IsTidy}
+use Rattle.names.specs.Trees.{bytes_of, directory_in, IsDirectory, IsTidy}
 use Rattle.names.specs.TreeChanges.{LeadsTo}
 use Rattle.names.specs.TreeLaws.{LinkLeads, ReadsWhole, UnlinkLeads}
 use Rattle.names.proofs.Standing.{Puts, stands_at, none_stands}

@@ -1,5 +1,5 @@
 -- Two changes of one name each, by which a file has another name.
-use Rattle.std.proofs.Common.{◌≡◌, ◌≢◌, ◌⊎◌, inl, inr, ℕ, ◌+◌, ◌*◌, ◌<◌, ◌≤◌, List, length, Option, Some, None, sym, ap, subst, ◌∙◌, ⊎_elim, arith}
+use Rattle.std.proofs.Common.{◌≡◌, ◌≢◌, inl, inr, ℕ, ◌+◌, ◌*◌, ◌<◌, ◌≤◌, List, length, Option, Some, None, sym, ap, subst, ◌∙◌, ⊎_elim, arith}
 use Rattle.std.proofs.lemmas.Bool.{cases_eq}
 use Rattle.model.specs.declared.types.image.File.{File}
 use Rattle.model.specs.Files.{Files, file_in}
@@ -8,7 +8,7 @@ use Rattle.model.specs.declared.types.operations.Reply.{Reply}
 use Rattle.model.specs.declared.types.operations.Reply.TheVariants.{Wrote}
 use Rattle.names.specs.Entries.{entries_of}
 use Rattle.names.specs.Trees.{bytes_of, directory_in, kind_of, number_of, IsDirectory, IsTidy}
-use Rattle.names.specs.TreeChanges.{LeadsTo, MovesName}
+use Rattle.names.specs.TreeChanges.{LeadsTo}
 use Rattle.names.specs.TreeLaws.{LinkMoves, RelinkLeads, UnlinkMoves}
 use Rattle.names.specs.Writes.{operation_of}
 use Rattle.names.proofs.Adding.{number_same}

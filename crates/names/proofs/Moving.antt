@@ -1,12 +1,12 @@
 -- A tree stays one where a file has another name in place of its old one.
-use Rattle.std.proofs.Common.{◌≡◌, ◌≢◌, ◌⊎◌, inl, inr, ℕ, suc, ◌<◌, List, Option, Some, None, refl, sym, ap, subst, ◌∙◌, ⊎_elim, arith}
+use Rattle.std.proofs.Common.{◌≡◌, ◌≢◌, ◌⊎◌, inl, inr, ℕ, suc, ◌<◌, List, Some, None, refl, sym, ap, subst, ◌∙◌, ⊎_elim, arith}
 use Rattle.std.proofs.lemmas.Bool.{cases_eq}
 use Rattle.model.specs.Files.{Files, file_in}
-use Rattle.names.specs.Trees.{directory_in, kind_of, number_of, parent_name, self_name, IsDirectory, IsDirectoryOf, IsDown, IsFile, IsTree}
+use Rattle.names.specs.Trees.{directory_in, kind_of, number_of, parent_name, self_name, IsDirectory, IsDirectoryOf, IsDown, IsFile, StepsDown}
 use Rattle.names.specs.TreeChanges.{MovesName}
 use Rattle.names.specs.TreeLaws.{MovingKeeps}
 use Rattle.names.proofs.Rooted.{depth_other, depth_there, depth_with, rooted_moved, IsRooted, MovesDown}
-use Rattle.names.proofs.TreeBy.{depth_in, directory_is_file, steps_make_tree, tree_makes_steps, IsTreeBy, StepsDown}
+use Rattle.names.proofs.TreeBy.{depth_in, directory_is_file, steps_make_tree, tree_makes_steps, IsTreeBy}
 use Rattle.names.proofs.Adding.{same_name}
 
 -- the name of a directory is not that one

@@ -1,17 +1,17 @@
 -- A tree stays one where a directory moves to another one that is not below it.
-use Rattle.std.proofs.Common.{◌≡◌, ◌≢◌, ◌⊎◌, inl, inr, ℕ, suc, ◌+◌, ◌<◌, Bool, true, false, cond, List, Option, Some, None, refl, sym, ap, subst, ◌∙◌, ⊎_elim, arith}
+use Rattle.std.proofs.Common.{◌≡◌, ◌≢◌, inr, ℕ, suc, ◌+◌, ◌<◌, Bool, true, false, cond, List, Some, refl, sym, ap, ◌∙◌, ⊎_elim, arith}
 use Rattle.std.specs.Str.{bytes_eq}
 use Rattle.std.proofs.lemmas.Bool.{both_ways, cases_Bool, cases_eq}
 use Rattle.std.proofs.lemmas.Slice.Eq.{bytes_eq-Decides}
 use Rattle.model.specs.Files.{Files, file_in}
-use Rattle.names.specs.Trees.{directory_in, kind_of, parent_name, self_name, IsDirectory, IsDirectoryOf, IsDown, IsFile, IsOutside, IsTree}
-use Rattle.names.specs.TreeChanges.{LeadsTo, MovesDirectory}
+use Rattle.names.specs.Trees.{directory_in, parent_name, self_name, IsDirectory, IsDirectoryOf, IsDown, StepsDown}
+use Rattle.names.specs.TreeChanges.{MovesDirectory}
 use Rattle.names.specs.TreeLaws.{MovingDirectoryKeeps}
 use Rattle.names.proofs.Adding.{directory_same}
 use Rattle.names.proofs.Below.{below_along, below_itself, is_below, not_below}
 use Rattle.names.proofs.Moves.{other_kinds, other_leads}
 use Rattle.names.proofs.Moving.{moved_directory, moved_still, moved_was, moves_by, MovesAt}
-use Rattle.names.proofs.TreeBy.{depth_in, directory_is_file, steps_make_tree, tree_makes_steps, IsTreeBy, StepsDown}
+use Rattle.names.proofs.TreeBy.{depth_in, directory_is_file, steps_make_tree, tree_makes_steps, IsTreeBy}
 
 -- the depths, where a file with those below it is put below another
 depth_moved : (ℕ → ℕ) → (ℕ → Bool) → ℕ → ℕ → ℕ

@@ -10,14 +10,14 @@ use Rattle.model.specs.Files.{Files, file_in}
 use Rattle.names.specs.declared.entries.EntryWrite.{EntryWrite}
 use Rattle.names.specs.Entries.{entry_bytes, entries_of, number_in, is_free, lookup, HasOnce}
 use Rattle.names.specs.Writes.{written, Links, KeepsOthers}
-use Rattle.names.specs.Trees.{bytes_of, directory_in, kind_of, new_directory, parent_name, self_name, IsDirectoryOf, IsEmpty}
+use Rattle.names.specs.Trees.{bytes_of, directory_in, kind_of, new_directory, parent_name, self_name, IsDirectoryOf, IsEmpty, StepsDown}
 use Rattle.names.specs.TreeChanges.{directory_file}
 use Rattle.names.specs.TreeLaws.{FilesAreNew, RootIsTree}
 use Rattle.names.proofs.Standing.{lookup_none, position_none}
 use Rattle.names.proofs.EntryBytes.{number_in-entry_bytes}
 use Rattle.names.proofs.Changes.{link_leads, link_keeps}
 use Rattle.names.proofs.Chunks.{length-entries_of}
-use Rattle.names.proofs.TreeBy.{directory_is_file, steps_make_tree, IsTreeBy, StepsDown}
+use Rattle.names.proofs.TreeBy.{directory_is_file, steps_make_tree, IsTreeBy}
 
 -- ---- no entry
 

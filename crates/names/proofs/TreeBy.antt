@@ -1,14 +1,10 @@
 -- A tree step by step, with a depth of each file, and a tree by its paths: each gives the other.
-use Rattle.std.proofs.Common.{◌≡◌, ◌≢◌, ℕ, zero, suc, ◌<◌, ◌≤◌, List, [], ◌∷◌, length, Option, Some, None, refl, sym, ap, ap₂, subst, ◌∙◌, ⊎_elim, arith}
+use Rattle.std.proofs.Common.{◌≡◌, ◌≢◌, ℕ, zero, suc, ◌≤◌, List, [], ◌∷◌, length, Option, Some, None, refl, sym, ap, ap₂, subst, ◌∙◌, ⊎_elim, arith}
 use Rattle.std.proofs.lemmas.Bool.{cases_eq}
 use Rattle.model.specs.declared.types.image.File.{File}
 use Rattle.model.specs.Files.{Files, file_in}
-use Rattle.names.specs.Trees.{directory_in, kind_of, number_of, root, IsDirectory, IsDirectoryOf, IsDown, IsFile, IsPath, IsTree, Steps}
+use Rattle.names.specs.Trees.{directory_in, kind_of, number_of, root, IsDirectory, IsDirectoryOf, IsDown, IsFile, IsPath, IsTree, Steps, StepsDown}
 use Rattle.names.proofs.Rooted.{IsRooted}
-
--- a name leads down
-abbrev pub StepsDown : Files → ℕ → List ℕ → ℕ → Type 0
-StepsDown files from name number = IsDown name × Steps files from name number
 
 -- a tree, step by step, as a proof of a change wants it
 pub record IsTreeBy (files : Files) (depth : ℕ → ℕ) : Type 0 where

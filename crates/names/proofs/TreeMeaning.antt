@@ -1,12 +1,11 @@
 -- What a tree says of its directories, and that no half of a change leaves one.
-use Rattle.std.proofs.Common.{◌≡◌, ◌≢◌, ◌⊎◌, inl, inr, ℕ, ◌<◌, true, false, not, List, [], length, get_or, Option, Some, None, refl, sym, ap, subst, ◌∙◌, ⊎_elim, arith}
+use Rattle.std.proofs.Common.{◌≡◌, ◌≢◌, inr, ℕ, ◌<◌, true, false, not, List, [], length, get_or, Option, Some, None, refl, sym, ap, subst, ◌∙◌, ⊎_elim, arith}
 use Rattle.std.specs.Str.{bytes_eq}
 use Rattle.std.proofs.lemmas.Bool.{cases_eq, and_from, not_from_false, false_from_ne_true}
 use Rattle.std.proofs.lemmas.Slice.Eq.{bytes_eq-Decides}
-use Rattle.model.specs.declared.types.image.File.{File}
-use Rattle.model.specs.Files.{Files, file_in}
-use Rattle.names.specs.Entries.{entries_of, entry_at, number_in, name_in, is_free, is_for, lookup, HasOnce, IsFor}
-use Rattle.names.specs.Trees.{directory_in, kind_of, number_of, parent_name, IsDirectory, IsDirectoryOf, IsDown, IsFile, IsTree, Steps}
+use Rattle.model.specs.Files.{Files}
+use Rattle.names.specs.Entries.{entries_of, entry_at, name_in, is_free, is_for, HasOnce, IsFor}
+use Rattle.names.specs.Trees.{directory_in, number_of, parent_name, IsDirectory, IsDirectoryOf, IsFile, IsTree, Steps, StepsDown}
 use Rattle.names.specs.TreeChanges.{LeadsTo}
 use Rattle.names.specs.TreeMeaning.{name_at, number_at, DirectoriesAreTidy, EntriesLead, IsUsed, NoHalfIsTree, NumbersStandOnce, StepsLead}
 use Rattle.names.proofs.Standing.{StandsAt, lookup_at}
@@ -14,21 +13,22 @@ use Rattle.names.proofs.Adding.{step_same}
 use Rattle.names.proofs.Dropping.{apart_below}
 use Rattle.names.proofs.Moves.{other_kinds, other_leads}
 use Rattle.names.proofs.Moving.{same_entry, IsOther}
-use Rattle.names.proofs.TreeBy.{depth_in, directory_is_file, tree_makes_steps, IsTreeBy, StepsDown}
+use Rattle.names.proofs.TreeBy.{depth_in, directory_is_file, tree_makes_steps, IsTreeBy}
 use Rattle.names.proofs.Unnamed.{apart_from}
 
 -- ---- directories
 
-directory_by : (files : Files) (depth : ℕ → ℕ) (i : ℕ) → IsTreeBy files depth → IsDirectory files i →
-    (parent : ℕ) × IsDirectoryOf (directory_in files i) i parent
+-- a directory has a parent, which is a directory
+pub directory_by : (files : Files) (depth : ℕ → ℕ) (i : ℕ) → IsTreeBy files depth → IsDirectory files i →
+    (parent : ℕ) × IsDirectoryOf (directory_in files i) i parent × IsDirectory files parent
 directory_by files depth i tree is =
-    ⊎_elim (λ (at_root : i ≡ 1). (1, subst (λ (k : ℕ). IsDirectoryOf (directory_in files k) k 1) (sym at_root) tree.top))
+    ⊎_elim (λ (at_root : i ≡ 1). (1, subst (λ (k : ℕ). IsDirectoryOf (directory_in files k) k 1) (sym at_root) tree.top, tree.rooted))
     (λ (ne : i ≢ 1). let named = tree.shape.named i ne (directory_is_file files i is) in
-    (named.0, tree.below named.0 i named.1 named.2.0 named.2.1 is)) (cases_eq i 1)
+    (named.0, tree.below named.0 i named.1 named.2.0 named.2.1 is, named.2.1.0)) (cases_eq i 1)
 
 pub directories_are_tidy : DirectoriesAreTidy
 directories_are_tidy files from tree is =
-    let of = directory_by files (depth_in files tree) from (tree_makes_steps files tree) is in (of.1.tidy, of)
+    let of = directory_by files (depth_in files tree) from (tree_makes_steps files tree) is in (of.1.tidy, (of.0, of.1))
 
 pub steps_lead : StepsLead
 steps_lead files from i name tree down step =
@@ -37,12 +37,12 @@ steps_lead files from i name tree down step =
 
 -- ---- entries
 
-for_itself : (entry : List ℕ) → is_free entry ≡ false → is_for (name_in entry) entry ≡ true
+pub for_itself : (entry : List ℕ) → is_free entry ≡ false → is_for (name_in entry) entry ≡ true
 for_itself entry used =
     and_from (not (is_free entry)) (bytes_eq (name_in entry) (name_in entry)) (not_from_false (is_free entry) used)
     ((bytes_eq-Decides (name_in entry) (name_in entry)).1 refl)
 
-is_first : (bytes name : List ℕ) (j : ℕ) → HasOnce bytes name → IsFor bytes name j → StandsAt (is_for name) (entries_of bytes) j
+pub is_first : (bytes name : List ℕ) (j : ℕ) → HasOnce bytes name → IsFor bytes name j → StandsAt (is_for name) (entries_of bytes) j
 is_first bytes name j once is =
     let within : j < length (entries_of bytes) = is.0 in
     record {

@@ -1,19 +1,18 @@
 -- A file that was made and has no name yet: filled, linked, or removed again.
-use Rattle.std.proofs.Common.{◌≡◌, ◌≢◌, ◌⊎◌, inl, inr, ℕ, ◌+◌, ◌*◌, ◌%◌, ◌<◌, ◌≤◌, true, ◌&&◌, ◌||◌, eqb, leb, List, [], ◌++◌, length, take, drop, set, Option, Some, None, refl, sym, ap, subst, ◌∙◌, ⊎_elim, arith}
-use Rattle.std.proofs.lemmas.Bool.{and_parts, cases_lt, eqb-true, leb-true, or_cases}
+use Rattle.std.proofs.Common.{◌≡◌, ◌≢◌, ◌⊎◌, inl, inr, ℕ, ◌+◌, ◌%◌, ◌≤◌, true, ◌&&◌, ◌||◌, eqb, leb, List, [], ◌++◌, length, take, set, Option, Some, None, refl, sym, ap, subst, ◌∙◌, ⊎_elim, arith}
+use Rattle.std.proofs.lemmas.Bool.{and_parts, eqb-true, leb-true, or_cases}
 use Rattle.std.proofs.lemmas.List.{append-nil, drop_all, set-set, set-get_or, take_all}
 use Rattle.blocks.specs.Block.{overwritten}
 use Rattle.model.specs.declared.types.image.File.{File}
-use Rattle.model.specs.declared.types.image.Form.{Form}
 use Rattle.model.specs.declared.types.operations.Op.TheVariants.{Remove}
 use Rattle.model.specs.declared.types.operations.Reply.{Reply}
-use Rattle.model.specs.declared.types.operations.Reply.TheVariants.{Done, Wrote}
+use Rattle.model.specs.declared.types.operations.Reply.TheVariants.{Wrote}
 use Rattle.model.specs.Files.{Files, file_in}
 use Rattle.model.specs.Operations.{after, may_have_written, with_bytes}
 use Rattle.names.specs.Lemmas.Writes.{nothing_written}
 use Rattle.names.specs.Entries.{lookup}
 use Rattle.names.specs.Trees.{bytes_of, kind_of, new_directory, IsDirectory, IsFile, IsTidy}
-use Rattle.names.specs.TreeChanges.{directory_file, empty_file, AddsName, DropsName, IsUnnamed, LeadsTo}
+use Rattle.names.specs.TreeChanges.{directory_file, empty_file, IsUnnamed}
 use Rattle.names.specs.TreeLaws.{CreateMakes, LinkAdds, RemoveDrops, RemoveUndoes, WriteFills}
 use Rattle.names.proofs.Answered.{some_by, remove_answered, write_done}
 use Rattle.names.proofs.FileMaps.{creates, removes, unnamed_by}

@@ -1,5 +1,5 @@
 -- The operations of a whole change leave a tree.
-use Rattle.std.proofs.Common.{◌≡◌, ◌≢◌, ◌⊎◌, inl, inr, ℕ, ◌<◌, List, Option, Some, None, refl, sym, ap, subst, ◌∙◌, ⊎_elim}
+use Rattle.std.proofs.Common.{◌≡◌, ◌≢◌, ◌⊎◌, inl, inr, ℕ, ◌<◌, List, [], Option, Some, refl, sym, ap, subst, ◌∙◌, ⊎_elim}
 use Rattle.model.specs.declared.types.image.File.{File}
 use Rattle.model.specs.declared.types.operations.Op.TheVariants.{Write}
 use Rattle.model.specs.declared.types.operations.Reply.{Reply}
@@ -8,16 +8,18 @@ use Rattle.model.specs.declared.types.image.Form.{Form}
 use Rattle.model.specs.Files.{Files, file_in}
 use Rattle.model.specs.Operations.{after}
 use Rattle.names.specs.declared.entries.EntryWrite.{EntryWrite}
-use Rattle.names.specs.Trees.{bytes_of, directory_in, kind_of, new_directory, IsDirectory, IsTidy, IsTree}
-use Rattle.names.specs.TreeChanges.{directory_file, empty_file, AddsName, IsUnnamed, LeadsTo}
-use Rattle.names.specs.WholeChanges.{MakesDirectoryWhole, MakesFileWhole, MakesRootWhole, MovesFileWhole, RemovesFileWhole, RenamesFileWhole}
-use Rattle.names.specs.Writes.{operation_of, Links, Unlinks}
+use Rattle.names.specs.Trees.{bytes_of, directory_in, kind_of, new_directory, number_of, parent_name, IsDirectory, IsTidy, IsTree}
+use Rattle.names.specs.TreeChanges.{directory_file, empty_file, AddsName, IsUnnamed, LeadsTo, MovesDirectory, MovesName}
+use Rattle.names.specs.WholeChanges.{MakesDirectoryWhole, MakesFileWhole, MakesRootWhole, MovesDirectoryWhole, MovesFileWhole, RemovesFileWhole, RenamesFileWhole}
+use Rattle.names.specs.Writes.{operation_of, Links, Repoints, Unlinks}
 use Rattle.names.proofs.Adding.{adding_keeps}
 use Rattle.names.proofs.Dropping.{dropping_keeps}
 use Rattle.names.proofs.EntrySteps.{link_leads_there, links_to, unlink_leads_nowhere}
 use Rattle.names.proofs.Moves.{link_moves, relink_leads, unlink_moves}
 use Rattle.names.proofs.Moving.{moving_keeps}
+use Rattle.names.proofs.MovingDirectory.{moving_directory_keeps}
 use Rattle.names.proofs.NewDirectory.{files_are_new, root_is_tree}
+use Rattle.names.proofs.Repoints.{repoint_leads_there}
 use Rattle.names.proofs.TreeMeaning.{directories_are_tidy, steps_lead}
 use Rattle.names.proofs.Unnamed.{apart_from, create_makes, link_adds, remove_drops, write_fills}
 
@@ -86,16 +88,40 @@ renames_file_whole form files freed new from i old name unlink link first second
     let moves = link_moves files freed new from from i old name is is led absent nowhere.1 there.1 in
     (nowhere.0, there.0, moves, moving_keeps files new from from i old name tree is is old_down down (λ directory. refl) moves)
 
-pub moves_file_whole : MovesFileWhole
-moves_file_whole form files both new from to i old name unlink link reply tree is is_to apart old_down down plain led links below linked unlinks h =
+-- a new name was linked in another directory, and then the old one unlinked
+moved_name : (form : Form) (files both new : Files) (from to number : ℕ) (old name : List ℕ) (unlink link : EntryWrite) (reply : Reply) →
+    IsTree files → IsDirectory files from → IsDirectory files to → from ≢ to → number_of files from old ≡ Some number →
+    Links (directory_in files to) name number link → link.place < 192 → after form files (operation_of to link) (Wrote 16) ≡ Some both →
+    Unlinks (directory_in files from) old unlink → after form both (operation_of from unlink) reply ≡ Some new →
+    (reply ≡ Wrote 16) × MovesName files new from old to name number
+moved_name form files both new from to i old name unlink link reply tree is is_to apart led links below linked unlinks h =
     let there = links_to form files both to i name link is_to (tidy_in files to tree is_to) links below linked in
     let stays : file_in both from ≡ file_in files from = there.rest from apart in
     let both_is : IsDirectory both from = ap kind_of stays ∙ is in
     let both_tidy : IsTidy (directory_in both from) = subst (λ (o : Option File). IsTidy (bytes_of o)) (sym stays) (tidy_in files from tree is) in
     let both_unlinks : Unlinks (directory_in both from) old unlink = subst (λ (o : Option File). Unlinks (bytes_of o) old unlink) (sym stays) unlinks in
     let nowhere = unlink_leads_nowhere form both new from old unlink reply both_is both_tidy both_unlinks h in
-    let moves = unlink_moves files both new from to i old name is is_to led links.absent there nowhere.1 in
-    (nowhere.0, moves, moving_keeps files new from to i old name tree is is_to old_down down (λ directory. absurd (plain directory)) moves)
+    (nowhere.0, unlink_moves files both new from to i old name is is_to led links.absent there nowhere.1)
+
+pub moves_file_whole : MovesFileWhole
+moves_file_whole form files both new from to i old name unlink link reply tree is is_to apart old_down down plain led links below linked unlinks h =
+    let moved = moved_name form files both new from to i old name unlink link reply tree is is_to apart led links below linked unlinks h in
+    (moved.0, moved.1, moving_keeps files new from to i old name tree is is_to old_down down (λ directory. absurd (plain directory)) moved.1)
+
+pub moves_directory_whole : MovesDirectoryWhole
+moves_directory_whole form files both mid new from to i old name unlink link up first second tree is is_to apart directory outside old_down down led
+    links below linked unlinks h repoints h_up =
+    let moved = moved_name form files both mid from to i old name unlink link first tree is is_to apart led links below linked unlinks h in
+    let not_from : i ≢ from = (steps_lead files from i old tree old_down (is, led)).2 in
+    let not_to : i ≢ to = λ same. outside [] same in
+    let stays : file_in mid i ≡ file_in files i = moved.1.rest i not_from not_to in
+    let mid_is : IsDirectory mid i = ap kind_of stays ∙ directory in
+    let mid_tidy : IsTidy (directory_in mid i) = subst (λ (o : Option File). IsTidy (bytes_of o)) (sym stays) (tidy_in files i tree directory) in
+    let mid_repoints : Repoints (directory_in mid i) parent_name to up =
+    subst (λ (o : Option File). Repoints (bytes_of o) parent_name to up) (sym stays) repoints in
+    let turned = repoint_leads_there form mid new i to parent_name up second mid_is mid_tidy mid_repoints h_up in
+    let moves : MovesDirectory files new from old to name i = record { mid = mid; moves = moved.1; up = turned.1 } in
+    (moved.0, turned.0, moves, moving_directory_keeps files new from to i old name tree is is_to directory old_down down outside moves)
 
 pub makes_root_whole : MakesRootWhole
 makes_root_whole form files made new none create fill =

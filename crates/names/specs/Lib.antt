@@ -12,6 +12,8 @@ pub mod TreeChanges
 pub mod TreeLaws
 pub mod TreeMeaning
 pub mod WholeChanges
+pub mod PathLaws
+pub mod Checks
 pub mod Laws
 pub mod Lemmas
 pub mod NamedFiles

@@ -1,8 +1,9 @@
 -- Directories within directories, as names: where they lead, and when they are a tree.
-use Rattle.std.specs.Prelude.{◌≡◌, ◌≢◌, ℕ, ◌%◌, ◌≤◌, List, [], ◌∷◌, ◌++◌, length, Option, Some, None}
+use Rattle.std.specs.Prelude.{◌≡◌, ◌≢◌, Bool, ◌||◌, not, ℕ, ◌%◌, ◌≤◌, List, [], ◌∷◌, ◌++◌, length, Option, Some, None}
+use Rattle.std.specs.Str.{bytes_eq}
 use Rattle.model.specs.declared.types.image.File.{File}
 use Rattle.model.specs.Files.{Files, file_in}
-use Rattle.names.specs.Entries.{directory_size, entry_bytes, entry_size, lookup, padded, HasOnce}
+use Rattle.names.specs.Entries.{directory_size, entry_bytes, entry_size, is_free, lookup, name_in, padded, HasOnce}
 
 -- the number of the directory that all paths begin at
 abbrev pub root : ℕ
@@ -53,6 +54,10 @@ IsDown name = (name ≢ self_name) × (name ≢ parent_name)
 abbrev pub Steps : Files → ℕ → List ℕ → ℕ → Type 0
 Steps files from name number = IsDirectory files from × (number_of files from name ≡ Some number)
 
+-- a name that leads down leads from a directory to a number
+abbrev pub StepsDown : Files → ℕ → List ℕ → ℕ → Type 0
+StepsDown files from name number = IsDown name × Steps files from name number
+
 -- names that lead down from a file to a number, the last of them first
 abbrev pub IsPath : Files → ℕ → List (List ℕ) → ℕ → Type 0
 IsPath files from [] number = from ≡ number
@@ -80,6 +85,15 @@ pub record IsDirectoryOf (bytes : List ℕ) (number parent : ℕ) : Type 0 where
 -- nothing is in a directory but its own two entries: it may be removed
 abbrev pub IsEmpty : List ℕ → Type 0
 IsEmpty bytes = (name : List ℕ) → IsDown name → lookup bytes name ≡ None
+
+-- an entry is free, or has a directory's name for itself or for its parent
+abbrev pub is_none_down : List ℕ → Bool
+is_none_down entry =
+    is_free entry || bytes_eq (name_in entry) self_name || bytes_eq (name_in entry) parent_name
+
+-- an entry is used, and its name leads down
+abbrev pub leads_down : List ℕ → Bool
+leads_down entry = not (is_none_down entry)
 
 -- the bytes of a new directory
 abbrev pub new_directory : ℕ → ℕ → List ℕ

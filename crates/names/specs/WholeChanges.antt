@@ -8,9 +8,9 @@ use Rattle.model.specs.Files.{Files, file_in}
 use Rattle.model.specs.Operations.{after}
 use Rattle.names.specs.declared.entries.EntryWrite.{EntryWrite}
 use Rattle.names.specs.Entries.{entry_size, most_entries}
-use Rattle.names.specs.Trees.{directory_in, directory_kind, new_directory, number_of, root, IsDirectory, IsDown, IsEmpty, IsTree}
-use Rattle.names.specs.TreeChanges.{directory_file, empty_file, AddsDirectory, AddsName, DropsName, MovesName}
-use Rattle.names.specs.Writes.{operation_of, Links, Unlinks}
+use Rattle.names.specs.Trees.{directory_in, directory_kind, new_directory, number_of, parent_name, root, IsDirectory, IsDown, IsEmpty, IsOutside, IsTree}
+use Rattle.names.specs.TreeChanges.{empty_file, AddsDirectory, AddsName, DropsName, MovesDirectory, MovesName}
+use Rattle.names.specs.Writes.{operation_of, Links, Repoints, Unlinks}
 
 -- A file is made and then linked. Where no block is free for one more entry, nothing is written: the
 -- file is there without a name, and is removed again in the same transaction.
@@ -77,6 +77,23 @@ MovesFileWhole = (form : Form) (files both new : Files) (from to number : ℕ) (
     → Unlinks (directory_in files from) old unlink
     → after form both (operation_of from unlink) reply ≡ Some new
     → (reply ≡ Wrote entry_size) × MovesName files new from old to name number × IsTree new
+
+-- A directory's new name is linked in another one outside it, its old one is unlinked, and its name
+-- for its parent leads to the new one.
+abbrev pub MovesDirectoryWhole : Type 0
+MovesDirectoryWhole = (form : Form) (files both mid new : Files) (from to number : ℕ)
+    (old name : List ℕ) (unlink link up : EntryWrite) (first second : Reply)
+    → IsTree files → IsDirectory files from → IsDirectory files to → from ≢ to
+    → IsDirectory files number → IsOutside files number to → IsDown old → IsDown name
+    → number_of files from old ≡ Some number
+    → Links (directory_in files to) name number link → link.place < most_entries
+    → after form files (operation_of to link) (Wrote entry_size) ≡ Some both
+    → Unlinks (directory_in files from) old unlink
+    → after form both (operation_of from unlink) first ≡ Some mid
+    → Repoints (directory_in files number) parent_name to up
+    → after form mid (operation_of number up) second ≡ Some new
+    → (first ≡ Wrote entry_size) × (second ≡ Wrote entry_size)
+    × MovesDirectory files new from old to name number × IsTree new
 
 -- The root is made where no file is, and its two entries are written.
 abbrev pub MakesRootWhole : Type 0

@@ -3,7 +3,7 @@ ghost use Rattle.std.specs.Prelude.{◌≡◌, ◌<◌, ◌≤◌, ◌/◌, repl
 ghost use Rattle.std.specs.Str.{bytes_eq};
 ghost use Rattle.names.specs.Entries.{directory_size, most_entries, entry_size, entries_of, entry_bytes, is_for, is_free, lookup, name_in, number_in, place_of, HasOnce};
 ghost use Rattle.names.specs.Trees.{new_directory};
-ghost use Rattle.names.specs.Writes.{free_place, operation_of, written, IsLinkCause, KeepsOthers, Links, Unlinks};
+ghost use Rattle.names.specs.Writes.{free_place, operation_of, written, IsLinkCause, KeepsOthers, Links, Repoints, Unlinks};
 
 use crate::name::Name;
 use blocks::NoMemory;
@@ -105,9 +105,25 @@ pub fn unlink(bytes: &[u8], name: &Name) -> Option<EntryWrite>
     Some(free_at(place as u32))
 }
 
+/// The write that gives the entry of a name another number, or none where the name leads nowhere.
+pub fn repoint(bytes: &[u8], name: &Name, number: u16) -> Option<EntryWrite>
+    requires used { 0 < number }
+    requires size { length bytes.now ≤ directory_size }
+    ensures within { IfSome result (λ write. write.place < most_entries) }
+    ensures repoints { IfSome result (λ write. Repoints bytes.now name.now number write) }
+    ensures leads { IfSome result (λ write. lookup (written bytes.now write) name.now
+        ≡ Some number) }
+    ensures others { IfSome result (λ write. KeepsOthers
+        name.now bytes.now (written bytes.now write)) }
+    ensures absent { IfNone result (lookup bytes.now name.now ≡ None) }
+{
+    let place = place_of(bytes, name)?;
+    Some(link_at(place as u32, name, number))
+}
+
 // The entries of a directory.
 #[tactic(auto, unfolding(crate::specs::Entries::entries_of))]
-fn entries(bytes: &[u8]) -> &[[u8; ENTRY_SIZE]]
+pub(crate) fn entries(bytes: &[u8]) -> &[[u8; ENTRY_SIZE]]
     ensures value { result.now ≡ entries_of bytes.now }
     ensures len { length result.now ≡ length bytes.now / entry_size }
 {
@@ -117,13 +133,13 @@ fn entries(bytes: &[u8]) -> &[[u8; ENTRY_SIZE]]
 
 // The number of an entry's file.
 #[tactic(auto, unfolding(crate::specs::Entries::number_in))]
-fn number_in(entry: &[u8; ENTRY_SIZE]) -> u16
+pub(crate) fn number_in(entry: &[u8; ENTRY_SIZE]) -> u16
     ensures { result ≡ number_in entry.now }
 {
     LittleEndian::read_u16(entry)
 }
 
-fn is_free(entry: &[u8; ENTRY_SIZE]) -> bool
+pub(crate) fn is_free(entry: &[u8; ENTRY_SIZE]) -> bool
     ensures { result ≡ is_free entry.now }
 {
     number_in(entry) == 0

@@ -12,9 +12,13 @@
 //!
 //! `NamedFiles` are files whose names stand in such a directory, over a kernel of one process: a layer
 //! above the lower storey, by public calls alone.
+//!
+//! `tree_laws` says when directories within directories are a tree, and that changes leave one.
 #![tactic(auto)]
 
 mod asking;
+mod checking;
+mod directory;
 mod entries;
 mod fault;
 mod files;
@@ -30,9 +34,11 @@ mod rooting;
 mod tree;
 pub mod tree_laws;
 
+pub use checking::{add_children, is_directory_of};
+pub use directory::is_empty;
 pub use entries::{
     DIRECTORY, DIRECTORY_SIZE, ENTRY_SIZE, EntryWrite, LinkFault, link, lookup, new_directory,
-    unlink,
+    repoint, unlink,
 };
 pub use fault::FilesFault;
 pub use files::NamedFiles;

@@ -1,8 +1,8 @@
 // Names of files.
-ghost use Rattle.std.specs.Prelude.{◌≡◌, ◌<◌, [], length, Contains, OnOk, IfOk, IfErr};
+ghost use Rattle.std.specs.Prelude.{◌≡◌, ◌↔◌, ◌<◌, [], length, Contains, IsTrue, OnOk, IfOk, IfErr};
 ghost use Rattle.names.specs.Entries.{name_size, padded};
 ghost use Rattle.names.specs.Names.{IsName, IsNameCause};
-ghost use Rattle.names.specs.Trees.{parent_name, self_name};
+ghost use Rattle.names.specs.Trees.{parent_name, self_name, IsDown};
 
 use std::marker::Model;
 use thiserror::Error;
@@ -78,6 +78,14 @@ impl Name {
         Name {
             bytes: [46, 46, 0, 0, 0, 0, 0, 0, 0, 0, 0, 0, 0, 0],
         }
+    }
+
+    /// Whether the name leads down: it is a directory's name neither for itself nor for its parent.
+    pub fn is_down(&self) -> bool
+        ensures { IsTrue result ↔ IsDown self.now }
+    {
+        *self.as_slice() != *Name::own().as_slice()
+            && *self.as_slice() != *Name::parent().as_slice()
     }
 
     /// The name with zeroes behind it: 14 bytes.

@@ -1,7 +1,8 @@
 //! What changes of names make of a tree of directories, the contracts of functions that do nothing.
-ghost use Rattle.names.specs.TreeLaws.{AddingKeeps, CreateMakes, DroppingKeeps, FilesAreNew, KeepingKeeps, LinkAdds, LinkLeads, LinkMoves, MovingKeeps, PlainKeeps, ReadsWhole, RelinkLeads, RemoveDrops, RemoveUndoes, RootIsTree, UnlinkLeads, UnlinkMoves, WriteFills};
-ghost use Rattle.names.specs.TreeMeaning.{DirectoriesAreTidy, EntriesLead, NoHalfIsTree, NumbersStandOnce, StepsLead};
-ghost use Rattle.names.specs.WholeChanges.{MakesDirectoryWhole, MakesFileWhole, MakesRootWhole, MovesFileWhole, RemovesFileWhole, RenamesFileWhole};
+ghost use Rattle.names.specs.PathLaws.{FilesAreReached, NamesAreOne, NamesLead};
+ghost use Rattle.names.specs.TreeLaws.{AddingKeeps, CreateMakes, DroppingKeeps, FilesAreNew, KeepingKeeps, LinkAdds, LinkLeads, LinkMoves, MovingDirectoryKeeps, MovingKeeps, PlainKeeps, ReadsWhole, RelinkLeads, RemoveDrops, RemoveUndoes, RepointLeads, RootIsTree, UnlinkLeads, UnlinkMoves, WriteFills};
+ghost use Rattle.names.specs.TreeMeaning.{DirectoriesAreTidy, EntriesLead, NoHalfIsTree, NumbersStandOnce, ParentsDecide, RootIsOutside, StepsLead};
+ghost use Rattle.names.specs.WholeChanges.{MakesDirectoryWhole, MakesFileWhole, MakesRootWhole, MovesDirectoryWhole, MovesFileWhole, RemovesFileWhole, RenamesFileWhole};
 
 /// What one operation on a directory, with its reply, makes of where its names lead. A read brings
 /// the whole directory. The write of an entry is whole, unless it is behind the last entry and no
@@ -19,8 +20,9 @@ pub fn operations_lead()
 {}
 
 /// What two or three operations come to: a file was added under a name, was dropped with its name, or
-/// has another name, and nothing else changed.
+/// has another name, and nothing else changed. An entry that is given another number is written whole.
 pub fn operations_change()
+    ensures repointed { RepointLeads }
     ensures added { LinkAdds }
     ensures dropped { RemoveDrops }
     ensures moved { LinkMoves }
@@ -30,13 +32,15 @@ pub fn operations_change()
 
 /// In a tree each path leads to a file, and each file has one path. The root alone is one. It stays
 /// one where a file or an empty directory is added under a name, where a file or an empty directory is
-/// dropped with its name, where a file has another name in any directory, or a directory in its own,
-/// and where files that are no directories are written.
+/// dropped with its name, where a file has another name in any directory, or a directory in its own or,
+/// with its name for its parent, in one that is not below it, and where files that are no directories
+/// are written.
 pub fn trees_stay()
     ensures begun { RootIsTree }
     ensures added { AddingKeeps }
     ensures dropped { DroppingKeeps }
     ensures moved { MovingKeeps }
+    ensures moved_directory { MovingDirectoryKeeps }
     ensures kept { KeepingKeeps }
 {}
 
@@ -49,15 +53,27 @@ pub fn changes_leave_trees()
     ensures removed { RemovesFileWhole }
     ensures renamed { RenamesFileWhole }
     ensures moved { MovesFileWhole }
+    ensures moved_directory { MovesDirectoryWhole }
 {}
 
 /// In a tree each directory has its own two entries, each other used entry's name leads to a file, and
-/// no number stands in two of these. And one of the operations that make, remove or rename a file is
+/// no number stands in two of these. Whether a directory is below another is told by the parents up to
+/// the root. And one of the operations that make, remove or rename a file is
 /// never enough for a tree: they belong into one transaction.
 pub fn trees_mean()
     ensures tidy { DirectoriesAreTidy }
     ensures steps { StepsLead }
     ensures entries { EntriesLead }
     ensures once { NumbersStandOnce }
+    ensures root { RootIsOutside }
+    ensures parents { ParentsDecide }
     ensures halves { NoHalfIsTree }
+{}
+
+/// In a tree the names of a path lead to a file, wherever they lead, those for a directory and for its
+/// parent among them. And each file is reached from the root, by one list of names that lead down.
+pub fn paths_name_files()
+    ensures lead { NamesLead }
+    ensures reached { FilesAreReached }
+    ensures one { NamesAreOne }
 {}

@@ -1,4 +1,4 @@
-use Rattle.names.proofs.WholeChanges.{makes_directory_whole, makes_file_whole, makes_root_whole, moves_file_whole, removes_file_whole, renames_file_whole}
+use Rattle.names.proofs.WholeChanges.{moves_directory_whole, makes_directory_whole, makes_file_whole, makes_root_whole, moves_file_whole, removes_file_whole, renames_file_whole}
 use Rattle.names.proofs.tree_laws.changes_leave_trees.Goals as goal
 
 pub returns-clause-root : goal.returns-clause-root
@@ -18,3 +18,6 @@ returns-clause-renamed c = renames_file_whole
 
 pub returns-clause-moved : goal.returns-clause-moved
 returns-clause-moved c = moves_file_whole
+
+pub returns-clause-moved_directory : goal.returns-clause-moved_directory
+returns-clause-moved_directory c = moves_directory_whole

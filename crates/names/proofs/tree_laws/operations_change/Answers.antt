@@ -1,6 +1,7 @@
 use Rattle.names.proofs.Moves.{link_moves, unlink_moves}
 use Rattle.names.proofs.NewDirectory.{files_are_new}
 use Rattle.names.proofs.Unnamed.{link_adds, remove_drops}
+use Rattle.names.proofs.Repoints.{repoint_leads_there}
 use Rattle.names.proofs.tree_laws.operations_change.Goals as goal
 
 pub returns-clause-added : goal.returns-clause-added
@@ -17,3 +18,6 @@ returns-clause-moved_behind c = unlink_moves
 
 pub returns-clause-fresh : goal.returns-clause-fresh
 returns-clause-fresh c = files_are_new
+
+pub returns-clause-repointed : goal.returns-clause-repointed
+returns-clause-repointed c = repoint_leads_there

@@ -1,4 +1,5 @@
 use Rattle.names.proofs.TreeMeaning.{directories_are_tidy, entries_lead, no_half_is_tree, numbers_stand_once, steps_lead}
+use Rattle.names.proofs.Below.{root_is_outside, parents_decide}
 use Rattle.names.proofs.tree_laws.trees_mean.Goals as goal
 
 pub returns-clause-tidy : goal.returns-clause-tidy
@@ -15,3 +16,9 @@ returns-clause-once c = numbers_stand_once
 
 pub returns-clause-halves : goal.returns-clause-halves
 returns-clause-halves c = no_half_is_tree
+
+pub returns-clause-root : goal.returns-clause-root
+returns-clause-root c = root_is_outside
+
+pub returns-clause-parents : goal.returns-clause-parents
+returns-clause-parents c = parents_decide

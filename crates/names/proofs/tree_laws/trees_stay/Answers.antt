@@ -2,6 +2,7 @@ use Rattle.names.proofs.Adding.{adding_keeps}
 use Rattle.names.proofs.Dropping.{dropping_keeps, keeping_keeps}
 use Rattle.names.proofs.Moving.{moving_keeps}
 use Rattle.names.proofs.NewDirectory.{root_is_tree}
+use Rattle.names.proofs.MovingDirectory.{moving_directory_keeps}
 use Rattle.names.proofs.tree_laws.trees_stay.Goals as goal
 
 pub returns-clause-begun : goal.returns-clause-begun
@@ -18,3 +19,6 @@ returns-clause-moved c = moving_keeps
 
 pub returns-clause-kept : goal.returns-clause-kept
 returns-clause-kept c = keeping_keeps
+
+pub returns-clause-moved_directory : goal.returns-clause-moved_directory
+returns-clause-moved_directory c = moving_directory_keeps

@@ -1,0 +1,92 @@
+-- A root with a file: the premises of the laws of whole changes are met.
+use Rattle.std.proofs.Common.{◌≡◌, ◌≢◌, ℕ, zero, suc, false, List, [], ◌∷◌, ◌++◌, replicate, Some, None, refl, ⊎_elim, arith}
+use Rattle.std.specs.Str.{bytes_eq}
+use Rattle.std.proofs.lemmas.Bool.{both_ways}
+use Rattle.std.proofs.lemmas.Slice.Eq.{bytes_eq-Decides}
+use Rattle.model.specs.declared.types.image.Form.TheVariants.{One}
+use Rattle.model.specs.declared.types.operations.Reply.TheVariants.{Done, Wrote}
+use Rattle.model.specs.Files.{Files, file_in}
+use Rattle.model.specs.Operations.{after}
+use Rattle.names.specs.declared.entries.EntryWrite.{EntryWrite}
+use Rattle.names.specs.Entries.{entries_of, entry_bytes, lookup, number_in, padded}
+use Rattle.names.specs.Trees.{directory_in, new_directory, parent_name, self_name, IsDown, IsTree}
+use Rattle.names.specs.TreeChanges.{directory_file, empty_file, AddsName, DropsName}
+use Rattle.names.specs.Writes.{Links, Unlinks}
+use Rattle.names.proofs.NewDirectory.{root_is_tree}
+use Rattle.names.proofs.WholeChanges.{makes_file_whole, removes_file_whole}
+
+-- the root alone
+abbrev files : Files
+files = None ∷ Some (directory_file 1 1) ∷ None ∷ []
+
+abbrev made : Files
+made = None ∷ Some (directory_file 1 1) ∷ Some (empty_file 2) ∷ []
+
+abbrev name : List ℕ
+name = padded (97 ∷ [])
+
+abbrev link : EntryWrite
+link = record { place = 2; entry = entry_bytes 2 name }
+
+abbrev unlink : EntryWrite
+unlink = record { place = 2; entry = replicate 16 0 }
+
+-- with a file under a name
+abbrev named : Files
+named = None ∷ Some (record { kind = 1; bytes = new_directory 1 1 ++ entry_bytes 2 name }) ∷ Some (empty_file 2) ∷ []
+
+-- and without it again
+abbrev freed : Files
+freed = None ∷ Some (record { kind = 1; bytes = new_directory 1 1 ++ replicate 16 0 }) ∷ Some (empty_file 2) ∷ []
+
+abbrev emptied : Files
+emptied = None ∷ Some (record { kind = 1; bytes = new_directory 1 1 ++ replicate 16 0 }) ∷ None ∷ []
+
+none_else : (i : ℕ) → i ≢ 1 → file_in files i ≡ None
+none_else zero ne = refl
+none_else (suc zero) ne = absurd (ne refl)
+none_else (suc (suc zero)) ne = refl
+none_else (suc (suc (suc i))) ne = refl
+
+pub root_alone : IsTree files
+root_alone = root_is_tree files refl none_else
+
+differ : (a b : List ℕ) → bytes_eq a b ≡ false → a ≢ b
+differ a b h e = both_ways (bytes_eq a b) h ((bytes_eq-Decides a b).1 e)
+
+down : IsDown name
+down = (differ name self_name refl, differ name parent_name refl)
+
+links : Links (directory_in files 1) name 2 link
+unfolding entries_of number_in lookup
+links = record {
+  absent = refl;
+  place = refl;
+  entry = refl;
+  used = omega arith;
+  fits = omega arith;
+  size = refl;
+}
+
+-- a file is made
+pub adds : AddsName files named 1 name 2 (empty_file 2) × IsTree named
+unfolding after
+adds =
+    ⊎_elim (λ (done : (Wrote 16 ≡ Wrote 16) × AddsName files named 1 name 2 (empty_file 2) × IsTree named). (done.1, done.2))
+    (λ (none : (Wrote 16 ≡ Wrote 0) × (named ≡ made)). absurd (cc (none.0)))
+    (makes_file_whole One files made named 1 2 2 name link (Wrote 16) root_alone refl down (λ e. absurd (omega arith)) refl links (omega arith) refl)
+
+unlinks : Unlinks (directory_in named 1) name unlink
+unfolding entries_of number_in
+unlinks = record { place = refl; entry = refl }
+
+leads : lookup (directory_in named 1) name ≡ Some 2
+unfolding entries_of number_in lookup
+leads = refl
+
+-- and removed
+pub drops : DropsName named emptied 1 name 2 × IsTree emptied
+unfolding after
+drops =
+    let whole = removes_file_whole One named freed emptied 1 2 name unlink (Wrote 16) Done adds.1 refl down leads (λ directory. absurd (omega arith)) unlinks refl refl in
+    (whole.2, whole.3)

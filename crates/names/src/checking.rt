@@ -1,0 +1,96 @@
+// Whether the bytes of directories are as those of a tree.
+ghost use Rattle.std.specs.Prelude.{◌≡◌, ◌↔◌, ◌%◌, ◌≤◌, length, position, Contains, EachIndex, IfOk, IsTrue};
+ghost use Rattle.names.specs.Checks.{AddsChildren, AreApart, IsFirst};
+ghost use Rattle.names.specs.Entries.{directory_size, entries_of, entry_size, is_for, name_in};
+ghost use Rattle.names.specs.Trees.{IsDirectoryOf, IsTidy};
+
+use crate::directory::leads_down;
+use crate::entries::{DIRECTORY_SIZE, ENTRY_SIZE, entries, is_free, lookup, number_in};
+use crate::name::Name;
+use blocks::NoMemory;
+
+/// Whether the bytes are those of a directory with that number and that parent: whole entries, as
+/// many as one read brings, no name twice, and the two entries of a directory's own.
+pub fn is_directory_of(bytes: &[u8], number: u16, parent: u16) -> bool
+    ensures { IsTrue result ↔ IsDirectoryOf bytes.now number parent }
+{
+    is_tidy(bytes)
+        && lookup(bytes, &Name::own()) == Some(number)
+        && lookup(bytes, &Name::parent()) == Some(parent)
+}
+
+// Whether there are whole entries, not too many, and no name twice.
+fn is_tidy(bytes: &[u8]) -> bool
+    ensures { IsTrue result ↔ IsTidy bytes.now }
+{
+    is_whole(bytes.len()) && names_stand_once(entries(bytes))
+}
+
+// Whether so many bytes are whole entries, and not too many.
+fn is_whole(size: usize) -> bool
+    ensures { IsTrue result ↔ ((size % entry_size ≡ 0) × (size ≤ directory_size)) }
+{
+    size % ENTRY_SIZE == 0 && size <= DIRECTORY_SIZE
+}
+
+// Whether each used entry is the first of its name.
+fn names_stand_once(entries: &[[u8; ENTRY_SIZE]]) -> bool
+    ensures { IsTrue result ↔ EachIndex entries.now (IsFirst entries.now) }
+{
+    for (place, entry) in entries.iter().enumerate() {
+        if !is_free(entry) && first_named(entries, entry) != Some(place) {
+            return false;
+        }
+    }
+    true
+}
+
+// The place of the first entry with the name of an entry.
+fn first_named(entries: &[[u8; ENTRY_SIZE]], named: &[u8; ENTRY_SIZE]) -> Option<usize>
+    ensures { result ≡ position (is_for (name_in named.now)) entries.now }
+{
+    entries.iter().position(|entry| is_named(entry, named))
+}
+
+// Whether an entry is used, and has the name of another.
+fn is_named(entry: &[u8; ENTRY_SIZE], named: &[u8; ENTRY_SIZE]) -> bool
+    ensures { result ≡ is_for (name_in named.now) entry.now }
+{
+    !is_free(entry) && entry[2..ENTRY_SIZE] == named[2..ENTRY_SIZE]
+}
+
+/// Adds the numbers that a directory's entries lead down to behind those found before, with the
+/// directory as their parent. Whether each is new; else some of them may have been added.
+///
+/// # Errors
+///
+/// `NoMemory` where memory for a number was refused.
+pub fn add_children(
+    entries: &[[u8; ENTRY_SIZE]],
+    from: u16,
+    numbers: &mut Vec<u16>,
+    parents: &mut Vec<u16>,
+) -> Result<bool, NoMemory>
+    requires { AreApart numbers.old.items }
+    ensures { IfOk result (AddsChildren entries.now from
+        numbers.old.items parents.old.items numbers.new.items parents.new.items) }
+{
+    for entry in entries {
+        if leads_down(entry) {
+            let number = number_in(entry);
+            if is_among(numbers, number) {
+                return Ok(false);
+            }
+            numbers.push(number)?;
+            parents.push(from)?;
+        }
+    }
+    Ok(true)
+}
+
+// Whether a number is one of those.
+fn is_among(numbers: &[u16], number: u16) -> bool
+    ensures { IsTrue result ↔ Contains numbers.now number }
+{
+    numbers.contains(&number)
+}

@@ -1,0 +1,35 @@
+// What is in the bytes of a directory.
+ghost use Rattle.std.specs.Prelude.{◌≡◌, ◌↔◌, position, IsTrue};
+ghost use Rattle.names.specs.Trees.{is_none_down, leads_down, IsEmpty};
+
+use crate::entries::{ENTRY_SIZE, entries, is_free};
+use crate::name::Name;
+
+/// Whether nothing is in a directory of these bytes but its own two entries.
+pub fn is_empty(bytes: &[u8]) -> bool
+    ensures { IsTrue result ↔ IsEmpty bytes.now }
+{
+    first_down(entries(bytes)).is_none()
+}
+
+// The place of the first entry with a name that leads down.
+fn first_down(entries: &[[u8; ENTRY_SIZE]]) -> Option<usize>
+    ensures { result ≡ position leads_down entries.now }
+{
+    entries.iter().position(|entry| leads_down(entry))
+}
+
+pub(crate) fn leads_down(entry: &[u8; ENTRY_SIZE]) -> bool
+    ensures { result ≡ leads_down entry.now }
+{
+    !is_none_down(entry)
+}
+
+// Whether an entry is free, or has a directory's name for itself or for its parent.
+fn is_none_down(entry: &[u8; ENTRY_SIZE]) -> bool
+    ensures { result ≡ is_none_down entry.now }
+{
+    is_free(entry)
+        || &entry[2..ENTRY_SIZE] == Name::own().as_slice()
+        || &entry[2..ENTRY_SIZE] == Name::parent().as_slice()
+}
