@@ -22,11 +22,11 @@ use Rattle.names.specs.Writes.{operation_of, IsLinkCause}
 abbrev pub file_kind : ℕ
 file_kind = 2
 
--- a file was made, which has no name yet, or none was
-abbrev pub HasCreated : Files → Files → Option ℕ → Type 0
-HasCreated files new None = new ≡ files
-HasCreated files new (Some number) =
-    IsUnnamed files new number (empty_file file_kind) × (0 < number)
+-- an empty file of a type was made, which has no name yet, or none was
+abbrev pub HasCreated : ℕ → Files → Files → Option ℕ → Type 0
+HasCreated kind files new None = new ≡ files
+HasCreated kind files new (Some number) =
+    IsUnnamed files new number (empty_file kind) × (0 < number)
 
 -- a file that was made and not named is gone again, and the files are as before it
 abbrev pub Uncreates : ℕ → Files → Files → Type 0
