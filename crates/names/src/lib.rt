@@ -15,6 +15,7 @@
 #![tactic(auto)]
 
 mod asking;
+mod directing;
 mod entries;
 mod fault;
 mod files;
