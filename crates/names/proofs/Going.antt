@@ -8,10 +8,10 @@ use Rattle.model.specs.Files.{Files, files_of}
 use Rattle.model.specs.declared.types.operations.Op.{Op}
 use Rattle.model.specs.declared.types.operations.Reply.{Reply}
 use Rattle.calls.specs.Calls.{call_count, faults_on, image_on}
-use Rattle.calls.specs.Lemmas.Unshown.{unshown_renews}
+use Rattle.calls.specs.Lemmas.Both.{keeps_nothing}
 use Rattle.calls.specs.Stepping.{Plain}
 use Rattle.model.specs.Log.{recovered}
-use Rattle.calls.specs.Transactions.{Adds, Begins, Commits, HasFiles, IsInside, IsUnbegun, IsUncalled, IsUncommitted, KeepsEither, KeepsFiles, Rests}
+use Rattle.calls.specs.Transactions.{Adds, Begins, Commits, HasFiles, IsInside, IsUnbegun, IsUncalled, IsUncommitted, KeepsEither, KeepsFiles, Rests, labels_made}
 use Rattle.names.specs.Ready.{EndsOn, HasBegun, HasCommitted}
 use Rattle.names.specs.Trees.{IsTree}
 use Rattle.model.specs.declared.types.operations.Entry.{Entry}
@@ -130,9 +130,6 @@ module _ {D N : Type 0} (disk : Ghosts D N) where
         files = same;
       }
 
-  either : (x : Image) (made : Files) (z : Image) → KeepsFiles x z → KeepsEither x made z
-  either x made z keeps = record { log = keeps.log; sound = keeps.sound; files = inl keeps.files; unshown = unshown_renews x (recovered z) keeps.unshown }
-
   pub wider : (a b : D) (P Q : Image → Type 0) → ((z : Image) → P z → Q z) → LeavesOnly disk.moment disk.leaves a b P → LeavesOnly disk.moment disk.leaves a b Q
   wider a b P Q less all = record {
     later = all.later;
@@ -147,22 +144,22 @@ module _ {D N : Type 0} (disk : Ghosts D N) where
     on = λ o same so_far. record {
       opening = so_far.opening;
       name = so_far.name;
-      leaves = wider o.store.volume.device k.store.volume.device (KeepsFiles (image_on disk.image o)) (KeepsEither (image_on disk.image o) (files_seen disk.image k))
-          (either (image_on disk.image o) (files_seen disk.image k)) so_far.leaves;
+      leaves = wider o.store.volume.device k.store.volume.device (KeepsFiles (image_on disk.image o)) (KeepsEither (image_on disk.image o) (files_seen disk.image k) (labels_made disk.image k))
+          (keeps_nothing (image_on disk.image o) (files_seen disk.image k) (labels_made disk.image k)) so_far.leaves;
     };
   }
 
   pub commit_leaves : (k m : Plain D) → m.opening ≡ k.opening → disk.name m.store.volume.device ≡ disk.name k.store.volume.device →
-      LeavesOnly disk.moment disk.leaves k.store.volume.device m.store.volume.device (KeepsEither (image_on disk.image k) (files_seen disk.image k)) → EndsOn disk k m
+      LeavesOnly disk.moment disk.leaves k.store.volume.device m.store.volume.device (KeepsEither (image_on disk.image k) (files_seen disk.image k) (labels_made disk.image k)) → EndsOn disk k m
   commit_leaves k m opening name leaves =
       let made : Files = files_seen disk.image k in
       record {
         on = λ o same so_far. record {
           opening = opening ∙ so_far.opening;
           name = name ∙ so_far.name;
-          leaves = joined disk.moment disk.leaves o.store.volume.device k.store.volume.device m.store.volume.device (KeepsEither (image_on disk.image o) made)
-              (wider o.store.volume.device k.store.volume.device (KeepsFiles (image_on disk.image o)) (KeepsEither (image_on disk.image o) made)
-              (either (image_on disk.image o) made) so_far.leaves)
-              (subst (λ (x : Image). LeavesOnly disk.moment disk.leaves k.store.volume.device m.store.volume.device (KeepsEither x made)) same leaves);
+          leaves = joined disk.moment disk.leaves o.store.volume.device k.store.volume.device m.store.volume.device (KeepsEither (image_on disk.image o) made (labels_made disk.image k))
+              (wider o.store.volume.device k.store.volume.device (KeepsFiles (image_on disk.image o)) (KeepsEither (image_on disk.image o) made (labels_made disk.image k))
+              (keeps_nothing (image_on disk.image o) made (labels_made disk.image k)) so_far.leaves)
+              (subst (λ (x : Image). LeavesOnly disk.moment disk.leaves k.store.volume.device m.store.volume.device (KeepsEither x made (labels_made disk.image k))) same leaves);
         };
       }

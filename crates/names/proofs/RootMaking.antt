@@ -15,7 +15,7 @@ use Rattle.model.specs.Log.{recovered}
 use Rattle.model.specs.Operations.{after}
 use Rattle.calls.specs.Calls.{image_on}
 use Rattle.calls.specs.Stepping.{Plain}
-use Rattle.calls.specs.Transactions.{KeepsEither}
+use Rattle.calls.specs.Transactions.{KeepsEither, labels_made}
 use Rattle.names.specs.declared.refusal.Refusal.{Refusal}
 use Rattle.names.specs.declared.refusal.TreeFault.{TreeFault}
 use Rattle.names.specs.Inside.{files_seen, form_seen, Answers, LeavesFiles, StaysOn}
@@ -75,8 +75,8 @@ module _ {D N : Type 0} (disk : Ghosts D N) where
     pub root_leaves : LeavesFiles disk k a → image_on disk.image b ≡ image_on disk.image a → StaysOn disk a b → EndsOn disk b m →
         LeavesOnly disk.moment disk.leaves k.store.volume.device m.store.volume.device (KeepsRoot (image_on disk.image k))
     root_leaves first same stays over =
-        let all : LeavesEither disk (files_seen disk.image b) k m = over.on k (same ∙ begun.goes.same) (stays.on k begun.goes.same first) in
-        wider disk k.store.volume.device m.store.volume.device (KeepsEither (image_on disk.image k) (files_seen disk.image b)) (KeepsRoot (image_on disk.image k))
+        let all : LeavesEither disk b k m = over.on k (same ∙ begun.goes.same) (stays.on k begun.goes.same first) in
+        wider disk k.store.volume.device m.store.volume.device (KeepsEither (image_on disk.image k) (files_seen disk.image b) (labels_made disk.image b)) (KeepsRoot (image_on disk.image k))
         (λ z keeps. record {
           log = keeps.log;
           sound = keeps.sound;

@@ -7,7 +7,7 @@ use Rattle.model.specs.Log.{recovered}
 use Rattle.calls.specs.Calls.{faults_on, image_on}
 use Rattle.calls.specs.Stepping.{Plain}
 use Rattle.calls.specs.Stopped.{StaysOver}
-use Rattle.calls.specs.Transactions.{KeepsEither, KeepsFiles}
+use Rattle.calls.specs.Transactions.{KeepsEither, KeepsFiles, labels_made}
 use Rattle.names.specs.declared.refusal.Refusal.{Refusal}
 use Rattle.names.specs.declared.refusal.TreeFault.{TreeFault}
 use Rattle.names.specs.declared.refusal.TreeFault.TheVariants.{Path, Refused, Call, NoCall}
@@ -72,9 +72,9 @@ module _ {D N : Type 0} (disk : Ghosts D N) where
     happened f g (Ok made) z happens same = inr (made, subst (λ (h : Files). change made f h) (sym same) happens)
     happened f g (Err cause) z happens same = inl (same ∙ happens.0)
 
-    keeps_either : (x z : Image) (made : Files) (r : Result T Refusal) → IsTree (files_of x) → IsTree made → Happens change why (files_of x) made r →
-        KeepsEither x made z → KeepsTree change x z
-    keeps_either x z made r tree after happens keeps = record {
+    keeps_either : (x z : Image) (made : Files) (told : ℕ → ℕ × ℕ × ℕ) (r : Result T Refusal) → IsTree (files_of x) → IsTree made → Happens change why (files_of x) made r →
+        KeepsEither x made told z → KeepsTree change x z
+    keeps_either x z made told r tree after happens keeps = record {
       log = keeps.log;
       sound = keeps.sound;
       tree = ⊎_elim (λ (was : files_of (recovered z) ≡ files_of x). subst (λ (f : Files). IsTree f) (sym was) tree)
@@ -90,13 +90,13 @@ module _ {D N : Type 0} (disk : Ghosts D N) where
       on_disk : Happens change why (files_of (image_on disk.image k)) (files_seen disk.image b) r
       on_disk = subst (λ (f : Files). Happens change why f (files_seen disk.image b) r) begun.files happens
 
-      ends : EndsOn disk b m → LeavesEither disk (files_seen disk.image b) k m
+      ends : EndsOn disk b m → LeavesEither disk b k m
       ends over = over.on k (same ∙ begun.goes.same) (leaves_inside k a b less begun first stays)
 
       pub whole_leaves : EndsOn disk b m → LeavesTree disk change k m
       whole_leaves over =
-          wider disk k.store.volume.device m.store.volume.device (KeepsEither (image_on disk.image k) (files_seen disk.image b)) (KeepsTree change (image_on disk.image k))
-          (λ z keeps. keeps_either (image_on disk.image k) z (files_seen disk.image b) r ready.tree tree on_disk keeps) (ends over).leaves
+          wider disk k.store.volume.device m.store.volume.device (KeepsEither (image_on disk.image k) (files_seen disk.image b) (labels_made disk.image b)) (KeepsTree change (image_on disk.image k))
+          (λ z keeps. keeps_either (image_on disk.image k) z (files_seen disk.image b) (labels_made disk.image b) r ready.tree tree on_disk keeps) (ends over).leaves
 
       pub whole_over : EndsOn disk b m → StaysOver disk k m
       whole_over over = record { opening = (ends over).opening; name = (ends over).name }

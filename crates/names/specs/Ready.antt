@@ -10,7 +10,7 @@ use Rattle.model.specs.Log.{is_lawful_log, recovered}
 use Rattle.model.specs.Soundness.{IsSound}
 use Rattle.calls.specs.Calls.{call_count, image_on}
 use Rattle.calls.specs.Stepping.{Plain}
-use Rattle.calls.specs.Transactions.{KeepsEither, Rests}
+use Rattle.calls.specs.Transactions.{KeepsEither, Rests, labels_made}
 use Rattle.names.specs.declared.refusal.Refusal.{Refusal}
 use Rattle.names.specs.declared.refusal.TreeFault.{TreeFault}
 use Rattle.names.specs.declared.refusal.TreeFault.TheVariants.{Path, Refused, Call, NoCall}
@@ -85,20 +85,19 @@ pub record HasCommitted {D N : Type 0} (disk : Ghosts D N) (k m : Plain D) (left
   pub ready : IsReady disk m left
   pub files : files_of (image_on disk.image m) ≡ files_seen disk.image k
 
--- From kernel k to m a stop leaves the files on the disk as they were or these, and m is over the
--- same disk, as it was opened.
-pub record LeavesEither {D N : Type 0} (disk : Ghosts D N) (made : Files) (k m : Plain D)
-    : Type 0 where
+-- From kernel k to m a stop leaves the files on the disk as they were or those that the transaction
+-- of b sees, and m is over the same disk, as it was opened.
+pub record LeavesEither {D N : Type 0} (disk : Ghosts D N) (b k m : Plain D) : Type 0 where
   pub opening : m.opening ≡ k.opening
   pub name : disk.name m.store.volume.device ≡ disk.name k.store.volume.device
   pub leaves : LeavesOnly disk.moment disk.leaves k.store.volume.device m.store.volume.device
-      (KeepsEither (image_on disk.image k) made)
+      (KeepsEither (image_on disk.image k) (files_seen disk.image b) (labels_made disk.image b))
 
 -- What a stop left since the transaction of k began, in a kernel o with the image of k, it leaves up
 -- to m too, or the files that the transaction made.
 pub record EndsOn {D N : Type 0} (disk : Ghosts D N) (k m : Plain D) : Type 0 where
   pub on : (o : Plain D) → image_on disk.image k ≡ image_on disk.image o → LeavesFiles disk o k
-      → LeavesEither disk (files_seen disk.image k) o m
+      → LeavesEither disk k o m
 
 -- What became of a change of files: it was made, or was refused for a cause, with the files as they
 -- were.
