@@ -64,9 +64,9 @@ from_old files new from i name file is is_new adds at to other step =
     inr (
       step.0,
       (
-          ap (λ (k : ℕ). kind_of (file_in files k)) in_from ∙ is,
-          ap (λ (k : ℕ). number_of files k other) in_from ∙ sym (adds.changes.others other another) ∙ led,
-        ),
+        ap (λ (k : ℕ). kind_of (file_in files k)) in_from ∙ is,
+        ap (λ (k : ℕ). number_of files k other) in_from ∙ sym (adds.changes.others other another) ∙ led,
+      ),
     ))
     (same_name other name))
     (λ (elsewhere : at ≢ from). inr (step.0, step_same new files at to other (sym (adds.rest at elsewhere not_new)) step.1))
@@ -89,9 +89,9 @@ adds_down files new depth from i name file tree is down is_new adds = record {
       let another : other ≢ name = λ this. let both : None ≡ Some to = sym adds.absent ∙ ap (number_of files from) (sym this) ∙ led in absurd (cc both) in (
         step.0,
         (
-            ap (λ (k : ℕ). kind_of (file_in new k)) in_from ∙ adds.changes.directory,
-            ap (λ (k : ℕ). number_of new k other) in_from ∙ adds.changes.others other another ∙ led,
-          ),
+          ap (λ (k : ℕ). kind_of (file_in new k)) in_from ∙ adds.changes.directory,
+          ap (λ (k : ℕ). number_of new k other) in_from ∙ adds.changes.others other another ∙ led,
+        ),
       ))
       (λ (elsewhere : at ≢ from).
       (step.0, step_same files new at to other (adds.rest at elsewhere (apart_from files i at adds.free step.1.0)) step.1))
