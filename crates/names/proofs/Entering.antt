@@ -9,11 +9,13 @@ use Rattle.names.specs.declared.entries.EntryWrite.{EntryWrite}
 use Rattle.blocks.specs.declared.disk.Disk.{Ghosts}
 use Rattle.calls.specs.Stepping.{Plain}
 use Rattle.names.specs.Inside.{files_seen, form_seen}
-use Rattle.names.specs.Making.{is_entered, HasCreated, HasEntered, MakesIn, Uncreates}
+use Rattle.names.specs.Making.{is_entered, HasCreated, HasEntered, Uncreates}
 use Rattle.names.specs.Walks.{IsDirectoryFound}
 use Rattle.names.specs.TreeChanges.{empty_file, AddsName, IsUnnamed}
 use Rattle.names.specs.Trees.{directory_in, number_of, IsDirectory, IsDown, IsTree}
 use Rattle.names.specs.Writes.{operation_of, Links}
+use Rattle.model.specs.declared.types.image.File.{File}
+use Rattle.names.specs.TreeLaws.{IsNew}
 use Rattle.names.proofs.Adding.{adding_keeps}
 use Rattle.names.proofs.NewDirectory.{files_are_new}
 use Rattle.names.proofs.TreeMeaning.{directories_are_tidy}
@@ -27,26 +29,26 @@ down_absent files from name tree is absent =
       (λ up. let both : None ≡ Some of.0 = sym absent ∙ ap (number_of files from) up ∙ of.1.up in cc both),
     )
 
-module _ (form : Form) (files made new : Files) (from number : ℕ) (name : List ℕ) (write : EntryWrite) (reply : Reply) (whole : Bool) (tree : IsTree files)
-    (is : IsDirectory files from) (unnamed : IsUnnamed files made number (empty_file 2)) (links : Links (directory_in files from) name number write)
-    (below : write.place < 192) (h : after form made (operation_of from write) reply ≡ Some new) (told : whole ≡ is_entered reply) where
-  either : ((reply ≡ Wrote 16) × AddsName files new from name number (empty_file 2)) ⊎ ((reply ≡ Wrote 0) × (new ≡ made))
-  either = linked_new form files made new from number name (empty_file 2) write reply tree is unnamed links below h
+module _ (form : Form) (files made new : Files) (from number : ℕ) (name : List ℕ) (file : File) (write : EntryWrite) (reply : Reply) (whole : Bool)
+    (tree : IsTree files) (is : IsDirectory files from) (fresh : IsNew file number from) (unnamed : IsUnnamed files made number file)
+    (links : Links (directory_in files from) name number write) (below : write.place < 192) (h : after form made (operation_of from write) reply ≡ Some new)
+    (told : whole ≡ is_entered reply) where
+  either : ((reply ≡ Wrote 16) × AddsName files new from name number file) ⊎ ((reply ≡ Wrote 0) × (new ≡ made))
+  either = linked_new form files made new from number name file write reply tree is unnamed links below h
 
-  pub entered_adds : whole ≡ true → MakesIn from name number files new
+  pub entered_adds : whole ≡ true → AddsName files new from name number file
   entered_adds holds =
-      ⊎_elim (λ (done : (reply ≡ Wrote 16) × AddsName files new from name number (empty_file 2)). done.1)
+      ⊎_elim (λ (done : (reply ≡ Wrote 16) × AddsName files new from name number file). done.1)
       (λ (none : (reply ≡ Wrote 0) × (new ≡ made)).
       let both : true ≡ false = sym holds ∙ told ∙ ap is_entered none.0 in absurd (cc both)) either
 
   pub entered_tree : whole ≡ true → IsTree new
   entered_tree holds =
-      adding_keeps files new from number name (empty_file 2) tree is (down_absent files from name tree is links.absent)
-      (files_are_new.0 2 number from (λ e. absurd (omega (arith, e)))) (entered_adds holds)
+      adding_keeps files new from number name file tree is (down_absent files from name tree is links.absent) fresh (entered_adds holds)
 
   pub entered_none : whole ≡ false → new ≡ made
   entered_none fails =
-      ⊎_elim (λ (done : (reply ≡ Wrote 16) × AddsName files new from name number (empty_file 2)).
+      ⊎_elim (λ (done : (reply ≡ Wrote 16) × AddsName files new from name number file).
       let both : false ≡ true = sym fails ∙ told ∙ ap is_entered done.0 in absurd (cc both))
       (λ (none : (reply ≡ Wrote 0) × (new ≡ made)). none.1) either
 
@@ -61,11 +63,20 @@ found_fits files from found bytes slice tree is same here =
     let at = found_bytes files from found bytes is here in
     subst (λ (b : List ℕ). length b ≤ 3072) (sym (same ∙ at.1)) (directories_are_tidy files from tree at.0).0.fits
 
+-- the file that was made
+pub created_unnamed : (kind : ℕ) (files new : Files) (made : Option ℕ) (number : ℕ) → made ≡ Some number → HasCreated kind files new made →
+    IsUnnamed files new number (empty_file kind)
+created_unnamed kind files new made number is created = (subst (λ (o : Option ℕ). HasCreated kind files new o) is created).0
+
+-- an empty file that is no directory is new
+pub empty_is_new : (number from : ℕ) → IsNew (empty_file 2) number from
+empty_is_new number from = files_are_new.0 2 number from (λ e. absurd (omega (arith, e)))
+
 -- In a transaction: kernel k looked at the directory, which is a then; b made the file, d wrote its entry.
-module _ {D N : Type 0} (disk : Ghosts D N) (k a b d : Plain D) (from number : ℕ) (name bytes slice : List ℕ) (found : Option (List ℕ)) (made : Option ℕ)
+module _ {D N : Type 0} (disk : Ghosts D N) (k a b d : Plain D) (from number : ℕ) (name bytes slice : List ℕ) (file : File) (found : Option (List ℕ))
     (write : EntryWrite) (whole : Bool) (tree : IsTree (files_seen disk.image k)) (looked : files_seen disk.image a ≡ files_seen disk.image k)
-    (here : IsDirectoryFound (files_seen disk.image k) from found) (found_is : found ≡ Some bytes)
-    (created : HasCreated (files_seen disk.image a) (files_seen disk.image b) made) (made_is : made ≡ Some number) (slice_is : slice ≡ bytes)
+    (here : IsDirectoryFound (files_seen disk.image k) from found) (found_is : found ≡ Some bytes) (fresh : IsNew file number from)
+    (created : IsUnnamed (files_seen disk.image a) (files_seen disk.image b) number file) (slice_is : slice ≡ bytes)
     (links : Links slice name number write) (below : write.place < 192) (entered : HasEntered disk.image from write b d whole) where
   abbrev fs : Files
   fs = files_seen disk.image k
@@ -76,31 +87,29 @@ module _ {D N : Type 0} (disk : Ghosts D N) (k a b d : Plain D) (from number : �
   named : Links (directory_in fs from) name number write
   named = subst (λ (l : List ℕ). Links l name number write) (slice_is ∙ there.1) links
 
-  pub made_unnamed : IsUnnamed fs (files_seen disk.image b) number (empty_file 2)
-  made_unnamed =
-      subst (λ (f : Files). IsUnnamed f (files_seen disk.image b) number (empty_file 2)) looked
-      (subst (λ (o : Option ℕ). HasCreated (files_seen disk.image a) (files_seen disk.image b) o) made_is created).0
+  made_unnamed : IsUnnamed fs (files_seen disk.image b) number file
+  made_unnamed = subst (λ (f : Files). IsUnnamed f (files_seen disk.image b) number file) looked created
 
-  pub made_adds : whole ≡ true → MakesIn from name number fs (files_seen disk.image d)
+  pub made_adds : whole ≡ true → AddsName fs (files_seen disk.image d) from name number file
   made_adds holds =
-      entered_adds (form_seen disk.image b) fs (files_seen disk.image b) (files_seen disk.image d) from number name write entered.reply whole tree there.0
-      made_unnamed named below entered.answers entered.told holds
+      entered_adds (form_seen disk.image b) fs (files_seen disk.image b) (files_seen disk.image d) from number name file write entered.reply whole tree there.0
+      fresh made_unnamed named below entered.answers entered.told holds
 
   pub made_tree : whole ≡ true → IsTree (files_seen disk.image d)
   made_tree holds =
-      entered_tree (form_seen disk.image b) fs (files_seen disk.image b) (files_seen disk.image d) from number name write entered.reply whole tree there.0
-      made_unnamed named below entered.answers entered.told holds
+      entered_tree (form_seen disk.image b) fs (files_seen disk.image b) (files_seen disk.image d) from number name file write entered.reply whole tree there.0
+      fresh made_unnamed named below entered.answers entered.told holds
 
   -- and where nothing was written, the file is removed again
   pub made_undone : (u : Plain D) (i : ℕ) → i ≡ number → whole ≡ false → Uncreates i (files_seen disk.image d) (files_seen disk.image u) →
       files_seen disk.image u ≡ fs
   made_undone u i same fails undoes =
       let none : files_seen disk.image d ≡ files_seen disk.image b
-      = entered_none (form_seen disk.image b) fs (files_seen disk.image b) (files_seen disk.image d) from number name write entered.reply whole tree there.0
-      made_unnamed named below entered.answers entered.told fails in
-      undoes fs (empty_file 2)
-      (subst (λ (j : ℕ). IsUnnamed fs (files_seen disk.image d) j (empty_file 2)) (sym same)
-      (subst (λ (f : Files). IsUnnamed fs f number (empty_file 2)) (sym none) made_unnamed))
+      = entered_none (form_seen disk.image b) fs (files_seen disk.image b) (files_seen disk.image d) from number name file write entered.reply whole tree there.0
+      fresh made_unnamed named below entered.answers entered.told fails in
+      undoes fs file
+      (subst (λ (j : ℕ). IsUnnamed fs (files_seen disk.image d) j file) (sym same)
+      (subst (λ (f : Files). IsUnnamed fs f number file) (sym none) made_unnamed))
 
   pub made_absent : IsDirectory fs from × (number_of fs from name ≡ None)
   made_absent = (there.0, named.absent)

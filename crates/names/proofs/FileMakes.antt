@@ -1,39 +1,40 @@
 -- What a creation comes to.
-use Rattle.std.proofs.Common.{◌≡◌, ℕ, ◌<◌, ◌&&◌, ltb, length, set, refl, Some, sym}
+use Rattle.std.proofs.Common.{◌≡◌, ℕ, ◌<◌, Bool, true, cond, ◌&&◌, ltb, length, set, refl, Option, Some, None, sym, ap}
 use Rattle.std.specs.Prelude.{is_none}
 use Rattle.std.proofs.lemmas.Bool.{and_parts, ltb-true}
 use Rattle.model.specs.declared.types.image.Form.{Form}
 use Rattle.model.specs.declared.types.operations.Op.TheVariants.{Create}
 use Rattle.model.specs.declared.types.operations.Reply.{Reply}
-use Rattle.model.specs.declared.types.operations.Reply.TheVariants.{Made, NoInode}
+use Rattle.model.specs.declared.types.operations.Reply.TheVariants.{Made, NoInode, BadType}
 use Rattle.model.specs.Files.{Files, file_in}
 use Rattle.model.specs.Lemmas.Runs.{where_true_some}
-use Rattle.model.specs.Operations.{after, after_create}
+use Rattle.model.specs.Operations.{after, after_create, is_kind}
 use Rattle.names.specs.Making.{HasCreated}
 use Rattle.names.specs.TreeChanges.{empty_file}
+use Rattle.names.proofs.Answered.{done_where}
 use Rattle.names.proofs.Unnamed.{create_makes}
 
-none_by : (files new : Files) (reply : Reply) → after_create files 2 reply ≡ Some new → ((i : ℕ) → reply ≡ Made i → ⊥) → new ≡ files
-none_by files new (Made i) h not = absurd (not i refl)
-none_by files new NoInode h not = let e : files ≡ new = cc h in sym e
-none_by files new reply h not = absurd (cc h)
+none_by : (files new : Files) (kind : ℕ) (reply : Reply) → after_create files kind reply ≡ Some new → ((i : ℕ) → reply ≡ Made i → ⊥) → new ≡ files
+none_by files new kind (Made i) h not = absurd (not i refl)
+none_by files new kind NoInode h not = let e : files ≡ new = cc h in sym e
+none_by files new kind reply h not = absurd (cc h)
+
+allowed : (form : Form) (files new : Files) (kind : ℕ) (reply : Reply) → is_kind kind ≡ true → after form files (Create kind) reply ≡ Some new →
+    after_create files kind reply ≡ Some new
+allowed form files new kind reply is h =
+    done_where form files new (Create kind) reply (ap (λ (b : Bool). cond b None (Some BadType)) is) h
 
 -- none was made
-pub create_none : (form : Form) (files new : Files) (reply : Reply) → after form files (Create 2) reply ≡ Some new →
+pub create_none : (form : Form) (files new : Files) (kind : ℕ) (reply : Reply) → is_kind kind ≡ true → after form files (Create kind) reply ≡ Some new →
     ((i : ℕ) → reply ≡ Made i → ⊥) → new ≡ files
-unfolding after
-create_none form files new reply h not = none_by files new reply h not
+create_none form files new kind reply is h not = none_by files new kind reply (allowed form files new kind reply is h) not
 
-some_by : (files new : Files) (i : ℕ) → after_create files 2 (Made i) ≡ Some new → 0 < i
-some_by files new i h =
-    let made = where_true_some (ltb 0 i && ltb i (length files) && is_none (file_in files i)) (set files i (Some (empty_file 2))) new h in
+some_by : (files new : Files) (kind i : ℕ) → after_create files kind (Made i) ≡ Some new → 0 < i
+some_by files new kind i h =
+    let made = where_true_some (ltb 0 i && ltb i (length files) && is_none (file_in files i)) (set files i (Some (empty_file kind))) new h in
     ltb-true 0 i (and_parts (ltb 0 i) (ltb i (length files)) (and_parts (ltb 0 i && ltb i (length files)) (is_none (file_in files i)) made.0).0).0
 
--- a number is never 0
-pub create_positive : (form : Form) (files new : Files) (i : ℕ) → after form files (Create 2) (Made i) ≡ Some new → 0 < i
-unfolding after
-create_positive form files new i h = some_by files new i h
-
--- one was made
-pub create_some : (form : Form) (files new : Files) (i : ℕ) → after form files (Create 2) (Made i) ≡ Some new → HasCreated files new (Some i)
-create_some form files new i h = (create_makes form files new 2 i h, create_positive form files new i h)
+-- one was made, whose number is never 0
+pub create_some : (form : Form) (files new : Files) (kind i : ℕ) → is_kind kind ≡ true → after form files (Create kind) (Made i) ≡ Some new →
+    HasCreated kind files new (Some i)
+create_some form files new kind i is h = (create_makes form files new kind i h, some_by files new kind i (allowed form files new kind (Made i) is h))

@@ -41,4 +41,5 @@ pub mod FileMakes
 pub mod Entering
 pub mod Leading
 pub mod Leaving
+pub mod Filling
 pub mod RootMaking

@@ -1,7 +1,8 @@
 -- A file made in a tree.
-use Rattle.std.specs.Prelude.{◌≡◌, ◌<◌, ℕ, ◌==◌, Bool, false, List, Option, Some, None}
+use Rattle.std.specs.Prelude.{Bool, Err, List, None, Ok, Option, Result, Some, false, ℕ, ◌<◌, ◌==◌, ◌≡◌, ◌⊎◌}
 use Rattle.blocks.specs.Disk.{Image}
 use Rattle.model.specs.declared.types.image.File.{File}
+use Rattle.model.specs.declared.types.operations.Op.TheVariants.{Write}
 use Rattle.model.specs.declared.types.operations.Reply.{Reply}
 use Rattle.model.specs.declared.types.operations.Reply.TheVariants.{Wrote}
 use Rattle.model.specs.Files.{Files}
@@ -13,8 +14,10 @@ use Rattle.names.specs.declared.refusal.Refusal.{Refusal}
 use Rattle.names.specs.declared.refusal.Refusal.TheVariants.{NotFound, NotADirectory, IsRoot, Exists, Full, NoNumber, NoBlock, IsADirectory}
 use Rattle.names.specs.Entries.{entry_size}
 use Rattle.names.specs.Inside.{Answers}
-use Rattle.names.specs.TreeChanges.{empty_file, AddsName, IsUnnamed}
-use Rattle.names.specs.Trees.{directory_in, number_of, IsDirectory}
+use Rattle.names.specs.Ready.{is_filled}
+use Rattle.names.specs.TreeChanges.{directory_file, empty_file, AddsDirectory, AddsName, IsUnnamed}
+use Rattle.names.specs.TreeLaws.{IsNew}
+use Rattle.names.specs.Trees.{directory_in, new_directory, number_of, IsDirectory}
 use Rattle.names.specs.Walks.{AtLast}
 use Rattle.names.specs.Writes.{operation_of, IsLinkCause}
 
@@ -22,11 +25,11 @@ use Rattle.names.specs.Writes.{operation_of, IsLinkCause}
 abbrev pub file_kind : ℕ
 file_kind = 2
 
--- a file was made, which has no name yet, or none was
-abbrev pub HasCreated : Files → Files → Option ℕ → Type 0
-HasCreated files new None = new ≡ files
-HasCreated files new (Some number) =
-    IsUnnamed files new number (empty_file file_kind) × (0 < number)
+-- an empty file of a type was made, which has no name yet, or none was
+abbrev pub HasCreated : ℕ → Files → Files → Option ℕ → Type 0
+HasCreated kind files new None = new ≡ files
+HasCreated kind files new (Some number) =
+    IsUnnamed files new number (empty_file kind) × (0 < number)
 
 -- a file that was made and not named is gone again, and the files are as before it
 abbrev pub Uncreates : ℕ → Files → Files → Type 0
@@ -72,3 +75,29 @@ IsUnmadeIn files from name IsADirectory = ⊥
 -- an empty file was made under the last of these names, in the directory that the others lead to
 abbrev pub MakesAt : List (List ℕ) → ℕ → Files → Files → Type 0
 MakesAt names = AtLast MakesIn names
+
+-- ---- directories
+
+-- a directory of its two entries alone was made, which has no name yet; or it was not, for want of a
+-- number or of a block
+abbrev pub HasCreatedDirectory : ℕ → Files → Files → Result ℕ Refusal → Type 0
+HasCreatedDirectory parent files new (Ok number) =
+    IsUnnamed files new number (directory_file number parent)
+    × IsNew (directory_file number parent) number parent × (0 < number)
+HasCreatedDirectory parent files new (Err cause) =
+    (new ≡ files) × ((cause ≡ NoNumber) ⊎ (cause ≡ NoBlock))
+
+-- the two entries of a new directory were written, and whether they are whole
+pub record HasFilledFor {D : Type 0} (image : D → Image) (number parent : ℕ) (k m : Plain D)
+    (whole : Bool) : Type 0 where
+  pub reply : Reply
+  pub answers : Answers image (Write number 0 (new_directory number parent)) k m reply
+  pub told : whole ≡ is_filled reply
+
+-- a directory was made under a name of a directory
+abbrev pub MakesDirectoryIn : ℕ → List ℕ → ℕ → Files → Files → Type 0
+MakesDirectoryIn from name number files new = AddsDirectory files new from name number
+
+-- one was made under the last of these names, in the directory that the others lead to
+abbrev pub MakesDirectoryAt : List (List ℕ) → ℕ → Files → Files → Type 0
+MakesDirectoryAt names = AtLast MakesDirectoryIn names

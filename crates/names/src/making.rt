@@ -1,8 +1,9 @@
 // Files made in a tree.
-ghost use Rattle.std.specs.Prelude.{◌≡◌, ◌<◌, ◌≤◌, ◌^◌, IfErr, IfOk, IfSome, OnOk};
+ghost use Rattle.std.specs.Prelude.{true, ◌≡◌, ◌<◌, ◌≤◌, ◌^◌, IfErr, IfOk, IfSome, OnOk};
 ghost use Rattle.calls.specs.Calls.{image_on};
 ghost use Rattle.calls.specs.Stopped.{StaysOver};
 ghost use Rattle.model.specs.Files.{files_of};
+ghost use Rattle.model.specs.Operations.{is_kind};
 ghost use Rattle.names.specs.Entries.{most_entries};
 ghost use Rattle.names.specs.Inside.{files_seen, Ends, Goes, IsUnderWay, StaysOn};
 ghost use Rattle.names.specs.Making.{HasCreated, HasEntered, IsUnmadeIn, MakesAt, MakesIn, Uncreates, unlinked};
@@ -131,7 +132,7 @@ impl<D: Disk> Tree<D> {
         if let Err(fault) = link(bytes.as_slice(), name, 1) {
             return Ok(Err(unlinked(fault)));
         }
-        let Some(number) = self.created()? else {
+        let Some(number) = self.created(FILE_KIND)? else {
             return Ok(Err(Refusal::NoNumber));
         };
         let Ok(write) = link(bytes.as_slice(), name, number) else {
@@ -145,18 +146,20 @@ impl<D: Disk> Tree<D> {
         Ok(Err(Refusal::NoBlock))
     }
 
-    // Makes an empty file that has no name yet. None where no number is free that an entry can hold.
-    fn created(&mut self) -> Result<Option<u16>, TreeFault>
-        requires { IsUnderWay D.Disk self.old.kernel self.old.calls_left }
+    // Makes an empty file of a type, which has no name yet. None where no number is free that an entry
+    // can hold.
+    pub(crate) fn created(&mut self, kind: u16) -> Result<Option<u16>, TreeFault>
+        requires way { IsUnderWay D.Disk self.old.kernel self.old.calls_left }
+        requires kind { is_kind kind ≡ true }
         ensures goes { OnOk result (Goes D.Disk
             self.old.kernel self.new.kernel self.new.calls_left) }
-        ensures made { IfOk result (HasCreated
+        ensures made { IfOk result (HasCreated kind
             (files_seen D.image self.old.kernel) (files_seen D.image self.new.kernel)) }
         ensures stays { StaysOn D.Disk self.old.kernel self.new.kernel }
         ensures ends { IfErr result (Ends D.Disk
             self.old.kernel self.new.kernel self.new.calls_left) }
     {
-        let Reply::Made(number) = self.called(Op::Create(FILE_KIND))? else {
+        let Reply::Made(number) = self.called(Op::Create(kind))? else {
             return Ok(None);
         };
         match u16::try_from(number) {
@@ -169,7 +172,7 @@ impl<D: Disk> Tree<D> {
     }
 
     // Removes a file that was made and has no name.
-    fn uncreated(&mut self, number: u32) -> Result<(), TreeFault>
+    pub(crate) fn uncreated(&mut self, number: u32) -> Result<(), TreeFault>
         requires { IsUnderWay D.Disk self.old.kernel self.old.calls_left }
         ensures goes { OnOk result (Goes D.Disk
             self.old.kernel self.new.kernel self.new.calls_left) }
@@ -212,7 +215,7 @@ impl<D: Disk> Tree<D> {
 }
 
 // The refusal of a link.
-fn unlinked(fault: LinkFault) -> Refusal
+pub(crate) fn unlinked(fault: LinkFault) -> Refusal
     ensures { result ≡ unlinked fault }
 {
     match fault {

@@ -142,7 +142,7 @@ impl<D: Disk> Tree<D> {
 }
 
 // Whether the two entries of a new directory were written.
-fn is_filled(reply: &Reply) -> bool
+pub(crate) fn is_filled(reply: &Reply) -> bool
     ensures { result ≡ is_filled reply.now }
 {
     match reply {

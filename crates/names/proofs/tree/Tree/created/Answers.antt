@@ -1,4 +1,5 @@
-use Rattle.std.proofs.Common.{◌≡◌, ℕ, Some, sym, subst}
+use Rattle.std.proofs.Common.{◌≡◌, ℕ, true, Some, sym, subst}
+use Rattle.model.specs.Operations.{is_kind}
 use Rattle.blocks.specs.declared.disk.Disk.{Ghosts}
 use Rattle.calls.specs.Stepping.{Plain}
 use Rattle.model.specs.declared.types.operations.Op.TheVariants.{Create}
@@ -13,25 +14,25 @@ pub returns-in_default : goal.returns-in_default
 returns-in_default g c = record {
   goes = c.in_ok-number.ensures.goes;
   made = create_none (form_seen g.D.Disk.image c.args.self.now.kernel) (files_seen g.D.Disk.image c.args.self.now.kernel)
-      (files_seen g.D.Disk.image c.called.new.self.kernel) c.in_ok-number.field-0 c.in_ok-number.ensures.answers c.in_default.not-Made;
+      (files_seen g.D.Disk.image c.called.new.self.kernel) c.args.kind c.in_ok-number.field-0 c.requires.kind c.in_ok-number.ensures.answers c.in_default.not-Made;
   stays = c.called.ensures.stays;
   ends = tt;
 }
 
 module _ {D N : Type 0} (disk : Ghosts D N) where
-  made : (k m : Plain D) (reply : Reply) (i : ℕ) → reply ≡ Made i → Answers disk.image (Create 2) k m reply →
-      HasCreated (files_seen disk.image k) (files_seen disk.image m) (Some i)
-  made k m reply i is answers =
-      create_some (form_seen disk.image k) (files_seen disk.image k) (files_seen disk.image m) i
-      (subst (λ (r : Reply). Answers disk.image (Create 2) k m r) is answers)
+  made : (k m : Plain D) (kind : ℕ) (reply : Reply) (i : ℕ) → is_kind kind ≡ true → reply ≡ Made i → Answers disk.image (Create kind) k m reply →
+      HasCreated kind (files_seen disk.image k) (files_seen disk.image m) (Some i)
+  made k m kind reply i of is answers =
+      create_some (form_seen disk.image k) (files_seen disk.image k) (files_seen disk.image m) kind i of
+      (subst (λ (r : Reply). Answers disk.image (Create kind) k m r) is answers)
 
 pub returns-in-Ok-clause-made : goal.returns-in-Ok-clause-made
 returns-in-Ok-clause-made g c =
-    subst (λ (i : ℕ). HasCreated (files_seen g.D.Disk.image c.args.self.now.kernel) (files_seen g.D.Disk.image c.called.new.self.kernel) (Some i))
+    subst (λ (i : ℕ). HasCreated c.args.kind (files_seen g.D.Disk.image c.args.self.now.kernel) (files_seen g.D.Disk.image c.called.new.self.kernel) (Some i))
     (sym c.in-Ok.ensures.1)
-    (made g.D.Disk c.args.self.now.kernel c.called.new.self.kernel c.in_ok-number.field-0 c.in-Made.number c.in-Made.is c.in_ok-number.ensures.answers)
+    (made g.D.Disk c.args.self.now.kernel c.called.new.self.kernel c.args.kind c.in_ok-number.field-0 c.in-Made.number c.requires.kind c.in-Made.is c.in_ok-number.ensures.answers)
 
 pub returns-in_ok-uncreated-in-Err-clause-made : goal.returns-in_ok-uncreated-in-Err-clause-made
 returns-in_ok-uncreated-in-Err-clause-made g c =
     c.in_ok-uncreated-in-Err.ensures.undoes (files_seen g.D.Disk.image c.args.self.now.kernel) _
-    (made g.D.Disk c.args.self.now.kernel c.called.new.self.kernel c.in_ok-number.field-0 c.in-Made.number c.in-Made.is c.in_ok-number.ensures.answers).0
+    (made g.D.Disk c.args.self.now.kernel c.called.new.self.kernel c.args.kind c.in_ok-number.field-0 c.in-Made.number c.requires.kind c.in-Made.is c.in_ok-number.ensures.answers).0

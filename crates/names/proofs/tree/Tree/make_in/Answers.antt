@@ -1,7 +1,8 @@
 use Rattle.names.specs.Inside.{files_seen}
 use Rattle.std.proofs.Common.{◌≡◌, sym, subst}
+use Rattle.names.specs.TreeChanges.{empty_file}
 use Rattle.names.specs.Trees.{IsTree}
-use Rattle.names.proofs.Entering.{found_fits, made_absent, made_adds, made_tree, made_undone}
+use Rattle.names.proofs.Entering.{created_unnamed, empty_is_new, found_fits, made_absent, made_adds, made_tree, made_undone}
 use Rattle.names.proofs.tree.Tree.make_in.Goals as goal
 
 pub link-requires-clause-size : goal.link-requires-clause-size
@@ -17,23 +18,29 @@ link-requires-2-clause-size g c =
 pub returns-then-branch-clause-tree : goal.returns-then-branch-clause-tree
 returns-then-branch-clause-tree g c =
     made_tree g.D.Disk c.args.self.now.kernel c.directory.new.self.kernel c.created.new.self.kernel c.entered.new.self.kernel c.args.from c.in-Some-2.number c.args.name.now
-    c.in-Some.bytes c.as_slice-2.result.now c.in_ok-bytes.field-0 c.in_ok-number.field-0 c.in-Ok.write c.in_ok-entered.field-0 c.requires.tree
-    c.in_ok-bytes.ensures.looks.files c.in_ok-bytes.ensures.found c.in-Some.is c.in_ok-number.ensures.made c.in-Some-2.is c.as_slice-2.ensures
+    c.in-Some.bytes c.as_slice-2.result.now (empty_file 2) c.in_ok-bytes.field-0 c.in-Ok.write c.in_ok-entered.field-0 c.requires.tree
+    c.in_ok-bytes.ensures.looks.files c.in_ok-bytes.ensures.found c.in-Some.is (empty_is_new c.in-Some-2.number c.args.from)
+    (created_unnamed 2 (files_seen g.D.Disk.image c.directory.new.self.kernel) (files_seen g.D.Disk.image c.created.new.self.kernel) c.in_ok-number.field-0
+    c.in-Some-2.number c.in-Some-2.is c.in_ok-number.ensures.made) c.as_slice-2.ensures
     c.in-Ok.ensures.links c.in-Ok.ensures.within c.in_ok-entered.ensures.entered c.if-branch.true
 
 pub returns-then-branch-clause-made : goal.returns-then-branch-clause-made
 returns-then-branch-clause-made g c =
     made_adds g.D.Disk c.args.self.now.kernel c.directory.new.self.kernel c.created.new.self.kernel c.entered.new.self.kernel c.args.from c.in-Some-2.number c.args.name.now
-    c.in-Some.bytes c.as_slice-2.result.now c.in_ok-bytes.field-0 c.in_ok-number.field-0 c.in-Ok.write c.in_ok-entered.field-0 c.requires.tree
-    c.in_ok-bytes.ensures.looks.files c.in_ok-bytes.ensures.found c.in-Some.is c.in_ok-number.ensures.made c.in-Some-2.is c.as_slice-2.ensures
+    c.in-Some.bytes c.as_slice-2.result.now (empty_file 2) c.in_ok-bytes.field-0 c.in-Ok.write c.in_ok-entered.field-0 c.requires.tree
+    c.in_ok-bytes.ensures.looks.files c.in_ok-bytes.ensures.found c.in-Some.is (empty_is_new c.in-Some-2.number c.args.from)
+    (created_unnamed 2 (files_seen g.D.Disk.image c.directory.new.self.kernel) (files_seen g.D.Disk.image c.created.new.self.kernel) c.in_ok-number.field-0
+    c.in-Some-2.number c.in-Some-2.is c.in_ok-number.ensures.made) c.as_slice-2.ensures
     c.in-Ok.ensures.links c.in-Ok.ensures.within c.in_ok-entered.ensures.entered c.if-branch.true
 
 pub returns-clause-tree : goal.returns-clause-tree
 returns-clause-tree g c =
     let same : files_seen g.D.Disk.image c.uncreated.new.self.kernel ≡ files_seen g.D.Disk.image c.args.self.now.kernel =
     made_undone g.D.Disk c.args.self.now.kernel c.directory.new.self.kernel c.created.new.self.kernel c.entered.new.self.kernel c.args.from c.in-Some-2.number c.args.name.now
-    c.in-Some.bytes c.as_slice-2.result.now c.in_ok-bytes.field-0 c.in_ok-number.field-0 c.in-Ok.write c.in_ok-entered.field-0 c.requires.tree
-    c.in_ok-bytes.ensures.looks.files c.in_ok-bytes.ensures.found c.in-Some.is c.in_ok-number.ensures.made c.in-Some-2.is c.as_slice-2.ensures
+    c.in-Some.bytes c.as_slice-2.result.now (empty_file 2) c.in_ok-bytes.field-0 c.in-Ok.write c.in_ok-entered.field-0 c.requires.tree
+    c.in_ok-bytes.ensures.looks.files c.in_ok-bytes.ensures.found c.in-Some.is (empty_is_new c.in-Some-2.number c.args.from)
+    (created_unnamed 2 (files_seen g.D.Disk.image c.directory.new.self.kernel) (files_seen g.D.Disk.image c.created.new.self.kernel) c.in_ok-number.field-0
+    c.in-Some-2.number c.in-Some-2.is c.in_ok-number.ensures.made) c.as_slice-2.ensures
     c.in-Ok.ensures.links c.in-Ok.ensures.within c.in_ok-entered.ensures.entered
     c.uncreated.new.self.kernel c.from.result c.from.ensures c.if-branch.false c.in_ok-uncreated.ensures.undoes in
     subst (λ f. IsTree f) (sym same) c.requires.tree
@@ -41,12 +48,16 @@ returns-clause-tree g c =
 pub returns-clause-made : goal.returns-clause-made
 returns-clause-made g c = (
   made_undone g.D.Disk c.args.self.now.kernel c.directory.new.self.kernel c.created.new.self.kernel c.entered.new.self.kernel c.args.from c.in-Some-2.number c.args.name.now
-      c.in-Some.bytes c.as_slice-2.result.now c.in_ok-bytes.field-0 c.in_ok-number.field-0 c.in-Ok.write c.in_ok-entered.field-0 c.requires.tree
-      c.in_ok-bytes.ensures.looks.files c.in_ok-bytes.ensures.found c.in-Some.is c.in_ok-number.ensures.made c.in-Some-2.is c.as_slice-2.ensures
+      c.in-Some.bytes c.as_slice-2.result.now (empty_file 2) c.in_ok-bytes.field-0 c.in-Ok.write c.in_ok-entered.field-0 c.requires.tree
+      c.in_ok-bytes.ensures.looks.files c.in_ok-bytes.ensures.found c.in-Some.is (empty_is_new c.in-Some-2.number c.args.from)
+      (created_unnamed 2 (files_seen g.D.Disk.image c.directory.new.self.kernel) (files_seen g.D.Disk.image c.created.new.self.kernel) c.in_ok-number.field-0
+      c.in-Some-2.number c.in-Some-2.is c.in_ok-number.ensures.made) c.as_slice-2.ensures
       c.in-Ok.ensures.links c.in-Ok.ensures.within c.in_ok-entered.ensures.entered
       c.uncreated.new.self.kernel c.from.result c.from.ensures c.if-branch.false c.in_ok-uncreated.ensures.undoes,
   made_absent g.D.Disk c.args.self.now.kernel c.directory.new.self.kernel c.created.new.self.kernel c.entered.new.self.kernel c.args.from c.in-Some-2.number c.args.name.now
-      c.in-Some.bytes c.as_slice-2.result.now c.in_ok-bytes.field-0 c.in_ok-number.field-0 c.in-Ok.write c.in_ok-entered.field-0 c.requires.tree
-      c.in_ok-bytes.ensures.looks.files c.in_ok-bytes.ensures.found c.in-Some.is c.in_ok-number.ensures.made c.in-Some-2.is c.as_slice-2.ensures
+      c.in-Some.bytes c.as_slice-2.result.now (empty_file 2) c.in_ok-bytes.field-0 c.in-Ok.write c.in_ok-entered.field-0 c.requires.tree
+      c.in_ok-bytes.ensures.looks.files c.in_ok-bytes.ensures.found c.in-Some.is (empty_is_new c.in-Some-2.number c.args.from)
+      (created_unnamed 2 (files_seen g.D.Disk.image c.directory.new.self.kernel) (files_seen g.D.Disk.image c.created.new.self.kernel) c.in_ok-number.field-0
+      c.in-Some-2.number c.in-Some-2.is c.in_ok-number.ensures.made) c.as_slice-2.ensures
       c.in-Ok.ensures.links c.in-Ok.ensures.within c.in_ok-entered.ensures.entered,
 )
