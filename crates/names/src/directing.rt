@@ -83,7 +83,11 @@ impl<D: Disk> Tree<D> {
     }
 
     // The same in the transaction under way.
-    fn make_directory_at(&mut self, alloc: Global, names: &[Name]) -> Result<Result<u16, Refusal>, TreeFault>
+    fn make_directory_at(
+        &mut self,
+        alloc: Global,
+        names: &[Name],
+    ) -> Result<Result<u16, Refusal>, TreeFault>
         requires way { IsUnderWay D.Disk self.old.kernel self.old.calls_left }
         requires tree { IsTree (files_seen D.image self.old.kernel) }
         ensures goes { OnOk result (Goes D.Disk

@@ -13,8 +13,8 @@ returns-then-branch-clause-made g c =
 
 pub returns-clause-made : goal.returns-clause-made
 returns-clause-made g c = (
-    filled_undone g.D.Disk c.args.self.now.kernel c.created.new.self.kernel c.filled_for.new.self.kernel c.args.parent c.in-Some.number c.in-Ok.up c.in_ok-number.field-0
-    c.in_ok-filled_for.field-0 c.in-Ok.ensures.1 c.in-Some.is c.in_ok-number.ensures.made c.in_ok-filled_for.ensures.filled c.uncreated.new.self.kernel c.from.result
-    c.from.ensures c.if-branch.false c.in_ok-uncreated.ensures.undoes,
+  filled_undone g.D.Disk c.args.self.now.kernel c.created.new.self.kernel c.filled_for.new.self.kernel c.args.parent c.in-Some.number c.in-Ok.up c.in_ok-number.field-0
+      c.in_ok-filled_for.field-0 c.in-Ok.ensures.1 c.in-Some.is c.in_ok-number.ensures.made c.in_ok-filled_for.ensures.filled c.uncreated.new.self.kernel c.from.result
+      c.from.ensures c.if-branch.false c.in_ok-uncreated.ensures.undoes,
   inr refl,
 )

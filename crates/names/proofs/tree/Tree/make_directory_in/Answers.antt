@@ -48,12 +48,12 @@ returns-clause-made g c = (
   made_undone g.D.Disk c.args.self.now.kernel c.directory.new.self.kernel c.created_directory.new.self.kernel c.entered.new.self.kernel c.args.from c.in-Ok.number c.args.name.now
       c.in-Some.bytes c.as_slice-2.result.now (directory_file c.in-Ok.number c.args.from) c.in_ok-bytes.field-0 c.in-Ok-link.write c.in_ok-entered.field-0 c.requires.tree
       c.in_ok-bytes.ensures.looks.files c.in_ok-bytes.ensures.found c.in-Some.is (directory_unnamed c.args.from (files_seen g.D.Disk.image c.directory.new.self.kernel) (files_seen g.D.Disk.image c.created_directory.new.self.kernel) c.in_ok-number.field-0 c.in-Ok.number c.in-Ok.is c.in_ok-number.ensures.made).1
-    (directory_unnamed c.args.from (files_seen g.D.Disk.image c.directory.new.self.kernel) (files_seen g.D.Disk.image c.created_directory.new.self.kernel) c.in_ok-number.field-0 c.in-Ok.number c.in-Ok.is c.in_ok-number.ensures.made).0 c.as_slice-2.ensures
+      (directory_unnamed c.args.from (files_seen g.D.Disk.image c.directory.new.self.kernel) (files_seen g.D.Disk.image c.created_directory.new.self.kernel) c.in_ok-number.field-0 c.in-Ok.number c.in-Ok.is c.in_ok-number.ensures.made).0 c.as_slice-2.ensures
       c.in-Ok-link.ensures.links c.in-Ok-link.ensures.within c.in_ok-entered.ensures.entered
       c.uncreated.new.self.kernel c.from.result c.from.ensures c.if-branch.false c.in_ok-uncreated.ensures.undoes,
   made_absent g.D.Disk c.args.self.now.kernel c.directory.new.self.kernel c.created_directory.new.self.kernel c.entered.new.self.kernel c.args.from c.in-Ok.number c.args.name.now
       c.in-Some.bytes c.as_slice-2.result.now (directory_file c.in-Ok.number c.args.from) c.in_ok-bytes.field-0 c.in-Ok-link.write c.in_ok-entered.field-0 c.requires.tree
       c.in_ok-bytes.ensures.looks.files c.in_ok-bytes.ensures.found c.in-Some.is (directory_unnamed c.args.from (files_seen g.D.Disk.image c.directory.new.self.kernel) (files_seen g.D.Disk.image c.created_directory.new.self.kernel) c.in_ok-number.field-0 c.in-Ok.number c.in-Ok.is c.in_ok-number.ensures.made).1
-    (directory_unnamed c.args.from (files_seen g.D.Disk.image c.directory.new.self.kernel) (files_seen g.D.Disk.image c.created_directory.new.self.kernel) c.in_ok-number.field-0 c.in-Ok.number c.in-Ok.is c.in_ok-number.ensures.made).0 c.as_slice-2.ensures
+      (directory_unnamed c.args.from (files_seen g.D.Disk.image c.directory.new.self.kernel) (files_seen g.D.Disk.image c.created_directory.new.self.kernel) c.in_ok-number.field-0 c.in-Ok.number c.in-Ok.is c.in_ok-number.ensures.made).0 c.as_slice-2.ensures
       c.in-Ok-link.ensures.links c.in-Ok-link.ensures.within c.in_ok-entered.ensures.entered,
 )

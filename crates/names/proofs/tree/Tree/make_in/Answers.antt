@@ -50,14 +50,14 @@ returns-clause-made g c = (
   made_undone g.D.Disk c.args.self.now.kernel c.directory.new.self.kernel c.created.new.self.kernel c.entered.new.self.kernel c.args.from c.in-Some-2.number c.args.name.now
       c.in-Some.bytes c.as_slice-2.result.now (empty_file 2) c.in_ok-bytes.field-0 c.in-Ok.write c.in_ok-entered.field-0 c.requires.tree
       c.in_ok-bytes.ensures.looks.files c.in_ok-bytes.ensures.found c.in-Some.is (empty_is_new c.in-Some-2.number c.args.from)
-    (created_unnamed 2 (files_seen g.D.Disk.image c.directory.new.self.kernel) (files_seen g.D.Disk.image c.created.new.self.kernel) c.in_ok-number.field-0
-    c.in-Some-2.number c.in-Some-2.is c.in_ok-number.ensures.made) c.as_slice-2.ensures
+      (created_unnamed 2 (files_seen g.D.Disk.image c.directory.new.self.kernel) (files_seen g.D.Disk.image c.created.new.self.kernel) c.in_ok-number.field-0
+      c.in-Some-2.number c.in-Some-2.is c.in_ok-number.ensures.made) c.as_slice-2.ensures
       c.in-Ok.ensures.links c.in-Ok.ensures.within c.in_ok-entered.ensures.entered
       c.uncreated.new.self.kernel c.from.result c.from.ensures c.if-branch.false c.in_ok-uncreated.ensures.undoes,
   made_absent g.D.Disk c.args.self.now.kernel c.directory.new.self.kernel c.created.new.self.kernel c.entered.new.self.kernel c.args.from c.in-Some-2.number c.args.name.now
       c.in-Some.bytes c.as_slice-2.result.now (empty_file 2) c.in_ok-bytes.field-0 c.in-Ok.write c.in_ok-entered.field-0 c.requires.tree
       c.in_ok-bytes.ensures.looks.files c.in_ok-bytes.ensures.found c.in-Some.is (empty_is_new c.in-Some-2.number c.args.from)
-    (created_unnamed 2 (files_seen g.D.Disk.image c.directory.new.self.kernel) (files_seen g.D.Disk.image c.created.new.self.kernel) c.in_ok-number.field-0
-    c.in-Some-2.number c.in-Some-2.is c.in_ok-number.ensures.made) c.as_slice-2.ensures
+      (created_unnamed 2 (files_seen g.D.Disk.image c.directory.new.self.kernel) (files_seen g.D.Disk.image c.created.new.self.kernel) c.in_ok-number.field-0
+      c.in-Some-2.number c.in-Some-2.is c.in_ok-number.ensures.made) c.as_slice-2.ensures
       c.in-Ok.ensures.links c.in-Ok.ensures.within c.in_ok-entered.ensures.entered,
 )
