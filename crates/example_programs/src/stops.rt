@@ -1,8 +1,5 @@
 // Links that are stopped before one of their writes.
-ghost use Rattle.std.specs.Prelude.{◌≡◌, IfOk};
-ghost use Rattle.model.specs.Codec.{made_image};
-
-use blocks::{Disk, FaultyDisk, Kind, MemDisk};
+use blocks::{FaultyDisk, Kind, MemDisk};
 use layout::MkfsFault;
 use names::{FilesFault, Name, NamedFiles};
 use offline::mkfs;
@@ -23,9 +20,7 @@ pub struct Left {
 }
 
 /// A new image.
-pub fn new_disk(alloc: Global) -> Result<MemDisk, MkfsFault>
-    ensures { IfOk result (λ disk. ⟦<MemDisk as Disk>⟧.image disk ≡ made_image Form.One SIZE INODES) }
-{
+pub fn new_disk(alloc: Global) -> Result<MemDisk, MkfsFault> {
     let mut disk = MemDisk::new(alloc, SIZE)?;
     match mkfs(alloc, &mut disk, SIZE, INODES) {
         Ok(()) => Ok(disk),
