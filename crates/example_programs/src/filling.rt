@@ -6,10 +6,10 @@ ghost use Rattle.calls.specs.Transactions.{IsInside};
 use crate::pairing::{new_disk, open, print_file};
 use anyhow::bail;
 use blocks::Disk;
+use calls::transactions::{Pair, TransactionFault, abandon, begin, call, commit};
 use model::content::Content;
 use model::types::Op;
 use std::alloc::Global;
-use calls::transactions::{Pair, TransactionFault, abandon, begin, call, commit};
 
 // The bytes of a write, which are three blocks.
 const BYTES: &[u8] = &[7; 3072];

@@ -6,10 +6,10 @@ ghost use Rattle.calls.specs.Transactions.{Rests};
 use crate::pairing::{new_disk, open, print_file};
 use anyhow::bail;
 use blocks::{Disk, FaultyDisk, Kind};
+use calls::transactions::{Pair, TransactionFault, abandon, begin, call, make_both};
 use model::content::Content;
 use model::types::{Op, Reply};
 use std::alloc::Global;
-use calls::transactions::{Pair, TransactionFault, abandon, begin, call, make_both};
 
 // More writes than the transaction makes.
 const MOST_WRITES: u64 = 20;

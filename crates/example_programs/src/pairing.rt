@@ -4,10 +4,10 @@ ghost use Rattle.calls.specs.Calls.{call_count};
 ghost use Rattle.calls.specs.Transactions.{Rests};
 
 use blocks::{Disk, MemDisk};
+use calls::transactions::{Pair, abandon, begin, call, open_pair};
 use model::types::{Op, Reply};
 use offline::mkfs;
 use std::alloc::Global;
-use calls::transactions::{Pair, abandon, begin, call, open_pair};
 
 // The blocks and the inode numbers of an image.
 const SIZE: u32 = 200;

@@ -10,7 +10,6 @@ use Rattle.model.specs.declared.types.operations.Reply.{Reply}
 use Rattle.calls.specs.Calls.{call_count, faults_on, image_on}
 use Rattle.calls.specs.Lemmas.Both.{keeps_nothing}
 use Rattle.calls.specs.Stepping.{Plain}
-use Rattle.model.specs.Log.{recovered}
 use Rattle.calls.specs.Transactions.{Adds, Begins, Commits, HasFiles, IsInside, IsUnbegun, IsUncalled, IsUncommitted, KeepsEither, KeepsFiles, Rests, labels_made}
 use Rattle.names.specs.Ready.{EndsOn, HasBegun, HasCommitted}
 use Rattle.names.specs.Trees.{IsTree}

@@ -18,9 +18,9 @@ use crate::refusal::{Refusal, TreeFault};
 use crate::rooting::is_filled;
 use crate::tree::Tree;
 use blocks::Disk;
+use calls::transactions::TransactionFault;
 use model::types::Op;
 use std::alloc::Global;
-use calls::transactions::TransactionFault;
 
 // The type of a directory.
 const DIRECTORY_KIND: u16 = 1;

@@ -19,9 +19,9 @@ use crate::path::names_of;
 use crate::refusal::{Refusal, TreeFault};
 use crate::tree::Tree;
 use blocks::Disk;
+use calls::transactions::TransactionFault;
 use model::types::{Op, Reply};
 use std::alloc::Global;
-use calls::transactions::TransactionFault;
 
 // The type of a file that is no directory.
 const FILE_KIND: u16 = 2;

@@ -2,8 +2,8 @@
 ghost use Rattle.std.specs.Prelude.{◌≡◌};
 
 use crate::path::PathFault;
-use thiserror::Error;
 use calls::transactions::TransactionFault;
+use thiserror::Error;
 
 /// What the files refuse. They are as before, and other calls may be made.
 #[derive(Clone, Copy, Debug, PartialEq, Eq, Error)]

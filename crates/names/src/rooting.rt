@@ -15,10 +15,10 @@ use crate::entries::{DIRECTORY, new_directory};
 use crate::refusal::{Refusal, TreeFault};
 use crate::tree::Tree;
 use blocks::Disk;
+use calls::transactions::{Pair, TransactionFault, open_pair};
 use kernel::OpenFault;
 use model::types::{Op, Reply};
 use std::alloc::Global;
-use calls::transactions::{Pair, TransactionFault, open_pair};
 
 // The calls that a tree may make.
 const MOST_CALLS: u32 = 2147483648;

@@ -6,9 +6,9 @@ ghost use Rattle.names.specs.Trees.{IsTree};
 
 use crate::refusal::TreeFault;
 use blocks::Disk;
+use calls::transactions::{Pair, begin, call, commit, rested};
 use model::types::{Op, Reply};
 use std::alloc::Global;
-use calls::transactions::{Pair, begin, call, commit, rested};
 
 /// Files with names in directories within directories, over a kernel of two processes. Behind a call
 /// that failed there is no other.

@@ -1,4 +1,4 @@
-use Rattle.std.proofs.Common.{◌≡◌, ◌<◌, ◌^◌, inr, refl, rules, arith}
+use Rattle.std.proofs.Common.{◌<◌, ◌^◌, inr, refl, rules, arith}
 use Rattle.std.proofs.lemmas.Grind.{common_steps}
 use Rattle.names.proofs.Filling.{filled_made, filled_undone}
 use Rattle.names.proofs.tree.Tree.created_directory.Goals as goal
