@@ -1,8 +1,8 @@
 //! Programs that stand on these crates, as examples. With the word `using` it does what docs/USING.md
 //! shows: an image is made and opened, operations are called one after the other, and two processes
 //! take turns up to a stop. With `names` it makes, finds and unlinks names in a directory, and stops
-//! a link before each of its writes. With `transactions` one is made to its end, stopped before each of
-//! its writes, given up, and made too large for the log. With no word it does all three.
+//! a link before each of its writes. With `trees` it does so by paths. With `transactions` one is made to its end, stopped before each of
+//! its writes, given up, and made too large for the log. With no word it does all four.
 #![tactic(auto)]
 
 mod calling;
@@ -14,12 +14,14 @@ mod naming;
 mod pairing;
 mod stopping;
 mod stops;
+mod trees;
 mod turning;
 mod using;
 
 use crate::filling::print_full;
 use crate::keeping::{print_abandoned, print_stopped};
 use crate::naming::print_names;
+use crate::trees::print_trees;
 use crate::using::print_using;
 use anyhow::bail;
 use std::alloc::Global;
@@ -32,6 +34,7 @@ fn main(rt: HostRuntime) -> anyhow::Result<()> {
         None => {
             print_using(&rt, rt.alloc())?;
             print_names(&rt, rt.alloc())?;
+            print_trees(&rt, rt.alloc())?;
             print_transactions(&rt, rt.alloc())
         }
     }
@@ -41,8 +44,9 @@ fn print_part(rt: &impl Print, alloc: Global, part: &str) -> anyhow::Result<()> 
     match part {
         "using" => print_using(rt, alloc),
         "names" => print_names(rt, alloc),
+        "trees" => print_trees(rt, alloc),
         "transactions" => print_transactions(rt, alloc),
-        _ => bail!("the word is using, names or transactions"),
+        _ => bail!("the word is using, names, trees or transactions"),
     }
 }
 

@@ -1,5 +1,9 @@
 // Links that are stopped before one of their writes.
-use blocks::{FaultyDisk, Kind, MemDisk};
+ghost use Rattle.std.specs.Prelude.{◌≡◌, IfOk};
+ghost use Rattle.model.specs.Codec.{made_image};
+ghost use Rattle.model.specs.declared.types.image.Form.TheVariants.{One};
+
+use blocks::{Disk, FaultyDisk, Kind, MemDisk};
 use layout::MkfsFault;
 use names::{FilesFault, Name, NamedFiles};
 use offline::mkfs;
@@ -20,7 +24,9 @@ pub struct Left {
 }
 
 /// A new image.
-pub fn new_disk(alloc: Global) -> Result<MemDisk, MkfsFault> {
+pub fn new_disk(alloc: Global) -> Result<MemDisk, MkfsFault>
+    ensures { IfOk result (λ disk. ⟦<MemDisk as Disk>⟧.image disk ≡ made_image One SIZE INODES) }
+{
     let mut disk = MemDisk::new(alloc, SIZE)?;
     match mkfs(alloc, &mut disk, SIZE, INODES) {
         Ok(()) => Ok(disk),
