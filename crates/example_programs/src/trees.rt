@@ -6,9 +6,9 @@ ghost use Rattle.names.specs.Ready.{HasNoFile, IsReady, MayGoOn};
 
 use crate::stops::new_disk;
 use blocks::{Disk, MemDisk};
+use calls::transactions::open_pair;
 use names::{ENTRY_SIZE, Tree};
 use std::alloc::Global;
-use transactions::open_pair;
 
 /// Makes a root, and files in it by their paths, finds and removes some, and prints what came of each.
 pub fn print_trees(rt: &impl Print, alloc: Global) -> anyhow::Result<()> {
