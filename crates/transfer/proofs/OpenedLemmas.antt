@@ -1,5 +1,5 @@
 -- What calls come to over a disk that was judged, and recovered as its kernel was opened.
-use Rattle.std.proofs.Common.{◌≡◌, ◌∙◌, ◌<◌, ◌≤◌, ◌⊎◌, ℕ, Bool, true, false, List, Option, None, length, refl, sym, ap, subst, inl, inr, arith}
+use Rattle.std.proofs.Common.{◌≡◌, ◌∙◌, ◌<◌, ◌≤◌, ℕ, Bool, true, false, List, Option, None, length, refl, sym, ap, subst, inl, inr, arith}
 use Rattle.blocks.specs.Calls.{OnlyReads}
 use Rattle.std.specs.Io.KnownBytes.{Appends}
 use Rattle.std.specs.Prelude.{Result, Ok, Err, IfErr, OnOk}
@@ -60,14 +60,16 @@ told_so disk inum bytes sync d e none silent Output why = absurd why.cause
 module _ {D N : Type 0} (disk : Ghosts D N) (inum : Option ℕ) (bytes : List ℕ) (sync : Bool) (d mid : D) (fit : IsFit disk inum (length bytes) d mid) where
   -- ---- no kernel is opened
 
-  pub unopened_then : (e : D) (fault : OpenFault) → IsNotOpenedSole disk mid e fault ⊎ IsNotOpenedPair disk mid e fault → IsUnopenedThen disk inum d e fault
-  unopened_then e fault why = record {
+  pub unopened_then : (e : D) (fault : OpenFault) → (length bytes ≤ transfer_limit → IsNotOpenedPair disk mid e fault) → (transfer_limit < length bytes → IsNotOpenedSole disk mid e fault)
+      → IsUnopenedThen disk inum (length bytes) d e fault
+  unopened_then e fault pair sole = record {
     mid = mid;
     sound = fit.sound;
     plain = fit.room.plain;
     reads = fit.reads;
     faults = fit.faults;
-    unopened = why;
+    pair = pair;
+    sole = sole;
   }
 
   -- ---- calls were made
@@ -91,13 +93,14 @@ module _ {D N : Type 0} (disk : Ghosts D N) (inum : Option ℕ) (bytes : List �
       faults = calls.faults ∙ faults;
     }
 
-    failed_so : (m : Plain D) (cause : DeviceFault) → IsReached disk k m → IsOpenedSole disk mid k ⊎ IsOpenedPair disk mid k → HasFailed disk k m cause → FailsSound disk inum d m.store.volume.device cause
-    failed_so m cause reached which why = record {
+    failed_so : (m : Plain D) (cause : DeviceFault) → IsReached disk k m → (length bytes ≤ transfer_limit → IsOpenedPair disk mid k) → (transfer_limit < length bytes → IsOpenedSole disk mid k) → HasFailed disk k m cause
+        → FailsSound disk inum (length bytes) d m.store.volume.device cause
+    failed_so m cause reached pair sole why = record {
       sound = fit.sound;
       plain = fit.room.plain;
       mid = mid;
       reads = fit.reads;
-      failed = record { first = k; opened = which; last = m; reached = reached; fault = why.is; device = refl };
+      failed = record { first = k; pair = pair; sole = sole; last = m; reached = reached; fault = why.is; device = refl };
       faults = subst (λ (n : ℕ). Rose n (disk.fault_count m.store.volume.device)) faults why.rose;
     }
 
@@ -132,7 +135,7 @@ module _ {D N : Type 0} (disk : Ghosts D N) (inum : Option ℕ) (bytes : List �
       }),
       silent,
     )
-    unwhole_so m none few pair reached silent (Disk cause) why = (inl (failed_so m cause reached (inr pair) why), silent)
+    unwhole_so m none few pair reached silent (Disk cause) why = (inl (failed_so m cause reached (λ small. pair) (λ more. let no : ⊥ = omega (arith, few, more) in absurd no) why), silent)
     unwhole_so m none few pair reached silent r why = absurd why
 
     pub unwritten_so : (m : Plain D) (none : Type 0) → transfer_limit < length bytes → IsOpenedSole disk mid k → IsReached disk k m → none → (r : PutRefusal) → IsUnwritten twice disk inum bytes k m r → IsUnput disk inum bytes sync d m.store.volume.device none r
@@ -149,7 +152,7 @@ module _ {D N : Type 0} (disk : Ghosts D N) (inum : Option ℕ) (bytes : List �
       }),
       silent,
     )
-    unwritten_so m none many sole reached silent (Disk cause) why = (inl (failed_so m cause reached (inl sole) why), silent)
+    unwritten_so m none many sole reached silent (Disk cause) why = (inl (failed_so m cause reached (λ small. let no : ⊥ = omega (arith, many, small) in absurd no) (λ more. sole) why), silent)
     unwritten_so m none many sole reached silent r why = absurd why
 
     -- ---- and then a sync

@@ -1,4 +1,4 @@
-use Rattle.std.proofs.Common.{refl, sym, subst, inl}
+use Rattle.std.proofs.Common.{refl, sym, subst, arith}
 use Rattle.std.specs.Prelude.{◌≡◌}
 use Rattle.blocks.specs.Disk.{AddsNone}
 use Rattle.opening.specs.Lemmas.Keeping.{not_opened_leaves}
@@ -13,7 +13,7 @@ returns-in-Err-clause-refused g c =
 
 pub returns-in-Err-open_sole-clause-refused : goal.returns-in-Err-open_sole-clause-refused
 returns-in-Err-open_sole-clause-refused g c =
-    (unopened_then g.D.Disk c.args.inum c.args.bytes.now c.args.sync c.args.disk c.judge.new.disk c.in-Ok.ensures.fit c.in-Err-open_sole.disk c.in-Err-open_sole.fault (inl c.in-Err-open_sole.ensures.refused), refl)
+    (unopened_then g.D.Disk c.args.inum c.args.bytes.now c.args.sync c.args.disk c.judge.new.disk c.in-Ok.ensures.fit c.in-Err-open_sole.disk c.in-Err-open_sole.fault (λ small. let many = c.requires in let no : ⊥ = omega (arith, many, small) in absurd no) (λ more. c.in-Err-open_sole.ensures.refused), refl)
 
 pub returns-in-Ok-put-clause-put : goal.returns-in-Ok-put-clause-put
 returns-in-Ok-put-clause-put g c =

@@ -1,4 +1,4 @@
-use Rattle.std.proofs.Common.{refl, sym, subst, inr}
+use Rattle.std.proofs.Common.{refl, sym, subst, arith}
 use Rattle.std.specs.Prelude.{◌≡◌}
 use Rattle.blocks.specs.Disk.{AddsNone}
 use Rattle.opening.specs.Lemmas.Keeping.{not_opened_leaves}
@@ -13,7 +13,7 @@ returns-in-Err-clause-refused g c =
 
 pub returns-in-Err-open_pair-clause-refused : goal.returns-in-Err-open_pair-clause-refused
 returns-in-Err-open_pair-clause-refused g c =
-    (unopened_then g.D.Disk c.args.inum c.args.bytes.now c.args.sync c.args.disk c.judge.new.disk c.in-Ok.ensures.fit c.in-Err-open_pair.disk c.in-Err-open_pair.fault (inr c.in-Err-open_pair.ensures.refused), refl)
+    (unopened_then g.D.Disk c.args.inum c.args.bytes.now c.args.sync c.args.disk c.judge.new.disk c.in-Ok.ensures.fit c.in-Err-open_pair.disk c.in-Err-open_pair.fault (λ small. c.in-Err-open_pair.ensures.refused) (λ more. let few = c.requires in let no : ⊥ = omega (arith, few, more) in absurd no), refl)
 
 pub returns-in-Ok-put-clause-put : goal.returns-in-Ok-put-clause-put
 returns-in-Ok-put-clause-put g c =
