@@ -261,11 +261,29 @@ def put_over(call, how, seed=None):
             yield at, None
 
 
+def put_few(call, how, inum, seed=None):
+    """As few bytes as one write moves: the files stay as they were, or all of the bytes are there."""
+    words = ["put", "a.img", "few", *inum, *(["--sync"] if seed else [])]
+    before = {"1": FILES["short"]}
+    after = {**before, inum[0] if inum else "2": FILES["few"]}
+    for at in places(count_calls(words, call, ONE_FILE)):
+        trial = Trial(ONE_FILE, words, call, at, how, power=seed and seed * 1000 + at)
+        whole = trial.run("recover", "a.img").returncode == 0 and trial.checked().startswith("sound")
+        numbers = [line.split()[0] for line in trial.run("ls", "a.img").stdout.decode().splitlines()]
+        files = {number: trial.run("cat", "a.img", number).stdout for number in numbers}
+        if not whole or files not in (before, after):
+            yield at, f"{trial.checked()}, files of {[len(text) for text in files.values()]} bytes"
+        elif trial.status == 0 and files != after:
+            yield at, f"status 0, {len(files)} files"
+        else:
+            yield at, None
+
+
 def syncs():
     """How often a command syncs the file that it writes."""
     for line, over, least, most in [
             ("put a.img short", "a.img", 1, 1), ("put a.img short --no-sync", "a.img", 0, 0),
-            ("put a.img short --sync", "a.img", 8, 100),
+            ("put a.img short --sync", "a.img", 6, 6), ("put a.img long --sync", "a.img", 8, 200),
             ("mkfs a.img 200 32", "a.img.new", 1, 1), ("mkfs a.img 200 32 --no-sync", "a.img.new", 0, 0),
             ("copy a.img b.img", "b.img", 2, 2), ("copy a.img b.img --sync", "b.img", 2, 2),
             ("copy a.img b.img --no-sync", "b.img", 1, 1)]:
@@ -396,6 +414,7 @@ def told_wrong(series, *words):
 
 
 FILES["short"] = bytes(range(256)) * 9
+FILES["few"] = bytes(range(255, -1, -1)) * 12
 FILES["long"] = b"".join(b"%07d\n" % n for n in range(5000))
 STATES = {sync: replayed_states(sync) for sync in (False, True)}
 COUNTS = {(call, sync): count_calls(replay_words(sync), call, BASE)
@@ -425,6 +444,8 @@ SERIES += [(put, call, how) for call in ("write", "lseek") for how in HOWS[call]
 SERIES += [(put, "write", "kill", seed) for seed in (1, 2, 3)] + [(syncs,)]
 SERIES += [(put_over, call, how) for call in ("write", "lseek") for how in HOWS[call]]
 SERIES += [(put_over, "write", "kill", seed) for seed in (1, 2, 3)]
+SERIES += [(put_few, call, how, inum) for inum in ([], ["1"]) for call in ("write", "lseek") for how in HOWS[call]]
+SERIES += [(put_few, "write", "kill", inum, seed) for inum in ([], ["1"]) for seed in (1, 2)]
 with concurrent.futures.ThreadPoolExecutor(os.cpu_count()) as pool:
     found = [line for lines in pool.map(lambda one: told_wrong(*one), SERIES) for line in lines]
 print("\n".join(found + [f"faults: {len(SERIES)} series, {len(found)} ends that are not as they should be"]))
