@@ -1,6 +1,5 @@
 -- An empty directory goes from a tree with its name.
-use Rattle.std.proofs.Common.{◌≡◌, ℕ, Bool, true, false, List, Option, Some, None, refl, sym, ap, subst, ◌∙◌}
-use Rattle.std.proofs.lemmas.Bool.{both_ways}
+use Rattle.std.proofs.Common.{◌≡◌, ℕ, Bool, true, List, Option, Some, sym, ap, subst, ◌∙◌}
 use Rattle.blocks.specs.declared.disk.Disk.{Ghosts}
 use Rattle.model.specs.declared.types.operations.Op.TheVariants.{Remove}
 use Rattle.model.specs.declared.types.operations.Reply.{Reply}
