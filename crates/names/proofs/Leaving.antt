@@ -14,7 +14,7 @@ use Rattle.names.specs.Entries.{lookup}
 use Rattle.names.specs.Inside.{files_seen, form_seen, Answers}
 use Rattle.names.specs.Making.{HasEntered}
 use Rattle.names.specs.TreeChanges.{DropsName}
-use Rattle.names.specs.Trees.{directory_in, number_of, parent_name, IsDirectory, IsDown, IsTree}
+use Rattle.names.specs.Trees.{directory_in, number_of, parent_name, IsDirectory, IsDown, IsEmpty, IsTree}
 use Rattle.names.specs.Walks.{IsDirectoryFound}
 use Rattle.names.specs.Writes.{operation_of, Unlinks}
 use Rattle.names.proofs.Below.{parents_decide}
@@ -47,6 +47,24 @@ down_file files from number name tree is led plain =
       (λ up. plain (parent_is files from number tree is (ap (number_of files from) (sym up) ∙ led))),
     )
 
+-- In a transaction: kernel k looked at the directory, which is e then; b unlinked the name, and d removed its file.
+pub unlinked_drops : {D N : Type 0} (disk : Ghosts D N) (k e b d : Plain D) (from i : ℕ) (name bytes again : List ℕ) (write : EntryWrite) (whole : Bool)
+    (reply : Reply) → IsTree (files_seen disk.image k) → IsDirectory (files_seen disk.image k) from → bytes ≡ directory_in (files_seen disk.image k) from →
+    again ≡ bytes → IsDown name → number_of (files_seen disk.image k) from name ≡ Some i →
+    (IsDirectory (files_seen disk.image k) i → IsEmpty (directory_in (files_seen disk.image k) i)) → files_seen disk.image e ≡ files_seen disk.image k →
+    Unlinks again name write → HasEntered disk.image from write e b whole → b.opening ≡ e.opening → Answers disk.image (Remove i) b d reply →
+    DropsName (files_seen disk.image k) (files_seen disk.image d) from name i × IsTree (files_seen disk.image d)
+unlinked_drops {D} disk k e b d from i name bytes again write whole reply tree is bytes_are again_is down led empty saw unlinks entered opening answers =
+    let fs : Files = files_seen disk.image k in
+    let form : Form = form_seen disk.image e in
+    let first : after form fs (operation_of from write) entered.reply ≡ Some (files_seen disk.image b) =
+    subst (λ (f : Files). after form f (operation_of from write) entered.reply ≡ Some (files_seen disk.image b)) saw entered.answers in
+    let second : after form (files_seen disk.image b) (Remove i) reply ≡ Some (files_seen disk.image d) =
+    subst (λ (o : D). after (form_of (disk.image o)) (files_seen disk.image b) (Remove i) reply ≡ Some (files_seen disk.image d)) opening answers in
+    let all = removes_file_whole form fs (files_seen disk.image b) (files_seen disk.image d) from i name write entered.reply reply tree is down led empty
+    (subst (λ (l : List ℕ). Unlinks l name write) (again_is ∙ bytes_are) unlinks) first second in
+    (all.2, all.3)
+
 -- In a transaction: kernel k looked at the directory, which is a then, and at the file, e; b unlinked it, and d removed it.
 module _ {D N : Type 0} (disk : Ghosts D N) (k a e b d : Plain D) (from number i : ℕ) (name bytes slice again : List ℕ) (found other : Option (List ℕ))
     (write : EntryWrite) (whole : Bool) (reply : Reply) (tree : IsTree (files_seen disk.image k)) (looked : files_seen disk.image a ≡ files_seen disk.image k)
@@ -68,15 +86,8 @@ module _ {D N : Type 0} (disk : Ghosts D N) (k a e b d : Plain D) (from number i
 
   both : DropsName fs (files_seen disk.image d) from name i × IsTree (files_seen disk.image d)
   both =
-      let form : Form = form_seen disk.image e in
-      let first : after form fs (operation_of from write) entered.reply ≡ Some (files_seen disk.image b) =
-      subst (λ (f : Files). after form f (operation_of from write) entered.reply ≡ Some (files_seen disk.image b)) (saw ∙ looked) entered.answers in
-      let second : after form (files_seen disk.image b) (Remove i) reply ≡ Some (files_seen disk.image d) =
-      subst (λ (o : D). after (form_of (disk.image o)) (files_seen disk.image b) (Remove i) reply ≡ Some (files_seen disk.image d)) opening answers in
-      let all = removes_file_whole form fs (files_seen disk.image b) (files_seen disk.image d) from i name write entered.reply reply tree is.0
-      (down_file fs from i name tree is.0 removed_led plain) removed_led (λ it. absurd (plain it))
-      (subst (λ (l : List ℕ). Unlinks l name write) (again_is ∙ is.1) unlinks) first second in
-      (all.2, all.3)
+      unlinked_drops disk k e b d from i name bytes again write whole reply tree is.0 is.1 again_is (down_file fs from i name tree is.0 removed_led plain)
+      removed_led (λ it. absurd (plain it)) (saw ∙ looked) unlinks entered opening answers
 
   pub removed_drops : (n : ℕ) × DropsName fs (files_seen disk.image d) from name n
   removed_drops = (i, both.0)

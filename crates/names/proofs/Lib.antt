@@ -41,5 +41,6 @@ pub mod FileMakes
 pub mod Entering
 pub mod Leading
 pub mod Leaving
+pub mod Emptied
 pub mod Filling
 pub mod RootMaking

@@ -34,6 +34,7 @@ mod removing;
 mod rooting;
 mod tree;
 pub mod tree_laws;
+mod undirecting;
 
 pub use checking::{add_children, is_directory_of};
 pub use directory::is_empty;

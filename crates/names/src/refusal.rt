@@ -30,6 +30,12 @@ pub enum Refusal {
     /// The file is a directory.
     #[error("the file is a directory")]
     IsADirectory,
+    /// Something is in the directory.
+    #[error("the directory is not empty")]
+    NotEmpty,
+    /// The last name is a directory's for itself or for its parent.
+    #[error("the last name does not lead down")]
+    NotDown,
 }
 
 /// Why a call of a tree was not answered.

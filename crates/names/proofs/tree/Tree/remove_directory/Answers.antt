@@ -1,0 +1,10 @@
+use Rattle.names.specs.Undirecting.{IsUnemptiedIn, RemovesDirectoryAt}
+use Rattle.names.specs.Paths.{names_of}
+use Rattle.names.specs.Walks.{IsUndoneIn}
+use Rattle.names.proofs.Transacting.{leaves_files}
+use Rattle.names.proofs.tree.Tree.remove_directory.Goals as goal
+
+pub returns-in-Err-clause-leaves : goal.returns-in-Err-clause-leaves
+returns-in-Err-clause-leaves g c = λ some.
+    leaves_files g.D.Disk (RemovesDirectoryAt (names_of c.args.path.now)) (IsUndoneIn IsUnemptiedIn (names_of c.args.path.now)) c.args.self.now.kernel
+    c.args.self.now.kernel (c.requires.ready some).tree (c.stands.ensures some)
