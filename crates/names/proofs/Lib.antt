@@ -29,6 +29,7 @@ pub mod Parts
 pub mod Going
 pub mod FileLooks
 pub mod SeenLooks
+pub mod PlainFiles
 pub mod Found
 pub mod NumbersDown
 pub mod EntryPaths

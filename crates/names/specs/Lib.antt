@@ -6,6 +6,7 @@ pub mod Ready
 pub mod Walks
 pub mod Making
 pub mod Removing
+pub mod Contents
 pub mod Writes
 pub mod Trees
 pub mod TreeChanges

@@ -18,6 +18,7 @@
 
 mod asking;
 mod checking;
+mod contents;
 mod directing;
 mod directory;
 mod entries;
