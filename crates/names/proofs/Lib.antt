@@ -30,6 +30,7 @@ pub mod Going
 pub mod FileLooks
 pub mod SeenLooks
 pub mod PlainFiles
+pub mod PlainWrites
 pub mod Found
 pub mod NumbersDown
 pub mod EntryPaths

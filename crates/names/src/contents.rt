@@ -140,7 +140,7 @@ impl<D: Disk> Tree<D> {
     }
 
     // Whether the file of a number is a directory.
-    fn is_directory(&mut self, number: u32) -> Result<bool, TreeFault>
+    pub(crate) fn is_directory(&mut self, number: u32) -> Result<bool, TreeFault>
         requires { IsUnderWay D.Disk self.old.kernel self.old.calls_left }
         ensures looks { OnOk result (Looks D.Disk
             self.old.kernel self.new.kernel self.new.calls_left) }

@@ -35,6 +35,7 @@ mod removing;
 mod rooting;
 mod tree;
 pub mod tree_laws;
+mod writing;
 
 pub use checking::{add_children, is_directory_of};
 pub use directory::is_empty;
@@ -48,3 +49,4 @@ pub use name::{NAME_SIZE, Name, NameFault};
 pub use path::{PathFault, names_of};
 pub use refusal::{Refusal, TreeFault};
 pub use tree::Tree;
+pub use writing::Unwritten;
