@@ -29,6 +29,8 @@ pub mod Parts
 pub mod Going
 pub mod FileLooks
 pub mod SeenLooks
+pub mod PlainFiles
+pub mod PlainWrites
 pub mod Found
 pub mod NumbersDown
 pub mod EntryPaths

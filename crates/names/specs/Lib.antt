@@ -7,6 +7,8 @@ pub mod Walks
 pub mod Making
 pub mod Removing
 pub mod Undirecting
+pub mod Contents
+pub mod Writing
 pub mod Writes
 pub mod Trees
 pub mod TreeChanges

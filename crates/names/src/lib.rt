@@ -18,6 +18,7 @@
 
 mod asking;
 mod checking;
+mod contents;
 mod directing;
 mod directory;
 mod entries;
@@ -35,6 +36,7 @@ mod rooting;
 mod tree;
 pub mod tree_laws;
 mod undirecting;
+mod writing;
 
 pub use checking::{add_children, is_directory_of};
 pub use directory::is_empty;
@@ -48,3 +50,4 @@ pub use name::{NAME_SIZE, Name, NameFault};
 pub use path::{PathFault, names_of};
 pub use refusal::{Refusal, TreeFault};
 pub use tree::Tree;
+pub use writing::Unwritten;

@@ -14,7 +14,7 @@ use model::content::Content;
 use model::types::{Op, Reply, TRANSFER_LIMIT};
 
 // The type of a directory.
-const DIRECTORY_KIND: u16 = 1;
+pub(crate) const DIRECTORY_KIND: u16 = 1;
 
 impl<D: Disk> Tree<D> {
     // The bytes of a directory, or none where the file is no directory.

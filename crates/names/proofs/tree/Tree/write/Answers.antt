@@ -1,0 +1,11 @@
+use Rattle.names.specs.Contents.{LeadsToNoPlain}
+use Rattle.names.specs.Inside.{form_seen}
+use Rattle.names.specs.Paths.{names_of}
+use Rattle.names.specs.Writing.{Writes}
+use Rattle.names.proofs.Transacting.{leaves_files}
+use Rattle.names.proofs.tree.Tree.write.Goals as goal
+
+pub returns-in-Err-clause-leaves : goal.returns-in-Err-clause-leaves
+returns-in-Err-clause-leaves g c = λ some.
+    leaves_files g.D.Disk (Writes (form_seen g.D.Disk.image c.args.self.now.kernel) (names_of c.args.path.now) c.args.offset c.args.bytes.now)
+    (LeadsToNoPlain (names_of c.args.path.now)) c.args.self.now.kernel c.args.self.now.kernel (c.requires.ready some).tree (c.stands.ensures some)

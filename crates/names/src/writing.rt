@@ -1,0 +1,216 @@
+// Bytes written into the files of a tree that are no directories.
+ghost use Rattle.std.specs.Prelude.{◌≡◌, ◌==◌, ◌<◌, IfErr, IfOk, OnOk, Ok};
+ghost use Rattle.calls.specs.Calls.{image_on};
+ghost use Rattle.calls.specs.Stopped.{StaysOver};
+ghost use Rattle.model.specs.Files.{files_of};
+ghost use Rattle.model.specs.Operations.{where_true};
+ghost use Rattle.names.specs.Contents.{IsNoPlain, LeadsToNoPlain};
+ghost use Rattle.names.specs.Inside.{files_seen, form_seen, Ends, Goes, IsUnderWay, StaysOn};
+ghost use Rattle.names.specs.Paths.{names_of};
+ghost use Rattle.names.specs.Ready.{Happens, IsUnanswered, IsUndone, LeavesTree, MayGoOn};
+ghost use Rattle.names.specs.Trees.{IsFile, IsTree};
+ghost use Rattle.names.specs.Writing.{written, HasWritten, Writes, WritesOf};
+
+use crate::name::Name;
+use crate::path::names_of;
+use crate::refusal::{Refusal, TreeFault};
+use crate::tree::Tree;
+use blocks::Disk;
+use calls::transactions::TransactionFault;
+use model::content::Content;
+use model::types::{Op, Reply};
+use std::alloc::Global;
+use thiserror::Error;
+
+/// Why a kernel refuses a write into a file. The files are as before, and other calls may be made.
+#[derive(Clone, Copy, Debug, PartialEq, Eq, Error)]
+pub enum Unwritten {
+    /// They are more than 3072 bytes.
+    #[error("too many bytes for one write")]
+    TooLong,
+    /// The offset lies behind the file's end.
+    #[error("the offset lies behind the file's end")]
+    BadOffset,
+    /// The write would end behind the greatest size of a file.
+    #[error("the file would be too large")]
+    TooBig,
+}
+
+impl<D: Disk> Tree<D> {
+    /// Writes bytes into the file at a path from an offset on, 3072 at most: all of them, or none for
+    /// the cause that is returned. Where the disk has no block for all of them, nothing of them is
+    /// kept and `NoCall` is returned; behind it no other call is made.
+    ///
+    /// # Errors
+    ///
+    /// - `Path`: the bytes of the path are none; nothing was done.
+    /// - `Refused`: `NotFound` where a name of the path is not there, `NotADirectory` where a file on
+    ///   it is none, `IsADirectory` where the path leads to one.
+    /// - `Call`, `NoCall`: as every call of a tree.
+    pub fn write(
+        &mut self,
+        alloc: Global,
+        path: &[u8],
+        offset: u32,
+        bytes: &[u8],
+    ) -> Result<Result<(), Unwritten>, TreeFault>
+        requires ready { MayGoOn D.Disk self.old.kernel self.old.calls_left }
+        ensures ready { MayGoOn D.Disk self.new.kernel self.new.calls_left }
+        ensures writes { IfOk result (λ done. Writes (form_seen D.image self.old.kernel)
+            (names_of path.now) offset bytes.now done
+            (files_of (image_on D.image self.old.kernel))
+            (files_of (image_on D.image self.new.kernel))) }
+        ensures refused { IfErr result (IsUndone D.Disk path.now
+            (LeadsToNoPlain (names_of path.now)) self.old.kernel self.new.kernel) }
+        ensures leaves { 0 < self.old.calls_left → LeavesTree D.Disk
+            (Writes (form_seen D.image self.old.kernel) (names_of path.now) offset bytes.now)
+            self.old.kernel self.new.kernel }
+        ensures stays { StaysOver D.Disk self.old.kernel self.new.kernel }
+    {
+        match names_of(alloc, path) {
+            Ok(names) => self.write_named(alloc, names.as_slice(), offset, bytes),
+            Err(fault) => {
+                self.stands();
+                Err(TreeFault::Path(fault))
+            }
+        }
+    }
+
+    // Writes bytes into the file that names lead to.
+    fn write_named(
+        &mut self,
+        alloc: Global,
+        names: &[Name],
+        offset: u32,
+        bytes: &[u8],
+    ) -> Result<Result<(), Unwritten>, TreeFault>
+        requires ready { MayGoOn D.Disk self.old.kernel self.old.calls_left }
+        ensures ready { MayGoOn D.Disk self.new.kernel self.new.calls_left }
+        ensures writes { IfOk result (λ done. Writes (form_seen D.image self.old.kernel)
+            names.now offset bytes.now done
+            (files_of (image_on D.image self.old.kernel))
+            (files_of (image_on D.image self.new.kernel))) }
+        ensures refused { IfErr result (IsUnanswered D.Disk (LeadsToNoPlain names.now)
+            self.old.kernel self.new.kernel) }
+        ensures leaves { 0 < self.old.calls_left → LeavesTree D.Disk
+            (Writes (form_seen D.image self.old.kernel) names.now offset bytes.now)
+            self.old.kernel self.new.kernel }
+        ensures stays { StaysOver D.Disk self.old.kernel self.new.kernel }
+    {
+        if self.calls_left == 0 {
+            return Err(TreeFault::NoCall);
+        }
+        self.begun(alloc)?;
+        let wrote = self.write_at(alloc, names, offset, bytes)?;
+        self.committed()?;
+        match wrote {
+            Ok(done) => Ok(done),
+            Err(refusal) => Err(TreeFault::Refused(refusal)),
+        }
+    }
+
+    // The same in the transaction under way.
+    fn write_at(
+        &mut self,
+        alloc: Global,
+        names: &[Name],
+        offset: u32,
+        bytes: &[u8],
+    ) -> Result<Result<Result<(), Unwritten>, Refusal>, TreeFault>
+        requires way { IsUnderWay D.Disk self.old.kernel self.old.calls_left }
+        requires tree { IsTree (files_seen D.image self.old.kernel) }
+        ensures goes { OnOk result (Goes D.Disk
+            self.old.kernel self.new.kernel self.new.calls_left) }
+        ensures tree { OnOk result (IsTree (files_seen D.image self.new.kernel)) }
+        ensures wrote { IfOk result (Happens
+            (Writes (form_seen D.image self.old.kernel) names.now offset bytes.now)
+            (LeadsToNoPlain names.now)
+            (files_seen D.image self.old.kernel) (files_seen D.image self.new.kernel)) }
+        ensures stays { StaysOn D.Disk self.old.kernel self.new.kernel }
+        ensures ends { IfErr result (Ends D.Disk
+            self.old.kernel self.new.kernel self.new.calls_left) }
+    {
+        match self.walk(names)? {
+            Ok(number) => self.write_of(alloc, number, offset, bytes),
+            Err(refusal) => Ok(Err(refusal)),
+        }
+    }
+
+    // Writes bytes into the file of a number.
+    fn write_of(
+        &mut self,
+        alloc: Global,
+        number: u32,
+        offset: u32,
+        bytes: &[u8],
+    ) -> Result<Result<Result<(), Unwritten>, Refusal>, TreeFault>
+        requires way { IsUnderWay D.Disk self.old.kernel self.old.calls_left }
+        requires tree { IsTree (files_seen D.image self.old.kernel) }
+        requires there { IsFile (files_seen D.image self.old.kernel) number }
+        ensures goes { OnOk result (Goes D.Disk
+            self.old.kernel self.new.kernel self.new.calls_left) }
+        ensures tree { OnOk result (IsTree (files_seen D.image self.new.kernel)) }
+        ensures wrote { IfOk result (Happens
+            (WritesOf (form_seen D.image self.old.kernel) number offset bytes.now)
+            (IsNoPlain number)
+            (files_seen D.image self.old.kernel) (files_seen D.image self.new.kernel)) }
+        ensures stays { StaysOn D.Disk self.old.kernel self.new.kernel }
+        ensures ends { IfErr result (Ends D.Disk
+            self.old.kernel self.new.kernel self.new.calls_left) }
+    {
+        if self.is_directory(number)? {
+            return Ok(Err(Refusal::IsADirectory));
+        }
+        let Some(done) = self.write_called(alloc, number, offset, bytes)? else {
+            // What was written of them is never committed.
+            self.calls_left = 0;
+            return Err(TreeFault::NoCall);
+        };
+        Ok(Ok(done))
+    }
+
+    // Makes one write. What its reply tells.
+    fn write_called(
+        &mut self,
+        alloc: Global,
+        number: u32,
+        offset: u32,
+        bytes: &[u8],
+    ) -> Result<Option<Result<(), Unwritten>>, TreeFault>
+        requires { IsUnderWay D.Disk self.old.kernel self.old.calls_left }
+        ensures goes { OnOk result (Goes D.Disk
+            self.old.kernel self.new.kernel self.new.calls_left) }
+        ensures written { IfOk result (HasWritten D.image number offset bytes.now
+            self.old.kernel self.new.kernel) }
+        ensures stays { StaysOn D.Disk self.old.kernel self.new.kernel }
+        ensures ends { IfErr result (Ends D.Disk
+            self.old.kernel self.new.kernel self.new.calls_left) }
+    {
+        let Ok(content) = Content::copy_of(alloc, bytes) else {
+            self.calls_left = 0;
+            return Err(TreeFault::Call(TransactionFault::NoMemory));
+        };
+        let reply = self.called(Op::Write(number, offset, content))?;
+        Ok(written(&reply, bytes.len()))
+    }
+}
+
+// What a reply tells of a write of so many bytes; none where only some were written.
+fn written(reply: &Reply, size: usize) -> Option<Result<(), Unwritten>>
+    ensures { result ≡ written reply.now size }
+{
+    match reply {
+        Reply::Wrote(count) => all_of(*count as usize, size),
+        Reply::TooLong => Some(Err(Unwritten::TooLong)),
+        Reply::BadOffset => Some(Err(Unwritten::BadOffset)),
+        Reply::TooBig => Some(Err(Unwritten::TooBig)),
+        _ => None,
+    }
+}
+
+// Whether so many bytes are all of them.
+fn all_of(count: usize, size: usize) -> Option<Result<(), Unwritten>>
+    ensures { result ≡ where_true (count == size) (Ok tt) }
+{
+    if count == size { Some(Ok(())) } else { None }
+}
