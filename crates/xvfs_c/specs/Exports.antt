@@ -7,6 +7,7 @@ use Rattle.ports.specs.declared.herald.PlainHerald.{PlainHerald}
 use Rattle.ports.specs.declared.queues.QueueIntake.{QueueIntake}
 use Rattle.history.specs.Processes.{process}
 use Rattle.ports.specs.Queues.{OthersWait, answers, polled, waiting}
+use Rattle.model.specs.declared.types.operations.Answer.{Answer}
 use Rattle.model.specs.declared.types.operations.Op.{Op}
 use Rattle.model.specs.declared.types.operations.Op.TheVariants.{Create, Write, Read, Trunc, Remove, Stat}
 use Rattle.kernel.specs.Steps.{MakesStep}
@@ -14,6 +15,8 @@ use Rattle.model.specs.declared.types.operations.Step.{Step}
 use Rattle.mirrors.specs.declared.disk.MirrorDisk.{MirrorDisk}
 use Rattle.sessions.specs.declared.session.Session.{Session}
 use Rattle.sessions.specs.Session.{image_of, intake_of}
+use Rattle.xvfs_c.specs.Numbers.{TellsAnswer, step_number}
+use Rattle.xvfs_c.specs.declared.report.XvfsAnswer.{XvfsAnswer}
 use Rattle.xvfs_c.specs.declared.report.XvfsOp.{XvfsOp}
 use Rattle.xvfs_c.specs.declared.report.XvfsStep.{XvfsStep}
 
@@ -34,6 +37,7 @@ pub record TellsStep {N M : Type 0} (disk : disk_trait.Ghosts MirrorDisk N)
     (pid : ℕ) (out : XvfsStep) (block : List ℕ) (s t : Session) : Type 0 where
   pub step : Step
   pub makes : MakesStep disk intake herald pid step s.kernel t.kernel
+  pub told : (out.step, out.why) ≡ step_number step
   pub unwritten : out.wrote ≡ 0 → image_of t ≡ image_of s
   pub inside : out.wrote ≡ 1 → out.block < length (image_of t)
   pub written : out.wrote ≡ 1 → image_of t ≡ slice_set (image_of s) out.block block
@@ -74,3 +78,12 @@ pub record KeepsQueues (p : ℕ) (s t : Session) : Type 0 where
 -- the session was told that no operation begins any more
 abbrev pub Shuts : Session → Session → Type 0
 Shuts s t = t.kernel ≡ record s.kernel { world = record s.kernel.world { is_shut = true } }
+
+-- process p's oldest answer was taken, and told to C
+pub record GivesAnswer (p : ℕ) (out : XvfsAnswer) (old new : List ℕ) (s t : Session)
+    : Type 0 where
+  pub answer : Answer
+  pub oldest : answers (intake_of s) p ≡ answer ∷ answers (intake_of t) p
+  pub told : TellsAnswer answer out old new
+  pub waits : waiting (intake_of t) p ≡ waiting (intake_of s) p
+  pub keeps : KeepsKernel p s t

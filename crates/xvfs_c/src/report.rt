@@ -1,5 +1,8 @@
 // The structs and the numbers that C sees: of a refusal, 256 times its layer and its number there,
 // as the program prints them.
+ghost use Rattle.std.specs.Prelude.{◌≡◌};
+ghost use Rattle.xvfs_c.specs.Numbers.{reply_number, step_number, why_number};
+
 use kernel::Step;
 use layout::MkfsFault;
 use model::types::{CheckFault, Reply, Why};
@@ -120,7 +123,10 @@ pub fn open_number(refusal: OpenRefusal) -> u32 {
     }
 }
 
-pub fn step_number(step: Step) -> (u32, u32) {
+/// The number of a step's answer, and that of why it sleeps.
+pub fn step_number(step: Step) -> (u32, u32)
+    ensures { result ≡ step_number step }
+{
     match step {
         Step::Moved => (0, 0),
         Step::Answered => (1, 0),
@@ -132,7 +138,9 @@ pub fn step_number(step: Step) -> (u32, u32) {
     }
 }
 
-fn why_number(why: Why) -> u32 {
+fn why_number(why: Why) -> u32
+    ensures { result ≡ why_number why }
+{
     match why {
         Why::Committing => 1,
         Why::LogFull => 2,
@@ -144,7 +152,9 @@ fn why_number(why: Why) -> u32 {
 }
 
 /// The number of a reply, and what it carries.
-pub fn reply_number(reply: &Reply) -> (u32, u32, u32) {
+pub fn reply_number(reply: &Reply) -> (u32, u32, u32)
+    ensures { result ≡ reply_number reply.now }
+{
     match reply {
         Reply::Made(inum) => (0, *inum, 0),
         Reply::Wrote(count) => (1, *count, 0),
