@@ -1,0 +1,5 @@
+pub mod Past
+pub mod Noted
+pub mod Mirror
+pub mod Writes
+pub mod Lemmas

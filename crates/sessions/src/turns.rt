@@ -1,0 +1,168 @@
+// The calls of a session.
+ghost use Rattle.std.specs.Prelude.{◌≡◌, ◌≢◌, ◌⊎◌, ◌<◌, ◌≤◌, ◌+◌, ◌^◌, ◌∷◌, ◌++◌, [], length, true, IfOk, IfErr, OnErr, None, option_to_list};
+ghost use Rattle.blocks.specs.Disk.{block_at};
+ghost use Rattle.history.specs.Processes.{process};
+ghost use Rattle.kernel.specs.Steps.{MakesStep};
+ghost use Rattle.mirrors.specs.Writes.{TellsWrite};
+ghost use Rattle.model.specs.declared.types.operations.Step.TheVariants as step;
+ghost use Rattle.ports.specs.History.{first_in};
+ghost use Rattle.ports.specs.Lanes.{polled_after};
+ghost use Rattle.ports.specs.Queues.{OthersWait, answers, polled, waiting};
+ghost use Rattle.sessions.specs.Refusal.{IsRefusal};
+ghost use Rattle.sessions.specs.Session.{OpensOver, disk_of, image_of, intake_of, processes_of, writes_of};
+
+use crate::refusal::{OpenRefusal, refusal_of};
+use crate::session::{Session, Stepped};
+use blocks::{BLOCK_SIZE, Disk};
+use kernel::Kernel;
+use mirrors::MirrorDisk;
+use model::types::{Answer, Op};
+use ports::{Herald, Intake, PlainHerald, QueueIntake};
+use std::alloc::Global;
+
+impl Session {
+    /// Opens a kernel of so many processes over a copy of these bytes: checks their image and
+    /// recovers it. `writes` then answers the writes of the recovery, 0 where no block of the log
+    /// waited to be copied home.
+    ///
+    /// # Errors
+    ///
+    /// In this order: `Length` where the bytes are not 1 to 8191 blocks of 1024; `Processes` where
+    /// there are not 1 to 32; `Check` with the fault of the image. `NoMemory`, and
+    /// `Check(CheckFault::NoMemory)`, where the allocator refuses memory.
+    pub fn open(alloc: Global, image: &[u8], processes: u32) -> Result<Session, OpenRefusal>
+        ensures opened { IfOk result
+            (λ s. OpensOver ⟦<MirrorDisk as Disk>⟧ image.now processes s) }
+        ensures refused { IfErr result (IsRefusal image.now processes) }
+    {
+        let count = image.len() / BLOCK_SIZE;
+        if image.len() % BLOCK_SIZE != 0 || count == 0 || count > 8191 {
+            return Err(OpenRefusal::Length);
+        }
+        if processes == 0 || processes > 32 {
+            return Err(OpenRefusal::Processes);
+        }
+        let Ok(disk) = MirrorDisk::over(alloc, image, count as u32) else {
+            return Err(OpenRefusal::NoMemory);
+        };
+        let Ok(intake) = QueueIntake::new(alloc, processes) else {
+            return Err(OpenRefusal::NoMemory);
+        };
+        match Kernel::open(alloc, disk, intake, PlainHerald::new(), processes) {
+            Ok(kernel) => Ok(Session { kernel }),
+            Err((fault, _disk)) => Err(refusal_of(fault)),
+        }
+    }
+
+    /// How many processes there are.
+    pub fn processes(&self) -> usize
+        ensures { result ≡ processes_of self.now }
+    {
+        self.kernel.processes()
+    }
+
+    /// The number of writes since the session was opened, those of its recovery included. It stays
+    /// at its limit.
+    pub fn writes(&self) -> u64
+        ensures { result ≡ writes_of self.now }
+    {
+        self.kernel.disk().writes()
+    }
+
+    /// How many groups of operations a stop keeps.
+    pub fn committed(&self) -> u64
+        ensures { result ≡ self.now.kernel.store.volume.log.committed }
+    {
+        self.kernel.committed()
+    }
+
+    /// Hands an operation of a process in, behind those that wait, and answers how many the process
+    /// handed in by now. Hands it back where 16 wait, or 2^64 - 1 were handed in.
+    pub fn submit(&mut self, pid: u32, op: Op) -> Result<u64, Op>
+        requires { pid < processes_of self.old }
+        ensures ok { IfOk result (λ _. waiting (intake_of self.new) pid
+            ≡ waiting (intake_of self.old) pid ++ op ∷ []) }
+        ensures number { IfOk result (λ n. (length (waiting (intake_of self.old) pid) < 16)
+            × (n ≡ (process self.old.kernel.world pid).begun
+            + length (waiting (intake_of self.new) pid))) }
+        ensures full { OnErr result ((16 ≤ length (waiting (intake_of self.old) pid))
+            ⊎ ((process self.old.kernel.world pid).begun
+            + length (waiting (intake_of self.old) pid) + 1 ≡ 2 ^ 64)) }
+        ensures back { IfErr result (λ other. (other ≡ op)
+            × (waiting (intake_of self.new) pid ≡ waiting (intake_of self.old) pid)) }
+        ensures answers { (answers (intake_of self.new) pid ≡ answers (intake_of self.old) pid)
+            × (polled (intake_of self.new) pid ≡ polled (intake_of self.old) pid) }
+        ensures others { OthersWait (intake_of self.old) (intake_of self.new) pid }
+        ensures same { self.new.kernel
+            ≡ record self.old.kernel { intake = intake_of self.new } }
+    {
+        self.kernel.submit(pid, op)
+    }
+
+    /// Takes the oldest answer of a process.
+    pub fn poll(&mut self, pid: u32) -> Option<Answer>
+        requires { pid < processes_of self.old }
+        ensures oldest { result ≡ first_in (answers (intake_of self.old) pid) }
+        ensures answers { answers (intake_of self.old) pid
+            ≡ option_to_list result ++ answers (intake_of self.new) pid }
+        ensures polled { polled (intake_of self.new) pid
+            ≡ polled_after result (polled (intake_of self.old) pid) }
+        ensures waiting { waiting (intake_of self.new) pid ≡ waiting (intake_of self.old) pid }
+        ensures others { OthersWait (intake_of self.old) (intake_of self.new) pid }
+        ensures same { self.new.kernel
+            ≡ record self.old.kernel { intake = intake_of self.new } }
+    {
+        self.kernel.poll(pid)
+    }
+
+    /// No operation begins from now on. Those that began go on to their end.
+    pub fn shut(&mut self)
+        ensures { self.new.kernel ≡ record self.old.kernel {
+          world = record self.old.kernel.world { is_shut = true };
+        } }
+    {
+        self.kernel.shut();
+    }
+
+    /// One step of a process, and the block that it wrote: the image is then the one of before with
+    /// that block as it is now. Where it tells none, the image is as it was.
+    ///
+    /// The step is as the kernel promises of one: what it does, how the kernel goes on, and what a
+    /// stop in it or behind it leaves. It is never `Halted`.
+    pub fn step(&mut self, pid: u32) -> Stepped
+        requires pid { pid < processes_of self.old }
+        requires few { writes_of self.old < 2 ^ 63 }
+        ensures step { MakesStep ⟦<MirrorDisk as Disk>⟧ ⟦<QueueIntake as Intake>⟧
+            ⟦<PlainHerald as Herald>⟧ pid result.step self.old.kernel self.new.kernel }
+        ensures wrote { TellsWrite result.wrote (image_of self.old) (image_of self.new) }
+        ensures goes_on { result.step ≢ step.Halted }
+    {
+        let before = self.kernel.disk().writes();
+        let step = self.kernel.step(pid);
+        let disk = self.kernel.disk();
+        let wrote = if disk.writes() == before {
+            None
+        } else {
+            Some(disk.last())
+        };
+        Stepped { step, wrote }
+    }
+
+    /// The 1024 bytes of the block with this number, counted from 0.
+    pub fn block(&self, block: u32) -> &[u8]
+        requires { block < length (image_of self.now) }
+        ensures value { result.now ≡ block_at (image_of self.now) block }
+        ensures size { length result.now ≡ 1024 }
+    {
+        let disk = self.kernel.disk();
+        disk.block(block)
+    }
+
+    /// Ends the session: the disk as it is. What was not committed is lost, as by a stop.
+    pub fn close(self) -> MirrorDisk
+        ensures { result ≡ disk_of self }
+    {
+        let Session { kernel, .. } = self;
+        kernel.into_disk()
+    }
+}

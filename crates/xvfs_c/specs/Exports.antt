@@ -1,0 +1,89 @@
+-- What the exports promise C of a session behind a handle.
+use Rattle.std.specs.Prelude.{◌≡◌, ◌<◌, ◌+◌, ◌∷◌, ◌++◌, [], ℕ, true, List, length, slice_set, Option, Some, None}
+use Rattle.blocks.specs.declared.disk.Disk as disk_trait
+use Rattle.ports.specs.declared.herald.Herald as herald_trait
+use Rattle.ports.specs.declared.intake.Intake as intake_trait
+use Rattle.ports.specs.declared.herald.PlainHerald.{PlainHerald}
+use Rattle.ports.specs.declared.queues.QueueIntake.{QueueIntake}
+use Rattle.history.specs.Processes.{process}
+use Rattle.ports.specs.Queues.{OthersWait, answers, polled, waiting}
+use Rattle.model.specs.declared.types.operations.Answer.{Answer}
+use Rattle.model.specs.declared.types.operations.Op.{Op}
+use Rattle.model.specs.declared.types.operations.Op.TheVariants.{Create, Write, Read, Trunc, Remove, Stat}
+use Rattle.kernel.specs.Steps.{MakesStep}
+use Rattle.model.specs.declared.types.operations.Step.{Step}
+use Rattle.mirrors.specs.declared.disk.MirrorDisk.{MirrorDisk}
+use Rattle.sessions.specs.declared.session.Session.{Session}
+use Rattle.sessions.specs.Session.{image_of, intake_of}
+use Rattle.xvfs_c.specs.Numbers.{TellsAnswer, step_number}
+use Rattle.xvfs_c.specs.declared.report.XvfsAnswer.{XvfsAnswer}
+use Rattle.xvfs_c.specs.declared.report.XvfsOp.{XvfsOp}
+use Rattle.xvfs_c.specs.declared.report.XvfsStep.{XvfsStep}
+
+-- both handles hold a session, and these are related so
+abbrev pub Both : (Session → Session → Type 0) → Option Session → Option Session → Type 0
+Both R None after = ⊥
+Both R (Some s) None = ⊥
+Both R (Some s) (Some t) = R s t
+
+-- the handle holds the session that it held
+abbrev pub Stays : Option Session → Option Session → Type 0
+Stays = Both (λ s t. t ≡ s)
+
+-- The step of a process that the kernel promises, and what C is told of it: the image is that of
+-- before with one block as it was handed out, or as it was where none was.
+pub record TellsStep {N M : Type 0} (disk : disk_trait.Ghosts MirrorDisk N)
+    (intake : intake_trait.Ghosts QueueIntake M) (herald : herald_trait.Ghosts PlainHerald)
+    (pid : ℕ) (out : XvfsStep) (block : List ℕ) (s t : Session) : Type 0 where
+  pub step : Step
+  pub makes : MakesStep disk intake herald pid step s.kernel t.kernel
+  pub told : (out.step, out.why) ≡ step_number step
+  pub unwritten : out.wrote ≡ 0 → image_of t ≡ image_of s
+  pub inside : out.wrote ≡ 1 → out.block < length (image_of t)
+  pub written : out.wrote ≡ 1 → image_of t ≡ slice_set (image_of s) out.block block
+  pub committed : out.committed ≡ t.kernel.store.volume.log.committed
+
+-- C's operation, with these bytes beside it, is that one
+abbrev pub IsOperation : XvfsOp → List ℕ → Op → Type 0
+IsOperation o bytes (Create kind) = (o.kind ≡ 0) × (kind ≡ o.inum)
+IsOperation o bytes (Write i offset content) =
+    (o.kind ≡ 1) × (i ≡ o.inum) × (offset ≡ o.offset) × (content ≡ bytes)
+IsOperation o bytes (Read i offset len) =
+    (o.kind ≡ 2) × (i ≡ o.inum) × (offset ≡ o.offset) × (len ≡ o.len)
+IsOperation o bytes (Trunc i) = (o.kind ≡ 3) × (i ≡ o.inum)
+IsOperation o bytes (Remove i) = (o.kind ≡ 4) × (i ≡ o.inum)
+IsOperation o bytes (Stat i) = (o.kind ≡ 5) × (i ≡ o.inum)
+
+-- the sessions differ in their queues at most, and there alone in those of process p
+pub record KeepsKernel (p : ℕ) (s t : Session) : Type 0 where
+  pub others : OthersWait (intake_of s) (intake_of t) p
+  pub kernel : t.kernel ≡ record s.kernel { intake = intake_of t }
+
+-- process p handed an operation in, as C passed it, and was told its number
+pub record HandsIn (p : ℕ) (o : XvfsOp) (bytes : List ℕ) (seq : ℕ) (s t : Session) : Type 0 where
+  pub op : Op
+  pub is : IsOperation o bytes op
+  pub waits : waiting (intake_of t) p ≡ waiting (intake_of s) p ++ op ∷ []
+  pub answers : answers (intake_of t) p ≡ answers (intake_of s) p
+  pub number : seq ≡ (process s.kernel.world p).begun + length (waiting (intake_of t) p)
+  pub keeps : KeepsKernel p s t
+
+-- process p's queues are as they were
+pub record KeepsQueues (p : ℕ) (s t : Session) : Type 0 where
+  pub waits : waiting (intake_of t) p ≡ waiting (intake_of s) p
+  pub answers : answers (intake_of t) p ≡ answers (intake_of s) p
+  pub polled : polled (intake_of t) p ≡ polled (intake_of s) p
+  pub keeps : KeepsKernel p s t
+
+-- the session was told that no operation begins any more
+abbrev pub Shuts : Session → Session → Type 0
+Shuts s t = t.kernel ≡ record s.kernel { world = record s.kernel.world { is_shut = true } }
+
+-- process p's oldest answer was taken, and told to C
+pub record GivesAnswer (p : ℕ) (out : XvfsAnswer) (old new : List ℕ) (s t : Session)
+    : Type 0 where
+  pub answer : Answer
+  pub oldest : answers (intake_of s) p ≡ answer ∷ answers (intake_of t) p
+  pub told : TellsAnswer answer out old new
+  pub waits : waiting (intake_of t) p ≡ waiting (intake_of s) p
+  pub keeps : KeepsKernel p s t

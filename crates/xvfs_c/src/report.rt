@@ -1,0 +1,171 @@
+// The structs and the numbers that C sees: of a refusal, 256 times its layer and its number there,
+// as the program prints them.
+ghost use Rattle.std.specs.Prelude.{◌≡◌};
+ghost use Rattle.xvfs_c.specs.Numbers.{reply_number, step_number, why_number};
+
+use kernel::Step;
+use layout::MkfsFault;
+use model::types::{CheckFault, Reply, Why};
+use sessions::OpenRefusal;
+use wal::RecoverFault;
+
+/// The bytes are not a whole number of blocks, from 1 to 8191.
+pub const LENGTH: u32 = 258;
+
+/// The session made 2 to the power of 63 writes.
+pub const WRITES: u32 = 1536 + 5;
+
+/// There is no process of that number.
+pub const PROCESS: u32 = 1536 + 1;
+
+/// The block that is to be filled has not 1024 bytes.
+pub const BLOCK: u32 = 1536 + 4;
+
+/// 16 operations of the process wait.
+pub const FULL: u32 = 1536 + 2;
+
+/// No operation has that number, or no file that type.
+pub const OPERATION: u32 = 1536 + 3;
+
+/// Memory was refused.
+pub const MEMORY: u32 = 1536 + 6;
+
+/// No answer waits.
+pub const NONE: u32 = 1536 + 7;
+
+/// What a check found.
+#[repr(C)]
+#[derive(Clone, Copy)]
+pub struct XvfsReport {
+    pub fault: u32,
+    pub at: u32,
+    pub form: u32,
+    pub size: u32,
+    pub nblocks: u32,
+    pub ninodes: u32,
+    pub logged: u32,
+    pub files: u32,
+}
+
+/// An operation. The bytes of a write are passed beside it.
+#[repr(C)]
+#[derive(Clone, Copy)]
+pub struct XvfsOp {
+    pub kind: u32,
+    pub inum: u32,
+    pub offset: u32,
+    pub len: u32,
+}
+
+/// What a step did.
+#[repr(C)]
+#[derive(Clone, Copy)]
+pub struct XvfsStep {
+    pub step: u32,
+    pub why: u32,
+    pub wrote: u32,
+    pub block: u32,
+    pub committed: u64,
+}
+
+/// An answer. The bytes of a read are passed beside it.
+#[repr(C)]
+#[derive(Clone, Copy)]
+pub struct XvfsAnswer {
+    pub seq: u64,
+    pub group: u64,
+    pub reply: u32,
+    pub value: u32,
+    pub size: u32,
+    pub len: u32,
+}
+
+pub fn check_number(fault: CheckFault) -> (u32, u32) {
+    match fault {
+        CheckFault::BadMagic => (769, 0),
+        CheckFault::BadGeometry => (770, 0),
+        CheckFault::BadLog => (771, 0),
+        CheckFault::BadType(i) => (772, i),
+        CheckFault::BadSize(i) => (773, i),
+        CheckFault::BadAddress(i) => (774, i),
+        CheckFault::TwiceUsed(b) => (775, b),
+        CheckFault::UsedButFree(b) => (776, b),
+        CheckFault::LostBlock(b) => (777, b),
+        CheckFault::Disk => (778, 0),
+        CheckFault::NoMemory => (779, 0),
+    }
+}
+
+pub fn recover_number(fault: RecoverFault) -> u32 {
+    match fault {
+        RecoverFault::Disk => 1025,
+        RecoverFault::BadLog => 1026,
+        RecoverFault::NoMemory => 1027,
+        RecoverFault::Sync => 1028,
+    }
+}
+
+pub fn mkfs_number(fault: MkfsFault) -> u32 {
+    match fault {
+        MkfsFault::SizeRange => 513,
+        MkfsFault::InodeRange => 514,
+        MkfsFault::Disk => 515,
+        MkfsFault::NoMemory => 516,
+    }
+}
+
+pub fn open_number(refusal: OpenRefusal) -> u32 {
+    match refusal {
+        OpenRefusal::Length => LENGTH,
+        OpenRefusal::NoMemory => 1283,
+        OpenRefusal::Check(fault) => check_number(fault).0,
+        OpenRefusal::Processes => 1284,
+    }
+}
+
+/// The number of a step's answer, and that of why it sleeps.
+pub fn step_number(step: Step) -> (u32, u32)
+    ensures { result ≡ step_number step }
+{
+    match step {
+        Step::Moved => (0, 0),
+        Step::Answered => (1, 0),
+        Step::Sleeping(why) => (2, why_number(why)),
+        Step::Idle => (3, 0),
+        Step::NoMemory => (4, 0),
+        Step::ShutDown => (5, 0),
+        Step::Halted => (6, 0),
+    }
+}
+
+fn why_number(why: Why) -> u32
+    ensures { result ≡ why_number why }
+{
+    match why {
+        Why::Committing => 1,
+        Why::LogFull => 2,
+        Why::InodeHeld => 3,
+        Why::BufferHeld => 4,
+        Why::NoBuffer => 5,
+        Why::AnswersFull => 6,
+    }
+}
+
+/// The number of a reply, and what it carries.
+pub fn reply_number(reply: &Reply) -> (u32, u32, u32)
+    ensures { result ≡ reply_number reply.now }
+{
+    match reply {
+        Reply::Made(inum) => (0, *inum, 0),
+        Reply::Wrote(count) => (1, *count, 0),
+        Reply::Bytes(_) => (2, 0, 0),
+        Reply::Done => (3, 0, 0),
+        Reply::StatOf(kind, size) => (4, *kind as u32, *size),
+        Reply::NoInode => (5, 0, 0),
+        Reply::NoFile => (6, 0, 0),
+        Reply::BadOffset => (7, 0, 0),
+        Reply::TooBig => (8, 0, 0),
+        Reply::TooLong => (9, 0, 0),
+        Reply::BadType => (10, 0, 0),
+    }
+}
