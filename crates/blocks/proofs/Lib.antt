@@ -1,4 +1,5 @@
 pub mod BlockLemmas
 mod Kept
+mod LastLemmas
 mod HeldLemmas
 mod TrapLemmas

@@ -4,3 +4,4 @@ pub mod Blocks
 pub mod Moments
 pub mod Held
 pub mod Reads
+pub mod Writes

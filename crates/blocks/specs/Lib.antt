@@ -5,6 +5,8 @@ pub mod Past
 pub mod Moments
 pub mod Held
 pub mod Images
+pub mod Told
+pub mod Memory
 pub mod Trap
 pub mod FaultyDisk
 pub mod File

@@ -342,6 +342,7 @@ fn write_through<F: Write + Seek>(file: &mut F, block: u32, from: &Block) -> io:
 }
 
 impl<F: Write + Seek + OpenFile + Drop> Disk for FileDisk<F> {
+    ghost use Rattle.blocks.specs.Memory.{writes_fit};
     ghost use Rattle.blocks.specs.FileDisk.{file_of};
 
     type Name = bool;
@@ -366,7 +367,7 @@ impl<F: Write + Seek + OpenFile + Drop> Disk for FileDisk<F> {
 
     ghost leaves_images = { λ d. left_whole d.holds d.copy.blocks.items d.shadow d.shadowed };
 
-    ghost counts_fit = { λ d. (d.copy.writes_fit, d.faults_fit, d.copy.syncs_fit) };
+    ghost counts_fit = { λ d. (writes_fit d.copy, d.faults_fit, d.copy.syncs_fit) };
 
     ghost counts_now = { λ d t x le left.
         shadow_now d.holds d.copy.blocks.items d.shadow d.shadowed t x left };

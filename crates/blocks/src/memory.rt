@@ -1,32 +1,39 @@
 // A disk in memory, whose reads and writes never fail.
-ghost use Rattle.std.specs.Prelude.{◌≡◌, ◌<◌, ◌^◌, length, replicate, slice_get, false, refl, IfOk, Some};
+ghost use Rattle.std.specs.Prelude.{◌≡◌, ◌<◌, ◌*◌, ◌^◌, length, replicate, slice_get, false, refl, IfOk, Some};
+ghost use Rattle.std.specs.Simd.{first_chunks};
 ghost use Rattle.std.proofs.Common.{inl, lit<};
 ghost use Rattle.blocks.specs.Block.{zero_block};
-ghost use Rattle.blocks.specs.Disk.{IsImage};
+ghost use Rattle.blocks.specs.Disk.{IsImage, block_at};
 ghost use Rattle.blocks.specs.Images.{AreImages, HasLeft, only_last, has_left-image};
+ghost use Rattle.blocks.specs.Told.{IsCounted, IsLast};
 
 use crate::past::Past;
 use crate::{BLOCK_SIZE, Block, Disk, DiskFault, NoMemory, SyncFault};
 use std::alloc::Global;
 
 /// A disk in memory. Its reads and writes never fail, and it is gone with the program: what a
-/// crash leaves is a matter of contracts alone.
+/// crash leaves is a matter of contracts alone. It tells which block was written last, so that its
+/// user can carry each write to a disk of his own.
 #[derive(Drop)]
 pub struct MemDisk {
     alloc: Global,
     size: u32,
     blocks: Vec<[u8; BLOCK_SIZE]>,
     past: Past,
+    last: u32,
     writes: u64,
     syncs: u64,
     ghost sized: { size ≡ length blocks.items },
     ghost is_image: { IsImage blocks.items },
     ghost were_images: { AreImages past },
-    ghost writes_fit: { writes < 2 ^ 64 },
+    ghost counted: { IsCounted past writes },
+    ghost is_last: { IsLast past last blocks.items },
     ghost syncs_fit: { syncs < 2 ^ 64 },
 }
 
 impl MemDisk {
+    ghost use Rattle.blocks.specs.Memory.{last_of};
+
     /// A disk of this many blocks of 1024 bytes, all of them zero.
     ///
     /// # Errors
@@ -42,6 +49,40 @@ impl MemDisk {
         Ok(MemDisk::of(alloc, zeroed_blocks(alloc, size)?, size))
     }
 
+    /// A disk with a copy of these bytes, which are `size` blocks of 1024. Nothing was written to
+    /// it, and it was not synced.
+    ///
+    /// # Errors
+    ///
+    /// `NoMemory` where the allocator refuses the memory that they take, all in one piece.
+    pub fn over(alloc: Global, image: &[u8], size: u32) -> Result<MemDisk, NoMemory>
+        requires size { length image.now ≡ size * 1024 }
+        ensures image { IfOk result
+            (λ disk. ⟦<MemDisk as Disk>⟧.image disk ≡ first_chunks 1024 size image.now) }
+        ensures writes { IfOk result (λ disk. ⟦<MemDisk as Disk>⟧.write_count disk ≡ 0) }
+        ensures syncs { IfOk result (λ disk. ⟦<MemDisk as Disk>⟧.sync_count disk ≡ 0) }
+    {
+        let (blocks, _rest) = image.as_chunks::<BLOCK_SIZE>();
+        let blocks = Vec::from_slice(alloc, blocks)?;
+        Ok(MemDisk::of(alloc, blocks, size))
+    }
+
+    /// The number of the block that was written last, counted from 0; 0 where none was.
+    pub fn last(&self) -> u32
+        ensures { result ≡ last_of self.now }
+    {
+        self.last
+    }
+
+    /// The 1024 bytes of the block with this number, counted from 0.
+    pub fn block(&self, block: u32) -> &[u8]
+        requires { block < length (⟦<MemDisk as Disk>⟧.image self.now) }
+        ensures value { result.now ≡ block_at (⟦<MemDisk as Disk>⟧.image self.now) block }
+        ensures size { length result.now ≡ 1024 }
+    {
+        &self.blocks[block as usize]
+    }
+
     // A disk of these blocks, to which nothing was written.
     pub(crate) fn of(alloc: Global, blocks: Vec<[u8; BLOCK_SIZE]>, size: u32) -> MemDisk
         requires sized { size ≡ length blocks.items }
@@ -55,6 +96,7 @@ impl MemDisk {
             size,
             blocks,
             past: Past::new(),
+            last: 0,
             writes: 0,
             syncs: 0,
         }
@@ -107,6 +149,8 @@ pub(crate) fn read_block(blocks: &Vec<[u8; BLOCK_SIZE]>, block: u32, into: &mut 
 }
 
 impl Disk for MemDisk {
+    ghost use Rattle.blocks.specs.Memory.{writes_fit};
+
     type Name = ();
 
     ghost name = { λ d. tt };
@@ -130,7 +174,7 @@ impl Disk for MemDisk {
     ghost leaves_images = { λ d t x left.
         has_left-image d.past d.blocks.items t x d.were_images d.is_image left };
 
-    ghost counts_fit = { λ d. (d.writes_fit, lit< tt, d.syncs_fit) };
+    ghost counts_fit = { λ d. (writes_fit d, lit< tt, d.syncs_fit) };
 
     ghost counts_now = { λ d t x le left. inl (only_last d.past d.blocks.items x left) };
 
@@ -166,6 +210,7 @@ impl Disk for MemDisk {
     fn write(&mut self, block: u32, from: &Block) -> Result<(), DiskFault> {
         self.past.remember(self.alloc, &mut self.blocks);
         self.blocks[block as usize].copy_from_slice(from.as_slice());
+        self.last = block;
         self.writes = self.writes.saturating_add(1);
         Ok(())
     }
@@ -173,5 +218,31 @@ impl Disk for MemDisk {
     fn sync(&mut self) -> Result<(), SyncFault> {
         self.syncs = self.syncs.saturating_add(1);
         Ok(())
+    }
+}
+
+#[cfg(test)]
+mod tests {
+    use super::*;
+
+    #[test]
+    fn tells_the_last_write(rt: HostRuntime) {
+        let alloc = rt.alloc();
+        let image = [7; 2048];
+        let Ok(mut disk) = MemDisk::over(alloc, &image, 2) else {
+            panic!(rt; "no memory");
+        };
+        assert_eq!(rt; disk.size(), 2);
+        assert_eq!(rt; disk.last(), 0);
+        let Ok(block) = Block::zeroed(alloc) else {
+            panic!(rt; "no memory");
+        };
+        assert!(rt; disk.write(1, &block).is_ok());
+        assert_eq!(rt; disk.last(), 1);
+        assert_eq!(rt; disk.writes(), 1);
+        assert_eq!(rt; disk.block(0)[1023], 7);
+        assert_eq!(rt; disk.block(1)[1023], 0);
+        assert!(rt; disk.sync().is_ok());
+        assert_eq!(rt; disk.syncs(), 1);
     }
 }

@@ -6,10 +6,10 @@ use Rattle.blocks.specs.declared.disk.Disk.{Ghosts}
 use Rattle.ports.specs.declared.herald.PlainHerald.{PlainHerald}
 use Rattle.ports.specs.declared.queues.QueueIntake.{QueueIntake}
 use Rattle.kernel.specs.Opening.{IsOpened}
-use Rattle.mirrors.specs.declared.disk.MirrorDisk.{MirrorDisk}
+use Rattle.blocks.specs.declared.memory.MemDisk.{MemDisk}
 use Rattle.sessions.specs.declared.session.Session.{Session}
 
-abbrev pub disk_of : Session → MirrorDisk
+abbrev pub disk_of : Session → MemDisk
 disk_of s = s.kernel.store.volume.device
 
 -- the blocks of its disk
@@ -27,9 +27,9 @@ abbrev pub processes_of : Session → ℕ
 processes_of s = length s.kernel.world.processes
 
 -- It was opened with so many processes over a new disk with these bytes.
-pub record OpensOver {N : Type 0} (disk : Ghosts MirrorDisk N) (bytes : List ℕ) (processes : ℕ)
+pub record OpensOver {N : Type 0} (disk : Ghosts MemDisk N) (bytes : List ℕ) (processes : ℕ)
     (s : Session) : Type 0 where
-  pub device : MirrorDisk
+  pub device : MemDisk
   pub intake : QueueIntake
   pub herald : PlainHerald
   pub count : ℕ

@@ -1,8 +1,8 @@
 // The types of a session.
 ghost use Rattle.std.specs.Prelude.{◌≡◌, None};
 
+use blocks::MemDisk;
 use kernel::{Kernel, Step};
-use mirrors::MirrorDisk;
 use ports::{PlainHerald, QueueIntake};
 
 /// What a step did.
@@ -18,6 +18,6 @@ pub struct Stepped {
 /// write back, so no step is `Halted`.
 #[derive(Drop)]
 pub struct Session {
-    pub(crate) kernel: Kernel<MirrorDisk, QueueIntake, PlainHerald>,
+    pub(crate) kernel: Kernel<MemDisk, QueueIntake, PlainHerald>,
     ghost faultless: { kernel.store.volume.fault ≡ None },
 }

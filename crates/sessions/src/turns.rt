@@ -1,9 +1,9 @@
 // The calls of a session.
 ghost use Rattle.std.specs.Prelude.{◌≡◌, ◌≢◌, ◌⊎◌, ◌<◌, ◌≤◌, ◌+◌, ◌^◌, ◌∷◌, ◌++◌, [], length, true, IfOk, IfErr, OnErr, None, option_to_list};
 ghost use Rattle.blocks.specs.Disk.{block_at};
+ghost use Rattle.blocks.specs.Told.{TellsWrite};
 ghost use Rattle.history.specs.Processes.{process};
 ghost use Rattle.kernel.specs.Steps.{MakesStep};
-ghost use Rattle.mirrors.specs.Writes.{TellsWrite};
 ghost use Rattle.model.specs.declared.types.operations.Step.TheVariants as step;
 ghost use Rattle.ports.specs.History.{first_in};
 ghost use Rattle.ports.specs.Lanes.{polled_after};
@@ -13,9 +13,8 @@ ghost use Rattle.sessions.specs.Session.{OpensOver, disk_of, image_of, intake_of
 
 use crate::refusal::{OpenRefusal, refusal_of};
 use crate::session::{Session, Stepped};
-use blocks::{BLOCK_SIZE, Disk};
+use blocks::{BLOCK_SIZE, Disk, MemDisk};
 use kernel::Kernel;
-use mirrors::MirrorDisk;
 use model::types::{Answer, Op};
 use ports::{Herald, Intake, PlainHerald, QueueIntake};
 use std::alloc::Global;
@@ -32,7 +31,7 @@ impl Session {
     /// `Check(CheckFault::NoMemory)`, where the allocator refuses memory.
     pub fn open(alloc: Global, image: &[u8], processes: u32) -> Result<Session, OpenRefusal>
         ensures opened { IfOk result
-            (λ s. OpensOver ⟦<MirrorDisk as Disk>⟧ image.now processes s) }
+            (λ s. OpensOver ⟦<MemDisk as Disk>⟧ image.now processes s) }
         ensures refused { IfErr result (IsRefusal image.now processes) }
     {
         let count = image.len() / BLOCK_SIZE;
@@ -42,7 +41,7 @@ impl Session {
         if processes == 0 || processes > 32 {
             return Err(OpenRefusal::Processes);
         }
-        let Ok(disk) = MirrorDisk::over(alloc, image, count as u32) else {
+        let Ok(disk) = MemDisk::over(alloc, image, count as u32) else {
             return Err(OpenRefusal::NoMemory);
         };
         let Ok(intake) = QueueIntake::new(alloc, processes) else {
@@ -132,7 +131,7 @@ impl Session {
     pub fn step(&mut self, pid: u32) -> Stepped
         requires pid { pid < processes_of self.old }
         requires few { writes_of self.old < 2 ^ 63 }
-        ensures step { MakesStep ⟦<MirrorDisk as Disk>⟧ ⟦<QueueIntake as Intake>⟧
+        ensures step { MakesStep ⟦<MemDisk as Disk>⟧ ⟦<QueueIntake as Intake>⟧
             ⟦<PlainHerald as Herald>⟧ pid result.step self.old.kernel self.new.kernel }
         ensures wrote { TellsWrite result.wrote (image_of self.old) (image_of self.new) }
         ensures goes_on { result.step ≢ step.Halted }
@@ -159,7 +158,7 @@ impl Session {
     }
 
     /// Ends the session: the disk as it is. What was not committed is lost, as by a stop.
-    pub fn close(self) -> MirrorDisk
+    pub fn close(self) -> MemDisk
         ensures { result ≡ disk_of self }
     {
         let Session { kernel, .. } = self;

@@ -12,7 +12,7 @@ use Rattle.model.specs.declared.types.operations.Op.{Op}
 use Rattle.model.specs.declared.types.operations.Op.TheVariants.{Create, Write, Read, Trunc, Remove, Stat}
 use Rattle.kernel.specs.Steps.{MakesStep}
 use Rattle.model.specs.declared.types.operations.Step.{Step}
-use Rattle.mirrors.specs.declared.disk.MirrorDisk.{MirrorDisk}
+use Rattle.blocks.specs.declared.memory.MemDisk.{MemDisk}
 use Rattle.sessions.specs.declared.session.Session.{Session}
 use Rattle.sessions.specs.Session.{image_of, intake_of}
 use Rattle.xvfs_c.specs.Numbers.{TellsAnswer, step_number}
@@ -32,7 +32,7 @@ Stays = Both (λ s t. t ≡ s)
 
 -- The step of a process that the kernel promises, and what C is told of it: the image is that of
 -- before with one block as it was handed out, or as it was where none was.
-pub record TellsStep {N M : Type 0} (disk : disk_trait.Ghosts MirrorDisk N)
+pub record TellsStep {N M : Type 0} (disk : disk_trait.Ghosts MemDisk N)
     (intake : intake_trait.Ghosts QueueIntake M) (herald : herald_trait.Ghosts PlainHerald)
     (pid : ℕ) (out : XvfsStep) (block : List ℕ) (s t : Session) : Type 0 where
   pub step : Step

@@ -2,9 +2,8 @@
 ghost use Rattle.std.specs.Prelude.{◌≡◌, ◌*◌, length, IfSome};
 
 use crate::report::{LENGTH, XvfsReport, check_number, mkfs_number, recover_number};
-use blocks::{BLOCK_SIZE, Disk};
+use blocks::{BLOCK_SIZE, Disk, MemDisk};
 use layout::Form;
-use mirrors::MirrorDisk;
 use offline::{check, mkfs_as};
 use std::alloc::Global;
 use wal::recover;
@@ -21,7 +20,7 @@ fn blocks_of(image: &[u8]) -> Option<u32>
 }
 
 // Writes the blocks of a disk into the caller's memory.
-fn store(disk: &MirrorDisk, image: &mut [u8]) {
+fn store(disk: &MemDisk, image: &mut [u8]) {
     let (blocks, _rest) = image.as_chunks_mut::<BLOCK_SIZE>();
     for (b, into) in blocks.iter_mut().enumerate() {
         if b < disk.size() as usize {
@@ -35,7 +34,7 @@ pub extern "C" fn xvfs_check(alloc: Global, image: &[u8], out: &mut XvfsReport) 
     let Some(count) = blocks_of(image) else {
         return LENGTH;
     };
-    let Ok(mut disk) = MirrorDisk::over(alloc, image, count) else {
+    let Ok(mut disk) = MemDisk::over(alloc, image, count) else {
         return 779;
     };
     match check(alloc, &mut disk) {
@@ -69,7 +68,7 @@ pub extern "C" fn xvfs_mkfs(alloc: Global, image: &mut [u8], ninodes: u32, form:
     let Some(count) = blocks_of(image) else {
         return LENGTH;
     };
-    let Ok(mut disk) = MirrorDisk::over(alloc, image, count) else {
+    let Ok(mut disk) = MemDisk::over(alloc, image, count) else {
         return 516;
     };
     let form = if form == 2 { Form::Two } else { Form::One };
@@ -85,7 +84,7 @@ pub extern "C" fn xvfs_recover(alloc: Global, image: &mut [u8], recovered: &mut 
     let Some(count) = blocks_of(image) else {
         return LENGTH;
     };
-    let Ok(mut disk) = MirrorDisk::over(alloc, image, count) else {
+    let Ok(mut disk) = MemDisk::over(alloc, image, count) else {
         return 1027;
     };
     let sup = match check(alloc, &mut disk) {

@@ -1,9 +1,8 @@
--- A write is noted.
+-- A write is the last.
 use Rattle.std.proofs.Common.{◌≡◌, ℕ, ◌-◌, ◌<◌, List, [], ◌∷◌, ◌++◌, length, refl, sym, ◌∙◌, ap, subst, arith, length-append, length-set}
 use Rattle.std.specs.Prelude.{slice_index_or, slice_set}
-use Rattle.blocks.specs.Common.{get_or-set_same}
-use Rattle.blocks.specs.Disk.{Image}
-use Rattle.mirrors.specs.Noted.{IsWritten, IsNoted}
+use Rattle.blocks.specs.Common.{get_or-set_same, Image}
+use Rattle.blocks.specs.Told.{IsWritten, IsLast}
 
 pushed : (past : List Image) (y : Image) (n : ℕ) → n ≡ length past → slice_index_or (past ++ y ∷ []) n [] ≡ y
 pushed past y n is = ap (λ (k : ℕ). slice_index_or (past ++ y ∷ []) k []) is ∙ behind past y
@@ -19,8 +18,8 @@ set_is_written : (x : Image) (b : ℕ) (bytes : List ℕ) → b < length x → I
 set_is_written x b bytes lt = ap (λ (y : List ℕ). slice_set x b y) (sym (get_or-set_same x b bytes [] lt))
 
 -- the block that is written is the last
-pub noted-push : (past later : List Image) (x : Image) (b : ℕ) (bytes : List ℕ) → b < length x → later ≡ past ++ x ∷ [] → IsNoted later b (slice_set x b bytes)
-noted-push past later x b bytes lt is some = (
+pub last-push : (past later : List Image) (x : Image) (b : ℕ) (bytes : List ℕ) → b < length x → later ≡ past ++ x ∷ [] → IsLast later b (slice_set x b bytes)
+last-push past later x b bytes lt is some = (
   omega (arith, lt, length-set x b bytes),
   subst (λ (y : Image). IsWritten y b (slice_set x b bytes)) (sym (ap (λ (l : List Image). slice_index_or l (length l - 1) []) is ∙ last_pushed past x)) (set_is_written x b bytes lt),
 )

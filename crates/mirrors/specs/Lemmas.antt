@@ -1,3 +1,0 @@
--- What follows from the definitions: the lemmas that the proofs of this crate and of those above it
--- use.
-pub mod Writes
