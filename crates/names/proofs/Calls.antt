@@ -60,15 +60,20 @@ short_keeps image k m write op reply is_op short size calls =
     let as_op = subst (λ (o : Op). Calls image o k m reply) is_op calls in
     unwritten (form_of (image_on image k)) (files_of (image_on image k)) (files_of (image_on image m)) write.place write.entry reply size short as_op.files
 
+-- the bytes that were read are those that the write is over
+bytes_written : (x y : Image) (bytes : List ℕ) (write : EntryWrite) → HasDirectory x bytes → (writes : WritesEntry write x y) → bytes ≡ writes.file.bytes
+bytes_written x y bytes write directory writes =
+    let both : Some directory.file ≡ Some writes.file = sym directory.is ∙ writes.was in
+    let one : directory.file ≡ writes.file = cc both in
+    sym directory.bytes_are ∙ ap (λ (f : File). f.bytes) one
+
 -- the write of a link over the bytes that were read links the name
 pub links_name : (x mid y : Image) (bytes name : List ℕ) (number : ℕ) (write : EntryWrite) → HasDirectory x bytes → mid ≡ x →
     Links bytes name number write → lookup (written bytes write) name ≡ Some number → KeepsOthers name bytes (written bytes write) →
     WritesEntry write mid y → LinksName name number x y
 links_name x mid y bytes name number write directory same links leads others wrote =
     let writes = subst (λ (i : Image). WritesEntry write i y) same wrote in
-    let both : Some directory.file ≡ Some writes.file = sym directory.is ∙ writes.was in
-    let one : directory.file ≡ writes.file = cc both in
-    let bytes_are : bytes ≡ writes.file.bytes = sym directory.bytes_are ∙ ap (λ (f : File). f.bytes) one in
+    let bytes_are = bytes_written x y bytes write directory writes in
     record {
       write = write;
       writes = writes;
@@ -87,9 +92,7 @@ pub unlinks_name : (x mid y : Image) (bytes name : List ℕ) (write : EntryWrite
     WritesEntry write mid y → UnlinksName name x y
 unlinks_name x mid y bytes name write directory same unlinks gone others wrote =
     let writes = subst (λ (i : Image). WritesEntry write i y) same wrote in
-    let both : Some directory.file ≡ Some writes.file = sym directory.is ∙ writes.was in
-    let one : directory.file ≡ writes.file = cc both in
-    let bytes_are : bytes ≡ writes.file.bytes = sym directory.bytes_are ∙ ap (λ (f : File). f.bytes) one in
+    let bytes_are = bytes_written x y bytes write directory writes in
     record {
       write = write;
       writes = writes;

@@ -17,6 +17,7 @@
 #![tactic(auto)]
 
 mod asking;
+mod changing;
 mod checking;
 mod contents;
 mod directing;
