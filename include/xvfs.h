@@ -115,8 +115,8 @@ uint32_t xvfs_recover(uint8_t *image, size_t len, uint32_t *recovered);
 
 /* Opens a kernel of 1 to 32 processes over a copy of the image, which it checks and recovers. The
  * host's device must hold these bytes; recover them first, so that `*writes`, the writes of that
- * recovery, is 0. On a refusal the handle stays closed. The memory is the image's and about
- * 50 to 100 KiB. */
+ * recovery, is 0. On a refusal the handle stays closed, and `*writes` is as it was. The memory is the
+ * image's and about 50 to 100 KiB. */
 uint32_t xvfs_open(xvfs *fs, const uint8_t *image, size_t len, uint32_t processes, uint64_t *writes);
 
 /* Operations, by inode number. */

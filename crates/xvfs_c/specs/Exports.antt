@@ -1,5 +1,5 @@
 -- What the exports promise C of a session behind a handle.
-use Rattle.std.specs.Prelude.{◌≡◌, ◌<◌, ◌+◌, ◌∷◌, ◌++◌, [], ℕ, true, List, length, slice_set, Option, Some, None}
+use Rattle.std.specs.Prelude.{◌≡◌, ◌≢◌, ◌⊎◌, ◌<◌, ◌≤◌, ◌+◌, ◌^◌, ◌∷◌, ◌++◌, [], ℕ, true, List, length, slice_set, Option, Some, None}
 use Rattle.blocks.specs.declared.disk.Disk as disk_trait
 use Rattle.ports.specs.declared.herald.Herald as herald_trait
 use Rattle.ports.specs.declared.intake.Intake as intake_trait
@@ -14,7 +14,7 @@ use Rattle.kernel.specs.Steps.{MakesStep}
 use Rattle.model.specs.declared.types.operations.Step.{Step}
 use Rattle.blocks.specs.declared.memory.MemDisk.{MemDisk}
 use Rattle.sessions.specs.declared.session.Session.{Session}
-use Rattle.sessions.specs.Session.{image_of, intake_of}
+use Rattle.sessions.specs.Session.{image_of, intake_of, processes_of, writes_of}
 use Rattle.xvfs_c.specs.Numbers.{TellsAnswer, step_number}
 use Rattle.xvfs_c.specs.declared.report.XvfsAnswer.{XvfsAnswer}
 use Rattle.xvfs_c.specs.declared.report.XvfsOp.{XvfsOp}
@@ -38,10 +38,17 @@ pub record TellsStep {N M : Type 0} (disk : disk_trait.Ghosts MemDisk N)
   pub step : Step
   pub makes : MakesStep disk intake herald pid step s.kernel t.kernel
   pub told : (out.step, out.why) ≡ step_number step
+  pub flag : (out.wrote ≡ 0) ⊎ (out.wrote ≡ 1)
   pub unwritten : out.wrote ≡ 0 → image_of t ≡ image_of s
   pub inside : out.wrote ≡ 1 → out.block < length (image_of t)
   pub written : out.wrote ≡ 1 → image_of t ≡ slice_set (image_of s) out.block block
   pub committed : out.committed ≡ t.kernel.store.volume.log.committed
+
+-- that number says why process p makes no step
+abbrev pub RefusesStep : ℕ → List ℕ → ℕ → Session → Type 0
+RefusesStep p block number s = ((number ≡ 1537) × (processes_of s ≤ p))
+    ⊎ ((number ≡ 1540) × (p < processes_of s) × (length block ≢ 1024))
+    ⊎ ((number ≡ 1541) × (p < processes_of s) × (2 ^ 63 ≤ writes_of s))
 
 -- C's operation, with these bytes beside it, is that one
 abbrev pub IsOperation : XvfsOp → List ℕ → Op → Type 0
@@ -67,6 +74,24 @@ pub record HandsIn (p : ℕ) (o : XvfsOp) (bytes : List ℕ) (seq : ℕ) (s t : 
   pub answers : answers (intake_of t) p ≡ answers (intake_of s) p
   pub number : seq ≡ (process s.kernel.world p).begun + length (waiting (intake_of t) p)
   pub keeps : KeepsKernel p s t
+
+-- that number says why C's operation means none: there is none of that kind, or no such type, or
+-- memory was refused for the bytes of a write
+abbrev pub MeansNone : XvfsOp → ℕ → Type 0
+MeansNone o number = ((number ≡ 1539) × ((5 < o.kind) ⊎ ((o.kind ≡ 0) × (65535 < o.inum))))
+    ⊎ ((number ≡ 1542) × (o.kind ≡ 1))
+
+-- that number says why an operation of process p isn't handed in; it is full where 16 wait, or where
+-- 2^64 - 1 were handed in
+abbrev pub RefusesOperation : ℕ → ℕ → Session → Type 0
+RefusesOperation p number s = ((number ≡ 1537) × (processes_of s ≤ p))
+    ⊎ ((number ≡ 1538) × (p < processes_of s) × ((16 ≤ length (waiting (intake_of s) p))
+    ⊎ ((process s.kernel.world p).begun + length (waiting (intake_of s) p) + 1 ≡ 2 ^ 64)))
+
+-- that number says why process p is given no answer
+abbrev pub RefusesAnswer : ℕ → ℕ → Session → Type 0
+RefusesAnswer p number s = ((number ≡ 1537) × (processes_of s ≤ p))
+    ⊎ ((number ≡ 1543) × (p < processes_of s) × (answers (intake_of s) p ≡ []))
 
 -- process p's queues are as they were
 pub record KeepsQueues (p : ℕ) (s t : Session) : Type 0 where

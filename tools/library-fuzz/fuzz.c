@@ -1,0 +1,439 @@
+/*
+ * Random operations of up to four processes over the library, each run with the script and the schedule
+ * of its turns, and with what `xvfs replay` has to print for them. The device has only the writes that
+ * were told, and some runs stop before one. Of the library's calls for memory some are refused, and the
+ * call that says so is made again.
+ *
+ * fuzz FOLDER SEED RUNS   writes for each run K the files K.script, K.schedule, K.words (size, inode
+ *                         numbers, form, the write to stop before or 0), K.printed and K.img
+ * fuzz refuse SEED        one run, again and again, each with another call for memory refused
+ * fuzz numbers            each refusal that can be had has the number that xvfs.h says
+ *
+ * It is linked with --wrap=malloc and --wrap=realloc, so that the library's calls come here.
+ */
+#include <stdarg.h>
+#include <stdio.h>
+#include <stdlib.h>
+#include <string.h>
+
+#include "xvfs.h"
+
+#define MOST_BLOCKS 300u
+#define PROCESSES 4u
+#define MOST_OPS 40u
+#define MOST_TURNS 3000u
+
+static uint8_t device[MOST_BLOCKS * XVFS_BLOCK_SIZE], block[XVFS_BLOCK_SIZE], bytes[8192];
+static size_t device_size;
+
+/* Random numbers, the same for the same seed. */
+
+static uint64_t state;
+
+static uint32_t below(uint32_t bound) {
+    state ^= state << 13;
+    state ^= state >> 7;
+    state ^= state << 17;
+    return (uint32_t)(state >> 33) % bound;
+}
+
+/* Memory: which of the library's calls for it is refused. */
+
+static unsigned long asked, refuse_at, refusals;
+static unsigned refuse_one_in; /* 0: none */
+static uint64_t refusing = 1;
+
+void *__real_malloc(size_t size);
+void *__real_realloc(void *old, size_t size);
+void *__wrap_malloc(size_t size);
+void *__wrap_realloc(void *old, size_t size);
+
+static int is_refused(void) {
+    asked += 1;
+    refusing = refusing * 6364136223846793005u + 1442695040888963407u;
+    if (asked != refuse_at && !(refuse_one_in && (refusing >> 33) % refuse_one_in == 0)) return 0;
+    refusals += 1;
+    return 1;
+}
+
+void *__wrap_malloc(size_t size) { return is_refused() ? NULL : __real_malloc(size); }
+void *__wrap_realloc(void *old, size_t size) {
+    return is_refused() ? NULL : __real_realloc(old, size);
+}
+
+static void fail(const char *what, uint32_t number) {
+    fprintf(stderr, "fuzz: %s: %x\n", what, number);
+    exit(1);
+}
+
+/* Makes a call again while it is refused memory. */
+#define REPEAT(number, memory, call) \
+    do number = (call); while (number == (memory) && number)
+
+static void must_check(xvfs_report *report) {
+    uint32_t number;
+    REPEAT(number, XVFS_CHECK_MEMORY, xvfs_check(device, device_size, report));
+    if (number) fail("the device isn't sound", number);
+}
+
+/* A run: its operations, and how far each process is. */
+
+struct process {
+    unsigned count, given, answered;
+    struct { xvfs_op op; uint32_t size; } ops[MOST_OPS];
+};
+
+static struct process processes[PROCESSES];
+static uint32_t process_count, size, ninodes, form, stop;
+static unsigned long writes, told, stops, operations;
+static uint64_t committed;
+static FILE *script, *schedule, *printed;
+
+static void say(const char *format, ...) {
+    va_list given;
+    if (!printed) return;
+    va_start(given, format);
+    vfprintf(printed, format, given);
+    va_end(given);
+}
+
+static void say_bytes(FILE *file, const uint8_t *from, size_t count) {
+    if (!file) return;
+    for (size_t k = 0; k < count; k++) fprintf(file, "%02x", from[k]);
+    if (!count) fputc('-', file);
+}
+
+/* The bytes of an operation's write, which are the same each time. */
+static void fill(uint32_t p, unsigned number, uint32_t count) {
+    for (uint32_t k = 0; k < count; k++) bytes[k] = (uint8_t)(p * 59 + number * 17 + k % 251 + 1);
+}
+
+static void make_op(uint32_t p) {
+    struct process *process = &processes[p];
+    unsigned number = process->count++;
+    xvfs_op *op = &process->ops[number].op;
+    uint32_t kind = below(10), longest = below(8) ? 3072 : 4096;
+    *op = (xvfs_op){kind < 6 ? kind : kind < 8 ? XVFS_WRITE : XVFS_CREATE, 1 + below(7), 0, 0};
+    process->ops[number].size = 0;
+    if (number == 0 || op->kind == XVFS_CREATE) {
+        *op = (xvfs_op){XVFS_CREATE, below(12) ? 1 + below(3) : 4 + below(9), 0, 0};
+        if (script) fprintf(script, "%u create %u\n", p, op->inum);
+    } else if (op->kind == XVFS_WRITE) {
+        uint32_t count = below(longest + 1);
+        op->offset = below(3) ? 0 : below(6) ? below(15000) : 270000 + below(9000);
+        process->ops[number].size = count;
+        fill(p, number, count);
+        if (script) fprintf(script, "%u write %u %u ", p, op->inum, op->offset);
+        say_bytes(script, bytes, count);
+        if (script) fputc('\n', script);
+    } else if (op->kind == XVFS_READ) {
+        op->offset = below(3) ? below(4000) : below(300000);
+        op->len = below(longest + 1);
+        if (script) fprintf(script, "%u read %u %u %u\n", p, op->inum, op->offset, op->len);
+    } else if (script) {
+        const char *name = op->kind == XVFS_TRUNC ? "trunc" : op->kind == XVFS_REMOVE ? "remove" : "stat";
+        fprintf(script, "%u %s %u\n", p, name, op->inum);
+    }
+}
+
+/* Hands operations of a process in, as long as there is room. */
+static void hand_in(xvfs *fs, uint32_t p) {
+    struct process *process = &processes[p];
+    while (process->given < process->count) {
+        unsigned number = process->given;
+        uint32_t count = process->ops[number].size, refused;
+        uint64_t seq = 0;
+        fill(p, number, count);
+        REPEAT(refused, XVFS_SUBMIT_MEMORY,
+               xvfs_submit(fs, p, &process->ops[number].op, bytes, count, &seq));
+        if (refused == XVFS_FULL) return;
+        if (refused || seq != number + 1) fail("an operation is refused", refused);
+        process->given += 1;
+    }
+}
+
+static void say_answer(uint32_t p, const xvfs_answer *a) {
+    static const char *refused[] = {"1 NoFile", "2 BadOffset", "3 TooBig", "4 TooLong", "5 BadType"};
+    say("%u answered %llu %llu ", p, (unsigned long long)a->seq, (unsigned long long)a->group);
+    switch (a->reply) {
+    case XVFS_MADE: say("made %u\n", a->value); break;
+    case XVFS_WROTE: say("wrote %u\n", a->value); break;
+    case XVFS_BYTES:
+        say("bytes ");
+        say_bytes(printed, bytes, a->len);
+        say("\n");
+        break;
+    case XVFS_DONE: say("done\n"); break;
+    case XVFS_STAT_OF: say("stat %u %u\n", a->value, a->size); break;
+    case XVFS_NO_INODE: say("noinode\n"); break;
+    default: say("refused %s\n", refused[a->reply - XVFS_NO_FILE]);
+    }
+}
+
+/* One step of a process: 1 where it moved, 0 where it didn't, -1 where its write is the one to stop
+ * before. With `is_word` a line is printed also where it moved. */
+static int step(xvfs *fs, uint32_t p, int is_word) {
+    xvfs_stepped stepped;
+    uint32_t refused;
+    hand_in(fs, p);
+    do {
+        refused = xvfs_step(fs, p, &stepped, block, sizeof block);
+        if (refused) fail("a step is refused", refused);
+    } while (stepped.step == XVFS_STEP_MEMORY);
+    if (stepped.wrote) {
+        if (writes + 1 == stop) {
+            say("stopped before write %u\n", stop);
+            return -1;
+        }
+        writes += 1;
+        memcpy(device + stepped.block * XVFS_BLOCK_SIZE, block, sizeof block);
+    }
+    committed = stepped.committed;
+    if (stepped.step == XVFS_MOVED) {
+        if (is_word) say("%u moved\n", p);
+        return 1;
+    }
+    if (stepped.step == XVFS_ANSWERED) {
+        xvfs_answer answer;
+        refused = xvfs_poll(fs, p, &answer, bytes, sizeof bytes);
+        if (refused) fail("no answer", refused);
+        say_answer(p, &answer);
+        processes[p].answered += 1;
+        operations += 1;
+    } else if (stepped.step == XVFS_SLEEPING) {
+        static const char *why[] = {"Committing", "LogFull", "InodeHeld", "BufferHeld", "NoBuffer",
+                                    "AnswersFull"};
+        say("%u sleeping %u %s\n", p, stepped.why, why[stepped.why - 1]);
+    } else if (stepped.step == XVFS_IDLE) {
+        say("%u idle\n", p);
+    } else if (stepped.step == XVFS_SHUT_DOWN) {
+        say("%u shutdown\n", p);
+    } else {
+        fail("a step is", stepped.step);
+    }
+    return 0;
+}
+
+/* A word of the schedule: a step of a process, or its steps until one doesn't move. Whether to go on. */
+static int turn(xvfs *fs) {
+    uint32_t p = below(process_count), is_whole = below(5) == 0;
+    int went;
+    if (schedule) fprintf(schedule, is_whole ? "%u!\n" : "%u\n", p);
+    do went = step(fs, p, !is_whole); while (went == 1 && is_whole);
+    return went >= 0;
+}
+
+static int is_done(void) {
+    for (uint32_t p = 0; p < process_count; p++)
+        if (processes[p].answered < processes[p].count) return 0;
+    return 1;
+}
+
+/* A run of a seed, from a new image to the device that it leaves. */
+static void run(uint64_t seed) {
+    xvfs fs = XVFS_CLOSED_HANDLE;
+    xvfs_report report;
+    uint64_t opening;
+    uint32_t refused;
+    state = seed * 0x9e3779b97f4a7c15u + 88172645463325252u;
+    below(2);
+    size = 45 + below(MOST_BLOCKS - 45 + 1);
+    ninodes = 2 + below(20);
+    form = 1 + below(2);
+    process_count = 1 + below(PROCESSES);
+    stop = below(2) ? 1 + below(150) : 0;
+    writes = committed = 0;
+    memset(processes, 0, sizeof processes);
+    device_size = size * XVFS_BLOCK_SIZE;
+    memset(device, 0, device_size);
+    REPEAT(refused, XVFS_MKFS_MEMORY, xvfs_mkfs(device, device_size, ninodes, form));
+    if (refused) fail("mkfs", refused);
+    for (uint32_t p = 0; p < process_count; p++)
+        for (unsigned k = 1 + below(MOST_OPS - 1); k > 0; k--) make_op(p);
+    do refused = xvfs_open(&fs, device, device_size, process_count, &opening);
+    while (refused == XVFS_OPEN_MEMORY || refused == XVFS_CHECK_MEMORY);
+    if (refused || opening) fail("open", refused);
+    unsigned most = MOST_TURNS, shut_at = below(4) ? MOST_TURNS : below(200), turns = 0;
+    int goes_on = 1;
+    for (; goes_on && turns < most && !is_done(); turns++) {
+        if (turns == shut_at) {
+            xvfs_shut(&fs);
+            if (schedule) fprintf(schedule, "S\n");
+            say("shut\n");
+            most = turns + 100;
+        }
+        goes_on = turn(&fs);
+        if (turns % 16 == 0) must_check(&report);
+    }
+    say("writes %lu\ncommitted %llu\n", writes, (unsigned long long)committed);
+    told += writes;
+    stops += !goes_on;
+    xvfs_close(&fs);
+    must_check(&report);
+}
+
+static FILE *file_of(const char *folder, unsigned k, const char *part) {
+    char path[4096];
+    snprintf(path, sizeof path, "%s/%u.%s", folder, k, part);
+    FILE *file = fopen(path, "w");
+    if (!file) fail("a file can't be written", k);
+    return file;
+}
+
+static void write_run(const char *folder, unsigned k, uint64_t seed) {
+    script = file_of(folder, k, "script");
+    schedule = file_of(folder, k, "schedule");
+    printed = file_of(folder, k, "printed");
+    run(seed);
+    FILE *words = file_of(folder, k, "words"), *image = file_of(folder, k, "img");
+    fprintf(words, "%u %u %u %u\n", size, ninodes, form, stop);
+    fwrite(device, 1, device_size, image);
+    fclose(script), fclose(schedule), fclose(printed), fclose(words), fclose(image);
+}
+
+/* Refuses each call for memory of one run in turn: the device has to be the same each time. */
+static void refuse_each(uint64_t seed) {
+    static uint8_t undisturbed[sizeof device];
+    asked = 0;
+    run(seed);
+    unsigned long calls = asked, before = refusals;
+    memcpy(undisturbed, device, device_size);
+    for (unsigned long k = 1; k <= calls; k++) {
+        asked = 0;
+        refuse_at = k;
+        run(seed);
+        if (memcmp(device, undisturbed, device_size)) fail("another device by a refusal", (uint32_t)k);
+    }
+    refuse_at = 0;
+    printf("each of %lu calls for memory refused in turn: %lu refusals, the same device\n", calls,
+           refusals - before);
+}
+
+/* Numbers: an image of 200 blocks with 32 inode numbers, in which one field is put wrong. */
+
+#define INODE_1 (33 * XVFS_BLOCK_SIZE + 64)
+#define BITMAP (36 * XVFS_BLOCK_SIZE)
+
+static void expect(const char *name, uint32_t wanted, uint32_t number) {
+    if (number == wanted) return;
+    fprintf(stderr, "fuzz: %s is %x in xvfs.h, and the library answers %x\n", name, wanted, number);
+    exit(1);
+}
+#define EXPECT(name, call) expect(#name, name, call)
+
+static void put(size_t at, unsigned value) {
+    device[at] = (uint8_t)value;
+    device[at + 1] = (uint8_t)(value >> 8);
+    device[at + 2] = (uint8_t)(value >> 16);
+    device[at + 3] = (uint8_t)(value >> 24);
+}
+
+static void make(void) {
+    device_size = 200 * XVFS_BLOCK_SIZE;
+    memset(device, 0, device_size);
+    EXPECT(XVFS_OK, xvfs_mkfs(device, device_size, 32, 1));
+}
+
+static void expect_fault(const char *name, uint32_t wanted, uint32_t at) {
+    xvfs_report report;
+    xvfs fs = XVFS_CLOSED_HANDLE;
+    uint32_t recovered;
+    uint64_t opening;
+    expect(name, wanted, xvfs_check(device, device_size, &report));
+    expect(name, wanted, report.fault);
+    if (report.at != at) fail("a fault is at", report.at);
+    expect(name, wanted, xvfs_recover(device, device_size, &recovered));
+    expect(name, wanted, xvfs_open(&fs, device, device_size, 1, &opening));
+    make();
+}
+#define EXPECT_FAULT(name, at) expect_fault(#name, name, at)
+
+static void see_faults(void) {
+    make();
+    put(1024, 7), EXPECT_FAULT(XVFS_BAD_MAGIC, 0);
+    put(1028, 7), EXPECT_FAULT(XVFS_BAD_GEOMETRY, 0);
+    put(2048, 31), EXPECT_FAULT(XVFS_BAD_LOG, 0);
+    put(INODE_1, 4), EXPECT_FAULT(XVFS_BAD_TYPE, 1);
+    put(INODE_1, 2), put(INODE_1 + 8, 274433), EXPECT_FAULT(XVFS_BAD_SIZE, 1);
+    put(INODE_1, 2), put(INODE_1 + 12, 5), EXPECT_FAULT(XVFS_BAD_ADDRESS, 1);
+    put(INODE_1, 2), put(INODE_1 + 12, 40), put(INODE_1 + 16, 40);
+    device[BITMAP + 5] = 1, EXPECT_FAULT(XVFS_TWICE_USED, 40);
+    put(INODE_1, 2), put(INODE_1 + 12, 41), EXPECT_FAULT(XVFS_USED_BUT_FREE, 41);
+    device[BITMAP + 5] = 4, EXPECT_FAULT(XVFS_LOST_BLOCK, 42);
+}
+
+static void see_calls(void) {
+    xvfs fs = XVFS_CLOSED_HANDLE;
+    xvfs_op stat = {XVFS_STAT, 1, 0, 0}, none = {6, 1, 0, 0}, large = {XVFS_CREATE, 65536, 0, 0};
+    xvfs_stepped stepped;
+    xvfs_answer answer;
+    xvfs_report report;
+    uint64_t n;
+    uint32_t recovered;
+    EXPECT(XVFS_FILE_LENGTH, xvfs_check(device, 1023, &report));
+    EXPECT(XVFS_FILE_LENGTH, xvfs_mkfs(device, 0, 32, 1));
+    EXPECT(XVFS_FILE_LENGTH, xvfs_recover(device, 1025, &recovered));
+    EXPECT(XVFS_FILE_LENGTH, xvfs_open(&fs, device, 0, 1, &n));
+    EXPECT(XVFS_MKFS_SIZE, xvfs_mkfs(device, 37 * XVFS_BLOCK_SIZE, 32, 1));
+    EXPECT(XVFS_MKFS_INODES, xvfs_mkfs(device, device_size, 1, 1));
+    EXPECT(XVFS_OPEN_PROCESSES, xvfs_open(&fs, device, device_size, 33, &n));
+    EXPECT(XVFS_CLOSED, xvfs_try_step(&fs, 0, &stepped, block, sizeof block));
+    EXPECT(XVFS_OK, xvfs_try_open(&fs, device, device_size, 1, &n));
+    EXPECT(XVFS_OPEN, xvfs_try_open(&fs, device, device_size, 1, &n));
+    EXPECT(XVFS_NO_PROCESS, xvfs_submit(&fs, 1, &stat, bytes, 0, &n));
+    EXPECT(XVFS_NO_OPERATION, xvfs_submit(&fs, 0, &none, bytes, 0, &n));
+    EXPECT(XVFS_NO_OPERATION, xvfs_submit(&fs, 0, &large, bytes, 0, &n));
+    for (unsigned k = 0; k < XVFS_PLACES; k++)
+        EXPECT(XVFS_OK, xvfs_try_submit(&fs, 0, &stat, bytes, 0, &n));
+    EXPECT(XVFS_FULL, xvfs_submit(&fs, 0, &stat, bytes, 0, &n));
+    EXPECT(XVFS_NO_PROCESS, xvfs_step(&fs, 1, &stepped, block, sizeof block));
+    EXPECT(XVFS_NO_BLOCK, xvfs_step(&fs, 0, &stepped, block, 1023));
+    EXPECT(XVFS_NO_PROCESS, xvfs_poll(&fs, 1, &answer, bytes, 0));
+    EXPECT(XVFS_NO_ANSWER, xvfs_try_poll(&fs, 0, &answer, bytes, 0));
+    xvfs_end(&fs);
+    xvfs_end(&fs);
+    EXPECT(XVFS_CLOSED, xvfs_try_poll(&fs, 0, &answer, bytes, 0));
+}
+
+/* The first call for memory of a call is refused. */
+static void see_memory(void) {
+    xvfs fs = XVFS_CLOSED_HANDLE;
+    xvfs_op write = {XVFS_WRITE, 1, 0, 0};
+    xvfs_stepped stepped;
+    xvfs_report report;
+    uint64_t n;
+    uint32_t recovered;
+#define REFUSED(name, call) asked = 0, refuse_at = 1, EXPECT(name, call), refuse_at = 0
+    REFUSED(XVFS_CHECK_MEMORY, xvfs_check(device, device_size, &report));
+    REFUSED(XVFS_MKFS_MEMORY, xvfs_mkfs(device, device_size, 32, 1));
+    REFUSED(XVFS_RECOVER_MEMORY, xvfs_recover(device, device_size, &recovered));
+    REFUSED(XVFS_OPEN_MEMORY, xvfs_open(&fs, device, device_size, 1, &n));
+    EXPECT(XVFS_OK, xvfs_open(&fs, device, device_size, 1, &n));
+    REFUSED(XVFS_SUBMIT_MEMORY, xvfs_submit(&fs, 0, &write, bytes, 100, &n));
+    EXPECT(XVFS_OK, xvfs_submit(&fs, 0, &write, bytes, 100, &n));
+    REFUSED(XVFS_OK, xvfs_step(&fs, 0, &stepped, block, sizeof block));
+    EXPECT(XVFS_STEP_MEMORY, stepped.step);
+    xvfs_close(&fs);
+}
+
+int main(int argc, char **argv) {
+    if (argc == 3 && !strcmp(argv[1], "refuse")) {
+        refuse_each((uint64_t)atoll(argv[2]));
+        return 0;
+    }
+    if (argc == 2 && !strcmp(argv[1], "numbers")) {
+        see_faults();
+        see_calls();
+        see_memory();
+        printf("each refusal has the number that xvfs.h says\n");
+        return 0;
+    }
+    if (argc != 4) return 2;
+    uint64_t seed = (uint64_t)atoll(argv[2]);
+    unsigned runs = (unsigned)atoi(argv[3]);
+    refuse_one_in = 40;
+    for (unsigned k = 1; k <= runs; k++) write_run(argv[1], k, seed * 1000003 + k);
+    printf("%u runs, %lu operations, %lu writes told, %lu stops, %lu refusals of memory\n", runs,
+           operations, told, stops, refusals);
+    return 0;
+}
