@@ -7,6 +7,16 @@
  * session's image of before or after the last step, and recovery of either gives the opening's
  * files after exactly the changing operations of the committed groups (xvfs_step).
  *
+ * THE HOST'S FOUR DUTIES, from which that follows:
+ *  1. At xvfs_open the device holds the bytes that are passed, and their log is empty, so that
+ *     `*writes` is 0: xvfs_recover them first, and carry that to the device as it says below.
+ *  2. Each block that a step tells is written to the device, whole or not at all, before the next
+ *     step, in the order of the steps.
+ *  3. A device that holds writes back is flushed behind each of these writes.
+ *  4. Only then is an answer, or `committed`, told to anyone. An answer outlives a stop once
+ *     `committed` has reached its `group`. Where a write or a flush fails the session is closed and
+ *     never stepped again: another may be opened over what the device holds, once it is recovered.
+ *
  * WHAT THE CALLER OWES. Nothing here is tested by the library unless it says so.
  *  - An `xvfs` is zeroed before its first use, is not copied while it is open, and is handed to one
  *    call at a time, on one thread. No call is made from a signal handler, from the child of a fork
@@ -19,13 +29,12 @@
  *    power of two up to 16 that divides its size. They may answer NULL: the call then refuses.
  *    Only xvfs_mkfs, _check, _recover, _open, _submit, and a step that begins an operation take
  *    memory. (That no other step does is by test.)
- *  - Stack: 16 KiB for xvfs_open, 4 KiB for each other call (measured: 14.6, 3.6 and 2.3 KB).
+ *  - Stack: 72 KiB for xvfs_open, 4 KiB for each other call, which a test measures.
  *  - The code is for x86-64-v2: it uses SSE registers, and the red zone of the System V ABI. A
  *    kernel that calls it has SSE enabled, saves its registers where it switches tasks, and takes
  *    interrupts on another stack (or calls it with interrupts off).
  *
- * Link: cc main.c libxvfs_c.a liblibc_c.a, the second the toolchain's heap (its folder c). They need
- * memcpy, memmove, memset, malloc, realloc and free.
+ * Link: cc main.c libxvfs.a. It needs memcpy, memmove, memset, malloc, realloc and free.
  */
 #ifndef XVFS_H
 #define XVFS_H
@@ -80,7 +89,8 @@ enum {
     XVFS_CLOSED          = 0x608, XVFS_OPEN = 0x609   /* of the inline functions alone */
 };
 
-/* What xvfs_check found. On a refusal of layer 3 only `fault` and `at` are written. */
+/* What xvfs_check found. On a refusal of layer 3 only `fault` and `at` are written, on
+ * XVFS_FILE_LENGTH nothing. */
 typedef struct {
     uint32_t fault;    /* 0, or the refusal */
     uint32_t at;       /* its inode or block, 0 where it has none */
@@ -90,7 +100,7 @@ typedef struct {
     uint32_t files;    /* files once it has */
 } xvfs_report;
 
-/* The image is sound once its log is copied home. Writes nothing to it. */
+/* 0 says that the image is sound once its log is copied home. Writes nothing to it. */
 uint32_t xvfs_check(const uint8_t *image, size_t len, xvfs_report *out);
 
 /* Makes an empty image of `len` bytes with `ninodes` inode numbers (2 to 1024), of form 2 where
@@ -161,7 +171,7 @@ typedef struct {
     uint32_t len;      /* of XVFS_BYTES: how many were read, of which `bytes` has as many as fit */
 } xvfs_answer;
 
-/* Takes the oldest answer of a process. */
+/* Takes the oldest answer of a process. On a refusal nothing is written. */
 uint32_t xvfs_poll(xvfs *fs, uint32_t pid, xvfs_answer *out, uint8_t *bytes, size_t len);
 
 /* No operation begins from now on. Those that began go on to their ends. */
@@ -173,11 +183,23 @@ void xvfs_close(xvfs *fs);
 /* The same calls for who cannot be sure of the handle. */
 static inline uint32_t xvfs_try_open(xvfs *fs, const uint8_t *image, size_t len, uint32_t processes,
                                      uint64_t *writes) {
-    return fs->session ? XVFS_OPEN : xvfs_open(fs, image, len, processes, writes);
+    if (fs->session) return XVFS_OPEN;
+    return xvfs_open(fs, image, len, processes, writes);
+}
+static inline uint32_t xvfs_try_submit(xvfs *fs, uint32_t pid, const xvfs_op *op,
+                                       const uint8_t *bytes, size_t len, uint64_t *seq) {
+    if (!fs->session) return XVFS_CLOSED;
+    return xvfs_submit(fs, pid, op, bytes, len, seq);
 }
 static inline uint32_t xvfs_try_step(xvfs *fs, uint32_t pid, xvfs_stepped *out, uint8_t *bytes,
                                      size_t len) {
-    return fs->session ? xvfs_step(fs, pid, out, bytes, len) : XVFS_CLOSED;
+    if (!fs->session) return XVFS_CLOSED;
+    return xvfs_step(fs, pid, out, bytes, len);
+}
+static inline uint32_t xvfs_try_poll(xvfs *fs, uint32_t pid, xvfs_answer *out, uint8_t *bytes,
+                                     size_t len) {
+    if (!fs->session) return XVFS_CLOSED;
+    return xvfs_poll(fs, pid, out, bytes, len);
 }
 static inline void xvfs_end(xvfs *fs) { if (fs->session) xvfs_close(fs); }
 

@@ -4,7 +4,7 @@ use Rattle.std.specs.Prelude.{nat_lt, IfNone}
 use Rattle.std.specs.Option.{option_map}
 use Rattle.std.proofs.lemmas.List.{length-append}
 use Rattle.blocks.specs.Calls.{OnlyReads}
-use Rattle.blocks.specs.Disk.{LeavesOnly}
+use Rattle.blocks.specs.Disk.{Image, LeavesOnly}
 use Rattle.blocks.specs.declared.disk.Disk.{Ghosts}
 use Rattle.model.specs.declared.types.operations.Entry.{Entry}
 use Rattle.model.specs.declared.types.operations.Op.{Op}
@@ -17,7 +17,7 @@ use Rattle.model.specs.Operations.{after}
 use Rattle.wal.specs.Machine.{LogState}
 use Rattle.wal.specs.declared.types.DeviceFault.{DeviceFault}
 use Rattle.inodes.specs.Holding.{claim_of}
-use Rattle.inodes.specs.Store.{StoreState}
+use Rattle.inodes.specs.Store.{StoreState, first_taking}
 use Rattle.inodes.specs.Tasks.{TaskState, task}
 use Rattle.ports.specs.History.{Side, first_in}
 use Rattle.ports.specs.Lanes.{polled_after}
@@ -27,7 +27,8 @@ use Rattle.history.specs.declared.types.Phase.TheVariants as at
 use Rattle.history.specs.declared.types.Process.{Process}
 use Rattle.history.specs.Bound.{is_busy_at}
 use Rattle.history.specs.Processes.{World, process}
-use Rattle.kernel.specs.Known.{Known}
+use Rattle.kernel.specs.Awake.{cause_by}
+use Rattle.kernel.specs.Known.{IsCurrent, Known}
 use Rattle.kernel.specs.Moves.{MakesSteps}
 use Rattle.kernel.specs.Next.{BeginsNext, BeginsWith, HasNoRoom, IsNotTaken, NextAt, NextIf}
 use Rattle.kernel.specs.Sleeping.{SleepsForCause}
@@ -40,13 +41,14 @@ use Rattle.calls.specs.Lemmas.Reaching.{reached_ports, reached_steps, reached_th
 use Rattle.calls.specs.Stepping.{IsReached, MakesPlainStep, Plain, plain_herald, plain_queues}
 use Rattle.calls.specs.Calls.{image_on, is_look}
 use Rattle.calls.specs.Transactions.{Adds, HasFiles, IsFetched, IsInside, IsOnlyRead, IsOpenBy, KeepsFiles, anchor, has_room}
-use Rattle.calls.proofs.Called.{IsCall, call_after, call_answered, call_opening, call_over, call_run, call_stage, given, halts_not, is_faultless, still_faultless, with_intake}
+use Rattle.calls.proofs.Called.{IsCall, call_after, call_answered, call_name, call_opening, call_over, call_run, call_stage, given, halts_not, is_call, is_faultless, still_faultless, with_intake}
 use Rattle.calls.proofs.Counting.{IsAnswered, IsFree, fetched_again, fetched_still, room_left}
 use Rattle.calls.proofs.Going.{After, LeavesOthers, Stage}
 use Rattle.calls.proofs.Idle.{of_two}
 use Rattle.calls.proofs.Inside.{HasOpen, Inside, LogIs, inside_kept, still_open}
-use Rattle.calls.proofs.Keeping.{leaves_before, settled}
+use Rattle.calls.proofs.Keeping.{IsSettled, leaves_before, settled}
 use Rattle.calls.proofs.Released.{adds_lowest, adds_none, call_releases}
+use Rattle.calls.proofs.Shorts.{short_seen}
 use Rattle.calls.proofs.Stages.{Comes, IsKept, IsLeft, IsOver, Where, first_waits, is_left, waits_or_busy}
 use Rattle.calls.proofs.Telling.{files_then, labels_then_made, told_files}
 use Rattle.calls.proofs.Waiting.{has_begun, waits_for_buffer, by_causes, has_no_slot}
@@ -63,25 +65,13 @@ pub record IsAdding {D N : Type 0} (disk : Ghosts D N) (op : Op) (r : Step) (k m
 
 pub is_adding : {D N : Type 0} (disk : Ghosts D N) (op : Op) (r : Step) (k l m : Plain D) → IsInside disk.fault_count k → length k.world.journal.list < 2 ^ 32 → has_room op k.store.volume.log ≡ true → l ≡ with_intake k l.intake → waiting l.intake 0 ≡ waiting k.intake 0 ++ op ∷ [] → polled l.intake 0 ≡ polled k.intake 0 → OthersWait k.intake l.intake 0
     → Known disk plain_queues plain_herald l → Known disk plain_queues plain_herald m → MakesSteps disk plain_queues plain_herald 0 r l m → IsAdding disk op r k m
+unfolding is_call
 is_adding disk op r k l m inside few room same waits fetched others known_then known_now makes =
     let two = inside.pair.two in
     record {
       inside = inside;
       room = room;
-      call = record {
-        i = l.intake;
-        inside = omega (arith, two);
-        idle = inside.pair.free;
-        own = inside.pair.first;
-        unshut = inside.pair.unshut;
-        faultless = inside.pair.faultless;
-        few = few;
-        waits = waits;
-        fetched = fetched;
-        known_then = subst (λ (s : Plain _). Known disk plain_queues plain_herald s) same known_then;
-        known_now = known_now;
-        makes = subst (λ (s : Plain _). MakesSteps disk plain_queues plain_herald 0 r s m) same makes;
-      };
+      call = is_call disk 0 op r k l m (omega (arith, two)) inside.pair.free inside.pair.first inside.pair.unshut inside.pair.faultless few same waits fetched known_then known_now makes;
       others = others;
     }
 
@@ -169,12 +159,20 @@ module _ {D N : Type 0} (disk : Ghosts D N) (op : Op) (r : Step) (k m : Plain D)
   pub call_reads : OnlyReads disk k.store.volume.device m.store.volume.device
   call_reads = open_still.1.reads
 
+  -- the image on the disk is the opening's, with the groups of before
+  set_then : ((d : D) → disk.leaves d (disk.moment d) (disk.image d)) → IsSettled disk l
+  set_then has_now = settled disk has_now l adding.call.known_then adding.inside.pair.well adding.inside.open_one.quiet
+
+  long_now : ((d : D) → disk.leaves d (disk.moment d) (disk.image d)) → length (image_on disk.image m) ≡ k.store.volume.log.size
+  long_now has_now =
+      let current : IsCurrent disk.image l = subst (λ (f : Option DeviceFault). IfNone f (IsCurrent disk.image l)) adding.inside.pair.well adding.call.known_then.current in
+      ap (λ (x : Image). length x) call_reads.image ∙ (set_then has_now).size ∙ sym current.size
+
   -- a stop keeps nothing of the transaction
   pub call_leaves : ((d : D) → disk.leaves d (disk.moment d) (disk.image d)) → LeavesOnly disk.moment disk.leaves k.store.volume.device m.store.volume.device (KeepsFiles (image_on disk.image k))
   unfolding c
   call_leaves has_now =
-      let set_l = settled disk has_now l adding.call.known_then adding.inside.pair.well adding.inside.open_one.quiet in
-      leaves_before disk l m set_l (call_run disk 0 op r k m adding.call) open_still.1.log.quiet open_still.1.log.committed
+      leaves_before disk l m (set_then has_now) (call_run disk 0 op r k m adding.call) open_still.1.log.quiet open_still.1.log.committed
 
   -- its steps are turns of the process
   pub call_reached : IsReached disk k m
@@ -187,34 +185,41 @@ module _ {D N : Type 0} (disk : Ghosts D N) (op : Op) (r : Step) (k m : Plain D)
   apart : suc zero ≢ 0
   apart e = let no : ⊥ = omega (arith, e) in no
 
-  -- it waits for a buffer; never for the anchor, and room in the log was left
-  pub call_waits : SleepsForCause disk plain_queues plain_herald → (cause : Why) → r ≡ step.Sleeping cause → cause ≡ why.NoBuffer
-  call_waits sleeps cause so =
-      let mid = adding.call.makes.mid in
-      let made : MakesPlainStep disk 0 (step.Sleeping cause) mid m = subst (λ (q : Step). MakesPlainStep disk 0 q mid m) so adding.call.makes.made in
-      let tasks = mid_stage.rest.tasks in
-      ⊎_elim
-      (λ (stands, waits, list, same). (let empty : m.world ≡ mid.world → nat_lt (length (answers m.intake 0)) 16 ≡ true = λ (still : m.world ≡ mid.world). room_left disk l m 0 adding.call.known_now adding.call.inside rest (adding.call.fetched ∙ adding.call.own.fetched) adding.call.few (ap (λ (w : World). (process w 0).at) still ∙ stands) (ap (λ (w : World). w.journal.list) still ∙ list) in
-      absurd (next_not disk op cause mid.store m.store mid.world m.world (subst (λ (s : StoreState D). has_room op s.volume.log ≡ true) (sym same) adding.room) (waiting mid.intake 0) waits (plain_queues.side m.intake 0) false empty mid.store.volume.fault made.acts.next stands)))
-      (λ (busy : is_busy_at (process mid.world 0).at ≡ true). (waits_for_buffer mid.store (tasks.many ∙ adding.inside.pair.tasks) (ap (λ (u : TaskState). u.stage) (tasks.others 1 apart) ∙ adding.inside.empty_handed) disk mid.world (waiting mid.intake 0) (plain_queues.side m.intake 0) false m.store m.world cause mid.store.volume.fault
-      (sleeps mid m 0 cause busy made) made.acts.next busy))
-      (waits_or_busy 0 op P k.world.journal.list (process mid.world 0).at (waiting mid.intake 0) mid.store mid.world.journal.list mid_stage.stands)
+  -- who sleeps is under way: what waits may begin, for room in the log was left, and is taken
+  module _ (sleeps : SleepsForCause disk plain_queues plain_herald) (cause : Why) (so : r ≡ step.Sleeping cause) where
+    abbrev mid : Plain D
+    mid = adding.call.makes.mid
 
-  -- and not for a buffer, for the anchor holds none
-  pub call_wakes : SleepsForCause disk plain_queues plain_herald → m.store.volume.fault ≡ None → IfNone m.store.volume.fault (AloneGetsBuffers m.store) → (cause : Why) → r ≡ step.Sleeping cause → ⊥
-  call_wakes sleeps well alone cause so =
-      let mid = adding.call.makes.mid in
-      let made : MakesPlainStep disk 0 (step.Sleeping cause) mid m = subst (λ (q : Step). MakesPlainStep disk 0 q mid m) so adding.call.makes.made in
-      let tasks = mid_stage.rest.tasks in
-      ⊎_elim
-      (λ (stands, waits, list, same). (let empty : m.world ≡ mid.world → nat_lt (length (answers m.intake 0)) 16 ≡ true = λ (still : m.world ≡ mid.world). room_left disk l m 0 adding.call.known_now adding.call.inside rest (adding.call.fetched ∙ adding.call.own.fetched) adding.call.few (ap (λ (w : World). (process w 0).at) still ∙ stands) (ap (λ (w : World). w.journal.list) still ∙ list) in
-      absurd (next_not disk op cause mid.store m.store mid.world m.world (subst (λ (s : StoreState D). has_room op s.volume.log ≡ true) (sym same) adding.room) (waiting mid.intake 0) waits (plain_queues.side m.intake 0) false empty mid.store.volume.fault made.acts.next stands)))
-      (λ (busy : is_busy_at (process mid.world 0).at ≡ true). (
-      let same : m.store ≡ mid.store = (asleep_same disk mid.store mid.world 0 cause (waiting mid.intake 0) (plain_queues.side m.intake 0) false m.store m.world mid.store.volume.fault made.acts.next busy).0 in
-      let here : AloneGetsBuffers mid.store = subst AloneGetsBuffers same (subst (λ (f : Option DeviceFault). IfNone f (AloneGetsBuffers m.store)) well alone) in
-      here 0 (λ q apart_q i has. has_no_slot mid.store (tasks.many ∙ adding.inside.pair.tasks) (ap (λ (u : TaskState). u.stage) (tasks.others 1 apart) ∙ adding.inside.empty_handed) q i apart_q has)
-      (by_causes (process mid.world 0).at (sleep_cause mid.store 0) cause (sleeps mid m 0 cause busy made) ∙ ap (λ (w : Why). Some w) (call_waits sleeps cause so))))
-      (waits_or_busy 0 op P k.world.journal.list (process mid.world 0).at (waiting mid.intake 0) mid.store mid.world.journal.list mid_stage.stands)
+    made_last : MakesPlainStep disk 0 (step.Sleeping cause) mid m
+    made_last = subst (λ (q : Step). MakesPlainStep disk 0 q mid m) so adding.call.makes.made
+
+    under_way : is_busy_at (process mid.world 0).at ≡ true
+    under_way = ⊎_elim
+        (λ (stands, waits, list, same). (let empty : m.world ≡ mid.world → nat_lt (length (answers m.intake 0)) 16 ≡ true = λ (still : m.world ≡ mid.world). room_left disk l m 0 adding.call.known_now adding.call.inside rest (adding.call.fetched ∙ adding.call.own.fetched) adding.call.few (ap (λ (w : World). (process w 0).at) still ∙ stands) (ap (λ (w : World). w.journal.list) still ∙ list) in
+        absurd (next_not disk op cause mid.store m.store mid.world m.world (subst (λ (s : StoreState D). has_room op s.volume.log ≡ true) (sym same) adding.room) (waiting mid.intake 0) waits (plain_queues.side m.intake 0) false empty mid.store.volume.fault made_last.acts.next stands)))
+        (λ (busy : is_busy_at (process mid.world 0).at ≡ true). busy)
+        (waits_or_busy 0 op P k.world.journal.list (process mid.world 0).at (waiting mid.intake 0) mid.store mid.world.journal.list mid_stage.stands)
+
+    two_tasks : length mid.store.tasks ≡ 2
+    two_tasks = mid_stage.rest.tasks.many ∙ adding.inside.pair.tasks
+
+    anchor_stands : (task mid.store.tasks 1).stage ≡ first_taking 1
+    anchor_stands = ap (λ (u : TaskState). u.stage) (mid_stage.rest.tasks.others 1 apart) ∙ adding.inside.empty_handed
+
+    why_so : cause_by (process mid.world 0).at (sleep_cause mid.store 0) ≡ Some cause
+    why_so = sleeps mid m 0 cause under_way made_last
+
+    -- it waits for a buffer, never for the anchor
+    for_buffer : cause ≡ why.NoBuffer
+    for_buffer = waits_for_buffer mid.store two_tasks anchor_stands disk mid.world (waiting mid.intake 0) (plain_queues.side m.intake 0) false m.store m.world cause mid.store.volume.fault why_so made_last.acts.next under_way
+
+    -- and not for a buffer, for the anchor holds none
+    pub call_wakes : m.store.volume.fault ≡ None → IfNone m.store.volume.fault (AloneGetsBuffers m.store) → ⊥
+    call_wakes well alone =
+        let same : m.store ≡ mid.store = (asleep_same disk mid.store mid.world 0 cause (waiting mid.intake 0) (plain_queues.side m.intake 0) false m.store m.world mid.store.volume.fault made_last.acts.next under_way).0 in
+        let here : AloneGetsBuffers mid.store = subst AloneGetsBuffers same (subst (λ (f : Option DeviceFault). IfNone f (AloneGetsBuffers m.store)) well alone) in
+        here 0 (λ q apart_q i has. has_no_slot mid.store two_tasks anchor_stands q i apart_q has)
+        (by_causes (process mid.world 0).at (sleep_cause mid.store 0) cause why_so ∙ ap (λ (w : Why). Some w) for_buffer)
 
   -- its steps end with the answer, or for want of memory or a buffer
   pub call_ends : m.store.volume.fault ≡ None → (q : Step) → r ≡ q → EndsSo q
@@ -247,8 +252,8 @@ module _ {D N : Type 0} (disk : Ghosts D N) (op : Op) (r : Step) (k m : Plain D)
     free_before : (p : ℕ) → IsFree (process k.world p).at
     free_before = of_two k.world IsFree adding.inside.pair.two tt (subst IsFree (sym adding.inside.pair.free) tt) (subst IsFree (sym adding.inside.anchored) tt)
 
-    pub call_adds : (n : Plain D) → n ≡ with_intake m n.intake → Adds disk.image op k n call_done.answer.reply
-    call_adds n same =
+    pub call_adds : ((d : D) → disk.leaves d (disk.moment d) (disk.image d)) → m.store.volume.fault ≡ None → (n : Plain D) → n ≡ with_intake m n.intake → Adds disk.image op k n call_done.answer.reply
+    call_adds has_now well n same =
         let is = call_done in
         let told = told_files disk m adding.call.known_now all_free in
         let adds : (f : Files) → HasFiles disk.image k f → after (form_of (disk.image k.opening)) f op is.answer.reply ≡ Some told.0
@@ -259,6 +264,7 @@ module _ {D N : Type 0} (disk : Ghosts D N) (op : Op) (r : Step) (k m : Plain D)
           files = λ f has. (told.0, adds f has, record { run = told.1.run });
           lowest = λ f has. adds_lowest disk op r k m adding.call so is pair.well pair.tasks pair.released adding.inside.empty_handed free_before f told.0 has (adds f has);
           none = λ f has. adds_none disk op r k m adding.call so is pair.well pair.tasks pair.released adding.inside.empty_handed free_before f has;
+          short = short_seen disk op r k m adding.call so is well all_free (long_now has_now);
           labels = labels_then_made disk.image k m is.entry is.answer.reply (call_opening disk 0 op r k m adding.call) is.list is.replied;
           one_more = ap (λ (es : List Entry). length es) is.list ∙ length-append k.world.journal.list (is.entry ∷ []);
           room = over.holds.1;
@@ -294,3 +300,28 @@ module _ {D N : Type 0} (disk : Ghosts D N) (op : Op) (r : Step) (k m : Plain D)
           });
           empty_handed = ap (λ (s : Plain D). (task s.store.tasks 1).stage) same ∙ ap (λ (u : TaskState). u.stage) (rest.tasks.others 1 apart) ∙ adding.inside.empty_handed;
         }
+
+-- ---- what it leaves, however it ends
+
+pub record LeavesInside {D N : Type 0} (disk : Ghosts D N) (k m : Plain D) : Type 0 where
+  pub leaves : LeavesOnly disk.moment disk.leaves k.store.volume.device m.store.volume.device (KeepsFiles (image_on disk.image k))
+  pub reached : IsReached disk k m
+  pub opening : m.opening ≡ k.opening
+  pub name : disk.name m.store.volume.device ≡ disk.name k.store.volume.device
+
+pub call_left : {D N : Type 0} (disk : Ghosts D N) (op : Op) (r : Step) (k m : Plain D) → IsAdding disk op r k m → ((d : D) → disk.leaves d (disk.moment d) (disk.image d)) → LeavesInside disk k m
+call_left disk op r k m adding has_now = record {
+  leaves = call_leaves disk op r k m adding has_now;
+  reached = call_reached disk op r k m adding;
+  opening = call_opening disk 0 op r k m adding.call;
+  name = call_name disk 0 op r k m adding.call;
+}
+
+-- once the answer is fetched, too
+pub fetched_left : {D N : Type 0} (disk : Ghosts D N) (k m n : Plain D) → n ≡ with_intake m n.intake → LeavesInside disk k m → LeavesInside disk k n
+fetched_left disk k m n same left = record {
+  leaves = subst (λ (s : Plain _). LeavesOnly disk.moment disk.leaves k.store.volume.device s.store.volume.device (KeepsFiles (image_on disk.image k))) (sym same) left.leaves;
+  reached = reached_then disk k m n left.reached (reached_ports disk m n same);
+  opening = ap (λ (s : Plain _). s.opening) same ∙ left.opening;
+  name = ap (λ (s : Plain _). disk.name s.store.volume.device) same ∙ left.name;
+}

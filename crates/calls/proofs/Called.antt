@@ -47,6 +47,23 @@ pub record IsCall {D N : Type 0} (disk : Ghosts D N) (p : ℕ) (op : Op) (r : St
   pub known_now : Known disk plain_queues plain_herald m
   pub makes : MakesSteps disk plain_queues plain_herald p r (with_intake k i) m
 
+unfoldable pub is_call : {D N : Type 0} (disk : Ghosts D N) (p : ℕ) (op : Op) (r : Step) (k l m : Plain D) → p < length k.world.processes → (process k.world p).at ≡ at.Idle → IsFetched k p → k.world.is_shut ≡ false → disk.fault_count k.store.volume.device ≡ disk.fault_count k.opening → length k.world.journal.list < 2 ^ 32
+    → l ≡ with_intake k l.intake → waiting l.intake p ≡ waiting k.intake p ++ op ∷ [] → polled l.intake p ≡ polled k.intake p → Known disk plain_queues plain_herald l → Known disk plain_queues plain_herald m → MakesSteps disk plain_queues plain_herald p r l m → IsCall disk p op r k m
+is_call disk p op r k l m inside idle own unshut faultless few same waits fetched known_then known_now makes = record {
+  i = l.intake;
+  inside = inside;
+  idle = idle;
+  own = own;
+  unshut = unshut;
+  faultless = faultless;
+  few = few;
+  waits = waits;
+  fetched = fetched;
+  known_then = subst (λ (s : Plain _). Known disk plain_queues plain_herald s) same known_then;
+  known_now = known_now;
+  makes = subst (λ (s : Plain _). MakesSteps disk plain_queues plain_herald p r s m) same makes;
+}
+
 same_at_most : (a b : ℕ) → b ≡ a → a ≤ b
 same_at_most a b is = omega (arith, is)
 

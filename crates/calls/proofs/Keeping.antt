@@ -181,19 +181,29 @@ module _ {D N : Type 0} (disk : Ghosts D N) (k m : Plain D) (was : IsSettled dis
         ap (λ (es : List Entry). replay form start es) (kept_up_to n k.store.volume.log.opened c k.world.journal.list known.journal.groups high)
         ∙ kept_replays form n k.store.volume.log.opened start f k.world.journal.list (length-files_of (disk.image k.opening)) (file_in-files_of_zero (disk.image k.opening)) known.journal.groups has.run
 
+    -- the files behind an entry by its reply
+    one_told : (last : Files) (e : Entry) → replay form f (e ∷ []) ≡ Some last → (o : Option Reply) → e.reply ≡ o → (mid : Files) × (after_answer form f e.op o ≡ Some mid) × (Some mid ≡ Some last)
+    one_told last e done o same = and_then_some (after_answer form f e.op o) (λ g. Some g) last (subst (λ (p : Option Reply). and_then (after_answer form f e.op p) (λ g. Some g) ≡ Some last) same done)
+
     -- the anchor's entry changes nothing
     one_more : (last : Files) (e : Entry) (b : Bool) → e.op ≡ anchor → replay form f (cond b (e ∷ []) []) ≡ Some last → last ≡ f
     one_more last e false is done = cc done
     one_more last e true is done = by_reply e.reply refl
       where
-        found : (o : Option Reply) → e.reply ≡ o → (mid : Files) × (after_answer form f e.op o ≡ Some mid) × (Some mid ≡ Some last)
-        found o same = and_then_some (after_answer form f e.op o) (λ g. Some g) last (subst (λ (p : Option Reply). and_then (after_answer form f e.op p) (λ g. Some g) ≡ Some last) same done)
-
         by_reply : (o : Option Reply) → e.reply ≡ o → last ≡ f
-        by_reply None same = let g = found None same in absurd (cc g.1)
+        by_reply None same = let g = one_told last e done None same in absurd (cc g.1)
         by_reply (Some r) same =
-            let g = found (Some r) same in
+            let g = one_told last e done (Some r) same in
             anchor_keeps form f last r (subst (λ (o : Op). after form f o r ≡ Some last) is (g.1 ∙ g.2))
+
+    -- what is kept of a journal with an entry more, and the files behind that entry
+    in_parts : (c : ℕ) (e : Entry) → m.world.journal.list ≡ k.world.journal.list ++ e ∷ [] → kept n m.world.journal.list c ≡ kept n k.world.journal.list c ++ kept n (e ∷ []) c
+    in_parts c e more = ap (λ (l : List Entry). kept n l c) more ∙ kept-append n c k.world.journal.list (e ∷ [])
+
+    rest_kept : (c : ℕ) (last : Files) → k.store.volume.log.opened ≤ c → replay form start (kept n m.world.journal.list c) ≡ Some last → (e : Entry) → m.world.journal.list ≡ k.world.journal.list ++ e ∷ [] → replay form f (kept n (e ∷ []) c) ≡ Some last
+    rest_kept c last high done e more =
+        let both = sym (replays_in_parts form start (kept n k.world.journal.list c) (kept n (e ∷ []) c)) ∙ ap (λ (l : List Entry). replay form start l) (sym (in_parts c e more)) ∙ done in
+        subst (λ (o : Option Files). and_then o (λ g. replay form g (kept n (e ∷ []) c)) ≡ Some last) (kept_all c high) both
 
     all_kept : (c : ℕ) (last : Files) → k.store.volume.log.opened ≤ c → replay form start (kept n m.world.journal.list c) ≡ Some last → last ≡ f
     all_kept c last high done = by_list lists
@@ -204,11 +214,7 @@ module _ {D N : Type 0} (disk : Ghosts D N) (k m : Plain D) (was : IsSettled dis
             cc both
         by_list (inr more) =
             let e = more.0 in
-            let es = k.world.journal.list in
-            let split : kept n m.world.journal.list c ≡ kept n es c ++ kept n (e ∷ []) c = ap (λ (l : List Entry). kept n l c) more.1 ∙ kept-append n c es (e ∷ []) in
-            let both = sym (replays_in_parts form start (kept n es c) (kept n (e ∷ []) c)) ∙ ap (λ (l : List Entry). replay form start l) (sym split) ∙ done in
-            let rest : replay form f (kept n (e ∷ []) c) ≡ Some last = subst (λ (o : Option Files). and_then o (λ g. replay form g (kept n (e ∷ []) c)) ≡ Some last) (kept_all c high) both in
-            one_more last e (is_changing n e.op && leb e.group c) more.2 rest
+            one_more last e (is_changing n e.op && leb e.group c) more.2 (rest_kept c last high done e more.1)
 
     -- what is kept then begins with what was kept before
     more_kept : (c : ℕ) → k.store.volume.log.opened ≤ c → IsPrefix (kept n k.world.journal.list k.store.volume.log.committed) (kept n m.world.journal.list c)
@@ -236,13 +242,10 @@ module _ {D N : Type 0} (disk : Ghosts D N) (k m : Plain D) (was : IsSettled dis
     anchor_makes last e false i is done = refl
     anchor_makes last e true i is done = by_reply e.reply refl
       where
-        found : (o : Option Reply) → e.reply ≡ o → (mid : Files) × (after_answer form f e.op o ≡ Some mid) × (Some mid ≡ Some last)
-        found o same = and_then_some (after_answer form f e.op o) (λ g. Some g) last (subst (λ (p : Option Reply). and_then (after_answer form f e.op p) (λ g. Some g) ≡ Some last) same done)
-
         by_reply : (o : Option Reply) → e.reply ≡ o → (is_making i e.reply || false) ≡ false
         by_reply None same = ap (λ (o : Option Reply). is_making i o || false) same
         by_reply (Some r) same =
-            let g = found (Some r) same in
+            let g = one_told last e done (Some r) same in
             ap (λ (o : Option Reply). is_making i o || false) same
             ∙ ap (λ (b : Bool). b || false) (anchor_makes_none form f last r i (subst (λ (o : Op). after form f o r ≡ Some last) is (g.1 ∙ g.2)))
 
@@ -259,11 +262,8 @@ module _ {D N : Type 0} (disk : Ghosts D N) (k m : Plain D) (was : IsSettled dis
         by_list (inr more) =
             let e = more.0 in
             let es = k.world.journal.list in
-            let split : kept n m.world.journal.list c ≡ kept n es c ++ kept n (e ∷ []) c = ap (λ (l : List Entry). kept n l c) more.1 ∙ kept-append n c es (e ∷ []) in
-            let both = sym (replays_in_parts form start (kept n es c) (kept n (e ∷ []) c)) ∙ ap (λ (l : List Entry). replay form start l) (sym split) ∙ done in
-            let rest : replay form f (kept n (e ∷ []) c) ≡ Some last = subst (λ (o : Option Files). and_then o (λ g. replay form g (kept n (e ∷ []) c)) ≡ Some last) (kept_all c high) both in
-            ap (makes i) split ∙ list_any-append (λ (x : Entry). is_making i x.reply) (kept n es c) (kept n (e ∷ []) c)
-            ∙ ap (λ (b : Bool). makes i (kept n es c) || b) (anchor_makes last e (is_changing n e.op && leb e.group c) i more.2 rest) ∙ or_nothing (makes i (kept n es c))
+            ap (makes i) (in_parts c e more.1) ∙ list_any-append (λ (x : Entry). is_making i x.reply) (kept n es c) (kept n (e ∷ []) c)
+            ∙ ap (λ (b : Bool). makes i (kept n es c) || b) (anchor_makes last e (is_changing n e.op && leb e.group c) i more.2 (rest_kept c last high done e more.1)) ∙ or_nothing (makes i (kept n es c))
 
     -- so the labels of files are those that it tells
     labels_all : (c : ℕ) (z : Image) → k.store.volume.log.opened ≤ c → Keeps (disk.image m.opening) m.world.journal.list z c → HasLabels (labels_made disk.image k) (recovered z)

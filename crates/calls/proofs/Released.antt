@@ -1,7 +1,7 @@
 -- A task holds no file once its operation is over; and where no task does, the current image has the
 -- files that the journal tells.
 use Rattle.std.proofs.Common.{◌≡◌, ◌≢◌, ◌∙◌, ◌<◌, ◌≤◌, ℕ, true, List, [], ◌∷◌, length, Option, Some, None, refl, sym, ap, subst, ⊎_elim, arith}
-use Rattle.std.specs.Prelude.{IfNone, IsTrue}
+use Rattle.std.specs.Prelude.{IsTrue}
 use Rattle.std.proofs.lemmas.Bool.{cases_eq, lt-ltb}
 use Rattle.blocks.specs.Disk.{Image}
 use Rattle.blocks.specs.declared.disk.Disk.{Ghosts}
@@ -14,13 +14,10 @@ use Rattle.model.specs.declared.types.operations.TaskProgress.TheVariants as pro
 use Rattle.model.specs.declared.types.operations.Why.{Why}
 use Rattle.model.specs.declared.types.progress.Progress.{Progress}
 use Rattle.model.specs.declared.types.progress.Progress.TheVariants as machine
-use Rattle.model.specs.Files.{Files, file_in, files_of}
-use Rattle.model.specs.Journal.{is_number, replay}
+use Rattle.model.specs.Files.{Files, file_in}
+use Rattle.model.specs.Journal.{is_number}
 use Rattle.model.specs.Layout.{form_of, inode_of}
-use Rattle.model.specs.Lemmas.FileNumbers.{length-files_of}
-use Rattle.model.specs.Lemmas.Runs.{count_stays}
 use Rattle.model.specs.Operations.{after}
-use Rattle.wal.specs.declared.types.DeviceFault.{DeviceFault}
 use Rattle.in_flight.specs.Held.{Claim, IsFine}
 use Rattle.in_flight.specs.Loose.{IsAtRest}
 use Rattle.inodes.specs.declared.tasks.Stage.{Stage}
@@ -36,7 +33,6 @@ use Rattle.inodes.specs.Table.{or_else}
 use Rattle.inodes.specs.Tasks.{TaskState, task}
 use Rattle.inodes.specs.Writei.{WriteState}
 use Rattle.history.specs.Processes.{process}
-use Rattle.kernel.specs.Known.{IsCurrent}
 use Rattle.model.specs.declared.types.operations.Step.{Step}
 use Rattle.model.specs.declared.types.operations.Step.TheVariants as step
 use Rattle.calls.specs.Calls.{MakesLowestOf, MakesNoneOf}
@@ -47,7 +43,7 @@ use Rattle.calls.proofs.Called.{IsCall, call_over, given}
 use Rattle.calls.proofs.Counting.{IsAnswered, IsFree}
 use Rattle.calls.proofs.Searches.{passes_none, used_file}
 use Rattle.calls.proofs.Stages.{AfterTurn, Answered, BeforeTurn, Committing, IsKept, Over, Waits, Where}
-use Rattle.calls.proofs.Telling.{all_told}
+use Rattle.calls.proofs.Telling.{counts_files, stands_for}
 
 -- ---- a task whose operation is over
 
@@ -174,10 +170,7 @@ free_in image s f j fits none low high gone =
 module _ {D N : Type 0} (disk : Ghosts D N) (op : Op) (r : Step) (k m : Plain D) (call : IsCall disk 0 op r k m) (so : r ≡ step.Answered) (is : IsAnswered 0 op (given disk 0 op r k m call) m)
     (well : k.store.volume.fault ≡ None) (two : length k.store.tasks ≡ 2) (first : (i : ℕ) → claim_of (task k.store.tasks 0) i ≡ None) (second : (task k.store.tasks 1).stage ≡ first_taking 1) (free : (p : ℕ) → IsFree (process k.world p).at) where
   fits : (f : Files) → HasFiles disk.image k f → FitsFiles disk.image k.store f
-  fits f has =
-      let l = given disk 0 op r k m call in
-      let current : IsCurrent disk.image l = subst (λ (o : Option DeviceFault). IfNone o (IsCurrent disk.image l)) well call.known_then.current in
-      current.stands f (ap (λ es. replay (form_of (disk.image k.opening)) (files_of (disk.image k.opening)) es) (all_told disk l call.known_then free) ∙ has.run)
+  fits f has = stands_for disk (given disk 0 op r k m call) call.known_then free well f (record { run = has.run })
 
   none_held : (i : ℕ) → claims_of k.store.tasks i ≡ None
   none_held = none_claimed k.store.tasks two first (λ i. ap (λ (a : Stage). claim_by (task k.store.tasks 1).op a i) second)
@@ -185,7 +178,7 @@ module _ {D N : Type 0} (disk : Ghosts D N) (op : Op) (r : Step) (k m : Plain D)
   -- no number without a file is passed by
   passes_no_file : (f : Files) → HasFiles disk.image k f → (kind j : ℕ) (o : Option ℕ) → op ≡ Create kind → is.answer.reply ≡ reply_of o → 1 ≤ j → j < length f → file_in f j ≡ None → IsPassedBy o j → ⊥
   passes_no_file f has kind j o creates told low high none passed =
-      let count : k.store.table.inode_count ≡ length f = call.known_then.numbers ∙ sym (length-files_of (disk.image k.opening)) ∙ sym (count_stays (form_of (disk.image k.opening)) (files_of (disk.image k.opening)) f k.world.journal.list has.run) in
+      let count = counts_files disk (given disk 0 op r k m call) call.known_then f (record { run = has.run }) in
       let number : IsTrue (is_number (length f) j) = rw (lt-ltb 0 j low, lt-ltb j (length f) high) refl in
       passes_none disk op r k m call so is kind j o creates told (subst (λ (n : ℕ). IsTrue (is_number n j)) (sym count) number)
       (free_in disk.image k.store f j (fits f has) none_held low high none) passed

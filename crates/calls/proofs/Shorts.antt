@@ -1,7 +1,8 @@
--- A write of a kernel's only process that wrote fewer bytes than it was given leaves no block free.
+-- A write that wrote fewer bytes than it was given leaves no block free.
 use Rattle.std.proofs.Common.{◌≡◌, ◌≢◌, ◌⊎◌, ◌∙◌, inl, inr, ◌<◌, ℕ, Bool, true, false, cond, ltb, not, List, length, Option, Some, None, refl, sym, ap, subst, ⊎_elim, arith}
 use Rattle.std.specs.Prelude.{IsTrue}
 use Rattle.std.proofs.lemmas.Bool.{ltb-true, not-false, or_parts}
+use Rattle.bcache.specs.Lemmas.Current.{length-current}
 use Rattle.blocks.specs.Disk.{Image, block_at}
 use Rattle.blocks.specs.declared.disk.Disk.{Ghosts}
 use Rattle.model.specs.declared.types.image.Form.{Form}
@@ -12,10 +13,12 @@ use Rattle.model.specs.declared.types.operations.Reply.TheVariants.{NoFile, TooL
 use Rattle.model.specs.declared.types.operations.TaskProgress.{TaskProgress}
 use Rattle.model.specs.declared.types.operations.TaskProgress.TheVariants as progress
 use Rattle.model.specs.Fields.{has_bit}
+use Rattle.model.specs.Files.{Files}
 use Rattle.model.specs.Journal.{is_at_once, is_number}
-use Rattle.model.specs.Layout.{bitmap_block, inode_block, inode_count_of}
+use Rattle.model.specs.Layout.{bitmap_block, inode_block, inode_count_of, is_marked, super_of}
 use Rattle.model.specs.Lemmas.Log.{both_of}
 use Rattle.model.specs.Lemmas.OutsideLog.{behind_log}
+use Rattle.model.specs.Lemmas.Soundness.{facts_of}
 use Rattle.model.specs.Operations.{transfer_limit}
 use Rattle.inodes.specs.Goes.{Goes}
 use Rattle.inodes.specs.Lemmas.Causes.{BeginsWriting, TurnsToWrite, write_sees, write_turns}
@@ -23,22 +26,26 @@ use Rattle.inodes.specs.Lemmas.FullWrites.{EndsSo, WritesToEnd, full_ends, full_
 use Rattle.inodes.specs.Lemmas.Runs.{IsAt}
 use Rattle.inodes.specs.Runs.{StepMade}
 use Rattle.inodes.specs.Steps.{Steps}
-use Rattle.inodes.specs.Store.{StoreState, current_of}
+use Rattle.inodes.specs.Store.{FitsFiles, StoreState, current_of}
 use Rattle.inodes.specs.WriteRuns.{IsFull}
 use Rattle.inodes.specs.Writing.{extent_of}
 use Rattle.inodes.specs.declared.tasks.Stage.{Stage}
 use Rattle.inodes.specs.declared.tasks.Stage.TheVariants as stage
 use Rattle.inodes.specs.declared.writei.Extent.{Extent}
+use Rattle.history.specs.Processes.{process}
 use Rattle.kernel.specs.State.{kind_of, class_of}
 use Rattle.model.specs.declared.types.operations.Step.{Step}
 use Rattle.model.specs.declared.types.operations.Step.TheVariants as step
 use Rattle.kernel.specs.declared.class.OpClass.TheVariants as waiting_as
 use Rattle.calls.specs.Calls.{ShortIsFull, image_on}
 use Rattle.calls.specs.Stepping.{Plain}
-use Rattle.calls.proofs.Called.{call_opening, given, kept_then}
+use Rattle.calls.specs.Transactions.{image_seen}
+use Rattle.calls.proofs.Called.{IsCall, call_opening, given, kept_then}
+use Rattle.calls.proofs.Counting.{IsAnswered, IsFree}
 use Rattle.calls.proofs.Idle.{bitmap, current, lone_idle, long, on_disk}
 use Rattle.calls.proofs.Sole.{IsDone, IsSole}
 use Rattle.calls.proofs.Stages.{AfterTurn, Answered, BeforeTurn, Committing, IsGoing, IsKept, Over, Waits, Where, kind_then}
+use Rattle.calls.proofs.Telling.{counts_files, stands_for, told_files}
 
 -- ---- a write that gives fewer bytes
 
@@ -190,22 +197,52 @@ module _ {D N : Type 0} (disk : Ghosts D N) (i off done : ℕ) (bytes : List ℕ
     committed = λ s r judged. judged;
   }
 
--- ---- so no block is free on the disk
+-- ---- so no block is free, once it is answered
 
+-- an image whose bitmap stands there, and that is so long, has each bit set
+marks_all : (y : Image) (e : Extent) → (super_of y).bmapstart ≡ e.bitmap → length y ≡ e.size → IsFull y e → (b : ℕ) → b < length y → is_marked y b ≡ true
+marks_all y e map size full b below = ap (λ (c : ℕ). has_bit (block_at y c) b) map ∙ full b (omega (arith, below, size))
+
+-- the bitmap of the current image stands behind the inodes
+bitmap_seen : {D : Type 0} (image : D → Image) (s : StoreState D) (f : Files) → FitsFiles image s f → (super_of (current_of image s.volume)).bmapstart ≡ bitmap_block (length f)
+unfolding FitsFiles
+bitmap_seen image s f fits = (facts_of (current_of image s.volume) fits.geometry).map ∙ ap bitmap_block (sym fits.count)
+
+module _ {D N : Type 0} (disk : Ghosts D N) (op : Op) (r : Step) (k m : Plain D) (call : IsCall disk 0 op r k m) (so : r ≡ step.Answered) (is : IsAnswered 0 op (given disk 0 op r k m call) m) where
+  -- the numbers and the blocks before it
+  abbrev taken_in : Extent
+  taken_in = extent_of k.store.table.form k.store.table.inode_count k.store.volume.log.size
+
+  same_numbers : m.store.table.inode_count ≡ k.store.table.inode_count
+  same_numbers = call.known_now.numbers ∙ ap (λ (d : D). inode_count_of (disk.image d)) (call_opening disk 0 op r k m call) ∙ sym call.known_then.numbers
+
+  full_then : (i off count : ℕ) (bytes : List ℕ) → op ≡ Write i off bytes → is.answer.reply ≡ Wrote count → count < length bytes → IsFull (current_of disk.image m.store.volume) taken_in
+  full_then i off count bytes writes wrote short =
+      let form = k.store.table.form in
+      let n = k.store.table.inode_count in
+      let size = k.store.volume.log.size in
+      let P = Writing disk i off count bytes short form n size in
+      let keeps = subst (λ (o : Op). IsKept disk 0 o P) (sym writes) (writing_kept disk i off count bytes short form n size) in
+      kept_then disk 0 op r k m call P keeps (record { form_is = refl; numbers = refl; size_is = refl }) so is (ap (λ (q : Reply). Some q) wrote)
+
+  -- in the current image, where no operation is behind its turn
+  pub short_seen : m.store.volume.fault ≡ None → ((p : ℕ) → IsFree (process m.world p).at) → length (image_on disk.image m) ≡ k.store.volume.log.size → ShortIsFull (image_seen disk.image m) op is.answer.reply
+  short_seen well free size i off count bytes writes wrote short =
+      let told = told_files disk m call.known_now free in
+      let numbers : length told.0 ≡ k.store.table.inode_count = sym (counts_files disk m call.known_now told.0 told.1) ∙ same_numbers in
+      marks_all (image_seen disk.image m) taken_in
+      (bitmap_seen disk.image m.store told.0 (stands_for disk m call.known_now free well told.0 told.1) ∙ ap bitmap_block numbers)
+      (length-current (image_on disk.image m) m.store.volume.buffers ∙ size)
+      (full_then i off count bytes writes wrote short)
+
+-- and on the disk, where nothing stands in buffers alone
 pub short_full : {D N : Type 0} (disk : Ghosts D N) (op : Op) (r : Step) (k m : Plain D) (sole : IsSole disk op r k m) → r ≡ step.Answered → (done : IsDone op (given disk 0 op r k m sole.call) m) → m.store.volume.fault ≡ None → ShortIsFull (image_on disk.image m) op done.is.answer.reply
-short_full {D} disk op r k m sole so done well i off count bytes writes wrote short b below =
-    let y = image_on disk.image m in
-    let opening = call_opening disk 0 op r k m sole.call in
-    let n = k.store.table.inode_count in
-    let size = k.store.volume.log.size in
+short_full {D} disk op r k m sole so done well i off count bytes writes wrote short =
+    let known = sole.call.known_now in
     let all = lone_idle k.world sole.rests.one sole.rests.idle in
     let all_now = lone_idle m.world done.one done.idle in
-    let known = sole.call.known_now in
-    let P = Writing disk i off count bytes short k.store.table.form n size in
-    let keeps = subst (λ (o : Op). IsKept disk 0 o P) (sym writes) (writing_kept disk i off count bytes short k.store.table.form n size) in
-    let full = kept_then disk 0 op r k m sole.call P keeps (record { form_is = refl; numbers = refl; size_is = refl }) so done.is (ap (λ (q : Reply). Some q) wrote) in
-    let same : m.store.table.inode_count ≡ n = known.numbers ∙ ap (λ (d : D). inode_count_of (disk.image d)) opening ∙ sym sole.known.numbers in
-    let length_then : length y ≡ size = long disk m known all_now well ∙ ap (λ (d : D). length (disk.image d)) opening ∙ sym (current disk k sole.known all sole.rests.well).size in
-    ap (λ (c : ℕ). has_bit (block_at y c) b) (bitmap disk m known all_now well ∙ ap bitmap_block same)
-    ∙ ap (λ (x : Image). has_bit (block_at x (bitmap_block n)) b) (sym (on_disk disk m known all_now well))
-    ∙ full b (omega (arith, below, length_then))
+    let e = taken_in disk op r k m sole.call so done.is in
+    marks_all (image_on disk.image m) e
+    (bitmap disk m known all_now well ∙ ap bitmap_block (same_numbers disk op r k m sole.call so done.is))
+    (long disk m known all_now well ∙ ap (λ (d : D). length (disk.image d)) (call_opening disk 0 op r k m sole.call) ∙ sym (current disk k sole.known all sole.rests.well).size)
+    (subst (λ (x : Image). IsFull x e) (on_disk disk m known all_now well) (full_then disk op r k m sole.call so done.is i off count bytes writes wrote short))

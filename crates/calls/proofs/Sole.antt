@@ -37,7 +37,7 @@ use Rattle.calls.specs.Calls.{Rests, call_count, is_look, is_own}
 use Rattle.calls.specs.Lemmas.Reaching.{reached_ports, reached_steps, reached_then}
 use Rattle.calls.specs.Stepping.{IsReached, MakesPlainStep, Plain, plain_herald, plain_queues}
 use Rattle.calls.specs.Transactions.{IsFetched}
-use Rattle.calls.proofs.Called.{IsCall, call_after, call_answered, call_over, call_stage, given, halts_not, still_faultless, with_intake}
+use Rattle.calls.proofs.Called.{IsCall, call_after, call_answered, call_over, call_stage, given, halts_not, is_call, still_faultless, with_intake}
 use Rattle.calls.proofs.Counting.{IsAnswered, fetched_again, room_left}
 use Rattle.calls.proofs.Going.{After}
 use Rattle.calls.proofs.Idle.{lone_idle, unopened}
@@ -69,20 +69,7 @@ is_sole disk op r k l m rests few same waits fetched known known_then known_now 
     record {
       rests = rests;
       known = known;
-      call = record {
-        i = l.intake;
-        inside = omega (arith, one);
-        idle = rests.idle;
-        own = rests_fetched disk.fault_count k rests;
-        unshut = rests.unshut;
-        faultless = rests.faultless;
-        few = few;
-        waits = waits;
-        fetched = fetched;
-        known_then = subst (λ (s : Plain _). Known disk plain_queues plain_herald s) same known_then;
-        known_now = known_now;
-        makes = subst (λ (s : Plain _). MakesSteps disk plain_queues plain_herald 0 r s m) same makes;
-      };
+      call = is_call disk 0 op r k l m (omega (arith, one)) rests.idle (rests_fetched disk.fault_count k rests) rests.unshut rests.faultless few same waits fetched known_then known_now makes;
     }
 
 -- ---- an operation that waits, and a look

@@ -1,6 +1,6 @@
 -- The files that a journal tells.
-use Rattle.std.proofs.Common.{◌≡◌, ◌∙◌, suc, ℕ, Bool, true, false, cond, ◌||◌, List, [], ◌∷◌, ◌++◌, Option, Some, None, refl, sym, ap, subst, arith}
-use Rattle.std.specs.Prelude.{is_some}
+use Rattle.std.proofs.Common.{◌≡◌, ◌∙◌, suc, ℕ, Bool, true, false, cond, ◌||◌, List, [], ◌∷◌, ◌++◌, length, Option, Some, None, refl, sym, ap, subst, arith}
+use Rattle.std.specs.Prelude.{IfNone, is_some}
 use Rattle.blocks.specs.Disk.{Image}
 use Rattle.blocks.specs.declared.disk.Disk.{Ghosts}
 use Rattle.model.specs.declared.types.operations.Entry.{Entry}
@@ -10,12 +10,16 @@ use Rattle.model.specs.Crash.{due_labels, labels_of}
 use Rattle.model.specs.Files.{Files, files_of}
 use Rattle.model.specs.Journal.{answered, is_making, replay}
 use Rattle.model.specs.Layout.{form_of}
+use Rattle.model.specs.Lemmas.FileNumbers.{length-files_of}
+use Rattle.model.specs.Lemmas.Runs.{count_stays}
 use Rattle.model.specs.Operations.{after}
+use Rattle.wal.specs.declared.types.DeviceFault.{DeviceFault}
+use Rattle.inodes.specs.Store.{FitsFiles}
 use Rattle.history.specs.declared.types.Phase.TheVariants as at
 use Rattle.history.specs.Lemmas.Making.{makes, makes_more}
 use Rattle.history.specs.Open.{IsEntry}
 use Rattle.history.specs.Processes.{World, process}
-use Rattle.kernel.specs.Known.{Known}
+use Rattle.kernel.specs.Known.{IsCurrent, Known}
 use Rattle.calls.specs.Lemmas.Entries.{one_entry}
 use Rattle.calls.specs.Stepping.{Plain, plain_herald, plain_queues}
 use Rattle.calls.specs.Transactions.{HasFiles, labels_after, labels_made}
@@ -42,6 +46,18 @@ told_files disk k known free = (
   known.replays.files,
   record { run = ap (λ (l : List Entry). replay (form_of (disk.image k.opening)) (files_of (disk.image k.opening)) l) (sym (all_told disk k known free)) ∙ known.replays.run },
 )
+
+-- the current image stands for them
+pub stands_for : {D N : Type 0} (disk : Ghosts D N) (k : Plain D) → Known disk plain_queues plain_herald k → ((p : ℕ) → IsFree (process k.world p).at) → k.store.volume.fault ≡ None → (f : Files) → HasFiles disk.image k f → FitsFiles disk.image k.store f
+stands_for disk k known free well f has =
+    let current : IsCurrent disk.image k = subst (λ (o : Option DeviceFault). IfNone o (IsCurrent disk.image k)) well known.current in
+    current.stands f (ap (λ (l : List Entry). replay (form_of (disk.image k.opening)) (files_of (disk.image k.opening)) l) (all_told disk k known free) ∙ has.run)
+
+-- and there are as many as numbers
+pub counts_files : {D N : Type 0} (disk : Ghosts D N) (k : Plain D) → Known disk plain_queues plain_herald k → (f : Files) → HasFiles disk.image k f → k.store.table.inode_count ≡ length f
+counts_files disk k known f has =
+    let o = disk.image k.opening in
+    known.numbers ∙ sym (length-files_of o) ∙ sym (count_stays (form_of o) (files_of o) f k.world.journal.list has.run)
 
 -- the files with one operation more
 pub files_then : {D N : Type 0} (disk : Ghosts D N) (k m : Plain D) (e : Entry) (op : Op) (r : Reply) → m.opening ≡ k.opening → m.world.journal.list ≡ k.world.journal.list ++ e ∷ [] → e.op ≡ op → e.reply ≡ Some r → (f g : Files) → HasFiles disk.image k f → HasFiles disk.image m g → after (form_of (disk.image k.opening)) f op r ≡ Some g

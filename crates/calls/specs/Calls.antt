@@ -3,7 +3,7 @@
 use Rattle.std.specs.Prelude.{◌≡◌, ◌≢◌, ◌⊎◌, ⊤, ℕ, ◌+◌, ◌<◌, ◌≤◌, ◌==◌, Bool, true, false, IsTrue, List, [], length, Result, Ok, Err, Some, None}
 use Rattle.std.specs.List.{list_all}
 use Rattle.blocks.specs.Calls.{OnlyReads}
-use Rattle.blocks.specs.Disk.{Image, Rose, block_at}
+use Rattle.blocks.specs.Disk.{Image, LeavesOnly, Rose, block_at}
 use Rattle.blocks.specs.declared.disk.Disk.{Ghosts}
 use Rattle.model.specs.Files.{Files, files_of, file_in}
 use Rattle.model.specs.Layout.{form_of, inode_count_of, is_marked}
@@ -121,6 +121,12 @@ pub record KeepsFiles (x z : Image) : Type 0 where
   pub sound : IsSound (recovered z)
   pub files : files_of (recovered z) ≡ files_of x
   pub unshown : KeepsUnshown x (recovered z)
+
+-- a stop at any moment from k to m leaves the files that were on the disk of k
+abbrev pub LeavesFiles : {D N : Type 0} → Ghosts D N → Plain D → Plain D → Type 0
+LeavesFiles disk k m =
+    LeavesOnly disk.moment disk.leaves k.store.volume.device m.store.volume.device
+    (KeepsFiles (image_on disk.image k))
 
 -- a reply that a call may have had
 abbrev pub MayReply : Result Reply CallFault → Reply → Type 0

@@ -16,14 +16,14 @@ use Rattle.model.specs.declared.types.operations.Op.TheVariants.{Create, Write, 
 use Rattle.model.specs.declared.types.operations.Reply.{Reply}
 use Rattle.ports.specs.Queues.{polled, waiting}
 use Rattle.inodes.specs.Holding.{claim_of}
-use Rattle.inodes.specs.Store.{first_taking}
+use Rattle.inodes.specs.Store.{current_of, first_taking}
 use Rattle.inodes.specs.Tasks.{task}
 use Rattle.history.specs.declared.types.Phase.TheVariants as at
 use Rattle.history.specs.Processes.{process}
 use Rattle.wal.specs.Machine.{LogState, begin_cause}
 use Rattle.wal.specs.declared.types.Commit.TheVariants as commit
 pub use Rattle.calls.specs.Calls.{KeepsFiles}
-use Rattle.calls.specs.Calls.{HasFailed, MakesLowestOf, MakesNoneOf, call_count, faults_on, image_on, is_look}
+use Rattle.calls.specs.Calls.{HasFailed, MakesLowestOf, MakesNoneOf, ShortIsFull, call_count, faults_on, image_on, is_look}
 use Rattle.calls.specs.Stepping.{Plain}
 use Rattle.calls.specs.Unshown.{KeepsOrRenews, KeepsUnshown}
 use Rattle.calls.specs.declared.transactions.fault.TransactionFault.{TransactionFault}
@@ -76,6 +76,10 @@ pub record HasFiles {D : Type 0} (image : D → Image) (k : Plain D) (f : Files)
   pub run : replay (form_of (image k.opening)) (files_of (image k.opening)) k.world.journal.list
       ≡ Some f
 
+-- the image as a kernel's operations see it: that of the disk, with what stands in buffers alone
+abbrev pub image_seen : {D : Type 0} → (D → Image) → Plain D → Image
+image_seen image k = current_of image k.store.volume
+
 -- the labels of a file that they have made or left: those of a new one where one of them made it
 abbrev pub labels_made : {D : Type 0} → (D → Image) → Plain D → ℕ → ℕ × ℕ × ℕ
 labels_made image k i = due_labels (image k.opening) k.world.journal.list i
@@ -97,7 +101,8 @@ pub record Begins {D : Type 0} (image : D → Image) (k m : Plain D) : Type 0 wh
 
 -- THE PROMISE OF A CALL in a transaction: it adds this operation with this reply to what the
 -- transaction made, and the disk stays as it was. A creation makes the lowest number that is free
--- among the files made so far, and none only where each is taken.
+-- among the files made so far, and none only where each is taken; a short write leaves no block free
+-- of those that the transaction sees.
 pub record Adds {D : Type 0} (image : D → Image) (op : Op) (k m : Plain D) (reply : Reply)
     : Type 0 where
   pub same : image_on image m ≡ image_on image k
@@ -106,6 +111,7 @@ pub record Adds {D : Type 0} (image : D → Image) (op : Op) (k m : Plain D) (re
   pub labels : (i : ℕ) → labels_made image m i ≡ labels_after reply i (labels_made image k i)
   pub lowest : (f : Files) → HasFiles image k f → MakesLowestOf f op reply
   pub none : (f : Files) → HasFiles image k f → MakesNoneOf f op reply
+  pub short : ShortIsFull (image_seen image m) op reply
   pub one_more : call_count m ≡ call_count k + 1
   -- what it logged, beside what the transaction had logged
   pub room : length m.store.volume.log.homes

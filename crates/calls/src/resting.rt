@@ -1,6 +1,5 @@
 // What is known of a kernel between two calls.
-ghost use Rattle.blocks.specs.Disk.{LeavesOnly};
-ghost use Rattle.calls.specs.Calls.{KeepsFiles, Rests, image_on};
+ghost use Rattle.calls.specs.Calls.{LeavesFiles, Rests};
 
 use crate::calling::Sole;
 use blocks::Disk;
@@ -9,9 +8,7 @@ use blocks::Disk;
 /// files that are on the disk.
 pub fn rested<D: Disk>(kernel: &Sole<D>)
     requires { Rests D.fault_count kernel.now }
-    ensures { LeavesOnly D.moment D.leaves
-        kernel.now.store.volume.device kernel.now.store.volume.device
-        (KeepsFiles (image_on D.image kernel.now)) }
+    ensures { LeavesFiles D.Disk kernel.now kernel.now }
 {
     kernel.known();
 }

@@ -1,7 +1,6 @@
 // Steps of a process, one after the other.
 ghost use Rattle.std.specs.Prelude.{◌≡◌, ◌<◌, length};
 ghost use Rattle.kernel.specs.Moves.{MakesSteps};
-ghost use Rattle.kernel.specs.Steps.{MakesStep};
 ghost use Rattle.ports.specs.History.{SameNames};
 
 use blocks::Disk;

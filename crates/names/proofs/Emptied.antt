@@ -1,5 +1,5 @@
 -- An empty directory goes from a tree with its name.
-use Rattle.std.proofs.Common.{◌≡◌, ℕ, Bool, true, List, Option, Some, sym, ap, subst, ◌∙◌}
+use Rattle.std.proofs.Common.{◌≡◌, ℕ, Bool, true, false, List, Option, Some, sym, ap, subst, ◌∙◌}
 use Rattle.blocks.specs.declared.disk.Disk.{Ghosts}
 use Rattle.model.specs.declared.types.operations.Op.TheVariants.{Remove}
 use Rattle.model.specs.declared.types.operations.Reply.{Reply}
@@ -27,6 +27,19 @@ pub led_by : (files : Files) (from : ℕ) (name bytes slice : List ℕ) (found :
 led_by files from name bytes slice found number here is same led =
     let there = found_bytes files from found bytes is here in
     (there.0, ap (λ (l : List ℕ). lookup l name) (sym (same ∙ there.1)) ∙ led)
+
+-- a directory that is not empty is there under the name
+pub led_full : (files seen : Files) (from number i : ℕ) (name bytes slice : List ℕ) (found : Option (List ℕ)) (other : Option Bool) (empty : Bool) →
+    IsDirectoryFound files from found → found ≡ Some bytes → slice ≡ bytes → lookup slice name ≡ Some number → i ≡ number → seen ≡ files →
+    IsEmptinessOf seen i other → other ≡ Some empty → empty ≡ false →
+    (n : ℕ) × (number_of files from name ≡ Some n) × IsDirectory files n × (IsEmpty (directory_in files n) → ⊥)
+led_full files seen from number i name bytes slice found other empty here is slice_is led same saw there other_is full =
+    let was = emptied files i other empty other_is (subst (λ (f : Files). IsEmptinessOf f i other) saw there) in (
+      i,
+      (led_by files from name bytes slice found (Some number) here is slice_is led).1 ∙ ap (λ (j : ℕ). Some j) (sym same),
+      was.0,
+      λ nothing. let both : false ≡ true = sym full ∙ was.1.1 nothing in cc both,
+    )
 
 -- In a transaction: kernel k looked at the directory, which is a then, and at the other in it, e; b unlinked it, and d removed it.
 module _ {D N : Type 0} (disk : Ghosts D N) (k a e b d : Plain D) (from number i : ℕ) (name bytes slice again : List ℕ) (found : Option (List ℕ))

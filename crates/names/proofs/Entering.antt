@@ -1,5 +1,5 @@
 -- A file that was made gets its name, or none where no block is free.
-use Rattle.std.proofs.Common.{◌≡◌, ◌⊎◌, ℕ, ◌<◌, ◌≤◌, Bool, true, false, List, length, Option, Some, None, sym, ap, subst, ◌∙◌, ⊎_elim, arith}
+use Rattle.std.proofs.Common.{◌≡◌, ◌⊎◌, ℕ, ◌<◌, ◌≤◌, Bool, true, false, List, length, Option, Some, None, Result, Ok, sym, ap, subst, ◌∙◌, ⊎_elim, arith}
 use Rattle.model.specs.declared.types.image.Form.{Form}
 use Rattle.model.specs.declared.types.operations.Reply.{Reply}
 use Rattle.model.specs.declared.types.operations.Reply.TheVariants.{Wrote}
@@ -9,7 +9,8 @@ use Rattle.names.specs.declared.entries.EntryWrite.{EntryWrite}
 use Rattle.blocks.specs.declared.disk.Disk.{Ghosts}
 use Rattle.calls.specs.Stepping.{Plain}
 use Rattle.names.specs.Inside.{files_seen, form_seen}
-use Rattle.names.specs.Making.{is_entered, HasCreated, HasEntered, Uncreates}
+use Rattle.names.specs.Making.{is_entered, HasCreatedNew, HasEntered, Uncreates}
+use Rattle.names.specs.declared.refusal.Refusal.{Refusal}
 use Rattle.names.specs.Walks.{IsDirectoryFound}
 use Rattle.names.specs.TreeChanges.{empty_file, AddsName, IsUnnamed}
 use Rattle.names.specs.Trees.{directory_in, number_of, IsDirectory, IsDown, IsTree}
@@ -64,9 +65,9 @@ found_fits files from found bytes slice tree is same here =
     subst (λ (b : List ℕ). length b ≤ 3072) (sym (same ∙ at.1)) (directories_are_tidy files from tree at.0).0.fits
 
 -- the file that was made
-pub created_unnamed : (kind : ℕ) (files new : Files) (made : Option ℕ) (number : ℕ) → made ≡ Some number → HasCreated kind files new made →
-    IsUnnamed files new number (empty_file kind)
-created_unnamed kind files new made number is created = (subst (λ (o : Option ℕ). HasCreated kind files new o) is created).0
+pub created_new : (file : ℕ → ℕ → File) (parent : ℕ) (files new : Files) (made : Result ℕ Refusal) (number : ℕ) → made ≡ Ok number →
+    HasCreatedNew file parent files new made → IsUnnamed files new number (file number parent) × IsNew (file number parent) number parent × (0 < number)
+created_new file parent files new made number is created = subst (λ (r : Result ℕ Refusal). HasCreatedNew file parent files new r) is created
 
 -- an empty file that is no directory is new
 pub empty_is_new : (number from : ℕ) → IsNew (empty_file 2) number from

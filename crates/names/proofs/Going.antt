@@ -18,7 +18,7 @@ use Rattle.calls.specs.declared.transactions.fault.TransactionFault.{Transaction
 use Rattle.calls.specs.declared.transactions.fault.TransactionFault.TheVariants as fault
 use Rattle.names.specs.declared.refusal.TreeFault.{TreeFault}
 use Rattle.names.specs.declared.refusal.TreeFault.TheVariants.{Path, Refused, Call, NoCall}
-use Rattle.names.specs.Inside.{files_seen, Answers, Ends, Goes, IsBroken, IsUnderWay, Looks, StaysOn}
+use Rattle.names.specs.Inside.{files_seen, Answers, Ends, Goes, IsBroken, IsUnderWay, StaysOn}
 
 module _ {D N : Type 0} (disk : Ghosts D N) where
   -- a transaction sees the files that its kernel has
@@ -68,9 +68,6 @@ module _ {D N : Type 0} (disk : Ghosts D N) where
 
   pub goes_on : (k a m : Plain D) (left less : ℕ) → Goes disk k a left → Goes disk a m less → Goes disk k m less
   goes_on k a m left less first then_on = record { way = then_on.way; same = then_on.same ∙ first.same; opening = then_on.opening ∙ first.opening }
-
-  pub looks_on : (k a m : Plain D) (left less : ℕ) → Looks disk k a left → Looks disk a m less → Looks disk k m less
-  looks_on k a m left less first then_on = record { goes = goes_on k a m left less first.goes then_on.goes; files = then_on.files ∙ first.files }
 
   -- why a later call ended the transaction
   pub same_faults : (k a : Plain D) (left less : ℕ) → IsUnderWay disk k left → Goes disk k a less → faults_on disk.fault_count a ≡ faults_on disk.fault_count k

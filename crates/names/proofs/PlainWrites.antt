@@ -1,5 +1,5 @@
 -- What the write of a file that is no directory makes of the files.
-use Rattle.std.proofs.Common.{◌≡◌, ℕ, true, eqb, ◌&&◌, ◌||◌, leb, List, length, take, set, Option, Some, None, Ok, Err, refl, sym, ap, subst, ◌∙◌, arith}
+use Rattle.std.proofs.Common.{◌≡◌, ℕ, true, eqb, List, length, take, set, Option, Some, None, Ok, Err, refl, sym, ap, subst, ◌∙◌, arith}
 use Rattle.std.proofs.lemmas.Bool.{eqb-true}
 use Rattle.std.proofs.lemmas.List.{take_all}
 use Rattle.blocks.specs.Block.{overwritten}
@@ -18,7 +18,7 @@ use Rattle.model.specs.Operations.{after, after_refusal, after_at, is_refusal, m
 use Rattle.calls.specs.Stepping.{Plain}
 use Rattle.names.specs.declared.writing.Unwritten.{Unwritten}
 use Rattle.names.specs.declared.writing.Unwritten.TheVariants as unwritten
-use Rattle.names.specs.Inside.{files_seen, form_seen, Answers}
+use Rattle.names.specs.Inside.{files_seen, form_seen}
 use Rattle.names.specs.Trees.{IsDirectory, IsFile, IsTree}
 use Rattle.names.specs.Writing.{reply_of, written, HasWritten, Outcome, WritesAs, WritesOf}
 use Rattle.names.proofs.Dropping.{keeping_keeps}

@@ -58,6 +58,20 @@ pub depth_other : (depth : ℕ → ℕ) (parent number i : ℕ) → i ≢ number
 unfolding depth_with
 depth_other depth parent number i ne = cond-false (eqb i number) (suc (depth parent)) (depth i) (ne_eqb i number ne)
 
+-- a file that is new in its place has one parent and one name still, and so has each other
+module _ (Down New : ℕ → List ℕ → ℕ → Type 0) (IsThere : ℕ → Type 0) (depth : ℕ → ℕ) (parent : ℕ) (name : List ℕ) (number : ℕ) (tree : IsRooted Down IsThere depth)
+    (old : (from to : ℕ) (other : List ℕ) → to ≢ number → New from other to → Down from other to)
+    (this : (from to : ℕ) (other : List ℕ) → to ≡ number → New from other to → (from ≡ parent) × (other ≡ name)) where
+  one_parent : (a b i : ℕ) (x y : List ℕ) → New a x i → New b y i → a ≡ b
+  one_parent a b i x y at_a at_b =
+      ⊎_elim (λ (e : i ≡ number). (this a i x e at_a).0 ∙ sym (this b i y e at_b).0)
+      (λ (ne : i ≢ number). tree.parent a b i x y (old a i x ne at_a) (old b i y ne at_b)) (cases_eq i number)
+
+  one_name : (a i : ℕ) (x y : List ℕ) → New a x i → New a y i → x ≡ y
+  one_name a i x y at_x at_y =
+      ⊎_elim (λ (e : i ≡ number). (this a i x e at_x).1 ∙ sym (this a i y e at_y).1)
+      (λ (ne : i ≢ number). tree.name a i x y (old a i x ne at_x) (old a i y ne at_y)) (cases_eq i number)
+
 pub rooted_added : (Down New : ℕ → List ℕ → ℕ → Type 0) (Was Is : ℕ → Type 0) (depth : ℕ → ℕ) (parent : ℕ) (name : List ℕ) (number : ℕ) →
     IsRooted Down Was depth → AddsDown Down New Was Is parent name number → IsRooted New Is (depth_with depth parent number)
 rooted_added Down New Was Is depth parent name number tree adds =
@@ -85,12 +99,8 @@ rooted_added Down New Was Is depth parent name number tree adds =
           ⊎_elim
           (λ (e : i ≡ number). (parent, name, subst (λ (k : ℕ). New parent name k) (sym e) adds.is))
           (λ (other : i ≢ number). let n = tree.named i ne (adds.was i other is) in (n.0, n.1, adds.still n.0 i n.1 n.2)) (cases_eq i number);
-      parent = λ a b i x y at_a at_b.
-          ⊎_elim (λ (e : i ≡ number). (this a i x e at_a).0 ∙ sym (this b i y e at_b).0)
-          (λ (ne : i ≢ number). tree.parent a b i x y (old a i x ne at_a) (old b i y ne at_b)) (cases_eq i number);
-      name = λ a i x y at_x at_y.
-          ⊎_elim (λ (e : i ≡ number). (this a i x e at_x).1 ∙ sym (this a i y e at_y).1)
-          (λ (ne : i ≢ number). tree.name a i x y (old a i x ne at_x) (old a i y ne at_y)) (cases_eq i number);
+      parent = one_parent Down New Was depth parent name number tree old this;
+      name = one_name Down New Was depth parent name number tree old this;
       deeper = λ from to other d.
           ⊎_elim
           (λ (t : (to ≡ number) × (from ≡ parent) × (other ≡ name)).
@@ -140,12 +150,8 @@ rooted_moved Down New IsThere depth deep parent name number tree moves =
       named = λ i ne is.
           ⊎_elim (λ (e : i ≡ number). (parent, name, subst (λ (k : ℕ). New parent name k) (sym e) moves.is))
           (λ (other : i ≢ number). let n = tree.named i ne is in (n.0, n.1, moves.still n.0 i n.1 other n.2)) (cases_eq i number);
-      parent = λ a b i x y at_a at_b.
-          ⊎_elim (λ (e : i ≡ number). (this a i x e at_a).0 ∙ sym (this b i y e at_b).0)
-          (λ (ne : i ≢ number). tree.parent a b i x y (old a i x ne at_a) (old b i y ne at_b)) (cases_eq i number);
-      name = λ a i x y at_x at_y.
-          ⊎_elim (λ (e : i ≡ number). (this a i x e at_x).1 ∙ sym (this a i y e at_y).1)
-          (λ (ne : i ≢ number). tree.name a i x y (old a i x ne at_x) (old a i y ne at_y)) (cases_eq i number);
+      parent = one_parent Down New IsThere depth parent name number tree old this;
+      name = one_name Down New IsThere depth parent name number tree old this;
       deeper = λ from to other d.
           ⊎_elim
           (λ (t : (to ≡ number) × (from ≡ parent) × (other ≡ name)).

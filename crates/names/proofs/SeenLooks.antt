@@ -10,18 +10,14 @@ use Rattle.model.specs.Files.{Files, file_in}
 use Rattle.calls.specs.Stepping.{Plain}
 use Rattle.calls.specs.Calls.{image_on}
 use Rattle.names.specs.Walks.{walked}
-use Rattle.names.specs.Inside.{files_seen, form_seen, Answers, Goes, IsUnderWay, Looks, StaysOn}
+use Rattle.names.specs.Inside.{files_seen, form_seen, Answers, IsUnderWay, StaysOn}
 use Rattle.names.specs.Trees.{bytes_of, directory_in, kind_of, IsDirectory, IsTree}
 use Rattle.names.proofs.Answered.{file_by}
 use Rattle.names.proofs.FileLooks.{kind_told, reads, tells, tidy_in}
-use Rattle.names.proofs.Going.{goes_on}
 
 module _ {D N : Type 0} (disk : Ghosts D N) where
-  pub stat_looks : (k a : Plain D) (i left : ℕ) (reply : Reply) → Goes disk k a left → Answers disk.image (Stat i) k a reply → Looks disk k a left
-  stat_looks k a i left reply goes answers = record {
-    goes = goes;
-    files = (tells (form_seen disk.image k) (files_seen disk.image k) (files_seen disk.image a) i reply answers).same;
-  }
+  pub stat_same : (k a : Plain D) (i : ℕ) (reply : Reply) → Answers disk.image (Stat i) k a reply → files_seen disk.image a ≡ files_seen disk.image k
+  stat_same k a i reply answers = (tells (form_seen disk.image k) (files_seen disk.image k) (files_seen disk.image a) i reply answers).same
 
   pub stat_kind : (k a : Plain D) (i : ℕ) (reply : Reply) → Answers disk.image (Stat i) k a reply →
       kind_of (file_in (files_seen disk.image k) i) ≡ kind_told reply
@@ -40,9 +36,6 @@ module _ {D N : Type 0} (disk : Ghosts D N) where
       let fits : length d.bytes ≤ 3072 = subst (λ (b : List ℕ). length b ≤ 3072) long (tidy_in fs i tree is).fits in
       let brought = reads (form_seen disk.image a) (files_seen disk.image a) (files_seen disk.image b) i 0 3072 d reply here (omega arith) answers in
       (brought.0 ∙ same, brought.1 ∙ ap (λ (b : List ℕ). Bytes b) (take_all 3072 d.bytes fits ∙ sym long))
-
-  pub read_looks : (k a b : Plain D) (left less : ℕ) → Looks disk k a left → Goes disk a b less → files_seen disk.image b ≡ files_seen disk.image k → Looks disk k b less
-  read_looks k a b left less first goes same = record { goes = goes_on disk k a b left less first.goes goes; files = same }
 
 -- names were walked up to a number, and these are left
 pub record HasWalked {D N : Type 0} (disk : Ghosts D N) (k m : Plain D) (old left : ℕ) (number : ℕ) (behind names : List (List ℕ)) : Type 0 where

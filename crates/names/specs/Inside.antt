@@ -1,5 +1,5 @@
 -- Calls of a transaction, and the files that it sees.
-use Rattle.std.specs.Prelude.{◌≡◌, ℕ, ◌+◌, ◌^◌, ◌≤◌, [], Some, unwrap_or}
+use Rattle.std.specs.Prelude.{◌≡◌, ℕ, ◌+◌, ◌^◌, ◌≤◌, [], Some, unwrap_or, Result, OnOk, IfErr}
 use Rattle.blocks.specs.Disk.{Image, LeavesOnly}
 use Rattle.blocks.specs.declared.disk.Disk.{Ghosts}
 use Rattle.model.specs.Files.{Files, files_of}
@@ -37,10 +37,9 @@ pub record Goes {D N : Type 0} (disk : Ghosts D N) (k m : Plain D) (left : ℕ) 
   pub same : image_on disk.image m ≡ image_on disk.image k
   pub opening : m.opening ≡ k.opening
 
--- The same, and the files are as they were.
-pub record Looks {D N : Type 0} (disk : Ghosts D N) (k m : Plain D) (left : ℕ) : Type 0 where
-  pub goes : Goes disk k m left
-  pub files : files_seen disk.image m ≡ files_seen disk.image k
+-- and it sees the same files in m
+abbrev pub SeesSame : {D : Type 0} → (D → Image) → Plain D → Plain D → Type 0
+SeesSame image k m = files_seen image m ≡ files_seen image k
 
 -- an operation was answered so
 abbrev pub Answers : {D : Type 0} → (D → Image) → Op → Plain D → Plain D → Reply → Type 0
@@ -80,3 +79,11 @@ pub record Ends {D N : Type 0} (disk : Ghosts D N) (k m : Plain D) (left : ℕ) 
     : Type 0 where
   pub none : left ≡ 0
   pub broken : IsBroken disk k m cause
+
+-- What became of a transaction of kernel k, which is m now, behind calls in it: it goes on, or no other
+-- call is made, and what a stop left it leaves.
+pub record Proceeds {D N T : Type 0} (disk : Ghosts D N) (result : Result T TreeFault)
+    (k m : Plain D) (left : ℕ) : Type 0 where
+  pub on : OnOk result (Goes disk k m left)
+  pub stays : StaysOn disk k m
+  pub ends : IfErr result (Ends disk k m left)

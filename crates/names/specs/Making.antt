@@ -15,7 +15,7 @@ use Rattle.names.specs.declared.refusal.Refusal.TheVariants.{NotFound, NotADirec
 use Rattle.names.specs.Entries.{entry_size}
 use Rattle.names.specs.Inside.{Answers}
 use Rattle.names.specs.Ready.{is_filled}
-use Rattle.names.specs.TreeChanges.{directory_file, empty_file, AddsDirectory, AddsName, IsUnnamed}
+use Rattle.names.specs.TreeChanges.{empty_file, AddsDirectory, AddsName, IsUnnamed}
 use Rattle.names.specs.TreeLaws.{IsNew}
 use Rattle.names.specs.Trees.{directory_in, new_directory, number_of, IsDirectory}
 use Rattle.names.specs.Walks.{AtLast}
@@ -30,6 +30,13 @@ abbrev pub HasCreated : ℕ → Files → Files → Option ℕ → Type 0
 HasCreated kind files new None = new ≡ files
 HasCreated kind files new (Some number) =
     IsUnnamed files new number (empty_file kind) × (0 < number)
+
+-- a new file was made, which has no name yet; or it was not, for want of a number or of a block
+abbrev pub HasCreatedNew : (ℕ → ℕ → File) → ℕ → Files → Files → Result ℕ Refusal → Type 0
+HasCreatedNew file parent files new (Ok number) = IsUnnamed files new number (file number parent)
+    × IsNew (file number parent) number parent × (0 < number)
+HasCreatedNew file parent files new (Err cause) =
+    (new ≡ files) × ((cause ≡ NoNumber) ⊎ (cause ≡ NoBlock))
 
 -- a file that was made and not named is gone again, and the files are as before it
 abbrev pub Uncreates : ℕ → Files → Files → Type 0
@@ -79,15 +86,6 @@ abbrev pub MakesAt : List (List ℕ) → ℕ → Files → Files → Type 0
 MakesAt names = AtLast MakesIn names
 
 -- ---- directories
-
--- a directory of its two entries alone was made, which has no name yet; or it was not, for want of a
--- number or of a block
-abbrev pub HasCreatedDirectory : ℕ → Files → Files → Result ℕ Refusal → Type 0
-HasCreatedDirectory parent files new (Ok number) =
-    IsUnnamed files new number (directory_file number parent)
-    × IsNew (directory_file number parent) number parent × (0 < number)
-HasCreatedDirectory parent files new (Err cause) =
-    (new ≡ files) × ((cause ≡ NoNumber) ⊎ (cause ≡ NoBlock))
 
 -- the two entries of a new directory were written, and whether they are whole
 pub record HasFilledFor {D : Type 0} (image : D → Image) (number parent : ℕ) (k m : Plain D)

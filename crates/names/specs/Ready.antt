@@ -106,6 +106,11 @@ abbrev pub Happens : {T : Type 0} → (T → Files → Files → Type 0) → (Fi
 Happens change why files new (Ok made) = change made files new
 Happens change why files new (Err cause) = (new ≡ files) × why files cause
 
+-- what a call of a tree answers, of what became of its change
+abbrev pub answer_of : {T : Type 0} → Result T Refusal → Result T TreeFault
+answer_of (Ok made) = Ok made
+answer_of (Err cause) = Err (Refused cause)
+
 -- ALL OR NOTHING: what a stop leaves of image x: recovery gives a sound image whose files are a tree,
 -- those of x or those after a change of them.
 pub record KeepsTree {T : Type 0} (change : T → Files → Files → Type 0) (x z : Image)

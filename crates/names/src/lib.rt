@@ -14,6 +14,7 @@
 #![tactic(auto)]
 
 mod asking;
+mod changing;
 mod checking;
 mod contents;
 mod directing;

@@ -1,6 +1,6 @@
 // Looks at the directories of a tree, in a transaction.
-ghost use Rattle.std.specs.Prelude.{◌≡◌, IfErr, IfOk, OnOk};
-ghost use Rattle.names.specs.Inside.{files_seen, Ends, IsUnderWay, Looks, StaysOn};
+ghost use Rattle.std.specs.Prelude.{◌≡◌, IfOk, OnOk};
+ghost use Rattle.names.specs.Inside.{files_seen, IsUnderWay, Proceeds, SeesSame};
 ghost use Rattle.names.specs.Trees.{root, IsTree};
 ghost use Rattle.names.specs.Walks.{stepped, walked, IsDirectoryFound, found_or};
 ghost use Rattle.names.specs.Entries.{lookup};
@@ -21,13 +21,10 @@ impl<D: Disk> Tree<D> {
     pub(crate) fn directory(&mut self, number: u32) -> Result<Option<Content>, TreeFault>
         requires way { IsUnderWay D.Disk self.old.kernel self.old.calls_left }
         requires tree { IsTree (files_seen D.image self.old.kernel) }
-        ensures looks { OnOk result (Looks D.Disk
-            self.old.kernel self.new.kernel self.new.calls_left) }
+        ensures goes { Proceeds D.Disk result self.old.kernel self.new.kernel self.new.calls_left }
+        ensures same { OnOk result (SeesSame D.image self.old.kernel self.new.kernel) }
         ensures found { IfOk result (IsDirectoryFound
             (files_seen D.image self.old.kernel) number) }
-        ensures stays { StaysOn D.Disk self.old.kernel self.new.kernel }
-        ensures ends { IfErr result (Ends D.Disk
-            self.old.kernel self.new.kernel self.new.calls_left) }
     {
         let Reply::StatOf(kind, _size) = self.called(Op::Stat(number))? else {
             return Ok(None);
@@ -46,13 +43,10 @@ impl<D: Disk> Tree<D> {
     pub(crate) fn step(&mut self, from: u32, name: &Name) -> Result<Result<u32, Refusal>, TreeFault>
         requires way { IsUnderWay D.Disk self.old.kernel self.old.calls_left }
         requires tree { IsTree (files_seen D.image self.old.kernel) }
-        ensures looks { OnOk result (Looks D.Disk
-            self.old.kernel self.new.kernel self.new.calls_left) }
+        ensures goes { Proceeds D.Disk result self.old.kernel self.new.kernel self.new.calls_left }
+        ensures same { OnOk result (SeesSame D.image self.old.kernel self.new.kernel) }
         ensures led { IfOk result (λ led.
             led ≡ stepped (files_seen D.image self.old.kernel) from name.now) }
-        ensures stays { StaysOn D.Disk self.old.kernel self.new.kernel }
-        ensures ends { IfErr result (Ends D.Disk
-            self.old.kernel self.new.kernel self.new.calls_left) }
     {
         let Some(bytes) = self.directory(from)? else {
             return Ok(Err(Refusal::NotADirectory));
@@ -64,13 +58,10 @@ impl<D: Disk> Tree<D> {
     pub(crate) fn walk(&mut self, names: &[Name]) -> Result<Result<u32, Refusal>, TreeFault>
         requires way { IsUnderWay D.Disk self.old.kernel self.old.calls_left }
         requires tree { IsTree (files_seen D.image self.old.kernel) }
-        ensures looks { OnOk result (Looks D.Disk
-            self.old.kernel self.new.kernel self.new.calls_left) }
+        ensures goes { Proceeds D.Disk result self.old.kernel self.new.kernel self.new.calls_left }
+        ensures same { OnOk result (SeesSame D.image self.old.kernel self.new.kernel) }
         ensures led { IfOk result (λ led.
             led ≡ walked (files_seen D.image self.old.kernel) root names.now) }
-        ensures stays { StaysOn D.Disk self.old.kernel self.new.kernel }
-        ensures ends { IfErr result (Ends D.Disk
-            self.old.kernel self.new.kernel self.new.calls_left) }
     {
         let mut number = DIRECTORY;
         for name in names {

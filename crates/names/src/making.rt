@@ -1,21 +1,21 @@
 // Files made in a tree.
-ghost use Rattle.std.specs.Prelude.{true, ◌≡◌, ◌<◌, ◌≤◌, ◌^◌, IfErr, IfOk, IfSome, OnOk};
+ghost use Rattle.std.specs.Prelude.{true, ◌≡◌, ℕ, ◌<◌, IfErr, IfOk, OnOk};
 ghost use Rattle.calls.specs.Calls.{image_on};
 ghost use Rattle.calls.specs.Stopped.{StaysOver};
 ghost use Rattle.model.specs.Files.{files_of};
 ghost use Rattle.model.specs.Operations.{is_kind};
 ghost use Rattle.names.specs.Entries.{most_entries};
-ghost use Rattle.names.specs.Inside.{files_seen, Ends, Goes, IsUnderWay, StaysOn};
-ghost use Rattle.names.specs.Making.{HasCreated, HasEntered, IsUnmadeIn, MakesAt, MakesIn, Uncreates, unlinked};
+ghost use Rattle.model.specs.declared.types.image.File.{File};
+ghost use Rattle.names.specs.Inside.{files_seen, IsUnderWay, Proceeds};
+ghost use Rattle.names.specs.Making.{file_kind, HasCreated, HasCreatedNew, HasEntered, IsUnmadeIn, MakesAt, Uncreates, unlinked};
 ghost use Rattle.names.specs.Paths.{names_of};
-ghost use Rattle.names.specs.Ready.{Happens, IsUnanswered, IsUndone, LeavesTree, MayGoOn};
-ghost use Rattle.names.specs.Trees.{directory_in, IsDirectory, IsTree};
+ghost use Rattle.names.specs.Ready.{IsUndone, LeavesTree, MayGoOn};
+ghost use Rattle.names.specs.TreeChanges.{empty_file, AddsName};
 ghost use Rattle.names.specs.Walks.{IsUndoneIn};
-ghost use Rattle.names.specs.Writes.{Links};
 
+use crate::changing::{ChangeIn, Last};
 use crate::entries::{ENTRY_SIZE, EntryWrite, LinkFault, link};
 use crate::name::Name;
-use crate::path::names_of;
 use crate::refusal::{Refusal, TreeFault};
 use crate::tree::Tree;
 use blocks::Disk;
@@ -25,6 +25,88 @@ use std::alloc::Global;
 
 // The type of a file that is no directory.
 const FILE_KIND: u16 = 2;
+
+// A kind of file that can be made under a name.
+pub(crate) trait New {
+    // The new file of a number, in the directory of another number.
+    ghost file: { ℕ → ℕ → File };
+
+    // Makes one, which has no name yet.
+    fn create<D: Disk>(
+        &self,
+        tree: &mut Tree<D>,
+        alloc: Global,
+        parent: u32,
+    ) -> Result<Result<u16, Refusal>, TreeFault>
+        requires { IsUnderWay D.Disk tree.old.kernel tree.old.calls_left }
+        ensures goes { Proceeds D.Disk result tree.old.kernel tree.new.kernel tree.new.calls_left }
+        ensures made { IfOk result (HasCreatedNew file parent
+            (files_seen D.image tree.old.kernel) (files_seen D.image tree.new.kernel)) };
+}
+
+// An empty file that is no directory.
+#[derive(Drop)]
+pub(crate) struct NewFile;
+
+impl New for NewFile {
+    ghost file = { λ number parent. empty_file file_kind };
+
+    fn create<D: Disk>(
+        &self,
+        tree: &mut Tree<D>,
+        _alloc: Global,
+        _parent: u32,
+    ) -> Result<Result<u16, Refusal>, TreeFault> {
+        match tree.created(FILE_KIND)? {
+            Some(number) => Ok(Ok(number)),
+            None => Ok(Err(Refusal::NoNumber)),
+        }
+    }
+}
+
+// Makes a new file in a directory.
+#[derive(Drop)]
+pub(crate) struct Make<N> {
+    pub(crate) kind: N,
+}
+
+impl<N: New> ChangeIn for Make<N> {
+    type Made = u16;
+
+    ghost makes = { λ make from name number files new.
+        AddsName files new from name number (N.file number from) };
+
+    ghost refuses = { λ make. IsUnmadeIn };
+
+    fn apply_in<D: Disk>(
+        &self,
+        tree: &mut Tree<D>,
+        alloc: Global,
+        from: u32,
+        name: &Name,
+    ) -> Result<Result<u16, Refusal>, TreeFault> {
+        let Some(bytes) = tree.directory(from)? else {
+            return Ok(Err(Refusal::NotADirectory));
+        };
+        // What is refused for its name makes no file.
+        if let Err(fault) = link(bytes.as_slice(), name, 1) {
+            return Ok(Err(unlinked(fault)));
+        }
+        let number = match self.kind.create(tree, alloc, from)? {
+            Ok(number) => number,
+            Err(refusal) => return Ok(Err(refusal)),
+        };
+        let Ok(write) = link(bytes.as_slice(), name, number) else {
+            // It may be linked to any number.
+            unreachable!()
+        };
+        if tree.entered(alloc, from, write)? {
+            return Ok(Ok(number));
+        }
+        tree.uncreated(u32::from(number))?;
+        Ok(Err(Refusal::NoBlock))
+    }
+}
 
 impl<D: Disk> Tree<D> {
     /// Makes an empty file at a path, whose last name is new in the directory that the others lead to.
@@ -49,101 +131,13 @@ impl<D: Disk> Tree<D> {
             self.old.kernel self.new.kernel }
         ensures stays { StaysOver D.Disk self.old.kernel self.new.kernel }
     {
-        match names_of(alloc, path) {
-            Ok(names) => self.make_named(alloc, names.as_slice()),
-            Err(fault) => {
-                self.stands();
-                Err(TreeFault::Path(fault))
-            }
-        }
-    }
-
-    // Makes an empty file under the last of these names.
-    fn make_named(&mut self, alloc: Global, names: &[Name]) -> Result<u16, TreeFault>
-        requires ready { MayGoOn D.Disk self.old.kernel self.old.calls_left }
-        ensures ready { MayGoOn D.Disk self.new.kernel self.new.calls_left }
-        ensures makes { IfOk result (λ number. MakesAt names.now number
-            (files_of (image_on D.image self.old.kernel))
-            (files_of (image_on D.image self.new.kernel))) }
-        ensures refused { IfErr result (IsUnanswered D.Disk (IsUndoneIn IsUnmadeIn names.now)
-            self.old.kernel self.new.kernel) }
-        ensures leaves { 0 < self.old.calls_left → LeavesTree D.Disk (MakesAt names.now)
-            self.old.kernel self.new.kernel }
-        ensures stays { StaysOver D.Disk self.old.kernel self.new.kernel }
-    {
-        if self.calls_left == 0 {
-            return Err(TreeFault::NoCall);
-        }
-        self.begun(alloc)?;
-        let made = self.make_at(alloc, names)?;
-        self.committed()?;
-        match made {
-            Ok(number) => Ok(number),
-            Err(refusal) => Err(TreeFault::Refused(refusal)),
-        }
-    }
-
-    // The same in the transaction under way.
-    fn make_at(&mut self, alloc: Global, names: &[Name]) -> Result<Result<u16, Refusal>, TreeFault>
-        requires way { IsUnderWay D.Disk self.old.kernel self.old.calls_left }
-        requires tree { IsTree (files_seen D.image self.old.kernel) }
-        ensures goes { OnOk result (Goes D.Disk
-            self.old.kernel self.new.kernel self.new.calls_left) }
-        ensures tree { OnOk result (IsTree (files_seen D.image self.new.kernel)) }
-        ensures made { IfOk result (Happens (MakesAt names.now) (IsUndoneIn IsUnmadeIn names.now)
-            (files_seen D.image self.old.kernel) (files_seen D.image self.new.kernel)) }
-        ensures stays { StaysOn D.Disk self.old.kernel self.new.kernel }
-        ensures ends { IfErr result (Ends D.Disk
-            self.old.kernel self.new.kernel self.new.calls_left) }
-    {
-        if names.is_empty() {
-            return Ok(Err(Refusal::IsRoot));
-        }
-        let last = names.len() - 1;
-        match self.walk(&names[..last])? {
-            Ok(from) => self.make_in(alloc, from, &names[last]),
-            Err(refusal) => Ok(Err(refusal)),
-        }
-    }
-
-    // Makes an empty file in a directory.
-    fn make_in(
-        &mut self,
-        alloc: Global,
-        from: u32,
-        name: &Name,
-    ) -> Result<Result<u16, Refusal>, TreeFault>
-        requires way { IsUnderWay D.Disk self.old.kernel self.old.calls_left }
-        requires tree { IsTree (files_seen D.image self.old.kernel) }
-        ensures goes { OnOk result (Goes D.Disk
-            self.old.kernel self.new.kernel self.new.calls_left) }
-        ensures tree { OnOk result (IsTree (files_seen D.image self.new.kernel)) }
-        ensures made { IfOk result (Happens (MakesIn from name.now)
-            (λ files. IsUnmadeIn files from name.now)
-            (files_seen D.image self.old.kernel) (files_seen D.image self.new.kernel)) }
-        ensures stays { StaysOn D.Disk self.old.kernel self.new.kernel }
-        ensures ends { IfErr result (Ends D.Disk
-            self.old.kernel self.new.kernel self.new.calls_left) }
-    {
-        let Some(bytes) = self.directory(from)? else {
-            return Ok(Err(Refusal::NotADirectory));
-        };
-        // What is refused for its name makes no file.
-        if let Err(fault) = link(bytes.as_slice(), name, 1) {
-            return Ok(Err(unlinked(fault)));
-        }
-        let Some(number) = self.created(FILE_KIND)? else {
-            return Ok(Err(Refusal::NoNumber));
-        };
-        let Ok(write) = link(bytes.as_slice(), name, number) else {
-            // It may be linked to any number.
-            unreachable!()
-        };
-        if self.entered(alloc, from, write)? {
-            return Ok(Ok(number));
-        }
-        self.uncreated(u32::from(number))?;
-        Ok(Err(Refusal::NoBlock))
+        self.changed(
+            alloc,
+            path,
+            &Last {
+                change: Make { kind: NewFile },
+            },
+        )
     }
 
     // Makes an empty file of a type, which has no name yet. None where no number is free that an entry
@@ -151,13 +145,9 @@ impl<D: Disk> Tree<D> {
     pub(crate) fn created(&mut self, kind: u16) -> Result<Option<u16>, TreeFault>
         requires way { IsUnderWay D.Disk self.old.kernel self.old.calls_left }
         requires kind { is_kind kind ≡ true }
-        ensures goes { OnOk result (Goes D.Disk
-            self.old.kernel self.new.kernel self.new.calls_left) }
+        ensures goes { Proceeds D.Disk result self.old.kernel self.new.kernel self.new.calls_left }
         ensures made { IfOk result (HasCreated kind
             (files_seen D.image self.old.kernel) (files_seen D.image self.new.kernel)) }
-        ensures stays { StaysOn D.Disk self.old.kernel self.new.kernel }
-        ensures ends { IfErr result (Ends D.Disk
-            self.old.kernel self.new.kernel self.new.calls_left) }
     {
         let Reply::Made(number) = self.called(Op::Create(kind))? else {
             return Ok(None);
@@ -174,13 +164,9 @@ impl<D: Disk> Tree<D> {
     // Removes a file that was made and has no name.
     pub(crate) fn uncreated(&mut self, number: u32) -> Result<(), TreeFault>
         requires { IsUnderWay D.Disk self.old.kernel self.old.calls_left }
-        ensures goes { OnOk result (Goes D.Disk
-            self.old.kernel self.new.kernel self.new.calls_left) }
+        ensures goes { Proceeds D.Disk result self.old.kernel self.new.kernel self.new.calls_left }
         ensures undoes { OnOk result (Uncreates number
             (files_seen D.image self.old.kernel) (files_seen D.image self.new.kernel)) }
-        ensures stays { StaysOn D.Disk self.old.kernel self.new.kernel }
-        ensures ends { IfErr result (Ends D.Disk
-            self.old.kernel self.new.kernel self.new.calls_left) }
     {
         let _done = self.called(Op::Remove(number))?;
         Ok(())
@@ -195,13 +181,9 @@ impl<D: Disk> Tree<D> {
     ) -> Result<bool, TreeFault>
         requires way { IsUnderWay D.Disk self.old.kernel self.old.calls_left }
         requires within { write.place < most_entries }
-        ensures goes { OnOk result (Goes D.Disk
-            self.old.kernel self.new.kernel self.new.calls_left) }
+        ensures goes { Proceeds D.Disk result self.old.kernel self.new.kernel self.new.calls_left }
         ensures entered { IfOk result (HasEntered D.image from write
             self.old.kernel self.new.kernel) }
-        ensures stays { StaysOn D.Disk self.old.kernel self.new.kernel }
-        ensures ends { IfErr result (Ends D.Disk
-            self.old.kernel self.new.kernel self.new.calls_left) }
     {
         let Ok(op) = write.operation(alloc, from) else {
             self.calls_left = 0;

@@ -1,23 +1,59 @@
 // Files removed from a tree.
-ghost use Rattle.std.specs.Prelude.{◌≡◌, ◌<◌, ◌≤◌, IfErr, IfOk, OnOk};
+ghost use Rattle.std.specs.Prelude.{◌<◌, IfErr, IfOk};
 ghost use Rattle.calls.specs.Calls.{image_on};
 ghost use Rattle.calls.specs.Stopped.{StaysOver};
 ghost use Rattle.model.specs.Files.{files_of};
-ghost use Rattle.names.specs.Inside.{files_seen, Ends, Goes, IsUnderWay, StaysOn};
 ghost use Rattle.names.specs.Paths.{names_of};
-ghost use Rattle.names.specs.Ready.{Happens, IsUnanswered, IsUndone, LeavesTree, MayGoOn};
+ghost use Rattle.names.specs.Ready.{IsUndone, LeavesTree, MayGoOn};
 ghost use Rattle.names.specs.Removing.{IsUnremovedIn, RemovesAt, RemovesIn};
-ghost use Rattle.names.specs.Trees.{IsTree};
 ghost use Rattle.names.specs.Walks.{IsUndoneIn};
 
+use crate::changing::{ChangeIn, Last};
 use crate::entries::{lookup, unlink};
 use crate::name::Name;
-use crate::path::names_of;
 use crate::refusal::{Refusal, TreeFault};
 use crate::tree::Tree;
 use blocks::Disk;
 use model::types::Op;
 use std::alloc::Global;
+
+// Removes a file from a directory.
+#[derive(Drop)]
+struct RemoveFile;
+
+impl ChangeIn for RemoveFile {
+    type Made = ();
+
+    ghost makes = { λ remove. RemovesIn };
+
+    ghost refuses = { λ remove. IsUnremovedIn };
+
+    fn apply_in<D: Disk>(
+        &self,
+        tree: &mut Tree<D>,
+        alloc: Global,
+        from: u32,
+        name: &Name,
+    ) -> Result<Result<(), Refusal>, TreeFault> {
+        let Some(bytes) = tree.directory(from)? else {
+            return Ok(Err(Refusal::NotADirectory));
+        };
+        let Some(number) = lookup(bytes.as_slice(), name) else {
+            return Ok(Err(Refusal::NotFound));
+        };
+        let number = u32::from(number);
+        if let Some(_other) = tree.directory(number)? {
+            return Ok(Err(Refusal::IsADirectory));
+        }
+        let Some(write) = unlink(bytes.as_slice(), name) else {
+            // It leads to a number.
+            unreachable!()
+        };
+        let _whole = tree.entered(alloc, from, write)?;
+        let _done = tree.called(Op::Remove(number))?;
+        Ok(Ok(()))
+    }
+}
 
 impl<D: Disk> Tree<D> {
     /// Removes the file at a path with its name. A directory is not removed so.
@@ -40,98 +76,6 @@ impl<D: Disk> Tree<D> {
             self.old.kernel self.new.kernel }
         ensures stays { StaysOver D.Disk self.old.kernel self.new.kernel }
     {
-        match names_of(alloc, path) {
-            Ok(names) => self.remove_named(alloc, names.as_slice()),
-            Err(fault) => {
-                self.stands();
-                Err(TreeFault::Path(fault))
-            }
-        }
-    }
-
-    // Removes the file that the last of these names leads to.
-    fn remove_named(&mut self, alloc: Global, names: &[Name]) -> Result<(), TreeFault>
-        requires ready { MayGoOn D.Disk self.old.kernel self.old.calls_left }
-        ensures ready { MayGoOn D.Disk self.new.kernel self.new.calls_left }
-        ensures removes { IfOk result (λ done. RemovesAt names.now done
-            (files_of (image_on D.image self.old.kernel))
-            (files_of (image_on D.image self.new.kernel))) }
-        ensures refused { IfErr result (IsUnanswered D.Disk (IsUndoneIn IsUnremovedIn names.now)
-            self.old.kernel self.new.kernel) }
-        ensures leaves { 0 < self.old.calls_left → LeavesTree D.Disk (RemovesAt names.now)
-            self.old.kernel self.new.kernel }
-        ensures stays { StaysOver D.Disk self.old.kernel self.new.kernel }
-    {
-        if self.calls_left == 0 {
-            return Err(TreeFault::NoCall);
-        }
-        self.begun(alloc)?;
-        let removed = self.remove_at(alloc, names)?;
-        self.committed()?;
-        match removed {
-            Ok(()) => Ok(()),
-            Err(refusal) => Err(TreeFault::Refused(refusal)),
-        }
-    }
-
-    // The same in the transaction under way.
-    fn remove_at(&mut self, alloc: Global, names: &[Name]) -> Result<Result<(), Refusal>, TreeFault>
-        requires way { IsUnderWay D.Disk self.old.kernel self.old.calls_left }
-        requires tree { IsTree (files_seen D.image self.old.kernel) }
-        ensures goes { OnOk result (Goes D.Disk
-            self.old.kernel self.new.kernel self.new.calls_left) }
-        ensures tree { OnOk result (IsTree (files_seen D.image self.new.kernel)) }
-        ensures removed { IfOk result (Happens (RemovesAt names.now) (IsUndoneIn IsUnremovedIn names.now)
-            (files_seen D.image self.old.kernel) (files_seen D.image self.new.kernel)) }
-        ensures stays { StaysOn D.Disk self.old.kernel self.new.kernel }
-        ensures ends { IfErr result (Ends D.Disk
-            self.old.kernel self.new.kernel self.new.calls_left) }
-    {
-        if names.is_empty() {
-            return Ok(Err(Refusal::IsRoot));
-        }
-        let last = names.len() - 1;
-        match self.walk(&names[..last])? {
-            Ok(from) => self.remove_in(alloc, from, &names[last]),
-            Err(refusal) => Ok(Err(refusal)),
-        }
-    }
-
-    // Removes a file from a directory.
-    fn remove_in(
-        &mut self,
-        alloc: Global,
-        from: u32,
-        name: &Name,
-    ) -> Result<Result<(), Refusal>, TreeFault>
-        requires way { IsUnderWay D.Disk self.old.kernel self.old.calls_left }
-        requires tree { IsTree (files_seen D.image self.old.kernel) }
-        ensures goes { OnOk result (Goes D.Disk
-            self.old.kernel self.new.kernel self.new.calls_left) }
-        ensures tree { OnOk result (IsTree (files_seen D.image self.new.kernel)) }
-        ensures removed { IfOk result (Happens (RemovesIn from name.now)
-            (λ files. IsUnremovedIn files from name.now)
-            (files_seen D.image self.old.kernel) (files_seen D.image self.new.kernel)) }
-        ensures stays { StaysOn D.Disk self.old.kernel self.new.kernel }
-        ensures ends { IfErr result (Ends D.Disk
-            self.old.kernel self.new.kernel self.new.calls_left) }
-    {
-        let Some(bytes) = self.directory(from)? else {
-            return Ok(Err(Refusal::NotADirectory));
-        };
-        let Some(number) = lookup(bytes.as_slice(), name) else {
-            return Ok(Err(Refusal::NotFound));
-        };
-        let number = u32::from(number);
-        if let Some(_other) = self.directory(number)? {
-            return Ok(Err(Refusal::IsADirectory));
-        }
-        let Some(write) = unlink(bytes.as_slice(), name) else {
-            // It leads to a number.
-            unreachable!()
-        };
-        let _whole = self.entered(alloc, from, write)?;
-        let _done = self.called(Op::Remove(number))?;
-        Ok(Ok(()))
+        self.changed(alloc, path, &Last { change: RemoveFile })
     }
 }

@@ -1,11 +1,11 @@
 // The beginning and the end of a tree.
-ghost use Rattle.std.specs.Prelude.{◌≡◌, ◌<◌, ◌^◌, IfErr, IfOk, OnErr, OnOk};
+ghost use Rattle.std.specs.Prelude.{◌≡◌, ◌<◌, ◌^◌, IfErr, IfOk, OnOk};
 ghost use Rattle.blocks.specs.Disk.{LeavesOnly};
 ghost use Rattle.calls.specs.Calls.{call_count, image_on};
 ghost use Rattle.calls.specs.Stopped.{StaysOver};
 ghost use Rattle.model.specs.Files.{files_of};
 ghost use Rattle.model.specs.Log.{recovered};
-ghost use Rattle.names.specs.Inside.{files_seen, Ends, Goes, IsUnderWay, StaysOn};
+ghost use Rattle.names.specs.Inside.{files_seen, IsUnderWay, Proceeds};
 ghost use Rattle.names.specs.Ready.{HasFilled, HasNoFile, IsIdle, IsReady, IsRootAlone, IsRootless, KeepsRoot, MakesRoot, is_filled};
 ghost use Rattle.names.specs.Trees.{IsTree};
 ghost use Rattle.calls.specs.Transactions.{Rests};
@@ -50,12 +50,8 @@ impl<D: Disk> Tree<D> {
     // The root's two entries are written into it. Whether they were: all of them are, or none.
     fn filled(&mut self, alloc: Global) -> Result<bool, TreeFault>
         requires { IsUnderWay D.Disk self.old.kernel self.old.calls_left }
-        ensures goes { OnOk result (Goes D.Disk
-            self.old.kernel self.new.kernel self.new.calls_left) }
+        ensures goes { Proceeds D.Disk result self.old.kernel self.new.kernel self.new.calls_left }
         ensures filled { IfOk result (HasFilled D.image self.old.kernel self.new.kernel) }
-        ensures stays { StaysOn D.Disk self.old.kernel self.new.kernel }
-        ensures ends { IfErr result (Ends D.Disk
-            self.old.kernel self.new.kernel self.new.calls_left) }
     {
         let Ok(bytes) = new_directory(alloc, 1, 1) else {
             self.calls_left = 0;
@@ -68,13 +64,9 @@ impl<D: Disk> Tree<D> {
     // Makes the root in the transaction under way. Why not, where it is not made.
     fn root_made(&mut self, alloc: Global) -> Result<Option<Refusal>, TreeFault>
         requires { IsUnderWay D.Disk self.old.kernel self.old.calls_left }
-        ensures goes { OnOk result (Goes D.Disk
-            self.old.kernel self.new.kernel self.new.calls_left) }
+        ensures goes { Proceeds D.Disk result self.old.kernel self.new.kernel self.new.calls_left }
         ensures made { IfOk result (MakesRoot
             (files_seen D.image self.old.kernel) (files_seen D.image self.new.kernel)) }
-        ensures stays { StaysOn D.Disk self.old.kernel self.new.kernel }
-        ensures ends { IfErr result (Ends D.Disk
-            self.old.kernel self.new.kernel self.new.calls_left) }
     {
         let Reply::Made(number) = self.called(Op::Create(1))? else {
             return Ok(Some(Refusal::NoNumber));
@@ -110,7 +102,7 @@ impl<D: Disk> Tree<D> {
         if self.calls_left == 0 {
             return Err(TreeFault::NoCall);
         }
-        self.begun_idle(alloc)?;
+        self.begun(alloc)?;
         if let Some(refusal) = self.root_made(alloc)? {
             self.calls_left = 0;
             return Err(TreeFault::Refused(refusal));

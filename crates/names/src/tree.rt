@@ -1,7 +1,7 @@
 // A kernel whose files are a tree of directories, and the calls of its transactions.
-ghost use Rattle.std.specs.Prelude.{◌≡◌, ◌+◌, ◌<◌, ◌≤◌, ◌^◌, IfErr, IfOk, OnOk};
-ghost use Rattle.names.specs.Inside.{files_seen, Answers, Ends, Goes, IsUnderWay, LeavesFiles, StaysOn};
-ghost use Rattle.names.specs.Ready.{EndsOn, HasBegun, HasCommitted, IsIdle, IsReady, MayGoOn};
+ghost use Rattle.std.specs.Prelude.{◌≡◌, ◌<◌, IfErr, IfOk, OnOk};
+ghost use Rattle.names.specs.Inside.{files_seen, Answers, Ends, IsUnderWay, LeavesFiles, Proceeds};
+ghost use Rattle.names.specs.Ready.{EndsOn, HasBegun, HasCommitted, IsIdle, MayGoOn};
 ghost use Rattle.names.specs.Trees.{IsTree};
 
 use crate::refusal::TreeFault;
@@ -32,19 +32,6 @@ impl<D: Disk> Tree<D> {
 
     // Begins a transaction.
     pub(crate) fn begun(&mut self, alloc: Global) -> Result<(), TreeFault>
-        requires ready { IsReady D.Disk self.old.kernel self.old.calls_left }
-        requires some { 0 < self.old.calls_left }
-        ensures begins { OnOk result (HasBegun D.Disk
-            self.old.kernel self.new.kernel self.new.calls_left) }
-        ensures leaves { LeavesFiles D.Disk self.old.kernel self.new.kernel }
-        ensures ends { IfErr result (Ends D.Disk
-            self.old.kernel self.new.kernel self.new.calls_left) }
-    {
-        self.begun_idle(alloc)
-    }
-
-    // The same where the files may be no tree.
-    pub(crate) fn begun_idle(&mut self, alloc: Global) -> Result<(), TreeFault>
         requires idle { IsIdle D.Disk self.old.kernel self.old.calls_left }
         requires some { 0 < self.old.calls_left }
         ensures begins { OnOk result (HasBegun D.Disk
@@ -90,24 +77,20 @@ impl<D: Disk> Tree<D> {
     // Makes an operation in the transaction under way. Its reply.
     pub(crate) fn called(&mut self, op: Op) -> Result<Reply, TreeFault>
         requires { IsUnderWay D.Disk self.old.kernel self.old.calls_left }
-        ensures goes { OnOk result (Goes D.Disk
-            self.old.kernel self.new.kernel self.new.calls_left) }
+        ensures goes { Proceeds D.Disk result self.old.kernel self.new.kernel self.new.calls_left }
         ensures answers { IfOk result (Answers D.image op self.old.kernel self.new.kernel) }
-        ensures stays { StaysOn D.Disk self.old.kernel self.new.kernel }
-        ensures ends { IfErr result (Ends D.Disk
-            self.old.kernel self.new.kernel self.new.calls_left) }
     {
         if self.calls_left == 0 {
             return Err(TreeFault::NoCall);
         }
         match call(&mut self.kernel, op) {
-            Ok(reply) => {
-                self.calls_left -= 1;
-                Ok(reply)
-            }
             Err(fault) => {
                 self.calls_left = 0;
                 Err(TreeFault::Call(fault))
+            }
+            Ok(reply) => {
+                self.calls_left -= 1;
+                Ok(reply)
             }
         }
     }

@@ -5,14 +5,14 @@ ghost use Rattle.calls.specs.Stopped.{StaysOver};
 ghost use Rattle.model.specs.Files.{files_of};
 ghost use Rattle.model.specs.Operations.{where_true};
 ghost use Rattle.names.specs.Contents.{IsNoPlain, LeadsToNoPlain};
-ghost use Rattle.names.specs.Inside.{files_seen, form_seen, Ends, Goes, IsUnderWay, StaysOn};
+ghost use Rattle.names.specs.Inside.{files_seen, form_seen, IsUnderWay, Proceeds};
 ghost use Rattle.names.specs.Paths.{names_of};
-ghost use Rattle.names.specs.Ready.{Happens, IsUnanswered, IsUndone, LeavesTree, MayGoOn};
+ghost use Rattle.names.specs.Ready.{Happens, IsUndone, LeavesTree, MayGoOn};
 ghost use Rattle.names.specs.Trees.{IsFile, IsTree};
 ghost use Rattle.names.specs.Writing.{written, HasWritten, Writes, WritesOf};
 
+use crate::changing::Change;
 use crate::name::Name;
-use crate::path::names_of;
 use crate::refusal::{Refusal, TreeFault};
 use crate::tree::Tree;
 use blocks::Disk;
@@ -34,6 +34,33 @@ pub enum Unwritten {
     /// The write would end behind the greatest size of a file.
     #[error("the file would be too large")]
     TooBig,
+}
+
+// Writes bytes into the file at a path.
+#[derive(Drop)]
+struct WriteFile<'a> {
+    offset: u32,
+    bytes: &'a [u8],
+}
+
+impl<'a> Change for WriteFile<'a> {
+    type Made = Result<(), Unwritten>;
+
+    ghost makes = { λ write form names. Writes form names write.offset write.bytes.now };
+
+    ghost refuses = { λ write. LeadsToNoPlain };
+
+    fn apply<D: Disk>(
+        &self,
+        tree: &mut Tree<D>,
+        alloc: Global,
+        names: &[Name],
+    ) -> Result<Result<Result<(), Unwritten>, Refusal>, TreeFault> {
+        match tree.walk(names)? {
+            Ok(number) => tree.write_of(alloc, number, self.offset, self.bytes),
+            Err(refusal) => Ok(Err(refusal)),
+        }
+    }
 }
 
 impl<D: Disk> Tree<D> {
@@ -67,73 +94,7 @@ impl<D: Disk> Tree<D> {
             self.old.kernel self.new.kernel }
         ensures stays { StaysOver D.Disk self.old.kernel self.new.kernel }
     {
-        match names_of(alloc, path) {
-            Ok(names) => self.write_named(alloc, names.as_slice(), offset, bytes),
-            Err(fault) => {
-                self.stands();
-                Err(TreeFault::Path(fault))
-            }
-        }
-    }
-
-    // Writes bytes into the file that names lead to.
-    fn write_named(
-        &mut self,
-        alloc: Global,
-        names: &[Name],
-        offset: u32,
-        bytes: &[u8],
-    ) -> Result<Result<(), Unwritten>, TreeFault>
-        requires ready { MayGoOn D.Disk self.old.kernel self.old.calls_left }
-        ensures ready { MayGoOn D.Disk self.new.kernel self.new.calls_left }
-        ensures writes { IfOk result (λ done. Writes (form_seen D.image self.old.kernel)
-            names.now offset bytes.now done
-            (files_of (image_on D.image self.old.kernel))
-            (files_of (image_on D.image self.new.kernel))) }
-        ensures refused { IfErr result (IsUnanswered D.Disk (LeadsToNoPlain names.now)
-            self.old.kernel self.new.kernel) }
-        ensures leaves { 0 < self.old.calls_left → LeavesTree D.Disk
-            (Writes (form_seen D.image self.old.kernel) names.now offset bytes.now)
-            self.old.kernel self.new.kernel }
-        ensures stays { StaysOver D.Disk self.old.kernel self.new.kernel }
-    {
-        if self.calls_left == 0 {
-            return Err(TreeFault::NoCall);
-        }
-        self.begun(alloc)?;
-        let wrote = self.write_at(alloc, names, offset, bytes)?;
-        self.committed()?;
-        match wrote {
-            Ok(done) => Ok(done),
-            Err(refusal) => Err(TreeFault::Refused(refusal)),
-        }
-    }
-
-    // The same in the transaction under way.
-    fn write_at(
-        &mut self,
-        alloc: Global,
-        names: &[Name],
-        offset: u32,
-        bytes: &[u8],
-    ) -> Result<Result<Result<(), Unwritten>, Refusal>, TreeFault>
-        requires way { IsUnderWay D.Disk self.old.kernel self.old.calls_left }
-        requires tree { IsTree (files_seen D.image self.old.kernel) }
-        ensures goes { OnOk result (Goes D.Disk
-            self.old.kernel self.new.kernel self.new.calls_left) }
-        ensures tree { OnOk result (IsTree (files_seen D.image self.new.kernel)) }
-        ensures wrote { IfOk result (Happens
-            (Writes (form_seen D.image self.old.kernel) names.now offset bytes.now)
-            (LeadsToNoPlain names.now)
-            (files_seen D.image self.old.kernel) (files_seen D.image self.new.kernel)) }
-        ensures stays { StaysOn D.Disk self.old.kernel self.new.kernel }
-        ensures ends { IfErr result (Ends D.Disk
-            self.old.kernel self.new.kernel self.new.calls_left) }
-    {
-        match self.walk(names)? {
-            Ok(number) => self.write_of(alloc, number, offset, bytes),
-            Err(refusal) => Ok(Err(refusal)),
-        }
+        self.changed(alloc, path, &WriteFile { offset, bytes })
     }
 
     // Writes bytes into the file of a number.
@@ -147,16 +108,12 @@ impl<D: Disk> Tree<D> {
         requires way { IsUnderWay D.Disk self.old.kernel self.old.calls_left }
         requires tree { IsTree (files_seen D.image self.old.kernel) }
         requires there { IsFile (files_seen D.image self.old.kernel) number }
-        ensures goes { OnOk result (Goes D.Disk
-            self.old.kernel self.new.kernel self.new.calls_left) }
+        ensures goes { Proceeds D.Disk result self.old.kernel self.new.kernel self.new.calls_left }
         ensures tree { OnOk result (IsTree (files_seen D.image self.new.kernel)) }
         ensures wrote { IfOk result (Happens
             (WritesOf (form_seen D.image self.old.kernel) number offset bytes.now)
             (IsNoPlain number)
             (files_seen D.image self.old.kernel) (files_seen D.image self.new.kernel)) }
-        ensures stays { StaysOn D.Disk self.old.kernel self.new.kernel }
-        ensures ends { IfErr result (Ends D.Disk
-            self.old.kernel self.new.kernel self.new.calls_left) }
     {
         if self.is_directory(number)? {
             return Ok(Err(Refusal::IsADirectory));
@@ -178,13 +135,9 @@ impl<D: Disk> Tree<D> {
         bytes: &[u8],
     ) -> Result<Option<Result<(), Unwritten>>, TreeFault>
         requires { IsUnderWay D.Disk self.old.kernel self.old.calls_left }
-        ensures goes { OnOk result (Goes D.Disk
-            self.old.kernel self.new.kernel self.new.calls_left) }
+        ensures goes { Proceeds D.Disk result self.old.kernel self.new.kernel self.new.calls_left }
         ensures written { IfOk result (HasWritten D.image number offset bytes.now
             self.old.kernel self.new.kernel) }
-        ensures stays { StaysOn D.Disk self.old.kernel self.new.kernel }
-        ensures ends { IfErr result (Ends D.Disk
-            self.old.kernel self.new.kernel self.new.calls_left) }
     {
         let Ok(content) = Content::copy_of(alloc, bytes) else {
             self.calls_left = 0;

@@ -154,7 +154,12 @@ module _ {D N : Type 0} (disk : Ghosts D N) where
           (midst_more 1 old k m (Write i 0 bytes) r midst adds_bytes inside opening (makes_none (Wrote count) so (λ j. refl)))))
           (λ (fewer : count ≢ length bytes).
           subst (λ b. Writes disk i bytes k m b) (sym (ne_eqb count (length bytes) fewer))
-          (record { count = count; fewer = omega (arith, at_most, fewer); files = subst (HasFiles disk.image m) files ends.2 }))
+          (record {
+            count = count;
+            fewer = omega (arith, at_most, fewer);
+            files = subst (HasFiles disk.image m) files ends.2;
+            full = adds_bytes.short i 0 count bytes refl so (omega (arith, at_most, fewer));
+          }))
           (cases_eq count (length bytes))
 
   -- ---- what a stop leaves

@@ -74,6 +74,7 @@ module _ {D N : Type 0} (disk : Ghosts D N) (inum : Option ℕ) (bytes : List �
           count = part.short.count;
           fewer = part.short.fewer;
           files = subst (λ (y : Image). HasFiles disk.image d (put_at (files_of y) part.number (take part.short.count bytes))) begins.same part.short.files;
+          full = part.short.full;
         };
       }
 

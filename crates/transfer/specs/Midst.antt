@@ -5,10 +5,10 @@ use Rattle.blocks.specs.declared.disk.Disk.{Ghosts}
 use Rattle.model.specs.Files.{Files, file_in}
 use Rattle.model.specs.Layout.{form_of}
 use Rattle.calls.specs.Calls.{KeepsFiles, call_count, image_on}
-use Rattle.calls.specs.Files.{files_on}
+use Rattle.calls.specs.Files.{IsFull, files_on}
 use Rattle.calls.specs.Stepping.{IsReached, Plain}
 use Rattle.calls.specs.Stopped.{StaysOver}
-use Rattle.calls.specs.Transactions.{HasFiles, IsInside, labels_made}
+use Rattle.calls.specs.Transactions.{HasFiles, IsInside, image_seen, labels_made}
 use Rattle.calls.specs.Unshown.{labels_due}
 use Rattle.transfer.specs.Places.{HasNoFree, IsPlace, put_at}
 use Rattle.transfer.specs.declared.writing.Outcome.{Outcome}
@@ -45,19 +45,21 @@ IsCleared disk inum k m (Some i) =
     × IsMidst disk 1 (put_at (files_on disk.image k) i []) m
 IsCleared disk inum k m None = (inum ≡ None) × HasNoFree (files_on disk.image k)
 
--- a transaction of kernel k, which is m now, wrote only the first of the bytes at number i
+-- a transaction of kernel k, which is m now, wrote only the first of the bytes at number i, and of the
+-- image that it sees no block is free
 pub record WritesShort {D N : Type 0} (disk : Ghosts D N) (i : ℕ) (bytes : List ℕ) (k m : Plain D)
     : Type 0 where
   pub count : ℕ
   pub fewer : count < length bytes
   pub files : HasFiles disk.image m (put_at (files_on disk.image k) i (take count bytes))
+  pub full : IsFull (image_seen disk.image m)
 
 -- it wrote all of them, or not
 abbrev pub Writes : {D N : Type 0} → Ghosts D N → ℕ → List ℕ → Plain D → Plain D → Bool → Type 0
 Writes disk i bytes k m true = IsMidst disk 2 (put_at (files_on disk.image k) i bytes) m
 Writes disk i bytes k m false = WritesShort disk i bytes k m
 
--- only the first of the bytes were written, at the place for them
+-- only the first of the bytes were written, at the place for them, and then no block is free
 pub record PutsShort {D N : Type 0} (disk : Ghosts D N) (inum : Option ℕ) (bytes : List ℕ)
     (k m : Plain D) : Type 0 where
   pub number : ℕ

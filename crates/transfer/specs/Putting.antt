@@ -1,5 +1,5 @@
 -- What putting a file's bytes into an image comes to.
-use Rattle.std.specs.Prelude.{◌≡◌, ◌<◌, ◌≤◌, ◌⊎◌, ℕ, Bool, IsTrue, List, length, Option, None, Some}
+use Rattle.std.specs.Prelude.{◌≡◌, ◌<◌, ◌≤◌, ◌⊎◌, ℕ, Bool, IsTrue, List, length, Option, None, Some, Result, IfErr, OnOk}
 use Rattle.std.specs.Io.KnownBytes.{Appends}
 use Rattle.blocks.specs.Calls.{OnlyReads}
 use Rattle.blocks.specs.Disk.{Rose}
@@ -21,6 +21,7 @@ use Rattle.transfer.specs.Judging.{IsTold}
 use Rattle.transfer.specs.Midst.{PutsShort}
 use Rattle.transfer.specs.Places.{IsPlainOld}
 use Rattle.transfer.specs.PutWriting.{KeepsSomeOf, PutComesOf}
+use Rattle.transfer.specs.Stopped.{StopsPut}
 use Rattle.transfer.specs.declared.refused.PutRefusal.{PutRefusal}
 use Rattle.transfer.specs.declared.refused.PutRefusal.TheVariants.{Check, NoFile, NotAFile, TooBig, Full, NoMemory, Unopened, NoInode, Disk, Output}
 use Rattle.transfer.specs.declared.writing.Outcome.{Outcome}
@@ -70,8 +71,8 @@ pub record RunsOut {D N : Type 0} (disk : Ghosts D N) (inum : Option ℕ) (bytes
   pub faults : disk.fault_count e ≡ disk.fault_count d
 
 -- No block was free for all of as few bytes as one write moves, so their transaction was given up:
--- a kernel that was opened over the disk d, now e, made turns, and its calls wrote only the first of
--- them. The image is as recovery leaves it.
+-- a kernel that was opened over the disk d, now e, made turns, its calls wrote only the first of them,
+-- and no block is free of the image that they see. That on the disk is as recovery leaves it.
 pub record PutsNone {D N : Type 0} (disk : Ghosts D N) (inum : Option ℕ) (bytes : List ℕ) (d e : D)
     : Type 0 where
   pub small : length bytes ≤ transfer_limit
@@ -159,3 +160,13 @@ IsUnput disk inum bytes sync d e none (Disk cause) =
     (FailsSound disk inum (length bytes) d e cause
     ⊎ FailsSynced disk inum bytes sync d e cause) × none
 IsUnput disk inum bytes sync d e none Output = HasPutUntold disk inum bytes sync d e
+
+-- THE PROMISE OF A PUT of bytes into the image of the disk d, now e, which ends so; `old` is the
+-- output before it, and `new` the one behind it
+pub record EndsPut {D N O : Type 0} (disk : Ghosts D N) (contents : O → Option (List ℕ))
+    (inum : Option ℕ) (bytes : List ℕ) (sync : Bool) (d e : D) (result : Result (Unit {0}) PutRefusal)
+    (old new : O) : Type 0 where
+  pub put : OnOk result (IsPut disk inum bytes sync d e (contents old) (contents new))
+  pub refused : IfErr result (IsUnput disk inum bytes sync d e (new ≡ old))
+  pub leaves : verdict (disk.image d) ≡ None → StopsPut disk inum bytes d e
+  pub name : disk.name e ≡ disk.name d

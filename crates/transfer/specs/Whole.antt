@@ -38,8 +38,8 @@ abbrev pub AllTo : {D N : Type 0} → Ghosts D N → Option ℕ → List ℕ →
     → Type 0
 AllTo disk inum bytes k m o = (twice : Bool) → CallsTo twice disk inum bytes k m o
 
--- Only the first of the bytes were written in the transaction of kernel k, which is m now, and it
--- was given up: the disk has the image that it had.
+-- No block was free for all of the bytes in the transaction of kernel k, which is m now, and it was
+-- given up: the disk has the image that it had.
 pub record GivesUp {D N : Type 0} (disk : Ghosts D N) (inum : Option ℕ) (bytes : List ℕ)
     (k m : Plain D) : Type 0 where
   pub part : PutsShort disk inum bytes k m

@@ -1,5 +1,5 @@
 // Filling the new image with the files of the old one.
-ghost use Rattle.std.specs.Prelude.{◌≡◌, ◌≢◌, ◌≤◌, ◌<◌, ◌+◌, ◌*◌, ◌^◌, All, length, replicate, None, Some, IfErr, OnOk, slice_index};
+ghost use Rattle.std.specs.Prelude.{◌≡◌, ◌≤◌, ◌<◌, ◌+◌, ◌*◌, ◌^◌, All, length, replicate, None, Some, IfErr, OnOk};
 ghost use Rattle.blocks.specs.Calls.{OnlyReads};
 ghost use Rattle.model.specs.Files.{bytes_in, file_in};
 ghost use Rattle.model.specs.Layout.{form_of, inode_of, inode_count_of};

@@ -1,5 +1,5 @@
 // What is told of an image before anything is written.
-ghost use Rattle.std.specs.Prelude.{◌≡◌, ◌≤◌, ◌^◌, IfErr, IfOk, OnOk, length};
+ghost use Rattle.std.specs.Prelude.{◌≡◌, ◌≤◌, ◌^◌, IfErr, IfOk, OnOk};
 ghost use Rattle.blocks.specs.Calls.{OnlyReads};
 ghost use Rattle.model.specs.Log.{recovered};
 ghost use Rattle.transfer.specs.Judging.{FailsByDisk, FindsOld, IsCheckedOf, IsFit, IsOldRefused, IsTold};

@@ -5,13 +5,12 @@ ghost use Rattle.blocks.specs.Disk.{AddsNone};
 ghost use Rattle.messages.specs.Output.{number_text};
 ghost use Rattle.model.specs.Layout.{form_of, greatest_size};
 ghost use Rattle.model.specs.Operations.{transfer_limit};
-ghost use Rattle.model.specs.Verdict.{verdict};
 ghost use Rattle.calls.specs.Calls.{image_on};
 ghost use Rattle.calls.specs.Files.{files_on};
 ghost use Rattle.transfer.specs.Places.{HasOld};
 ghost use Rattle.transfer.specs.Ending.{SyncsIf};
-ghost use Rattle.transfer.specs.Putting.{IsPut, IsUnput, IsUntold};
-ghost use Rattle.transfer.specs.Stopped.{StaysPut, StopsPut};
+ghost use Rattle.transfer.specs.Putting.{EndsPut, IsUntold};
+ghost use Rattle.transfer.specs.Stopped.{StaysPut};
 ghost use Rattle.transfer.specs.PutWriting.{CallsTo, IsUnwritten, MayCall};
 ghost use Rattle.transfer.specs.declared.writing.Outcome.TheVariants as outcome;
 
@@ -37,13 +36,8 @@ pub fn put_long<D: Disk + Drop, P: Meter, O: Write>(
     out: &mut O,
 ) -> (Result<(), PutRefusal>, D)
     requires many { transfer_limit < length bytes.now }
-    ensures put { OnOk result.0 (IsPut D.Disk inum bytes.now sync disk result.1
-        (O.contents out.old) (O.contents out.new)) }
-    ensures refused { IfErr result.0 (IsUnput D.Disk inum bytes.now sync disk result.1
-        (out.new ≡ out.old)) }
-    ensures leaves { verdict (D.image disk) ≡ None
-        → StopsPut D.Disk inum bytes.now disk result.1 }
-    ensures name { D.name result.1 ≡ D.name disk }
+    ensures { EndsPut D.Disk O.contents inum bytes.now sync disk result.1 result.0
+        out.old out.new }
 {
     let mut disk = disk;
     let twice = match judge(alloc, &mut disk, inum, bytes.len()) {

@@ -1,17 +1,14 @@
 // Few bytes put in one transaction: all or none of them.
-ghost use Rattle.std.specs.Prelude.{◌≡◌, ◌≢◌, ◌+◌, ◌<◌, ◌≤◌, ◌^◌, [], length, None, Some, IfErr, IfOk, OnOk};
-ghost use Rattle.model.specs.Files.{file_in};
+ghost use Rattle.std.specs.Prelude.{◌≡◌, ◌+◌, ◌<◌, ◌≤◌, ◌^◌, [], length, None, IfErr, IfOk, OnOk};
 ghost use Rattle.model.specs.Layout.{form_of, greatest_size};
 ghost use Rattle.model.specs.Operations.{transfer_limit};
-ghost use Rattle.model.specs.Verdict.{verdict};
 ghost use Rattle.calls.specs.Calls.{call_count, image_on};
 ghost use Rattle.calls.specs.Files.{files_on};
 ghost use Rattle.calls.specs.Pairing.{IsUnmade};
 ghost use Rattle.calls.specs.Transactions.{IsInside, Rests};
 ghost use Rattle.transfer.specs.Midst.{HasTried, IsCleared, IsMidst, IsSame, StaysMidst, Writes};
 ghost use Rattle.transfer.specs.Places.{HasOld, put_at};
-ghost use Rattle.transfer.specs.Putting.{IsPut, IsUnput};
-ghost use Rattle.transfer.specs.Stopped.{StopsPut};
+ghost use Rattle.transfer.specs.Putting.{EndsPut};
 ghost use Rattle.transfer.specs.Whole.{AllTo, IsUnwhole, StaysWhole, WholeTo};
 ghost use Rattle.transfer.specs.declared.writing.Outcome.TheVariants as outcome;
 
@@ -38,13 +35,8 @@ pub fn put_few<D: Disk + Drop, P: Meter, O: Write>(
     out: &mut O,
 ) -> (Result<(), PutRefusal>, D)
     requires few { length bytes.now ≤ transfer_limit }
-    ensures put { OnOk result.0 (IsPut D.Disk inum bytes.now sync disk result.1
-        (O.contents out.old) (O.contents out.new)) }
-    ensures refused { IfErr result.0 (IsUnput D.Disk inum bytes.now sync disk result.1
-        (out.new ≡ out.old)) }
-    ensures leaves { verdict (D.image disk) ≡ None
-        → StopsPut D.Disk inum bytes.now disk result.1 }
-    ensures name { D.name result.1 ≡ D.name disk }
+    ensures { EndsPut D.Disk O.contents inum bytes.now sync disk result.1 result.0
+        out.old out.new }
 {
     let mut disk = disk;
     let _twice = match judge(alloc, &mut disk, inum, bytes.len()) {
@@ -75,11 +67,11 @@ fn put_once<D: Disk, P: Meter>(
     inum: Option<u32>,
     progress: &mut P,
 ) -> Result<u32, PutRefusal>
+    requires few { length bytes.now ≤ transfer_limit }
     requires rests { Rests D.fault_count kernel.old }
     requires opened { (kernel.old.store.volume.device ≡ kernel.old.opening)
         × (call_count kernel.old ≤ 2 ^ 31) }
     requires there { HasOld (files_on D.image kernel.old) inum }
-    requires few { length bytes.now ≤ transfer_limit }
     requires short { length bytes.now ≤ greatest_size (form_of (image_on D.image kernel.old)) }
     ensures put { IfOk result (λ number.
         AllTo D.Disk inum bytes.now kernel.old kernel.new (outcome.Put number)) }
@@ -165,27 +157,13 @@ fn clear<D: Disk>(kernel: &mut Pair<D>, inum: Option<u32>) -> Result<Option<u32>
 {
     match inum {
         Some(number) => {
-            empty(kernel, number)?;
+            let Reply::Done = call(kernel, Op::Trunc(number))? else {
+                unreachable!()
+            };
             Ok(Some(number))
         }
         None => create(kernel),
     }
-}
-
-// Gives up the bytes of a file.
-fn empty<D: Disk>(kernel: &mut Pair<D>, i: u32) -> Result<(), TransactionFault>
-    requires midst { IsMidst D.Disk 0 (files_on D.image kernel.old) kernel.old }
-    requires there { file_in (files_on D.image kernel.old) i ≢ None }
-    ensures emptied { OnOk result
-        (IsMidst D.Disk 1 (put_at (files_on D.image kernel.old) i []) kernel.new) }
-    ensures same { OnOk result (IsSame D.Disk kernel.old kernel.new) }
-    ensures refused { IfErr result (IsUnmade D.Disk kernel.old kernel.new) }
-    ensures stays { StaysMidst D.Disk kernel.old kernel.new }
-{
-    let Reply::Done = call(kernel, Op::Trunc(i))? else {
-        unreachable!()
-    };
-    Ok(())
 }
 
 // Makes an empty file. None where each number is taken.

@@ -1,5 +1,5 @@
 -- The numbers that C is told.
-use Rattle.std.specs.Prelude.{◌≡◌, ◌-◌, ◌^◌, min, ℕ, List, length, take}
+use Rattle.std.specs.Prelude.{◌≡◌, ◌-◌, ◌^◌, ◌==◌, if◌then◌else◌, min, ℕ, List, length, take}
 use Rattle.blocks.specs.Block.{overwritten}
 use Rattle.model.specs.declared.types.operations.Answer.{Answer}
 use Rattle.model.specs.declared.types.operations.Reply.{Reply}
@@ -8,7 +8,57 @@ use Rattle.model.specs.declared.types.operations.Step.{Step}
 use Rattle.model.specs.declared.types.operations.Step.TheVariants as step
 use Rattle.model.specs.declared.types.operations.Why.{Why}
 use Rattle.model.specs.declared.types.operations.Why.TheVariants as why
+use Rattle.model.specs.declared.types.fault.CheckFault.{CheckFault}
+use Rattle.model.specs.declared.types.fault.CheckFault.TheVariants as check
+use Rattle.model.specs.declared.types.image.Form.{Form}
+use Rattle.model.specs.declared.types.image.Form.TheVariants.{One, Two}
+use Rattle.layout.specs.declared.geometry.MkfsFault.{MkfsFault}
+use Rattle.layout.specs.declared.geometry.MkfsFault.TheVariants as making
+use Rattle.wal.specs.declared.faults.RecoverFault.{RecoverFault}
+use Rattle.wal.specs.declared.faults.RecoverFault.TheVariants as recovery
+use Rattle.sessions.specs.declared.refusal.OpenRefusal.{OpenRefusal}
+use Rattle.sessions.specs.declared.refusal.OpenRefusal.TheVariants as opening
 use Rattle.xvfs_c.specs.declared.report.XvfsAnswer.{XvfsAnswer}
+
+-- of an image's fault, and the inode or the block that has it
+abbrev pub check_number : CheckFault → ℕ × ℕ
+check_number check.BadMagic = (769, 0)
+check_number check.BadGeometry = (770, 0)
+check_number check.BadLog = (771, 0)
+check_number (check.BadType i) = (772, i)
+check_number (check.BadSize i) = (773, i)
+check_number (check.BadAddress i) = (774, i)
+check_number (check.TwiceUsed b) = (775, b)
+check_number (check.UsedButFree b) = (776, b)
+check_number (check.LostBlock b) = (777, b)
+check_number check.Disk = (778, 0)
+check_number check.NoMemory = (779, 0)
+
+abbrev pub mkfs_number : MkfsFault → ℕ
+mkfs_number making.SizeRange = 513
+mkfs_number making.InodeRange = 514
+mkfs_number making.Disk = 515
+mkfs_number making.NoMemory = 516
+
+abbrev pub recover_number : RecoverFault → ℕ
+recover_number recovery.Disk = 1025
+recover_number recovery.BadLog = 1026
+recover_number recovery.NoMemory = 1027
+recover_number recovery.Sync = 1028
+
+abbrev pub open_number : OpenRefusal → ℕ
+open_number opening.Length = 258
+open_number (opening.Check fault) = (check_number fault).0
+open_number opening.NoMemory = 1283
+open_number opening.Processes = 1284
+
+abbrev pub form_number : Form → ℕ
+form_number One = 1
+form_number Two = 2
+
+-- the form that C means
+abbrev pub form_meant : ℕ → Form
+form_meant number = if number == 2 then Two else One
 
 abbrev pub why_number : Why → ℕ
 why_number why.Committing = 1

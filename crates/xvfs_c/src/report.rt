@@ -1,11 +1,11 @@
 // The structs and the numbers that C sees: of a refusal, 256 times its layer and its number there,
 // as the program prints them.
 ghost use Rattle.std.specs.Prelude.{◌≡◌};
-ghost use Rattle.xvfs_c.specs.Numbers.{reply_number, step_number, why_number};
+ghost use Rattle.xvfs_c.specs.Numbers.{check_number, form_meant, form_number, mkfs_number, open_number, recover_number, reply_number, step_number, why_number};
 
 use kernel::Step;
 use layout::MkfsFault;
-use model::types::{CheckFault, Reply, Why};
+use model::types::{CheckFault, Form, Reply, Why};
 use sessions::OpenRefusal;
 use wal::RecoverFault;
 
@@ -80,7 +80,10 @@ pub struct XvfsAnswer {
     pub len: u32,
 }
 
-pub fn check_number(fault: CheckFault) -> (u32, u32) {
+/// The number of a fault, and the inode or the block that has it, or 0.
+pub fn check_number(fault: CheckFault) -> (u32, u32)
+    ensures { result ≡ check_number fault }
+{
     match fault {
         CheckFault::BadMagic => (769, 0),
         CheckFault::BadGeometry => (770, 0),
@@ -96,7 +99,9 @@ pub fn check_number(fault: CheckFault) -> (u32, u32) {
     }
 }
 
-pub fn recover_number(fault: RecoverFault) -> u32 {
+pub fn recover_number(fault: RecoverFault) -> u32
+    ensures { result ≡ recover_number fault }
+{
     match fault {
         RecoverFault::Disk => 1025,
         RecoverFault::BadLog => 1026,
@@ -105,7 +110,9 @@ pub fn recover_number(fault: RecoverFault) -> u32 {
     }
 }
 
-pub fn mkfs_number(fault: MkfsFault) -> u32 {
+pub fn mkfs_number(fault: MkfsFault) -> u32
+    ensures { result ≡ mkfs_number fault }
+{
     match fault {
         MkfsFault::SizeRange => 513,
         MkfsFault::InodeRange => 514,
@@ -114,13 +121,31 @@ pub fn mkfs_number(fault: MkfsFault) -> u32 {
     }
 }
 
-pub fn open_number(refusal: OpenRefusal) -> u32 {
+pub fn open_number(refusal: OpenRefusal) -> u32
+    ensures { result ≡ open_number refusal }
+{
     match refusal {
         OpenRefusal::Length => LENGTH,
         OpenRefusal::NoMemory => 1283,
         OpenRefusal::Check(fault) => check_number(fault).0,
         OpenRefusal::Processes => 1284,
     }
+}
+
+pub fn form_number(form: Form) -> u32
+    ensures { result ≡ form_number form }
+{
+    match form {
+        Form::One => 1,
+        Form::Two => 2,
+    }
+}
+
+/// The form that C means: the second by 2, the first by any other number.
+pub fn form_meant(number: u32) -> Form
+    ensures { result ≡ form_meant number }
+{
+    if number == 2 { Form::Two } else { Form::One }
 }
 
 /// The number of a step's answer, and that of why it sleeps.

@@ -1,8 +1,7 @@
 // The beginning of a transaction.
 ghost use Rattle.std.specs.Prelude.{◌≡◌, ◌<◌, ◌^◌, IfErr, OnOk};
-ghost use Rattle.blocks.specs.Disk.{LeavesOnly};
-ghost use Rattle.calls.specs.Calls.{call_count, image_on};
-ghost use Rattle.calls.specs.Transactions.{Begins, IsInside, IsUnbegun, KeepsFiles, Rests};
+ghost use Rattle.calls.specs.Calls.{LeavesFiles, call_count};
+ghost use Rattle.calls.specs.Transactions.{Begins, IsInside, IsUnbegun, Rests};
 ghost use Rattle.calls.specs.Stepping.{IsReached};
 
 use crate::transactions::fault::TransactionFault;
@@ -31,12 +30,10 @@ pub fn begin<D: Disk>(alloc: Global, kernel: &mut Pair<D>) -> Result<(), Transac
     ensures inside { OnOk result (IsInside D.fault_count kernel.new) }
     ensures begins { OnOk result (Begins D.image kernel.old kernel.new) }
     ensures refused { IfErr result (IsUnbegun D.Disk kernel.old kernel.new) }
-    ensures leaves { LeavesOnly D.moment D.leaves
-        kernel.old.store.volume.device kernel.new.store.volume.device
-        (KeepsFiles (image_on D.image kernel.old)) }
-    ensures reached { IsReached D.Disk kernel.old kernel.new }
+    ensures leaves { LeavesFiles D.Disk kernel.old kernel.new }
     ensures opening { kernel.new.opening ≡ kernel.old.opening }
     ensures name { D.name kernel.new.store.volume.device ≡ D.name kernel.old.store.volume.device }
+    ensures reached { IsReached D.Disk kernel.old kernel.new }
 {
     kernel.known();
     kernel.room_known();

@@ -1,8 +1,7 @@
 // Calls in a transaction.
 ghost use Rattle.std.specs.Prelude.{◌≡◌, ◌<◌, ◌^◌, IfErr, IfOk, OnOk};
-ghost use Rattle.blocks.specs.Disk.{LeavesOnly};
-ghost use Rattle.calls.specs.Calls.{call_count, image_on};
-ghost use Rattle.calls.specs.Transactions.{Adds, IsInside, IsUncalled, KeepsFiles, has_room};
+ghost use Rattle.calls.specs.Calls.{LeavesFiles, call_count};
+ghost use Rattle.calls.specs.Transactions.{Adds, IsInside, IsUncalled, has_room};
 ghost use Rattle.calls.specs.Stepping.{IsReached};
 
 use crate::stepping::make_steps;
@@ -34,9 +33,7 @@ pub fn call<D: Disk>(kernel: &mut Pair<D>, op: Op) -> Result<Reply, TransactionF
     ensures inside { OnOk result (IsInside D.fault_count kernel.new) }
     ensures adds { IfOk result (Adds D.image op kernel.old kernel.new) }
     ensures refused { IfErr result (IsUncalled D.Disk op kernel.old kernel.new) }
-    ensures leaves { LeavesOnly D.moment D.leaves
-        kernel.old.store.volume.device kernel.new.store.volume.device
-        (KeepsFiles (image_on D.image kernel.old)) }
+    ensures leaves { LeavesFiles D.Disk kernel.old kernel.new }
     ensures reached { IsReached D.Disk kernel.old kernel.new }
     ensures opening { kernel.new.opening ≡ kernel.old.opening }
     ensures name { D.name kernel.new.store.volume.device ≡ D.name kernel.old.store.volume.device }

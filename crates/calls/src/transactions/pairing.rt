@@ -1,5 +1,5 @@
 // Two operations, both or none.
-ghost use Rattle.std.specs.Prelude.{◌≡◌, ◌+◌, ◌<◌, ◌^◌, IfErr, IfOk, OnOk};
+ghost use Rattle.std.specs.Prelude.{◌+◌, ◌<◌, ◌^◌, IfErr, IfOk, OnOk};
 ghost use Rattle.blocks.specs.Disk.{LeavesOnly};
 ghost use Rattle.calls.specs.Calls.{call_count, image_on};
 ghost use Rattle.calls.specs.Stopped.{StaysOver};

@@ -1,7 +1,6 @@
 // What is known between two transactions, and the end of a kernel.
 ghost use Rattle.std.specs.Prelude.{◌≡◌, None};
-ghost use Rattle.blocks.specs.Disk.{LeavesOnly};
-ghost use Rattle.calls.specs.Calls.{image_on};
+ghost use Rattle.calls.specs.Calls.{LeavesFiles, image_on};
 ghost use Rattle.model.specs.Verdict.{verdict};
 ghost use Rattle.calls.specs.Transactions.{IsInside, KeepsFiles, Rests};
 
@@ -12,9 +11,7 @@ use blocks::Disk;
 /// with the files that are on the disk.
 pub fn rested<D: Disk>(kernel: &Pair<D>)
     requires { Rests D.fault_count kernel.now }
-    ensures { LeavesOnly D.moment D.leaves
-        kernel.now.store.volume.device kernel.now.store.volume.device
-        (KeepsFiles (image_on D.image kernel.now)) }
+    ensures { LeavesFiles D.Disk kernel.now kernel.now }
 {
     kernel.known();
 }
@@ -23,9 +20,7 @@ pub fn rested<D: Disk>(kernel: &Pair<D>)
 /// with the files that were on the disk before it.
 pub fn still<D: Disk>(kernel: &Pair<D>)
     requires { IsInside D.fault_count kernel.now }
-    ensures { LeavesOnly D.moment D.leaves
-        kernel.now.store.volume.device kernel.now.store.volume.device
-        (KeepsFiles (image_on D.image kernel.now)) }
+    ensures { LeavesFiles D.Disk kernel.now kernel.now }
 {
     kernel.known();
 }

@@ -1,4 +1,4 @@
-use Rattle.std.proofs.Common.{refl, sym, subst, arith}
+use Rattle.std.proofs.Common.{refl, rules, sym, subst, arith}
 use Rattle.std.specs.Prelude.{◌≡◌}
 use Rattle.blocks.specs.Disk.{AddsNone}
 use Rattle.opening.specs.Lemmas.Keeping.{not_opened_leaves}
@@ -7,57 +7,38 @@ use Rattle.transfer.specs.Stopped.{StopsPut}
 use Rattle.transfer.proofs.OpenedLemmas.{long_run, put_leaves, put_so, put_untold, read_leaves, recovered_leaves, synced_leaves, told_so, unopened_then, unwritten_so}
 use Rattle.transfer.proofs.putting.put_long.Goals as goal
 
-pub returns-in-Err-clause-refused : goal.returns-in-Err-clause-refused
-returns-in-Err-clause-refused g c =
-    told_so g.D.Disk c.args.inum c.args.bytes.now c.args.sync c.args.disk c.judge.new.disk _ refl c.in-Err.refusal c.in-Err.ensures.refused
+-- it was judged that they are not put
+pub returns-in-Err : goal.returns-in-Err
+returns-in-Err g c = record {
+  put = tt;
+  refused = told_so g.D.Disk c.args.inum c.args.bytes.now c.args.sync c.args.disk c.judge.new.disk _ refl c.in-Err.refusal c.in-Err.ensures.refused;
+  leaves = λ sound. read_leaves g.D.Disk c.args.inum c.args.bytes.now c.args.disk c.judge.new.disk sound c.in-Err.ensures.refused.reads;
+  name = search rules;
+}
 
-pub returns-in-Err-open_sole-clause-refused : goal.returns-in-Err-open_sole-clause-refused
-returns-in-Err-open_sole-clause-refused g c =
-    (unopened_then g.D.Disk c.args.inum c.args.bytes.now c.args.sync c.args.disk c.judge.new.disk c.in-Ok.ensures.fit c.in-Err-open_sole.disk c.in-Err-open_sole.fault (λ small. let many = c.requires in let no : ⊥ = omega (arith, many, small) in absurd no) (λ more. c.in-Err-open_sole.ensures.refused), refl)
+-- no kernel was opened
+pub returns-in-Err-open_sole : goal.returns-in-Err-open_sole
+returns-in-Err-open_sole g c = record {
+  put = tt;
+  refused = (unopened_then g.D.Disk c.args.inum c.args.bytes.now c.args.sync c.args.disk c.judge.new.disk c.in-Ok.ensures.fit c.in-Err-open_sole.disk c.in-Err-open_sole.fault (λ small. let many = c.requires in let no : ⊥ = omega (arith, many, small) in absurd no) (λ more. c.in-Err-open_sole.ensures.refused), refl);
+  leaves = let d = g.D.Disk in let e = c.in-Err-open_sole.disk in λ sound. recovered_leaves d c.args.inum c.args.bytes.now c.args.disk c.judge.new.disk sound c.in-Ok.ensures.fit.reads e (not_opened_leaves d 1 c.judge.new.disk e c.in-Err-open_sole.fault c.in-Err-open_sole.ensures.refused);
+  name = search rules;
+}
 
-pub returns-in-Ok-put-clause-put : goal.returns-in-Ok-put-clause-put
-returns-in-Ok-put-clause-put g c =
-    let d = g.D.Disk in
-    let contents = g.O.Write.contents in
-    put_so d c.args.inum c.args.bytes.now c.args.sync c.args.disk c.judge.new.disk c.in-Ok.ensures.fit _ c.in-Ok-open_sole.kernel c.in-Ok-open_sole.ensures.opened c.in-Ok.twice c.in-Ok.ensures.twice c.put-put.new.kernel c.into_disk-disk.result c.tell-told.new.disk c.into_disk-disk.ensures c.in-Ok-put.number c.in-Ok-put.ensures.put
-    c.tell-told.result (contents c.args.out.now) (contents c.tell-told.new.out) c.tell-told.ensures.syncs c.tell-told.ensures.printed
+-- they were put, and then told or not
+pub returns-in-Ok-put : goal.returns-in-Ok-put
+returns-in-Ok-put g c = record {
+  put = let d = g.D.Disk in let contents = g.O.Write.contents in put_so d c.args.inum c.args.bytes.now c.args.sync c.args.disk c.judge.new.disk c.in-Ok.ensures.fit _ c.in-Ok-open_sole.kernel c.in-Ok-open_sole.ensures.opened c.in-Ok.twice c.in-Ok.ensures.twice c.put-put.new.kernel c.into_disk-disk.result c.tell-told.new.disk c.into_disk-disk.ensures c.in-Ok-put.number c.in-Ok-put.ensures.put c.tell-told.result (contents c.args.out.now) (contents c.tell-told.new.out) c.tell-told.ensures.syncs c.tell-told.ensures.printed;
+  refused = let d = g.D.Disk in put_untold d c.args.inum c.args.bytes.now c.args.sync c.args.disk c.judge.new.disk c.in-Ok.ensures.fit _ c.in-Ok-open_sole.kernel c.in-Ok-open_sole.ensures.opened c.in-Ok.twice c.in-Ok.ensures.twice c.put-put.new.kernel c.into_disk-disk.result c.tell-told.new.disk c.into_disk-disk.ensures c.in-Ok-put.number c.in-Ok-put.ensures.put c.tell-told.result _ c.tell-told.ensures.refused;
+  leaves = let d = g.D.Disk in λ sound. synced_leaves d c.args.inum c.args.bytes.now c.args.disk c.judge.new.disk sound c.in-Ok.ensures.fit.reads _ c.in-Ok-open_sole.kernel c.put-put.new.kernel c.in-Ok-open_sole.ensures.opened (long_run d c.args.inum c.args.bytes.now c.args.disk c.judge.new.disk sound c.in-Ok.ensures.fit.reads _ c.in-Ok-open_sole.kernel c.put-put.new.kernel c.in-Ok-open_sole.ensures.opened c.in-Ok.twice c.in-Ok.ensures.twice c.requires.many c.put-put.ensures.stays) c.tell-told.new.disk (subst (λ e. AddsNone (d.moment e) (d.moment c.tell-told.new.disk) (d.leaves e) (d.leaves c.tell-told.new.disk)) c.into_disk-disk.ensures c.tell-told.ensures.time);
+  name = search rules;
+}
 
-pub returns-in-Ok-put-clause-refused : goal.returns-in-Ok-put-clause-refused
-returns-in-Ok-put-clause-refused g c =
-    let d = g.D.Disk in
-    put_untold d c.args.inum c.args.bytes.now c.args.sync c.args.disk c.judge.new.disk c.in-Ok.ensures.fit _ c.in-Ok-open_sole.kernel c.in-Ok-open_sole.ensures.opened c.in-Ok.twice c.in-Ok.ensures.twice c.put-put.new.kernel c.into_disk-disk.result c.tell-told.new.disk c.into_disk-disk.ensures c.in-Ok-put.number c.in-Ok-put.ensures.put
-    c.tell-told.result _ c.tell-told.ensures.refused
-
-pub returns-in-Err-put-clause-refused : goal.returns-in-Err-put-clause-refused
-returns-in-Err-put-clause-refused g c =
-    let d = g.D.Disk in
-    let none = c.args.out.now ≡ c.args.out.now in
-    subst (λ e. IsUnput d c.args.inum c.args.bytes.now c.args.sync c.args.disk e none c.in-Err-put.refusal) (sym c.into_disk.ensures)
-    (unwritten_so d c.args.inum c.args.bytes.now c.args.sync c.args.disk c.judge.new.disk c.in-Ok.ensures.fit _ c.in-Ok-open_sole.kernel c.in-Ok-open_sole.ensures.opened c.in-Ok.twice c.in-Ok.ensures.twice
-    c.put-put.new.kernel none c.requires.many c.in-Ok-open_sole.ensures.opened c.put-put.ensures.stays.reached refl c.in-Err-put.refusal c.in-Err-put.ensures.refused)
-
-pub returns-in-Err-clause-leaves : goal.returns-in-Err-clause-leaves
-returns-in-Err-clause-leaves g c =
-    λ sound. read_leaves g.D.Disk c.args.inum c.args.bytes.now c.args.disk c.judge.new.disk sound c.in-Err.ensures.refused.reads
-
-pub returns-in-Err-open_sole-clause-leaves : goal.returns-in-Err-open_sole-clause-leaves
-returns-in-Err-open_sole-clause-leaves g c =
-    let d = g.D.Disk in
-    let e = c.in-Err-open_sole.disk in
-    λ sound. recovered_leaves d c.args.inum c.args.bytes.now c.args.disk c.judge.new.disk sound c.in-Ok.ensures.fit.reads e
-    (not_opened_leaves d 1 c.judge.new.disk e c.in-Err-open_sole.fault c.in-Err-open_sole.ensures.refused)
-
-pub returns-in-Ok-put-clause-leaves : goal.returns-in-Ok-put-clause-leaves
-returns-in-Ok-put-clause-leaves g c =
-    let d = g.D.Disk in
-    λ sound. synced_leaves d c.args.inum c.args.bytes.now c.args.disk c.judge.new.disk sound c.in-Ok.ensures.fit.reads _ c.in-Ok-open_sole.kernel c.put-put.new.kernel c.in-Ok-open_sole.ensures.opened
-    (long_run d c.args.inum c.args.bytes.now c.args.disk c.judge.new.disk sound c.in-Ok.ensures.fit.reads _ c.in-Ok-open_sole.kernel c.put-put.new.kernel c.in-Ok-open_sole.ensures.opened c.in-Ok.twice c.in-Ok.ensures.twice c.requires.many c.put-put.ensures.stays)
-    c.tell-told.new.disk
-    (subst (λ e. AddsNone (d.moment e) (d.moment c.tell-told.new.disk) (d.leaves e) (d.leaves c.tell-told.new.disk)) c.into_disk-disk.ensures c.tell-told.ensures.time)
-
-pub returns-in-Err-put-clause-leaves : goal.returns-in-Err-put-clause-leaves
-returns-in-Err-put-clause-leaves g c =
-    let d = g.D.Disk in
-    λ sound. subst (λ e. StopsPut d c.args.inum c.args.bytes.now c.args.disk e) (sym c.into_disk.ensures)
-    (put_leaves d c.args.inum c.args.bytes.now c.args.disk c.judge.new.disk sound c.in-Ok.ensures.fit.reads _ c.in-Ok-open_sole.kernel c.put-put.new.kernel c.in-Ok-open_sole.ensures.opened
-    (long_run d c.args.inum c.args.bytes.now c.args.disk c.judge.new.disk sound c.in-Ok.ensures.fit.reads _ c.in-Ok-open_sole.kernel c.put-put.new.kernel c.in-Ok-open_sole.ensures.opened c.in-Ok.twice c.in-Ok.ensures.twice c.requires.many c.put-put.ensures.stays))
+-- calls did not put them all
+pub returns-in-Err-put : goal.returns-in-Err-put
+returns-in-Err-put g c = record {
+  put = tt;
+  refused = let d = g.D.Disk in let none = c.args.out.now ≡ c.args.out.now in subst (λ e. IsUnput d c.args.inum c.args.bytes.now c.args.sync c.args.disk e none c.in-Err-put.refusal) (sym c.into_disk.ensures) (unwritten_so d c.args.inum c.args.bytes.now c.args.sync c.args.disk c.judge.new.disk c.in-Ok.ensures.fit _ c.in-Ok-open_sole.kernel c.in-Ok-open_sole.ensures.opened c.in-Ok.twice c.in-Ok.ensures.twice c.put-put.new.kernel none c.requires.many c.in-Ok-open_sole.ensures.opened c.put-put.ensures.stays.reached refl c.in-Err-put.refusal c.in-Err-put.ensures.refused);
+  leaves = let d = g.D.Disk in λ sound. subst (λ e. StopsPut d c.args.inum c.args.bytes.now c.args.disk e) (sym c.into_disk.ensures) (put_leaves d c.args.inum c.args.bytes.now c.args.disk c.judge.new.disk sound c.in-Ok.ensures.fit.reads _ c.in-Ok-open_sole.kernel c.put-put.new.kernel c.in-Ok-open_sole.ensures.opened (long_run d c.args.inum c.args.bytes.now c.args.disk c.judge.new.disk sound c.in-Ok.ensures.fit.reads _ c.in-Ok-open_sole.kernel c.put-put.new.kernel c.in-Ok-open_sole.ensures.opened c.in-Ok.twice c.in-Ok.ensures.twice c.requires.many c.put-put.ensures.stays));
+  name = search rules;
+}

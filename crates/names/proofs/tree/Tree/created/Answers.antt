@@ -12,11 +12,9 @@ use Rattle.names.proofs.tree.Tree.created.Goals as goal
 
 pub returns-in_default : goal.returns-in_default
 returns-in_default g c = record {
-  goes = c.in_ok-number.ensures.goes;
+  goes = record { on = c.in_ok-number.ensures.goes.on; stays = c.called.ensures.goes.stays; ends = tt };
   made = create_none (form_seen g.D.Disk.image c.args.self.now.kernel) (files_seen g.D.Disk.image c.args.self.now.kernel)
       (files_seen g.D.Disk.image c.called.new.self.kernel) c.args.kind c.in_ok-number.field-0 c.requires.kind c.in_ok-number.ensures.answers c.in_default.not-Made;
-  stays = c.called.ensures.stays;
-  ends = tt;
 }
 
 module _ {D N : Type 0} (disk : Ghosts D N) where

@@ -1,10 +1,10 @@
-use Rattle.std.proofs.Common.{◌≡◌, ◌∙◌, ℕ, sym, ap, arith}
+use Rattle.std.proofs.Common.{◌≡◌, ◌∙◌, sym, ap, arith}
 use Rattle.std.proofs.lemmas.Bool.{eq-eqb, eqb-true}
 use Rattle.model.specs.Files.{file_in}
 use Rattle.names.specs.Inside.{files_seen}
 use Rattle.names.specs.Trees.{kind_of}
 use Rattle.names.proofs.FileLooks.{kind_told, untold, untold_directory}
-use Rattle.names.proofs.SeenLooks.{stat_kind, stat_looks}
+use Rattle.names.proofs.SeenLooks.{stat_kind, stat_same}
 use Rattle.names.proofs.tree.Tree.is_directory.Given.{Over}
 use Rattle.names.proofs.tree.Tree.is_directory.Goals as goal
 
@@ -12,22 +12,18 @@ pub returns-in_default : goal.returns-in_default
 returns-in_default g c =
     let none : kind_told c.in_ok-kind.field-0 ≡ 0 = untold c.in_ok-kind.field-0 c.in_default.not-StatOf in
     record {
-      looks = stat_looks g.D.Disk c.args.self.now.kernel c.called.new.self.kernel c.args.number c.called.new.self.calls_left c.in_ok-kind.field-0
-          c.in_ok-kind.ensures.goes c.in_ok-kind.ensures.answers;
+      goes = record { on = c.in_ok-kind.ensures.goes.on; stays = c.called.ensures.goes.stays; ends = tt };
+      same = stat_same g.D.Disk c.args.self.now.kernel c.called.new.self.kernel c.args.number c.in_ok-kind.field-0 c.in_ok-kind.ensures.answers;
       told = (
         λ yes. absurd (cc yes),
         λ is. absurd (untold_directory (files_seen g.D.Disk.image c.args.self.now.kernel) c.args.number c.in_ok-kind.field-0
             (stat_kind g.D.Disk c.args.self.now.kernel c.called.new.self.kernel c.args.number c.in_ok-kind.field-0 c.in_ok-kind.ensures.answers)
             (λ one. absurd (omega arith)) is),
       );
-      stays = c.called.ensures.stays;
-      ends = tt;
     }
 
-pub returns-clause-looks : goal.returns-clause-looks
-returns-clause-looks g c =
-    stat_looks g.D.Disk c.args.self.now.kernel c.called.new.self.kernel c.args.number c.called.new.self.calls_left c.in_ok-kind.field-0
-    c.in_ok-kind.ensures.goes c.in_ok-kind.ensures.answers
+pub returns-clause-same : goal.returns-clause-same
+returns-clause-same g c = stat_same g.D.Disk c.args.self.now.kernel c.called.new.self.kernel c.args.number c.in_ok-kind.field-0 c.in_ok-kind.ensures.answers
 
 module _ (g : Over) (c : goal.In-StatOf g) where
   kind_is : kind_of (file_in (files_seen g.D.Disk.image c.args.self.now.kernel) c.args.number) ≡ c.in-StatOf.kind

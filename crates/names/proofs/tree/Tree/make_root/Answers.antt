@@ -3,12 +3,12 @@ use Rattle.names.proofs.tree.Tree.make_root.Goals as goal
 
 pub returns-clause-root : goal.returns-clause-root
 returns-clause-root g c =
-    root_alone g.D.Disk c.args.self.now.kernel c.begun_idle.new.self.kernel c.root_made.new.self.kernel c.committed.new.self.kernel
-    c.begun_idle.new.self.calls_left c.committed.new.self.calls_left c.in_ok-refusal.field-0 c.in_ok-begun_idle.ensures.begins c.in_ok-refusal.ensures.made
+    root_alone g.D.Disk c.args.self.now.kernel c.begun.new.self.kernel c.root_made.new.self.kernel c.committed.new.self.kernel
+    c.begun.new.self.calls_left c.committed.new.self.calls_left c.in_ok-refusal.field-0 c.in_ok-begun.ensures.begins c.in_ok-refusal.ensures.made
     c.in_default.not-Some c.requires.none c.committed.result c.committed.ensures.commits
 
 pub returns-clause-leaves : goal.returns-clause-leaves
 returns-clause-leaves g c = λ some.
-    root_leaves g.D.Disk c.args.self.now.kernel c.begun_idle.new.self.kernel c.root_made.new.self.kernel c.committed.new.self.kernel
-    c.begun_idle.new.self.calls_left c.committed.new.self.calls_left c.in_ok-refusal.field-0 c.in_ok-begun_idle.ensures.begins c.in_ok-refusal.ensures.made
-    c.in_default.not-Some c.requires.none c.begun_idle.ensures.leaves c.in_ok-refusal.ensures.goes.same c.root_made.ensures.stays c.committed.ensures.leaves
+    root_leaves g.D.Disk c.args.self.now.kernel c.begun.new.self.kernel c.root_made.new.self.kernel c.committed.new.self.kernel
+    c.begun.new.self.calls_left c.committed.new.self.calls_left c.in_ok-refusal.field-0 c.in_ok-begun.ensures.begins c.in_ok-refusal.ensures.made
+    c.in_default.not-Some c.requires.none c.begun.ensures.leaves c.in_ok-refusal.ensures.goes.on.same c.root_made.ensures.goes.stays c.committed.ensures.leaves

@@ -5,7 +5,6 @@ use Rattle.model.specs.Operations.{part_of}
 use Rattle.names.specs.Inside.{files_seen, Answers}
 use Rattle.names.specs.Trees.{IsDirectory}
 use Rattle.names.proofs.PlainFiles.{not_told, read_plain, HasRead}
-use Rattle.names.proofs.SeenLooks.{read_looks}
 use Rattle.names.proofs.tree.Tree.read_of.Given.{Over}
 use Rattle.names.proofs.tree.Tree.read_of.Goals as goal
 
@@ -17,7 +16,7 @@ module _ (g : Over) (c : goal.In_default g) where
       c.args.count c.in_ok-bytes.field-0
   read_default =
       read_plain g.D.Disk c.args.self.now.kernel c.is_directory.new.self.kernel c.called.new.self.kernel c.args.number c.args.offset c.args.count c.in_ok-bytes.field-0
-      c.in_ok-is_directory.ensures.looks.files
+      c.in_ok-is_directory.ensures.same
       (subst (λ (n : ℕ). Answers g.D.Disk.image (Read c.args.number c.args.offset n) c.is_directory.new.self.kernel c.called.new.self.kernel c.in_ok-bytes.field-0)
       c.min-most.ensures c.in_ok-bytes.ensures.answers) c.requires.there
       (not_told c.in_ok-is_directory.field-0 (IsDirectory (files_seen g.D.Disk.image c.args.self.now.kernel) c.args.number) c.if-branch.false
@@ -31,16 +30,14 @@ module _ (g : Over) (c : goal.In-Bytes g) where
       c.args.count c.in_ok-bytes.field-0
   read_whole =
       read_plain g.D.Disk c.args.self.now.kernel c.is_directory.new.self.kernel c.called.new.self.kernel c.args.number c.args.offset c.args.count c.in_ok-bytes.field-0
-      c.in_ok-is_directory.ensures.looks.files
+      c.in_ok-is_directory.ensures.same
       (subst (λ (n : ℕ). Answers g.D.Disk.image (Read c.args.number c.args.offset n) c.is_directory.new.self.kernel c.called.new.self.kernel c.in_ok-bytes.field-0)
       c.min-most.ensures c.in_ok-bytes.ensures.answers) c.requires.there
       (not_told c.in_ok-is_directory.field-0 (IsDirectory (files_seen g.D.Disk.image c.args.self.now.kernel) c.args.number) c.if-branch.false
       c.in_ok-is_directory.ensures.told)
 
-pub returns-clause-looks : goal.returns-clause-looks
-returns-clause-looks g c =
-    read_looks g.D.Disk c.args.self.now.kernel c.is_directory.new.self.kernel c.called.new.self.kernel c.is_directory.new.self.calls_left c.called.new.self.calls_left
-    c.in_ok-is_directory.ensures.looks c.in_ok-bytes.ensures.goes (read_whole g c).same
+pub returns-clause-same : goal.returns-clause-same
+returns-clause-same g c = (read_whole g c).same
 
 pub returns-clause-read : goal.returns-clause-read
 returns-clause-read g c =

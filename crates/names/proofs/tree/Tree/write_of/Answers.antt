@@ -14,9 +14,9 @@ module _ (g : Over) (c : goal.In-Some g) where
 pub returns-clause-tree : goal.returns-clause-tree
 returns-clause-tree g c =
     writes_tree g.D.Disk c.args.self.now.kernel c.is_directory.new.self.kernel c.write_called.new.self.kernel c.args.number c.args.offset c.args.bytes.now c.in_ok-done.field-0
-    c.in_ok-is_directory.ensures.looks.files c.in_ok-done.ensures.written c.requires.tree (no_directory g c)
+    c.in_ok-is_directory.ensures.same c.in_ok-done.ensures.written c.requires.tree (no_directory g c)
 
 pub returns-clause-wrote : goal.returns-clause-wrote
 returns-clause-wrote g c =
     writes_plain g.D.Disk c.args.self.now.kernel c.is_directory.new.self.kernel c.write_called.new.self.kernel c.args.number c.args.offset c.args.bytes.now c.in_ok-done.field-0 c.in-Some.done
-    c.in_ok-is_directory.ensures.looks.files c.in_ok-is_directory.ensures.looks.goes.opening c.in_ok-done.ensures.written c.in-Some.is c.requires.there (no_directory g c)
+    c.in_ok-is_directory.ensures.same c.in_ok-is_directory.ensures.goes.on.opening c.in_ok-done.ensures.written c.in-Some.is c.requires.there (no_directory g c)

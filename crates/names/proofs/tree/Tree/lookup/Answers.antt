@@ -1,9 +1,0 @@
-use Rattle.names.specs.Paths.{names_of}
-use Rattle.names.specs.Walks.{Finds, IsUnfound}
-use Rattle.names.proofs.Transacting.{leaves_files}
-use Rattle.names.proofs.tree.Tree.lookup.Goals as goal
-
-pub returns-in-Err-clause-leaves : goal.returns-in-Err-clause-leaves
-returns-in-Err-clause-leaves g c = λ some.
-    leaves_files g.D.Disk (Finds (names_of c.args.path.now)) (IsUnfound (names_of c.args.path.now)) c.args.self.now.kernel c.args.self.now.kernel
-    (c.requires.ready some).tree (c.stands.ensures some)

@@ -1,0 +1,100 @@
+-- What the calls over an image in C's memory promise.
+use Rattle.std.specs.Prelude.{◌≡◌, ◌⊎◌, ℕ, List, false, IsTrue, Some, None}
+use Rattle.std.specs.Simd.{first_chunks}
+use Rattle.blocks.specs.Disk.{Image}
+use Rattle.model.specs.Codec.{made_image}
+use Rattle.model.specs.Files.{file_count, files_of}
+use Rattle.model.specs.Layout.{form_of, is_inode_count, is_size, super_of}
+use Rattle.model.specs.Log.{logged_count, recovered}
+use Rattle.model.specs.Verdict.{verdict}
+use Rattle.model.specs.declared.types.fault.CheckFault.{CheckFault}
+use Rattle.model.specs.declared.types.fault.CheckFault.TheVariants as check
+use Rattle.layout.specs.declared.geometry.MkfsFault.{MkfsFault}
+use Rattle.layout.specs.declared.geometry.MkfsFault.TheVariants as making
+use Rattle.sessions.specs.Refusal.{HasBlocks, IsRefusal}
+use Rattle.sessions.specs.declared.refusal.OpenRefusal.{OpenRefusal}
+use Rattle.xvfs_c.specs.Numbers.{check_number, form_meant, form_number, mkfs_number, open_number}
+use Rattle.xvfs_c.specs.declared.report.XvfsReport.{XvfsReport}
+
+-- these bytes are the blocks of that image, of which there are 1 to 8191
+pub record HasImage (bytes : List ℕ) (x : Image) : Type 0 where
+  pub count : ℕ
+  pub blocks : HasBlocks bytes count
+  pub is : x ≡ first_chunks 1024 count bytes
+
+-- these bytes are no image
+abbrev pub IsNoImage : List ℕ → Type 0
+IsNoImage bytes = (count : ℕ) → HasBlocks bytes count → ⊥
+
+-- the image's first fault, or memory was refused
+abbrev pub IsFaultOf : Image → CheckFault → Type 0
+IsFaultOf x fault = (verdict x ≡ Some fault) ⊎ (fault ≡ check.NoMemory)
+
+-- of an image without a fault
+pub record TellsReport (bytes : List ℕ) (out : XvfsReport) : Type 0 where
+  pub image : Image
+  pub has : HasImage bytes image
+  pub sound : verdict image ≡ None
+  pub fault : out.fault ≡ 0
+  pub at : out.at ≡ 0
+  pub form : out.form ≡ form_number (form_of image)
+  pub size : out.size ≡ (super_of image).size
+  pub nblocks : out.nblocks ≡ (super_of image).nblocks
+  pub ninodes : out.ninodes ≡ (super_of image).ninodes
+  pub logged : out.logged ≡ logged_count image
+  pub files : out.files ≡ file_count (files_of (recovered image))
+
+-- the number of a fault of an image, or of memory, and where it is; nothing else is told
+pub record TellsFault (bytes : List ℕ) (number : ℕ) (old new : XvfsReport) : Type 0 where
+  pub image : Image
+  pub has : HasImage bytes image
+  pub fault : CheckFault
+  pub is : IsFaultOf image fault
+  pub named : (number, new.at) ≡ check_number fault
+  pub told : new ≡ record old { fault = number; at = new.at }
+
+-- a new image of the meant form was laid over bytes
+pub record Makes (old : List ℕ) (inode_count form : ℕ) (new : List ℕ) : Type 0 where
+  pub count : ℕ
+  pub blocks : HasBlocks old count
+  pub inodes : IsTrue (is_inode_count inode_count)
+  pub size : IsTrue (is_size count inode_count)
+  pub made : HasImage new (made_image (form_meant form) count inode_count)
+
+-- why no image of so many blocks and inode numbers is made
+abbrev pub IsMakingCause : ℕ → ℕ → MkfsFault → Type 0
+IsMakingCause count inode_count making.InodeRange = is_inode_count inode_count ≡ false
+IsMakingCause count inode_count making.SizeRange =
+    IsTrue (is_inode_count inode_count) × (is_size count inode_count ≡ false)
+IsMakingCause count inode_count making.NoMemory = Unit {0}
+IsMakingCause count inode_count making.Disk = ⊥
+
+-- that number says why
+pub record RefusesToMake (bytes : List ℕ) (inode_count number : ℕ) : Type 0 where
+  pub count : ℕ
+  pub blocks : HasBlocks bytes count
+  pub fault : MkfsFault
+  pub cause : IsMakingCause count inode_count fault
+  pub named : number ≡ mkfs_number fault
+
+-- so many logged blocks of an image without a fault were copied home
+pub record Recovers (old : List ℕ) (n : ℕ) (new : List ℕ) : Type 0 where
+  pub image : Image
+  pub has : HasImage old image
+  pub sound : verdict image ≡ None
+  pub count : n ≡ logged_count image
+  pub recovered : HasImage new (recovered image)
+
+-- the number of a fault of the image, or that of memory
+abbrev pub IsUnrecovered : Image → ℕ → Type 0
+IsUnrecovered x number =
+    ((fault : CheckFault) × IsFaultOf x fault × (number ≡ (check_number fault).0)) ⊎ (number ≡ 1027)
+
+-- that number says why these bytes are not recovered
+abbrev pub RefusesToRecover : List ℕ → ℕ → Type 0
+RefusesToRecover bytes number = (x : Image) × HasImage bytes x × IsUnrecovered x number
+
+-- that number says why no session is opened over these bytes; 1283 is that of memory
+abbrev pub RefusesToOpen : List ℕ → ℕ → ℕ → Type 0
+RefusesToOpen bytes processes number = (number ≡ 1283)
+    ⊎ ((refusal : OpenRefusal) × IsRefusal bytes processes refusal × (number ≡ open_number refusal))

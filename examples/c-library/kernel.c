@@ -1,0 +1,318 @@
+/*
+ * A small teaching kernel over the library. The library steps the operations of 8 processes; what is
+ * left to a kernel stands here: the disk, the processes that wait, a directory, and system calls.
+ *
+ * The disk is a file. Each block that a step tells is written to it before the next step, so at each
+ * moment the file is the session's image of before or after a step, and the program can be killed
+ * anywhere. (The system keeps what was written when a program is killed. Where the machine itself can
+ * stop, device_flush has to call fdatasync.)
+ *
+ * A process is a thread. It leaves its operation at its place in a table, under the one lock, and
+ * waits; the thread that booted the kernel makes all calls of the library, since a session stays on
+ * one thread.
+ *
+ * A system call may need two operations, and a kill may come between them. sys_creat makes the file
+ * first and then names it, sys_unlink takes the name away first and then the file: so no name is ever
+ * without a file, and a file without a name is removed at the next boot. Thus each call is made
+ * whole or not at all.
+ */
+#define _XOPEN_SOURCE 700
+#include "kernel.h"
+
+#include <fcntl.h>
+#include <pthread.h>
+#include <stdio.h>
+#include <stdlib.h>
+#include <string.h>
+#include <unistd.h>
+
+#include "xvfs.h"
+
+#define BLOCKS 600u
+#define INODES 64u
+#define ROOT 1u     /* the directory, which is the first file made */
+#define ENTRIES 64u /* of it, so that it is read by one operation */
+
+/* An entry of the directory, as in xv6: a file's number, or 0 where it is free, and its name. */
+struct entry {
+    uint16_t number;
+    char name[NAME_BYTES];
+};
+
+/* What a process asks for. */
+struct ask {
+    enum { NOTHING, ASKED, STEPPING, ENDED, ANSWERED } state;
+    xvfs_op op;
+    const void *from;   /* the bytes of a write */
+    uint32_t from_size;
+    void *into;         /* where those of a read go */
+    uint32_t into_size;
+    xvfs_answer answer;
+};
+
+static int device = -1;
+static uint8_t image[BLOCKS * XVFS_BLOCK_SIZE], before[BLOCKS * XVFS_BLOCK_SIZE];
+static xvfs session = XVFS_CLOSED_HANDLE;
+static uint64_t committed; /* the groups that no stop loses, by what was written to the disk */
+
+static pthread_t server;
+static pthread_mutex_t lock = PTHREAD_MUTEX_INITIALIZER; /* of all that follows */
+static pthread_cond_t asked = PTHREAD_COND_INITIALIZER, answered = PTHREAD_COND_INITIALIZER;
+static struct ask asks[PROCESSES];
+static int directory_is_held;
+
+static void must(int is_well, const char *what) {
+    if (!is_well) {
+        fprintf(stderr, "kernel: %s\n", what);
+        exit(2);
+    }
+}
+
+/* The disk. */
+
+static void device_write(uint32_t block, const uint8_t *bytes) {
+    off_t at = (off_t)block * XVFS_BLOCK_SIZE;
+    must(pwrite(device, bytes, XVFS_BLOCK_SIZE, at) == XVFS_BLOCK_SIZE, "the disk fails");
+}
+
+static void device_flush(void) {}
+
+/* A new image: block 1, without which it is none, is written last. */
+static void make_image(void) {
+    memset(image, 0, sizeof image);
+    must(xvfs_mkfs(image, sizeof image, INODES, 1) == XVFS_OK, "no image is made");
+    for (uint32_t b = 0; b < BLOCKS; b++)
+        if (b != 1) device_write(b, image + b * XVFS_BLOCK_SIZE);
+    device_flush();
+    device_write(1, image + XVFS_BLOCK_SIZE);
+    device_flush();
+}
+
+/* Brings the last commit to its end: first each home, and then block 2, which empties the log. */
+static void recover_image(void) {
+    uint32_t recovered;
+    memcpy(before, image, sizeof image);
+    must(xvfs_recover(image, sizeof image, &recovered) == XVFS_OK, "the image isn't sound");
+    for (uint32_t b = 0; b < BLOCKS; b++) {
+        size_t at = b * XVFS_BLOCK_SIZE;
+        if (b != 2 && memcmp(image + at, before + at, XVFS_BLOCK_SIZE)) device_write(b, image + at);
+    }
+    device_flush();
+    if (recovered) device_write(2, image + 2 * XVFS_BLOCK_SIZE);
+    device_flush();
+}
+
+/* Operations. */
+
+/* One step of a process, and its write to the disk. */
+static void step(uint32_t process) {
+    static uint8_t block[XVFS_BLOCK_SIZE];
+    struct ask *ask = &asks[process];
+    xvfs_stepped stepped;
+    must(xvfs_step(&session, process, &stepped, block, sizeof block) == XVFS_OK, "no step");
+    if (stepped.wrote) {
+        device_write(stepped.block, block);
+        device_flush();
+    }
+    committed = stepped.committed;
+    if (stepped.step != XVFS_ANSWERED) return;
+    must(xvfs_poll(&session, process, &ask->answer, (uint8_t *)ask->into, ask->into_size) == XVFS_OK,
+         "no answer");
+    ask->state = ENDED;
+}
+
+/* Goes on with what a process asked for: hands it in, steps it, and once it is answered waits until
+ * no stop can lose it. */
+static void go_on(uint32_t process) {
+    struct ask *ask = &asks[process];
+    uint64_t number;
+    if (ask->state == ASKED) {
+        must(xvfs_submit(&session, process, &ask->op, (const uint8_t *)ask->from, ask->from_size,
+                         &number) == XVFS_OK, "an operation is refused");
+        ask->state = STEPPING;
+    }
+    if (ask->state == STEPPING) step(process);
+    if (ask->state == ENDED && ask->answer.group <= committed) ask->state = ANSWERED;
+}
+
+/* An operation of a process, from its beginning to its answer. */
+static xvfs_answer operate(uint32_t process, xvfs_op op, const void *from, uint32_t from_size,
+                           void *into, uint32_t into_size) {
+    static uint8_t none[1];
+    struct ask *ask = &asks[process];
+    pthread_mutex_lock(&lock);
+    ask->op = op;
+    ask->from = from ? from : none;
+    ask->from_size = from_size;
+    ask->into = into ? into : none;
+    ask->into_size = into_size;
+    ask->state = ASKED;
+    if (pthread_equal(pthread_self(), server)) {
+        while (ask->state != ANSWERED) go_on(process);
+    } else {
+        pthread_cond_signal(&asked);
+        while (ask->state != ANSWERED) pthread_cond_wait(&answered, &lock);
+    }
+    ask->state = NOTHING;
+    xvfs_answer answer = ask->answer;
+    pthread_mutex_unlock(&lock);
+    return answer;
+}
+
+static xvfs_answer operate_on(uint32_t process, uint32_t kind, uint32_t number) {
+    xvfs_op op = {kind, number, 0, 0};
+    return operate(process, op, NULL, 0, NULL, 0);
+}
+
+void kernel_serve(void) {
+    pthread_mutex_lock(&lock);
+    for (;;) {
+        int asking = 0, done = 0;
+        for (uint32_t process = 0; process < PROCESSES; process++) {
+            struct ask *ask = &asks[process];
+            if (ask->state == NOTHING || ask->state == ANSWERED) continue;
+            go_on(process);
+            asking += 1;
+            done += ask->state == ANSWERED;
+        }
+        if (done) pthread_cond_broadcast(&answered);
+        if (!asking) pthread_cond_wait(&asked, &lock);
+        pthread_mutex_unlock(&lock); /* so that others get it */
+        pthread_mutex_lock(&lock);
+    }
+}
+
+/* The directory. It is one process's at a time while its entries are looked at and changed. */
+
+static void hold_directory(void) {
+    pthread_mutex_lock(&lock);
+    while (directory_is_held) pthread_cond_wait(&answered, &lock);
+    directory_is_held = 1;
+    pthread_mutex_unlock(&lock);
+}
+
+static void give_directory_up(void) {
+    pthread_mutex_lock(&lock);
+    directory_is_held = 0;
+    pthread_cond_broadcast(&answered);
+    pthread_mutex_unlock(&lock);
+}
+
+static void read_entries(uint32_t process, struct entry *entries) {
+    xvfs_op op = {XVFS_READ, ROOT, 0, ENTRIES * sizeof *entries};
+    memset(entries, 0, ENTRIES * sizeof *entries);
+    operate(process, op, NULL, 0, entries, ENTRIES * sizeof *entries);
+}
+
+/* The place of a name, or of a free entry where the name is empty; -1 where there is none. */
+static int place_of(const struct entry *entries, const char *name) {
+    for (unsigned k = 0; k < ENTRIES; k++) {
+        if (!*name && !entries[k].number) return (int)k;
+        if (*name && entries[k].number && !strncmp(entries[k].name, name, NAME_BYTES)) return (int)k;
+    }
+    return -1;
+}
+
+static int write_entry(uint32_t process, int place, const struct entry *entry) {
+    xvfs_op op = {XVFS_WRITE, ROOT, (uint32_t)place * sizeof *entry, 0};
+    xvfs_answer answer = operate(process, op, entry, sizeof *entry, NULL, 0);
+    return answer.reply == XVFS_WROTE && answer.value == sizeof *entry;
+}
+
+/* Makes a file and names it in the first free place. Places are taken in order, so none begins
+ * behind the directory's end. */
+static int make_file(uint32_t process, const struct entry *entries, const char *name) {
+    struct entry entry = {0, ""};
+    int place = place_of(entries, "");
+    if (place < 0) return -1;
+    xvfs_answer made = operate_on(process, XVFS_CREATE, 2);
+    if (made.reply != XVFS_MADE) return -1;
+    entry.number = (uint16_t)made.value;
+    memcpy(entry.name, name, strnlen(name, NAME_BYTES));
+    if (write_entry(process, place, &entry)) return (int)made.value;
+    operate_on(process, XVFS_REMOVE, made.value);
+    return -1;
+}
+
+/* System calls. */
+
+int sys_creat(uint32_t process, const char *name) {
+    struct entry entries[ENTRIES];
+    if (!*name) return -1;
+    hold_directory();
+    read_entries(process, entries);
+    int place = place_of(entries, name);
+    int file = place < 0 ? make_file(process, entries, name) : entries[place].number;
+    give_directory_up();
+    return file;
+}
+
+int sys_open(uint32_t process, const char *name) {
+    struct entry entries[ENTRIES];
+    if (!*name) return -1;
+    read_entries(process, entries);
+    int place = place_of(entries, name);
+    return place < 0 ? -1 : entries[place].number;
+}
+
+int sys_write(uint32_t process, int file, uint32_t offset, const void *bytes, uint32_t count) {
+    xvfs_op op = {XVFS_WRITE, (uint32_t)file, offset, 0};
+    xvfs_answer answer = operate(process, op, bytes, count, NULL, 0);
+    return answer.reply == XVFS_WROTE ? (int)answer.value : -1;
+}
+
+int sys_read(uint32_t process, int file, uint32_t offset, void *bytes, uint32_t count) {
+    xvfs_op op = {XVFS_READ, (uint32_t)file, offset, count};
+    xvfs_answer answer = operate(process, op, NULL, 0, bytes, count);
+    return answer.reply == XVFS_BYTES ? (int)answer.len : -1;
+}
+
+int sys_unlink(uint32_t process, const char *name) {
+    struct entry entries[ENTRIES], none = {0, ""};
+    if (!*name) return -1;
+    hold_directory();
+    read_entries(process, entries);
+    int place = place_of(entries, name);
+    if (place >= 0 && !write_entry(process, place, &none)) place = -1;
+    if (place >= 0) operate_on(process, XVFS_REMOVE, entries[place].number);
+    give_directory_up();
+    return place < 0 ? -1 : 0;
+}
+
+/* Boot and halt. */
+
+/* The directory is made once; a file without a name is of a call that a kill cut off. */
+static void tidy_up(void) {
+    struct entry entries[ENTRIES];
+    if (operate_on(0, XVFS_STAT, ROOT).reply != XVFS_STAT_OF)
+        must(operate_on(0, XVFS_CREATE, 1).value == ROOT, "the directory isn't file 1");
+    read_entries(0, entries);
+    for (uint32_t number = ROOT + 1; number < INODES; number++) {
+        int is_named = 0;
+        for (unsigned k = 0; k < ENTRIES; k++) is_named |= entries[k].number == number;
+        if (!is_named && operate_on(0, XVFS_STAT, number).reply == XVFS_STAT_OF)
+            operate_on(0, XVFS_REMOVE, number);
+    }
+}
+
+void kernel_boot(const char *disk) {
+    uint64_t writes;
+    xvfs_report report;
+    server = pthread_self();
+    device = open(disk, O_RDWR | O_CREAT, 0666);
+    must(device >= 0, "the disk can't be opened");
+    ssize_t size = pread(device, image, sizeof image, 0);
+    must(size >= 0, "the disk can't be read");
+    if (size < (ssize_t)sizeof image ||
+        xvfs_check(image, sizeof image, &report) == XVFS_BAD_MAGIC) make_image();
+    recover_image();
+    must(xvfs_open(&session, image, sizeof image, PROCESSES, &writes) == XVFS_OK && writes == 0,
+         "the image isn't opened");
+    committed = 0;
+    tidy_up();
+}
+
+void kernel_halt(void) {
+    xvfs_close(&session);
+    close(device);
+}

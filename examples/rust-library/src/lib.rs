@@ -1,0 +1,358 @@
+//! Safe calls of libxvfs.a, the lower storey of the xv6 file system, over an image in memory.
+//!
+//! A `Session` holds a copy of an image. Each step tells the block that it wrote, and the caller
+//! writes it to a device before the next step; xvfs.h says what else the caller owes.
+mod raw;
+
+use std::fmt;
+use std::marker::PhantomData;
+use std::ptr;
+
+/// The bytes of a block.
+pub const BLOCK_SIZE: usize = 1024;
+
+/// The most bytes of one read or write.
+pub const TRANSFER: usize = 3072;
+
+/// Why a call was refused: by the layer and the number that xvfs.h has.
+#[derive(Clone, Copy, Debug, PartialEq, Eq)]
+pub struct Refusal {
+    pub layer: u32,
+    pub number: u32,
+    /// Of a check, the inode or the block that has the fault; else 0.
+    pub at: u32,
+}
+
+impl fmt::Display for Refusal {
+    fn fmt(&self, f: &mut fmt::Formatter<'_>) -> fmt::Result {
+        write!(f, "refusal {} of layer {}", self.number, self.layer)?;
+        if self.at == 0 {
+            return Ok(());
+        }
+        write!(f, ", at {}", self.at)
+    }
+}
+
+impl std::error::Error for Refusal {}
+
+fn outcome(number: u32, at: u32) -> Result<(), Refusal> {
+    if number == 0 {
+        return Ok(());
+    }
+    let layer = number >> 8;
+    let number = number & 255;
+    Err(Refusal { layer, number, at })
+}
+
+/// What a check found.
+#[derive(Clone, Copy, Debug, PartialEq, Eq)]
+pub struct Report {
+    /// 1, or 2 for files of up to 65,803 blocks.
+    pub form: u32,
+    pub size: u32,
+    pub nblocks: u32,
+    pub ninodes: u32,
+    /// Blocks that recovery would copy home.
+    pub logged: u32,
+    /// Files once it has.
+    pub files: u32,
+}
+
+/// Says that an image is sound once its log is copied home, or its first fault.
+pub fn check(image: &[u8]) -> Result<Report, Refusal> {
+    let mut out = raw::Report::default();
+    // SAFETY: pointer and length are of one slice; `out` is this function's.
+    let number = unsafe { raw::xvfs_check(image.as_ptr(), image.len(), &mut out) };
+    outcome(number, out.at)?;
+    Ok(Report {
+        form: out.form,
+        size: out.size,
+        nblocks: out.nblocks,
+        ninodes: out.ninodes,
+        logged: out.logged,
+        files: out.files,
+    })
+}
+
+/// Makes an empty image with 2 to 1024 inode numbers, of form 2 if it is `large`.
+pub fn mkfs(image: &mut [u8], ninodes: u32, large: bool) -> Result<(), Refusal> {
+    let form = if large { 2 } else { 1 };
+    // SAFETY: pointer and length are of one slice, lent for the call.
+    let number = unsafe { raw::xvfs_mkfs(image.as_mut_ptr(), image.len(), ninodes, form) };
+    outcome(number, 0)
+}
+
+/// Copies the blocks of the log home and empties the log. How many they were.
+pub fn recover(image: &mut [u8]) -> Result<u32, Refusal> {
+    let mut recovered = 0;
+    // SAFETY: pointer and length are of one slice, lent for the call.
+    let number = unsafe { raw::xvfs_recover(image.as_mut_ptr(), image.len(), &mut recovered) };
+    outcome(number, 0)?;
+    Ok(recovered)
+}
+
+/// An operation, by inode number.
+#[derive(Clone, Copy, Debug, PartialEq, Eq)]
+pub enum Op<'a> {
+    /// A new file of a type: 1 directory, 2 file, 3 device.
+    Create {
+        kind: u16,
+    },
+    Write {
+        inum: u32,
+        offset: u32,
+        bytes: &'a [u8],
+    },
+    Read {
+        inum: u32,
+        offset: u32,
+        len: u32,
+    },
+    Trunc {
+        inum: u32,
+    },
+    Remove {
+        inum: u32,
+    },
+    Stat {
+        inum: u32,
+    },
+}
+
+/// What an operation was answered.
+#[derive(Clone, Debug, PartialEq, Eq)]
+pub enum Reply {
+    /// The new file's number.
+    Made(u32),
+    /// How many bytes were written.
+    Wrote(u32),
+    Bytes(Vec<u8>),
+    Done,
+    Stat {
+        kind: u32,
+        size: u32,
+    },
+    NoInode,
+    NoFile,
+    BadOffset,
+    TooBig,
+    TooLong,
+    BadType,
+}
+
+/// An answer of a process.
+#[derive(Clone, Debug, PartialEq, Eq)]
+pub struct Answer {
+    /// The operation's number among the process's, from 1.
+    pub seq: u64,
+    /// It outlives a stop once as many groups are committed; 0 for a question.
+    pub group: u64,
+    pub reply: Reply,
+}
+
+/// Why a process sleeps.
+#[derive(Clone, Copy, Debug, PartialEq, Eq)]
+pub enum Why {
+    Committing,
+    LogFull,
+    InodeHeld,
+    BufferHeld,
+    NoBuffer,
+    AnswersFull,
+}
+
+/// What a step of a process was.
+#[derive(Clone, Copy, Debug, PartialEq, Eq)]
+pub enum Step {
+    Moved,
+    Answered,
+    Sleeping(Why),
+    Idle,
+    /// Memory was refused; the next step begins the operation.
+    NoMemory,
+    ShutDown,
+}
+
+/// What a step did, and the block that it wrote: its number, and the bytes that it has now.
+#[derive(Debug)]
+pub struct Stepped<'a> {
+    pub step: Step,
+    pub wrote: Option<(u32, &'a [u8; BLOCK_SIZE])>,
+    /// The groups that a stop keeps, once that block is on the device.
+    pub committed: u64,
+}
+
+fn step_of(step: u32, why: u32) -> Step {
+    match (step, why) {
+        (0, _) => Step::Moved,
+        (1, _) => Step::Answered,
+        (2, 1) => Step::Sleeping(Why::Committing),
+        (2, 2) => Step::Sleeping(Why::LogFull),
+        (2, 3) => Step::Sleeping(Why::InodeHeld),
+        (2, 4) => Step::Sleeping(Why::BufferHeld),
+        (2, 5) => Step::Sleeping(Why::NoBuffer),
+        (2, 6) => Step::Sleeping(Why::AnswersFull),
+        (3, _) => Step::Idle,
+        (4, _) => Step::NoMemory,
+        (5, _) => Step::ShutDown,
+        _ => unreachable!("xvfs.h has no step {step}, {why}"),
+    }
+}
+
+fn reply_of(answer: &raw::Answer, bytes: &[u8]) -> Reply {
+    match answer.reply {
+        0 => Reply::Made(answer.value),
+        1 => Reply::Wrote(answer.value),
+        2 => Reply::Bytes(bytes[..answer.len as usize].to_vec()),
+        3 => Reply::Done,
+        4 => Reply::Stat {
+            kind: answer.value,
+            size: answer.size,
+        },
+        5 => Reply::NoInode,
+        6 => Reply::NoFile,
+        7 => Reply::BadOffset,
+        8 => Reply::TooBig,
+        9 => Reply::TooLong,
+        10 => Reply::BadType,
+        reply => unreachable!("xvfs.h has no reply {reply}"),
+    }
+}
+
+/// An open session. It stays on its thread: it is neither `Send` nor `Sync`.
+pub struct Session {
+    raw: raw::Handle,
+    block: Box<[u8; BLOCK_SIZE]>,
+    _stays: PhantomData<*mut ()>,
+}
+
+impl Session {
+    /// Opens 1 to 32 processes over a copy of an image, which is checked and recovered. Answers the
+    /// writes of that recovery, too: 0 where the log of these bytes is empty.
+    pub fn open(image: &[u8], processes: u32) -> Result<(Session, u64), Refusal> {
+        let mut raw = raw::Handle {
+            session: ptr::null_mut(),
+        };
+        let mut writes = 0;
+        // SAFETY: a handle of null is closed; pointer and length are of one slice.
+        let number = unsafe {
+            raw::xvfs_open(
+                &mut raw,
+                image.as_ptr(),
+                image.len(),
+                processes,
+                &mut writes,
+            )
+        };
+        outcome(number, 0)?;
+        let block = Box::new([0; BLOCK_SIZE]);
+        Ok((
+            Session {
+                raw,
+                block,
+                _stays: PhantomData,
+            },
+            writes,
+        ))
+    }
+
+    /// Hands an operation of a process in, behind those that wait. Its number among the process's.
+    pub fn submit(&mut self, pid: u32, op: Op) -> Result<u64, Refusal> {
+        let (kind, inum, offset, len, bytes): (u32, u32, u32, u32, &[u8]) = match op {
+            Op::Create { kind } => (0, u32::from(kind), 0, 0, &[]),
+            Op::Write {
+                inum,
+                offset,
+                bytes,
+            } => (1, inum, offset, 0, bytes),
+            Op::Read { inum, offset, len } => (2, inum, offset, len, &[]),
+            Op::Trunc { inum } => (3, inum, 0, 0, &[]),
+            Op::Remove { inum } => (4, inum, 0, 0, &[]),
+            Op::Stat { inum } => (5, inum, 0, 0, &[]),
+        };
+        let op = raw::Op {
+            kind,
+            inum,
+            offset,
+            len,
+        };
+        let mut seq = 0;
+        // SAFETY: the handle is open from `open` to `drop`; the rest is lent for the call.
+        let number = unsafe {
+            raw::xvfs_submit(
+                &mut self.raw,
+                pid,
+                &op,
+                bytes.as_ptr(),
+                bytes.len(),
+                &mut seq,
+            )
+        };
+        outcome(number, 0)?;
+        Ok(seq)
+    }
+
+    /// One step of a process. The block that it tells is to be written to the device, whole or not at
+    /// all, before the next step.
+    pub fn step(&mut self, pid: u32) -> Result<Stepped<'_>, Refusal> {
+        let mut out = raw::Stepped::default();
+        let block = self.block.as_mut_ptr();
+        // SAFETY: the handle is open; `block` has that many bytes and is this session's own.
+        let number = unsafe { raw::xvfs_step(&mut self.raw, pid, &mut out, block, BLOCK_SIZE) };
+        outcome(number, 0)?;
+        let wrote = (out.wrote == 1).then_some((out.block, &*self.block));
+        let step = step_of(out.step, out.why);
+        Ok(Stepped {
+            step,
+            wrote,
+            committed: out.committed,
+        })
+    }
+
+    /// Takes the oldest answer of a process; `None` where there is none, or no such process.
+    pub fn poll(&mut self, pid: u32) -> Option<Answer> {
+        let mut out = raw::Answer::default();
+        let mut bytes = [0; TRANSFER];
+        // SAFETY: the handle is open; `bytes` has that many bytes.
+        let number =
+            unsafe { raw::xvfs_poll(&mut self.raw, pid, &mut out, bytes.as_mut_ptr(), TRANSFER) };
+        (number == 0).then(|| Answer {
+            seq: out.seq,
+            group: out.group,
+            reply: reply_of(&out, &bytes),
+        })
+    }
+
+    /// The answers of a process that wait, the oldest first. Each is taken as it is asked for.
+    pub fn answers(&mut self, pid: u32) -> Answers<'_> {
+        Answers { session: self, pid }
+    }
+
+    /// No operation begins from now on. Those that began go on to their ends.
+    pub fn shut(&mut self) {
+        // SAFETY: the handle is open.
+        unsafe { raw::xvfs_shut(&mut self.raw) }
+    }
+}
+
+impl Drop for Session {
+    /// Ends the session. What was not committed is lost, as by a stop.
+    fn drop(&mut self) {
+        // SAFETY: the handle is open, and nothing uses it behind this.
+        unsafe { raw::xvfs_close(&mut self.raw) }
+    }
+}
+
+/// The answers of a process.
+pub struct Answers<'a> {
+    session: &'a mut Session,
+    pid: u32,
+}
+
+impl Iterator for Answers<'_> {
+    type Item = Answer;
+
+    fn next(&mut self) -> Option<Answer> {
+        self.session.poll(self.pid)
+    }
+}

@@ -1,0 +1,84 @@
+//! The functions of libxvfs.a, as xvfs.h declares them.
+#[repr(C)]
+pub struct Handle {
+    pub session: *mut u8,
+}
+
+#[repr(C)]
+#[derive(Default)]
+pub struct Report {
+    pub fault: u32,
+    pub at: u32,
+    pub form: u32,
+    pub size: u32,
+    pub nblocks: u32,
+    pub ninodes: u32,
+    pub logged: u32,
+    pub files: u32,
+}
+
+#[repr(C)]
+pub struct Op {
+    pub kind: u32,
+    pub inum: u32,
+    pub offset: u32,
+    pub len: u32,
+}
+
+#[repr(C)]
+#[derive(Default)]
+pub struct Stepped {
+    pub step: u32,
+    pub why: u32,
+    pub wrote: u32,
+    pub block: u32,
+    pub committed: u64,
+}
+
+#[repr(C)]
+#[derive(Default)]
+pub struct Answer {
+    pub seq: u64,
+    pub group: u64,
+    pub reply: u32,
+    pub value: u32,
+    pub size: u32,
+    pub len: u32,
+}
+
+extern "C" {
+    pub fn xvfs_check(image: *const u8, len: usize, out: *mut Report) -> u32;
+    pub fn xvfs_mkfs(image: *mut u8, len: usize, ninodes: u32, form: u32) -> u32;
+    pub fn xvfs_recover(image: *mut u8, len: usize, recovered: *mut u32) -> u32;
+    pub fn xvfs_open(
+        fs: *mut Handle,
+        image: *const u8,
+        len: usize,
+        processes: u32,
+        writes: *mut u64,
+    ) -> u32;
+    pub fn xvfs_submit(
+        fs: *mut Handle,
+        pid: u32,
+        op: *const Op,
+        bytes: *const u8,
+        len: usize,
+        seq: *mut u64,
+    ) -> u32;
+    pub fn xvfs_step(
+        fs: *mut Handle,
+        pid: u32,
+        out: *mut Stepped,
+        bytes: *mut u8,
+        len: usize,
+    ) -> u32;
+    pub fn xvfs_poll(
+        fs: *mut Handle,
+        pid: u32,
+        out: *mut Answer,
+        bytes: *mut u8,
+        len: usize,
+    ) -> u32;
+    pub fn xvfs_shut(fs: *mut Handle);
+    pub fn xvfs_close(fs: *mut Handle);
+}
