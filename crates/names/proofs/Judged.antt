@@ -1,16 +1,18 @@
 -- Files that are seen one after the other from the root on, and whether they are a tree.
-use Rattle.std.proofs.Common.{◌≡◌, ◌≢◌, ◌⊎◌, ℕ, zero, suc, ◌+◌, ◌<◌, ◌≤◌, Bool, true, false, eqb, List, [], ◌∷◌, ◌++◌, length, get_or, replicate, Option, None, Some, refl, sym, ap, subst, ◌∙◌, ⊎_elim, inl, inr, arith}
+use Rattle.std.proofs.Common.{◌≡◌, ℕ, suc, ◌+◌, ◌<◌, ◌≤◌, Bool, true, false, eqb, List, [], ◌∷◌, ◌++◌, length, take, get_or, replicate, refl, sym, subst, ◌∙◌, ⊎_elim, inl, inr, arith}
+use Rattle.std.specs.Prelude.{◌↔◌, IsTrue}
 use Rattle.std.specs.List.{AllByRecursion, IsDistinct, list_any}
-use Rattle.std.proofs.lemmas.Bool.{cases_Bool, eqb-true, ne_eqb, or_cases}
+use Rattle.std.proofs.lemmas.Bool.{eqb-true, ne_eqb, or_cases}
+use Rattle.std.proofs.lemmas.List.{get_or-take, length-take-le}
 use Rattle.std.proofs.lemmas.Map.Steps.{length-le_from_distinct_below}
 use Rattle.model.specs.Files.{Files}
-use Rattle.names.specs.Checks.{numbers_down, AddsChildren, AreApart, HasFound, IsAmong}
+use Rattle.names.specs.Checks.{numbers_down, AddsChildren, AreApart, HasFound}
 use Rattle.names.specs.Entries.{entries_of}
-use Rattle.names.specs.Judging.{AreAmong, IsSeen, TakesIn}
+use Rattle.names.specs.Judging.{AreAmong, HasLookedThrough, IsSeen, TakesIn}
 use Rattle.names.specs.Trees.{directory_in, IsDirectory, IsDirectoryOf, IsFile, IsTree}
 use Rattle.names.specs.declared.judging.Seen.{Seen}
 use Rattle.names.specs.declared.judging.Seen.TheVariants.{Nothing, Plain, Directory}
-use Rattle.names.proofs.Found.{found_directory, found_file}
+use Rattle.names.proofs.Found.{all_found, found_directory, found_each, found_file}
 use Rattle.names.proofs.FoundDirectory.{children, children_apart, next_directory}
 use Rattle.names.proofs.FoundNext.{next_plain}
 use Rattle.names.proofs.NumbersDown.{apart_first, apart_rest, stands_first, stands_more, StandsIn}
@@ -81,6 +83,23 @@ below (n ∷ numbers) most low q any =
     (λ (there : list_any (eqb q) numbers ≡ true). below numbers most (λ j inside. low (suc j) (omega arith)) q there)
     (or_cases (eqb q n) (list_any (eqb q) numbers) any)
 
--- as many as two bytes can tell apart, at most
-pub few_found : (numbers : List ℕ) → AreApart numbers → ((j : ℕ) → j < length numbers → get_or numbers j 0 < 65536) → length numbers ≤ 65536
-few_found numbers apart low = length-le_from_distinct_below numbers 65536 (distinct numbers apart) (below numbers 65536 low)
+-- no more are looked into than there are numbers for files
+pub few_looked : (files : Files) (k most : ℕ) (numbers parents : List ℕ) → HasFound files k numbers parents → ((i : ℕ) → IsFile files i → i < most) → k ≤ most
+few_looked files k most numbers parents found inside =
+    let low : k ≤ length numbers = found.low in
+    let long : length (take k numbers) ≡ k = length-take-le k numbers low in
+    let at : (j : ℕ) → j < k → get_or (take k numbers) j 0 ≡ get_or numbers j 0 = λ j seen. get_or-take k numbers j 0 seen in
+    let apart : AreApart (take k numbers) =
+    record { same = λ i j at_i at_j e. found.apart.same i j (omega arith) (omega arith) (sym (at i (omega arith)) ∙ e ∙ at j (omega arith)) } in
+    let few = length-le_from_distinct_below (take k numbers) most (distinct (take k numbers) apart)
+    (below (take k numbers) most
+    (λ j seen. subst (λ (i : ℕ). i < most) (sym (at j (omega arith))) (inside (get_or numbers j 0) (found.there j (omega arith))))) in
+    omega (arith, long, few)
+
+-- ---- all are looked into
+
+-- once all that were found are looked into, each file is among them exactly where the files are a tree
+pub told_by : (files : Files) (numbers : List ℕ) (are : Bool) → IsDirectory files 1 → HasLookedThrough files numbers true → IsTrue are ↔ AreAmong files numbers →
+    IsTrue are ↔ IsTree files
+told_by files numbers are rooted looked among =
+    (λ yes. all_found files numbers looked.0 looked.1 rooted (among.0 yes), λ tree. among.1 (found_each files numbers looked.0 looked.1 tree))

@@ -1,10 +1,11 @@
 -- The file of a number of an image, as a reader finds it.
-use Rattle.std.proofs.Common.{◌≡◌, ◌≢◌, ◌⊎◌, ◌∙◌, ℕ, ◌<◌, ◌≤◌, eqb, List, length, take, Option, None, Some, refl, sym, ap, subst, inl, inr, ⊎_elim, arith}
+use Rattle.std.proofs.Common.{◌≡◌, ◌≢◌, ◌⊎◌, ◌∙◌, ℕ, ◌<◌, ◌≤◌, eqb, Option, None, Some, sym, ap, subst, inl, inr, ⊎_elim, arith}
 use Rattle.std.proofs.lemmas.Bool.{cases_eq, cases_lt, cond-false, cond-true, eq-eqb, ne_eqb}
 use Rattle.std.proofs.lemmas.List.{take-take}
 use Rattle.blocks.specs.Disk.{Image, IsImage, Rose}
-use Rattle.model.specs.Common.{file_in, files_of, inode_count_of, inode_of}
+use Rattle.model.specs.Common.{file_in, files_of, inode_count_of}
 use Rattle.model.specs.Files.{bytes_in, file_of}
+use Rattle.model.specs.Layout.{inode_of}
 use Rattle.model.specs.Log.{recovered}
 use Rattle.model.specs.Operations.{part_of}
 use Rattle.model.specs.Verdict.{geometry_fault, log_fault, or_else, verdict}
@@ -75,6 +76,9 @@ module _ (x : Image) (image : Recovered) (is : IsReaderOf x image) where
 
     pub is_here : d.kind ≢ 0 → IsFile (files_of (recovered x)) i
     is_here used none = let both = sym none ∙ file_here ∙ file_used (recovered x) d used in cc both
+
+    pub none_by_kind : kind_of (file_in (files_of (recovered x)) i) ≡ 0 → file_in (files_of (recovered x)) i ≡ None
+    none_by_kind free = none_here (sym kind_here ∙ free)
 
     pub bytes_here : d.kind ≢ 0 → directory_in (files_of (recovered x)) i ≡ bytes_in (recovered x) d
     bytes_here used = ap bytes_of (file_here ∙ file_used (recovered x) d used)

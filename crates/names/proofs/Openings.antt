@@ -1,6 +1,6 @@
 -- A disk is read, and then a kernel is opened over it, or is not.
-use Rattle.std.proofs.Common.{◌≡◌, ◌≤◌, ℕ, ⊎_elim, inl, inr, refl, sym, ◌∙◌, ap, subst, arith}
-use Rattle.std.specs.Prelude.{◌⊎◌, None}
+use Rattle.std.proofs.Common.{◌≡◌, ⊎_elim, inl, inr, refl, sym, ◌∙◌, ap, subst, arith}
+use Rattle.std.specs.Prelude.{None}
 use Rattle.blocks.specs.Calls.{OnlyReads}
 use Rattle.blocks.specs.Disk.{AddsOnly, HasTurned, Image, Rose, counted}
 use Rattle.blocks.specs.declared.disk.Disk.{Ghosts}
@@ -15,6 +15,12 @@ use Rattle.model.specs.Log.{logged_count, recovered}
 use Rattle.offline.specs.Cause.{IsCause}
 use Rattle.wal.specs.Recovery.{RecoversAs, syncs_to_recover, writes_to_recover}
 use Rattle.wal.specs.declared.faults.RecoverFault.{RecoverFault}
+use Rattle.blocks.specs.Lemmas.Reads.{reads_then}
+use Rattle.model.specs.Files.{files_of}
+use Rattle.names.specs.Opening.{IsUnopened}
+use Rattle.names.specs.Trees.{IsTree}
+use Rattle.names.specs.declared.opening.TreeOpenFault.{TreeOpenFault}
+use Rattle.names.specs.declared.opening.TreeOpenFault.TheVariants.{Kernel, NoTree}
 
 module _ {D N : Type 0} (disk : Ghosts D N) where
   -- what a stop leaves of reads
@@ -110,3 +116,12 @@ module _ {D N : Type 0} (disk : Ghosts D N) where
       (subst (λ (x : D). RefusesToOpen disk d x 2 open_fault.NoMemory) (sym none.1)
       (read_refuses d m open_fault.NoMemory reads (omega arith, omega arith, sound)))
   unopened_behind d m e cause sound reads faults (inr why) = refuses_behind d m e cause reads faults why
+
+  -- the same of a tree
+  pub unopened_after : (d m e : D) (cause : TreeOpenFault) → verdict (disk.image d) ≡ None → OnlyReads disk d m → disk.fault_count m ≡ disk.fault_count d → IsUnopened disk m e cause → IsUnopened disk d e cause
+  unopened_after d m e (Kernel cause) sound reads faults why = refuses_behind d m e cause reads faults why
+  unopened_after d m e NoTree sound reads faults why = record {
+    sound = sound;
+    none = λ tree. why.none (subst (λ (y : Image). IsTree (files_of (recovered y))) (sym reads.image) tree);
+    reads = reads_then disk d m e reads why.reads;
+  }

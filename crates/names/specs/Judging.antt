@@ -1,7 +1,7 @@
 -- What is seen of files without a kernel, and when it tells that they are a tree.
-use Rattle.std.specs.Prelude.{◌≡◌, ◌≢◌, ◌⊎◌, ℕ, ◌<◌, Bool, true, false, List, length, None, Result, MatchResult}
+use Rattle.std.specs.Prelude.{◌≡◌, ◌⊎◌, ℕ, Bool, true, false, List, length, None, Result, MatchResult}
 use Rattle.blocks.specs.Disk.{Image, Rose}
-use Rattle.model.specs.Files.{Files, file_in}
+use Rattle.model.specs.Files.{Files}
 use Rattle.model.specs.Verdict.{verdict}
 use Rattle.offline.specs.Recovered.{IsRecoveredOf}
 use Rattle.offline.specs.declared.recovered.Recovered.{Recovered}

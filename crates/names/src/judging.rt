@@ -140,7 +140,7 @@ fn look_through<D: Disk>(
         let number = numbers[looked];
         let parent = parents[looked];
         let seen = look(alloc, disk, image, block, u32::from(number))?;
-        if !take_in(&seen, number, parent, numbers, &mut parents)? {
+        if !take_in(seen, number, parent, numbers, &mut parents)? {
             return Ok(false);
         }
         looked += 1;
@@ -151,25 +151,24 @@ fn look_through<D: Disk>(
 // Whether what is seen at a number may be so in a tree, where a directory with that parent leads down
 // to it. What it leads down to is found then.
 fn take_in(
-    seen: &Seen,
+    seen: Seen,
     number: u16,
     parent: u16,
     numbers: &mut Vec<u16>,
     parents: &mut Vec<u16>,
 ) -> Result<bool, NoMemory>
     requires { AreApart numbers.old.items }
-    ensures { IfOk result (TakesIn seen.now number parent
+    ensures { IfOk result (TakesIn seen number parent
         numbers.old.items parents.old.items numbers.new.items parents.new.items) }
 {
     match seen {
         Seen::Nothing => Ok(false),
         Seen::Plain => Ok(true),
         Seen::Directory(bytes) => {
-            let bytes = bytes.as_slice();
-            if !is_directory_of(bytes, number, parent) {
+            if !is_directory_of(bytes.as_slice(), number, parent) {
                 return Ok(false);
             }
-            add_children(entries(bytes), number, numbers, parents)
+            add_children(entries(bytes.as_slice()), number, numbers, parents)
         }
     }
 }

@@ -1,4 +1,4 @@
-use Rattle.std.proofs.Common.{◌≡◌, ◌<◌, ◌≤◌, ℕ}
+use Rattle.std.proofs.Common.{◌≡◌, ◌<◌, ℕ}
 use Rattle.blocks.specs.Calls.{OnlyReads}
 use Rattle.model.specs.Files.{files_of}
 use Rattle.model.specs.Log.{recovered}

@@ -1,5 +1,4 @@
-use Rattle.std.proofs.Common.{ap, sym, ◌∙◌, arith}
-use Rattle.model.specs.Files.{files_of}
+use Rattle.std.proofs.Common.{ap, sym, arith}
 use Rattle.model.specs.Log.{recovered}
 use Rattle.model.specs.Lemmas.FileNumbers.{none_at_zero}
 use Rattle.names.specs.Trees.{kind_of}

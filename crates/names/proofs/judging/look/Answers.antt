@@ -1,11 +1,9 @@
-use Rattle.std.proofs.Common.{◌≡◌, ◌≢◌, ◌∙◌, ◌<◌, ap, sym, arith}
+use Rattle.std.proofs.Common.{◌∙◌, ◌<◌, ap, sym, arith}
 use Rattle.blocks.specs.Disk.{Image}
-use Rattle.model.specs.Files.{bytes_in, file_in, files_of}
+use Rattle.model.specs.Files.{bytes_in}
 use Rattle.model.specs.Log.{recovered}
 use Rattle.model.specs.Lemmas.FileNumbers.{none_at_zero}
-use Rattle.names.specs.Trees.{kind_of}
 use Rattle.names.proofs.Looked.{bytes_here, is_here, kind_here, none_here, past_none, read_here}
-use Rattle.names.proofs.judging.look.Given.{Over}
 use Rattle.names.proofs.judging.look.Goals as goal
 use Rattle.names.proofs.judging.look.Goals.{then-number-eq0-via-then-number-eq0, then-number-eq0-via-else-number-eq0+then-number-image}
 

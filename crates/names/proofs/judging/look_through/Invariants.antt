@@ -6,7 +6,7 @@ use Rattle.names.specs.Checks.{HasFound}
 use Rattle.names.proofs.judging.look_through.Given as goal
 
 abbrev pub decreases-loop-looked : goal.decreases-loop-looked
-decreases-loop-looked g l = 65536 - l.looked
+decreases-loop-looked g l = l.image.sup.ninodes - l.looked
 
 abbrev pub invariant-loop-looked : goal.invariant-loop-looked
 invariant-loop-looked g l = record {
