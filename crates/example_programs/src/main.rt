@@ -1,8 +1,9 @@
 //! Programs that stand on these crates, as examples. With the word `using` it does what docs/USING.md
 //! shows: an image is made and opened, operations are called one after the other, and two processes
-//! take turns up to a stop. With `names` it makes, finds and unlinks names in a directory, and stops
-//! a link before each of its writes. With `trees` it does so by paths. With `transactions` one is made to its end, stopped before each of
-//! its writes, given up, and made too large for the log. With no word it does all four.
+//! take turns up to a stop. With `trees` it makes directories and files by paths, finds and removes some,
+//! and stops the making of one before each of its writes. With `transactions` one is made to its end,
+//! stopped before each of its writes, given up, and made too large for the log. With no word it does
+//! all three.
 #![tactic(auto)]
 
 mod calling;
@@ -10,7 +11,6 @@ mod filling;
 mod keeping;
 mod knowing;
 mod making;
-mod naming;
 mod pairing;
 mod stopping;
 mod stops;
@@ -20,7 +20,6 @@ mod using;
 
 use crate::filling::print_full;
 use crate::keeping::{print_abandoned, print_stopped};
-use crate::naming::print_names;
 use crate::trees::print_trees;
 use crate::using::print_using;
 use anyhow::bail;
@@ -33,7 +32,6 @@ fn main(rt: HostRuntime) -> anyhow::Result<()> {
         Some(word) => print_part(&rt, rt.alloc(), word.as_str()),
         None => {
             print_using(&rt, rt.alloc())?;
-            print_names(&rt, rt.alloc())?;
             print_trees(&rt, rt.alloc())?;
             print_transactions(&rt, rt.alloc())
         }
@@ -43,10 +41,9 @@ fn main(rt: HostRuntime) -> anyhow::Result<()> {
 fn print_part(rt: &impl Print, alloc: Global, part: &str) -> anyhow::Result<()> {
     match part {
         "using" => print_using(rt, alloc),
-        "names" => print_names(rt, alloc),
         "trees" => print_trees(rt, alloc),
         "transactions" => print_transactions(rt, alloc),
-        _ => bail!("the word is using, names, trees or transactions"),
+        _ => bail!("the word is using, trees or transactions"),
     }
 }
 

@@ -1,11 +1,11 @@
-// Links that are stopped before one of their writes.
+// Files made by paths, each stopped before one of the writes.
 ghost use Rattle.std.specs.Prelude.{◌≡◌, IfOk};
 ghost use Rattle.model.specs.Codec.{made_image};
 ghost use Rattle.model.specs.declared.types.image.Form.TheVariants.{One};
 
 use blocks::{Disk, FaultyDisk, Kind, MemDisk};
 use layout::MkfsFault;
-use names::{FilesFault, Name, NamedFiles};
+use names::{Refusal, Tree, TreeFault};
 use offline::mkfs;
 use std::alloc::Global;
 
@@ -14,13 +14,13 @@ const SIZE: u32 = 200;
 
 const INODES: u32 = 32;
 
-/// What a stop left of a name.
+/// What a stop left of a path.
 #[derive(Clone, Copy)]
 pub struct Left {
-    /// Whether there was a write of this number, before which the link was stopped.
+    /// Whether there was a write of this number, before which the making was stopped.
     pub was_stopped: bool,
-    /// Where the name leads in the image that was recovered.
-    pub number: Option<u16>,
+    /// Where the path leads in the image that was recovered.
+    pub number: Option<u32>,
 }
 
 /// A new image.
@@ -34,58 +34,36 @@ pub fn new_disk(alloc: Global) -> Result<MemDisk, MkfsFault>
     }
 }
 
-/// Links file 2 under one name more, stops that before its write of this number, and opens what the
-/// stop left.
-pub fn where_it_leads(alloc: Global, name: &Name, write: u64) -> anyhow::Result<Left> {
-    match with_one_name(alloc) {
-        Ok(disk) => stopped_on(alloc, disk, name, write),
-        Err(fault) => Err(fault),
-    }
-}
-
-// An image with a directory, in which one name leads to file 2.
-fn with_one_name(alloc: Global) -> anyhow::Result<MemDisk> {
-    let disk = new_disk(alloc)?;
-    match NamedFiles::open(alloc, disk) {
-        Ok(mut files) => match make_first(alloc, &mut files) {
-            Ok(()) => Ok(files.into_disk()),
-            Err(fault) => Err(fault),
-        },
-        Err(fault) => Err(fault.into()),
-    }
-}
-
-fn make_first(alloc: Global, files: &mut NamedFiles<MemDisk>) -> anyhow::Result<()> {
-    files.make_directory()?;
-    files.make(alloc, &Name::new(b"first")?)?;
-    Ok(())
-}
-
-fn stopped_on(alloc: Global, disk: MemDisk, name: &Name, write: u64) -> anyhow::Result<Left> {
-    let disk = FaultyDisk::new(disk, write, Kind::WriteOld);
-    match NamedFiles::open(alloc, disk) {
-        Ok(mut files) => {
-            let linked = files.link(alloc, name, 2);
-            left_on(alloc, files.into_disk().into_inner(), name, linked)
-        }
-        Err(fault) => Err(fault.into()),
-    }
-}
-
-fn left_on(
+/// Makes a file at a path of a disk whose files are a tree, stops that before its write of this number,
+/// and opens what the stop left.
+pub fn where_it_leads(
     alloc: Global,
     disk: MemDisk,
-    name: &Name,
-    linked: Result<(), FilesFault>,
+    path: &str,
+    write: u64,
 ) -> anyhow::Result<Left> {
-    match NamedFiles::open(alloc, disk) {
-        Ok(mut files) => match files.lookup(name) {
+    match Tree::open(alloc, FaultyDisk::new(disk, write, Kind::WriteOld)) {
+        Ok(mut tree) => {
+            let made = tree.make(alloc, path.as_bytes());
+            left_on(alloc, tree.into_disk().into_inner(), path, made.is_err())
+        }
+        Err((fault, _disk)) => Err(fault.into()),
+    }
+}
+
+fn left_on(alloc: Global, disk: MemDisk, path: &str, was_stopped: bool) -> anyhow::Result<Left> {
+    match Tree::open(alloc, disk) {
+        Ok(mut tree) => match tree.lookup(alloc, path.as_bytes()) {
             Ok(number) => Ok(Left {
-                was_stopped: linked.is_err(),
-                number,
+                was_stopped,
+                number: Some(number),
+            }),
+            Err(TreeFault::Refused(Refusal::NotFound)) => Ok(Left {
+                was_stopped,
+                number: None,
             }),
             Err(fault) => Err(fault.into()),
         },
-        Err(fault) => Err(fault.into()),
+        Err((fault, _disk)) => Err(fault.into()),
     }
 }

@@ -1,19 +1,30 @@
-// A tree of directories: files are made, found and removed by their paths.
+// A tree of directories: directories and files are made, written, found and removed by their paths, and
+// the making of a file is stopped before each of its writes.
 ghost use Rattle.std.specs.Prelude.{IfOk};
 ghost use Rattle.model.specs.Files.{files_of};
 ghost use Rattle.model.specs.Log.{recovered};
 ghost use Rattle.names.specs.Ready.{HasNoFile, IsReady, MayGoOn};
 
-use crate::stops::new_disk;
+use crate::stops::{new_disk, where_it_leads};
+use anyhow::bail;
 use blocks::{Disk, MemDisk};
 use calls::transactions::open_pair;
 use names::{ENTRY_SIZE, Tree};
 use std::alloc::Global;
 
-/// Makes a root, and files in it by their paths, finds and removes some, and prints what came of each.
+// More writes than the making of a file makes.
+const MOST_WRITES: u64 = 20;
+
+/// Makes a root, directories and files in it by their paths, writes and reads one, finds and removes
+/// some, and prints what came of each. Then it stops the making of a file before each of its writes in
+/// turn, opens what the stop left, and prints where the path leads. So the one write that counts is
+/// seen.
 pub fn print_trees(rt: &impl Print, alloc: Global) -> anyhow::Result<()> {
     match new_tree(alloc) {
-        Ok(mut tree) => ask_all(rt, alloc, &mut tree),
+        Ok(mut tree) => {
+            ask_all(rt, alloc, &mut tree)?;
+            print_stops(rt, alloc, "docs/late")
+        }
         Err(fault) => Err(fault),
     }
 }
@@ -48,16 +59,35 @@ fn rooted<D: Disk + Drop>(alloc: Global, disk: D) -> anyhow::Result<Tree<D>>
 fn ask_all<D: Disk>(rt: &impl Print, alloc: Global, tree: &mut Tree<D>) -> anyhow::Result<()>
     requires { MayGoOn D.Disk tree.old.kernel tree.old.calls_left }
 {
-    make(rt, alloc, tree, "/notes")?;
-    make(rt, alloc, tree, "plan")?;
-    make(rt, alloc, tree, "//notes/")?;
-    make(rt, alloc, tree, "notes/today")?;
-    make(rt, alloc, tree, "a-name-of-15-by")?;
-    find(rt, alloc, tree, "/./../plan")?;
-    remove(rt, alloc, tree, "/notes")?;
-    remove(rt, alloc, tree, "..")?;
-    find(rt, alloc, tree, "notes")?;
+    make_all(rt, alloc, tree)?;
+    write(rt, alloc, tree, "docs/notes", "to be, or not to be")?;
+    read(rt, alloc, tree, "docs/notes")?;
+    find(rt, alloc, tree, "/./docs/../plan")?;
+    remove_all(rt, alloc, tree)?;
     list(rt, alloc, tree, "/")
+}
+
+fn make_all<D: Disk>(rt: &impl Print, alloc: Global, tree: &mut Tree<D>) -> anyhow::Result<()>
+    requires { MayGoOn D.Disk tree.old.kernel tree.old.calls_left }
+    ensures { MayGoOn D.Disk tree.new.kernel tree.new.calls_left }
+{
+    make_directory(rt, alloc, tree, "/docs")?;
+    make(rt, alloc, tree, "docs/notes")?;
+    make(rt, alloc, tree, "plan")?;
+    make(rt, alloc, tree, "//docs/notes/")?;
+    make(rt, alloc, tree, "plan/today")?;
+    make(rt, alloc, tree, "a-name-of-15-by")
+}
+
+fn remove_all<D: Disk>(rt: &impl Print, alloc: Global, tree: &mut Tree<D>) -> anyhow::Result<()>
+    requires { MayGoOn D.Disk tree.old.kernel tree.old.calls_left }
+    ensures { MayGoOn D.Disk tree.new.kernel tree.new.calls_left }
+{
+    remove_directory(rt, alloc, tree, "docs")?;
+    remove(rt, alloc, tree, "docs/notes")?;
+    remove(rt, alloc, tree, "..")?;
+    find(rt, alloc, tree, "docs/notes")?;
+    remove_directory(rt, alloc, tree, "docs")
 }
 
 fn make<D: Disk>(
@@ -122,4 +152,101 @@ fn list<D: Disk>(
         Err(fault) => println!(rt; "{path} was not listed: {fault}")?,
     }
     Ok(())
+}
+
+fn make_directory<D: Disk>(
+    rt: &impl Print,
+    alloc: Global,
+    tree: &mut Tree<D>,
+    path: &str,
+) -> anyhow::Result<()>
+    requires { MayGoOn D.Disk tree.old.kernel tree.old.calls_left }
+    ensures { MayGoOn D.Disk tree.new.kernel tree.new.calls_left }
+{
+    match tree.make_directory(alloc, path.as_bytes()) {
+        Ok(number) => println!(rt; "{path} was made, directory {number}")?,
+        Err(fault) => println!(rt; "{path} was not made: {fault}")?,
+    }
+    Ok(())
+}
+
+fn remove_directory<D: Disk>(
+    rt: &impl Print,
+    alloc: Global,
+    tree: &mut Tree<D>,
+    path: &str,
+) -> anyhow::Result<()>
+    requires { MayGoOn D.Disk tree.old.kernel tree.old.calls_left }
+    ensures { MayGoOn D.Disk tree.new.kernel tree.new.calls_left }
+{
+    match tree.remove_directory(alloc, path.as_bytes()) {
+        Ok(()) => println!(rt; "{path} was removed")?,
+        Err(fault) => println!(rt; "{path} was not removed: {fault}")?,
+    }
+    Ok(())
+}
+
+fn write<D: Disk>(
+    rt: &impl Print,
+    alloc: Global,
+    tree: &mut Tree<D>,
+    path: &str,
+    text: &str,
+) -> anyhow::Result<()>
+    requires { MayGoOn D.Disk tree.old.kernel tree.old.calls_left }
+    ensures { MayGoOn D.Disk tree.new.kernel tree.new.calls_left }
+{
+    match tree.write(alloc, path.as_bytes(), 0, text.as_bytes()) {
+        Ok(Ok(())) => println!(rt; "{path} has {} bytes", text.len())?,
+        Ok(Err(cause)) => println!(rt; "{path} was not written: {cause}")?,
+        Err(fault) => println!(rt; "{path} was not written: {fault}")?,
+    }
+    Ok(())
+}
+
+fn read<D: Disk>(
+    rt: &impl Print,
+    alloc: Global,
+    tree: &mut Tree<D>,
+    path: &str,
+) -> anyhow::Result<()>
+    requires { MayGoOn D.Disk tree.old.kernel tree.old.calls_left }
+    ensures { MayGoOn D.Disk tree.new.kernel tree.new.calls_left }
+{
+    match tree.read(alloc, path.as_bytes(), 6, 100) {
+        Ok(bytes) => println!(rt; "{path} has {} bytes from byte 6 on", bytes.len())?,
+        Err(fault) => println!(rt; "{path} was not read: {fault}")?,
+    }
+    Ok(())
+}
+
+// Stops the making of a file before each of its writes, until one is not stopped.
+fn print_stops(rt: &impl Print, alloc: Global, path: &str) -> anyhow::Result<()> {
+    for write in 1..=MOST_WRITES {
+        let left = where_it_leads(alloc, with_docs(alloc)?, path, write)?;
+        if left.was_stopped {
+            print!(rt; "stopped before write {write}: ")?;
+        } else {
+            print!(rt; "made to its end: ")?;
+        }
+        match left.number {
+            Some(number) => println!(rt; "{path} leads to file {number}")?,
+            None => println!(rt; "{path} leads nowhere")?,
+        }
+        if !left.was_stopped {
+            return Ok(());
+        }
+    }
+    bail!("the making has too many writes")
+}
+
+// A disk with a root and a directory in it.
+fn with_docs(alloc: Global) -> anyhow::Result<MemDisk> {
+    match new_tree(alloc) {
+        Ok(mut tree) => match tree.make_directory(alloc, b"docs") {
+            Ok(_number) => Ok(tree.into_disk()),
+            Err(fault) => Err(fault.into()),
+        },
+        Err(fault) => Err(fault),
+    }
 }

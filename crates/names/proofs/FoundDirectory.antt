@@ -14,7 +14,7 @@ use Rattle.names.proofs.NumbersDown.{apart_entries, apart_parts, apart_right, fr
 use Rattle.names.proofs.TreeBy.{directory_is_file, tree_makes_steps}
 
 -- a directory's numbers, and their parents
-pub children : Files → ℕ → List ℕ
+unfoldable pub children : Files → ℕ → List ℕ
 children files from = numbers_down (entries_of (directory_in files from))
 
 -- what it leads down to is behind the others

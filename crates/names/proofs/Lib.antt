@@ -3,8 +3,6 @@ pub mod Chunks
 pub mod EntryBytes
 pub mod Changes
 pub mod Keeping
-pub mod Writes
-pub mod Calls
 pub mod FileMaps
 pub mod Answered
 pub mod EntrySteps
@@ -37,6 +35,9 @@ pub mod EntryPaths
 pub mod FoundNext
 pub mod FoundDirectory
 pub mod Children
+pub mod Judged
+pub mod Looked
+pub mod Openings
 pub mod FirstNames
 pub mod Transacting
 pub mod FileMakes

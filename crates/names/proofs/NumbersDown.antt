@@ -31,12 +31,12 @@ pub record StandsIn (numbers : List ℕ) (number : ℕ) : Type 0 where
   pub inside : place < length numbers
   pub is : get_or numbers place 0 ≡ number
 
-stands_more : (n : ℕ) (numbers : List ℕ) (number : ℕ) → StandsIn numbers number → StandsIn (n ∷ numbers) number
+pub stands_more : (n : ℕ) (numbers : List ℕ) (number : ℕ) → StandsIn numbers number → StandsIn (n ∷ numbers) number
 stands_more n numbers number s =
     let inside : s.place < length numbers = s.inside in
     let more : length (n ∷ numbers) ≡ suc (length numbers) = refl in record { place = suc s.place; inside = omega arith; is = s.is }
 
-stands_first : (n : ℕ) (numbers : List ℕ) → StandsIn (n ∷ numbers) n
+pub stands_first : (n : ℕ) (numbers : List ℕ) → StandsIn (n ∷ numbers) n
 stands_first n numbers = let more : length (n ∷ numbers) ≡ suc (length numbers) = refl in record { place = 0; inside = omega arith; is = refl }
 
 -- an entry that leads down has its number among them

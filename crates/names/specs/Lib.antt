@@ -17,7 +17,8 @@ pub mod TreeMeaning
 pub mod WholeChanges
 pub mod PathLaws
 pub mod Checks
+pub mod Judging
+pub mod Opening
 pub mod Laws
 pub mod Lemmas
-pub mod NamedFiles
 pub mod Stops

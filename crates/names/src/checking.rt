@@ -89,7 +89,7 @@ pub fn add_children(
 }
 
 // Whether a number is one of those.
-fn is_among(numbers: &[u16], number: u16) -> bool
+pub(crate) fn is_among(numbers: &[u16], number: u16) -> bool
     ensures { IsTrue result ↔ Contains numbers.now number }
 {
     numbers.contains(&number)

@@ -10,9 +10,6 @@
 //! processes. Each of its calls is one transaction: a stop at any moment leaves the tree as it was or
 //! as the call makes it, in which each file has one path.
 //!
-//! `NamedFiles` are files whose names stand in such a directory, over a kernel of one process: a layer
-//! above the lower storey, by public calls alone.
-//!
 //! `tree_laws` says when directories within directories are a tree, and that changes leave one.
 #![tactic(auto)]
 
@@ -23,13 +20,13 @@ mod contents;
 mod directing;
 mod directory;
 mod entries;
-mod fault;
-mod files;
+mod judging;
 pub mod kernel_laws;
 pub mod laws;
 mod looking;
 mod making;
 mod name;
+mod opening;
 mod path;
 mod refusal;
 mod removing;
@@ -45,9 +42,9 @@ pub use entries::{
     DIRECTORY, DIRECTORY_SIZE, ENTRY_SIZE, EntryWrite, LinkFault, link, lookup, new_directory,
     repoint, unlink,
 };
-pub use fault::FilesFault;
-pub use files::NamedFiles;
+pub use judging::{JudgeFault, is_tree};
 pub use name::{NAME_SIZE, Name, NameFault};
+pub use opening::TreeOpenFault;
 pub use path::{PathFault, names_of};
 pub use refusal::{Refusal, TreeFault};
 pub use tree::Tree;

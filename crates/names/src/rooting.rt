@@ -8,40 +8,18 @@ ghost use Rattle.model.specs.Log.{recovered};
 ghost use Rattle.names.specs.Inside.{files_seen, IsUnderWay, Proceeds};
 ghost use Rattle.names.specs.Ready.{HasFilled, HasNoFile, IsIdle, IsReady, IsRootAlone, IsRootless, KeepsRoot, MakesRoot, is_filled};
 ghost use Rattle.names.specs.Trees.{IsTree};
-ghost use Rattle.calls.specs.Opening.{IsNotOpenedPair, IsOpenedPair};
 ghost use Rattle.calls.specs.Transactions.{Rests};
 
 use crate::entries::{DIRECTORY, new_directory};
 use crate::refusal::{Refusal, TreeFault};
 use crate::tree::Tree;
 use blocks::Disk;
-use calls::transactions::{Pair, TransactionFault, open_pair};
-use kernel::OpenFault;
+use calls::transactions::{Pair, TransactionFault};
 use model::types::{Op, Reply};
 use std::alloc::Global;
 
 // The calls that a tree may make.
 const MOST_CALLS: u32 = 2147483648;
-
-impl<D: Disk + Drop> Tree<D> {
-    /// Opens the tree on a disk, whose image is checked and recovered first. That its files are a tree,
-    /// the caller knows.
-    ///
-    /// # Errors
-    ///
-    /// Those of `open_pair`, which hands the disk back.
-    pub fn open(alloc: Global, disk: D) -> Result<Tree<D>, (OpenFault, D)>
-        requires { IsTree (files_of (recovered (D.image disk))) }
-        ensures ready { IfOk result (λ tree. IsReady D.Disk tree.kernel tree.calls_left) }
-        ensures opened { IfOk result (λ tree. IsOpenedPair D.Disk disk tree.kernel) }
-        ensures refused { IfErr result (λ e. IsNotOpenedPair D.Disk disk e.1 e.0) }
-    {
-        match open_pair(alloc, disk) {
-            Ok(kernel) => Ok(Tree::over(kernel)),
-            Err(refused) => Err(refused),
-        }
-    }
-}
 
 impl<D: Disk> Tree<D> {
     /// A tree over a kernel between two transactions. That the files on its disk are a tree, or that

@@ -1,0 +1,127 @@
+-- A disk is read, and then a kernel is opened over it, or is not.
+use Rattle.std.proofs.Common.{◌≡◌, ⊎_elim, inl, inr, refl, sym, ◌∙◌, ap, subst, arith}
+use Rattle.std.specs.Prelude.{None}
+use Rattle.blocks.specs.Calls.{OnlyReads}
+use Rattle.blocks.specs.Disk.{AddsOnly, HasTurned, Image, Rose, counted}
+use Rattle.blocks.specs.declared.disk.Disk.{Ghosts}
+use Rattle.calls.specs.Opening.{IsNotOpenedPair, IsOpenedPair}
+use Rattle.calls.specs.Calls.{IsWhole, image_on}
+use Rattle.calls.specs.Stepping.{Plain}
+use Rattle.kernel.specs.Common.{adds_behind, only_added, turned_behind, verdict}
+use Rattle.kernel.specs.Opening.{IsOpenCause, IsRecoverCause, LeavesRecovered, RefusesToOpen}
+use Rattle.kernel.specs.declared.types.OpenFault.{OpenFault}
+use Rattle.kernel.specs.declared.types.OpenFault.TheVariants as open_fault
+use Rattle.model.specs.Log.{logged_count, recovered}
+use Rattle.offline.specs.Cause.{IsCause}
+use Rattle.wal.specs.Recovery.{RecoversAs, syncs_to_recover, writes_to_recover}
+use Rattle.wal.specs.declared.faults.RecoverFault.{RecoverFault}
+use Rattle.blocks.specs.Lemmas.Reads.{reads_then}
+use Rattle.model.specs.Files.{files_of}
+use Rattle.names.specs.Opening.{IsUnopened}
+use Rattle.names.specs.Trees.{IsTree}
+use Rattle.names.specs.declared.opening.TreeOpenFault.{TreeOpenFault}
+use Rattle.names.specs.declared.opening.TreeOpenFault.TheVariants.{Kernel, NoTree}
+
+module _ {D N : Type 0} (disk : Ghosts D N) where
+  -- what a stop leaves of reads
+  leaves_read : (old new : D) → OnlyReads disk old new → LeavesRecovered disk old new
+  leaves_read old new reads =
+      let P : Image → Type 0 = RecoversAs (disk.image old) in
+      let added : AddsOnly disk.moment disk.leaves old new P =
+      record { later = reads.time.later; adds = λ t x le left. inl (reads.time.adds t x le left); keeps = reads.time.keeps } in
+      record {
+        any_moment = λ calm. only_added disk.moment disk.leaves old new P (λ x left. subst P (sym (calm x left)) (record { image = refl; lawful = refl })) added;
+        adds = added;
+        from_sync = inl reads.syncs;
+      }
+
+  -- and of reads before an opening
+  leaves_behind : (old mid new : D) → OnlyReads disk old mid → LeavesRecovered disk mid new → LeavesRecovered disk old new
+  leaves_behind old mid new reads run =
+      let P : Image → Type 0 = RecoversAs (disk.image old) in
+      let same : (Q : (Image → Type 0) → Type 0) → Q (RecoversAs (disk.image mid)) → Q P = λ Q is. subst (λ (y : Image). Q (RecoversAs y)) reads.image is in
+      let all = adds_behind disk.moment disk.leaves old mid new P reads.time (same (AddsOnly disk.moment disk.leaves mid new) run.adds) in
+      record {
+        any_moment = λ calm. only_added disk.moment disk.leaves old new P (λ x left. subst P (sym (calm x left)) (record { image = refl; lawful = refl })) all;
+        adds = all;
+        from_sync = ⊎_elim (λ none. inl (none ∙ reads.syncs))
+            (λ one. inr (turned_behind disk.moment disk.leaves old mid new P reads.time.later (same (HasTurned disk.moment disk.leaves mid new) one)))
+            run.from_sync;
+      }
+
+  -- a kernel opened over a disk that was read is one over the disk
+  pub opened_behind : (old mid : D) (k : Plain D) → OnlyReads disk old mid → disk.fault_count mid ≡ disk.fault_count old → IsOpenedPair disk mid k → IsOpenedPair disk old k
+  opened_behind old mid k reads faults is = record {
+    sound = subst (λ (y : Image). verdict y ≡ None) reads.image is.sound;
+    image = is.image ∙ ap recovered reads.image;
+    none = is.none;
+    whole = subst (λ (y : Image). IsWhole y (image_on disk.image k)) reads.image is.whole;
+    device = is.device;
+    rests = is.rests;
+    none_called = is.none_called;
+    name = is.name ∙ reads.name;
+    writes = is.writes ∙ ap (λ n. counted n (writes_to_recover (logged_count (disk.image mid)))) reads.writes
+        ∙ ap (λ y. counted (disk.write_count old) (writes_to_recover (logged_count y))) reads.image;
+    syncs = is.syncs ∙ ap (λ n. counted n (syncs_to_recover (disk.holding (disk.name mid)) (logged_count (disk.image mid)))) reads.syncs
+        ∙ ap (λ h. counted (disk.sync_count old) (syncs_to_recover (disk.holding h) (logged_count (disk.image mid)))) reads.name
+        ∙ ap (λ y. counted (disk.sync_count old) (syncs_to_recover (disk.holding (disk.name old)) (logged_count y))) reads.image;
+    faults = is.faults ∙ faults;
+    settled = is.settled;
+    leaves = leaves_behind old mid k.opening reads is.leaves;
+  }
+
+  -- reads alone, and a refusal
+  pub read_refuses : (d e : D) (cause : OpenFault) → OnlyReads disk d e → IsOpenCause disk d e 2 cause → RefusesToOpen disk d e 2 cause
+  read_refuses d e cause reads why = record {
+    cause = why;
+    unwritten = inr (reads.image, (reads.writes, reads.syncs));
+    name = reads.name;
+    leaves = leaves_read d e reads;
+    plain = λ free. reads.syncs;
+  }
+
+  recover_behind : (d m e : D) (fault : RecoverFault) → OnlyReads disk d m → disk.fault_count m ≡ disk.fault_count d → IsRecoverCause disk m e fault → IsRecoverCause disk d e fault
+  recover_behind d m e RecoverFault.Disk reads faults why = subst (λ n. Rose n (disk.fault_count e)) faults why
+  recover_behind d m e RecoverFault.BadLog reads faults why = why
+  recover_behind d m e RecoverFault.NoMemory reads faults why = why
+  recover_behind d m e RecoverFault.Sync reads faults why =
+      (subst (λ n. Rose n (disk.fault_count e)) faults why.0, sym (ap disk.holding reads.name) ∙ why.1)
+
+  cause_behind : (d m e : D) (cause : OpenFault) → OnlyReads disk d m → disk.fault_count m ≡ disk.fault_count d → IsOpenCause disk m e 2 cause → IsOpenCause disk d e 2 cause
+  cause_behind d m e (open_fault.Check fault) reads faults why = (
+    why.0,
+    why.1,
+    subst (λ n. IsCause (verdict (disk.image d)) n (disk.fault_count e) fault) faults
+        (subst (λ (y : Image). IsCause (verdict y) (disk.fault_count m) (disk.fault_count e) fault) reads.image why.2),
+  )
+  cause_behind d m e (open_fault.Recover fault) reads faults why =
+      (why.0, why.1, subst (λ (y : Image). verdict y ≡ None) reads.image why.2, recover_behind d m e fault reads faults why.3)
+  cause_behind d m e open_fault.NoMemory reads faults why = (why.0, why.1, subst (λ (y : Image). verdict y ≡ None) reads.image why.2)
+  cause_behind d m e open_fault.ProcRange reads faults why = absurd (⊎_elim (λ low. omega (arith, low)) (λ high. omega (arith, high)) why.0)
+
+  refuses_behind : (d m e : D) (cause : OpenFault) → OnlyReads disk d m → disk.fault_count m ≡ disk.fault_count d → RefusesToOpen disk m e 2 cause → RefusesToOpen disk d e 2 cause
+  refuses_behind d m e cause reads faults why = record {
+    cause = cause_behind d m e cause reads faults why.cause;
+    unwritten = ⊎_elim (λ may. inl may)
+        (λ none. inr (none.0 ∙ reads.image, (none.1.0 ∙ reads.writes, none.1.1 ∙ reads.syncs))) why.unwritten;
+    name = why.name ∙ reads.name;
+    leaves = leaves_behind d m e reads why.leaves;
+    plain = λ free. why.plain (ap disk.holding reads.name ∙ free) ∙ reads.syncs;
+  }
+
+  -- a refusal over a disk that was read
+  pub unopened_behind : (d m e : D) (cause : OpenFault) → verdict (disk.image d) ≡ None → OnlyReads disk d m → disk.fault_count m ≡ disk.fault_count d → IsNotOpenedPair disk m e cause → RefusesToOpen disk d e 2 cause
+  unopened_behind d m e cause sound reads faults (inl none) =
+      subst (λ (c : OpenFault). RefusesToOpen disk d e 2 c) (sym none.0)
+      (subst (λ (x : D). RefusesToOpen disk d x 2 open_fault.NoMemory) (sym none.1)
+      (read_refuses d m open_fault.NoMemory reads (omega arith, omega arith, sound)))
+  unopened_behind d m e cause sound reads faults (inr why) = refuses_behind d m e cause reads faults why
+
+  -- the same of a tree
+  pub unopened_after : (d m e : D) (cause : TreeOpenFault) → verdict (disk.image d) ≡ None → OnlyReads disk d m → disk.fault_count m ≡ disk.fault_count d → IsUnopened disk m e cause → IsUnopened disk d e cause
+  unopened_after d m e (Kernel cause) sound reads faults why = refuses_behind d m e cause reads faults why
+  unopened_after d m e NoTree sound reads faults why = record {
+    sound = sound;
+    none = λ tree. why.none (subst (λ (y : Image). IsTree (files_of (recovered y))) (sym reads.image) tree);
+    reads = reads_then disk d m e reads why.reads;
+  }

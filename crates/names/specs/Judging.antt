@@ -1,0 +1,56 @@
+-- What is seen of files without a kernel, and when it tells that they are a tree.
+use Rattle.std.specs.Prelude.{◌≡◌, ◌⊎◌, ℕ, Bool, true, false, List, length, None, Result, MatchResult}
+use Rattle.blocks.specs.Disk.{Image, Rose}
+use Rattle.model.specs.Files.{Files}
+use Rattle.model.specs.Verdict.{verdict}
+use Rattle.offline.specs.Recovered.{IsRecoveredOf}
+use Rattle.offline.specs.declared.recovered.Recovered.{Recovered}
+use Rattle.names.specs.declared.judging.JudgeFault.{JudgeFault}
+use Rattle.names.specs.declared.judging.JudgeFault.TheVariants.{Disk, NoMemory}
+use Rattle.names.specs.declared.judging.Seen.{Seen}
+use Rattle.names.specs.declared.judging.Seen.TheVariants.{Nothing, Plain, Directory}
+use Rattle.names.specs.Checks.{AddsChildren, HasFound, IsAmong}
+use Rattle.names.specs.Entries.{entries_of}
+use Rattle.names.specs.Trees.{directory_in, IsDirectory, IsDirectoryOf, IsFile, IsTree}
+
+-- the reader of an image that has no fault
+pub record IsReaderOf (x : Image) (image : Recovered) : Type 0 where
+  pub recovered : IsRecoveredOf x image
+  pub sound : verdict x ≡ None
+
+-- the count of the disk's faults rises where a read failed, and stays where memory was refused
+abbrev pub IsJudgeCause : ℕ → ℕ → JudgeFault → Type 0
+IsJudgeCause old new Disk = Rose old new
+IsJudgeCause old new NoMemory = new ≡ old
+
+abbrev pub KeepsCount : {T : Type 0} → Result T JudgeFault → ℕ → ℕ → Type 0
+KeepsCount result old new = MatchResult result (λ _. new ≡ old) (IsJudgeCause old new)
+
+-- that is what there is at a number
+abbrev pub IsSeen : Files → ℕ → Seen → Type 0
+IsSeen files number Nothing = IsFile files number → ⊥
+IsSeen files number Plain = IsFile files number × (IsDirectory files number → ⊥)
+IsSeen files number (Directory bytes) =
+    IsDirectory files number × (bytes.items ≡ directory_in files number)
+
+-- Whether what is seen may be so in a tree, and what is found by it.
+abbrev pub TakesIn : Seen → ℕ → ℕ → List ℕ → List ℕ → List ℕ → List ℕ → Bool → Type 0
+TakesIn Nothing number parent numbers parents new_numbers new_parents may = may ≡ false
+TakesIn Plain number parent numbers parents new_numbers new_parents may =
+    (may ≡ true) × (new_numbers ≡ numbers) × (new_parents ≡ parents)
+TakesIn (Directory bytes) number parent numbers parents new_numbers new_parents true =
+    IsDirectoryOf bytes.items number parent
+    × AddsChildren (entries_of bytes.items) number numbers parents new_numbers new_parents true
+TakesIn (Directory bytes) number parent numbers parents new_numbers new_parents false =
+    (IsDirectoryOf bytes.items number parent → ⊥)
+    ⊎ AddsChildren (entries_of bytes.items) number numbers parents new_numbers new_parents false
+
+-- all that was found from the root on was looked into, or something is not as in a tree
+abbrev pub HasLookedThrough : Files → List ℕ → Bool → Type 0
+HasLookedThrough files numbers true =
+    (parents : List ℕ) × HasFound files (length numbers) numbers parents
+HasLookedThrough files numbers false = IsTree files → ⊥
+
+-- each file is among those of these numbers
+abbrev pub AreAmong : Files → List ℕ → Type 0
+AreAmong files numbers = (i : ℕ) → IsFile files i → IsAmong numbers i
