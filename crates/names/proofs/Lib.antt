@@ -46,3 +46,4 @@ pub mod Leaving
 pub mod Emptied
 pub mod Filling
 pub mod RootMaking
+pub mod Renamed

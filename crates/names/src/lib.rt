@@ -33,6 +33,7 @@ mod name;
 mod path;
 mod refusal;
 mod removing;
+mod renaming;
 mod rooting;
 mod tree;
 pub mod tree_laws;
