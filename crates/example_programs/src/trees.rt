@@ -10,6 +10,16 @@ use calls::transactions::open_pair;
 use names::{ENTRY_SIZE, Tree};
 use std::alloc::Global;
 
+// What is asked of a path.
+#[derive(Drop)]
+enum Ask<'a> {
+    Make,
+    Find,
+    Rename(&'a str),
+    Remove,
+    List,
+}
+
 /// Makes a root, and files in it by their paths, finds and removes some, and prints what came of each.
 pub fn print_trees(rt: &impl Print, alloc: Global) -> anyhow::Result<()> {
     match new_tree(alloc) {
@@ -48,78 +58,51 @@ fn rooted<D: Disk + Drop>(alloc: Global, disk: D) -> anyhow::Result<Tree<D>>
 fn ask_all<D: Disk>(rt: &impl Print, alloc: Global, tree: &mut Tree<D>) -> anyhow::Result<()>
     requires { MayGoOn D.Disk tree.old.kernel tree.old.calls_left }
 {
-    make(rt, alloc, tree, "/notes")?;
-    make(rt, alloc, tree, "plan")?;
-    make(rt, alloc, tree, "//notes/")?;
-    make(rt, alloc, tree, "notes/today")?;
-    make(rt, alloc, tree, "a-name-of-15-by")?;
-    find(rt, alloc, tree, "/./../plan")?;
-    remove(rt, alloc, tree, "/notes")?;
-    remove(rt, alloc, tree, "..")?;
-    find(rt, alloc, tree, "notes")?;
-    list(rt, alloc, tree, "/")
+    print_answer(rt, alloc, tree, Ask::Make, "/notes")?;
+    print_answer(rt, alloc, tree, Ask::Make, "plan")?;
+    print_answer(rt, alloc, tree, Ask::Make, "//notes/")?;
+    print_answer(rt, alloc, tree, Ask::Make, "notes/today")?;
+    print_answer(rt, alloc, tree, Ask::Make, "a-name-of-15-by")?;
+    print_answer(rt, alloc, tree, Ask::Find, "/./../plan")?;
+    print_answer(rt, alloc, tree, Ask::Rename("/notes"), "plan")?;
+    print_answer(rt, alloc, tree, Ask::Rename("/minutes"), "plan")?;
+    print_answer(rt, alloc, tree, Ask::Remove, "/notes")?;
+    print_answer(rt, alloc, tree, Ask::Remove, "..")?;
+    print_answer(rt, alloc, tree, Ask::Find, "notes")?;
+    print_answer(rt, alloc, tree, Ask::List, "/")
 }
 
-fn make<D: Disk>(
+fn print_answer<D: Disk>(
     rt: &impl Print,
     alloc: Global,
     tree: &mut Tree<D>,
+    what: Ask<'_>,
     path: &str,
 ) -> anyhow::Result<()>
     requires { MayGoOn D.Disk tree.old.kernel tree.old.calls_left }
     ensures { MayGoOn D.Disk tree.new.kernel tree.new.calls_left }
 {
-    match tree.make(alloc, path.as_bytes()) {
-        Ok(number) => println!(rt; "{path} was made, file {number}")?,
-        Err(fault) => println!(rt; "{path} was not made: {fault}")?,
-    }
-    Ok(())
-}
-
-fn find<D: Disk>(
-    rt: &impl Print,
-    alloc: Global,
-    tree: &mut Tree<D>,
-    path: &str,
-) -> anyhow::Result<()>
-    requires { MayGoOn D.Disk tree.old.kernel tree.old.calls_left }
-    ensures { MayGoOn D.Disk tree.new.kernel tree.new.calls_left }
-{
-    match tree.lookup(alloc, path.as_bytes()) {
-        Ok(number) => println!(rt; "{path} is file {number}")?,
-        Err(fault) => println!(rt; "{path} was not found: {fault}")?,
-    }
-    Ok(())
-}
-
-fn remove<D: Disk>(
-    rt: &impl Print,
-    alloc: Global,
-    tree: &mut Tree<D>,
-    path: &str,
-) -> anyhow::Result<()>
-    requires { MayGoOn D.Disk tree.old.kernel tree.old.calls_left }
-    ensures { MayGoOn D.Disk tree.new.kernel tree.new.calls_left }
-{
-    match tree.remove(alloc, path.as_bytes()) {
-        Ok(()) => println!(rt; "{path} was removed")?,
-        Err(fault) => println!(rt; "{path} was not removed: {fault}")?,
-    }
-    Ok(())
-}
-
-fn list<D: Disk>(
-    rt: &impl Print,
-    alloc: Global,
-    tree: &mut Tree<D>,
-    path: &str,
-) -> anyhow::Result<()>
-    requires { MayGoOn D.Disk tree.old.kernel tree.old.calls_left }
-    ensures { MayGoOn D.Disk tree.new.kernel tree.new.calls_left }
-{
-    match tree.list(alloc, path.as_bytes()) {
-        Ok(bytes) => println!(rt; "{path} has {} entries", bytes.len() / ENTRY_SIZE)?,
-        Err(fault) => println!(rt; "{path} was not listed: {fault}")?,
+    match what {
+        Ask::Make => match tree.make(alloc, path.as_bytes()) {
+            Ok(number) => println!(rt; "{path} was made, file {number}")?,
+            Err(fault) => println!(rt; "{path} was not made: {fault}")?,
+        },
+        Ask::Find => match tree.lookup(alloc, path.as_bytes()) {
+            Ok(number) => println!(rt; "{path} is file {number}")?,
+            Err(fault) => println!(rt; "{path} was not found: {fault}")?,
+        },
+        Ask::Rename(name) => match tree.rename(alloc, path.as_bytes(), name.as_bytes()) {
+            Ok(()) => println!(rt; "{path} is {name} now")?,
+            Err(fault) => println!(rt; "{path} did not become {name}: {fault}")?,
+        },
+        Ask::Remove => match tree.remove(alloc, path.as_bytes()) {
+            Ok(()) => println!(rt; "{path} was removed")?,
+            Err(fault) => println!(rt; "{path} was not removed: {fault}")?,
+        },
+        Ask::List => match tree.list(alloc, path.as_bytes()) {
+            Ok(bytes) => println!(rt; "{path} has {} entries", bytes.len() / ENTRY_SIZE)?,
+            Err(fault) => println!(rt; "{path} was not listed: {fault}")?,
+        },
     }
     Ok(())
 }
