@@ -15,6 +15,16 @@ use std::alloc::Global;
 // More writes than the making of a file makes.
 const MOST_WRITES: u64 = 20;
 
+// What is asked of a path.
+#[derive(Drop)]
+enum Ask<'a> {
+    Make,
+    Find,
+    Rename(&'a str),
+    Remove,
+    List,
+}
+
 /// Makes a root, directories and files in it by their paths, writes and reads one, finds and removes
 /// some, and prints what came of each. Then it stops the making of a file before each of its writes in
 /// turn, opens what the stop left, and prints where the path leads. So the one write that counts is
@@ -62,9 +72,11 @@ fn ask_all<D: Disk>(rt: &impl Print, alloc: Global, tree: &mut Tree<D>) -> anyho
     make_all(rt, alloc, tree)?;
     write(rt, alloc, tree, "docs/notes", "to be, or not to be")?;
     read(rt, alloc, tree, "docs/notes")?;
-    find(rt, alloc, tree, "/./docs/../plan")?;
+    print_answer(rt, alloc, tree, Ask::Find, "/./docs/../plan")?;
+    print_answer(rt, alloc, tree, Ask::Rename("docs/notes"), "plan")?;
+    print_answer(rt, alloc, tree, Ask::Rename("docs/plan"), "plan")?;
     remove_all(rt, alloc, tree)?;
-    list(rt, alloc, tree, "/")
+    print_answer(rt, alloc, tree, Ask::List, "/")
 }
 
 fn make_all<D: Disk>(rt: &impl Print, alloc: Global, tree: &mut Tree<D>) -> anyhow::Result<()>
@@ -72,11 +84,11 @@ fn make_all<D: Disk>(rt: &impl Print, alloc: Global, tree: &mut Tree<D>) -> anyh
     ensures { MayGoOn D.Disk tree.new.kernel tree.new.calls_left }
 {
     make_directory(rt, alloc, tree, "/docs")?;
-    make(rt, alloc, tree, "docs/notes")?;
-    make(rt, alloc, tree, "plan")?;
-    make(rt, alloc, tree, "//docs/notes/")?;
-    make(rt, alloc, tree, "plan/today")?;
-    make(rt, alloc, tree, "a-name-of-15-by")
+    print_answer(rt, alloc, tree, Ask::Make, "docs/notes")?;
+    print_answer(rt, alloc, tree, Ask::Make, "plan")?;
+    print_answer(rt, alloc, tree, Ask::Make, "//docs/notes/")?;
+    print_answer(rt, alloc, tree, Ask::Make, "plan/today")?;
+    print_answer(rt, alloc, tree, Ask::Make, "a-name-of-15-by")
 }
 
 fn remove_all<D: Disk>(rt: &impl Print, alloc: Global, tree: &mut Tree<D>) -> anyhow::Result<()>
@@ -84,72 +96,44 @@ fn remove_all<D: Disk>(rt: &impl Print, alloc: Global, tree: &mut Tree<D>) -> an
     ensures { MayGoOn D.Disk tree.new.kernel tree.new.calls_left }
 {
     remove_directory(rt, alloc, tree, "docs")?;
-    remove(rt, alloc, tree, "docs/notes")?;
-    remove(rt, alloc, tree, "..")?;
-    find(rt, alloc, tree, "docs/notes")?;
+    print_answer(rt, alloc, tree, Ask::Remove, "docs/notes")?;
+    print_answer(rt, alloc, tree, Ask::Remove, "docs/plan")?;
+    print_answer(rt, alloc, tree, Ask::Remove, "..")?;
+    print_answer(rt, alloc, tree, Ask::Find, "docs/notes")?;
     remove_directory(rt, alloc, tree, "docs")
 }
 
-fn make<D: Disk>(
+fn print_answer<D: Disk>(
     rt: &impl Print,
     alloc: Global,
     tree: &mut Tree<D>,
+    what: Ask<'_>,
     path: &str,
 ) -> anyhow::Result<()>
     requires { MayGoOn D.Disk tree.old.kernel tree.old.calls_left }
     ensures { MayGoOn D.Disk tree.new.kernel tree.new.calls_left }
 {
-    match tree.make(alloc, path.as_bytes()) {
-        Ok(number) => println!(rt; "{path} was made, file {number}")?,
-        Err(fault) => println!(rt; "{path} was not made: {fault}")?,
-    }
-    Ok(())
-}
-
-fn find<D: Disk>(
-    rt: &impl Print,
-    alloc: Global,
-    tree: &mut Tree<D>,
-    path: &str,
-) -> anyhow::Result<()>
-    requires { MayGoOn D.Disk tree.old.kernel tree.old.calls_left }
-    ensures { MayGoOn D.Disk tree.new.kernel tree.new.calls_left }
-{
-    match tree.lookup(alloc, path.as_bytes()) {
-        Ok(number) => println!(rt; "{path} is file {number}")?,
-        Err(fault) => println!(rt; "{path} was not found: {fault}")?,
-    }
-    Ok(())
-}
-
-fn remove<D: Disk>(
-    rt: &impl Print,
-    alloc: Global,
-    tree: &mut Tree<D>,
-    path: &str,
-) -> anyhow::Result<()>
-    requires { MayGoOn D.Disk tree.old.kernel tree.old.calls_left }
-    ensures { MayGoOn D.Disk tree.new.kernel tree.new.calls_left }
-{
-    match tree.remove(alloc, path.as_bytes()) {
-        Ok(()) => println!(rt; "{path} was removed")?,
-        Err(fault) => println!(rt; "{path} was not removed: {fault}")?,
-    }
-    Ok(())
-}
-
-fn list<D: Disk>(
-    rt: &impl Print,
-    alloc: Global,
-    tree: &mut Tree<D>,
-    path: &str,
-) -> anyhow::Result<()>
-    requires { MayGoOn D.Disk tree.old.kernel tree.old.calls_left }
-    ensures { MayGoOn D.Disk tree.new.kernel tree.new.calls_left }
-{
-    match tree.list(alloc, path.as_bytes()) {
-        Ok(bytes) => println!(rt; "{path} has {} entries", bytes.len() / ENTRY_SIZE)?,
-        Err(fault) => println!(rt; "{path} was not listed: {fault}")?,
+    match what {
+        Ask::Make => match tree.make(alloc, path.as_bytes()) {
+            Ok(number) => println!(rt; "{path} was made, file {number}")?,
+            Err(fault) => println!(rt; "{path} was not made: {fault}")?,
+        },
+        Ask::Find => match tree.lookup(alloc, path.as_bytes()) {
+            Ok(number) => println!(rt; "{path} is file {number}")?,
+            Err(fault) => println!(rt; "{path} was not found: {fault}")?,
+        },
+        Ask::Rename(name) => match tree.rename(alloc, path.as_bytes(), name.as_bytes()) {
+            Ok(()) => println!(rt; "{path} is {name} now")?,
+            Err(fault) => println!(rt; "{path} did not become {name}: {fault}")?,
+        },
+        Ask::Remove => match tree.remove(alloc, path.as_bytes()) {
+            Ok(()) => println!(rt; "{path} was removed")?,
+            Err(fault) => println!(rt; "{path} was not removed: {fault}")?,
+        },
+        Ask::List => match tree.list(alloc, path.as_bytes()) {
+            Ok(bytes) => println!(rt; "{path} has {} entries", bytes.len() / ENTRY_SIZE)?,
+            Err(fault) => println!(rt; "{path} was not listed: {fault}")?,
+        },
     }
     Ok(())
 }

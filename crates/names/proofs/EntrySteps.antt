@@ -18,7 +18,7 @@ use Rattle.model.specs.Lemmas.Runs.{where_true_some}
 use Rattle.model.specs.Operations.{after, after_at, after_on, no_file_refusal, may_have_written, part_of, with_bytes}
 use Rattle.names.specs.declared.entries.EntryWrite.{EntryWrite}
 use Rattle.names.specs.Entries.{entries_of, is_free, lookup}
-use Rattle.names.specs.Writes.{written, operation_of, KeepsOthers, Links, Unlinks}
+use Rattle.names.specs.Writes.{free_place, written, operation_of, KeepsOthers, Links, Unlinks}
 use Rattle.names.specs.Lemmas.Writes.{nothing_written}
 use Rattle.names.specs.Trees.{bytes_of, directory_in, IsDirectory, IsTidy}
 use Rattle.names.specs.TreeChanges.{LeadsTo}
@@ -133,12 +133,17 @@ free_inside es None k e inside free place is = absurd (both_ways (is_free (get_o
 free_inside es (Some j) k e inside free place is = let at : j < length es = (stands_at is_free es j e).within in omega arith
 
 -- an entry was freed, so there is a free one
+pub freed_room : (bytes new old : List ℕ) (unlink : EntryWrite) → Unlinks bytes old unlink → new ≡ written bytes unlink →
+    free_place new < length (entries_of new)
+freed_room bytes new old unlink unlinks e =
+    let puts = subst (λ (b : List ℕ). Puts (entries_of bytes) (entries_of b) unlink.place unlink.entry) (sym e) (unlink_puts bytes old unlink unlinks) in
+    let free : is_free (get_or (entries_of new) unlink.place []) ≡ true = ap is_free (puts.there ∙ unlinks.entry) ∙ zeroes_free in
+    free_inside (entries_of new) (position is_free (entries_of new)) unlink.place refl puts.within free (free_place new) refl
+
 pub link_inside : (bytes new from name : List ℕ) (i : ℕ) (unlink link : EntryWrite) → Unlinks bytes from unlink → new ≡ written bytes unlink →
     Links new name i link → link.place < length (entries_of new)
 link_inside bytes new from name i unlink link unlinks e links =
-    let puts = subst (λ (b : List ℕ). Puts (entries_of bytes) (entries_of b) unlink.place unlink.entry) (sym e) (unlink_puts bytes from unlink unlinks) in
-    let free : is_free (get_or (entries_of new) unlink.place []) ≡ true = ap is_free (puts.there ∙ unlinks.entry) ∙ zeroes_free in
-    free_inside (entries_of new) (position is_free (entries_of new)) unlink.place refl puts.within free link.place links.place
+    subst (λ (n : ℕ). n < length (entries_of new)) (sym links.place) (freed_room bytes new from unlink unlinks e)
 
 -- ---- a read
 

@@ -7,7 +7,7 @@ use Rattle.model.specs.Files.{Files}
 use Rattle.names.specs.declared.refusal.Refusal.{Refusal}
 use Rattle.names.specs.declared.refusal.TreeFault.{TreeFault}
 use Rattle.names.specs.Ready.{Happens}
-use Rattle.names.specs.Walks.{walked, AtLast, IsUndoneIn, LeadsIn}
+use Rattle.names.specs.Walks.{walked, AtLast, IsUndoneIn, IsUnled, LeadsIn}
 
 -- the last of some names is behind the others
 pub split_last : (names : List (List ℕ)) (last : ℕ) (d : List ℕ) → last + 1 ≡ length names → names ≡ take last names ++ get_or names last d ∷ []
@@ -30,6 +30,10 @@ module _ {T : Type 0} (change : ℕ → List ℕ → T → Files → Files → T
       (λ s happens. at_last s (subst (λ (f : Files). Happens (change from name) (λ g. why g from name) f new s) same happens)) all
 
 -- all names but the last lead nowhere
+pub unled_by : (names parents : List (List ℕ)) (name : List ℕ) (files : Files) (cause : Refusal) → names ≡ parents ++ name ∷ [] →
+    walked files 1 parents ≡ Err cause → IsUnled names files cause
+unled_by names parents name files cause split led = inr (parents, name, split, led)
+
 pub unled_at : (why : Files → ℕ → List ℕ → Refusal → Type 0) (names parents : List (List ℕ)) (name : List ℕ) (files : Files) (cause : Refusal) →
     names ≡ parents ++ name ∷ [] → walked files 1 parents ≡ Err cause → IsUndoneIn why names files cause
-unled_at why names parents name files cause split led = inl (inr (parents, name, split, led))
+unled_at why names parents name files cause split led = inl (unled_by names parents name files cause split led)

@@ -47,3 +47,4 @@ pub mod Leaving
 pub mod Emptied
 pub mod Filling
 pub mod RootMaking
+pub mod Renamed

@@ -1,5 +1,5 @@
 -- What looks at directories tell in a transaction.
-use Rattle.std.proofs.Common.{◌≡◌, ℕ, ◌≤◌, List, length, Some, sym, ap, subst, ◌∙◌, arith}
+use Rattle.std.proofs.Common.{◌≡◌, ℕ, ◌≤◌, List, length, sym, ap, subst, ◌∙◌, arith}
 use Rattle.std.proofs.lemmas.List.{take_all}
 use Rattle.blocks.specs.declared.disk.Disk.{Ghosts}
 use Rattle.model.specs.declared.types.image.File.{File}
@@ -11,9 +11,9 @@ use Rattle.calls.specs.Stepping.{Plain}
 use Rattle.calls.specs.Calls.{image_on}
 use Rattle.names.specs.Walks.{walked}
 use Rattle.names.specs.Inside.{files_seen, form_seen, Answers, IsUnderWay, StaysOn}
-use Rattle.names.specs.Trees.{bytes_of, directory_in, kind_of, IsDirectory, IsTree}
+use Rattle.names.specs.Trees.{bytes_of, directory_in, kind_of, IsDirectory, IsTidy}
 use Rattle.names.proofs.Answered.{file_by}
-use Rattle.names.proofs.FileLooks.{kind_told, reads, tells, tidy_in}
+use Rattle.names.proofs.FileLooks.{kind_told, reads, tells}
 
 module _ {D N : Type 0} (disk : Ghosts D N) where
   pub stat_same : (k a : Plain D) (i : ℕ) (reply : Reply) → Answers disk.image (Stat i) k a reply → files_seen disk.image a ≡ files_seen disk.image k
@@ -24,18 +24,17 @@ module _ {D N : Type 0} (disk : Ghosts D N) where
   stat_kind k a i reply answers = (tells (form_seen disk.image k) (files_seen disk.image k) (files_seen disk.image a) i reply answers).kind
 
   -- one read brings a directory
-  pub read_brings : (k a b : Plain D) (i : ℕ) (reply : Reply) → files_seen disk.image a ≡ files_seen disk.image k → Answers disk.image (Read i 0 3072) a b reply →
-      IsTree (files_seen disk.image k) → IsDirectory (files_seen disk.image k) i →
-      (files_seen disk.image b ≡ files_seen disk.image k) × (reply ≡ Bytes (directory_in (files_seen disk.image k) i))
-  read_brings k a b i reply same answers tree is =
+  pub read_brings : (k m : Plain D) (i : ℕ) (reply : Reply) → Answers disk.image (Read i 0 3072) k m reply → IsDirectory (files_seen disk.image k) i →
+      IsTidy (directory_in (files_seen disk.image k) i) →
+      (files_seen disk.image m ≡ files_seen disk.image k) × (reply ≡ Bytes (directory_in (files_seen disk.image k) i))
+  read_brings k m i reply answers is tidy =
       let fs : Files = files_seen disk.image k in
       let has = file_by (file_in fs i) is in
       let d : File = has.0 in
-      let here : file_in (files_seen disk.image a) i ≡ Some d = ap (λ (f : Files). file_in f i) same ∙ has.1 in
       let long : directory_in fs i ≡ d.bytes = ap bytes_of has.1 in
-      let fits : length d.bytes ≤ 3072 = subst (λ (b : List ℕ). length b ≤ 3072) long (tidy_in fs i tree is).fits in
-      let brought = reads (form_seen disk.image a) (files_seen disk.image a) (files_seen disk.image b) i 0 3072 d reply here (omega arith) answers in
-      (brought.0 ∙ same, brought.1 ∙ ap (λ (b : List ℕ). Bytes b) (take_all 3072 d.bytes fits ∙ sym long))
+      let fits : length d.bytes ≤ 3072 = subst (λ (b : List ℕ). length b ≤ 3072) long tidy.fits in
+      let brought = reads (form_seen disk.image k) fs (files_seen disk.image m) i 0 3072 d reply has.1 (omega arith) answers in
+      (brought.0, brought.1 ∙ ap (λ (b : List ℕ). Bytes b) (take_all 3072 d.bytes fits ∙ sym long))
 
 -- names were walked up to a number, and these are left
 pub record HasWalked {D N : Type 0} (disk : Ghosts D N) (k m : Plain D) (old left : ℕ) (number : ℕ) (behind names : List (List ℕ)) : Type 0 where

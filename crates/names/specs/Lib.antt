@@ -7,6 +7,7 @@ pub mod Walks
 pub mod Making
 pub mod Removing
 pub mod Undirecting
+pub mod Renaming
 pub mod Contents
 pub mod Writing
 pub mod Writes

@@ -30,6 +30,7 @@ mod opening;
 mod path;
 mod refusal;
 mod removing;
+mod renaming;
 mod rooting;
 mod tree;
 pub mod tree_laws;

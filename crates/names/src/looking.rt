@@ -1,7 +1,7 @@
 // Looks at the directories of a tree, in a transaction.
 ghost use Rattle.std.specs.Prelude.{◌≡◌, IfOk, OnOk};
 ghost use Rattle.names.specs.Inside.{files_seen, IsUnderWay, Proceeds, SeesSame};
-ghost use Rattle.names.specs.Trees.{root, IsTree};
+ghost use Rattle.names.specs.Trees.{directory_in, root, IsDirectory, IsTidy, IsTree};
 ghost use Rattle.names.specs.Walks.{stepped, walked, IsDirectoryFound, found_or};
 ghost use Rattle.names.specs.Entries.{lookup};
 
@@ -32,11 +32,25 @@ impl<D: Disk> Tree<D> {
         if kind != DIRECTORY_KIND {
             return Ok(None);
         }
+        let bytes = self.tidy_directory(number)?;
+        Ok(Some(bytes))
+    }
+
+    // The bytes of a tidy directory, of files that may be no tree.
+    pub(crate) fn tidy_directory(&mut self, number: u32) -> Result<Content, TreeFault>
+        requires way { IsUnderWay D.Disk self.old.kernel self.old.calls_left }
+        requires there { IsDirectory (files_seen D.image self.old.kernel) number }
+        requires tidy { IsTidy (directory_in (files_seen D.image self.old.kernel) number) }
+        ensures goes { Proceeds D.Disk result self.old.kernel self.new.kernel self.new.calls_left }
+        ensures same { OnOk result (SeesSame D.image self.old.kernel self.new.kernel) }
+        ensures bytes { IfOk result (λ bytes.
+            bytes ≡ directory_in (files_seen D.image self.old.kernel) number) }
+    {
         let Reply::Bytes(bytes) = self.called(Op::Read(number, 0, TRANSFER_LIMIT))? else {
             // A file that is there can be read.
             unreachable!()
         };
-        Ok(Some(bytes))
+        Ok(bytes)
     }
 
     // Where a name leads from a file.

@@ -1,0 +1,253 @@
+-- A file of a tree gets another name, by the answers of its calls.
+use Rattle.std.proofs.Common.{◌≡◌, ◌≢◌, ℕ, ◌*◌, ◌<◌, ◌≤◌, Bool, true, false, List, [], ◌∷◌, ◌++◌, length, get_or, Option, Some, None, Result, Ok, Err, refl, sym, ap, subst, ◌∙◌, inl, inr, ⊎_elim, arith}
+use Rattle.std.specs.Prelude.{IfErr, IfOk, IsSome}
+use Rattle.std.proofs.lemmas.Result.{IfOk-weaker}
+use Rattle.std.proofs.lemmas.Bool.{both_ways, cases_eq, eq-eqb, eqb-true}
+use Rattle.blocks.specs.declared.disk.Disk.{Ghosts}
+use Rattle.model.specs.declared.types.operations.Reply.{Reply}
+use Rattle.model.specs.declared.types.operations.Reply.TheVariants.{Wrote}
+use Rattle.model.specs.Files.{Files}
+use Rattle.model.specs.Layout.{form_of}
+use Rattle.model.specs.Operations.{after}
+use Rattle.calls.specs.Stepping.{Plain}
+use Rattle.names.specs.declared.entries.EntryWrite.{EntryWrite}
+use Rattle.names.specs.declared.entries.LinkFault.{LinkFault}
+use Rattle.names.specs.declared.entries.LinkFault.TheVariants.{Exists, Full}
+use Rattle.names.specs.Entries.{entries_of, is_for, lookup, number_in, place_of}
+use Rattle.names.specs.Inside.{files_seen, form_seen}
+use Rattle.names.specs.Making.{is_entered, HasEntered}
+use Rattle.names.specs.declared.refusal.Refusal.{Refusal}
+use Rattle.names.specs.declared.refusal.TreeFault.{TreeFault}
+use Rattle.names.specs.declared.refusal.TreeFault.TheVariants.{Path, Refused, Call, NoCall}
+use Rattle.names.specs.Ready.{Happens, IsUndone}
+use Rattle.names.specs.Renaming.{IsUndoneAt, IsUndoneAtBoth, IsUnrenamed, Renames, RenamesAt}
+use Rattle.names.specs.TreeChanges.{LeadsTo, MovesName}
+use Rattle.names.specs.Trees.{directory_in, number_of, IsDirectory, IsDown, IsTidy, IsTree}
+use Rattle.names.specs.Walks.{walked, IsDirectoryFound, LeadsIn}
+use Rattle.names.specs.Writes.{free_place, operation_of, written, IsLinkCause, Links, Unlinks}
+use Rattle.names.proofs.Changes.{lookup_absent}
+use Rattle.names.proofs.Chunks.{length-entries_of}
+use Rattle.names.proofs.Entering.{down_absent, found_bytes}
+use Rattle.names.proofs.EntryBytes.{is_for-free}
+use Rattle.names.proofs.EntrySteps.{freed_room, link_leads_there, unlink_leads_nowhere, unlink_size}
+use Rattle.names.proofs.FileMaps.{writes}
+use Rattle.names.proofs.Standing.{lookup_at, stands_at}
+use Rattle.names.proofs.TreeMeaning.{directories_are_tidy}
+use Rattle.names.proofs.WholeChanges.{moves_file_whole, renames_file_whole}
+
+-- ---- numbers
+
+used_entry : (name entry : List ℕ) (n : ℕ) → is_for name entry ≡ true → number_in entry ≡ n → 0 < n
+used_entry name entry n good is =
+    ⊎_elim (λ (none : n ≡ 0). absurd (both_ways (is_for name entry) (is_for-free name entry (eq-eqb (number_in entry) 0 (is ∙ none))) good))
+    (λ (some : n ≢ 0). omega arith) (cases_eq n 0)
+
+used_at : (bytes name : List ℕ) (o : Option ℕ) (n : ℕ) → place_of bytes name ≡ o → lookup bytes name ≡ Some n → 0 < n
+used_at bytes name None n is led = let both : None ≡ Some n = sym (lookup_absent bytes name is) ∙ led in absurd (cc both)
+used_at bytes name (Some k) n is led =
+    let stands = stands_at (is_for name) (entries_of bytes) k is in
+    let at : Some (number_in (get_or (entries_of bytes) k [])) ≡ Some n = sym (lookup_at bytes name k stands) ∙ led in
+    let one : number_in (get_or (entries_of bytes) k []) ≡ n = cc at in
+    used_entry name (get_or (entries_of bytes) k []) n stands.passes one
+
+-- a name leads to a number that is not 0
+pub lookup_used : (bytes name : List ℕ) (n : ℕ) → lookup bytes name ≡ Some n → 0 < n
+lookup_used bytes name n led = used_at bytes name (place_of bytes name) n refl led
+
+-- ---- replies
+
+-- a whole entry was written
+pub whole_entry : (reply : Reply) → is_entered reply ≡ true → reply ≡ Wrote 16
+whole_entry (Wrote count) h = ap (λ (n : ℕ). Wrote n) (eqb-true count 16 h)
+whole_entry reply h = absurd (cc h)
+
+-- a link that has no cause is not refused
+pub not_refused : (bytes name : List ℕ) (r : Result EntryWrite LinkFault) → IfErr r (IsLinkCause bytes name) → ((cause : LinkFault) → IsLinkCause bytes name cause → ⊥) →
+    ((write : EntryWrite) → r ≡ Ok write → ⊥) → ⊥
+not_refused bytes name (Ok write) refused none not = not write refl
+not_refused bytes name (Err cause) refused none not = none cause refused
+
+tidy_in : (files : Files) (from : ℕ) → IsTree files → IsDirectory files from → IsTidy (directory_in files from)
+tidy_in files from tree is = (directories_are_tidy files from tree is).0
+
+-- ---- in one directory
+
+-- In a transaction: kernel k looked at the directory, which is a then; b freed the entry of a name.
+module _ {D N : Type 0} (disk : Ghosts D N) (k a b : Plain D) (from i : ℕ) (old bytes slice again : List ℕ) (found : Option (List ℕ)) (free : EntryWrite) (whole : Bool)
+    (tree : IsTree (files_seen disk.image k)) (looked : files_seen disk.image a ≡ files_seen disk.image k) (here : IsDirectoryFound (files_seen disk.image k) from found)
+    (found_is : found ≡ Some bytes) (slice_is : slice ≡ bytes) (led : lookup slice old ≡ Some i) (again_is : again ≡ bytes) (unlinks : Unlinks again old free)
+    (entered : HasEntered disk.image from free a b whole) where
+  abbrev fs : Files
+  fs = files_seen disk.image k
+
+  there : IsDirectory fs from × (bytes ≡ directory_in fs from)
+  there = found_bytes fs from found bytes found_is here
+
+  frees : Unlinks (directory_in fs from) old free
+  frees = subst (λ (l : List ℕ). Unlinks l old free) (again_is ∙ there.1) unlinks
+
+  old_led : number_of fs from old ≡ Some i
+  old_led = ap (λ (l : List ℕ). lookup l old) (sym (slice_is ∙ there.1)) ∙ led
+
+  freeing : after (form_seen disk.image a) fs (operation_of from free) entered.reply ≡ Some (files_seen disk.image b)
+  freeing = subst (λ (f : Files). after (form_seen disk.image a) f (operation_of from free) entered.reply ≡ Some (files_seen disk.image b)) looked entered.answers
+
+  nowhere : (entered.reply ≡ Wrote 16) × LeadsTo fs (files_seen disk.image b) from old None
+  nowhere =
+      unlink_leads_nowhere (form_seen disk.image a) fs (files_seen disk.image b) from old free entered.reply there.0 (tidy_in fs from tree there.0) frees freeing
+
+  pub freed_directory : IsDirectory (files_seen disk.image b) from
+  freed_directory = nowhere.1.changes.directory
+
+  pub freed_tidy : IsTidy (directory_in (files_seen disk.image b) from)
+  freed_tidy = nowhere.1.changes.tidy
+
+  freed_bytes : directory_in (files_seen disk.image b) from ≡ written (directory_in fs from) free
+  freed_bytes =
+      (writes (form_seen disk.image a) fs (files_seen disk.image b) from free (unlink_size (directory_in fs from) old free frees)
+      (subst (λ (r : Reply). after (form_seen disk.image a) fs (operation_of from free) r ≡ Some (files_seen disk.image b)) nowhere.0 freeing)).bytes
+
+  -- a name that led nowhere can be linked then
+  module _ (name second : List ℕ) (second_is : second ≡ bytes) (absent : lookup second name ≡ None) where
+    name_absent : number_of fs from name ≡ None
+    name_absent = ap (λ (l : List ℕ). lookup l name) (sym (second_is ∙ there.1)) ∙ absent
+
+    apart : name ≢ old
+    apart same = let both : None ≡ Some i = sym name_absent ∙ ap (number_of fs from) same ∙ old_led in cc both
+
+    no_cause : (cause : LinkFault) → IsLinkCause (directory_in (files_seen disk.image b) from) name cause → ⊥
+    no_cause Exists some =
+        let none : IsSome {T = ℕ} None = subst (λ (o : Option ℕ). IsSome o) (nowhere.1.changes.others name apart ∙ name_absent) some in absurd (cc none)
+    no_cause Full full =
+        let room = freed_room (directory_in fs from) (directory_in (files_seen disk.image b) from) old free frees freed_bytes in
+        let count = length-entries_of (directory_in (files_seen disk.image b) from) in
+        let fits : length (directory_in (files_seen disk.image b) from) ≤ 3072 = freed_tidy.fits in
+        let past : 3072 ≤ 16 * free_place (directory_in (files_seen disk.image b) from) = full.1 in
+        omega arith
+
+    -- it was read again, in c
+    module _ (c : Plain D) (read third : List ℕ) (saw : files_seen disk.image c ≡ files_seen disk.image b) (read_is : read ≡ directory_in (files_seen disk.image b) from)
+        (third_is : third ≡ read) where
+      pub freed_fits : length third ≤ 3072
+      freed_fits = subst (λ (l : List ℕ). length l ≤ 3072) (sym (third_is ∙ read_is)) freed_tidy.fits
+
+      pub freed_links : (r : Result EntryWrite LinkFault) → IfErr r (IsLinkCause third name) → ((write : EntryWrite) → r ≡ Ok write → ⊥) → ⊥
+      freed_links r refused not =
+          not_refused third name r refused (λ cause why. no_cause cause (subst (λ (l : List ℕ). IsLinkCause l name cause) (third_is ∙ read_is) why)) not
+
+      -- and d linked the name
+      module _ (d : Plain D) (down : IsDown old) (write : EntryWrite) (all : Bool) (links : Links third name i write) (linked : HasEntered disk.image from write c d all)
+          (opening : c.opening ≡ a.opening) where
+        both : MovesName fs (files_seen disk.image d) from old from name i × IsTree (files_seen disk.image d)
+        both =
+            let first : after (form_seen disk.image a) (files_seen disk.image c) (operation_of from write) linked.reply ≡ Some (files_seen disk.image d) =
+            subst (λ (o : D). after (form_of (disk.image o)) (files_seen disk.image c) (operation_of from write) linked.reply ≡ Some (files_seen disk.image d)) opening linked.answers in
+            let whole = renames_file_whole (form_seen disk.image a) fs (files_seen disk.image b) (files_seen disk.image d) from i old name free write entered.reply linked.reply
+            tree there.0 down (down_absent fs from name tree there.0 name_absent) old_led name_absent frees freeing
+            (subst (λ (l : List ℕ). Links l name i write) (third_is ∙ read_is) links)
+            (subst (λ (f : Files). after (form_seen disk.image a) f (operation_of from write) linked.reply ≡ Some (files_seen disk.image d)) saw first) in
+            (whole.2, whole.3)
+
+        pub renamed_moves : Renames from old from name tt fs (files_seen disk.image d)
+        renamed_moves = (i, both.0)
+
+        pub renamed_tree : IsTree (files_seen disk.image d)
+        renamed_tree = both.1
+
+-- ---- to another directory
+
+-- In a transaction: kernel k looked at the directory, which is a then, at the file, b, and at the other directory, c; d linked the new name.
+module _ {D N : Type 0} (disk : Ghosts D N) (k a b c d : Plain D) (from to i number : ℕ) (old name bytes slice again into third : List ℕ) (found other : Option (List ℕ))
+    (write : EntryWrite) (whole : Bool) (tree : IsTree (files_seen disk.image k)) (apart : from ≢ to) (looked : files_seen disk.image a ≡ files_seen disk.image k)
+    (here : IsDirectoryFound (files_seen disk.image k) from found) (found_is : found ≡ Some bytes) (slice_is : slice ≡ bytes) (led : lookup slice old ≡ Some number)
+    (saw : files_seen disk.image b ≡ files_seen disk.image a) (brought : files_seen disk.image c ≡ files_seen disk.image b)
+    (there : IsDirectoryFound (files_seen disk.image b) to other) (other_is : other ≡ Some into) (third_is : third ≡ into) (links : Links third name number write)
+    (below : write.place < 192) (linked : HasEntered disk.image to write c d whole) where
+  abbrev all : Files
+  all = files_seen disk.image k
+
+  at : IsDirectory all from × (bytes ≡ directory_in all from)
+  at = found_bytes all from found bytes found_is here
+
+  target : IsDirectory all to × (into ≡ directory_in all to)
+  target = found_bytes all to other into other_is (subst (λ (f : Files). IsDirectoryFound f to other) (saw ∙ looked) there)
+
+  names : Links (directory_in all to) name number write
+  names = subst (λ (l : List ℕ). Links l name number write) (third_is ∙ target.1) links
+
+  linking : after (form_seen disk.image c) all (operation_of to write) linked.reply ≡ Some (files_seen disk.image d)
+  linking =
+      subst (λ (f : Files). after (form_seen disk.image c) f (operation_of to write) linked.reply ≡ Some (files_seen disk.image d)) (brought ∙ saw ∙ looked) linked.answers
+
+  -- nothing of it was written
+  pub unlinked_same : whole ≡ false → files_seen disk.image d ≡ all
+  unlinked_same fails =
+      ⊎_elim (λ (done : (linked.reply ≡ Wrote 16) × LeadsTo all (files_seen disk.image d) to name (Some number)).
+      let both : false ≡ true = sym fails ∙ linked.told ∙ ap is_entered done.0 in absurd (cc both))
+      (λ (none : (linked.reply ≡ Wrote 0) × (files_seen disk.image d ≡ all)). none.1)
+      (link_leads_there (form_seen disk.image c) all (files_seen disk.image d) to number name write linked.reply target.0 (tidy_in all to tree target.0) names below linking)
+
+  pub unlinked_absent : IsDirectory all to × (number_of all to name ≡ None)
+  unlinked_absent = (target.0, names.absent)
+
+  -- and e freed the old one
+  module _ (e : Plain D) (free : EntryWrite) (done : Bool) (down : IsDown old) (again_is : again ≡ bytes) (unlinks : Unlinks again old free) (same : i ≡ number)
+      (plain : IsDirectory (files_seen disk.image a) i → ⊥) (holds : whole ≡ true) (freed : HasEntered disk.image from free d e done) (opening : d.opening ≡ c.opening) where
+    moves : MovesName all (files_seen disk.image e) from old to name number × IsTree (files_seen disk.image e)
+    moves =
+        let first : after (form_seen disk.image c) all (operation_of to write) (Wrote 16) ≡ Some (files_seen disk.image d) =
+        subst (λ (r : Reply). after (form_seen disk.image c) all (operation_of to write) r ≡ Some (files_seen disk.image d))
+        (whole_entry linked.reply (sym linked.told ∙ holds)) linking in
+        let second : after (form_seen disk.image c) (files_seen disk.image d) (operation_of from free) freed.reply ≡ Some (files_seen disk.image e) =
+        subst (λ (o : D). after (form_of (disk.image o)) (files_seen disk.image d) (operation_of from free) freed.reply ≡ Some (files_seen disk.image e)) opening freed.answers in
+        let moved = moves_file_whole (form_seen disk.image c) all (files_seen disk.image d) (files_seen disk.image e) from to number old name free write freed.reply tree
+        at.0 target.0 apart down (down_absent all to name tree target.0 names.absent)
+        (λ is. plain (subst (λ (j : ℕ). IsDirectory (files_seen disk.image a) j) (sym same) (subst (λ (f : Files). IsDirectory f number) (sym looked) is)))
+        (ap (λ (l : List ℕ). lookup l old) (sym (slice_is ∙ at.1)) ∙ led) names below first (subst (λ (l : List ℕ). Unlinks l old free) (again_is ∙ at.1) unlinks) second in
+        (moved.1, moved.2)
+
+    pub moved_moves : Renames from old to name tt all (files_seen disk.image e)
+    moved_moves = (number, moves.0)
+
+    pub moved_tree : IsTree (files_seen disk.image e)
+    moved_tree = moves.1
+
+-- ---- at two paths
+
+module _ (names into parents ends : List (List ℕ)) (old name : List ℕ) (from to : ℕ) (files seen new : Files) (split : names ≡ parents ++ old ∷ [])
+    (led : walked files 1 parents ≡ Ok from) (split_to : into ≡ ends ++ name ∷ []) (led_to : walked files 1 ends ≡ Ok to) (same : seen ≡ files) where
+  first : LeadsIn names files from old
+  first = record { parents = parents; split = split; led = led }
+
+  second : LeadsIn into files to name
+  second = record { parents = ends; split = split_to; led = led_to }
+
+  at_both : (r : Result (Unit {0}) Refusal) → Happens (Renames from old to name) (λ f. IsUnrenamed f from old to name) files new r →
+      Happens (RenamesAt names into) (IsUndoneAt names into) files new r
+  at_both (Ok done) happens = record { from = from; old = old; led = first; to = to; name = name; led_to = second; renames = happens }
+  at_both (Err cause) happens =
+      (happens.0, inr (inr (record { from = from; old = old; led = first; to = to; name = name; led_to = second; why = happens.1 })))
+
+  pub renamed_at : (r : Result (Result (Unit {0}) Refusal) TreeFault) →
+      IfOk r (Happens (Renames from old to name) (λ f. IsUnrenamed f from old to name) seen new) → IfOk r (Happens (RenamesAt names into) (IsUndoneAt names into) files new)
+  renamed_at r all =
+      IfOk-weaker r (Happens (Renames from old to name) (λ f. IsUnrenamed f from old to name) seen new) (Happens (RenamesAt names into) (IsUndoneAt names into) files new)
+      (λ s happens. at_both s (subst (λ (f : Files). Happens (Renames from old to name) (λ g. IsUnrenamed g from old to name) f new s) same happens)) all
+
+module _ {D N : Type 0} (disk : Ghosts D N) (path into : List ℕ) where
+  both_by : (why : Files → Refusal → Type 0) (k m : Plain D) (cause : TreeFault) → IsUndone disk path why k m cause → IsUndoneAtBoth disk path into why k m cause
+  both_by why k m (Path cause) undone = (undone.0, inl undone.1)
+  both_by why k m (Refused cause) undone = undone
+  both_by why k m (Call cause) undone = undone
+  both_by why k m NoCall undone = undone
+
+  undone_by : {T : Type 0} (why : Files → Refusal → Type 0) (k m : Plain D) (r : Result T TreeFault) → IfErr r (IsUndone disk path why k m) →
+      IfErr r (IsUndoneAtBoth disk path into why k m)
+  undone_by why k m (Ok done) undone = tt
+  undone_by why k m (Err cause) undone = both_by why k m cause undone
+
+  -- why it was not done, where the second path has these names
+  pub undone_both : {T : Type 0} (names ends found : List (List ℕ)) (k m : Plain D) (r : Result T TreeFault) → found ≡ ends →
+      IfErr r (IsUndone disk path (IsUndoneAt names found) k m) → IfErr r (IsUndoneAtBoth disk path into (IsUndoneAt names ends) k m)
+  undone_both names ends found k m r is undone =
+      undone_by (IsUndoneAt names ends) k m r (subst (λ (e : List (List ℕ)). IfErr r (IsUndone disk path (IsUndoneAt names e) k m)) is undone)

@@ -1,0 +1,76 @@
+-- A file of a tree that gets another name.
+use Rattle.std.specs.Prelude.{◌≡◌, ◌≢◌, ◌⊎◌, ℕ, List, Some, None}
+use Rattle.blocks.specs.declared.disk.Disk.{Ghosts}
+use Rattle.model.specs.Files.{Files}
+use Rattle.calls.specs.Stepping.{Plain}
+use Rattle.names.specs.declared.entries.LinkFault.TheVariants as link_fault
+use Rattle.names.specs.declared.refusal.Refusal.{Refusal}
+use Rattle.names.specs.declared.refusal.Refusal.TheVariants.{NotFound, NotADirectory, IsRoot, Exists, Full, NoNumber, NoBlock, IsADirectory, NotEmpty, NotDown}
+use Rattle.names.specs.declared.refusal.TreeFault.{TreeFault}
+use Rattle.names.specs.declared.refusal.TreeFault.TheVariants.{Path, Refused, Call, NoCall}
+use Rattle.names.specs.Paths.{IsPathCause}
+use Rattle.names.specs.Ready.{IsUnanswered}
+use Rattle.names.specs.TreeChanges.{MovesName}
+use Rattle.names.specs.Trees.{directory_in, number_of, IsDirectory, IsDown}
+use Rattle.names.specs.Walks.{IsUnled, LeadsIn}
+use Rattle.names.specs.Writes.{IsLinkCause}
+
+-- a file has a name of a directory in place of its name of the same or of another one
+abbrev pub Renames : ℕ → List ℕ → ℕ → List ℕ → Unit {0} → Files → Files → Type 0
+Renames from old to name done files new = (number : ℕ) × MovesName files new from old to name number
+
+-- why none has
+abbrev pub IsUnrenamed : Files → ℕ → List ℕ → ℕ → List ℕ → Refusal → Type 0
+IsUnrenamed files from old to name NotADirectory =
+    (IsDirectory files from → ⊥) ⊎ (IsDirectory files to → ⊥)
+IsUnrenamed files from old to name NotFound =
+    IsDirectory files from × (number_of files from old ≡ None)
+IsUnrenamed files from old to name NotDown = IsDirectory files from × (IsDown old → ⊥)
+IsUnrenamed files from old to name IsADirectory = (from ≢ to)
+    × ((number : ℕ) × (number_of files from old ≡ Some number) × IsDirectory files number)
+IsUnrenamed files from old to name Exists = IsDirectory files to
+    × IsLinkCause (directory_in files to) name link_fault.Exists
+IsUnrenamed files from old to name Full = (from ≢ to) × IsDirectory files to
+    × IsLinkCause (directory_in files to) name link_fault.Full
+IsUnrenamed files from old to name NoBlock = (from ≢ to) × IsDirectory files to
+    × (number_of files to name ≡ None)
+IsUnrenamed files from old to name IsRoot = ⊥
+IsUnrenamed files from old to name NoNumber = ⊥
+IsUnrenamed files from old to name NotEmpty = ⊥
+
+-- The same at the last of the first names and the last of the second ones, in the directories that
+-- the others lead to.
+pub record RenamesAt (names into : List (List ℕ)) (done : Unit {0}) (files new : Files)
+    : Type 0 where
+  pub from : ℕ
+  pub old : List ℕ
+  pub led : LeadsIn names files from old
+  pub to : ℕ
+  pub name : List ℕ
+  pub led_to : LeadsIn into files to name
+  pub renames : Renames from old to name done files new
+
+-- why it is refused there
+pub record IsUnrenamedAt (names into : List (List ℕ)) (files : Files) (cause : Refusal)
+    : Type 0 where
+  pub from : ℕ
+  pub old : List ℕ
+  pub led : LeadsIn names files from old
+  pub to : ℕ
+  pub name : List ℕ
+  pub led_to : LeadsIn into files to name
+  pub why : IsUnrenamed files from old to name cause
+
+-- or all the first names but the last lead nowhere, or all the second ones
+abbrev pub IsUndoneAt : List (List ℕ) → List (List ℕ) → Files → Refusal → Type 0
+IsUndoneAt names into files cause =
+    IsUnled names files cause ⊎ (IsUnled into files cause ⊎ IsUnrenamedAt names into files cause)
+
+-- why a call at two paths is not done: one of them is none, and nothing was done; or it was refused
+abbrev pub IsUndoneAtBoth : {D N : Type 0} → Ghosts D N → List ℕ → List ℕ
+    → (Files → Refusal → Type 0) → Plain D → Plain D → TreeFault → Type 0
+IsUndoneAtBoth disk path into why k m (Path cause) =
+    (m ≡ k) × (IsPathCause path cause ⊎ IsPathCause into cause)
+IsUndoneAtBoth disk path into why k m (Refused cause) = IsUnanswered disk why k m (Refused cause)
+IsUndoneAtBoth disk path into why k m (Call cause) = IsUnanswered disk why k m (Call cause)
+IsUndoneAtBoth disk path into why k m NoCall = IsUnanswered disk why k m NoCall

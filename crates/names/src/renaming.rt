@@ -1,0 +1,194 @@
+// Files of a tree that get other names.
+ghost use Rattle.std.specs.Prelude.{◌≡◌, ◌≢◌, ◌<◌, IfErr, IfOk, OnOk};
+ghost use Rattle.calls.specs.Calls.{image_on};
+ghost use Rattle.calls.specs.Stopped.{StaysOver};
+ghost use Rattle.model.specs.Files.{files_of};
+ghost use Rattle.names.specs.Inside.{files_seen, IsUnderWay, Proceeds};
+ghost use Rattle.names.specs.Paths.{names_of};
+ghost use Rattle.names.specs.Ready.{Happens, LeavesTree, MayGoOn};
+ghost use Rattle.names.specs.Renaming.{IsUndoneAt, IsUndoneAtBoth, IsUnrenamed, Renames, RenamesAt};
+ghost use Rattle.names.specs.Trees.{IsTree};
+
+use crate::changing::Change;
+use crate::entries::{link, lookup, unlink};
+use crate::making::unlinked;
+use crate::name::Name;
+use crate::path::names_of;
+use crate::refusal::{Refusal, TreeFault};
+use crate::tree::Tree;
+use blocks::Disk;
+use std::alloc::Global;
+
+// Gives the file at a path another name, the last of these, in the directory that the others lead to.
+#[derive(Drop)]
+struct RenameFile<'a> {
+    into: &'a [Name],
+}
+
+impl<'a> Change for RenameFile<'a> {
+    type Made = ();
+
+    ghost makes = { λ rename form names. RenamesAt names rename.into.now };
+
+    ghost refuses = { λ rename names. IsUndoneAt names rename.into.now };
+
+    fn apply<D: Disk>(
+        &self,
+        tree: &mut Tree<D>,
+        alloc: Global,
+        names: &[Name],
+    ) -> Result<Result<(), Refusal>, TreeFault> {
+        if names.is_empty() {
+            return Ok(Err(Refusal::IsRoot));
+        }
+        if self.into.is_empty() {
+            return Ok(Err(Refusal::IsRoot));
+        }
+        let last = names.len() - 1;
+        let end = self.into.len() - 1;
+        let from = match tree.walk(&names[..last])? {
+            Ok(from) => from,
+            Err(refusal) => return Ok(Err(refusal)),
+        };
+        let to = match tree.walk(&self.into[..end])? {
+            Ok(to) => to,
+            Err(refusal) => return Ok(Err(refusal)),
+        };
+        if from == to {
+            tree.renamed(alloc, from, &names[last], &self.into[end])
+        } else {
+            tree.moved(alloc, from, &names[last], to, &self.into[end])
+        }
+    }
+}
+
+impl<D: Disk> Tree<D> {
+    /// Gives the file at a path the name at another path, which is new in the directory that the names
+    /// before it lead to. A directory stays in the one that it is in.
+    ///
+    /// # Errors
+    ///
+    /// - `Path`: the bytes of one of the paths are none; nothing was done.
+    /// - `Refused`, with the files as they were: `NotFound`, `NotADirectory` and `IsRoot` for the paths;
+    ///   `NotDown` where the first one's last name is a directory's for itself or for its parent;
+    ///   `Exists` where the second one's last name is there. In another directory also `IsADirectory`
+    ///   where the file is one; `Full` where that has no room for one more, `NoBlock` where the disk
+    ///   has none.
+    /// - `Call`, `NoCall`: as every call of a tree.
+    pub fn rename(&mut self, alloc: Global, path: &[u8], into: &[u8]) -> Result<(), TreeFault>
+        requires ready { MayGoOn D.Disk self.old.kernel self.old.calls_left }
+        ensures ready { MayGoOn D.Disk self.new.kernel self.new.calls_left }
+        ensures renames { IfOk result (λ done. RenamesAt (names_of path.now) (names_of into.now) done
+            (files_of (image_on D.image self.old.kernel))
+            (files_of (image_on D.image self.new.kernel))) }
+        ensures refused { IfErr result (IsUndoneAtBoth D.Disk path.now into.now
+            (IsUndoneAt (names_of path.now) (names_of into.now)) self.old.kernel self.new.kernel) }
+        ensures leaves { 0 < self.old.calls_left → LeavesTree D.Disk
+            (RenamesAt (names_of path.now) (names_of into.now)) self.old.kernel self.new.kernel }
+        ensures stays { StaysOver D.Disk self.old.kernel self.new.kernel }
+    {
+        match names_of(alloc, into) {
+            Ok(names) => {
+                let rename = RenameFile {
+                    into: names.as_slice(),
+                };
+                self.changed(alloc, path, &rename)
+            }
+            Err(fault) => {
+                self.stands();
+                Err(TreeFault::Path(fault))
+            }
+        }
+    }
+
+    // Gives a file another name in its directory. The old one is freed first, so there is room.
+    fn renamed(
+        &mut self,
+        alloc: Global,
+        from: u32,
+        old: &Name,
+        name: &Name,
+    ) -> Result<Result<(), Refusal>, TreeFault>
+        requires way { IsUnderWay D.Disk self.old.kernel self.old.calls_left }
+        requires tree { IsTree (files_seen D.image self.old.kernel) }
+        ensures goes { Proceeds D.Disk result self.old.kernel self.new.kernel self.new.calls_left }
+        ensures tree { OnOk result (IsTree (files_seen D.image self.new.kernel)) }
+        ensures renamed { IfOk result (Happens (Renames from old.now from name.now)
+            (λ files. IsUnrenamed files from old.now from name.now)
+            (files_seen D.image self.old.kernel) (files_seen D.image self.new.kernel)) }
+    {
+        let Some(bytes) = self.directory(from)? else {
+            return Ok(Err(Refusal::NotADirectory));
+        };
+        if !old.is_down() {
+            return Ok(Err(Refusal::NotDown));
+        }
+        let Some(number) = lookup(bytes.as_slice(), old) else {
+            return Ok(Err(Refusal::NotFound));
+        };
+        if let Some(_other) = lookup(bytes.as_slice(), name) {
+            return Ok(Err(Refusal::Exists));
+        }
+        let Some(free) = unlink(bytes.as_slice(), old) else {
+            // It leads to a number.
+            unreachable!()
+        };
+        let _whole = self.entered(alloc, from, free)?;
+        let bytes = self.tidy_directory(from)?;
+        let Ok(write) = link(bytes.as_slice(), name, number) else {
+            // An entry is free, and the name is new.
+            unreachable!()
+        };
+        let _whole = self.entered(alloc, from, write)?;
+        Ok(Ok(()))
+    }
+
+    // Gives a file that is no directory a name in another directory. The new one is linked first, which
+    // may find no room.
+    fn moved(
+        &mut self,
+        alloc: Global,
+        from: u32,
+        old: &Name,
+        to: u32,
+        name: &Name,
+    ) -> Result<Result<(), Refusal>, TreeFault>
+        requires way { IsUnderWay D.Disk self.old.kernel self.old.calls_left }
+        requires tree { IsTree (files_seen D.image self.old.kernel) }
+        requires apart { from ≢ to }
+        ensures goes { Proceeds D.Disk result self.old.kernel self.new.kernel self.new.calls_left }
+        ensures tree { OnOk result (IsTree (files_seen D.image self.new.kernel)) }
+        ensures moved { IfOk result (Happens (Renames from old.now to name.now)
+            (λ files. IsUnrenamed files from old.now to name.now)
+            (files_seen D.image self.old.kernel) (files_seen D.image self.new.kernel)) }
+    {
+        let Some(bytes) = self.directory(from)? else {
+            return Ok(Err(Refusal::NotADirectory));
+        };
+        if !old.is_down() {
+            return Ok(Err(Refusal::NotDown));
+        }
+        let Some(number) = lookup(bytes.as_slice(), old) else {
+            return Ok(Err(Refusal::NotFound));
+        };
+        let Some(free) = unlink(bytes.as_slice(), old) else {
+            // It leads to a number.
+            unreachable!()
+        };
+        if self.is_directory(u32::from(number))? {
+            return Ok(Err(Refusal::IsADirectory));
+        }
+        let Some(bytes) = self.directory(to)? else {
+            return Ok(Err(Refusal::NotADirectory));
+        };
+        let write = match link(bytes.as_slice(), name, number) {
+            Ok(write) => write,
+            Err(fault) => return Ok(Err(unlinked(fault))),
+        };
+        if !self.entered(alloc, to, write)? {
+            return Ok(Err(Refusal::NoBlock));
+        }
+        let _freed = self.entered(alloc, from, free)?;
+        Ok(Ok(()))
+    }
+}
