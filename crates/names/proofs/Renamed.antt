@@ -148,11 +148,8 @@ module _ {D N : Type 0} (disk : Ghosts D N) (k a b : Plain D) (from i : ℕ) (ol
             (subst (λ (f : Files). after (form_seen disk.image a) f (operation_of from write) linked.reply ≡ Some (files_seen disk.image d)) saw first) in
             (whole.2, whole.3)
 
-        pub renamed_moves : Renames from old from name tt fs (files_seen disk.image d)
-        renamed_moves = (i, both.0)
-
-        pub renamed_tree : IsTree (files_seen disk.image d)
-        renamed_tree = both.1
+        pub renamed_whole : Renames from old from name tt fs (files_seen disk.image d) × IsTree (files_seen disk.image d)
+        renamed_whole = ((i, both.0), both.1)
 
 -- ---- to another directory
 
@@ -206,11 +203,8 @@ module _ {D N : Type 0} (disk : Ghosts D N) (k a b c d : Plain D) (from to i num
         (ap (λ (l : List ℕ). lookup l old) (sym (slice_is ∙ at.1)) ∙ led) names below first (subst (λ (l : List ℕ). Unlinks l old free) (again_is ∙ at.1) unlinks) second in
         (moved.1, moved.2)
 
-    pub moved_moves : Renames from old to name tt all (files_seen disk.image e)
-    moved_moves = (number, moves.0)
-
-    pub moved_tree : IsTree (files_seen disk.image e)
-    moved_tree = moves.1
+    pub moved_whole : Renames from old to name tt all (files_seen disk.image e) × IsTree (files_seen disk.image e)
+    moved_whole = ((number, moves.0), moves.1)
 
 -- ---- at two paths
 

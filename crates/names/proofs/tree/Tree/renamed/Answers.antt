@@ -1,8 +1,10 @@
 use Rattle.std.proofs.Common.{◌∙◌, sym, rules}
 use Rattle.names.specs.Inside.{files_seen}
-use Rattle.names.specs.Trees.{IsDown}
+use Rattle.names.specs.Trees.{IsDown, IsTree}
 use Rattle.names.proofs.Entering.{found_fits}
-use Rattle.names.proofs.Renamed.{freed_directory, freed_fits, freed_links, freed_tidy, lookup_used, renamed_moves, renamed_tree}
+use Rattle.names.proofs.Renamed.{freed_directory, freed_fits, freed_links, freed_tidy, lookup_used, renamed_whole}
+use Rattle.names.specs.Renaming.{Renames}
+use Rattle.names.proofs.tree.Tree.renamed.Given.{Over}
 use Rattle.names.proofs.tree.Tree.renamed.Goals as goal
 
 pub unlink-requires : goal.unlink-requires
@@ -44,24 +46,21 @@ unreachable-requires-in_default-link g c =
     c.in_ok-bytes-2.bytes c.as_slice-4.result.now c.in_ok-bytes-2.ensures.same c.in_ok-bytes-2.ensures.bytes c.as_slice-4.ensures
     c.link.result c.link.ensures.refused c.in_default-link.not-Ok
 
+module _ (g : Over) (c : goal.After-drop-bytes-inside-3 g) where
+  whole : Renames c.args.from c.args.old.now c.args.from c.args.name.now tt (files_seen g.D.Disk.image c.args.self.now.kernel)
+      (files_seen g.D.Disk.image c.entered-2.new.self.kernel) × IsTree (files_seen g.D.Disk.image c.entered-2.new.self.kernel)
+  whole =
+      let down : IsDown c.args.old.now = search rules in
+      renamed_whole g.D.Disk c.args.self.now.kernel c.directory.new.self.kernel c.entered.new.self.kernel c.args.from c.in-Some-lookup.number c.args.old.now c.in-Some.bytes
+      c.as_slice.result.now c.as_slice-3.result.now c.in_ok-bytes.field-0 c.in-Some-unlink.free c.in_ok-_whole._whole c.requires.tree c.in_ok-bytes.ensures.same
+      c.in_ok-bytes.ensures.found c.in-Some.is c.as_slice.ensures (sym c.in-Some-lookup.ensures) c.as_slice-3.ensures c.in-Some-unlink.ensures.unlinks
+      c.in_ok-_whole.ensures.entered c.args.name.now c.as_slice-2.result.now c.as_slice-2.ensures (sym c.in_default-lookup-2.ensures) c.tidy_directory.new.self.kernel
+      c.in_ok-bytes-2.bytes c.as_slice-4.result.now c.in_ok-bytes-2.ensures.same c.in_ok-bytes-2.ensures.bytes c.as_slice-4.ensures c.entered-2.new.self.kernel down
+      c.in-Ok.write c.in_ok-_whole-2._whole c.in-Ok.ensures.links c.in_ok-_whole-2.ensures.entered
+      (c.in_ok-bytes-2.ensures.goes.on.opening ∙ c.in_ok-_whole.ensures.goes.on.opening)
+
 pub returns-clause-tree : goal.returns-clause-tree
-returns-clause-tree g c =
-    let down : IsDown c.args.old.now = search rules in
-    renamed_tree g.D.Disk c.args.self.now.kernel c.directory.new.self.kernel c.entered.new.self.kernel c.args.from c.in-Some-lookup.number c.args.old.now c.in-Some.bytes
-    c.as_slice.result.now c.as_slice-3.result.now c.in_ok-bytes.field-0 c.in-Some-unlink.free c.in_ok-_whole._whole c.requires.tree c.in_ok-bytes.ensures.same
-    c.in_ok-bytes.ensures.found c.in-Some.is c.as_slice.ensures (sym c.in-Some-lookup.ensures) c.as_slice-3.ensures c.in-Some-unlink.ensures.unlinks
-    c.in_ok-_whole.ensures.entered c.args.name.now c.as_slice-2.result.now c.as_slice-2.ensures (sym c.in_default-lookup-2.ensures) c.tidy_directory.new.self.kernel
-    c.in_ok-bytes-2.bytes c.as_slice-4.result.now c.in_ok-bytes-2.ensures.same c.in_ok-bytes-2.ensures.bytes c.as_slice-4.ensures c.entered-2.new.self.kernel down
-    c.in-Ok.write c.in_ok-_whole-2._whole c.in-Ok.ensures.links c.in_ok-_whole-2.ensures.entered
-    (c.in_ok-bytes-2.ensures.goes.on.opening ∙ c.in_ok-_whole.ensures.goes.on.opening)
+returns-clause-tree g c = (whole g c).1
 
 pub returns-clause-renamed : goal.returns-clause-renamed
-returns-clause-renamed g c =
-    let down : IsDown c.args.old.now = search rules in
-    renamed_moves g.D.Disk c.args.self.now.kernel c.directory.new.self.kernel c.entered.new.self.kernel c.args.from c.in-Some-lookup.number c.args.old.now c.in-Some.bytes
-    c.as_slice.result.now c.as_slice-3.result.now c.in_ok-bytes.field-0 c.in-Some-unlink.free c.in_ok-_whole._whole c.requires.tree c.in_ok-bytes.ensures.same
-    c.in_ok-bytes.ensures.found c.in-Some.is c.as_slice.ensures (sym c.in-Some-lookup.ensures) c.as_slice-3.ensures c.in-Some-unlink.ensures.unlinks
-    c.in_ok-_whole.ensures.entered c.args.name.now c.as_slice-2.result.now c.as_slice-2.ensures (sym c.in_default-lookup-2.ensures) c.tidy_directory.new.self.kernel
-    c.in_ok-bytes-2.bytes c.as_slice-4.result.now c.in_ok-bytes-2.ensures.same c.in_ok-bytes-2.ensures.bytes c.as_slice-4.ensures c.entered-2.new.self.kernel down
-    c.in-Ok.write c.in_ok-_whole-2._whole c.in-Ok.ensures.links c.in_ok-_whole-2.ensures.entered
-    (c.in_ok-bytes-2.ensures.goes.on.opening ∙ c.in_ok-_whole.ensures.goes.on.opening)
+returns-clause-renamed g c = (whole g c).0
