@@ -8,4 +8,5 @@ pub mod BmapAlloc
 pub mod Map
 pub mod Target
 pub mod Reading
+pub mod Deeds
 pub mod Common

@@ -5,13 +5,14 @@ ghost use Rattle.wal.specs.Joint.{seen};
 ghost use Rattle.wal.specs.Machine.{HasRoom, used_by};
 ghost use Rattle.wal.specs.Volume.{Holds};
 ghost use Rattle.blockmap.specs.Balloc.{MayAlloc, Allocs, AreFull, Zeroes, byte_with, lowest_clear};
+ghost use Rattle.blockmap.specs.Deeds.{deed_of_alloc};
 ghost use Rattle.blockmap.specs.declared.balloc.AllocAt.TheVariants as alloc_at;
 
 use crate::Progress;
 use crate::getting::{put_block, release_block};
 use blocks::{BLOCK_SIZE, Block, Disk};
 use std::marker::Model;
-use wal::Volume;
+use wal::{TaskDeed, Volume};
 
 // So many bytes of a bitmap are looked at at once.
 const GROUP: usize = 32;
@@ -67,6 +68,16 @@ impl Balloc {
             bitmap,
             size,
             at: AllocAt::Looking(None),
+        }
+    }
+
+    /// What the next step does.
+    pub fn deed(&self) -> TaskDeed
+        ensures { result ≡ deed_of_alloc self.now self.now.at }
+    {
+        match self.at {
+            AllocAt::Looking(slot) => TaskDeed::with_block(self.bitmap, slot),
+            AllocAt::Zeroing { block, slot } => TaskDeed::with_block(block, slot),
         }
     }
 

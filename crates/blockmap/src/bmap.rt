@@ -1,13 +1,14 @@
 // The entries of blocks of addresses, on the way to a block of a file.
 ghost use Rattle.std.specs.Prelude.{◌≡◌, ◌<◌, ◌≤◌, ◌≢◌, None};
 ghost use Rattle.blockmap.specs.Bmap.{below, first_entry, some_address, IsReady, LooksUp};
+ghost use Rattle.blockmap.specs.Deeds.{deed_of_entry};
 
 use crate::getting::release_block;
 use crate::{Node, Progress};
 use blocks::Disk;
 use layout::entries::entry;
 use std::marker::Model;
-use wal::Volume;
+use wal::{TaskDeed, Volume};
 
 /// The steps in which a block of a file is sought under a block of addresses (`bmap`; the xv6 book,
 /// the chapter "File system": "Code: Inode content"): one gets the block of addresses, the next one
@@ -37,6 +38,13 @@ impl Bmap {
         ensures { result ≡ first_entry node }
     {
         Bmap { node, slot: None }
+    }
+
+    /// What the next step does.
+    pub fn deed(&self) -> TaskDeed
+        ensures { result ≡ deed_of_entry self.now }
+    {
+        TaskDeed::with_block(self.node.block, self.slot)
     }
 
     /// Makes the next step. `Over` with the block that is sought; with None where there is none.

@@ -8,6 +8,7 @@ ghost use Rattle.blockmap.specs.Balloc.{MayAlloc};
 ghost use Rattle.blockmap.specs.Bmap.{IsNode, some_address};
 ghost use Rattle.blockmap.specs.Branch.{named_by, node_at};
 ghost use Rattle.blockmap.specs.BmapAlloc.{MayMap, MapSteps, FindsEntry, SetsEntry, LeadsThere, come_to, place_in};
+ghost use Rattle.blockmap.specs.Deeds.{deed_on_way};
 ghost use Rattle.blockmap.specs.declared.bmap_alloc.MapAt.TheVariants as map_at;
 
 use crate::getting::{put_block, release_block};
@@ -17,7 +18,7 @@ use layout::entries::{bytes, entry};
 use model::types::Dinode;
 use std::marker::Model;
 use std::snapshot::Snapshot;
-use wal::Volume;
+use wal::{TaskDeed, Volume};
 
 /// Where a writer's way to a block of a file stands.
 #[derive(Clone, Copy)]
@@ -88,6 +89,17 @@ impl BmapAlloc {
             bitmap,
             size,
             at,
+        }
+    }
+
+    /// What the next step does.
+    pub fn deed(&self) -> TaskDeed
+        ensures { result ≡ deed_on_way self.now.at }
+    {
+        match &self.at {
+            MapAt::Address(take) | MapAt::Behind { take, .. } => take.deed(),
+            MapAt::Entry { node, slot } => TaskDeed::with_block(node.block, *slot),
+            MapAt::Setting { node, .. } => TaskDeed::Use(node.block),
         }
     }
 

@@ -1,13 +1,14 @@
 // What a machine gets or uses next, on its way to a block of a file.
 ghost use Rattle.std.specs.Prelude.{◌≡◌, ◌<◌, true, length, None};
 ghost use Rattle.blockmap.specs.Branch.{block_limit};
+ghost use Rattle.blockmap.specs.Deeds.{deed_of_target};
 ghost use Rattle.blockmap.specs.Map.{address_or_zero};
 ghost use Rattle.blockmap.specs.Target.{is_entry, target_for, IsSought, Seeks};
 
 use crate::{Bmap, Mapped, Progress, map};
 use blocks::Disk;
 use model::types::{Dinode, Form};
-use wal::Volume;
+use wal::{TaskDeed, Volume};
 
 /// What a machine that works on a block of a file gets or uses next.
 #[derive(Clone, Copy)]
@@ -21,6 +22,18 @@ pub enum Target {
         /// The slot that holds it, where it was got.
         slot: Option<u32>,
     },
+}
+
+impl Target {
+    /// What the next step does with it.
+    pub fn deed(&self) -> TaskDeed
+        ensures { result ≡ deed_of_target self.now }
+    {
+        match self {
+            Target::Entry(entry) => entry.deed(),
+            Target::Block { block, slot } => TaskDeed::with_block(*block, *slot),
+        }
+    }
 }
 
 /// What leads to block `k` of an inode's file in an image of that form.

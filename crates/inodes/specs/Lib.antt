@@ -1,4 +1,5 @@
 pub mod Creation
+pub mod Deeds
 pub mod Freeing
 pub mod Goes
 pub mod Growing

@@ -1,6 +1,7 @@
 // The steps in which the blocks of a file are freed.
 ghost use Rattle.std.specs.Prelude.{◌≡◌, ◌<◌, None, Some};
 ghost use Rattle.wal.specs.Machine.{HasRoom, used_by};
+ghost use Rattle.inodes.specs.Deeds.{deed_of_freeing};
 ghost use Rattle.inodes.specs.Freeing.{FreesOn, MayFree, block_next, first_freeing, got_or, now_of, taken};
 ghost use Rattle.inodes.specs.Itrunc.{Fits};
 
@@ -9,7 +10,7 @@ use crate::{Itrunc, Progress, TruncAt};
 use blockmap::{free_block, release_block};
 use blocks::{Block, Disk};
 use layout::inode_block;
-use wal::Volume;
+use wal::{TaskDeed, Volume};
 
 /// A block that was got.
 #[derive(Clone, Copy)]
@@ -54,6 +55,16 @@ impl Freeing {
                 outer: None,
             },
             used: None,
+        }
+    }
+
+    /// What the next step does.
+    pub fn deed(&self) -> TaskDeed
+        ensures { result ≡ deed_of_freeing self.now }
+    {
+        match self.in_hand() {
+            None => TaskDeed::Get(self.next_block()),
+            Some(got) => TaskDeed::Use(got.block),
         }
     }
 

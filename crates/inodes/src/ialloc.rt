@@ -8,6 +8,7 @@ ghost use Rattle.wal.specs.Held.{GivesUpLock};
 ghost use Rattle.wal.specs.Joint.{seen};
 ghost use Rattle.wal.specs.Volume.{Holds};
 ghost use Rattle.inodes.specs.Creation.{AreUsed, is_free_in, lowest_free};
+ghost use Rattle.inodes.specs.Deeds.{deed_of_search};
 ghost use Rattle.inodes.specs.Ialloc.{MayStep, SearchSteps, is_last_block, at_next_block, with_new_inode};
 
 use crate::Progress;
@@ -15,7 +16,7 @@ use blocks::{Block, Disk};
 use layout::{INODE_START, INODES_PER_BLOCK, inode, inode_block, inode_offset};
 use model::types::Dinode;
 use std::marker::Model;
-use wal::Volume;
+use wal::{TaskDeed, Volume};
 
 /// The steps in which a creation claims an inode number (`ialloc`; the xv6 book, the chapter "File
 /// system": "Code: Inodes"): it looks at the inode blocks in order, from the one of number 1 on,
@@ -70,6 +71,13 @@ impl Ialloc {
             block: INODE_START,
             slot: None,
         }
+    }
+
+    /// What the next step does.
+    pub fn deed(&self) -> TaskDeed
+        ensures { result ≡ deed_of_search self.now }
+    {
+        TaskDeed::with_block(self.block, self.slot)
     }
 
     /// Makes the next step. `Over` with the number that was claimed, and whose inode is now that of

@@ -4,6 +4,7 @@ ghost use Rattle.model.specs.Layout.{inode_block, inode_of};
 ghost use Rattle.wal.specs.Joint.{seen};
 ghost use Rattle.wal.specs.Volume.{Holds};
 ghost use Rattle.inodes.specs.Table.{HasPlaceFor, holder_at, copy_at};
+ghost use Rattle.inodes.specs.Deeds.{deed_of_lock};
 ghost use Rattle.inodes.specs.LockState.{place_of};
 ghost use Rattle.inodes.specs.Ilock.{MayLock, IsAt, LockSteps, Refers, Locks, GetsInode, ReadsInode};
 ghost use Rattle.inodes.specs.declared.ilock.LockAt.TheVariants as lock_at;
@@ -14,7 +15,7 @@ use blocks::Disk;
 use layout::{inode, inode_block};
 use model::types::Why;
 use std::marker::Model;
-use wal::Volume;
+use wal::{TaskDeed, Volume};
 
 /// Where a process stands that takes an inode.
 #[derive(Clone, Copy)]
@@ -55,6 +56,21 @@ impl Ilock {
         Ilock {
             number,
             at: LockAt::Reference,
+        }
+    }
+
+    /// What the next step does.
+    pub fn deed(&self) -> TaskDeed
+        ensures { result ≡ deed_of_lock self.now.at self.now.number }
+    {
+        match self.at {
+            LockAt::Reference => TaskDeed::Reference(self.number),
+            LockAt::Lock { place } => TaskDeed::Lock {
+                number: self.number,
+                place,
+            },
+            LockAt::Read { slot: None, .. } => TaskDeed::Get(inode_block(self.number)),
+            LockAt::Read { slot: Some(_), .. } => TaskDeed::Look(inode_block(self.number)),
         }
     }
 

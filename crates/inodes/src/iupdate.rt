@@ -6,6 +6,7 @@ ghost use Rattle.wal.specs.Volume.{Holds};
 ghost use Rattle.blockmap.specs.Getting.{WritesBlock};
 ghost use Rattle.model.specs.Codec.{with_inode};
 ghost use Rattle.model.specs.Layout.{inode_block};
+ghost use Rattle.inodes.specs.Deeds.{deed_of_update};
 ghost use Rattle.inodes.specs.Iupdate.{MayUpdate, Updates};
 
 use blockmap::{Progress, put_block};
@@ -13,7 +14,7 @@ use blocks::Disk;
 use layout::{inode, inode_block, inode_offset};
 use model::types::Dinode;
 use std::marker::Model;
-use wal::Volume;
+use wal::{TaskDeed, Volume};
 
 /// The steps in which an inode is written back (`iupdate`; the xv6 book, the chapter "File system":
 /// "Code: Inodes"): one gets the block that holds it, the other one writes it there.
@@ -41,6 +42,13 @@ impl Iupdate {
         ensures { result ≡ record { number = number; slot = None } }
     {
         Iupdate { number, slot: None }
+    }
+
+    /// What the next step does.
+    pub fn deed(&self) -> TaskDeed
+        ensures { result ≡ deed_of_update self.now }
+    {
+        TaskDeed::with_block(inode_block(self.number), self.slot)
     }
 
     /// Makes the next step, with the inode as it is to be. `Over` where it is written, and its block

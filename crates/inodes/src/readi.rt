@@ -2,6 +2,7 @@
 ghost use Rattle.std.specs.Prelude.{◌≡◌, ◌<◌, ◌≤◌, ℕ, Some, None, length};
 ghost use Rattle.model.specs.Gathered.{GatheredBytes};
 ghost use Rattle.model.specs.Layout.{greatest_size};
+ghost use Rattle.blockmap.specs.Deeds.{deed_of_target};
 ghost use Rattle.blockmap.specs.Target.{got_slot};
 ghost use Rattle.inodes.specs.Readi.{first_read, IsReading, HasRoomLeft, ReadSteps};
 
@@ -11,7 +12,7 @@ use blocks::{BLOCK_SIZE, Disk};
 use model::gathered::Gathered;
 use model::types::{Dinode, Form};
 use std::marker::Model;
-use wal::Volume;
+use wal::{TaskDeed, Volume};
 
 /// The steps in which bytes of a file are read (`readi`; the xv6 book, the chapter "File system":
 /// "Code: Inode content"), whose inode is known and locked: for each of its blocks, those that lead
@@ -68,6 +69,13 @@ impl Readi {
             end: offset + count.min(inode.size - offset),
             target: target_for(inode, form, offset / BLOCK_SIZE as u32),
         })
+    }
+
+    /// What the next step does.
+    pub fn deed(&self) -> TaskDeed
+        ensures { result ≡ deed_of_target self.now.target }
+    {
+        self.target.deed()
     }
 
     /// Makes the next step, and adds the bytes that it reads. `Over` with the last ones. `Sleeping`

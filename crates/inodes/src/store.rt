@@ -1,5 +1,6 @@
 // A volume with the tasks of the processes that work on its files.
 ghost use Rattle.std.specs.Prelude.{◌≡◌, ◌<◌, ◌≤◌, false, length, replicate, Some, None, IsSome, IfNone};
+ghost use Rattle.bcache.specs.Buffers.{found};
 ghost use Rattle.blocks.specs.Disk.{Image};
 ghost use Rattle.wal.specs.Floats.{Survives};
 ghost use Rattle.wal.specs.Joint.{Joint};
@@ -10,6 +11,7 @@ ghost use Rattle.model.specs.Soundness.{IsSound};
 ghost use Rattle.wal.specs.Machine.{used_by, is_quiet, begun, ended, end_answer};
 ghost use Rattle.inodes.specs.Tasks.{task, no_task};
 ghost use Rattle.inodes.specs.Store.{IsStore, MayBegin, FitsFiles, KeepsFiles, fresh_volume, with_begun, with_log, first_stage, reply_of, CanBegin};
+ghost use Rattle.inodes.specs.Deeds.{holder_of_slot, task_deed, wanted_holder};
 ghost use Rattle.inodes.specs.Goes.{over};
 ghost use Rattle.inodes.specs.Steps.{Steps, Commits};
 ghost use Rattle.inodes.specs.Stages.{is_over};
@@ -18,12 +20,13 @@ ghost use Rattle.inodes.specs.Waiting.{AloneGetsBuffers, NobodyWaitsForEver};
 ghost use Rattle.inodes.specs.declared.tasks.Stage.TheVariants as stage;
 
 use crate::{Ialloc, Ilock, Inodes, Progress, Stage, Tasks};
+use bcache::Cache;
 use blocks::Disk;
 use layout::{Form, Super};
 use model::types::{Op, Reply, TaskProgress};
 use std::marker::Model;
 use std::snapshot::Snapshot;
-use wal::{Began, Committed, Ended, Volume};
+use wal::{Began, Committed, Ended, TaskDeed, Volume};
 
 /// A volume with the tasks of up to 32 processes, whose steps go on in any order. Contracts say
 /// which files the current image stands for (`FitsFiles`), and what each step makes of them.
@@ -118,6 +121,43 @@ impl<D: Disk> Store<D> {
             | Stage::Truncating { .. }
             | Stage::Writing { .. }
             | Stage::Leaving { .. } => false,
+        }
+    }
+
+    /// What the next step of a process's task does, unless it has to wait; None where it has none.
+    pub fn deed(&self, pid: u32) -> Option<TaskDeed>
+        requires { pid < length self.now.tasks }
+        ensures { result ≡ task_deed self.now pid }
+    {
+        match self.tasks.stage(pid) {
+            Stage::Nowhere => None,
+            Stage::Creating(search) => Some(search.deed()),
+            Stage::Taking(lock) => Some(lock.deed()),
+            Stage::Reading { reading, .. } => Some(reading.deed()),
+            Stage::Delivering { .. } => Some(TaskDeed::Finish),
+            Stage::Truncating { trunc, .. } => Some(trunc.deed()),
+            Stage::Writing { writing, .. } => Some(writing.deed()),
+            Stage::Leaving { .. } => Some(TaskDeed::Put),
+        }
+    }
+
+    /// Who holds what the next step of a process's task gets or takes: the buffer of a block, or an
+    /// inode's lock; None where nobody does.
+    pub fn holder(&self, pid: u32) -> Option<u32>
+        requires { pid < length self.now.tasks }
+        ensures { result ≡ wanted_holder self.now pid }
+    {
+        match self.deed(pid) {
+            Some(TaskDeed::Get(block)) => block_holder(self.volume.cache(), block),
+            Some(TaskDeed::Lock { place, .. }) => self.inodes.holder(place),
+            Some(
+                TaskDeed::Reference(_)
+                | TaskDeed::Use(_)
+                | TaskDeed::Look(_)
+                | TaskDeed::Finish
+                | TaskDeed::Put,
+            )
+            | None => None,
         }
     }
 
@@ -239,6 +279,16 @@ pub(crate) fn over<T>(progress: Progress<T>) -> Result<T, TaskProgress>
         Progress::Sleeping(why) => Err(TaskProgress::Sleeping(why)),
         Progress::Over(out) => Ok(out),
         Progress::Fault(fault) => Err(TaskProgress::Fault(fault)),
+    }
+}
+
+// Who holds the buffer of a block.
+fn block_holder(cache: &Cache, block: u32) -> Option<u32>
+    ensures { result ≡ holder_of_slot cache.now (found cache.now block) }
+{
+    match cache.find(block) {
+        Some(slot) => cache.holder(slot),
+        None => None,
     }
 }
 

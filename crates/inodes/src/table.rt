@@ -83,6 +83,17 @@ impl Inodes {
         }
     }
 
+    /// Who has the sleep lock of the inode at a place.
+    pub fn holder(&self, place: usize) -> Option<u32>
+        ensures { result ≡ holder_at self.now.places place }
+    {
+        let inode = self.places.get(place)?;
+        match inode {
+            Some(inode) => inode.holder,
+            None => None,
+        }
+    }
+
     /// Takes a reference to the inode of a number (`iget`): at its place, or else at the first free
     /// one, where it is not read yet and nobody has its lock. The place.
     pub fn refer(&mut self, number: u32) -> usize

@@ -2,6 +2,7 @@
 ghost use Rattle.std.specs.Prelude.{◌≡◌, ◌<◌, ◌≤◌, ◌+◌, length, Some, None};
 ghost use Rattle.model.specs.Layout.{greatest_size};
 ghost use Rattle.wal.specs.Machine.{HasRoom, used_by};
+ghost use Rattle.inodes.specs.Deeds.{deed_of_write};
 ghost use Rattle.inodes.specs.Writei.{MayWrite, WriteSteps, MapsOn, GetsNext, WritesNext, UpdatesCopy, first_write, next_place, place_of_mapped};
 ghost use Rattle.inodes.specs.declared.writei.WriteAt.TheVariants as write_at;
 
@@ -11,7 +12,7 @@ use blocks::{BLOCK_SIZE, Disk};
 use model::types::{Dinode, Form};
 use std::marker::Model;
 use std::snapshot::Snapshot;
-use wal::Volume;
+use wal::{TaskDeed, Volume};
 
 /// Where the writing of a file's bytes stands.
 #[derive(Clone, Copy)]
@@ -116,6 +117,17 @@ impl Writei {
         ensures { result ≡ self.now.inode }
     {
         self.inode
+    }
+
+    /// What the next step does.
+    pub fn deed(&self) -> TaskDeed
+        ensures { result ≡ deed_of_write self.now.at }
+    {
+        match &self.at {
+            WriteAt::Mapping(way) => way.deed(),
+            WriteAt::Block { block, slot } => TaskDeed::with_block(*block, *slot),
+            WriteAt::Updating(update) => update.deed(),
+        }
     }
 
     /// Makes the next step, with the bytes that are to be written. `Over` where the inode is written

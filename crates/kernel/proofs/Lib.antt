@@ -28,4 +28,5 @@ mod Resting
 mod Awaking
 mod Begun
 mod Rounds
+mod DeedsDone
 mod Recovered

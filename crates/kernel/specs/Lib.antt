@@ -15,6 +15,7 @@ pub mod Acts
 pub mod Steps
 pub mod Moves
 pub mod Sleeping
+pub mod Deeds
 pub mod Runs
 pub mod Rounds
 pub mod Causes

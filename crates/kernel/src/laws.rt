@@ -1,4 +1,5 @@
 //! Laws of kernels, steps and sessions, the contract of a function that does nothing.
+ghost use Rattle.kernel.specs.Deeds.{DoesItsDeed};
 ghost use Rattle.kernel.specs.Causes.{MadeHasCause, NoInodeHasCause, ShortHasCause};
 ghost use Rattle.kernel.specs.Rounds.{RoundsEndAll};
 ghost use Rattle.kernel.specs.Sleeping.{SleepsForCause, SoleWaitsForAnswers, WaitsWithCause};
@@ -52,6 +53,14 @@ pub fn sleeps_for_cause<D: Disk, I: Intake, H: Herald>()
 {
     inodes::laws::sleeps_for_cause::<D>();
 }
+
+/// A step does to the disk what `Kernel::deed` told before it, and nothing else, unless it halts. One
+/// that was told to write a block makes one write, to that block, with what belongs there: a log
+/// block and a home get what the current image has at the home, and a header names the homes. One
+/// that was told to sync makes one sync. Any other leaves the disk's image, writes and syncs.
+pub fn deeds_are_done<D: Disk, I: Intake, H: Herald>()
+    ensures { DoesItsDeed D.Disk I.Intake H.Herald }
+{}
 
 /// Turns that go round all processes, as many times as steps are left in all, end every operation
 /// that is under way, where none begins meanwhile and the disk doesn't fail. Between them anything

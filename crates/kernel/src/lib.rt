@@ -39,6 +39,7 @@
 mod beginning;
 mod class;
 mod counting;
+mod deeds;
 pub mod laws;
 mod opening;
 mod queues;

@@ -29,12 +29,14 @@
 //! got through.
 #![tactic(auto)]
 
+mod deeds;
 mod faults;
 mod log;
 mod recovery;
 mod types;
 mod volume;
 
+pub use deeds::{CommitDeed, Deed, TaskDeed};
 pub use faults::RecoverFault;
 pub use log::Log;
 pub use recovery::recover;

@@ -7,12 +7,13 @@ ghost use Rattle.model.specs.Format.{log_capacity, inode_start};
 ghost use Rattle.model.specs.Codec.{header_block};
 ghost use Rattle.model.specs.Layout.{is_lawful_super};
 ghost use Rattle.wal.specs.Joint.{Joint, place_at, source_at, stepped_at, synced_at, written_cache, bytes_found, unpinned_found, HasPin, IsPinned, IsWithin};
+ghost use Rattle.wal.specs.Deeds.{commit_deed};
 ghost use Rattle.wal.specs.Floats.{AreAfloat};
 ghost use Rattle.wal.specs.Step.{CommitSteps, CommitSyncs, CommitWrites, answer_at, answer_synced};
 ghost use Rattle.wal.specs.declared.types.Part.TheVariants as part;
 ghost use Rattle.wal.specs.Machine.{IsLog, is_quiet, is_writing, new_log, begin_cause, begin_answer, after_begin, begun, used_by, HasRoom, MayLog, HasSlot, is_among, MayPin, one_used, appended, noted, noted_cache, ended, end_answer};
 
-use crate::{Began, Commit, Committed, DeviceFault, Ended, Part};
+use crate::{Began, Commit, CommitDeed, Committed, DeviceFault, Ended, Part};
 use arrayvec::ArrayVec;
 use bcache::Cache;
 use blocks::{Block, Disk, DiskFault, NoMemory};
@@ -176,6 +177,29 @@ impl Log {
         ensures { result ≡ self.now.commit }
     {
         self.commit
+    }
+
+    /// What the next step of a commit does; None where none is under way.
+    pub fn deed(&self) -> Option<CommitDeed>
+        ensures { result ≡ commit_deed self.now }
+    {
+        let homes = self.header.homes.as_slice();
+        match self.commit {
+            Commit::Quiet => None,
+            Commit::Logging(place) => Some(CommitDeed::LogBlock {
+                place,
+                home: homes[place as usize],
+            }),
+            Commit::Heading => Some(CommitDeed::Header {
+                count: self.header.n,
+                group: self.opened,
+            }),
+            Commit::Homing(place) => Some(CommitDeed::Home {
+                block: homes[place as usize],
+            }),
+            Commit::Clearing => Some(CommitDeed::Clear),
+            Commit::Syncing(part) => Some(CommitDeed::Sync(part)),
+        }
     }
 
     /// Why an operation would have to sleep before it begins: `Committing` while a commit is under
