@@ -2,17 +2,19 @@
  * xvfs.h: the lower storey of the xv6 file system, over an image in memory.
  *
  * The library does no input and no output. A session holds a copy of an image, and each step of a
- * process tells the host the one block that it wrote, if it wrote one. The host writes that block
- * to its own device before it asks for the next step. Then at each moment the device holds the
- * session's image of before or after the last step, and recovery of either gives the opening's
- * files after exactly the changing operations of the committed groups (xvfs_step).
+ * process tells the host the one block that it wrote, if it wrote one, or that it synced. The host
+ * does that to its own device before it asks for the next step. Then at each moment recovery of what
+ * the device holds gives the opening's files after exactly the changing operations of the committed
+ * groups (xvfs_step): without XVFS_HOLD the device holds the session's image of before or after the
+ * last step; with it, the image of the last told sync with any of the writes told since.
  *
  * THE HOST'S FOUR DUTIES, from which that follows:
- *  1. At xvfs_open the device holds the bytes that are passed, and their log is empty, so that
- *     `*writes` is 0: xvfs_recover them first, and carry that to the device as it says below.
+ *  1. At xvfs_open the device holds the bytes that are passed, flushed, and their log is empty, so
+ *     that `*writes` is 0: recover them first, as xvfs_recover_step tells.
  *  2. Each block that a step tells is written to the device, whole or not at all, before the next
  *     step, in the order of the steps.
- *  3. A device that holds writes back is flushed behind each of these writes.
+ *  3. A device that holds writes back is flushed behind each of these writes; where the session was
+ *     opened with XVFS_HOLD, only where a step tells a sync, which is four times a commit.
  *  4. Only then is an answer, or `committed`, told to anyone. An answer outlives a stop once
  *     `committed` has reached its `group`. Where a write or a flush fails the session is closed and
  *     never stepped again: another may be opened over what the device holds, once it is recovered.
@@ -78,12 +80,13 @@ enum {
     XVFS_RECOVER_MEMORY  = 0x403, XVFS_RECOVER_SYNC = 0x404 /* never */,
     /* 5 open */
     XVFS_OPEN_MEMORY     = 0x503, XVFS_OPEN_PROCESSES = 0x504,   /* not 1 to 32 */
+    XVFS_OPEN_FLAGS      = 0x505,  /* another flag than XVFS_HOLD */
     /* 6 call */
     XVFS_NO_PROCESS      = 0x601,  /* no process has that number */
     XVFS_FULL            = 0x602,  /* XVFS_PLACES operations of the process wait */
     XVFS_NO_OPERATION    = 0x603,  /* no operation of that kind, or a type over 65535 */
     XVFS_NO_BLOCK        = 0x604,  /* `block` has not XVFS_BLOCK_SIZE bytes */
-    XVFS_WRITES          = 0x605,  /* the session made 2^63 writes */
+    XVFS_WRITES          = 0x605,  /* the session made 2^63 writes or syncs */
     XVFS_SUBMIT_MEMORY   = 0x606,
     XVFS_NO_ANSWER       = 0x607,  /* no answer waits */
     XVFS_CLOSED          = 0x608, XVFS_OPEN = 0x609   /* of the inline functions alone */
@@ -113,11 +116,15 @@ uint32_t xvfs_mkfs(uint8_t *image, size_t len, uint32_t ninodes, uint32_t form);
  * block 2, flushes, writes block 2, flushes: a stop anywhere in it recovers to the same image. */
 uint32_t xvfs_recover(uint8_t *image, size_t len, uint32_t *recovered);
 
+/* A flag of xvfs_open: steps tell syncs, and the device is flushed there alone. */
+#define XVFS_HOLD 1u
+
 /* Opens a kernel of 1 to 32 processes over a copy of the image, which it checks and recovers. The
  * host's device must hold these bytes; recover them first, so that `*writes`, the writes of that
- * recovery, is 0. On a refusal the handle stays closed, and `*writes` is as it was. The memory is the
- * image's and about 50 to 100 KiB. */
-uint32_t xvfs_open(xvfs *fs, const uint8_t *image, size_t len, uint32_t processes, uint64_t *writes);
+ * recovery, is 0. `flags` is 0 or XVFS_HOLD. On a refusal the handle stays closed, and `*writes` is as
+ * it was. The memory is the image's and about 50 to 100 KiB. */
+uint32_t xvfs_open(xvfs *fs, const uint8_t *image, size_t len, uint32_t processes, uint32_t flags,
+                   uint64_t *writes);
 
 /* Operations, by inode number. */
 enum { XVFS_CREATE, XVFS_WRITE, XVFS_READ, XVFS_TRUNC, XVFS_REMOVE, XVFS_STAT };
@@ -141,22 +148,26 @@ typedef struct {
     uint32_t step;       /* XVFS_MOVED .. */
     uint32_t why;        /* of XVFS_SLEEPING; else 0 */
     uint32_t wrote;      /* 1: `block` was written, and `bytes` has what it holds now; else 0 */
-    uint32_t block;      /* its number */
-    uint64_t committed;  /* groups that a stop keeps, once this write is on the device */
+    uint32_t block;      /* its number; else 0 */
+    uint32_t synced;     /* 1: the disk was synced, by XVFS_HOLD, and nothing was written; else 0 */
+    uint64_t committed;  /* groups that a stop keeps, once this is done to the device */
 } xvfs_stepped;
 
 /*
  * One step of process `pid`: the beginning of the operation that waits, one block got or looked at,
- * the end of an operation in the log, or one write of a commit. `bytes` has XVFS_BLOCK_SIZE bytes.
+ * the end of an operation in the log, or one write or sync of a commit. `bytes` has XVFS_BLOCK_SIZE
+ * bytes.
  *
  * Where `wrote` is 0 the session's image is as it was. Where it is 1 it is the image of before with
  * these bytes as its block of that number: write them to the device, whole or not at all, before the
- * next step, before the answer is passed on, and before `committed` is told to anyone. If that
- * write fails, close the session, and open one over what the device holds.
+ * next step, before the answer is passed on, and before `committed` is told to anyone. Where `synced`
+ * is 1, flush the device before these. If that write or flush fails, close the session, and open one
+ * over what the device holds.
  *
  * Proved: the step is what the kernel promises of one (kernel::Kernel::step), and recovery of the
  * image now, and of that of before, is sound, with the opening's files after the changing operations
- * of the committed groups, in the order of their turns. On a refusal nothing happened.
+ * of the committed groups, in the order of their turns. With XVFS_HOLD so is recovery of the image of
+ * the last told sync with any of the writes told since. On a refusal nothing happened.
  */
 uint32_t xvfs_step(xvfs *fs, uint32_t pid, xvfs_stepped *out, uint8_t *bytes, size_t len);
 
@@ -182,9 +193,9 @@ void xvfs_close(xvfs *fs);
 
 /* The same calls for who cannot be sure of the handle. */
 static inline uint32_t xvfs_try_open(xvfs *fs, const uint8_t *image, size_t len, uint32_t processes,
-                                     uint64_t *writes) {
+                                     uint32_t flags, uint64_t *writes) {
     if (fs->session) return XVFS_OPEN;
-    return xvfs_open(fs, image, len, processes, writes);
+    return xvfs_open(fs, image, len, processes, flags, writes);
 }
 static inline uint32_t xvfs_try_submit(xvfs *fs, uint32_t pid, const xvfs_op *op,
                                        const uint8_t *bytes, size_t len, uint64_t *seq) {

@@ -152,6 +152,13 @@ impl<D: Disk, I: Intake, H: Herald> Kernel<D, I, H> {
         self.store.volume().disk()
     }
 
+    /// The log as it is, for who asks where a commit stands.
+    pub fn log(&self) -> &Log
+        ensures { result.now ≡ self.now.store.volume.log }
+    {
+        self.store.volume().log()
+    }
+
     /// The fault of the disk, after which no step is made any more.
     pub fn fault(&self) -> Option<DeviceFault>
         ensures { result ≡ self.now.store.volume.fault }

@@ -1,2 +1,6 @@
+pub mod Track
+pub mod Held
 pub mod Session
+pub mod Telling
 pub mod Refusal
+pub mod Lemmas

@@ -1,24 +1,32 @@
 -- What contracts see of a session.
-use Rattle.std.specs.Prelude.{◌≡◌, ◌*◌, ℕ, List, length}
+use Rattle.std.specs.Prelude.{◌≡◌, ◌*◌, ℕ, Bool, List, length}
 use Rattle.std.specs.Simd.{first_chunks}
 use Rattle.blocks.specs.Disk.{Image}
 use Rattle.blocks.specs.declared.disk.Disk.{Ghosts}
 use Rattle.ports.specs.declared.herald.PlainHerald.{PlainHerald}
 use Rattle.ports.specs.declared.queues.QueueIntake.{QueueIntake}
 use Rattle.kernel.specs.Opening.{IsOpened}
-use Rattle.blocks.specs.declared.memory.MemDisk.{MemDisk}
+use Rattle.sessions.specs.declared.disk.HostDisk.{HostDisk}
 use Rattle.sessions.specs.declared.session.Session.{Session}
 
-abbrev pub disk_of : Session → MemDisk
+abbrev pub disk_of : Session → HostDisk
 disk_of s = s.kernel.store.volume.device
 
 -- the blocks of its disk
 abbrev pub image_of : Session → Image
-image_of s = s.kernel.store.volume.device.blocks.items
+image_of s = s.kernel.store.volume.device.copy.blocks.items
 
 -- how many writes were made to it
 abbrev pub writes_of : Session → ℕ
-writes_of s = s.kernel.store.volume.device.writes
+writes_of s = s.kernel.store.volume.device.copy.writes
+
+-- and how many syncs
+abbrev pub syncs_of : Session → ℕ
+syncs_of s = s.kernel.store.volume.device.copy.syncs
+
+-- whether it holds writes back
+abbrev pub holds_of : Session → Bool
+holds_of s = s.kernel.store.volume.device.holds
 
 abbrev pub intake_of : Session → QueueIntake
 intake_of s = s.kernel.intake
@@ -26,14 +34,18 @@ intake_of s = s.kernel.intake
 abbrev pub processes_of : Session → ℕ
 processes_of s = length s.kernel.world.processes
 
--- It was opened with so many processes over a new disk with these bytes.
-pub record OpensOver {N : Type 0} (disk : Ghosts MemDisk N) (bytes : List ℕ) (processes : ℕ)
-    (s : Session) : Type 0 where
-  pub device : MemDisk
+-- It was opened with so many processes over a new disk with these bytes, which holds writes back or
+-- doesn't.
+pub record OpensOver {N : Type 0} (disk : Ghosts HostDisk N) (bytes : List ℕ) (processes : ℕ)
+    (holds : Bool) (s : Session) : Type 0 where
+  pub device : HostDisk
   pub intake : QueueIntake
   pub herald : PlainHerald
   pub count : ℕ
   pub whole : length bytes ≡ count * 1024
-  pub blocks : device.blocks.items ≡ first_chunks 1024 count bytes
-  pub unwritten : device.writes ≡ 0
+  pub blocks : device.copy.blocks.items ≡ first_chunks 1024 count bytes
+  pub unwritten : device.copy.writes ≡ 0
+  pub unsynced : device.copy.syncs ≡ 0
+  pub kind : device.holds ≡ holds
+  pub holds_is : holds_of s ≡ holds
   pub opened : IsOpened disk device intake herald processes s.kernel

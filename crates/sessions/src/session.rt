@@ -1,23 +1,32 @@
 // The types of a session.
 ghost use Rattle.std.specs.Prelude.{◌≡◌, None};
 
-use blocks::MemDisk;
+use crate::HostDisk;
 use kernel::{Kernel, Step};
 use ports::{PlainHerald, QueueIntake};
+
+/// What a step did to the disk, which the user does to his own.
+#[derive(Clone, Copy, Debug, PartialEq)]
+pub enum Told {
+    Nothing,
+    /// It wrote the block of this number.
+    Wrote(u32),
+    /// It synced the disk, which holds writes back.
+    Synced,
+}
 
 /// What a step did.
 #[derive(Clone, Copy)]
 pub struct Stepped {
     /// As the kernel's step answers.
     pub step: Step,
-    /// The number of the block that it wrote.
-    pub wrote: Option<u32>,
+    pub told: Told,
 }
 
-/// A kernel over a copy of an image, with plain queues in memory. Its disk never fails and holds no
-/// write back, so no step is `Halted`.
+/// A kernel over a copy of an image, with plain queues in memory. Its disk never fails, so no step is
+/// `Halted`.
 #[derive(Drop)]
 pub struct Session {
-    pub(crate) kernel: Kernel<MemDisk, QueueIntake, PlainHerald>,
+    pub(crate) kernel: Kernel<HostDisk, QueueIntake, PlainHerald>,
     ghost faultless: { kernel.store.volume.fault ≡ None },
 }

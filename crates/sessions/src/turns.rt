@@ -1,7 +1,6 @@
 // The calls of a session.
 ghost use Rattle.std.specs.Prelude.{◌≡◌, ◌≢◌, ◌⊎◌, ◌<◌, ◌≤◌, ◌+◌, ◌^◌, ◌∷◌, ◌++◌, [], length, true, IfOk, IfErr, OnErr, None, option_to_list};
 ghost use Rattle.blocks.specs.Disk.{block_at};
-ghost use Rattle.blocks.specs.Told.{TellsWrite};
 ghost use Rattle.history.specs.Processes.{process};
 ghost use Rattle.kernel.specs.Steps.{MakesStep};
 ghost use Rattle.model.specs.declared.types.operations.Step.TheVariants as step;
@@ -9,29 +8,53 @@ ghost use Rattle.ports.specs.History.{first_in};
 ghost use Rattle.ports.specs.Lanes.{polled_after};
 ghost use Rattle.ports.specs.Queues.{OthersWait, answers, polled, waiting};
 ghost use Rattle.sessions.specs.Refusal.{IsRefusal};
-ghost use Rattle.sessions.specs.Session.{OpensOver, disk_of, image_of, intake_of, processes_of, writes_of};
+ghost use Rattle.sessions.specs.Session.{OpensOver, disk_of, holds_of, image_of, intake_of, processes_of, syncs_of, writes_of};
+ghost use Rattle.sessions.specs.Telling.{CarriesOn, Covers, TellsUse, fresh_ledger};
+ghost use Rattle.wal.specs.Joint.{place_at};
 
+use crate::HostDisk;
 use crate::refusal::{OpenRefusal, refusal_of};
-use crate::session::{Session, Stepped};
-use blocks::{BLOCK_SIZE, Disk, MemDisk};
+use crate::session::{Session, Stepped, Told};
+use blocks::{BLOCK_SIZE, Disk};
 use kernel::Kernel;
+use layout::LOG_START;
 use model::types::{Answer, Op};
 use ports::{Herald, Intake, PlainHerald, QueueIntake};
 use std::alloc::Global;
+use wal::{Commit, Log};
+
+// Where the next write of a commit goes.
+fn next_place(log: &Log) -> u32
+    ensures place { result ≡ place_at log.now.commit log.now.homes }
+    ensures inside { result < log.now.size }
+{
+    log.known();
+    match log.commit() {
+        Commit::Logging(k) => LOG_START + 1 + k,
+        Commit::Homing(k) => log.homes()[k as usize],
+        _ => LOG_START,
+    }
+}
 
 impl Session {
-    /// Opens a kernel of so many processes over a copy of these bytes: checks their image and
-    /// recovers it. `writes` then answers the writes of the recovery, 0 where no block of the log
-    /// waited to be copied home.
+    /// Opens a kernel of so many processes over a copy of these bytes, on a plain disk or one that
+    /// holds writes back: checks their image and recovers it. `writes` then answers the writes of the
+    /// recovery, 0 where no block of the log waited to be copied home.
     ///
     /// # Errors
     ///
     /// In this order: `Length` where the bytes are not 1 to 8191 blocks of 1024; `Processes` where
     /// there are not 1 to 32; `Check` with the fault of the image. `NoMemory`, and
     /// `Check(CheckFault::NoMemory)`, where the allocator refuses memory.
-    pub fn open(alloc: Global, image: &[u8], processes: u32) -> Result<Session, OpenRefusal>
+    pub fn open(
+        alloc: Global,
+        image: &[u8],
+        processes: u32,
+        holds: bool,
+    ) -> Result<Session, OpenRefusal>
         ensures opened { IfOk result
-            (λ s. OpensOver ⟦<MemDisk as Disk>⟧ image.now processes s) }
+            (λ s. OpensOver ⟦<HostDisk as Disk>⟧ image.now processes holds s) }
+        ensures covered { IfOk result (λ s. Covers ⟦<HostDisk as Disk>⟧ s (fresh_ledger s)) }
         ensures refused { IfErr result (IsRefusal image.now processes) }
     {
         let count = image.len() / BLOCK_SIZE;
@@ -41,7 +64,7 @@ impl Session {
         if processes == 0 || processes > 32 {
             return Err(OpenRefusal::Processes);
         }
-        let Ok(disk) = MemDisk::over(alloc, image, count as u32) else {
+        let Ok(disk) = HostDisk::over(alloc, image, count as u32, holds) else {
             return Err(OpenRefusal::NoMemory);
         };
         let Ok(intake) = QueueIntake::new(alloc, processes) else {
@@ -66,6 +89,13 @@ impl Session {
         ensures { result ≡ writes_of self.now }
     {
         self.kernel.disk().writes()
+    }
+
+    /// The number of syncs, as of writes. A plain disk is not synced.
+    pub fn syncs(&self) -> u64
+        ensures { result ≡ syncs_of self.now }
+    {
+        self.kernel.disk().syncs()
     }
 
     /// How many groups of operations a stop keeps.
@@ -123,28 +153,38 @@ impl Session {
         self.kernel.shut();
     }
 
-    /// One step of a process, and the block that it wrote: the image is then the one of before with
-    /// that block as it is now. Where it tells none, the image is as it was.
+    /// One step of a process, and what it did to the disk. A told write is all that it changed: the
+    /// image is that of before with this block as it is now. A sync, and a step that tells nothing,
+    /// leave the image as it was.
+    ///
+    /// What the user's own disk may hold goes on with it, where that holds writes back: any of the told
+    /// writes over the image of the last told sync is what a stop of the session's disk may leave.
     ///
     /// The step is as the kernel promises of one: what it does, how the kernel goes on, and what a
     /// stop in it or behind it leaves. It is never `Halted`.
     pub fn step(&mut self, pid: u32) -> Stepped
         requires pid { pid < processes_of self.old }
-        requires few { writes_of self.old < 2 ^ 63 }
-        ensures step { MakesStep ⟦<MemDisk as Disk>⟧ ⟦<QueueIntake as Intake>⟧
+        requires few { (writes_of self.old < 2 ^ 63) × (syncs_of self.old < 2 ^ 63) }
+        ensures step { MakesStep ⟦<HostDisk as Disk>⟧ ⟦<QueueIntake as Intake>⟧
             ⟦<PlainHerald as Herald>⟧ pid result.step self.old.kernel self.new.kernel }
-        ensures wrote { TellsWrite result.wrote (image_of self.old) (image_of self.new) }
+        ensures told { TellsUse result.told self.old self.new }
+        ensures carries { holds_of self.old ≡ true
+            → CarriesOn ⟦<HostDisk as Disk>⟧ result.told self.old self.new }
         ensures goes_on { result.step ≢ step.Halted }
     {
-        let before = self.kernel.disk().writes();
+        let place = next_place(self.kernel.log());
+        let disk = self.kernel.disk();
+        let (writes, syncs) = (disk.writes(), disk.syncs());
         let step = self.kernel.step(pid);
         let disk = self.kernel.disk();
-        let wrote = if disk.writes() == before {
-            None
+        let told = if disk.writes() != writes {
+            Told::Wrote(place)
+        } else if disk.syncs() != syncs {
+            Told::Synced
         } else {
-            Some(disk.last())
+            Told::Nothing
         };
-        Stepped { step, wrote }
+        Stepped { step, told }
     }
 
     /// The 1024 bytes of the block with this number, counted from 0.
@@ -158,7 +198,7 @@ impl Session {
     }
 
     /// Ends the session: the disk as it is. What was not committed is lost, as by a stop.
-    pub fn close(self) -> MemDisk
+    pub fn close(self) -> HostDisk
         ensures { result ≡ disk_of self }
     {
         let Session { kernel, .. } = self;

@@ -12,10 +12,12 @@ use Rattle.model.specs.declared.types.operations.Op.{Op}
 use Rattle.model.specs.declared.types.operations.Op.TheVariants.{Create, Write, Read, Trunc, Remove, Stat}
 use Rattle.kernel.specs.Steps.{MakesStep}
 use Rattle.model.specs.declared.types.operations.Step.{Step}
-use Rattle.blocks.specs.declared.memory.MemDisk.{MemDisk}
+use Rattle.sessions.specs.declared.disk.HostDisk.{HostDisk}
 use Rattle.sessions.specs.declared.session.Session.{Session}
-use Rattle.sessions.specs.Session.{image_of, intake_of, processes_of, writes_of}
-use Rattle.xvfs_c.specs.Numbers.{TellsAnswer, step_number}
+use Rattle.sessions.specs.declared.session.Told.{Told}
+use Rattle.sessions.specs.Session.{holds_of, image_of, intake_of, processes_of, syncs_of, writes_of}
+use Rattle.sessions.specs.Telling.{CarriesOn, TellsUse}
+use Rattle.xvfs_c.specs.Numbers.{TellsAnswer, step_number, told_number}
 use Rattle.xvfs_c.specs.declared.report.XvfsAnswer.{XvfsAnswer}
 use Rattle.xvfs_c.specs.declared.report.XvfsOp.{XvfsOp}
 use Rattle.xvfs_c.specs.declared.report.XvfsStep.{XvfsStep}
@@ -30,15 +32,19 @@ Both R (Some s) (Some t) = R s t
 abbrev pub Stays : Option Session → Option Session → Type 0
 Stays = Both (λ s t. t ≡ s)
 
--- The step of a process that the kernel promises, and what C is told of it: the image is that of
--- before with one block as it was handed out, or as it was where none was.
-pub record TellsStep {N M : Type 0} (disk : disk_trait.Ghosts MemDisk N)
+-- The step of a process that the kernel promises, and what C is told of it: what it did to the disk,
+-- and nothing else. Where a write was told, the image is that of before with one block as it was
+-- handed out, else it is as it was. What a device that holds writes back may hold is carried on.
+pub record TellsStep {N M : Type 0} (disk : disk_trait.Ghosts HostDisk N)
     (intake : intake_trait.Ghosts QueueIntake M) (herald : herald_trait.Ghosts PlainHerald)
     (pid : ℕ) (out : XvfsStep) (block : List ℕ) (s t : Session) : Type 0 where
   pub step : Step
   pub makes : MakesStep disk intake herald pid step s.kernel t.kernel
   pub told : (out.step, out.why) ≡ step_number step
-  pub flag : (out.wrote ≡ 0) ⊎ (out.wrote ≡ 1)
+  pub did : Told
+  pub does : TellsUse did s t
+  pub tells : (out.wrote, out.block, out.synced) ≡ told_number did
+  pub carries : holds_of s ≡ true → CarriesOn disk did s t
   pub unwritten : out.wrote ≡ 0 → image_of t ≡ image_of s
   pub inside : out.wrote ≡ 1 → out.block < length (image_of t)
   pub written : out.wrote ≡ 1 → image_of t ≡ slice_set (image_of s) out.block block
@@ -48,7 +54,8 @@ pub record TellsStep {N M : Type 0} (disk : disk_trait.Ghosts MemDisk N)
 abbrev pub RefusesStep : ℕ → List ℕ → ℕ → Session → Type 0
 RefusesStep p block number s = ((number ≡ 1537) × (processes_of s ≤ p))
     ⊎ ((number ≡ 1540) × (p < processes_of s) × (length block ≢ 1024))
-    ⊎ ((number ≡ 1541) × (p < processes_of s) × (2 ^ 63 ≤ writes_of s))
+    ⊎ ((number ≡ 1541) × (p < processes_of s)
+    × ((2 ^ 63 ≤ writes_of s) ⊎ (2 ^ 63 ≤ syncs_of s)))
 
 -- C's operation, with these bytes beside it, is that one
 abbrev pub IsOperation : XvfsOp → List ℕ → Op → Type 0

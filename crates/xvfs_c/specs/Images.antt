@@ -1,5 +1,5 @@
 -- What the calls over an image in C's memory promise.
-use Rattle.std.specs.Prelude.{◌≡◌, ◌⊎◌, ℕ, List, false, IsTrue, Some, None}
+use Rattle.std.specs.Prelude.{◌≡◌, ◌⊎◌, ◌<◌, ◌≤◌, ℕ, List, false, IsTrue, Some, None}
 use Rattle.std.specs.Simd.{first_chunks}
 use Rattle.blocks.specs.Disk.{Image}
 use Rattle.model.specs.Codec.{made_image}
@@ -94,7 +94,9 @@ IsUnrecovered x number =
 abbrev pub RefusesToRecover : List ℕ → ℕ → Type 0
 RefusesToRecover bytes number = (x : Image) × HasImage bytes x × IsUnrecovered x number
 
--- that number says why no session is opened over these bytes; 1283 is that of memory
-abbrev pub RefusesToOpen : List ℕ → ℕ → ℕ → Type 0
-RefusesToOpen bytes processes number = (number ≡ 1283)
-    ⊎ ((refusal : OpenRefusal) × IsRefusal bytes processes refusal × (number ≡ open_number refusal))
+-- that number says why no session is opened over these bytes; 1285 is that of an unknown flag, and
+-- 1283 that of memory
+abbrev pub RefusesToOpen : List ℕ → ℕ → ℕ → ℕ → Type 0
+RefusesToOpen bytes processes flags number = ((number ≡ 1285) × (1 < flags))
+    ⊎ ((flags ≤ 1) × ((number ≡ 1283)
+    ⊎ ((refusal : OpenRefusal) × IsRefusal bytes processes refusal × (number ≡ open_number refusal))))

@@ -18,6 +18,8 @@ use Rattle.wal.specs.declared.faults.RecoverFault.{RecoverFault}
 use Rattle.wal.specs.declared.faults.RecoverFault.TheVariants as recovery
 use Rattle.sessions.specs.declared.refusal.OpenRefusal.{OpenRefusal}
 use Rattle.sessions.specs.declared.refusal.OpenRefusal.TheVariants as opening
+use Rattle.sessions.specs.declared.session.Told.{Told}
+use Rattle.sessions.specs.declared.session.Told.TheVariants as told
 use Rattle.xvfs_c.specs.declared.report.XvfsAnswer.{XvfsAnswer}
 
 -- of an image's fault, and the inode or the block that has it
@@ -77,6 +79,12 @@ step_number step.Idle = (3, 0)
 step_number step.NoMemory = (4, 0)
 step_number step.ShutDown = (5, 0)
 step_number step.Halted = (6, 0)
+
+-- of what a step did to the disk: whether it wrote, the block's number, and whether it synced
+abbrev pub told_number : Told → ℕ × ℕ × ℕ
+told_number told.Nothing = (0, 0, 0)
+told_number (told.Wrote b) = (1, b, 0)
+told_number told.Synced = (0, 0, 1)
 
 -- of a reply, and what it carries beside bytes: a value, and a length
 abbrev pub reply_number : Reply → ℕ × ℕ × ℕ

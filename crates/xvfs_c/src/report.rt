@@ -1,18 +1,24 @@
 // The structs and the numbers that C sees: of a refusal, 256 times its layer and its number there,
 // as the program prints them.
 ghost use Rattle.std.specs.Prelude.{◌≡◌};
-ghost use Rattle.xvfs_c.specs.Numbers.{check_number, form_meant, form_number, mkfs_number, open_number, recover_number, reply_number, step_number, why_number};
+ghost use Rattle.xvfs_c.specs.Numbers.{check_number, form_meant, form_number, mkfs_number, open_number, recover_number, reply_number, step_number, told_number, why_number};
 
 use kernel::Step;
 use layout::MkfsFault;
 use model::types::{CheckFault, Form, Reply, Why};
-use sessions::OpenRefusal;
+use sessions::{OpenRefusal, Told};
 use wal::RecoverFault;
 
 /// The bytes are not a whole number of blocks, from 1 to 8191.
 pub const LENGTH: u32 = 258;
 
-/// The session made 2 to the power of 63 writes.
+/// The flag of an opening: the session's disk holds writes back.
+pub const HOLD: u32 = 1;
+
+/// There is no such flag.
+pub const FLAGS: u32 = 1280 + 5;
+
+/// The session made 2 to the power of 63 writes or syncs.
 pub const WRITES: u32 = 1536 + 5;
 
 /// There is no process of that number.
@@ -65,6 +71,7 @@ pub struct XvfsStep {
     pub why: u32,
     pub wrote: u32,
     pub block: u32,
+    pub synced: u32,
     pub committed: u64,
 }
 
@@ -160,6 +167,17 @@ pub fn step_number(step: Step) -> (u32, u32)
         Step::NoMemory => (4, 0),
         Step::ShutDown => (5, 0),
         Step::Halted => (6, 0),
+    }
+}
+
+/// Whether a block was written, its number, and whether the disk was synced.
+pub fn told_number(told: Told) -> (u32, u32, u32)
+    ensures { result ≡ told_number told }
+{
+    match told {
+        Told::Nothing => (0, 0, 0),
+        Told::Wrote(block) => (1, block, 0),
+        Told::Synced => (0, 0, 1),
     }
 }
 

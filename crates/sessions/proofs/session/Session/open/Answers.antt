@@ -1,7 +1,10 @@
-use Rattle.std.proofs.Common.{rules, ◌/◌, length, inl, inr, subst, sym}
+use Rattle.std.proofs.Common.{rules, ◌/◌, ◌∙◌, ap, length, inl, inr, refl, subst, sym}
+use Rattle.inodes.specs.Store.{StoreState}
+use Rattle.sessions.specs.declared.disk.HostDisk.{HostDisk}
 use Rattle.sessions.specs.declared.refusal.OpenRefusal.{OpenRefusal}
 use Rattle.sessions.specs.Refusal.{IsRefusal, IsServed}
 use Rattle.sessions.proofs.Refusals.{refuses}
+use Rattle.sessions.proofs.Steps.{synced_leaves}
 use Rattle.sessions.proofs.session.Session.open.Goals as goal
 use Rattle.sessions.proofs.session.Session.open.Goals.{then-processes-eq0-via-then-processes-eq0, then-processes-eq0-via-else-processes-eq0+then-processes-gt32}
 
@@ -42,7 +45,16 @@ returns-in-Ok-open-clause-opened c = record {
   whole = search rules;
   blocks = c.in-Ok.ensures.image;
   unwritten = c.in-Ok.ensures.writes;
+  unsynced = c.in-Ok.ensures.syncs;
+  kind = c.in-Ok.ensures.holds;
+  holds_is = ap (λ (st : StoreState HostDisk). st.volume.device.holds) c.in-Ok-open.ensures.opened.store ∙ c.in-Ok-open.ensures.opened.name ∙ c.in-Ok.ensures.holds;
   opened = c.in-Ok-open.ensures.opened;
+}
+
+pub returns-in-Ok-open-clause-covered : goal.returns-in-Ok-open-clause-covered
+returns-in-Ok-open-clause-covered c = record {
+  shows = refl;
+  leaves = λ x is. synced_leaves c.in-Ok-open.kernel.store.volume.device x is;
 }
 
 pub returns-in-Err-clause-refused : goal.returns-in-Err-clause-refused
