@@ -29,8 +29,8 @@
  *    its type. Memory behind a pointer that is not `const` overlaps nothing else that is passed.
  *  - `malloc`, `realloc` and `free` of the program are one allocator's, and align a block to each
  *    power of two up to 16 that divides its size. They may answer NULL: the call then refuses.
- *    Only xvfs_mkfs, _check, _recover, _open, _submit, and a step that begins an operation take
- *    memory. (That no other step does is by test.)
+ *    Only xvfs_mkfs, _check, _recover, _recover_step, _open, _submit, and a step that begins an
+ *    operation take memory. (That no other step does is by test.)
  *  - Stack: 72 KiB for xvfs_open, 4 KiB for each other call, which a test measures.
  *  - The code is for x86-64-v2: it uses SSE registers, and the red zone of the System V ABI. A
  *    kernel that calls it has SSE enabled, saves its registers where it switches tasks, and takes
@@ -112,9 +112,33 @@ uint32_t xvfs_check(const uint8_t *image, size_t len, xvfs_report *out);
 uint32_t xvfs_mkfs(uint8_t *image, size_t len, uint32_t ninodes, uint32_t form);
 
 /* Copies the blocks of the log home and empties the log; `*recovered` is how many they were. On a
- * refusal nothing is changed. A host that carries this to a device writes each changed block but
- * block 2, flushes, writes block 2, flushes: a stop anywhere in it recovers to the same image. */
+ * refusal nothing is changed. For an image in memory; a host brings it to its device by the next. */
 uint32_t xvfs_recover(uint8_t *image, size_t len, uint32_t *recovered);
+
+/* What is to be done to a device: a write, or a flush, or neither. */
+typedef struct {
+    uint32_t wrote;    /* 1: write `bytes` to `block`; else 0 */
+    uint32_t block;    /* its number; else 0 */
+    uint32_t synced;   /* 1: flush; else 0 */
+} xvfs_told;
+
+/*
+ * Recovers a device, place by place from 0: tells what to do to the device that had `image`, in this
+ * order: the homes of the logged blocks, a flush, the empty header, a flush. Then it tells neither,
+ * and the device has the image that xvfs_recover makes. `image` is not changed, and is the same at
+ * each place; `bytes` has XVFS_BLOCK_SIZE bytes. Place 0 checks the image, and takes memory for it;
+ * another refuses only an unlawful log, or none (XVFS_RECOVER_LOG).
+ *
+ *     for (place = 0; !xvfs_recover_step(image, len, place, &told, bytes, sizeof bytes); place++)
+ *         if (told.wrote) write(told.block, bytes);
+ *         else if (told.synced) flush();
+ *         else break;
+ *
+ * Proved: whatever a stop amid it leaves, be it that the device loses any writes behind its last
+ * flush, recovers to the same image, by the same steps. On a refusal nothing is written.
+ */
+uint32_t xvfs_recover_step(const uint8_t *image, size_t len, uint32_t place, xvfs_told *out,
+                           uint8_t *bytes, size_t bytes_len);
 
 /* A flag of xvfs_open: steps tell syncs, and the device is flushed there alone. */
 #define XVFS_HOLD 1u

@@ -6,8 +6,9 @@
  * Four processes write records to files of their own. After each failure the host recovers what the
  * disk has and looks whether it is sound and has each record that was said to be kept.
  *
- * The host that flushes behind each write that a step told, and recovers in the order below, never
- * loses one. The host that leaves the flush out does, and this program shows both.
+ * The host that opens with XVFS_HOLD, flushes where a step tells a sync, and recovers as it is told,
+ * never loses one, by four flushes a commit. So does the host that opens without it and flushes behind
+ * each told write. The host that leaves these out does lose some. This program shows all three.
  *
  * usage: device [FAILURES [SEED]]
  */
@@ -40,7 +41,7 @@ static struct {
     uint32_t block;
     uint8_t bytes[XVFS_BLOCK_SIZE];
 } held[CACHE];
-static unsigned held_count;
+static unsigned held_count, flushes, writes_made;
 static uint32_t calls_left; /* until power fails */
 static int has_failed;
 
@@ -70,6 +71,7 @@ static int fails(void) {
 
 static void device_write(uint32_t block, const uint8_t *bytes) {
     if (fails()) return;
+    writes_made += 1;
     while (held_count == CACHE) {
         unsigned k = random_below(held_count);
         if (is_first_of_its_block(k)) end_held(k, 1);
@@ -81,6 +83,7 @@ static void device_write(uint32_t block, const uint8_t *bytes) {
 
 static void device_flush(void) {
     if (fails()) return;
+    flushes += 1;
     while (held_count) end_held(0, 1);
 }
 
@@ -91,7 +94,12 @@ struct process {
     uint64_t waits[MOST_RECORDS]; /* the group of each that was answered, 0 else */
 };
 static struct process processes[PROCESSES];
-static uint8_t image[BLOCKS * XVFS_BLOCK_SIZE], before[BLOCKS * XVFS_BLOCK_SIZE];
+static uint8_t image[BLOCKS * XVFS_BLOCK_SIZE];
+
+/* When a host flushes. */
+enum way { WHERE_TOLD, BEHIND_EACH_WRITE, NEVER };
+
+static uint32_t flags_of(enum way way) { return way == WHERE_TOLD ? XVFS_HOLD : 0; }
 
 static void must(int is_well, const char *what) {
     if (!is_well) {
@@ -104,34 +112,30 @@ static void fill(uint8_t *record, uint32_t process, unsigned number) {
     for (unsigned k = 0; k < RECORD_BYTES; k++) record[k] = (uint8_t)(process * 64 + number + k % 7);
 }
 
-/* Recovers what the disk has: every home, a flush, the empty header in block 2, a flush. Whether the
- * image is sound. Power may fail amid it. */
+/* Recovers what the disk has, as it is told. Whether the image is sound. Power may fail amid it. */
 static int recover(void) {
-    uint32_t recovered;
+    static uint8_t block[XVFS_BLOCK_SIZE];
+    xvfs_told told;
     memcpy(image, disk, sizeof image);
-    memcpy(before, disk, sizeof before);
-    if (xvfs_recover(image, sizeof image, &recovered) != XVFS_OK) return 0;
-    for (uint32_t b = BLOCKS; b-- > 0;)
-        if (b != 2 && memcmp(at(image, b), at(before, b), XVFS_BLOCK_SIZE))
-            device_write(b, at(image, b));
-    device_flush();
-    if (recovered) device_write(2, at(image, 2));
-    device_flush();
-    return 1;
+    for (uint32_t place = 0;; place++) {
+        if (xvfs_recover_step(image, sizeof image, place, &told, block, sizeof block) != XVFS_OK)
+            return 0;
+        if (told.wrote) device_write(told.block, block);
+        else if (told.synced) device_flush();
+        else return 1;
+    }
 }
 
 /* One step of a process, and what the host does with it. */
-static void step(xvfs *fs, uint32_t p, int flushes) {
+static void step(xvfs *fs, uint32_t p, enum way way) {
     static uint8_t block[XVFS_BLOCK_SIZE];
     struct process *process = &processes[p];
     xvfs_stepped stepped;
     xvfs_answer answer;
     must(xvfs_step(fs, p, &stepped, block, sizeof block) == XVFS_OK, "no step");
-    if (stepped.wrote) {
-        device_write(stepped.block, block);
-        if (flushes) device_flush();
-        if (has_failed) return;
-    }
+    if (stepped.wrote) device_write(stepped.block, block);
+    if (stepped.synced || (stepped.wrote && way == BEHIND_EACH_WRITE)) device_flush();
+    if (has_failed) return;
     while (xvfs_poll(fs, p, &answer, block, sizeof block) == XVFS_OK) {
         must(answer.reply == XVFS_WROTE && answer.value == RECORD_BYTES, "a record isn't written");
         process->waits[process->begun - 1] = answer.group;
@@ -192,7 +196,7 @@ static void make(void) {
     xvfs_op create = {XVFS_CREATE, 2, 0, 0};
     memset(image, 0, sizeof image);
     must(xvfs_mkfs(image, sizeof image, INODES, 1) == XVFS_OK, "no image");
-    must(xvfs_open(&fs, image, sizeof image, 1, &writes) == XVFS_OK, "not opened");
+    must(xvfs_open(&fs, image, sizeof image, 1, 0, &writes) == XVFS_OK, "not opened");
     memcpy(disk, image, sizeof disk);
     for (uint32_t p = 0; p < PROCESSES; p++) {
         static uint8_t block[XVFS_BLOCK_SIZE];
@@ -211,19 +215,20 @@ static void make(void) {
 }
 
 /* One life of the host, up to a failure of power. Whether nothing was lost and all is sound. */
-static int live(int flushes) {
+static int live(enum way way) {
     xvfs fs = XVFS_CLOSED_HANDLE;
     uint64_t writes;
     make();
     held_count = 0;
     has_failed = 0;
     calls_left = random_below(400);
-    must(xvfs_open(&fs, disk, sizeof disk, PROCESSES, &writes) == XVFS_OK && !writes, "not opened");
+    must(xvfs_open(&fs, disk, sizeof disk, PROCESSES, flags_of(way), &writes) == XVFS_OK && !writes,
+         "not opened");
     while (!has_failed) {
         uint32_t p = random_below(PROCESSES);
         struct process *it = &processes[p];
         if (it->begun < MOST_RECORDS && (!it->begun || it->waits[it->begun - 1])) hand_in(&fs, p);
-        step(&fs, p, flushes);
+        step(&fs, p, way);
         if (it->begun == MOST_RECORDS) calls_left = 0;
     }
     xvfs_close(&fs);
@@ -234,19 +239,43 @@ static int live(int flushes) {
         calls_left = random_below(2) ? random_below(12) : 1000;
         if (!recover()) return 0;
     } while (has_failed);
-    if (xvfs_open(&fs, disk, sizeof disk, 1, &writes) != XVFS_OK) return 0;
+    if (xvfs_open(&fs, disk, sizeof disk, 1, 0, &writes) != XVFS_OK) return 0;
     int is_well = has_kept(&fs);
     xvfs_close(&fs);
     return is_well;
 }
 
-int main(int argc, char **argv) {
-    unsigned failures = argc > 1 ? (unsigned)atoi(argv[1]) : 300, lost[2] = {0, 0};
-    for (int flushes = 1; flushes >= 0; flushes--) {
-        state = 88172645463325252u + (argc > 2 ? (uint64_t)atoi(argv[2]) : 0);
-        for (unsigned k = 0; k < failures; k++) lost[flushes] += !live(flushes);
+/* How often the host flushes for each of so many commits of one process, and how often it writes. */
+static void count_flushes(enum way way, unsigned commits) {
+    xvfs fs = XVFS_CLOSED_HANDLE;
+    uint64_t writes;
+    make();
+    held_count = flushes = writes_made = 0;
+    has_failed = 0;
+    calls_left = UINT32_MAX;
+    must(xvfs_open(&fs, disk, sizeof disk, 1, flags_of(way), &writes) == XVFS_OK, "not opened");
+    for (unsigned k = 0; k < commits; k++) {
+        hand_in(&fs, 0);
+        while (!processes[0].waits[k]) step(&fs, 0, way);
     }
-    printf("flushed behind each write: %u of %u failures of power lost something\n", lost[1], failures);
-    printf("not flushed: %s\n", lost[0] ? "some did" : "none did");
-    return lost[1] || !lost[0];
+    must(processes[0].kept == commits, "a commit isn't kept");
+    xvfs_close(&fs);
+}
+
+int main(int argc, char **argv) {
+    unsigned failures = argc > 1 ? (unsigned)atoi(argv[1]) : 300, lost[3] = {0, 0, 0};
+    for (int way = WHERE_TOLD; way <= NEVER; way++) {
+        state = 88172645463325252u + (argc > 2 ? (uint64_t)atoi(argv[2]) : 0);
+        for (unsigned k = 0; k < failures; k++) lost[way] += !live((enum way)way);
+    }
+    count_flushes(WHERE_TOLD, 20);
+    int is_well = flushes == 4 * 20;
+    printf("flushed where told: %u of %u failures of power lost something, %u flushes for 20 commits\n",
+           lost[WHERE_TOLD], failures, flushes);
+    count_flushes(BEHIND_EACH_WRITE, 20);
+    is_well &= flushes == writes_made;
+    printf("flushed behind each write: %u, %u flushes for 20 commits\n", lost[BEHIND_EACH_WRITE],
+           flushes);
+    printf("not flushed: %s\n", lost[NEVER] ? "some did" : "none did");
+    return !is_well || lost[WHERE_TOLD] || lost[BEHIND_EACH_WRITE] || !lost[NEVER];
 }

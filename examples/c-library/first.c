@@ -59,7 +59,7 @@ int main(void) {
     is_done("mkfs", xvfs_mkfs(device, BYTES, 32, 1));
     print_report("made");
 
-    is_done("open", xvfs_open(&fs, device, BYTES, 2, &writes));
+    is_done("open", xvfs_open(&fs, device, BYTES, 2, 0, &writes));
     xvfs_op create = {XVFS_CREATE, 2, 0, 0};
     is_done("submit", xvfs_submit(&fs, 0, &create, bytes, 0, &number));
     run(&fs, 0, 3);
@@ -69,7 +69,7 @@ int main(void) {
     printf("recovered %u\n", recovered);
     print_report("recovered");
 
-    is_done("open", xvfs_open(&fs, device, BYTES, 2, &writes));
+    is_done("open", xvfs_open(&fs, device, BYTES, 2, 0, &writes));
     xvfs_op write = {XVFS_WRITE, 1, 0, 0};
     is_done("submit", xvfs_submit(&fs, 1, &write, (const uint8_t *)"to be", 5, &number));
     run(&fs, 1, 0);

@@ -5,7 +5,8 @@
  * The disk is a file. Each block that a step tells is written to it before the next step, so at each
  * moment the file is the session's image of before or after a step, and the program can be killed
  * anywhere. (The system keeps what was written when a program is killed. Where the machine itself can
- * stop, device_flush has to call fdatasync.)
+ * stop, device_flush has to call fdatasync: four times a commit, since the session is opened with
+ * XVFS_HOLD.)
  *
  * A process is a thread. It leaves its operation at its place in a table, under the one lock, and
  * waits; the thread that booted the kernel makes all calls of the library, since a session stays on
@@ -51,7 +52,7 @@ struct ask {
 };
 
 static int device = -1;
-static uint8_t image[BLOCKS * XVFS_BLOCK_SIZE], before[BLOCKS * XVFS_BLOCK_SIZE];
+static uint8_t image[BLOCKS * XVFS_BLOCK_SIZE];
 static xvfs session = XVFS_CLOSED_HANDLE;
 static uint64_t committed; /* the groups that no stop loses, by what was written to the disk */
 
@@ -88,18 +89,19 @@ static void make_image(void) {
     device_flush();
 }
 
-/* Brings the last commit to its end: first each home, and then block 2, which empties the log. */
+/* Brings the last commit to its end, on the disk and in memory. */
 static void recover_image(void) {
+    static uint8_t block[XVFS_BLOCK_SIZE];
     uint32_t recovered;
-    memcpy(before, image, sizeof image);
-    must(xvfs_recover(image, sizeof image, &recovered) == XVFS_OK, "the image isn't sound");
-    for (uint32_t b = 0; b < BLOCKS; b++) {
-        size_t at = b * XVFS_BLOCK_SIZE;
-        if (b != 2 && memcmp(image + at, before + at, XVFS_BLOCK_SIZE)) device_write(b, image + at);
+    xvfs_told told;
+    for (uint32_t place = 0;; place++) {
+        must(xvfs_recover_step(image, sizeof image, place, &told, block, sizeof block) == XVFS_OK,
+             "the image isn't sound");
+        if (told.wrote) device_write(told.block, block);
+        else if (told.synced) device_flush();
+        else break;
     }
-    device_flush();
-    if (recovered) device_write(2, image + 2 * XVFS_BLOCK_SIZE);
-    device_flush();
+    must(xvfs_recover(image, sizeof image, &recovered) == XVFS_OK, "the image isn't sound");
 }
 
 /* Operations. */
@@ -110,10 +112,8 @@ static void step(uint32_t process) {
     struct ask *ask = &asks[process];
     xvfs_stepped stepped;
     must(xvfs_step(&session, process, &stepped, block, sizeof block) == XVFS_OK, "no step");
-    if (stepped.wrote) {
-        device_write(stepped.block, block);
-        device_flush();
-    }
+    if (stepped.wrote) device_write(stepped.block, block);
+    if (stepped.synced) device_flush();
     committed = stepped.committed;
     if (stepped.step != XVFS_ANSWERED) return;
     must(xvfs_poll(&session, process, &ask->answer, (uint8_t *)ask->into, ask->into_size) == XVFS_OK,
@@ -306,8 +306,9 @@ void kernel_boot(const char *disk) {
     if (size < (ssize_t)sizeof image ||
         xvfs_check(image, sizeof image, &report) == XVFS_BAD_MAGIC) make_image();
     recover_image();
-    must(xvfs_open(&session, image, sizeof image, PROCESSES, &writes) == XVFS_OK && writes == 0,
+    must(xvfs_open(&session, image, sizeof image, PROCESSES, XVFS_HOLD, &writes) == XVFS_OK,
          "the image isn't opened");
+    must(writes == 0, "the image wasn't recovered");
     committed = 0;
     tidy_up();
 }

@@ -250,7 +250,7 @@ static void run(uint64_t seed) {
     if (refused) fail("mkfs", refused);
     for (uint32_t p = 0; p < process_count; p++)
         for (unsigned k = 1 + below(MOST_OPS - 1); k > 0; k--) make_op(p);
-    do refused = xvfs_open(&fs, device, device_size, process_count, &opening);
+    do refused = xvfs_open(&fs, device, device_size, process_count, 0, &opening);
     while (refused == XVFS_OPEN_MEMORY || refused == XVFS_CHECK_MEMORY);
     if (refused || opening) fail("open", refused);
     unsigned most = MOST_TURNS, shut_at = below(4) ? MOST_TURNS : below(200), turns = 0;
@@ -343,7 +343,7 @@ static void expect_fault(const char *name, uint32_t wanted, uint32_t at) {
     expect(name, wanted, report.fault);
     if (report.at != at) fail("a fault is at", report.at);
     expect(name, wanted, xvfs_recover(device, device_size, &recovered));
-    expect(name, wanted, xvfs_open(&fs, device, device_size, 1, &opening));
+    expect(name, wanted, xvfs_open(&fs, device, device_size, 1, 0, &opening));
     make();
 }
 #define EXPECT_FAULT(name, at) expect_fault(#name, name, at)
@@ -373,13 +373,13 @@ static void see_calls(void) {
     EXPECT(XVFS_FILE_LENGTH, xvfs_check(device, 1023, &report));
     EXPECT(XVFS_FILE_LENGTH, xvfs_mkfs(device, 0, 32, 1));
     EXPECT(XVFS_FILE_LENGTH, xvfs_recover(device, 1025, &recovered));
-    EXPECT(XVFS_FILE_LENGTH, xvfs_open(&fs, device, 0, 1, &n));
+    EXPECT(XVFS_FILE_LENGTH, xvfs_open(&fs, device, 0, 1, 0, &n));
     EXPECT(XVFS_MKFS_SIZE, xvfs_mkfs(device, 37 * XVFS_BLOCK_SIZE, 32, 1));
     EXPECT(XVFS_MKFS_INODES, xvfs_mkfs(device, device_size, 1, 1));
-    EXPECT(XVFS_OPEN_PROCESSES, xvfs_open(&fs, device, device_size, 33, &n));
+    EXPECT(XVFS_OPEN_PROCESSES, xvfs_open(&fs, device, device_size, 33, 0, &n));
     EXPECT(XVFS_CLOSED, xvfs_try_step(&fs, 0, &stepped, block, sizeof block));
-    EXPECT(XVFS_OK, xvfs_try_open(&fs, device, device_size, 1, &n));
-    EXPECT(XVFS_OPEN, xvfs_try_open(&fs, device, device_size, 1, &n));
+    EXPECT(XVFS_OK, xvfs_try_open(&fs, device, device_size, 1, 0, &n));
+    EXPECT(XVFS_OPEN, xvfs_try_open(&fs, device, device_size, 1, 0, &n));
     EXPECT(XVFS_NO_PROCESS, xvfs_submit(&fs, 1, &stat, bytes, 0, &n));
     EXPECT(XVFS_NO_OPERATION, xvfs_submit(&fs, 0, &none, bytes, 0, &n));
     EXPECT(XVFS_NO_OPERATION, xvfs_submit(&fs, 0, &large, bytes, 0, &n));
@@ -407,8 +407,8 @@ static void see_memory(void) {
     REFUSED(XVFS_CHECK_MEMORY, xvfs_check(device, device_size, &report));
     REFUSED(XVFS_MKFS_MEMORY, xvfs_mkfs(device, device_size, 32, 1));
     REFUSED(XVFS_RECOVER_MEMORY, xvfs_recover(device, device_size, &recovered));
-    REFUSED(XVFS_OPEN_MEMORY, xvfs_open(&fs, device, device_size, 1, &n));
-    EXPECT(XVFS_OK, xvfs_open(&fs, device, device_size, 1, &n));
+    REFUSED(XVFS_OPEN_MEMORY, xvfs_open(&fs, device, device_size, 1, 0, &n));
+    EXPECT(XVFS_OK, xvfs_open(&fs, device, device_size, 1, 0, &n));
     REFUSED(XVFS_SUBMIT_MEMORY, xvfs_submit(&fs, 0, &write, bytes, 100, &n));
     EXPECT(XVFS_OK, xvfs_submit(&fs, 0, &write, bytes, 100, &n));
     REFUSED(XVFS_OK, xvfs_step(&fs, 0, &stepped, block, sizeof block));

@@ -67,7 +67,7 @@ static void recover(void) {
 
 static void open_it(void) {
     uint64_t writes;
-    must(xvfs_open(&fs, image, sizeof image, 32, &writes) == XVFS_OK, "open");
+    must(xvfs_open(&fs, image, sizeof image, 32, XVFS_HOLD, &writes) == XVFS_OK, "open");
 }
 
 static void submit(void) {

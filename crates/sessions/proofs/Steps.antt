@@ -21,6 +21,7 @@ use Rattle.ports.specs.declared.queues.QueueIntake.{QueueIntake}
 use Rattle.sessions.proofs.Calls.{mix_put}
 use Rattle.sessions.specs.Held.{IsMix, LeftSince, MayLeave, WereWhole, since_sync}
 use Rattle.sessions.specs.Lemmas.Held.{left_now, now_left, only_left}
+use Rattle.sessions.specs.Lemmas.Ledgers.{applied_push, held_push}
 use Rattle.sessions.specs.Track.{Call, moment_of}
 use Rattle.sessions.specs.contracts.disk.HostDiskDisk.TheImpl.{ghosts}
 use Rattle.sessions.specs.declared.disk.HostDisk.{HostDisk}
@@ -148,12 +149,6 @@ near_left y ((z, false) ∷ cs) t x were near (inr was) =
     let size : length z ≡ length y = (were 0 (omega arith)).size_is in
     record { size = mix.size ∙ size; each = λ b. inr (mix.each b) }
 
-held_push : (synced : Image) (held : List Write) (write : Write) (x : Image) → HeldImages synced (held ++ write ∷ []) x → (y : Image) × HeldImages synced held y × IsOldOrNew y write.0 write.1 x
-held_push synced [] write x (inl is) = (synced, refl, inl is)
-held_push synced [] write x (inr is) = (synced, refl, inr is)
-held_push synced (w ∷ held) write x (inl without) = let r = held_push synced held write x without in (r.0, inl r.1, r.2)
-held_push synced (w ∷ held) write x (inr with_it) = let r = held_push (set synced w.0 w.1) held write x with_it in (r.0, inr r.1, r.2)
-
 abbrev left_by : HostDisk → ℕ → Image → Type 0
 left_by d = LeftSince d.holds d.copy.blocks.items d.track
 
@@ -183,10 +178,6 @@ module _ (d e : HostDisk) (holds : d.holds ≡ true) (kind : e.holds ≡ d.holds
 
 pub synced_leaves : (e : HostDisk) (x : Image) → x ≡ e.copy.blocks.items → left_by e (moment_of e.track) x
 synced_leaves e x is = subst (left_by e (moment_of e.track)) (sym is) (left_now e.holds e.copy.blocks.items e.track)
-
-applied_push : (synced : Image) (held : List Write) (write : Write) → applied synced (held ++ write ∷ []) ≡ set (applied synced held) write.0 write.1
-applied_push synced [] write = refl
-applied_push synced (w ∷ held) write = applied_push (set synced w.0 w.1) held write
 
 -- A step between two sessions, whose disks they are.
 module _ (s t : Session) (holds : holds_of s ≡ true) (kind : holds_of t ≡ holds_of s) (time : Elapses (moment_of (disk_of s).track) (moment_of (disk_of t).track) (left_by (disk_of s)) (left_by (disk_of t)))

@@ -1,6 +1,6 @@
 -- The blocks of an image, laid one after the other and cut again.
 use Rattle.std.proofs.Common.{◌≡◌, ◌∙◌, ℕ, zero, suc, ◌+◌, ◌*◌, ◌<◌, ◌≤◌, List, [], ◌∷◌, ◌++◌, length, take, drop, refl, sym, ap, arith, length-append, append_assoc, append-nil, drop-drop}
-use Rattle.std.proofs.lemmas.List.{drop_all, take_all, take_more}
+use Rattle.std.proofs.lemmas.List.{drop_all, length-drop, length-take-le, take_all, take_more}
 use Rattle.std.proofs.Math.Seq.{drop-append_seam, take-append_seam}
 use Rattle.std.specs.List.{concat}
 use Rattle.std.specs.Simd.{first_chunks}
@@ -62,3 +62,9 @@ first_chunks-concat (y ∷ x) is =
 pub length-first_chunks : (n : ℕ) (bytes : List ℕ) → length (first_chunks 1024 n bytes) ≡ n
 length-first_chunks zero bytes = refl
 length-first_chunks (suc n) bytes = ap suc (length-first_chunks n (drop 1024 bytes))
+
+-- each block that whole bytes are cut into has its size
+pub chunk_size : (k : ℕ) (bytes : List ℕ) (b : ℕ) → length bytes ≡ k * 1024 → b < k → length (block_at (first_chunks 1024 k bytes) b) ≡ 1024
+chunk_size zero bytes b whole lt = absurd (omega (arith, lt))
+chunk_size (suc k) bytes zero whole lt = length-take-le 1024 bytes (omega (arith, whole))
+chunk_size (suc k) bytes (suc b) whole lt = chunk_size k (drop 1024 bytes) b (omega (arith, whole, length-drop 1024 bytes)) (omega (arith, lt))

@@ -19,7 +19,7 @@ use std::alloc::Global;
 use wal::recover;
 
 // How many blocks these bytes are, from 1 to 8191.
-fn blocks_of(image: &[u8]) -> Option<u32>
+pub fn blocks_of(image: &[u8]) -> Option<u32>
     ensures some { IfSome result (HasBlocks image.now) }
     ensures none { IfNone result (IsNoImage image.now) }
 {
@@ -49,7 +49,7 @@ fn store(disk: &MemDisk, image: &mut [u8])
 }
 
 // Checks these blocks.
-fn check_bytes(alloc: Global, image: &[u8], count: u32) -> Result<Report, CheckFault>
+pub fn check_bytes(alloc: Global, image: &[u8], count: u32) -> Result<Report, CheckFault>
     requires { HasBlocks image.now count }
     ensures sound { IfOk result (λ report. verdict (first_chunks 1024 count image.now) ≡ None) }
     ensures report { IfOk result (IsReportOf (first_chunks 1024 count image.now)) }

@@ -24,6 +24,9 @@ pub const WRITES: u32 = 1536 + 5;
 /// There is no process of that number.
 pub const PROCESS: u32 = 1536 + 1;
 
+/// The log is not lawful, or there is no room for one.
+pub const LOG: u32 = 1024 + 2;
+
 /// The block that is to be filled has not 1024 bytes.
 pub const BLOCK: u32 = 1536 + 4;
 
@@ -51,6 +54,15 @@ pub struct XvfsReport {
     pub ninodes: u32,
     pub logged: u32,
     pub files: u32,
+}
+
+/// What is done to a device: a block is written, or all is synced.
+#[repr(C)]
+#[derive(Clone, Copy)]
+pub struct XvfsTold {
+    pub wrote: u32,
+    pub block: u32,
+    pub synced: u32,
 }
 
 /// An operation. The bytes of a write are passed beside it.

@@ -1,7 +1,9 @@
 //! Safe calls of libxvfs.a, the lower storey of the xv6 file system, over an image in memory.
 //!
 //! A `Session` holds a copy of an image. Each step tells the block that it wrote, and the caller
-//! writes it to a device before the next step; xvfs.h says what else the caller owes.
+//! writes it to a device before the next step; xvfs.h says what else the caller owes. A device that
+//! holds writes back is flushed behind each told write, or, by `Session::open_holding`, at the told
+//! syncs alone.
 mod raw;
 
 use std::fmt;
@@ -91,6 +93,66 @@ pub fn recover(image: &mut [u8]) -> Result<u32, Refusal> {
     Ok(recovered)
 }
 
+/// What is to be done to a device.
+#[derive(Clone, Copy, Debug, PartialEq, Eq)]
+pub enum Told<'a> {
+    Nothing,
+    /// Write these bytes to the block of this number.
+    Write(u32, &'a [u8; BLOCK_SIZE]),
+    /// Flush it.
+    Sync,
+}
+
+impl<'a> Told<'a> {
+    fn of(wrote: u32, block: u32, synced: u32, bytes: &'a [u8; BLOCK_SIZE]) -> Told<'a> {
+        match (wrote, synced) {
+            (1, _) => Told::Write(block, bytes),
+            (_, 1) => Told::Sync,
+            _ => Told::Nothing,
+        }
+    }
+}
+
+/// The recovery of a device, write by write and flush by flush. A stop anywhere in it is recovered
+/// to the same image.
+pub struct Recovery<'a> {
+    found: &'a [u8],
+    place: u32,
+    block: Box<[u8; BLOCK_SIZE]>,
+}
+
+impl<'a> Recovery<'a> {
+    /// Of the device that has this image.
+    pub fn of(found: &'a [u8]) -> Recovery<'a> {
+        Recovery {
+            found,
+            place: 0,
+            block: Box::new([0; BLOCK_SIZE]),
+        }
+    }
+
+    /// What is to be done next; `Nothing` at the end, when the device has the recovered image. The
+    /// first call checks the image.
+    pub fn step(&mut self) -> Result<Told<'_>, Refusal> {
+        let mut out = raw::Told::default();
+        // SAFETY: pointer and length are of one slice; `out` and `block` are lent for the call, and
+        // `block` has that many bytes.
+        let number = unsafe {
+            raw::xvfs_recover_step(
+                self.found.as_ptr(),
+                self.found.len(),
+                self.place,
+                &mut out,
+                self.block.as_mut_ptr(),
+                BLOCK_SIZE,
+            )
+        };
+        outcome(number, 0)?;
+        self.place = self.place.saturating_add(1);
+        Ok(Told::of(out.wrote, out.block, out.synced, &self.block))
+    }
+}
+
 /// An operation, by inode number.
 #[derive(Clone, Copy, Debug, PartialEq, Eq)]
 pub enum Op<'a> {
@@ -173,12 +235,12 @@ pub enum Step {
     ShutDown,
 }
 
-/// What a step did, and the block that it wrote: its number, and the bytes that it has now.
+/// What a step did, and what is to be done to the device.
 #[derive(Debug)]
 pub struct Stepped<'a> {
     pub step: Step,
-    pub wrote: Option<(u32, &'a [u8; BLOCK_SIZE])>,
-    /// The groups that a stop keeps, once that block is on the device.
+    pub told: Told<'a>,
+    /// The groups that a stop keeps, once that is done.
     pub committed: u64,
 }
 
@@ -230,6 +292,16 @@ impl Session {
     /// Opens 1 to 32 processes over a copy of an image, which is checked and recovered. Answers the
     /// writes of that recovery, too: 0 where the log of these bytes is empty.
     pub fn open(image: &[u8], processes: u32) -> Result<(Session, u64), Refusal> {
+        Session::open_with(image, processes, 0)
+    }
+
+    /// As `open`, for a device that holds writes back: steps tell when it is to be flushed, four
+    /// times a commit, and it need not be flushed behind each write.
+    pub fn open_holding(image: &[u8], processes: u32) -> Result<(Session, u64), Refusal> {
+        Session::open_with(image, processes, raw::HOLD)
+    }
+
+    fn open_with(image: &[u8], processes: u32, flags: u32) -> Result<(Session, u64), Refusal> {
         let mut raw = raw::Handle {
             session: ptr::null_mut(),
         };
@@ -241,6 +313,7 @@ impl Session {
                 image.as_ptr(),
                 image.len(),
                 processes,
+                flags,
                 &mut writes,
             )
         };
@@ -292,19 +365,17 @@ impl Session {
         Ok(seq)
     }
 
-    /// One step of a process. The block that it tells is to be written to the device, whole or not at
-    /// all, before the next step.
+    /// One step of a process. What it tells is to be done to the device before the next step, a write
+    /// whole or not at all.
     pub fn step(&mut self, pid: u32) -> Result<Stepped<'_>, Refusal> {
         let mut out = raw::Stepped::default();
         let block = self.block.as_mut_ptr();
         // SAFETY: the handle is open; `block` has that many bytes and is this session's own.
         let number = unsafe { raw::xvfs_step(&mut self.raw, pid, &mut out, block, BLOCK_SIZE) };
         outcome(number, 0)?;
-        let wrote = (out.wrote == 1).then_some((out.block, &*self.block));
-        let step = step_of(out.step, out.why);
         Ok(Stepped {
-            step,
-            wrote,
+            step: step_of(out.step, out.why),
+            told: Told::of(out.wrote, out.block, out.synced, &self.block),
             committed: out.committed,
         })
     }

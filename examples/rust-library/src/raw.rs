@@ -32,8 +32,19 @@ pub struct Stepped {
     pub why: u32,
     pub wrote: u32,
     pub block: u32,
+    pub synced: u32,
     pub committed: u64,
 }
+
+#[repr(C)]
+#[derive(Default)]
+pub struct Told {
+    pub wrote: u32,
+    pub block: u32,
+    pub synced: u32,
+}
+
+pub const HOLD: u32 = 1;
 
 #[repr(C)]
 #[derive(Default)]
@@ -50,11 +61,20 @@ extern "C" {
     pub fn xvfs_check(image: *const u8, len: usize, out: *mut Report) -> u32;
     pub fn xvfs_mkfs(image: *mut u8, len: usize, ninodes: u32, form: u32) -> u32;
     pub fn xvfs_recover(image: *mut u8, len: usize, recovered: *mut u32) -> u32;
+    pub fn xvfs_recover_step(
+        image: *const u8,
+        len: usize,
+        place: u32,
+        out: *mut Told,
+        bytes: *mut u8,
+        bytes_len: usize,
+    ) -> u32;
     pub fn xvfs_open(
         fs: *mut Handle,
         image: *const u8,
         len: usize,
         processes: u32,
+        flags: u32,
         writes: *mut u64,
     ) -> u32;
     pub fn xvfs_submit(

@@ -1,5 +1,7 @@
 //! A device in memory to which each told write is carried, stopped before each of them.
-use xvfs::{check, mkfs, recover, Answer, Op, Refusal, Reply, Session, Step, BLOCK_SIZE};
+use xvfs::{
+    check, mkfs, recover, Answer, Op, Recovery, Refusal, Reply, Session, Step, Told, BLOCK_SIZE,
+};
 
 const BLOCKS: usize = 200;
 
@@ -9,19 +11,23 @@ fn new_device() -> Vec<u8> {
     device
 }
 
+fn put(device: &mut [u8], block: u32, bytes: &[u8; BLOCK_SIZE]) {
+    let at = block as usize * BLOCK_SIZE;
+    device[at..at + BLOCK_SIZE].copy_from_slice(bytes);
+}
+
 /// Steps a process up to its answer and carries each write to the device, but not the one of number
 /// `stop`, from 1. `None` where it was stopped.
 fn run(session: &mut Session, device: &mut [u8], pid: u32, stop: usize) -> Option<Answer> {
     let mut writes = 0;
     loop {
         let stepped = session.step(pid).expect("a step");
-        if let Some((block, bytes)) = stepped.wrote {
+        if let Told::Write(block, bytes) = stepped.told {
             writes += 1;
             if writes == stop {
                 return None;
             }
-            let at = block as usize * BLOCK_SIZE;
-            device[at..at + BLOCK_SIZE].copy_from_slice(bytes);
+            put(device, block, bytes);
         }
         if stepped.step == Step::Answered {
             return session.poll(pid);
@@ -89,6 +95,55 @@ fn each_stop_keeps_whole_operations() {
         assert_eq!(recover(&mut device), Ok(logged));
         assert_eq!(check(&device).expect("it is sound").files, logged);
     }
+}
+
+#[test]
+fn tells_when_to_flush() {
+    let device = new_device();
+    let (mut session, _) = Session::open_holding(&device, 1).expect("a session");
+    session.submit(0, Op::Create { kind: 2 }).expect("room");
+    let mut told = Vec::new();
+    loop {
+        let stepped = session.step(0).expect("a step");
+        match stepped.told {
+            Told::Nothing => {}
+            Told::Write(block, _) => told.push(Some(block)),
+            Told::Sync => told.push(None),
+        }
+        if stepped.step == Step::Answered {
+            break;
+        }
+    }
+    // A log block, the header, the inode's home, the empty header.
+    let (log, header, home) = (Some(3), Some(2), Some(33));
+    assert_eq!(told, [log, None, header, None, home, None, header, None]);
+}
+
+#[test]
+fn recovers_a_device_step_by_step() {
+    let mut device = new_device();
+    let (mut session, _) = Session::open(&device, 1).expect("a session");
+    session.submit(0, Op::Create { kind: 2 }).expect("room");
+    assert_eq!(run(&mut session, &mut device, 0, 3), None);
+    let found = device.clone();
+    let mut whole = found.clone();
+    assert_eq!(recover(&mut whole), Ok(1));
+    let mut recovery = Recovery::of(&found);
+    let mut flushes = 0;
+    loop {
+        match recovery.step().expect("a sound image") {
+            Told::Write(block, bytes) => put(&mut device, block, bytes),
+            Told::Sync => flushes += 1,
+            Told::Nothing => break,
+        }
+        // Wherever it stops, it is recovered to the same.
+        let mut left = device.clone();
+        recover(&mut left).expect("a sound image");
+        assert_eq!(left, whole);
+    }
+    assert_eq!(device, whole);
+    assert_eq!(flushes, 2);
+    assert!(Recovery::of(&found[1..]).step().is_err());
 }
 
 #[test]
