@@ -3,4 +3,5 @@ pub mod Digits
 pub mod Telling
 pub mod Output
 pub mod Events
+pub mod Deeds
 pub mod Lemmas

@@ -7,6 +7,7 @@
 #![tactic(auto)]
 
 mod answers;
+mod deeds;
 mod events;
 mod faults;
 mod hex_digits;
@@ -16,6 +17,7 @@ mod output;
 mod printed;
 mod told;
 
+pub use deeds::{Detail, StepNote, print_notes, role_of};
 pub use events::Event;
 pub use lines::{AccountLine, AnswerLine};
 pub use meter::{Meter, Silent};
