@@ -49,6 +49,35 @@ tells form files new i reply h =
     let told = told_by files new i (file_in files i) reply refl h in
     record { same = told.0; kind = told.1 }
 
+pub record TellsFile (files new : Files) (file : File) (reply : Reply) : Type 0 where
+  pub same : new ≡ files
+  pub kind : ℕ
+  pub size : ℕ
+  pub is : reply ≡ StatOf kind size
+  pub kind_is : kind ≡ file.kind
+  pub size_is : size ≡ length file.bytes
+
+stat_only : (files new : Files) (i : ℕ) (file : File) (j : ℕ) (reply : Reply) → after_on files i file (Stat j) reply ≡ Some new → TellsFile files new file reply
+stat_only files new i file j (StatOf kind size) h =
+    let both = where_true_some (eqb kind file.kind && eqb size (length file.bytes)) files new h in
+    let parts = and_parts (eqb kind file.kind) (eqb size (length file.bytes)) both.0 in
+    record {
+      same = both.1;
+      kind = kind;
+      size = size;
+      is = refl;
+      kind_is = eqb-true kind file.kind parts.0;
+      size_is = eqb-true size (length file.bytes) parts.1;
+    }
+stat_only files new i file j reply h = absurd (cc h)
+
+-- a look at a file that is there tells its type and its length
+pub tells_file : (form : Form) (files new : Files) (i : ℕ) (file : File) (reply : Reply) → file_in files i ≡ Some file →
+    after form files (Stat i) reply ≡ Some new → TellsFile files new file reply
+tells_file form files new i file reply is h =
+    let done = done_where form files new (Stat i) reply (ap no_file_refusal is) h in
+    stat_only files new i file i reply (subst (λ (o : Option File). after_at files i o (Stat i) reply ≡ Some new) is done)
+
 read_only : (files new : Files) (i : ℕ) (file : File) (j off n : ℕ) (reply : Reply) → after_on files i file (Read j off n) reply ≡ Some new →
     (new ≡ files) × (reply ≡ Bytes (part_of file.bytes off n))
 read_only files new i file j off n (Bytes bytes) h =

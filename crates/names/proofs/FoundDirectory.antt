@@ -8,7 +8,7 @@ use Rattle.names.specs.Entries.{entries_of, is_for, name_in, number_in}
 use Rattle.names.specs.Trees.{directory_in, IsDirectory, IsDirectoryOf, IsFile, IsTree, StepsDown}
 use Rattle.names.proofs.EntryBytes.{name_of_entry}
 use Rattle.names.proofs.EntryPaths.{entry_of_step, for_its_name, step_of_entry}
-use Rattle.names.proofs.Found.{found_directory}
+use Rattle.names.proofs.FoundFiles.{found_directory}
 use Rattle.names.proofs.FoundNext.{at_last, found_more, is_behind, name_later}
 use Rattle.names.proofs.NumbersDown.{apart_entries, apart_parts, apart_right, from_down, in_down, one_entry, StandsIn}
 use Rattle.names.proofs.TreeBy.{directory_is_file, tree_makes_steps}

@@ -1,6 +1,6 @@
 -- Calls of a transaction, one after the other.
-use Rattle.std.proofs.Common.{◌≡◌, ℕ, ◌+◌, ◌≤◌, ◌^◌, List, [], length, Option, Some, sym, ap, subst, ◌∙◌, inl, inr, ⊎_elim, arith}
-use Rattle.std.specs.Prelude.{unwrap_or}
+use Rattle.std.proofs.Common.{◌≡◌, ℕ, ◌+◌, ◌≤◌, ◌^◌, List, [], length, Option, Some, refl, sym, ap, subst, ◌∙◌, inl, inr, ⊎_elim, arith}
+use Rattle.std.specs.Prelude.{⊤, unwrap_or}
 use Rattle.blocks.specs.Disk.{Image, LeavesOnly, Rose}
 use Rattle.blocks.specs.Lemmas.Moments.{joined}
 use Rattle.blocks.specs.declared.disk.Disk.{Ghosts}
@@ -8,17 +8,18 @@ use Rattle.model.specs.Files.{Files, files_of}
 use Rattle.model.specs.declared.types.operations.Op.{Op}
 use Rattle.model.specs.declared.types.operations.Reply.{Reply}
 use Rattle.calls.specs.Calls.{call_count, faults_on, image_on}
+use Rattle.calls.specs.Files.{IsFull}
 use Rattle.calls.specs.Lemmas.Both.{keeps_nothing}
 use Rattle.calls.specs.Stepping.{Plain}
-use Rattle.calls.specs.Transactions.{Adds, Begins, Commits, HasFiles, IsInside, IsUnbegun, IsUncalled, IsUncommitted, KeepsEither, KeepsFiles, Rests, labels_made}
+use Rattle.calls.specs.Transactions.{Adds, Begins, Commits, HasFiles, IsInside, IsUnbegun, IsUncalled, IsUncommitted, KeepsEither, KeepsFiles, Rests, image_seen, labels_made}
 use Rattle.names.specs.Ready.{EndsOn, HasBegun, HasCommitted}
 use Rattle.names.specs.Trees.{IsTree}
 use Rattle.model.specs.declared.types.operations.Entry.{Entry}
 use Rattle.calls.specs.declared.transactions.fault.TransactionFault.{TransactionFault}
 use Rattle.calls.specs.declared.transactions.fault.TransactionFault.TheVariants as fault
 use Rattle.names.specs.declared.refusal.TreeFault.{TreeFault}
-use Rattle.names.specs.declared.refusal.TreeFault.TheVariants.{Path, Refused, Call, NoCall}
-use Rattle.names.specs.Inside.{files_seen, Answers, Ends, Goes, IsBroken, IsUnderWay, StaysOn}
+use Rattle.names.specs.declared.refusal.TreeFault.TheVariants.{Path, Refused, Call, NoSpace, NoCall}
+use Rattle.names.specs.Inside.{files_seen, Answers, Ends, EndsOr, Goes, HasCause, IsBroken, IsBrokenOr, IsUnderWay, StaysOn}
 
 module _ {D N : Type 0} (disk : Ghosts D N) where
   -- a transaction sees the files that its kernel has
@@ -48,6 +49,13 @@ module _ {D N : Type 0} (disk : Ghosts D N) where
       let made = adds.files (files_seen disk.image k) way.files in
       made.1 ∙ ap (λ (f : Files). Some f) (sym (seen m made.0 made.2))
 
+  pub call_cause : (op : Op) (k m : Plain D) (reply : Reply) (left : ℕ) → IsUnderWay disk k left → Adds disk.image op k m reply → HasCause disk.image op k m reply
+  call_cause op k m reply left way adds = record {
+    lowest = adds.lowest (files_seen disk.image k) way.files;
+    none = adds.none (files_seen disk.image k) way.files;
+    short = adds.short;
+  }
+
   -- what a stop leaves
   pub stays_here : (k : Plain D) → StaysOn disk k k
   stays_here k = record { on = λ o same so_far. so_far }
@@ -73,18 +81,47 @@ module _ {D N : Type 0} (disk : Ghosts D N) where
   pub same_faults : (k a : Plain D) (left less : ℕ) → IsUnderWay disk k left → Goes disk k a less → faults_on disk.fault_count a ≡ faults_on disk.fault_count k
   same_faults k a left less way goes = goes.way.inside.pair.faultless ∙ ap disk.fault_count goes.opening ∙ sym way.inside.pair.faultless
 
-  pub broken_on : (k a m : Plain D) (cause : TreeFault) → image_on disk.image a ≡ image_on disk.image k → faults_on disk.fault_count a ≡ faults_on disk.fault_count k →
-      IsBroken disk a m cause → IsBroken disk k m cause
-  broken_on k a m (Path cause) same faults why = why
-  broken_on k a m (Refused cause) same faults why = why
-  broken_on k a m (Call (fault.Disk cause)) same faults why = record { is = why.is; rose = subst (λ (n : ℕ). Rose n (faults_on disk.fault_count m)) faults why.rose }
-  broken_on k a m (Call fault.NoMemory) same faults why = record { image = why.image ∙ same; faults = why.faults ∙ faults }
-  broken_on k a m (Call fault.NoRoom) same faults why = record { image = why.image ∙ same; faults = why.faults ∙ faults }
-  broken_on k a m NoCall same faults why = record { image = why.image ∙ same; faults = why.faults ∙ faults }
+  pub broken_on : (fills : Type 0) (k a m : Plain D) (cause : TreeFault) → image_on disk.image a ≡ image_on disk.image k →
+      faults_on disk.fault_count a ≡ faults_on disk.fault_count k → IsBrokenOr fills disk a m cause → IsBrokenOr fills disk k m cause
+  broken_on fills k a m (Path cause) same faults why = why
+  broken_on fills k a m (Refused cause) same faults why = why
+  broken_on fills k a m (Call (fault.Disk cause)) same faults why = record { is = why.is; rose = subst (λ (n : ℕ). Rose n (faults_on disk.fault_count m)) faults why.rose }
+  broken_on fills k a m (Call fault.NoMemory) same faults why = record { image = why.image ∙ same; faults = why.faults ∙ faults }
+  broken_on fills k a m (Call fault.NoRoom) same faults why = record { image = why.image ∙ same; faults = why.faults ∙ faults }
+  broken_on fills k a m NoSpace same faults why = (why.0, record { image = why.1.image ∙ same; faults = why.1.faults ∙ faults }, why.2)
+  broken_on fills k a m NoCall same faults why = record { image = why.image ∙ same; faults = why.faults ∙ faults }
+
+  pub ends_or : (fills : Type 0) (k a m : Plain D) (left less none : ℕ) (cause : TreeFault) → IsUnderWay disk k left → Goes disk k a less →
+      EndsOr fills disk a m none cause → EndsOr fills disk k m none cause
+  ends_or fills k a m left less none cause way goes ends = record {
+    none = ends.none;
+    broken = broken_on fills k a m cause goes.same (same_faults k a left less way goes) ends.broken;
+  }
 
   pub ends_on : (k a m : Plain D) (left less none : ℕ) (cause : TreeFault) → IsUnderWay disk k left → Goes disk k a less → Ends disk a m none cause →
       Ends disk k m none cause
-  ends_on k a m left less none cause way goes ends = record { none = ends.none; broken = broken_on k a m cause goes.same (same_faults k a left less way goes) ends.broken }
+  ends_on k a m left less none cause way goes ends = ends_or ⊥ k a m left less none cause way goes ends
+
+  -- where the disk may be filled, it need not be
+  pub broken_in : (fills : Type 0) (k m : Plain D) (cause : TreeFault) → IsBroken disk k m cause → IsBrokenOr fills disk k m cause
+  broken_in fills k m (Path cause) why = why
+  broken_in fills k m (Refused cause) why = why
+  broken_in fills k m (Call (fault.Disk cause)) why = why
+  broken_in fills k m (Call fault.NoMemory) why = why
+  broken_in fills k m (Call fault.NoRoom) why = why
+  broken_in fills k m NoSpace why = absurd why.0
+  broken_in fills k m NoCall why = why
+
+  pub ends_in : (fills : Type 0) (k m : Plain D) (none : ℕ) (cause : TreeFault) → Ends disk k m none cause → EndsOr fills disk k m none cause
+  ends_in fills k m none cause ends = record { none = ends.none; broken = broken_in fills k m cause ends.broken }
+
+  -- the disk was filled
+  pub full_ends : (k m : Plain D) (left less : ℕ) → IsUnderWay disk k left → Goes disk k m less → IsFull (image_seen disk.image m) →
+      EndsOr ⊤ disk k m 0 NoSpace
+  full_ends k m left less way goes full = record {
+    none = refl;
+    broken = (tt, record { image = goes.same; faults = same_faults k m left less way goes }, full);
+  }
 
   -- a call ended it
   pub call_broken : (op : Op) (k m : Plain D) (cause : TransactionFault) → IsUncalled disk op k m cause → IsBroken disk k m (Call cause)

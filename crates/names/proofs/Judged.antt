@@ -12,7 +12,7 @@ use Rattle.names.specs.Judging.{AreAmong, HasLookedThrough, IsSeen, TakesIn}
 use Rattle.names.specs.Trees.{directory_in, IsDirectory, IsDirectoryOf, IsFile, IsTree}
 use Rattle.names.specs.declared.judging.Seen.{Seen}
 use Rattle.names.specs.declared.judging.Seen.TheVariants.{Nothing, Plain, Directory}
-use Rattle.names.proofs.Found.{all_found, found_directory, found_each, found_file}
+use Rattle.names.proofs.FoundFiles.{all_found, found_directory, found_each, found_file}
 use Rattle.names.proofs.FoundDirectory.{children, children_apart, next_directory}
 use Rattle.names.proofs.FoundNext.{next_plain}
 use Rattle.names.proofs.NumbersDown.{apart_first, apart_rest, stands_first, stands_more, StandsIn}

@@ -29,7 +29,8 @@ pub mod FileLooks
 pub mod SeenLooks
 pub mod PlainFiles
 pub mod PlainWrites
-pub mod Found
+pub mod PlainPuts
+pub mod FoundFiles
 pub mod NumbersDown
 pub mod EntryPaths
 pub mod FoundNext

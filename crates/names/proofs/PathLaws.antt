@@ -89,7 +89,7 @@ path_down files from (name ∷ names) i path =
 
 -- ---- in a tree
 
-step_leads : (files : Files) → IsTree files → (from i : ℕ) (name : List ℕ) → Steps files from name i → IsFile files i
+pub step_leads : (files : Files) → IsTree files → (from i : ℕ) (name : List ℕ) → Steps files from name i → IsFile files i
 step_leads files tree from i name step =
     let by = tree_makes_steps files tree in
     let of = directory_by files (depth_in files tree) from by step.0 in

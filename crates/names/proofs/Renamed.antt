@@ -18,7 +18,7 @@ use Rattle.names.specs.Inside.{files_seen, form_seen}
 use Rattle.names.specs.Making.{is_entered, HasEntered}
 use Rattle.names.specs.declared.refusal.Refusal.{Refusal}
 use Rattle.names.specs.declared.refusal.TreeFault.{TreeFault}
-use Rattle.names.specs.declared.refusal.TreeFault.TheVariants.{Path, Refused, Call, NoCall}
+use Rattle.names.specs.declared.refusal.TreeFault.TheVariants.{Path, Refused, Call, NoSpace, NoCall}
 use Rattle.names.specs.Ready.{Happens, IsUndone}
 use Rattle.names.specs.Renaming.{IsUndoneAt, IsUndoneAtBoth, IsUnrenamed, Renames, RenamesAt}
 use Rattle.names.specs.TreeChanges.{LeadsTo, MovesName}
@@ -233,6 +233,7 @@ module _ {D N : Type 0} (disk : Ghosts D N) (path into : List ℕ) where
   both_by why k m (Path cause) undone = (undone.0, inl undone.1)
   both_by why k m (Refused cause) undone = undone
   both_by why k m (Call cause) undone = undone
+  both_by why k m NoSpace undone = undone
   both_by why k m NoCall undone = undone
 
   undone_by : {T : Type 0} (why : Files → Refusal → Type 0) (k m : Plain D) (r : Result T TreeFault) → IfErr r (IsUndone disk path why k m) →

@@ -1,5 +1,5 @@
 -- What looks at directories tell in a transaction.
-use Rattle.std.proofs.Common.{◌≡◌, ℕ, ◌≤◌, List, length, sym, ap, subst, ◌∙◌, arith}
+use Rattle.std.proofs.Common.{◌≡◌, ℕ, ◌≤◌, List, length, Some, sym, ap, subst, ◌∙◌, arith}
 use Rattle.std.proofs.lemmas.List.{take_all}
 use Rattle.blocks.specs.declared.disk.Disk.{Ghosts}
 use Rattle.model.specs.declared.types.image.File.{File}
@@ -11,9 +11,9 @@ use Rattle.calls.specs.Stepping.{Plain}
 use Rattle.calls.specs.Calls.{image_on}
 use Rattle.names.specs.Walks.{walked}
 use Rattle.names.specs.Inside.{files_seen, form_seen, Answers, IsUnderWay, StaysOn}
-use Rattle.names.specs.Trees.{bytes_of, directory_in, kind_of, IsDirectory, IsTidy}
-use Rattle.names.proofs.Answered.{file_by}
-use Rattle.names.proofs.FileLooks.{kind_told, reads, tells}
+use Rattle.names.specs.Trees.{bytes_of, directory_in, kind_of, IsDirectory, IsFile, IsTidy}
+use Rattle.names.proofs.Answered.{file_by, some_by}
+use Rattle.names.proofs.FileLooks.{kind_told, reads, tells, tells_file, TellsFile}
 
 module _ {D N : Type 0} (disk : Ghosts D N) where
   pub stat_same : (k a : Plain D) (i : ℕ) (reply : Reply) → Answers disk.image (Stat i) k a reply → files_seen disk.image a ≡ files_seen disk.image k
@@ -22,6 +22,13 @@ module _ {D N : Type 0} (disk : Ghosts D N) where
   pub stat_kind : (k a : Plain D) (i : ℕ) (reply : Reply) → Answers disk.image (Stat i) k a reply →
       kind_of (file_in (files_seen disk.image k) i) ≡ kind_told reply
   stat_kind k a i reply answers = (tells (form_seen disk.image k) (files_seen disk.image k) (files_seen disk.image a) i reply answers).kind
+
+  -- a look at a file that is there
+  pub stat_tells : (k a : Plain D) (i : ℕ) (reply : Reply) → Answers disk.image (Stat i) k a reply → IsFile (files_seen disk.image k) i →
+      (file : File) × (file_in (files_seen disk.image k) i ≡ Some file) × TellsFile (files_seen disk.image k) (files_seen disk.image a) file reply
+  stat_tells k a i reply answers there =
+      let has = some_by (file_in (files_seen disk.image k) i) there in
+      (has.0, has.1, tells_file (form_seen disk.image k) (files_seen disk.image k) (files_seen disk.image a) i has.0 reply has.1 answers)
 
   -- one read brings a directory
   pub read_brings : (k m : Plain D) (i : ℕ) (reply : Reply) → Answers disk.image (Read i 0 3072) k m reply → IsDirectory (files_seen disk.image k) i →

@@ -1,8 +1,8 @@
 -- The bytes of the files of a tree that are no directories.
-use Rattle.std.specs.Prelude.{◌≡◌, ◌≢◌, ◌⊎◌, ℕ, min, List, Some, Ok, Err}
+use Rattle.std.specs.Prelude.{◌≡◌, ◌≢◌, ◌⊎◌, ℕ, min, List, [], slice_set, Some, Ok, Err}
 use Rattle.model.specs.declared.types.image.File.{File}
 use Rattle.model.specs.Files.{Files, file_in}
-use Rattle.model.specs.Operations.{part_of, transfer_limit}
+use Rattle.model.specs.Operations.{part_of, transfer_limit, with_bytes}
 use Rattle.names.specs.declared.refusal.Refusal.{Refusal}
 use Rattle.names.specs.declared.refusal.Refusal.TheVariants.{IsADirectory}
 use Rattle.names.specs.Trees.{directory_kind, root, IsDirectory}
@@ -27,6 +27,18 @@ pub record Reads (names : List (List ℕ)) (offset count : ℕ) (bytes : List �
   pub number : ℕ
   pub led : walked files root names ≡ Ok number
   pub read : ReadsOf number offset count bytes files new
+
+-- A file of bytes has these alone, in place of its own, and nothing else changed.
+pub record HasOnly (number : ℕ) (bytes : List ℕ) (files new : Files) : Type 0 where
+  pub file : File
+  pub plain : IsPlainFile files number file
+  pub is : new ≡ slice_set files number (with_bytes file bytes)
+
+-- the file that names lead to has no bytes
+pub record Empties (names : List (List ℕ)) (done : Unit {0}) (files new : Files) : Type 0 where
+  pub number : ℕ
+  pub led : walked files root names ≡ Ok number
+  pub emptied : HasOnly number [] files new
 
 -- a directory is neither read nor written so
 abbrev pub IsNoPlain : ℕ → Files → Refusal → Type 0

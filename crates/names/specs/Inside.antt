@@ -9,12 +9,13 @@ use Rattle.model.specs.Operations.{after}
 use Rattle.model.specs.declared.types.image.Form.{Form}
 use Rattle.model.specs.declared.types.operations.Op.{Op}
 use Rattle.model.specs.declared.types.operations.Reply.{Reply}
-use Rattle.calls.specs.Calls.{HasFailed, call_count, faults_on, image_on}
+use Rattle.calls.specs.Calls.{HasFailed, MakesLowestOf, MakesNoneOf, ShortIsFull, call_count, faults_on, image_on}
+use Rattle.calls.specs.Files.{IsFull}
 use Rattle.calls.specs.Stepping.{Plain}
-use Rattle.calls.specs.Transactions.{HasFiles, IsInside, KeepsFiles}
+use Rattle.calls.specs.Transactions.{HasFiles, IsInside, KeepsFiles, image_seen}
 use Rattle.calls.specs.declared.transactions.fault.TransactionFault.TheVariants as fault
 use Rattle.names.specs.declared.refusal.TreeFault.{TreeFault}
-use Rattle.names.specs.declared.refusal.TreeFault.TheVariants.{Path, Refused, Call, NoCall}
+use Rattle.names.specs.declared.refusal.TreeFault.TheVariants.{Path, Refused, Call, NoSpace, NoCall}
 
 -- the files that a transaction sees: those that a kernel's calls made, its own included
 abbrev pub files_seen : {D : Type 0} → (D → Image) → Plain D → Files
@@ -46,6 +47,14 @@ abbrev pub Answers : {D : Type 0} → (D → Image) → Op → Plain D → Plain
 Answers image op k m reply =
     after (form_seen image k) (files_seen image k) op reply ≡ Some (files_seen image m)
 
+-- A creation made the lowest number that is free, and none only where each is taken; a short write
+-- leaves no block free of those that the transaction sees.
+pub record HasCause {D : Type 0} (image : D → Image) (op : Op) (k m : Plain D) (reply : Reply)
+    : Type 0 where
+  pub lowest : MakesLowestOf (files_seen image k) op reply
+  pub none : MakesNoneOf (files_seen image k) op reply
+  pub short : ShortIsFull (image_seen image m) op reply
+
 -- From kernel k to m a stop leaves the files on the disk as they were, and m is over the same disk, as
 -- it was opened.
 pub record LeavesFiles {D N : Type 0} (disk : Ghosts D N) (k m : Plain D) : Type 0 where
@@ -65,25 +74,37 @@ pub record IsSame {D N : Type 0} (disk : Ghosts D N) (k m : Plain D) : Type 0 wh
   pub image : image_on disk.image m ≡ image_on disk.image k
   pub faults : faults_on disk.fault_count m ≡ faults_on disk.fault_count k
 
--- why a transaction of kernel k, which is m now, doesn't go on
+-- Why a transaction of kernel k, which is m now, doesn't go on. It may fill the disk where that is
+-- said.
+abbrev pub IsBrokenOr : {D N : Type 0} → Type 0 → Ghosts D N → Plain D → Plain D → TreeFault → Type 0
+IsBrokenOr fills disk k m (Path cause) = ⊥
+IsBrokenOr fills disk k m (Refused cause) = ⊥
+IsBrokenOr fills disk k m (Call (fault.Disk cause)) = HasFailed disk k m cause
+IsBrokenOr fills disk k m (Call fault.NoMemory) = IsSame disk k m
+IsBrokenOr fills disk k m (Call fault.NoRoom) = IsSame disk k m
+IsBrokenOr fills disk k m NoSpace = fills × IsSame disk k m × IsFull (image_seen disk.image m)
+IsBrokenOr fills disk k m NoCall = IsSame disk k m
+
 abbrev pub IsBroken : {D N : Type 0} → Ghosts D N → Plain D → Plain D → TreeFault → Type 0
-IsBroken disk k m (Path cause) = ⊥
-IsBroken disk k m (Refused cause) = ⊥
-IsBroken disk k m (Call (fault.Disk cause)) = HasFailed disk k m cause
-IsBroken disk k m (Call fault.NoMemory) = IsSame disk k m
-IsBroken disk k m (Call fault.NoRoom) = IsSame disk k m
-IsBroken disk k m NoCall = IsSame disk k m
+IsBroken disk k m cause = IsBrokenOr ⊥ disk k m cause
 
 -- behind it no other call is made
-pub record Ends {D N : Type 0} (disk : Ghosts D N) (k m : Plain D) (left : ℕ) (cause : TreeFault)
-    : Type 0 where
+pub record EndsOr {D N : Type 0} (fills : Type 0) (disk : Ghosts D N) (k m : Plain D) (left : ℕ)
+    (cause : TreeFault) : Type 0 where
   pub none : left ≡ 0
-  pub broken : IsBroken disk k m cause
+  pub broken : IsBrokenOr fills disk k m cause
+
+abbrev pub Ends : {D N : Type 0} → Ghosts D N → Plain D → Plain D → ℕ → TreeFault → Type 0
+Ends disk k m left cause = EndsOr ⊥ disk k m left cause
 
 -- What became of a transaction of kernel k, which is m now, behind calls in it: it goes on, or no other
 -- call is made, and what a stop left it leaves.
-pub record Proceeds {D N T : Type 0} (disk : Ghosts D N) (result : Result T TreeFault)
-    (k m : Plain D) (left : ℕ) : Type 0 where
+pub record ProceedsOr {D N T : Type 0} (fills : Type 0) (disk : Ghosts D N)
+    (result : Result T TreeFault) (k m : Plain D) (left : ℕ) : Type 0 where
   pub on : OnOk result (Goes disk k m left)
   pub stays : StaysOn disk k m
-  pub ends : IfErr result (Ends disk k m left)
+  pub ends : IfErr result (EndsOr fills disk k m left)
+
+abbrev pub Proceeds : {D N T : Type 0} → Ghosts D N → Result T TreeFault → Plain D → Plain D → ℕ
+    → Type 0
+Proceeds disk result k m left = ProceedsOr ⊥ disk result k m left

@@ -9,6 +9,8 @@ pub mod Removing
 pub mod Undirecting
 pub mod Renaming
 pub mod Contents
+pub mod Looks
+pub mod Putting
 pub mod Writing
 pub mod Writes
 pub mod Trees

@@ -13,8 +13,8 @@ use Rattle.calls.specs.Stepping.{Plain}
 use Rattle.calls.specs.Transactions.{KeepsEither, Rests, labels_made}
 use Rattle.names.specs.declared.refusal.Refusal.{Refusal}
 use Rattle.names.specs.declared.refusal.TreeFault.{TreeFault}
-use Rattle.names.specs.declared.refusal.TreeFault.TheVariants.{Path, Refused, Call, NoCall}
-use Rattle.names.specs.Inside.{files_seen, Answers, Goes, IsBroken, IsSame, LeavesFiles}
+use Rattle.names.specs.declared.refusal.TreeFault.TheVariants.{Path, Refused, Call, NoSpace, NoCall}
+use Rattle.names.specs.Inside.{files_seen, Answers, Goes, IsBroken, IsBrokenOr, IsSame, LeavesFiles}
 use Rattle.names.specs.Paths.{IsPathCause}
 use Rattle.names.specs.Trees.{new_directory, root, IsTree}
 use Rattle.names.specs.TreeChanges.{directory_file}
@@ -68,6 +68,7 @@ abbrev pub IsRootless : {D N : Type 0} → Ghosts D N → Plain D → Plain D �
 IsRootless disk k m (Path cause) = ⊥
 IsRootless disk k m (Refused cause) = IsSame disk k m
 IsRootless disk k m (Call cause) = IsBroken disk k m (Call cause)
+IsRootless disk k m NoSpace = IsBroken disk k m NoSpace
 IsRootless disk k m NoCall = IsBroken disk k m NoCall
 
 -- the same as being ready, unless no call is left
@@ -129,20 +130,36 @@ LeavesTree disk change k m =
     (KeepsTree change (image_on disk.image k))
 
 -- Why a call is not answered, in kernel k, which is m now: the files refuse, which are as they were, or
--- a call of the kernel failed.
-abbrev pub IsUnanswered : {D N : Type 0} → Ghosts D N → (Files → Refusal → Type 0) → Plain D
-    → Plain D → TreeFault → Type 0
-IsUnanswered disk why k m (Path cause) = ⊥
-IsUnanswered disk why k m (Refused cause) =
+-- a call of the kernel failed. It may fill the disk where that is said.
+abbrev pub IsUnansweredOr : {D N : Type 0} → Type 0 → Ghosts D N → (Files → Refusal → Type 0)
+    → Plain D → Plain D → TreeFault → Type 0
+IsUnansweredOr fills disk why k m (Path cause) = ⊥
+IsUnansweredOr fills disk why k m (Refused cause) =
     (files_of (image_on disk.image m) ≡ files_of (image_on disk.image k))
     × why (files_of (image_on disk.image k)) cause
-IsUnanswered disk why k m (Call cause) = IsBroken disk k m (Call cause)
-IsUnanswered disk why k m NoCall = IsBroken disk k m NoCall
+IsUnansweredOr fills disk why k m (Call cause) = IsBroken disk k m (Call cause)
+IsUnansweredOr fills disk why k m NoSpace = IsBrokenOr fills disk k m NoSpace
+IsUnansweredOr fills disk why k m NoCall = IsBroken disk k m NoCall
+
+abbrev pub IsUnanswered : {D N : Type 0} → Ghosts D N → (Files → Refusal → Type 0) → Plain D
+    → Plain D → TreeFault → Type 0
+IsUnanswered disk why k m cause = IsUnansweredOr ⊥ disk why k m cause
 
 -- why a call at a path is not: the path is none, and nothing was done; or as above
+abbrev pub IsUndoneOr : {D N : Type 0} → Type 0 → Ghosts D N → List ℕ → (Files → Refusal → Type 0)
+    → Plain D → Plain D → TreeFault → Type 0
+IsUndoneOr fills disk path why k m (Path cause) = (m ≡ k) × IsPathCause path cause
+IsUndoneOr fills disk path why k m (Refused cause) = IsUnanswered disk why k m (Refused cause)
+IsUndoneOr fills disk path why k m (Call cause) = IsUnanswered disk why k m (Call cause)
+IsUndoneOr fills disk path why k m NoSpace = IsUnansweredOr fills disk why k m NoSpace
+IsUndoneOr fills disk path why k m NoCall = IsUnanswered disk why k m NoCall
+
 abbrev pub IsUndone : {D N : Type 0} → Ghosts D N → List ℕ → (Files → Refusal → Type 0)
     → Plain D → Plain D → TreeFault → Type 0
-IsUndone disk path why k m (Path cause) = (m ≡ k) × IsPathCause path cause
-IsUndone disk path why k m (Refused cause) = IsUnanswered disk why k m (Refused cause)
-IsUndone disk path why k m (Call cause) = IsUnanswered disk why k m (Call cause)
-IsUndone disk path why k m NoCall = IsUnanswered disk why k m NoCall
+IsUndone disk path why k m cause = IsUndoneOr ⊥ disk path why k m cause
+
+-- Why one that writes bytes is not: also since no block is free for all of them. The files on the disk
+-- are as they were then.
+abbrev pub IsUnwritten : {D N : Type 0} → Ghosts D N → List ℕ → (Files → Refusal → Type 0)
+    → Plain D → Plain D → TreeFault → Type 0
+IsUnwritten disk path why k m cause = IsUndoneOr ⊤ disk path why k m cause

@@ -7,7 +7,7 @@ use Rattle.names.specs.declared.entries.LinkFault.TheVariants as link_fault
 use Rattle.names.specs.declared.refusal.Refusal.{Refusal}
 use Rattle.names.specs.declared.refusal.Refusal.TheVariants.{NotFound, NotADirectory, IsRoot, Exists, Full, NoNumber, NoBlock, IsADirectory, NotEmpty, NotDown}
 use Rattle.names.specs.declared.refusal.TreeFault.{TreeFault}
-use Rattle.names.specs.declared.refusal.TreeFault.TheVariants.{Path, Refused, Call, NoCall}
+use Rattle.names.specs.declared.refusal.TreeFault.TheVariants.{Path, Refused, Call, NoSpace, NoCall}
 use Rattle.names.specs.Paths.{IsPathCause}
 use Rattle.names.specs.Ready.{IsUnanswered}
 use Rattle.names.specs.TreeChanges.{MovesName}
@@ -73,4 +73,5 @@ IsUndoneAtBoth disk path into why k m (Path cause) =
     (m ≡ k) × (IsPathCause path cause ⊎ IsPathCause into cause)
 IsUndoneAtBoth disk path into why k m (Refused cause) = IsUnanswered disk why k m (Refused cause)
 IsUndoneAtBoth disk path into why k m (Call cause) = IsUnanswered disk why k m (Call cause)
+IsUndoneAtBoth disk path into why k m NoSpace = IsUnanswered disk why k m NoSpace
 IsUndoneAtBoth disk path into why k m NoCall = IsUnanswered disk why k m NoCall

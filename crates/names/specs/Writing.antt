@@ -9,7 +9,9 @@ use Rattle.model.specs.declared.types.operations.Reply.{Reply}
 use Rattle.model.specs.declared.types.operations.Reply.TheVariants.{Wrote, BadOffset, TooBig, TooLong}
 use Rattle.model.specs.Files.{Files}
 use Rattle.model.specs.Operations.{refusal_of, where_true, with_bytes}
+use Rattle.calls.specs.Calls.{ShortIsFull}
 use Rattle.calls.specs.Stepping.{Plain}
+use Rattle.calls.specs.Transactions.{image_seen}
 use Rattle.names.specs.declared.writing.Unwritten.{Unwritten}
 use Rattle.names.specs.declared.writing.Unwritten.TheVariants as unwritten
 use Rattle.names.specs.Contents.{IsPlainFile}
@@ -41,6 +43,8 @@ pub record HasWritten {D : Type 0} (image : D → Image) (number offset : ℕ) (
   pub reply : Reply
   pub answers : Answers image (Write number offset bytes) k m reply
   pub is : told ≡ written reply (length bytes)
+  -- a short one leaves no block free
+  pub short : ShortIsFull (image_seen image m) (Write number offset bytes) reply
 
 -- All bytes stand in the file from the offset on; or the kernel refuses their write, and the files are
 -- as they were.

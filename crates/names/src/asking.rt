@@ -1,10 +1,13 @@
 // Questions to a tree, each in a transaction of its own that changes nothing.
-ghost use Rattle.std.specs.Prelude.{◌<◌, IfErr, IfOk};
+ghost use Rattle.std.specs.Prelude.{◌<◌, IfErr, IfOk, OnOk};
 ghost use Rattle.calls.specs.Calls.{image_on};
 ghost use Rattle.calls.specs.Stopped.{StaysOver};
 ghost use Rattle.model.specs.Files.{files_of};
+ghost use Rattle.names.specs.Inside.{files_seen, IsUnderWay, Proceeds, SeesSame};
+ghost use Rattle.names.specs.Looks.{IsFound, Looks};
 ghost use Rattle.names.specs.Paths.{names_of};
 ghost use Rattle.names.specs.Ready.{IsUndone, LeavesTree, MayGoOn};
+ghost use Rattle.names.specs.Trees.{IsFile};
 ghost use Rattle.names.specs.Walks.{Finds, IsUnfound, IsUnlisted, Lists};
 
 use crate::changing::Change;
@@ -13,7 +16,19 @@ use crate::refusal::{Refusal, TreeFault};
 use crate::tree::Tree;
 use blocks::Disk;
 use model::content::Content;
+use model::types::{Op, Reply};
 use std::alloc::Global;
+
+/// What a file is.
+#[derive(Clone, Copy, Debug, PartialEq, Eq)]
+pub struct Found {
+    /// Its inode's number.
+    pub number: u32,
+    /// Its type: 1 for a directory, 2 for a file of bytes, 3 for a device.
+    pub kind: u16,
+    /// How many bytes it has.
+    pub size: u32,
+}
 
 // Finds the file at a path.
 #[derive(Drop)]
@@ -26,6 +41,8 @@ impl Change for FindFile {
 
     ghost refuses = { λ find. IsUnfound };
 
+    ghost fills = { λ find. ⊥ };
+
     fn apply<D: Disk>(
         &self,
         tree: &mut Tree<D>,
@@ -33,6 +50,35 @@ impl Change for FindFile {
         names: &[Name],
     ) -> Result<Result<u32, Refusal>, TreeFault> {
         tree.walk(names)
+    }
+}
+
+// Looks at the file at a path.
+#[derive(Drop)]
+struct LookAtFile;
+
+impl Change for LookAtFile {
+    type Made = Found;
+
+    ghost makes = { λ look form. Looks };
+
+    ghost refuses = { λ look. IsUnfound };
+
+    ghost fills = { λ look. ⊥ };
+
+    fn apply<D: Disk>(
+        &self,
+        tree: &mut Tree<D>,
+        _alloc: Global,
+        names: &[Name],
+    ) -> Result<Result<Found, Refusal>, TreeFault> {
+        match tree.walk(names)? {
+            Ok(number) => {
+                let found = tree.found(number)?;
+                Ok(Ok(found))
+            }
+            Err(refusal) => Ok(Err(refusal)),
+        }
     }
 }
 
@@ -46,6 +92,8 @@ impl Change for ListDirectory {
     ghost makes = { λ list form. Lists };
 
     ghost refuses = { λ list. IsUnlisted };
+
+    ghost fills = { λ list. ⊥ };
 
     fn apply<D: Disk>(
         &self,
@@ -85,6 +133,44 @@ impl<D: Disk> Tree<D> {
         ensures stays { StaysOver D.Disk self.old.kernel self.new.kernel }
     {
         self.changed(alloc, path, &FindFile)
+    }
+
+    /// What the file at a path is: its number, its type and its length.
+    ///
+    /// # Errors
+    ///
+    /// - `Path`: the bytes are no path; nothing was done.
+    /// - `Refused`: `NotFound` where a name of the path is not there, `NotADirectory` where a file on
+    ///   it is none.
+    /// - `Call`, `NoCall`: as every call of a tree.
+    pub fn look(&mut self, alloc: Global, path: &[u8]) -> Result<Found, TreeFault>
+        requires ready { MayGoOn D.Disk self.old.kernel self.old.calls_left }
+        ensures ready { MayGoOn D.Disk self.new.kernel self.new.calls_left }
+        ensures looks { IfOk result (λ found. Looks (names_of path.now) found
+            (files_of (image_on D.image self.old.kernel))
+            (files_of (image_on D.image self.new.kernel))) }
+        ensures refused { IfErr result (IsUndone D.Disk path.now (IsUnfound (names_of path.now))
+            self.old.kernel self.new.kernel) }
+        ensures leaves { 0 < self.old.calls_left → LeavesTree D.Disk (Looks (names_of path.now))
+            self.old.kernel self.new.kernel }
+        ensures stays { StaysOver D.Disk self.old.kernel self.new.kernel }
+    {
+        self.changed(alloc, path, &LookAtFile)
+    }
+
+    // What the file of a number is.
+    fn found(&mut self, number: u32) -> Result<Found, TreeFault>
+        requires way { IsUnderWay D.Disk self.old.kernel self.old.calls_left }
+        requires there { IsFile (files_seen D.image self.old.kernel) number }
+        ensures goes { Proceeds D.Disk result self.old.kernel self.new.kernel self.new.calls_left }
+        ensures same { OnOk result (SeesSame D.image self.old.kernel self.new.kernel) }
+        ensures found { IfOk result (IsFound (files_seen D.image self.old.kernel) number) }
+    {
+        let Reply::StatOf(kind, size) = self.called(Op::Stat(number))? else {
+            // A file that is there can be looked at.
+            unreachable!()
+        };
+        Ok(Found { number, kind, size })
     }
 
     /// The bytes of the directory at a path: entries of sixteen bytes, the number of a file with the

@@ -5,9 +5,9 @@ ghost use Rattle.calls.specs.Stopped.{StaysOver};
 ghost use Rattle.model.specs.Files.{Files, files_of};
 ghost use Rattle.model.specs.declared.types.image.Form.{Form};
 ghost use Rattle.names.specs.declared.refusal.Refusal.{Refusal};
-ghost use Rattle.names.specs.Inside.{files_seen, form_seen, IsUnderWay, Proceeds};
+ghost use Rattle.names.specs.Inside.{files_seen, form_seen, IsUnderWay, ProceedsOr};
 ghost use Rattle.names.specs.Paths.{names_of};
-ghost use Rattle.names.specs.Ready.{answer_of, Happens, IsUnanswered, IsUndone, LeavesTree, MayGoOn};
+ghost use Rattle.names.specs.Ready.{answer_of, Happens, IsUnansweredOr, IsUndoneOr, LeavesTree, MayGoOn};
 ghost use Rattle.names.specs.Trees.{IsTree};
 ghost use Rattle.names.specs.Walks.{AtLast, IsUndoneIn};
 
@@ -29,6 +29,9 @@ pub(crate) trait Change {
     // Why it is refused.
     ghost refuses: { Self → List (List ℕ) → Files → Refusal → Type 0 };
 
+    // That it writes bytes into files which were there, for which no block may be free.
+    ghost fills: { Self → Type 0 };
+
     // Makes it in the transaction under way.
     fn apply<D: Disk>(
         &self,
@@ -38,7 +41,8 @@ pub(crate) trait Change {
     ) -> Result<Result<Self::Made, Refusal>, TreeFault>
         requires way { IsUnderWay D.Disk tree.old.kernel tree.old.calls_left }
         requires tree { IsTree (files_seen D.image tree.old.kernel) }
-        ensures goes { Proceeds D.Disk result tree.old.kernel tree.new.kernel tree.new.calls_left }
+        ensures goes { ProceedsOr (fills self.now) D.Disk result
+            tree.old.kernel tree.new.kernel tree.new.calls_left }
         ensures tree { OnOk result (IsTree (files_seen D.image tree.new.kernel)) }
         ensures made { IfOk result (Happens
             (makes self.now (form_seen D.image tree.old.kernel) names.now)
@@ -57,6 +61,9 @@ pub(crate) trait ChangeIn {
     // Why it is refused.
     ghost refuses: { Self → Files → ℕ → List ℕ → Refusal → Type 0 };
 
+    // That it writes bytes into files which were there, for which no block may be free.
+    ghost fills: { Self → Type 0 };
+
     // Makes it in the transaction under way.
     fn apply_in<D: Disk>(
         &self,
@@ -67,7 +74,8 @@ pub(crate) trait ChangeIn {
     ) -> Result<Result<Self::Made, Refusal>, TreeFault>
         requires way { IsUnderWay D.Disk tree.old.kernel tree.old.calls_left }
         requires tree { IsTree (files_seen D.image tree.old.kernel) }
-        ensures goes { Proceeds D.Disk result tree.old.kernel tree.new.kernel tree.new.calls_left }
+        ensures goes { ProceedsOr (fills self.now) D.Disk result
+            tree.old.kernel tree.new.kernel tree.new.calls_left }
         ensures tree { OnOk result (IsTree (files_seen D.image tree.new.kernel)) }
         ensures made { IfOk result (Happens (makes self.now from name.now)
             (λ files. refuses self.now files from name.now)
@@ -86,6 +94,8 @@ impl<C: ChangeIn> Change for Last<C> {
     ghost makes = { λ last form names. AtLast (C.makes last.change) names };
 
     ghost refuses = { λ last names. IsUndoneIn (C.refuses last.change) names };
+
+    ghost fills = { λ last. C.fills last.change };
 
     fn apply<D: Disk>(
         &self,
@@ -118,7 +128,7 @@ impl<D: Disk> Tree<D> {
             C.makes change.now (form_seen D.image self.old.kernel) (names_of path.now) made
             (files_of (image_on D.image self.old.kernel))
             (files_of (image_on D.image self.new.kernel))) }
-        ensures refused { IfErr result (IsUndone D.Disk path.now
+        ensures refused { IfErr result (IsUndoneOr (C.fills change.now) D.Disk path.now
             (C.refuses change.now (names_of path.now)) self.old.kernel self.new.kernel) }
         ensures leaves { 0 < self.old.calls_left → LeavesTree D.Disk
             (C.makes change.now (form_seen D.image self.old.kernel) (names_of path.now))
@@ -147,8 +157,8 @@ impl<D: Disk> Tree<D> {
             C.makes change.now (form_seen D.image self.old.kernel) names.now made
             (files_of (image_on D.image self.old.kernel))
             (files_of (image_on D.image self.new.kernel))) }
-        ensures refused { IfErr result (IsUnanswered D.Disk (C.refuses change.now names.now)
-            self.old.kernel self.new.kernel) }
+        ensures refused { IfErr result (IsUnansweredOr (C.fills change.now) D.Disk
+            (C.refuses change.now names.now) self.old.kernel self.new.kernel) }
         ensures leaves { 0 < self.old.calls_left → LeavesTree D.Disk
             (C.makes change.now (form_seen D.image self.old.kernel) names.now)
             self.old.kernel self.new.kernel }

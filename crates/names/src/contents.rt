@@ -1,13 +1,13 @@
 // The bytes of the files of a tree that are no directories.
-ghost use Rattle.std.specs.Prelude.{◌≡◌, ◌↔◌, ◌<◌, IfErr, IfOk, IsTrue, OnOk};
+ghost use Rattle.std.specs.Prelude.{[], ◌≡◌, ◌↔◌, ◌<◌, IfErr, IfOk, IsTrue, OnOk};
 ghost use Rattle.calls.specs.Calls.{image_on};
 ghost use Rattle.calls.specs.Stopped.{StaysOver};
 ghost use Rattle.model.specs.Files.{files_of};
-ghost use Rattle.names.specs.Contents.{IsNoPlain, LeadsToNoPlain, Reads, ReadsOf};
+ghost use Rattle.names.specs.Contents.{Empties, HasOnly, IsNoPlain, LeadsToNoPlain, Reads, ReadsOf};
 ghost use Rattle.names.specs.Inside.{files_seen, IsUnderWay, Proceeds, SeesSame};
 ghost use Rattle.names.specs.Paths.{names_of};
 ghost use Rattle.names.specs.Ready.{Happens, IsUndone, LeavesTree, MayGoOn};
-ghost use Rattle.names.specs.Trees.{IsDirectory, IsFile};
+ghost use Rattle.names.specs.Trees.{IsDirectory, IsFile, IsTree};
 
 use crate::changing::Change;
 use crate::looking::DIRECTORY_KIND;
@@ -33,6 +33,8 @@ impl Change for ReadFile {
 
     ghost refuses = { λ read. LeadsToNoPlain };
 
+    ghost fills = { λ read. ⊥ };
+
     fn apply<D: Disk>(
         &self,
         tree: &mut Tree<D>,
@@ -46,7 +48,73 @@ impl Change for ReadFile {
     }
 }
 
+// Takes the bytes of the file at a path from it.
+#[derive(Drop)]
+struct EmptyFile;
+
+impl Change for EmptyFile {
+    type Made = ();
+
+    ghost makes = { λ empty form. Empties };
+
+    ghost refuses = { λ empty. LeadsToNoPlain };
+
+    ghost fills = { λ empty. ⊥ };
+
+    fn apply<D: Disk>(
+        &self,
+        tree: &mut Tree<D>,
+        _alloc: Global,
+        names: &[Name],
+    ) -> Result<Result<(), Refusal>, TreeFault> {
+        match tree.walk(names)? {
+            Ok(number) => tree.emptied(number),
+            Err(refusal) => Ok(Err(refusal)),
+        }
+    }
+}
+
 impl<D: Disk> Tree<D> {
+    /// Takes the bytes of the file at a path from it: it has none then.
+    ///
+    /// # Errors
+    ///
+    /// - `Path`: the bytes are no path; nothing was done.
+    /// - `Refused`: `NotFound` where a name of the path is not there, `NotADirectory` where a file on
+    ///   it is none, `IsADirectory` where the path leads to one.
+    /// - `Call`, `NoCall`: as every call of a tree.
+    pub fn empty(&mut self, alloc: Global, path: &[u8]) -> Result<(), TreeFault>
+        requires ready { MayGoOn D.Disk self.old.kernel self.old.calls_left }
+        ensures ready { MayGoOn D.Disk self.new.kernel self.new.calls_left }
+        ensures empties { IfOk result (λ done. Empties (names_of path.now) done
+            (files_of (image_on D.image self.old.kernel))
+            (files_of (image_on D.image self.new.kernel))) }
+        ensures refused { IfErr result (IsUndone D.Disk path.now
+            (LeadsToNoPlain (names_of path.now)) self.old.kernel self.new.kernel) }
+        ensures leaves { 0 < self.old.calls_left → LeavesTree D.Disk (Empties (names_of path.now))
+            self.old.kernel self.new.kernel }
+        ensures stays { StaysOver D.Disk self.old.kernel self.new.kernel }
+    {
+        self.changed(alloc, path, &EmptyFile)
+    }
+
+    // Takes the bytes of the file of a number from it.
+    pub(crate) fn emptied(&mut self, number: u32) -> Result<Result<(), Refusal>, TreeFault>
+        requires way { IsUnderWay D.Disk self.old.kernel self.old.calls_left }
+        requires tree { IsTree (files_seen D.image self.old.kernel) }
+        requires there { IsFile (files_seen D.image self.old.kernel) number }
+        ensures goes { Proceeds D.Disk result self.old.kernel self.new.kernel self.new.calls_left }
+        ensures tree { OnOk result (IsTree (files_seen D.image self.new.kernel)) }
+        ensures emptied { IfOk result (Happens (λ done. HasOnly number []) (IsNoPlain number)
+            (files_seen D.image self.old.kernel) (files_seen D.image self.new.kernel)) }
+    {
+        if self.is_directory(number)? {
+            return Ok(Err(Refusal::IsADirectory));
+        }
+        let _done = self.called(Op::Trunc(number))?;
+        Ok(Ok(()))
+    }
+
     /// The bytes of the file at a path from an offset on, up to its end, and no more than `count` or
     /// 3072. Behind the end there are none.
     ///

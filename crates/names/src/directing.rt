@@ -29,7 +29,7 @@ const DIRECTORY_KIND: u16 = 1;
 struct NewDirectory;
 
 impl New for NewDirectory {
-    ghost file = { λ number parent. directory_file number parent };
+    ghost file = { λ new number parent. directory_file number parent };
 
     fn create<D: Disk>(
         &self,
@@ -73,8 +73,8 @@ impl<D: Disk> Tree<D> {
             (files_of (image_on D.image self.new.kernel))) }
         ensures refused { IfErr result (IsUndone D.Disk path.now
             (IsUndoneIn IsUnmadeIn (names_of path.now)) self.old.kernel self.new.kernel) }
-        ensures leaves { 0 < self.old.calls_left → LeavesTree D.Disk (MakesDirectoryAt (names_of path.now))
-            self.old.kernel self.new.kernel }
+        ensures leaves { 0 < self.old.calls_left → LeavesTree D.Disk
+            (MakesDirectoryAt (names_of path.now)) self.old.kernel self.new.kernel }
         ensures stays { StaysOver D.Disk self.old.kernel self.new.kernel }
     {
         self.changed(

@@ -28,6 +28,7 @@ mod making;
 mod name;
 mod opening;
 mod path;
+mod putting;
 mod refusal;
 mod removing;
 mod renaming;
@@ -37,6 +38,7 @@ pub mod tree_laws;
 mod undirecting;
 mod writing;
 
+pub use asking::Found;
 pub use checking::{add_children, is_directory_of};
 pub use directory::is_empty;
 pub use entries::{

@@ -24,12 +24,12 @@ use model::types::{Op, Reply};
 use std::alloc::Global;
 
 // The type of a file that is no directory.
-const FILE_KIND: u16 = 2;
+pub(crate) const FILE_KIND: u16 = 2;
 
 // A kind of file that can be made under a name.
 pub(crate) trait New {
     // The new file of a number, in the directory of another number.
-    ghost file: { ℕ → ℕ → File };
+    ghost file: { Self → ℕ → ℕ → File };
 
     // Makes one, which has no name yet.
     fn create<D: Disk>(
@@ -40,7 +40,7 @@ pub(crate) trait New {
     ) -> Result<Result<u16, Refusal>, TreeFault>
         requires { IsUnderWay D.Disk tree.old.kernel tree.old.calls_left }
         ensures goes { Proceeds D.Disk result tree.old.kernel tree.new.kernel tree.new.calls_left }
-        ensures made { IfOk result (HasCreatedNew file parent
+        ensures made { IfOk result (HasCreatedNew (file self.now) parent
             (files_seen D.image tree.old.kernel) (files_seen D.image tree.new.kernel)) };
 }
 
@@ -49,7 +49,7 @@ pub(crate) trait New {
 pub(crate) struct NewFile;
 
 impl New for NewFile {
-    ghost file = { λ number parent. empty_file file_kind };
+    ghost file = { λ new number parent. empty_file file_kind };
 
     fn create<D: Disk>(
         &self,
@@ -74,9 +74,11 @@ impl<N: New> ChangeIn for Make<N> {
     type Made = u16;
 
     ghost makes = { λ make from name number files new.
-        AddsName files new from name number (N.file number from) };
+        AddsName files new from name number (N.file make.kind number from) };
 
     ghost refuses = { λ make. IsUnmadeIn };
+
+    ghost fills = { λ make. ⊥ };
 
     fn apply_in<D: Disk>(
         &self,

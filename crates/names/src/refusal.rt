@@ -50,6 +50,10 @@ pub enum TreeFault {
     /// A call of the kernel failed. Behind it no other is made.
     #[error("{0}")]
     Call(TransactionFault),
+    /// No block is free for all of the bytes that are to stand in a file which was there. Nothing of
+    /// them is kept, and behind it no other call is made.
+    #[error("no block is free for the bytes")]
+    NoSpace,
     /// A call failed before, or as many were made as a kernel answers.
     #[error("no other call may be made")]
     NoCall,

@@ -28,6 +28,8 @@ impl ChangeIn for RemoveFile {
 
     ghost refuses = { λ remove. IsUnremovedIn };
 
+    ghost fills = { λ remove. ⊥ };
+
     fn apply_in<D: Disk>(
         &self,
         tree: &mut Tree<D>,

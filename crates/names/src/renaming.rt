@@ -32,6 +32,8 @@ impl<'a> Change for RenameFile<'a> {
 
     ghost refuses = { λ rename names. IsUndoneAt names rename.into.now };
 
+    ghost fills = { λ rename. ⊥ };
+
     fn apply<D: Disk>(
         &self,
         tree: &mut Tree<D>,

@@ -1,6 +1,6 @@
 // A kernel whose files are a tree of directories, and the calls of its transactions.
 ghost use Rattle.std.specs.Prelude.{◌≡◌, ◌<◌, IfErr, IfOk, OnOk};
-ghost use Rattle.names.specs.Inside.{files_seen, Answers, Ends, IsUnderWay, LeavesFiles, Proceeds};
+ghost use Rattle.names.specs.Inside.{files_seen, Answers, Ends, HasCause, IsUnderWay, LeavesFiles, Proceeds};
 ghost use Rattle.names.specs.Ready.{EndsOn, HasBegun, HasCommitted, IsIdle, MayGoOn};
 ghost use Rattle.names.specs.Trees.{IsTree};
 
@@ -79,6 +79,7 @@ impl<D: Disk> Tree<D> {
         requires { IsUnderWay D.Disk self.old.kernel self.old.calls_left }
         ensures goes { Proceeds D.Disk result self.old.kernel self.new.kernel self.new.calls_left }
         ensures answers { IfOk result (Answers D.image op self.old.kernel self.new.kernel) }
+        ensures cause { IfOk result (HasCause D.image op self.old.kernel self.new.kernel) }
     {
         if self.calls_left == 0 {
             return Err(TreeFault::NoCall);

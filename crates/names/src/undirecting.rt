@@ -31,6 +31,8 @@ impl ChangeIn for RemoveDirectory {
 
     ghost refuses = { λ remove. IsUnemptiedIn };
 
+    ghost fills = { λ remove. ⊥ };
+
     fn apply_in<D: Disk>(
         &self,
         tree: &mut Tree<D>,
@@ -82,8 +84,8 @@ impl<D: Disk> Tree<D> {
             (files_of (image_on D.image self.new.kernel))) }
         ensures refused { IfErr result (IsUndone D.Disk path.now
             (IsUndoneIn IsUnemptiedIn (names_of path.now)) self.old.kernel self.new.kernel) }
-        ensures leaves { 0 < self.old.calls_left → LeavesTree D.Disk (RemovesDirectoryAt (names_of path.now))
-            self.old.kernel self.new.kernel }
+        ensures leaves { 0 < self.old.calls_left → LeavesTree D.Disk
+            (RemovesDirectoryAt (names_of path.now)) self.old.kernel self.new.kernel }
         ensures stays { StaysOver D.Disk self.old.kernel self.new.kernel }
     {
         self.changed(

@@ -1,13 +1,13 @@
 // Bytes written into the files of a tree that are no directories.
-ghost use Rattle.std.specs.Prelude.{◌≡◌, ◌==◌, ◌<◌, IfErr, IfOk, OnOk, Ok};
+ghost use Rattle.std.specs.Prelude.{⊤, ◌≡◌, ◌==◌, ◌<◌, IfErr, IfOk, OnOk, Ok};
 ghost use Rattle.calls.specs.Calls.{image_on};
 ghost use Rattle.calls.specs.Stopped.{StaysOver};
 ghost use Rattle.model.specs.Files.{files_of};
 ghost use Rattle.model.specs.Operations.{where_true};
 ghost use Rattle.names.specs.Contents.{IsNoPlain, LeadsToNoPlain};
-ghost use Rattle.names.specs.Inside.{files_seen, form_seen, IsUnderWay, Proceeds};
+ghost use Rattle.names.specs.Inside.{files_seen, form_seen, IsUnderWay, Proceeds, ProceedsOr};
 ghost use Rattle.names.specs.Paths.{names_of};
-ghost use Rattle.names.specs.Ready.{Happens, IsUndone, LeavesTree, MayGoOn};
+ghost use Rattle.names.specs.Ready.{Happens, IsUnwritten, LeavesTree, MayGoOn};
 ghost use Rattle.names.specs.Trees.{IsFile, IsTree};
 ghost use Rattle.names.specs.Writing.{written, HasWritten, Writes, WritesOf};
 
@@ -50,6 +50,8 @@ impl<'a> Change for WriteFile<'a> {
 
     ghost refuses = { λ write. LeadsToNoPlain };
 
+    ghost fills = { λ write. ⊤ };
+
     fn apply<D: Disk>(
         &self,
         tree: &mut Tree<D>,
@@ -65,14 +67,15 @@ impl<'a> Change for WriteFile<'a> {
 
 impl<D: Disk> Tree<D> {
     /// Writes bytes into the file at a path from an offset on, 3072 at most: all of them, or none for
-    /// the cause that is returned. Where the disk has no block for all of them, nothing of them is
-    /// kept and `NoCall` is returned; behind it no other call is made.
+    /// the cause that is returned.
     ///
     /// # Errors
     ///
     /// - `Path`: the bytes of the path are none; nothing was done.
     /// - `Refused`: `NotFound` where a name of the path is not there, `NotADirectory` where a file on
     ///   it is none, `IsADirectory` where the path leads to one.
+    /// - `NoSpace`: no block is free for all of the bytes, and none of them is kept. Behind it no other
+    ///   call is made.
     /// - `Call`, `NoCall`: as every call of a tree.
     pub fn write(
         &mut self,
@@ -87,7 +90,7 @@ impl<D: Disk> Tree<D> {
             (names_of path.now) offset bytes.now done
             (files_of (image_on D.image self.old.kernel))
             (files_of (image_on D.image self.new.kernel))) }
-        ensures refused { IfErr result (IsUndone D.Disk path.now
+        ensures refused { IfErr result (IsUnwritten D.Disk path.now
             (LeadsToNoPlain (names_of path.now)) self.old.kernel self.new.kernel) }
         ensures leaves { 0 < self.old.calls_left → LeavesTree D.Disk
             (Writes (form_seen D.image self.old.kernel) (names_of path.now) offset bytes.now)
@@ -108,7 +111,8 @@ impl<D: Disk> Tree<D> {
         requires way { IsUnderWay D.Disk self.old.kernel self.old.calls_left }
         requires tree { IsTree (files_seen D.image self.old.kernel) }
         requires there { IsFile (files_seen D.image self.old.kernel) number }
-        ensures goes { Proceeds D.Disk result self.old.kernel self.new.kernel self.new.calls_left }
+        ensures goes { ProceedsOr ⊤ D.Disk result
+            self.old.kernel self.new.kernel self.new.calls_left }
         ensures tree { OnOk result (IsTree (files_seen D.image self.new.kernel)) }
         ensures wrote { IfOk result (Happens
             (WritesOf (form_seen D.image self.old.kernel) number offset bytes.now)
@@ -121,13 +125,13 @@ impl<D: Disk> Tree<D> {
         let Some(done) = self.write_called(alloc, number, offset, bytes)? else {
             // What was written of them is never committed.
             self.calls_left = 0;
-            return Err(TreeFault::NoCall);
+            return Err(TreeFault::NoSpace);
         };
         Ok(Ok(done))
     }
 
     // Makes one write. What its reply tells.
-    fn write_called(
+    pub(crate) fn write_called(
         &mut self,
         alloc: Global,
         number: u32,

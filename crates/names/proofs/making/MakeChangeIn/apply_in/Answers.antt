@@ -17,26 +17,26 @@ link-requires-2-clause-size g c =
 pub returns-then-branch-clause-tree : goal.returns-then-branch-clause-tree
 returns-then-branch-clause-tree g c =
     made_tree g.D.Disk c.args.tree.now.kernel c.directory.new.self.kernel c.create.new.tree.kernel c.entered.new.self.kernel c.args.from c.in-Ok.number c.args.name.now
-    c.in-Some.bytes c.as_slice-2.result.now (g.N.New.file c.in-Ok.number c.args.from) c.in_ok-bytes.field-0 c.in-Ok-link.write c.in_ok-entered.field-0 c.requires.tree
-    c.in_ok-bytes.ensures.same c.in_ok-bytes.ensures.found c.in-Some.is (created_new g.N.New.file c.args.from (files_seen g.D.Disk.image c.directory.new.self.kernel) (files_seen g.D.Disk.image c.create.new.tree.kernel) c.in_ok-number.field-0 c.in-Ok.number c.in-Ok.is c.in_ok-number.ensures.made).1
-    (created_new g.N.New.file c.args.from (files_seen g.D.Disk.image c.directory.new.self.kernel) (files_seen g.D.Disk.image c.create.new.tree.kernel) c.in_ok-number.field-0 c.in-Ok.number c.in-Ok.is c.in_ok-number.ensures.made).0 c.as_slice-2.ensures
+    c.in-Some.bytes c.as_slice-2.result.now ((g.N.New.file c.args.self.now.kind) c.in-Ok.number c.args.from) c.in_ok-bytes.field-0 c.in-Ok-link.write c.in_ok-entered.field-0 c.requires.tree
+    c.in_ok-bytes.ensures.same c.in_ok-bytes.ensures.found c.in-Some.is (created_new (g.N.New.file c.args.self.now.kind) c.args.from (files_seen g.D.Disk.image c.directory.new.self.kernel) (files_seen g.D.Disk.image c.create.new.tree.kernel) c.in_ok-number.field-0 c.in-Ok.number c.in-Ok.is c.in_ok-number.ensures.made).1
+    (created_new (g.N.New.file c.args.self.now.kind) c.args.from (files_seen g.D.Disk.image c.directory.new.self.kernel) (files_seen g.D.Disk.image c.create.new.tree.kernel) c.in_ok-number.field-0 c.in-Ok.number c.in-Ok.is c.in_ok-number.ensures.made).0 c.as_slice-2.ensures
     c.in-Ok-link.ensures.links c.in-Ok-link.ensures.within c.in_ok-entered.ensures.entered c.if-branch.true
 
 pub returns-then-branch-clause-made : goal.returns-then-branch-clause-made
 returns-then-branch-clause-made g c =
     made_adds g.D.Disk c.args.tree.now.kernel c.directory.new.self.kernel c.create.new.tree.kernel c.entered.new.self.kernel c.args.from c.in-Ok.number c.args.name.now
-    c.in-Some.bytes c.as_slice-2.result.now (g.N.New.file c.in-Ok.number c.args.from) c.in_ok-bytes.field-0 c.in-Ok-link.write c.in_ok-entered.field-0 c.requires.tree
-    c.in_ok-bytes.ensures.same c.in_ok-bytes.ensures.found c.in-Some.is (created_new g.N.New.file c.args.from (files_seen g.D.Disk.image c.directory.new.self.kernel) (files_seen g.D.Disk.image c.create.new.tree.kernel) c.in_ok-number.field-0 c.in-Ok.number c.in-Ok.is c.in_ok-number.ensures.made).1
-    (created_new g.N.New.file c.args.from (files_seen g.D.Disk.image c.directory.new.self.kernel) (files_seen g.D.Disk.image c.create.new.tree.kernel) c.in_ok-number.field-0 c.in-Ok.number c.in-Ok.is c.in_ok-number.ensures.made).0 c.as_slice-2.ensures
+    c.in-Some.bytes c.as_slice-2.result.now ((g.N.New.file c.args.self.now.kind) c.in-Ok.number c.args.from) c.in_ok-bytes.field-0 c.in-Ok-link.write c.in_ok-entered.field-0 c.requires.tree
+    c.in_ok-bytes.ensures.same c.in_ok-bytes.ensures.found c.in-Some.is (created_new (g.N.New.file c.args.self.now.kind) c.args.from (files_seen g.D.Disk.image c.directory.new.self.kernel) (files_seen g.D.Disk.image c.create.new.tree.kernel) c.in_ok-number.field-0 c.in-Ok.number c.in-Ok.is c.in_ok-number.ensures.made).1
+    (created_new (g.N.New.file c.args.self.now.kind) c.args.from (files_seen g.D.Disk.image c.directory.new.self.kernel) (files_seen g.D.Disk.image c.create.new.tree.kernel) c.in_ok-number.field-0 c.in-Ok.number c.in-Ok.is c.in_ok-number.ensures.made).0 c.as_slice-2.ensures
     c.in-Ok-link.ensures.links c.in-Ok-link.ensures.within c.in_ok-entered.ensures.entered c.if-branch.true
 
 pub returns-clause-tree : goal.returns-clause-tree
 returns-clause-tree g c =
     let same : files_seen g.D.Disk.image c.uncreated.new.self.kernel ≡ files_seen g.D.Disk.image c.args.tree.now.kernel =
     made_undone g.D.Disk c.args.tree.now.kernel c.directory.new.self.kernel c.create.new.tree.kernel c.entered.new.self.kernel c.args.from c.in-Ok.number c.args.name.now
-    c.in-Some.bytes c.as_slice-2.result.now (g.N.New.file c.in-Ok.number c.args.from) c.in_ok-bytes.field-0 c.in-Ok-link.write c.in_ok-entered.field-0 c.requires.tree
-    c.in_ok-bytes.ensures.same c.in_ok-bytes.ensures.found c.in-Some.is (created_new g.N.New.file c.args.from (files_seen g.D.Disk.image c.directory.new.self.kernel) (files_seen g.D.Disk.image c.create.new.tree.kernel) c.in_ok-number.field-0 c.in-Ok.number c.in-Ok.is c.in_ok-number.ensures.made).1
-    (created_new g.N.New.file c.args.from (files_seen g.D.Disk.image c.directory.new.self.kernel) (files_seen g.D.Disk.image c.create.new.tree.kernel) c.in_ok-number.field-0 c.in-Ok.number c.in-Ok.is c.in_ok-number.ensures.made).0 c.as_slice-2.ensures
+    c.in-Some.bytes c.as_slice-2.result.now ((g.N.New.file c.args.self.now.kind) c.in-Ok.number c.args.from) c.in_ok-bytes.field-0 c.in-Ok-link.write c.in_ok-entered.field-0 c.requires.tree
+    c.in_ok-bytes.ensures.same c.in_ok-bytes.ensures.found c.in-Some.is (created_new (g.N.New.file c.args.self.now.kind) c.args.from (files_seen g.D.Disk.image c.directory.new.self.kernel) (files_seen g.D.Disk.image c.create.new.tree.kernel) c.in_ok-number.field-0 c.in-Ok.number c.in-Ok.is c.in_ok-number.ensures.made).1
+    (created_new (g.N.New.file c.args.self.now.kind) c.args.from (files_seen g.D.Disk.image c.directory.new.self.kernel) (files_seen g.D.Disk.image c.create.new.tree.kernel) c.in_ok-number.field-0 c.in-Ok.number c.in-Ok.is c.in_ok-number.ensures.made).0 c.as_slice-2.ensures
     c.in-Ok-link.ensures.links c.in-Ok-link.ensures.within c.in_ok-entered.ensures.entered
     c.uncreated.new.self.kernel c.from.result c.from.ensures c.if-branch.false c.in_ok-uncreated.ensures.undoes in
     subst (λ f. IsTree f) (sym same) c.requires.tree
@@ -44,14 +44,14 @@ returns-clause-tree g c =
 pub returns-clause-made : goal.returns-clause-made
 returns-clause-made g c = (
   made_undone g.D.Disk c.args.tree.now.kernel c.directory.new.self.kernel c.create.new.tree.kernel c.entered.new.self.kernel c.args.from c.in-Ok.number c.args.name.now
-      c.in-Some.bytes c.as_slice-2.result.now (g.N.New.file c.in-Ok.number c.args.from) c.in_ok-bytes.field-0 c.in-Ok-link.write c.in_ok-entered.field-0 c.requires.tree
-      c.in_ok-bytes.ensures.same c.in_ok-bytes.ensures.found c.in-Some.is (created_new g.N.New.file c.args.from (files_seen g.D.Disk.image c.directory.new.self.kernel) (files_seen g.D.Disk.image c.create.new.tree.kernel) c.in_ok-number.field-0 c.in-Ok.number c.in-Ok.is c.in_ok-number.ensures.made).1
-      (created_new g.N.New.file c.args.from (files_seen g.D.Disk.image c.directory.new.self.kernel) (files_seen g.D.Disk.image c.create.new.tree.kernel) c.in_ok-number.field-0 c.in-Ok.number c.in-Ok.is c.in_ok-number.ensures.made).0 c.as_slice-2.ensures
+      c.in-Some.bytes c.as_slice-2.result.now ((g.N.New.file c.args.self.now.kind) c.in-Ok.number c.args.from) c.in_ok-bytes.field-0 c.in-Ok-link.write c.in_ok-entered.field-0 c.requires.tree
+      c.in_ok-bytes.ensures.same c.in_ok-bytes.ensures.found c.in-Some.is (created_new (g.N.New.file c.args.self.now.kind) c.args.from (files_seen g.D.Disk.image c.directory.new.self.kernel) (files_seen g.D.Disk.image c.create.new.tree.kernel) c.in_ok-number.field-0 c.in-Ok.number c.in-Ok.is c.in_ok-number.ensures.made).1
+      (created_new (g.N.New.file c.args.self.now.kind) c.args.from (files_seen g.D.Disk.image c.directory.new.self.kernel) (files_seen g.D.Disk.image c.create.new.tree.kernel) c.in_ok-number.field-0 c.in-Ok.number c.in-Ok.is c.in_ok-number.ensures.made).0 c.as_slice-2.ensures
       c.in-Ok-link.ensures.links c.in-Ok-link.ensures.within c.in_ok-entered.ensures.entered
       c.uncreated.new.self.kernel c.from.result c.from.ensures c.if-branch.false c.in_ok-uncreated.ensures.undoes,
   made_absent g.D.Disk c.args.tree.now.kernel c.directory.new.self.kernel c.create.new.tree.kernel c.entered.new.self.kernel c.args.from c.in-Ok.number c.args.name.now
-      c.in-Some.bytes c.as_slice-2.result.now (g.N.New.file c.in-Ok.number c.args.from) c.in_ok-bytes.field-0 c.in-Ok-link.write c.in_ok-entered.field-0 c.requires.tree
-      c.in_ok-bytes.ensures.same c.in_ok-bytes.ensures.found c.in-Some.is (created_new g.N.New.file c.args.from (files_seen g.D.Disk.image c.directory.new.self.kernel) (files_seen g.D.Disk.image c.create.new.tree.kernel) c.in_ok-number.field-0 c.in-Ok.number c.in-Ok.is c.in_ok-number.ensures.made).1
-      (created_new g.N.New.file c.args.from (files_seen g.D.Disk.image c.directory.new.self.kernel) (files_seen g.D.Disk.image c.create.new.tree.kernel) c.in_ok-number.field-0 c.in-Ok.number c.in-Ok.is c.in_ok-number.ensures.made).0 c.as_slice-2.ensures
+      c.in-Some.bytes c.as_slice-2.result.now ((g.N.New.file c.args.self.now.kind) c.in-Ok.number c.args.from) c.in_ok-bytes.field-0 c.in-Ok-link.write c.in_ok-entered.field-0 c.requires.tree
+      c.in_ok-bytes.ensures.same c.in_ok-bytes.ensures.found c.in-Some.is (created_new (g.N.New.file c.args.self.now.kind) c.args.from (files_seen g.D.Disk.image c.directory.new.self.kernel) (files_seen g.D.Disk.image c.create.new.tree.kernel) c.in_ok-number.field-0 c.in-Ok.number c.in-Ok.is c.in_ok-number.ensures.made).1
+      (created_new (g.N.New.file c.args.self.now.kind) c.args.from (files_seen g.D.Disk.image c.directory.new.self.kernel) (files_seen g.D.Disk.image c.create.new.tree.kernel) c.in_ok-number.field-0 c.in-Ok.number c.in-Ok.is c.in_ok-number.ensures.made).0 c.as_slice-2.ensures
       c.in-Ok-link.ensures.links c.in-Ok-link.ensures.within c.in_ok-entered.ensures.entered,
 )

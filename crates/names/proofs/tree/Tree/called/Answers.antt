@@ -1,5 +1,5 @@
 use Rattle.std.proofs.Common.{◌≡◌, ◌+◌, ◌-◌, refl, rules, arith}
-use Rattle.names.proofs.Going.{call_answers, call_broken, call_goes, leaves_on, stays_here}
+use Rattle.names.proofs.Going.{call_answers, call_broken, call_cause, call_goes, leaves_on, stays_here}
 use Rattle.names.proofs.tree.Tree.called.Goals as goal
 
 pub returns-then-self-eq0-clause-goes : goal.returns-then-self-eq0-clause-goes
@@ -19,6 +19,10 @@ returns-in-Ok-clause-goes g c =
 pub returns-in-Ok-clause-answers : goal.returns-in-Ok-clause-answers
 returns-in-Ok-clause-answers g c =
     call_answers g.D.Disk c.args.op c.args.self.now.kernel c.call.new.kernel c.in-Ok.reply c.args.self.now.calls_left c.requires c.in-Ok.ensures.adds
+
+pub returns-in-Ok-clause-cause : goal.returns-in-Ok-clause-cause
+returns-in-Ok-clause-cause g c =
+    call_cause g.D.Disk c.args.op c.args.self.now.kernel c.call.new.kernel c.in-Ok.reply c.args.self.now.calls_left c.requires c.in-Ok.ensures.adds
 
 pub returns-in-Err-clause-goes : goal.returns-in-Err-clause-goes
 returns-in-Err-clause-goes g c = record {

@@ -1,0 +1,27 @@
+use Rattle.std.proofs.Common.{[], ◌≡◌, ◌∙◌, Ok, sym, subst}
+use Rattle.model.specs.Files.{Files}
+use Rattle.names.specs.Contents.{Empties, HasOnly}
+use Rattle.names.specs.Inside.{files_seen}
+use Rattle.names.specs.Trees.{IsFile, IsTree}
+use Rattle.names.specs.Walks.{walked}
+use Rattle.names.proofs.PathLaws.{names_lead}
+use Rattle.names.proofs.PlainFiles.{happens_plain}
+use Rattle.names.proofs.contents.EmptyFileChange.apply.Goals as goal
+
+pub emptied-requires-clause-there : goal.emptied-requires-clause-there
+emptied-requires-clause-there g c =
+    let files : Files = files_seen g.D.Disk.image c.args.tree.now.kernel in
+    let led : walked files 1 c.args.names.now ≡ Ok c.in-Ok.number = sym c.in_ok-number.ensures.led ∙ c.in-Ok.is in
+    subst (λ (f : Files). IsFile f c.in-Ok.number) (sym c.in_ok-number.ensures.same)
+    (names_lead files c.args.names.now c.in-Ok.number c.requires.tree led)
+
+pub emptied-requires-clause-tree : goal.emptied-requires-clause-tree
+emptied-requires-clause-tree g c = subst (λ (f : Files). IsTree f) (sym c.in_ok-number.ensures.same) c.requires.tree
+
+pub returns-in-Ok-clause-made : goal.returns-in-Ok-clause-made
+returns-in-Ok-clause-made g c =
+    let files : Files = files_seen g.D.Disk.image c.args.tree.now.kernel in
+    let led : walked files 1 c.args.names.now ≡ Ok c.in-Ok.number = sym c.in_ok-number.ensures.led ∙ c.in-Ok.is in
+    happens_plain (λ done. HasOnly c.in-Ok.number []) (Empties c.args.names.now) c.args.names.now c.in-Ok.number files
+    (files_seen g.D.Disk.image c.walk.new.self.kernel) (files_seen g.D.Disk.image c.emptied.new.self.kernel) led c.in_ok-number.ensures.same
+    (λ done emptied. record { number = c.in-Ok.number; led = led; emptied = emptied }) c.emptied.result c.emptied.ensures.emptied
