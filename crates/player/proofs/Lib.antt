@@ -1,4 +1,5 @@
 pub mod Plays
+pub mod Tells
 pub mod Refused
 pub mod Openings
 pub mod Steps

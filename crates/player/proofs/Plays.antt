@@ -30,7 +30,7 @@ more_printed : (text mid printed : Option (List ℕ)) (events : List Event) (eve
 more_printed text mid printed events event before line = subst (Appends text printed) (flat_map_more event_line [] events event) (Appends-trans text mid printed _ _ before line)
 
 -- one word more
-one_more : (words : List Word) (k : ℕ) (word : Word) → k < length words → drop k words ≡ word ∷ drop (k + 1) words → take (k + 1) words ≡ take k words ++ word ∷ []
+pub one_more : (words : List Word) (k : ℕ) (word : Word) → k < length words → drop k words ≡ word ∷ drop (k + 1) words → take (k + 1) words ≡ take k words ++ word ∷ []
 one_more words k word within left =
     take_more words k word within ∙ ap (λ (w : Word). take k words ++ w ∷ []) (first_of (get_or words k word) word (drop (k + 1) words) (sym (next_word words k word within) ∙ left))
   where

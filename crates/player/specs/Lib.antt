@@ -3,6 +3,7 @@ pub mod Afterwards
 pub mod Turns
 pub mod Stepping
 pub mod Opening
+pub mod Told
 pub mod Showing
 pub mod Refusals
 pub mod Looks

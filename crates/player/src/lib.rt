@@ -9,6 +9,7 @@
 mod checking;
 mod looks;
 mod making;
+mod noting;
 mod player;
 mod playing;
 mod reconciling;
@@ -16,6 +17,7 @@ mod recovering;
 mod refusals;
 mod replaying;
 mod showing;
+mod telling;
 mod turns;
 
 pub use checking::{check_disk, check_disk_all};
@@ -25,6 +27,6 @@ pub use player::Player;
 pub use playing::make_turns;
 pub use recovering::recover_disk;
 pub use refusals::{CatRefusal, ReplayRefusal};
-pub use replaying::{replay_disk, take_board};
+pub use replaying::{replay_disk, replay_told, take_board};
 pub use showing::cat_disk;
 pub use turns::{Hands, Outcome, open_player};

@@ -107,7 +107,7 @@ fn play<D: Disk + Drop, P: Meter, O: Write>(
 }
 
 // Prints what the turns came to. `Disk` where the disk failed, and all is printed then, too.
-fn close<D: Disk + Drop, O: Write>(
+pub(crate) fn close<D: Disk + Drop, O: Write>(
     player: &Player<'_, D>,
     base: u64,
     out: &mut O,

@@ -5,14 +5,17 @@ ghost use Rattle.std.specs.List.{list_all};
 ghost use Rattle.scripts.specs.Schedule.{is_word_of};
 ghost use Rattle.player.specs.Opening.{IsNotBegun, IsNotReplayed, IsReadyOver, Replays};
 ghost use Rattle.player.specs.Stepping.{IsSeated};
+ghost use Rattle.player.specs.Told.{IsNotTold, ReplaysTold, base_of};
 
+use crate::noting::{Base, Notes};
 use crate::player::Player;
 use crate::playing::run;
 use crate::refusals::ReplayRefusal;
+use crate::telling::run_told;
 use crate::turns::{Hands, open_player};
 use blocks::{Disk, FaultyDisk, NoMemory};
 use kernel::OpenFault;
-use messages::{Meter, Silent};
+use messages::{Detail, Meter, Silent};
 use opening::recover_image;
 use rings::Board;
 use scripts::{Task, Word};
@@ -73,6 +76,87 @@ pub fn replay_disk<D: Disk + Drop, P: Meter, O: Write>(
     progress.ended();
     player.reconcile_all();
     (ran, player.into_disk())
+}
+
+/// Recovers the image of a disk and makes a script's operations, as `replay_disk`, and prints below
+/// the line of each turn what is told of its steps: with `detail.steps` a line for each, what it was
+/// to do and who held what it waits for; with `detail.writes` a line for each write, which block it
+/// is and why, numbered as `stop` counts, and for each sync. The same turns are made, and all that
+/// `replay_disk` says of the disk holds.
+///
+/// # Errors
+///
+/// As those of `replay_disk`, with `Unopened` of `NoMemory` also where memory for the steps of a turn
+/// is refused.
+pub fn replay_told<D: Disk + Drop, P: Meter, O: Write>(
+    alloc: Global,
+    disk: D,
+    tasks: Vec<Task>,
+    processes: u32,
+    words: &[Word],
+    stop: Option<u64>,
+    detail: Detail,
+    progress: &mut P,
+    out: &mut O,
+) -> (Result<(), ReplayRefusal>, D)
+    requires tasks { All (λ task. task.pid < processes) tasks.items }
+    requires words { IsTrue (list_all (is_word_of processes) words.now) }
+    ensures printed { OnOk result.0 (ReplaysTold D.Disk ⟦<FaultyDisk<D> as Disk>⟧ disk result.1
+        tasks.items processes words.now (unwrap_or stop 0) detail
+        None (O.contents out.old) (O.contents out.new)) }
+    ensures refused { IfErr result.0 (IsNotTold D.Disk ⟦<FaultyDisk<D> as Disk>⟧ disk result.1
+        tasks.items processes words.now (unwrap_or stop 0) detail
+        (O.contents out.old) (O.contents out.new) (out.new ≡ out.old)) }
+    ensures name { D.name result.1 ≡ D.name disk }
+{
+    let stop = stop.unwrap_or(0);
+    let (board, hands, mut notes) = match take_board_and_notes(alloc) {
+        Ok(made) => made,
+        Err(_refused) => {
+            return (Err(ReplayRefusal::Unopened(OpenFault::NoMemory)), disk);
+        }
+    };
+    let opened = open_recovered(alloc, &board, hands, disk, tasks, processes, stop);
+    let (mut player, _) = match opened {
+        Ok(opened) => opened,
+        Err((refusal, disk)) => return (Err(refusal), disk),
+    };
+    let base = base_of(player.disk());
+    let ran = run_told(
+        &mut player,
+        &mut notes,
+        words,
+        stop,
+        base,
+        detail,
+        progress,
+        out,
+    );
+    progress.ended();
+    player.reconcile_all();
+    (ran, player.into_disk())
+}
+
+// The same with room for the notes of a turn.
+fn take_board_and_notes(alloc: Global) -> Result<(Board, Hands, Notes), NoMemory>
+    ensures keeper { IfOk result (λ made. KeeperOf made.0 made.1.keeper
+        × (published made.1.keeper ≡ 0)) }
+    ensures watch { IfOk result (λ made. WatchOf made.0 made.1.watch
+        × (asked made.1.watch ≡ false)) }
+{
+    let notes = Notes::new(alloc)?;
+    let (board, hands) = take_board(alloc)?;
+    Ok((board, hands, notes))
+}
+
+// What a disk has counted.
+fn base_of<D: Disk>(disk: &D) -> Base
+    ensures { result ≡ base_of D.Disk disk.now }
+{
+    Base {
+        writes: disk.writes(),
+        syncs: disk.syncs(),
+    }
 }
 
 /// A board, and a player's hands at it.

@@ -202,6 +202,13 @@ impl<'a, D: Disk + Drop> Player<'a, D> {
         self.kernel.journal()
     }
 
+    // The disk, for who only asks.
+    pub(crate) fn disk(&self) -> &FaultyDisk<D>
+        ensures { result.now ≡ self.now.kernel.store.volume.device }
+    {
+        self.kernel.disk()
+    }
+
     /// The disk as it is.
     pub fn into_disk(self) -> D
         ensures { result ≡ inner_of self.entry.kernel.store.volume.device }
@@ -243,7 +250,7 @@ impl<'a, D: Disk + Drop> Player<'a, D> {
     }
 
     // Hands in the next operations of a process, as many as its ring takes.
-    fn hand_in(&mut self, pid: u32)
+    pub(crate) fn hand_in(&mut self, pid: u32)
         requires pid { pid < length self.old.kernel.world.processes }
         requires seated { IsSeated self.old }
         ensures hands_in { HandsIn pid
@@ -255,7 +262,8 @@ impl<'a, D: Disk + Drop> Player<'a, D> {
         let _moved = self.feeders[pid as usize].hand_in();
     }
 
-    fn step(&mut self, pid: u32) -> Step
+    // Makes a step of a process.
+    pub(crate) fn step(&mut self, pid: u32) -> Step
         requires pid { pid < length self.old.kernel.world.processes }
         requires seated { IsSeated self.old }
         ensures makes { MakesRingedStep ⟦<FaultyDisk<D> as Disk>⟧
@@ -286,7 +294,7 @@ impl<'a, D: Disk + Drop> Player<'a, D> {
     }
 
     // What the turn of a process came to, whose last step answered so.
-    fn event(&mut self, pid: u32, step: Step, stop: u64) -> Event
+    pub(crate) fn event(&mut self, pid: u32, step: Step, stop: u64) -> Event
         requires pid { pid < length self.old.kernel.world.processes }
         requires seated { IsSeated self.old }
         ensures { (polled : Option SomeAnswer)
