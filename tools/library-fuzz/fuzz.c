@@ -1,11 +1,14 @@
 /*
  * Random operations of up to four processes over the library, each run with the script and the schedule
  * of its turns, and with what `xvfs replay` has to print for them. The device has only the writes that
- * were told, and some runs stop before one. Of the library's calls for memory some are refused, and the
- * call that says so is made again.
+ * were told, and some runs stop before one; a device that holds writes back is run beside it. Of the
+ * library's calls for memory some are refused, and the call that says so is made again.
  *
  * fuzz FOLDER SEED RUNS   writes for each run K the files K.script, K.schedule, K.words (size, inode
  *                         numbers, form, the write to stop before or 0), K.printed and K.img
+ * fuzz held SEED RUNS     runs with XVFS_HOLD over a device that loses any writes of those behind its
+ *                         last flush: what is left at random moments, and amid its recovery, recovers
+ *                         to one sound image
  * fuzz refuse SEED        one run, again and again, each with another call for memory refused
  * fuzz numbers            each refusal that can be had has the number that xvfs.h says
  *
@@ -84,7 +87,14 @@ struct process {
 };
 
 static struct process processes[PROCESSES];
-static uint32_t process_count, size, ninodes, form, stop;
+static uint32_t process_count, size, ninodes, form, stop, flags;
+static uint8_t synced[sizeof device]; /* by XVFS_HOLD: the device at its last flush */
+static struct {
+    uint32_t block;
+    uint8_t bytes[XVFS_BLOCK_SIZE];
+} held[64];
+static unsigned held_count;
+static unsigned long syncs, losses;
 static unsigned long writes, told, stops, operations;
 static uint64_t committed;
 static FILE *script, *schedule, *printed;
@@ -170,6 +180,73 @@ static void say_answer(uint32_t p, const xvfs_answer *a) {
     }
 }
 
+static uint8_t *at(uint8_t *image, uint32_t b) { return image + b * XVFS_BLOCK_SIZE; }
+
+/* What the device does with a told write or flush, where it holds writes back. */
+static void hold_write(uint32_t b, const uint8_t *from) {
+    if (held_count == 64) fail("more than 64 writes without a flush", b);
+    held[held_count].block = b;
+    memcpy(held[held_count++].bytes, from, XVFS_BLOCK_SIZE);
+}
+
+static void flush_held(void) {
+    for (unsigned k = 0; k < held_count; k++)
+        memcpy(at(synced, held[k].block), held[k].bytes, XVFS_BLOCK_SIZE);
+    held_count = 0;
+    syncs += 1;
+}
+
+/* What a stop leaves: of the held writes any, in their order. */
+static void leave(uint8_t *left) {
+    memcpy(left, synced, device_size);
+    for (unsigned k = 0; k < held_count; k++)
+        if (below(2)) memcpy(at(left, held[k].block), held[k].bytes, XVFS_BLOCK_SIZE);
+}
+
+/* Recovers an image, which has to be sound. */
+static void must_recover(uint8_t *image) {
+    uint32_t recovered, number;
+    do number = xvfs_recover(image, device_size, &recovered);
+    while (number == XVFS_RECOVER_MEMORY || number == XVFS_CHECK_MEMORY);
+    if (number) fail("what a stop leaves isn't sound", number);
+}
+
+/* A stop: what it leaves is sound, and recovered as told to the image that xvfs_recover makes, also
+ * where that is stopped in turn. */
+static void lose(void) {
+    static uint8_t found[sizeof device], whole[sizeof device], kept[sizeof device];
+    static uint8_t kept_bytes[sizeof held], again[sizeof device];
+    unsigned kept_count = held_count;
+    uint32_t number;
+    xvfs_told done;
+    memcpy(kept, synced, device_size);
+    memcpy(kept_bytes, held, sizeof held);
+    leave(found);
+    memcpy(whole, found, device_size);
+    must_recover(whole);
+    for (unsigned tries = 3; tries > 0; tries--) {
+        uint32_t stops_at = below(40);
+        memcpy(synced, found, device_size);
+        held_count = 0;
+        for (uint32_t place = 0; place < stops_at; place++) {
+            REPEAT(number, XVFS_CHECK_MEMORY,
+                   xvfs_recover_step(found, device_size, place, &done, block, sizeof block));
+            if (number) fail("a step of recovery is refused", number);
+            if (done.wrote) hold_write(done.block, block);
+            else if (done.synced) flush_held();
+            else if (held_count || memcmp(synced, whole, device_size)) fail("not recovered", place);
+        }
+        leave(found);
+        memcpy(again, found, device_size);
+        must_recover(again);
+        if (memcmp(again, whole, device_size)) fail("another image amid recovery", stops_at);
+    }
+    memcpy(synced, kept, device_size);
+    memcpy(held, kept_bytes, sizeof held);
+    held_count = kept_count;
+    losses += 1;
+}
+
 /* One step of a process: 1 where it moved, 0 where it didn't, -1 where its write is the one to stop
  * before. With `is_word` a line is printed also where it moved. */
 static int step(xvfs *fs, uint32_t p, int is_word) {
@@ -186,8 +263,12 @@ static int step(xvfs *fs, uint32_t p, int is_word) {
             return -1;
         }
         writes += 1;
-        memcpy(device + stepped.block * XVFS_BLOCK_SIZE, block, sizeof block);
+        memcpy(at(device, stepped.block), block, sizeof block);
+        if (flags) hold_write(stepped.block, block);
     }
+    if (stepped.synced) flush_held();
+    if (stepped.synced && !flags) fail("a sync is told", p);
+    if (flags && below(stepped.wrote ? 8 : 200) == 0) lose();
     committed = stepped.committed;
     if (stepped.step == XVFS_MOVED) {
         if (is_word) say("%u moved\n", p);
@@ -250,9 +331,11 @@ static void run(uint64_t seed) {
     if (refused) fail("mkfs", refused);
     for (uint32_t p = 0; p < process_count; p++)
         for (unsigned k = 1 + below(MOST_OPS - 1); k > 0; k--) make_op(p);
-    do refused = xvfs_open(&fs, device, device_size, process_count, 0, &opening);
+    do refused = xvfs_open(&fs, device, device_size, process_count, flags, &opening);
     while (refused == XVFS_OPEN_MEMORY || refused == XVFS_CHECK_MEMORY);
     if (refused || opening) fail("open", refused);
+    memcpy(synced, device, device_size);
+    held_count = 0;
     unsigned most = MOST_TURNS, shut_at = below(4) ? MOST_TURNS : below(200), turns = 0;
     int goes_on = 1;
     for (; goes_on && turns < most && !is_done(); turns++) {
@@ -343,6 +426,8 @@ static void expect_fault(const char *name, uint32_t wanted, uint32_t at) {
     expect(name, wanted, report.fault);
     if (report.at != at) fail("a fault is at", report.at);
     expect(name, wanted, xvfs_recover(device, device_size, &recovered));
+    xvfs_told done;
+    expect(name, wanted, xvfs_recover_step(device, device_size, 0, &done, block, sizeof block));
     expect(name, wanted, xvfs_open(&fs, device, device_size, 1, 0, &opening));
     make();
 }
@@ -368,6 +453,7 @@ static void see_calls(void) {
     xvfs_stepped stepped;
     xvfs_answer answer;
     xvfs_report report;
+    xvfs_told told_now;
     uint64_t n;
     uint32_t recovered;
     EXPECT(XVFS_FILE_LENGTH, xvfs_check(device, 1023, &report));
@@ -376,6 +462,10 @@ static void see_calls(void) {
     EXPECT(XVFS_FILE_LENGTH, xvfs_open(&fs, device, 0, 1, 0, &n));
     EXPECT(XVFS_MKFS_SIZE, xvfs_mkfs(device, 37 * XVFS_BLOCK_SIZE, 32, 1));
     EXPECT(XVFS_MKFS_INODES, xvfs_mkfs(device, device_size, 1, 1));
+    EXPECT(XVFS_OPEN_FLAGS, xvfs_open(&fs, device, device_size, 1, 2, &n));
+    EXPECT(XVFS_FILE_LENGTH, xvfs_recover_step(device, 0, 0, &told_now, block, sizeof block));
+    EXPECT(XVFS_NO_BLOCK, xvfs_recover_step(device, device_size, 0, &told_now, block, 1));
+    EXPECT(XVFS_RECOVER_LOG, xvfs_recover_step(device, 2048, 1, &told_now, block, sizeof block));
     EXPECT(XVFS_OPEN_PROCESSES, xvfs_open(&fs, device, device_size, 33, 0, &n));
     EXPECT(XVFS_CLOSED, xvfs_try_step(&fs, 0, &stepped, block, sizeof block));
     EXPECT(XVFS_OK, xvfs_try_open(&fs, device, device_size, 1, 0, &n));
@@ -419,6 +509,14 @@ static void see_memory(void) {
 int main(int argc, char **argv) {
     if (argc == 3 && !strcmp(argv[1], "refuse")) {
         refuse_each((uint64_t)atoll(argv[2]));
+        return 0;
+    }
+    if (argc == 4 && !strcmp(argv[1], "held")) {
+        flags = XVFS_HOLD;
+        refuse_one_in = 40;
+        for (unsigned k = 1; k <= (unsigned)atoi(argv[3]); k++) run((uint64_t)atoll(argv[2]) * 77 + k);
+        printf("with XVFS_HOLD: %lu writes and %lu flushes told, %lu stops that lose writes\n", told, syncs,
+               losses);
         return 0;
     }
     if (argc == 2 && !strcmp(argv[1], "numbers")) {

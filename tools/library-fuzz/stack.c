@@ -65,6 +65,11 @@ static void recover(void) {
     must(xvfs_recover(image, sizeof image, &recovered) == XVFS_OK, "recover");
 }
 
+static void recover_step(void) {
+    xvfs_told told;
+    must(xvfs_recover_step(image, sizeof image, 0, &told, block, sizeof block) == XVFS_OK, "recover_step");
+}
+
 static void open_it(void) {
     uint64_t writes;
     must(xvfs_open(&fs, image, sizeof image, 32, XVFS_HOLD, &writes) == XVFS_OK, "open");
@@ -103,6 +108,7 @@ int main(void) {
     measure("xvfs_mkfs", make, 4096);
     measure("xvfs_check", check, 4096);
     measure("xvfs_recover", recover, 4096);
+    measure("xvfs_recover_step", recover_step, 4096);
     measure("xvfs_open", open_it, 72 * 1024);
     operate(XVFS_CREATE, 2, 0, 0);
     for (uint32_t k = 0; k < 100; k++) operate(XVFS_WRITE, 1, k * XVFS_TRANSFER, XVFS_TRANSFER);
