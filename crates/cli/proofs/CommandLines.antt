@@ -13,6 +13,7 @@ use Rattle.clap.proofs.OnLiterals.{clap_on_literals}
 use Rattle.clap.proofs.WalkLemmas.{first_value-rows, one_text-rows}
 use Rattle.cli.specs.declared.words.Request.{Request}
 use Rattle.cli.specs.declared.words.Request.TheVariants.{Mkfs, Check, Recover, Cat, Ls, Df, Show, Put, Copy, Rescue, Replay, Run, Stops}
+use Rattle.cli.specs.Lemmas.Parses.{met_in, mistaken_in, none_mistaken_in, some_is_not_none}
 use Rattle.cli.specs.CommandLine.{AskFor, Asks, AsksBy, Gives, HasApp, HasChoice, HasFewWorkers, HasFlag, IsMistakeIn, mistakes_in, xvfs_app}
 
 pub one_word : (app : App) (rule : Rule) (old : Command) (word : Arg) (new : Command) → HasApp app old → rule_of word ≡ rule → word.global ≡ false → AddsArg old word new → HasApp (with_rule app rule) new
@@ -34,19 +35,15 @@ free = refl
 
 -- words that a parse took have no mistake
 pub none_mistaken : (app : App) (words : List (List ℕ)) (m : ArgMatches) → app ≡ xvfs_app → (is_simple_and_free app ≡ true → FailsBy (fault_of app words) (Ok m)) → mistakes_in words ≡ []
-none_mistaken app words m is fails = subst (λ (a : App). fault_of a words ≡ []) is (fails (ap is_simple_and_free is ∙ free))
+none_mistaken app words m is fails = none_mistaken_in xvfs_app app words m free is fails
 
 -- words that a parse refused have the error's kind of mistake
 pub mistaken : (app : App) (words : List (List ℕ)) (e : Error) → app ≡ xvfs_app → (is_simple_and_free app ≡ true → FailsBy {T = ArgMatches} (fault_of app words) (Err e)) → IsMistakeIn words e
-mistaken app words e is fails = inl (subst (λ (a : App). HasKind (fault_of a words) e) is (fails (ap is_simple_and_free is ∙ free)))
+mistaken app words e is fails = inl (mistaken_in xvfs_app app words e free is fails)
 
 -- the command that a parse met is the words'
 pub met : (app : App) (words : List (List ℕ)) (m : ArgMatches) (request : Request) → app ≡ xvfs_app → HasMatchesOf app words m → Asks (subcommand_rows_of m) request → Asks (subcommand_of xvfs_app words) request
-met app words m request is matches asks =
-    subst (λ command. Asks command request) ((matches (ap is_simple is ∙ simple)).1 ∙ ap (λ (a : App). subcommand_of a words) is) asks
-
-pub some_is_not_none : {A : Type 0} (x : A) → Some x ≡ None → ⊥
-some_is_not_none x same = subst (λ o. MatchOption o ⊥ (λ _. ⊤)) same tt
+met app words m request is matches asks = met_in xvfs_app app words m (λ command. Asks command request) simple is matches asks
 
 -- a request of the command that was met
 pub asked : {B : Type 0} (f : B → List ℕ × List Row) (sub : Option B) (name : List ℕ) (rows : List Row) (request : Request) → Some name ≡ option_map (λ b. (f b).0) sub → Some rows ≡ option_map (λ p. p.1) (option_map f sub)
@@ -60,22 +57,6 @@ pub asked_by : {B : Type 0} (f : B → List ℕ × List Row) (sub : Option B) (n
     → AsksBy of rows request → Asks (option_map f sub) request
 asked_by f sub name of rows request is named has asks = asked f sub name rows request named has (subst (λ n. AsksBy n rows request) (sym is) asks)
 
--- the first value of a word
-pub value_read : (f : Found) (id text : List ℕ) → Some text ≡ first_value f id → first_of id (rows_of f) ≡ Some text
-value_read f id text gives = sym (gives ∙ first_value-rows f id)
-
--- what clap says of a word that may be given
-pub flag_read : (f : Found) (id : List ℕ) (given : Bool) → (one_text f id ≡ None → given ≡ false) → (one_text f id ≡ Some (codes "true") → given ≡ true) → (one_text f id ≡ Some (codes "false") → given ≡ false) → HasFlag id (rows_of f) given
-flag_read f id given none set unset = record {
-  set = λ is. set (one_text-rows f id ∙ is);
-  unset = λ is. unset (one_text-rows f id ∙ is);
-  none = λ is. none (one_text-rows f id ∙ is);
-}
-
--- what clap says of a number that may be left out
-pub choice_read : (f : Found) (id : List ℕ) (given : Option ℕ) → (one_text f id ≡ None → given ≡ None) → HasChoice id (rows_of f) given
-choice_read f id given none = record { none = λ is. none (one_text-rows f id ∙ is) }
-
 -- whether the command that was met has a word that may be given
 pub gives : {B : Type 0} (f : B → List ℕ × List Row) (sub : Option B) (id : List ℕ) (rows : List Row) (given : Bool) → Some rows ≡ option_map (λ p. p.1) (option_map f sub) → HasFlag id rows given → Gives id (option_map f sub) given
 gives f None id rows given has flag = absurd (some_is_not_none rows has)
@@ -83,8 +64,7 @@ gives f (Some b) id rows given has flag = subst (λ rs. HasFlag id rs given) (sa
 
 -- the words of the command that a parse met have it too
 pub met_giving : (app : App) (words : List (List ℕ)) (m : ArgMatches) (id : List ℕ) (given : Bool) → app ≡ xvfs_app → HasMatchesOf app words m → Gives id (subcommand_rows_of m) given → Gives id (subcommand_of xvfs_app words) given
-met_giving app words m id given is matches has =
-    subst (λ command. Gives id command given) ((matches (ap is_simple is ∙ simple)).1 ∙ ap (λ (a : App). subcommand_of a words) is) has
+met_giving app words m id given is matches has = met_in xvfs_app app words m (λ command. Gives id command given) simple is matches has
 
 few_by : (name : List ℕ) (rows : List Row) (request : Request) → AsksBy name rows request → HasFewWorkers request
 few_by name rows (Mkfs image size ninodes large no_sync) asks = tt

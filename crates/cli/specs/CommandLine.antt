@@ -107,15 +107,18 @@ stops_app = with_rule (explained (with_rule (with_rule (new_app (codes "stops"))
     (required_rule (codes "SCRIPT"))) (required_rule (codes "SCHEDULE"))))
     (flag_rule (codes "held"))
 
--- the program, with no command yet
-abbrev pub bare_app : App
-bare_app = record (new_app (codes "xvfs")) {
-  top = record (new_app (codes "xvfs")).top {
+-- a program of that name, with no command yet
+abbrev pub named_app : List ℕ → App
+named_app name = record (new_app name) {
+  top = record (new_app name).top {
     has_version = true;
     no_binary_name = true;
     subcommand_required = true;
   };
 }
+
+abbrev pub bare_app : App
+bare_app = named_app (codes "xvfs")
 
 -- with its commands, in the order of help
 abbrev pub xvfs_app : App

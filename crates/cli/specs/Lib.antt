@@ -1,3 +1,4 @@
 pub mod CommandLine
 pub mod Told
 pub mod Table
+pub mod Lemmas

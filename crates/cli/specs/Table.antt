@@ -1,11 +1,13 @@
 -- The table of commands, as clap is told it.
 use Rattle.std.specs.Prelude.{List, ℕ, [], ◌∷◌, Some, pos}
+use Rattle.clap.specs.declared.builder.action.ArgAction.TheVariants.{Append, SetTrue}
 use Rattle.clap.specs.Words.{App, Rule, new_app, new_rule, with_rule, with_subcommand}
 use Rattle.clap.specs.declared.builder.value_parser.ValueParser.TheVariants.{Signed, Unsigned}
-use Rattle.cli.specs.CommandLine.{choice_rule, flag_rule, number_rule, required_rule}
+use Rattle.cli.specs.CommandLine.{choice_rule, flag_rule, named_app, number_rule, required_rule}
 use Rattle.cli.specs.declared.table.Kind.{Kind}
-use Rattle.cli.specs.declared.table.Kind.TheVariants.{Needed, Number, Choice, Flag, Valued, FewValued, LongValued}
+use Rattle.cli.specs.declared.table.Kind.TheVariants.{Needed, Free, Rest, Number, Choice, Flag, Letter, Valued, FewValued, LongValued}
 use Rattle.cli.specs.declared.table.Line.{Line}
+use Rattle.cli.specs.declared.table.Outline.{Outline}
 use Rattle.cli.specs.declared.table.Word.{Word}
 
 -- a word after `--` that has a value
@@ -14,9 +16,13 @@ valued_rule id rule = record rule { long = Some id; value_names = 1 }
 
 abbrev pub kind_rule : Kind → List ℕ → Rule
 kind_rule Needed id = required_rule id
+kind_rule Free id = new_rule id
+kind_rule Rest id = record (new_rule id) { action = Some Append }
 kind_rule Number id = number_rule id
 kind_rule Choice id = choice_rule id
 kind_rule Flag id = flag_rule id
+kind_rule (Letter letter) id =
+    record (new_rule id) { short = Some letter; action = Some SetTrue }
 kind_rule Valued id = valued_rule id (choice_rule id)
 kind_rule FewValued id =
     valued_rule id (record (new_rule id) { parser = Some (Signed (pos 1) (pos 32)) })
@@ -37,3 +43,7 @@ line_app line = with_words (new_app line.name.now) line.words.now
 abbrev pub with_lines : App → List Line → App
 with_lines app [] = app
 with_lines app (line ∷ rest) = with_lines (with_subcommand app (line_app line).top) rest
+
+-- a program with its commands
+abbrev pub outline_app : Outline → App
+outline_app outline = with_lines (named_app outline.name.now) outline.lines.now

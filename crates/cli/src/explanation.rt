@@ -20,8 +20,8 @@ pub enum Explanation {
 }
 
 impl Explanation {
-    // What clap tells of the words.
-    pub(crate) fn of(alloc: Global, error: Error) -> Explanation
+    /// What clap tells of words.
+    pub fn of(alloc: Global, error: Error) -> Explanation
         ensures { IsOfKind (kind_of error) result }
     {
         let Ok(text) = format!(in alloc; "{error}") else {

@@ -1,28 +1,39 @@
-// The program's command line, told to clap by the table of its commands.
+// A program's command line, told to clap by the table of its commands.
 ghost use Rattle.std.specs.Prelude.{◌≡◌, false, IfOk};
-ghost use Rattle.clap.specs.Words.{rule_of};
-ghost use Rattle.cli.specs.CommandLine.{HasApp, HasMore, bare_app, xvfs_app};
-ghost use Rattle.cli.specs.Table.{line_app, valued_rule, with_lines, word_rule};
+ghost use Rattle.clap.specs.Words.{App, rule_of};
+ghost use Rattle.cli.specs.CommandLine.{HasApp, HasMore, bare_app, named_app, xvfs_app};
+ghost use Rattle.cli.specs.Table.{line_app, outline_app, valued_rule, with_lines, word_rule};
 
-use crate::table::{Kind, LINES, Line, Word};
+use crate::table::{Kind, Line, Outline, Word, XVFS};
 use clap::{Arg, ArgAction, Command, value_parser};
 use std::alloc::{AllocError, Global};
 
-// The program, with its commands.
-pub fn program<'a>(alloc: Global) -> Result<Command<'a>, AllocError>
+// `xvfs`, with its commands.
+pub(crate) fn program<'a>(alloc: Global) -> Result<Command<'a>, AllocError>
     ensures { IfOk result (HasApp xvfs_app) }
 {
-    with_commands(alloc, bare_program(alloc)?, &LINES)
+    program_of(alloc, XVFS)
 }
 
-// The program, with these commands.
+/// A program, with its commands.
+///
+/// # Errors
+///
+/// `AllocError` where memory is refused.
+pub fn program_of<'a>(alloc: Global, outline: Outline) -> Result<Command<'a>, AllocError>
+    ensures { IfOk result (HasApp (outline_app outline)) }
+{
+    with_commands(alloc, bare_program(alloc, outline)?, outline.lines)
+}
+
+// A program, with these commands.
 fn with_commands<'a>(
     alloc: Global,
     program: Command<'a>,
     lines: &'static [Line],
 ) -> Result<Command<'a>, AllocError>
-    requires { HasApp bare_app program }
-    ensures { IfOk result (HasApp (with_lines bare_app lines.now)) }
+    ensures { IfOk result (λ new. (app : App) → HasApp app program.entry
+        → HasApp (with_lines app lines.now) new) }
 {
     let mut program = program;
     for line in lines {
@@ -31,17 +42,15 @@ fn with_commands<'a>(
     Ok(program)
 }
 
-// The program, without its commands.
-fn bare_program<'a>(alloc: Global) -> Result<Command<'a>, AllocError>
-    ensures { IfOk result (HasApp bare_app) }
+// A program, without its commands.
+fn bare_program<'a>(alloc: Global, outline: Outline) -> Result<Command<'a>, AllocError>
+    ensures { IfOk result (HasApp (named_app outline.name.now)) }
 {
     Ok(
-        Command::new(alloc, "xvfs")
-            .version("0.1.0")
-            .about(
-                "Makes, checks, lists, shows, fills, copies and recovers images of the xv6 file system, and runs scripts of operations over them; without words, does the command lines of standard input",
-            )
-            .bin_name("xvfs")?
+        Command::new(alloc, outline.name)
+            .version(outline.version)
+            .about(outline.about)
+            .bin_name(outline.name)?
             .no_binary_name(true)
             .subcommand_required(true),
     )
@@ -78,9 +87,12 @@ fn argument<'a>(alloc: Global, word: Word) -> Arg<'a>
     let argument = Arg::new(alloc, word.name).help(word.help);
     match word.kind {
         Kind::Needed => argument.required(true),
+        Kind::Free => argument,
+        Kind::Rest => argument.action(ArgAction::Append),
         Kind::Number => argument.required(true).value_parser(value_parser!(u32)),
         Kind::Choice => argument.value_parser(value_parser!(u32)),
         Kind::Flag => argument.long(word.name).action(ArgAction::SetTrue),
+        Kind::Letter(letter) => argument.short(letter).action(ArgAction::SetTrue),
         Kind::Valued => valued(argument, word.name).value_parser(value_parser!(u32)),
         Kind::FewValued => valued(argument, word.name).value_parser(value_parser!(u32).range(
             1..=32,

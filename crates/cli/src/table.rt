@@ -1,61 +1,98 @@
-// The commands of the program, and their words, as a table: what help prints of each, and in which
-// order clap is told of them.
+// The commands of a program, and their words, as a table: what help prints of each, and in which
+// order clap is told of them; and that of `xvfs`.
 
-// What a word of a command line is.
+/// What a word of a command line is.
 #[derive(Clone, Copy)]
 pub enum Kind {
-    // It has to be there.
+    /// It has to be there.
     Needed,
-    // A number of 32 bits, which has to be there.
+    /// It may be left out.
+    Free,
+    /// Any number of them, behind all others.
+    Rest,
+    /// A number of 32 bits, which has to be there.
     Number,
-    // The same, where it may be left out.
+    /// The same, where it may be left out.
     Choice,
-    // A word of this name after `--`, which may be left out.
+    /// Its name after `--`, which may be left out.
     Flag,
-    // The same, with a number of 32 bits behind it.
+    /// A letter after `-`, which may be left out.
+    Letter(char),
+    /// Its name after `--`, with a number of 32 bits behind it.
     Valued,
-    // The same, from 1 to 32.
+    /// The same, from 1 to 32.
     FewValued,
-    // The same, a number of 64 bits, from 1.
+    /// The same, a number of 64 bits, from 1.
     LongValued,
 }
 
-// A word of a command line.
+/// A word of a command line.
 #[derive(Clone, Copy)]
 pub struct Word {
+    /// What it is known by, and what help calls it.
     pub name: &'static str,
+    /// What it is.
     pub kind: Kind,
+    /// What help says of it.
     pub help: &'static str,
 }
 
-// A command: its name, what it does, an example, and its words in their order.
+/// A command: its name, what it does, an example, and its words in their order.
 #[derive(Clone, Copy)]
 pub struct Line {
+    /// Its name.
     pub name: &'static str,
+    /// What help says of it.
     pub about: &'static str,
+    /// What help shows behind its words.
     pub example: &'static str,
+    /// Its words.
     pub words: &'static [Word],
 }
 
-const SYNC: Word = Word {
+/// A program with its commands.
+#[derive(Clone, Copy)]
+pub struct Outline {
+    /// Its name.
+    pub name: &'static str,
+    /// Its version.
+    pub version: &'static str,
+    /// What help says of it.
+    pub about: &'static str,
+    /// Its commands, in the order of help.
+    pub lines: &'static [Line],
+}
+
+pub(crate) const XVFS: Outline = Outline {
+    name: "xvfs",
+    version: "0.1.0",
+    about: "Makes, checks, lists, shows, fills, copies and recovers images of the xv6 file system, and runs scripts of operations over them; without words, does the command lines of standard input",
+    lines: LINES,
+};
+
+/// `--sync`, of a command that changes an image.
+pub const SYNC: Word = Word {
     name: "sync",
     kind: Kind::Flag,
     help: "Syncs the image's file where the log needs it, for a system that may lose writes",
 };
 
-const NO_SYNC: Word = Word {
+/// `--no-sync`.
+pub const NO_SYNC: Word = Word {
     name: "no-sync",
     kind: Kind::Flag,
     help: "Leaves out the sync at the end, for tests",
 };
 
-const WAIT: Word = Word {
+/// `--wait`.
+pub const WAIT: Word = Word {
     name: "wait",
     kind: Kind::Flag,
     help: "Waits while another program has the image, in place of being refused",
 };
 
-const EXPLAIN: Word = Word {
+/// `--explain`.
+pub const EXPLAIN: Word = Word {
     name: "explain",
     kind: Kind::Flag,
     help: "Says more of a refusal in a second line, as on a terminal",
@@ -73,7 +110,8 @@ const SCHEDULE: Word = Word {
     help: "The path of the schedule, whose words are turns of the processes",
 };
 
-const IMAGE: Word = Word {
+/// The path of an image that is changed, or is looked at by a recovery.
+pub const IMAGE: Word = Word {
     name: "IMAGE",
     kind: Kind::Needed,
     help: "The path of the image's file",
@@ -91,13 +129,14 @@ const NEW: Word = Word {
     help: "The path of the file that is made",
 };
 
-const IMAGE_KEPT: Word = Word {
+/// The path of an image that is only looked at.
+pub const IMAGE_KEPT: Word = Word {
     name: "IMAGE",
     kind: Kind::Needed,
     help: "The path of the image's file, which is not changed",
 };
 
-pub(crate) static LINES: [Line; 13] = [
+const LINES: &[Line] = &[
     Line {
         name: "mkfs",
         about: "Makes an image in a new file, or in place of an old one",

@@ -1,12 +1,14 @@
 //! The commands over the files that they name: each opens these, hands the disk and what was read to
 //! `transfer`, `player` or `runner`, and does nothing else.
 //!
-//! No function here reads the words of a command line, and none checks a script at its stops.
+//! Who makes the files of images holds their locks. No function here reads the words of a command line,
+//! and none checks a script at its stops.
 #![tactic(auto)]
 
 mod copies;
 mod holding;
 mod inputs;
+mod locks;
 mod making;
 mod puts;
 mod refused;
@@ -17,8 +19,9 @@ mod targets;
 pub use copies::Copy;
 pub use holding::Holder;
 pub use inputs::{schedule_from, script_from};
-pub use making::{Making, Mkfs, make_file};
-pub use puts::Put;
+pub use locks::{Keeper, Locks, Share};
+pub use making::{MakesThere, Making, Mkfs, make_file, make_in_place};
+pub use puts::{Put, bytes_from};
 pub use refused::{CopyRefusal, PutFileRefusal, ReadFault};
 pub use rescues::Rescue;
 pub use runs::{ReplayFilesRefusal, RunFilesRefusal, replay_files, run_files};

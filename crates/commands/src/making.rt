@@ -1,7 +1,9 @@
 // The command that makes an image in a file.
 ghost use Rattle.std.specs.Prelude.{◌≡◌, ◌↔◌, false, true, IsTrue, IfErr, IfOk, OnOk};
 ghost use Rattle.std.specs.Result.{IsErrOf};
+ghost use Rattle.cmd.specs.declared.files.OnFile.{OnFile as SomeOnFile};
 ghost use Rattle.cmd.specs.declared.files.OnFile.TheVariants as on;
+ghost use Rattle.blocks.specs.declared.errors.FileFault.{FileFault as SomeFileFault};
 ghost use Rattle.layout.specs.declared.geometry.MkfsFault.TheVariants as fault;
 ghost use Rattle.messages.specs.declared.printed.Printed.TheVariants as printed;
 ghost use Rattle.model.specs.Layout.{is_inode_count, is_size, planned_super};
@@ -48,6 +50,33 @@ pub struct Making {
     pub ninodes: u32,
     /// Whether it is synced at the end.
     pub sync: bool,
+}
+
+/// What is made in a new file of the system.
+pub trait MakesThere<R: Files + AllocGlobal> {
+    /// What is told of it.
+    type Made: Drop;
+
+    /// Why it isn't made.
+    type Fault: Drop;
+
+    /// It can be made.
+    ghost can: { Self → Type 0 };
+
+    /// It was made, and this is told of it.
+    ghost made: { Self → Self.Made → Type 0 };
+
+    /// It was not, for this reason.
+    ghost unmade: { Self → SomeOnFile Self.Fault → Type 0 };
+
+    /// Makes it in the file at this path.
+    fn make_there(&self, rt: &R, path: &str) -> Result<Self::Made, OnFile<Self::Fault>>
+        requires { can self.now }
+        ensures made { IfOk result (made self.now) }
+        ensures unmade { IfErr result (unmade self.now) };
+
+    /// The file may be one that can't be made or used.
+    ghost files: { (m : Self) (fault : SomeFileFault) → unmade m (on.File fault) };
 }
 
 /// Makes an image in a file at the path `image`, and prints its numbers, as `make_file`.
@@ -107,7 +136,7 @@ pub fn make_file<R: Files + AllocGlobal, H: Holder, O: Write>(
     if let Err(fault) = plan(making.size, making.ninodes) {
         return Err(OnFile::Of(Printed::Fault(fault)));
     }
-    match make_image(rt, image, making, holder) {
+    match make_in_place(rt, image, &making, making.sync, holder) {
         Ok(fields) => match print_numbers(out, &fields) {
             Ok(()) => Ok(()),
             Err(_) => Err(OnFile::Of(Printed::Output)),
@@ -117,22 +146,54 @@ pub fn make_file<R: Files + AllocGlobal, H: Holder, O: Write>(
     }
 }
 
-// Makes an image that can be planned, in place of the file that stands at the path, or where that is
-// no file, there.
-fn make_image<R: Files + AllocGlobal, H: Holder>(
+// An image of its own in the file.
+impl<R: Files + AllocGlobal> MakesThere<R> for Making {
+    type Made = Super;
+
+    type Fault = MkfsFault;
+
+    ghost can = { λ making. IsPlan making.size making.ninodes };
+
+    ghost made = { HasMadeAs ⟦<FileDisk<R::File> as Disk>⟧ };
+
+    ghost unmade = { λ making. IsNotMadeIn };
+
+    ghost files = { λ making fault. tt };
+
+    fn make_there(&self, rt: &R, path: &str) -> Result<Super, OnFile<MkfsFault>> {
+        match FileDisk::create(rt, path, self.size) {
+            Ok(created) => match fill(rt.alloc(), created, *self) {
+                Ok(fields) => Ok(fields),
+                Err(fault) => Err(OnFile::Of(fault)),
+            },
+            Err(fault) => Err(OnFile::File(fault)),
+        }
+    }
+}
+
+/// Makes something in place of the file that stands at the path, or where that is no file, there, and
+/// syncs the folder where that is asked for. By its code a file that stands there is kept until the new
+/// one is whole, as `make_file` says.
+///
+/// # Errors
+///
+/// One of `make_there`; a fault of `Holder::hold_left`, or `Open` where the file can't be written or
+/// replaced.
+pub fn make_in_place<R: Files + AllocGlobal, M: MakesThere<R>, H: Holder>(
     rt: &R,
     image: &str,
-    making: Making,
+    making: &M,
+    sync: bool,
     holder: &mut H,
-) -> Result<Super, OnFile<MkfsFault>>
-    requires { IsPlan making.size making.ninodes }
-    ensures made { IfOk result (HasMadeAs ⟦<FileDisk<R::File> as Disk>⟧ making) }
-    ensures refused { IfErr result IsNotMadeIn }
+) -> Result<M::Made, OnFile<M::Fault>>
+    requires { M.can making.now }
+    ensures made { IfOk result (M.made making.now) }
+    ensures unmade { IfErr result (M.unmade making.now) }
 {
     match home_of(rt, image) {
-        Ok(None) => make_there(rt, image, making),
+        Ok(None) => making.make_there(rt, image),
         Ok(Some(home)) => match format!(in rt.alloc(); "{home}.new") {
-            Ok(beside) => make_beside(rt, beside.as_str(), home.as_str(), making, holder),
+            Ok(beside) => make_beside(rt, beside.as_str(), home.as_str(), making, sync, holder),
             Err(_) => Err(OnFile::File(FileFault::NoMemory)),
         },
         Err(fault) => Err(OnFile::File(fault)),
@@ -184,71 +245,52 @@ fn fault_of(error: io::Error) -> FileFault {
     }
 }
 
-// Makes an image in the file at the path.
-fn make_there<R: Files + AllocGlobal>(
-    rt: &R,
-    path: &str,
-    making: Making,
-) -> Result<Super, OnFile<MkfsFault>>
-    requires { IsPlan making.size making.ninodes }
-    ensures made { IfOk result (HasMadeAs ⟦<FileDisk<R::File> as Disk>⟧ making) }
-    ensures refused { IfErr result IsNotMadeIn }
-{
-    match FileDisk::create(rt, path, making.size) {
-        Ok(created) => match fill(rt.alloc(), created, making) {
-            Ok(fields) => Ok(fields),
-            Err(fault) => Err(OnFile::Of(fault)),
-        },
-        Err(fault) => Err(OnFile::File(fault)),
-    }
-}
-
-// Makes an image in a file at the path, which then takes the name `home`. Of the two the first is held
+// Makes something in a file at the path, which then takes the name `home`. Of the two the first is held
 // first, so that no two programs wait for each other.
-fn make_beside<R: Files + AllocGlobal, H: Holder>(
+fn make_beside<R: Files + AllocGlobal, M: MakesThere<R>, H: Holder>(
     rt: &R,
     path: &str,
     home: &str,
-    making: Making,
+    making: &M,
+    sync: bool,
     holder: &mut H,
-) -> Result<Super, OnFile<MkfsFault>>
-    requires { IsPlan making.size making.ninodes }
-    ensures made { IfOk result (HasMadeAs ⟦<FileDisk<R::File> as Disk>⟧ making) }
-    ensures refused { IfErr result IsNotMadeIn }
+) -> Result<M::Made, OnFile<M::Fault>>
+    requires { M.can making.now }
+    ensures made { IfOk result (M.made making.now) }
+    ensures unmade { IfErr result (M.unmade making.now) }
 {
     if let Err(fault) = holder.hold_left(path) {
         return Err(OnFile::File(fault));
     }
-    let made = make_held(rt, path, home, making, holder);
+    let made = make_held(rt, path, home, making, sync, holder);
     remove_refused(rt, path, &made);
     made
 }
 
-// Makes an image in a file at the path that is held, and gives that the name `home`.
-fn make_held<R: Files + AllocGlobal, H: Holder>(
+// Makes something in a file at the path that is held, and gives that the name `home`.
+fn make_held<R: Files + AllocGlobal, M: MakesThere<R>, H: Holder>(
     rt: &R,
     path: &str,
     home: &str,
-    making: Making,
+    making: &M,
+    sync: bool,
     holder: &mut H,
-) -> Result<Super, OnFile<MkfsFault>>
-    requires { IsPlan making.size making.ninodes }
-    ensures made { IfOk result (HasMadeAs ⟦<FileDisk<R::File> as Disk>⟧ making) }
-    ensures refused { IfErr result IsNotMadeIn }
+) -> Result<M::Made, OnFile<M::Fault>>
+    requires { M.can making.now }
+    ensures made { IfOk result (M.made making.now) }
+    ensures unmade { IfErr result (M.unmade making.now) }
 {
     let is_old = match holder.hold_there(home) {
         Ok(is_old) => is_old,
         Err(fault) => return Err(OnFile::File(fault)),
     };
-    match make_there(rt, path, making) {
-        Ok(fields) => match take_name(rt, path, home, is_old, holder) {
-            Ok(()) => {
-                sync_folder(rt, home, making.sync);
-                Ok(fields)
-            }
-            Err(fault) => Err(OnFile::File(fault)),
-        },
-        Err(refusal) => Err(refusal),
+    let made = making.make_there(rt, path)?;
+    match take_name(rt, path, home, is_old, holder) {
+        Ok(()) => {
+            sync_folder(rt, home, sync);
+            Ok(made)
+        }
+        Err(fault) => Err(OnFile::File(fault)),
     }
 }
 

@@ -96,9 +96,13 @@ impl<P: Meter + Drop> DiskCommand for PutBytes<P> {
     }
 }
 
-// The bytes of the file at this path; of one that is larger than any in an image one more than these
-// may have.
-fn bytes_from<R: Files + AllocGlobal>(rt: &R, path: &str) -> Result<Vec<u8>, ReadFault> {
+/// The bytes of the file at this path; of one that is larger than any in an image one more than these
+/// may have.
+///
+/// # Errors
+///
+/// `NoMemory` where memory is refused, else `File` where it can't be read.
+pub fn bytes_from<R: Files + AllocGlobal>(rt: &R, path: &str) -> Result<Vec<u8>, ReadFault> {
     let file = File::open(rt, path).map_err(|error| unread(error))?;
     read_bytes(rt.alloc(), file)
 }

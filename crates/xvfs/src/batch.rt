@@ -8,10 +8,10 @@ ghost use Rattle.xvfs.specs.Requests.{AreDone, StopsAmong};
 
 use crate::command::command;
 use crate::input::{InputFault, input_unread};
-use crate::locks::Locks;
 use crate::progress::Screen;
 use blocks::{Disk, FaultyDisk, FileDisk};
 use cmd::end;
+use commands::Locks;
 use std::alloc::{AllocError, Global};
 use std::io::{Read, Write};
 use std::rt::{Clock, Files};

@@ -16,7 +16,7 @@ ghost use Rattle.xvfs.specs.Requests.{
 ghost use Rattle.cli.specs.declared.explanation.Explanation.{Explanation as SomeExplanation};
 ghost use Rattle.messages.specs.declared.told.Unwritten.{Unwritten as IsUnwritten};
 
-use crate::locks::{Keeper, Locks, lock_image};
+use crate::locks::lock_image;
 use crate::progress::{Screen, TerminalMeter};
 use crate::stopping::stops_files;
 use crate::telling::{Line, tell, tell_fault};
@@ -24,7 +24,7 @@ use arrayvec::ArrayVec;
 use blocks::{Disk, FaultyDisk, FileDisk};
 use cli::{Asked, Explanation, Request, parse};
 use cmd::{Access, OverFile, end, perform};
-use commands::{Copy, Making, Mkfs, Put, Rescue, Target, replay_files, run_files};
+use commands::{Copy, Keeper, Locks, Making, Mkfs, Put, Rescue, Target, replay_files, run_files};
 use inspect::{Df, Ls, Show};
 use messages::print_last;
 use model::types::Form;

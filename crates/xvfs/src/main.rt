@@ -2,7 +2,6 @@
 //! at each of their stops.
 #![tactic(auto)]
 
-mod arguments;
 mod batch;
 mod command;
 mod input;
@@ -11,8 +10,9 @@ mod progress;
 mod stopping;
 mod telling;
 
-use arguments::WordsFault;
 use batch::commands;
+use cli::arguments;
+use cli::arguments::WordsFault;
 use cmd::end;
 use command::command;
 use input::{InputFault, input_unread};

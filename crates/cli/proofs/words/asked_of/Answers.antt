@@ -1,6 +1,7 @@
 use Rattle.std.proofs.Common.{codes}
 use Rattle.clap.specs.Words.{found_of, rows_of}
-use Rattle.cli.proofs.CommandLines.{flag_read, gives}
+use Rattle.cli.specs.Lemmas.Parses.{flag_read}
+use Rattle.cli.proofs.CommandLines.{gives}
 use Rattle.cli.proofs.words.asked_of.Goals as goal
 
 pub returns-clause-waits : goal.returns-clause-waits

@@ -1,6 +1,6 @@
 use Rattle.std.proofs.Common.{codes, refl}
 use Rattle.clap.specs.Words.{found_of}
-use Rattle.cli.proofs.CommandLines.{choice_read, flag_read, value_read}
+use Rattle.cli.specs.Lemmas.Parses.{choice_read, flag_read, value_read}
 use Rattle.cli.proofs.words.put_request.Goals as goal
 
 pub returns : goal.returns

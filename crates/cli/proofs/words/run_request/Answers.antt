@@ -1,6 +1,6 @@
 use Rattle.std.proofs.Common.{codes, refl}
 use Rattle.clap.specs.Words.{found_of}
-use Rattle.cli.proofs.CommandLines.{flag_read, value_read}
+use Rattle.cli.specs.Lemmas.Parses.{flag_read, value_read}
 use Rattle.cli.proofs.words.run_request.Goals as goal
 
 pub returns : goal.returns

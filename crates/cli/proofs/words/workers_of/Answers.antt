@@ -1,7 +1,7 @@
 use Rattle.std.proofs.Common.{◌∙◌, codes, rules}
 use Rattle.clap.specs.Words.{found_of}
 use Rattle.clap.proofs.WalkLemmas.{one_text-rows}
-use Rattle.cli.proofs.CommandLines.{some_is_not_none}
+use Rattle.cli.specs.Lemmas.Parses.{some_is_not_none}
 use Rattle.cli.proofs.words.workers_of.Goals as goal
 
 pub returns-in-Some : goal.returns-in-Some

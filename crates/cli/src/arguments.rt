@@ -17,7 +17,7 @@ pub enum WordsFault {
 }
 
 impl From<AllocError> for WordsFault {
-    ghost use Rattle.xvfs.specs.declared.arguments.WordsFault.TheVariants as fault;
+    ghost use Rattle.cli.specs.declared.arguments.WordsFault.TheVariants as fault;
 
     ghost from_gives = { λ _ e. e ≡ fault.NoMemory };
 

@@ -1,9 +1,0 @@
-use Rattle.cmd.specs.Lemmas.Disks.{file_disk}
-use Rattle.commands.proofs.MakingLemmas.{unfilled_so}
-use Rattle.commands.proofs.making.make_there.Goals as goal
-
-pub returns-in-Ok-fill-clause-made : goal.returns-in-Ok-fill-clause-made
-returns-in-Ok-fill-clause-made g c = record { created = c.in-Ok.created; zeroes = c.in-Ok.ensures.made.image; filled = c.in-Ok-fill.ensures.made }
-
-pub returns-in-Err-fill-clause-refused : goal.returns-in-Err-fill-clause-refused
-returns-in-Err-fill-clause-refused g c = unfilled_so file_disk c.args.making.form c.args.making.size c.args.making.ninodes c.in-Ok.created c.requires c.in-Ok.ensures.made.image c.in-Err-fill.fault c.in-Err-fill.ensures.refused

@@ -1,0 +1,12 @@
+use Rattle.std.proofs.Common.{codes, refl}
+use Rattle.clap.specs.Words.{found_of}
+use Rattle.cli.specs.Lemmas.Parses.{flag_read, value_read}
+use Rattle.names_words.proofs.words.cat_request.Goals as goal
+
+pub returns : goal.returns
+returns c =
+    let found = found_of c.args.values.now in (
+      refl,
+      value_read found (codes "IMAGE") _ c.in_ok-get_str.ensures,
+      value_read found (codes "PATH") _ c.in_ok-get_str-2.ensures,
+    )

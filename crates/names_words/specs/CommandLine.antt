@@ -1,0 +1,152 @@
+-- The command line of `xvnames`, as clap is told it, and what words ask for by it.
+use Rattle.std.specs.Prelude.{◌≡◌, ◌⊎◌, ⊤, ℕ, List, [], Bool, Option, Some, None, true, codes, map, unwrap_or}
+use Rattle.clap.specs.Words.{App, HasKind, IsAmong, Kinds, Row, all_of, fault_of, first_of, kind_of, new_rule, subcommand_of, with_rule, with_subcommand}
+use Rattle.clap.specs.declared.builder.action.ArgAction.TheVariants.{Append, SetTrue}
+use Rattle.clap.specs.declared.error.Error.{Error}
+use Rattle.clap.specs.declared.error.kind.ErrorKind.{ErrorKind}
+use Rattle.clap.specs.declared.error.kind.ErrorKind.TheVariants as error_kind
+use Rattle.cli.specs.CommandLine.{Gives, HasFlag, flag_rule, image_app, named_app, number_rule, required_rule}
+use Rattle.cli.specs.Told.{IsHelp}
+use Rattle.cli.specs.declared.explanation.Explanation.{Explanation}
+use Rattle.cli.specs.declared.explanation.Explanation.TheVariants.{Help, Mistake, NoMemory}
+use Rattle.names_words.specs.declared.words.Request.{Request}
+use Rattle.names_words.specs.declared.words.Request.TheVariants.{Ls, Tree, Cat, Get, Put, Rm, Mv, Mkdir, Rmdir, Mkfs}
+
+-- a look at a directory, the root where none is given
+abbrev pub look_app : List ℕ → App
+look_app name = with_rule (image_app name) (new_rule (codes "PATH"))
+
+-- a command at a path
+abbrev pub path_app : List ℕ → App
+path_app name = with_rule (image_app name) (required_rule (codes "PATH"))
+
+-- a command that changes an image
+abbrev pub changing : App → App
+changing app = with_rule (with_rule app (flag_rule (codes "sync"))) (flag_rule (codes "no-sync"))
+
+-- `-r`
+abbrev pub get_app : App
+get_app = with_rule (with_rule (path_app (codes "get")) (required_rule (codes "FILE")))
+    (record (new_rule (codes "all")) { short = Some 114; action = Some SetTrue })
+
+abbrev pub put_app : App
+put_app = changing (with_rule (with_rule (image_app (codes "put")) (required_rule (codes "FILE")))
+    (required_rule (codes "PATH")))
+
+abbrev pub mv_app : App
+mv_app = changing (with_rule (with_rule (image_app (codes "mv")) (required_rule (codes "FROM")))
+    (required_rule (codes "TO")))
+
+-- any number of files behind the others
+abbrev pub mkfs_app : App
+mkfs_app = with_rule (with_rule (with_rule (with_rule (image_app (codes "mkfs"))
+    (number_rule (codes "SIZE"))) (number_rule (codes "NINODES")))
+    (record (new_rule (codes "FILE")) { action = Some Append })) (flag_rule (codes "no-sync"))
+
+-- the program, with its commands in the order of help
+abbrev pub xvnames_app : App
+xvnames_app =
+    with_subcommand (with_subcommand (with_subcommand (with_subcommand (with_subcommand
+    (with_subcommand (with_subcommand (with_subcommand (with_subcommand (with_subcommand
+    (named_app (codes "xvnames")) (look_app (codes "ls")).top) (look_app (codes "tree")).top)
+    (path_app (codes "cat")).top) get_app.top) put_app.top)
+    (changing (path_app (codes "rm"))).top) mv_app.top)
+    (changing (path_app (codes "mkdir"))).top) (changing (path_app (codes "rmdir"))).top)
+    mkfs_app.top
+
+-- the kinds of mistake in these words, and of answers about the program; none where they make a
+-- command
+abbrev pub mistakes_in : List (List ℕ) → Kinds
+mistakes_in words = fault_of xvnames_app words
+
+-- a word has that value
+abbrev pub HasWord : List ℕ → List Row → List ℕ → Type 0
+HasWord id rows value = first_of id rows ≡ Some value
+
+-- a path has that value, or is the root where it is left out
+abbrev pub HasPath : List Row → List ℕ → Type 0
+HasPath rows path = path ≡ unwrap_or (first_of (codes "PATH") rows) (codes "/")
+
+-- a change over an image, with the words of this name
+pub record Changes (rows : List Row) (image : List ℕ) (sync no_sync : Bool) : Type 0 where
+  pub image_is : HasWord (codes "IMAGE") rows image
+  pub syncs : HasFlag (codes "sync") rows sync
+  pub leaves_out : HasFlag (codes "no-sync") rows no_sync
+
+-- a command of this name, with these values, asks for the request
+abbrev pub AsksBy : List ℕ → List Row → Request → Type 0
+AsksBy name rows (Ls image path) = (name ≡ codes "ls") × HasWord (codes "IMAGE") rows image.now
+    × HasPath rows path.now
+AsksBy name rows (Tree image path) = (name ≡ codes "tree")
+    × HasWord (codes "IMAGE") rows image.now × HasPath rows path.now
+AsksBy name rows (Cat image path) = (name ≡ codes "cat") × HasWord (codes "IMAGE") rows image.now
+    × HasWord (codes "PATH") rows path.now
+AsksBy name rows (Get image path file all) = (name ≡ codes "get")
+    × HasWord (codes "IMAGE") rows image.now × HasWord (codes "PATH") rows path.now
+    × HasWord (codes "FILE") rows file.now × HasFlag (codes "all") rows all
+AsksBy name rows (Put image file path sync no_sync) = (name ≡ codes "put")
+    × Changes rows image.now sync no_sync × HasWord (codes "FILE") rows file.now
+    × HasWord (codes "PATH") rows path.now
+AsksBy name rows (Rm image path sync no_sync) = (name ≡ codes "rm")
+    × Changes rows image.now sync no_sync × HasWord (codes "PATH") rows path.now
+AsksBy name rows (Mv image from to sync no_sync) = (name ≡ codes "mv")
+    × Changes rows image.now sync no_sync × HasWord (codes "FROM") rows from.now
+    × HasWord (codes "TO") rows to.now
+AsksBy name rows (Mkdir image path sync no_sync) = (name ≡ codes "mkdir")
+    × Changes rows image.now sync no_sync × HasWord (codes "PATH") rows path.now
+AsksBy name rows (Rmdir image path sync no_sync) = (name ≡ codes "rmdir")
+    × Changes rows image.now sync no_sync × HasWord (codes "PATH") rows path.now
+AsksBy name rows (Mkfs image size ninodes no_sync) = (name ≡ codes "mkfs")
+    × HasWord (codes "IMAGE") rows image.now × HasFlag (codes "no-sync") rows no_sync
+
+abbrev pub Asks : Request → Option (List ℕ × List Row) → Type 0
+Asks request None = ⊥
+Asks request (Some command) = AsksBy command.0 command.1 request
+
+-- the words make a command, which asks for the request
+pub record AskFor (words : List (List ℕ)) (request : Request) : Type 0 where
+  pub right : mistakes_in words ≡ []
+  pub asks : Asks request (subcommand_of xvnames_app words)
+
+-- the words ask for a command that waits while another program has the image, or doesn't
+abbrev pub AskToWait : List (List ℕ) → Bool → Type 0
+AskToWait words wait = Gives (codes "wait") (subcommand_of xvnames_app words) wait
+
+-- the words ask for a command that says more of a refusal, or doesn't
+abbrev pub AskToExplain : List (List ℕ) → Bool → Type 0
+AskToExplain words explain = Gives (codes "explain") (subcommand_of xvnames_app words) explain
+
+-- the words of values that are called FILE
+abbrev pub files_in : List Row → List (List ℕ)
+files_in rows = unwrap_or (all_of (codes "FILE") rows) []
+
+-- the command that was met has these files; where none was met there are none
+abbrev pub HasFiles : Option (List ℕ × List Row) → List (List ℕ) → Type 0
+HasFiles None files = files ≡ []
+HasFiles (Some command) files = files ≡ files_in command.1
+
+-- the words give these files
+abbrev pub AskForFiles : List (List ℕ) → List (List ℕ) → Type 0
+AskForFiles words files = HasFiles (subcommand_of xvnames_app words) files
+
+-- the error is a mistake in the words, or that memory was refused
+abbrev pub IsMistakeIn : List (List ℕ) → Error → Type 0
+IsMistakeIn words e = HasKind (mistakes_in words) e ⊎ (kind_of e ≡ error_kind.MissingSubcommand)
+
+-- the words ask for help or for the version
+pub record AskForHelp (words : List (List ℕ)) : Type 0 where
+  pub kind : ErrorKind
+  pub among : IsAmong kind (mistakes_in words)
+  pub help : IsHelp kind
+
+-- something is wrong with the words
+pub record AreMistaken (words : List (List ℕ)) : Type 0 where
+  pub kind : ErrorKind
+  pub among : IsAmong kind (mistakes_in words) ⊎ (kind ≡ error_kind.MissingSubcommand)
+  pub wrong : ¬ (IsHelp kind)
+
+-- the words ask for no command, or memory was refused, and this is told of them
+abbrev pub IsToldOf : List (List ℕ) → Explanation → Type 0
+IsToldOf words (Help text) = AskForHelp words
+IsToldOf words (Mistake text) = AreMistaken words
+IsToldOf words NoMemory = ⊤

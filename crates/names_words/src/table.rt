@@ -1,0 +1,151 @@
+// The commands of `xvnames`, and their words, as a table.
+use cli::table::{EXPLAIN, IMAGE, IMAGE_KEPT, Kind, Line, NO_SYNC, Outline, SYNC, WAIT, Word};
+
+pub const XVNAMES: Outline = Outline {
+    name: "xvnames",
+    version: "0.1.0",
+    about: "Lists, reads, puts, moves and removes the files of images of the xv6 file system by their paths, and makes images with files; without words, does the command lines of standard input",
+    lines: LINES,
+};
+
+const PATH: Word = Word {
+    name: "PATH",
+    kind: Kind::Needed,
+    help: "The file's path in the image, from its root",
+};
+
+const FOLDER: Word = Word {
+    name: "PATH",
+    kind: Kind::Free,
+    help: "The directory's path in the image; the root where it is not given",
+};
+
+const LINES: &[Line] = &[
+    Line {
+        name: "ls",
+        about: "Lists a directory but for . and .., a line an entry: name, number, type and bytes",
+        example: "Examples: xvnames ls fs.img, xvnames ls fs.img /docs",
+        words: &[IMAGE_KEPT, WAIT, EXPLAIN, FOLDER],
+    },
+    Line {
+        name: "tree",
+        about: "Prints the paths of all files below a directory, a line each; those of directories end with a slash",
+        example: "Examples: xvnames tree fs.img, xvnames tree fs.img /docs",
+        words: &[IMAGE_KEPT, WAIT, EXPLAIN, FOLDER],
+    },
+    Line {
+        name: "cat",
+        about: "Writes the bytes of a file",
+        example: "Example: xvnames cat fs.img /README",
+        words: &[IMAGE_KEPT, WAIT, EXPLAIN, PATH],
+    },
+    Line {
+        name: "get",
+        about: "Copies a file of an image into a new file, or with -r a directory with all below it into a new folder",
+        example: "Examples: xvnames get fs.img /README readme.txt, xvnames get -r fs.img /docs docs",
+        words: &[
+            IMAGE_KEPT,
+            WAIT,
+            EXPLAIN,
+            PATH,
+            Word {
+                name: "FILE",
+                kind: Kind::Needed,
+                help: "The path of the file, or of the folder, that is made",
+            },
+            Word {
+                name: "all",
+                kind: Kind::Letter('r'),
+                help: "Copies a directory with all below it into a new folder",
+            },
+        ],
+    },
+    Line {
+        name: "put",
+        about: "Puts a file into an image under a path, as a new file or in place of one, and prints its number",
+        example: "Example: xvnames put fs.img notes.txt /docs/notes.txt",
+        words: &[
+            IMAGE,
+            WAIT,
+            EXPLAIN,
+            Word {
+                name: "FILE",
+                kind: Kind::Needed,
+                help: "The path of the file whose bytes are put; a stop leaves the old bytes or the new, and of more than 3072 maybe a beginning of the new",
+            },
+            PATH,
+            SYNC,
+            NO_SYNC,
+        ],
+    },
+    Line {
+        name: "rm",
+        about: "Removes a file, which is no directory",
+        example: "Example: xvnames rm fs.img /docs/notes.txt",
+        words: &[IMAGE, WAIT, EXPLAIN, PATH, SYNC, NO_SYNC],
+    },
+    Line {
+        name: "mv",
+        about: "Gives a file or a directory another path, where nothing is",
+        example: "Example: xvnames mv fs.img /README /docs/readme",
+        words: &[
+            IMAGE,
+            WAIT,
+            EXPLAIN,
+            Word {
+                name: "FROM",
+                kind: Kind::Needed,
+                help: "The path in the image that it has",
+            },
+            Word {
+                name: "TO",
+                kind: Kind::Needed,
+                help: "The path in the image that it gets, its own name included",
+            },
+            SYNC,
+            NO_SYNC,
+        ],
+    },
+    Line {
+        name: "mkdir",
+        about: "Makes a directory",
+        example: "Example: xvnames mkdir fs.img /docs",
+        words: &[IMAGE, WAIT, EXPLAIN, PATH, SYNC, NO_SYNC],
+    },
+    Line {
+        name: "rmdir",
+        about: "Removes a directory in which nothing is",
+        example: "Example: xvnames rmdir fs.img /docs",
+        words: &[IMAGE, WAIT, EXPLAIN, PATH, SYNC, NO_SYNC],
+    },
+    Line {
+        name: "mkfs",
+        about: "Makes an image with a root directory and these files in it, in a new file or in place of an old one",
+        example: "Example: xvnames mkfs fs.img 2000 200 README _cat _ls",
+        words: &[
+            Word {
+                name: "IMAGE",
+                kind: Kind::Needed,
+                help: "The path of the image's file, which is made or replaced",
+            },
+            WAIT,
+            EXPLAIN,
+            Word {
+                name: "SIZE",
+                kind: Kind::Number,
+                help: "Blocks of 1024 bytes, from one more than the blocks before the data up to 8191",
+            },
+            Word {
+                name: "NINODES",
+                kind: Kind::Number,
+                help: "Inode numbers, from 2 to 1024, the unused number 0 included",
+            },
+            Word {
+                name: "FILE",
+                kind: Kind::Rest,
+                help: "The paths of the files; each is named by the last part of its path, without a _ that this begins with",
+            },
+            NO_SYNC,
+        ],
+    },
+];
