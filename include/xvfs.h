@@ -21,8 +21,10 @@
  *
  * WHAT THE CALLER OWES. Nothing here is tested by the library unless it says so.
  *  - An `xvfs` is zeroed before its first use, is not copied while it is open, and is handed to one
- *    call at a time, on one thread. No call is made from a signal handler, from the child of a fork
- *    of a process with threads, or from an interrupt that stopped another call of that session.
+ *    call at a time. That may be on any thread or processor, where the calls are ordered by a lock, a
+ *    thread's start or join, or a sequentially consistent atomic. No call is made from a signal
+ *    handler, from the child of a fork of a process with threads, or from an interrupt that stopped
+ *    another call of that session.
  *  - xvfs_open takes a closed handle; xvfs_submit, _step, _poll, _shut and _close an open one. The
  *    inline functions below test that, and answer XVFS_CLOSED or XVFS_OPEN.
  *  - Each pointer is valid for the call and not null, even where its length is 0, and is aligned as

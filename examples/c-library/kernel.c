@@ -9,8 +9,8 @@
  * XVFS_HOLD.)
  *
  * A process is a thread. It leaves its operation at its place in a table, under the one lock, and
- * waits; the thread that booted the kernel makes all calls of the library, since a session stays on
- * one thread.
+ * waits; the thread that booted the kernel makes all calls of the library. (Each could make its own
+ * under that lock: a session may be called from any thread, by one at a time.)
  *
  * A system call may need two operations, and a kill may come between them. sys_creat makes the file
  * first and then names it, sys_unlink takes the name away first and then the file: so no name is ever

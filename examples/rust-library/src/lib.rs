@@ -7,7 +7,6 @@
 mod raw;
 
 use std::fmt;
-use std::marker::PhantomData;
 use std::ptr;
 
 /// The bytes of a block.
@@ -281,12 +280,15 @@ fn reply_of(answer: &raw::Answer, bytes: &[u8]) -> Reply {
     }
 }
 
-/// An open session. It stays on its thread: it is neither `Send` nor `Sync`.
+/// An open session. Threads share one behind a lock.
 pub struct Session {
     raw: raw::Handle,
     block: Box<[u8; BLOCK_SIZE]>,
-    _stays: PhantomData<*mut ()>,
 }
+
+// SAFETY: the library says that a handle may go to any thread (xvfs.h), which is proved of it. It is no
+// `Sync`: each call takes it by `&mut`.
+unsafe impl Send for Session {}
 
 impl Session {
     /// Opens 1 to 32 processes over a copy of an image, which is checked and recovered. Answers the
@@ -319,14 +321,7 @@ impl Session {
         };
         outcome(number, 0)?;
         let block = Box::new([0; BLOCK_SIZE]);
-        Ok((
-            Session {
-                raw,
-                block,
-                _stays: PhantomData,
-            },
-            writes,
-        ))
+        Ok((Session { raw, block }, writes))
     }
 
     /// Hands an operation of a process in, behind those that wait. Its number among the process's.

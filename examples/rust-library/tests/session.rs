@@ -1,4 +1,6 @@
 //! A device in memory to which each told write is carried, stopped before each of them.
+use std::sync::Mutex;
+use std::thread;
 use xvfs::{
     check, mkfs, recover, Answer, Op, Recovery, Refusal, Reply, Session, Step, Told, BLOCK_SIZE,
 };
@@ -144,6 +146,36 @@ fn recovers_a_device_step_by_step() {
     assert_eq!(device, whole);
     assert_eq!(flushes, 2);
     assert!(Recovery::of(&found[1..]).step().is_err());
+}
+
+#[test]
+fn threads_share_a_session() {
+    let device = Mutex::new(new_device());
+    let (session, _) = Session::open(&device.lock().expect("a device"), 4).expect("a session");
+    let session = Mutex::new(session);
+    thread::scope(|scope| {
+        for pid in 0..4 {
+            let (session, device) = (&session, &device);
+            scope.spawn(move || {
+                let op = Op::Create { kind: 2 };
+                session.lock().expect("one").submit(pid, op).expect("room");
+                loop {
+                    let mut session = session.lock().expect("a session");
+                    let stepped = session.step(pid).expect("a step");
+                    if let Told::Write(block, bytes) = stepped.told {
+                        put(&mut device.lock().expect("a device"), block, bytes);
+                    }
+                    if stepped.step == Step::Answered {
+                        break;
+                    }
+                }
+            });
+        }
+    });
+    drop(session);
+    let mut device = device.into_inner().expect("a device");
+    recover(&mut device).expect("it is sound");
+    assert_eq!(check(&device).expect("it is sound").files, 4);
 }
 
 #[test]
