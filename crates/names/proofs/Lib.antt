@@ -49,3 +49,5 @@ pub mod Emptied
 pub mod Filling
 pub mod RootMaking
 pub mod Renamed
+pub mod Rising
+pub mod Moved

@@ -23,12 +23,12 @@ step_by : (b : Bool) (o : Option ℕ) (i : ℕ) → cond b (found_or o) (Err Not
 step_by true o i h = (refl, found_some o i h)
 step_by false o i h = absurd (cc h)
 
-step_from : (files : Files) (from : ℕ) (name : List ℕ) (i : ℕ) → stepped files from name ≡ Ok i → Steps files from name i
+pub step_from : (files : Files) (from : ℕ) (name : List ℕ) (i : ℕ) → stepped files from name ≡ Ok i → Steps files from name i
 step_from files from name i h =
     let both = step_by (eqb (kind_of (file_in files from)) 1) (number_of files from name) i h in
     (eqb-true (kind_of (file_in files from)) 1 both.0, both.1)
 
-step_to : (files : Files) (from : ℕ) (name : List ℕ) (i : ℕ) → Steps files from name i → stepped files from name ≡ Ok i
+pub step_to : (files : Files) (from : ℕ) (name : List ℕ) (i : ℕ) → Steps files from name i → stepped files from name ≡ Ok i
 step_to files from name i step =
     cond-true (eqb (kind_of (file_in files from)) 1) (found_or (number_of files from name)) (Err NotADirectory)
     (eq-eqb (kind_of (file_in files from)) 1 step.0)

@@ -33,7 +33,7 @@ use Rattle.names.proofs.EntrySteps.{freed_room, link_leads_there, unlink_leads_n
 use Rattle.names.proofs.FileMaps.{writes}
 use Rattle.names.proofs.Standing.{lookup_at, stands_at}
 use Rattle.names.proofs.TreeMeaning.{directories_are_tidy}
-use Rattle.names.proofs.WholeChanges.{moves_file_whole, renames_file_whole}
+use Rattle.names.proofs.WholeChanges.{renames_file_whole}
 
 -- ---- numbers
 
@@ -149,62 +149,7 @@ module _ {D N : Type 0} (disk : Ghosts D N) (k a b : Plain D) (from i : ℕ) (ol
             (whole.2, whole.3)
 
         pub renamed_whole : Renames from old from name tt fs (files_seen disk.image d) × IsTree (files_seen disk.image d)
-        renamed_whole = ((i, both.0), both.1)
-
--- ---- to another directory
-
--- In a transaction: kernel k looked at the directory, which is a then, at the file, b, and at the other directory, c; d linked the new name.
-module _ {D N : Type 0} (disk : Ghosts D N) (k a b c d : Plain D) (from to i number : ℕ) (old name bytes slice again into third : List ℕ) (found other : Option (List ℕ))
-    (write : EntryWrite) (whole : Bool) (tree : IsTree (files_seen disk.image k)) (apart : from ≢ to) (looked : files_seen disk.image a ≡ files_seen disk.image k)
-    (here : IsDirectoryFound (files_seen disk.image k) from found) (found_is : found ≡ Some bytes) (slice_is : slice ≡ bytes) (led : lookup slice old ≡ Some number)
-    (saw : files_seen disk.image b ≡ files_seen disk.image a) (brought : files_seen disk.image c ≡ files_seen disk.image b)
-    (there : IsDirectoryFound (files_seen disk.image b) to other) (other_is : other ≡ Some into) (third_is : third ≡ into) (links : Links third name number write)
-    (below : write.place < 192) (linked : HasEntered disk.image to write c d whole) where
-  abbrev all : Files
-  all = files_seen disk.image k
-
-  at : IsDirectory all from × (bytes ≡ directory_in all from)
-  at = found_bytes all from found bytes found_is here
-
-  target : IsDirectory all to × (into ≡ directory_in all to)
-  target = found_bytes all to other into other_is (subst (λ (f : Files). IsDirectoryFound f to other) (saw ∙ looked) there)
-
-  names : Links (directory_in all to) name number write
-  names = subst (λ (l : List ℕ). Links l name number write) (third_is ∙ target.1) links
-
-  linking : after (form_seen disk.image c) all (operation_of to write) linked.reply ≡ Some (files_seen disk.image d)
-  linking =
-      subst (λ (f : Files). after (form_seen disk.image c) f (operation_of to write) linked.reply ≡ Some (files_seen disk.image d)) (brought ∙ saw ∙ looked) linked.answers
-
-  -- nothing of it was written
-  pub unlinked_same : whole ≡ false → files_seen disk.image d ≡ all
-  unlinked_same fails =
-      ⊎_elim (λ (done : (linked.reply ≡ Wrote 16) × LeadsTo all (files_seen disk.image d) to name (Some number)).
-      let both : false ≡ true = sym fails ∙ linked.told ∙ ap is_entered done.0 in absurd (cc both))
-      (λ (none : (linked.reply ≡ Wrote 0) × (files_seen disk.image d ≡ all)). none.1)
-      (link_leads_there (form_seen disk.image c) all (files_seen disk.image d) to number name write linked.reply target.0 (tidy_in all to tree target.0) names below linking)
-
-  pub unlinked_absent : IsDirectory all to × (number_of all to name ≡ None)
-  unlinked_absent = (target.0, names.absent)
-
-  -- and e freed the old one
-  module _ (e : Plain D) (free : EntryWrite) (done : Bool) (down : IsDown old) (again_is : again ≡ bytes) (unlinks : Unlinks again old free) (same : i ≡ number)
-      (plain : IsDirectory (files_seen disk.image a) i → ⊥) (holds : whole ≡ true) (freed : HasEntered disk.image from free d e done) (opening : d.opening ≡ c.opening) where
-    moves : MovesName all (files_seen disk.image e) from old to name number × IsTree (files_seen disk.image e)
-    moves =
-        let first : after (form_seen disk.image c) all (operation_of to write) (Wrote 16) ≡ Some (files_seen disk.image d) =
-        subst (λ (r : Reply). after (form_seen disk.image c) all (operation_of to write) r ≡ Some (files_seen disk.image d))
-        (whole_entry linked.reply (sym linked.told ∙ holds)) linking in
-        let second : after (form_seen disk.image c) (files_seen disk.image d) (operation_of from free) freed.reply ≡ Some (files_seen disk.image e) =
-        subst (λ (o : D). after (form_of (disk.image o)) (files_seen disk.image d) (operation_of from free) freed.reply ≡ Some (files_seen disk.image e)) opening freed.answers in
-        let moved = moves_file_whole (form_seen disk.image c) all (files_seen disk.image d) (files_seen disk.image e) from to number old name free write freed.reply tree
-        at.0 target.0 apart down (down_absent all to name tree target.0 names.absent)
-        (λ is. plain (subst (λ (j : ℕ). IsDirectory (files_seen disk.image a) j) (sym same) (subst (λ (f : Files). IsDirectory f number) (sym looked) is)))
-        (ap (λ (l : List ℕ). lookup l old) (sym (slice_is ∙ at.1)) ∙ led) names below first (subst (λ (l : List ℕ). Unlinks l old free) (again_is ∙ at.1) unlinks) second in
-        (moved.1, moved.2)
-
-    pub moved_whole : Renames from old to name tt all (files_seen disk.image e) × IsTree (files_seen disk.image e)
-    moved_whole = ((number, moves.0), moves.1)
+        renamed_whole = ((i, inl (both.0, λ is. refl)), both.1)
 
 -- ---- at two paths
 

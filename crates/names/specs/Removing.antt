@@ -2,7 +2,7 @@
 use Rattle.std.specs.Prelude.{◌≡◌, ℕ, List, Some, None}
 use Rattle.model.specs.Files.{Files}
 use Rattle.names.specs.declared.refusal.Refusal.{Refusal}
-use Rattle.names.specs.declared.refusal.Refusal.TheVariants.{NotFound, NotADirectory, IsRoot, Exists, Full, NoNumber, NoBlock, IsADirectory, NotEmpty, NotDown}
+use Rattle.names.specs.declared.refusal.Refusal.TheVariants.{NotFound, NotADirectory, IsRoot, Exists, Full, NoNumber, NoBlock, IsADirectory, NotEmpty, IsInside, NotDown}
 use Rattle.names.specs.TreeChanges.{DropsName}
 use Rattle.names.specs.Trees.{number_of, IsDirectory}
 use Rattle.names.specs.Walks.{AtLast}
@@ -24,6 +24,7 @@ IsUnremovedIn files from name Full = ⊥
 IsUnremovedIn files from name NoNumber = ⊥
 IsUnremovedIn files from name NoBlock = ⊥
 IsUnremovedIn files from name NotEmpty = ⊥
+IsUnremovedIn files from name IsInside = ⊥
 IsUnremovedIn files from name NotDown = ⊥
 
 -- the last of these names is gone, and its file, from the directory that the others lead to

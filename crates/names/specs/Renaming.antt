@@ -1,23 +1,64 @@
 -- A file of a tree that gets another name.
-use Rattle.std.specs.Prelude.{◌≡◌, ◌≢◌, ◌⊎◌, ℕ, List, Some, None}
+use Rattle.std.specs.Prelude.{◌≡◌, ◌≢◌, ◌⊎◌, ℕ, ◌<◌, List, Option, Some, None, Result, Ok, Err}
 use Rattle.blocks.specs.declared.disk.Disk.{Ghosts}
 use Rattle.model.specs.Files.{Files}
 use Rattle.calls.specs.Stepping.{Plain}
+use Rattle.names.specs.declared.entries.EntryWrite.{EntryWrite}
 use Rattle.names.specs.declared.entries.LinkFault.TheVariants as link_fault
+use Rattle.names.specs.Entries.{most_entries}
 use Rattle.names.specs.declared.refusal.Refusal.{Refusal}
-use Rattle.names.specs.declared.refusal.Refusal.TheVariants.{NotFound, NotADirectory, IsRoot, Exists, Full, NoNumber, NoBlock, IsADirectory, NotEmpty, NotDown}
+use Rattle.names.specs.declared.refusal.Refusal.TheVariants.{NotFound, NotADirectory, IsRoot, Exists, Full, NoNumber, NoBlock, IsADirectory, NotEmpty, IsInside, NotDown}
+use Rattle.names.specs.declared.planning.Plan.{Plan}
 use Rattle.names.specs.declared.refusal.TreeFault.{TreeFault}
 use Rattle.names.specs.declared.refusal.TreeFault.TheVariants.{Path, Refused, Call, NoSpace, NoCall}
 use Rattle.names.specs.Paths.{IsPathCause}
 use Rattle.names.specs.Ready.{IsUnanswered}
-use Rattle.names.specs.TreeChanges.{MovesName}
-use Rattle.names.specs.Trees.{directory_in, number_of, IsDirectory, IsDown}
+use Rattle.names.specs.TreeChanges.{MovesDirectory, MovesName}
+use Rattle.names.specs.Trees.{directory_in, number_of, parent_name, IsDirectory, IsDown, IsOutside}
 use Rattle.names.specs.Walks.{IsUnled, LeadsIn}
-use Rattle.names.specs.Writes.{IsLinkCause}
+use Rattle.names.specs.Writes.{IsLinkCause, Links, Repoints, Unlinks}
 
--- a file has a name of a directory in place of its name of the same or of another one
+-- A file has a name of a directory in place of its name of the same or of another one. A directory that
+-- comes to another one, outside it, has this as its parent.
+abbrev pub Moves : Files → Files → ℕ → List ℕ → ℕ → List ℕ → ℕ → Type 0
+Moves files new from old to name number =
+    (MovesName files new from old to name number × (IsDirectory files number → from ≡ to))
+    ⊎ (MovesDirectory files new from old to name number × IsDirectory files number
+    × (from ≢ to) × IsOutside files number to)
+
 abbrev pub Renames : ℕ → List ℕ → ℕ → List ℕ → Unit {0} → Files → Files → Type 0
-Renames from old to name done files new = (number : ℕ) × MovesName files new from old to name number
+Renames from old to name done files new = (number : ℕ) × Moves files new from old to name number
+
+-- the write that gives a directory another parent, which is outside it
+pub record IsRise (files : Files) (number to : ℕ) (up : EntryWrite) : Type 0 where
+  pub directory : IsDirectory files number
+  pub outside : IsOutside files number to
+  pub repoints : Repoints (directory_in files number) parent_name to up
+  pub within : up.place < most_entries
+
+-- a file that is no directory has no parent
+abbrev pub IsUp : Files → ℕ → ℕ → Option EntryWrite → Type 0
+IsUp files number to None = IsDirectory files number → ⊥
+IsUp files number to (Some up) = IsRise files number to up
+
+-- or the new parent is inside the directory
+abbrev pub Rises : Files → ℕ → ℕ → Result (Option EntryWrite) Refusal → Type 0
+Rises files number to (Ok up) = IsUp files number to up
+Rises files number to (Err cause) =
+    (cause ≡ IsInside) × IsDirectory files number × (IsOutside files number to → ⊥)
+
+-- the writes that move a file to another directory
+pub record IsPlan (files : Files) (from : ℕ) (old : List ℕ) (to : ℕ) (name : List ℕ) (plan : Plan)
+    : Type 0 where
+  pub source : IsDirectory files from
+  pub down : IsDown old
+  pub led : number_of files from old ≡ Some plan.file
+  pub target : IsDirectory files to
+  pub links : Links (directory_in files to) name plan.file plan.link
+  pub unlinks : Unlinks (directory_in files from) old plan.unlink
+  pub up : IsUp files plan.file to plan.up
+  pub link_within : plan.link.place < most_entries
+  pub unlink_within : plan.unlink.place < most_entries
 
 -- why none has
 abbrev pub IsUnrenamed : Files → ℕ → List ℕ → ℕ → List ℕ → Refusal → Type 0
@@ -26,8 +67,9 @@ IsUnrenamed files from old to name NotADirectory =
 IsUnrenamed files from old to name NotFound =
     IsDirectory files from × (number_of files from old ≡ None)
 IsUnrenamed files from old to name NotDown = IsDirectory files from × (IsDown old → ⊥)
-IsUnrenamed files from old to name IsADirectory = (from ≢ to)
-    × ((number : ℕ) × (number_of files from old ≡ Some number) × IsDirectory files number)
+IsUnrenamed files from old to name IsInside = (from ≢ to)
+    × ((number : ℕ) × (number_of files from old ≡ Some number) × IsDirectory files number
+    × (IsOutside files number to → ⊥))
 IsUnrenamed files from old to name Exists = IsDirectory files to
     × IsLinkCause (directory_in files to) name link_fault.Exists
 IsUnrenamed files from old to name Full = (from ≢ to) × IsDirectory files to
@@ -36,7 +78,13 @@ IsUnrenamed files from old to name NoBlock = (from ≢ to) × IsDirectory files 
     × (number_of files to name ≡ None)
 IsUnrenamed files from old to name IsRoot = ⊥
 IsUnrenamed files from old to name NoNumber = ⊥
+IsUnrenamed files from old to name IsADirectory = ⊥
 IsUnrenamed files from old to name NotEmpty = ⊥
+
+-- they are found, or the move is refused
+abbrev pub IsPlanned : Files → ℕ → List ℕ → ℕ → List ℕ → Result Plan Refusal → Type 0
+IsPlanned files from old to name (Ok plan) = IsPlan files from old to name plan
+IsPlanned files from old to name (Err cause) = IsUnrenamed files from old to name cause
 
 -- The same at the last of the first names and the last of the second ones, in the directories that
 -- the others lead to.

@@ -28,6 +28,7 @@ mod making;
 mod name;
 mod opening;
 mod path;
+mod planning;
 mod putting;
 mod refusal;
 mod removing;

@@ -33,6 +33,9 @@ pub enum Refusal {
     /// Something is in the directory.
     #[error("the directory is not empty")]
     NotEmpty,
+    /// A directory would be in itself, or in one that is below it.
+    #[error("the directory would be inside itself")]
+    IsInside,
     /// The last name is a directory's for itself or for its parent.
     #[error("the last name does not lead down")]
     NotDown,

@@ -11,7 +11,6 @@ ghost use Rattle.names.specs.Trees.{IsTree};
 
 use crate::changing::Change;
 use crate::entries::{link, lookup, unlink};
-use crate::making::unlinked;
 use crate::name::Name;
 use crate::path::names_of;
 use crate::refusal::{Refusal, TreeFault};
@@ -66,16 +65,16 @@ impl<'a> Change for RenameFile<'a> {
 
 impl<D: Disk> Tree<D> {
     /// Gives the file at a path the name at another path, which is new in the directory that the names
-    /// before it lead to. A directory stays in the one that it is in.
+    /// before it lead to. A directory goes with all that is in it.
     ///
     /// # Errors
     ///
     /// - `Path`: the bytes of one of the paths are none; nothing was done.
     /// - `Refused`, with the files as they were: `NotFound`, `NotADirectory` and `IsRoot` for the paths;
     ///   `NotDown` where the first one's last name is a directory's for itself or for its parent;
-    ///   `Exists` where the second one's last name is there. In another directory also `IsADirectory`
-    ///   where the file is one; `Full` where that has no room for one more, `NoBlock` where the disk
-    ///   has none.
+    ///   `Exists` where the second one's last name is there. In another directory also `IsInside`
+    ///   where a directory would be in itself; `Full` where that one has no room for one more, and
+    ///   `NoBlock` where the disk has none.
     /// - `Call`, `NoCall`: as every call of a tree.
     pub fn rename(&mut self, alloc: Global, path: &[u8], into: &[u8]) -> Result<(), TreeFault>
         requires ready { MayGoOn D.Disk self.old.kernel self.old.calls_left }
@@ -142,55 +141,6 @@ impl<D: Disk> Tree<D> {
             unreachable!()
         };
         let _whole = self.entered(alloc, from, write)?;
-        Ok(Ok(()))
-    }
-
-    // Gives a file that is no directory a name in another directory. The new one is linked first, which
-    // may find no room.
-    fn moved(
-        &mut self,
-        alloc: Global,
-        from: u32,
-        old: &Name,
-        to: u32,
-        name: &Name,
-    ) -> Result<Result<(), Refusal>, TreeFault>
-        requires way { IsUnderWay D.Disk self.old.kernel self.old.calls_left }
-        requires tree { IsTree (files_seen D.image self.old.kernel) }
-        requires apart { from ≢ to }
-        ensures goes { Proceeds D.Disk result self.old.kernel self.new.kernel self.new.calls_left }
-        ensures tree { OnOk result (IsTree (files_seen D.image self.new.kernel)) }
-        ensures moved { IfOk result (Happens (Renames from old.now to name.now)
-            (λ files. IsUnrenamed files from old.now to name.now)
-            (files_seen D.image self.old.kernel) (files_seen D.image self.new.kernel)) }
-    {
-        let Some(bytes) = self.directory(from)? else {
-            return Ok(Err(Refusal::NotADirectory));
-        };
-        if !old.is_down() {
-            return Ok(Err(Refusal::NotDown));
-        }
-        let Some(number) = lookup(bytes.as_slice(), old) else {
-            return Ok(Err(Refusal::NotFound));
-        };
-        let Some(free) = unlink(bytes.as_slice(), old) else {
-            // It leads to a number.
-            unreachable!()
-        };
-        if self.is_directory(u32::from(number))? {
-            return Ok(Err(Refusal::IsADirectory));
-        }
-        let Some(bytes) = self.directory(to)? else {
-            return Ok(Err(Refusal::NotADirectory));
-        };
-        let write = match link(bytes.as_slice(), name, number) {
-            Ok(write) => write,
-            Err(fault) => return Ok(Err(unlinked(fault))),
-        };
-        if !self.entered(alloc, to, write)? {
-            return Ok(Err(Refusal::NoBlock));
-        }
-        let _freed = self.entered(alloc, from, free)?;
         Ok(Ok(()))
     }
 }

@@ -1,71 +1,76 @@
-use Rattle.std.proofs.Common.{◌≡◌, ◌∙◌, true, false, sym, subst, rules}
+use Rattle.std.proofs.Common.{◌≡◌, Result, true, false, sym, subst, rules}
+use Rattle.model.specs.Files.{Files}
+use Rattle.names.specs.declared.planning.Plan.{Plan}
+use Rattle.names.specs.declared.refusal.Refusal.{Refusal}
 use Rattle.names.specs.Inside.{files_seen}
-use Rattle.names.specs.Trees.{IsDirectory, IsDown, IsTree}
-use Rattle.names.proofs.Entering.{found_fits}
-use Rattle.names.proofs.PlainFiles.{not_told}
-use Rattle.names.proofs.Renamed.{lookup_used, moved_whole, unlinked_absent, unlinked_same}
-use Rattle.names.specs.Renaming.{Renames}
+use Rattle.names.specs.Renaming.{IsPlan, IsPlanned, Renames}
+use Rattle.names.specs.Trees.{number_of, IsDirectory, IsTree}
+use Rattle.std.specs.Prelude.{None}
+use Rattle.names.proofs.Moved.{moved_directory, moved_file, unlinked_absent, unlinked_same}
 use Rattle.names.proofs.tree.Tree.moved.Given.{Over}
 use Rattle.names.proofs.tree.Tree.moved.Goals as goal
 
-pub unlink-requires : goal.unlink-requires
-unlink-requires g c =
-    found_fits (files_seen g.D.Disk.image c.args.self.now.kernel) c.args.from c.in_ok-bytes.field-0 c.in-Some.bytes c.as_slice-2.result.now c.requires.tree
-    c.in-Some.is c.as_slice-2.ensures c.in_ok-bytes.ensures.found
+module _ (g : Over) (c : goal.Then-not-branch g) where
+  plan_of : IsPlan (files_seen g.D.Disk.image c.args.self.now.kernel) c.args.from c.args.old.now c.args.to c.args.name.now c.in-Ok.plan
+  plan_of =
+      subst (λ (r : Result Plan Refusal). IsPlanned (files_seen g.D.Disk.image c.args.self.now.kernel) c.args.from c.args.old.now c.args.to c.args.name.now r)
+      c.in-Ok.is c.in_ok-plan.ensures.planned
 
-pub link-requires-clause-used : goal.link-requires-clause-used
-link-requires-clause-used g c = lookup_used c.as_slice.result.now c.args.old.now c.in-Some-lookup.number (sym c.in-Some-lookup.ensures)
+  same_files : files_seen g.D.Disk.image c.entered.new.self.kernel ≡ files_seen g.D.Disk.image c.args.self.now.kernel
+  same_files =
+      unlinked_same g.D.Disk c.args.self.now.kernel c.planned.new.self.kernel c.entered.new.self.kernel c.args.from c.args.to c.args.old.now c.args.name.now c.in-Ok.plan
+      c.in_ok-entered.field-0 c.requires.tree c.requires.apart c.in_ok-plan.ensures.same plan_of c.in_ok-entered.ensures.entered
+      c.if-not-branch.true
 
-pub link-requires-clause-size : goal.link-requires-clause-size
-link-requires-clause-size g c =
-    found_fits (files_seen g.D.Disk.image c.is_directory.new.self.kernel) c.args.to c.in_ok-bytes-2.field-0 c.in-Some-2.bytes c.as_slice-3.result.now
-    (subst (λ f. IsTree f) (sym (c.in_ok-is_directory.ensures.same ∙ c.in_ok-bytes.ensures.same)) c.requires.tree) c.in-Some-2.is c.as_slice-3.ensures
-    c.in_ok-bytes-2.ensures.found
+  absent_there : IsDirectory (files_seen g.D.Disk.image c.args.self.now.kernel) c.args.to
+      × (number_of (files_seen g.D.Disk.image c.args.self.now.kernel) c.args.to c.args.name.now ≡ None)
+  absent_there =
+      unlinked_absent g.D.Disk c.args.self.now.kernel c.planned.new.self.kernel c.entered.new.self.kernel c.args.from c.args.to c.args.old.now c.args.name.now c.in-Ok.plan
+      c.in_ok-entered.field-0 c.requires.tree c.requires.apart c.in_ok-plan.ensures.same plan_of c.in_ok-entered.ensures.entered
 
 pub returns-then-not-branch-clause-tree : goal.returns-then-not-branch-clause-tree
-returns-then-not-branch-clause-tree g c =
-    let fails : c.in_ok-entered.field-0 ≡ false = search rules in
-    let same : files_seen g.D.Disk.image c.entered.new.self.kernel ≡ files_seen g.D.Disk.image c.args.self.now.kernel =
-    unlinked_same g.D.Disk c.args.self.now.kernel c.directory.new.self.kernel c.is_directory.new.self.kernel c.directory-2.new.self.kernel c.entered.new.self.kernel
-    c.args.from c.args.to c.from.result c.in-Some-lookup.number c.args.old.now c.args.name.now c.in-Some.bytes c.as_slice.result.now c.as_slice-2.result.now
-    c.in-Some-2.bytes c.as_slice-3.result.now c.in_ok-bytes.field-0 c.in_ok-bytes-2.field-0 c.in-Ok.write c.in_ok-entered.field-0 c.requires.tree c.requires.apart
-    c.in_ok-bytes.ensures.same c.in_ok-bytes.ensures.found c.in-Some.is c.as_slice.ensures (sym c.in-Some-lookup.ensures) c.in_ok-is_directory.ensures.same
-    c.in_ok-bytes-2.ensures.same c.in_ok-bytes-2.ensures.found c.in-Some-2.is c.as_slice-3.ensures c.in-Ok.ensures.links c.in-Ok.ensures.within c.in_ok-entered.ensures.entered fails in
-    subst (λ f. IsTree f) (sym same) c.requires.tree
+returns-then-not-branch-clause-tree g c = subst (λ (f : Files). IsTree f) (sym (same_files g c)) c.requires.tree
 
 pub returns-then-not-branch-clause-moved : goal.returns-then-not-branch-clause-moved
-returns-then-not-branch-clause-moved g c =
-    let fails : c.in_ok-entered.field-0 ≡ false = search rules in
-    let there = unlinked_absent g.D.Disk c.args.self.now.kernel c.directory.new.self.kernel c.is_directory.new.self.kernel c.directory-2.new.self.kernel c.entered.new.self.kernel
-    c.args.from c.args.to c.from.result c.in-Some-lookup.number c.args.old.now c.args.name.now c.in-Some.bytes c.as_slice.result.now c.as_slice-2.result.now
-    c.in-Some-2.bytes c.as_slice-3.result.now c.in_ok-bytes.field-0 c.in_ok-bytes-2.field-0 c.in-Ok.write c.in_ok-entered.field-0 c.requires.tree c.requires.apart
-    c.in_ok-bytes.ensures.same c.in_ok-bytes.ensures.found c.in-Some.is c.as_slice.ensures (sym c.in-Some-lookup.ensures) c.in_ok-is_directory.ensures.same
-    c.in_ok-bytes-2.ensures.same c.in_ok-bytes-2.ensures.found c.in-Some-2.is c.as_slice-3.ensures c.in-Ok.ensures.links c.in-Ok.ensures.within c.in_ok-entered.ensures.entered in (
-      unlinked_same g.D.Disk c.args.self.now.kernel c.directory.new.self.kernel c.is_directory.new.self.kernel c.directory-2.new.self.kernel c.entered.new.self.kernel
-          c.args.from c.args.to c.from.result c.in-Some-lookup.number c.args.old.now c.args.name.now c.in-Some.bytes c.as_slice.result.now c.as_slice-2.result.now
-          c.in-Some-2.bytes c.as_slice-3.result.now c.in_ok-bytes.field-0 c.in_ok-bytes-2.field-0 c.in-Ok.write c.in_ok-entered.field-0 c.requires.tree c.requires.apart
-          c.in_ok-bytes.ensures.same c.in_ok-bytes.ensures.found c.in-Some.is c.as_slice.ensures (sym c.in-Some-lookup.ensures) c.in_ok-is_directory.ensures.same
-          c.in_ok-bytes-2.ensures.same c.in_ok-bytes-2.ensures.found c.in-Some-2.is c.as_slice-3.ensures c.in-Ok.ensures.links c.in-Ok.ensures.within c.in_ok-entered.ensures.entered fails,
-      (c.requires.apart, there.0, there.1),
-    )
+returns-then-not-branch-clause-moved g c = (same_files g c, (c.requires.apart, (absent_there g c).0, (absent_there g c).1))
 
-module _ (g : Over) (c : goal.After-drop-bytes-inside-3 g) where
-  whole : Renames c.args.from c.args.old.now c.args.to c.args.name.now tt (files_seen g.D.Disk.image c.args.self.now.kernel)
+module _ (g : Over) (c : goal.In_default g) where
+  file_plan : IsPlan (files_seen g.D.Disk.image c.args.self.now.kernel) c.args.from c.args.old.now c.args.to c.args.name.now c.in-Ok.plan
+  file_plan =
+      subst (λ (r : Result Plan Refusal). IsPlanned (files_seen g.D.Disk.image c.args.self.now.kernel) c.args.from c.args.old.now c.args.to c.args.name.now r)
+      c.in-Ok.is c.in_ok-plan.ensures.planned
+
+  file_moved : Renames c.args.from c.args.old.now c.args.to c.args.name.now tt (files_seen g.D.Disk.image c.args.self.now.kernel)
       (files_seen g.D.Disk.image c.entered-2.new.self.kernel) × IsTree (files_seen g.D.Disk.image c.entered-2.new.self.kernel)
-  whole =
-      let down : IsDown c.args.old.now = search rules in
+  file_moved =
       let holds : c.in_ok-entered.field-0 ≡ true = search rules in
-      moved_whole g.D.Disk c.args.self.now.kernel c.directory.new.self.kernel c.is_directory.new.self.kernel c.directory-2.new.self.kernel c.entered.new.self.kernel
-      c.args.from c.args.to c.from.result c.in-Some-lookup.number c.args.old.now c.args.name.now c.in-Some.bytes c.as_slice.result.now c.as_slice-2.result.now
-      c.in-Some-2.bytes c.as_slice-3.result.now c.in_ok-bytes.field-0 c.in_ok-bytes-2.field-0 c.in-Ok.write c.in_ok-entered.field-0 c.requires.tree c.requires.apart
-      c.in_ok-bytes.ensures.same c.in_ok-bytes.ensures.found c.in-Some.is c.as_slice.ensures (sym c.in-Some-lookup.ensures) c.in_ok-is_directory.ensures.same
-      c.in_ok-bytes-2.ensures.same c.in_ok-bytes-2.ensures.found c.in-Some-2.is c.as_slice-3.ensures c.in-Ok.ensures.links c.in-Ok.ensures.within c.in_ok-entered.ensures.entered c.entered-2.new.self.kernel
-      c.in-Some-unlink.free c.in_ok-_freed._freed down c.as_slice-2.ensures c.in-Some-unlink.ensures.unlinks c.from.ensures
-      (not_told c.in_ok-is_directory.field-0 (IsDirectory (files_seen g.D.Disk.image c.directory.new.self.kernel) c.from.result) c.if-branch.false
-      c.in_ok-is_directory.ensures.told) holds c.in_ok-_freed.ensures.entered c.in_ok-entered.ensures.goes.on.opening
+      moved_file g.D.Disk c.args.self.now.kernel c.planned.new.self.kernel c.entered.new.self.kernel c.args.from c.args.to c.args.old.now c.args.name.now c.in-Ok.plan
+      c.in_ok-entered.field-0 c.requires.tree c.requires.apart c.in_ok-plan.ensures.same file_plan c.in_ok-entered.ensures.entered
+      c.entered-2.new.self.kernel c.in_ok-_freed._freed holds c.in_ok-_freed.ensures.entered c.in_ok-entered.ensures.goes.on.opening c.in_default.is
+
+pub returns-in_default-clause-tree : goal.returns-in_default-clause-tree
+returns-in_default-clause-tree g c = (file_moved g c).1
+
+pub returns-in_default-clause-moved : goal.returns-in_default-clause-moved
+returns-in_default-clause-moved g c = (file_moved g c).0
+
+module _ (g : Over) (c : goal.In_ok-_turned g) where
+  directory_plan : IsPlan (files_seen g.D.Disk.image c.args.self.now.kernel) c.args.from c.args.old.now c.args.to c.args.name.now c.in-Ok.plan
+  directory_plan =
+      subst (λ (r : Result Plan Refusal). IsPlanned (files_seen g.D.Disk.image c.args.self.now.kernel) c.args.from c.args.old.now c.args.to c.args.name.now r)
+      c.in-Ok.is c.in_ok-plan.ensures.planned
+
+  directory_moved : Renames c.args.from c.args.old.now c.args.to c.args.name.now tt (files_seen g.D.Disk.image c.args.self.now.kernel)
+      (files_seen g.D.Disk.image c.entered-3.new.self.kernel) × IsTree (files_seen g.D.Disk.image c.entered-3.new.self.kernel)
+  directory_moved =
+      let holds : c.in_ok-entered.field-0 ≡ true = search rules in
+      moved_directory g.D.Disk c.args.self.now.kernel c.planned.new.self.kernel c.entered.new.self.kernel c.args.from c.args.to c.args.old.now c.args.name.now c.in-Ok.plan
+      c.in_ok-entered.field-0 c.requires.tree c.requires.apart c.in_ok-plan.ensures.same directory_plan c.in_ok-entered.ensures.entered
+      c.entered-2.new.self.kernel c.in_ok-_freed._freed holds c.in_ok-_freed.ensures.entered c.in_ok-entered.ensures.goes.on.opening
+      c.entered-3.new.self.kernel c.in-Some.up c.in_ok-_turned._turned c.in-Some.is c.in_ok-_turned.ensures.entered c.in_ok-_freed.ensures.goes.on.opening
 
 pub returns-clause-tree : goal.returns-clause-tree
-returns-clause-tree g c = (whole g c).1
+returns-clause-tree g c = (directory_moved g c).1
 
 pub returns-clause-moved : goal.returns-clause-moved
-returns-clause-moved g c = (whole g c).0
+returns-clause-moved g c = (directory_moved g c).0

@@ -1,0 +1,45 @@
+use Rattle.std.proofs.Common.{◌≡◌, ◌∙◌, Result, ℕ, refl}
+use Rattle.names.specs.Inside.{files_seen}
+use Rattle.names.specs.Trees.{parent_name}
+use Rattle.names.specs.Walks.{stepped}
+use Rattle.names.proofs.Rising.{has_parent, inside_itself, parent_decides, parent_there, root_decides, stepped_as}
+use Rattle.names.proofs.tree.Tree.is_outside.Goals as goal
+
+pub returns-then-at-number-clause-told : goal.returns-then-at-number-clause-told
+returns-then-at-number-clause-told g c = (
+  λ yes. absurd (cc yes),
+  λ outside. absurd (inside_itself (files_seen g.D.Disk.image c.args.self.now.kernel) c.args.number c.args.from c.loop-step.at c.loop-step.invariant.decides
+      c.if-at-number.true outside),
+)
+
+pub returns-then-at-eq-DIRECTORY-clause-told : goal.returns-then-at-eq-DIRECTORY-clause-told
+returns-then-at-eq-DIRECTORY-clause-told g c = (
+  λ yes. root_decides (files_seen g.D.Disk.image c.args.self.now.kernel) c.args.number c.args.from c.loop-step.at c.requires.tree c.requires.below
+      c.loop-step.invariant.decides c.if-at-eq-DIRECTORY.true,
+  λ outside. refl,
+)
+
+pub unreachable-requires : goal.unreachable-requires
+unreachable-requires g c =
+    has_parent (files_seen g.D.Disk.image c.args.self.now.kernel) c.loop-step.at c.in_ok-parent.field-0 c.requires.tree c.loop-step.invariant.is
+    (stepped_as c.in_ok-parent.field-0 (files_seen g.D.Disk.image c.loop-step.self.kernel) (files_seen g.D.Disk.image c.args.self.now.kernel) c.loop-step.at c.parent.result
+    c.in_ok-parent.ensures.led c.loop-step.invariant.files c.parent.ensures) c.in_default.not-Ok
+
+pub loop-step-preserved : goal.loop-step-preserved
+loop-step-preserved g c =
+    let leads = stepped_as c.in_ok-parent.field-0 (files_seen g.D.Disk.image c.loop-step.self.kernel) (files_seen g.D.Disk.image c.args.self.now.kernel) c.loop-step.at
+    c.parent.result c.in_ok-parent.ensures.led c.loop-step.invariant.files c.parent.ensures in
+    let decide = parent_decides (files_seen g.D.Disk.image c.args.self.now.kernel) c.args.number c.loop-step.at c.in-Ok.parent c.in_ok-parent.field-0 c.requires.tree
+    c.loop-step.invariant.is c.if-at-eq-DIRECTORY.false leads c.in-Ok.is c.if-at-number.false in
+    record {
+      way = c.in_ok-parent.ensures.goes.on.way;
+      same = c.in_ok-parent.ensures.goes.on.same ∙ c.loop-step.invariant.same;
+      opening = c.in_ok-parent.ensures.goes.on.opening ∙ c.loop-step.invariant.opening;
+      files = c.in_ok-parent.ensures.same ∙ c.loop-step.invariant.files;
+      stays = record {
+        on = λ o same so_far. c.step.ensures.goes.stays.on o (c.loop-step.invariant.same ∙ same) (c.loop-step.invariant.stays.on o same so_far);
+      };
+      is = parent_there (files_seen g.D.Disk.image c.args.self.now.kernel) c.args.number c.loop-step.at c.in-Ok.parent c.in_ok-parent.field-0 c.requires.tree
+          c.loop-step.invariant.is c.if-at-eq-DIRECTORY.false leads c.in-Ok.is;
+      decides = (λ outside. decide.0 (c.loop-step.invariant.decides.0 outside), λ outside. c.loop-step.invariant.decides.1 (decide.1 outside));
+    }

@@ -1,0 +1,84 @@
+use Rattle.std.proofs.Common.{◌≡◌, ◌∙◌, sym, subst, rules}
+use Rattle.model.specs.Files.{Files}
+use Rattle.names.specs.Inside.{files_seen}
+use Rattle.names.specs.Trees.{IsDown, IsTree}
+use Rattle.names.proofs.Entering.{found_fits}
+use Rattle.names.proofs.Moved.{not_root, own_directory, own_is, own_there, plan_inside, plan_is, target_in}
+use Rattle.names.proofs.Renamed.{lookup_used}
+use Rattle.names.proofs.tree.Tree.planned.Goals as goal
+
+pub unlink-requires : goal.unlink-requires
+unlink-requires g c =
+    found_fits (files_seen g.D.Disk.image c.args.self.now.kernel) c.args.from c.in_ok-bytes.field-0 c.in-Some.bytes c.as_slice-2.result.now c.requires.tree
+    c.in-Some.is c.as_slice-2.ensures c.in_ok-bytes.ensures.found
+
+pub link-requires-clause-used : goal.link-requires-clause-used
+link-requires-clause-used g c = lookup_used c.as_slice.result.now c.args.old.now c.in-Some-lookup.number (sym c.in-Some-lookup.ensures)
+
+pub link-requires-clause-size : goal.link-requires-clause-size
+link-requires-clause-size g c =
+    found_fits (files_seen g.D.Disk.image c.directory.new.self.kernel) c.args.to c.in_ok-bytes-2.field-0 c.in-Some-2.bytes c.as_slice-3.result.now
+    (subst (λ (f : Files). IsTree f) (sym c.in_ok-bytes.ensures.same) c.requires.tree) c.in-Some-2.is c.as_slice-3.ensures c.in_ok-bytes-2.ensures.found
+
+pub unreachable-requires-in_default-lookup-2 : goal.unreachable-requires-in_default-lookup-2
+unreachable-requires-in_default-lookup-2 g c =
+    let fs : Files = files_seen g.D.Disk.image c.args.self.now.kernel in
+    let target = target_in fs (files_seen g.D.Disk.image c.directory.new.self.kernel) c.args.to c.in_ok-bytes-2.field-0 c.in-Some-2.bytes c.in_ok-bytes.ensures.same
+    c.in-Some-2.is c.in_ok-bytes-2.ensures.found in
+    own_there fs c.args.to c.as_slice-4.result.now c.in-Some-2.bytes c.own.result c.lookup-2.result c.requires.tree target.0 target.1 c.as_slice-4.ensures c.own.ensures
+    c.lookup-2.ensures c.in_default-lookup-2.not-Some
+
+pub rise-requires-clause-there : goal.rise-requires-clause-there
+rise-requires-clause-there g c =
+    let fs : Files = files_seen g.D.Disk.image c.args.self.now.kernel in
+    let target = target_in fs (files_seen g.D.Disk.image c.directory.new.self.kernel) c.args.to c.in_ok-bytes-2.field-0 c.in-Some-2.bytes c.in_ok-bytes.ensures.same
+    c.in-Some-2.is c.in_ok-bytes-2.ensures.found in
+    let down : IsDown c.args.old.now = search rules in
+    let own : c.in-Some-lookup-2.own ≡ c.args.to = own_is fs c.args.to c.as_slice-4.result.now c.in-Some-2.bytes c.own.result c.lookup-2.result c.requires.tree target.0 target.1 c.as_slice-4.ensures c.own.ensures
+    c.lookup-2.ensures c.in-Some-lookup-2.own c.in-Some-lookup-2.is in
+    own_directory fs (files_seen g.D.Disk.image c.directory.new.self.kernel) (files_seen g.D.Disk.image c.directory-2.new.self.kernel) c.args.from c.args.to c.in-Some-lookup.number
+    c.from-file.result c.in-Some-lookup-2.own c.args.old.now c.args.name.now c.in-Some.bytes c.as_slice.result.now c.as_slice-2.result.now c.in-Some-2.bytes
+    c.as_slice-3.result.now c.in_ok-bytes.field-0 c.in_ok-bytes-2.field-0 c.requires.tree c.requires.apart down c.in_ok-bytes.ensures.same c.in_ok-bytes-2.ensures.same
+    c.in_ok-bytes.ensures.found c.in-Some.is c.as_slice.ensures c.as_slice-2.ensures (sym c.in-Some-lookup.ensures) c.from-file.ensures own target c.as_slice-3.ensures
+
+pub rise-requires-clause-below : goal.rise-requires-clause-below
+rise-requires-clause-below g c =
+    let fs : Files = files_seen g.D.Disk.image c.args.self.now.kernel in
+    let target = target_in fs (files_seen g.D.Disk.image c.directory.new.self.kernel) c.args.to c.in_ok-bytes-2.field-0 c.in-Some-2.bytes c.in_ok-bytes.ensures.same
+    c.in-Some-2.is c.in_ok-bytes-2.ensures.found in
+    let down : IsDown c.args.old.now = search rules in
+    let own : c.in-Some-lookup-2.own ≡ c.args.to = own_is fs c.args.to c.as_slice-4.result.now c.in-Some-2.bytes c.own.result c.lookup-2.result c.requires.tree target.0 target.1 c.as_slice-4.ensures c.own.ensures
+    c.lookup-2.ensures c.in-Some-lookup-2.own c.in-Some-lookup-2.is in
+    not_root fs (files_seen g.D.Disk.image c.directory.new.self.kernel) (files_seen g.D.Disk.image c.directory-2.new.self.kernel) c.args.from c.args.to c.in-Some-lookup.number
+    c.from-file.result c.in-Some-lookup-2.own c.args.old.now c.args.name.now c.in-Some.bytes c.as_slice.result.now c.as_slice-2.result.now c.in-Some-2.bytes
+    c.as_slice-3.result.now c.in_ok-bytes.field-0 c.in_ok-bytes-2.field-0 c.requires.tree c.requires.apart down c.in_ok-bytes.ensures.same c.in_ok-bytes-2.ensures.same
+    c.in_ok-bytes.ensures.found c.in-Some.is c.as_slice.ensures c.as_slice-2.ensures (sym c.in-Some-lookup.ensures) c.from-file.ensures own target c.as_slice-3.ensures
+
+pub returns-in-Ok-2-clause-planned : goal.returns-in-Ok-2-clause-planned
+returns-in-Ok-2-clause-planned g c =
+    let fs : Files = files_seen g.D.Disk.image c.args.self.now.kernel in
+    let target = target_in fs (files_seen g.D.Disk.image c.directory.new.self.kernel) c.args.to c.in_ok-bytes-2.field-0 c.in-Some-2.bytes c.in_ok-bytes.ensures.same
+    c.in-Some-2.is c.in_ok-bytes-2.ensures.found in
+    let down : IsDown c.args.old.now = search rules in
+    let own : c.in-Some-lookup-2.own ≡ c.args.to = own_is fs c.args.to c.as_slice-4.result.now c.in-Some-2.bytes c.own.result c.lookup-2.result c.requires.tree target.0 target.1 c.as_slice-4.ensures c.own.ensures
+    c.lookup-2.ensures c.in-Some-lookup-2.own c.in-Some-lookup-2.is in
+    plan_is fs (files_seen g.D.Disk.image c.directory.new.self.kernel) (files_seen g.D.Disk.image c.directory-2.new.self.kernel) c.args.from c.args.to c.in-Some-lookup.number
+    c.from-file.result c.in-Some-lookup-2.own c.args.old.now c.args.name.now c.in-Some.bytes c.as_slice.result.now c.as_slice-2.result.now c.in-Some-2.bytes
+    c.as_slice-3.result.now c.in_ok-bytes.field-0 c.in_ok-bytes-2.field-0 c.requires.tree c.requires.apart down c.in_ok-bytes.ensures.same c.in_ok-bytes-2.ensures.same
+    c.in_ok-bytes.ensures.found c.in-Some.is c.as_slice.ensures c.as_slice-2.ensures (sym c.in-Some-lookup.ensures) c.from-file.ensures own target c.as_slice-3.ensures
+    c.in_ok-up.field-0 c.in_ok-up.ensures.rises c.in-Ok-2.up c.in-Ok.write c.in-Some-unlink.freeing c.in-Ok-2.is c.in-Ok.ensures.links c.in-Ok.ensures.within
+    c.in-Some-unlink.ensures.unlinks c.in-Some-unlink.ensures.within
+
+pub returns-clause-planned : goal.returns-clause-planned
+returns-clause-planned g c =
+    let fs : Files = files_seen g.D.Disk.image c.args.self.now.kernel in
+    let target = target_in fs (files_seen g.D.Disk.image c.directory.new.self.kernel) c.args.to c.in_ok-bytes-2.field-0 c.in-Some-2.bytes c.in_ok-bytes.ensures.same
+    c.in-Some-2.is c.in_ok-bytes-2.ensures.found in
+    let down : IsDown c.args.old.now = search rules in
+    let own : c.in-Some-lookup-2.own ≡ c.args.to = own_is fs c.args.to c.as_slice-4.result.now c.in-Some-2.bytes c.own.result c.lookup-2.result c.requires.tree target.0 target.1 c.as_slice-4.ensures c.own.ensures
+    c.lookup-2.ensures c.in-Some-lookup-2.own c.in-Some-lookup-2.is in
+    plan_inside fs (files_seen g.D.Disk.image c.directory.new.self.kernel) (files_seen g.D.Disk.image c.directory-2.new.self.kernel) c.args.from c.args.to c.in-Some-lookup.number
+    c.from-file.result c.in-Some-lookup-2.own c.args.old.now c.args.name.now c.in-Some.bytes c.as_slice.result.now c.as_slice-2.result.now c.in-Some-2.bytes
+    c.as_slice-3.result.now c.in_ok-bytes.field-0 c.in_ok-bytes-2.field-0 c.requires.tree c.requires.apart down c.in_ok-bytes.ensures.same c.in_ok-bytes-2.ensures.same
+    c.in_ok-bytes.ensures.found c.in-Some.is c.as_slice.ensures c.as_slice-2.ensures (sym c.in-Some-lookup.ensures) c.from-file.ensures own target c.as_slice-3.ensures
+    c.in_ok-up.field-0 c.in_ok-up.ensures.rises c.in-Err-2.refusal c.in-Err-2.is

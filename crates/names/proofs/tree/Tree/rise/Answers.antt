@@ -1,0 +1,38 @@
+use Rattle.std.proofs.Common.{◌≡◌, ◌∙◌, ℕ, List, Some, None, true, sym, ap, subst, rules}
+use Rattle.model.specs.Files.{Files}
+use Rattle.names.specs.Entries.{lookup}
+use Rattle.names.specs.Inside.{files_seen}
+use Rattle.names.specs.Trees.{directory_in, parent_name, self_name, IsDirectory, IsTidy}
+use Rattle.names.proofs.FileLooks.{tidy_in}
+use Rattle.names.proofs.Renamed.{lookup_used}
+use Rattle.names.proofs.TreeMeaning.{directories_are_tidy}
+use Rattle.names.proofs.tree.Tree.rise.Goals as goal
+
+pub tidy_directory-requires-clause-tidy : goal.tidy_directory-requires-clause-tidy
+tidy_directory-requires-clause-tidy g c =
+    let is : c.in_ok-is_directory.field-0 ≡ true = search rules in
+    subst (λ (f : Files). IsTidy (directory_in f c.args.number)) (sym (c.in_ok-is_outside.ensures.same ∙ c.in_ok-is_directory.ensures.same))
+    (tidy_in (files_seen g.D.Disk.image c.args.self.now.kernel) c.args.number c.requires.tree (c.in_ok-is_directory.ensures.told.0 is))
+
+pub repoint-requires-clause-used : goal.repoint-requires-clause-used
+repoint-requires-clause-used g c =
+    let of = (directories_are_tidy (files_seen g.D.Disk.image c.args.self.now.kernel) c.args.to c.requires.tree c.requires.there).1 in
+    lookup_used (directory_in (files_seen g.D.Disk.image c.args.self.now.kernel) c.args.to) self_name c.args.to of.1.own
+
+pub repoint-requires-clause-size : goal.repoint-requires-clause-size
+repoint-requires-clause-size g c =
+    let is : c.in_ok-is_directory.field-0 ≡ true = search rules in
+    let tidy = subst (λ (f : Files). IsTidy (directory_in f c.args.number)) (sym (c.in_ok-is_outside.ensures.same ∙ c.in_ok-is_directory.ensures.same))
+    (tidy_in (files_seen g.D.Disk.image c.args.self.now.kernel) c.args.number c.requires.tree (c.in_ok-is_directory.ensures.told.0 is)) in
+    (subst (λ (l : List ℕ). IsTidy l) (sym (c.as_slice.ensures ∙ c.in_ok-bytes.ensures.bytes)) tidy).fits
+
+pub unreachable-requires : goal.unreachable-requires
+unreachable-requires g c =
+    let fs : Files = files_seen g.D.Disk.image c.args.self.now.kernel in
+    let is : c.in_ok-is_directory.field-0 ≡ true = search rules in
+    let of = (directories_are_tidy fs c.args.number c.requires.tree (c.in_ok-is_directory.ensures.told.0 is)).1 in
+    let same : c.as_slice.result.now ≡ directory_in fs c.args.number =
+    c.as_slice.ensures ∙ c.in_ok-bytes.ensures.bytes ∙ ap (λ (f : Files). directory_in f c.args.number) (c.in_ok-is_outside.ensures.same ∙ c.in_ok-is_directory.ensures.same) in
+    let both : None ≡ Some of.0 =
+    sym c.in_default.ensures.absent ∙ ap (λ (l : List ℕ). lookup l c.parent.result) same ∙ ap (λ (n : List ℕ). lookup (directory_in fs c.args.number) n) c.parent.ensures
+    ∙ of.1.up in cc both
