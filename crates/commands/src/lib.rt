@@ -21,5 +21,5 @@ pub use making::{Making, Mkfs, make_file};
 pub use puts::Put;
 pub use refused::{CopyRefusal, PutFileRefusal, ReadFault};
 pub use rescues::Rescue;
-pub use runs::{ReplayFilesRefusal, RunFilesRefusal, replay_files, run_files};
+pub use runs::{ReplayFilesRefusal, RunFilesRefusal, replay_by, replay_files, run_files};
 pub use targets::Target;
