@@ -86,9 +86,10 @@ rescue_app = with_rule (with_rule (waiting_app (codes "rescue") (codes "OLD"))
     (required_rule (codes "NEW"))) (flag_rule (codes "no-sync"))
 
 abbrev pub replay_app : App
-replay_app = with_rule (with_rule (with_rule (with_rule (image_app (codes "replay"))
-    (required_rule (codes "SCRIPT"))) (required_rule (codes "SCHEDULE"))) stop_rule)
-    (flag_rule (codes "sync"))
+replay_app = with_rule (with_rule (with_rule (with_rule (with_rule (with_rule
+    (image_app (codes "replay")) (required_rule (codes "SCRIPT")))
+    (required_rule (codes "SCHEDULE"))) stop_rule) (flag_rule (codes "sync")))
+    (flag_rule (codes "writes"))) (flag_rule (codes "steps"))
 
 -- `--workers N`, where N is from 1 to 32
 abbrev pub workers_rule : Rule
@@ -192,10 +193,11 @@ AsksBy name rows (Rescue old new no_sync) = (name ≡ codes "rescue")
     × (first_of (codes "OLD") rows ≡ Some old.now)
     × (first_of (codes "NEW") rows ≡ Some new.now)
     × HasFlag (codes "no-sync") rows no_sync
-AsksBy name rows (Replay image script schedule stop sync) =
+AsksBy name rows (Replay image script schedule stop sync writes steps) =
     (name ≡ codes "replay") × (first_of (codes "IMAGE") rows ≡ Some image.now)
     × (first_of (codes "SCRIPT") rows ≡ Some script.now)
     × (first_of (codes "SCHEDULE") rows ≡ Some schedule.now) × HasFlag (codes "sync") rows sync
+    × HasFlag (codes "writes") rows writes × HasFlag (codes "steps") rows steps
 AsksBy name rows (Run image script workers sync) =
     (name ≡ codes "run") × (first_of (codes "IMAGE") rows ≡ Some image.now)
     × (first_of (codes "SCRIPT") rows ≡ Some script.now) × HasWorkers rows workers

@@ -296,6 +296,16 @@ const LINES: &[Line] = &[
                 help: "Stops before this write, counted from 1 once the image is recovered",
             },
             SYNC,
+            Word {
+                name: "writes",
+                kind: Kind::Flag,
+                help: "Tells each write below its turn's line: its number, its block, and what it is",
+            },
+            Word {
+                name: "steps",
+                kind: Kind::Flag,
+                help: "Tells each step of a turn below its line: what it was to do",
+            },
         ],
     },
     Line {

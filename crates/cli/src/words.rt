@@ -133,6 +133,10 @@ pub enum Request<'a> {
         stop: Option<u64>,
         /// Whether the file holds writes back until it is synced.
         sync: bool,
+        /// Whether each write is told.
+        writes: bool,
+        /// Whether each step is told.
+        steps: bool,
     },
     /// A script's operations over an image, by callers and workers on threads.
     Run {
@@ -280,6 +284,8 @@ fn replay_request<'a>(values: &ArgMatches<'a>) -> Option<Request<'a>>
         schedule: values.get_str("SCHEDULE")?,
         stop: values.get_one("stop"),
         sync: values.get_flag("sync"),
+        writes: values.get_flag("writes"),
+        steps: values.get_flag("steps"),
     })
 }
 

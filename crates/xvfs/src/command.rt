@@ -24,9 +24,9 @@ use arrayvec::ArrayVec;
 use blocks::{Disk, FaultyDisk, FileDisk};
 use cli::{Asked, Explanation, Request, parse};
 use cmd::{Access, OverFile, end, perform};
-use commands::{Copy, Keeper, Locks, Making, Mkfs, Put, Rescue, Target, replay_files, run_files};
+use commands::{Copy, Keeper, Locks, Making, Mkfs, Put, Rescue, Target, replay_by, run_files};
 use inspect::{Df, Ls, Show};
-use messages::print_last;
+use messages::{Detail, print_last};
 use model::types::Form;
 use player::{Cat, Check, Recover};
 use std::convert::AsStr;
@@ -250,10 +250,23 @@ where
             schedule,
             stop,
             sync,
+            writes,
+            steps,
         } => {
             let mut progress = TerminalMeter::beside_lines(rt);
+            let detail = Detail { steps, writes };
             end(
-                replay_files(rt, image, script, schedule, stop, sync, &mut progress, out),
+                replay_by(
+                    rt,
+                    image,
+                    script,
+                    schedule,
+                    stop,
+                    sync,
+                    detail,
+                    &mut progress,
+                    out,
+                ),
                 err,
             )
         }

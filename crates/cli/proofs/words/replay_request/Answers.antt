@@ -11,4 +11,6 @@ returns c =
       value_read found (codes "SCRIPT") _ c.in_ok-get_str-2.ensures,
       value_read found (codes "SCHEDULE") _ c.in_ok-get_str-3.ensures,
       flag_read found (codes "sync") c.get_flag.result c.get_flag.ensures.none c.get_flag.ensures.value c.get_flag.ensures.other,
+      flag_read found (codes "writes") c.get_flag-2.result c.get_flag-2.ensures.none c.get_flag-2.ensures.value c.get_flag-2.ensures.other,
+      flag_read found (codes "steps") c.get_flag-3.result c.get_flag-3.ensures.none c.get_flag-3.ensures.value c.get_flag-3.ensures.other,
     )
