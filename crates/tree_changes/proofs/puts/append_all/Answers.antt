@@ -1,0 +1,32 @@
+use Rattle.std.proofs.Common.{◌≡◌, ℕ, ◌*◌, length, refl, subst, arith}
+use Rattle.std.specs.Int.{div_ceil}
+use Rattle.calls.specs.Calls.{image_on}
+use Rattle.model.specs.Files.{files_of}
+use Rattle.names.specs.Inside.{form_seen}
+use Rattle.tree_changes.specs.Puts.{WritesPieces}
+use Rattle.tree_changes.proofs.Pieces.{over_on, piece_written}
+use Rattle.tree_changes.proofs.puts.append_all.Goals as goal
+
+pub loop-piece-init : goal.loop-piece-init
+loop-piece-init g c = record { ready = c.requires.ready; stays = record { opening = refl; name = refl }; writes = refl }
+
+pub loop-piece-preserved : goal.loop-piece-preserved
+loop-piece-preserved g c =
+    let k = c.args.tree.now.kernel in
+    let m = c.loop-piece.tree.kernel in
+    let e = c.append.new.tree.kernel in
+    let so_far = c.loop-piece.invariant in
+    record {
+      ready = c.append.ensures.ready;
+      stays = over_on g.D.Disk k m e so_far.stays c.append.ensures.stays;
+      writes = piece_written g.D.Disk k m e c.args.path.now c.args.bytes.now c.loop-piece.piece c.min-to.result so_far.stays c.min-to.ensures _ so_far.writes c.in_ok-append.ensures.writes;
+    }
+
+pub returns-in_err-append-clause-stays : goal.returns-in_err-append-clause-stays
+returns-in_err-append-clause-stays g c = over_on g.D.Disk _ c.loop-piece.tree.kernel _ c.loop-piece.invariant.stays c.append.ensures.stays
+
+pub returns-clause-writes : goal.returns-clause-writes
+returns-clause-writes g c =
+    let all : c.loop-piece.piece ≡ div_ceil (length c.args.bytes.now) 3072 = omega (arith, c.loop-piece-test.false, c.loop-piece.auto.piece-end, c.div_ceil-piece-end.ensures) in
+    let k = c.args.tree.now.kernel in
+    subst (λ (n : ℕ). WritesPieces (form_seen g.D.Disk.image k) c.args.path.now c.args.bytes.now n (files_of (image_on g.D.Disk.image k)) (files_of (image_on g.D.Disk.image c.loop-piece.tree.kernel))) all c.loop-piece.invariant.writes

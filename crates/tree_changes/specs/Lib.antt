@@ -1,0 +1,3 @@
+pub mod Tellings
+pub mod Changes
+pub mod Puts

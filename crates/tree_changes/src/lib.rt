@@ -1,0 +1,15 @@
+//! Changes of the files of an image by their paths, each a call of a `names::Tree` or a few of them, over a
+//! disk.
+#![tactic(auto)]
+
+mod changes;
+mod faults;
+mod over_tree;
+mod puts;
+mod room;
+
+pub use changes::{MakeDirectory, Remove, RemoveDirectory, Rename};
+pub use faults::ChangeRefusal;
+pub use over_tree::{OverTree, TreeChange};
+pub use puts::{Put, append_all};
+pub use room::judge_room;

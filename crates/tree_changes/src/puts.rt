@@ -1,0 +1,138 @@
+// Bytes put under a path.
+ghost use Rattle.std.specs.Prelude.{◌<◌, ◌≤◌, length, IfErr, IfOk, Ok, OnOk};
+ghost use Rattle.calls.specs.Calls.{image_on};
+ghost use Rattle.calls.specs.Stopped.{StaysOver};
+ghost use Rattle.model.specs.Files.{files_of};
+ghost use Rattle.model.specs.Operations.{transfer_limit};
+ghost use Rattle.names.specs.Inside.{form_seen};
+ghost use Rattle.names.specs.Paths.{names_of};
+ghost use Rattle.names.specs.Ready.{MayGoOn};
+ghost use Rattle.names.specs.Writing.{Writes};
+ghost use Rattle.tree_changes.specs.Changes.{IsOfTree, LeavesMidst};
+ghost use Rattle.tree_changes.specs.Puts.{piece_count, Puts, PutsFew, PutsSome, WritesPieces};
+
+use crate::faults::ChangeRefusal;
+use crate::over_tree::TreeChange;
+use blocks::Disk;
+use model::types::TRANSFER_LIMIT;
+use names::{Tree, Unwritten};
+use std::alloc::Global;
+
+// So many bytes are written by one call.
+const PIECE: usize = TRANSFER_LIMIT as usize;
+
+/// Puts bytes into the file at a path, in place of its own, which is made where nothing is there.
+/// Answers its number. No more than 3072 are put by one transaction; of more a stop leaves a
+/// beginning.
+#[derive(Drop)]
+pub struct Put<'a> {
+    /// The path, from the root.
+    pub path: &'a str,
+    /// The bytes.
+    pub bytes: Vec<u8>,
+}
+
+impl<'a> TreeChange for Put<'a> {
+    ghost makes = { λ put. Puts put.path.now put.bytes.items };
+
+    ghost whole = { λ put. length put.bytes.items ≤ transfer_limit };
+
+    ghost midst = { λ put form. PutsSome put.path.now put.bytes.items };
+
+    ghost undone = { λ put t. IsOfTree };
+
+    fn make<D: Disk>(
+        &self,
+        alloc: Global,
+        tree: &mut Tree<D>,
+    ) -> Result<Option<u32>, ChangeRefusal> {
+        let path = self.path.as_bytes();
+        let bytes = self.bytes.as_slice();
+        if bytes.len() <= PIECE {
+            return put_few(alloc, tree, path, bytes);
+        }
+        let number = put_few(alloc, tree, path, &[])?;
+        append_all(alloc, tree, path, bytes)?;
+        Ok(number)
+    }
+}
+
+// Puts no more bytes than one call writes, in one transaction.
+fn put_few<D: Disk>(
+    alloc: Global,
+    tree: &mut Tree<D>,
+    path: &[u8],
+    bytes: &[u8],
+) -> Result<Option<u32>, ChangeRefusal>
+    requires ready { MayGoOn D.Disk tree.old.kernel tree.old.calls_left }
+    ensures ready { MayGoOn D.Disk tree.new.kernel tree.new.calls_left }
+    ensures puts { IfOk result (λ told. PutsFew path.now bytes.now told
+        (files_of (image_on D.image tree.old.kernel))
+        (files_of (image_on D.image tree.new.kernel))) }
+    ensures cause { IfErr result IsOfTree }
+    ensures leaves { 0 < tree.old.calls_left → LeavesMidst D.Disk (PutsSome path.now bytes.now)
+        tree.old.kernel tree.new.kernel }
+    ensures stays { StaysOver D.Disk tree.old.kernel tree.new.kernel }
+{
+    match tree.put(alloc, path, bytes) {
+        Ok(Ok(number)) => Ok(Some(u32::from(number))),
+        Ok(Err(fault)) => Err(ChangeRefusal::Unwritten(fault)),
+        Err(fault) => Err(ChangeRefusal::Tree(fault)),
+    }
+}
+
+/// Writes bytes into an empty file, piece by piece.
+///
+/// # Errors
+///
+/// `Unwritten` where the kernel refuses a piece, `Tree` where the tree doesn't answer. Then the pieces
+/// before it were written.
+pub fn append_all<D: Disk>(
+    alloc: Global,
+    tree: &mut Tree<D>,
+    path: &[u8],
+    bytes: &[u8],
+) -> Result<(), ChangeRefusal>
+    requires ready { MayGoOn D.Disk tree.old.kernel tree.old.calls_left }
+    ensures ready { MayGoOn D.Disk tree.new.kernel tree.new.calls_left }
+    ensures writes { OnOk result (WritesPieces (form_seen D.image tree.old.kernel)
+        path.now bytes.now (piece_count bytes.now)
+        (files_of (image_on D.image tree.old.kernel))
+        (files_of (image_on D.image tree.new.kernel))) }
+    ensures cause { IfErr result IsOfTree }
+    ensures stays { StaysOver D.Disk tree.old.kernel tree.new.kernel }
+{
+    for piece in 0..bytes.len().div_ceil(PIECE) {
+        let from = piece * PIECE;
+        let to = (from + PIECE).min(bytes.len());
+        append(alloc, tree, path, from, &bytes[from..to])?;
+    }
+    Ok(())
+}
+
+// Writes a piece behind the bytes that a file has.
+fn append<D: Disk>(
+    alloc: Global,
+    tree: &mut Tree<D>,
+    path: &[u8],
+    from: usize,
+    bytes: &[u8],
+) -> Result<(), ChangeRefusal>
+    requires ready { MayGoOn D.Disk tree.old.kernel tree.old.calls_left }
+    ensures ready { MayGoOn D.Disk tree.new.kernel tree.new.calls_left }
+    ensures writes { OnOk result (Writes (form_seen D.image tree.old.kernel)
+        (names_of path.now) from bytes.now (Ok tt)
+        (files_of (image_on D.image tree.old.kernel))
+        (files_of (image_on D.image tree.new.kernel))) }
+    ensures cause { IfErr result IsOfTree }
+    ensures stays { StaysOver D.Disk tree.old.kernel tree.new.kernel }
+{
+    let Ok(from) = u32::try_from(from) else {
+        return Err(ChangeRefusal::Unwritten(Unwritten::TooBig));
+    };
+    match tree.write(alloc, path, from, bytes) {
+        Ok(Ok(())) => Ok(()),
+        Ok(Err(fault)) => Err(ChangeRefusal::Unwritten(fault)),
+        Err(fault) => Err(ChangeRefusal::Tree(fault)),
+    }
+}

@@ -1,0 +1,4 @@
+mod LoadedFiles
+mod Walking
+pub mod AddedTexts
+mod Looking

@@ -1,0 +1,45 @@
+-- What a look at a disk comes to.
+use Rattle.std.proofs.Common.{◌≡◌, ◌∙◌, ℕ, List, Option, None, sym, subst, inl, inr}
+use Rattle.std.specs.Prelude.{◌⊎◌, Result, Ok, Err, IfErr, IfOk, OnOk}
+use Rattle.std.specs.Io.KnownBytes.{Appends}
+use Rattle.blocks.specs.Calls.{OnlyReads}
+use Rattle.blocks.specs.declared.disk.Disk.{Ghosts}
+use Rattle.model.specs.Files.{Files, files_of}
+use Rattle.model.specs.Log.{recovered}
+use Rattle.model.specs.Verdict.{verdict}
+use Rattle.names.specs.Trees.{IsTree}
+use Rattle.tree_looks.specs.Looks.{HasLooked, HasNotLooked, IsUnloaded}
+use Rattle.tree_looks.specs.declared.faults.LookRefusal.{LookRefusal}
+use Rattle.tree_looks.specs.declared.faults.LookRefusal.TheVariants.{Output}
+
+module _ {D N : Type 0} (disk : Ghosts D N) (d e : D) (reads : OnlyReads disk d e) where
+  pub looked_so : (tells : Files → List ℕ → Type 0) (files : Files) (text : List ℕ) (old new : Option (List ℕ)) → verdict (disk.image d) ≡ None → IsTree (files_of (recovered (disk.image d))) → files ≡ files_of (recovered (disk.image d)) → tells files text
+      → (r : Result (Unit {0}) LookRefusal) → OnOk r (Appends old new text) → OnOk r (HasLooked disk tells d e old new)
+  looked_so tells files text old new sound tree same told (Ok _) printed = record {
+    reads = reads;
+    sound = sound;
+    tree = tree;
+    text = text;
+    told = subst (λ (f : Files). tells f text) same told;
+    printed = printed;
+  }
+  looked_so tells files text old new sound tree same told (Err r) printed = tt
+
+  pub unprinted_so : (refuses : Files → LookRefusal → Type 0) (none : Type 0) (r : Result (Unit {0}) LookRefusal) → IfErr r (λ why. why ≡ Output) → IfErr r (HasNotLooked disk refuses d e none)
+  unprinted_so refuses none (Ok _) why = tt
+  unprinted_so refuses none (Err r) why = record { reads = reads; why = inr (inr why) }
+
+  pub refused_so : (refuses : Files → LookRefusal → Type 0) (none : Type 0) (files : Files) (r : LookRefusal) → none → files ≡ files_of (recovered (disk.image d)) → refuses files r → HasNotLooked disk refuses d e none r
+  refused_so refuses none files r silent same why = record { reads = reads; why = inr (inl (subst (λ (f : Files). refuses f r) same why, silent)) }
+
+  pub unloaded_so : (refuses : Files → LookRefusal → Type 0) (none : Type 0) (r : LookRefusal) → none → IsUnloaded disk d e r → HasNotLooked disk refuses d e none r
+  unloaded_so refuses none r silent why = record { reads = reads; why = inl (why, silent) }
+
+-- what is so of a text that was made is so of it as it is told
+pub kept_told : {V E F : Type 0} (made : Result V E) (r : Result V F) (P : V → Type 0) → IfOk r (λ text. made ≡ Ok text) → IfOk made P → IfOk r P
+kept_told made (Ok text) P same known = subst (λ q. IfOk q P) same known
+kept_told made (Err refused) P same known = tt
+
+pub where_done : {F : Type 0} (r : Result (Unit {0}) F) (P : Type 0) → P → OnOk r P
+where_done (Ok _) P is = is
+where_done (Err refused) P is = tt

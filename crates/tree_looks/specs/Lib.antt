@@ -1,0 +1,4 @@
+pub mod Tellings
+pub mod Listing
+pub mod Looks
+pub mod Gets

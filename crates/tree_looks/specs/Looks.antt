@@ -1,0 +1,98 @@
+-- What is told of the files of a disk, and why it isn't.
+use Rattle.std.specs.Prelude.{◌≡◌, ◌⊎◌, ℕ, List, [], length, None, Option, Ok, Err}
+use Rattle.std.specs.Io.KnownBytes.{Appends}
+use Rattle.blocks.specs.Calls.{OnlyReads}
+use Rattle.blocks.specs.declared.disk.Disk.{Ghosts}
+use Rattle.model.specs.Files.{Files, file_in, files_of}
+use Rattle.model.specs.Log.{recovered}
+use Rattle.model.specs.Verdict.{verdict}
+use Rattle.model.specs.declared.types.fault.CheckFault.TheVariants as check
+use Rattle.names.specs.Paths.{IsPathCause, names_of}
+use Rattle.names.specs.Trees.{bytes_of, root, IsDirectory, IsTree}
+use Rattle.names.specs.Walks.{walked}
+use Rattle.names.specs.declared.judging.JudgeFault.{JudgeFault}
+use Rattle.names.specs.declared.judging.JudgeFault.TheVariants as judge
+use Rattle.names.specs.declared.refusal.Refusal.TheVariants.{IsADirectory, NotADirectory}
+use Rattle.offline.specs.Cause.{IsCause}
+use Rattle.tree_looks.specs.Listing.{listed, paths_below}
+use Rattle.tree_looks.specs.declared.faults.LookRefusal.{LookRefusal}
+use Rattle.tree_looks.specs.declared.faults.LookRefusal.TheVariants.{Check, NoTree, Path, Refused, NoMemory, Output}
+
+-- how a fault behind the check is told
+abbrev pub refusal_of : JudgeFault → LookRefusal
+refusal_of judge.Disk = Check check.Disk
+refusal_of judge.NoMemory = NoMemory
+
+-- why the files of the disk d, now e, were not read
+abbrev pub IsUnloaded : {D N : Type 0} → Ghosts D N → D → D → LookRefusal → Type 0
+IsUnloaded disk d e (Check fault) =
+    IsCause (verdict (disk.image d)) (disk.fault_count d) (disk.fault_count e) fault
+IsUnloaded disk d e NoTree = (verdict (disk.image d) ≡ None)
+    × (IsTree (files_of (recovered (disk.image d))) → ⊥)
+IsUnloaded disk d e NoMemory = verdict (disk.image d) ≡ None
+IsUnloaded disk d e (Path cause) = ⊥
+IsUnloaded disk d e (Refused cause) = ⊥
+IsUnloaded disk d e Output = ⊥
+
+-- why a path leads to no file
+abbrev pub IsNotFound : Files → List ℕ → LookRefusal → Type 0
+IsNotFound files path (Path cause) = IsPathCause path cause
+IsNotFound files path (Refused cause) = walked files root (names_of path) ≡ Err cause
+IsNotFound files path (Check fault) = ⊥
+IsNotFound files path NoTree = ⊥
+IsNotFound files path NoMemory = ⊥
+IsNotFound files path Output = ⊥
+
+-- a path leads to a file, and the text is what f makes of its number
+abbrev pub TellsOf : Files → List ℕ → (ℕ → List ℕ) → List ℕ → Type 0
+TellsOf files path f text =
+    (number : ℕ) × (walked files root (names_of path) ≡ Ok number) × (text ≡ f number)
+
+-- the file at a path was listed
+abbrev pub Lists : List ℕ → Files → List ℕ → Type 0
+Lists path files text = TellsOf files path (listed files (names_of path)) text
+
+-- or was not, for this reason
+abbrev pub IsUnlisted : List ℕ → Files → LookRefusal → Type 0
+IsUnlisted path files r = IsNotFound files path r ⊎ (r ≡ NoMemory)
+
+-- the bytes of the file at a path, which is no directory
+abbrev pub Shows : List ℕ → Files → List ℕ → Type 0
+Shows path files text = (number : ℕ) × (walked files root (names_of path) ≡ Ok number)
+    × (IsDirectory files number → ⊥) × (text ≡ bytes_of (file_in files number))
+
+abbrev pub IsUnshown : List ℕ → Files → LookRefusal → Type 0
+IsUnshown path files r = IsNotFound files path r
+    ⊎ ((r ≡ Refused IsADirectory) × ((number : ℕ) × (walked files root (names_of path) ≡ Ok number)
+    × IsDirectory files number))
+    ⊎ (r ≡ NoMemory)
+
+-- the paths of all files below the directory at a path
+abbrev pub ShowsPaths : List ℕ → Files → List ℕ → Type 0
+ShowsPaths path files text = (number : ℕ) × (walked files root (names_of path) ≡ Ok number)
+    × IsDirectory files number × (text ≡ paths_below (length files) files [] number)
+
+abbrev pub HasNoPaths : List ℕ → Files → LookRefusal → Type 0
+HasNoPaths path files r = IsNotFound files path r
+    ⊎ ((r ≡ Refused NotADirectory) × ((number : ℕ) × (walked files root (names_of path) ≡ Ok number)
+    × (IsDirectory files number → ⊥)))
+    ⊎ (r ≡ NoMemory)
+
+-- The disk d, now e, was only read; its image had no fault, and its files, as recovery would leave
+-- them, were a tree, of which this was told and printed.
+pub record HasLooked {D N : Type 0} (disk : Ghosts D N) (tells : Files → List ℕ → Type 0) (d e : D)
+    (old new : Option (List ℕ)) : Type 0 where
+  pub reads : OnlyReads disk d e
+  pub sound : verdict (disk.image d) ≡ None
+  pub tree : IsTree (files_of (recovered (disk.image d)))
+  pub text : List ℕ
+  pub told : tells (files_of (recovered (disk.image d))) text
+  pub printed : Appends old new text
+
+-- It was only read, and nothing was told of it, for this reason; `none` says that nothing was printed.
+pub record HasNotLooked {D N : Type 0} (disk : Ghosts D N) (refuses : Files → LookRefusal → Type 0)
+    (d e : D) (none : Type 0) (r : LookRefusal) : Type 0 where
+  pub reads : OnlyReads disk d e
+  pub why : (IsUnloaded disk d e r × none)
+      ⊎ (refuses (files_of (recovered (disk.image d))) r × none)
+      ⊎ (r ≡ Output)

@@ -1,0 +1,17 @@
+//! Looks at the files of an image by their paths. For each the files are read without a kernel, as
+//! recovery would leave them, and nothing is written to the disk.
+#![tactic(auto)]
+
+mod entries;
+mod faults;
+mod finding;
+mod gets;
+mod loading;
+mod looks;
+mod over_files;
+mod texts;
+
+pub use faults::{GetRefusal, LookRefusal, path_told, refusal_told};
+pub use gets::{Get, GetAll};
+pub use looks::{Cat, Ls, Paths};
+pub use over_files::{Look, OverFiles};

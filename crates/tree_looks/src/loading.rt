@@ -1,0 +1,153 @@
+// The files of an image, read without a kernel.
+ghost use Rattle.std.specs.Prelude.{◌≡◌, ◌<◌, IfErr, IfOk, None, OnOk};
+ghost use Rattle.blocks.specs.Calls.{OnlyReads};
+ghost use Rattle.model.specs.Files.{bytes_in, file_at, files_of};
+ghost use Rattle.model.specs.Log.{recovered};
+ghost use Rattle.model.specs.Verdict.{verdict};
+ghost use Rattle.names.specs.Judging.{IsReaderOf, KeepsCount};
+ghost use Rattle.names.specs.Trees.{IsTree};
+ghost use Rattle.offline.specs.Recovered.{MayReadFile};
+ghost use Rattle.tree_looks.specs.Looks.{IsUnloaded, refusal_of};
+
+use crate::faults::LookRefusal;
+use blocks::{Block, Disk};
+use layout::{CheckFault, Dinode};
+use model::content::Content;
+use model::types::File;
+use names::{JudgeFault, is_tree};
+use offline::laws::checked_files_may_be_read;
+use offline::{Recovered, check};
+use std::alloc::Global;
+
+/// Checks the image of a disk, and reads its files, as recovery would leave them, where they are a tree:
+/// a place for each number, number 0 included. It writes no block.
+///
+/// # Errors
+///
+/// `Check` with a fault of the image or of its check, or with `Disk` where a read behind the check
+/// failed; `NoTree` where the files of an image without a fault are no tree; `NoMemory` where memory
+/// behind the check was refused.
+pub fn load<D: Disk>(alloc: Global, disk: &mut D) -> Result<Vec<Option<File>>, LookRefusal>
+    ensures sound { OnOk result (verdict (D.image disk.old) ≡ None) }
+    ensures tree { OnOk result (IsTree (files_of (recovered (D.image disk.old)))) }
+    ensures files { IfOk result
+        (λ files. files.items ≡ files_of (recovered (D.image disk.old))) }
+    ensures reads { OnlyReads D.Disk disk.old disk.new }
+    ensures refused { IfErr result (IsUnloaded D.Disk disk.old disk.new) }
+{
+    if let Err(fault) = check(alloc, disk) {
+        return Err(LookRefusal::Check(fault));
+    }
+    match is_tree(alloc, disk) {
+        Ok(true) => load_checked(alloc, disk),
+        Ok(false) => Err(LookRefusal::NoTree),
+        Err(fault) => Err(refusal_of(fault)),
+    }
+}
+
+// The files of a disk whose image was checked.
+fn load_checked<D: Disk>(alloc: Global, disk: &mut D) -> Result<Vec<Option<File>>, LookRefusal>
+    requires { verdict (D.image disk.old) ≡ None }
+    ensures files { IfOk result
+        (λ files. files.items ≡ files_of (recovered (D.image disk.old))) }
+    ensures reads { OnlyReads D.Disk disk.old disk.new }
+    ensures refused { IfErr result (IsUnloaded D.Disk disk.old disk.new) }
+{
+    match read_files(alloc, disk) {
+        Ok(files) => Ok(files),
+        Err(fault) => Err(refusal_of(fault)),
+    }
+}
+
+// How a fault behind the check is told.
+fn refusal_of(fault: JudgeFault) -> LookRefusal
+    ensures { result ≡ refusal_of fault }
+{
+    match fault {
+        JudgeFault::Disk => LookRefusal::Check(CheckFault::Disk),
+        JudgeFault::NoMemory => LookRefusal::NoMemory,
+    }
+}
+
+// Reads the file of each number.
+#[tactic(auto, using(blocks::specs::Lemmas::Reads::reads_none, blocks::specs::Lemmas::Reads::reads_then))]
+fn read_files<D: Disk>(alloc: Global, disk: &mut D) -> Result<Vec<Option<File>>, JudgeFault>
+    requires { verdict (D.image disk.old) ≡ None }
+    ensures files { IfOk result
+        (λ files. files.items ≡ files_of (recovered (D.image disk.old))) }
+    ensures reads { OnlyReads D.Disk disk.old disk.new }
+    ensures faults { KeepsCount result (D.fault_count disk.old) (D.fault_count disk.new) }
+{
+    let mut block = Block::zeroed(alloc)?;
+    let image = reader(disk, &mut block)?;
+    let mut files = Vec::new(alloc);
+    for number in 0..image.sup.ninodes {
+        let file = file_of(alloc, disk, &image, number, &mut block)?;
+        files.push(file)?;
+    }
+    Ok(files)
+}
+
+// The reader of a disk whose image was checked. The block is room for what is read, here and below.
+fn reader<D: Disk>(disk: &mut D, block: &mut Block) -> Result<Recovered, JudgeFault>
+    requires { verdict (D.image disk.old) ≡ None }
+    ensures reader { IfOk result (IsReaderOf (D.image disk.old)) }
+    ensures reads { OnlyReads D.Disk disk.old disk.new }
+    ensures faults { KeepsCount result (D.fault_count disk.old) (D.fault_count disk.new) }
+{
+    match Recovered::open(disk, block) {
+        Ok(image) => Ok(image),
+        Err(_) => Err(JudgeFault::Disk),
+    }
+}
+
+// The file of a number.
+fn file_of<D: Disk>(
+    alloc: Global,
+    disk: &mut D,
+    image: &Recovered,
+    number: u32,
+    block: &mut Block,
+) -> Result<Option<File>, JudgeFault>
+    requires reader { IsReaderOf (D.image disk.old) image.now }
+    requires inside { number < image.now.sup.ninodes }
+    ensures file { IfOk result
+        (λ file. file ≡ file_at (recovered (D.image disk.old)) number) }
+    ensures reads { OnlyReads D.Disk disk.old disk.new }
+    ensures faults { KeepsCount result (D.fault_count disk.old) (D.fault_count disk.new) }
+{
+    checked_files_may_be_read();
+    if number == 0 {
+        return Ok(None);
+    }
+    let inode = image.inode(disk, number, block)?;
+    if inode.kind == 0 {
+        return Ok(None);
+    }
+    let bytes = bytes_of(alloc, disk, image, &inode, block)?;
+    Ok(Some(File {
+        kind: inode.kind,
+        bytes: Content::new(bytes),
+    }))
+}
+
+// All bytes of an inode's file.
+fn bytes_of<D: Disk>(
+    alloc: Global,
+    disk: &mut D,
+    image: &Recovered,
+    inode: &Dinode,
+    block: &mut Block,
+) -> Result<Vec<u8>, JudgeFault>
+    requires reader { IsReaderOf (D.image disk.old) image.now }
+    requires file { MayReadFile (recovered (D.image disk.old)) inode.now }
+    ensures bytes { IfOk result
+        (λ bytes. bytes.items ≡ bytes_in (recovered (D.image disk.old)) inode.now) }
+    ensures reads { OnlyReads D.Disk disk.old disk.new }
+    ensures faults { KeepsCount result (D.fault_count disk.old) (D.fault_count disk.new) }
+{
+    let mut bytes = Vec::new(alloc);
+    bytes.resize(inode.size as usize, 0)?;
+    image.read(disk, inode, 0, &mut bytes[..], block)?;
+    Ok(bytes)
+}

@@ -1,0 +1,145 @@
+// What is printed of the files of directories.
+ghost use Rattle.std.specs.Prelude.{◌≡◌, ◌++◌, IfOk, OnOk, decimal};
+ghost use Rattle.tree_looks.specs.Listing.{entry_line, entry_paths, line_of, listing_of, path_of, paths_below};
+
+use crate::entries::{entries, leads_down, number_in, text_of};
+use crate::finding::{bytes_at, is_directory, kind_at};
+use blocks::NoMemory;
+use itoa::Buffer;
+use model::types::File;
+use names::ENTRY_SIZE;
+use std::alloc::Global;
+
+// Adds the line of a file with that name and number: its type and its bytes.
+pub fn add_line(
+    text: &mut Vec<u8>,
+    files: &[Option<File>],
+    name: &[u8],
+    number: u32,
+) -> Result<(), NoMemory>
+    ensures { OnOk result (text.new.items ≡ text.old.items ++ line_of files.now name.now number) }
+{
+    let line = line_of(*text.allocator(), files, name, number)?;
+    text.extend_from_slice(line.as_slice())?;
+    Ok(())
+}
+
+// That line.
+fn line_of(
+    alloc: Global,
+    files: &[Option<File>],
+    name: &[u8],
+    number: u32,
+) -> Result<Vec<u8>, NoMemory>
+    ensures { IfOk result (λ line. line.items ≡ line_of files.now name.now number) }
+{
+    let mut line = Vec::from_slice(alloc, name)?;
+    line.extend_from_slice(b" ")?;
+    add_number(&mut line, u64::from(number))?;
+    line.extend_from_slice(b" type ")?;
+    add_number(&mut line, u64::from(kind_at(files, number)))?;
+    line.extend_from_slice(b" size ")?;
+    add_number(&mut line, bytes_at(files, number).len() as u64)?;
+    line.extend_from_slice(b"\n")?;
+    Ok(line)
+}
+
+// Adds a number in digits.
+fn add_number(text: &mut Vec<u8>, number: u64) -> Result<(), NoMemory>
+    ensures { OnOk result (text.new.items ≡ text.old.items ++ decimal number) }
+{
+    let mut digits = Buffer::new();
+    text.extend_from_slice(digits.format(number).as_bytes())?;
+    Ok(())
+}
+
+// Adds a line for each entry of a directory that leads down, in their order.
+pub fn add_listing(text: &mut Vec<u8>, files: &[Option<File>], number: u32) -> Result<(), NoMemory>
+    ensures { OnOk result (text.new.items ≡ text.old.items ++ listing_of files.now number) }
+{
+    for entry in entries(bytes_at(files, number)) {
+        add_entry_line(text, files, entry)?;
+    }
+    Ok(())
+}
+
+// Adds the line of an entry, if it leads down.
+fn add_entry_line(
+    text: &mut Vec<u8>,
+    files: &[Option<File>],
+    entry: &[u8; ENTRY_SIZE],
+) -> Result<(), NoMemory>
+    ensures { OnOk result (text.new.items ≡ text.old.items ++ entry_line files.now entry.now) }
+{
+    if leads_down(entry) {
+        let number = u32::from(number_in(entry));
+        add_line(text, files, text_of(&entry[2..ENTRY_SIZE]), number)?;
+    }
+    Ok(())
+}
+
+// Adds a line for each file below a directory, down to a depth: its path behind `front`.
+#[cycle(below)]
+pub fn add_below(
+    text: &mut Vec<u8>,
+    files: &[Option<File>],
+    front: &[u8],
+    number: u32,
+    depth: usize,
+) -> Result<(), NoMemory>
+    ensures { OnOk result (text.new.items
+        ≡ text.old.items ++ paths_below depth files.now front.now number) }
+{
+    if depth == 0 || !is_directory(files, number) {
+        return Ok(());
+    }
+    for entry in entries(bytes_at(files, number)) {
+        add_entry(text, files, front, entry, depth - 1)?;
+    }
+    Ok(())
+}
+
+// Adds the line of an entry that leads down, and those below it, to a depth.
+#[cycle(below)]
+#[tactic(auto, using(crate::proofs::AddedTexts::three_more))]
+fn add_entry(
+    text: &mut Vec<u8>,
+    files: &[Option<File>],
+    front: &[u8],
+    entry: &[u8; ENTRY_SIZE],
+    depth: usize,
+) -> Result<(), NoMemory>
+    ensures { OnOk result (text.new.items
+        ≡ text.old.items ++ entry_paths depth files.now front.now entry.now) }
+{
+    if !leads_down(entry) {
+        return Ok(());
+    }
+    let path = path_of(text, files, front, entry)?;
+    text.extend_from_slice(path.as_slice())?;
+    text.extend_from_slice(b"\n")?;
+    add_below(
+        text,
+        files,
+        path.as_slice(),
+        u32::from(number_in(entry)),
+        depth,
+    )
+}
+
+// The path of an entry behind `front`; that of a directory ends with a slash.
+fn path_of(
+    text: &Vec<u8>,
+    files: &[Option<File>],
+    front: &[u8],
+    entry: &[u8; ENTRY_SIZE],
+) -> Result<Vec<u8>, NoMemory>
+    ensures { IfOk result (λ path. path.items ≡ path_of files.now front.now entry.now) }
+{
+    let mut path = Vec::from_slice(*text.allocator(), front)?;
+    path.extend_from_slice(text_of(&entry[2..ENTRY_SIZE]))?;
+    if is_directory(files, u32::from(number_in(entry))) {
+        path.extend_from_slice(b"/")?;
+    }
+    Ok(path)
+}
