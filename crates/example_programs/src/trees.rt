@@ -26,9 +26,9 @@ enum Ask<'a> {
 }
 
 /// Makes a root, directories and files in it by their paths, writes and reads one, finds and removes
-/// some, and prints what came of each. Then it stops the making of a file before each of its writes in
-/// turn, opens what the stop left, and prints where the path leads. So the one write that counts is
-/// seen.
+/// some, moves a directory, and prints what came of each. Then it stops the making of a file before each
+/// of its writes in turn, opens what the stop left, and prints where the path leads. So the one write
+/// that counts is seen.
 pub fn print_trees(rt: &impl Print, alloc: Global) -> anyhow::Result<()> {
     match new_tree(alloc) {
         Ok(mut tree) => {
@@ -75,6 +75,7 @@ fn ask_all<D: Disk>(rt: &impl Print, alloc: Global, tree: &mut Tree<D>) -> anyho
     print_answer(rt, alloc, tree, Ask::Find, "/./docs/../plan")?;
     print_answer(rt, alloc, tree, Ask::Rename("docs/notes"), "plan")?;
     print_answer(rt, alloc, tree, Ask::Rename("docs/plan"), "plan")?;
+    move_directory(rt, alloc, tree)?;
     remove_all(rt, alloc, tree)?;
     print_answer(rt, alloc, tree, Ask::List, "/")
 }
@@ -91,6 +92,19 @@ fn make_all<D: Disk>(rt: &impl Print, alloc: Global, tree: &mut Tree<D>) -> anyh
     print_answer(rt, alloc, tree, Ask::Make, "a-name-of-15-by")
 }
 
+// A directory is moved into another one, and bytes are put into a file of it, and others then.
+fn move_directory<D: Disk>(rt: &impl Print, alloc: Global, tree: &mut Tree<D>) -> anyhow::Result<()>
+    requires { MayGoOn D.Disk tree.old.kernel tree.old.calls_left }
+    ensures { MayGoOn D.Disk tree.new.kernel tree.new.calls_left }
+{
+    make_directory(rt, alloc, tree, "old")?;
+    print_answer(rt, alloc, tree, Ask::Rename("docs/old"), "old")?;
+    print_answer(rt, alloc, tree, Ask::Rename("docs/old/docs"), "docs")?;
+    put(rt, alloc, tree, "docs/old/list", "milk and bread")?;
+    put(rt, alloc, tree, "docs/old/list", "milk")?;
+    look(rt, alloc, tree, "docs/old/list")
+}
+
 fn remove_all<D: Disk>(rt: &impl Print, alloc: Global, tree: &mut Tree<D>) -> anyhow::Result<()>
     requires { MayGoOn D.Disk tree.old.kernel tree.old.calls_left }
     ensures { MayGoOn D.Disk tree.new.kernel tree.new.calls_left }
@@ -98,6 +112,8 @@ fn remove_all<D: Disk>(rt: &impl Print, alloc: Global, tree: &mut Tree<D>) -> an
     remove_directory(rt, alloc, tree, "docs")?;
     print_answer(rt, alloc, tree, Ask::Remove, "docs/notes")?;
     print_answer(rt, alloc, tree, Ask::Remove, "docs/plan")?;
+    print_answer(rt, alloc, tree, Ask::Remove, "docs/old/list")?;
+    remove_directory(rt, alloc, tree, "docs/old")?;
     print_answer(rt, alloc, tree, Ask::Remove, "..")?;
     print_answer(rt, alloc, tree, Ask::Find, "docs/notes")?;
     remove_directory(rt, alloc, tree, "docs")
@@ -200,6 +216,43 @@ fn read<D: Disk>(
     match tree.read(alloc, path.as_bytes(), 6, 100) {
         Ok(bytes) => println!(rt; "{path} has {} bytes from byte 6 on", bytes.len())?,
         Err(fault) => println!(rt; "{path} was not read: {fault}")?,
+    }
+    Ok(())
+}
+
+fn put<D: Disk>(
+    rt: &impl Print,
+    alloc: Global,
+    tree: &mut Tree<D>,
+    path: &str,
+    text: &str,
+) -> anyhow::Result<()>
+    requires { MayGoOn D.Disk tree.old.kernel tree.old.calls_left }
+    ensures { MayGoOn D.Disk tree.new.kernel tree.new.calls_left }
+{
+    match tree.put(alloc, path.as_bytes(), text.as_bytes()) {
+        Ok(Ok(number)) => println!(rt; "{path} has {} bytes now, file {number}", text.len())?,
+        Ok(Err(cause)) => println!(rt; "{path} was not put: {cause}")?,
+        Err(fault) => println!(rt; "{path} was not put: {fault}")?,
+    }
+    Ok(())
+}
+
+fn look<D: Disk>(
+    rt: &impl Print,
+    alloc: Global,
+    tree: &mut Tree<D>,
+    path: &str,
+) -> anyhow::Result<()>
+    requires { MayGoOn D.Disk tree.old.kernel tree.old.calls_left }
+    ensures { MayGoOn D.Disk tree.new.kernel tree.new.calls_left }
+{
+    match tree.look(alloc, path.as_bytes()) {
+        Ok(found) => println!(rt;
+            "{path} is of type {} and has {} bytes",
+            found.kind, found.size
+        )?,
+        Err(fault) => println!(rt; "{path} was not found: {fault}")?,
     }
     Ok(())
 }
