@@ -5,3 +5,4 @@ pub mod SignLemmas
 pub mod TextLemmas
 pub mod FileLemmas
 pub mod BeginningLemmas
+pub mod LogLemmas

@@ -4,6 +4,7 @@ pub mod Gathering
 pub mod Causes
 pub mod Listing
 pub mod Showing
+pub mod Logging
 pub mod Signs
 pub mod Drawing
 pub mod Looks

@@ -7,6 +7,7 @@ use Rattle.model.specs.Log.{recovered}
 use Rattle.model.specs.Verdict.{verdict}
 use Rattle.inspect.specs.Drawing.{drawing_of}
 use Rattle.inspect.specs.Listing.{listing_of}
+use Rattle.inspect.specs.Logging.{log_text}
 use Rattle.inspect.specs.Showing.{file_text}
 use Rattle.inspect.specs.Usage.{usage_text}
 
@@ -28,6 +29,12 @@ abbrev pub HasFileShown : {D N : Type 0} → Ghosts D N → ℕ → D → D → 
 HasFileShown disk i d e old new = (disk.image e ≡ disk.image d) × (verdict (disk.image d) ≡ None)
     × IsSome (file_in (files_of (recovered (disk.image d))) i)
     × Appends old new (file_text (recovered (disk.image d)) i)
+
+-- it was checked, and what its log holds was told
+abbrev pub HasLogShown : {D N : Type 0} → Ghosts D N → D → D → Option (List ℕ) → Option (List ℕ)
+    → Type 0
+HasLogShown disk d e old new = (disk.image e ≡ disk.image d) × (verdict (disk.image d) ≡ None)
+    × Appends old new (log_text (disk.image d))
 
 -- what was asked for of these: the whole image, or a file of a number
 abbrev pub HasShown : {D N : Type 0} → Ghosts D N → Option ℕ → D → D → Option (List ℕ)

@@ -1,9 +1,10 @@
 // The commands that look at a disk, and leave its image as it is.
-ghost use Rattle.inspect.specs.Causes.{IsHidden, IsUncounted, IsUnlisted};
-ghost use Rattle.inspect.specs.Looks.{HasCounted, HasListed, HasShown};
+ghost use Rattle.inspect.specs.Causes.{IsHidden, IsUncounted, IsUndrawn, IsUnlisted};
+ghost use Rattle.inspect.specs.Looks.{HasCounted, HasListed, HasLogShown, HasShown};
 
 use crate::drawing::show_disk;
 use crate::listing::list_disk;
+use crate::logging::show_log;
 use crate::refused::{DfRefusal, LsRefusal, ShowRefusal};
 use crate::showing::show_file;
 use crate::usage::count_disk;
@@ -58,6 +59,29 @@ impl DiskCommand for Show {
             None => show_disk(alloc, &mut disk, out),
             Some(number) => show_file(alloc, &mut disk, number, out),
         };
+        (ended, disk)
+    }
+}
+
+/// Tells what the log of an image holds, as `show_log`.
+#[derive(Clone, Copy, Drop)]
+pub struct ShowLog;
+
+impl DiskCommand for ShowLog {
+    type Refusal = ShowRefusal;
+
+    ghost done = { λ show c. HasLogShown c.disk c.was c.now };
+
+    ghost refused = { λ show c old new. IsUndrawn c.disk c.was c.now };
+
+    fn run_on<D: Disk + Drop, O: Write>(
+        self,
+        alloc: Global,
+        disk: D,
+        out: &mut O,
+    ) -> (Result<(), ShowRefusal>, D) {
+        let mut disk = disk;
+        let ended = show_log(alloc, &mut disk, out);
         (ended, disk)
     }
 }
