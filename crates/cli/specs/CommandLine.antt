@@ -1,5 +1,5 @@
 -- The command line, as clap is told it.
-use Rattle.std.specs.Prelude.{◌≡◌, ◌≤◌, ⊤, ℕ, List, IfOk, Result, Some, None, true, false, codes, pos}
+use Rattle.std.specs.Prelude.{◌≡◌, ◌≢◌, ◌≤◌, ⊤, ℕ, Bool, List, IfOk, IsSome, Option, Result, Some, None, true, false, codes, pos}
 use Rattle.clap.specs.Words.{App, Row, Rule, new_app, new_rule, app_of, first_of, one_of, with_rule, with_subcommand}
 use Rattle.cli.specs.Asking.{HasChoice, HasFlag, Wording}
 use Rattle.cli.specs.declared.words.Request.{Request}
@@ -61,7 +61,7 @@ abbrev pub choice_rule : List ℕ → Rule
 choice_rule id = record (new_rule id) { parser = Some (Signed (pos 0) (pos 4294967295)) }
 
 abbrev pub show_app : App
-show_app = with_rule (image_app (codes "show")) (choice_rule (codes "INUM"))
+show_app = with_rule (image_app (codes "show")) (new_rule (codes "INUM"))
 
 abbrev pub put_app : App
 put_app = with_rule (with_rule (with_rule (with_rule (image_app (codes "put"))
@@ -148,6 +148,13 @@ abbrev pub HasFewWorkers : Request → Type 0
 HasFewWorkers (Run image script workers sync) = (1 ≤ workers) × (workers ≤ 32)
 HasFewWorkers request = ⊤
 
+-- the part of an image that a word asks for: the log by its name, a file by another word, and the
+-- whole where there is none
+abbrev pub HasPart : Option (List ℕ) → Option ℕ → Bool → Type 0
+HasPart None inum log = (inum ≡ None) × (log ≡ false)
+HasPart (Some word) inum true = (word ≡ codes "log") × (inum ≡ None)
+HasPart (Some word) inum false = (word ≢ codes "log") × IsSome inum
+
 -- a command of this name, with these values, asks for the request
 abbrev pub AsksBy : List ℕ → List Row → Request → Type 0
 AsksBy name rows (Mkfs image size ninodes large no_sync) = (name ≡ codes "mkfs")
@@ -163,8 +170,9 @@ AsksBy name rows (Ls image) = (name ≡ codes "ls")
     × (first_of (codes "IMAGE") rows ≡ Some image.now)
 AsksBy name rows (Df image) = (name ≡ codes "df")
     × (first_of (codes "IMAGE") rows ≡ Some image.now)
-AsksBy name rows (Show image inum) = (name ≡ codes "show")
-    × (first_of (codes "IMAGE") rows ≡ Some image.now) × HasChoice (codes "INUM") rows inum
+AsksBy name rows (Show image inum log) = (name ≡ codes "show")
+    × (first_of (codes "IMAGE") rows ≡ Some image.now)
+    × HasPart (first_of (codes "INUM") rows) inum log
 AsksBy name rows (Put image file inum sync no_sync) = (name ≡ codes "put")
     × (first_of (codes "IMAGE") rows ≡ Some image.now)
     × (first_of (codes "FILE") rows ≡ Some file.now) × HasChoice (codes "INUM") rows inum

@@ -110,7 +110,10 @@ fn read_by<'a, Q: ByWords<'a>, S: AsStr>(
     let matches = program.try_get_matches_from_mut(words)?;
     match asked_of(alloc, &matches)? {
         Some(asked) => Ok(asked),
-        None => Err(program.error(ErrorKind::MissingSubcommand, "a word is missing")?),
+        None => Err(program.error(
+            ErrorKind::MissingSubcommand,
+            "a word is missing, or is none that can stand there",
+        )?),
     }
 }
 

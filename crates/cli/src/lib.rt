@@ -10,8 +10,11 @@ mod asking;
 mod explanation;
 mod program;
 pub mod table;
+mod texts;
+mod topics;
 mod words;
 
 pub use asking::{Asked, ByWords, parse};
 pub use explanation::Explanation;
+pub use topics::Topic;
 pub use words::Request;

@@ -211,16 +211,16 @@ const LINES: &[Line] = &[
     },
     Line {
         name: "show",
-        about: "Draws the blocks of an image, a sign each, or lists those of one file",
-        example: "Examples: xvfs show fs.img, xvfs show fs.img 1",
+        about: "Draws the blocks of an image, a sign each, or lists those of one file, or of the log",
+        example: "Examples: xvfs show fs.img, xvfs show fs.img 1, xvfs show fs.img log",
         words: &[
             IMAGE_KEPT,
             WAIT,
             EXPLAIN,
             Word {
                 name: "INUM",
-                kind: Kind::Choice,
-                help: "A file's inode number, whose blocks are listed in their order",
+                kind: Kind::Free,
+                help: "A file's inode number, whose blocks are listed in their order; or log, for the logged blocks with their homes",
             },
         ],
     },

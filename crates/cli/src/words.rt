@@ -1,7 +1,7 @@
 // What the words of a command line ask `xvfs` for.
-ghost use Rattle.std.specs.Prelude.{◌≡◌, true, codes, IfSome};
+ghost use Rattle.std.specs.Prelude.{◌≡◌, true, codes, option_map, IfSome};
 ghost use Rattle.clap.specs.Words.{found_of, is_simple_and_free, rows_of};
-ghost use Rattle.cli.specs.CommandLine.{AsksBy, HasWorkers, xvfs_app, xvfs_words};
+ghost use Rattle.cli.specs.CommandLine.{AsksBy, HasPart, HasWorkers, xvfs_app, xvfs_words};
 ghost use Rattle.cli.specs.Table.{outline_app};
 
 use crate::asking::ByWords;
@@ -56,12 +56,14 @@ pub enum Request<'a> {
         /// The path of the image's file.
         image: &'a str,
     },
-    /// The blocks of an image, or of one of its files.
+    /// The blocks of an image, or of one of its files, or those of its log.
     Show {
         /// The path of the image's file.
         image: &'a str,
         /// The file's number.
         inum: Option<u32>,
+        /// Whether what the log holds is told, and no blocks.
+        log: bool,
     },
     /// A file of the system, put into an image.
     Put {
@@ -165,6 +167,7 @@ fn request_of<'a>(name: &str, values: &ArgMatches<'a>) -> Option<Request<'a>>
         "replay" => replay_request(values),
         "mkfs" => mkfs_request(values),
         "put" => put_request(values),
+        "show" => show_request(values),
         "run" => run_request(values),
         _ => request_over(name, values),
     }
@@ -271,11 +274,31 @@ fn request_over<'a>(name: &str, values: &ArgMatches<'a>) -> Option<Request<'a>>
         }),
         "ls" => Some(Request::Ls { image }),
         "df" => Some(Request::Df { image }),
-        "show" => Some(Request::Show {
-            image,
-            inum: values.get_one("INUM"),
-        }),
         _ => None,
+    }
+}
+
+fn show_request<'a>(values: &ArgMatches<'a>) -> Option<Request<'a>>
+    ensures { IfSome result (AsksBy (codes "show") (rows_of (found_of values.now))) }
+{
+    let image = values.get_str("IMAGE")?;
+    let (inum, log) = part_of(values.get_str("INUM"))?;
+    Some(Request::Show { image, inum, log })
+}
+
+// Which part of an image a word asks for: a file by its number, or the log, or the whole. None where
+// it is neither `log` nor a number.
+fn part_of(word: Option<&str>) -> Option<(Option<u32>, bool)>
+    ensures { IfSome result
+        (λ part. HasPart (option_map (λ word. word.now) word.entry) part.0 part.1) }
+{
+    match word {
+        None => Some((None, false)),
+        Some("log") => Some((None, true)),
+        Some(number) => match number.parse::<u32>() {
+            Ok(number) => Some((Some(number), false)),
+            Err(_) => None,
+        },
     }
 }
 

@@ -38,8 +38,9 @@ pub fn show_log<D: Disk, O: Write>(
 {
     check(alloc, disk).map_err(ShowRefusal::Check)?;
     let image = open_checked(alloc, disk)?;
-    print_log(out, image.sup.ninodes, image.header.homes.as_slice())
-        .map_err(|_| ShowRefusal::Output)
+    print_log(out, image.sup.ninodes, image.header.homes.as_slice()).map_err(
+        |_| ShowRefusal::Output,
+    )
 }
 
 // Opens the image of a disk that was checked.

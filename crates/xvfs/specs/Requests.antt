@@ -1,13 +1,16 @@
 -- What a request is answered.
 use Rattle.std.specs.Prelude.{◌≡◌, ◌⊎◌, ⊤, ℕ, Bool, false, not, if◌then◌else◌, List, [], ◌∷◌, ◌++◌, Option, unwrap_or}
+use Rattle.std.specs.Io.KnownBytes.{Appends}
 use Rattle.model.specs.declared.types.image.Form.{Form}
 use Rattle.model.specs.declared.types.image.Form.TheVariants.{One, Two}
 use Rattle.messages.specs.declared.told.Unwritten.{Unwritten}
 use Rattle.cli.specs.Asking.{AskFor}
 use Rattle.cli.specs.CommandLine.{xvfs_words}
 use Rattle.cli.specs.Told.{AskForHelp, IsToldOf}
+use Rattle.cli.specs.Topics.{AsksAbout, topic_text}
 use Rattle.cli.specs.declared.explanation.Explanation.{Explanation}
 use Rattle.cli.specs.declared.explanation.Explanation.TheVariants.{Help, Mistake, NoMemory}
+use Rattle.cli.specs.declared.topics.Topic.{Topic}
 use Rattle.cli.specs.declared.words.Request.{Request}
 use Rattle.cli.specs.declared.words.Request.TheVariants.{Mkfs, Check, Recover, Cat, Ls, Df, Show, Put, Copy, Rescue, Replay, Run, Stops}
 use Rattle.cmd.specs.Lemmas.Disks.{file_disk}
@@ -96,18 +99,28 @@ OnRefused file (Run image script workers sync) old new none =
     Refuses (IsNotRun file.remaining sync old new none)
 OnRefused file (Stops script schedule held) old new none = Refuses (IsScriptUnchecked held none)
 
--- a request of the words was done and answered; what is printed of help is clap's
+-- the words ask help for a format, and its lines were printed
+abbrev pub HasTold : List (List ℕ) → Option (List ℕ) → Option (List ℕ) → Type 0
+HasTold words old new = (topic : Topic) × AsksAbout words topic × Appends old new (topic_text topic)
+
+-- A request of the words was done and answered; or they ask for a format, and it was told, or for help
+-- in whose place clap's text is printed.
 abbrev pub IsDone : {F N : Type 0} → FileGhosts F N → List (List ℕ) → Option (List ℕ)
     → Option (List ℕ) → Type 0
 IsDone file words old new =
-    ((request : Request) × AskFor xvfs_words words request × Answers file request old new) ⊎ AskForHelp xvfs_words words
+    ((request : Request) × AskFor xvfs_words words request × Answers file request old new)
+    ⊎ (AskForHelp xvfs_words words ⊎ HasTold words old new)
+
+-- the words ask for help
+abbrev pub AskToBeTold : List (List ℕ) → Type 0
+AskToBeTold words = AskForHelp xvfs_words words ⊎ ((topic : Topic) × AsksAbout words topic)
 
 -- a request of the words was refused; or help was asked for, and the output refused its text
 abbrev pub IsRefused : {F N : Type 0} → FileGhosts F N → List (List ℕ) → Option (List ℕ)
     → Option (List ℕ) → Type 0 → Type 0
 IsRefused file words old new none =
     ((request : Request) × AskFor xvfs_words words request × OnRefused file request old new none)
-    ⊎ Refuses (λ (r : Unwritten). AskForHelp xvfs_words words)
+    ⊎ Refuses (λ (r : Unwritten). AskToBeTold words)
 
 -- it is an answer: the text of help or of the version
 abbrev pub IsHelp : Explanation → Type 0

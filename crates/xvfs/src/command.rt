@@ -20,9 +20,10 @@ use crate::locks::lock_image;
 use crate::progress::{Screen, TerminalMeter};
 use crate::stopping::stops_files;
 use crate::telling::{Line, tell, tell_fault};
+use crate::topics::print_topic;
 use arrayvec::ArrayVec;
 use blocks::{Disk, FaultyDisk, FileDisk};
-use cli::{Asked, Explanation, Request, parse};
+use cli::{Asked, Explanation, Request, Topic, parse};
 use cmd::{Access, OverFile, end, perform};
 use commands::{Copy, Keeper, Locks, Making, Mkfs, Put, Rescue, Target, replay_by, run_files};
 use inspect::{Df, Ls, Show};
@@ -41,12 +42,39 @@ use std::thread::Threads;
 /// where it was done, 1 for a refusal, 2 where the words are no command.
 ///
 /// With 0 the words make a command, and `out` has its answer, which is that of the disk that was
-/// opened from a file; or they ask for help or the version, whose text is clap's. With 1 they do
-/// too. Then no disk was opened, or the refusal is that disk's; and nothing was printed, but of a
+/// opened from a file; or they ask help for a format, and `out` has its lines; or they ask for help
+/// or the version, whose text is clap's. With 1 they do too. Then no disk was opened, or the refusal is that disk's; and nothing was printed, but of a
 /// check that tells all faults, of a replay whose disk failed, of a file in whose reading that or
 /// memory failed, and of an output that failed. With 2 nothing is written to `out`, with 0 nothing
 /// to `err`. What else `err` gets no contract tells, since it may fail at any byte.
 pub fn command<
+    R: Files + AllocGlobal + Threads + Wait + Clock + Screen + Locks + Sync,
+    S: AsStr,
+    O: Write,
+    E: Write,
+>(rt: &R, words: &[S], out: &mut O, err: &mut E) -> u8
+where
+    R::File: Send,
+    ensures status { result ≤ 2 }
+    ensures done { result ≡ 0 → IsDone (ghosts_of R.File.remaining
+        ⟦<FileDisk<R::File> as Disk>⟧ ⟦<FaultyDisk<FileDisk<R::File>> as Disk>⟧)
+        (map S.text words.now) (O.contents out.old) (O.contents out.new) }
+    ensures refused { result ≡ 1 → IsRefused (ghosts_of R.File.remaining
+        ⟦<FileDisk<R::File> as Disk>⟧ ⟦<FaultyDisk<FileDisk<R::File>> as Disk>⟧)
+        (map S.text words.now) (O.contents out.old) (O.contents out.new) (out.new ≡ out.old) }
+    ensures wrong { result ≡ 2 → (e : SomeExplanation)
+        × IsMisused (map S.text words.now) (out.new ≡ out.old) e }
+    ensures silent { result ≡ 0 → err.new ≡ err.old }
+    ensures misused { result ≡ 2 → out.new ≡ out.old }
+{
+    match Topic::asked(words) {
+        Some(topic) => end(print_topic(out, topic), err),
+        None => command_of(rt, words, out, err),
+    }
+}
+
+// The same where they ask for no format.
+fn command_of<
     R: Files + AllocGlobal + Threads + Wait + Clock + Screen + Locks + Sync,
     S: AsStr,
     O: Write,

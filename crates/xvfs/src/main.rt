@@ -9,6 +9,7 @@ mod locks;
 mod progress;
 mod stopping;
 mod telling;
+mod topics;
 
 use batch::commands;
 use cli::arguments;

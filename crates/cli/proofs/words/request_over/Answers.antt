@@ -1,6 +1,6 @@
 use Rattle.std.proofs.Common.{codes, rules}
 use Rattle.clap.specs.Words.{found_of}
-use Rattle.cli.specs.Lemmas.Parses.{choice_read, flag_read, value_read}
+use Rattle.cli.specs.Lemmas.Parses.{flag_read, value_read}
 use Rattle.cli.proofs.words.request_over.Goals as goal
 
 pub returns-in-check : goal.returns-in-check
@@ -17,6 +17,3 @@ returns-in-ls c = (search rules, value_read (found_of c.args.values.now) (codes 
 
 pub returns-in-df : goal.returns-in-df
 returns-in-df c = (search rules, value_read (found_of c.args.values.now) (codes "IMAGE") _ c.in_ok-image.ensures)
-
-pub returns-in-show : goal.returns-in-show
-returns-in-show c = (search rules, value_read (found_of c.args.values.now) (codes "IMAGE") _ c.in_ok-image.ensures, choice_read (found_of c.args.values.now) (codes "INUM") c.get_one-in-show.result c.get_one-in-show.ensures.none)
