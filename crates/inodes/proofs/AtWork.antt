@@ -33,6 +33,16 @@ module _ {D N : Type 0} (disk : Ghosts D N) (s : StoreState D) (p k i : ℕ) (he
     pub alone : LocksAlone s.tasks p i
     pub apart : (j : ℕ) → j ≢ i → claim_by op here j ≡ None
 
+  -- what a step makes of log, image and table
+  pub record MakesOf (its : Op) (w : VolumeState D) (tab : TableState) : Type 0 where
+    pub numbers : tab.inode_count ≡ count
+    pub form : tab.form ≡ s.table.form
+    pub groups : SameGroups s.volume.log w.log
+    pub logs : LogsAtMost (most_logged s.table.form its) s.volume.log p w.log
+    pub marks : Marks None cur (current_of disk.image w)
+    pub keeps : KeepsUsed count i claims cur (current_of disk.image w)
+    pub table : KeepsTable s.table tab p (grips_of s.tasks) (grips_of s.tasks) (current_of disk.image w)
+
   -- the step answers r, and the task stands at `next` then
   module _ (r : TaskProgress) (next : Stage) (w : VolumeState D) (tab : TableState) (ts : List TaskState) where
     abbrev now : Image
@@ -55,13 +65,7 @@ module _ {D N : Type 0} (disk : Ghosts D N) (s : StoreState D) (p k i : ℕ) (he
     -- What the step makes of disk, buffers, log, image and table, and for whom it waits.
     pub record Does (its : Op) : Type 0 where
       pub reads : Reads disk s r store_then
-      pub numbers : tab.inode_count ≡ count
-      pub form : tab.form ≡ s.table.form
-      pub groups : SameGroups s.volume.log w.log
-      pub logs : LogsAtMost (most_logged s.table.form its) s.volume.log p w.log
-      pub marks : Marks None cur now
-      pub keeps : KeepsUsed count i claims cur now
-      pub table : KeepsTable s.table tab p (grips_of s.tasks) (grips_of s.tasks) now
+      pub makes : MakesOf its w tab
       pub files : (new : Claims) → IsClaimedNow claims i (claim_by op next i) new → (files : Files) → FitsHeld files cur claims
           → FilesThen (form_of cur) its r files (λ m. FitsHeld m now new)
       pub apart_then : (j : ℕ) → j ≢ i → claim_by op next j ≡ None
@@ -98,24 +102,24 @@ module _ {D N : Type 0} (disk : Ghosts D N) (s : StoreState D) (p k i : ℕ) (he
       stepped = record {
         tasks = tasks;
         op = refl;
-        count = does.numbers;
-        form = does.form;
-        numbers = ap (λ (b : List ℕ). (super_in b).ninodes) does.marks.untouched.super;
+        count = does.makes.numbers;
+        form = does.makes.form;
+        numbers = ap (λ (b : List ℕ). (super_in b).ninodes) does.makes.marks.untouched.super;
         reads = does.reads;
-        groups = does.groups;
-        logs = does.logs;
-        marks = subst (λ (o : Option Reply). Marks o cur now) (sym does.late) does.marks;
+        groups = does.makes.groups;
+        logs = does.makes.logs;
+        marks = subst (λ (o : Option Reply). Marks o cur now) (sym does.late) does.makes.marks;
         files = files_then;
         alone = works.alone;
         claims = same_claim;
-        keeps = does.keeps;
+        keeps = does.makes.keeps;
         now = λ fine.
             let on = does.stands fine in
             record {
               others = on.others;
               locks = on.locks;
               stands = on.stands;
-              table = subst (λ (gs : List (Option Grip)). KeepsTable s.table tab p (grips_of s.tasks) gs now) (sym same_grips) does.table;
+              table = subst (λ (gs : List (Option Grip)). KeepsTable s.table tab p (grips_of s.tasks) gs now) (sym same_grips) does.makes.table;
               looks = on.looks;
               logged = on.logged;
             };

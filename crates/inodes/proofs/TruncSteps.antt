@@ -7,7 +7,7 @@ use Rattle.inodes.specs.Lemmas.Freeing.{IsDone, use_done}
 use Rattle.inodes.specs.Lemmas.Holding.{own_holds}
 use Rattle.inodes.specs.Lemmas.Looks.{trunc_number}
 use Rattle.inodes.specs.Lemmas.Unclaimed.{claim_of_locked}
-use Rattle.inodes.proofs.AtWork.{Does, StandsSo, Works, store_worked, steps_worked}
+use Rattle.inodes.proofs.AtWork.{Does, MakesOf, StandsSo, Works, store_worked, steps_worked}
 use Rattle.inodes.proofs.Frames.{marks_same}
 use Rattle.inodes.proofs.Getting.{fault_of, reads_none}
 use Rattle.inodes.proofs.LooksKept.{KeepsUsed, keeps_same}
@@ -228,6 +228,19 @@ module _ {D N : Type 0} (disk : Ghosts D N) (s : StoreState D) (p k : ℕ) (m : 
   table_then : (r : Progress (Unit {0})) → q ≡ r → KeepsTable s.table (table_of_trunc s.table k m r) p (grips_of s.tasks) (grips_of s.tasks) now
   table_then r is = subst (λ (r : Progress (Unit {0})). KeepsTable s.table (table_of_trunc s.table k m r) p (grips_of s.tasks) (grips_of s.tasks) now) is made.table
 
+  -- what it makes of log, image and table
+  makes_by : (its : Op) → its ≡ trunc_op m.machine → (r : Progress (Unit {0})) → q ≡ r → (table_of_trunc s.table k m r).inode_count ≡ count → (table_of_trunc s.table k m r).form ≡ s.table.form
+      → MakesOf disk s p k i here its w (table_of_trunc s.table k m r)
+  makes_by its mine r is numbers form = record {
+    numbers = numbers;
+    form = form;
+    groups = groups;
+    logs = logs its mine;
+    marks = made.marks;
+    keeps = made.keeps;
+    table = table_then r is;
+  }
+
   -- it goes on
   does_go : (its : Op) → its ≡ trunc_op m.machine → q ≡ Progress.Moved → Does disk s p k i here TaskProgress.Moved (Stage.Truncating k n) w s.table ts its
   does_go its mine moved =
@@ -238,13 +251,7 @@ module _ {D N : Type 0} (disk : Ghosts D N) (s : StoreState D) (p k : ℕ) (m : 
       let less = on.less in
       record {
         reads = reads TaskProgress.Moved s.table (sym (ap fault_of moved));
-        numbers = refl;
-        form = refl;
-        groups = groups;
-        logs = logs its mine;
-        marks = made.marks;
-        keeps = made.keeps;
-        table = table_then Progress.Moved moved;
+        makes = makes_by its mine Progress.Moved moved refl refl;
         files = λ new claimed files fits. on.fits new (subst (λ (c : Option Claim). IsClaimedNow claims i c new) own claimed) files fits;
         apart_then = λ j apart. no_claim k j n (λ same. apart (sym same ∙ number));
         grip = grip_then;
@@ -277,13 +284,7 @@ module _ {D N : Type 0} (disk : Ghosts D N) (s : StoreState D) (p k : ℕ) (m : 
       let some = (made.over over).1 in
       record {
         reads = reads TaskProgress.Moved (renewed s.table k (inode_left m.machine)) (sym (ap fault_of over));
-        numbers = refl;
-        form = refl;
-        groups = groups;
-        logs = logs its mine;
-        marks = made.marks;
-        keeps = made.keeps;
-        table = table_then (Progress.Over tt) over;
+        makes = makes_by its mine (Progress.Over tt) over refl refl;
         files = made.rests over;
         apart_then = λ j apart. refl;
         grip = grip_then;
@@ -313,15 +314,17 @@ module _ {D N : Type 0} (disk : Ghosts D N) (s : StoreState D) (p k : ℕ) (m : 
     fits_still : (new : Claims) → IsClaimedNow claims i (claim_by op here i) new → (files : Files) → FitsHeld files cur claims → FitsHeld files now new
     fits_still new claimed files fits = subst (λ (x : Image). FitsHeld files x new) (sym image_same) (held_alike files cur claims new (same_claims claims new i (claim_by op here i) own_claim claimed) fits)
 
-    marks_still : Marks None cur now
-    marks_still = subst (Marks None cur) (sym image_same) (marks_same None cur (λ j makes. absurd (false≢true makes)))
-
-    keeps_still : KeepsUsed count i claims cur now
-    keeps_still = subst (KeepsUsed count i claims cur) (sym image_same) (keeps_same count i claims cur)
-
-    table_still : KeepsTable s.table s.table p (grips_of s.tasks) (grips_of s.tasks) now
-    table_still = subst (KeepsTable s.table s.table p (grips_of s.tasks) (grips_of s.tasks)) (sym image_same)
-        (record { table = are.table; others = λ q j i other locks. record { number = λ e. refl; holder = refl; copy = refl } })
+    makes_none : (its : Op) → its ≡ trunc_op m.machine → MakesOf disk s p k i here its w s.table
+    makes_none its mine = record {
+      numbers = refl;
+      form = refl;
+      groups = groups;
+      logs = logs its mine;
+      marks = subst (Marks None cur) (sym image_same) (marks_same None cur (λ j makes. absurd (false≢true makes)));
+      keeps = subst (KeepsUsed count i claims cur) (sym image_same) (keeps_same count i claims cur);
+      table = subst (KeepsTable s.table s.table p (grips_of s.tasks) (grips_of s.tasks)) (sym image_same)
+          (record { table = are.table; others = λ q j i other locks. record { number = λ e. refl; holder = refl; copy = refl } });
+    }
 
   -- it has to wait
   module _ (cause : Why) (waits : q ≡ Progress.Sleeping cause) where
@@ -352,13 +355,7 @@ module _ {D N : Type 0} (disk : Ghosts D N) (s : StoreState D) (p k : ℕ) (m : 
     does_wait : (its : Op) → its ≡ trunc_op m.machine → Does disk s p k i here (TaskProgress.Sleeping cause) here w s.table ts its
     does_wait its mine = record {
       reads = reads (TaskProgress.Sleeping cause) s.table (sym (ap fault_of waits));
-      numbers = refl;
-      form = refl;
-      groups = groups;
-      logs = logs its mine;
-      marks = marks_still undone;
-      keeps = keeps_still undone;
-      table = table_still undone;
+      makes = makes_none undone its mine;
       files = λ new claimed files fits. fits_still undone new claimed files fits;
       apart_then = works.apart;
       grip = grip_then;
@@ -382,13 +379,7 @@ module _ {D N : Type 0} (disk : Ghosts D N) (s : StoreState D) (p k : ℕ) (m : 
       let undone : IsDone q → ⊥ = subst IsDone fails in
       record {
         reads = reads (TaskProgress.Fault fault) s.table (sym (ap fault_of fails));
-        numbers = refl;
-        form = refl;
-        groups = groups;
-        logs = logs its mine;
-        marks = marks_still undone;
-        keeps = keeps_still undone;
-        table = table_still undone;
+        makes = makes_none undone its mine;
         files = λ new claimed files fits. fits_still undone new claimed files fits;
         apart_then = works.apart;
         grip = grip_then;

@@ -107,15 +107,17 @@ module _ {D N : Type 0} {disk : Ghosts D N} {s : StoreState D} {p k : ℕ} {m : 
       does_write = record {
         reads = reads_none disk s (store_then disk s p k m.number (here h) (TaskProgress.Decided (Wrote m.done)) (Stage.Leaving k) w (renewed s.table k (Some m.inode)) ts)
             writes.device (writes.fault ∙ h.well) (TaskProgress.Decided (Wrote m.done)) refl;
-        numbers = refl;
-        form = refl;
-        groups = subst (SameGroups s.volume.log) (sym writes.log) (groups_noted s.volume.log p (inode_block u.number) (logs h));
-        logs = subst (LogsAtMost (most_logged s.table.form (its h)) s.volume.log p) (sym writes.log) (inr (logs_block h (inode_block u.number)));
-        marks = subst (Marks None (of.cur h)) (sym shown)
-            (growth_keeps (of.looking h).files.0 (of.cur h) (of.claims h) m.number (of.grown h) (of.held_in h (of.looking h).files.0 (of.looking h).files.1));
-        keeps = subst (KeepsUsed s.table.inode_count m.number (of.claims h) (of.cur h)) (sym shown) keeps;
-        table = subst (KeepsTable s.table (renewed s.table k (Some m.inode)) p (grips_of s.tasks) (grips_of s.tasks)) (sym shown)
-            (kept_by_renew s.table (grips_of s.tasks) (of.cur h) written p k m.number (Some m.inode) (of.looking h).table (of.has h) keeps.inodes copied);
+        makes = record {
+          numbers = refl;
+          form = refl;
+          groups = subst (SameGroups s.volume.log) (sym writes.log) (groups_noted s.volume.log p (inode_block u.number) (logs h));
+          logs = subst (LogsAtMost (most_logged s.table.form (its h)) s.volume.log p) (sym writes.log) (inr (logs_block h (inode_block u.number)));
+          marks = subst (Marks None (of.cur h)) (sym shown)
+              (growth_keeps (of.looking h).files.0 (of.cur h) (of.claims h) m.number (of.grown h) (of.held_in h (of.looking h).files.0 (of.looking h).files.1));
+          keeps = subst (KeepsUsed s.table.inode_count m.number (of.claims h) (of.cur h)) (sym shown) keeps;
+          table = subst (KeepsTable s.table (renewed s.table k (Some m.inode)) p (grips_of s.tasks) (grips_of s.tasks)) (sym shown)
+              (kept_by_renew s.table (grips_of s.tasks) (of.cur h) written p k m.number (Some m.inode) (of.looking h).table (of.has h) keeps.inodes copied);
+        };
         files = λ new claimed files fits. files_then new claimed files fits;
         apart_then = λ j other. refl;
         grip = ap (λ (j : ℕ). Some (locked_grip k j)) (ap asked_by (of.work h).op);

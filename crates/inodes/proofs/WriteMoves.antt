@@ -138,13 +138,15 @@ module _ {D N : Type 0} {disk : Ghosts D N} {s : StoreState D} {p k : ℕ} {m : 
       pub does_moved : DoesSo Progress.Moved
       does_moved = record {
         reads = shows.reads;
-        numbers = refl;
-        form = refl;
-        groups = shows.groups;
-        logs = shows.logs;
-        marks = subst (Marks None (of.cur h)) (sym shows.shown) shows.marks;
-        keeps = subst (KeepsUsed s.table.inode_count m.number (of.claims h) (of.cur h)) (sym shows.shown) shows.keeps;
-        table = subst (KeepsTable s.table s.table p gs gs) (sym shows.shown) shows.table;
+        makes = record {
+          numbers = refl;
+          form = refl;
+          groups = shows.groups;
+          logs = shows.logs;
+          marks = subst (Marks None (of.cur h)) (sym shows.shown) shows.marks;
+          keeps = subst (KeepsUsed s.table.inode_count m.number (of.claims h) (of.cur h)) (sym shows.shown) shows.keeps;
+          table = subst (KeepsTable s.table s.table p gs gs) (sym shows.shown) shows.table;
+        };
         files = λ new claimed files fits. subst (λ (x : Image). FitsHeld files x new) (sym shows.shown)
             (on.passes new (subst (λ (c : Option Claim). IsClaimedNow (of.claims h) m.number c new) claim_now claimed) files fits);
         apart_then = λ j other. rw (ne_eqb n.number j (λ same. other (sym same ∙ number))) refl;
@@ -171,13 +173,15 @@ module _ {D N : Type 0} {disk : Ghosts D N} {s : StoreState D} {p k : ℕ} {m : 
           → (cause ≡ Why.BufferHeld → IsHeldByAnother s p (block_of_write m.at)) → (cause ≡ Why.InodeHeld → ⊥) → DoesSo (Progress.Sleeping cause)
       does_slept cause same reads held inode = record {
         reads = reads;
-        numbers = refl;
-        form = refl;
-        groups = subst (λ (v : VolumeState D). SameGroups s.volume.log v.log) (sym same) (groups_same s.volume.log);
-        logs = subst (λ (v : VolumeState D). LogsAtMost (most_logged s.table.form its) s.volume.log p v.log) (sym same) (inl refl);
-        marks = subst (λ (v : VolumeState D). Marks None (of.cur h) (current_of disk.image v)) (sym same) marks_still;
-        keeps = subst (λ (v : VolumeState D). KeepsUsed s.table.inode_count m.number (of.claims h) (of.cur h) (current_of disk.image v)) (sym same) keeps_still;
-        table = subst (λ (v : VolumeState D). KeepsTable s.table s.table p gs gs (current_of disk.image v)) (sym same) table_still;
+        makes = record {
+          numbers = refl;
+          form = refl;
+          groups = subst (λ (v : VolumeState D). SameGroups s.volume.log v.log) (sym same) (groups_same s.volume.log);
+          logs = subst (λ (v : VolumeState D). LogsAtMost (most_logged s.table.form its) s.volume.log p v.log) (sym same) (inl refl);
+          marks = subst (λ (v : VolumeState D). Marks None (of.cur h) (current_of disk.image v)) (sym same) marks_still;
+          keeps = subst (λ (v : VolumeState D). KeepsUsed s.table.inode_count m.number (of.claims h) (of.cur h) (current_of disk.image v)) (sym same) keeps_still;
+          table = subst (λ (v : VolumeState D). KeepsTable s.table s.table p gs gs (current_of disk.image v)) (sym same) table_still;
+        };
         files = λ new claimed files fits. subst (λ (v : VolumeState D). FitsHeld files (current_of disk.image v) new) (sym same)
             (fits_still new (subst (λ (c : Option Claim). IsClaimedNow (of.claims h) m.number c new) own_claim claimed) files fits);
         apart_then = no_claim;
@@ -201,13 +205,15 @@ module _ {D N : Type 0} {disk : Ghosts D N} {s : StoreState D} {p k : ℕ} {m : 
       does_failed : (fault : DiskFault) → now ≡ (of.cur h) → w.log ≡ s.volume.log → Reads disk s (TaskProgress.Fault fault) (then_at (Progress.Fault fault)) → DoesSo (Progress.Fault fault)
       does_failed fault shown log reads = record {
         reads = reads;
-        numbers = refl;
-        form = refl;
-        groups = subst (SameGroups s.volume.log) (sym log) (groups_same s.volume.log);
-        logs = subst (LogsAtMost (most_logged s.table.form its) s.volume.log p) (sym log) (inl refl);
-        marks = subst (Marks None (of.cur h)) (sym shown) marks_still;
-        keeps = subst (KeepsUsed s.table.inode_count m.number (of.claims h) (of.cur h)) (sym shown) keeps_still;
-        table = subst (KeepsTable s.table s.table p gs gs) (sym shown) table_still;
+        makes = record {
+          numbers = refl;
+          form = refl;
+          groups = subst (SameGroups s.volume.log) (sym log) (groups_same s.volume.log);
+          logs = subst (LogsAtMost (most_logged s.table.form its) s.volume.log p) (sym log) (inl refl);
+          marks = subst (Marks None (of.cur h)) (sym shown) marks_still;
+          keeps = subst (KeepsUsed s.table.inode_count m.number (of.claims h) (of.cur h)) (sym shown) keeps_still;
+          table = subst (KeepsTable s.table s.table p gs gs) (sym shown) table_still;
+        };
         files = λ new claimed files fits. subst (λ (x : Image). FitsHeld files x new) (sym shown)
             (fits_still new (subst (λ (c : Option Claim). IsClaimedNow (of.claims h) m.number c new) own_claim claimed) files fits);
         apart_then = no_claim;

@@ -17,7 +17,7 @@ use Rattle.offline.specs.Laws.{CheckedFilesMayBeRead}
 use Rattle.offline.specs.Recovered.{MayReadFile}
 use Rattle.offline.specs.declared.recovered.Recovered.{Recovered}
 use Rattle.inspect.specs.Beginnings.{beginning_at, beginning_of, may_begin}
-use Rattle.inspect.specs.Gathering.{IsCheckedOf}
+use Rattle.offline.specs.Checked.{IsCheckedOf}
 
 -- ---- piece by piece
 

@@ -1,66 +1,30 @@
 -- What a check without a fault says of the blocks that files own.
-use Rattle.std.proofs.Common.{◌≡◌, ◌≢◌, ◌∙◌, ℕ, ◌<◌, ◌≤◌, List, length, get_or, map, Option, None, ap, sym, subst, inl, inr, arith, cond, eqb}
+use Rattle.std.proofs.Common.{◌≡◌, ◌∙◌, ℕ, ◌<◌, ◌≤◌, List, length, get_or, map, None, ap, sym, subst, arith}
 use Rattle.std.proofs.lemmas.List.{get_or-map, length-map}
 use Rattle.std.proofs.lemmas.List.FromFn.{fill_by_all}
-use Rattle.blocks.specs.Disk.{Image, Rose}
-use Rattle.model.specs.Fields.{u32_at}
-use Rattle.model.specs.Layout.{inode_of, inode_count_of, form_of, magic_of}
+use Rattle.blocks.specs.Disk.{Image}
+use Rattle.model.specs.Layout.{inode_of, inode_count_of}
 use Rattle.model.specs.Log.{homes_of, recovered}
 use Rattle.model.specs.Names.{names_of}
 use Rattle.model.specs.Places.{addresses_in, numbers_of, places_of, pointers_of}
 use Rattle.model.specs.Soundness.{count_of}
 use Rattle.model.specs.declared.types.image.Dinode.{Dinode}
-use Rattle.model.specs.Verdict.{verdict, geometry_fault, log_fault, or_else}
-use Rattle.model.specs.declared.types.fault.CheckFault.{CheckFault}
-use Rattle.model.specs.declared.types.fault.CheckFault.TheVariants as check
-use Rattle.model.specs.declared.types.image.Form.{Form}
-use Rattle.model.specs.declared.types.image.Form.TheVariants.{One, Two}
+use Rattle.model.specs.Verdict.{verdict}
 use Rattle.model.specs.declared.types.image.Super.{Super}
-use Rattle.model.specs.Lemmas.Log.{recovered_low, length-recovered}
+use Rattle.model.specs.Lemmas.Log.{length-recovered}
 use Rattle.model.specs.Lemmas.Names.{pointers_named}
 use Rattle.model.specs.Lemmas.Soundness.{verdict_sound, IsInData, inode_in_data}
-use Rattle.model.specs.Lemmas.Super.{lawful_geometry, or_else_none, verdict_none, super_of-recovered, long_where_sound}
+use Rattle.model.specs.Lemmas.Super.{lawful_geometry}
 use Rattle.model.specs.Lemmas.Counts.{all_weaker}
-use Rattle.offline.specs.Cause.{IsCause}
 use Rattle.offline.specs.Recovered.{LiesBehindLog, IsRecoveredOf}
 use Rattle.offline.specs.declared.recovered.Recovered.{Recovered}
-use Rattle.inspect.specs.Gathering.{IsCheckedOf, LieBehindLog}
+use Rattle.inspect.specs.Gathering.{LieBehindLog}
 use Rattle.inspect.specs.Owned.{owned_by_all, owned_of}
 use Rattle.inspect.specs.Signs.{owner_among, owner_sign, sign_among, sign_of, signs_of}
 use Rattle.inspect.specs.declared.owned.Owned.{Owned}
 use Rattle.inspect.proofs.OwnedLemmas.{map-flat_map, owns_what_is_pointed_at}
 
--- ---- what recovery leaves of the superblock
-
-pub count_recovered : (x : Image) (image : Recovered) → IsCheckedOf x image → image.sup.ninodes ≡ inode_count_of (recovered x)
-count_recovered x image is =
-    let long = long_where_sound x is.sound in
-    let same = super_of-recovered x (verdict_none x is.sound).1 (omega (arith, long)) in
-    ap (λ (s : Super). s.ninodes) (is.recovered.sup ∙ sym same)
-
-form_in : List ℕ → Form
-form_in b = cond (eqb (u32_at b 0) (magic_of Two)) Two One
-
-pub form_recovered : (x : Image) (image : Recovered) → IsCheckedOf x image → image.form ≡ form_of (recovered x)
-unfolding form_in
-form_recovered x image is =
-    let long = long_where_sound x is.sound in
-    let one = recovered_low x 1 (verdict_none x is.sound).1 (omega arith) (omega arith) (omega (arith, long)) in
-    is.recovered.form ∙ ap form_in (sym one)
-
--- ---- an image without a fault is opened
-
-pub open_fault : (x : Image) (old new : ℕ) (fault : CheckFault) → verdict x ≡ None → IsCause (or_else (geometry_fault x) (log_fault x)) old new fault →
-    fault ≢ check.NoMemory → Rose old new
-unfolding verdict
-open_fault x old new fault sound (inl here) other =
-    let first = or_else_none (geometry_fault x) _ sound in
-    let second = or_else_none (log_fault x) _ first.1 in
-    absurd (cc (here, ap (λ (g : Option CheckFault). or_else g (log_fault x)) first.0, second.0))
-open_fault x old new fault sound (inr (inl failed)) other = failed.1
-open_fault x old new fault sound (inr (inr refused)) other = absurd (other refused)
-
--- ---- its inodes name blocks behind the log
+-- ---- the inodes of an image without a fault name blocks behind the log
 
 pub names_behind : (x : Image) (i : ℕ) → verdict x ≡ None → 1 ≤ i → i < inode_count_of (recovered x) →
     LieBehindLog (recovered x) (names_of (recovered x) (inode_of (recovered x) i))

@@ -1,11 +1,9 @@
 -- What gathering blocks from a checked disk rests on, and why it ends early.
-use Rattle.std.specs.Prelude.{◌≡◌, ℕ, List, None, Result, MatchResult}
+use Rattle.std.specs.Prelude.{◌≡◌, ℕ, List, Result, MatchResult}
 use Rattle.std.specs.List.{AllByRecursion}
 use Rattle.blocks.specs.Disk.{Image, Rose}
-use Rattle.model.specs.Verdict.{verdict}
 use Rattle.model.specs.declared.types.fault.CheckFault.TheVariants as check
-use Rattle.offline.specs.Recovered.{IsRecoveredOf, LiesBehindLog}
-use Rattle.offline.specs.declared.recovered.Recovered.{Recovered}
+use Rattle.offline.specs.Recovered.{LiesBehindLog}
 use Rattle.inspect.specs.declared.fault.GatherFault.{GatherFault}
 use Rattle.inspect.specs.declared.fault.GatherFault.TheVariants.{Disk, NoMemory}
 use Rattle.inspect.specs.declared.refused.DfRefusal.{DfRefusal}
@@ -14,11 +12,6 @@ use Rattle.inspect.specs.declared.refused.LsRefusal.{LsRefusal}
 use Rattle.inspect.specs.declared.refused.LsRefusal.TheVariants as ls
 use Rattle.inspect.specs.declared.refused.ShowRefusal.{ShowRefusal}
 use Rattle.inspect.specs.declared.refused.ShowRefusal.TheVariants as show
-
--- the reader of an image that has no fault
-pub record IsCheckedOf (x : Image) (image : Recovered) : Type 0 where
-  pub recovered : IsRecoveredOf x image
-  pub sound : verdict x ≡ None
 
 -- each of these blocks is one of the image behind the log
 abbrev pub LieBehindLog : Image → List ℕ → Type 0

@@ -7,11 +7,12 @@ ghost use Rattle.model.specs.Names.{names_of};
 ghost use Rattle.model.specs.Places.{addresses_in, pointers_in};
 ghost use Rattle.model.specs.Verdict.{verdict};
 ghost use Rattle.inspect.specs.Causes.{IsUnlisted};
-ghost use Rattle.inspect.specs.Gathering.{IsCheckedOf, KeepsCount, LieBehindLog};
+ghost use Rattle.offline.specs.Checked.{IsCheckedOf};
+ghost use Rattle.inspect.specs.Gathering.{KeepsCount, LieBehindLog};
 ghost use Rattle.inspect.specs.Listing.{listing_of, row_text, rows_at, rows_of, rows_text};
 
 use crate::fault::GatherFault;
-use crate::owned::{add_owned, open};
+use crate::owned::add_owned;
 use crate::refused::LsRefusal;
 use blocks::{Block, Disk};
 use itoa::Buffer;
@@ -67,7 +68,7 @@ fn gather_rows<D: Disk>(alloc: Global, disk: &mut D) -> Result<Vec<Row>, GatherF
 {
     let mut block = Block::zeroed(alloc)?;
     let mut entries = Block::zeroed(alloc)?;
-    let image = open(disk, &mut block)?;
+    let image = Recovered::open_checked(disk, &mut block)?;
     let mut rows = Vec::new(alloc);
     for i in 1..image.sup.ninodes {
         add_row(alloc, disk, &image, &mut block, &mut entries, &mut rows, i)?;

@@ -5,7 +5,8 @@ ghost use Rattle.model.specs.Log.{recovered};
 ghost use Rattle.model.specs.Names.{names_of, names_under};
 ghost use Rattle.model.specs.Verdict.{verdict};
 ghost use Rattle.offline.specs.Recovered.{IsRecoveredOf};
-ghost use Rattle.inspect.specs.Gathering.{IsCheckedOf, KeepsCount, LieBehindLog};
+ghost use Rattle.offline.specs.Checked.{IsCheckedOf};
+ghost use Rattle.inspect.specs.Gathering.{KeepsCount, LieBehindLog};
 ghost use Rattle.inspect.specs.Owned.{owned_by_all, owned_in, owned_under};
 
 use crate::fault::GatherFault;
@@ -25,19 +26,6 @@ pub struct Owned {
     /// How many blocks of addresses one goes through from it to the data: 0 from a data block, 1
     /// from a block of addresses, 2 from a block of blocks of addresses.
     pub depth: u32,
-}
-
-// Opens the image of a disk that was checked. The block is room for it.
-pub fn open<D: Disk>(disk: &mut D, block: &mut Block) -> Result<Recovered, GatherFault>
-    requires { verdict (D.image disk.old) ≡ None }
-    ensures opened { IfOk result (λ image. IsCheckedOf (D.image disk.old) image) }
-    ensures reads { OnlyReads D.Disk disk.old disk.new }
-    ensures faults { KeepsCount result (D.fault_count disk.old) (D.fault_count disk.new) }
-{
-    match Recovered::open(disk, block) {
-        Ok(image) => Ok(image),
-        Err(_) => Err(GatherFault::Disk),
-    }
 }
 
 // Adds the block of an address, if there is one, and then those under its entries. `entries` is

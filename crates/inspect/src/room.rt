@@ -4,11 +4,11 @@ ghost use Rattle.blocks.specs.Calls.{OnlyReads};
 ghost use Rattle.model.specs.Layout.{super_of};
 ghost use Rattle.model.specs.Log.{recovered};
 ghost use Rattle.offline.specs.Recovered.{IsRecoveredOf};
-ghost use Rattle.inspect.specs.Gathering.{IsCheckedOf};
+ghost use Rattle.offline.specs.Checked.{IsCheckedOf};
 ghost use Rattle.inspect.specs.Owned.{owned_by_all};
 
 use crate::given::Given;
-use crate::owned::{open, owned_by_all};
+use crate::owned::owned_by_all;
 use crate::paths::{bytes_of, length_of};
 use blocks::{BLOCK_SIZE, Block, Disk, DiskFault};
 use cmd::open_to_look;
@@ -83,7 +83,7 @@ fn checked_image<D: Disk>(alloc: Global, disk: &mut D, block: &mut Block) -> Opt
     let Ok(_report) = check(alloc, disk) else {
         return None;
     };
-    open(disk, block).ok()
+    Recovered::open_checked(disk, block).ok()
 }
 
 fn room_of_put<D: Disk>(alloc: Global, disk: &mut D, inum: Option<u32>, size: u32) -> Option<Room> {

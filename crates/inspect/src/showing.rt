@@ -11,12 +11,12 @@ ghost use Rattle.inspect.specs.Owned.{owned_of};
 ghost use Rattle.inspect.specs.Showing.{IsOwnedBy, block_line, blocks_text, file_text};
 
 use crate::fault::GatherFault;
-use crate::owned::{Owned, add_owned, open};
+use crate::owned::{Owned, add_owned};
 use crate::refused::ShowRefusal;
 use blocks::{Block, Disk};
 use itoa::Buffer;
 use messages::{Unwritten, pass_on, print};
-use offline::check;
+use offline::{Recovered, check};
 use std::alloc::Global;
 use std::io::Write;
 
@@ -67,7 +67,7 @@ fn blocks_of<D: Disk>(
     ensures faults { KeepsCount result (D.fault_count disk.old) (D.fault_count disk.new) }
 {
     let mut block = Block::zeroed(alloc)?;
-    let image = open(disk, &mut block)?;
+    let image = Recovered::open_checked(disk, &mut block)?;
     if number == 0 || number >= image.sup.ninodes {
         return Ok(None);
     }

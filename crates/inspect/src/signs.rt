@@ -8,7 +8,7 @@ ghost use Rattle.inspect.specs.Gathering.{KeepsCount};
 ghost use Rattle.inspect.specs.Signs.{free_sign, owned_sign, owner_among, owner_sign, sign_among, signs_of, zone_sign};
 
 use crate::fault::GatherFault;
-use crate::owned::{Owned, open, owned_by_all};
+use crate::owned::{Owned, owned_by_all};
 use blocks::{Block, Disk};
 use layout::{BITS_PER_BLOCK, INODE_START, Super, bitmap_block};
 use offline::Recovered;
@@ -22,7 +22,7 @@ pub fn gather_signs<D: Disk>(alloc: Global, disk: &mut D) -> Result<Vec<u8>, Gat
     ensures faults { KeepsCount result (D.fault_count disk.old) (D.fault_count disk.new) }
 {
     let mut block = Block::zeroed(alloc)?;
-    let image = open(disk, &mut block)?;
+    let image = Recovered::open_checked(disk, &mut block)?;
     let owned = owned_by_all(alloc, disk, &image)?;
     let mut signs = vec![in alloc; b'.'; image.sup.size as usize]?;
     sign_owned(&mut signs, owned.as_slice());

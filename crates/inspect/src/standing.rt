@@ -8,11 +8,10 @@ ghost use Rattle.model.specs.Log.{recovered};
 ghost use Rattle.model.specs.Verdict.{verdict};
 ghost use Rattle.offline.specs.Recovered.{IsRecoveredOf, MayReadFile};
 ghost use Rattle.inspect.specs.Beginnings.{beginning_at, beginning_of, beginnings_of, may_begin};
-ghost use Rattle.inspect.specs.Gathering.{IsCheckedOf};
+ghost use Rattle.offline.specs.Checked.{IsCheckedOf};
 
 use crate::fault::GatherFault;
 use crate::given::Given;
-use crate::owned::open;
 use crate::paths::bytes_of;
 use blocks::{BLOCK_SIZE, Block, Disk, DiskFault};
 use cmd::open_to_look;
@@ -115,7 +114,7 @@ fn gather_beginnings<D: Disk>(
         ≡ beginnings_of (recovered (D.image disk.old)) bytes.now) }
 {
     let mut block = Block::zeroed(alloc)?;
-    let image = open(disk, &mut block)?;
+    let image = Recovered::open_checked(disk, &mut block)?;
     let mut found = Vec::new(alloc);
     for i in 1..image.sup.ninodes {
         add_beginning(disk, &image, i, bytes, &mut block, &mut found)?;

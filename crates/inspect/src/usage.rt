@@ -10,12 +10,12 @@ ghost use Rattle.inspect.specs.Owned.{owned_by_all};
 ghost use Rattle.inspect.specs.Usage.{line_text, usage_lines, usage_text};
 
 use crate::fault::GatherFault;
-use crate::owned::{open, owned_by_all};
+use crate::owned::owned_by_all;
 use crate::refused::DfRefusal;
 use blocks::{Block, Disk};
 use itoa::Buffer;
 use messages::{Unwritten, pass_on, print};
-use offline::check;
+use offline::{Recovered, check};
 use std::alloc::Global;
 use std::io::Write;
 
@@ -62,7 +62,7 @@ fn count_owned<D: Disk>(alloc: Global, disk: &mut D) -> Result<usize, GatherFaul
     ensures faults { KeepsCount result (D.fault_count disk.old) (D.fault_count disk.new) }
 {
     let mut block = Block::zeroed(alloc)?;
-    let image = open(disk, &mut block)?;
+    let image = Recovered::open_checked(disk, &mut block)?;
     let owned = owned_by_all(alloc, disk, &image)?;
     Ok(owned.len())
 }

@@ -6,6 +6,7 @@ mod Bounds
 pub mod Committing
 pub mod Answering
 pub mod Ports
+pub mod Around
 pub mod Right
 pub mod Beginnings
 pub mod Working

@@ -1,11 +1,10 @@
 -- Reading the recovered image block by block.
 use Rattle.std.proofs.Common.{◌≡◌, ◌≢◌, ℕ, ◌+◌, ◌<◌, ◌≤◌, true, false, List, [], ◌∷◌, ◌++◌, drop, length, get_or, replicate, Option, Some, None, refl, sym, ap, subst, ◌∙◌, ⊎_elim, arith}
 use Rattle.std.specs.Prelude.{slice_get}
-use Rattle.offline.specs.Common.{append-nil, BadGeometry, block_at, block_from_log, cases_eq, CheckFault, Form, form_of, geometry_fault, get_or-replicate, get_or_from_slice_get, homes_of, Image, inodes_fault, is_known_magic, is_lawful_log, is_lawful_super, IsBlock, IsCause, IsRecoveredOf, lawful_geometry, le-ltb, length-append, length-recovered, length-replicate, log_fault, logged_count, lt-ltb, marks_fault, meta_count, ne_eqb, no_homes, or_else, or_else-assoc, overwritten, Owners, place_among, recovered, recovered_at, recovered_empty, recovered_low, source_among, source_at, Stand, Super, super_in, super_of, super_of-recovered, u32_at}
+use Rattle.offline.specs.Common.{append-nil, BadGeometry, block_at, block_from_log, cases_eq, CheckFault, Form, form_of, geometry_fault, get_or-replicate, get_or_from_slice_get, homes_of, Image, inodes_fault, is_known_magic, is_lawful_log, is_lawful_super, IsBlock, IsCause, lawful_geometry, le-ltb, length-append, length-recovered, length-replicate, log_fault, logged_count, lt-ltb, marks_fault, meta_count, ne_eqb, no_homes, or_else, or_else-assoc, overwritten, Owners, place_among, recovered, recovered_at, recovered_empty, recovered_low, source_among, source_at, Stand, Super, super_in, super_of, super_of-recovered, u32_at}
 use Rattle.blocks.specs.Block.{zero_block}
 use Rattle.model.specs.Log.{recovered_block}
 use Rattle.model.specs.Verdict.{verdict}
-use Rattle.offline.specs.declared.recovered.Recovered.{Recovered}
 use Rattle.offline.specs.Check.{IsGround}
 use Rattle.offline.proofs.OwnersLemmas.{cause_first}
 
@@ -60,9 +59,6 @@ ground x sup form none lawful same told =
       small = rw same f.small;
       bitmap = rw same f.map;
     }
-
-pub form_recovered : (x : Image) (image : Recovered) → IsRecoveredOf x image → form_of (recovered x) ≡ image.form
-form_recovered x image is = (ground x image.sup image.form is.geometry is.header.lawful is.sup is.form).is_form
 
 -- the first fault of superblock and log is the image's
 pub verdict_opening : (x : Image) (old new : ℕ) (fault : CheckFault) → IsCause (or_else (geometry_fault x) (log_fault x)) old new fault → IsCause (verdict x) old new fault

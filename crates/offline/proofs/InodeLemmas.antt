@@ -3,7 +3,8 @@ use Rattle.std.proofs.Common.{◌≡◌, ◌≢◌, ℕ, ◌+◌, ◌-◌, ◌<�
 use Rattle.std.specs.Prelude.{is_some, count_by}
 use Rattle.std.specs.List.{range_with_len}
 use Rattle.std.proofs.lemmas.List.Recursion.{is_count_by}
-use Rattle.offline.specs.Common.{addresses_in, append-nil, BadSize, BadType, CheckFault, depths, Dinode, file_at, file_count, first_here, first_later, first_none, first_of, first_pointer_fault, Form, form_of, greatest_size, Image, inode_count_of, inode_of, inodes_fault, IsCause, JudgesInode, JudgesInodes, JudgesPointers, le-ltb, lt-ltb, mapped_more, ne_eqb, Owners, places_below, places_below_next, pointers_along, pointers_of, Stand}
+use Rattle.offline.specs.Common.{addresses_in, append-nil, BadSize, BadType, CheckFault, depths, Dinode, file_at, file_count, first_here, first_later, first_none, first_of, first_pointer_fault, Form, form_of, greatest_size, Image, inode_count_of, inode_of, inodes_fault, IsCause, JudgesInode, JudgesInodes, le-ltb, lt-ltb, mapped_more, ne_eqb, Owners, places_below, places_below_next, pointers_along, pointers_of, Stand}
+use Rattle.offline.specs.Taking.{Claims, TakesAll}
 use Rattle.model.specs.Places.{pointers_in}
 use Rattle.model.specs.Files.{file_of}
 use Rattle.model.specs.Verdict.{inode_fault}
@@ -81,24 +82,26 @@ file_count_next y i =
 
 -- what is said of a used inode once its pointers are judged
 pub judged_used : (y : Image) (i : ℕ) (form : Form) (old new : ℕ) (before owners : Owners) → 1 ≤ i → IsUsed y i form →
-    JudgesPointers y i (pointers_along y (inode_of y i).size 0 (depths form) (inode_of y i).addrs) old new before owners (Ok tt) →
+    TakesAll Claims i (pointers_along y (inode_of y i).size 0 (depths form) (inode_of y i).addrs) old new before owners (Ok tt) →
     Stand before y (places_below y i) → JudgesInode y i old new owners (Ok true)
-judged_used y i form old new before owners some is judges stand =
+judged_used y i form old new before owners some is (inl taken) stand =
     let d = inode_of y i in
-    let h = judges (places_below y i) stand in
+    let h = taken.0.judged y (places_below y i) stand in
     let same : pointers_of y i ≡ pointers_along y d.size 0 (depths form) d.addrs = pointers_used y d form is.is_form is.used in (
       used_fault y i form is ∙ ap (first_pointer_fault y i (places_below y i)) same ∙ h.0,
       subst (Stand owners y) (sym (places_below_next y i some ∙ ap (λ ps. places_below y i ++ addresses_in ps) same)) h.1,
       file_there y i some is.used,
     )
+judged_used y i form old new before owners some is (inr ended) stand = absurd (cc ended.0.0)
 
 pub cause_used : (y : Image) (i : ℕ) (form : Form) (old new : ℕ) (before owners : Owners) (fault : CheckFault) → IsUsed y i form →
-    JudgesPointers y i (pointers_along y (inode_of y i).size 0 (depths form) (inode_of y i).addrs) old new before owners (Err fault) →
+    TakesAll Claims i (pointers_along y (inode_of y i).size 0 (depths form) (inode_of y i).addrs) old new before owners (Err fault) →
     Stand before y (places_below y i) → IsCause (inode_fault y i) old new fault
-cause_used y i form old new before owners fault is judges stand =
-    let d = inode_of y i in
-    subst (λ (e : Option CheckFault). IsCause e old new fault)
-    (sym (used_fault y i form is ∙ ap (first_pointer_fault y i (places_below y i)) (pointers_used y d form is.is_form is.used))) (judges (places_below y i) stand)
+cause_used y i form old new before owners fault is (inl taken) stand =
+    inl
+    (used_fault y i form is ∙ ap (first_pointer_fault y i (places_below y i)) (pointers_used y (inode_of y i) form is.is_form is.used)
+    ∙ taken.0.judged y (places_below y i) stand)
+cause_used y i form old new before owners fault is (inr ended) stand = inr (inl (cc ended.0.0, ended.1))
 
 -- what is known of the inodes below i, once the first i - 1 are judged without a fault
 pub record AreJudged (y : Image) (i count : ℕ) (owners : Owners) : Type 0 where

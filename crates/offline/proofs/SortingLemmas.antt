@@ -4,10 +4,11 @@ use Rattle.std.specs.Prelude.{is_none, is_some}
 use Rattle.std.specs.List.{filter, list_all, range_with_len}
 use Rattle.std.proofs.lemmas.List.{map-append}
 use Rattle.std.proofs.lemmas.List.Elements.{filter-append}
-use Rattle.offline.specs.Common.{addresses_in, CheckFault, Dinode, early_fault, Form, form_of, Image, inode_count_of, IsRecoveredOf, lawful_geometry, ne_eqb, places_below, places_below_next, pointers_of, recovered, Super, super_of-recovered}
+use Rattle.offline.specs.Common.{addresses_in, CheckFault, Dinode, early_fault, Form, form_of, Image, inode_count_of, IsRecoveredOf, lawful_geometry, ne_eqb, places_below, places_below_next, pointers_of, recovered, Super}
 use Rattle.model.specs.Layout.{inode_of}
 use Rattle.model.specs.Places.{pointers_in}
 use Rattle.offline.specs.Clean.{clean_kind, Counts, is_clean, is_clean_inode, is_clean_pointer, is_left, Joins, Sorts}
+use Rattle.offline.specs.Lemmas.Checked.{count_recovered}
 use Rattle.offline.specs.declared.recovered.Recovered.{Recovered}
 use Rattle.offline.specs.declared.sorting.Sorted.{Sorted}
 use Rattle.offline.specs.declared.table.Table.{Table}
@@ -37,18 +38,15 @@ sorts_next y i old new some before joins =
     })
 
 -- how many numbers there are
-pub count_read : (x : Image) (image : Recovered) → IsRecoveredOf x image → image.sup.ninodes ≡ inode_count_of (recovered x)
-count_read x image is =
-    let f = lawful_geometry x is.geometry in
-    let room = f.room in
-    let size = f.size in
-    ap (λ (s : Super). s.ninodes) (is.sup ∙ sym (super_of-recovered x is.header.lawful (omega arith)))
-
-pub some_numbers : (x : Image) (image : Recovered) → IsRecoveredOf x image → 2 ≤ image.sup.ninodes
+some_numbers : (x : Image) (image : Recovered) → IsRecoveredOf x image → 2 ≤ image.sup.ninodes
 some_numbers x image is =
     let f = lawful_geometry x is.geometry in
     let some = f.some in
     omega (arith, some, ap (λ (s : Super). s.ninodes) is.sup)
+
+-- where a walk over them ends
+pub numbers_end : (x : Image) (image : Recovered) (i : ℕ) → IsRecoveredOf x image → (2 ≤ image.sup.ninodes → i ≡ image.sup.ninodes) → i ≡ inode_count_of (recovered x)
+numbers_end x image i is end = end (some_numbers x image is) ∙ count_recovered x image is
 
 -- the places of one inode more
 pub counts_next : (y : Image) (i : ℕ) (t : Table) → 1 ≤ i → Counts t y (places_below y i ++ addresses_in (pointers_of y i)) → Counts t y (places_below y (i + 1))

@@ -1,9 +1,12 @@
 pub mod Making
 pub mod Cause
 pub mod Owners
+pub mod Taking
 pub mod Notes
 pub mod Recovered
+pub mod Checked
 pub mod Clean
 pub mod Laws
 pub mod Check
+pub mod Lemmas
 pub mod Common

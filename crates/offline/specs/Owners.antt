@@ -54,21 +54,6 @@ Judges y i earlier pointers new result =
     × Stand new y (earlier ++ addresses_in pointers))
     (λ fault. first_pointer_fault y i earlier pointers ≡ Some fault)
 
--- the same where a read may fail too; the counts are the disk's faults before and behind
-abbrev pub JudgesOn : Image →
-    ℕ → List ℕ → List Pointer → ℕ → ℕ → Owners → Result (Unit {0}) CheckFault → Type 0
-JudgesOn y i earlier pointers old_faults new_faults new result =
-    MatchResult result
-    (λ _. (first_pointer_fault y i earlier pointers ≡ None)
-    × Stand new y (earlier ++ addresses_in pointers))
-    (λ fault. IsCause (first_pointer_fault y i earlier pointers) old_faults new_faults fault)
-
--- the same whatever places stood in the table
-abbrev pub JudgesPointers : Image →
-    ℕ → List Pointer → ℕ → ℕ → Owners → Owners → Result (Unit {0}) CheckFault → Type 0
-JudgesPointers y i pointers old_faults new_faults old new result = (earlier : List ℕ) →
-    Stand old y earlier → JudgesOn y i earlier pointers old_faults new_faults new result
-
 -- inode i was judged: without a fault its places joined those of the inodes below it, and the
 -- answer says whether it is used
 abbrev pub JudgesInode : Image → ℕ → ℕ → ℕ → Owners → Result Bool CheckFault → Type 0

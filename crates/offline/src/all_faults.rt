@@ -14,8 +14,9 @@ ghost use Rattle.offline.specs.Owners.{SameLimits, Stand};
 ghost use Rattle.offline.specs.Recovered.{IsRecoveredOf};
 
 use crate::checking::{is_too_large, load_inode};
-use crate::notes::{Owner, add, add_if_some, note_pointers};
+use crate::notes::{Owner, add, add_if_some, note_list};
 use crate::owners::Owners;
+use crate::pointers::read_pointers;
 use crate::recovered::Recovered;
 use blocks::{Block, Disk, NoMemory};
 use layout::meta_count;
@@ -67,35 +68,9 @@ fn note_inode<D: Disk>(
         number: i,
         is_judged: fault.is_none(),
     };
-    note_pointers(alloc, disk, image, owners, entries, faults, owner, inode)
-}
-
-// Reads inode i, and notes it and its faults.
-fn note_next<D: Disk>(
-    alloc: Global,
-    disk: &mut D,
-    image: &Recovered,
-    owners: &mut Owners,
-    block: &mut Block,
-    entries: &mut Block,
-    faults: &mut Vec<CheckFault>,
-    i: u32,
-) -> Result<(), CheckFault>
-    requires judging { MayJudge (D.image disk.old) image.now owners.old }
-    requires some { 1 ≤ i }
-    requires load { MayLoad (D.image disk.old) block.old i }
-    ensures reads { OnlyReads D.Disk disk.old disk.new }
-    ensures counts { GoesThrough result (D.fault_count disk.old) (D.fault_count disk.new) }
-    ensures limits { SameLimits owners.old owners.new }
-    ensures block { OnOk result
-        (block.new ≡ block_at (recovered (D.image disk.old)) (inode_block i)) }
-    ensures noted { OnOk result (Stand owners.old (recovered (D.image disk.old))
-        (places_below (recovered (D.image disk.old)) i) →
-        NotesInode (recovered (D.image disk.old)) i
-        owners.new faults.old.items faults.new.items) }
-{
-    let inode = load_inode(disk, image, block, i)?;
-    note_inode(alloc, disk, image, owners, entries, faults, i, &inode)
+    let list = read_pointers(alloc, disk, image, entries, i, inode)?;
+    note_list(owners, faults, owner, &list)?;
+    Ok(())
 }
 
 // Notes all inodes and their faults.
@@ -120,7 +95,8 @@ fn note_inodes<D: Disk>(
         NotesInodes (recovered (D.image disk.old)) owners.new faults.old.items faults.new.items) }
 {
     for i in 1..ninodes {
-        note_next(alloc, disk, image, owners, block, entries, faults, i)?;
+        let inode = load_inode(disk, image, block, i)?;
+        note_inode(alloc, disk, image, owners, entries, faults, i, &inode)?;
     }
     Ok(())
 }

@@ -11,9 +11,9 @@ ghost use Rattle.offline.specs.Owners.{Stand, SameLimits, JudgesInode, JudgesIno
 ghost use Rattle.offline.specs.Check.{IsReportOf, IsGround, JudgesContents, MayJudge, MayLoad};
 ghost use Rattle.offline.specs.Recovered.{IsRecoveredOf};
 
-use crate::claims::claim_inode;
 use crate::owners::Owners;
 use crate::recovered::Recovered;
+use crate::walking::take_pointers;
 use blocks::{Block, Disk, DiskFault};
 use layout::{INODES_PER_BLOCK, greatest_size, inode, inode_block, meta_count};
 use model::types::{CheckFault, Dinode, Form, Super};
@@ -69,7 +69,7 @@ fn check_inode<D: Disk>(
     if is_too_large(inode.size, image.form) {
         return Err(CheckFault::BadSize(i));
     }
-    claim_inode(disk, image, owners, entries, i, inode)?;
+    take_pointers(disk, image, entries, owners, i, inode)?;
     Ok(true)
 }
 

@@ -2,6 +2,7 @@
 #![tactic(auto)]
 
 mod all_faults;
+mod checked;
 mod checking;
 mod claims;
 pub mod laws;
@@ -13,6 +14,7 @@ mod pointers;
 mod recovered;
 mod sorting;
 mod table;
+mod walking;
 
 pub use all_faults::check_all;
 pub use checking::{Report, check};

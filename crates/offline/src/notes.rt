@@ -11,8 +11,6 @@ ghost use Rattle.offline.specs.Owners.{SameLimits};
 ghost use Rattle.offline.specs.Recovered.{IsRecoveredOf};
 
 use crate::owners::Owners;
-use crate::pointers::read_pointers;
-use crate::recovered::Recovered;
 use blocks::{Block, Disk, NoMemory};
 use model::types::{CheckFault, Dinode, Pointer};
 use std::alloc::Global;
@@ -62,7 +60,7 @@ fn note_pointer(
 }
 
 // The same of a list of them, in their order.
-fn note_list(
+pub fn note_list(
     owners: &mut Owners,
     faults: &mut Vec<CheckFault>,
     owner: Owner,
@@ -75,31 +73,5 @@ fn note_list(
     for k in 0..list.len() {
         note_pointer(owners, faults, owner, list[k])?;
     }
-    Ok(())
-}
-
-// Notes where the blocks of an inode stand, in the order of its pointers. The block is room for those
-// of addresses.
-pub fn note_pointers<D: Disk>(
-    alloc: Global,
-    disk: &mut D,
-    image: &Recovered,
-    owners: &mut Owners,
-    entries: &mut Block,
-    faults: &mut Vec<CheckFault>,
-    owner: Owner,
-    inode: &Dinode,
-) -> Result<(), CheckFault>
-    requires recovered { IsRecoveredOf (D.image disk.old) image.now }
-    requires addresses { length inode.now.addrs ≡ 13 }
-    ensures reads { OnlyReads D.Disk disk.old disk.new }
-    ensures counts { GoesThrough result (D.fault_count disk.old) (D.fault_count disk.new) }
-    ensures limits { SameLimits owners.old owners.new }
-    ensures noted { OnOk result (NotesPointers (recovered (D.image disk.old)) owner
-        (pointers_in (recovered (D.image disk.old)) inode.now)
-        owners.old owners.new faults.old.items faults.new.items) }
-{
-    let list = read_pointers(alloc, disk, image, entries, inode)?;
-    note_list(owners, faults, owner, &list)?;
     Ok(())
 }

@@ -1,7 +1,6 @@
 // The numbers of an image, by whether their files are whole.
 ghost use Rattle.std.specs.Prelude.{◌≡◌, ◌≤◌, ◌<◌, ◌+◌, [], length, OnOk, IfOk};
 ghost use Rattle.blocks.specs.Calls.{OnlyReads};
-ghost use Rattle.model.specs.Layout.{inode_of};
 ghost use Rattle.model.specs.Log.{recovered};
 ghost use Rattle.model.specs.Places.{numbers_of, places_of};
 ghost use Rattle.model.specs.Verdict.{places_below};
@@ -67,7 +66,7 @@ fn count_inode<D: Disk>(
         (places_below (recovered (D.image disk.old)) (i + 1))) }
 {
     let inode = image.inode(disk, i, block)?;
-    let pointers = read_pointers(alloc, disk, image, block, &inode)?;
+    let pointers = read_pointers(alloc, disk, image, block, i, &inode)?;
     table.count_all(pointers.as_slice());
     Ok(())
 }
@@ -118,32 +117,8 @@ fn is_clean<D: Disk>(
     if early_fault(i, inode, image.form).is_some() {
         return Ok(false);
     }
-    let pointers = read_pointers(alloc, disk, image, block, inode)?;
+    let pointers = read_pointers(alloc, disk, image, block, i, inode)?;
     Ok(table.are_clean(pointers.as_slice()))
-}
-
-// Reads inode i, and adds its number to the others.
-fn sort_inode<D: Disk>(
-    alloc: Global,
-    disk: &mut D,
-    image: &Recovered,
-    table: &Table,
-    block: &mut Block,
-    sorted: &mut Sorted,
-    i: u32,
-) -> Result<(), CheckFault>
-    requires recovered { IsRecoveredOf (D.image disk.old) image.now }
-    requires number { i < image.now.sup.ninodes }
-    requires counts { Counts table.now (recovered (D.image disk.old))
-        (places_of (recovered (D.image disk.old))) }
-    ensures reads { OnlyReads D.Disk disk.old disk.new }
-    ensures faults { GoesThrough result (D.fault_count disk.old) (D.fault_count disk.new) }
-    ensures joins { OnOk result (Joins i (inode_of (recovered (D.image disk.old)) i).kind
-        (is_clean (recovered (D.image disk.old)) i) sorted.old sorted.new) }
-{
-    let inode = image.inode(disk, i, block)?;
-    let is_clean = is_clean(alloc, disk, image, table, block, i, &inode)?;
-    Ok(join(sorted, i, inode.kind, is_clean)?)
 }
 
 // Sorts all numbers.
@@ -165,7 +140,9 @@ fn sort_inodes<D: Disk>(
         (numbers_of (recovered (D.image disk.old))) sorted.new) }
 {
     for i in 1..image.sup.ninodes {
-        sort_inode(alloc, disk, image, table, block, sorted, i)?;
+        let inode = image.inode(disk, i, block)?;
+        let is_clean = is_clean(alloc, disk, image, table, block, i, &inode)?;
+        join(sorted, i, inode.kind, is_clean)?;
     }
     Ok(())
 }

@@ -3,11 +3,12 @@ use Rattle.std.proofs.lemmas.List.{append-nil}
 use Rattle.blocks.specs.Disk.{Image}
 use Rattle.model.specs.Log.{recovered}
 use Rattle.model.specs.Places.{addresses_in, pointers_in}
-use Rattle.inspect.specs.Gathering.{IsCheckedOf}
+use Rattle.offline.specs.Checked.{IsCheckedOf}
 use Rattle.inspect.specs.declared.fault.GatherFault.TheVariants.{NoMemory}
 use Rattle.inspect.proofs.CauseLemmas.{failed_on, passed_on}
 use Rattle.inspect.proofs.FileLemmas.{rows_free, rows_used}
-use Rattle.inspect.proofs.PlaceLemmas.{count_recovered, names_at}
+use Rattle.offline.specs.Lemmas.Checked.{count_recovered}
+use Rattle.inspect.proofs.PlaceLemmas.{names_at}
 use Rattle.inspect.proofs.listing.add_row.Goals as goal
 
 pub returns-in_err-inode-clause-faults : goal.returns-in_err-inode-clause-faults
@@ -28,7 +29,7 @@ pub count_blocks-requires-clause-behind : goal.count_blocks-requires-clause-behi
 count_blocks-requires-clause-behind g c =
     let x = g.D.Disk.image c.args.disk.now in
     names_at x (g.D.Disk.image c.inode.new.disk) c.args.i c.in_ok-inode.inode c.requires.checked.sound c.inode.ensures.reads.image c.in_ok-inode.ensures.ok c.requires.some
-    (omega (arith, c.requires.below, count_recovered x c.args.image.now c.requires.checked))
+    (omega (arith, c.requires.below, count_recovered x c.args.image.now c.requires.checked.recovered))
 
 pub returns-in_err-blocks-clause-faults : goal.returns-in_err-blocks-clause-faults
 returns-in_err-blocks-clause-faults g c =

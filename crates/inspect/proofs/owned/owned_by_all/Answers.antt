@@ -1,4 +1,4 @@
-use Rattle.std.proofs.Common.{◌≡◌, ◌∙◌, ◌+◌, ◌++◌, ap, subst, arith}
+use Rattle.std.proofs.Common.{◌≡◌, ◌∙◌, ◌++◌, ap, subst, arith}
 use Rattle.blocks.specs.Disk.{Image}
 use Rattle.blocks.specs.Lemmas.Reads.{reads_then}
 use Rattle.model.specs.Layout.{inode_count_of, inode_of}
@@ -7,7 +7,8 @@ use Rattle.model.specs.declared.types.image.Dinode.{Dinode}
 use Rattle.inspect.specs.Owned.{owned_in, owned_of}
 use Rattle.inspect.proofs.CauseLemmas.{failed_on, passed_on}
 use Rattle.inspect.proofs.OwnedLemmas.{all_done, next_done, range_end, range_step}
-use Rattle.inspect.proofs.PlaceLemmas.{count_recovered, names_at}
+use Rattle.offline.specs.Lemmas.Checked.{count_recovered}
+use Rattle.inspect.proofs.PlaceLemmas.{names_at}
 use Rattle.inspect.proofs.owned.owned_by_all.Goals as goal
 
 pub add_owned-requires-clause-behind : goal.add_owned-requires-clause-behind
@@ -18,7 +19,7 @@ add_owned-requires-clause-behind g c =
     let same = c.loop-i.invariant.reads.image in
     names_at x (d.image c.inode.new.disk) i c.in_ok-inode.inode c.requires.checked.sound (c.inode.ensures.reads.image ∙ same)
     (c.in_ok-inode.ensures.ok ∙ ap (λ (z : Image). inode_of (recovered z) i) same) c.loop-i.auto.i
-    (omega (arith, c.loop-i-test.true, count_recovered x c.args.image.now c.requires.checked))
+    (omega (arith, c.loop-i-test.true, count_recovered x c.args.image.now c.requires.checked.recovered))
 
 pub loop-i-preserved : goal.loop-i-preserved
 loop-i-preserved g c =
@@ -30,7 +31,7 @@ loop-i-preserved g c =
       reads = reads_then g.D.Disk _ _ _ (reads_then g.D.Disk _ _ _ before.reads c.inode.ensures.reads) c.add_owned.ensures.reads;
       faults = c.in_ok-add_owned.ensures.faults ∙ c.in_ok-inode.ensures.faults ∙ before.faults;
       added = next_done _ _ _ _ _ _ before.added
-          (range_step (owned_of (recovered x)) c.loop-i.i (inode_count_of (recovered x)) (omega (arith, c.loop-i-test.true, count_recovered x c.args.image.now c.requires.checked)))
+          (range_step (owned_of (recovered x)) c.loop-i.i (inode_count_of (recovered x)) (omega (arith, c.loop-i-test.true, count_recovered x c.args.image.now c.requires.checked.recovered)))
           (added ∙ ap (λ (e : Dinode). c.loop-i.owned.items ++ owned_in (recovered x) c.loop-i.i e)
           (c.in_ok-inode.ensures.ok ∙ ap (λ (z : Image). inode_of (recovered z) c.loop-i.i) before.reads.image));
     }
@@ -39,7 +40,7 @@ pub returns-clause-all : goal.returns-clause-all
 returns-clause-all g c =
     let x = g.D.Disk.image c.args.disk.now in
     all_done _ _ _ c.loop-i.invariant.added
-    (range_end (owned_of (recovered x)) c.loop-i.i (inode_count_of (recovered x)) (omega (arith, c.loop-i-test.false, count_recovered x c.args.image.now c.requires.checked)))
+    (range_end (owned_of (recovered x)) c.loop-i.i (inode_count_of (recovered x)) (omega (arith, c.loop-i-test.false, count_recovered x c.args.image.now c.requires.checked.recovered)))
 
 pub returns-in_err-inode-clause-faults : goal.returns-in_err-inode-clause-faults
 returns-in_err-inode-clause-faults g c =

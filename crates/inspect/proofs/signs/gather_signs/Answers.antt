@@ -10,22 +10,22 @@ use Rattle.inspect.proofs.signs.gather_signs.Goals as goal
 pub sign_owned-requires-clause-inside : goal.sign_owned-requires-clause-inside
 sign_owned-requires-clause-inside g c = λ k d low.
     let x = g.D.Disk.image c.args.disk.now in
-    let all = c.as_slice.ensures.value ∙ c.in_ok-owned.ensures.all ∙ ap (λ (z : Image). owned_by_all (recovered z)) c.open.ensures.reads.image in
-    let there = all_inside x c.as_slice.result.now c.in_ok-image.ensures.opened.sound all k d low in
-    let size = size_is x c.in_ok-image.image c.in_ok-image.ensures.opened.recovered in
+    let all = c.as_slice.ensures.value ∙ c.in_ok-owned.ensures.all ∙ ap (λ (z : Image). owned_by_all (recovered z)) c.open_checked.ensures.reads.image in
+    let there = all_inside x c.as_slice.result.now c.in_ok-image.ensures.ok.sound all k d low in
+    let size = size_is x c.in_ok-image.image c.in_ok-image.ensures.ok.recovered in
     omega (arith, there, size, c.deref_mut.ensures.len, c.in_ok-signs.ensures.len)
 
 pub sign_owned-requires-clause-once : goal.sign_owned-requires-clause-once
 sign_owned-requires-clause-once g c =
     let x = g.D.Disk.image c.args.disk.now in
-    let all = c.as_slice.ensures.value ∙ c.in_ok-owned.ensures.all ∙ ap (λ (z : Image). owned_by_all (recovered z)) c.open.ensures.reads.image in
-    all_once x c.as_slice.result.now c.in_ok-image.ensures.opened.sound all
+    let all = c.as_slice.ensures.value ∙ c.in_ok-owned.ensures.all ∙ ap (λ (z : Image). owned_by_all (recovered z)) c.open_checked.ensures.reads.image in
+    all_once x c.as_slice.result.now c.in_ok-image.ensures.ok.sound all
 
 pub returns-clause-signs : goal.returns-clause-signs
 returns-clause-signs g c =
     let x = g.D.Disk.image c.args.disk.now in
     let image = c.in_ok-image.image in
-    let opened = c.in_ok-image.ensures.opened in
+    let opened = c.in_ok-image.ensures.ok in
     let items = c.in_ok-signs.signs.items in
     let len = c.in_ok-signs.signs.len in
     let first = c.sign_owned.new.signs in
@@ -37,7 +37,7 @@ returns-clause-signs g c =
     let written = written_whole first items len first_long whole in
     let mid : c.deref_mut-2.result.now ≡ first = c.deref_mut-2.ensures.value ∙ written in
     let last_long : length last ≡ length first = omega (arith, c.sign_others.auto.signs, ap length mid) in
-    let all = c.as_slice.ensures.value ∙ c.in_ok-owned.ensures.all ∙ ap (λ (z : Image). owned_by_all (recovered z)) c.open.ensures.reads.image in
+    let all = c.as_slice.ensures.value ∙ c.in_ok-owned.ensures.all ∙ ap (λ (z : Image). owned_by_all (recovered z)) c.open_checked.ensures.reads.image in
     ap (λ (l : List ℕ). take len (last ++ drop (length last) l)) written
     ∙ written_whole last first len last_long (omega (arith, whole, first_long))
     ∙ signs_whole x image c.as_slice.result.now first last opened.recovered all (omega (arith, first_long, count)) (omega (arith, last_long, first_long, count))

@@ -1,5 +1,5 @@
-use Rattle.std.proofs.Common.{◌≡◌, Bool, subst}
-use Rattle.offline.specs.Common.{Dinode, HasNoted, on_ok_weaker, places_below, recovered}
+use Rattle.std.proofs.Common.{◌≡◌, Bool, List, subst}
+use Rattle.offline.specs.Common.{Dinode, HasNoted, NotesPointers, places_below, Pointer, recovered}
 use Rattle.model.specs.Places.{pointers_in}
 use Rattle.offline.proofs.NoteLemmas.{is_none_where, noted_free, noted_used}
 use Rattle.offline.proofs.all_faults.note_inode.Goals as goal
@@ -15,10 +15,12 @@ returns-clause-noted g c =
     let i = c.args.i in
     let inode = c.args.inode.now in
     let form = c.args.image.now.form in
-    on_ok_weaker c.note_pointers.result
-    (λ notes stand.
-    noted_used y i inode form c.note_pointers.new.owners c.early_fault-fault.result c.args.faults.now.items c.add_if_some.new.faults.items c.note_pointers.new.faults.items
+    let before = c.add_if_some.new.faults.items in
+    let after = c.note_list.new.faults.items in
+    let notes = subst (λ (list : List Pointer). NotesPointers y (record { number = i; is_judged = c.is_none.result }) list c.args.owners.now c.note_list.new.owners before after)
+    c.in_ok-list.ensures.pointers (c.in_ok-note_list.ensures.noted y) in
+    λ stand.
+    noted_used y i inode form c.note_list.new.owners c.early_fault-fault.result c.args.faults.now.items before after
     c.requires.some c.requires.inode c.requires.judging.is_form c.if-inode-eq0.false c.early_fault-fault.ensures c.in_ok-add_if_some.ensures
-    (subst (λ (b : Bool). HasNoted y (record { number = i; is_judged = b }) (places_below y i) (pointers_in y inode)
-    c.note_pointers.new.owners c.add_if_some.new.faults.items c.note_pointers.new.faults.items) (is_none_where c.early_fault-fault.result c.is_none.result c.is_none.ensures) (notes (places_below y i) stand)))
-    c.note_pointers.ensures.noted
+    (subst (λ (b : Bool). HasNoted y (record { number = i; is_judged = b }) (places_below y i) (pointers_in y inode) c.note_list.new.owners before after)
+    (is_none_where c.early_fault-fault.result c.is_none.result c.is_none.ensures) (notes (places_below y i) stand))

@@ -12,15 +12,15 @@ loop-i-preserved g c =
     let before = c.loop-i.invariant in
     let same = before.reads.image in
     let here = subst (λ (x : Image). Stand c.loop-i.owners (recovered x) (places_below (recovered x) i) →
-    NotesInode (recovered x) i c.note_next.new.owners c.loop-i.faults.items c.note_next.new.faults.items)
-    same c.in_ok-note_next.ensures.noted in
+    NotesInode (recovered x) i c.note_inode.new.owners c.loop-i.faults.items c.note_inode.new.faults.items)
+    (c.load_inode.ensures.reads.image ∙ same) c.in_ok-note_inode.ensures.noted in
     record {
-      reads = reads_then d c.args.disk.now c.loop-i.disk c.note_next.new.disk before.reads c.note_next.ensures.reads;
-      counts = c.in_ok-note_next.ensures.counts ∙ before.counts;
+      reads = reads_then d c.args.disk.now c.load_inode.new.disk c.note_inode.new.disk (reads_then d c.args.disk.now c.loop-i.disk c.load_inode.new.disk before.reads c.load_inode.ensures.reads) c.note_inode.ensures.reads;
+      counts = c.in_ok-note_inode.ensures.counts ∙ c.in_ok-inode.ensures.faults ∙ before.counts;
       limits = search rules;
-      loaded = inr (subst (λ (x : Image). c.note_next.new.block ≡ block_at (recovered x) (inode_block (i + 1 - 1))) same
-          (let back : i + 1 - 1 ≡ i = omega arith in rw back c.in_ok-note_next.ensures.block));
+      loaded = inr (subst (λ (x : Image). c.load_inode.new.block ≡ block_at (recovered x) (inode_block (i + 1 - 1))) same
+          (let back : i + 1 - 1 ≡ i = omega arith in rw back c.in_ok-inode.ensures.block));
       stand = λ stand. (here (before.stand stand)).stand;
-      found = λ stand. found_next c.args.faults.now.items c.loop-i.faults.items c.note_next.new.faults.items _ (inode_faults y i) _ (before.found stand)
+      found = λ stand. found_next c.args.faults.now.items c.loop-i.faults.items c.note_inode.new.faults.items _ (inode_faults y i) _ (before.found stand)
           (here (before.stand stand)).faults (flat_mapped_next (inode_faults y) i c.loop-i.auto.i);
     }

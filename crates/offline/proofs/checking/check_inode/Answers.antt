@@ -1,8 +1,9 @@
 use Rattle.std.proofs.Common.{◌≡◌, ◌<◌, ◌≤◌, ◌≢◌, inl, sym, Ok, Err, ◌∙◌, subst}
-use Rattle.offline.specs.Common.{depths, Dinode, err_from_is_err_and, greatest_size, JudgesPointers, ltb-false, ltb_from_iff, pointers_along, recovered}
+use Rattle.offline.specs.Common.{depths, Dinode, err_from_is_err_and, greatest_size, ltb-false, ltb_from_iff, pointers_along, recovered}
+use Rattle.offline.specs.Taking.{Claims, TakesAll}
 use Rattle.offline.proofs.InodeLemmas.{IsUsed, bad_type, bad_size, judged_free, judged_used, cause_used}
 use Rattle.offline.proofs.checking.check_inode.Given.{Over}
-use Rattle.offline.proofs.checking.check_inode.Goals.{After-claim_inode}
+use Rattle.offline.proofs.checking.check_inode.Goals.{After-take_pointers}
 use Rattle.offline.proofs.checking.check_inode.Goals as goal
 
 pub returns-then-inode-gt3-clause-judged : goal.returns-then-inode-gt3-clause-judged
@@ -22,7 +23,7 @@ returns-then-is_too_large-clause-judged g c = λ stand.
     (subst (λ (d : Dinode). greatest_size c.args.image.now.form < d.size) c.requires.inode (c.is_too_large.ensures.0 c.if-is_too_large.true)))
 
 -- its pointers were judged
-used : (g : Over) (c : After-claim_inode g) → IsUsed (recovered (g.D.Disk.image c.args.disk.now)) c.args.i c.args.image.now.form
+used : (g : Over) (c : After-take_pointers g) → IsUsed (recovered (g.D.Disk.image c.args.disk.now)) c.args.i c.args.image.now.form
 used g c = record {
   is_form = c.requires.judging.is_form;
   kind = subst (λ (d : Dinode). d.kind ≤ 3) c.requires.inode c.if-inode-gt3.false;
@@ -31,25 +32,25 @@ used g c = record {
       (ltb-false (greatest_size c.args.image.now.form) c.args.inode.now.size (sym (ltb_from_iff c.is_too_large.ensures) ∙ c.if-is_too_large.false));
 }
 
-pub returns-in_err-claim_inode-clause-judged : goal.returns-in_err-claim_inode-clause-judged
-returns-in_err-claim_inode-clause-judged g c = λ stand.
+pub returns-in_err-take_pointers-clause-judged : goal.returns-in_err-take_pointers-clause-judged
+returns-in_err-take_pointers-clause-judged g c = λ stand.
     let y = recovered (g.D.Disk.image c.args.disk.now) in
     let form = c.args.image.now.form in
     let old = g.D.Disk.fault_count c.args.disk.now in
-    let new = g.D.Disk.fault_count c.claim_inode.new.disk in
-    let fault = c.in_err-claim_inode.field-0.0 in
+    let new = g.D.Disk.fault_count c.take_pointers.new.disk in
+    let fault = c.in_err-take_pointers.field-0.0 in
     let p = err_from_is_err_and c.from_residual.result c.from_residual.ensures.1 in
     rw (p.1, p.2)
-    (cause_used y c.args.i form old new c.args.owners.now c.claim_inode.new.owners fault (used g (goal.at.returns-in_err-claim_inode-clause-judged g c).After-claim_inode)
-    (subst (λ (d : Dinode). JudgesPointers y c.args.i (pointers_along y d.size 0 (depths form) d.addrs) old new c.args.owners.now c.claim_inode.new.owners (Err fault))
-    c.requires.inode c.in_err-claim_inode.ensures.judged) stand)
+    (cause_used y c.args.i form old new c.args.owners.now c.take_pointers.new.taker fault (used g (goal.at.returns-in_err-take_pointers-clause-judged g c).After-take_pointers)
+    (subst (λ (d : Dinode). TakesAll Claims c.args.i (pointers_along y d.size 0 (depths form) d.addrs) old new c.args.owners.now c.take_pointers.new.taker (Err fault))
+    c.requires.inode c.in_err-take_pointers.ensures.taken) stand)
 
 pub returns-clause-judged : goal.returns-clause-judged
 returns-clause-judged g c = λ stand.
     let y = recovered (g.D.Disk.image c.args.disk.now) in
     let form = c.args.image.now.form in
     let old = g.D.Disk.fault_count c.args.disk.now in
-    let new = g.D.Disk.fault_count c.claim_inode.new.disk in
-    judged_used y c.args.i form old new c.args.owners.now c.claim_inode.new.owners c.requires.some (used g (goal.at.returns-clause-judged g c).After-claim_inode)
-    (subst (λ (d : Dinode). JudgesPointers y c.args.i (pointers_along y d.size 0 (depths form) d.addrs) old new c.args.owners.now c.claim_inode.new.owners (Ok tt))
-    c.requires.inode c.in_ok-claim_inode.ensures.judged) stand
+    let new = g.D.Disk.fault_count c.take_pointers.new.disk in
+    judged_used y c.args.i form old new c.args.owners.now c.take_pointers.new.taker c.requires.some (used g (goal.at.returns-clause-judged g c).After-take_pointers)
+    (subst (λ (d : Dinode). TakesAll Claims c.args.i (pointers_along y d.size 0 (depths form) d.addrs) old new c.args.owners.now c.take_pointers.new.taker (Ok tt))
+    c.requires.inode c.in_ok-take_pointers.ensures.taken) stand

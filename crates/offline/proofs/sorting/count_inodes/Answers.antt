@@ -1,7 +1,7 @@
-use Rattle.std.proofs.Common.{◌≡◌, ◌∙◌, ℕ, subst, arith}
-use Rattle.offline.specs.Common.{inode_count_of, places_below, reads_then, recovered}
+use Rattle.std.proofs.Common.{◌∙◌, ℕ, subst, arith}
+use Rattle.offline.specs.Common.{places_below, reads_then, recovered}
 use Rattle.offline.specs.Clean.{Counts}
-use Rattle.offline.proofs.SortingLemmas.{count_read, some_numbers}
+use Rattle.offline.proofs.SortingLemmas.{numbers_end}
 use Rattle.offline.proofs.sorting.count_inodes.Goals as goal
 
 pub count_inode-requires-clause-counts : goal.count_inode-requires-clause-counts
@@ -21,9 +21,4 @@ loop-i-preserved g c =
 pub returns-clause-counted : goal.returns-clause-counted
 returns-clause-counted g c =
     let x = g.D.Disk.image c.args.disk.now in
-    let image = c.args.image.now in
-    let y = recovered x in
-    let some = some_numbers x image c.requires.recovered in
-    let count = count_read x image c.requires.recovered in
-    let end : c.loop-i.i ≡ inode_count_of y = omega (arith, some, count) in
-    subst (λ (n : ℕ). Counts c.loop-i.table y (places_below y n)) end c.loop-i.invariant.counts
+    subst (λ (n : ℕ). Counts c.loop-i.table (recovered x) (places_below (recovered x) n)) (numbers_end x c.args.image.now c.loop-i.i c.requires.recovered (λ some. omega (arith, some))) c.loop-i.invariant.counts

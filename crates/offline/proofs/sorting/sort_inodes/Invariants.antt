@@ -6,9 +6,8 @@ use Rattle.offline.proofs.sorting.sort_inodes.Given as goal
 
 abbrev pub invariant-loop-i : goal.invariant-loop-i
 invariant-loop-i g l =
-    let y = recovered (g.D.Disk.image l.fn.disk) in
     record {
       reads : OnlyReads g.D.Disk l.fn.disk l.disk;
       faults : g.D.Disk.fault_count l.disk ≡ g.D.Disk.fault_count l.fn.disk;
-      sorted : Sorts y (range_with_len 1 (l.i - 1)) l.sorted;
+      sorted : Sorts (recovered (g.D.Disk.image l.fn.disk)) (range_with_len 1 (l.i - 1)) l.sorted;
     }

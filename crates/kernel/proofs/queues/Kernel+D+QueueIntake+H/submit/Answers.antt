@@ -2,6 +2,7 @@ use Rattle.std.proofs.Common.{rules, arith, refl, ◌≡◌, ◌<◌, ⊎_elim, 
 use Rattle.kernel.specs.Common.{ghosts, process, State}
 use Rattle.ports.specs.Queues.{waiting}
 use Rattle.kernel.proofs.Openings.{where_ok, where_both, where_err}
+use Rattle.kernel.proofs.Around.{inv_around}
 use Rattle.kernel.proofs.Ports.{ports_stay}
 use Rattle.kernel.proofs.queues.Kernel+D+QueueIntake+H.submit.Goals as goal
 
@@ -9,12 +10,9 @@ pub invariant_of-self : goal.invariant_of-self
 invariant_of-self g c =
     let k = c.self.inside in
     let ports = c.self.invariant.ports in
-    record {
-      right = c.self.invariant.right;
-      since = c.self.invariant.since;
-      ports = ports_stay ghosts g.H.Herald k.intake c.submit.new.self k.herald k.herald k.store.volume.log.committed k.store.volume.log.committed k.processes k.processes ports c.submit.ensures.rest.processes refl refl
-          (λ p busy. c.submit.ensures.rest.room p (ports.room p busy)) c.submit.ensures.rest.fits ports.told;
-    }
+    inv_around g.D.Disk ghosts g.H.Herald _ _ _ _ _ _ _ c.self.invariant
+    (ports_stay ghosts g.H.Herald k.intake c.submit.new.self k.herald k.herald k.store.volume.log.committed k.store.volume.log.committed k.processes k.processes ports c.submit.ensures.rest.processes refl refl
+    (λ p busy. c.submit.ensures.rest.room p (ports.room p busy)) c.submit.ensures.rest.fits ports.told)
 
 pub returns-clause-number : goal.returns-clause-number
 returns-clause-number g c =

@@ -15,9 +15,7 @@ use Rattle.kernel.proofs.stepping.Kernel.commit.Goals as goal
 record Head {D N : Type 0} (disk : Ghosts D N) (s : StoreState D) (w : World) (p : ℕ) : Type 0 where
   well : s.volume.fault ≡ None
   within : p < length w.processes
-  group : ℕ
-  index : ℕ
-  stands : (process w p).at ≡ Phase.Committing group index
+  there : (group : ℕ) × (index : ℕ) × ((process w p).at ≡ Phase.Committing group index)
   busy : is_quiet s.volume.log.commit ≡ false
   answer : CanAnswer (last_answer w (process w p).at) (process w p).room
   joint : Joint (disk.image s.volume.device) s.volume.buffers s.volume.log
@@ -35,9 +33,7 @@ head g c =
     record {
       well = well;
       within = search rules;
-      group = there.0;
-      index = there.1;
-      stands = there.2;
+      there = there;
       busy = (where_none {T = HasFacts disk.image (disk.image k.opening.value) k.store k.processes} k.store.volume.fault well right.facts).alone.busy p commits;
       answer = answer_commits disk k.opening.value k.store k.processes p right well there.0 there.1 there.2 stands.1;
       joint = where_none k.store.volume.fault well c.known.ensures.volume;
@@ -60,7 +56,7 @@ since g c r z is made right =
     let h = head g (goal.at.After-known-2 g c).After-known in
     let done : Commits g.D.Disk k.store r c.commit_step-committed.new.self = subst (λ (q : Committed). Commits g.D.Disk k.store q c.commit_step-committed.new.self) is c.commit_step-committed.ensures.commits in
     since_step g.D.Disk g.I.Intake g.H.Herald c.args.pid _ _ _ c.self.invariant c.known.ensures.store c.known.ensures.survives h.within
-    (acts_written g.D.Disk g.I.Intake g.H.Herald c.args.pid k.store c.commit_step-committed.new.self k.opening.value k.intake k.herald k.processes z h.well h.group h.index k.intake k.herald r h.stands done made
+    (acts_written g.D.Disk g.I.Intake g.H.Herald c.args.pid k.store c.commit_step-committed.new.self k.opening.value k.intake k.herald k.processes z h.well h.there.0 h.there.1 k.intake k.herald r h.there.2 done made
     (sides_same g.I.Intake c.args.pid k.intake) refl (same_unasked g.H.Herald k.herald)) right c.known-2.ensures.survives
 
 pub invariant_of-self : goal.invariant_of-self
@@ -71,7 +67,7 @@ invariant_of-self g c =
     let now : t.volume.fault ≡ fault_of_step Committed.More = made.volume.fault in
     let holds = g.D.Disk.holding (g.D.Disk.name k.store.volume.device) in
     let makes = makes_of g.D.Disk k.store t Committed.More refl made in
-    let right = right_written g.D.Disk k.opening.value k.store k.processes c.self.invariant.right h.well c.args.pid h.within h.group h.index h.stands t Committed.More made g.met.D.Disk.has_now h.joint
+    let right = right_written g.D.Disk k.opening.value k.store k.processes c.self.invariant.right h.well c.args.pid h.within h.there.0 h.there.1 h.there.2 t Committed.More made g.met.D.Disk.has_now h.joint
     (agreed_now g.D.Disk.image t now c.known-2.ensures.volume c.known-2.ensures.store) now
     (ap (λ (m : LogState). is_quiet m.commit) makes.log ∙ goes_on holds l.commit l l.opened h.busy (λ done. let both = sym makes.answer ∙ done in absurd (cc both))) makes.faults in
     record {
@@ -88,7 +84,7 @@ invariant_of-self-in-Durable g c =
     let now : t.volume.fault ≡ fault_of_step (Committed.Durable c.in-Durable.group) = made.volume.fault in
     let holds = g.D.Disk.holding (g.D.Disk.name k.store.volume.device) in
     let makes = makes_of g.D.Disk k.store t (Committed.Durable c.in-Durable.group) refl made in
-    let right = right_written g.D.Disk k.opening.value k.store k.processes c.self.invariant.right h.well c.args.pid h.within h.group h.index h.stands t (Committed.Durable c.in-Durable.group) made g.met.D.Disk.has_now h.joint
+    let right = right_written g.D.Disk k.opening.value k.store k.processes c.self.invariant.right h.well c.args.pid h.within h.there.0 h.there.1 h.there.2 t (Committed.Durable c.in-Durable.group) made g.met.D.Disk.has_now h.joint
     (agreed_now g.D.Disk.image t now c.known-2.ensures.volume c.known-2.ensures.store) now
     (ap (λ (m : LogState). is_quiet m.commit) makes.log ∙ goes_on holds l.commit l l.opened h.busy (λ done. let both = sym makes.answer ∙ done in absurd (cc both))) makes.faults in
     record {
@@ -107,7 +103,7 @@ invariant_of-self-in-Done g c =
     let makes = makes_of g.D.Disk k.store t Committed.Done refl made in
     let same : t.volume.log.committed ≡ l.committed = (ap (λ (m : LogState). m.committed) makes.log ∙ same_committed holds l.commit l l.opened (λ n durable. let both = sym makes.answer ∙ durable in absurd (cc both))) in
     let right = subst (λ (w : World). IsRight g.D.Disk k.opening.value t w) (sym c.give.ensures.processes)
-    (right_done g.D.Disk k.opening.value k.store k.processes c.self.invariant.right h.well c.args.pid h.within h.group h.index h.stands t Committed.Done made g.met.D.Disk.has_now h.joint
+    (right_done g.D.Disk k.opening.value k.store k.processes c.self.invariant.right h.well c.args.pid h.within h.there.0 h.there.1 h.there.2 t Committed.Done made g.met.D.Disk.has_now h.joint
     (agreed_now g.D.Disk.image t now c.known-2.ensures.volume c.known-2.ensures.store) now
     (ap (λ (m : LogState). is_quiet m.commit) makes.log ∙ over_now holds l.commit l l.opened makes.answer) makes.faults) in
     record {
@@ -123,7 +119,7 @@ invariant_of-self-in-Fault g c =
     let t = c.commit_step-committed.new.self in let l = k.store.volume.log in
     let made : Commits g.D.Disk k.store (Committed.Fault c.in-Fault.field-0) t = subst (λ (r : Committed). Commits g.D.Disk k.store r t) c.in-Fault.is c.commit_step-committed.ensures.commits in
     let failed = commit_fails g.D.Disk k.store.volume.device k.store.volume.buffers l t.volume.device t.volume.buffers t.volume.log c.in-Fault.field-0 (Committed.Fault c.in-Fault.field-0) refl made.volume.write in
-    let right = right_unwritten g.D.Disk k.opening.value k.store k.processes c.self.invariant.right h.well c.args.pid h.within h.group h.index h.stands t (Committed.Fault c.in-Fault.field-0) made g.met.D.Disk.has_now h.joint c.known.ensures.store
+    let right = right_unwritten g.D.Disk k.opening.value k.store k.processes c.self.invariant.right h.well c.args.pid h.within h.there.0 h.there.1 h.there.2 t (Committed.Fault c.in-Fault.field-0) made g.met.D.Disk.has_now h.joint c.known.ensures.store
     c.in-Fault.field-0 refl (where_none k.store.volume.fault h.well c.known.ensures.survives) failed.1 failed.2 in
     record {
       right = right;
@@ -137,7 +133,7 @@ returns-in-More g c =
     let t = c.commit_step-committed.new.self in
     let made : Commits g.D.Disk k.store Committed.More t = subst (λ (r : Committed). Commits g.D.Disk k.store r t) c.in-More.is c.commit_step-committed.ensures.commits in
     subst (λ (o : State _ _ _). Acts g.D.Disk g.I.Intake g.H.Herald c.args.pid Step.Moved o (record { store = t; opening = k.opening.value; intake = k.intake; herald = k.herald; world = k.processes })) c.self.view_is
-    (acts_written g.D.Disk g.I.Intake g.H.Herald c.args.pid k.store t k.opening.value k.intake k.herald k.processes k.processes h.well h.group h.index k.intake k.herald Committed.More h.stands made refl (sides_same g.I.Intake c.args.pid k.intake) refl (same_unasked g.H.Herald k.herald))
+    (acts_written g.D.Disk g.I.Intake g.H.Herald c.args.pid k.store t k.opening.value k.intake k.herald k.processes k.processes h.well h.there.0 h.there.1 k.intake k.herald Committed.More h.there.2 made refl (sides_same g.I.Intake c.args.pid k.intake) refl (same_unasked g.H.Herald k.herald))
 
 pub returns-in-Durable : goal.returns-in-Durable
 returns-in-Durable g c =
@@ -145,7 +141,7 @@ returns-in-Durable g c =
     let t = c.commit_step-committed.new.self in
     let made : Commits g.D.Disk k.store (Committed.Durable c.in-Durable.group) t = subst (λ (r : Committed). Commits g.D.Disk k.store r t) c.in-Durable.is c.commit_step-committed.ensures.commits in
     subst (λ (o : State _ _ _). Acts g.D.Disk g.I.Intake g.H.Herald c.args.pid Step.Moved o (record { store = t; opening = k.opening.value; intake = k.intake; herald = c.durable.new.self; world = k.processes })) c.self.view_is
-    (acts_written g.D.Disk g.I.Intake g.H.Herald c.args.pid k.store t k.opening.value k.intake k.herald k.processes k.processes h.well h.group h.index k.intake c.durable.new.self (Committed.Durable c.in-Durable.group) h.stands made refl (sides_same g.I.Intake c.args.pid k.intake) refl (record { board = c.durable.ensures.board; told = c.durable.ensures.told; same = inr c.durable.ensures.hears }))
+    (acts_written g.D.Disk g.I.Intake g.H.Herald c.args.pid k.store t k.opening.value k.intake k.herald k.processes k.processes h.well h.there.0 h.there.1 k.intake c.durable.new.self (Committed.Durable c.in-Durable.group) h.there.2 made refl (sides_same g.I.Intake c.args.pid k.intake) refl (record { board = c.durable.ensures.board; told = c.durable.ensures.told; same = inr c.durable.ensures.hears }))
 
 pub returns-in-Done : goal.returns-in-Done
 returns-in-Done g c =
@@ -153,7 +149,7 @@ returns-in-Done g c =
     let t = c.commit_step-committed.new.self in
     let made : Commits g.D.Disk k.store Committed.Done t = subst (λ (r : Committed). Commits g.D.Disk k.store r t) c.in-Done.is c.commit_step-committed.ensures.commits in
     subst (λ (o : State _ _ _). Acts g.D.Disk g.I.Intake g.H.Herald c.args.pid Step.Answered o (record { store = t; opening = k.opening.value; intake = c.give.new.intake; herald = k.herald; world = c.give.new.processes })) c.self.view_is
-    (acts_written g.D.Disk g.I.Intake g.H.Herald c.args.pid k.store t k.opening.value k.intake k.herald k.processes c.give.new.processes h.well h.group h.index c.give.new.intake k.herald Committed.Done h.stands made c.give.ensures.processes c.give.ensures.gives.keeps c.give.ensures.gives.ahead (same_unasked g.H.Herald k.herald))
+    (acts_written g.D.Disk g.I.Intake g.H.Herald c.args.pid k.store t k.opening.value k.intake k.herald k.processes c.give.new.processes h.well h.there.0 h.there.1 c.give.new.intake k.herald Committed.Done h.there.2 made c.give.ensures.processes c.give.ensures.gives.keeps c.give.ensures.gives.ahead (same_unasked g.H.Herald k.herald))
 
 pub returns-in-Fault : goal.returns-in-Fault
 returns-in-Fault g c =
@@ -161,4 +157,4 @@ returns-in-Fault g c =
     let t = c.commit_step-committed.new.self in
     let made : Commits g.D.Disk k.store (Committed.Fault c.in-Fault.field-0) t = subst (λ (r : Committed). Commits g.D.Disk k.store r t) c.in-Fault.is c.commit_step-committed.ensures.commits in
     subst (λ (o : State _ _ _). Acts g.D.Disk g.I.Intake g.H.Herald c.args.pid Step.Halted o (record { store = t; opening = k.opening.value; intake = k.intake; herald = k.herald; world = k.processes })) c.self.view_is
-    (acts_written g.D.Disk g.I.Intake g.H.Herald c.args.pid k.store t k.opening.value k.intake k.herald k.processes k.processes h.well h.group h.index k.intake k.herald (Committed.Fault c.in-Fault.field-0) h.stands made refl (sides_same g.I.Intake c.args.pid k.intake) refl (same_unasked g.H.Herald k.herald))
+    (acts_written g.D.Disk g.I.Intake g.H.Herald c.args.pid k.store t k.opening.value k.intake k.herald k.processes k.processes h.well h.there.0 h.there.1 k.intake k.herald (Committed.Fault c.in-Fault.field-0) h.there.2 made refl (sides_same g.I.Intake c.args.pid k.intake) refl (same_unasked g.H.Herald k.herald))

@@ -14,9 +14,7 @@ use Rattle.kernel.proofs.stepping.Kernel.end.Goals as goal
 record Head {D : Type 0} (image : D → Image) (s : StoreState D) (w : World) (p : ℕ) : Type 0 where
   well : s.volume.fault ≡ None
   within : p < length w.processes
-  group : ℕ
-  index : ℕ
-  stands : (process w p).at ≡ Phase.Ending group index
+  there : (group : ℕ) × (index : ℕ) × ((process w p).at ≡ Phase.Ending group index)
   answer : CanAnswer (last_answer w (process w p).at) (process w p).room
   before : Joint (image s.volume.device) s.volume.buffers s.volume.log
   agreed : HasAgreed image (with_log s (ended s.volume.log p))
@@ -35,9 +33,7 @@ head g c =
     record {
       well = well;
       within = search rules;
-      group = there.0;
-      index = there.1;
-      stands = there.2;
+      there = there;
       answer = answer_ends disk k.opening.value k.store k.processes p c.self.invariant.right well ends;
       before = (agreed_now disk.image k.store well c.known.ensures.volume c.known.ensures.store).joint;
       agreed = subst (λ (o : StoreState _). HasAgreed disk.image o) is (agreed_now disk.image t (ap (λ (o : StoreState _). o.volume.fault) is ∙ well) c.known-2.ensures.volume c.known-2.ensures.store);
@@ -51,7 +47,7 @@ since g c z made right =
     let k = c.self.inside in
     let h = head g c in
     since_step g.D.Disk g.I.Intake g.H.Herald c.args.pid _ _ _ c.self.invariant c.known.ensures.store c.known.ensures.survives h.within
-    (acts_ended g.D.Disk g.I.Intake g.H.Herald c.args.pid k.store c.end-ended.new.self k.opening.value k.intake k.herald k.processes z h.well h.group h.index k.intake k.herald (step_of_end (end_answer k.store.volume.log)) h.stands
+    (acts_ended g.D.Disk g.I.Intake g.H.Herald c.args.pid k.store c.end-ended.new.self k.opening.value k.intake k.herald k.processes z h.well h.there.0 h.there.1 k.intake k.herald (step_of_end (end_answer k.store.volume.log)) h.there.2
     (record { answer = refl; store = c.end-ended.ensures.store; world = made }) (sides_same g.I.Intake c.args.pid k.intake) refl (same_unasked g.H.Herald k.herald)) right c.known-2.ensures.survives
 
 pub give-requires-clause-over : goal.give-requires-clause-over
@@ -70,13 +66,13 @@ invariant_of-self g c =
     let answer : end_answer k.store.volume.log ≡ Ended.Commit = sym c.end-ended.ensures.answer ∙ c.in-Commit.is in
     let right = subst (λ (o : StoreState _). IsRight g.D.Disk k.opening.value o c.commit.new.self) (sym is)
     (subst (λ (w : World). IsRight g.D.Disk k.opening.value s w) (sym c.commit.ensures)
-    (right_closed g.D.Disk k.opening.value k.store k.processes c.self.invariant.right h.well c.args.pid h.within h.group h.index h.stands h.agreed h.before h.keeps answer)) in
+    (right_closed g.D.Disk k.opening.value k.store k.processes c.self.invariant.right h.well c.args.pid h.within h.there.0 h.there.1 h.there.2 h.agreed h.before h.keeps answer)) in
     record {
       right = right;
       since = since g (goal.at.invariant_of-self g c).After-known-2 c.commit.new.self (c.commit.ensures ∙ ap (λ e. world_ended e k.processes c.args.pid) (sym answer)) right;
-      ports = ports_committing g.I.Intake g.H.Herald k.intake k.herald t.volume.log.committed k.processes c.commit.new.self c.args.pid h.group h.index
+      ports = ports_committing g.I.Intake g.H.Herald k.intake k.herald t.volume.log.committed k.processes c.commit.new.self c.args.pid h.there.0 h.there.1
           (ports_counted g.I.Intake g.H.Herald k.intake k.herald k.store.volume.log.committed t.volume.log.committed k.processes c.self.invariant.ports
-          (ap (λ (o : StoreState _). o.volume.log.committed) is ∙ closed_uncommitted k.store.volume.log c.args.pid answer)) h.within h.stands c.commit.ensures;
+          (ap (λ (o : StoreState _). o.volume.log.committed) is ∙ closed_uncommitted k.store.volume.log c.args.pid answer)) h.within h.there.2 c.commit.ensures;
     }
 
 pub invariant_of-self-in-Left : goal.invariant_of-self-in-Left
@@ -89,7 +85,7 @@ invariant_of-self-in-Left g c =
     let answer : end_answer k.store.volume.log ≡ Ended.Left = sym c.end-ended.ensures.answer ∙ c.in-Left.is in
     let right = subst (λ (o : StoreState _). IsRight g.D.Disk k.opening.value o c.give.new.processes) (sym is)
     (subst (λ (w : World). IsRight g.D.Disk k.opening.value s w) (sym c.give.ensures.processes)
-    (right_left g.D.Disk k.opening.value k.store k.processes c.self.invariant.right h.well c.args.pid h.within h.group h.index h.stands h.agreed h.before h.keeps answer)) in
+    (right_left g.D.Disk k.opening.value k.store k.processes c.self.invariant.right h.well c.args.pid h.within h.there.0 h.there.1 h.there.2 h.agreed h.before h.keeps answer)) in
     record {
       right = right;
       since = since g (goal.at.invariant_of-self-in-Left g c).After-known-2 c.give.new.processes (c.give.ensures.processes ∙ ap (λ e. world_ended e k.processes c.args.pid) (sym answer)) right;
@@ -104,7 +100,7 @@ returns-in-Commit g c =
     let t = c.end-ended.new.self in
     let answer : end_answer k.store.volume.log ≡ Ended.Commit = sym c.end-ended.ensures.answer ∙ c.in-Commit.is in
     subst (λ (o : State _ _ _). Acts g.D.Disk g.I.Intake g.H.Herald c.args.pid Step.Moved o (record { store = t; opening = k.opening.value; intake = k.intake; herald = k.herald; world = c.commit.new.self })) c.self.view_is
-    (acts_ended g.D.Disk g.I.Intake g.H.Herald c.args.pid k.store t k.opening.value k.intake k.herald k.processes c.commit.new.self h.well h.group h.index k.intake k.herald Step.Moved h.stands
+    (acts_ended g.D.Disk g.I.Intake g.H.Herald c.args.pid k.store t k.opening.value k.intake k.herald k.processes c.commit.new.self h.well h.there.0 h.there.1 k.intake k.herald Step.Moved h.there.2
     (record { answer = ap step_of_end (sym answer); store = c.end-ended.ensures.store; world = c.commit.ensures ∙ ap (λ e. world_ended e k.processes c.args.pid) (sym answer) }) (sides_same g.I.Intake c.args.pid k.intake) refl (same_unasked g.H.Herald k.herald))
 
 pub returns-in-Left : goal.returns-in-Left
@@ -114,5 +110,5 @@ returns-in-Left g c =
     let t = c.end-ended.new.self in
     let answer : end_answer k.store.volume.log ≡ Ended.Left = sym c.end-ended.ensures.answer ∙ c.in-Left.is in
     subst (λ (o : State _ _ _). Acts g.D.Disk g.I.Intake g.H.Herald c.args.pid Step.Answered o (record { store = t; opening = k.opening.value; intake = c.give.new.intake; herald = c.tell.new.herald; world = c.give.new.processes })) c.self.view_is
-    (acts_ended g.D.Disk g.I.Intake g.H.Herald c.args.pid k.store t k.opening.value k.intake k.herald k.processes c.give.new.processes h.well h.group h.index c.give.new.intake c.tell.new.herald Step.Answered h.stands
+    (acts_ended g.D.Disk g.I.Intake g.H.Herald c.args.pid k.store t k.opening.value k.intake k.herald k.processes c.give.new.processes h.well h.there.0 h.there.1 c.give.new.intake c.tell.new.herald Step.Answered h.there.2
     (record { answer = ap step_of_end (sym answer); store = c.end-ended.ensures.store; world = c.give.ensures.processes ∙ ap (λ e. world_ended e k.processes c.args.pid) (sym answer) }) c.give.ensures.gives.keeps c.give.ensures.gives.ahead c.tell.ensures.unasked)

@@ -1,7 +1,7 @@
 use Rattle.std.proofs.Common.{◌≡◌, ◌∙◌, ◌<◌, ◌≤◌, ℕ, List, length, ap, sym, subst, refl, arith}
 use Rattle.std.specs.Prelude.{IfOk}
 use Rattle.offline.specs.Common.{depths, LeadsAlong, reads_none, recovered}
-use Rattle.offline.proofs.CheckLemmas.{form_recovered}
+use Rattle.offline.specs.Lemmas.Checked.{form_recovered}
 use Rattle.offline.proofs.WayLemmas.{along_here, along_later, along_end, along_whole_inode, leads_here, leads_later}
 use Rattle.offline.proofs.recovered.Recovered.address.Goals as goal
 
@@ -12,7 +12,7 @@ loop-j-init g c =
       disk = refl;
       same = refl;
       leads = subst (λ (l : List ℕ). LeadsAlong (recovered x) c.args.k l c.args.inode.now.addrs)
-          (ap depths (form_recovered x c.args.self.now c.requires.recovered) ∙ sym c.depths-depths.ensures.value) c.requires.way.leads;
+          (ap depths (sym (form_recovered x c.args.self.now c.requires.recovered)) ∙ sym c.depths-depths.ensures.value) c.requires.way.leads;
     }
 
 pub address_under-requires-clause-leads : goal.address_under-requires-clause-leads
@@ -31,7 +31,7 @@ returns-then-rest-blocks-clause-ok g c =
     (sym (along_here (recovered x) c.loop-j.rest c.depths-depths.result inode.addrs c.loop-j.j
     (omega (arith, c.depths-depths.ensures.len)) (omega (arith, c.depths-depths.ensures.len, c.requires.way.count)) low)
     ∙ c.loop-j.invariant.same
-    ∙ along_whole_inode (recovered x) inode c.args.k c.args.self.now.form c.depths-depths.result (form_recovered x c.args.self.now c.requires.recovered) c.depths-depths.ensures.value)
+    ∙ along_whole_inode (recovered x) inode c.args.k c.args.self.now.form c.depths-depths.result (sym (form_recovered x c.args.self.now c.requires.recovered)) c.depths-depths.ensures.value)
     rw c.loop-j.invariant.disk at c.address_under.ensures.ok
 
 pub returns-then-rest-blocks-clause-reads : goal.returns-then-rest-blocks-clause-reads
@@ -61,7 +61,7 @@ returns-clause-ok g c =
     let inode = c.args.inode.now in
     sym (along_end (recovered x) c.loop-j.rest c.depths-depths.result _ c.loop-j.j (omega (arith, c.depths-depths.ensures.len)))
     ∙ c.loop-j.invariant.same
-    ∙ along_whole_inode (recovered x) inode c.args.k c.args.self.now.form c.depths-depths.result (form_recovered x c.args.self.now c.requires.recovered) c.depths-depths.ensures.value
+    ∙ along_whole_inode (recovered x) inode c.args.k c.args.self.now.form c.depths-depths.result (sym (form_recovered x c.args.self.now c.requires.recovered)) c.depths-depths.ensures.value
 
 pub returns-clause-reads : goal.returns-clause-reads
 returns-clause-reads g c = rw c.loop-j.invariant.disk (reads_none g.D.Disk c.args.disk.now)
