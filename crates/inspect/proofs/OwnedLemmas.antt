@@ -7,8 +7,8 @@ use Rattle.std.proofs.Math.Numerals.{sub-one}
 use Rattle.blocks.specs.Disk.{Image, block_at}
 use Rattle.model.specs.declared.types.image.Dinode.{Dinode}
 use Rattle.model.specs.Fields.{words_of}
-use Rattle.model.specs.Layout.{depths, form_of}
-use Rattle.model.specs.Places.{addresses_in, pointers_in}
+use Rattle.model.specs.Layout.{depths, form_of, inode_count_of}
+use Rattle.model.specs.Places.{addresses_in, numbers_of, pointers_in}
 use Rattle.model.specs.Names.{names_under, names_along, names_of}
 use Rattle.model.specs.Lemmas.Counts.{AllByRecursion-parts, flat_at}
 use Rattle.model.specs.Lemmas.Names.{pointers_named}
@@ -152,6 +152,10 @@ under_done y top words before pushed after left some deep read push all none =
 -- how many blocks an inode owns
 pub owned_count : (y : Image) (file : ℕ) (d : Dinode) → length (owned_in y file d) ≡ length (addresses_in (pointers_in y d))
 owned_count y file d = sym (length-map (owned_in y file d) (λ (o : Owned). o.block)) ∙ ap length (owned_blocks y file d ∙ sym (pointers_named y d))
+
+-- what was gathered of the numbers below i, and what the others add to it, is all
+abbrev pub IsGathering : {X : Type 0} → (Image → ℕ → List X) → Image → ℕ → List X → Type 0
+IsGathering at y i so_far = so_far ++ flat_map (at y) (range_with_len i (inode_count_of y - i)) ≡ flat_map (at y) (numbers_of y)
 
 -- one number of a range more
 pub range_step : {X : Type 0} (f : ℕ → List X) (i end : ℕ) → i < end →

@@ -27,4 +27,3 @@ pub header_read : (x : Image) (bytes : List ℕ) (header : Header) → verdict x
 header_read x bytes header sound read count homes few =
     let here = sym (get_or_from_slice_get x 2 bytes [] read) in
     record { count = count ∙ ap logged_in here; homes = homes ∙ ap homes_in here; few = few; lawful = (verdict_none x sound).1 }
-

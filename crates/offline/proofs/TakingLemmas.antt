@@ -27,8 +27,7 @@ module _ {T : Type 0} (takes : T → ℕ → List Pointer → T → Result (Unit
     where
       part : (left : List Pointer) × HasTaken takes i whole left old new
       part =
-          let inner = then.0.1.1 in
-          (
+          let inner = then.0.1.1 in (
             then.0.1.0 ++ next,
             record {
               front = had.front ++ inner.front;

@@ -53,7 +53,7 @@ pub none_past : (x : Image) (image : Recovered) (i : ℕ) → IsRecoveredOf x im
 none_past x image i is past = file_in-files_of_past (recovered x) i (omega (arith, count_recovered x image is, past))
 
 module _ (x : Image) (image : Recovered) (i : ℕ) (d : Dinode) (is : IsRecoveredOf x image) (some : i ≢ 0) (low : i < image.sup.ninodes) (here : d ≡ inode_of (recovered x) i) where
-  file_here : file_in (files_of (recovered x)) i ≡ file_of (recovered x) d
+  pub file_here : file_in (files_of (recovered x)) i ≡ file_of (recovered x) d
   file_here =
       file_in-files_of (recovered x) i (omega (arith, count_recovered x image is, low))
       ∙ rw (ne_eqb i 0 some) (ap (file_of (recovered x)) (sym here))

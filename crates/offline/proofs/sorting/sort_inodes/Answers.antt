@@ -8,15 +8,14 @@ use Rattle.offline.proofs.sorting.sort_inodes.Goals as goal
 
 pub loop-i-preserved : goal.loop-i-preserved
 loop-i-preserved g c =
-    let d = g.D.Disk in
     let i = c.loop-i.i in
-    let y = recovered (d.image c.args.disk.now) in
+    let y = recovered (g.D.Disk.image c.args.disk.now) in
     let before = c.loop-i.invariant in
     let inode = c.in_ok-inode.inode in
     let read : inode ≡ inode_of y i = subst (λ (x : Image). inode ≡ inode_of (recovered x) i) before.reads.image c.in_ok-inode.ensures.ok in
     let clean = subst (λ (x : Image). c.in_ok-is_clean.is_clean ≡ is_clean_inode (recovered x) i inode) (c.inode.ensures.reads.image ∙ before.reads.image) c.in_ok-is_clean.ensures.clean in
     record {
-      reads = reads_then d c.args.disk.now c.inode.new.disk c.is_clean.new.disk (reads_then d c.args.disk.now c.loop-i.disk c.inode.new.disk before.reads c.inode.ensures.reads) c.is_clean.ensures.reads;
+      reads = reads_then g.D.Disk c.args.disk.now c.inode.new.disk c.is_clean.new.disk (reads_then g.D.Disk c.args.disk.now c.loop-i.disk c.inode.new.disk before.reads c.inode.ensures.reads) c.is_clean.ensures.reads;
       faults = c.in_ok-is_clean.ensures.faults ∙ c.in_ok-inode.ensures.faults ∙ before.faults;
       sorted = sorts_next y i c.loop-i.sorted c.join.new.sorted (omega (arith, c.loop-i.auto.i)) before.sorted
           (subst (λ (e : Dinode). Joins i e.kind (is_clean_inode y i e) c.loop-i.sorted c.join.new.sorted) read

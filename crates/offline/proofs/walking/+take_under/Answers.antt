@@ -79,24 +79,19 @@ returns-in_err-take_under-clause-taken g t c =
 
 pub loop-k-preserved : goal.loop-k-preserved
 loop-k-preserved g t c =
-    let d = g.D.Disk in
-    let met = g.met.T.TakesPointers in
     let takes = g.T.TakesPointers.takes in
-    let y = recovered (d.image c.args.disk.now) in
-    let size = c.args.size in
+    let met = g.met.T.TakesPointers in
     let depth = c.args.branch.depth - 1 in
     let entries = c.read_all-addresses.result in
     let loop = c.loop-k in
-    let first = loop.first in
-    let entry = get_or entries loop.k 0 in
     let here = taken_whole takes c.args.i _ _ _ _ _ c.in_ok-take_under.ensures.taken in
-    let under = subst (λ (x : Image). takes loop.taker c.args.i (pointers_under (recovered x) size depth first entry) c.take_under.new.taker (Ok tt)) loop.invariant.reads.image here.0 in
+    let under = subst (λ (x : Image). takes loop.taker c.args.i (pointers_under (recovered x) c.args.size depth loop.first (get_or entries loop.k 0)) c.take_under.new.taker (Ok tt)) loop.invariant.reads.image here.0 in
     record {
-      reads = reads_then d c.args.disk.now loop.disk c.take_under.new.disk loop.invariant.reads c.take_under.ensures.reads;
+      reads = reads_then g.D.Disk c.args.disk.now loop.disk c.take_under.new.disk loop.invariant.reads c.take_under.ensures.reads;
       counts = here.1 ∙ loop.invariant.counts;
       early = omega (arith, c.requires.shallow, c.reach-step.ensures.smaller);
       taken = rw c.reach-step.ensures.value
-          (taken_next takes met.takes_more met.refuses_early c.args.i _ _ _ _ _ _ _ loop.invariant.taken (entry_more y size depth first entries loop.k (omega (arith, c.read_all-addresses.ensures.len))) under);
+          (taken_next takes met.takes_more met.refuses_early c.args.i _ _ _ _ _ _ _ loop.invariant.taken (entry_more _ c.args.size depth loop.first entries loop.k (omega (arith, c.read_all-addresses.ensures.len))) under);
     }
 
 pub returns-clause-taken : goal.returns-clause-taken

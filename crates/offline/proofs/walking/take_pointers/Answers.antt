@@ -23,7 +23,6 @@ returns-in_err-take_under-clause-taken g c =
 
 pub loop-k-preserved : goal.loop-k-preserved
 loop-k-preserved g c =
-    let d = g.D.Disk in
     let takes = g.T.TakesPointers.takes in
     let met = g.met.T.TakesPointers in
     let inode = c.args.inode.now in
@@ -32,7 +31,7 @@ loop-k-preserved g c =
     let here = taken_whole takes c.args.i _ _ _ _ _ c.in_ok-take_under.ensures.taken in
     let under = subst (λ (x : Image). takes loop.taker c.args.i (pointers_under (recovered x) inode.size (get_or depths loop.k 0) loop.first (get_or inode.addrs loop.k 0)) c.take_under.new.taker (Ok tt)) loop.invariant.reads.image here.0 in
     record {
-      reads = reads_then d c.args.disk.now loop.disk c.take_under.new.disk loop.invariant.reads c.take_under.ensures.reads;
+      reads = reads_then g.D.Disk c.args.disk.now loop.disk c.take_under.new.disk loop.invariant.reads c.take_under.ensures.reads;
       counts = here.1 ∙ loop.invariant.counts;
       early = omega (arith, c.reach-first.ensures.small);
       taken = rw c.reach-first.ensures.value
