@@ -85,7 +85,7 @@ bracket_from (Some column) f group right = bracket_text f group column right
 
 unfoldable pub piece_of : Frame → Under → Moment → List ℕ
 piece_of f u m =
-    if closes f m then bracket_from u.first f u.opened (column_x m.column + 72) else []
+    if closes f m then bracket_from u.first f u.opened (column_x m.column + 68) else []
 
 unfoldable pub last_bracket : Frame → Under → List ℕ
 last_bracket f u = bracket_from u.first f u.opened (sheet_width f)

@@ -11,3 +11,4 @@ pub mod Brackets
 pub mod FilesRow
 pub mod Page
 pub mod Timeline
+pub mod Recording

@@ -64,7 +64,7 @@ fn print_piece<O: Write>(
             frame,
             under.opened,
             first,
-            column_x(moment.column) + 72,
+            column_x(moment.column) + 68,
         ),
     }
 }

@@ -12,6 +12,7 @@ mod files;
 mod markups;
 mod page;
 mod places;
+mod recorder;
 mod replies;
 mod shapes;
 mod timeline;
@@ -19,6 +20,7 @@ mod titles;
 mod types;
 mod written;
 
+pub use recorder::{MOST_COLUMNS, Recorder};
 pub use replies::{Gist, gist_of};
 pub use timeline::print_timeline;
 pub use types::{FileLine, FilesThen, Frame, Moment};

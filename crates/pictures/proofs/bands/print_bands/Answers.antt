@@ -1,4 +1,4 @@
-use Rattle.std.proofs.Common.{◌≡◌, ◌∙◌, ap, refl, subst}
+use Rattle.std.proofs.Common.{◌∙◌}
 use Rattle.pictures.proofs.AlongLemmas.{left_more, pieces_more}
 use Rattle.pictures.specs.Bands.{first_kept, kept_after, piece_of}
 use Rattle.pictures.proofs.bands.print_bands.Goals as goal

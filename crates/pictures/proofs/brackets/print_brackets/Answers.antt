@@ -1,4 +1,4 @@
-use Rattle.std.proofs.Common.{◌≡◌, ◌∙◌, ap, refl, subst}
+use Rattle.std.proofs.Common.{◌∙◌}
 use Rattle.pictures.proofs.AlongLemmas.{left_more, pieces_more}
 use Rattle.pictures.specs.Brackets.{first_under, piece_of, under_after}
 use Rattle.pictures.proofs.brackets.print_brackets.Goals as goal
