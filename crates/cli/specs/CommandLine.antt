@@ -1,8 +1,7 @@
 -- The command line, as clap is told it.
-use Rattle.std.specs.Prelude.{◌≡◌, ◌⊎◌, ◌≤◌, ⊤, ℕ, List, [], Bool, IfOk, Option, Result, Some, None, true, false, codes, pos}
-use Rattle.clap.specs.Words.{App, HasKind, Kinds, Row, Rule, new_app, new_rule, app_of, fault_of, first_of, kind_of, one_of, subcommand_of, with_rule, with_subcommand}
-use Rattle.clap.specs.declared.error.Error.{Error}
-use Rattle.clap.specs.declared.error.kind.ErrorKind.TheVariants as kind
+use Rattle.std.specs.Prelude.{◌≡◌, ◌≤◌, ⊤, ℕ, List, IfOk, Result, Some, None, true, false, codes, pos}
+use Rattle.clap.specs.Words.{App, Row, Rule, new_app, new_rule, app_of, first_of, one_of, with_rule, with_subcommand}
+use Rattle.cli.specs.Asking.{HasChoice, HasFlag, Wording}
 use Rattle.cli.specs.declared.words.Request.{Request}
 use Rattle.cli.specs.declared.words.Request.TheVariants.{Mkfs, Check, Recover, Cat, Ls, Df, Show, Put, Copy, Rescue, Replay, Run, Stops}
 use Rattle.clap.specs.declared.builder.command.Command.{Command}
@@ -140,24 +139,9 @@ abbrev pub HasMore : {E : Type 0} → Command → Result Command E → Command �
 HasMore old more new = (app sub : App) → HasApp app old → IfOk more (HasApp sub)
     → HasApp (with_subcommand app sub.top) new
 
--- the kinds of mistake in these words, and of answers about the program; none where they make a
--- command
-abbrev pub mistakes_in : List (List ℕ) → Kinds
-mistakes_in words = fault_of xvfs_app words
-
 -- so many workers are asked for: from 1 to 32, and 1 where no number is given
 abbrev pub HasWorkers : List Row → ℕ → Type 0
 HasWorkers rows n = (1 ≤ n) × (n ≤ 32) × (one_of (codes "workers") rows ≡ None → n ≡ 1)
-
--- a word that may be given is there, or isn't
-pub record HasFlag (id : List ℕ) (rows : List Row) (given : Bool) : Type 0 where
-  pub set : one_of id rows ≡ Some (codes "true") → given ≡ true
-  pub unset : one_of id rows ≡ Some (codes "false") → given ≡ false
-  pub none : one_of id rows ≡ None → given ≡ false
-
--- a number that may be left out is there where its word is, and only there
-pub record HasChoice (id : List ℕ) (rows : List Row) (given : Option ℕ) : Type 0 where
-  pub none : one_of id rows ≡ None → given ≡ None
 
 -- a run that is asked for has from 1 to 32 workers
 abbrev pub HasFewWorkers : Request → Type 0
@@ -206,28 +190,6 @@ AsksBy name rows (Stops script schedule held) =
     (name ≡ codes "stops") × (first_of (codes "SCRIPT") rows ≡ Some script.now)
     × (first_of (codes "SCHEDULE") rows ≡ Some schedule.now) × HasFlag (codes "held") rows held
 
-abbrev pub Asks : Option (List ℕ × List Row) → Request → Type 0
-Asks None request = ⊥
-Asks (Some command) request = AsksBy command.0 command.1 request
-
--- a command has the word of this name that may be given, or hasn't
-abbrev pub Gives : List ℕ → Option (List ℕ × List Row) → Bool → Type 0
-Gives id None given = ⊥
-Gives id (Some command) given = HasFlag id command.1 given
-
--- the words ask for a command that waits while another program has the image, or doesn't
-abbrev pub AskToWait : List (List ℕ) → Bool → Type 0
-AskToWait words wait = Gives (codes "wait") (subcommand_of xvfs_app words) wait
-
--- the words ask for a command that says more of a refusal, or doesn't
-abbrev pub AskToExplain : List (List ℕ) → Bool → Type 0
-AskToExplain words explain = Gives (codes "explain") (subcommand_of xvfs_app words) explain
-
--- the words make a command, which asks for the request
-pub record AskFor (words : List (List ℕ)) (request : Request) : Type 0 where
-  pub right : mistakes_in words ≡ []
-  pub asks : Asks (subcommand_of xvfs_app words) request
-
--- the error is a mistake in the words, or that memory was refused
-abbrev pub IsMistakeIn : List (List ℕ) → Error → Type 0
-IsMistakeIn words e = HasKind (mistakes_in words) e ⊎ (kind_of e ≡ kind.MissingSubcommand)
+-- the words of `xvfs`
+abbrev pub xvfs_words : Wording Request
+xvfs_words = record { app = xvfs_app; asks_by = AsksBy }

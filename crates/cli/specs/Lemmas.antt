@@ -1,2 +1,3 @@
 -- What the proofs of the crates above use.
 pub mod Parses
+pub mod Workers

@@ -1,3 +1,4 @@
+pub mod Asking
 pub mod CommandLine
 pub mod Told
 pub mod Table

@@ -3,7 +3,7 @@ use Rattle.std.specs.Prelude.{◌≡◌, ◌≢◌, ◌⊎◌, ⊤, ℕ, List, c
 use Rattle.clap.specs.Words.{IsAmong}
 use Rattle.clap.specs.declared.error.kind.ErrorKind.{ErrorKind}
 use Rattle.clap.specs.declared.error.kind.ErrorKind.TheVariants.{DisplayHelp, DisplayVersion, MissingSubcommand, OutOfMemory}
-use Rattle.cli.specs.CommandLine.{mistakes_in}
+use Rattle.cli.specs.Asking.{Wording, mistakes_in}
 use Rattle.cli.specs.declared.explanation.Explanation.{Explanation}
 use Rattle.cli.specs.declared.explanation.Explanation.TheVariants.{Help, Mistake, NoMemory}
 
@@ -18,22 +18,22 @@ IsOfKind k (Mistake text) = (k ≢ OutOfMemory) × (¬ (IsHelp k))
 IsOfKind k NoMemory = ⊤
 
 -- the words ask for help or for the version
-pub record AskForHelp (words : List (List ℕ)) : Type 0 where
+pub record AskForHelp {Q : Type 0} (wording : Wording Q) (words : List (List ℕ)) : Type 0 where
   pub kind : ErrorKind
-  pub among : IsAmong kind (mistakes_in words)
+  pub among : IsAmong kind (mistakes_in wording words)
   pub help : IsHelp kind
 
 -- something is wrong with the words
-pub record AreMistaken (words : List (List ℕ)) : Type 0 where
+pub record AreMistaken {Q : Type 0} (wording : Wording Q) (words : List (List ℕ)) : Type 0 where
   pub kind : ErrorKind
-  pub among : IsAmong kind (mistakes_in words) ⊎ (kind ≡ MissingSubcommand)
+  pub among : IsAmong kind (mistakes_in wording words) ⊎ (kind ≡ MissingSubcommand)
   pub wrong : ¬ (IsHelp kind)
 
 -- the words ask for no command, or memory was refused, and this is told of them
-abbrev pub IsToldOf : List (List ℕ) → Explanation → Type 0
-IsToldOf words (Help text) = AskForHelp words
-IsToldOf words (Mistake text) = AreMistaken words
-IsToldOf words NoMemory = ⊤
+abbrev pub IsToldOf : {Q : Type 0} → Wording Q → List (List ℕ) → Explanation → Type 0
+IsToldOf wording words (Help text) = AskForHelp wording words
+IsToldOf wording words (Mistake text) = AreMistaken wording words
+IsToldOf wording words NoMemory = ⊤
 
 -- what is printed of it; the text of help or of a mistake is clap's
 abbrev pub explanation_text : Explanation → List ℕ

@@ -1,16 +1,17 @@
 //! Reads the words of a command line: which command they ask for, or what is told in its place.
 //!
-//! How words are read is clap's definition, at this program's command line. What `parse` answers has
-//! no type of clap's. Another program tells clap of its own commands by `program_of`, and what is told
-//! of its words by `Explanation`.
+//! How words are read is clap's definition, at the command line of a program, which it tells by what its
+//! words may ask for (`ByWords`): `Request` is that of `xvfs`. What `parse` answers has no type of
+//! clap's.
 #![tactic(auto)]
 
 pub mod arguments;
+mod asking;
 mod explanation;
 mod program;
 pub mod table;
 mod words;
 
+pub use asking::{Asked, ByWords, parse};
 pub use explanation::Explanation;
-pub use program::program_of;
-pub use words::{Asked, Request, parse};
+pub use words::Request;

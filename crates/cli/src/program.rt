@@ -1,26 +1,19 @@
 // A program's command line, told to clap by the table of its commands.
 ghost use Rattle.std.specs.Prelude.{◌≡◌, false, IfOk};
 ghost use Rattle.clap.specs.Words.{App, rule_of};
-ghost use Rattle.cli.specs.CommandLine.{HasApp, HasMore, bare_app, named_app, xvfs_app};
+ghost use Rattle.cli.specs.CommandLine.{HasApp, HasMore, named_app};
 ghost use Rattle.cli.specs.Table.{line_app, outline_app, valued_rule, with_lines, word_rule};
 
-use crate::table::{Kind, Line, Outline, Word, XVFS};
+use crate::table::{Kind, Line, Outline, Word};
 use clap::{Arg, ArgAction, Command, value_parser};
 use std::alloc::{AllocError, Global};
-
-// `xvfs`, with its commands.
-pub(crate) fn program<'a>(alloc: Global) -> Result<Command<'a>, AllocError>
-    ensures { IfOk result (HasApp xvfs_app) }
-{
-    program_of(alloc, XVFS)
-}
 
 /// A program, with its commands.
 ///
 /// # Errors
 ///
 /// `AllocError` where memory is refused.
-pub fn program_of<'a>(alloc: Global, outline: Outline) -> Result<Command<'a>, AllocError>
+pub(crate) fn program_of<'a>(alloc: Global, outline: Outline) -> Result<Command<'a>, AllocError>
     ensures { IfOk result (HasApp (outline_app outline)) }
 {
     with_commands(alloc, bare_program(alloc, outline)?, outline.lines)

@@ -1,40 +1,15 @@
-// What the words of a command line ask for.
-ghost use Rattle.std.specs.Prelude.{codes, map, IfErr, IfOk, IfSome};
-ghost use Rattle.clap.specs.Words.{found_of, rows_of, subcommand_rows_of};
-ghost use Rattle.cli.specs.CommandLine.{
-  AskFor,
-  AskToExplain,
-  AskToWait,
-  Asks,
-  AsksBy,
-  Gives,
-  HasApp,
-  HasFewWorkers,
-  HasWorkers,
-  IsMistakeIn,
-  xvfs_app,
-};
-ghost use Rattle.cli.specs.Told.{IsToldOf};
+// What the words of a command line ask `xvfs` for.
+ghost use Rattle.std.specs.Prelude.{◌≡◌, true, codes, IfSome};
+ghost use Rattle.clap.specs.Words.{found_of, is_simple_and_free, rows_of};
+ghost use Rattle.cli.specs.CommandLine.{AsksBy, HasWorkers, xvfs_app, xvfs_words};
+ghost use Rattle.cli.specs.Table.{outline_app};
 
-use crate::explanation::Explanation;
-use crate::program::program;
-use clap::error::ErrorKind;
-use clap::{ArgMatches, Command, Error};
-use std::alloc::Global;
-use std::convert::AsStr;
+use crate::asking::ByWords;
+use crate::table::{Outline, XVFS};
+use clap::ArgMatches;
+use std::alloc::{AllocError, Global};
 
-/// What the words of a command line ask for, and how.
-#[derive(Clone, Copy)]
-pub struct Asked<'a> {
-    /// What they ask for.
-    pub request: Request<'a>,
-    /// Whether it waits while another program has the image.
-    pub wait: bool,
-    /// Whether more is said of a refusal.
-    pub explain: bool,
-}
-
-/// What the words of a command line ask for.
+/// What the words of a command line ask `xvfs` for.
 #[derive(Clone, Copy)]
 pub enum Request<'a> {
     /// A new image.
@@ -160,78 +135,29 @@ pub enum Request<'a> {
     },
 }
 
-/// What these words, without the program's name, ask for.
-///
-/// # Errors
-///
-/// What is told in its place: a mistake in the words, the text of help or of the version, or that
-/// memory was refused. How words are read is clap's definition, at this program's command line.
-pub fn parse<'a, S: AsStr>(alloc: Global, words: &'a [S]) -> Result<Asked<'a>, Explanation>
-    ensures ok { IfOk result (λ asked. AskFor (map S.text words.entry.now) asked.request) }
-    ensures wait { IfOk result (λ asked. AskToWait (map S.text words.entry.now) asked.wait) }
-    ensures explain { IfOk result
-        (λ asked. AskToExplain (map S.text words.entry.now) asked.explain) }
-    ensures workers { IfOk result (λ asked. HasFewWorkers asked.request) }
-    ensures err { IfErr result (IsToldOf (map S.text words.entry.now)) }
-{
-    match read(alloc, words) {
-        Ok(asked) => Ok(asked),
-        Err(error) => Err(Explanation::of(alloc, error)),
+impl<'a> ByWords<'a> for Request<'a> {
+    ghost wording = { xvfs_words };
+
+    fn outline() -> Outline
+        ensures shape { outline_app result ≡ xvfs_app }
+        ensures free { is_simple_and_free xvfs_app ≡ true }
+    {
+        XVFS
+    }
+
+    fn read(
+        _alloc: Global,
+        name: &str,
+        values: &ArgMatches<'a>,
+    ) -> Result<Option<Request<'a>>, AllocError> {
+        Ok(request_of(name, values))
     }
 }
 
-// What the words ask for, or clap's error.
-fn read<'a, S: AsStr>(alloc: Global, words: &'a [S]) -> Result<Asked<'a>, Error>
-    ensures ok { IfOk result (λ asked. AskFor (map S.text words.entry.now) asked.request) }
-    ensures wait { IfOk result (λ asked. AskToWait (map S.text words.entry.now) asked.wait) }
-    ensures explain { IfOk result
-        (λ asked. AskToExplain (map S.text words.entry.now) asked.explain) }
-    ensures err { IfErr result (IsMistakeIn (map S.text words.entry.now)) }
+// What a command of this name asks for, if none of its words is missing.
+fn request_of<'a>(name: &str, values: &ArgMatches<'a>) -> Option<Request<'a>>
+    ensures { IfSome result (AsksBy name.now (rows_of (found_of values.now))) }
 {
-    let mut program = program(alloc)?;
-    read_by(&mut program, words)
-}
-
-// What the words ask this program for, or clap's error.
-fn read_by<'a, S: AsStr>(program: &mut Command<'a>, words: &'a [S]) -> Result<Asked<'a>, Error>
-    requires { HasApp xvfs_app program.old }
-    ensures ok { IfOk result (λ asked. AskFor (map S.text words.entry.now) asked.request) }
-    ensures wait { IfOk result (λ asked. AskToWait (map S.text words.entry.now) asked.wait) }
-    ensures explain { IfOk result
-        (λ asked. AskToExplain (map S.text words.entry.now) asked.explain) }
-    ensures err { IfErr result (IsMistakeIn (map S.text words.entry.now)) }
-{
-    let matches = program.try_get_matches_from_mut(words)?;
-    match asked_of(&matches) {
-        Some(asked) => Ok(asked),
-        None => Err(program.error(ErrorKind::MissingSubcommand, "a word is missing")?),
-    }
-}
-
-// What the words ask for, and how, if none of them is missing.
-fn asked_of<'a>(matches: &ArgMatches<'a>) -> Option<Asked<'a>>
-    ensures asks { IfSome result (λ asked. Asks (subcommand_rows_of matches.now) asked.request) }
-    ensures waits { IfSome result
-        (λ asked. Gives (codes "wait") (subcommand_rows_of matches.now) asked.wait) }
-    ensures explains { IfSome result
-        (λ asked. Gives (codes "explain") (subcommand_rows_of matches.now) asked.explain) }
-{
-    let request = request_of(matches)?;
-    let (_name, values) = matches.subcommand()?;
-    let wait = values.get_flag("wait");
-    let explain = values.get_flag("explain");
-    Some(Asked {
-        request,
-        wait,
-        explain,
-    })
-}
-
-// What the words ask for, if none of them is missing.
-fn request_of<'a>(matches: &ArgMatches<'a>) -> Option<Request<'a>>
-    ensures { IfSome result (Asks (subcommand_rows_of matches.now)) }
-{
-    let (name, values) = matches.subcommand()?;
     match name {
         "stops" => stops_request(values),
         "copy" => copy_request(values),

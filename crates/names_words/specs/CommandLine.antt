@@ -1,14 +1,9 @@
 -- The command line of `xvnames`, as clap is told it, and what words ask for by it.
-use Rattle.std.specs.Prelude.{◌≡◌, ◌⊎◌, ⊤, ℕ, List, [], Bool, Option, Some, None, true, codes, map, unwrap_or}
-use Rattle.clap.specs.Words.{App, HasKind, IsAmong, Kinds, Row, all_of, fault_of, first_of, kind_of, new_rule, subcommand_of, with_rule, with_subcommand}
+use Rattle.std.specs.Prelude.{◌≡◌, ℕ, List, [], Bool, Some, codes, map, unwrap_or}
+use Rattle.clap.specs.Words.{App, Row, all_of, first_of, new_rule, with_rule, with_subcommand}
 use Rattle.clap.specs.declared.builder.action.ArgAction.TheVariants.{Append, SetTrue}
-use Rattle.clap.specs.declared.error.Error.{Error}
-use Rattle.clap.specs.declared.error.kind.ErrorKind.{ErrorKind}
-use Rattle.clap.specs.declared.error.kind.ErrorKind.TheVariants as error_kind
-use Rattle.cli.specs.CommandLine.{Gives, HasFlag, flag_rule, image_app, named_app, number_rule, required_rule}
-use Rattle.cli.specs.Told.{IsHelp}
-use Rattle.cli.specs.declared.explanation.Explanation.{Explanation}
-use Rattle.cli.specs.declared.explanation.Explanation.TheVariants.{Help, Mistake, NoMemory}
+use Rattle.cli.specs.Asking.{HasFlag, Wording}
+use Rattle.cli.specs.CommandLine.{flag_rule, image_app, named_app, number_rule, required_rule}
 use Rattle.names_words.specs.declared.words.Request.{Request}
 use Rattle.names_words.specs.declared.words.Request.TheVariants.{Ls, Tree, Cat, Get, Put, Rm, Mv, Mkdir, Rmdir, Mkfs}
 
@@ -54,11 +49,6 @@ xvnames_app =
     (changing (path_app (codes "mkdir"))).top) (changing (path_app (codes "rmdir"))).top)
     mkfs_app.top
 
--- the kinds of mistake in these words, and of answers about the program; none where they make a
--- command
-abbrev pub mistakes_in : List (List ℕ) → Kinds
-mistakes_in words = fault_of xvnames_app words
-
 -- a word has that value
 abbrev pub HasWord : List ℕ → List Row → List ℕ → Type 0
 HasWord id rows value = first_of id rows ≡ Some value
@@ -72,6 +62,10 @@ pub record Changes (rows : List Row) (image : List ℕ) (sync no_sync : Bool) : 
   pub image_is : HasWord (codes "IMAGE") rows image
   pub syncs : HasFlag (codes "sync") rows sync
   pub leaves_out : HasFlag (codes "no-sync") rows no_sync
+
+-- the words of values that are called FILE
+abbrev pub files_in : List Row → List (List ℕ)
+files_in rows = unwrap_or (all_of (codes "FILE") rows) []
 
 -- a command of this name, with these values, asks for the request
 abbrev pub AsksBy : List ℕ → List Row → Request → Type 0
@@ -96,57 +90,10 @@ AsksBy name rows (Mkdir image path sync no_sync) = (name ≡ codes "mkdir")
     × Changes rows image.now sync no_sync × HasWord (codes "PATH") rows path.now
 AsksBy name rows (Rmdir image path sync no_sync) = (name ≡ codes "rmdir")
     × Changes rows image.now sync no_sync × HasWord (codes "PATH") rows path.now
-AsksBy name rows (Mkfs image size ninodes no_sync) = (name ≡ codes "mkfs")
-    × HasWord (codes "IMAGE") rows image.now × HasFlag (codes "no-sync") rows no_sync
+AsksBy name rows (Mkfs image size ninodes files no_sync) = (name ≡ codes "mkfs")
+    × HasWord (codes "IMAGE") rows image.now × (map (λ file. file.now) files.items ≡ files_in rows)
+    × HasFlag (codes "no-sync") rows no_sync
 
-abbrev pub Asks : Request → Option (List ℕ × List Row) → Type 0
-Asks request None = ⊥
-Asks request (Some command) = AsksBy command.0 command.1 request
-
--- the words make a command, which asks for the request
-pub record AskFor (words : List (List ℕ)) (request : Request) : Type 0 where
-  pub right : mistakes_in words ≡ []
-  pub asks : Asks request (subcommand_of xvnames_app words)
-
--- the words ask for a command that waits while another program has the image, or doesn't
-abbrev pub AskToWait : List (List ℕ) → Bool → Type 0
-AskToWait words wait = Gives (codes "wait") (subcommand_of xvnames_app words) wait
-
--- the words ask for a command that says more of a refusal, or doesn't
-abbrev pub AskToExplain : List (List ℕ) → Bool → Type 0
-AskToExplain words explain = Gives (codes "explain") (subcommand_of xvnames_app words) explain
-
--- the words of values that are called FILE
-abbrev pub files_in : List Row → List (List ℕ)
-files_in rows = unwrap_or (all_of (codes "FILE") rows) []
-
--- the command that was met has these files; where none was met there are none
-abbrev pub HasFiles : Option (List ℕ × List Row) → List (List ℕ) → Type 0
-HasFiles None files = files ≡ []
-HasFiles (Some command) files = files ≡ files_in command.1
-
--- the words give these files
-abbrev pub AskForFiles : List (List ℕ) → List (List ℕ) → Type 0
-AskForFiles words files = HasFiles (subcommand_of xvnames_app words) files
-
--- the error is a mistake in the words, or that memory was refused
-abbrev pub IsMistakeIn : List (List ℕ) → Error → Type 0
-IsMistakeIn words e = HasKind (mistakes_in words) e ⊎ (kind_of e ≡ error_kind.MissingSubcommand)
-
--- the words ask for help or for the version
-pub record AskForHelp (words : List (List ℕ)) : Type 0 where
-  pub kind : ErrorKind
-  pub among : IsAmong kind (mistakes_in words)
-  pub help : IsHelp kind
-
--- something is wrong with the words
-pub record AreMistaken (words : List (List ℕ)) : Type 0 where
-  pub kind : ErrorKind
-  pub among : IsAmong kind (mistakes_in words) ⊎ (kind ≡ error_kind.MissingSubcommand)
-  pub wrong : ¬ (IsHelp kind)
-
--- the words ask for no command, or memory was refused, and this is told of them
-abbrev pub IsToldOf : List (List ℕ) → Explanation → Type 0
-IsToldOf words (Help text) = AskForHelp words
-IsToldOf words (Mistake text) = AreMistaken words
-IsToldOf words NoMemory = ⊤
+-- the words of `xvnames`
+abbrev pub xvnames_words : Wording Request
+xvnames_words = record { app = xvnames_app; asks_by = AsksBy }

@@ -1,10 +1,7 @@
-//! Reads the words of a command line of `xvnames`: which command they ask for, or what is told in its
-//! place.
-//!
-//! How words are read is clap's definition, at this program's command line.
+//! What the words of a command line ask `xvnames` for, by `cli::parse`.
 #![tactic(auto)]
 
 mod table;
 mod words;
 
-pub use words::{Asked, Request, parse};
+pub use words::Request;

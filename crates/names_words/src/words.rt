@@ -1,43 +1,17 @@
-// What the words of a command line ask for.
-ghost use Rattle.std.specs.Prelude.{◌≡◌, codes, map, IfErr, IfOk, IfSome};
-ghost use Rattle.clap.specs.Words.{found_of, rows_of, subcommand_rows_of};
-ghost use Rattle.cli.specs.CommandLine.{Gives, HasApp};
-ghost use Rattle.names_words.specs.CommandLine.{
-  AskFor,
-  AskForFiles,
-  AskToExplain,
-  AskToWait,
-  Asks,
-  AsksBy,
-  HasFiles,
-  IsMistakeIn,
-  IsToldOf,
-  files_in,
-  xvnames_app,
-};
+// What the words of a command line ask `xvnames` for.
+ghost use Rattle.std.specs.Prelude.{◌≡◌, true, codes, map, IfOk, IfSome};
+ghost use Rattle.clap.specs.Words.{found_of, is_simple_and_free, rows_of};
+ghost use Rattle.cli.specs.Table.{outline_app};
+ghost use Rattle.names_words.specs.CommandLine.{AsksBy, files_in, xvnames_app, xvnames_words};
 
 use crate::table::XVNAMES;
-use clap::error::ErrorKind;
-use clap::{ArgMatches, Command, Error};
-use cli::{Explanation, program_of};
+use clap::ArgMatches;
+use cli::ByWords;
+use cli::table::Outline;
 use std::alloc::{AllocError, Global};
-use std::convert::AsStr;
 
-/// What the words of a command line ask for, and how.
+/// What the words of a command line ask `xvnames` for.
 #[derive(Drop)]
-pub struct Asked<'a> {
-    /// What they ask for.
-    pub request: Request<'a>,
-    /// The files that an image is made with.
-    pub files: Vec<&'a str>,
-    /// Whether it waits while another program has the image.
-    pub wait: bool,
-    /// Whether more is said of a refusal.
-    pub explain: bool,
-}
-
-/// What the words of a command line ask for.
-#[derive(Clone, Copy)]
 pub enum Request<'a> {
     /// The entries of a directory.
     Ls {
@@ -138,127 +112,61 @@ pub enum Request<'a> {
         size: u32,
         /// Its inode numbers, the unused number 0 included.
         ninodes: u32,
+        /// The paths of the files that it is made with.
+        files: Vec<&'a str>,
         /// Whether the sync at the end is left out.
         no_sync: bool,
     },
 }
 
-/// What these words, without the program's name, ask for.
-///
-/// # Errors
-///
-/// What is told in its place: a mistake in the words, the text of help or of the version, or that
-/// memory was refused. How words are read is clap's definition, at this program's command line.
-pub fn parse<'a, S: AsStr>(alloc: Global, words: &'a [S]) -> Result<Asked<'a>, Explanation>
-    ensures ok { IfOk result (λ asked. AskFor (map S.text words.entry.now) asked.request) }
-    ensures wait { IfOk result (λ asked. AskToWait (map S.text words.entry.now) asked.wait) }
-    ensures explain { IfOk result
-        (λ asked. AskToExplain (map S.text words.entry.now) asked.explain) }
-    ensures files { IfOk result (λ asked. AskForFiles (map S.text words.entry.now)
-        (map (λ file. file.now) asked.files.items)) }
-    ensures err { IfErr result (IsToldOf (map S.text words.entry.now)) }
-{
-    match read(alloc, words) {
-        Ok(asked) => Ok(asked),
-        Err(error) => Err(Explanation::of(alloc, error)),
+impl<'a> ByWords<'a> for Request<'a> {
+    ghost wording = { xvnames_words };
+
+    fn outline() -> Outline
+        ensures shape { outline_app result ≡ xvnames_app }
+        ensures free { is_simple_and_free xvnames_app ≡ true }
+    {
+        XVNAMES
+    }
+
+    fn read(
+        alloc: Global,
+        name: &str,
+        values: &ArgMatches<'a>,
+    ) -> Result<Option<Request<'a>>, AllocError> {
+        match name {
+            "mkfs" => mkfs_request(alloc, values),
+            _ => Ok(request_of(name, values)),
+        }
     }
 }
 
-// What the words ask for, or clap's error.
-fn read<'a, S: AsStr>(alloc: Global, words: &'a [S]) -> Result<Asked<'a>, Error>
-    ensures ok { IfOk result (λ asked. AskFor (map S.text words.entry.now) asked.request) }
-    ensures wait { IfOk result (λ asked. AskToWait (map S.text words.entry.now) asked.wait) }
-    ensures explain { IfOk result
-        (λ asked. AskToExplain (map S.text words.entry.now) asked.explain) }
-    ensures files { IfOk result (λ asked. AskForFiles (map S.text words.entry.now)
-        (map (λ file. file.now) asked.files.items)) }
-    ensures err { IfErr result (IsMistakeIn (map S.text words.entry.now)) }
-{
-    let mut program = program_of(alloc, XVNAMES)?;
-    read_by(alloc, &mut program, words)
-}
-
-// What the words ask this program for, or clap's error.
-fn read_by<'a, S: AsStr>(
+fn mkfs_request<'a>(
     alloc: Global,
-    program: &mut Command<'a>,
-    words: &'a [S],
-) -> Result<Asked<'a>, Error>
-    requires { HasApp xvnames_app program.old }
-    ensures ok { IfOk result (λ asked. AskFor (map S.text words.entry.now) asked.request) }
-    ensures wait { IfOk result (λ asked. AskToWait (map S.text words.entry.now) asked.wait) }
-    ensures explain { IfOk result
-        (λ asked. AskToExplain (map S.text words.entry.now) asked.explain) }
-    ensures files { IfOk result (λ asked. AskForFiles (map S.text words.entry.now)
-        (map (λ file. file.now) asked.files.items)) }
-    ensures err { IfErr result (IsMistakeIn (map S.text words.entry.now)) }
+    values: &ArgMatches<'a>,
+) -> Result<Option<Request<'a>>, AllocError>
+    ensures { IfOk result
+        (λ read. IfSome read (AsksBy (codes "mkfs") (rows_of (found_of values.now)))) }
 {
-    let matches = program.try_get_matches_from_mut(words)?;
-    match how_asked(&matches) {
-        Some(how) => Ok(with_files(alloc, &matches, how)?),
-        None => Err(program.error(ErrorKind::MissingSubcommand, "a word is missing")?),
-    }
+    let files = files_in(alloc, values)?;
+    Ok(made_with(files, values))
 }
 
-// What the words ask for, and how, but for files.
-#[derive(Clone, Copy)]
-struct How<'a> {
-    request: Request<'a>,
-    wait: bool,
-    explain: bool,
-}
-
-// What the words ask for, and how, if none of them is missing.
-fn how_asked<'a>(matches: &ArgMatches<'a>) -> Option<How<'a>>
-    ensures asks { IfSome result (λ how. Asks how.request (subcommand_rows_of matches.now)) }
-    ensures waits { IfSome result
-        (λ how. Gives (codes "wait") (subcommand_rows_of matches.now) how.wait) }
-    ensures explains { IfSome result
-        (λ how. Gives (codes "explain") (subcommand_rows_of matches.now) how.explain) }
+// An image that is made with these files.
+fn made_with<'a>(files: Vec<&'a str>, values: &ArgMatches<'a>) -> Option<Request<'a>>
+    requires { map (λ file. file.now) files.items ≡ files_in (rows_of (found_of values.now)) }
+    ensures { IfSome result (AsksBy (codes "mkfs") (rows_of (found_of values.now))) }
 {
-    let request = request_of(matches)?;
-    let (_name, values) = matches.subcommand()?;
-    let wait = values.get_flag("wait");
-    let explain = values.get_flag("explain");
-    Some(How {
-        request,
-        wait,
-        explain,
-    })
-}
-
-// The same with the files that are given.
-fn with_files<'a>(
-    alloc: Global,
-    matches: &ArgMatches<'a>,
-    how: How<'a>,
-) -> Result<Asked<'a>, AllocError>
-    ensures request { IfOk result (λ asked. asked.request ≡ how.entry.request) }
-    ensures wait { IfOk result (λ asked. asked.wait ≡ how.entry.wait) }
-    ensures explain { IfOk result (λ asked. asked.explain ≡ how.entry.explain) }
-    ensures files { IfOk result (λ asked. HasFiles (subcommand_rows_of matches.now)
-        (map (λ file. file.now) asked.files.items)) }
-{
-    let files = files_of(alloc, matches)?;
-    Ok(Asked {
-        request: how.request,
+    Some(Request::Mkfs {
+        image: values.get_str("IMAGE")?,
+        size: values.get_one("SIZE")?,
+        ninodes: values.get_one("NINODES")?,
         files,
-        wait: how.wait,
-        explain: how.explain,
+        no_sync: values.get_flag("no-sync"),
     })
 }
 
 // The files that are given.
-fn files_of<'a>(alloc: Global, matches: &ArgMatches<'a>) -> Result<Vec<&'a str>, AllocError>
-    ensures { IfOk result (λ files. HasFiles (subcommand_rows_of matches.now)
-        (map (λ file. file.now) files.items)) }
-{
-    match matches.subcommand() {
-        Some((_name, values)) => files_in(alloc, values),
-        None => Ok(Vec::new(alloc)),
-    }
-}
-
 fn files_in<'a>(alloc: Global, values: &ArgMatches<'a>) -> Result<Vec<&'a str>, AllocError>
     ensures { IfOk result (λ files. map (λ file. file.now) files.items
         ≡ files_in (rows_of (found_of values.now))) }
@@ -269,13 +177,11 @@ fn files_in<'a>(alloc: Global, values: &ArgMatches<'a>) -> Result<Vec<&'a str>, 
     }
 }
 
-// What the words ask for, if none of them is missing.
-fn request_of<'a>(matches: &ArgMatches<'a>) -> Option<Request<'a>>
-    ensures { IfSome result (λ request. Asks request (subcommand_rows_of matches.now)) }
+// What another command of this name asks for, if none of its words is missing.
+fn request_of<'a>(name: &str, values: &ArgMatches<'a>) -> Option<Request<'a>>
+    ensures { IfSome result (AsksBy name.now (rows_of (found_of values.now))) }
 {
-    let (name, values) = matches.subcommand()?;
     match name {
-        "mkfs" => mkfs_request(values),
         "put" => put_request(values),
         "get" => get_request(values),
         "mv" => mv_request(values),
@@ -283,17 +189,6 @@ fn request_of<'a>(matches: &ArgMatches<'a>) -> Option<Request<'a>>
         "cat" => cat_request(values),
         _ => look_request(name, values),
     }
-}
-
-fn mkfs_request<'a>(values: &ArgMatches<'a>) -> Option<Request<'a>>
-    ensures { IfSome result (AsksBy (codes "mkfs") (rows_of (found_of values.now))) }
-{
-    Some(Request::Mkfs {
-        image: values.get_str("IMAGE")?,
-        size: values.get_one("SIZE")?,
-        ninodes: values.get_one("NINODES")?,
-        no_sync: values.get_flag("no-sync"),
-    })
 }
 
 fn put_request<'a>(values: &ArgMatches<'a>) -> Option<Request<'a>>

@@ -3,7 +3,8 @@ use Rattle.std.specs.Prelude.{◌≡◌, ◌⊎◌, ⊤, ℕ, Bool, false, not, 
 use Rattle.model.specs.declared.types.image.Form.{Form}
 use Rattle.model.specs.declared.types.image.Form.TheVariants.{One, Two}
 use Rattle.messages.specs.declared.told.Unwritten.{Unwritten}
-use Rattle.cli.specs.CommandLine.{AskFor}
+use Rattle.cli.specs.Asking.{AskFor}
+use Rattle.cli.specs.CommandLine.{xvfs_words}
 use Rattle.cli.specs.Told.{AskForHelp, IsToldOf}
 use Rattle.cli.specs.declared.explanation.Explanation.{Explanation}
 use Rattle.cli.specs.declared.explanation.Explanation.TheVariants.{Help, Mistake, NoMemory}
@@ -99,14 +100,14 @@ OnRefused file (Stops script schedule held) old new none = Refuses (IsScriptUnch
 abbrev pub IsDone : {F N : Type 0} → FileGhosts F N → List (List ℕ) → Option (List ℕ)
     → Option (List ℕ) → Type 0
 IsDone file words old new =
-    ((request : Request) × AskFor words request × Answers file request old new) ⊎ AskForHelp words
+    ((request : Request) × AskFor xvfs_words words request × Answers file request old new) ⊎ AskForHelp xvfs_words words
 
 -- a request of the words was refused; or help was asked for, and the output refused its text
 abbrev pub IsRefused : {F N : Type 0} → FileGhosts F N → List (List ℕ) → Option (List ℕ)
     → Option (List ℕ) → Type 0 → Type 0
 IsRefused file words old new none =
-    ((request : Request) × AskFor words request × OnRefused file request old new none)
-    ⊎ Refuses (λ (r : Unwritten). AskForHelp words)
+    ((request : Request) × AskFor xvfs_words words request × OnRefused file request old new none)
+    ⊎ Refuses (λ (r : Unwritten). AskForHelp xvfs_words words)
 
 -- it is an answer: the text of help or of the version
 abbrev pub IsHelp : Explanation → Type 0
@@ -116,7 +117,7 @@ IsHelp NoMemory = ⊥
 
 -- the words make no command, and this is told of them; `none` says that nothing was printed
 abbrev pub IsMisused : List (List ℕ) → Type 0 → Explanation → Type 0
-IsMisused words none e = none × IsToldOf words e × (¬ (IsHelp e))
+IsMisused words none e = none × IsToldOf xvfs_words words e × (¬ (IsHelp e))
 
 -- the commands of these lines were done, one after the other
 abbrev pub AreDone : {F N : Type 0} → FileGhosts F N → List (List (List ℕ)) → Option (List ℕ)

@@ -115,7 +115,7 @@ fn dispatch_alone<
     R: Files + AllocGlobal + Threads + Wait + Clock + Screen + Locks + Sync,
     O: Write,
     E: Write,
->(rt: &R, asked: Asked<'_>, out: &mut O, err: &mut E) -> u8
+>(rt: &R, asked: Asked<Request<'_>>, out: &mut O, err: &mut E) -> u8
 where
     R::File: Send,
     requires { HasFewWorkers asked.request }

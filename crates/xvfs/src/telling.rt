@@ -16,7 +16,7 @@ pub type Line = ArrayVec<u8, 80>;
 /// terminal is at the standard error, by a second one, as `explain`.
 pub fn tell<R: Files + AllocGlobal + Screen, E: Write>(
     rt: &R,
-    asked: &Asked<'_>,
+    asked: &Asked<Request<'_>>,
     line: &[u8],
     err: &mut E,
 ) {
@@ -29,7 +29,7 @@ pub fn tell<R: Files + AllocGlobal + Screen, E: Write>(
 /// Tells why nothing was done. The exit status.
 pub fn tell_fault<R: Files + AllocGlobal + Screen, F: Reason + Drop, E: Write>(
     rt: &R,
-    asked: &Asked<'_>,
+    asked: &Asked<Request<'_>>,
     fault: F,
     err: &mut E,
 ) -> u8

@@ -1,6 +1,6 @@
 use Rattle.std.proofs.Common.{codes, refl}
 use Rattle.clap.specs.Words.{found_of}
-use Rattle.cli.specs.Lemmas.Parses.{flag_read, value_read}
+use Rattle.cli.specs.Lemmas.Parses.{value_read}
 use Rattle.names_words.proofs.words.cat_request.Goals as goal
 
 pub returns : goal.returns

@@ -1,12 +1,13 @@
 use Rattle.std.proofs.Common.{codes, refl}
 use Rattle.clap.specs.Words.{found_of}
 use Rattle.cli.specs.Lemmas.Parses.{flag_read, value_read}
-use Rattle.names_words.proofs.words.mkfs_request.Goals as goal
+use Rattle.names_words.proofs.words.made_with.Goals as goal
 
 pub returns : goal.returns
 returns c =
     let found = found_of c.args.values.now in (
       refl,
       value_read found (codes "IMAGE") _ c.in_ok-get_str.ensures,
+      c.requires,
       flag_read found (codes "no-sync") c.get_flag.result c.get_flag.ensures.none c.get_flag.ensures.value c.get_flag.ensures.other,
     )
