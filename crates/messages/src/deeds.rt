@@ -1,5 +1,5 @@
 // The lines of a turn's steps, and of what they wrote.
-ghost use Rattle.std.specs.Prelude.{◌≡◌, OnOk, Some, [], if◌then◌else◌};
+ghost use Rattle.std.specs.Prelude.{◌≡◌, ◌++◌, OnOk, Some, [], if◌then◌else◌};
 ghost use Rattle.std.specs.List.{flat_map};
 ghost use Rattle.std.specs.Io.KnownBytes.{Appends};
 ghost use Rattle.messages.specs.Deeds.{came_text, commit_word, deed_text, header_text, home_text, is_plain, log_text, made_deed, note_text, place_text, role_text, step_line, task_word, write_line, written_text};
@@ -17,6 +17,8 @@ use wal::{CommitDeed, Deed, TaskDeed};
 /// A step of a process, as it is told.
 #[derive(Clone, Copy, Debug)]
 pub struct StepNote {
+    /// The process that made it.
+    pub process: u32,
     /// What it was to do; None where it was to do nothing, after a fault of the disk.
     pub deed: Option<Deed>,
     /// Who held what it was to get or to take.
@@ -27,6 +29,10 @@ pub struct StepNote {
     pub writes: u64,
     /// The same of syncs.
     pub syncs: u64,
+    /// The groups that were opened, with this step.
+    pub opened: u64,
+    /// Those that are committed.
+    pub committed: u64,
 }
 
 /// What is told of steps.
@@ -69,6 +75,20 @@ fn print_note<O: Write>(
     print_made(out, detail.writes, inode_count, note)
 }
 
+/// Writes what a step was to do, and what it came to where it didn't move and wasn't answered, with no
+/// line feed. The writer may hold it back.
+pub fn print_deed<O: Write>(out: &mut O, note: &StepNote) -> Result<(), Unwritten>
+    ensures ok { OnOk result (Appends (O.contents out.old) (O.contents out.new)
+        (deed_text note.now.deed ++ came_text note.now.step note.now.holder)) }
+{
+    let deed = DeedText(note.deed);
+    let came = CameText {
+        step: note.step,
+        holder: note.holder,
+    };
+    print(out, format_args!("{deed}{came}"))
+}
+
 // Writes the line of a step, where one is asked for.
 fn print_step<O: Write>(out: &mut O, asked: bool, note: &StepNote) -> Result<(), Unwritten>
     ensures ok { OnOk result (Appends (O.contents out.old) (O.contents out.new)
@@ -85,8 +105,9 @@ fn print_step<O: Write>(out: &mut O, asked: bool, note: &StepNote) -> Result<(),
     print(out, format_args!("step {deed}{came}\n"))
 }
 
-// Writes the line of what a step wrote, where it wrote and one is asked for.
-fn print_made<O: Write>(
+/// Writes the line of what a step wrote, where it wrote and one is asked for. The writer may hold it
+/// back.
+pub fn print_made<O: Write>(
     out: &mut O,
     asked: bool,
     inode_count: u32,
@@ -104,8 +125,8 @@ fn print_made<O: Write>(
     }
 }
 
-// What a step of a commit did, unless it halted.
-fn made_deed(step: Step, deed: Option<Deed>) -> Option<CommitDeed>
+/// What a step of a commit did, unless it halted.
+pub fn made_deed(step: Step, deed: Option<Deed>) -> Option<CommitDeed>
     ensures { result ≡ made_deed step deed }
 {
     match (step, deed) {

@@ -17,7 +17,7 @@ mod output;
 mod printed;
 mod told;
 
-pub use deeds::{Detail, StepNote, print_notes, role_of};
+pub use deeds::{Detail, StepNote, made_deed, print_deed, print_made, print_notes, role_of};
 pub use events::Event;
 pub use lines::{AccountLine, AnswerLine};
 pub use meter::{Meter, Silent};

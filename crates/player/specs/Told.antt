@@ -30,15 +30,18 @@ abbrev pub base_of : {D N : Type 0} → Ghosts D N → D → Base
 base_of disk d = record { writes = disk.write_count d; syncs = disk.sync_count d }
 
 -- What is noted of a step of process p that answered r and made m of k: what was told of it before,
--- and the writes and the syncs that the disk counts behind it, over those that it had counted at
--- first.
+-- and behind it the writes and the syncs that the disk counts, over those that it had counted at
+-- first, and the groups that were opened, and those that are committed.
 abbrev pub note_of : {D N : Type 0} → Ghosts D N → Base → ℕ → Step → Ringed D → Ringed D → StepNote
 note_of disk base p r k m = record {
+  process = p;
   deed = next_deed k p;
   holder = wanted_holder k.store p;
   step = r;
   writes = disk.write_count m.store.volume.device - base.writes;
   syncs = disk.sync_count m.store.volume.device - base.syncs;
+  opened = m.store.volume.log.opened;
+  committed = m.store.volume.log.committed;
 }
 
 -- these are the notes of steps that moved, which make m of k

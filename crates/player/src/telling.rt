@@ -208,11 +208,14 @@ impl<'a, D: Disk + Drop> Player<'a, D> {
         let step = self.step(pid);
         let disk = self.kernel.disk();
         notes.add(StepNote {
+            process: pid,
             deed,
             holder,
             step,
             writes: disk.writes().saturating_sub(base.writes),
             syncs: disk.syncs().saturating_sub(base.syncs),
+            opened: self.kernel.opened(),
+            committed: self.kernel.committed(),
         });
         step
     }

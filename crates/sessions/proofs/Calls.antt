@@ -1,11 +1,11 @@
 -- How what a stop may leave of a session's disk goes on with a call.
-use Rattle.std.proofs.Common.{◌≡◌, ◌⊎◌, ◌∙◌, ℕ, zero, suc, ◌<◌, ◌≤◌, Bool, true, false, List, [], ◌∷◌, length, set, inl, inr, ⊎_elim, refl, sym, ap, subst, arith, length-set}
+use Rattle.std.proofs.Common.{◌≡◌, ◌⊎◌, ◌∙◌, ℕ, ◌<◌, Bool, true, false, List, [], ◌∷◌, length, set, inl, inr, ⊎_elim, refl, sym, ap, subst, arith, length-set}
 use Rattle.std.proofs.lemmas.Bool.{true≢false}
 use Rattle.std.proofs.lemmas.List.{get_or-set_other, get_or-set_same, set-get_or, set-set}
 use Rattle.std.specs.Prelude.{Ok, Result}
-use Rattle.blocks.specs.Common.{AddsNone, cases_eq, Elapses, Image, IsImage, IsOldOrNew, IsSettled, LeavesOldOrNew, MayLose, one_more}
+use Rattle.blocks.specs.Common.{AddsNone, cases_eq, Image, IsOldOrNew, IsSettled, LeavesOldOrNew, MayLose}
 use Rattle.blocks.specs.Disk.{block_at}
-use Rattle.sessions.specs.Held.{HaveBlock, IsCounted, IsMix, IsWhole, LeftSince, MayLeave, WereWhole, since_sync}
+use Rattle.sessions.specs.Held.{HaveBlock, IsMix, LeftSince, MayLeave, since_sync}
 use Rattle.sessions.specs.Lemmas.Held.{left_now, mix_alone, mix_itself, now_left, only_left, takes_time}
 use Rattle.sessions.specs.Track.{Call, moment_of}
 

@@ -1,10 +1,10 @@
 -- What a step of a session's kernel does to its disk, and to what a stop may leave of it.
 use Rattle.std.proofs.Common.{◌≡◌, ◌⊎◌, ◌∙◌, ℕ, ◌<◌, ◌≤◌, ◌+◌, ◌++◌, ◌^◌, Bool, true, false, List, [], ◌∷◌, length, set, inl, inr, ⊎_elim, refl, sym, ap, subst, arith, length-set}
 use Rattle.std.proofs.lemmas.List.{get_or-set_same}
-use Rattle.std.specs.Prelude.{Option, Some, None}
+use Rattle.std.specs.Prelude.{Option, None}
 use Rattle.bcache.specs.Buffers.{Buffers}
 use Rattle.blocks.specs.Calls.{OnlyReads}
-use Rattle.blocks.specs.Common.{applied, Elapses, HeldImages, Image, IsOldOrNew, one_more, Write}
+use Rattle.blocks.specs.Common.{applied, Elapses, HeldImages, Image, one_more, Write}
 use Rattle.blocks.specs.Disk.{block_at}
 use Rattle.blocks.specs.Told.{IsWritten}
 use Rattle.history.specs.Alone.{is_committing_at}
@@ -28,7 +28,7 @@ use Rattle.sessions.specs.declared.disk.HostDisk.{HostDisk}
 use Rattle.sessions.specs.declared.session.Session.{Session}
 use Rattle.sessions.specs.declared.session.Told.TheVariants.{Nothing, Wrote, Synced}
 use Rattle.sessions.specs.Session.{disk_of, holds_of, image_of, syncs_of, writes_of}
-use Rattle.sessions.specs.Telling.{CarriesOn, Covers}
+use Rattle.sessions.specs.Telling.{CarriesOn}
 use Rattle.wal.specs.Joint.{place_at, stepped_at, synced_at}
 use Rattle.wal.specs.Machine.{LogState}
 use Rattle.wal.specs.Step.{CommitStepsAt, CommitSyncs, CommitWrites}

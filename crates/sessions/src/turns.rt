@@ -173,13 +173,11 @@ impl Session {
         ensures goes_on { result.step ≢ step.Halted }
     {
         let place = next_place(self.kernel.log());
-        let disk = self.kernel.disk();
-        let (writes, syncs) = (disk.writes(), disk.syncs());
+        let (writes, syncs) = (self.writes(), self.syncs());
         let step = self.kernel.step(pid);
-        let disk = self.kernel.disk();
-        let told = if disk.writes() != writes {
+        let told = if self.writes() != writes {
             Told::Wrote(place)
-        } else if disk.syncs() != syncs {
+        } else if self.syncs() != syncs {
             Told::Synced
         } else {
             Told::Nothing

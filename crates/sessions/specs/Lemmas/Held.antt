@@ -1,10 +1,10 @@
 -- The laws of a session's disk.
-use Rattle.std.specs.Prelude.{◌≡◌, ◌⊎◌, ◌<◌, ◌≤◌, ◌+◌, ◌*◌, ℕ, Bool, true, false, List, [], ◌∷◌, length, refl}
-use Rattle.std.proofs.Common.{◌∙◌, zero, suc, inl, inr, ⊎_elim, subst, sym, arith}
+use Rattle.std.specs.Prelude.{◌≡◌, ◌<◌, ℕ, Bool, true, false, List, [], ◌∷◌, length, refl}
+use Rattle.std.proofs.Common.{suc, inl, inr, ⊎_elim, subst, sym, arith}
 use Rattle.std.proofs.lemmas.List.{ext_get_or}
 use Rattle.blocks.specs.Block.{IsBlock}
 use Rattle.blocks.specs.Disk.{Image, IsImage, IsSettled, block_at}
-use Rattle.sessions.specs.Held.{HaveBlock, IsMix, IsWhole, LeftSince, MayLeave, WereWhole, before_call, since_sync}
+use Rattle.sessions.specs.Held.{HaveBlock, IsMix, IsWhole, LeftSince, MayLeave, WereWhole, since_sync}
 use Rattle.sessions.specs.Track.{Call, moment_of}
 
 -- each call takes time

@@ -6,7 +6,8 @@ use Rattle.std.proofs.KnownBytes.{Appends-trans}
 use Rattle.std.proofs.lemmas.Grind.{div_ceil_times}
 use Rattle.std.proofs.lemmas.Result.{on_ok_weaker}
 use Rattle.inspect.specs.Drawing.{key_text, row_at, row_text}
-use Rattle.inspect.proofs.TextLemmas.{numbered_more, row_taken}
+use Rattle.messages.specs.Lemmas.Texts.{numbered_more}
+use Rattle.inspect.proofs.TextLemmas.{row_taken}
 use Rattle.inspect.proofs.drawing.draw.Goals as goal
 
 pub loop-row-preserved : goal.loop-row-preserved

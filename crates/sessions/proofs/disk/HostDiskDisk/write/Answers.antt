@@ -1,4 +1,4 @@
-use Rattle.std.proofs.Common.{◌≡◌, ◌∙◌, ℕ, false, List, ◌∷◌, ap, subst, sym}
+use Rattle.std.proofs.Common.{◌≡◌, ◌∙◌, false, List, ◌∷◌, ap, subst, sym}
 use Rattle.blocks.specs.Common.{Image, LeavesOldOrNew, MayLose}
 use Rattle.blocks.specs.declared.errors.DiskFault.{DiskFault}
 use Rattle.blocks.specs.declared.memory.MemDisk.{MemDisk}

@@ -1,0 +1,7 @@
+use Rattle.messages.specs.Lemmas.Texts.{printed_more}
+use Rattle.pictures.specs.Titles.{title_text}
+use Rattle.pictures.proofs.timeline.print_titles.Goals as goal
+
+pub loop-moment-preserved : goal.loop-moment-preserved
+loop-moment-preserved g c =
+    printed_more (title_text c.args.frame.inode_count) c.args.moments.now c.loop-moment.moment-index _ _ _ _ c.loop-moment-test.true c.loop-moment.invariant c.in_ok-print_title.ensures.ok

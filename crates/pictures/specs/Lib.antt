@@ -1,0 +1,14 @@
+pub mod Replies
+pub mod Markups
+pub mod Shapes
+pub mod Places
+pub mod Boxes
+pub mod Titles
+pub mod Written
+pub mod Along
+pub mod Bands
+pub mod Brackets
+pub mod FilesRow
+pub mod Page
+pub mod Timeline
+pub mod Recording

@@ -1,0 +1,26 @@
+//! Pictures of what the program did, each one page of HTML with a drawing in it: readable in grey and
+//! by keyboard, with no script, and with nothing that is loaded from elsewhere.
+//!
+//! Each text is a definition: the drawing is that of the steps, the blocks or the stops that were
+//! given, and of nothing else. How they came to be isn't known here.
+#![tactic(auto)]
+
+mod bands;
+mod boxes;
+mod brackets;
+mod files;
+mod markups;
+mod page;
+mod places;
+mod recorder;
+mod replies;
+mod shapes;
+mod timeline;
+mod titles;
+mod types;
+mod written;
+
+pub use recorder::{MOST_COLUMNS, Recorder};
+pub use replies::{Gist, gist_of};
+pub use timeline::print_timeline;
+pub use types::{FileLine, FilesThen, Frame, Moment};

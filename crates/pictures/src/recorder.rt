@@ -1,0 +1,99 @@
+// The steps of a run, recorded turn by turn.
+ghost use Rattle.std.specs.Prelude.{◌≡◌, ◌<◌, [], IfOk, length};
+ghost use Rattle.pictures.specs.Along.{left_along};
+ghost use Rattle.pictures.specs.Recording.{answer_behind, answer_in, with_moment};
+
+use crate::replies::{Gist, gist_of};
+use crate::types::Moment;
+use blocks::NoMemory;
+use messages::{Event, StepNote};
+use model::types::Step;
+use std::alloc::Global;
+use std::marker::Model;
+
+/// A picture has at most so many steps.
+pub const MOST_COLUMNS: usize = 2000;
+
+/// The first steps of a run, as many as a picture has, with room for all of them.
+#[derive(Drop)]
+pub struct Recorder {
+    list: Vec<Moment>,
+}
+
+impl Model for Recorder {
+    ghost use Rattle.std.specs.Prelude.{◌≤◌, List, vec_capacity};
+    ghost use Rattle.pictures.specs.declared.types.Moment.{Moment};
+
+    ghost Value = { List Moment };
+
+    ghost view = { λ r. r.list.items };
+
+    ghost invariant = { λ r. 2001 ≤ vec_capacity r.list };
+}
+
+impl Recorder {
+    /// One that heard of no turn.
+    ///
+    /// # Errors
+    ///
+    /// `NoMemory` where the allocator refuses the room.
+    pub fn new(alloc: Global) -> Result<Recorder, NoMemory>
+        ensures { IfOk result (λ recorder. recorder ≡ []) }
+    {
+        Ok(Recorder {
+            list: Vec::with_capacity(alloc, MOST_COLUMNS + 1)?,
+        })
+    }
+
+    /// The steps that were recorded: one more than a picture has, where there were more.
+    pub fn moments(&self) -> &[Moment]
+        ensures { result.now ≡ self.now }
+    {
+        self.list.as_slice()
+    }
+
+    /// Hears of a turn: what it came to, and its steps. No memory is taken.
+    pub fn hear(&mut self, event: &Event, notes: &[StepNote])
+        ensures { self.new ≡ left_along (with_moment (answer_in event.now)) self.old notes.now }
+    {
+        let answer = answer_in(event);
+        for note in notes {
+            self.add(answer, note);
+        }
+    }
+
+    // Records a step, where there is room.
+    fn add(&mut self, answer: Option<Gist>, note: &StepNote)
+        ensures { self.new ≡ with_moment answer self.old note.now }
+    {
+        let column = self.list.len();
+        if column > MOST_COLUMNS {
+            return;
+        }
+        self.list.push_reserved(Moment {
+            column: column as u32,
+            note: *note,
+            answer: answer_behind(answer, note.step),
+        });
+    }
+}
+
+// What a process was answered in a turn.
+fn answer_in(event: &Event) -> Option<Gist>
+    ensures { result ≡ answer_in event.now }
+{
+    match event {
+        Event::Answered(_, answer) => Some(gist_of(&answer.reply)),
+        _ => None,
+    }
+}
+
+// It was behind the last of its steps, which didn't move.
+fn answer_behind(answer: Option<Gist>, step: Step) -> Option<Gist>
+    ensures { result ≡ answer_behind answer step }
+{
+    match step {
+        Step::Moved => None,
+        _ => answer,
+    }
+}
