@@ -4,12 +4,13 @@ use Rattle.std.specs.Prelude.{IfErr, Result, replicate}
 use Rattle.std.proofs.lemmas.Result.{IfErr-weaker}
 use Rattle.blocks.specs.SyncDisk.{held_of}
 use Rattle.crash_check.specs.declared.fault.StopsFault.{StopsFault}
-use Rattle.crash_check.specs.declared.fault.StopsFault.TheVariants.{Mismatch}
 use Rattle.std.proofs.Math.Nat.{pow-suc}
 use Rattle.std.proofs.lemmas.Bool.{cases_lt}
 use Rattle.std.proofs.lemmas.List.{length-replicate, length-set, take-replicate, take-set, take-take, take_more, take_more_set}
 use Rattle.blocks.specs.declared.sync.SyncDisk.{SyncDisk}
-use Rattle.crash_check.specs.Choices.{HasDue, HasRestDue, LacksDue, beginning}
+use Rattle.crash_check.specs.Choices.{HasDue, HasRestDue, LacksDue, LacksDueBy, beginning}
+use Rattle.crash_check.specs.Lemmas.Faults.{OnMismatch-weaker}
+use Rattle.crash_check.specs.Mismatches.{OnMismatch}
 use Rattle.crash_check.specs.declared.choices.Due.{Due}
 
 pub length_beginning : (n k : ℕ) → length (beginning n k) ≡ n
@@ -63,10 +64,10 @@ each_beginning d due n kept most each last k =
     ⊎_elim (λ less. each k less) (λ least. subst (HasDue d due) (beyond_all n kept most ∙ sym (beyond_all n k (omega (arith, most, least)))) last) (cases_lt k kept)
 
 -- a beginning that has not its files is one of the choices
-pub lost_beginning : (d : SyncDisk) (due : Due) (r : Result ℕ StopsFault) (n : ℕ) → n ≡ length (held_of d) → IfErr r (λ f. f ≡ Mismatch → (k : ℕ) × ¬ (HasDue d due (beginning n k)))
-    → IfErr r (λ f. f ≡ Mismatch → LacksDue d due)
-lost_beginning d due r n all = IfErr-weaker r _ _ (λ f lost is. let one = lost is in
-    (beginning n one.0, record { size = length_beginning n one.0 ∙ all; first = λ _. (one.0, ap (λ (m : ℕ). beginning m one.0) all) }, one.1))
+pub lost_beginning : (d : SyncDisk) (due : Due) (r : Result ℕ StopsFault) (n : ℕ) → n ≡ length (held_of d) → IfErr r (λ f. OnMismatch f (λ m. (k : ℕ) × LacksDueBy d due (beginning n k) m))
+    → IfErr r (λ f. OnMismatch f (LacksDue d due))
+lost_beginning d due r n all = IfErr-weaker r _ _ (λ f. OnMismatch-weaker f _ _ (λ m one.
+    (beginning n one.0, record { size = length_beginning n one.0 ∙ all; first = λ _. (one.0, ap (λ (m : ℕ). beginning m one.0) all) }, one.1)))
 
 module _ (d : SyncDisk) (due : Due) (from : ℕ) (old : List Bool) where
   -- the rest behind one more write that is lost, and behind one that gets through

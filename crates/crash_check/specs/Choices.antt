@@ -1,5 +1,5 @@
 -- Which of the held writes get through, and the files that the image is due then.
-use Rattle.std.specs.Prelude.{◌≡◌, ◌<◌, ◌+◌, ◌==◌, ◌^◌, ℕ, zero, suc, Bool, true, false, List, [], ◌∷◌, length, take, nat_le, if◌then◌else◌, Option, option_map}
+use Rattle.std.specs.Prelude.{◌≡◌, ◌<◌, ◌+◌, ◌==◌, ◌^◌, ℕ, zero, suc, Bool, true, false, List, [], ◌∷◌, length, take, nat_le, if◌then◌else◌, Option, Some, option_map}
 use Rattle.blocks.specs.Disk.{Image}
 use Rattle.blocks.specs.Held.{chosen}
 use Rattle.blocks.specs.SyncDisk.{held_of, synced_of}
@@ -7,7 +7,9 @@ use Rattle.blocks.specs.declared.sync.SyncDisk.{SyncDisk}
 use Rattle.model.specs.Files.{Files}
 use Rattle.model.specs.Log.{logged_count}
 use Rattle.crash_check.specs.Images.{HasFiles}
+use Rattle.crash_check.specs.Mismatches.{LacksFiles, choice_of}
 use Rattle.crash_check.specs.declared.choices.Due.{Due}
+use Rattle.crash_check.specs.declared.mismatch.Mismatch.{Mismatch}
 
 -- of n held writes the first k get through
 abbrev pub beginning : ℕ → ℕ → List Bool
@@ -45,9 +47,15 @@ HasDue d due keep = HasFiles (left_by d keep) (due_of due (left_by d keep))
 abbrev pub HasAllDue : SyncDisk → Due → Type 0
 HasAllDue d due = (keep : List Bool) → IsChoice (length (held_of d)) keep → HasDue d due keep
 
--- one doesn't
-abbrev pub LacksDue : SyncDisk → Due → Type 0
-LacksDue d due = (keep : List Bool) × IsChoice (length (held_of d)) keep × ¬ (HasDue d due keep)
+-- this one doesn't, and a mismatch tells the choice and the cause
+pub record LacksDueBy (d : SyncDisk) (due : Due) (keep : List Bool) (m : Mismatch) : Type 0 where
+  pub choice : m.choice ≡ Some (choice_of keep)
+  pub cause : LacksFiles (left_by d keep) (due_of due (left_by d keep)) m.cause
+
+-- the choice that a mismatch tells doesn't
+abbrev pub LacksDue : SyncDisk → Due → Mismatch → Type 0
+LacksDue d due m =
+    (keep : List Bool) × IsChoice (length (held_of d)) keep × LacksDueBy d due keep m
 
 -- each that begins with the first of some choice does
 abbrev pub HasRestDue : SyncDisk → Due → ℕ → List Bool → Type 0
@@ -55,5 +63,5 @@ HasRestDue d due from old = (keep : List Bool) → length keep ≡ length old
     → take from keep ≡ take from old → HasDue d due keep
 
 -- one choice of as many doesn't
-abbrev pub LacksSome : SyncDisk → Due → ℕ → Type 0
-LacksSome d due held = (keep : List Bool) × (length keep ≡ held) × ¬ (HasDue d due keep)
+abbrev pub LacksSome : SyncDisk → Due → ℕ → Mismatch → Type 0
+LacksSome d due held m = (keep : List Bool) × (length keep ≡ held) × LacksDueBy d due keep m

@@ -1,14 +1,15 @@
 // The images that a stop may leave of a disk that holds writes back, one for each choice of what
 // gets through.
-ghost use Rattle.std.specs.Prelude.{◌≡◌, ◌≤◌, ◌+◌, ◌-◌, ◌^◌, ◌↔◌, ℕ, IfErr, IfOk, IsTrue, OnOk, length, take};
-ghost use Rattle.crash_check.specs.declared.fault.StopsFault.TheVariants as fault;
+ghost use Rattle.std.specs.Prelude.{◌≡◌, ◌≤◌, ◌+◌, ◌-◌, ◌^◌, ℕ, IfErr, IfNone, IfOk, IfSome, OnOk, length, take};
 ghost use Rattle.blocks.specs.SyncDisk.{held_of};
-ghost use Rattle.crash_check.specs.Choices.{HasAllDue, HasDue, HasRestDue, IsChoice, LacksDue, LacksSome, beginning, choice_count, due_of};
+ghost use Rattle.crash_check.specs.Choices.{HasAllDue, HasDue, HasRestDue, LacksDue, LacksDueBy, LacksSome, beginning, choice_count, due_of};
 ghost use Rattle.crash_check.specs.Images.{HasFiles};
+ghost use Rattle.crash_check.specs.Mismatches.{LacksFiles, OnMismatch};
 
 use crate::fault::StopsFault;
-use crate::files::are_same_files;
+use crate::files::first_difference;
 use crate::images::recovered_files;
+use crate::mismatch::{Cause, Choice, Mismatch, bits_of};
 use blocks::{Disk, MemDisk, NoMemory, SyncDisk};
 use reference::files::Files;
 use std::alloc::Global;
@@ -30,11 +31,12 @@ pub struct Due {
 ///
 /// # Errors
 ///
-/// `Mismatch` where one has other files, or can't be recovered; `NoMemory`.
+/// `Mismatch` where one has other files, or can't be recovered: it tells by which choice, and the
+/// first file that differs. Where the run was stopped is for the caller to say. `NoMemory`.
 pub fn try_choices(alloc: Global, disk: &SyncDisk, due: &Due) -> Result<u64, StopsFault>
     ensures all { OnOk result (HasAllDue disk.now due.now) }
     ensures count { IfOk result (λ images. images ≡ choice_count (length (held_of disk.now))) }
-    ensures lost { IfErr result (λ f. f ≡ fault.Mismatch → LacksDue disk.now due.now) }
+    ensures lost { IfErr result (λ f. OnMismatch f (LacksDue disk.now due.now)) }
 {
     let held = disk.held();
     let mut keep = [false; 64];
@@ -56,8 +58,8 @@ fn try_beginnings(
     requires none { keep.old ≡ beginning (length keep.old) 0 }
     ensures all { OnOk result ((k : ℕ) → HasDue disk.now due.now (beginning (length keep.old) k)) }
     ensures count { IfOk result (λ images. images ≡ length keep.old + 1) }
-    ensures lost { IfErr result (λ f. f ≡ fault.Mismatch → (k : ℕ)
-        × ¬ (HasDue disk.now due.now (beginning (length keep.old) k))) }
+    ensures lost { IfErr result (λ f. OnMismatch f (λ m. (k : ℕ)
+        × LacksDueBy disk.now due.now (beginning (length keep.old) k) m)) }
 {
     for kept in 0..keep.len() {
         try_choice(alloc, disk, due, keep)?;
@@ -83,8 +85,8 @@ fn try_rest(
     ensures before { OnOk result (take from keep.new ≡ take from keep.old) }
     ensures all { OnOk result (HasRestDue disk.now due.now from keep.old) }
     ensures count { IfOk result (λ images. images ≡ 2 ^ (length keep.old - from)) }
-    ensures lost { IfErr result (λ f. f ≡ fault.Mismatch
-        → LacksSome disk.now due.now (length keep.old)) }
+    ensures lost { IfErr result (λ f. OnMismatch f
+        (LacksSome disk.now due.now (length keep.old))) }
 {
     if from == keep.len() {
         try_choice(alloc, disk, due, keep)?;
@@ -101,23 +103,31 @@ fn try_rest(
 fn try_choice(alloc: Global, disk: &SyncDisk, due: &Due, keep: &[bool]) -> Result<(), StopsFault>
     requires { length keep.now ≡ length (held_of disk.now) }
     ensures has { OnOk result (HasDue disk.now due.now keep.now) }
-    ensures lacks { IfErr result (λ f. f ≡ fault.Mismatch → ¬ (HasDue disk.now due.now keep.now)) }
+    ensures lacks { IfErr result (λ f. OnMismatch f (LacksDueBy disk.now due.now keep.now)) }
 {
     let mut left = disk.left(keep)?;
-    if has_due_files(alloc, &mut left, due)? {
-        Ok(())
-    } else {
-        Err(StopsFault::Mismatch)
+    match cause_on(alloc, &mut left, due)? {
+        None => Ok(()),
+        Some(cause) => Err(StopsFault::Mismatch(Mismatch {
+            choice: Some(Choice {
+                held: disk.held(),
+                kept: bits_of(keep),
+            }),
+            ..Mismatch::new(cause)
+        })),
     }
 }
 
-// Whether an image can be recovered, and then has the files that are due by its own header.
-fn has_due_files(alloc: Global, disk: &mut MemDisk, due: &Due) -> Result<bool, NoMemory>
-    ensures { IfOk result (λ yes. IsTrue yes ↔ HasFiles (⟦<MemDisk as Disk>⟧.image disk.old)
-        (due_of due.now (⟦<MemDisk as Disk>⟧.image disk.old))) }
+// What keeps an image from having the files that are due by its own header; None where it has them.
+fn cause_on(alloc: Global, disk: &mut MemDisk, due: &Due) -> Result<Option<Cause>, NoMemory>
+    ensures has { IfOk result (λ cause. IfNone cause (HasFiles (⟦<MemDisk as Disk>⟧.image disk.old)
+        (due_of due.now (⟦<MemDisk as Disk>⟧.image disk.old)))) }
+    ensures lacks { IfOk result (λ cause. IfSome cause
+        (LacksFiles (⟦<MemDisk as Disk>⟧.image disk.old)
+        (due_of due.now (⟦<MemDisk as Disk>⟧.image disk.old)))) }
 {
     let Some((logged, found)) = recovered_files(alloc, disk)? else {
-        return Ok(false);
+        return Ok(Some(Cause::Unrecovered));
     };
     let files = if logged == 0 {
         &due.committed
@@ -125,7 +135,7 @@ fn has_due_files(alloc: Global, disk: &mut MemDisk, due: &Due) -> Result<bool, N
         &due.opened
     };
     match files {
-        Some(files) => Ok(are_same_files(found.as_slice(), files.as_slice())),
-        None => Ok(false),
+        Some(files) => Ok(first_difference(found.as_slice(), files.as_slice()).map(Cause::File)),
+        None => Ok(Some(Cause::Undue)),
     }
 }

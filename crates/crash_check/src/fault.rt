@@ -1,7 +1,9 @@
 // Why a check of the images that stops leave ended.
 ghost use Rattle.std.specs.Prelude.{◌≡◌};
 ghost use Rattle.crash_check.specs.Faults.{stops_telling};
+ghost use Rattle.crash_check.specs.Mismatches.{met_at};
 
+use crate::mismatch::{Mismatch, Stop};
 use blocks::NoMemory;
 use messages::{Reason, Told};
 use thiserror::Error;
@@ -11,10 +13,22 @@ use thiserror::Error;
 pub enum StopsFault {
     /// The image that a stop left is not recovered to the files that it has to have.
     #[error("a stop left an image with other files")]
-    Mismatch,
+    Mismatch(Mismatch),
     /// Memory was refused.
     #[error("memory was refused")]
     NoMemory,
+}
+
+impl StopsFault {
+    /// The same, met by a run that was stopped there.
+    pub fn at(self, stop: Stop) -> StopsFault
+        ensures { result ≡ met_at stop self }
+    {
+        match self {
+            StopsFault::Mismatch(mismatch) => StopsFault::Mismatch(Mismatch { stop, ..mismatch }),
+            StopsFault::NoMemory => StopsFault::NoMemory,
+        }
+    }
 }
 
 impl Reason for StopsFault {
@@ -22,7 +36,7 @@ impl Reason for StopsFault {
 
     fn told(&self) -> Told {
         match self {
-            StopsFault::Mismatch => Told::new("stops", 1, "Mismatch"),
+            StopsFault::Mismatch(_) => Told::new("stops", 1, "Mismatch"),
             StopsFault::NoMemory => Told::new("stops", 2, "NoMemory"),
         }
     }

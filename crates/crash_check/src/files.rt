@@ -1,9 +1,11 @@
 // The files that a run has to leave, by a plain replay, and whether an image has them.
-ghost use Rattle.std.specs.Prelude.{◌≡◌, ◌↔◌, IfOk, IsTrue, None, option_map, replicate};
+ghost use Rattle.std.specs.Prelude.{◌≡◌, ◌↔◌, IfNone, IfOk, IfSome, IsTrue, None, option_map, replicate};
 ghost use Rattle.model.specs.Log.{recovered};
 ghost use Rattle.crash_check.specs.Images.{HasFiles, kept_files};
+ghost use Rattle.crash_check.specs.Mismatches.{DifferFirst, LacksFiles};
 
 use crate::images::{INODES, recovered_files};
+use crate::mismatch::Cause;
 use blocks::{Disk, MemDisk, NoMemory};
 use model::types::{Entry, File, Form};
 use reference::files::Files;
@@ -38,36 +40,46 @@ fn no_files(alloc: Global) -> Result<Files, NoMemory>
     Ok(files)
 }
 
-/// Whether the image of a disk can be recovered, and has these files then. It is left recovered where
-/// it has.
-pub fn has_files(alloc: Global, disk: &mut MemDisk, files: Option<Files>) -> Result<bool, NoMemory>
-    ensures has { IfOk result (λ yes. IsTrue yes ↔ HasFiles (⟦<MemDisk as Disk>⟧.image disk.old)
-        (option_map (λ f. f.items) files)) }
-    ensures left { IfOk result (λ yes. IsTrue yes
-        → ⟦<MemDisk as Disk>⟧.image disk.new ≡ recovered (⟦<MemDisk as Disk>⟧.image disk.old)) }
+/// What keeps the image of a disk from having these files once it is recovered; None where it has
+/// them. It is left recovered then.
+pub fn cause_in(
+    alloc: Global,
+    disk: &mut MemDisk,
+    files: Option<Files>,
+) -> Result<Option<Cause>, NoMemory>
+    ensures has { IfOk result (λ cause. IfNone cause
+        (HasFiles (⟦<MemDisk as Disk>⟧.image disk.old) (option_map (λ f. f.items) files))) }
+    ensures lacks { IfOk result (λ cause. IfSome cause
+        (LacksFiles (⟦<MemDisk as Disk>⟧.image disk.old) (option_map (λ f. f.items) files))) }
+    ensures left { IfOk result (λ cause. IfNone cause
+        (⟦<MemDisk as Disk>⟧.image disk.new ≡ recovered (⟦<MemDisk as Disk>⟧.image disk.old))) }
 {
     let Some(files) = files else {
-        return Ok(false);
+        return Ok(Some(Cause::Undue));
     };
     match recovered_files(alloc, disk)? {
-        Some((_logged, found)) => Ok(are_same_files(found.as_slice(), files.as_slice())),
-        None => Ok(false),
+        Some((_logged, found)) => {
+            Ok(first_difference(found.as_slice(), files.as_slice()).map(Cause::File))
+        }
+        None => Ok(Some(Cause::Unrecovered)),
     }
 }
 
-/// Whether each number has the same file, or none.
-pub fn are_same_files(a: &[Option<File>], b: &[Option<File>]) -> bool
-    ensures { IsTrue result ↔ (a.now ≡ b.now) }
+/// The first number whose file is another in `b` than in `a`, if there is one.
+pub fn first_difference(a: &[Option<File>], b: &[Option<File>]) -> Option<usize>
+    ensures none { IfNone result (a.now ≡ b.now) }
+    ensures some { IfSome result (DifferFirst a.now b.now) }
 {
-    if a.len() != b.len() {
-        return false;
-    }
     for k in 0..a.len() {
-        if !is_same_file(&a[k], &b[k]) {
-            return false;
+        if k >= b.len() || !is_same_file(&a[k], &b[k]) {
+            return Some(k);
         }
     }
-    true
+    if a.len() < b.len() {
+        Some(a.len())
+    } else {
+        None
+    }
 }
 
 fn is_same_file(a: &Option<File>, b: &Option<File>) -> bool

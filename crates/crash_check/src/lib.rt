@@ -11,8 +11,12 @@ mod choices;
 mod fault;
 mod files;
 mod images;
+mod mismatch;
+mod telling;
 
 pub use choices::{Due, try_choices};
 pub use fault::StopsFault;
-pub use files::{has_files, kept_files};
+pub use files::{cause_in, kept_files};
 pub use images::{is_want_of_memory, new_image};
+pub use mismatch::{Cause, Choice, Mismatch, Stop};
+pub use telling::print_mismatch;

@@ -1,19 +1,20 @@
 -- Whether a run over a disk that holds writes back kept its files.
 use Rattle.std.proofs.Common.{◌≡◌, ◌∙◌, ℕ, Bool, List, Option, Ok, Err, ap, inl, subst, sym, length}
-use Rattle.std.specs.Prelude.{IfErr, IfOk, Result, option_map}
-use Rattle.std.specs.Result.{IsErrAnd, IsOkAnd}
+use Rattle.std.specs.Prelude.{IfOk, Result, option_map}
+use Rattle.std.specs.Result.{IsOkAnd}
 use Rattle.blocks.specs.FaultyDisk.{inner_of}
 use Rattle.blocks.specs.contracts.sync.SyncDiskDisk.TheImpl.{ghosts}
 use Rattle.scripts.specs.declared.schedule.Word.{Word}
 use Rattle.scripts.specs.declared.script.Task.{Task}
-use Rattle.crash_check.specs.declared.fault.StopsFault.{StopsFault}
-use Rattle.crash_check.specs.declared.fault.StopsFault.TheVariants.{Mismatch}
+use Rattle.crash_check.specs.Mismatches.{LacksFiles}
+use Rattle.crash_check.specs.declared.mismatch.Cause.{Cause}
+use Rattle.crash_check.specs.declared.mismatch.Mismatch.{Mismatch}
 use Rattle.blocks.specs.SyncDisk.{held_of}
 use Rattle.blocks.specs.declared.errors.NoMemory.{NoMemory as MemoryRefused}
 use Rattle.blocks.specs.declared.sync.SyncDisk.{SyncDisk}
 use Rattle.model.specs.Files.{Files}
 use Rattle.crash_check.specs.Choices.{HasAllDue, HasDue, IsChoice, LacksDue, choice_count, due_files, left_by}
-use Rattle.stops.specs.Holding.{FailsHeld, FailsSync, HasPlayedHeld, HeldPlayer, IsJudged, IsKeptBy, IsTriedHeld, KeepsAll, LosesHeld, LosesSome, RunsHeld, disk_of, over, sync_behind, write_behind}
+use Rattle.stops.specs.Holding.{FailsHeld, FailsSync, HasPlayedHeld, HeldPlayer, IsJudged, IsKeptBy, IsLostBy, IsTriedHeld, KeepsAll, LosesSome, RunsHeld, TellsHeldLoss, disk_of, over, sync_behind, write_behind}
 use Rattle.player.specs.Opening.{IsArmed, IsOpenedOver}
 use Rattle.crash_check.specs.Images.{HasFiles, kept_files, new_image}
 use Rattle.crash_check.specs.declared.choices.Due.{Due}
@@ -42,16 +43,19 @@ module _ (last : HeldPlayer) (d : SyncDisk) (due : Due) (is_disk : d ≡ disk_of
   to_kept : (keep : List Bool) → HasDue d due keep → IsKeptBy last keep
   to_kept keep has = subst (λ e. of_files e keep there more_there) is_disk (subst (λ f. of_files d keep there f) opened (subst (λ f. of_files d keep f more_here) committed has))
 
-  of_kept : (keep : List Bool) → IsKeptBy last keep → HasDue d due keep
-  of_kept keep kept = subst (λ f. of_files d keep f more_here) (sym committed) (subst (λ f. of_files d keep there f) (sym opened) (subst (λ e. of_files e keep there more_there) (sym is_disk) kept))
+  abbrev lacks : Cause → SyncDisk → List Bool → Option Files → Option Files → Type 0
+  lacks cause e keep one more = LacksFiles (left_by e keep) (due_files one more (left_by e keep)) cause
+
+  to_lost : (keep : List Bool) (cause : Cause) → lacks cause d keep here more_here → IsLostBy last keep cause
+  to_lost keep cause has = subst (λ e. lacks cause e keep there more_there) is_disk (subst (λ f. lacks cause d keep there f) opened (subst (λ f. lacks cause d keep f more_here) committed has))
 
   -- each image has its files
   pub keeps_all : HasAllDue d due → KeepsAll last
   keeps_all all keep choice = to_kept keep (all keep (subst (λ e. IsChoice (length (held_of e)) keep) (sym is_disk) choice))
 
   -- one has not
-  pub loses_some : LacksDue d due → LosesSome last
-  loses_some lost = (lost.0, subst (λ e. IsChoice (length (held_of e)) lost.0) is_disk lost.1, λ kept. lost.2 (of_kept lost.0 kept))
+  pub loses_some : (m : Mismatch) → LacksDue d due m → LosesSome last m.choice m.cause
+  loses_some m lost = (lost.0, subst (λ e. IsChoice (length (held_of e)) lost.0) is_disk lost.1, lost.2.choice, to_lost lost.0 m.cause lost.2.cause)
 
 module _ (words : List Word) (write : ℕ) (player last : HeldPlayer) (d : SyncDisk) (is_disk : d ≡ disk_of last) where
   -- the turns were made, and each image that the disk may leave has its files
@@ -68,14 +72,14 @@ module _ (words : List Word) (write : ℕ) (player last : HeldPlayer) (d : SyncD
   run_held (Err _) count plays judged = absurd judged
 
   -- they were, and one has not
-  pub run_lost : (played : Result Played MemoryRefused) → IfOk played (HasPlayedHeld words write player last) → IsOkAnd played (λ made. LacksDue d made.due) → LosesHeld words write player
-  run_lost (Ok made) plays lacks = record {
+  pub run_lost : (m : Mismatch) (played : Result Played MemoryRefused) → IfOk played (HasPlayedHeld words write player last) → IsOkAnd played (λ made. LacksDue d made.due m) → TellsHeldLoss words write player m
+  run_lost m (Ok made) plays lacks = record {
     last = last;
     events = plays.turns.events;
     makes = plays.turns.makes;
-    lost = loses_some last d made.due is_disk plays.due.committed plays.due.opened lacks;
+    lost = loses_some last d made.due is_disk plays.due.committed plays.due.opened m lacks;
   }
-  run_lost (Err _) plays lacks = absurd lacks
+  run_lost m (Err _) plays lacks = absurd lacks
 
 module _ (tasks : List Task) (processes : ℕ) (words : List Word) (write sync : ℕ) (player : HeldPlayer) (opened : IsOpenedOver over.image new_image tasks processes player)
     (armed : IsArmed over write player.kernel.store.volume.device) (trap : FailsSync sync (inner_of player.kernel.store.volume.device)) where
@@ -90,16 +94,11 @@ module _ (tasks : List Task) (processes : ℕ) (words : List Word) (write sync :
     kept = runs.kept;
   }
 
-  pub lost_held : LosesHeld words write player → FailsHeld tasks processes words write sync
-  lost_held loses = inl (record { player = player; last = loses.last; run = record { run = record { opened = opened; armed = armed; events = loses.events; makes = loses.makes }; trap = trap }; lost = loses.lost })
+  pub lost_held : (m : Mismatch) → TellsHeldLoss words write player m → FailsHeld tasks processes words write sync m
+  lost_held m loses = inl (record { player = player; last = loses.last; run = record { run = record { opened = opened; armed = armed; events = loses.events; makes = loses.makes }; trap = trap }; lost = loses.lost })
 
--- a refusal is passed on as it was
-pub passed_on : {T : Type 0} (r : Result T StopsFault) (f : StopsFault) (X : Type 0) → IsErrAnd r (λ e. e ≡ f) → (f ≡ Mismatch → X) → IfErr r (λ e. e ≡ Mismatch → X)
-passed_on (Ok _) f X is x = tt
-passed_on (Err e) f X is x = λ mismatch. x (sym is ∙ mismatch)
-
--- a run that was stopped by these numbers
-pub tried_behind : (tasks : List Task) (processes : ℕ) (words : List Word) (calls : Calls) (before write sync : ℕ) (run : HeldRun) → write ≡ write_behind calls before → sync ≡ sync_behind calls before
-    → IsTriedHeld tasks processes words write sync run → IsTriedHeld tasks processes words (write_behind calls before) (sync_behind calls before) run
-tried_behind tasks processes words calls before write sync run is_write is_sync tried =
-    subst (λ (n : ℕ). IsTriedHeld tasks processes words n (sync_behind calls before) run) is_write (subst (λ (n : ℕ). IsTriedHeld tasks processes words write n run) is_sync tried)
+-- a run that was stopped by these numbers, and doesn't pass
+pub failed_behind : (tasks : List Task) (processes : ℕ) (words : List Word) (calls : Calls) (before write sync : ℕ) (m : Mismatch) → write ≡ write_behind calls before → sync ≡ sync_behind calls before
+    → FailsHeld tasks processes words write sync m → FailsHeld tasks processes words (write_behind calls before) (sync_behind calls before) m
+failed_behind tasks processes words calls before write sync m is_write is_sync fails =
+    subst (λ (n : ℕ). FailsHeld tasks processes words n (sync_behind calls before) m) is_write (subst (λ (n : ℕ). FailsHeld tasks processes words write n m) is_sync fails)

@@ -7,6 +7,7 @@ use Rattle.scripts.specs.declared.script.Task.{Task}
 use Rattle.messages.specs.Output.{images_text}
 use Rattle.crash_check.specs.declared.fault.StopsFault.{StopsFault}
 use Rattle.crash_check.specs.declared.fault.StopsFault.TheVariants.{Mismatch, NoMemory}
+use Rattle.crash_check.specs.declared.mismatch.Mismatch.{Mismatch as SomeMismatch}
 use Rattle.messages.specs.declared.printed.Printed.{Printed}
 use Rattle.messages.specs.declared.printed.Printed.TheVariants.{Fault, Output}
 use Rattle.stops.specs.Holding.{AllHeldPass, SomeHeldFails}
@@ -17,10 +18,10 @@ abbrev pub PassesAll : Bool → List Task → ℕ → List Word → ℕ → Type
 PassesAll false tasks processes words images = AllPass tasks processes words images
 PassesAll true tasks processes words images = AllHeldPass tasks processes words images
 
--- one doesn't
-abbrev pub FailsSome : Bool → List Task → ℕ → List Word → Type 0
-FailsSome false tasks processes words = SomeFails tasks processes words
-FailsSome true tasks processes words = SomeHeldFails tasks processes words
+-- the one that a mismatch tells doesn't
+abbrev pub FailsSome : Bool → List Task → ℕ → List Word → SomeMismatch → Type 0
+FailsSome false tasks processes words m = SomeFails tasks processes words m
+FailsSome true tasks processes words m = SomeHeldFails tasks processes words m
 
 -- all images passed, and how many there were was printed
 abbrev pub ChecksAll : Bool → List Task → ℕ → List Word → Option (List ℕ) → Option (List ℕ)
@@ -30,8 +31,8 @@ ChecksAll held tasks processes words old new = (images : ℕ)
 
 -- why a check wasn't done; `none` says that nothing was printed
 abbrev pub IsUnchecked : Bool → List Task → ℕ → List Word → Type 0 → Printed StopsFault → Type 0
-IsUnchecked held tasks processes words none (Fault Mismatch) =
-    FailsSome held tasks processes words × none
+IsUnchecked held tasks processes words none (Fault (Mismatch m)) =
+    FailsSome held tasks processes words m × none
 IsUnchecked held tasks processes words none (Fault NoMemory) = none
 IsUnchecked held tasks processes words none Output =
     (images : ℕ) × PassesAll held tasks processes words images

@@ -1,5 +1,5 @@
 -- The runs of a script over a disk that holds writes back, and the images that their stops may leave.
-use Rattle.std.specs.Prelude.{◌≡◌, ◌<◌, ◌⊎◌, ◌+◌, ◌-◌, ℕ, zero, suc, Bool, List, length, min, option_map, ◌^◌}
+use Rattle.std.specs.Prelude.{◌≡◌, ◌<◌, ◌⊎◌, ◌+◌, ◌-◌, ℕ, zero, suc, Bool, List, length, min, Option, Some, option_map, ◌^◌}
 use Rattle.blocks.specs.FaultyDisk.{inner_of, kind_of, trap_of}
 use Rattle.blocks.specs.SyncDisk.{held_of}
 use Rattle.blocks.specs.contracts.sync.SyncDiskDisk.TheImpl.{ghosts}
@@ -15,9 +15,15 @@ use Rattle.player.specs.Stepping.{MakesTurns}
 use Rattle.player.specs.declared.player.Player.{Player}
 use Rattle.crash_check.specs.Choices.{HasAllDue, IsChoice, choice_count, due_files, left_by}
 use Rattle.crash_check.specs.Images.{HasFiles, kept_files}
+use Rattle.crash_check.specs.Mismatches.{LacksFiles, choice_of}
 use Rattle.crash_check.specs.declared.choices.Due.{Due}
+use Rattle.crash_check.specs.declared.mismatch.Cause.{Cause}
+use Rattle.crash_check.specs.declared.mismatch.Choice.{Choice}
+use Rattle.crash_check.specs.declared.mismatch.Mismatch.{Mismatch}
+use Rattle.crash_check.specs.declared.mismatch.Stop.{Stop}
+use Rattle.crash_check.specs.declared.mismatch.Stop.TheVariants.{End, Write, Sync as AtSync}
 use Rattle.messages.specs.declared.events.Event.{Event}
-use Rattle.stops.specs.Trials.{HasPlayed, IsUnopenedNew, MakesRun}
+use Rattle.stops.specs.Trials.{HasPlayed, IsUnopenedNew, MakesRun, TellsOtherRun, TellsUnopened}
 use Rattle.stops.specs.declared.held_trial.Calls.{Calls}
 use Rattle.stops.specs.declared.held_trial.Calls.TheVariants.{Writes, Syncs}
 use Rattle.stops.specs.declared.held_trial.HeldRun.{HeldRun}
@@ -69,10 +75,18 @@ abbrev pub KeepsAll : HeldPlayer → Type 0
 KeepsAll last = (keep : List Bool) → IsChoice (length (held_of (disk_of last))) keep
     → IsKeptBy last keep
 
--- one doesn't
-abbrev pub LosesSome : HeldPlayer → Type 0
-LosesSome last = (keep : List Bool) × IsChoice (length (held_of (disk_of last))) keep
-    × ¬ (IsKeptBy last keep)
+-- the image that this choice leaves has not these files, for this cause
+abbrev pub IsLostBy : HeldPlayer → List Bool → Cause → Type 0
+IsLostBy last keep cause = LacksFiles (left_by (disk_of last) keep)
+    (due_files (kept_files last.kernel.world.journal.list last.kernel.store.volume.log.committed)
+    (kept_files last.kernel.world.journal.list last.kernel.store.volume.log.opened)
+    (left_by (disk_of last) keep)) cause
+
+-- the choice that is told doesn't, for this cause
+abbrev pub LosesSome : HeldPlayer → Option Choice → Cause → Type 0
+LosesSome last choice cause = (keep : List Bool)
+    × IsChoice (length (held_of (disk_of last))) keep
+    × (choice ≡ Some (choice_of keep)) × IsLostBy last keep cause
 
 -- these are the files of the groups that a player committed, and of those that it opened
 pub record AreDue (last : HeldPlayer) (due : Due) : Type 0 where
@@ -108,12 +122,17 @@ pub record RunsHeld (words : List Word) (write : ℕ) (player : HeldPlayer) (cou
   pub images : count.images ≡ choice_count (length (held_of (disk_of last)))
   pub kept : KeepsAll last
 
--- one of them doesn't
-pub record LosesHeld (words : List Word) (write : ℕ) (player : HeldPlayer) : Type 0 where
+-- the one of this choice doesn't, for this cause
+pub record LosesHeld (words : List Word) (write : ℕ) (player : HeldPlayer) (choice : Option Choice)
+    (cause : Cause) : Type 0 where
   pub last : HeldPlayer
   pub events : List Event
   pub makes : MakesTurns over write words events player last
-  pub lost : LosesSome last
+  pub lost : LosesSome last choice cause
+
+-- so is it of turns of which this is told
+abbrev pub TellsHeldLoss : List Word → ℕ → HeldPlayer → Mismatch → Type 0
+TellsHeldLoss words write player m = LosesHeld words write player m.choice m.cause
 
 -- A run was made and came to this, and each image that it may have left at its end keeps its files.
 pub record IsTriedHeld (tasks : List Task) (processes : ℕ) (words : List Word) (write sync : ℕ)
@@ -127,19 +146,19 @@ pub record IsTriedHeld (tasks : List Task) (processes : ℕ) (words : List Word)
   pub images : count.images ≡ choice_count (length (held_of (disk_of last)))
   pub kept : KeepsAll last
 
--- a run was made, and one of the images that it may have left doesn't
+-- a run was made, and of the images that it may have left that of this choice doesn't
 pub record HasLostHeld (tasks : List Task) (processes : ℕ) (words : List Word) (write sync : ℕ)
-    : Type 0 where
+    (choice : Option Choice) (cause : Cause) : Type 0 where
   pub player : HeldPlayer
   pub last : HeldPlayer
   pub run : MakesHeldRun tasks processes words write sync player last
-  pub lost : LosesSome last
+  pub lost : LosesSome last choice cause
 
--- why a run doesn't pass
-abbrev pub FailsHeld : List Task → ℕ → List Word → ℕ → ℕ → Type 0
-FailsHeld tasks processes words write sync =
-    HasLostHeld tasks processes words write sync
-    ⊎ IsUnopenedNew below over (FailsSync sync) processes write
+-- why a run doesn't pass, as a mismatch tells it
+abbrev pub FailsHeld : List Task → ℕ → List Word → ℕ → ℕ → Mismatch → Type 0
+FailsHeld tasks processes words write sync m =
+    HasLostHeld tasks processes words write sync m.choice m.cause
+    ⊎ (TellsUnopened m × IsUnopenedNew below over (FailsSync sync) processes write)
 
 -- The call that a run is stopped before, where so many of its kind were made in front of it: the
 -- number of the write, and that of the sync, for which the opening's is the first.
@@ -163,12 +182,17 @@ PassesHeld tasks processes words calls before images = (run : HeldRun)
     × IsTriedHeld tasks processes words (write_behind calls before) (sync_behind calls before) run
     × (calls_of calls run ≡ before) × (run.images ≡ images)
 
--- it doesn't pass, or made other calls
-abbrev pub FailsHeldBehind : List Task → ℕ → List Word → Calls → ℕ → Type 0
-FailsHeldBehind tasks processes words calls before =
-    FailsHeld tasks processes words (write_behind calls before) (sync_behind calls before)
-    ⊎ ((run : HeldRun) × ¬ (calls_of calls run ≡ before)
-    × IsTriedHeld tasks processes words (write_behind calls before) (sync_behind calls before) run)
+-- where such a run was stopped, by the number of that call behind the opening
+abbrev pub stop_behind : Calls → ℕ → Stop
+stop_behind Writes before = Write (before + 1)
+stop_behind Syncs before = AtSync (before + 1)
+
+-- it doesn't pass, or made other calls, and a mismatch tells that call, and why
+abbrev pub FailsHeldBehind : List Task → ℕ → List Word → Calls → ℕ → Mismatch → Type 0
+FailsHeldBehind tasks processes words calls before m = (m.stop ≡ stop_behind calls before)
+    × (FailsHeld tasks processes words (write_behind calls before) (sync_behind calls before) m
+    ⊎ (TellsOtherRun m × (run : HeldRun) × ¬ (calls_of calls run ≡ before)
+    × IsTriedHeld tasks processes words (write_behind calls before) (sync_behind calls before) run))
 
 -- a sum of counts, which stays at the limit
 abbrev pub limited_sum : ℕ → ℕ → ℕ
@@ -193,9 +217,19 @@ pub record AllHeldPass (tasks : List Task) (processes : ℕ) (words : List Word)
   pub syncs : PassEach tasks processes words Syncs (run.syncs - 1) before_syncs
   pub count : images ≡ limited_sum (limited_sum run.images before_writes) before_syncs
 
--- the whole run doesn't pass, or one of those that are stopped
-abbrev pub SomeHeldFails : List Task → ℕ → List Word → Type 0
-SomeHeldFails tasks processes words = FailsHeld tasks processes words 0 0
+-- the first run that doesn't pass, of those that are stopped before so many calls, is the one that a
+-- mismatch tells
+abbrev pub FirstFails : List Task → ℕ → List Word → Calls → ℕ → Mismatch → Type 0
+FirstFails tasks processes words calls count m = (before : ℕ) × (before < count)
+    × FailsHeldBehind tasks processes words calls before m
+    × (images : ℕ) × PassEach tasks processes words calls before images
+
+-- The run that a mismatch tells doesn't pass: the whole one, or the first of those that are stopped,
+-- before a write or, behind all these, before a sync.
+abbrev pub SomeHeldFails : List Task → ℕ → List Word → Mismatch → Type 0
+SomeHeldFails tasks processes words m =
+    ((m.stop ≡ End) × FailsHeld tasks processes words 0 0 m)
     ⊎ ((run : HeldRun) × IsTriedHeld tasks processes words 0 0 run
-    × (calls : Calls) × (before : ℕ) × (before < calls_of calls run)
-    × FailsHeldBehind tasks processes words calls before)
+    × (FirstFails tasks processes words Writes run.writes m
+    ⊎ (FirstFails tasks processes words Syncs (run.syncs - 1) m
+    × (images : ℕ) × PassEach tasks processes words Writes run.writes images)))

@@ -1,5 +1,5 @@
 -- The runs of a script over a new image, and whether what they leave has the files that it has to.
-use Rattle.std.specs.Prelude.{◌≡◌, ◌≢◌, ◌<◌, ◌⊎◌, ◌+◌, ◌-◌, ⊤, ℕ, false, List, option_map}
+use Rattle.std.specs.Prelude.{◌≡◌, ◌≢◌, ◌<◌, ◌⊎◌, ◌+◌, ◌-◌, ⊤, ℕ, false, List, None, option_map}
 use Rattle.blocks.specs.Disk.{counted}
 use Rattle.blocks.specs.contracts.memory.MemDiskDisk.TheImpl.{ghosts}
 use Rattle.blocks.specs.declared.disk.Disk.{Ghosts}
@@ -17,6 +17,11 @@ use Rattle.player.specs.Stepping.{MakesTurns}
 use Rattle.player.specs.declared.player.Player.{Player}
 use Rattle.player.specs.declared.turns.Outcome.{Outcome}
 use Rattle.crash_check.specs.Images.{HasFiles, is_want_of_memory, kept_files, new_image}
+use Rattle.crash_check.specs.Mismatches.{LacksFiles}
+use Rattle.crash_check.specs.declared.mismatch.Cause.{Cause}
+use Rattle.crash_check.specs.declared.mismatch.Cause.TheVariants.{Unopened, OtherRun}
+use Rattle.crash_check.specs.declared.mismatch.Mismatch.{Mismatch}
+use Rattle.crash_check.specs.declared.mismatch.Stop.TheVariants.{End, Write}
 use Rattle.stops.specs.declared.trial.Played.{Played}
 
 -- what contracts see of a disk in memory of which one call fails
@@ -68,6 +73,11 @@ abbrev pub IsKeptOf : MemDisk → ℕ → Played → Type 0
 IsKeptOf d writes played = (writes ≡ played.ended.writes)
     × HasFiles (ghosts.image d) (option_map (λ f. f.items) played.files)
 
+-- what is left on the disk has not the files that are due, and a mismatch tells the cause
+abbrev pub IsLostOf : MemDisk → Mismatch → Played → Type 0
+IsLostOf d m played = (m.choice ≡ None)
+    × LacksFiles (ghosts.image d) (option_map (λ f. f.items) played.files) m.cause
+
 -- the turns of these words over a player made so many writes, and kept its files
 pub record RunsTo (words : List Word) (stop : ℕ) (player : MemoryPlayer) (count : ℕ)
     : Type 0 where
@@ -77,12 +87,22 @@ pub record RunsTo (words : List Word) (stop : ℕ) (player : MemoryPlayer) (coun
   pub writes : count ≡ writes_of player last
   pub kept : IsKept last
 
--- they didn't
-pub record Loses (words : List Word) (stop : ℕ) (player : MemoryPlayer) : Type 0 where
+-- what a run left has not these files, for this cause
+abbrev pub IsLost : MemoryPlayer → Cause → Type 0
+IsLost last cause = LacksFiles (memory.image last.kernel.store.volume.device)
+    (kept_files last.kernel.world.journal.list last.kernel.store.volume.log.committed) cause
+
+-- the turns of these words over a player left other files, for this cause
+pub record Loses (words : List Word) (stop : ℕ) (player : MemoryPlayer) (cause : Cause)
+    : Type 0 where
   pub last : MemoryPlayer
   pub events : List Event
   pub makes : MakesTurns memory stop words events player last
-  pub lost : ¬ (IsKept last)
+  pub lost : IsLost last cause
+
+-- so did turns of which this is told
+abbrev pub TellsLoss : List Word → ℕ → MemoryPlayer → Mismatch → Type 0
+TellsLoss words stop player m = (m.choice ≡ None) × Loses words stop player m.cause
 
 -- a run of so many writes was made, and kept its files
 pub record IsTried (tasks : List Task) (processes : ℕ) (words : List Word) (stop count : ℕ)
@@ -93,13 +113,13 @@ pub record IsTried (tasks : List Task) (processes : ℕ) (words : List Word) (st
   pub writes : count ≡ writes_of player last
   pub kept : IsKept last
 
--- a run was made, and didn't keep its files
+-- a run was made, and didn't keep its files, for this cause
 pub record HasLost (tasks : List Task) (processes : ℕ) (words : List Word) (stop : ℕ)
-    : Type 0 where
+    (cause : Cause) : Type 0 where
   pub player : MemoryPlayer
   pub last : MemoryPlayer
   pub run : MakesRun memory tasks processes words stop player last
-  pub lost : ¬ (IsKept last)
+  pub lost : IsLost last cause
 
 -- Over a new image, on a disk of that kind of which that write is not made, no player was opened, and
 -- not for want of memory.
@@ -114,19 +134,29 @@ pub record IsUnopenedNew {D N : Type 0} (below : Ghosts D N)
     pub unopened : IsUnopenedOver disk processes stop before now fault
     pub other : is_want_of_memory fault ≡ false
 
--- why a run doesn't pass
-abbrev pub Fails : List Task → ℕ → List Word → ℕ → Type 0
-Fails tasks processes words stop = HasLost tasks processes words stop
-    ⊎ IsUnopenedNew ghosts memory (λ _. ⊤) processes stop
+-- a mismatch tells that no player was opened
+abbrev pub TellsUnopened : Mismatch → Type 0
+TellsUnopened m = (m.choice ≡ None) × (m.cause ≡ Unopened)
+
+-- why a run doesn't pass, as a mismatch tells it
+abbrev pub Fails : List Task → ℕ → List Word → ℕ → Mismatch → Type 0
+Fails tasks processes words stop m =
+    ((m.choice ≡ None) × HasLost tasks processes words stop m.cause)
+    ⊎ (TellsUnopened m × IsUnopenedNew ghosts memory (λ _. ⊤) processes stop)
 
 -- the run that is stopped behind so many writes made just these, and kept its files
 abbrev pub Passes : List Task → ℕ → List Word → ℕ → Type 0
 Passes tasks processes words before = IsTried tasks processes words (before + 1) before
 
--- it doesn't pass, or made other writes
-abbrev pub FailsBehind : List Task → ℕ → List Word → ℕ → Type 0
-FailsBehind tasks processes words before = Fails tasks processes words (before + 1)
-    ⊎ ((writes : ℕ) × (writes ≢ before) × IsTried tasks processes words (before + 1) writes)
+-- a mismatch tells that a run is not the one that was made before
+abbrev pub TellsOtherRun : Mismatch → Type 0
+TellsOtherRun m = (m.choice ≡ None) × (m.cause ≡ OtherRun)
+
+-- it doesn't pass, or made other writes, and a mismatch tells that write, and why
+abbrev pub FailsBehind : List Task → ℕ → List Word → ℕ → Mismatch → Type 0
+FailsBehind tasks processes words before m = (m.stop ≡ Write (before + 1))
+    × (Fails tasks processes words (before + 1) m ⊎ (TellsOtherRun m
+    × (writes : ℕ) × (writes ≢ before) × IsTried tasks processes words (before + 1) writes))
 
 -- A run made so many writes, and kept its files; and so did one stopped before each of them. There
 -- is an image for each, and one more.
@@ -137,8 +167,9 @@ pub record AllPass (tasks : List Task) (processes : ℕ) (words : List Word) (im
   pub each : (before : ℕ) → before < writes → Passes tasks processes words before
   pub count : images ≡ counted writes 1
 
--- the whole run doesn't pass, or one of those that are stopped
-abbrev pub SomeFails : List Task → ℕ → List Word → Type 0
-SomeFails tasks processes words = Fails tasks processes words 0
+-- The run that a mismatch tells doesn't pass: the whole one, or the first of those that are stopped.
+abbrev pub SomeFails : List Task → ℕ → List Word → Mismatch → Type 0
+SomeFails tasks processes words m = ((m.stop ≡ End) × Fails tasks processes words 0 m)
     ⊎ ((writes : ℕ) × IsTried tasks processes words 0 writes
-    × (before : ℕ) × (before < writes) × FailsBehind tasks processes words before)
+    × (before : ℕ) × (before < writes) × FailsBehind tasks processes words before m
+    × ((earlier : ℕ) → earlier < before → Passes tasks processes words earlier))

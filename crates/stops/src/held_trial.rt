@@ -7,7 +7,6 @@ ghost use Rattle.rings.specs.Boards.{KeeperOf, WatchOf, asked, published};
 ghost use Rattle.player.specs.Opening.{IsArmed, IsOpenedOver};
 ghost use Rattle.player.specs.Stepping.{IsSeated};
 ghost use Rattle.scripts.specs.Schedule.{is_word_of};
-ghost use Rattle.crash_check.specs.declared.fault.StopsFault.TheVariants as fault;
 ghost use Rattle.blocks.specs.FaultyDisk.{inner_of};
 ghost use Rattle.stops.specs.Holding.{
   FailsHeld,
@@ -15,22 +14,24 @@ ghost use Rattle.stops.specs.Holding.{
   HasPlayedHeld,
   IsJudged,
   IsTriedHeld,
-  LosesHeld,
   RunsHeld,
+  TellsHeldLoss,
   below,
   calls_of,
   over,
+  stop_behind,
   sync_behind,
   write_behind,
 };
-ghost use Rattle.stops.specs.Trials.{IsUnopenedNew};
+ghost use Rattle.stops.specs.Trials.{IsUnopenedNew, TellsUnopened};
 ghost use Rattle.crash_check.specs.Choices.{LacksDue};
 ghost use Rattle.crash_check.specs.Images.{kept_files, new_image};
+ghost use Rattle.crash_check.specs.Mismatches.{OnMismatch};
 
 use crate::copying::copies_of;
 use crate::running::{opened, play};
 use blocks::{Disk, FaultyDisk, Kind, NoMemory, SyncDisk};
-use crash_check::{Due, StopsFault, kept_files, new_image, try_choices};
+use crash_check::{Due, Stop, StopsFault, kept_files, new_image, try_choices};
 use model::types::Entry;
 use player::{Hands, Outcome, Player, open_player, take_board};
 use rings::Board;
@@ -78,6 +79,17 @@ impl Calls {
             Calls::Syncs => before + 2,
         }
     }
+
+    /// Where a run is stopped behind so many of them: both are counted behind the opening.
+    pub fn stop_behind(self, before: u64) -> Stop
+        requires { before + 1 < 2 ^ 64 }
+        ensures { result ≡ stop_behind self before }
+    {
+        match self {
+            Calls::Writes => Stop::Write(before + 1),
+            Calls::Syncs => Stop::Sync(before + 1),
+        }
+    }
 }
 
 /// What a run came to.
@@ -98,8 +110,9 @@ pub struct HeldRun {
 ///
 /// # Errors
 ///
-/// `Mismatch` where one of these images can't be recovered, or has other files; `NoMemory` where
-/// memory was refused, also that of an operation.
+/// `Mismatch` where one of these images can't be recovered, or has other files: it tells which held
+/// writes that one has, and the first file that differs, and leaves it to the caller where the run
+/// was stopped. `NoMemory` where memory was refused, also that of an operation.
 pub fn try_held_run(
     alloc: Global,
     tasks: &[Task],
@@ -111,8 +124,8 @@ pub fn try_held_run(
     requires tasks { All (λ task. task.pid < processes) tasks.now }
     requires words { IsTrue (list_all (is_word_of processes) words.now) }
     ensures tried { IfOk result (IsTriedHeld tasks.now processes words.now write sync) }
-    ensures fails { IfErr result (λ f. f ≡ fault.Mismatch
-        → FailsHeld tasks.now processes words.now write sync) }
+    ensures fails { IfErr result (λ f. OnMismatch f
+        (FailsHeld tasks.now processes words.now write sync)) }
 {
     let (board, hands) = take_board(alloc)?;
     let player = open_held(alloc, &board, hands, tasks, processes, write, sync)?;
@@ -138,8 +151,7 @@ fn finish(
         (list_all (is_word_of (length player.kernel.world.processes)) words.now) }
     requires seated { IsSeated player }
     ensures tried { IfOk result (RunsHeld words.now write player.entry) }
-    ensures fails { IfErr result (λ f. f ≡ fault.Mismatch
-        → LosesHeld words.now write player.entry) }
+    ensures fails { IfErr result (λ f. OnMismatch f (TellsHeldLoss words.now write player.entry)) }
 {
     let played = play_held(alloc, &mut player, words, write);
     judge(alloc, player.into_disk().into_inner(), played)
@@ -182,8 +194,8 @@ fn judge(
     played: Result<Played, NoMemory>,
 ) -> Result<HeldRun, StopsFault>
     ensures judged { IfOk result (λ run. IsOkAnd played (IsJudged disk run)) }
-    ensures lacks { IfErr result (λ f. f ≡ fault.Mismatch
-        → IsOkAnd played (λ made. LacksDue disk made.due)) }
+    ensures lacks { IfErr result (λ f. OnMismatch f (λ m.
+        IsOkAnd played (λ made. LacksDue disk made.due m))) }
 {
     let played = played?;
     let images = try_choices(alloc, &disk, &played.due)?;
@@ -215,8 +227,8 @@ fn open_held<'a>(
         FailsSync sync (inner_of player.kernel.store.volume.device)) }
     ensures processes { IfOk result (λ player. length player.kernel.world.processes ≡ processes) }
     ensures seated { IfOk result IsSeated }
-    ensures fails { IfErr result (λ f. f ≡ fault.Mismatch
-        → IsUnopenedNew below over (FailsSync sync) processes write) }
+    ensures fails { IfErr result (λ f. OnMismatch f (λ m. TellsUnopened m
+        × IsUnopenedNew below over (FailsSync sync) processes write)) }
 {
     let image = new_image(alloc)?;
     let held = SyncDisk::new(alloc, image)?;

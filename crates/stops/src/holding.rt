@@ -1,11 +1,15 @@
 // A script over a disk that holds writes back, at each of its stops.
-ghost use Rattle.std.specs.Prelude.{◌≡◌, ◌<◌, ◌≤◌, ◌+◌, ◌^◌, ℕ, All, IfOk, IfErr, IsTrue};
+ghost use Rattle.std.specs.Prelude.{◌≡◌, ◌<◌, ◌≤◌, ◌+◌, ◌^◌, All, IfOk, IfErr, IsTrue};
 ghost use Rattle.std.specs.List.{list_all};
 ghost use Rattle.scripts.specs.Schedule.{is_word_of};
-ghost use Rattle.crash_check.specs.declared.fault.StopsFault.TheVariants as fault;
+ghost use Rattle.crash_check.specs.Mismatches.{OnMismatch};
+ghost use Rattle.crash_check.specs.declared.mismatch.Stop.TheVariants.{End};
 ghost use Rattle.stops.specs.Holding.{
   AllHeldPass,
+  FailsHeld,
   FailsHeldBehind,
+  FirstFails,
+  IsTriedHeld,
   PassEach,
   PassesHeld,
   SomeHeldFails,
@@ -13,8 +17,8 @@ ghost use Rattle.stops.specs.Holding.{
   sync_behind,
 };
 
-use crate::held_trial::{Calls, try_held_run};
-use crash_check::StopsFault;
+use crate::held_trial::{Calls, HeldRun, try_held_run};
+use crash_check::{Cause, Mismatch, Stop, StopsFault};
 use messages::Meter;
 use scripts::{Task, Word};
 use std::alloc::Global;
@@ -24,7 +28,8 @@ use std::alloc::Global;
 ///
 /// # Errors
 ///
-/// `Mismatch` at the first image that can't be recovered, or has other files than it has to have;
+/// `Mismatch` at the first image that can't be recovered, or has other files than it has to have: it
+/// tells the write or the sync, which held writes that image has, and the first file that differs.
 /// `NoMemory` where memory was refused, also that of an operation.
 pub fn try_held_stops<P: Meter>(
     alloc: Global,
@@ -36,10 +41,10 @@ pub fn try_held_stops<P: Meter>(
     requires tasks { All (λ task. task.pid < processes) tasks.now }
     requires words { IsTrue (list_all (is_word_of processes) words.now) }
     ensures all { IfOk result (AllHeldPass tasks.now processes words.now) }
-    ensures some { IfErr result (λ f. f ≡ fault.Mismatch
-        → SomeHeldFails tasks.now processes words.now) }
+    ensures some { IfErr result (λ f. OnMismatch f
+        (SomeHeldFails tasks.now processes words.now)) }
 {
-    let whole = try_held_run(alloc, tasks, processes, words, 0, 0)?;
+    let whole = try_whole(alloc, tasks, processes, words)?;
     let writes = Calls::Writes.made_by(whole);
     let at_writes = try_before(
         alloc,
@@ -68,6 +73,25 @@ pub fn try_held_stops<P: Meter>(
     )
 }
 
+// Makes the whole run. What it came to.
+fn try_whole(
+    alloc: Global,
+    tasks: &[Task],
+    processes: u32,
+    words: &[Word],
+) -> Result<HeldRun, StopsFault>
+    requires tasks { All (λ task. task.pid < processes) tasks.now }
+    requires words { IsTrue (list_all (is_word_of processes) words.now) }
+    ensures tried { IfOk result (IsTriedHeld tasks.now processes words.now 0 0) }
+    ensures fails { IfErr result (λ f. OnMismatch f (λ m. (m.stop ≡ End)
+        × FailsHeld tasks.now processes words.now 0 0 m)) }
+{
+    match try_held_run(alloc, tasks, processes, words, 0, 0) {
+        Ok(run) => Ok(run),
+        Err(fault) => Err(fault.at(Stop::End)),
+    }
+}
+
 // Makes the run up to each of so many calls. How many images these runs may leave.
 fn try_before<P: Meter>(
     alloc: Global,
@@ -82,8 +106,8 @@ fn try_before<P: Meter>(
     requires words { IsTrue (list_all (is_word_of processes) words.now) }
     requires some { sync_behind calls count ≤ 2 ^ 64 }
     ensures all { IfOk result (PassEach tasks.now processes words.now calls count) }
-    ensures some { IfErr result (λ f. f ≡ fault.Mismatch → (before : ℕ) × (before < count)
-        × FailsHeldBehind tasks.now processes words.now calls before) }
+    ensures some { IfErr result (λ f. OnMismatch f
+        (FirstFails tasks.now processes words.now calls count)) }
 {
     let mut images = 0u64;
     for before in 0..count {
@@ -108,15 +132,16 @@ fn try_stop(
     requires some { before + 1 < 2 ^ 64 }
     requires next { sync_behind calls before < 2 ^ 64 }
     ensures passes { IfOk result (PassesHeld tasks.now processes words.now calls before) }
-    ensures fails { IfErr result (λ f. f ≡ fault.Mismatch
-        → FailsHeldBehind tasks.now processes words.now calls before) }
+    ensures fails { IfErr result (λ f. OnMismatch f
+        (FailsHeldBehind tasks.now processes words.now calls before)) }
 {
     let write = calls.write_behind(before);
     let sync = calls.sync_behind(before);
-    let run = try_held_run(alloc, tasks, processes, words, write, sync)?;
-    if calls.made_by(run) != before {
+    let stop = calls.stop_behind(before);
+    match try_held_run(alloc, tasks, processes, words, write, sync) {
+        Ok(run) if calls.made_by(run) == before => Ok(run.images),
         // It is not the run that was made before.
-        return Err(StopsFault::Mismatch);
+        Ok(_other) => Err(StopsFault::Mismatch(Mismatch::new(Cause::OtherRun)).at(stop)),
+        Err(fault) => Err(fault.at(stop)),
     }
-    Ok(run.images)
 }

@@ -4,11 +4,11 @@ ghost use Rattle.std.specs.List.{list_all};
 ghost use Rattle.player.specs.Stepping.{IsSeated};
 ghost use Rattle.crash_check.specs.Images.{is_want_of_memory};
 ghost use Rattle.scripts.specs.Schedule.{is_word_of};
-ghost use Rattle.crash_check.specs.declared.fault.StopsFault.TheVariants as fault;
-ghost use Rattle.stops.specs.Trials.{HasPlayed};
+ghost use Rattle.crash_check.specs.Mismatches.{OnMismatch};
+ghost use Rattle.stops.specs.Trials.{HasPlayed, TellsUnopened};
 
 use blocks::{Disk, FaultyDisk, NoMemory};
-use crash_check::{StopsFault, is_want_of_memory};
+use crash_check::{Cause, Mismatch, StopsFault, is_want_of_memory};
 use kernel::OpenFault;
 use player::{Outcome, Player, make_turns};
 use scripts::Word;
@@ -22,13 +22,13 @@ pub fn opened<'a, D: Disk + Drop>(
     made: Result<Player<'a, D>, (OpenFault, D)>,
 ) -> Result<Player<'a, D>, StopsFault>
     ensures player { IfOk result (λ player. made.entry ≡ Ok player) }
-    ensures fault { IfErr result (λ f. f ≡ fault.Mismatch
-        → IsErrAnd made.entry (λ e. is_want_of_memory e.0 ≡ false)) }
+    ensures fault { IfErr result (λ f. OnMismatch f (λ m.
+        TellsUnopened m × IsErrAnd made.entry (λ e. is_want_of_memory e.0 ≡ false))) }
 {
     match made {
         Ok(player) => Ok(player),
         Err((fault, _disk)) if is_want_of_memory(&fault) => Err(StopsFault::NoMemory),
-        Err(_) => Err(StopsFault::Mismatch),
+        Err(_) => Err(StopsFault::Mismatch(Mismatch::new(Cause::Unopened))),
     }
 }
 

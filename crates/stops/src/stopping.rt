@@ -2,13 +2,14 @@
 ghost use Rattle.std.specs.Prelude.{◌≡◌, ◌<◌, ◌+◌, ◌^◌, All, IfOk, IfErr, IsTrue, OnOk};
 ghost use Rattle.std.specs.List.{list_all};
 ghost use Rattle.scripts.specs.Schedule.{is_word_of};
-ghost use Rattle.crash_check.specs.declared.fault.StopsFault.TheVariants as fault;
+ghost use Rattle.crash_check.specs.Mismatches.{OnMismatch};
+ghost use Rattle.crash_check.specs.declared.mismatch.Stop.TheVariants.{End};
 ghost use Rattle.stops.specs.Checks.{ChecksAll, FailsSome, IsUnchecked, PassesAll};
-ghost use Rattle.stops.specs.Trials.{AllPass, FailsBehind, Passes, SomeFails};
+ghost use Rattle.stops.specs.Trials.{AllPass, Fails, FailsBehind, IsTried, Passes, SomeFails};
 
 use crate::holding::try_held_stops;
 use crate::trial::try_run;
-use crash_check::StopsFault;
+use crash_check::{Cause, Mismatch, Stop, StopsFault};
 use messages::{Meter, Printed, print_images};
 use scripts::{Task, Word};
 use std::alloc::Global;
@@ -24,9 +25,10 @@ use std::io::Write;
 ///
 /// `Mismatch` where some image can't be recovered or has other files than those after
 /// the committed groups (over a disk that holds writes back those after all groups that were opened,
-/// where the image's own header logs something), and `NoMemory` where memory was refused, also
-/// that of an operation: then nothing was printed. Else `Output`. By its code the first such image
-/// ends the check.
+/// where the image's own header logs something): it tells at which write or sync, which held writes
+/// that image has, and the first file that differs. `NoMemory` where memory was refused, also that of
+/// an operation. With both nothing was printed. Else `Output`. The run of a `Mismatch` is the first that
+/// doesn't pass: the whole one, then those up to each write, then those up to each sync.
 pub fn check_stops<P: Meter, O: Write>(
     alloc: Global,
     tasks: &[Task],
@@ -61,8 +63,8 @@ fn try_all<P: Meter>(
     requires tasks { All (λ task. task.pid < processes) tasks.now }
     requires words { IsTrue (list_all (is_word_of processes) words.now) }
     ensures all { IfOk result (PassesAll held tasks.now processes words.now) }
-    ensures some { IfErr result (λ f. f ≡ fault.Mismatch
-        → FailsSome held tasks.now processes words.now) }
+    ensures some { IfErr result (λ f. OnMismatch f
+        (FailsSome held tasks.now processes words.now)) }
 {
     if held {
         try_held_stops(alloc, tasks, processes, words, progress)
@@ -82,15 +84,34 @@ fn try_stops<P: Meter>(
     requires tasks { All (λ task. task.pid < processes) tasks.now }
     requires words { IsTrue (list_all (is_word_of processes) words.now) }
     ensures all { IfOk result (AllPass tasks.now processes words.now) }
-    ensures some { IfErr result (λ f. f ≡ fault.Mismatch
-        → SomeFails tasks.now processes words.now) }
+    ensures some { IfErr result (λ f. OnMismatch f
+        (SomeFails tasks.now processes words.now)) }
 {
-    let writes = try_run(alloc, tasks, processes, words, 0)?;
+    let writes = try_whole(alloc, tasks, processes, words)?;
     for before in 0..writes {
         try_behind(alloc, tasks, processes, words, before)?;
         progress.reached(before + 1, writes, "stops");
     }
     Ok(writes.saturating_add(1))
+}
+
+// Makes the whole run. How many writes it made.
+fn try_whole(
+    alloc: Global,
+    tasks: &[Task],
+    processes: u32,
+    words: &[Word],
+) -> Result<u64, StopsFault>
+    requires tasks { All (λ task. task.pid < processes) tasks.now }
+    requires words { IsTrue (list_all (is_word_of processes) words.now) }
+    ensures tried { IfOk result (IsTried tasks.now processes words.now 0) }
+    ensures fails { IfErr result (λ f. OnMismatch f (λ m. (m.stop ≡ End)
+        × Fails tasks.now processes words.now 0 m)) }
+{
+    match try_run(alloc, tasks, processes, words, 0) {
+        Ok(writes) => Ok(writes),
+        Err(fault) => Err(fault.at(Stop::End)),
+    }
 }
 
 // Makes the run up to the write behind so many.
@@ -105,13 +126,14 @@ fn try_behind(
     requires words { IsTrue (list_all (is_word_of processes) words.now) }
     requires some { before + 1 < 2 ^ 64 }
     ensures passes { OnOk result (Passes tasks.now processes words.now before) }
-    ensures fails { IfErr result (λ f. f ≡ fault.Mismatch
-        → FailsBehind tasks.now processes words.now before) }
+    ensures fails { IfErr result (λ f. OnMismatch f
+        (FailsBehind tasks.now processes words.now before)) }
 {
-    let writes = try_run(alloc, tasks, processes, words, before + 1)?;
-    if writes != before {
+    let stop = Stop::Write(before + 1);
+    match try_run(alloc, tasks, processes, words, before + 1) {
+        Ok(writes) if writes == before => Ok(()),
         // It is not the run that was made before.
-        return Err(StopsFault::Mismatch);
+        Ok(_other) => Err(StopsFault::Mismatch(Mismatch::new(Cause::OtherRun)).at(stop)),
+        Err(fault) => Err(fault.at(stop)),
     }
-    Ok(())
 }

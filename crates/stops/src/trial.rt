@@ -1,28 +1,30 @@
 // One run, and whether the image that it leaves has the files that it has to have.
-ghost use Rattle.std.specs.Prelude.{◌≡◌, ◌<◌, ⊤, false, All, IfOk, IfErr, IsTrue, length, option_map};
+ghost use Rattle.std.specs.Prelude.{◌≡◌, ◌<◌, ⊤, false, All, IfOk, IfErr, IsTrue, length};
 ghost use Rattle.std.specs.Result.{IsOkAnd};
 ghost use Rattle.rings.specs.Boards.{KeeperOf, WatchOf, asked, published};
 ghost use Rattle.player.specs.Opening.{IsArmed, IsOpenedOver};
 ghost use Rattle.player.specs.Stepping.{IsSeated};
 ghost use Rattle.std.specs.List.{list_all};
 ghost use Rattle.scripts.specs.Schedule.{is_word_of};
-ghost use Rattle.crash_check.specs.declared.fault.StopsFault.TheVariants as fault;
-ghost use Rattle.crash_check.specs.Images.{HasFiles, new_image};
+ghost use Rattle.crash_check.specs.Images.{new_image};
+ghost use Rattle.crash_check.specs.Mismatches.{OnMismatch};
 ghost use Rattle.stops.specs.Trials.{
   Fails,
   HasPlayedOn,
   IsKeptOf,
+  IsLostOf,
   IsTried,
   IsUnopenedNew,
-  Loses,
   RunsTo,
+  TellsLoss,
+  TellsUnopened,
   memory,
 };
 
 use crate::copying::copies_of;
 use crate::running::{opened, play};
 use blocks::{Disk, MemDisk, NoMemory};
-use crash_check::{StopsFault, has_files, kept_files, new_image};
+use crash_check::{Mismatch, StopsFault, cause_in, kept_files, new_image};
 use player::{Hands, Outcome, Player, open_player, take_board};
 use reference::files::Files;
 use rings::Board;
@@ -35,8 +37,9 @@ use std::alloc::Global;
 ///
 /// # Errors
 ///
-/// `Mismatch` where the image that is left can't be recovered, or has other files; `NoMemory` where
-/// memory was refused, also that of an operation.
+/// `Mismatch` where the image that is left can't be recovered, or has other files: it tells the first
+/// file that differs, and leaves it to the caller where the run was stopped. `NoMemory` where memory
+/// was refused, also that of an operation.
 pub fn try_run(
     alloc: Global,
     tasks: &[Task],
@@ -47,8 +50,8 @@ pub fn try_run(
     requires tasks { All (λ task. task.pid < processes) tasks.now }
     requires words { IsTrue (list_all (is_word_of processes) words.now) }
     ensures tried { IfOk result (IsTried tasks.now processes words.now stop) }
-    ensures fails { IfErr result (λ f. f ≡ fault.Mismatch
-        → Fails tasks.now processes words.now stop) }
+    ensures fails { IfErr result (λ f. OnMismatch f
+        (Fails tasks.now processes words.now stop)) }
 {
     let (board, hands) = take_board(alloc)?;
     let player = open(alloc, &board, hands, tasks, processes, stop)?;
@@ -75,7 +78,7 @@ fn finish(
         (list_all (is_word_of (length player.kernel.world.processes)) words.now) }
     requires seated { IsSeated player }
     ensures tried { IfOk result (RunsTo words.now stop player.entry) }
-    ensures fails { IfErr result (λ f. f ≡ fault.Mismatch → Loses words.now stop player.entry) }
+    ensures fails { IfErr result (λ f. OnMismatch f (TellsLoss words.now stop player.entry)) }
 {
     let played = play_kept(alloc, &mut player, words, stop);
     judge(alloc, player.into_disk(), played)
@@ -106,14 +109,12 @@ fn judge(
     played: Result<Played, NoMemory>,
 ) -> Result<u64, StopsFault>
     ensures kept { IfOk result (λ writes. IsOkAnd played (IsKeptOf disk writes)) }
-    ensures lost { IfErr result (λ f. f ≡ fault.Mismatch → IsOkAnd played (λ made.
-        ¬ (HasFiles (⟦<MemDisk as Disk>⟧.image disk) (option_map (λ f. f.items) made.files)))) }
+    ensures lost { IfErr result (λ f. OnMismatch f (λ m. IsOkAnd played (IsLostOf disk m))) }
 {
     let Played { ended, files } = played?;
-    if has_files(alloc, &mut disk, files)? {
-        Ok(ended.writes)
-    } else {
-        Err(StopsFault::Mismatch)
+    match cause_in(alloc, &mut disk, files)? {
+        None => Ok(ended.writes),
+        Some(cause) => Err(StopsFault::Mismatch(Mismatch::new(cause))),
     }
 }
 
@@ -135,8 +136,8 @@ fn open<'a>(
         IsArmed memory stop player.kernel.store.volume.device) }
     ensures processes { IfOk result (λ player. length player.kernel.world.processes ≡ processes) }
     ensures seated { IfOk result IsSeated }
-    ensures fails { IfErr result (λ f. f ≡ fault.Mismatch
-        → IsUnopenedNew ⟦<MemDisk as Disk>⟧ memory (λ _. ⊤) processes stop) }
+    ensures fails { IfErr result (λ f. OnMismatch f (λ m. TellsUnopened m
+        × IsUnopenedNew ⟦<MemDisk as Disk>⟧ memory (λ _. ⊤) processes stop)) }
 {
     let disk = new_image(alloc)?;
     let tasks = copies_of(alloc, tasks)?;

@@ -3,6 +3,7 @@ use Rattle.std.specs.List.{list_all}
 use Rattle.std.specs.Prelude.{IsTrue}
 use Rattle.std.proofs.lemmas.Result.{IfErr-weaker, IfOk-weaker}
 use Rattle.scripts.specs.Schedule.{is_word_of}
+use Rattle.crash_check.specs.Lemmas.Faults.{OnMismatch-weaker}
 use Rattle.stops.proofs.Runs.{lost_so, tried_so}
 use Rattle.stops.proofs.trial.try_run.Goals as goal
 
@@ -13,4 +14,4 @@ pub returns-clause-tried : goal.returns-clause-tried
 returns-clause-tried c = IfOk-weaker c.finish.result _ _ (tried_so c.args.tasks.now c.args.processes c.args.words.now c.args.stop c.in_ok-player.player c.in_ok-player.ensures.opened c.in_ok-player.ensures.armed) c.finish.ensures.tried
 
 pub returns-clause-fails : goal.returns-clause-fails
-returns-clause-fails c = IfErr-weaker c.finish.result _ _ (λ f loses mismatch. lost_so c.args.tasks.now c.args.processes c.args.words.now c.args.stop c.in_ok-player.player c.in_ok-player.ensures.opened c.in_ok-player.ensures.armed (loses mismatch)) c.finish.ensures.fails
+returns-clause-fails c = IfErr-weaker c.finish.result _ _ (λ f. OnMismatch-weaker f _ _ (λ m loses. lost_so c.args.tasks.now c.args.processes c.args.words.now c.args.stop c.in_ok-player.player c.in_ok-player.ensures.opened c.in_ok-player.ensures.armed m loses)) c.finish.ensures.fails
