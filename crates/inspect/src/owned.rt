@@ -1,9 +1,8 @@
 // The blocks that files own, gathered inode by inode.
-ghost use Rattle.std.specs.Prelude.{◌≡◌, ◌≤◌, ◌++◌, IfOk, None, OnOk, length};
+ghost use Rattle.std.specs.Prelude.{◌≡◌, ◌≤◌, ◌++◌, IfOk, OnOk, length};
 ghost use Rattle.blocks.specs.Calls.{OnlyReads};
 ghost use Rattle.model.specs.Log.{recovered};
 ghost use Rattle.model.specs.Names.{names_of, names_under};
-ghost use Rattle.model.specs.Verdict.{verdict};
 ghost use Rattle.offline.specs.Recovered.{IsRecoveredOf};
 ghost use Rattle.offline.specs.Checked.{IsCheckedOf};
 ghost use Rattle.inspect.specs.Gathering.{KeepsCount, LieBehindLog};

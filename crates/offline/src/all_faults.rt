@@ -1,14 +1,14 @@
 // All faults of an image, in one pass over what recovery would leave.
 ghost use Rattle.std.specs.Prelude.{◌≡◌, ◌≢◌, ◌≤◌, ◌<◌, ◌∷◌, ◌++◌, [], length, None, OnOk, IfOk, IfErr};
 ghost use Rattle.blocks.specs.Calls.{OnlyReads};
-ghost use Rattle.blocks.specs.Disk.{Image, block_at};
+ghost use Rattle.blocks.specs.Disk.{Image};
 ghost use Rattle.model.specs.Faults.{faults, inodes_faults, marks_faults};
 ghost use Rattle.model.specs.Layout.{inode_of, inode_count_of, inode_block};
 ghost use Rattle.model.specs.Log.{recovered};
 ghost use Rattle.model.specs.Places.{places_of};
 ghost use Rattle.model.specs.Verdict.{places_below};
 ghost use Rattle.offline.specs.Cause.{GoesThrough};
-ghost use Rattle.offline.specs.Check.{IsGround, MayJudge, MayLoad};
+ghost use Rattle.offline.specs.Check.{IsGround, MayJudge};
 ghost use Rattle.offline.specs.Notes.{IsRefusedFor, NotesInode, NotesInodes, early_fault};
 ghost use Rattle.offline.specs.Owners.{SameLimits, Stand};
 ghost use Rattle.offline.specs.Recovered.{IsRecoveredOf};

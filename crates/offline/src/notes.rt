@@ -1,18 +1,13 @@
 // All faults of an inode's pointers, whatever they lead to.
-ghost use Rattle.std.specs.Prelude.{◌≡◌, ◌∷◌, ◌++◌, [], length, OnOk};
-ghost use Rattle.blocks.specs.Calls.{OnlyReads};
+ghost use Rattle.std.specs.Prelude.{◌≡◌, ◌∷◌, ◌++◌, [], OnOk};
 ghost use Rattle.blocks.specs.Disk.{Image};
 ghost use Rattle.model.specs.Faults.{listed};
-ghost use Rattle.model.specs.Log.{recovered};
-ghost use Rattle.model.specs.Places.{pointers_in};
-ghost use Rattle.offline.specs.Cause.{GoesThrough};
 ghost use Rattle.offline.specs.Notes.{NotesPointers};
 ghost use Rattle.offline.specs.Owners.{SameLimits};
-ghost use Rattle.offline.specs.Recovered.{IsRecoveredOf};
 
 use crate::owners::Owners;
-use blocks::{Block, Disk, NoMemory};
-use model::types::{CheckFault, Dinode, Pointer};
+use blocks::NoMemory;
+use model::types::{CheckFault, Pointer};
 use std::alloc::Global;
 
 // An inode whose pointers are noted.

@@ -1,87 +1,23 @@
 -- A file that is shown, piece by piece.
-use Rattle.std.proofs.Common.{◌≡◌, ◌≢◌, ◌∙◌, ℕ, ◌+◌, ◌<◌, ◌≤◌, List, [], ◌++◌, length, take, drop, Option, Some, None, refl, sym, ap, subst, inl, inr, arith, cond, eqb, ⊎_elim}
+use Rattle.std.proofs.Common.{◌≡◌, ◌∙◌, ℕ, ◌+◌, ◌<◌, List, ◌++◌, length, take, drop, Option, Some, None, refl, sym, ap, subst, inl, inr, arith, ⊎_elim}
 use Rattle.std.proofs.Math.Seq.{take-add}
 use Rattle.std.proofs.KnownBytes.{Appends-trans}
-use Rattle.std.proofs.lemmas.Bool.{ne_eqb}
 use Rattle.std.proofs.lemmas.List.{take-take}
-use Rattle.std.proofs.lemmas.Option.{get_or_from_slice_get}
-use Rattle.std.specs.Prelude.{slice_get}
 use Rattle.std.specs.Io.KnownBytes.{Appends, Keeps}
 use Rattle.blocks.specs.Calls.{OnlyReads}
-use Rattle.blocks.specs.Disk.{Image, IsImage, Rose}
+use Rattle.blocks.specs.Disk.{Image, Rose}
 use Rattle.blocks.specs.declared.disk.Disk.{Ghosts}
-use Rattle.model.specs.Fields.{u32_at}
-use Rattle.model.specs.Files.{bytes_in, file_at, file_in, file_of, files_of}
-use Rattle.model.specs.Layout.{form_of, inode_count_of, inode_of, magic_of, super_in, super_of}
-use Rattle.model.specs.Log.{homes_in, logged_count, logged_in, recovered}
-use Rattle.model.specs.Verdict.{verdict}
+use Rattle.model.specs.Files.{bytes_in, file_in, files_of}
+use Rattle.model.specs.Log.{logged_count, recovered}
 use Rattle.model.specs.declared.types.image.Dinode.{Dinode}
-use Rattle.model.specs.declared.types.image.Form.{Form}
-use Rattle.model.specs.declared.types.image.Form.TheVariants.{One, Two}
-use Rattle.model.specs.declared.types.image.Super.{Super}
-use Rattle.model.specs.Lemmas.FileNumbers.{file_in-files_of, file_in-files_of_past}
-use Rattle.model.specs.Lemmas.Super.{long_where_sound, super_of-recovered, verdict_none}
-use Rattle.model.specs.Lemmas.Bytes.{file_used}
 use Rattle.model.specs.Lemmas.Log.{length-recovered}
-use Rattle.offline.specs.Laws.{CheckedFilesMayBeRead}
-use Rattle.offline.specs.Recovered.{IsHeaderOf}
-use Rattle.layout.specs.declared.header.Header.{Header}
-use Rattle.offline.specs.declared.recovered.Recovered.{Recovered}
+use Rattle.offline.specs.Checked.{IsInodeOf}
 use Rattle.opening.specs.Lemmas.Recovered.{recovered_again}
 use Rattle.opening.specs.Recoveries.{IsRecovered}
 use Rattle.player.specs.Afterwards.{FailsRecovered}
-use Rattle.player.specs.Showing.{IsInodeOf, IsNotShown, IsPartly, IsReaderOf, IsUnshown, ShowsFile, ShowsFirst}
+use Rattle.player.specs.Showing.{IsNotShown, IsPartly, IsUnshown, ShowsFile, ShowsFirst}
 use Rattle.player.specs.declared.refusals.CatRefusal.{CatRefusal}
 use Rattle.player.specs.declared.refusals.CatRefusal.TheVariants.{NoMemory, Unrecovered, NoFile, Disk, Output}
-
--- ---- the reader of a disk that has no fault
-
-abbrev pub form_told : List ℕ → Form
-form_told bytes = cond (eqb (u32_at bytes 0) (magic_of Two)) Two One
-
-pub form_read : (x : Image) (bytes : List ℕ) (form : Form) → slice_get x 1 ≡ Some bytes → form ≡ cond (eqb (u32_at bytes 0) (magic_of Two)) Two One → form ≡ form_of x
-form_read x bytes form read is = is ∙ ap form_told (sym (get_or_from_slice_get x 1 bytes [] read))
-
-pub super_read : (x : Image) (bytes : List ℕ) (sup : Super) → slice_get x 1 ≡ Some bytes → sup ≡ super_in bytes → sup ≡ super_of x
-super_read x bytes sup read is = is ∙ ap super_in (sym (get_or_from_slice_get x 1 bytes [] read))
-
-pub header_read : (x : Image) (bytes : List ℕ) (header : Header) → verdict x ≡ None → slice_get x 2 ≡ Some bytes → header.n ≡ logged_in bytes → header.homes.items ≡ homes_in bytes → length header.homes.items ≤ 30 → IsHeaderOf x header
-header_read x bytes header sound read count homes few =
-    let here = sym (get_or_from_slice_get x 2 bytes [] read) in
-    record { count = count ∙ ap logged_in here; homes = homes ∙ ap homes_in here; few = few; lawful = (verdict_none x sound).1 }
-
--- ---- the inode of a number
-
-count_recovered : (x : Image) (image : Recovered) → IsReaderOf x image → image.sup.ninodes ≡ inode_count_of (recovered x)
-count_recovered x image is =
-    let long = long_where_sound x is.sound in
-    ap (λ (s : Super). s.ninodes) (is.recovered.sup ∙ sym (super_of-recovered x (verdict_none x is.sound).1 (omega (arith, long))))
-
-pub none_past : (x : Image) (image : Recovered) (i : ℕ) → IsReaderOf x image → image.sup.ninodes ≤ i → file_in (files_of (recovered x)) i ≡ None
-none_past x image i is past =
-    let count = count_recovered x image is in
-    file_in-files_of_past (recovered x) i (omega (arith, count, past))
-
-file_here : (x : Image) (i : ℕ) → i ≢ 0 → file_at x i ≡ file_of x (inode_of x i)
-file_here x i some = rw (ne_eqb i 0 some) refl
-
-pub none_free : (x : Image) (image : Recovered) (i : ℕ) (d : Dinode) → IsReaderOf x image → i ≢ 0 → i < image.sup.ninodes → d ≡ inode_of (recovered x) i → d.kind ≡ 0 → file_in (files_of (recovered x)) i ≡ None
-unfolding file_of
-none_free x image i d is some low here free =
-    let count = count_recovered x image is in
-    let kind : (inode_of (recovered x) i).kind ≡ 0 = ap (λ (e : Dinode). e.kind) (sym here) ∙ free in
-    file_in-files_of (recovered x) i (omega (arith, count, low)) ∙ file_here (recovered x) i some ∙ rw kind refl
-
-pub inode_used : (x : Image) (image : Recovered) (i : ℕ) (d : Dinode) → IsImage x → CheckedFilesMayBeRead → IsReaderOf x image → i ≢ 0 → i < image.sup.ninodes → d ≡ inode_of (recovered x) i → d.kind ≢ 0 → IsInodeOf (recovered x) i d
-inode_used x image i d is_image law is some low here used =
-    let y = recovered x in
-    let count = count_recovered x image is in
-    let known : image.sup.ninodes ≡ inode_count_of x = ap (λ (s : Super). s.ninodes) is.recovered.sup in
-    let kind : (inode_of y i).kind ≢ 0 = λ free. used (ap (λ (e : Dinode). e.kind) here ∙ free) in
-    subst (IsInodeOf y i) (sym here) (record {
-      file = file_in-files_of y i (omega (arith, count, low)) ∙ file_here y i some ∙ file_used y (inode_of y i) kind;
-      readable = law x i is_image is.sound (omega (arith, some)) (omega (arith, known, low)) kind;
-    })
 
 -- ---- piece by piece
 

@@ -4,13 +4,10 @@ use Rattle.std.specs.Io.KnownBytes.{Appends}
 use Rattle.blocks.specs.Disk.{Image, Rose}
 use Rattle.blocks.specs.declared.disk.Disk.{Ghosts}
 use Rattle.blocks.specs.declared.errors.DiskFault.{DiskFault}
-use Rattle.model.specs.Files.{bytes_in, files_of, file_in}
+use Rattle.model.specs.Files.{files_of, file_in}
 use Rattle.model.specs.Log.{logged_count, recovered}
 use Rattle.model.specs.Verdict.{verdict}
-use Rattle.model.specs.declared.types.image.Dinode.{Dinode}
 use Rattle.model.specs.declared.types.image.File.{File}
-use Rattle.offline.specs.Recovered.{IsRecoveredOf, MayReadFile}
-use Rattle.offline.specs.declared.recovered.Recovered.{Recovered}
 use Rattle.opening.specs.Recoveries.{IsRecovered}
 use Rattle.player.specs.Afterwards.{FailsRecovered, FailsToRecover}
 use Rattle.player.specs.declared.refusals.CatRefusal.{CatRefusal}
@@ -44,16 +41,6 @@ HasNoFile x i = (verdict x ≡ None) × (file_in (files_of (recovered x)) i ≡ 
 abbrev pub IsLeftUnlogged : {D N : Type 0} → Ghosts D N → D → D → Type 0
 IsLeftUnlogged disk d e = logged_count (disk.image d) ≡ 0
     → (disk.image e ≡ disk.image d) × (disk.write_count e ≡ disk.write_count d)
-
--- the reader of an image that has no fault
-pub record IsReaderOf (x : Image) (image : Recovered) : Type 0 where
-  pub recovered : IsRecoveredOf x image
-  pub sound : verdict x ≡ None
-
--- the inode of the file of number i of image x, which may be read
-pub record IsInodeOf (x : Image) (i : ℕ) (d : Dinode) : Type 0 where
-  pub file : file_in (files_of x) i ≡ Some (record { kind = d.kind; bytes = bytes_in x d })
-  pub readable : MayReadFile x d
 
 -- the fault names a block of image x
 abbrev pub IsOfBlock : Image → DiskFault → Type 0

@@ -1,23 +1,20 @@
 // The bytes of a file of a disk's image.
-ghost use Rattle.std.specs.Prelude.{◌≡◌, None, OnOk, IfOk, IfErr, IfSome, IfNone};
+ghost use Rattle.std.specs.Prelude.{◌≡◌, None, OnOk, IfErr};
 ghost use Rattle.std.specs.Io.KnownBytes.{Appends};
 ghost use Rattle.blocks.specs.Calls.{OnlyReads};
-ghost use Rattle.blocks.specs.Disk.{CountsFault};
-ghost use Rattle.model.specs.Files.{bytes_in, file_in, files_of};
+ghost use Rattle.model.specs.Files.{bytes_in};
 ghost use Rattle.model.specs.Log.{logged_count, recovered};
 ghost use Rattle.model.specs.Verdict.{verdict};
 ghost use Rattle.offline.specs.Recovered.{IsRecoveredOf, MayReadFile};
 ghost use Rattle.wal.specs.Recovery.{LeavesIfCalm, RecoversAs};
 ghost use Rattle.opening.specs.Recoveries.{IsRecovered};
-ghost use Rattle.player.specs.Showing.{IsInodeOf, IsLeftUnlogged, IsNotShown, IsOfBlock, IsPartly, IsReaderOf, IsUnshown, Shows, ShowsFile};
+ghost use Rattle.player.specs.Showing.{IsLeftUnlogged, IsNotShown, IsPartly, IsUnshown, Shows, ShowsFile};
 
 use crate::refusals::CatRefusal;
-use blocks::{BLOCK_SIZE, Block, Disk, DiskFault};
-use layout::header::Header;
-use layout::{Dinode, LOG_START, superblock};
+use blocks::{BLOCK_SIZE, Block, Disk};
+use layout::Dinode;
 use messages::{Silent, pass_on, write_bytes};
 use offline::Recovered;
-use offline::laws::checked_files_may_be_read;
 use opening::recover_image;
 use std::alloc::Global;
 use std::io::Write;
@@ -82,57 +79,14 @@ fn show<D: Disk, O: Write>(
         (O.contents out.old) (O.contents out.new) (out.new ≡ out.old)) }
     ensures reads { OnlyReads D.Disk disk.old disk.new }
 {
-    let image = open_reader(disk, block)?;
-    let found = inode_at(disk, &image, number, block)?;
+    let image = Recovered::open_checked(disk, block)?;
+    let found = image.inode_at(disk, number, block)?;
     let Some(inode) = found else {
         return Err(CatRefusal::NoFile);
     };
     write_file(disk, &image, &inode, block, out)?;
     pass_on(out)?;
     Ok(())
-}
-
-// The reader of a disk that has no fault.
-fn open_reader<D: Disk>(disk: &mut D, block: &mut Block) -> Result<Recovered, DiskFault>
-    requires sound { verdict (D.image disk.old) ≡ None }
-    ensures ok { IfOk result (IsReaderOf (D.image disk.old)) }
-    ensures fault { IfErr result (IsOfBlock (D.image disk.old)) }
-    ensures reads { OnlyReads D.Disk disk.old disk.new }
-    ensures faults { CountsFault result (D.fault_count disk.old) (D.fault_count disk.new) }
-{
-    disk.read(1, block)?;
-    let sup = superblock::read(block.as_slice());
-    let form = superblock::form(block.as_slice());
-    disk.read(LOG_START, block)?;
-    let header = Header::read(block.as_slice());
-    Ok(Recovered { sup, form, header })
-}
-
-// The inode of the file of a number; None where there is no such file.
-fn inode_at<D: Disk>(
-    disk: &mut D,
-    image: &Recovered,
-    number: u32,
-    block: &mut Block,
-) -> Result<Option<Dinode>, DiskFault>
-    requires reader { IsReaderOf (D.image disk.old) image.now }
-    ensures found { IfOk result (λ found.
-        IfSome found (IsInodeOf (recovered (D.image disk.old)) number)) }
-    ensures none { IfOk result (λ found.
-        IfNone found (file_in (files_of (recovered (D.image disk.old))) number ≡ None)) }
-    ensures fault { IfErr result (IsOfBlock (D.image disk.old)) }
-    ensures reads { OnlyReads D.Disk disk.old disk.new }
-    ensures faults { CountsFault result (D.fault_count disk.old) (D.fault_count disk.new) }
-{
-    checked_files_may_be_read();
-    if number == 0 || number >= image.sup.ninodes {
-        return Ok(None);
-    }
-    let inode = image.inode(disk, number, block)?;
-    if inode.kind == 0 {
-        return Ok(None);
-    }
-    Ok(Some(inode))
 }
 
 // Writes the bytes of an inode's file, piece by piece.

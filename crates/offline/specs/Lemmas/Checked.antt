@@ -1,5 +1,6 @@
 -- What a reader of an image knows of the image that recovery would leave, and of the file of a number.
-use Rattle.std.proofs.Common.{◌≡◌, ◌≢◌, ◌∙◌, ℕ, ◌<◌, ◌≤◌, cond, eqb, List, None, refl, sym, ap, subst, arith}
+use Rattle.std.proofs.Common.{◌≡◌, ◌≢◌, ◌∙◌, ℕ, ◌<◌, ◌≤◌, cond, eqb, List, Option, None, Some, refl, sym, ap, subst, arith}
+use Rattle.std.specs.Prelude.{IfNone}
 use Rattle.std.proofs.lemmas.Bool.{ne_eqb}
 use Rattle.std.proofs.lemmas.List.{take-take}
 use Rattle.blocks.specs.Disk.{Image, IsImage, Rose}
@@ -70,6 +71,11 @@ inode_used x image i d is_image law is some low here used =
       readable = subst (λ (e : Dinode). MayReadFile (recovered x) e) (sym here)
           (law x i is_image is.sound (omega (arith, some)) (omega (arith, known, low)) (λ free. used (ap (λ (e : Dinode). e.kind) here ∙ free)));
     }
+
+-- what is told of a number without a file, where none was found
+pub none_told : {X : Type 0} (found : Option X) (P : Type 0) → IfNone found P → ((x : X) → found ≡ Some x → ⊥) → P
+none_told None P told not = told
+none_told (Some x) P told not = absurd (not x refl)
 
 -- all bytes of a file, read into as many places
 pub all_read : (y : Image) (d : Dinode) → part_of (bytes_in y d) 0 d.size ≡ bytes_in y d
