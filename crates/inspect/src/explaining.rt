@@ -22,8 +22,8 @@ struct Refusal<'a> {
 
 /// Says more of a refusal, in one line, as far as looking once more tells it and memory is given: the
 /// path with the system's words; the number of a superblock, the line or the word that is objected to,
-/// with what it has to be; the blocks that are needed, and those that are free; and, where bytes were
-/// being put, which files have them.
+/// with what it has to be; the blocks that are needed, and those that are free; where bytes were
+/// being put, which files have them; and where a check of stops met a mismatch.
 ///
 /// By its code it reads files, and writes to `err` alone. What it finds is so when it looks.
 pub fn explain<R: Files + AllocGlobal, E: Write>(
@@ -50,6 +50,7 @@ fn explanation<R: Files + AllocGlobal>(rt: &R, given: &Given<'_>, line: &[u8]) -
         "mkfs" => of_making(rt, given, refusal.number),
         "disk" => of_disk(rt, given),
         "recover" | "open" | "output" => standing(rt, given),
+        "stops" => of_stops(rt, given, refusal.number),
         _ => None,
     }
 }
@@ -183,6 +184,14 @@ fn of_schedule<R: Files + AllocGlobal>(
         1 => bad_word(rt, given, path, refusal.argument?),
         2 => with_phrase(rt.alloc(), path, "it has more than 1048576 bytes"),
         4 => with_words(rt.alloc(), path, reading_error(rt, path)?),
+        _ => None,
+    }
+}
+
+// Of a script of which some stop left something else than it has to.
+fn of_stops<R: Files + AllocGlobal>(rt: &R, given: &Given<'_>, number: u32) -> Option<String> {
+    match number {
+        1 => with_phrase(rt.alloc(), given.script?, given.mismatch?),
         _ => None,
     }
 }

@@ -21,6 +21,8 @@ pub struct Given<'a> {
     pub file: Option<&'a str>,
     /// The number of a file of the image.
     pub inum: Option<u32>,
+    /// Where a check of its script met a mismatch, in words.
+    pub mismatch: Option<&'a str>,
 }
 
 impl<'a> Given<'a> {
@@ -45,6 +47,7 @@ impl<'a> Given<'a> {
             schedule: None,
             file: None,
             inum: None,
+            mismatch: None,
         }
     }
 }

@@ -1,7 +1,8 @@
-// Disks over files, images that are read as recovery would leave them, and what the plain program
-// says of replies.
+// Disks over files, images that are read as recovery would leave them, what the plain program says of
+// replies, and what is told of a mismatch.
 use crate::all_faults::print_all_faults;
 use crate::files::{print_makings, print_openings};
+use crate::mismatches::print_mismatches;
 use crate::real_file::print_real_file;
 use crate::recovered::print_readings;
 use crate::replies::{print_journals, print_replies, print_short_writes};
@@ -18,7 +19,8 @@ pub fn print_disks(rt: &HostRuntime) -> anyhow::Result<()> {
     print_all_faults(rt, alloc)?;
     print_replies(rt, alloc)?;
     print_short_writes(rt, alloc)?;
-    print_journals(rt, alloc)
+    print_journals(rt, alloc)?;
+    print_mismatches(rt, alloc)
 }
 
 fn print_fault_texts(rt: &impl Print) -> anyhow::Result<()> {

@@ -2,11 +2,11 @@
 //! all of them are run.
 //!
 //! `disks`: disks over files, with a fake system of files and with the real one, an image that is
-//! read as recovery would leave it, and what the plain program says of replies. `failures`: copies of
-//! an image, puts into one, and the `cat` of a file, each of whose calls of a disk fails in turn; the
-//! first that leaves something else than it has to ends the program, with status 1. `replays`: replays
-//! and runs over disks that fail or can't sync, outputs that are refused, a long script, and the texts
-//! of a kernel's faults.
+//! read as recovery would leave it, what the plain program says of replies, and what is told of a
+//! mismatch. `failures`: copies of an image, puts into one, and the `cat` of a file, each of whose
+//! calls of a disk fails in turn; the first that leaves something else than it has to ends the
+//! program, with status 1. `replays`: replays and runs over disks that fail or can't sync, outputs
+//! that are refused, a long script, and the texts of a kernel's faults.
 #![tactic(auto)]
 
 mod all_faults;
@@ -19,6 +19,7 @@ mod files;
 mod ground;
 mod holding;
 mod long_script;
+mod mismatches;
 mod outputs;
 mod puts;
 mod real_file;

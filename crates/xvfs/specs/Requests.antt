@@ -1,5 +1,5 @@
 -- What a request is answered.
-use Rattle.std.specs.Prelude.{◌≡◌, ◌⊎◌, ⊤, ℕ, Bool, false, not, if◌then◌else◌, List, [], ◌∷◌, ◌++◌, Option, unwrap_or}
+use Rattle.std.specs.Prelude.{◌≡◌, ◌⊎◌, ⊤, ℕ, Bool, true, false, not, if◌then◌else◌, List, [], ◌∷◌, ◌++◌, Option, unwrap_or}
 use Rattle.std.specs.Io.KnownBytes.{Appends}
 use Rattle.model.specs.declared.types.image.Form.{Form}
 use Rattle.model.specs.declared.types.image.Form.TheVariants.{One, Two}
@@ -16,8 +16,8 @@ use Rattle.cli.specs.declared.words.Request.TheVariants.{Mkfs, Check, Recover, C
 use Rattle.cmd.specs.Lemmas.Disks.{file_disk}
 use Rattle.cmd.specs.Opened.{OpensDisk}
 use Rattle.cmd.specs.Over.{IsRefusedOn}
-use Rattle.inspect.specs.Causes.{IsHidden, IsUncounted, IsUnlisted}
-use Rattle.inspect.specs.Looks.{HasCounted, HasListed, HasShown as HasBlocksShown}
+use Rattle.inspect.specs.Causes.{IsHidden, IsUncounted, IsUndrawn, IsUnlisted}
+use Rattle.inspect.specs.Looks.{HasCounted, HasListed, HasLogShown, HasShown as HasBlocksShown}
 use Rattle.player.specs.Causes.{IsNotRecovered, IsUncheckedBy}
 use Rattle.player.specs.Looks.{HasRecovered, HasReported, HasShown}
 use Rattle.player.specs.Showing.{IsNotShown}
@@ -49,8 +49,10 @@ Answers file (Ls image) old new =
     OpensDisk file.remaining file_disk false (λ d e. HasListed file_disk d e old new)
 Answers file (Df image) old new =
     OpensDisk file.remaining file_disk false (λ d e. HasCounted file_disk d e old new)
-Answers file (Show image inum) old new =
+Answers file (Show image inum false) old new =
     OpensDisk file.remaining file_disk false (λ d e. HasBlocksShown file_disk inum d e old new)
+Answers file (Show image inum true) old new =
+    OpensDisk file.remaining file_disk false (λ d e. HasLogShown file_disk d e old new)
 Answers file (Put image path inum sync no_sync) old new =
     HasPut file.remaining inum sync (not no_sync) old new
 Answers file (Copy from to size no_sync) old new =
@@ -84,8 +86,10 @@ OnRefused file (Ls image) old new none =
     Refuses (IsRefusedOn file.remaining false none (λ d e. IsUnlisted file_disk d e none))
 OnRefused file (Df image) old new none =
     Refuses (IsRefusedOn file.remaining false none (λ d e. IsUncounted file_disk d e none))
-OnRefused file (Show image inum) old new none =
+OnRefused file (Show image inum false) old new none =
     Refuses (IsRefusedOn file.remaining false none (λ d e. IsHidden file_disk inum d e none))
+OnRefused file (Show image inum true) old new none =
+    Refuses (IsRefusedOn file.remaining false none (λ d e. IsUndrawn file_disk d e none))
 OnRefused file (Put image path inum sync no_sync) old new none =
     Refuses (OnPutRefusal file.remaining inum sync (not no_sync) none)
 OnRefused file (Copy from to size no_sync) old new none =

@@ -18,7 +18,7 @@ ghost use Rattle.messages.specs.declared.told.Unwritten.{Unwritten as IsUnwritte
 
 use crate::locks::lock_image;
 use crate::progress::{Screen, TerminalMeter};
-use crate::stopping::stops_files;
+use crate::stopping::{end_stops, stops_files};
 use crate::telling::{Line, tell, tell_fault};
 use crate::topics::print_topic;
 use arrayvec::ArrayVec;
@@ -26,7 +26,7 @@ use blocks::{Disk, FaultyDisk, FileDisk};
 use cli::{Asked, Explanation, Request, Topic, parse};
 use cmd::{Access, OverFile, end, perform};
 use commands::{Copy, Keeper, Locks, Making, Mkfs, Put, Rescue, Target, replay_files, run_files};
-use inspect::{Df, Ls, Show};
+use inspect::{Df, Ls, Show, ShowLog};
 use messages::{Detail, print_last};
 use model::types::Form;
 use player::{Cat, Check, Recover};
@@ -231,12 +231,21 @@ where
         ),
         Request::Ls { image } => perform(rt, OverFile(image, Access::Look, Ls), out, err),
         Request::Df { image } => perform(rt, OverFile(image, Access::Look, Df), out, err),
-        Request::Show { image, inum } => perform(
+        Request::Show {
+            image,
+            inum,
+            log: false,
+        } => perform(
             rt,
             OverFile(image, Access::Look, Show(inum)),
             out,
             err,
         ),
+        Request::Show {
+            image,
+            inum: _,
+            log: true,
+        } => perform(rt, OverFile(image, Access::Look, ShowLog), out, err),
         Request::Put {
             image,
             file,
@@ -308,7 +317,7 @@ where
             script,
             schedule,
             held,
-        } => end(stops_files(rt, script, schedule, held, out), err),
+        } => end_stops(stops_files(rt, script, schedule, held, out), err),
     }
 }
 

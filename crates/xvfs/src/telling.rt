@@ -1,5 +1,6 @@
 // How a refusal is told.
-ghost use Rattle.std.specs.Prelude.{◌≡◌};
+ghost use Rattle.std.specs.Prelude.{◌≡◌, drop, take};
+ghost use Rattle.xvfs.specs.Lines.{line_length};
 
 use crate::progress::Screen;
 use arrayvec::ArrayVec;
@@ -9,21 +10,40 @@ use messages::{Reason, print_refusal, write_bytes};
 use std::io::{IsTerminal, Write};
 use std::rt::Files;
 
-/// Room for the line of a refusal, none of which has as many bytes.
-pub type Line = ArrayVec<u8, 80>;
+/// Room for the line of a refusal, and where a mismatch was met, neither of which has as many bytes.
+pub type Line = ArrayVec<u8, 400>;
 
 /// Tells a refusal, as far as that can be written: by its line, and where that is asked for, or a
-/// terminal is at the standard error, by a second one, as `explain`.
+/// terminal is at the standard error, by a second one, as `explain`. Behind the line may stand where a
+/// mismatch was met.
 pub fn tell<R: Files + AllocGlobal + Screen, E: Write>(
     rt: &R,
     asked: &Asked<Request<'_>>,
-    line: &[u8],
+    text: &[u8],
     err: &mut E,
 ) {
+    let (line, mismatch) = first_line(text);
     let _unwritten = write_bytes(err, line);
     if asked.explain || rt.screen().is_terminal() {
-        explain(rt, &given(&asked.request), line, err);
+        let given = Given {
+            mismatch: str::from_utf8(mismatch).ok(),
+            ..given(&asked.request)
+        };
+        explain(rt, &given, line, err);
     }
+}
+
+// The first line of a text, with its line feed, and what stands behind it.
+fn first_line(text: &[u8]) -> (&[u8], &[u8])
+    ensures line { result.0.now ≡ take (line_length text.now) text.now }
+    ensures rest { result.1.now ≡ drop (line_length text.now) text.now }
+{
+    for end in 0..text.len() {
+        if text[end] == b'\n' {
+            return text.split_at(end + 1);
+        }
+    }
+    (text, &[])
 }
 
 /// Tells why nothing was done. The exit status.
@@ -63,7 +83,7 @@ fn given<'a>(request: &Request<'a>) -> Given<'a> {
         },
         Request::Ls { image } => Given::over(image, false),
         Request::Df { image } => Given::over(image, false),
-        Request::Show { image, inum } => Given {
+        Request::Show { image, inum, .. } => Given {
             inum,
             ..Given::over(image, false)
         },
