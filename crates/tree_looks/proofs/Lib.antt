@@ -2,3 +2,4 @@ mod LoadedFiles
 mod Walking
 pub mod AddedTexts
 mod Looking
+mod Copied
