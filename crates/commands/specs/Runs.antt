@@ -1,5 +1,5 @@
 -- What became of the disk in a file over which a script's operations were made, or were not.
-use Rattle.std.specs.Prelude.{ℕ, Bool, true, false, ◌||◌, List, Option, None}
+use Rattle.std.specs.Prelude.{ℕ, Bool, true, List, Option, None}
 use Rattle.blocks.specs.declared.file.FileDisk.{FileDisk}
 use Rattle.cmd.specs.Lemmas.Disks.{faulty_disk, file_disk}
 use Rattle.cmd.specs.Opened.{OpensDisk}
@@ -7,7 +7,7 @@ use Rattle.messages.specs.declared.deeds.Detail.{Detail}
 use Rattle.messages.specs.Telling.{Telling, file_telling, schedule_telling, script_telling}
 use Rattle.player.specs.Opening.{IsNotReplayed, Replays}
 use Rattle.player.specs.Refusals.{replay_telling}
-use Rattle.player.specs.Told.{IsNotTold, ReplaysTold}
+use Rattle.player.specs.Told.{Told, told_text}
 use Rattle.player.specs.declared.refusals.ReplayRefusal.{ReplayRefusal}
 use Rattle.runner.specs.Refusals.{run_telling}
 use Rattle.runner.specs.Running.{IsNotRun as IsNotRunOver, Runs}
@@ -32,36 +32,15 @@ run_files_telling (run.File fault) = file_telling fault
 run_files_telling (run.Run refusal) = run_telling refusal
 
 -- it was recovered, a player of some operations was opened over it, and the turns of some words
--- made and printed
-pub record IsReplayed {F : Type 0} (stop : ℕ) (old new : Option (List ℕ)) (d e : FileDisk F)
-    : Type 0 where
-  pub tasks : List Task
-  pub processes : ℕ
-  pub words : List Word
-  pub replays : Replays file_disk faulty_disk d e tasks processes words stop None old new
-
--- the same with what is told of the turns' steps
-pub record IsReplayedTold {F : Type 0} (detail : Detail) (stop : ℕ) (old new : Option (List ℕ))
+-- made, and printed with what is told of their steps
+pub record IsReplayed {F : Type 0} (detail : Detail) (stop : ℕ) (old new : Option (List ℕ))
     (d e : FileDisk F) : Type 0 where
   pub tasks : List Task
   pub processes : ℕ
   pub words : List Word
-  pub replays : ReplaysTold file_disk faulty_disk d e tasks processes words stop detail None old new
-
--- something is told of the turns' steps
-abbrev pub tells_steps : Detail → Bool
-tells_steps detail = detail.steps || detail.writes
-
--- the first where something is told of the steps, else the second
-abbrev pub IfTold : Bool → Type 0 → Type 0 → Type 0
-IfTold true told plain = told
-IfTold false told plain = plain
-
-abbrev pub IsReplayedBy : {F : Type 0} → Detail → ℕ → Option (List ℕ) → Option (List ℕ)
-    → FileDisk F → FileDisk F → Type 0
-IsReplayedBy detail stop old new d e =
-    IfTold (tells_steps detail) (IsReplayedTold detail stop old new d e)
-    (IsReplayed stop old new d e)
+  pub tolds : List Told
+  pub replays : Replays file_disk faulty_disk d e tasks processes words stop (told_text detail) None
+      old new tolds
 
 -- it was recovered, the operations of a script were run over it by threads, and what they came to
 -- printed
@@ -71,20 +50,13 @@ pub record IsRun {F : Type 0} (old new : Option (List ℕ)) (d e : FileDisk F) :
   pub runs : Runs file_disk d e tasks processes None true old new
 
 -- why some operations were not replayed over it in the turns of some words, and what was printed
-pub record IsUnreplayedFor {F : Type 0} (stop : ℕ) (old new : Option (List ℕ)) (none : Type 0)
-    (r : ReplayRefusal) (d e : FileDisk F) : Type 0 where
-  pub tasks : List Task
-  pub processes : ℕ
-  pub words : List Word
-  pub refused : IsNotReplayed file_disk faulty_disk d e tasks processes words stop old new none r
-
--- the same where the turns' steps were to be told
-pub record IsUntoldFor {F : Type 0} (detail : Detail) (stop : ℕ) (old new : Option (List ℕ))
+pub record IsUnreplayedFor {F : Type 0} (detail : Detail) (stop : ℕ) (old new : Option (List ℕ))
     (none : Type 0) (r : ReplayRefusal) (d e : FileDisk F) : Type 0 where
   pub tasks : List Task
   pub processes : ℕ
   pub words : List Word
-  pub refused : IsNotTold file_disk faulty_disk d e tasks processes words stop detail old new none r
+  pub refused : IsNotReplayed file_disk faulty_disk d e tasks processes words stop
+      (told_text detail) old new none r
 
 -- why some operations were not run over it by threads, and what was printed
 pub record IsNotRunFor {F : Type 0} (old new : Option (List ℕ)) (none : Type 0) (r : RunRefusal)
@@ -95,28 +67,13 @@ pub record IsNotRunFor {F : Type 0} (old new : Option (List ℕ)) (none : Type 0
 
 -- why a script was not replayed over the disk in a file: one of its files could not be had, or this
 -- was the disk's refusal; `none` says that nothing was printed, here and below
-abbrev pub IsUnreplayed : {F : Type 0} → (F → Option (List ℕ)) → Bool → ℕ → Option (List ℕ)
-    → Option (List ℕ) → Type 0 → ReplayFilesRefusal → Type 0
-IsUnreplayed remaining holds stop old new none (replay.Script fault) = none
-IsUnreplayed remaining holds stop old new none (replay.Schedule fault) = none
-IsUnreplayed remaining holds stop old new none (replay.File fault) = none
-IsUnreplayed remaining holds stop old new none (replay.Replay r) =
-    OpensDisk remaining file_disk holds (IsUnreplayedFor stop old new none r)
-
-abbrev pub IsUntold : {F : Type 0} → (F → Option (List ℕ)) → Bool → Detail → ℕ → Option (List ℕ)
-    → Option (List ℕ) → Type 0 → ReplayFilesRefusal → Type 0
-IsUntold remaining holds detail stop old new none (replay.Script fault) = none
-IsUntold remaining holds detail stop old new none (replay.Schedule fault) = none
-IsUntold remaining holds detail stop old new none (replay.File fault) = none
-IsUntold remaining holds detail stop old new none (replay.Replay r) =
-    OpensDisk remaining file_disk holds (IsUntoldFor detail stop old new none r)
-
--- as either, by what is told
-abbrev pub IsUnreplayedBy : {F : Type 0} → (F → Option (List ℕ)) → Bool → Detail → ℕ
+abbrev pub IsUnreplayed : {F : Type 0} → (F → Option (List ℕ)) → Bool → Detail → ℕ
     → Option (List ℕ) → Option (List ℕ) → Type 0 → ReplayFilesRefusal → Type 0
-IsUnreplayedBy remaining holds detail stop old new none r =
-    IfTold (tells_steps detail) (IsUntold remaining holds detail stop old new none r)
-    (IsUnreplayed remaining holds stop old new none r)
+IsUnreplayed remaining holds detail stop old new none (replay.Script fault) = none
+IsUnreplayed remaining holds detail stop old new none (replay.Schedule fault) = none
+IsUnreplayed remaining holds detail stop old new none (replay.File fault) = none
+IsUnreplayed remaining holds detail stop old new none (replay.Replay r) =
+    OpensDisk remaining file_disk holds (IsUnreplayedFor detail stop old new none r)
 
 -- why a script was not run over it
 abbrev pub IsNotRun : {F : Type 0} → (F → Option (List ℕ)) → Bool → Option (List ℕ)

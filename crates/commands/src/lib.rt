@@ -24,5 +24,5 @@ pub use making::{MakesThere, Making, Mkfs, make_file, make_in_place};
 pub use puts::{Put, bytes_from};
 pub use refused::{CopyRefusal, PutFileRefusal, ReadFault};
 pub use rescues::Rescue;
-pub use runs::{ReplayFilesRefusal, RunFilesRefusal, replay_by, replay_files, run_files};
+pub use runs::{ReplayFilesRefusal, RunFilesRefusal, replay_files, run_files};
 pub use targets::Target;

@@ -3,13 +3,13 @@ ghost use Rattle.std.specs.Prelude.{◌≡◌, IfErr, OnOk, unwrap_or};
 ghost use Rattle.sysring.specs.Origins.{AreWorkers};
 ghost use Rattle.cmd.specs.Lemmas.Disks.{file_disk};
 ghost use Rattle.cmd.specs.Opened.{OpensDisk};
-ghost use Rattle.commands.specs.Runs.{IsNotRun, IsReplayed, IsReplayedBy, IsReplayedTold, IsRun, IsUnreplayed, IsUnreplayedBy, IsUntold, replay_files_telling, run_files_telling, tells_steps};
+ghost use Rattle.commands.specs.Runs.{IsNotRun, IsReplayed, IsRun, IsUnreplayed, replay_files_telling, run_files_telling};
 
 use crate::inputs::{schedule_from, script_from};
 use blocks::FileFault;
 use cmd::open;
 use messages::{Detail, Meter, Reason, Told};
-use player::{ReplayRefusal, replay_disk, replay_told};
+use player::{ReplayRefusal, Scenario, replay_disk};
 use runner::{RunRefusal, run_disk};
 use scripts::{ScheduleFault, ScriptFault, processes};
 use std::io::{Read, Write};
@@ -67,9 +67,9 @@ impl Reason for RunFilesRefusal {
 }
 
 /// Recovers the image in the file at this path, and makes the operations of a script in the turns
-/// of a schedule, as `replay_disk`. With `stop` the write of this number, from 1, is not made, and
-/// ends the run. With `sync` the file is a disk that holds writes back, and is synced. The meter is
-/// told how many of the schedule's words were done.
+/// of a schedule, as `replay_disk`, which tells of their steps what is asked for. With `stop` the
+/// write of this number, from 1, is not made, and ends the run. With `sync` the file is a disk that
+/// holds writes back, and is synced. The meter is told how many of the schedule's words were done.
 ///
 /// # Errors
 ///
@@ -82,12 +82,13 @@ pub fn replay_files<R: Files + AllocGlobal, P: Meter, O: Write>(
     schedule: &str,
     stop: Option<u64>,
     sync: bool,
+    detail: Detail,
     progress: &mut P,
     out: &mut O,
 ) -> Result<(), ReplayFilesRefusal>
     ensures opened { OnOk result (OpensDisk R.File.remaining file_disk sync
-        (IsReplayed (unwrap_or stop 0) (O.contents out.old) (O.contents out.new))) }
-    ensures refused { IfErr result (IsUnreplayed R.File.remaining sync (unwrap_or stop 0)
+        (IsReplayed detail (unwrap_or stop 0) (O.contents out.old) (O.contents out.new))) }
+    ensures refused { IfErr result (IsUnreplayed R.File.remaining sync detail (unwrap_or stop 0)
         (O.contents out.old) (O.contents out.new) (out.new ≡ out.old)) }
 {
     let tasks = script_from(rt, script).map_err(ReplayFilesRefusal::Script)?;
@@ -97,95 +98,13 @@ pub fn replay_files<R: Files + AllocGlobal, P: Meter, O: Write>(
         Ok(disk) => disk,
         Err(fault) => return Err(ReplayFilesRefusal::File(fault)),
     };
-    let (ran, _disk) = replay_disk(
-        rt.alloc(),
-        disk,
+    let scenario = Scenario {
         tasks,
         processes,
-        words.as_slice(),
+        words,
         stop,
-        progress,
-        out,
-    );
-    match ran {
-        Ok(()) => Ok(()),
-        Err(refusal) => Err(ReplayFilesRefusal::Replay(refusal)),
-    }
-}
-
-/// Replays a script as `replay_files`, and prints below the line of each turn what is told of its
-/// steps, as `replay_told`. With nothing to be told it is `replay_files`.
-///
-/// # Errors
-///
-/// As those of `replay_files`.
-pub fn replay_by<R: Files + AllocGlobal, P: Meter, O: Write>(
-    rt: &R,
-    image: &str,
-    script: &str,
-    schedule: &str,
-    stop: Option<u64>,
-    sync: bool,
-    detail: Detail,
-    progress: &mut P,
-    out: &mut O,
-) -> Result<(), ReplayFilesRefusal>
-    ensures opened { OnOk result (OpensDisk R.File.remaining file_disk sync
-        (IsReplayedBy detail (unwrap_or stop 0) (O.contents out.old) (O.contents out.new))) }
-    ensures refused { IfErr result (IsUnreplayedBy R.File.remaining sync detail (unwrap_or stop 0)
-        (O.contents out.old) (O.contents out.new) (out.new ≡ out.old)) }
-{
-    if tells_steps(detail) {
-        told_files(
-            rt, image, script, schedule, stop, sync, detail, progress, out,
-        )
-    } else {
-        replay_files(rt, image, script, schedule, stop, sync, progress, out)
-    }
-}
-
-// Whether something is told of the turns' steps.
-fn tells_steps(detail: Detail) -> bool
-    ensures { result ≡ tells_steps detail }
-{
-    detail.steps || detail.writes
-}
-
-// Replays a script, and tells the steps of its turns.
-fn told_files<R: Files + AllocGlobal, P: Meter, O: Write>(
-    rt: &R,
-    image: &str,
-    script: &str,
-    schedule: &str,
-    stop: Option<u64>,
-    sync: bool,
-    detail: Detail,
-    progress: &mut P,
-    out: &mut O,
-) -> Result<(), ReplayFilesRefusal>
-    ensures opened { OnOk result (OpensDisk R.File.remaining file_disk sync
-        (IsReplayedTold detail (unwrap_or stop 0) (O.contents out.old) (O.contents out.new))) }
-    ensures refused { IfErr result (IsUntold R.File.remaining sync detail (unwrap_or stop 0)
-        (O.contents out.old) (O.contents out.new) (out.new ≡ out.old)) }
-{
-    let tasks = script_from(rt, script).map_err(ReplayFilesRefusal::Script)?;
-    let processes = processes(tasks.as_slice());
-    let words = schedule_from(rt, schedule, processes).map_err(ReplayFilesRefusal::Schedule)?;
-    let disk = match open(rt, image, sync) {
-        Ok(disk) => disk,
-        Err(fault) => return Err(ReplayFilesRefusal::File(fault)),
     };
-    let (ran, _disk) = replay_told(
-        rt.alloc(),
-        disk,
-        tasks,
-        processes,
-        words.as_slice(),
-        stop,
-        detail,
-        progress,
-        out,
-    );
+    let (ran, _disk) = replay_disk(rt.alloc(), disk, scenario, detail, progress, out);
     match ran {
         Ok(()) => Ok(()),
         Err(refusal) => Err(ReplayFilesRefusal::Replay(refusal)),

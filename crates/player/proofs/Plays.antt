@@ -1,33 +1,15 @@
--- The turns of a schedule's first words, with a line for each.
+-- The turns of a schedule's first words, with what is printed of each.
 use Rattle.std.proofs.Common.{◌≡◌, ℕ, ◌+◌, ◌<◌, true, false, Bool, List, [], ◌∷◌, ◌++◌, length, take, drop, refl, arith, sym, ◌∙◌, ap, subst, append_assoc, append-nil, drop-cons, add-one, get_or, Option}
 use Rattle.std.specs.Prelude.{flat_map}
 use Rattle.std.specs.Io.KnownBytes.{Appends}
 use Rattle.std.proofs.lemmas.List.{flat_map_more, take_more, take-append-drop, take_all}
-use Rattle.std.proofs.KnownBytes.{Appends-trans}
-use Rattle.blocks.specs.declared.disk.Disk.{Ghosts}
-use Rattle.blocks.specs.declared.faulty.Trap.{Trap}
-use Rattle.wal.specs.declared.types.DeviceFault.{DeviceFault}
-use Rattle.blocks.specs.declared.faulty.FaultyDisk.{FaultyDisk}
+use Rattle.std.proofs.KnownBytes.{Appends-nil, Appends-trans}
 use Rattle.scripts.specs.declared.schedule.Word.{Word}
-use Rattle.messages.specs.declared.events.Event.{Event}
-use Rattle.player.specs.declared.player.Player.{Player}
-use Rattle.messages.specs.Events.{event_line, is_last}
-use Rattle.player.specs.Stepping.{BreaksOff, MakesTurn, MakesTurns, PlaysTo, RunsTo, kernel_counts, kernel_fault}
-use Rattle.player.specs.Turns.{IfLast}
-
--- the first k words had their turns, which made now of old, and none was the last
-pub record PlayedSo {D N : Type 0} (disk : Ghosts (FaultyDisk D) (N × Trap)) (stop : ℕ) (words : List Word) (k : ℕ) (old now : Player D N) (text printed : Option (List ℕ)) : Type 0 where
-  pub events : List Event
-  pub lines : Appends text printed (flat_map event_line events)
-  pub joins : (more : List Word) (rest : List Event) (new : Player D N) → MakesTurns disk stop more rest now new → MakesTurns disk stop (take k words ++ more) (events ++ rest) old new
+use Rattle.player.specs.Turns.{IfLast, Turns}
 
 -- the next word
 pub next_word : (words : List Word) (k : ℕ) (default : Word) → k < length words → drop k words ≡ get_or words k default ∷ drop (k + 1) words
 next_word words k default within = drop-cons words k default within ∙ ap (λ n. get_or words k default ∷ drop n words) (sym (add-one k))
-
--- one line more
-more_printed : (text mid printed : Option (List ℕ)) (events : List Event) (event : Event) → Appends text mid (flat_map event_line events) → Appends mid printed (event_line event) → Appends text printed (flat_map event_line (events ++ event ∷ []))
-more_printed text mid printed events event before line = subst (Appends text printed) (flat_map_more event_line [] events event) (Appends-trans text mid printed _ _ before line)
 
 -- one word more
 pub one_more : (words : List Word) (k : ℕ) (word : Word) → k < length words → drop k words ≡ word ∷ drop (k + 1) words → take (k + 1) words ≡ take k words ++ word ∷ []
@@ -37,78 +19,108 @@ one_more words k word within left =
     first_of : (v w : Word) (rest : List Word) → v ∷ rest ≡ w ∷ rest → v ≡ w
     first_of v w rest is = cc is
 
--- one turn, which may be the last
-turn_alone : {D N : Type 0} (disk : Ghosts (FaultyDisk D) (N × Trap)) (stop : ℕ) (word : Word) (event : Event) (now next : Player D N) → MakesTurn disk stop word event now next → MakesTurns disk stop (word ∷ []) (event ∷ []) now next
-turn_alone {D} {N} disk stop word event now next turn = (next, turn, on (is_last event))
-  where
-    none : List Event
-    none = []
+module _ {S E : Type 0} (last : E → Bool) (does : Word → E → S → S → Type 0) where
+  -- one turn, which may be the last
+  turn_alone : (word : Word) (one : E) (now next : S) → does word one now next → Turns last does (word ∷ []) (one ∷ []) now next
+  turn_alone word one now next turn = (next, turn, on (last one))
+    where
+      none : List E
+      none = []
 
-    on : (b : Bool) → IfLast b ((none ≡ []) × (next ≡ next)) (MakesTurns disk stop [] none next next)
-    on true = (refl, refl)
-    on false = (refl, refl)
+      on : (b : Bool) → IfLast b ((none ≡ []) × (next ≡ next)) (Turns last does [] none next next)
+      on true = (refl, refl)
+      on false = (refl, refl)
 
-module _ {D N : Type 0} (disk : Ghosts (FaultyDisk D) (N × Trap)) (stop : ℕ) (words : List Word) (k : ℕ) (old now next : Player D N) (text mid : Option (List ℕ)) (word : Word) (event : Event)
-    (so : PlayedSo disk stop words k old now text mid) (within : k < length words) (left : drop k words ≡ word ∷ drop (k + 1) words) (turn : MakesTurn disk stop word event now next) where
-  -- one turn more
-  pub one_played : (printed : Option (List ℕ)) → is_last event ≡ false → Appends mid printed (event_line event) → PlayedSo disk stop words (k + 1) old next text printed
-  one_played printed more line = record {
-    events = so.events ++ event ∷ [];
-    lines = more_printed text mid printed so.events event so.lines line;
-    joins = λ others rest new makes.
-        let here : MakesTurns disk stop (word ∷ others) (event ∷ rest) now new =
-        (next, turn, subst (λ b. IfLast b ((rest ≡ []) × (new ≡ next)) (MakesTurns disk stop others rest next new)) (sym more) makes) in
-        let count : take k words ++ word ∷ others ≡ take (k + 1) words ++ others = sym (append_assoc (take k words) (word ∷ []) others) ∙ ap (λ (ws : List Word). ws ++ others) (sym (one_more words k word within left)) in
-        subst (λ events. MakesTurns disk stop (take (k + 1) words ++ others) events old new) (sym (append_assoc so.events (event ∷ []) rest))
-        (subst (λ ws. MakesTurns disk stop ws (so.events ++ event ∷ rest) old new) count (so.joins (word ∷ others) (event ∷ rest) new here));
-  }
+-- the turns of the first of these words made new of old
+pub record Part {S E : Type 0} (last : E → Bool) (does : Word → E → S → S → Type 0) (words : List Word) (old new : S) : Type 0 where
+  pub count : ℕ
+  pub came : List E
+  pub makes : Turns last does (take count words) came old new
 
-  -- the last turn
-  pub last_played : (printed : Option (List ℕ)) → is_last event ≡ true → Appends mid printed (event_line event) → PlaysTo disk stop words old next text printed
-  last_played printed last line =
-      let none : List Event = [] in
-      let ends : (none ≡ []) × (next ≡ next) = (refl, refl) in
-      let here : MakesTurns disk stop (word ∷ drop (k + 1) words) (event ∷ []) now next =
-      (next, turn, subst (λ b. IfLast b ((none ≡ []) × (next ≡ next)) (MakesTurns disk stop (drop (k + 1) words) [] next next)) (sym last) ends) in
+-- the turns of these words made new of old, and a line was printed for each
+pub record Played {S E : Type 0} (last : E → Bool) (does : Word → E → S → S → Type 0) (line : E → List ℕ) (words : List Word) (old new : S) (text printed : Option (List ℕ)) : Type 0 where
+  pub came : List E
+  pub makes : Turns last does words came old new
+  pub lines : Appends text printed (flat_map line came)
+
+-- the first k words had their turns, which made now of old, and none was the last
+pub record PlayedSo {S E : Type 0} (last : E → Bool) (does : Word → E → S → S → Type 0) (line : E → List ℕ) (words : List Word) (k : ℕ) (old now : S) (text printed : Option (List ℕ)) : Type 0 where
+  pub came : List E
+  pub lines : Appends text printed (flat_map line came)
+  pub joins : (more : List Word) (rest : List E) (new : S) → Turns last does more rest now new → Turns last does (take k words ++ more) (came ++ rest) old new
+
+module _ {S E : Type 0} (last : E → Bool) (does : Word → E → S → S → Type 0) (line : E → List ℕ) (words : List Word) where
+  -- no word had its turn yet
+  pub none_played : (old : S) (text : Option (List ℕ)) → PlayedSo last does line words 0 old old text text
+  none_played old text = record { came = []; lines = Appends-nil text; joins = λ more rest new makes. makes }
+
+  -- one line more
+  more_printed : (text mid printed : Option (List ℕ)) (came : List E) (one : E) → Appends text mid (flat_map line came) → Appends mid printed (line one) → Appends text printed (flat_map line (came ++ one ∷ []))
+  more_printed text mid printed came one before now = subst (Appends text printed) (flat_map_more line [] came one) (Appends-trans text mid printed _ _ before now)
+
+  -- all words had their turns
+  pub all_played : (k : ℕ) (old now : S) (text printed : Option (List ℕ)) → PlayedSo last does line words k old now text printed → drop k words ≡ [] → Played last does line words old now text printed
+  all_played k old now text printed so none =
+      let nothing : List E = [] in
+      let ends : (nothing ≡ []) × (now ≡ now) = (refl, refl) in
       record {
-        events = so.events ++ event ∷ [];
-        makes = subst (λ ws. MakesTurns disk stop ws (so.events ++ event ∷ []) old next) (ap (λ (ws : List Word). take k words ++ ws) (sym left) ∙ take-append-drop k words) (so.joins (word ∷ drop (k + 1) words) (event ∷ []) next here);
-        lines = more_printed text mid printed so.events event so.lines line;
+        came = so.came;
+        makes = subst (λ came. Turns last does words came old now) (append-nil so.came)
+            (subst (λ ws. Turns last does ws (so.came ++ []) old now) (ap (λ (ws : List Word). take k words ++ ws) (sym none) ∙ take-append-drop k words) (so.joins [] [] now ends));
+        lines = so.lines;
       }
 
-  -- the last of which something was told, or that was to be told
-  pub breaks_here : BreaksOff disk stop words old next
-  breaks_here = record {
-    count = k + 1;
-    events = so.events ++ event ∷ [];
-    makes = subst (λ ws. MakesTurns disk stop ws (so.events ++ event ∷ []) old next) (sym (one_more words k word within left)) (so.joins (word ∷ []) (event ∷ []) next (turn_alone disk stop word event now next turn));
+  pub all_broken : (old new : S) (text printed : Option (List ℕ)) → Played last does line words old new text printed → Part last does words old new
+  all_broken old new text printed plays = record {
+    count = length words;
+    came = plays.came;
+    makes = subst (λ ws. Turns last does ws plays.came old new) (sym (take_all (length words) words (omega arith))) plays.makes;
   }
 
--- all words had their turns
-pub all_played : {D N : Type 0} (disk : Ghosts (FaultyDisk D) (N × Trap)) (stop : ℕ) (words : List Word) (k : ℕ) (old now : Player D N) (text printed : Option (List ℕ)) → PlayedSo disk stop words k old now text printed → drop k words ≡ [] → PlaysTo disk stop words old now text printed
-all_played disk stop words k old now text printed so none =
-    let nothing : List Event = [] in
-    let ends : (nothing ≡ []) × (now ≡ now) = (refl, refl) in
-    record {
-      events = so.events;
-      makes = subst (λ events. MakesTurns disk stop words events old now) (append-nil so.events)
-          (subst (λ ws. MakesTurns disk stop ws (so.events ++ []) old now) (ap (λ (ws : List Word). take k words ++ ws) (sym none) ∙ take-append-drop k words) (so.joins [] [] now ends));
-      lines = so.lines;
+  module _ (k : ℕ) (old now next : S) (text mid : Option (List ℕ)) (word : Word) (one : E)
+      (so : PlayedSo last does line words k old now text mid) (within : k < length words) (left : drop k words ≡ word ∷ drop (k + 1) words) (turn : does word one now next) where
+    -- one turn more
+    pub one_played : (printed : Option (List ℕ)) → last one ≡ false → Appends mid printed (line one) → PlayedSo last does line words (k + 1) old next text printed
+    one_played printed more now_printed = record {
+      came = so.came ++ one ∷ [];
+      lines = more_printed text mid printed so.came one so.lines now_printed;
+      joins = λ others rest new makes.
+          let here : Turns last does (word ∷ others) (one ∷ rest) now new =
+          (next, turn, subst (λ b. IfLast b ((rest ≡ []) × (new ≡ next)) (Turns last does others rest next new)) (sym more) makes) in
+          let count : take k words ++ word ∷ others ≡ take (k + 1) words ++ others = sym (append_assoc (take k words) (word ∷ []) others) ∙ ap (λ (ws : List Word). ws ++ others) (sym (one_more words k word within left)) in
+          subst (λ came. Turns last does (take (k + 1) words ++ others) came old new) (sym (append_assoc so.came (one ∷ []) rest))
+          (subst (λ ws. Turns last does ws (so.came ++ one ∷ rest) old new) count (so.joins (word ∷ others) (one ∷ rest) new here));
     }
 
-pub all_broken : {D N : Type 0} (disk : Ghosts (FaultyDisk D) (N × Trap)) (stop : ℕ) (words : List Word) (old new : Player D N) (text printed : Option (List ℕ)) → PlaysTo disk stop words old new text printed → BreaksOff disk stop words old new
-all_broken disk stop words old new text printed plays = record {
-  count = length words;
-  events = plays.events;
-  makes = subst (λ ws. MakesTurns disk stop ws plays.events old new) (sym (take_all (length words) words (omega arith))) plays.makes;
-}
+    -- the last turn
+    pub last_played : (printed : Option (List ℕ)) → last one ≡ true → Appends mid printed (line one) → Played last does line words old next text printed
+    last_played printed is_last now_printed =
+        let none : List E = [] in
+        let ends : (none ≡ []) × (next ≡ next) = (refl, refl) in
+        let here : Turns last does (word ∷ drop (k + 1) words) (one ∷ []) now next =
+        (next, turn, subst (λ b. IfLast b ((none ≡ []) × (next ≡ next)) (Turns last does (drop (k + 1) words) [] next next)) (sym is_last) ends) in
+        record {
+          came = so.came ++ one ∷ [];
+          makes = subst (λ ws. Turns last does ws (so.came ++ one ∷ []) old next) (ap (λ (ws : List Word). take k words ++ ws) (sym left) ∙ take-append-drop k words) (so.joins (word ∷ drop (k + 1) words) (one ∷ []) next here);
+          lines = more_printed text mid printed so.came one so.lines now_printed;
+        }
 
--- the counts behind the turns
-pub counts_printed : {D N : Type 0} (disk : Ghosts (FaultyDisk D) (N × Trap)) (stop base : ℕ) (words : List Word) (old new : Player D N) (fault : Option DeviceFault) (text mid printed : Option (List ℕ)) → PlaysTo disk stop words old new text mid
-    → kernel_fault new.kernel ≡ fault → Appends mid printed (kernel_counts disk base new.kernel) → RunsTo disk stop base words old new fault text printed
-counts_printed disk stop base words old new fault text mid printed plays told counts = record {
-  events = plays.events;
-  makes = plays.makes;
-  tells = told;
-  lines = Appends-trans text mid printed _ _ plays.lines counts;
-}
+    -- the last of which something was printed, or was to be
+    pub breaks_here : Part last does words old next
+    breaks_here = record {
+      count = k + 1;
+      came = so.came ++ one ∷ [];
+      makes = subst (λ ws. Turns last does ws (so.came ++ one ∷ []) old next) (sym (one_more words k word within left)) (so.joins (word ∷ []) (one ∷ []) next (turn_alone last does word one now next turn));
+    }
+
+-- turns, as a part of what they change is seen
+pub turns_seen : {S V E : Type 0} (last : E → Bool) (does : Word → E → S → S → Type 0) (sees : Word → E → V → V → Type 0) (v : S → V) → ((w : Word) (one : E) (old new : S) → does w one old new → sees w one (v old) (v new))
+    → (words : List Word) (came : List E) (old new : S) → Turns last does words came old new → Turns last sees words came (v old) (v new)
+turns_seen last does sees v each [] came old new makes = (makes.0, ap v makes.1)
+turns_seen last does sees v each (w ∷ words) [] old new makes = absurd makes
+turns_seen {S} {V} {E} last does sees v each (w ∷ words) (one ∷ came) old new (mid, turn, rest) =
+    (v mid, each w one old mid turn, on (last one) (λ more. turns_seen last does sees v each words came mid new more) rest)
+  where
+    on : (b : Bool) → (Turns last does words came mid new → Turns last sees words came (v mid) (v new)) → IfLast b ((came ≡ []) × (new ≡ mid)) (Turns last does words came mid new) → IfLast b ((came ≡ []) × (v new ≡ v mid)) (Turns last sees words came (v mid) (v new))
+    on true go ends = (ends.0, ap v ends.1)
+    on false go more = go more

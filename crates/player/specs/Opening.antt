@@ -28,7 +28,8 @@ use Rattle.rings.specs.Boards.{asked}
 use Rattle.clients.specs.Backlogs.{ops_of}
 use Rattle.clients.specs.Feeders.{AreNewFeeders}
 use Rattle.rings.specs.Callers.{intake_names}
-use Rattle.player.specs.Stepping.{BreaksOff, Ringed, RunsTo}
+use Rattle.player.specs.Stepping.{BreaksOff, Ringed}
+use Rattle.player.specs.Told.{RunsTo, Told, base_of}
 use Rattle.opening.specs.Recoveries.{IsUnrecovered}
 use Rattle.opening.specs.Stops.{LeavesFromSync}
 use Rattle.player.specs.declared.player.Player.{Player}
@@ -94,17 +95,19 @@ pub record IsPlayedOn {D N : Type 0} (below : Ghosts D N) (disk : Ghosts (Faulty
   pub name : below.name e ≡ below.name d
   pub leaves : LeavesFromSync below d e (KeepsSome disk last.kernel)
 
--- The disk d, now e, was recovered. A player was opened over it, and made the turns of these words.
--- Printed are their lines and the counts, of writes from behind the recovery on; the write to be
--- stopped is counted from there, too. This fault is told of the disk.
+-- The disk d, now e, was recovered. A player was opened over it, and made the turns of these words,
+-- which were noted so. Printed are what `says` has of each, over an image of so many inode numbers,
+-- and the counts, of writes from behind the recovery on; the write to be stopped is counted from
+-- there, too. This fault is told of the disk.
 pub record Replays {D N : Type 0} (below : Ghosts D N) (disk : Ghosts (FaultyDisk D) (N × Trap))
     (d e : D) (tasks : List Task) (processes : ℕ) (words : List Word) (stop : ℕ)
-    (fault : Option DeviceFault) (text printed : Option (List ℕ)) : Type 0 where
+    (says : ℕ → Told → List ℕ) (fault : Option DeviceFault) (text printed : Option (List ℕ))
+    (tolds : List Told) : Type 0 where
   pub player : Player D N
   pub last : Player D N
   pub ready : IsReadyOver below disk d tasks processes stop player
-  pub runs : RunsTo disk stop (disk.write_count player.kernel.store.volume.device) words
-      player last fault text printed
+  pub runs : RunsTo disk (base_of disk player.kernel.store.volume.device) stop says words
+      player last fault text printed tolds
   pub played : IsPlayedOn below disk d e tasks processes player last
 
 -- the same up to a turn behind which the output failed
@@ -135,11 +138,12 @@ IsNotBegun below disk processes stop d e r = ⊥
 -- why a replay over the disk d, now e, was refused, and what it came to; `none` says that nothing
 -- was printed
 abbrev pub IsNotReplayed : {D N : Type 0} → Ghosts D N → Ghosts (FaultyDisk D) (N × Trap) → D → D
-    → List Task → ℕ → List Word → ℕ → Option (List ℕ) → Option (List ℕ) → Type 0 → ReplayRefusal
-    → Type 0
-IsNotReplayed below disk d e tasks processes words stop text printed none (Disk fault) =
-    Replays below disk d e tasks processes words stop (Some fault) text printed
-IsNotReplayed below disk d e tasks processes words stop text printed none Output =
+    → List Task → ℕ → List Word → ℕ → (ℕ → Told → List ℕ) → Option (List ℕ) → Option (List ℕ)
+    → Type 0 → ReplayRefusal → Type 0
+IsNotReplayed below disk d e tasks processes words stop says text printed none (Disk fault) =
+    (tolds : List Told)
+    × Replays below disk d e tasks processes words stop says (Some fault) text printed tolds
+IsNotReplayed below disk d e tasks processes words stop says text printed none Output =
     ReplaysPart below disk d e tasks processes words stop
-IsNotReplayed below disk d e tasks processes words stop text printed none r =
+IsNotReplayed below disk d e tasks processes words stop says text printed none r =
     IsNotBegun below disk processes stop d e r × none

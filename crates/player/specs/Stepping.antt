@@ -1,5 +1,5 @@
 -- What steps and turns make of a kernel, and of the operations that wait to be handed in.
-use Rattle.std.specs.Prelude.{◌≡◌, ⊤, ℕ, ◌-◌, true, length, List, [], ◌∷◌, ◌++◌, flat_map, set, slice_get, take, Option, Some, None}
+use Rattle.std.specs.Prelude.{◌≡◌, ⊤, ℕ, ◌-◌, true, length, List, [], ◌∷◌, ◌++◌, set, slice_get, take, Option, Some, None}
 use Rattle.std.specs.Io.KnownBytes.{Appends}
 use mathlib.Core.List.{IsPrefix}
 use Rattle.wal.specs.declared.types.DeviceFault.{DeviceFault}
@@ -33,9 +33,9 @@ use Rattle.messages.specs.declared.events.Event.TheVariants.{Shut}
 use Rattle.player.specs.declared.player.Player.{Player}
 use Rattle.player.specs.declared.refusals.ReplayRefusal.{ReplayRefusal}
 use Rattle.player.specs.declared.refusals.ReplayRefusal.TheVariants.{Disk, Output}
-use Rattle.messages.specs.Events.{event_line, is_last}
+use Rattle.messages.specs.Events.{is_last}
 use Rattle.messages.specs.Output.{counts_text}
-use Rattle.player.specs.Turns.{IfLast, event_of, told_fault}
+use Rattle.player.specs.Turns.{Turns, event_of, told_fault}
 
 -- a kernel over rings and a board
 abbrev pub Ringed : Type 0 → Type 0
@@ -168,23 +168,18 @@ MakesTurn disk stop word.Shutdown event old new =
     (event ≡ Shut) × (asked new.watch ≡ true) × (new.kernel ≡ old.kernel)
     × (new.feeders ≡ old.feeders)
 
--- the turns of these words, one for each up to the last that is made, make new of old, and come to
--- these events
+-- the turns of these words make new of old, and come to these events
 abbrev pub MakesTurns : {D N : Type 0} → Ghosts (FaultyDisk D) (N × Trap) → ℕ → List Word
     → List Event → Player D N → Player D N → Type 0
-MakesTurns disk stop [] events old new = (events ≡ []) × (new ≡ old)
-MakesTurns disk stop (first ∷ words) [] old new = ⊥
-MakesTurns {D} {N} disk stop (first ∷ words) (event ∷ events) old new =
-    (mid : Player D N) × MakesTurn disk stop first event old mid
-    × IfLast (is_last event) ((events ≡ []) × (new ≡ mid))
-    (MakesTurns disk stop words events mid new)
+MakesTurns disk stop words events old new =
+    Turns is_last (MakesTurn disk stop) words events old new
 
--- the turns of these words make new of old, and a line was printed for each
-pub record PlaysTo {D N : Type 0} (disk : Ghosts (FaultyDisk D) (N × Trap)) (stop : ℕ)
-    (words : List Word) (old new : Player D N) (text printed : Option (List ℕ)) : Type 0 where
+-- the turns of the first of these words made new of old
+pub record BreaksOff {D N : Type 0} (disk : Ghosts (FaultyDisk D) (N × Trap)) (stop : ℕ)
+    (words : List Word) (old new : Player D N) : Type 0 where
+  pub count : ℕ
   pub events : List Event
-  pub makes : MakesTurns disk stop words events old new
-  pub lines : Appends text printed (flat_map event_line events)
+  pub makes : MakesTurns disk stop (take count words) events old new
 
 -- the counts of a kernel, of writes over a disk that had counted `base` of them before
 abbrev pub kernel_counts : {D N : Type 0} → Ghosts D N → ℕ → Ringed D → List ℕ
@@ -207,30 +202,3 @@ abbrev pub IsNotClosed : {D N : Type 0} → Ghosts (FaultyDisk D) N → ℕ → 
 IsNotClosed disk base k text printed (Disk fault) = IsClosed disk base k (Some fault) text printed
 IsNotClosed disk base k text printed Output = ⊤
 IsNotClosed disk base k text printed r = ⊥
-
--- The turns of these words made new of old, and a line was printed for each; behind them the counts
--- of the kernel, over a disk that had counted `base` writes before. This fault is told of it.
-pub record RunsTo {D N : Type 0} (disk : Ghosts (FaultyDisk D) (N × Trap)) (stop base : ℕ)
-    (words : List Word) (old new : Player D N) (fault : Option DeviceFault)
-    (text printed : Option (List ℕ)) : Type 0 where
-  pub events : List Event
-  pub makes : MakesTurns disk stop words events old new
-  pub tells : kernel_fault new.kernel ≡ fault
-  pub lines : Appends text printed
-      (flat_map event_line events ++ kernel_counts disk base new.kernel)
-
--- the turns of the first of these words made new of old
-pub record BreaksOff {D N : Type 0} (disk : Ghosts (FaultyDisk D) (N × Trap)) (stop : ℕ)
-    (words : List Word) (old new : Player D N) : Type 0 where
-  pub count : ℕ
-  pub events : List Event
-  pub makes : MakesTurns disk stop (take count words) events old new
-
--- What a run that was refused came to: where the disk failed, all was printed; where the output
--- did, turns were made up to then.
-abbrev pub IsBrokenOff : {D N : Type 0} → Ghosts (FaultyDisk D) (N × Trap) → ℕ → ℕ → List Word
-    → Player D N → Player D N → Option (List ℕ) → Option (List ℕ) → ReplayRefusal → Type 0
-IsBrokenOff disk stop base words old new text printed (Disk fault) =
-    RunsTo disk stop base words old new (Some fault) text printed
-IsBrokenOff disk stop base words old new text printed Output = BreaksOff disk stop words old new
-IsBrokenOff disk stop base words old new text printed r = ⊥

@@ -1,6 +1,6 @@
 -- Turns whose steps are told, each as it was noted: what it was to do before it was made, and what
 -- it came to.
-use Rattle.std.specs.Prelude.{◌≡◌, ◌≢◌, ℕ, ◌-◌, List, [], ◌∷◌, ◌++◌, flat_map, Option, Some}
+use Rattle.std.specs.Prelude.{◌≡◌, ◌≢◌, ℕ, ◌-◌, Bool, false, ◌||◌, List, [], ◌∷◌, ◌++◌, flat_map, Option, Some}
 use Rattle.std.specs.Io.KnownBytes.{Appends}
 use Rattle.blocks.specs.declared.disk.Disk.{Ghosts}
 use Rattle.blocks.specs.declared.faulty.FaultyDisk.{FaultyDisk}
@@ -11,15 +11,13 @@ use Rattle.inodes.specs.Deeds.{wanted_holder}
 use Rattle.kernel.specs.Deeds.{next_deed}
 use Rattle.scripts.specs.declared.schedule.Word.{Word}
 use Rattle.scripts.specs.declared.schedule.Word.TheVariants as word
-use Rattle.scripts.specs.declared.script.Task.{Task}
 use Rattle.messages.specs.Deeds.{note_text}
 use Rattle.messages.specs.Events.{event_line, is_last}
 use Rattle.messages.specs.declared.deeds.Detail.{Detail}
 use Rattle.messages.specs.declared.deeds.StepNote.{StepNote}
 use Rattle.messages.specs.declared.events.Event.{Event}
-use Rattle.player.specs.Opening.{IsNotBegun, IsPlayedOn, IsReadyOver, ReplaysPart}
 use Rattle.player.specs.Stepping.{BreaksOff, MakesRingedStep, MakesTurn, MakesTurnOf, Ringed, kernel_counts, kernel_fault}
-use Rattle.player.specs.Turns.{IfLast}
+use Rattle.player.specs.Turns.{Turns}
 use Rattle.player.specs.declared.noting.Base.{Base}
 use Rattle.player.specs.declared.player.Player.{Player}
 use Rattle.player.specs.declared.refusals.ReplayRefusal.{ReplayRefusal}
@@ -83,71 +81,71 @@ TellsTurn disk base stop (word.Steps p) told old new =
 TellsTurn disk base stop word.Shutdown told old new =
     (told.notes ≡ []) × MakesTurn disk stop word.Shutdown told.event old new
 
--- the turns of these words, as `MakesTurns`, were noted so
+-- whether it is the last that can be made
+abbrev pub is_last_told : Told → Bool
+is_last_told told = is_last told.event
+
+-- the turns of these words make new of old, and were noted so
 abbrev pub TellsTurns : {D N : Type 0} → Ghosts (FaultyDisk D) (N × Trap) → Base → ℕ → List Word
     → List Told → Player D N → Player D N → Type 0
-TellsTurns disk base stop [] tolds old new = (tolds ≡ []) × (new ≡ old)
-TellsTurns disk base stop (first ∷ words) [] old new = ⊥
-TellsTurns {D} {N} disk base stop (first ∷ words) (told ∷ tolds) old new =
-    (mid : Player D N) × TellsTurn disk base stop first told old mid
-    × IfLast (is_last told.event) ((tolds ≡ []) × (new ≡ mid))
-    (TellsTurns disk base stop words tolds mid new)
+TellsTurns disk base stop words tolds old new =
+    Turns is_last_told (TellsTurn disk base stop) words tolds old new
+
+-- ---- who hears of turns, and what is printed of them
+
+-- the turn of a word makes new of old and comes to the event, and who hears of it, and of its steps
+-- as they were noted, was t, and is u then
+pub record HearsTurn {D N T : Type 0} (disk : Ghosts (FaultyDisk D) (N × Trap)) (base : Base)
+    (stop : ℕ) (hears : Word → Told → T → T → Type 0) (w : Word) (event : Event)
+    (old new : Player D N) (t u : T) : Type 0 where
+  pub notes : List StepNote
+  pub turn : TellsTurn disk base stop w (record { event = event; notes = notes }) old new
+  pub heard : hears w (record { event = event; notes = notes }) t u
+
+-- some turns of these words were told as P says, and who heard of each was t, and is u then
+pub record HearsTurns {T : Type 0} (hears : Word → Told → T → T → Type 0) (words : List Word)
+    (t u : T) (P : List Told → Type 0) : Type 0 where
+  pub tolds : List Told
+  pub told : P tolds
+  pub heard : Turns is_last_told hears words tolds t u
 
 -- the line of a turn, and below it what is told of its steps, over an image of n inode numbers
 abbrev pub told_text : Detail → ℕ → Told → List ℕ
 told_text detail n told = event_line told.event ++ flat_map (note_text detail n) told.notes
 
--- The turns of these words made new of old, and their lines were printed.
-pub record TellsTo {D N : Type 0} (disk : Ghosts (FaultyDisk D) (N × Trap)) (base : Base)
-    (stop : ℕ) (detail : Detail) (n : ℕ) (words : List Word) (old new : Player D N)
-    (text printed : Option (List ℕ)) : Type 0 where
-  pub tolds : List Told
-  pub makes : TellsTurns disk base stop words tolds old new
-  pub lines : Appends text printed (flat_map (told_text detail n) tolds)
+-- whether something is told of steps
+abbrev pub tells_steps : Detail → Bool
+tells_steps detail = detail.steps || detail.writes
 
--- The turns of these words made new of old, and their lines were printed; behind them the counts of
--- the kernel. This fault is told of it.
-pub record RunsTold {D N : Type 0} (disk : Ghosts (FaultyDisk D) (N × Trap)) (base : Base)
-    (stop : ℕ) (detail : Detail) (words : List Word) (old new : Player D N)
-    (fault : Option DeviceFault) (text printed : Option (List ℕ)) : Type 0 where
-  pub tolds : List Told
+abbrev pub no_detail : Detail
+no_detail = record { steps = false; writes = false }
+
+-- The turns of these words made new of old, and were noted so; printed is of each what `says` has.
+pub record PlaysTo {D N : Type 0} (disk : Ghosts (FaultyDisk D) (N × Trap)) (base : Base)
+    (stop : ℕ) (says : Told → List ℕ) (words : List Word) (old new : Player D N)
+    (text printed : Option (List ℕ)) (tolds : List Told) : Type 0 where
+  pub makes : TellsTurns disk base stop words tolds old new
+  pub lines : Appends text printed (flat_map says tolds)
+
+-- The same, over an image of as many inode numbers as the kernel's, and behind it the counts of the
+-- kernel. This fault is told of it.
+pub record RunsTo {D N : Type 0} (disk : Ghosts (FaultyDisk D) (N × Trap)) (base : Base)
+    (stop : ℕ) (says : ℕ → Told → List ℕ) (words : List Word) (old new : Player D N)
+    (fault : Option DeviceFault) (text printed : Option (List ℕ)) (tolds : List Told)
+    : Type 0 where
   pub makes : TellsTurns disk base stop words tolds old new
   pub tells : kernel_fault new.kernel ≡ fault
-  pub lines : Appends text printed
-      (flat_map (told_text detail old.kernel.store.table.inode_count) tolds
+  pub lines : Appends text printed (flat_map (says old.kernel.store.table.inode_count) tolds
       ++ kernel_counts disk base.writes new.kernel)
 
--- What such a run that was refused came to: where the disk failed, all was printed; where the output
+-- What a run that was refused came to: where the disk failed, all was printed; where the output
 -- did, turns were made up to then.
-abbrev pub IsToldInPart : {D N : Type 0} → Ghosts (FaultyDisk D) (N × Trap) → Base → ℕ → Detail
-    → List Word → Player D N → Player D N → Option (List ℕ) → Option (List ℕ) → ReplayRefusal
-    → Type 0
-IsToldInPart disk base stop detail words old new text printed (Disk fault) =
-    RunsTold disk base stop detail words old new (Some fault) text printed
-IsToldInPart disk base stop detail words old new text printed Output =
+abbrev pub IsBrokenOff : {D N : Type 0} → Ghosts (FaultyDisk D) (N × Trap) → Base → ℕ
+    → (ℕ → Told → List ℕ) → List Word → Player D N → Player D N → Option (List ℕ)
+    → Option (List ℕ) → ReplayRefusal → Type 0
+IsBrokenOff disk base stop says words old new text printed (Disk fault) =
+    (tolds : List Told)
+    × RunsTo disk base stop says words old new (Some fault) text printed tolds
+IsBrokenOff disk base stop says words old new text printed Output =
     BreaksOff disk stop words old new
-IsToldInPart disk base stop detail words old new text printed r = ⊥
-
--- The disk d, now e, was recovered, a player opened over it, and the turns of these words made and
--- told, as `Replays` has it without what is told of their steps.
-pub record ReplaysTold {D N : Type 0} (below : Ghosts D N)
-    (disk : Ghosts (FaultyDisk D) (N × Trap)) (d e : D) (tasks : List Task) (processes : ℕ)
-    (words : List Word) (stop : ℕ) (detail : Detail) (fault : Option DeviceFault)
-    (text printed : Option (List ℕ)) : Type 0 where
-  pub player : Player D N
-  pub last : Player D N
-  pub ready : IsReadyOver below disk d tasks processes stop player
-  pub runs : RunsTold disk (base_of disk player.kernel.store.volume.device) stop detail words
-      player last fault text printed
-  pub played : IsPlayedOn below disk d e tasks processes player last
-
--- why such a replay was refused, as `IsNotReplayed` has it
-abbrev pub IsNotTold : {D N : Type 0} → Ghosts D N → Ghosts (FaultyDisk D) (N × Trap) → D → D
-    → List Task → ℕ → List Word → ℕ → Detail → Option (List ℕ) → Option (List ℕ) → Type 0
-    → ReplayRefusal → Type 0
-IsNotTold below disk d e tasks processes words stop detail text printed none (Disk fault) =
-    ReplaysTold below disk d e tasks processes words stop detail (Some fault) text printed
-IsNotTold below disk d e tasks processes words stop detail text printed none Output =
-    ReplaysPart below disk d e tasks processes words stop
-IsNotTold below disk d e tasks processes words stop detail text printed none r =
-    IsNotBegun below disk processes stop d e r × none
+IsBrokenOff disk base stop says words old new text printed r = ⊥

@@ -1,12 +1,8 @@
 // A check of a disk's image, and what it prints.
-ghost use Rattle.std.specs.Prelude.{◌≡◌, OnOk, IfErr, None};
-ghost use Rattle.std.specs.Io.KnownBytes.{Appends};
+ghost use Rattle.std.specs.Prelude.{◌≡◌, OnOk, IfErr};
 ghost use Rattle.blocks.specs.Calls.{OnlyReads};
-ghost use Rattle.model.specs.Files.{file_count, files_of};
-ghost use Rattle.model.specs.Log.{logged_count, recovered};
-ghost use Rattle.model.specs.Verdict.{verdict};
-ghost use Rattle.messages.specs.Output.{report_text};
 ghost use Rattle.player.specs.Causes.{HasFaultsTold, IsToldWith, IsUnchecked};
+ghost use Rattle.player.specs.Looks.{HasReported};
 
 use blocks::Disk;
 use messages::{Printed, print_faults, print_report};
@@ -26,10 +22,8 @@ pub fn check_disk<D: Disk, O: Write>(
     disk: &mut D,
     out: &mut O,
 ) -> Result<(), Printed<CheckFault>>
-    ensures sound { OnOk result (verdict (D.image disk.old) ≡ None) }
-    ensures printed { OnOk result (Appends (O.contents out.old) (O.contents out.new)
-        (report_text (logged_count (D.image disk.old))
-        (file_count (files_of (recovered (D.image disk.old)))))) }
+    ensures reported { OnOk result (HasReported D.Disk disk.old disk.new
+        (O.contents out.old) (O.contents out.new)) }
     ensures reads { OnlyReads D.Disk disk.old disk.new }
     ensures refused { IfErr result (IsUnchecked D.Disk disk.old disk.new (out.new ≡ out.old)) }
 {
@@ -49,10 +43,8 @@ pub fn check_disk_all<D: Disk, O: Write>(
     disk: &mut D,
     out: &mut O,
 ) -> Result<(), Printed<CheckFault>>
-    ensures sound { OnOk result (verdict (D.image disk.old) ≡ None) }
-    ensures printed { OnOk result (Appends (O.contents out.old) (O.contents out.new)
-        (report_text (logged_count (D.image disk.old))
-        (file_count (files_of (recovered (D.image disk.old)))))) }
+    ensures reported { OnOk result (HasReported D.Disk disk.old disk.new
+        (O.contents out.old) (O.contents out.new)) }
     ensures reads { OnlyReads D.Disk disk.old disk.new }
     ensures refused { IfErr result (HasFaultsTold D.Disk disk.old disk.new
         (O.contents out.old) (O.contents out.new) (out.new ≡ out.old)) }

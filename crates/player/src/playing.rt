@@ -1,42 +1,49 @@
-// The turns of a schedule's words, with a line for each.
+// The turns of a schedule's words, one after the other.
 ghost use Rattle.std.specs.Prelude.{◌≡◌, List, OnOk, IsTrue, IfErr, None, length};
 ghost use Rattle.std.specs.List.{list_all};
 ghost use Rattle.scripts.specs.Schedule.{is_word_of};
 ghost use Rattle.messages.specs.declared.events.Event.{Event as SomeEvent};
-ghost use Rattle.player.specs.Stepping.{BreaksOff, IsBrokenOff, IsClosed, IsSeated, KeepOps, MakesTurns, IsNotClosed, PlaysTo, RunsTo};
+ghost use Rattle.player.specs.Stepping.{BreaksOff, IsClosed, IsSeated, KeepOps, MakesTurns, IsNotClosed};
+ghost use Rattle.player.specs.Told.{HearsTurns, IsBrokenOff, PlaysTo, RunsTo};
 ghost use Rattle.kernel.specs.Runs.{RunsOn};
 
+use crate::noting::Base;
 use crate::player::Player;
 use crate::refusals::ReplayRefusal;
+use crate::teller::Teller;
 use blocks::{Disk, FaultyDisk, NoMemory};
 use kernel::Step;
-use messages::{Event, Meter, Unwritten, print_counts, print_event};
+use messages::{Event, Meter, Unwritten, print_counts};
 use scripts::Word;
 use std::io::Write;
 
-/// Makes the turns of the words over a disk that had counted `base` writes before them, and prints
-/// what they came to. The write of number `stop` isn't made. The processes that the words name are
-/// the player's. The meter is told how many of the words' turns were made.
+/// Makes the turns of the words over a disk that had counted `base` before them. The teller hears of
+/// each, and prints what it has to say of it; behind them it is printed what they came to. The write
+/// of number `stop` isn't made. The processes that the words name are the player's. The meter is told
+/// how many of the words' turns were made.
 ///
 /// # Errors
 ///
 /// `Output`, and then the turns of the first words were made; else `Disk` where a step found that
 /// the disk failed, and then all was printed.
-pub fn run<D: Disk + Drop, P: Meter, O: Write>(
+pub fn run<D: Disk + Drop, T: Teller, P: Meter, O: Write>(
     player: &mut Player<'_, D>,
     words: &[Word],
     stop: u64,
-    base: u64,
+    base: Base,
+    teller: &mut T,
     progress: &mut P,
     out: &mut O,
 ) -> Result<(), ReplayRefusal>
     requires words { IsTrue
         (list_all (is_word_of (length player.old.kernel.world.processes)) words.now) }
     requires seated { IsSeated player.old }
-    ensures printed { OnOk result (RunsTo ⟦<FaultyDisk<D> as Disk>⟧ stop base words.now
-        player.old player.new None (O.contents out.old) (O.contents out.new)) }
-    ensures refused { IfErr result (IsBrokenOff ⟦<FaultyDisk<D> as Disk>⟧ stop base words.now
-        player.old player.new (O.contents out.old) (O.contents out.new)) }
+    ensures printed { OnOk result (HearsTurns T.hears words.now teller.old teller.new
+        (RunsTo ⟦<FaultyDisk<D> as Disk>⟧ base stop (T.says teller.old) words.now
+        player.old player.new None (O.contents out.old) (O.contents out.new))) }
+    ensures refused { IfErr result (IsBrokenOff ⟦<FaultyDisk<D> as Disk>⟧ base stop
+        (T.says teller.old) words.now player.old player.new
+        (O.contents out.old) (O.contents out.new)) }
     ensures keeps { RunsOn ⟦<FaultyDisk<D> as Disk>⟧ player.old.kernel player.new.kernel }
     ensures ops { KeepOps player.old.feeders.items player.new.feeders.items }
     ensures seated { IsSeated player.new }
@@ -44,8 +51,18 @@ pub fn run<D: Disk + Drop, P: Meter, O: Write>(
         ≡ ⟦<FaultyDisk<D> as Disk>⟧.name player.old.kernel.store.volume.device }
 {
     player.kernel.known();
-    play(player, words, stop, progress, out)?;
-    close(player, base, out)
+    let inode_count = player.kernel.inode_count();
+    play(
+        player,
+        words,
+        stop,
+        base,
+        teller,
+        inode_count,
+        progress,
+        out,
+    )?;
+    close(player, base.writes, out)
 }
 
 /// Makes the turns of the words, up to the last that can be made, and prints nothing. The write of
@@ -77,26 +94,31 @@ pub fn make_turns<D: Disk + Drop>(
     Ok(())
 }
 
-// Makes the turns of the words, and prints a line for each, up to the last that can be made.
-fn play<D: Disk + Drop, P: Meter, O: Write>(
+// Makes the turns of the words, up to the last that can be made, and the teller prints what it has to
+// say of each, over an image of so many inode numbers.
+fn play<D: Disk + Drop, T: Teller, P: Meter, O: Write>(
     player: &mut Player<'_, D>,
     words: &[Word],
     stop: u64,
+    base: Base,
+    teller: &mut T,
+    inode_count: u32,
     progress: &mut P,
     out: &mut O,
 ) -> Result<(), Unwritten>
     requires words { IsTrue
         (list_all (is_word_of (length player.old.kernel.world.processes)) words.now) }
     requires seated { IsSeated player.old }
-    ensures printed { OnOk result (PlaysTo ⟦<FaultyDisk<D> as Disk>⟧
-        stop words.now player.old player.new (O.contents out.old) (O.contents out.new)) }
+    ensures printed { OnOk result (HearsTurns T.hears words.now teller.old teller.new
+        (PlaysTo ⟦<FaultyDisk<D> as Disk>⟧ base stop (T.says teller.old inode_count) words.now
+        player.old player.new (O.contents out.old) (O.contents out.new))) }
     ensures breaks { BreaksOff ⟦<FaultyDisk<D> as Disk>⟧ stop words.now player.old player.new }
     ensures seated { IsSeated player.new }
 {
     let mut made = 0u64;
     for word in words {
-        let event = player.turn(*word, stop);
-        print_event(out, &event)?;
+        let event = teller.turn(player, *word, stop, base);
+        teller.print(out, &event, inode_count)?;
         if event.is_last() {
             return Ok(());
         }
@@ -107,7 +129,7 @@ fn play<D: Disk + Drop, P: Meter, O: Write>(
 }
 
 // Prints what the turns came to. `Disk` where the disk failed, and all is printed then, too.
-pub(crate) fn close<D: Disk + Drop, O: Write>(
+fn close<D: Disk + Drop, O: Write>(
     player: &Player<'_, D>,
     base: u64,
     out: &mut O,

@@ -1,120 +1,25 @@
-// Turns whose steps are told: each step is noted, and below the line of its turn it is printed what
-// it was to do, or what it wrote.
-ghost use Rattle.std.specs.Prelude.{◌≡◌, ◌++◌, ◌∷◌, [], ◌<◌, OnOk, IsTrue, IfErr, None, length};
-ghost use Rattle.std.specs.Io.KnownBytes.{Appends};
-ghost use Rattle.std.specs.List.{list_all};
+// Turns whose steps are noted.
+ghost use Rattle.std.specs.Prelude.{◌≡◌, ◌++◌, ◌∷◌, [], ◌<◌, IsTrue, length};
 ghost use Rattle.scripts.specs.Schedule.{is_word_of};
-ghost use Rattle.player.specs.Stepping.{BreaksOff, HasItsWatch, IsSeated, KeepOps, MakesRingedStep, MakesTurnOf};
-ghost use Rattle.player.specs.Told.{IsToldInPart, NotesAll, NotesOne, RunsTold, TellsTo, TellsTurn, note_of, told_text};
-ghost use Rattle.kernel.specs.Runs.{RunsOn};
+ghost use Rattle.player.specs.Stepping.{HasItsWatch, IsSeated, MakesRingedStep, MakesTurnOf};
+ghost use Rattle.player.specs.Told.{NotesAll, NotesOne, TellsTurn, note_of};
 
 use crate::noting::{Base, MOST_STEPS, Notes};
 use crate::player::Player;
-use crate::playing::close;
-use crate::refusals::ReplayRefusal;
 use blocks::{Disk, FaultyDisk};
 use kernel::Step;
-use messages::{Detail, Event, Meter, StepNote, Unwritten, print_event, print_notes};
+use messages::{Event, StepNote};
 use scripts::Word;
-use std::io::Write;
-
-/// Makes the turns of the words as `run`, and prints below the line of each what is told of its
-/// steps.
-///
-/// # Errors
-///
-/// As those of `run`.
-pub fn run_told<D: Disk + Drop, P: Meter, O: Write>(
-    player: &mut Player<'_, D>,
-    notes: &mut Notes,
-    words: &[Word],
-    stop: u64,
-    base: Base,
-    detail: Detail,
-    progress: &mut P,
-    out: &mut O,
-) -> Result<(), ReplayRefusal>
-    requires words { IsTrue
-        (list_all (is_word_of (length player.old.kernel.world.processes)) words.now) }
-    requires seated { IsSeated player.old }
-    ensures printed { OnOk result (RunsTold ⟦<FaultyDisk<D> as Disk>⟧ base stop detail words.now
-        player.old player.new None (O.contents out.old) (O.contents out.new)) }
-    ensures refused { IfErr result (IsToldInPart ⟦<FaultyDisk<D> as Disk>⟧ base stop detail
-        words.now player.old player.new (O.contents out.old) (O.contents out.new)) }
-    ensures keeps { RunsOn ⟦<FaultyDisk<D> as Disk>⟧ player.old.kernel player.new.kernel }
-    ensures ops { KeepOps player.old.feeders.items player.new.feeders.items }
-    ensures seated { IsSeated player.new }
-    ensures name { ⟦<FaultyDisk<D> as Disk>⟧.name player.new.kernel.store.volume.device
-        ≡ ⟦<FaultyDisk<D> as Disk>⟧.name player.old.kernel.store.volume.device }
-{
-    player.kernel.known();
-    let inode_count = player.kernel.inode_count();
-    tell(
-        player,
-        notes,
-        words,
-        stop,
-        base,
-        detail,
-        inode_count,
-        progress,
-        out,
-    )?;
-    close(player, base.writes, out)
-}
-
-// Makes the turns of the words, up to the last that can be made, and prints the line of each with
-// what is told of its steps below it.
-fn tell<D: Disk + Drop, P: Meter, O: Write>(
-    player: &mut Player<'_, D>,
-    notes: &mut Notes,
-    words: &[Word],
-    stop: u64,
-    base: Base,
-    detail: Detail,
-    inode_count: u32,
-    progress: &mut P,
-    out: &mut O,
-) -> Result<(), Unwritten>
-    requires words { IsTrue
-        (list_all (is_word_of (length player.old.kernel.world.processes)) words.now) }
-    requires seated { IsSeated player.old }
-    ensures printed { OnOk result (TellsTo ⟦<FaultyDisk<D> as Disk>⟧ base stop detail inode_count
-        words.now player.old player.new (O.contents out.old) (O.contents out.new)) }
-    ensures breaks { BreaksOff ⟦<FaultyDisk<D> as Disk>⟧ stop words.now player.old player.new }
-    ensures seated { IsSeated player.new }
-{
-    let mut made = 0u64;
-    for word in words {
-        let event = player.told_turn(*word, stop, base, notes);
-        print_told(out, &event, notes, detail, inode_count)?;
-        if event.is_last() {
-            return Ok(());
-        }
-        made = made.saturating_add(1);
-        progress.reached(made, words.len() as u64, "words");
-    }
-    Ok(())
-}
-
-// Prints the line of a turn, and what is told of its steps.
-fn print_told<O: Write>(
-    out: &mut O,
-    event: &Event,
-    notes: &Notes,
-    detail: Detail,
-    inode_count: u32,
-) -> Result<(), Unwritten>
-    ensures ok { OnOk result (Appends (O.contents out.old) (O.contents out.new)
-        (told_text detail inode_count (record { event = event.now; notes = notes.now }))) }
-{
-    print_event(out, event)?;
-    print_notes(out, detail, inode_count, notes.as_slice())
-}
 
 impl<'a, D: Disk + Drop> Player<'a, D> {
-    // Makes the turn of a word as `turn`, and notes its steps.
-    fn told_turn(&mut self, word: Word, stop: u64, base: Base, notes: &mut Notes) -> Event
+    // Makes the turn of a word as `turn`, and notes its steps, and those alone.
+    pub(crate) fn told_turn(
+        &mut self,
+        word: Word,
+        stop: u64,
+        base: Base,
+        notes: &mut Notes,
+    ) -> Event
         requires word { IsTrue (is_word_of (length self.old.kernel.world.processes) word) }
         requires seated { IsSeated self.old }
         ensures tells { TellsTurn ⟦<FaultyDisk<D> as Disk>⟧ base stop word

@@ -2,8 +2,8 @@
 use crate::refusals::{Ran, Replayed};
 use crate::wrong::Wrong;
 use blocks::Disk;
-use messages::Silent;
-use player::replay_disk;
+use messages::{Detail, Silent};
+use player::{Scenario, replay_disk};
 use runner::run_disk;
 use scripts::{processes, read_schedule, read_script};
 use std::alloc::{AllocGlobal, Global};
@@ -26,10 +26,16 @@ pub fn replayed<D: Disk + Drop>(
                 Ok(words) => Ok(replay_disk(
                     alloc,
                     disk,
-                    tasks,
-                    processes,
-                    words.as_slice(),
-                    None,
+                    Scenario {
+                        tasks,
+                        processes,
+                        words,
+                        stop: None,
+                    },
+                    Detail {
+                        steps: false,
+                        writes: false,
+                    },
                     &mut Silent,
                     out,
                 )),

@@ -1,5 +1,5 @@
 -- What is known where another program has the image, and nothing was done.
-use Rattle.std.proofs.Common.{ℕ, Bool, true, false, ◌||◌, List, [], Option}
+use Rattle.std.proofs.Common.{ℕ, List, [], Option}
 use Rattle.blocks.specs.declared.errors.FileFault.TheVariants.{Locked}
 use Rattle.scripts.specs.declared.script.ScriptFault.TheVariants as script
 use Rattle.commands.specs.declared.runs.ReplayFilesRefusal.TheVariants as replay
@@ -10,14 +10,8 @@ use Rattle.cli.specs.declared.words.Request.TheVariants.{Mkfs, Check, Recover, C
 use Rattle.cmd.specs.declared.files.OnFile.TheVariants as on
 use Rattle.commands.specs.declared.refused.CopyRefusal.TheVariants as copy
 use Rattle.commands.specs.declared.refused.PutFileRefusal.TheVariants as put
-use Rattle.commands.specs.Runs.{IfTold}
 use Rattle.xvfs.specs.Files.{FileGhosts}
 use Rattle.xvfs.specs.Requests.{OnRefused}
-
--- whether steps are told or not
-either_way : (told : Bool) (P : Type 0) → P → IfTold told P P
-either_way true P holds = holds
-either_way false P holds = holds
 
 pub locked_out : {F N : Type 0} (file : FileGhosts F N) (request : Request) (old new : Option (List ℕ)) (none : Type 0) → none → OnRefused file request old new none
 locked_out file (Mkfs image size ninodes large no_sync) old new none silent = (on.File Locked, silent)
@@ -30,6 +24,6 @@ locked_out file (Show image inum) old new none silent = (on.File Locked, silent)
 locked_out file (Put image path inum sync no_sync) old new none silent = (put.Of (on.File Locked), record { bytes = []; refused = silent })
 locked_out file (Copy from to size no_sync) old new none silent = (copy.File Locked, silent)
 locked_out file (Rescue from to no_sync) old new none silent = (copy.File Locked, silent)
-locked_out file (Replay image text schedule stop sync writes steps) old new none silent = (replay.File Locked, either_way (steps || writes) none silent)
+locked_out file (Replay image text schedule stop sync writes steps) old new none silent = (replay.File Locked, silent)
 locked_out file (Run image text workers sync) old new none silent = (run.File Locked, silent)
 locked_out file (Stops text schedule held) old new none silent = (stops.Script script.File, silent)

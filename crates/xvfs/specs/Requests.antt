@@ -18,7 +18,7 @@ use Rattle.inspect.specs.Looks.{HasCounted, HasListed, HasShown as HasBlocksShow
 use Rattle.player.specs.Causes.{IsNotRecovered, IsUncheckedBy}
 use Rattle.player.specs.Looks.{HasRecovered, HasReported, HasShown}
 use Rattle.player.specs.Showing.{IsNotShown}
-use Rattle.commands.specs.Runs.{IsNotRun, IsReplayedBy, IsRun, IsUnreplayedBy}
+use Rattle.commands.specs.Runs.{IsNotRun, IsReplayed, IsRun, IsUnreplayed}
 use Rattle.commands.specs.Copies.{HasCopied, OnCopyRefusal}
 use Rattle.commands.specs.Making.{IsMade, IsNotMade}
 use Rattle.commands.specs.Rescues.{HasRescued, OnRescueRefusal}
@@ -56,7 +56,7 @@ Answers file (Rescue from to no_sync) old new =
     HasRescued file.remaining file_disk (not no_sync) old new
 Answers file (Replay image script schedule stop sync writes steps) old new =
     OpensDisk file.remaining file_disk sync
-    (IsReplayedBy (record { steps = steps; writes = writes }) (unwrap_or stop 0) old new)
+    (IsReplayed (record { steps = steps; writes = writes }) (unwrap_or stop 0) old new)
 Answers file (Run image script workers sync) old new =
     OpensDisk file.remaining file_disk sync (IsRun old new)
 Answers file (Stops script schedule held) old new = ChecksScript held old new
@@ -90,7 +90,7 @@ OnRefused file (Copy from to size no_sync) old new none =
 OnRefused file (Rescue from to no_sync) old new none =
     Refuses (OnRescueRefusal file.remaining file_disk (not no_sync) none)
 OnRefused file (Replay image script schedule stop sync writes steps) old new none =
-    Refuses (IsUnreplayedBy file.remaining sync (record { steps = steps; writes = writes })
+    Refuses (IsUnreplayed file.remaining sync (record { steps = steps; writes = writes })
     (unwrap_or stop 0) old new none)
 OnRefused file (Run image script workers sync) old new none =
     Refuses (IsNotRun file.remaining sync old new none)

@@ -24,7 +24,7 @@ use arrayvec::ArrayVec;
 use blocks::{Disk, FaultyDisk, FileDisk};
 use cli::{Asked, Explanation, Request, parse};
 use cmd::{Access, OverFile, end, perform};
-use commands::{Copy, Keeper, Locks, Making, Mkfs, Put, Rescue, Target, replay_by, run_files};
+use commands::{Copy, Keeper, Locks, Making, Mkfs, Put, Rescue, Target, replay_files, run_files};
 use inspect::{Df, Ls, Show};
 use messages::{Detail, print_last};
 use model::types::Form;
@@ -256,7 +256,7 @@ where
             let mut progress = TerminalMeter::beside_lines(rt);
             let detail = Detail { steps, writes };
             end(
-                replay_by(
+                replay_files(
                     rt,
                     image,
                     script,

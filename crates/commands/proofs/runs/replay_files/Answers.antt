@@ -4,7 +4,8 @@ use Rattle.commands.proofs.runs.replay_files.Goals as goal
 pub returns-in-Ok-ran-clause-opened : goal.returns-in-Ok-ran-clause-opened
 returns-in-Ok-ran-clause-opened g c =
     let ran = c.replay_disk-ran in
-    (c.in-Ok.disk, (ran.result.1, c.in-Ok.ensures, record { tasks = _; processes = _; words = _; replays = where_done ran.result.0 _ _ c.in-Ok-ran.is ran.ensures.printed }))
+    let told = where_done ran.result.0 _ _ c.in-Ok-ran.is ran.ensures.printed in
+    (c.in-Ok.disk, (ran.result.1, c.in-Ok.ensures, record { tasks = _; processes = _; words = _; tolds = told.0; replays = told.1 }))
 
 pub returns-clause-refused : goal.returns-clause-refused
 returns-clause-refused g c =

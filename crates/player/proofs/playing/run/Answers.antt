@@ -1,11 +1,10 @@
 use Rattle.std.proofs.Common.{◌≡◌, Err, rules, subst, sym, take}
 use Rattle.std.specs.Prelude.{IfErr}
 use Rattle.std.proofs.lemmas.Result.{IfErr-weaker, on_ok_weaker}
-use Rattle.player.specs.Stepping.{IsBrokenOff}
+use Rattle.player.specs.Told.{IsBrokenOff}
 use Rattle.player.proofs.Keeping.{turns_keep}
 use Rattle.player.proofs.Owning.{turns_ops}
-use Rattle.player.proofs.Plays.{counts_printed}
-use Rattle.player.proofs.Refused.{broken_off}
+use Rattle.player.proofs.Refused.{broken_off, counts_printed, heard_as}
 use Rattle.player.specs.declared.refusals.ReplayRefusal.TheVariants.{Output}
 use Rattle.player.specs.Disks.{faulty}
 use Rattle.player.proofs.playing.run.Goals as goal
@@ -13,7 +12,7 @@ use Rattle.player.proofs.playing.run.Goals as goal
 pub returns-in_err-play-clause-refused : goal.returns-in_err-play-clause-refused
 returns-in_err-play-clause-refused g c =
     let same : c.from_residual.result ≡ Err Output = search rules in
-    subst (λ r. IfErr r (IsBrokenOff (faulty g.D.Disk) c.args.stop c.args.base c.args.words.now c.args.player.now c.play.new.player (g.O.Write.contents c.args.out.now) (g.O.Write.contents c.play.new.out))) (sym same) c.play.ensures.breaks
+    subst (λ r. IfErr r (IsBrokenOff (faulty g.D.Disk) c.args.base c.args.stop (g.T.Teller.says c.args.teller.now) c.args.words.now c.args.player.now c.play.new.player (g.O.Write.contents c.args.out.now) (g.O.Write.contents c.play.new.out))) (sym same) c.play.ensures.breaks
 
 pub returns-in_err-play-clause-keeps : goal.returns-in_err-play-clause-keeps
 returns-in_err-play-clause-keeps g c =
@@ -33,13 +32,16 @@ returns-in_err-play-clause-name g c =
 pub returns-clause-printed : goal.returns-clause-printed
 returns-clause-printed g c =
     on_ok_weaker c.close.result
-    (λ closed. counts_printed (faulty g.D.Disk) c.args.stop c.args.base c.args.words.now _ _ _ (g.O.Write.contents c.args.out.now) (g.O.Write.contents c.play.new.out) (g.O.Write.contents c.close.new.out) c.in_ok-play.ensures.printed closed.0 closed.1)
+    (λ closed. heard_as g.T.Teller.hears c.args.words.now c.args.teller.now c.play.new.teller _ _
+    (λ tolds plays. counts_printed (faulty g.D.Disk) c.args.base c.args.stop c.inode_count-inode_count.result (g.T.Teller.says c.args.teller.now) c.args.words.now _ _ (g.O.Write.contents c.args.out.now) (g.O.Write.contents c.play.new.out) (g.O.Write.contents c.close.new.out) c.inode_count-inode_count.ensures _ tolds plays closed.0 closed.1)
+    c.in_ok-play.ensures.printed)
     c.close.ensures.printed
 
 pub returns-clause-refused : goal.returns-clause-refused
 returns-clause-refused g c =
+    let heard = c.in_ok-play.ensures.printed in
     IfErr-weaker c.close.result _ _
-    (broken_off (faulty g.D.Disk) c.args.stop c.args.base c.args.words.now c.args.player.now c.play.new.player (g.O.Write.contents c.args.out.now) (g.O.Write.contents c.play.new.out) (g.O.Write.contents c.close.new.out) c.in_ok-play.ensures.printed c.play.ensures.breaks)
+    (broken_off (faulty g.D.Disk) c.args.base c.args.stop c.inode_count-inode_count.result (g.T.Teller.says c.args.teller.now) c.args.words.now c.args.player.now c.play.new.player (g.O.Write.contents c.args.out.now) (g.O.Write.contents c.play.new.out) (g.O.Write.contents c.close.new.out) c.inode_count-inode_count.ensures heard.tolds heard.told c.play.ensures.breaks)
     c.close.ensures.refused
 
 pub returns-clause-keeps : goal.returns-clause-keeps

@@ -1,39 +1,27 @@
-use Rattle.std.proofs.Common.{◌∙◌, refl, subst, sym}
-use Rattle.std.specs.List.{list_all}
-use Rattle.std.specs.Prelude.{IsTrue}
-use Rattle.scripts.specs.Schedule.{is_word_of}
-use Rattle.std.proofs.lemmas.Result.{IfErr-weaker, on_ok_weaker}
+use Rattle.std.proofs.Common.{◌≡◌, ◌∙◌, List, subst, sym}
+use Rattle.std.specs.Prelude.{IfErr, None, OnOk, unwrap_or}
+use Rattle.std.proofs.lemmas.Result.{on_ok_weaker}
+use Rattle.messages.specs.declared.deeds.Detail.{Detail}
 use Rattle.player.specs.Disks.{faulty}
-use Rattle.player.proofs.Keeping.{played_on}
-use Rattle.player.proofs.Seats.{same_inner}
-use Rattle.player.proofs.Refused.{not_begun, replayed, run_refused}
+use Rattle.player.specs.Opening.{IsNotReplayed, Replays}
+use Rattle.player.specs.Told.{Told, told_text}
+use Rattle.player.proofs.Tells.{none_told}
 use Rattle.player.proofs.replaying.replay_disk.Goals as goal
 
-pub run-ran-requires-clause-words : goal.run-ran-requires-clause-words
-run-ran-requires-clause-words g c = subst (λ n. IsTrue (list_all (is_word_of n) c.args.words.now)) (sym c.in-Ok-opened.ensures.processes) c.requires.words
+pub returns-then-not-tells_steps-clause-printed : goal.returns-then-not-tells_steps-clause-printed
+returns-then-not-tells_steps-clause-printed g c =
+    subst (λ (d : Detail). OnOk c.replay_with.result.0 ((tolds : List Told) × Replays g.D.Disk (faulty g.D.Disk) c.args.disk c.replay_with.result.1 c.args.scenario.tasks.items c.args.scenario.processes c.args.scenario.words.items (unwrap_or c.args.scenario.stop 0) (told_text d) None (g.O.Write.contents c.args.out.now) (g.O.Write.contents c.replay_with.new.out) tolds)) (none_told c.args.detail (sym c.tells_steps.ensures ∙ c.if-not-tells_steps.true))
+    (on_ok_weaker c.replay_with.result.0 (λ heard. (heard.tolds, heard.told)) c.replay_with.ensures.printed)
 
-pub returns-in-Err-opened-clause-refused : goal.returns-in-Err-opened-clause-refused
-returns-in-Err-opened-clause-refused g c =
-    not_begun g.D.Disk (faulty g.D.Disk) c.args.processes c.args.disk c.in-Err-opened.disk c.args.tasks.items c.args.words.now c.unwrap_or-stop.result _ c.unwrap_or-stop.ensures (g.O.Write.contents c.args.out.now) (g.O.Write.contents c.args.out.now) _ c.in-Err-opened.refusal c.in-Err-opened.ensures.refused refl
+pub returns-then-not-tells_steps-clause-refused : goal.returns-then-not-tells_steps-clause-refused
+returns-then-not-tells_steps-clause-refused g c =
+    subst (λ (d : Detail). IfErr c.replay_with.result.0 (IsNotReplayed g.D.Disk (faulty g.D.Disk) c.args.disk c.replay_with.result.1 c.args.scenario.tasks.items c.args.scenario.processes c.args.scenario.words.items (unwrap_or c.args.scenario.stop 0) (told_text d) (g.O.Write.contents c.args.out.now) (g.O.Write.contents c.replay_with.new.out) (c.replay_with.new.out ≡ c.args.out.now))) (none_told c.args.detail (sym c.tells_steps.ensures ∙ c.if-not-tells_steps.true)) c.replay_with.ensures.refused
 
 pub returns-clause-printed : goal.returns-clause-printed
 returns-clause-printed g c =
-    let made = c.in-Ok-opened.ensures in
-    let played = played_on g.D.Disk g.met.D.Disk.has_now c.args.disk c.args.tasks.items c.args.processes c.unwrap_or-stop.result c.in-Ok-opened.opened.0 c.run-ran.new.player made.ready c.run-ran.ensures.keeps c.into_disk.result (c.into_disk.ensures ∙ same_inner c.run-ran.new.player.kernel c.reconcile_all.new.self.kernel c.reconcile_all.ensures.same) c.run-ran.ensures.name c.in-Ok-opened.ensures.processes c.run-ran.ensures.ops c.reconcile_all.ensures.own in
-    on_ok_weaker c.run-ran.result
-    (replayed g.D.Disk (faulty g.D.Disk) c.args.disk c.into_disk.result c.args.tasks.items c.args.processes c.args.words.now _ c.unwrap_or-stop.result c.in-Ok-opened.opened.1 c.unwrap_or-stop.ensures (g.O.Write.contents c.args.out.now) (g.O.Write.contents c.run-ran.new.out) c.in-Ok-opened.opened.0 c.run-ran.new.player
-    made.ready made.base played _)
-    c.run-ran.ensures.printed
+    subst (λ (d : Detail). OnOk c.replay_with-2.result.0 ((tolds : List Told) × Replays g.D.Disk (faulty g.D.Disk) c.args.disk c.replay_with-2.result.1 c.args.scenario.tasks.items c.args.scenario.processes c.args.scenario.words.items (unwrap_or c.args.scenario.stop 0) (told_text d) None (g.O.Write.contents c.args.out.now) (g.O.Write.contents c.replay_with-2.new.out) tolds)) (c.in-Ok.ensures.0)
+    (on_ok_weaker c.replay_with-2.result.0 (λ heard. (heard.tolds, heard.told)) c.replay_with-2.ensures.printed)
 
 pub returns-clause-refused : goal.returns-clause-refused
 returns-clause-refused g c =
-    let made = c.in-Ok-opened.ensures in
-    let played = played_on g.D.Disk g.met.D.Disk.has_now c.args.disk c.args.tasks.items c.args.processes c.unwrap_or-stop.result c.in-Ok-opened.opened.0 c.run-ran.new.player made.ready c.run-ran.ensures.keeps c.into_disk.result (c.into_disk.ensures ∙ same_inner c.run-ran.new.player.kernel c.reconcile_all.new.self.kernel c.reconcile_all.ensures.same) c.run-ran.ensures.name c.in-Ok-opened.ensures.processes c.run-ran.ensures.ops c.reconcile_all.ensures.own in
-    IfErr-weaker c.run-ran.result _ _
-    (run_refused g.D.Disk (faulty g.D.Disk) c.args.disk c.into_disk.result c.args.tasks.items c.args.processes c.args.words.now _ c.unwrap_or-stop.result c.in-Ok-opened.opened.1 c.unwrap_or-stop.ensures (g.O.Write.contents c.args.out.now) (g.O.Write.contents c.run-ran.new.out) c.in-Ok-opened.opened.0 c.run-ran.new.player
-    made.ready made.base played _)
-    c.run-ran.ensures.refused
-
-pub returns-clause-name : goal.returns-clause-name
-returns-clause-name g c =
-    (played_on g.D.Disk g.met.D.Disk.has_now c.args.disk c.args.tasks.items c.args.processes c.unwrap_or-stop.result c.in-Ok-opened.opened.0 c.run-ran.new.player c.in-Ok-opened.ensures.ready c.run-ran.ensures.keeps c.into_disk.result (c.into_disk.ensures ∙ same_inner c.run-ran.new.player.kernel c.reconcile_all.new.self.kernel c.reconcile_all.ensures.same) c.run-ran.ensures.name c.in-Ok-opened.ensures.processes c.run-ran.ensures.ops c.reconcile_all.ensures.own).name
+    subst (λ (d : Detail). IfErr c.replay_with-2.result.0 (IsNotReplayed g.D.Disk (faulty g.D.Disk) c.args.disk c.replay_with-2.result.1 c.args.scenario.tasks.items c.args.scenario.processes c.args.scenario.words.items (unwrap_or c.args.scenario.stop 0) (told_text d) (g.O.Write.contents c.args.out.now) (g.O.Write.contents c.replay_with-2.new.out) (c.replay_with-2.new.out ≡ c.args.out.now))) (c.in-Ok.ensures.0) c.replay_with-2.ensures.refused

@@ -60,11 +60,11 @@ returns-in-Rescue-clause-refused g c =
 
 pub returns-in-Replay-clause-done : goal.returns-in-Replay-clause-done
 returns-in-Replay-clause-done g c =
-    λ done. subst (λ request. Answers (seen_by g.R.File.Read.remaining) request (g.O.Write.contents c.args.out.now) (g.O.Write.contents c.replay_by.new.out)) (sym c.in-Replay.is) (was_done c.replay_by.result _ c.replay_by.ensures.opened (c.end.ensures.done done))
+    λ done. subst (λ request. Answers (seen_by g.R.File.Read.remaining) request (g.O.Write.contents c.args.out.now) (g.O.Write.contents c.replay_files.new.out)) (sym c.in-Replay.is) (was_done c.replay_files.result _ c.replay_files.ensures.opened (c.end.ensures.done done))
 
 pub returns-in-Replay-clause-refused : goal.returns-in-Replay-clause-refused
 returns-in-Replay-clause-refused g c =
-    λ refused. subst (λ request. OnRefused (seen_by g.R.File.Read.remaining) request (g.O.Write.contents c.args.out.now) (g.O.Write.contents c.replay_by.new.out) (c.replay_by.new.out ≡ c.args.out.now)) (sym c.in-Replay.is) (was_refused c.replay_by.result _ c.replay_by.ensures.refused (c.end.ensures.refused refused))
+    λ refused. subst (λ request. OnRefused (seen_by g.R.File.Read.remaining) request (g.O.Write.contents c.args.out.now) (g.O.Write.contents c.replay_files.new.out) (c.replay_files.new.out ≡ c.args.out.now)) (sym c.in-Replay.is) (was_refused c.replay_files.result _ c.replay_files.ensures.refused (c.end.ensures.refused refused))
 
 pub returns-in-Run-clause-done : goal.returns-in-Run-clause-done
 returns-in-Run-clause-done g c =
