@@ -12,3 +12,4 @@ pub mod FilesRow
 pub mod Page
 pub mod Timeline
 pub mod Recording
+pub mod Recorders

@@ -1,5 +1,5 @@
 // The steps of a run, recorded turn by turn.
-ghost use Rattle.std.specs.Prelude.{◌≡◌, ◌<◌, [], IfOk, length};
+ghost use Rattle.std.specs.Prelude.{◌≡◌, [], IfOk};
 ghost use Rattle.pictures.specs.Along.{left_along};
 ghost use Rattle.pictures.specs.Recording.{answer_behind, answer_in, with_moment};
 
@@ -14,13 +14,13 @@ use std::marker::Model;
 /// A picture has at most so many steps.
 pub const MOST_COLUMNS: usize = 2000;
 
-/// The first steps of a run, as many as a picture has, with room for all of them.
+/// The first steps of a run, one more than a picture has, with room for all of them.
 #[derive(Drop)]
-pub struct Recorder {
+pub struct Moments {
     list: Vec<Moment>,
 }
 
-impl Model for Recorder {
+impl Model for Moments {
     ghost use Rattle.std.specs.Prelude.{◌≤◌, List, vec_capacity};
     ghost use Rattle.pictures.specs.declared.types.Moment.{Moment};
 
@@ -31,38 +31,25 @@ impl Model for Recorder {
     ghost invariant = { λ r. 2001 ≤ vec_capacity r.list };
 }
 
-impl Recorder {
-    /// One that heard of no turn.
-    ///
-    /// # Errors
-    ///
-    /// `NoMemory` where the allocator refuses the room.
-    pub fn new(alloc: Global) -> Result<Recorder, NoMemory>
-        ensures { IfOk result (λ recorder. recorder ≡ []) }
+impl Moments {
+    // None yet.
+    fn new(alloc: Global) -> Result<Moments, NoMemory>
+        ensures { IfOk result (λ moments. moments ≡ []) }
     {
-        Ok(Recorder {
+        Ok(Moments {
             list: Vec::with_capacity(alloc, MOST_COLUMNS + 1)?,
         })
     }
 
-    /// The steps that were recorded: one more than a picture has, where there were more.
-    pub fn moments(&self) -> &[Moment]
-        ensures { result.now ≡ self.now }
+    // Adds the steps of a turn, with what a process was answered in it. No memory is taken.
+    fn add_all(&mut self, answer: Option<Gist>, notes: &[StepNote])
+        ensures { self.new ≡ left_along (with_moment answer) self.old notes.now }
     {
-        self.list.as_slice()
-    }
-
-    /// Hears of a turn: what it came to, and its steps. No memory is taken.
-    pub fn hear(&mut self, event: &Event, notes: &[StepNote])
-        ensures { self.new ≡ left_along (with_moment (answer_in event.now)) self.old notes.now }
-    {
-        let answer = answer_in(event);
         for note in notes {
             self.add(answer, note);
         }
     }
 
-    // Records a step, where there is room.
     fn add(&mut self, answer: Option<Gist>, note: &StepNote)
         ensures { self.new ≡ with_moment answer self.old note.now }
     {
@@ -75,6 +62,54 @@ impl Recorder {
             note: *note,
             answer: answer_behind(answer, note.step),
         });
+    }
+}
+
+/// The steps of a run: how many there were, and the first of them, as many as a picture has and one
+/// more.
+#[derive(Drop)]
+pub struct Recorder {
+    moments: Moments,
+    steps: u64,
+}
+
+impl Recorder {
+    ghost use Rattle.pictures.specs.Recorders.{heard};
+
+    /// One that heard of no turn.
+    ///
+    /// # Errors
+    ///
+    /// `NoMemory` where the allocator refuses the room.
+    pub fn new(alloc: Global) -> Result<Recorder, NoMemory>
+        ensures { IfOk result (λ recorder. recorder ≡ record { moments = []; steps = 0 }) }
+    {
+        Ok(Recorder {
+            moments: Moments::new(alloc)?,
+            steps: 0,
+        })
+    }
+
+    /// How many steps there were.
+    pub fn steps(&self) -> u64
+        ensures { result ≡ self.now.steps }
+    {
+        self.steps
+    }
+
+    /// The steps that were recorded.
+    pub fn moments(&self) -> &[Moment]
+        ensures { result.now ≡ self.now.moments }
+    {
+        self.moments.list.as_slice()
+    }
+
+    /// Hears of a turn: what it came to, and its steps. No memory is taken.
+    pub fn hear(&mut self, event: &Event, notes: &[StepNote])
+        ensures { self.new ≡ heard event.now notes.now self.old }
+    {
+        self.steps = self.steps.saturating_add(notes.len() as u64);
+        self.moments.add_all(answer_in(event), notes);
     }
 }
 

@@ -202,6 +202,13 @@ impl<'a, D: Disk + Drop> Player<'a, D> {
         self.kernel.journal()
     }
 
+    /// The inode numbers of the image.
+    pub fn inode_count(&self) -> u32
+        ensures { result ≡ self.now.kernel.store.table.inode_count }
+    {
+        self.kernel.inode_count()
+    }
+
     // The disk, for who only asks.
     pub(crate) fn disk(&self) -> &FaultyDisk<D>
         ensures { result.now ≡ self.now.kernel.store.volume.device }
