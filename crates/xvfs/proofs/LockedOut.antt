@@ -1,5 +1,5 @@
 -- What is known where another program has the image, and nothing was done.
-use Rattle.std.proofs.Common.{ℕ, List, [], Option}
+use Rattle.std.proofs.Common.{ℕ, true, false, List, [], Option}
 use Rattle.blocks.specs.declared.errors.FileFault.TheVariants.{Locked}
 use Rattle.scripts.specs.declared.script.ScriptFault.TheVariants as script
 use Rattle.commands.specs.declared.runs.ReplayFilesRefusal.TheVariants as replay
