@@ -76,8 +76,13 @@ fn old_blocks<D: Disk>(
     Ok(needed_blocks(image.form, inode.size))
 }
 
-// The free blocks of a disk that was checked.
-fn free_blocks<D: Disk>(
+/// How many blocks are free in the image of a disk that was checked, as recovery would leave it. The
+/// block is room for its bitmap. It writes no block.
+///
+/// # Errors
+///
+/// `Disk` where the read of the bitmap failed.
+pub fn free_blocks<D: Disk>(
     disk: &mut D,
     image: &Recovered,
     block: &mut Block,

@@ -9,7 +9,7 @@ use blocks::{BLOCK_SIZE, Block};
 use layout::bitmap::bit;
 use layout::{ADDRESSES_PER_BLOCK, Form, direct_count};
 
-// How many blocks a file of that many bytes needs, blocks of addresses among them.
+/// How many blocks a file of that many bytes needs, blocks of addresses among them.
 pub fn needed_blocks(form: Form, size: u32) -> u32
     ensures count { result ≡ needed_blocks form size }
     ensures few { result ≤ 2 ^ 23 }
