@@ -2,7 +2,7 @@
 ghost use Rattle.std.specs.Prelude.{◌≡◌};
 ghost use Rattle.tree_looks.specs.Gets.{HasGot};
 
-use crate::entries::{entries, leads_down, number_in, text_of};
+use crate::entries::text_of;
 use crate::faults::{GetRefusal, LookRefusal};
 use crate::finding::{bytes_at, find, is_directory};
 use crate::loading::load;
@@ -11,7 +11,7 @@ use crate::over_files::OverFiles;
 use blocks::FileFault;
 use cmd::{Access, Command, OnFile, OverFile, open_to_look};
 use model::types::File as Stored;
-use names::{ENTRY_SIZE, Refusal};
+use names::{ENTRY_SIZE, Refusal, entries_in, leads_down, number_in};
 use std::alloc::Global;
 use std::fs::{File, create_dir, exists, remove_dir_all, remove_file};
 use std::io;
@@ -153,7 +153,7 @@ fn fill_folder<R: Files + AllocGlobal>(
     if depth == 0 {
         return Ok(());
     }
-    for entry in entries(bytes_at(files, number)) {
+    for entry in entries_in(bytes_at(files, number)) {
         if leads_down(entry) {
             copy_entry(rt, files, entry, folder, depth - 1)?;
         }
