@@ -1,5 +1,6 @@
 -- What links and unlinks make of where names lead.
 use Rattle.std.proofs.Common.{◌≡◌, ◌≢◌, ℕ, ◌<◌, ◌≤◌, true, false, List, [], length, get_or, replicate, Option, Some, None, refl, sym, ap, subst, ◌∙◌, ⊎_elim, arith}
+use Rattle.std.specs.Prelude.{IfNone}
 use Rattle.std.specs.List.{position}
 use Rattle.std.specs.Option.{option_map, unwrap_or}
 use Rattle.std.specs.Str.{bytes_eq}
@@ -85,6 +86,10 @@ link_keeps bytes name number write links =
 pub lookup_absent : (bytes name : List ℕ) → place_of bytes name ≡ None → lookup bytes name ≡ None
 unfolding lookup
 lookup_absent bytes name none = ap (λ (o : Option ℕ). option_map (λ (i : ℕ). number_in (get_or (entries_of bytes) i [])) o) none
+
+pub told_absent : {X : Type 0} (o : Option X) (bytes name : List ℕ) → place_of bytes name ≡ None → IfNone o (lookup bytes name ≡ None)
+told_absent None bytes name none = lookup_absent bytes name none
+told_absent (Some x) bytes name none = tt
 
 pub unlink_stands : (bytes name : List ℕ) (write : EntryWrite) → Unlinks bytes name write → StandsAt (is_for name) (entries_of bytes) write.place
 unlink_stands bytes name write unlinks = stands_at (is_for name) (entries_of bytes) write.place unlinks.place

@@ -3,10 +3,10 @@ use Rattle.std.proofs.Common.{◌≡◌, ℕ, zero, suc, ◌+◌, ◌<◌, ◌�
 use Rattle.std.specs.Prelude.{Contains}
 use Rattle.std.proofs.lemmas.Bool.{cond-false, cond-true}
 use Rattle.std.proofs.lemmas.List.{append_assoc, append-nil, get_or_default, get_or_append_left, get_or-append-add, length-append, replicate_more, take-append-drop, take_all, take_more}
-use Rattle.names.specs.Checks.{numbers_down, AddsChildren, AreApart}
+use Rattle.names.specs.Checks.{numbers_down, AddsChildren, AreApart, IsAmong}
 use Rattle.names.specs.Entries.{number_in}
 use Rattle.names.specs.Trees.{leads_down}
-use Rattle.names.proofs.NumbersDown.{apart_left, apart_parts, numbers_down-append, StandsIn}
+use Rattle.names.proofs.NumbersDown.{apart_left, apart_parts, numbers_down-append}
 
 -- what of the first entries leads down was added
 pub record Took (entries : List (List ℕ)) (from : ℕ) (numbers parents : List ℕ) (k : ℕ) (now up : List ℕ) : Type 0 where
@@ -41,11 +41,11 @@ at_place : (m n p : ℕ) → p < length (m ∷ []) → get_or (m ∷ []) p 0 ≡
 at_place m n zero inside e = sym e
 at_place m n (suc p) inside e = absurd (omega arith)
 
-at_one : (m n : ℕ) → StandsIn (m ∷ []) n → n ≡ m
+at_one : (m n : ℕ) → IsAmong (m ∷ []) n → n ≡ m
 at_one m n s = at_place m n s.place s.inside s.is
 
 pub took_more : (entries : List (List ℕ)) (from : ℕ) (numbers parents : List ℕ) (k number : ℕ) (now up : List ℕ) → k < length entries →
-    leads_down (get_or entries k []) ≡ true → number ≡ number_in (get_or entries k []) → (StandsIn now number → ⊥) →
+    leads_down (get_or entries k []) ≡ true → number ≡ number_in (get_or entries k []) → (IsAmong now number → ⊥) →
     Took entries from numbers parents k now up → Took entries from numbers parents (k + 1) (now ++ number ∷ []) (up ++ from ∷ [])
 took_more entries from numbers parents k number now up inside down is new took =
     let before : List ℕ = numbers_down (take k entries) in
@@ -57,7 +57,7 @@ took_more entries from numbers parents k number now up inside down is new took =
           ∙ ap (λ (n : ℕ). numbers ++ (before ++ n ∷ [])) is ∙ ap (λ (l : List ℕ). numbers ++ l) (sym next);
       parents_are = ap (λ (l : List ℕ). l ++ from ∷ []) took.parents_are ∙ append_assoc parents (replicate (length before) from) (from ∷ [])
           ∙ ap (λ (l : List ℕ). parents ++ l) (replicate_more (length before) from) ∙ ap (λ (n : ℕ). parents ++ replicate n from) (sym count);
-      apart = apart_parts now (number ∷ []) took.apart (one_alone number) (λ n in_now in_one. new (subst (λ (m : ℕ). StandsIn now m) (at_one number n in_one) in_now));
+      apart = apart_parts now (number ∷ []) took.apart (one_alone number) (λ n in_now in_one. new (subst (λ (m : ℕ). IsAmong now m) (at_one number n in_one) in_now));
     }
 
 pub took_same : (entries : List (List ℕ)) (from : ℕ) (numbers parents : List ℕ) (k : ℕ) (now up : List ℕ) → k < length entries →
@@ -83,7 +83,7 @@ took_all entries from numbers parents k now up all took =
 
 -- ---- a number that was there
 
-not_twice : (now : List ℕ) (n : ℕ) → AreApart (now ++ n ∷ []) → StandsIn now n → ⊥
+not_twice : (now : List ℕ) (n : ℕ) → AreApart (now ++ n ∷ []) → IsAmong now n → ⊥
 not_twice now n apart s =
     let inside : s.place < length now = s.inside in
     let long : length (now ++ n ∷ []) ≡ length now + 1 = length-append now (n ∷ []) in
@@ -95,7 +95,7 @@ not_twice now n apart s =
     omega arith
 
 pub took_twice : (entries : List (List ℕ)) (from : ℕ) (numbers parents : List ℕ) (k number : ℕ) (now up : List ℕ) → k < length entries →
-    leads_down (get_or entries k []) ≡ true → number ≡ number_in (get_or entries k []) → StandsIn now number →
+    leads_down (get_or entries k []) ≡ true → number ≡ number_in (get_or entries k []) → IsAmong now number →
     Took entries from numbers parents k now up → AreApart (numbers ++ numbers_down entries) → ⊥
 took_twice entries from numbers parents k number now up inside down is there took apart =
     let n : ℕ = number_in (get_or entries k []) in
@@ -110,12 +110,12 @@ took_twice entries from numbers parents k number now up inside down is there too
     ∙ ap (λ (l : List ℕ). l ++ rest) (sym (append_assoc numbers before (n ∷ [])))
     ∙ ap (λ (l : List ℕ). l ++ n ∷ [] ++ rest) (sym took.numbers_are) in
     not_twice now n (apart_left (now ++ n ∷ []) rest (subst (λ (l : List ℕ). AreApart l) whole apart))
-    (subst (λ (m : ℕ). StandsIn now m) is there)
+    (subst (λ (m : ℕ). IsAmong now m) is there)
 
 -- ---- what a list contains
 
-pub stands_from : (numbers : List ℕ) (n : ℕ) → Contains numbers n → StandsIn numbers n
+pub stands_from : (numbers : List ℕ) (n : ℕ) → Contains numbers n → IsAmong numbers n
 stands_from numbers n has = record { place = has.0; inside = has.1; is = get_or_default numbers has.0 0 n has.1 ∙ has.2 }
 
-pub contains_from : (numbers : List ℕ) (n : ℕ) → StandsIn numbers n → Contains numbers n
+pub contains_from : (numbers : List ℕ) (n : ℕ) → IsAmong numbers n → Contains numbers n
 contains_from numbers n s = (s.place, s.inside, get_or_default numbers s.place n 0 s.inside ∙ s.is)

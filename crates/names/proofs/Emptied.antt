@@ -1,21 +1,13 @@
 -- An empty directory goes from a tree with its name.
 use Rattle.std.proofs.Common.{◌≡◌, ℕ, Bool, true, false, List, Option, Some, sym, ap, subst, ◌∙◌}
-use Rattle.blocks.specs.declared.disk.Disk.{Ghosts}
-use Rattle.model.specs.declared.types.operations.Op.TheVariants.{Remove}
-use Rattle.model.specs.declared.types.operations.Reply.{Reply}
 use Rattle.model.specs.Files.{Files}
-use Rattle.calls.specs.Stepping.{Plain}
-use Rattle.names.specs.declared.entries.EntryWrite.{EntryWrite}
 use Rattle.names.specs.Entries.{lookup}
-use Rattle.names.specs.Inside.{files_seen, Answers}
-use Rattle.names.specs.Making.{HasEntered}
+use Rattle.names.specs.Removing.{MayDrop}
 use Rattle.names.specs.TreeChanges.{DropsDirectory, DropsName}
-use Rattle.names.specs.Trees.{directory_in, number_of, IsDirectory, IsDown, IsEmpty, IsTree}
+use Rattle.names.specs.Trees.{directory_in, number_of, IsDirectory, IsDown, IsEmpty}
 use Rattle.names.specs.Undirecting.{IsEmptinessOf}
 use Rattle.names.specs.Walks.{IsDirectoryFound}
-use Rattle.names.specs.Writes.{Unlinks}
 use Rattle.names.proofs.Entering.{found_bytes}
-use Rattle.names.proofs.Leaving.{unlinked_drops}
 
 -- the file is a directory, and whether it is empty
 emptied : (files : Files) (i : ℕ) (found : Option Bool) (empty : Bool) → found ≡ Some empty → IsEmptinessOf files i found → IsEmptinessOf files i (Some empty)
@@ -41,36 +33,24 @@ led_full files seen from number i name bytes slice found other empty here is sli
       λ nothing. let both : false ≡ true = sym full ∙ was.1.1 nothing in cc both,
     )
 
--- In a transaction: kernel k looked at the directory, which is a then, and at the other in it, e; b unlinked it, and d removed it.
-module _ {D N : Type 0} (disk : Ghosts D N) (k a e b d : Plain D) (from number i : ℕ) (name bytes slice again : List ℕ) (found : Option (List ℕ))
-    (other : Option Bool) (empty : Bool) (write : EntryWrite) (whole : Bool) (reply : Reply) (tree : IsTree (files_seen disk.image k))
-    (looked : files_seen disk.image a ≡ files_seen disk.image k) (here : IsDirectoryFound (files_seen disk.image k) from found) (found_is : found ≡ Some bytes)
-    (down : IsDown name) (slice_is : slice ≡ bytes) (again_is : again ≡ bytes) (led : lookup slice name ≡ Some number) (same : i ≡ number)
-    (saw : files_seen disk.image e ≡ files_seen disk.image a) (there : IsEmptinessOf (files_seen disk.image a) i other) (other_is : other ≡ Some empty)
-    (is_empty : empty ≡ true) (unlinks : Unlinks again name write) (entered : HasEntered disk.image from write e b whole) (opening : b.opening ≡ e.opening)
-    (answers : Answers disk.image (Remove i) b d reply) where
-  abbrev fs : Files
-  fs = files_seen disk.image k
+-- In a transaction the directory was looked at, which left the files `a`, and the other in it, which left them `e`: nothing is in it.
+module _ (files a e : Files) (from number i : ℕ) (name bytes slice again : List ℕ) (found : Option (List ℕ)) (other : Option Bool) (empty : Bool)
+    (looked : a ≡ files) (here : IsDirectoryFound files from found) (found_is : found ≡ Some bytes) (down : IsDown name) (slice_is : slice ≡ bytes)
+    (again_is : again ≡ bytes) (led : lookup slice name ≡ Some number) (same : i ≡ number) (saw : e ≡ a) (there : IsEmptinessOf a i other)
+    (other_is : other ≡ Some empty) (is_empty : empty ≡ true) where
+  was : IsEmptinessOf files i (Some empty)
+  was = emptied files i other empty other_is (subst (λ (f : Files). IsEmptinessOf f i other) looked there)
 
-  is : IsDirectory fs from × (bytes ≡ directory_in fs from)
-  is = found_bytes fs from found bytes found_is here
+  pub may_empty : MayDrop e from again name i
+  may_empty =
+      let is = led_by files from name bytes slice found (Some number) here found_is slice_is led in
+      subst (λ (f : Files). MayDrop f from again name i) (sym (saw ∙ looked)) (record {
+        is = is.0;
+        bytes_are = again_is ∙ (found_bytes files from found bytes found_is here).1;
+        down = down;
+        led = is.1 ∙ ap (λ (j : ℕ). Some j) (sym same);
+        empty = λ it. was.1.0 is_empty;
+      })
 
-  led_there : number_of fs from name ≡ Some i
-  led_there = (led_by fs from name bytes slice found (Some number) here found_is slice_is led).1 ∙ ap (λ (j : ℕ). Some j) (sym same)
-
-  was : IsEmptinessOf fs i (Some empty)
-  was = emptied fs i other empty other_is (subst (λ (f : Files). IsEmptinessOf f i other) looked there)
-
-  nothing : IsEmpty (directory_in fs i)
-  nothing = was.1.0 is_empty
-
-  both : DropsName fs (files_seen disk.image d) from name i × IsTree (files_seen disk.image d)
-  both =
-      unlinked_drops disk k e b d from i name bytes again write whole reply tree is.0 is.1 again_is down led_there (λ it. nothing) (saw ∙ looked) unlinks
-      entered opening answers
-
-  pub emptied_drops : (n : ℕ) × DropsDirectory fs (files_seen disk.image d) from name n
-  emptied_drops = (i, record { drops = both.0; was = was.0; empty = nothing })
-
-  pub emptied_tree : IsTree (files_seen disk.image d)
-  emptied_tree = both.1
+  pub emptied_drops : (new : Files) → DropsName e new from name i → DropsDirectory files new from name i
+  emptied_drops new drops = record { drops = subst (λ (f : Files). DropsName f new from name i) (saw ∙ looked) drops; was = was.0; empty = was.1.0 is_empty }

@@ -3,14 +3,14 @@ use Rattle.std.proofs.Common.{◌≡◌, ◌≢◌, ℕ, ◌+◌, ◌-◌, ◌<�
 use Rattle.std.proofs.lemmas.Bool.{cases_eq, cases_lt}
 use Rattle.std.proofs.lemmas.List.{get_or_append_left, get_or-replicate, length-append, length-replicate}
 use Rattle.model.specs.Files.{Files}
-use Rattle.names.specs.Checks.{numbers_down, AreApart, HasFound, HasName, WasFound}
+use Rattle.names.specs.Checks.{numbers_down, AreApart, HasFound, HasName, WasFound, IsAmong}
 use Rattle.names.specs.Entries.{entries_of, is_for, name_in, number_in}
 use Rattle.names.specs.Trees.{directory_in, IsDirectory, IsDirectoryOf, IsFile, IsTree, StepsDown}
 use Rattle.names.proofs.EntryBytes.{name_of_entry}
 use Rattle.names.proofs.EntryPaths.{entry_of_step, for_its_name, step_of_entry}
 use Rattle.names.proofs.FoundFiles.{found_directory}
 use Rattle.names.proofs.FoundNext.{at_last, found_more, is_behind, name_later}
-use Rattle.names.proofs.NumbersDown.{apart_entries, apart_parts, apart_right, from_down, in_down, one_entry, StandsIn}
+use Rattle.names.proofs.NumbersDown.{apart_entries, apart_parts, apart_right, from_down, in_down, one_entry}
 use Rattle.names.proofs.TreeBy.{directory_is_file, tree_makes_steps}
 
 -- a directory's numbers, and their parents
@@ -160,7 +160,7 @@ next_directory files k from numbers parents up found inside is up_is directory o
 -- no number was found before
 children_new : (files : Files) (k from : ℕ) (numbers parents : List ℕ) → HasFound files k numbers parents → k < length numbers →
     get_or numbers k 0 ≡ from → IsTree files → IsDirectory files from → IsDirectoryOf (directory_in files from) from (get_or parents k 0) →
-    (n : ℕ) → StandsIn numbers n → StandsIn (children files from) n → ⊥
+    (n : ℕ) → IsAmong numbers n → IsAmong (children files from) n → ⊥
 unfolding children
 children_new files k from numbers parents found inside is tree directory of n before new =
     let es : List (List ℕ) = entries_of (directory_in files from) in

@@ -6,7 +6,7 @@ use Rattle.std.proofs.lemmas.Bool.{eqb-true, ne_eqb, or_cases}
 use Rattle.std.proofs.lemmas.List.{get_or-take, length-take-le}
 use Rattle.std.proofs.lemmas.Map.Steps.{length-le_from_distinct_below}
 use Rattle.model.specs.Files.{Files}
-use Rattle.names.specs.Checks.{numbers_down, AddsChildren, AreApart, HasFound}
+use Rattle.names.specs.Checks.{numbers_down, AddsChildren, AreApart, HasFound, IsAmong}
 use Rattle.names.specs.Entries.{entries_of}
 use Rattle.names.specs.Judging.{AreAmong, HasLookedThrough, IsSeen, TakesIn}
 use Rattle.names.specs.Trees.{directory_in, IsDirectory, IsDirectoryOf, IsFile, IsTree}
@@ -15,7 +15,7 @@ use Rattle.names.specs.declared.judging.Seen.TheVariants.{Nothing, Plain, Direct
 use Rattle.names.proofs.FoundFiles.{all_found, found_directory, found_each, found_file}
 use Rattle.names.proofs.FoundDirectory.{children, children_apart, next_directory}
 use Rattle.names.proofs.FoundNext.{next_plain}
-use Rattle.names.proofs.NumbersDown.{apart_first, apart_rest, stands_first, stands_more, StandsIn}
+use Rattle.names.proofs.NumbersDown.{apart_first, apart_rest, stands_first, stands_more}
 
 -- ---- one more is looked into
 
@@ -63,10 +63,10 @@ module _ (files : Files) (k number parent : ℕ) (numbers parents new up : List 
 
 -- ---- how many are found
 
-others : (n : ℕ) (numbers : List ℕ) → (StandsIn numbers n → ⊥) → AllByRecursion (λ y. eqb n y ≡ false) numbers
+others : (n : ℕ) (numbers : List ℕ) → (IsAmong numbers n → ⊥) → AllByRecursion (λ y. eqb n y ≡ false) numbers
 others n [] none = tt
 others n (x ∷ numbers) none = (
-  ne_eqb n x (λ same. none (subst (λ (m : ℕ). StandsIn (x ∷ numbers) m) (sym same) (stands_first x numbers))),
+  ne_eqb n x (λ same. none (subst (λ (m : ℕ). IsAmong (x ∷ numbers) m) (sym same) (stands_first x numbers))),
   others n numbers (λ s. none (stands_more x numbers n s)),
 )
 

@@ -1,5 +1,5 @@
 -- A file goes from a tree with its name.
-use Rattle.std.proofs.Common.{◌≡◌, ◌≢◌, ℕ, Bool, List, Option, Some, None, refl, sym, ap, subst, ◌∙◌, ⊎_elim}
+use Rattle.std.proofs.Common.{◌≡◌, ◌≢◌, ◌≤◌, ℕ, Bool, List, length, Option, Some, None, refl, sym, ap, subst, ◌∙◌, ⊎_elim}
 use Rattle.std.proofs.lemmas.Bool.{cases_eq}
 use Rattle.blocks.specs.declared.disk.Disk.{Ghosts}
 use Rattle.model.specs.declared.types.image.Form.{Form}
@@ -13,10 +13,11 @@ use Rattle.names.specs.declared.entries.EntryWrite.{EntryWrite}
 use Rattle.names.specs.Entries.{lookup}
 use Rattle.names.specs.Inside.{files_seen, form_seen, Answers}
 use Rattle.names.specs.Making.{HasEntered}
+use Rattle.names.specs.Removing.{MayDrop}
 use Rattle.names.specs.TreeChanges.{DropsName}
-use Rattle.names.specs.Trees.{directory_in, number_of, parent_name, IsDirectory, IsDown, IsEmpty, IsTree}
+use Rattle.names.specs.Trees.{number_of, parent_name, IsDirectory, IsDown, IsTree}
 use Rattle.names.specs.Walks.{IsDirectoryFound}
-use Rattle.names.specs.Writes.{operation_of, Unlinks}
+use Rattle.names.specs.Writes.{Unlinks}
 use Rattle.names.proofs.Below.{parents_decide}
 use Rattle.names.proofs.Entering.{found_bytes}
 use Rattle.names.proofs.TreeMeaning.{directories_are_tidy}
@@ -47,50 +48,40 @@ down_file files from number name tree is led plain =
       (λ up. plain (parent_is files from number tree is (ap (number_of files from) (sym up) ∙ led))),
     )
 
--- In a transaction: kernel k looked at the directory, which is e then; b unlinked the name, and d removed its file.
-pub unlinked_drops : {D N : Type 0} (disk : Ghosts D N) (k e b d : Plain D) (from i : ℕ) (name bytes again : List ℕ) (write : EntryWrite) (whole : Bool)
-    (reply : Reply) → IsTree (files_seen disk.image k) → IsDirectory (files_seen disk.image k) from → bytes ≡ directory_in (files_seen disk.image k) from →
-    again ≡ bytes → IsDown name → number_of (files_seen disk.image k) from name ≡ Some i →
-    (IsDirectory (files_seen disk.image k) i → IsEmpty (directory_in (files_seen disk.image k) i)) → files_seen disk.image e ≡ files_seen disk.image k →
-    Unlinks again name write → HasEntered disk.image from write e b whole → b.opening ≡ e.opening → Answers disk.image (Remove i) b d reply →
+-- In a transaction: over kernel k the name was unlinked, b, and its file removed, d.
+pub unlinked_drops : {D N : Type 0} (disk : Ghosts D N) (k b d : Plain D) (from i : ℕ) (bytes name : List ℕ) (write : EntryWrite) (whole : Bool)
+    (reply : Reply) → IsTree (files_seen disk.image k) → MayDrop (files_seen disk.image k) from bytes name i → Unlinks bytes name write →
+    HasEntered disk.image from write k b whole → b.opening ≡ k.opening → Answers disk.image (Remove i) b d reply →
     DropsName (files_seen disk.image k) (files_seen disk.image d) from name i × IsTree (files_seen disk.image d)
-unlinked_drops {D} disk k e b d from i name bytes again write whole reply tree is bytes_are again_is down led empty saw unlinks entered opening answers =
+unlinked_drops {D} disk k b d from i bytes name write whole reply tree may unlinks entered opening answers =
     let fs : Files = files_seen disk.image k in
-    let form : Form = form_seen disk.image e in
-    let first : after form fs (operation_of from write) entered.reply ≡ Some (files_seen disk.image b) =
-    subst (λ (f : Files). after form f (operation_of from write) entered.reply ≡ Some (files_seen disk.image b)) saw entered.answers in
+    let form : Form = form_seen disk.image k in
     let second : after form (files_seen disk.image b) (Remove i) reply ≡ Some (files_seen disk.image d) =
     subst (λ (o : D). after (form_of (disk.image o)) (files_seen disk.image b) (Remove i) reply ≡ Some (files_seen disk.image d)) opening answers in
-    let all = removes_file_whole form fs (files_seen disk.image b) (files_seen disk.image d) from i name write entered.reply reply tree is down led empty
-    (subst (λ (l : List ℕ). Unlinks l name write) (again_is ∙ bytes_are) unlinks) first second in
+    let all = removes_file_whole form fs (files_seen disk.image b) (files_seen disk.image d) from i name write entered.reply reply tree may.is may.down may.led may.empty
+    (subst (λ (l : List ℕ). Unlinks l name write) may.bytes_are unlinks) entered.answers second in
     (all.2, all.3)
 
--- In a transaction: kernel k looked at the directory, which is a then, and at the file, e; b unlinked it, and d removed it.
-module _ {D N : Type 0} (disk : Ghosts D N) (k a e b d : Plain D) (from number i : ℕ) (name bytes slice again : List ℕ) (found other : Option (List ℕ))
-    (write : EntryWrite) (whole : Bool) (reply : Reply) (tree : IsTree (files_seen disk.image k)) (looked : files_seen disk.image a ≡ files_seen disk.image k)
-    (here : IsDirectoryFound (files_seen disk.image k) from found) (found_is : found ≡ Some bytes) (slice_is : slice ≡ bytes) (again_is : again ≡ bytes)
-    (led : lookup slice name ≡ Some number) (same : i ≡ number) (saw : files_seen disk.image e ≡ files_seen disk.image a)
-    (there : IsDirectoryFound (files_seen disk.image a) i other) (none : (x : List ℕ) → other ≡ Some x → ⊥) (unlinks : Unlinks again name write)
-    (entered : HasEntered disk.image from write e b whole) (opening : b.opening ≡ e.opening) (answers : Answers disk.image (Remove i) b d reply) where
-  abbrev fs : Files
-  fs = files_seen disk.image k
+-- In a transaction the directory was looked at, which left the files `a`, and the file that a name of it leads to, which left them `e`: it is no directory.
+pub may_remove : (files a e : Files) (from number i : ℕ) (name bytes slice again : List ℕ) (found other : Option (List ℕ)) → IsTree files → a ≡ files →
+    IsDirectoryFound files from found → found ≡ Some bytes → slice ≡ bytes → again ≡ bytes → lookup slice name ≡ Some number → i ≡ number → e ≡ a →
+    IsDirectoryFound a i other → ((x : List ℕ) → other ≡ Some x → ⊥) → MayDrop e from again name i
+may_remove files a e from number i name bytes slice again found other tree looked here found_is slice_is again_is led same saw there none =
+    let is = found_bytes files from found bytes found_is here in
+    let leads : number_of files from name ≡ Some i = ap (λ (l : List ℕ). lookup l name) (sym (slice_is ∙ is.1)) ∙ led ∙ ap (λ (j : ℕ). Some j) (sym same) in
+    let plain : IsDirectory files i → ⊥ = none_found files i other none (subst (λ (f : Files). IsDirectoryFound f i other) looked there) in
+    subst (λ (f : Files). MayDrop f from again name i) (sym (saw ∙ looked)) (record {
+      is = is.0;
+      bytes_are = again_is ∙ is.1;
+      down = down_file files from i name tree is.0 leads plain;
+      led = leads;
+      empty = λ it. absurd (plain it);
+    })
 
-  is : IsDirectory fs from × (bytes ≡ directory_in fs from)
-  is = found_bytes fs from found bytes found_is here
+-- the bytes of a directory fit into one read
+pub drop_fits : (files : Files) (from i : ℕ) (bytes name : List ℕ) → IsTree files → MayDrop files from bytes name i → length bytes ≤ 3072
+drop_fits files from i bytes name tree may = subst (λ (b : List ℕ). length b ≤ 3072) (sym may.bytes_are) (directories_are_tidy files from tree may.is).0.fits
 
-  pub removed_led : number_of fs from name ≡ Some i
-  removed_led = ap (λ (l : List ℕ). lookup l name) (sym (slice_is ∙ is.1)) ∙ led ∙ ap (λ (j : ℕ). Some j) (sym same)
-
-  plain : IsDirectory fs i → ⊥
-  plain = none_found fs i other none (subst (λ (f : Files). IsDirectoryFound f i other) looked there)
-
-  both : DropsName fs (files_seen disk.image d) from name i × IsTree (files_seen disk.image d)
-  both =
-      unlinked_drops disk k e b d from i name bytes again write whole reply tree is.0 is.1 again_is (down_file fs from i name tree is.0 removed_led plain)
-      removed_led (λ it. absurd (plain it)) (saw ∙ looked) unlinks entered opening answers
-
-  pub removed_drops : (n : ℕ) × DropsName fs (files_seen disk.image d) from name n
-  removed_drops = (i, both.0)
-
-  pub removed_tree : IsTree (files_seen disk.image d)
-  removed_tree = both.1
+-- and the name has an entry
+pub drop_leads : (files : Files) (from i : ℕ) (bytes name : List ℕ) → MayDrop files from bytes name i → lookup bytes name ≡ None → ⊥
+drop_leads files from i bytes name may none = let both = sym none ∙ ap (λ (l : List ℕ). lookup l name) may.bytes_are ∙ may.led in cc both

@@ -2,7 +2,7 @@
 use Rattle.std.proofs.Common.{◌≡◌, ℕ, zero, suc, ◌+◌, ◌-◌, ◌<◌, ◌≤◌, true, false, List, [], ◌∷◌, ◌++◌, length, get_or, refl, sym, ap, subst, ◌∙◌, ⊎_elim, arith}
 use Rattle.std.proofs.lemmas.Bool.{cases_Bool, cases_lt, cond-false, cond-true}
 use Rattle.std.proofs.lemmas.List.{get_or_append_left, get_or-append-add, length-append}
-use Rattle.names.specs.Checks.{numbers_down, AreApart}
+use Rattle.names.specs.Checks.{numbers_down, AreApart, IsAmong}
 use Rattle.names.specs.Entries.{number_in}
 use Rattle.names.specs.Trees.{leads_down}
 
@@ -25,33 +25,27 @@ numbers_down-append (e ∷ es) ys =
 
 -- ---- entries and their numbers
 
--- a number stands at a place
-pub record StandsIn (numbers : List ℕ) (number : ℕ) : Type 0 where
-  pub place : ℕ
-  pub inside : place < length numbers
-  pub is : get_or numbers place 0 ≡ number
-
-pub stands_more : (n : ℕ) (numbers : List ℕ) (number : ℕ) → StandsIn numbers number → StandsIn (n ∷ numbers) number
+pub stands_more : (n : ℕ) (numbers : List ℕ) (number : ℕ) → IsAmong numbers number → IsAmong (n ∷ numbers) number
 stands_more n numbers number s =
     let inside : s.place < length numbers = s.inside in
     let more : length (n ∷ numbers) ≡ suc (length numbers) = refl in record { place = suc s.place; inside = omega arith; is = s.is }
 
-pub stands_first : (n : ℕ) (numbers : List ℕ) → StandsIn (n ∷ numbers) n
+pub stands_first : (n : ℕ) (numbers : List ℕ) → IsAmong (n ∷ numbers) n
 stands_first n numbers = let more : length (n ∷ numbers) ≡ suc (length numbers) = refl in record { place = 0; inside = omega arith; is = refl }
 
 -- an entry that leads down has its number among them
-pub in_down : (es : List (List ℕ)) (j : ℕ) → j < length es → leads_down (get_or es j []) ≡ true → StandsIn (numbers_down es) (number_in (get_or es j []))
+pub in_down : (es : List (List ℕ)) (j : ℕ) → j < length es → leads_down (get_or es j []) ≡ true → IsAmong (numbers_down es) (number_in (get_or es j []))
 in_down [] j inside h = absurd (omega arith)
 in_down (e ∷ es) zero inside h =
-    subst (λ (l : List ℕ). StandsIn l (number_in e)) (sym (down_more e es h)) (stands_first (number_in e) (numbers_down es))
+    subst (λ (l : List ℕ). IsAmong l (number_in e)) (sym (down_more e es h)) (stands_first (number_in e) (numbers_down es))
 in_down (e ∷ es) (suc j) inside h =
     let more : length (e ∷ es) ≡ suc (length es) = refl in
     let later = in_down es j (omega arith) h in
     ⊎_elim
     (λ (here : leads_down e ≡ true).
-    subst (λ (l : List ℕ). StandsIn l (number_in (get_or es j []))) (sym (down_more e es here))
+    subst (λ (l : List ℕ). IsAmong l (number_in (get_or es j []))) (sym (down_more e es here))
     (stands_more (number_in e) (numbers_down es) (number_in (get_or es j [])) later))
-    (λ (here : leads_down e ≡ false). subst (λ (l : List ℕ). StandsIn l (number_in (get_or es j []))) (sym (down_same e es here)) later)
+    (λ (here : leads_down e ≡ false). subst (λ (l : List ℕ). IsAmong l (number_in (get_or es j []))) (sym (down_same e es here)) later)
     (cases_Bool (leads_down e))
 
 -- an entry that leads down has that number
@@ -94,7 +88,7 @@ apart_rest n numbers apart =
     let more : length (n ∷ numbers) ≡ suc (length numbers) = refl in
     record { same = λ j k at_j at_k e. let up : suc j ≡ suc k = apart.same (suc j) (suc k) (omega arith) (omega arith) e in omega arith }
 
-pub apart_first : (n : ℕ) (numbers : List ℕ) → AreApart (n ∷ numbers) → StandsIn numbers n → ⊥
+pub apart_first : (n : ℕ) (numbers : List ℕ) → AreApart (n ∷ numbers) → IsAmong numbers n → ⊥
 apart_first n numbers apart s =
     let more : length (n ∷ numbers) ≡ suc (length numbers) = refl in
     let inside : s.place < length numbers = s.inside in
@@ -108,11 +102,11 @@ one_entry (e ∷ es) apart zero zero at_j at_k down_j down_k same = refl
 one_entry (e ∷ es) apart zero (suc k) at_j at_k down_j down_k same =
     let more : length (e ∷ es) ≡ suc (length es) = refl in
     absurd (apart_first (number_in e) (numbers_down es) (subst (λ (l : List ℕ). AreApart l) (down_more e es down_j) apart)
-    (subst (λ (n : ℕ). StandsIn (numbers_down es) n) (sym same) (in_down es k (omega arith) down_k)))
+    (subst (λ (n : ℕ). IsAmong (numbers_down es) n) (sym same) (in_down es k (omega arith) down_k)))
 one_entry (e ∷ es) apart (suc j) zero at_j at_k down_j down_k same =
     let more : length (e ∷ es) ≡ suc (length es) = refl in
     absurd (apart_first (number_in e) (numbers_down es) (subst (λ (l : List ℕ). AreApart l) (down_more e es down_k) apart)
-    (subst (λ (n : ℕ). StandsIn (numbers_down es) n) same (in_down es j (omega arith) down_j)))
+    (subst (λ (n : ℕ). IsAmong (numbers_down es) n) same (in_down es j (omega arith) down_j)))
 one_entry (e ∷ es) apart (suc j) (suc k) at_j at_k down_j down_k same =
     let more : length (e ∷ es) ≡ suc (length es) = refl in
     let rest : AreApart (numbers_down es) =
@@ -120,7 +114,7 @@ one_entry (e ∷ es) apart (suc j) (suc k) at_j at_k down_j down_k same =
     (λ (here : leads_down e ≡ false). subst (λ (l : List ℕ). AreApart l) (down_same e es here) apart) (cases_Bool (leads_down e)) in
     let below : j ≡ k = one_entry es rest j k (omega arith) (omega arith) down_j down_k same in omega arith
 
-cases : (n : ℕ) (numbers : List ℕ) → AreApart numbers → (StandsIn numbers n → ⊥) → (j k : ℕ) → j < length (n ∷ numbers) → k < length (n ∷ numbers) →
+cases : (n : ℕ) (numbers : List ℕ) → AreApart numbers → (IsAmong numbers n → ⊥) → (j k : ℕ) → j < length (n ∷ numbers) → k < length (n ∷ numbers) →
     get_or (n ∷ numbers) j 0 ≡ get_or (n ∷ numbers) k 0 → j ≡ k
 cases n numbers apart none zero zero at_j at_k e = refl
 cases n numbers apart none zero (suc k) at_j at_k e =
@@ -131,7 +125,7 @@ cases n numbers apart none (suc j) (suc k) at_j at_k e =
     let more : length (n ∷ numbers) ≡ suc (length numbers) = refl in
     let below : j ≡ k = apart.same j k (omega arith) (omega arith) e in omega arith
 
-pub apart_more : (n : ℕ) (numbers : List ℕ) → AreApart numbers → (StandsIn numbers n → ⊥) → AreApart (n ∷ numbers)
+pub apart_more : (n : ℕ) (numbers : List ℕ) → AreApart numbers → (IsAmong numbers n → ⊥) → AreApart (n ∷ numbers)
 apart_more n numbers apart none = record { same = cases n numbers apart none }
 
 -- two entries that lead down to one number are one
@@ -163,7 +157,7 @@ apart_entries (e ∷ es) one =
 
 -- ---- apart in two parts
 
-in_part : (xs ys : List ℕ) (n : ℕ) → StandsIn (xs ++ ys) n → (StandsIn xs n → ⊥) → (StandsIn ys n → ⊥) → ⊥
+in_part : (xs ys : List ℕ) (n : ℕ) → IsAmong (xs ++ ys) n → (IsAmong xs n → ⊥) → (IsAmong ys n → ⊥) → ⊥
 in_part xs ys n s not_x not_y =
     let inside : s.place < length (xs ++ ys) = s.inside in
     let long : length (xs ++ ys) ≡ length xs + length ys = length-append xs ys in
@@ -178,7 +172,7 @@ in_part xs ys n s not_x not_y =
     }))
     (cases_lt s.place (length xs))
 
-pub apart_parts : (xs ys : List ℕ) → AreApart xs → AreApart ys → ((n : ℕ) → StandsIn xs n → StandsIn ys n → ⊥) → AreApart (xs ++ ys)
+pub apart_parts : (xs ys : List ℕ) → AreApart xs → AreApart ys → ((n : ℕ) → IsAmong xs n → IsAmong ys n → ⊥) → AreApart (xs ++ ys)
 apart_parts [] ys apart_x apart_y none = apart_y
 apart_parts (x ∷ xs) ys apart_x apart_y none =
     apart_more x (xs ++ ys)

@@ -117,6 +117,10 @@ walk_leads files tree (name ∷ names) from i there h =
 pub names_lead : NamesLead
 names_lead files names i tree h = walk_leads files tree names 1 i (directory_is_file files 1 tree.rooted) h
 
+-- the file that a walk told is there, where the walk changed no file
+pub walk_told : (files seen : Files) (names : List (List ℕ)) (told : Result ℕ Refusal) (i : ℕ) → IsTree files → seen ≡ files → told ≡ walked files 1 names → told ≡ Ok i → IsFile seen i
+walk_told files seen names told i tree same led is = subst (λ (f : Files). IsFile f i) (sym same) (names_lead files names i tree (sym led ∙ is))
+
 pub files_are_reached : FilesAreReached
 files_are_reached files i tree there =
     let path = tree.reach i there in (reverse path.0, path_down files 1 path.0 i path.1, path_walked files 1 path.0 i path.1)

@@ -1,5 +1,5 @@
 -- A file of a tree gets another name, by the answers of its calls.
-use Rattle.std.proofs.Common.{◌≡◌, ◌≢◌, ℕ, ◌*◌, ◌<◌, ◌≤◌, Bool, true, false, List, [], ◌∷◌, ◌++◌, length, get_or, Option, Some, None, Result, Ok, Err, refl, sym, ap, subst, ◌∙◌, inl, inr, ⊎_elim, arith}
+use Rattle.std.proofs.Common.{◌≡◌, ◌≢◌, ℕ, ◌*◌, ◌<◌, ◌≤◌, Bool, true, List, [], ◌∷◌, ◌++◌, length, get_or, Option, Some, None, Result, Ok, Err, refl, sym, ap, subst, ◌∙◌, inl, inr, ⊎_elim, arith}
 use Rattle.std.specs.Prelude.{IfErr, IfOk, IsSome}
 use Rattle.std.proofs.lemmas.Result.{IfOk-weaker}
 use Rattle.std.proofs.lemmas.Bool.{both_ways, cases_eq, eq-eqb, eqb-true}
@@ -20,7 +20,7 @@ use Rattle.names.specs.declared.refusal.Refusal.{Refusal}
 use Rattle.names.specs.declared.refusal.TreeFault.{TreeFault}
 use Rattle.names.specs.declared.refusal.TreeFault.TheVariants.{Path, Refused, Call, NoSpace, NoCall}
 use Rattle.names.specs.Ready.{Happens, IsUndone}
-use Rattle.names.specs.Renaming.{IsUndoneAt, IsUndoneAtBoth, IsUnrenamed, Renames, RenamesAt}
+use Rattle.names.specs.Renaming.{IsUndoneAt, IsUndoneAtBoth, IsUnrenamed, LeadBoth, Renames, RenamesAt}
 use Rattle.names.specs.TreeChanges.{LeadsTo, MovesName}
 use Rattle.names.specs.Trees.{directory_in, number_of, IsDirectory, IsDown, IsTidy, IsTree}
 use Rattle.names.specs.Walks.{walked, IsDirectoryFound, LeadsIn}
@@ -29,7 +29,7 @@ use Rattle.names.proofs.Changes.{lookup_absent}
 use Rattle.names.proofs.Chunks.{length-entries_of}
 use Rattle.names.proofs.Entering.{down_absent, found_bytes}
 use Rattle.names.proofs.EntryBytes.{is_for-free}
-use Rattle.names.proofs.EntrySteps.{freed_room, link_leads_there, unlink_leads_nowhere, unlink_size}
+use Rattle.names.proofs.EntrySteps.{freed_room, unlink_leads_nowhere, unlink_size}
 use Rattle.names.proofs.FileMaps.{writes}
 use Rattle.names.proofs.Standing.{lookup_at, stands_at}
 use Rattle.names.proofs.TreeMeaning.{directories_are_tidy}
@@ -155,17 +155,19 @@ module _ {D N : Type 0} (disk : Ghosts D N) (k a b : Plain D) (from i : ℕ) (ol
 
 module _ (names into parents ends : List (List ℕ)) (old name : List ℕ) (from to : ℕ) (files seen new : Files) (split : names ≡ parents ++ old ∷ [])
     (led : walked files 1 parents ≡ Ok from) (split_to : into ≡ ends ++ name ∷ []) (led_to : walked files 1 ends ≡ Ok to) (same : seen ≡ files) where
-  first : LeadsIn names files from old
+  abbrev first : LeadsIn names files from old
   first = record { parents = parents; split = split; led = led }
 
-  second : LeadsIn into files to name
+  abbrev second : LeadsIn into files to name
   second = record { parents = ends; split = split_to; led = led_to }
+
+  abbrev leads : LeadBoth names into files
+  leads = record { from = from; old = old; led = first; to = to; name = name; led_to = second }
 
   at_both : (r : Result (Unit {0}) Refusal) → Happens (Renames from old to name) (λ f. IsUnrenamed f from old to name) files new r →
       Happens (RenamesAt names into) (IsUndoneAt names into) files new r
-  at_both (Ok done) happens = record { from = from; old = old; led = first; to = to; name = name; led_to = second; renames = happens }
-  at_both (Err cause) happens =
-      (happens.0, inr (inr (record { from = from; old = old; led = first; to = to; name = name; led_to = second; why = happens.1 })))
+  at_both (Ok done) happens = record { lead = leads; renames = happens }
+  at_both (Err cause) happens = (happens.0, inr (inr (record { lead = leads; why = happens.1 })))
 
   pub renamed_at : (r : Result (Result (Unit {0}) Refusal) TreeFault) →
       IfOk r (Happens (Renames from old to name) (λ f. IsUnrenamed f from old to name) seen new) → IfOk r (Happens (RenamesAt names into) (IsUndoneAt names into) files new)

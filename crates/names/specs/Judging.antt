@@ -1,10 +1,9 @@
 -- What is seen of files without a kernel, and when it tells that they are a tree.
-use Rattle.std.specs.Prelude.{◌≡◌, ◌⊎◌, ℕ, Bool, true, false, List, length, None, Result, MatchResult}
-use Rattle.blocks.specs.Disk.{Image, Rose}
+use Rattle.std.specs.Prelude.{◌≡◌, ◌⊎◌, ℕ, Bool, true, false, List, length, Result, MatchResult}
+use Rattle.blocks.specs.Disk.{Rose}
 use Rattle.model.specs.Files.{Files}
-use Rattle.model.specs.Verdict.{verdict}
-use Rattle.offline.specs.Recovered.{IsRecoveredOf}
-use Rattle.offline.specs.declared.recovered.Recovered.{Recovered}
+use Rattle.model.specs.declared.types.fault.CheckFault.{CheckFault}
+use Rattle.model.specs.declared.types.fault.CheckFault.TheVariants as check
 use Rattle.names.specs.declared.judging.JudgeFault.{JudgeFault}
 use Rattle.names.specs.declared.judging.JudgeFault.TheVariants.{Disk, NoMemory}
 use Rattle.names.specs.declared.judging.Seen.{Seen}
@@ -13,10 +12,10 @@ use Rattle.names.specs.Checks.{AddsChildren, HasFound, IsAmong}
 use Rattle.names.specs.Entries.{entries_of}
 use Rattle.names.specs.Trees.{directory_in, IsDirectory, IsDirectoryOf, IsFile, IsTree}
 
--- the reader of an image that has no fault
-pub record IsReaderOf (x : Image) (image : Recovered) : Type 0 where
-  pub recovered : IsRecoveredOf x image
-  pub sound : verdict x ≡ None
+-- how the fault of a walk over a checked image is told
+abbrev pub judge_fault_of : CheckFault → JudgeFault
+judge_fault_of check.NoMemory = NoMemory
+judge_fault_of fault = Disk
 
 -- the count of the disk's faults rises where a read failed, and stays where memory was refused
 abbrev pub IsJudgeCause : ℕ → ℕ → JudgeFault → Type 0

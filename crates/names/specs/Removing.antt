@@ -4,12 +4,21 @@ use Rattle.model.specs.Files.{Files}
 use Rattle.names.specs.declared.refusal.Refusal.{Refusal}
 use Rattle.names.specs.declared.refusal.Refusal.TheVariants.{NotFound, NotADirectory, IsRoot, Exists, Full, NoNumber, NoBlock, IsADirectory, NotEmpty, IsInside, NotDown}
 use Rattle.names.specs.TreeChanges.{DropsName}
-use Rattle.names.specs.Trees.{number_of, IsDirectory}
+use Rattle.names.specs.Trees.{directory_in, number_of, IsDirectory, IsDown, IsEmpty}
 use Rattle.names.specs.Walks.{AtLast}
 
 -- a name of a directory is gone, and its file
 abbrev pub RemovesIn : ℕ → List ℕ → Unit {0} → Files → Files → Type 0
 RemovesIn from name done files new = (number : ℕ) × DropsName files new from name number
+
+-- In a directory of these bytes a name that leads down leads to that file; a directory has nothing
+-- in it.
+pub record MayDrop (files : Files) (from : ℕ) (bytes name : List ℕ) (number : ℕ) : Type 0 where
+  pub is : IsDirectory files from
+  pub bytes_are : bytes ≡ directory_in files from
+  pub down : IsDown name
+  pub led : number_of files from name ≡ Some number
+  pub empty : IsDirectory files number → IsEmpty (directory_in files number)
 
 -- why none is
 abbrev pub IsUnremovedIn : Files → ℕ → List ℕ → Refusal → Type 0

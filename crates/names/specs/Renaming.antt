@@ -86,28 +86,27 @@ abbrev pub IsPlanned : Files → ℕ → List ℕ → ℕ → List ℕ → Resul
 IsPlanned files from old to name (Ok plan) = IsPlan files from old to name plan
 IsPlanned files from old to name (Err cause) = IsUnrenamed files from old to name cause
 
--- The same at the last of the first names and the last of the second ones, in the directories that
--- the others lead to.
-pub record RenamesAt (names into : List (List ℕ)) (done : Unit {0}) (files new : Files)
-    : Type 0 where
+-- the last of the first names and the last of the second ones, in the directories that the others
+-- lead to
+pub record LeadBoth (names into : List (List ℕ)) (files : Files) : Type 0 where
   pub from : ℕ
   pub old : List ℕ
   pub led : LeadsIn names files from old
   pub to : ℕ
   pub name : List ℕ
   pub led_to : LeadsIn into files to name
-  pub renames : Renames from old to name done files new
+
+-- the same there
+pub record RenamesAt (names into : List (List ℕ)) (done : Unit {0}) (files new : Files)
+    : Type 0 where
+  pub lead : LeadBoth names into files
+  pub renames : Renames lead.from lead.old lead.to lead.name done files new
 
 -- why it is refused there
 pub record IsUnrenamedAt (names into : List (List ℕ)) (files : Files) (cause : Refusal)
     : Type 0 where
-  pub from : ℕ
-  pub old : List ℕ
-  pub led : LeadsIn names files from old
-  pub to : ℕ
-  pub name : List ℕ
-  pub led_to : LeadsIn into files to name
-  pub why : IsUnrenamed files from old to name cause
+  pub lead : LeadBoth names into files
+  pub why : IsUnrenamed files lead.from lead.old lead.to lead.name cause
 
 -- or all the first names but the last lead nowhere, or all the second ones
 abbrev pub IsUndoneAt : List (List ℕ) → List (List ℕ) → Files → Refusal → Type 0

@@ -12,7 +12,7 @@ ghost use Rattle.names.specs.Walks.{Finds, IsUnfound, IsUnlisted, Lists};
 
 use crate::changing::Change;
 use crate::name::Name;
-use crate::refusal::{Refusal, TreeFault};
+use crate::refusal::{Asked, Refusal, TreeFault};
 use crate::tree::Tree;
 use blocks::Disk;
 use model::content::Content;
@@ -43,12 +43,7 @@ impl Change for FindFile {
 
     ghost fills = { λ find. ⊥ };
 
-    fn apply<D: Disk>(
-        &self,
-        tree: &mut Tree<D>,
-        _alloc: Global,
-        names: &[Name],
-    ) -> Result<Result<u32, Refusal>, TreeFault> {
+    fn apply<D: Disk>(&self, tree: &mut Tree<D>, _alloc: Global, names: &[Name]) -> Asked<u32> {
         tree.walk(names)
     }
 }
@@ -66,12 +61,7 @@ impl Change for LookAtFile {
 
     ghost fills = { λ look. ⊥ };
 
-    fn apply<D: Disk>(
-        &self,
-        tree: &mut Tree<D>,
-        _alloc: Global,
-        names: &[Name],
-    ) -> Result<Result<Found, Refusal>, TreeFault> {
+    fn apply<D: Disk>(&self, tree: &mut Tree<D>, _alloc: Global, names: &[Name]) -> Asked<Found> {
         match tree.walk(names)? {
             Ok(number) => {
                 let found = tree.found(number)?;
@@ -95,12 +85,7 @@ impl Change for ListDirectory {
 
     ghost fills = { λ list. ⊥ };
 
-    fn apply<D: Disk>(
-        &self,
-        tree: &mut Tree<D>,
-        _alloc: Global,
-        names: &[Name],
-    ) -> Result<Result<Content, Refusal>, TreeFault> {
+    fn apply<D: Disk>(&self, tree: &mut Tree<D>, _alloc: Global, names: &[Name]) -> Asked<Content> {
         match tree.walk(names)? {
             Ok(number) => match tree.directory(number)? {
                 Some(bytes) => Ok(Ok(bytes)),

@@ -13,7 +13,7 @@ ghost use Rattle.names.specs.Walks.{AtLast, IsUndoneIn};
 
 use crate::name::Name;
 use crate::path::names_of;
-use crate::refusal::{Refusal, TreeFault};
+use crate::refusal::{Asked, Refusal, TreeFault};
 use crate::tree::Tree;
 use blocks::Disk;
 use std::alloc::Global;
@@ -33,12 +33,7 @@ pub(crate) trait Change {
     ghost fills: { Self → Type 0 };
 
     // Makes it in the transaction under way.
-    fn apply<D: Disk>(
-        &self,
-        tree: &mut Tree<D>,
-        alloc: Global,
-        names: &[Name],
-    ) -> Result<Result<Self::Made, Refusal>, TreeFault>
+    fn apply<D: Disk>(&self, tree: &mut Tree<D>, alloc: Global, names: &[Name]) -> Asked<Self::Made>
         requires way { IsUnderWay D.Disk tree.old.kernel tree.old.calls_left }
         requires tree { IsTree (files_seen D.image tree.old.kernel) }
         ensures goes { ProceedsOr (fills self.now) D.Disk result
@@ -71,7 +66,7 @@ pub(crate) trait ChangeIn {
         alloc: Global,
         from: u32,
         name: &Name,
-    ) -> Result<Result<Self::Made, Refusal>, TreeFault>
+    ) -> Asked<Self::Made>
         requires way { IsUnderWay D.Disk tree.old.kernel tree.old.calls_left }
         requires tree { IsTree (files_seen D.image tree.old.kernel) }
         ensures goes { ProceedsOr (fills self.now) D.Disk result
@@ -97,12 +92,7 @@ impl<C: ChangeIn> Change for Last<C> {
 
     ghost fills = { λ last. C.fills last.change };
 
-    fn apply<D: Disk>(
-        &self,
-        tree: &mut Tree<D>,
-        alloc: Global,
-        names: &[Name],
-    ) -> Result<Result<C::Made, Refusal>, TreeFault> {
+    fn apply<D: Disk>(&self, tree: &mut Tree<D>, alloc: Global, names: &[Name]) -> Asked<C::Made> {
         if names.is_empty() {
             return Ok(Err(Refusal::IsRoot));
         }

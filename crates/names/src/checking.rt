@@ -5,7 +5,7 @@ ghost use Rattle.names.specs.Entries.{directory_size, entries_of, entry_size, is
 ghost use Rattle.names.specs.Trees.{IsDirectoryOf, IsTidy};
 
 use crate::directory::leads_down;
-use crate::entries::{DIRECTORY_SIZE, ENTRY_SIZE, entries, is_free, lookup, number_in};
+use crate::entries::{DIRECTORY_SIZE, ENTRY_SIZE, entries_in, is_free, lookup, number_in};
 use crate::name::Name;
 use blocks::NoMemory;
 
@@ -23,7 +23,7 @@ pub fn is_directory_of(bytes: &[u8], number: u16, parent: u16) -> bool
 fn is_tidy(bytes: &[u8]) -> bool
     ensures { IsTrue result ↔ IsTidy bytes.now }
 {
-    is_whole(bytes.len()) && names_stand_once(entries(bytes))
+    is_whole(bytes.len()) && names_stand_once(entries_in(bytes))
 }
 
 // Whether so many bytes are whole entries, and not too many.

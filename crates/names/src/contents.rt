@@ -12,7 +12,7 @@ ghost use Rattle.names.specs.Trees.{IsDirectory, IsFile, IsTree};
 use crate::changing::Change;
 use crate::looking::DIRECTORY_KIND;
 use crate::name::Name;
-use crate::refusal::{Refusal, TreeFault};
+use crate::refusal::{Asked, Refusal, TreeFault};
 use crate::tree::Tree;
 use blocks::Disk;
 use model::content::Content;
@@ -35,12 +35,7 @@ impl Change for ReadFile {
 
     ghost fills = { λ read. ⊥ };
 
-    fn apply<D: Disk>(
-        &self,
-        tree: &mut Tree<D>,
-        _alloc: Global,
-        names: &[Name],
-    ) -> Result<Result<Content, Refusal>, TreeFault> {
+    fn apply<D: Disk>(&self, tree: &mut Tree<D>, _alloc: Global, names: &[Name]) -> Asked<Content> {
         match tree.walk(names)? {
             Ok(number) => tree.read_of(number, self.offset, self.count),
             Err(refusal) => Ok(Err(refusal)),
@@ -61,12 +56,7 @@ impl Change for EmptyFile {
 
     ghost fills = { λ empty. ⊥ };
 
-    fn apply<D: Disk>(
-        &self,
-        tree: &mut Tree<D>,
-        _alloc: Global,
-        names: &[Name],
-    ) -> Result<Result<(), Refusal>, TreeFault> {
+    fn apply<D: Disk>(&self, tree: &mut Tree<D>, _alloc: Global, names: &[Name]) -> Asked<()> {
         match tree.walk(names)? {
             Ok(number) => tree.emptied(number),
             Err(refusal) => Ok(Err(refusal)),
@@ -99,7 +89,7 @@ impl<D: Disk> Tree<D> {
     }
 
     // Takes the bytes of the file of a number from it.
-    pub(crate) fn emptied(&mut self, number: u32) -> Result<Result<(), Refusal>, TreeFault>
+    pub(crate) fn emptied(&mut self, number: u32) -> Asked<()>
         requires way { IsUnderWay D.Disk self.old.kernel self.old.calls_left }
         requires tree { IsTree (files_seen D.image self.old.kernel) }
         requires there { IsFile (files_seen D.image self.old.kernel) number }
@@ -146,12 +136,7 @@ impl<D: Disk> Tree<D> {
     }
 
     // The bytes of the file of a number.
-    fn read_of(
-        &mut self,
-        number: u32,
-        offset: u32,
-        count: u32,
-    ) -> Result<Result<Content, Refusal>, TreeFault>
+    fn read_of(&mut self, number: u32, offset: u32, count: u32) -> Asked<Content>
         requires way { IsUnderWay D.Disk self.old.kernel self.old.calls_left }
         requires there { IsFile (files_seen D.image self.old.kernel) number }
         ensures goes { Proceeds D.Disk result self.old.kernel self.new.kernel self.new.calls_left }

@@ -13,7 +13,7 @@ ghost use Rattle.names.specs.Walks.{IsUndoneIn};
 use crate::changing::Last;
 use crate::entries::new_directory;
 use crate::making::{Make, New};
-use crate::refusal::{Refusal, TreeFault};
+use crate::refusal::{Asked, Refusal, TreeFault};
 use crate::rooting::is_filled;
 use crate::tree::Tree;
 use blocks::Disk;
@@ -31,12 +31,7 @@ struct NewDirectory;
 impl New for NewDirectory {
     ghost file = { λ new number parent. directory_file number parent };
 
-    fn create<D: Disk>(
-        &self,
-        tree: &mut Tree<D>,
-        alloc: Global,
-        parent: u32,
-    ) -> Result<Result<u16, Refusal>, TreeFault> {
+    fn create<D: Disk>(&self, tree: &mut Tree<D>, alloc: Global, parent: u32) -> Asked<u16> {
         let Ok(up) = u16::try_from(parent) else {
             return Ok(Err(Refusal::NoNumber));
         };

@@ -2,14 +2,14 @@
 ghost use Rattle.std.specs.Prelude.{◌≡◌, ◌↔◌, position, IsTrue};
 ghost use Rattle.names.specs.Trees.{is_none_down, leads_down, IsEmpty};
 
-use crate::entries::{ENTRY_SIZE, entries, is_free};
+use crate::entries::{ENTRY_SIZE, entries_in, is_free};
 use crate::name::Name;
 
 /// Whether nothing is in a directory of these bytes but its own two entries.
 pub fn is_empty(bytes: &[u8]) -> bool
     ensures { IsTrue result ↔ IsEmpty bytes.now }
 {
-    first_down(entries(bytes)).is_none()
+    first_down(entries_in(bytes)).is_none()
 }
 
 // The place of the first entry with a name that leads down.
@@ -19,7 +19,8 @@ fn first_down(entries: &[[u8; ENTRY_SIZE]]) -> Option<usize>
     entries.iter().position(|entry| leads_down(entry))
 }
 
-pub(crate) fn leads_down(entry: &[u8; ENTRY_SIZE]) -> bool
+/// Whether an entry is used, and has no directory's name for itself or for its parent.
+pub fn leads_down(entry: &[u8; ENTRY_SIZE]) -> bool
     ensures { result ≡ leads_down entry.now }
 {
     !is_none_down(entry)

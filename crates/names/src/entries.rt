@@ -61,7 +61,7 @@ pub fn lookup(bytes: &[u8], name: &Name) -> Option<u16>
     ensures { result ≡ lookup bytes.now name.now }
 {
     let place = place_of(bytes, name)?;
-    Some(number_in(&entries(bytes)[place]))
+    Some(number_in(&entries_in(bytes)[place]))
 }
 
 /// The write that links a number under a name: into the first free entry, or behind the last.
@@ -121,9 +121,9 @@ pub fn repoint(bytes: &[u8], name: &Name, number: u16) -> Option<EntryWrite>
     Some(link_at(place as u32, name, number))
 }
 
-// The entries of a directory.
+/// The entries of a directory.
 #[tactic(auto, unfolding(crate::specs::Entries::entries_of))]
-pub(crate) fn entries(bytes: &[u8]) -> &[[u8; ENTRY_SIZE]]
+pub fn entries_in(bytes: &[u8]) -> &[[u8; ENTRY_SIZE]]
     ensures value { result.now ≡ entries_of bytes.now }
     ensures len { length result.now ≡ length bytes.now / entry_size }
 {
@@ -131,9 +131,9 @@ pub(crate) fn entries(bytes: &[u8]) -> &[[u8; ENTRY_SIZE]]
     entries
 }
 
-// The number of an entry's file.
+/// The number of an entry's file, 0 where it is free.
 #[tactic(auto, unfolding(crate::specs::Entries::number_in))]
-pub(crate) fn number_in(entry: &[u8; ENTRY_SIZE]) -> u16
+pub fn number_in(entry: &[u8; ENTRY_SIZE]) -> u16
     ensures { result ≡ number_in entry.now }
 {
     LittleEndian::read_u16(entry)
@@ -163,7 +163,9 @@ fn place_of(bytes: &[u8], name: &Name) -> Option<usize>
     ensures place { result ≡ place_of bytes.now name.now }
     ensures within { IfSome result (λ place. place < length bytes.now / entry_size) }
 {
-    entries(bytes).iter().position(|entry| is_for(entry, name))
+    entries_in(bytes)
+        .iter()
+        .position(|entry| is_for(entry, name))
 }
 
 // The first free place, or the one behind the last entry.
@@ -171,7 +173,7 @@ fn free_place(bytes: &[u8]) -> usize
     ensures place { result ≡ free_place bytes.now }
     ensures within { result ≤ length bytes.now / entry_size }
 {
-    let entries = entries(bytes);
+    let entries = entries_in(bytes);
     match first_free(entries) {
         Some(place) => place,
         None => entries.len(),

@@ -1,21 +1,20 @@
 // Whether the files of an image are a tree, as they are seen without a kernel.
 ghost use Rattle.std.specs.Prelude.{◌≡◌, ◌↔◌, ◌≤◌, ◌<◌, IfOk, IsTrue, None, OnOk, length};
 ghost use Rattle.blocks.specs.Calls.{OnlyReads};
-ghost use Rattle.model.specs.Files.{bytes_in, file_in, files_of};
+ghost use Rattle.model.specs.Files.{file_in, files_of};
 ghost use Rattle.model.specs.Log.{recovered};
 ghost use Rattle.model.specs.Verdict.{verdict};
-ghost use Rattle.offline.specs.Recovered.{MayReadFile};
+ghost use Rattle.offline.specs.Checked.{IsCheckedOf};
 ghost use Rattle.names.specs.Checks.{AreApart, IsAmong};
-ghost use Rattle.names.specs.Judging.{AreAmong, HasLookedThrough, IsReaderOf, IsSeen, KeepsCount, TakesIn};
+ghost use Rattle.names.specs.Judging.{AreAmong, HasLookedThrough, IsSeen, KeepsCount, TakesIn};
 ghost use Rattle.names.specs.Trees.{IsTree, kind_of};
 
 use crate::checking::{add_children, is_among, is_directory_of};
-use crate::entries::entries;
+use crate::entries::entries_in;
 use crate::looking::DIRECTORY_KIND;
 use blocks::{Block, Disk, DiskFault, NoMemory};
-use layout::Dinode;
+use layout::CheckFault;
 use offline::Recovered;
-use offline::laws::checked_files_may_be_read;
 use std::alloc::{AllocError, AllocFailed, Global};
 use thiserror::Error;
 
@@ -56,21 +55,8 @@ pub fn is_tree<D: Disk>(alloc: Global, disk: &mut D) -> Result<bool, JudgeFault>
     ensures faults { KeepsCount result (D.fault_count disk.old) (D.fault_count disk.new) }
 {
     let mut block = Block::zeroed(alloc)?;
-    let image = reader(disk, &mut block)?;
+    let image = Recovered::open_checked(disk, &mut block)?;
     is_tree_of(alloc, disk, &image, &mut block)
-}
-
-// The reader of a disk whose image was checked. The block is room for what is read, here and below.
-fn reader<D: Disk>(disk: &mut D, block: &mut Block) -> Result<Recovered, JudgeFault>
-    requires { verdict (D.image disk.old) ≡ None }
-    ensures reader { IfOk result (IsReaderOf (D.image disk.old)) }
-    ensures reads { OnlyReads D.Disk disk.old disk.new }
-    ensures faults { KeepsCount result (D.fault_count disk.old) (D.fault_count disk.new) }
-{
-    match Recovered::open(disk, block) {
-        Ok(image) => Ok(image),
-        Err(_) => Err(JudgeFault::Disk),
-    }
 }
 
 // Whether the files are a tree: the root is a directory, all that is found from it on is as in a tree,
@@ -81,7 +67,7 @@ fn is_tree_of<D: Disk>(
     image: &Recovered,
     block: &mut Block,
 ) -> Result<bool, JudgeFault>
-    requires { IsReaderOf (D.image disk.old) image.now }
+    requires { IsCheckedOf (D.image disk.old) image.now }
     ensures told { IfOk result (λ is. IsTrue is
         ↔ IsTree (files_of (recovered (D.image disk.old)))) }
     ensures reads { OnlyReads D.Disk disk.old disk.new }
@@ -104,17 +90,16 @@ fn kind_at<D: Disk>(
     number: u32,
     block: &mut Block,
 ) -> Result<u16, JudgeFault>
-    requires { IsReaderOf (D.image disk.old) image.now }
+    requires { IsCheckedOf (D.image disk.old) image.now }
     ensures kind { IfOk result (λ kind. kind
         ≡ kind_of (file_in (files_of (recovered (D.image disk.old))) number)) }
     ensures reads { OnlyReads D.Disk disk.old disk.new }
     ensures faults { KeepsCount result (D.fault_count disk.old) (D.fault_count disk.new) }
 {
-    if number == 0 || number >= image.sup.ninodes {
-        return Ok(0);
+    match image.inode_at(disk, number, block)? {
+        Some(inode) => Ok(inode.kind),
+        None => Ok(0),
     }
-    let inode = image.inode(disk, number, block)?;
-    Ok(inode.kind)
 }
 
 // Finds files from the root on, and looks into each of them. Whether all are as in a tree.
@@ -125,7 +110,7 @@ fn look_through<D: Disk>(
     block: &mut Block,
     numbers: &mut Vec<u16>,
 ) -> Result<bool, JudgeFault>
-    requires reader { IsReaderOf (D.image disk.old) image.now }
+    requires reader { IsCheckedOf (D.image disk.old) image.now }
     requires none { length numbers.old.items ≡ 0 }
     ensures looked { IfOk result
         (HasLookedThrough (files_of (recovered (D.image disk.old))) numbers.new.items) }
@@ -168,7 +153,7 @@ fn take_in(
             if !is_directory_of(bytes.as_slice(), number, parent) {
                 return Ok(false);
             }
-            add_children(entries(bytes.as_slice()), number, numbers, parents)
+            add_children(entries_in(bytes.as_slice()), number, numbers, parents)
         }
     }
 }
@@ -181,45 +166,19 @@ fn look<D: Disk>(
     block: &mut Block,
     number: u32,
 ) -> Result<Seen, JudgeFault>
-    requires { IsReaderOf (D.image disk.old) image.now }
+    requires { IsCheckedOf (D.image disk.old) image.now }
     ensures seen { IfOk result (IsSeen (files_of (recovered (D.image disk.old))) number) }
     ensures reads { OnlyReads D.Disk disk.old disk.new }
     ensures faults { KeepsCount result (D.fault_count disk.old) (D.fault_count disk.new) }
 {
-    checked_files_may_be_read();
-    if number == 0 || number >= image.sup.ninodes {
+    let Some(inode) = image.inode_at(disk, number, block)? else {
         return Ok(Seen::Nothing);
-    }
-    let inode = image.inode(disk, number, block)?;
-    if inode.kind == 0 {
-        return Ok(Seen::Nothing);
-    }
+    };
     if inode.kind != DIRECTORY_KIND {
         return Ok(Seen::Plain);
     }
-    let bytes = bytes_of(alloc, disk, image, &inode, block)?;
+    let bytes = image.all_bytes(alloc, disk, &inode, block)?;
     Ok(Seen::Directory(bytes))
-}
-
-// All bytes of an inode's file.
-fn bytes_of<D: Disk>(
-    alloc: Global,
-    disk: &mut D,
-    image: &Recovered,
-    inode: &Dinode,
-    block: &mut Block,
-) -> Result<Vec<u8>, JudgeFault>
-    requires reader { IsReaderOf (D.image disk.old) image.now }
-    requires file { MayReadFile (recovered (D.image disk.old)) inode.now }
-    ensures bytes { IfOk result (λ bytes. bytes.items
-        ≡ bytes_in (recovered (D.image disk.old)) inode.now) }
-    ensures reads { OnlyReads D.Disk disk.old disk.new }
-    ensures faults { KeepsCount result (D.fault_count disk.old) (D.fault_count disk.new) }
-{
-    let mut bytes = Vec::new(alloc);
-    bytes.resize(inode.size as usize, 0)?;
-    image.read(disk, inode, 0, &mut bytes[..], block)?;
-    Ok(bytes)
 }
 
 // Whether each file is among those of these numbers.
@@ -229,7 +188,7 @@ fn are_among<D: Disk>(
     block: &mut Block,
     numbers: &[u16],
 ) -> Result<bool, JudgeFault>
-    requires { IsReaderOf (D.image disk.old) image.now }
+    requires { IsCheckedOf (D.image disk.old) image.now }
     ensures among { IfOk result (λ are. IsTrue are
         ↔ AreAmong (files_of (recovered (D.image disk.old))) numbers.now) }
     ensures reads { OnlyReads D.Disk disk.old disk.new }
@@ -261,6 +220,20 @@ impl From<DiskFault> for JudgeFault {
 
     fn from(_failed: DiskFault) -> JudgeFault {
         JudgeFault::Disk
+    }
+}
+
+impl From<CheckFault> for JudgeFault {
+    ghost use Rattle.names.specs.Judging.{judge_fault_of};
+
+    ghost from_gives = { λ fault e. e ≡ judge_fault_of fault };
+
+    // Of the faults of a walk over a checked image: there are no others than these two.
+    fn from(fault: CheckFault) -> JudgeFault {
+        match fault {
+            CheckFault::NoMemory => JudgeFault::NoMemory,
+            _ => JudgeFault::Disk,
+        }
     }
 }
 

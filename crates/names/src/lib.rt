@@ -41,10 +41,10 @@ mod writing;
 
 pub use asking::Found;
 pub use checking::{add_children, is_directory_of};
-pub use directory::is_empty;
+pub use directory::{is_empty, leads_down};
 pub use entries::{
-    DIRECTORY, DIRECTORY_SIZE, ENTRY_SIZE, EntryWrite, LinkFault, link, lookup, new_directory,
-    repoint, unlink,
+    DIRECTORY, DIRECTORY_SIZE, ENTRY_SIZE, EntryWrite, LinkFault, entries_in, link, lookup,
+    new_directory, number_in, repoint, unlink,
 };
 pub use judging::{JudgeFault, is_tree};
 pub use name::{NAME_SIZE, Name, NameFault};

@@ -7,7 +7,7 @@ ghost use Rattle.names.specs.Entries.{lookup};
 
 use crate::entries::{DIRECTORY, lookup};
 use crate::name::Name;
-use crate::refusal::{Refusal, TreeFault};
+use crate::refusal::{Asked, Refusal, TreeFault};
 use crate::tree::Tree;
 use blocks::Disk;
 use model::content::Content;
@@ -54,7 +54,7 @@ impl<D: Disk> Tree<D> {
     }
 
     // Where a name leads from a file.
-    pub(crate) fn step(&mut self, from: u32, name: &Name) -> Result<Result<u32, Refusal>, TreeFault>
+    pub(crate) fn step(&mut self, from: u32, name: &Name) -> Asked<u32>
         requires way { IsUnderWay D.Disk self.old.kernel self.old.calls_left }
         requires tree { IsTree (files_seen D.image self.old.kernel) }
         ensures goes { Proceeds D.Disk result self.old.kernel self.new.kernel self.new.calls_left }
@@ -69,7 +69,7 @@ impl<D: Disk> Tree<D> {
     }
 
     // Where names lead from the root, one after the other.
-    pub(crate) fn walk(&mut self, names: &[Name]) -> Result<Result<u32, Refusal>, TreeFault>
+    pub(crate) fn walk(&mut self, names: &[Name]) -> Asked<u32>
         requires way { IsUnderWay D.Disk self.old.kernel self.old.calls_left }
         requires tree { IsTree (files_seen D.image self.old.kernel) }
         ensures goes { Proceeds D.Disk result self.old.kernel self.new.kernel self.new.calls_left }

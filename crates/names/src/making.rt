@@ -16,7 +16,7 @@ ghost use Rattle.names.specs.Walks.{IsUndoneIn};
 use crate::changing::{ChangeIn, Last};
 use crate::entries::{ENTRY_SIZE, EntryWrite, LinkFault, link};
 use crate::name::Name;
-use crate::refusal::{Refusal, TreeFault};
+use crate::refusal::{Asked, Refusal, TreeFault};
 use crate::tree::Tree;
 use blocks::Disk;
 use calls::transactions::TransactionFault;
@@ -32,12 +32,7 @@ pub(crate) trait New {
     ghost file: { Self → ℕ → ℕ → File };
 
     // Makes one, which has no name yet.
-    fn create<D: Disk>(
-        &self,
-        tree: &mut Tree<D>,
-        alloc: Global,
-        parent: u32,
-    ) -> Result<Result<u16, Refusal>, TreeFault>
+    fn create<D: Disk>(&self, tree: &mut Tree<D>, alloc: Global, parent: u32) -> Asked<u16>
         requires { IsUnderWay D.Disk tree.old.kernel tree.old.calls_left }
         ensures goes { Proceeds D.Disk result tree.old.kernel tree.new.kernel tree.new.calls_left }
         ensures made { IfOk result (HasCreatedNew (file self.now) parent
@@ -51,12 +46,7 @@ pub(crate) struct NewFile;
 impl New for NewFile {
     ghost file = { λ new number parent. empty_file file_kind };
 
-    fn create<D: Disk>(
-        &self,
-        tree: &mut Tree<D>,
-        _alloc: Global,
-        _parent: u32,
-    ) -> Result<Result<u16, Refusal>, TreeFault> {
+    fn create<D: Disk>(&self, tree: &mut Tree<D>, _alloc: Global, _parent: u32) -> Asked<u16> {
         match tree.created(FILE_KIND)? {
             Some(number) => Ok(Ok(number)),
             None => Ok(Err(Refusal::NoNumber)),
@@ -86,7 +76,7 @@ impl<N: New> ChangeIn for Make<N> {
         alloc: Global,
         from: u32,
         name: &Name,
-    ) -> Result<Result<u16, Refusal>, TreeFault> {
+    ) -> Asked<u16> {
         let Some(bytes) = tree.directory(from)? else {
             return Ok(Err(Refusal::NotADirectory));
         };

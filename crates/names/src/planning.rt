@@ -8,7 +8,7 @@ ghost use Rattle.names.specs.Trees.{root, IsDirectory, IsOutside, IsTree};
 use crate::entries::{DIRECTORY, EntryWrite, link, lookup, repoint, unlink};
 use crate::making::unlinked;
 use crate::name::Name;
-use crate::refusal::{Refusal, TreeFault};
+use crate::refusal::{Asked, Refusal, TreeFault};
 use crate::tree::Tree;
 use blocks::Disk;
 use std::alloc::Global;
@@ -34,7 +34,7 @@ impl<D: Disk> Tree<D> {
         old: &Name,
         to: u32,
         name: &Name,
-    ) -> Result<Result<(), Refusal>, TreeFault>
+    ) -> Asked<()>
         requires way { IsUnderWay D.Disk self.old.kernel self.old.calls_left }
         requires tree { IsTree (files_seen D.image self.old.kernel) }
         requires apart { from ≢ to }
@@ -60,13 +60,7 @@ impl<D: Disk> Tree<D> {
     }
 
     // The writes that give a file a name in another directory. Why not, where it is refused.
-    fn planned(
-        &mut self,
-        from: u32,
-        old: &Name,
-        to: u32,
-        name: &Name,
-    ) -> Result<Result<Plan, Refusal>, TreeFault>
+    fn planned(&mut self, from: u32, old: &Name, to: u32, name: &Name) -> Asked<Plan>
         requires way { IsUnderWay D.Disk self.old.kernel self.old.calls_left }
         requires tree { IsTree (files_seen D.image self.old.kernel) }
         requires apart { from ≢ to }
@@ -112,11 +106,7 @@ impl<D: Disk> Tree<D> {
     }
 
     // The write that gives a directory another parent; none for a file that is no directory.
-    fn rise(
-        &mut self,
-        number: u32,
-        to: u16,
-    ) -> Result<Result<Option<EntryWrite>, Refusal>, TreeFault>
+    fn rise(&mut self, number: u32, to: u16) -> Asked<Option<EntryWrite>>
         requires way { IsUnderWay D.Disk self.old.kernel self.old.calls_left }
         requires tree { IsTree (files_seen D.image self.old.kernel) }
         requires there { IsDirectory (files_seen D.image self.old.kernel) to }

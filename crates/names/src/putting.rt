@@ -16,7 +16,7 @@ use crate::changing::{ChangeIn, Last};
 use crate::entries::lookup;
 use crate::making::{FILE_KIND, Make, New};
 use crate::name::Name;
-use crate::refusal::{Refusal, TreeFault};
+use crate::refusal::{Asked, Refusal, TreeFault};
 use crate::tree::Tree;
 use crate::writing::Unwritten;
 use blocks::Disk;
@@ -32,12 +32,7 @@ struct NewBytes<'a> {
 impl<'a> New for NewBytes<'a> {
     ghost file = { λ new number parent. file_of new.bytes.now };
 
-    fn create<D: Disk>(
-        &self,
-        tree: &mut Tree<D>,
-        alloc: Global,
-        _parent: u32,
-    ) -> Result<Result<u16, Refusal>, TreeFault> {
+    fn create<D: Disk>(&self, tree: &mut Tree<D>, alloc: Global, _parent: u32) -> Asked<u16> {
         let Some(number) = tree.created(FILE_KIND)? else {
             return Ok(Err(Refusal::NoNumber));
         };
@@ -72,7 +67,7 @@ impl<'a> ChangeIn for PutFile<'a> {
         alloc: Global,
         from: u32,
         name: &Name,
-    ) -> Result<Result<Result<u16, Unwritten>, Refusal>, TreeFault> {
+    ) -> Asked<Result<u16, Unwritten>> {
         if self.bytes.len() > TRANSFER_LIMIT as usize {
             return Ok(Ok(Err(Unwritten::TooLong)));
         }
@@ -129,12 +124,7 @@ impl<D: Disk> Tree<D> {
     }
 
     // Gives a file of bytes others in place of its own. Its number again.
-    fn refilled(
-        &mut self,
-        alloc: Global,
-        number: u16,
-        bytes: &[u8],
-    ) -> Result<Result<u16, Refusal>, TreeFault>
+    fn refilled(&mut self, alloc: Global, number: u16, bytes: &[u8]) -> Asked<u16>
         requires way { IsUnderWay D.Disk self.old.kernel self.old.calls_left }
         requires tree { IsTree (files_seen D.image self.old.kernel) }
         requires there { IsFile (files_seen D.image self.old.kernel) number }

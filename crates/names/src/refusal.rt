@@ -81,3 +81,6 @@ impl From<PathFault> for TreeFault {
         TreeFault::Path(cause)
     }
 }
+
+// What is asked of a tree in a transaction: its answer, or why the files refuse it.
+pub(crate) type Asked<T> = Result<Result<T, Refusal>, TreeFault>;

@@ -1,17 +1,20 @@
 // Files removed from a tree.
-ghost use Rattle.std.specs.Prelude.{◌<◌, IfErr, IfOk};
+ghost use Rattle.std.specs.Prelude.{◌<◌, IfErr, IfOk, OnOk};
 ghost use Rattle.calls.specs.Calls.{image_on};
 ghost use Rattle.calls.specs.Stopped.{StaysOver};
 ghost use Rattle.model.specs.Files.{files_of};
+ghost use Rattle.names.specs.Inside.{files_seen, IsUnderWay, Proceeds};
 ghost use Rattle.names.specs.Paths.{names_of};
 ghost use Rattle.names.specs.Ready.{IsUndone, LeavesTree, MayGoOn};
-ghost use Rattle.names.specs.Removing.{IsUnremovedIn, RemovesAt, RemovesIn};
+ghost use Rattle.names.specs.Removing.{IsUnremovedIn, MayDrop, RemovesAt, RemovesIn};
+ghost use Rattle.names.specs.TreeChanges.{DropsName};
+ghost use Rattle.names.specs.Trees.{IsTree};
 ghost use Rattle.names.specs.Walks.{IsUndoneIn};
 
 use crate::changing::{ChangeIn, Last};
 use crate::entries::{lookup, unlink};
 use crate::name::Name;
-use crate::refusal::{Refusal, TreeFault};
+use crate::refusal::{Asked, Refusal, TreeFault};
 use crate::tree::Tree;
 use blocks::Disk;
 use model::types::Op;
@@ -36,7 +39,7 @@ impl ChangeIn for RemoveFile {
         alloc: Global,
         from: u32,
         name: &Name,
-    ) -> Result<Result<(), Refusal>, TreeFault> {
+    ) -> Asked<()> {
         let Some(bytes) = tree.directory(from)? else {
             return Ok(Err(Refusal::NotADirectory));
         };
@@ -47,12 +50,7 @@ impl ChangeIn for RemoveFile {
         if let Some(_other) = tree.directory(number)? {
             return Ok(Err(Refusal::IsADirectory));
         }
-        let Some(write) = unlink(bytes.as_slice(), name) else {
-            // It leads to a number.
-            unreachable!()
-        };
-        let _whole = tree.entered(alloc, from, write)?;
-        let _done = tree.called(Op::Remove(number))?;
+        tree.dropped(alloc, from, bytes.as_slice(), name, number)?;
         Ok(Ok(()))
     }
 }
@@ -79,5 +77,32 @@ impl<D: Disk> Tree<D> {
         ensures stays { StaysOver D.Disk self.old.kernel self.new.kernel }
     {
         self.changed(alloc, path, &Last { change: RemoveFile })
+    }
+
+    // Frees the entry of a name in a directory of those bytes, and removes the file that it leads to.
+    pub(crate) fn dropped(
+        &mut self,
+        alloc: Global,
+        from: u32,
+        bytes: &[u8],
+        name: &Name,
+        number: u32,
+    ) -> Result<(), TreeFault>
+        requires way { IsUnderWay D.Disk self.old.kernel self.old.calls_left }
+        requires tree { IsTree (files_seen D.image self.old.kernel) }
+        requires drops { MayDrop (files_seen D.image self.old.kernel)
+            from bytes.now name.now number }
+        ensures goes { Proceeds D.Disk result self.old.kernel self.new.kernel self.new.calls_left }
+        ensures tree { OnOk result (IsTree (files_seen D.image self.new.kernel)) }
+        ensures drops { OnOk result (DropsName (files_seen D.image self.old.kernel)
+            (files_seen D.image self.new.kernel) from name.now number) }
+    {
+        let Some(write) = unlink(bytes, name) else {
+            // It leads to a number.
+            unreachable!()
+        };
+        let _whole = self.entered(alloc, from, write)?;
+        let _done = self.called(Op::Remove(number))?;
+        Ok(())
     }
 }

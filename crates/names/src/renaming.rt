@@ -13,7 +13,7 @@ use crate::changing::Change;
 use crate::entries::{link, lookup, unlink};
 use crate::name::Name;
 use crate::path::names_of;
-use crate::refusal::{Refusal, TreeFault};
+use crate::refusal::{Asked, Refusal, TreeFault};
 use crate::tree::Tree;
 use blocks::Disk;
 use std::alloc::Global;
@@ -33,12 +33,7 @@ impl<'a> Change for RenameFile<'a> {
 
     ghost fills = { λ rename. ⊥ };
 
-    fn apply<D: Disk>(
-        &self,
-        tree: &mut Tree<D>,
-        alloc: Global,
-        names: &[Name],
-    ) -> Result<Result<(), Refusal>, TreeFault> {
+    fn apply<D: Disk>(&self, tree: &mut Tree<D>, alloc: Global, names: &[Name]) -> Asked<()> {
         if names.is_empty() {
             return Ok(Err(Refusal::IsRoot));
         }
@@ -103,13 +98,7 @@ impl<D: Disk> Tree<D> {
     }
 
     // Gives a file another name in its directory. The old one is freed first, so there is room.
-    fn renamed(
-        &mut self,
-        alloc: Global,
-        from: u32,
-        old: &Name,
-        name: &Name,
-    ) -> Result<Result<(), Refusal>, TreeFault>
+    fn renamed(&mut self, alloc: Global, from: u32, old: &Name, name: &Name) -> Asked<()>
         requires way { IsUnderWay D.Disk self.old.kernel self.old.calls_left }
         requires tree { IsTree (files_seen D.image self.old.kernel) }
         ensures goes { Proceeds D.Disk result self.old.kernel self.new.kernel self.new.calls_left }

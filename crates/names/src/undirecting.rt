@@ -12,12 +12,11 @@ ghost use Rattle.names.specs.Walks.{IsUndoneIn};
 
 use crate::changing::{ChangeIn, Last};
 use crate::directory::is_empty;
-use crate::entries::{lookup, unlink};
+use crate::entries::lookup;
 use crate::name::Name;
-use crate::refusal::{Refusal, TreeFault};
+use crate::refusal::{Asked, Refusal, TreeFault};
 use crate::tree::Tree;
 use blocks::Disk;
-use model::types::Op;
 use std::alloc::Global;
 
 // Removes an empty directory from a directory.
@@ -39,7 +38,7 @@ impl ChangeIn for RemoveDirectory {
         alloc: Global,
         from: u32,
         name: &Name,
-    ) -> Result<Result<(), Refusal>, TreeFault> {
+    ) -> Asked<()> {
         let Some(bytes) = tree.directory(from)? else {
             return Ok(Err(Refusal::NotADirectory));
         };
@@ -56,12 +55,7 @@ impl ChangeIn for RemoveDirectory {
         if !empty {
             return Ok(Err(Refusal::NotEmpty));
         }
-        let Some(write) = unlink(bytes.as_slice(), name) else {
-            // It leads to a number.
-            unreachable!()
-        };
-        let _whole = tree.entered(alloc, from, write)?;
-        let _done = tree.called(Op::Remove(number))?;
+        tree.dropped(alloc, from, bytes.as_slice(), name, number)?;
         Ok(Ok(()))
     }
 }

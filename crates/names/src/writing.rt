@@ -13,7 +13,7 @@ ghost use Rattle.names.specs.Writing.{written, HasWritten, Writes, WritesOf};
 
 use crate::changing::Change;
 use crate::name::Name;
-use crate::refusal::{Refusal, TreeFault};
+use crate::refusal::{Asked, Refusal, TreeFault};
 use crate::tree::Tree;
 use blocks::Disk;
 use calls::transactions::TransactionFault;
@@ -57,7 +57,7 @@ impl<'a> Change for WriteFile<'a> {
         tree: &mut Tree<D>,
         alloc: Global,
         names: &[Name],
-    ) -> Result<Result<Result<(), Unwritten>, Refusal>, TreeFault> {
+    ) -> Asked<Result<(), Unwritten>> {
         match tree.walk(names)? {
             Ok(number) => tree.write_of(alloc, number, self.offset, self.bytes),
             Err(refusal) => Ok(Err(refusal)),
@@ -107,7 +107,7 @@ impl<D: Disk> Tree<D> {
         number: u32,
         offset: u32,
         bytes: &[u8],
-    ) -> Result<Result<Result<(), Unwritten>, Refusal>, TreeFault>
+    ) -> Asked<Result<(), Unwritten>>
         requires way { IsUnderWay D.Disk self.old.kernel self.old.calls_left }
         requires tree { IsTree (files_seen D.image self.old.kernel) }
         requires there { IsFile (files_seen D.image self.old.kernel) number }

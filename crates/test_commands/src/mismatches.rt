@@ -39,10 +39,34 @@ pub fn print_mismatches(rt: &impl Print, alloc: Global) -> anyhow::Result<()> {
     print_told(rt, alloc, "as it has to be", &[NOTHING], Some(&[]))?;
     print_told(rt, alloc, "a file is missing", &[], Some(&[2]))?;
     print_told(rt, alloc, "no files are due", &[], None)?;
-    print_told(rt, alloc, "two files too many", &[Held::Files(&[5, 3])], Some(&[]))?;
-    print_told(rt, alloc, "by none", &[NOTHING, Held::Files(&[7, 9])], Some(&[9]))?;
-    print_told(rt, alloc, "by the second", &[NOTHING, Held::Files(&[7, 9])], Some(&[]))?;
-    print_told(rt, alloc, "not recovered", &[NOTHING, NOTHING, Held::NoSuperblock], Some(&[]))?;
+    print_told(
+        rt,
+        alloc,
+        "two files too many",
+        &[Held::Files(&[5, 3])],
+        Some(&[]),
+    )?;
+    print_told(
+        rt,
+        alloc,
+        "by none",
+        &[NOTHING, Held::Files(&[7, 9])],
+        Some(&[9]),
+    )?;
+    print_told(
+        rt,
+        alloc,
+        "by the second",
+        &[NOTHING, Held::Files(&[7, 9])],
+        Some(&[]),
+    )?;
+    print_told(
+        rt,
+        alloc,
+        "not recovered",
+        &[NOTHING, NOTHING, Held::NoSuperblock],
+        Some(&[]),
+    )?;
     print_told(rt, alloc, "by the last", &EIGHT, Some(&[]))
 }
 

@@ -5,7 +5,7 @@ ghost use Rattle.names.specs.Trees.{root, IsDirectory, leads_down};
 ghost use Rattle.names.specs.Walks.{walked};
 ghost use Rattle.tree_looks.specs.Gets.{CopiesBelow, CopiesEntry, HasGot, HasCopied, HasGotAll, HasWrittenNew, HasWrittenTo};
 
-use crate::entries::{entries, leads_down, number_in, text_of};
+use crate::entries::text_of;
 use crate::faults::{GetRefusal, LookRefusal};
 use crate::finding::{bytes_at, find, is_directory};
 use crate::loading::load;
@@ -15,7 +15,7 @@ use blocks::FileFault;
 use cmd::{Access, Command, OnFile, OverFile, open_to_look};
 use messages::{Unwritten, pass_on, write_bytes};
 use model::types::File as Stored;
-use names::{ENTRY_SIZE, Refusal};
+use names::{ENTRY_SIZE, Refusal, entries_in, leads_down, number_in};
 use std::alloc::Global;
 use std::fs::{File, create_dir, exists, remove_dir_all, remove_file};
 use std::io;
@@ -184,7 +184,7 @@ fn fill_folder<R: Files + AllocGlobal>(
     if depth == 0 {
         return Ok(());
     }
-    for entry in entries(bytes_at(files, number)) {
+    for entry in entries_in(bytes_at(files, number)) {
         copy_entry(rt, files, entry, folder, depth - 1)?;
     }
     Ok(())

@@ -1,21 +1,20 @@
 // The files of an image, read without a kernel.
 ghost use Rattle.std.specs.Prelude.{◌≡◌, ◌<◌, IfErr, IfOk, None, OnOk};
 ghost use Rattle.blocks.specs.Calls.{OnlyReads};
-ghost use Rattle.model.specs.Files.{bytes_in, file_at, files_of};
+ghost use Rattle.model.specs.Files.{file_at, files_of};
 ghost use Rattle.model.specs.Log.{recovered};
 ghost use Rattle.model.specs.Verdict.{verdict};
-ghost use Rattle.names.specs.Judging.{IsReaderOf, KeepsCount};
+ghost use Rattle.names.specs.Judging.{KeepsCount};
 ghost use Rattle.names.specs.Trees.{IsTree};
-ghost use Rattle.offline.specs.Recovered.{MayReadFile};
+ghost use Rattle.offline.specs.Checked.{IsCheckedOf};
 ghost use Rattle.tree_looks.specs.Looks.{IsUnloaded, refusal_of};
 
 use crate::faults::LookRefusal;
 use blocks::{Block, Disk};
-use layout::{CheckFault, Dinode};
+use layout::CheckFault;
 use model::content::Content;
 use model::types::File;
 use names::{JudgeFault, is_tree};
-use offline::laws::checked_files_may_be_read;
 use offline::{Recovered, check};
 use std::alloc::Global;
 
@@ -79,7 +78,7 @@ fn read_files<D: Disk>(alloc: Global, disk: &mut D) -> Result<Vec<Option<File>>,
     ensures faults { KeepsCount result (D.fault_count disk.old) (D.fault_count disk.new) }
 {
     let mut block = Block::zeroed(alloc)?;
-    let image = reader(disk, &mut block)?;
+    let image = Recovered::open_checked(disk, &mut block)?;
     let mut files = Vec::new(alloc);
     for number in 0..image.sup.ninodes {
         let file = file_of(alloc, disk, &image, number, &mut block)?;
@@ -88,20 +87,7 @@ fn read_files<D: Disk>(alloc: Global, disk: &mut D) -> Result<Vec<Option<File>>,
     Ok(files)
 }
 
-// The reader of a disk whose image was checked. The block is room for what is read, here and below.
-fn reader<D: Disk>(disk: &mut D, block: &mut Block) -> Result<Recovered, JudgeFault>
-    requires { verdict (D.image disk.old) ≡ None }
-    ensures reader { IfOk result (IsReaderOf (D.image disk.old)) }
-    ensures reads { OnlyReads D.Disk disk.old disk.new }
-    ensures faults { KeepsCount result (D.fault_count disk.old) (D.fault_count disk.new) }
-{
-    match Recovered::open(disk, block) {
-        Ok(image) => Ok(image),
-        Err(_) => Err(JudgeFault::Disk),
-    }
-}
-
-// The file of a number.
+// The file of a number. The block is room for what is read.
 fn file_of<D: Disk>(
     alloc: Global,
     disk: &mut D,
@@ -109,45 +95,19 @@ fn file_of<D: Disk>(
     number: u32,
     block: &mut Block,
 ) -> Result<Option<File>, JudgeFault>
-    requires reader { IsReaderOf (D.image disk.old) image.now }
+    requires checked { IsCheckedOf (D.image disk.old) image.now }
     requires inside { number < image.now.sup.ninodes }
     ensures file { IfOk result
         (λ file. file ≡ file_at (recovered (D.image disk.old)) number) }
     ensures reads { OnlyReads D.Disk disk.old disk.new }
     ensures faults { KeepsCount result (D.fault_count disk.old) (D.fault_count disk.new) }
 {
-    checked_files_may_be_read();
-    if number == 0 {
+    let Some(inode) = image.inode_at(disk, number, block)? else {
         return Ok(None);
-    }
-    let inode = image.inode(disk, number, block)?;
-    if inode.kind == 0 {
-        return Ok(None);
-    }
-    let bytes = bytes_of(alloc, disk, image, &inode, block)?;
+    };
+    let bytes = image.all_bytes(alloc, disk, &inode, block)?;
     Ok(Some(File {
         kind: inode.kind,
         bytes: Content::new(bytes),
     }))
-}
-
-// All bytes of an inode's file.
-fn bytes_of<D: Disk>(
-    alloc: Global,
-    disk: &mut D,
-    image: &Recovered,
-    inode: &Dinode,
-    block: &mut Block,
-) -> Result<Vec<u8>, JudgeFault>
-    requires reader { IsReaderOf (D.image disk.old) image.now }
-    requires file { MayReadFile (recovered (D.image disk.old)) inode.now }
-    ensures bytes { IfOk result
-        (λ bytes. bytes.items ≡ bytes_in (recovered (D.image disk.old)) inode.now) }
-    ensures reads { OnlyReads D.Disk disk.old disk.new }
-    ensures faults { KeepsCount result (D.fault_count disk.old) (D.fault_count disk.new) }
-{
-    let mut bytes = Vec::new(alloc);
-    bytes.resize(inode.size as usize, 0)?;
-    image.read(disk, inode, 0, &mut bytes[..], block)?;
-    Ok(bytes)
 }

@@ -2,12 +2,12 @@
 ghost use Rattle.std.specs.Prelude.{◌≡◌, ◌++◌, IfOk, OnOk, decimal};
 ghost use Rattle.tree_looks.specs.Listing.{entry_line, entry_paths, line_of, listing_of, path_of, paths_below};
 
-use crate::entries::{entries, leads_down, number_in, text_of};
+use crate::entries::text_of;
 use crate::finding::{bytes_at, is_directory, kind_at};
 use blocks::NoMemory;
 use itoa::Buffer;
 use model::types::File;
-use names::ENTRY_SIZE;
+use names::{ENTRY_SIZE, entries_in, leads_down, number_in};
 use std::alloc::Global;
 
 // Adds the line of a file with that name and number: its type and its bytes.
@@ -57,7 +57,7 @@ fn add_number(text: &mut Vec<u8>, number: u64) -> Result<(), NoMemory>
 pub fn add_listing(text: &mut Vec<u8>, files: &[Option<File>], number: u32) -> Result<(), NoMemory>
     ensures { OnOk result (text.new.items ≡ text.old.items ++ listing_of files.now number) }
 {
-    for entry in entries(bytes_at(files, number)) {
+    for entry in entries_in(bytes_at(files, number)) {
         add_entry_line(text, files, entry)?;
     }
     Ok(())
@@ -93,7 +93,7 @@ pub fn add_below(
     if depth == 0 || !is_directory(files, number) {
         return Ok(());
     }
-    for entry in entries(bytes_at(files, number)) {
+    for entry in entries_in(bytes_at(files, number)) {
         add_entry(text, files, front, entry, depth - 1)?;
     }
     Ok(())

@@ -235,12 +235,7 @@ where
             image,
             inum,
             log: false,
-        } => perform(
-            rt,
-            OverFile(image, Access::Look, Show(inum)),
-            out,
-            err,
-        ),
+        } => perform(rt, OverFile(image, Access::Look, Show(inum)), out, err),
         Request::Show {
             image,
             inum: _,

@@ -13,9 +13,9 @@ returns-then-is_whole c =
           record {
             whole = sizes.0;
             fits = sizes.1;
-            once = once_from_first c.args.bytes.now (subst (λ (es : List (List ℕ)). AreFirst es) c.entries.ensures.value (c.names_stand_once.ensures.0 all));
+            once = once_from_first c.args.bytes.now (subst (λ (es : List (List ℕ)). AreFirst es) c.entries_in.ensures.value (c.names_stand_once.ensures.0 all));
           },
       λ tidy.
           c.names_stand_once.ensures.1
-          (subst (λ (es : List (List ℕ)). AreFirst es) (sym c.entries.ensures.value) (first_from_once c.args.bytes.now tidy.once)),
+          (subst (λ (es : List (List ℕ)). AreFirst es) (sym c.entries_in.ensures.value) (first_from_once c.args.bytes.now tidy.once)),
     )

@@ -19,7 +19,7 @@ true_where (Some k) b h none = absurd (cc none)
 pub returns : goal.returns
 returns c =
     let first : c.first_down.result ≡ position leads_down (entries_of c.args.bytes.now) =
-    c.first_down.ensures ∙ ap (position leads_down) c.entries.ensures.value in (
+    c.first_down.ensures ∙ ap (position leads_down) c.entries_in.ensures.value in (
       λ none. empty_by_first c.args.bytes.now (sym first ∙ none_where c.first_down.result c.is_none.result c.is_none.ensures none),
       λ empty. true_where c.first_down.result c.is_none.result c.is_none.ensures (first ∙ first_by_empty c.args.bytes.now empty),
     )

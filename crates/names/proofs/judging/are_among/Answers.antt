@@ -6,7 +6,7 @@ use Rattle.model.specs.Files.{file_in, files_of}
 use Rattle.model.specs.Layout.{inode_of}
 use Rattle.model.specs.Log.{recovered}
 use Rattle.names.specs.Checks.{IsAmong}
-use Rattle.names.specs.Judging.{IsReaderOf}
+use Rattle.offline.specs.Checked.{IsCheckedOf}
 use Rattle.names.specs.Trees.{kind_of, IsFile}
 use Rattle.names.proofs.FoundNext.{at_last}
 use Rattle.names.proofs.Looked.{none_by_kind, number_inside}
@@ -18,12 +18,12 @@ loop-i-init g c = record {
   reads = reads_none g.D.Disk c.args.disk.now;
   faults = refl;
   among = λ k low there.
-      let inside = number_inside (g.D.Disk.image c.args.disk.now) c.args.image.now c.requires k there in
+      let inside = number_inside (g.D.Disk.image c.args.disk.now) c.args.image.now c.requires.recovered k there in
       let from = inside.0 in absurd (omega (arith, low, from));
 }
 
 pub kind_at-requires : goal.kind_at-requires
-kind_at-requires g c = subst (λ (y : Image). IsReaderOf y c.args.image.now) (sym c.loop-i.invariant.reads.image) c.requires
+kind_at-requires g c = subst (λ (y : Image). IsCheckedOf y c.args.image.now) (sym c.loop-i.invariant.reads.image) c.requires
 
 pub returns-then-not-is_number_among-clause-among : goal.returns-then-not-is_number_among-clause-among
 returns-then-not-is_number_among-clause-among g c =
@@ -43,7 +43,7 @@ loop-i-preserved g c =
     let here : IsFile files i → IsAmong c.args.numbers.now i =
     λ there. elim c.else-kind-ne0.branch [
       | else-kind-ne0-via-then-kind-ne0+else-not-is_number_among w ↦ w.is_number_among.ensures.0 w.if-not-is_number_among.false
-      | else-kind-ne0-via-else-kind-ne0 w ↦ absurd (there (none_by_kind (d.image c.args.disk.now) c.args.image.now c.requires i (inode_of (recovered (d.image c.args.disk.now)) i) (λ zero. omega (arith, zero, c.loop-i.auto.i)) (omega (arith, c.loop-i-test.true, c.loop-i.auto.i-end)) refl (sym kind ∙ w.if-kind-ne0.false)))
+      | else-kind-ne0-via-else-kind-ne0 w ↦ absurd (there (none_by_kind (d.image c.args.disk.now) c.args.image.now c.requires.recovered i (inode_of (recovered (d.image c.args.disk.now)) i) (λ zero. omega (arith, zero, c.loop-i.auto.i)) (omega (arith, c.loop-i-test.true, c.loop-i.auto.i-end)) refl (sym kind ∙ w.if-kind-ne0.false)))
     ] in
     record {
       reads = reads_then d c.args.disk.now c.loop-i.disk c.kind_at.new.disk c.loop-i.invariant.reads c.kind_at.ensures.reads;
@@ -57,7 +57,7 @@ loop-i-preserved g c =
 pub returns-clause-among : goal.returns-clause-among
 returns-clause-among g c = (
   λ yes i there.
-      let inside = number_inside (g.D.Disk.image c.args.disk.now) c.args.image.now c.requires i there in
+      let inside = number_inside (g.D.Disk.image c.args.disk.now) c.args.image.now c.requires.recovered i there in
       let low = inside.1 in
       let end = c.loop-i-test.false in
       c.loop-i.invariant.among i (omega (arith, low, end, c.loop-i.auto.i-end)) there,

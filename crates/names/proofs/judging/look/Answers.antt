@@ -1,49 +1,40 @@
-use Rattle.std.proofs.Common.{◌∙◌, ◌<◌, ap, sym, arith}
+use Rattle.std.proofs.Common.{◌∙◌, Option, ap, sym, subst}
+use Rattle.std.specs.Prelude.{IfSome}
 use Rattle.blocks.specs.Disk.{Image}
 use Rattle.model.specs.Files.{bytes_in}
 use Rattle.model.specs.Log.{recovered}
-use Rattle.model.specs.Lemmas.FileNumbers.{none_at_zero}
-use Rattle.names.proofs.Looked.{bytes_here, is_here, kind_here, none_here, past_none, read_here}
+use Rattle.model.specs.declared.types.image.Dinode.{Dinode}
+use Rattle.offline.specs.Checked.{IsInodeOf}
+use Rattle.offline.specs.Recovered.{MayReadFile}
+use Rattle.offline.specs.Lemmas.Checked.{none_told}
+use Rattle.names.proofs.Looked.{bytes_here, is_here, kind_here}
+use Rattle.names.proofs.judging.look.Given.{Over}
+use Rattle.names.proofs.judging.look.Goals.{In-Some}
 use Rattle.names.proofs.judging.look.Goals as goal
-use Rattle.names.proofs.judging.look.Goals.{then-number-eq0-via-then-number-eq0, then-number-eq0-via-else-number-eq0+then-number-image}
 
-pub returns-then-number-eq0-clause-seen : goal.returns-then-number-eq0-clause-seen
-returns-then-number-eq0-clause-seen g c =
-    let x = g.D.Disk.image c.args.disk.now in
-    elim c.then-number-eq0.branch [
-      | then-number-eq0-via-then-number-eq0 w ↦ λ there. there (none_at_zero (recovered x) c.args.number w.if-number-eq0.true)
-      | then-number-eq0-via-else-number-eq0+then-number-image w ↦ λ there. there (past_none x c.args.image.now c.requires c.args.number (omega (arith, w.if-number-image.true)))
-    ]
+-- the inode that was found
+found : (g : Over) (c : In-Some g) → IsInodeOf (recovered (g.D.Disk.image c.args.disk.now)) c.args.number c.in-Some.inode
+found g c = subst (λ (o : Option Dinode). IfSome o (IsInodeOf (recovered (g.D.Disk.image c.args.disk.now)) c.args.number)) c.in-Some.is c.in_ok-inode.ensures.found
 
-pub returns-then-inode-eq0-clause-seen : goal.returns-then-inode-eq0-clause-seen
-returns-then-inode-eq0-clause-seen g c = λ there.
-    let low = c.if-number-image.false in
-    there (none_here (g.D.Disk.image c.args.disk.now) c.args.image.now c.requires c.args.number c.in_ok-inode.inode c.if-number-eq0.false (omega (arith, low)) c.in_ok-inode.ensures.ok c.if-inode-eq0.true)
+pub returns-in_default-clause-seen : goal.returns-in_default-clause-seen
+returns-in_default-clause-seen g c = λ there. there (none_told c.in_ok-inode.field-0 _ c.in_ok-inode.ensures.none c.in_default.not-Some)
 
 pub returns-then-inode-ne-DIRECTORY_KIND-clause-seen : goal.returns-then-inode-ne-DIRECTORY_KIND-clause-seen
 returns-then-inode-ne-DIRECTORY_KIND-clause-seen g c =
-    let x = g.D.Disk.image c.args.disk.now in
-    let low = c.if-number-image.false in
-    let inside : c.args.number < c.args.image.now.sup.ninodes = omega (arith, low) in
-    let d = c.in_ok-inode.inode in
-    let kind = kind_here x c.args.image.now c.requires c.args.number d c.if-number-eq0.false inside c.in_ok-inode.ensures.ok in (
-      is_here x c.args.image.now c.requires c.args.number d c.if-number-eq0.false inside c.in_ok-inode.ensures.ok c.if-inode-eq0.false,
-      λ directory. c.if-inode-ne-DIRECTORY_KIND.true (sym kind ∙ directory),
+    let is = found g (goal.at.returns-then-inode-ne-DIRECTORY_KIND-clause-seen g c).In-Some in (
+      is_here _ c.args.number c.in-Some.inode is,
+      λ directory. c.if-inode-ne-DIRECTORY_KIND.true (sym (kind_here _ c.args.number c.in-Some.inode is) ∙ directory),
     )
 
-pub bytes_of-requires-clause-file : goal.bytes_of-requires-clause-file
-bytes_of-requires-clause-file g c =
-    let low = c.if-number-image.false in
-    read_here (g.D.Disk.image c.args.disk.now) c.args.image.now c.requires c.args.number c.in_ok-inode.inode c.if-number-eq0.false (omega (arith, low)) c.in_ok-inode.ensures.ok
-    (g.D.Disk.image c.inode.new.disk) (g.met.D.Disk.is_image c.args.disk.now) c.checked_files_may_be_read.ensures c.if-inode-eq0.false c.in_ok-inode.ensures.reads.image
+pub all_bytes-requires-clause-file : goal.all_bytes-requires-clause-file
+all_bytes-requires-clause-file g c =
+    subst (λ (x : Image). MayReadFile (recovered x) c.in-Some.inode) (sym c.inode_at.ensures.reads.image)
+    (found g (goal.at.all_bytes-requires-clause-file g c).In-Some).readable
 
 pub returns-clause-seen : goal.returns-clause-seen
 returns-clause-seen g c =
-    let x = g.D.Disk.image c.args.disk.now in
-    let low = c.if-number-image.false in
-    let inside : c.args.number < c.args.image.now.sup.ninodes = omega (arith, low) in
-    let d = c.in_ok-inode.inode in (
-      kind_here x c.args.image.now c.requires c.args.number d c.if-number-eq0.false inside c.in_ok-inode.ensures.ok ∙ c.if-inode-ne-DIRECTORY_KIND.false,
-      c.in_ok-bytes.ensures.bytes ∙ ap (λ (z : Image). bytes_in (recovered z) d) c.in_ok-inode.ensures.reads.image
-          ∙ sym (bytes_here x c.args.image.now c.requires c.args.number d c.if-number-eq0.false inside c.in_ok-inode.ensures.ok c.if-inode-eq0.false),
+    let is = found g (goal.at.returns-clause-seen g c).In-Some in
+    let d = c.in-Some.inode in (
+      kind_here _ c.args.number d is ∙ c.if-inode-ne-DIRECTORY_KIND.false,
+      c.in_ok-bytes.ensures.bytes ∙ ap (λ (x : Image). bytes_in (recovered x) d) c.inode_at.ensures.reads.image ∙ sym (bytes_here _ c.args.number d is),
     )

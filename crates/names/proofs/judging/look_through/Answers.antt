@@ -55,7 +55,7 @@ loop-looked-smaller g c =
     let most = c.args.image.now.sup.ninodes in
     let few : c.loop-looked.looked + 1 ≤ most =
     few_looked (fs g at) (c.loop-looked.looked + 1) most c.take_in.new.numbers.items c.take_in.new.parents.items (next g at c.if-not-branch.false)
-    (λ i there. (number_inside (g.D.Disk.image c.args.disk.now) c.args.image.now c.requires.reader i there).1) in
+    (λ i there. (number_inside (g.D.Disk.image c.args.disk.now) c.args.image.now c.requires.reader.recovered i there).1) in
     omega (arith, few)
 
 pub loop-looked-preserved : goal.loop-looked-preserved

@@ -1,23 +1,36 @@
-use Rattle.std.proofs.Common.{◌∙◌, ap}
+use Rattle.std.proofs.Common.{◌∙◌, Option, List, ℕ, Some, ap, sym, subst}
+use Rattle.std.specs.Prelude.{IfSome}
 use Rattle.blocks.specs.Disk.{Image}
 use Rattle.model.specs.Files.{bytes_in}
 use Rattle.model.specs.Log.{recovered}
-use Rattle.tree_looks.proofs.LoadedFiles.{free_here, none_at_zero, read_here, used_here}
+use Rattle.model.specs.declared.types.image.Dinode.{Dinode}
+use Rattle.model.specs.declared.types.image.File.{File}
+use Rattle.offline.specs.Checked.{IsInodeOf}
+use Rattle.offline.specs.Lemmas.Checked.{none_told}
+use Rattle.offline.specs.Recovered.{MayReadFile}
+use Rattle.tree_looks.proofs.LoadedFiles.{found_at}
+use Rattle.tree_looks.proofs.loading.file_of.Given.{Over}
+use Rattle.tree_looks.proofs.loading.file_of.Goals.{In-Some}
 use Rattle.tree_looks.proofs.loading.file_of.Goals as goal
 
-pub returns-then-number-eq0-clause-file : goal.returns-then-number-eq0-clause-file
-returns-then-number-eq0-clause-file g c = none_at_zero (recovered (g.D.Disk.image c.args.disk.now)) c.args.number c.if-number-eq0.true
+-- the inode that was found
+found : (g : Over) (c : In-Some g) → IsInodeOf (recovered (g.D.Disk.image c.args.disk.now)) c.args.number c.in-Some.inode
+found g c = subst (λ (o : Option Dinode). IfSome o (IsInodeOf (recovered (g.D.Disk.image c.args.disk.now)) c.args.number)) c.in-Some.is c.in_ok-inode.ensures.found
 
-pub returns-then-inode-eq0-clause-file : goal.returns-then-inode-eq0-clause-file
-returns-then-inode-eq0-clause-file g c =
-    free_here (g.D.Disk.image c.args.disk.now) c.args.image.now c.requires.reader c.args.number c.in_ok-inode.inode c.if-number-eq0.false c.requires.inside c.in_ok-inode.ensures.ok c.if-inode-eq0.true
+pub returns-in_default-clause-file : goal.returns-in_default-clause-file
+returns-in_default-clause-file g c =
+    sym (none_told c.in_ok-inode.field-0 _ c.in_ok-inode.ensures.none c.in_default.not-Some)
+    ∙ found_at (g.D.Disk.image c.args.disk.now) c.args.image.now c.args.number c.requires.checked.recovered c.requires.inside
 
-pub bytes_of-requires-clause-file : goal.bytes_of-requires-clause-file
-bytes_of-requires-clause-file g c =
-    read_here (g.D.Disk.image c.args.disk.now) c.args.image.now c.requires.reader c.args.number c.in_ok-inode.inode c.if-number-eq0.false c.requires.inside c.in_ok-inode.ensures.ok
-    (g.D.Disk.image c.inode.new.disk) (g.met.D.Disk.is_image c.args.disk.now) c.checked_files_may_be_read.ensures c.if-inode-eq0.false c.in_ok-inode.ensures.reads.image
+pub all_bytes-requires-clause-file : goal.all_bytes-requires-clause-file
+all_bytes-requires-clause-file g c =
+    subst (λ (x : Image). MayReadFile (recovered x) c.in-Some.inode) (sym c.inode_at.ensures.reads.image)
+    (found g (goal.at.all_bytes-requires-clause-file g c).In-Some).readable
 
 pub returns-clause-file : goal.returns-clause-file
 returns-clause-file g c =
-    used_here (g.D.Disk.image c.args.disk.now) c.args.image.now c.requires.reader c.args.number c.in_ok-inode.inode c.if-number-eq0.false c.requires.inside c.in_ok-inode.ensures.ok c.if-inode-eq0.false
-    _ (c.new.ensures ∙ c.in_ok-bytes.ensures.bytes ∙ ap (λ (z : Image). bytes_in (recovered z) c.in_ok-inode.inode) c.in_ok-inode.ensures.reads.image)
+    let d = c.in-Some.inode in
+    let file : List ℕ → Option File = λ b. Some (record { kind = d.kind; bytes = b }) in
+    ap file (c.new.ensures ∙ c.in_ok-bytes.ensures.bytes ∙ ap (λ (x : Image). bytes_in (recovered x) d) c.inode_at.ensures.reads.image)
+    ∙ sym (found g (goal.at.returns-clause-file g c).In-Some).file
+    ∙ found_at (g.D.Disk.image c.args.disk.now) c.args.image.now c.args.number c.requires.checked.recovered c.requires.inside

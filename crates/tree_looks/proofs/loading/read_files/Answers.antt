@@ -1,4 +1,4 @@
-use Rattle.std.proofs.Common.{◌≡◌, ◌∙◌, ◌++◌, ℕ, List, [], ◌∷◌, Option, map, sym, ap, arith}
+use Rattle.std.proofs.Common.{◌≡◌, ◌∙◌, ◌++◌, ℕ, [], ◌∷◌, Option, map, sym, ap, arith}
 use Rattle.std.proofs.lemmas.List.FromFn.{map-range_with_len_more}
 use Rattle.std.specs.List.{range_with_len}
 use Rattle.blocks.specs.Disk.{Image}
@@ -6,7 +6,7 @@ use Rattle.blocks.specs.Lemmas.Reads.{reads_then}
 use Rattle.model.specs.Files.{Files, file_at}
 use Rattle.model.specs.Log.{recovered}
 use Rattle.model.specs.declared.types.image.File.{File}
-use Rattle.tree_looks.proofs.LoadedFiles.{count}
+use Rattle.offline.specs.Lemmas.Checked.{count_recovered}
 use Rattle.tree_looks.proofs.loading.read_files.Goals as goal
 
 pub loop-number-preserved : goal.loop-number-preserved
@@ -29,4 +29,4 @@ returns-clause-files g c =
     let x = g.D.Disk.image c.args.disk.now in
     let all : c.loop-number.number ≡ c.in_ok-image.image.sup.ninodes = omega (arith, c.loop-number-test.false, c.loop-number.auto.number-end) in
     c.loop-number.invariant.files
-    ∙ ap (λ (n : ℕ). map (file_at (recovered x)) (range_with_len 0 n)) (all ∙ count x c.in_ok-image.image c.in_ok-image.ensures.reader)
+    ∙ ap (λ (n : ℕ). map (file_at (recovered x)) (range_with_len 0 n)) (all ∙ count_recovered x c.in_ok-image.image c.in_ok-image.ensures.ok.recovered)

@@ -10,7 +10,7 @@ add_below-returns t c =
     let files = c.args.files.now in
     let paths = entry_paths (c.args.depth - 1) files c.args.front.now in
     let old = c.args.text.now.items in
-    let all = added_all paths c.entries-entry-items.result.now old c.loop-entry.entry-index c.loop-entry.text.items (omega (arith, c.loop-entry-test.false, c.loop-entry.auto.entry-index-end)) c.loop-entry.invariant in
+    let all = added_all paths c.entries_in-entry-items.result.now old c.loop-entry.entry-index c.loop-entry.text.items (omega (arith, c.loop-entry-test.false, c.loop-entry.auto.entry-index-end)) c.loop-entry.invariant in
     all
-    ∙ ap (λ (entries : List (List ℕ)). old ++ flat_map paths entries) (c.entries-entry-items.ensures ∙ ap entries_of c.bytes_at.ensures)
+    ∙ ap (λ (entries : List (List ℕ)). old ++ flat_map paths entries) (c.entries_in-entry-items.ensures.value ∙ ap entries_of c.bytes_at.ensures)
     ∙ ap (λ (lines : List ℕ). old ++ lines) (sym (below_is c.args.depth files c.args.front.now c.args.number c.if-depth-eq0.false (c.is_directory.ensures.0 c.if-not-is_directory.false)))

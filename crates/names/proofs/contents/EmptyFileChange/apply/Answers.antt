@@ -2,18 +2,16 @@ use Rattle.std.proofs.Common.{[], ◌≡◌, ◌∙◌, Ok, sym, subst}
 use Rattle.model.specs.Files.{Files}
 use Rattle.names.specs.Contents.{Empties, HasOnly}
 use Rattle.names.specs.Inside.{files_seen}
-use Rattle.names.specs.Trees.{IsFile, IsTree}
+use Rattle.names.specs.Trees.{IsTree}
 use Rattle.names.specs.Walks.{walked}
-use Rattle.names.proofs.PathLaws.{names_lead}
+use Rattle.names.proofs.PathLaws.{walk_told}
 use Rattle.names.proofs.PlainFiles.{happens_plain}
 use Rattle.names.proofs.contents.EmptyFileChange.apply.Goals as goal
 
 pub emptied-requires-clause-there : goal.emptied-requires-clause-there
 emptied-requires-clause-there g c =
-    let files : Files = files_seen g.D.Disk.image c.args.tree.now.kernel in
-    let led : walked files 1 c.args.names.now ≡ Ok c.in-Ok.number = sym c.in_ok-number.ensures.led ∙ c.in-Ok.is in
-    subst (λ (f : Files). IsFile f c.in-Ok.number) (sym c.in_ok-number.ensures.same)
-    (names_lead files c.args.names.now c.in-Ok.number c.requires.tree led)
+    walk_told (files_seen g.D.Disk.image c.args.tree.now.kernel) _ c.args.names.now c.in_ok-number.field-0 c.in-Ok.number c.requires.tree c.in_ok-number.ensures.same
+    c.in_ok-number.ensures.led c.in-Ok.is
 
 pub emptied-requires-clause-tree : goal.emptied-requires-clause-tree
 emptied-requires-clause-tree g c = subst (λ (f : Files). IsTree f) (sym c.in_ok-number.ensures.same) c.requires.tree

@@ -1,28 +1,24 @@
-use Rattle.std.proofs.Common.{sym}
+use Rattle.std.proofs.Common.{◌∙◌, sym, subst}
+use Rattle.model.specs.Files.{Files}
 use Rattle.names.specs.Inside.{files_seen}
-use Rattle.names.proofs.Entering.{found_fits}
-use Rattle.names.proofs.Leaving.{removed_drops, removed_tree}
+use Rattle.names.specs.TreeChanges.{DropsName}
+use Rattle.names.specs.Trees.{IsTree}
+use Rattle.names.proofs.Leaving.{may_remove}
 use Rattle.names.proofs.removing.RemoveFileChangeIn.apply_in.Goals as goal
 
-pub unlink-requires : goal.unlink-requires
-unlink-requires g c =
-    found_fits (files_seen g.D.Disk.image c.args.tree.now.kernel) c.args.from c.in_ok-bytes.field-0 c.in-Some.bytes c.as_slice-2.result.now c.requires.tree
-    c.in-Some.is c.as_slice-2.ensures c.in_ok-bytes.ensures.found
+pub dropped-requires-clause-tree : goal.dropped-requires-clause-tree
+dropped-requires-clause-tree g c = subst (λ (f : Files). IsTree f) (sym (c.in_ok-_other.ensures.same ∙ c.in_ok-bytes.ensures.same)) c.requires.tree
 
-pub returns-clause-tree : goal.returns-clause-tree
-returns-clause-tree g c =
-    removed_tree g.D.Disk c.args.tree.now.kernel c.directory.new.self.kernel c.directory-2.new.self.kernel c.entered.new.self.kernel c.called.new.self.kernel c.args.from
-    c.in-Some-lookup.number c.from-number.result c.args.name.now c.in-Some.bytes c.as_slice.result.now c.as_slice-2.result.now c.in_ok-bytes.field-0
-    c.in_ok-_other.field-0 c.in-Some-unlink.write c.in_ok-_whole._whole c.in_ok-_done._done c.requires.tree c.in_ok-bytes.ensures.same
-    c.in_ok-bytes.ensures.found c.in-Some.is c.as_slice.ensures c.as_slice-2.ensures (sym c.in-Some-lookup.ensures) c.from-number.ensures
-    c.in_ok-_other.ensures.same c.in_ok-_other.ensures.found c.in_default-2.not-Some c.in-Some-unlink.ensures.unlinks c.in_ok-_whole.ensures.entered
-    c.in_ok-_whole.ensures.goes.on.opening c.in_ok-_done.ensures.answers
+pub dropped-requires-clause-drops : goal.dropped-requires-clause-drops
+dropped-requires-clause-drops g c =
+    may_remove (files_seen g.D.Disk.image c.args.tree.now.kernel) (files_seen g.D.Disk.image c.directory.new.self.kernel) (files_seen g.D.Disk.image c.directory-2.new.self.kernel)
+    c.args.from c.in-Some-lookup.number c.from-number.result c.args.name.now c.in-Some.bytes c.as_slice.result.now c.as_slice-2.result.now c.in_ok-bytes.field-0
+    c.in_ok-_other.field-0 c.requires.tree c.in_ok-bytes.ensures.same c.in_ok-bytes.ensures.found c.in-Some.is c.as_slice.ensures c.as_slice-2.ensures
+    (sym c.in-Some-lookup.ensures) c.from-number.ensures c.in_ok-_other.ensures.same c.in_ok-_other.ensures.found c.in_default-2.not-Some
 
 pub returns-clause-made : goal.returns-clause-made
-returns-clause-made g c =
-    removed_drops g.D.Disk c.args.tree.now.kernel c.directory.new.self.kernel c.directory-2.new.self.kernel c.entered.new.self.kernel c.called.new.self.kernel c.args.from
-    c.in-Some-lookup.number c.from-number.result c.args.name.now c.in-Some.bytes c.as_slice.result.now c.as_slice-2.result.now c.in_ok-bytes.field-0
-    c.in_ok-_other.field-0 c.in-Some-unlink.write c.in_ok-_whole._whole c.in_ok-_done._done c.requires.tree c.in_ok-bytes.ensures.same
-    c.in_ok-bytes.ensures.found c.in-Some.is c.as_slice.ensures c.as_slice-2.ensures (sym c.in-Some-lookup.ensures) c.from-number.ensures
-    c.in_ok-_other.ensures.same c.in_ok-_other.ensures.found c.in_default-2.not-Some c.in-Some-unlink.ensures.unlinks c.in_ok-_whole.ensures.entered
-    c.in_ok-_whole.ensures.goes.on.opening c.in_ok-_done.ensures.answers
+returns-clause-made g c = (
+  c.from-number.result,
+  subst (λ (f : Files). DropsName f (files_seen g.D.Disk.image c.dropped.new.self.kernel) c.args.from c.args.name.now c.from-number.result)
+      (c.in_ok-_other.ensures.same ∙ c.in_ok-bytes.ensures.same) c.in_ok-dropped.ensures.drops,
+)

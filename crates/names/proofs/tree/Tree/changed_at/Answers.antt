@@ -1,13 +1,16 @@
-use Rattle.std.proofs.Common.{ap, subst}
+use Rattle.std.proofs.Common.{◌<◌, ap, subst}
 use Rattle.model.specs.Layout.{form_of}
 use Rattle.model.specs.declared.types.image.Form.{Form}
 use Rattle.names.specs.Inside.{files_seen, form_seen}
-use Rattle.names.specs.Ready.{Happens}
+use Rattle.names.specs.Ready.{Happens, LeavesTree}
 use Rattle.names.proofs.Transacting.{whole_by, whole_leaves}
+use Rattle.names.proofs.tree.Tree.changed_at.Given.{Over}
+use Rattle.names.proofs.tree.Tree.changed_at.Goals.{After-committed}
 use Rattle.names.proofs.tree.Tree.changed_at.Goals as goal
 
-pub returns-in_err-committed-clause-leaves : goal.returns-in_err-committed-clause-leaves
-returns-in_err-committed-clause-leaves g c = λ some.
+-- what the call leaves, whether it ends well or not
+leaves : (g : Over) (c : After-committed g) → 0 < c.args.self.now.calls_left → LeavesTree g.D.Disk (g.C.Change.makes c.args.change.now (form_seen g.D.Disk.image c.args.self.now.kernel) c.args.names.now) c.args.self.now.kernel c.committed.new.self.kernel
+leaves g c some =
     let change = g.C.Change.makes c.args.change.now (form_seen g.D.Disk.image c.args.self.now.kernel) c.args.names.now in
     let why = g.C.Change.refuses c.args.change.now c.args.names.now in
     whole_leaves g.D.Disk change why c.args.self.now.kernel c.apply.new.tree.kernel c.committed.new.self.kernel c.in_ok-made.made
@@ -19,15 +22,8 @@ returns-in_err-committed-clause-leaves g c = λ some.
     (ap (λ d. form_of (g.D.Disk.image d)) c.in_ok-begun.ensures.begins.goes.opening) c.in_ok-made.ensures.made))
     c.committed.ensures.leaves
 
+pub returns-in_err-committed-clause-leaves : goal.returns-in_err-committed-clause-leaves
+returns-in_err-committed-clause-leaves g c = leaves g (goal.at.returns-in_err-committed-clause-leaves g c).After-committed
+
 pub returns-clause-leaves : goal.returns-clause-leaves
-returns-clause-leaves g c = λ some.
-    let change = g.C.Change.makes c.args.change.now (form_seen g.D.Disk.image c.args.self.now.kernel) c.args.names.now in
-    let why = g.C.Change.refuses c.args.change.now c.args.names.now in
-    whole_leaves g.D.Disk change why c.args.self.now.kernel c.apply.new.tree.kernel c.committed.new.self.kernel c.in_ok-made.made
-    (whole_by g.D.Disk change why c.args.self.now.kernel c.begun.new.self.kernel c.apply.new.tree.kernel c.args.self.now.calls_left c.begun.new.self.calls_left
-    c.in_ok-made.made (c.requires.ready some) c.in_ok-begun.ensures.begins c.begun.ensures.leaves c.in_ok-made.ensures.goes.on.same c.apply.ensures.goes.stays
-    c.in_ok-made.ensures.tree
-    (subst (λ (f : Form). Happens (g.C.Change.makes c.args.change.now f c.args.names.now) why
-    (files_seen g.D.Disk.image c.begun.new.self.kernel) (files_seen g.D.Disk.image c.apply.new.tree.kernel) c.in_ok-made.made)
-    (ap (λ d. form_of (g.D.Disk.image d)) c.in_ok-begun.ensures.begins.goes.opening) c.in_ok-made.ensures.made))
-    c.committed.ensures.leaves
+returns-clause-leaves g c = leaves g (goal.at.returns-clause-leaves g c).After-committed

@@ -10,7 +10,6 @@ use Rattle.names.proofs.tree.Tree.is_directory.Goals as goal
 
 pub returns-in_default : goal.returns-in_default
 returns-in_default g c =
-    let none : kind_told c.in_ok-kind.field-0 ≡ 0 = untold c.in_ok-kind.field-0 c.in_default.not-StatOf in
     record {
       goes = record { on = c.in_ok-kind.ensures.goes.on; stays = c.called.ensures.goes.stays; ends = tt };
       same = stat_same g.D.Disk c.args.self.now.kernel c.called.new.self.kernel c.args.number c.in_ok-kind.field-0 c.in_ok-kind.ensures.answers;
@@ -18,7 +17,7 @@ returns-in_default g c =
         λ yes. absurd (cc yes),
         λ is. absurd (untold_directory (files_seen g.D.Disk.image c.args.self.now.kernel) c.args.number c.in_ok-kind.field-0
             (stat_kind g.D.Disk c.args.self.now.kernel c.called.new.self.kernel c.args.number c.in_ok-kind.field-0 c.in_ok-kind.ensures.answers)
-            (λ one. absurd (omega arith)) is),
+            (λ one. absurd (omega (arith, one, untold c.in_ok-kind.field-0 c.in_default.not-StatOf))) is),
       );
     }
 

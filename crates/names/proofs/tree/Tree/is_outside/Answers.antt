@@ -1,7 +1,5 @@
-use Rattle.std.proofs.Common.{◌≡◌, ◌∙◌, Result, ℕ, refl}
+use Rattle.std.proofs.Common.{◌∙◌, refl}
 use Rattle.names.specs.Inside.{files_seen}
-use Rattle.names.specs.Trees.{parent_name}
-use Rattle.names.specs.Walks.{stepped}
 use Rattle.names.proofs.Rising.{has_parent, inside_itself, parent_decides, parent_there, root_decides, stepped_as}
 use Rattle.names.proofs.tree.Tree.is_outside.Goals as goal
 

@@ -1,4 +1,4 @@
-use Rattle.std.proofs.Common.{◌≡◌, Result, true, false, sym, subst, rules}
+use Rattle.std.proofs.Common.{◌≡◌, Result, true, sym, subst, rules}
 use Rattle.model.specs.Files.{Files}
 use Rattle.names.specs.declared.planning.Plan.{Plan}
 use Rattle.names.specs.declared.refusal.Refusal.{Refusal}

@@ -1,10 +1,12 @@
-use Rattle.std.proofs.Common.{◌≡◌, ◌∙◌, sym, subst, rules}
+use Rattle.std.proofs.Common.{◌≡◌, sym, subst, rules}
 use Rattle.model.specs.Files.{Files}
 use Rattle.names.specs.Inside.{files_seen}
-use Rattle.names.specs.Trees.{IsDown, IsTree}
+use Rattle.names.specs.Trees.{directory_in, IsDirectory, IsDown, IsTree}
 use Rattle.names.proofs.Entering.{found_fits}
 use Rattle.names.proofs.Moved.{not_root, own_directory, own_is, own_there, plan_inside, plan_is, target_in}
 use Rattle.names.proofs.Renamed.{lookup_used}
+use Rattle.names.proofs.tree.Tree.planned.Given.{Over}
+use Rattle.names.proofs.tree.Tree.planned.Goals.{After-from-file}
 use Rattle.names.proofs.tree.Tree.planned.Goals as goal
 
 pub unlink-requires : goal.unlink-requires
@@ -28,57 +30,53 @@ unreachable-requires-in_default-lookup-2 g c =
     own_there fs c.args.to c.as_slice-4.result.now c.in-Some-2.bytes c.own.result c.lookup-2.result c.requires.tree target.0 target.1 c.as_slice-4.ensures c.own.ensures
     c.lookup-2.ensures c.in_default-lookup-2.not-Some
 
+-- the file whose name moves, and the directory that it moves to
+module _ (g : Over) (c : After-from-file g) where
+  abbrev fs : Files
+  fs = files_seen g.D.Disk.image c.args.self.now.kernel
+
+  target : IsDirectory fs c.args.to × (c.in-Some-2.bytes ≡ directory_in fs c.args.to)
+  target = target_in fs (files_seen g.D.Disk.image c.directory.new.self.kernel) c.args.to c.in_ok-bytes-2.field-0 c.in-Some-2.bytes c.in_ok-bytes.ensures.same
+      c.in-Some-2.is c.in_ok-bytes-2.ensures.found
+
+  down : IsDown c.args.old.now
+  down = search rules
+
+  own : c.in-Some-lookup-2.own ≡ c.args.to
+  own = own_is fs c.args.to c.as_slice-4.result.now c.in-Some-2.bytes c.own.result c.lookup-2.result c.requires.tree target.0 target.1 c.as_slice-4.ensures c.own.ensures
+      c.lookup-2.ensures c.in-Some-lookup-2.own c.in-Some-lookup-2.is
+
 pub rise-requires-clause-there : goal.rise-requires-clause-there
 rise-requires-clause-there g c =
-    let fs : Files = files_seen g.D.Disk.image c.args.self.now.kernel in
-    let target = target_in fs (files_seen g.D.Disk.image c.directory.new.self.kernel) c.args.to c.in_ok-bytes-2.field-0 c.in-Some-2.bytes c.in_ok-bytes.ensures.same
-    c.in-Some-2.is c.in_ok-bytes-2.ensures.found in
-    let down : IsDown c.args.old.now = search rules in
-    let own : c.in-Some-lookup-2.own ≡ c.args.to = own_is fs c.args.to c.as_slice-4.result.now c.in-Some-2.bytes c.own.result c.lookup-2.result c.requires.tree target.0 target.1 c.as_slice-4.ensures c.own.ensures
-    c.lookup-2.ensures c.in-Some-lookup-2.own c.in-Some-lookup-2.is in
-    own_directory fs (files_seen g.D.Disk.image c.directory.new.self.kernel) (files_seen g.D.Disk.image c.directory-2.new.self.kernel) c.args.from c.args.to c.in-Some-lookup.number
+    let a = (goal.at.rise-requires-clause-there g c).After-from-file in
+    own_directory (fs g a) (files_seen g.D.Disk.image c.directory.new.self.kernel) (files_seen g.D.Disk.image c.directory-2.new.self.kernel) c.args.from c.args.to c.in-Some-lookup.number
     c.from-file.result c.in-Some-lookup-2.own c.args.old.now c.args.name.now c.in-Some.bytes c.as_slice.result.now c.as_slice-2.result.now c.in-Some-2.bytes
-    c.as_slice-3.result.now c.in_ok-bytes.field-0 c.in_ok-bytes-2.field-0 c.requires.tree c.requires.apart down c.in_ok-bytes.ensures.same c.in_ok-bytes-2.ensures.same
-    c.in_ok-bytes.ensures.found c.in-Some.is c.as_slice.ensures c.as_slice-2.ensures (sym c.in-Some-lookup.ensures) c.from-file.ensures own target c.as_slice-3.ensures
+    c.as_slice-3.result.now c.in_ok-bytes.field-0 c.in_ok-bytes-2.field-0 c.requires.tree c.requires.apart (down g a) c.in_ok-bytes.ensures.same c.in_ok-bytes-2.ensures.same
+    c.in_ok-bytes.ensures.found c.in-Some.is c.as_slice.ensures c.as_slice-2.ensures (sym c.in-Some-lookup.ensures) c.from-file.ensures (own g a) (target g a) c.as_slice-3.ensures
 
 pub rise-requires-clause-below : goal.rise-requires-clause-below
 rise-requires-clause-below g c =
-    let fs : Files = files_seen g.D.Disk.image c.args.self.now.kernel in
-    let target = target_in fs (files_seen g.D.Disk.image c.directory.new.self.kernel) c.args.to c.in_ok-bytes-2.field-0 c.in-Some-2.bytes c.in_ok-bytes.ensures.same
-    c.in-Some-2.is c.in_ok-bytes-2.ensures.found in
-    let down : IsDown c.args.old.now = search rules in
-    let own : c.in-Some-lookup-2.own ≡ c.args.to = own_is fs c.args.to c.as_slice-4.result.now c.in-Some-2.bytes c.own.result c.lookup-2.result c.requires.tree target.0 target.1 c.as_slice-4.ensures c.own.ensures
-    c.lookup-2.ensures c.in-Some-lookup-2.own c.in-Some-lookup-2.is in
-    not_root fs (files_seen g.D.Disk.image c.directory.new.self.kernel) (files_seen g.D.Disk.image c.directory-2.new.self.kernel) c.args.from c.args.to c.in-Some-lookup.number
+    let a = (goal.at.rise-requires-clause-below g c).After-from-file in
+    not_root (fs g a) (files_seen g.D.Disk.image c.directory.new.self.kernel) (files_seen g.D.Disk.image c.directory-2.new.self.kernel) c.args.from c.args.to c.in-Some-lookup.number
     c.from-file.result c.in-Some-lookup-2.own c.args.old.now c.args.name.now c.in-Some.bytes c.as_slice.result.now c.as_slice-2.result.now c.in-Some-2.bytes
-    c.as_slice-3.result.now c.in_ok-bytes.field-0 c.in_ok-bytes-2.field-0 c.requires.tree c.requires.apart down c.in_ok-bytes.ensures.same c.in_ok-bytes-2.ensures.same
-    c.in_ok-bytes.ensures.found c.in-Some.is c.as_slice.ensures c.as_slice-2.ensures (sym c.in-Some-lookup.ensures) c.from-file.ensures own target c.as_slice-3.ensures
+    c.as_slice-3.result.now c.in_ok-bytes.field-0 c.in_ok-bytes-2.field-0 c.requires.tree c.requires.apart (down g a) c.in_ok-bytes.ensures.same c.in_ok-bytes-2.ensures.same
+    c.in_ok-bytes.ensures.found c.in-Some.is c.as_slice.ensures c.as_slice-2.ensures (sym c.in-Some-lookup.ensures) c.from-file.ensures (own g a) (target g a) c.as_slice-3.ensures
 
 pub returns-in-Ok-2-clause-planned : goal.returns-in-Ok-2-clause-planned
 returns-in-Ok-2-clause-planned g c =
-    let fs : Files = files_seen g.D.Disk.image c.args.self.now.kernel in
-    let target = target_in fs (files_seen g.D.Disk.image c.directory.new.self.kernel) c.args.to c.in_ok-bytes-2.field-0 c.in-Some-2.bytes c.in_ok-bytes.ensures.same
-    c.in-Some-2.is c.in_ok-bytes-2.ensures.found in
-    let down : IsDown c.args.old.now = search rules in
-    let own : c.in-Some-lookup-2.own ≡ c.args.to = own_is fs c.args.to c.as_slice-4.result.now c.in-Some-2.bytes c.own.result c.lookup-2.result c.requires.tree target.0 target.1 c.as_slice-4.ensures c.own.ensures
-    c.lookup-2.ensures c.in-Some-lookup-2.own c.in-Some-lookup-2.is in
-    plan_is fs (files_seen g.D.Disk.image c.directory.new.self.kernel) (files_seen g.D.Disk.image c.directory-2.new.self.kernel) c.args.from c.args.to c.in-Some-lookup.number
+    let a = (goal.at.returns-in-Ok-2-clause-planned g c).After-from-file in
+    plan_is (fs g a) (files_seen g.D.Disk.image c.directory.new.self.kernel) (files_seen g.D.Disk.image c.directory-2.new.self.kernel) c.args.from c.args.to c.in-Some-lookup.number
     c.from-file.result c.in-Some-lookup-2.own c.args.old.now c.args.name.now c.in-Some.bytes c.as_slice.result.now c.as_slice-2.result.now c.in-Some-2.bytes
-    c.as_slice-3.result.now c.in_ok-bytes.field-0 c.in_ok-bytes-2.field-0 c.requires.tree c.requires.apart down c.in_ok-bytes.ensures.same c.in_ok-bytes-2.ensures.same
-    c.in_ok-bytes.ensures.found c.in-Some.is c.as_slice.ensures c.as_slice-2.ensures (sym c.in-Some-lookup.ensures) c.from-file.ensures own target c.as_slice-3.ensures
+    c.as_slice-3.result.now c.in_ok-bytes.field-0 c.in_ok-bytes-2.field-0 c.requires.tree c.requires.apart (down g a) c.in_ok-bytes.ensures.same c.in_ok-bytes-2.ensures.same
+    c.in_ok-bytes.ensures.found c.in-Some.is c.as_slice.ensures c.as_slice-2.ensures (sym c.in-Some-lookup.ensures) c.from-file.ensures (own g a) (target g a) c.as_slice-3.ensures
     c.in_ok-up.field-0 c.in_ok-up.ensures.rises c.in-Ok-2.up c.in-Ok.write c.in-Some-unlink.freeing c.in-Ok-2.is c.in-Ok.ensures.links c.in-Ok.ensures.within
     c.in-Some-unlink.ensures.unlinks c.in-Some-unlink.ensures.within
 
 pub returns-clause-planned : goal.returns-clause-planned
 returns-clause-planned g c =
-    let fs : Files = files_seen g.D.Disk.image c.args.self.now.kernel in
-    let target = target_in fs (files_seen g.D.Disk.image c.directory.new.self.kernel) c.args.to c.in_ok-bytes-2.field-0 c.in-Some-2.bytes c.in_ok-bytes.ensures.same
-    c.in-Some-2.is c.in_ok-bytes-2.ensures.found in
-    let down : IsDown c.args.old.now = search rules in
-    let own : c.in-Some-lookup-2.own ≡ c.args.to = own_is fs c.args.to c.as_slice-4.result.now c.in-Some-2.bytes c.own.result c.lookup-2.result c.requires.tree target.0 target.1 c.as_slice-4.ensures c.own.ensures
-    c.lookup-2.ensures c.in-Some-lookup-2.own c.in-Some-lookup-2.is in
-    plan_inside fs (files_seen g.D.Disk.image c.directory.new.self.kernel) (files_seen g.D.Disk.image c.directory-2.new.self.kernel) c.args.from c.args.to c.in-Some-lookup.number
+    let a = (goal.at.returns-clause-planned g c).After-from-file in
+    plan_inside (fs g a) (files_seen g.D.Disk.image c.directory.new.self.kernel) (files_seen g.D.Disk.image c.directory-2.new.self.kernel) c.args.from c.args.to c.in-Some-lookup.number
     c.from-file.result c.in-Some-lookup-2.own c.args.old.now c.args.name.now c.in-Some.bytes c.as_slice.result.now c.as_slice-2.result.now c.in-Some-2.bytes
-    c.as_slice-3.result.now c.in_ok-bytes.field-0 c.in_ok-bytes-2.field-0 c.requires.tree c.requires.apart down c.in_ok-bytes.ensures.same c.in_ok-bytes-2.ensures.same
-    c.in_ok-bytes.ensures.found c.in-Some.is c.as_slice.ensures c.as_slice-2.ensures (sym c.in-Some-lookup.ensures) c.from-file.ensures own target c.as_slice-3.ensures
+    c.as_slice-3.result.now c.in_ok-bytes.field-0 c.in_ok-bytes-2.field-0 c.requires.tree c.requires.apart (down g a) c.in_ok-bytes.ensures.same c.in_ok-bytes-2.ensures.same
+    c.in_ok-bytes.ensures.found c.in-Some.is c.as_slice.ensures c.as_slice-2.ensures (sym c.in-Some-lookup.ensures) c.from-file.ensures (own g a) (target g a) c.as_slice-3.ensures
     c.in_ok-up.field-0 c.in_ok-up.ensures.rises c.in-Err-2.refusal c.in-Err-2.is

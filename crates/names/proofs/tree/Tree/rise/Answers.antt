@@ -2,7 +2,7 @@ use Rattle.std.proofs.Common.{◌≡◌, ◌∙◌, ℕ, List, Some, None, true,
 use Rattle.model.specs.Files.{Files}
 use Rattle.names.specs.Entries.{lookup}
 use Rattle.names.specs.Inside.{files_seen}
-use Rattle.names.specs.Trees.{directory_in, parent_name, self_name, IsDirectory, IsTidy}
+use Rattle.names.specs.Trees.{directory_in, self_name, IsTidy}
 use Rattle.names.proofs.FileLooks.{tidy_in}
 use Rattle.names.proofs.Renamed.{lookup_used}
 use Rattle.names.proofs.TreeMeaning.{directories_are_tidy}

@@ -7,18 +7,16 @@ use Rattle.names.specs.Contents.{IsNoPlain}
 use Rattle.names.specs.Inside.{files_seen, form_seen}
 use Rattle.names.specs.Ready.{Happens}
 use Rattle.names.specs.Writing.{Writes, WritesOf}
-use Rattle.names.specs.Trees.{IsFile, IsTree}
+use Rattle.names.specs.Trees.{IsTree}
 use Rattle.names.specs.Walks.{walked}
-use Rattle.names.proofs.PathLaws.{names_lead}
+use Rattle.names.proofs.PathLaws.{walk_told}
 use Rattle.names.proofs.PlainFiles.{happens_plain}
 use Rattle.names.proofs.writing.WriteFileChange.apply.Goals as goal
 
 pub write_of-requires-clause-there : goal.write_of-requires-clause-there
 write_of-requires-clause-there g c =
-    let files : Files = files_seen g.D.Disk.image c.args.tree.now.kernel in
-    let led : walked files 1 c.args.names.now ≡ Ok c.in-Ok.number = sym c.in_ok-number.ensures.led ∙ c.in-Ok.is in
-    subst (λ (f : Files). IsFile f c.in-Ok.number) (sym c.in_ok-number.ensures.same)
-    (names_lead files c.args.names.now c.in-Ok.number c.requires.tree led)
+    walk_told (files_seen g.D.Disk.image c.args.tree.now.kernel) _ c.args.names.now c.in_ok-number.field-0 c.in-Ok.number c.requires.tree c.in_ok-number.ensures.same
+    c.in_ok-number.ensures.led c.in-Ok.is
 
 pub returns-in-Ok-clause-made : goal.returns-in-Ok-clause-made
 returns-in-Ok-clause-made g c =
