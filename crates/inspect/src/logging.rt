@@ -4,11 +4,11 @@ ghost use Rattle.std.specs.Io.KnownBytes.{Appends};
 ghost use Rattle.blocks.specs.Calls.{OnlyReads};
 ghost use Rattle.model.specs.Verdict.{verdict};
 ghost use Rattle.inspect.specs.Causes.{IsUndrawn};
-ghost use Rattle.inspect.specs.Gathering.{IsCheckedOf, KeepsCount};
+ghost use Rattle.offline.specs.Checked.{IsCheckedOf};
+ghost use Rattle.inspect.specs.Gathering.{KeepsCount};
 ghost use Rattle.inspect.specs.Logging.{count_line, home_line, homes_text, log_text};
 
 use crate::fault::GatherFault;
-use crate::owned::open;
 use crate::refused::ShowRefusal;
 use blocks::{Block, Disk};
 use itoa::Buffer;
@@ -52,7 +52,8 @@ fn open_checked<D: Disk>(alloc: Global, disk: &mut D) -> Result<Recovered, Gathe
     ensures faults { KeepsCount result (D.fault_count disk.old) (D.fault_count disk.new) }
 {
     let mut block = Block::zeroed(alloc)?;
-    open(disk, &mut block)
+    let image = Recovered::open_checked(disk, &mut block)?;
+    Ok(image)
 }
 
 // Prints how many homes there are, and a line for each, in an image of so many inode numbers.
