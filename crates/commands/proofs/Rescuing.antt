@@ -1,5 +1,5 @@
 -- What is told of a rescue that was made, or wasn't.
-use Rattle.std.proofs.Common.{◌≡◌, ℕ, Bool, false, Option, List, inr}
+use Rattle.std.proofs.Common.{ℕ, Bool, false, Option, List, inr}
 use Rattle.blocks.specs.Calls.{OnlyReads}
 use Rattle.blocks.specs.declared.disk.Disk.{Ghosts}
 use Rattle.blocks.specs.declared.file.FileDisk.{FileDisk}

@@ -93,30 +93,17 @@ fn copy_from<'a, R: Files + AllocGlobal, O: Write, P: Meter, H: Holder>(
         (OnCopyRefusal R.File.remaining file_disk size target.old.sync (out.new ≡ out.old)) }
 {
     let size = plan_copy(rt.alloc(), disk, size)?;
-    let files = make_copy(rt, disk, size, target)?;
+    target.hold()?;
+    let copied = fill_file(rt, disk, size, target);
+    remove_refused(rt, target.path, &copied);
+    let files = copied?;
     match print_files(out, files) {
         Ok(()) => Ok(()),
         Err(_) => Err(CopyRefusal::Output),
     }
 }
 
-// Copies the image on a disk into a new file, with so many blocks. How many files it has.
-fn make_copy<'a, R: Files + AllocGlobal, P: Meter, H: Holder>(
-    rt: &R,
-    disk: &mut FileDisk<R::File>,
-    size: u32,
-    target: &mut Target<'a, P, H>,
-) -> Result<u32, CopyRefusal>
-    ensures filled { IfOk result (HasFilled file_disk size target.old.sync disk.old) }
-    ensures refused { IfErr result (IsUnmade file_disk size disk.old disk.new) }
-{
-    target.hold()?;
-    let copied = fill_file(rt, disk, size, target);
-    remove_refused(rt, target.path, &copied);
-    copied
-}
-
-// Copies the image on a disk into the file, which is held.
+// Copies the image on a disk into the file, which is held, with so many blocks. How many files it has.
 fn fill_file<'a, R: Files + AllocGlobal, P: Meter, H>(
     rt: &R,
     disk: &mut FileDisk<R::File>,

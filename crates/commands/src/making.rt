@@ -192,10 +192,13 @@ pub fn make_in_place<R: Files + AllocGlobal, M: MakesThere<R>, H: Holder>(
 {
     match home_of(rt, image) {
         Ok(None) => making.make_there(rt, image),
-        Ok(Some(home)) => match format!(in rt.alloc(); "{home}.new") {
-            Ok(beside) => make_beside(rt, beside.as_str(), home.as_str(), making, sync, holder),
-            Err(_) => Err(OnFile::File(FileFault::NoMemory)),
-        },
+        Ok(Some(home)) => {
+            let made = make_beside(rt, home.as_str(), making, holder);
+            if made.is_ok() {
+                sync_folder(rt, home.as_str(), sync);
+            }
+            made
+        }
         Err(fault) => Err(OnFile::File(fault)),
     }
 }
@@ -245,53 +248,38 @@ fn fault_of(error: io::Error) -> FileFault {
     }
 }
 
-// Makes something in a file at the path, which then takes the name `home`. Of the two the first is held
+// Makes something in a file beside `home`, which then takes that name. Of the two the first is held
 // first, so that no two programs wait for each other.
 fn make_beside<R: Files + AllocGlobal, M: MakesThere<R>, H: Holder>(
     rt: &R,
-    path: &str,
     home: &str,
     making: &M,
-    sync: bool,
     holder: &mut H,
 ) -> Result<M::Made, OnFile<M::Fault>>
     requires { M.can making.now }
     ensures made { IfOk result (M.made making.now) }
     ensures unmade { IfErr result (M.unmade making.now) }
 {
+    let beside = match format!(in rt.alloc(); "{home}.new") {
+        Ok(beside) => beside,
+        Err(_) => return Err(OnFile::File(FileFault::NoMemory)),
+    };
+    let path = beside.as_str();
     if let Err(fault) = holder.hold_left(path) {
         return Err(OnFile::File(fault));
     }
-    let made = make_held(rt, path, home, making, sync, holder);
+    let made = match holder.hold_there(home) {
+        Ok(is_old) => match making.make_there(rt, path) {
+            Ok(made) => match take_name(rt, path, home, is_old, holder) {
+                Ok(()) => Ok(made),
+                Err(fault) => Err(OnFile::File(fault)),
+            },
+            Err(refused) => Err(refused),
+        },
+        Err(fault) => Err(OnFile::File(fault)),
+    };
     remove_refused(rt, path, &made);
     made
-}
-
-// Makes something in a file at the path that is held, and gives that the name `home`.
-fn make_held<R: Files + AllocGlobal, M: MakesThere<R>, H: Holder>(
-    rt: &R,
-    path: &str,
-    home: &str,
-    making: &M,
-    sync: bool,
-    holder: &mut H,
-) -> Result<M::Made, OnFile<M::Fault>>
-    requires { M.can making.now }
-    ensures made { IfOk result (M.made making.now) }
-    ensures unmade { IfErr result (M.unmade making.now) }
-{
-    let is_old = match holder.hold_there(home) {
-        Ok(is_old) => is_old,
-        Err(fault) => return Err(OnFile::File(fault)),
-    };
-    let made = making.make_there(rt, path)?;
-    match take_name(rt, path, home, is_old, holder) {
-        Ok(()) => {
-            sync_folder(rt, home, sync);
-            Ok(made)
-        }
-        Err(fault) => Err(OnFile::File(fault)),
-    }
 }
 
 // Gives a file another name, in place of the file that has it, which is held. One that had no file may

@@ -84,26 +84,14 @@ fn rescue_from<'a, R: Files + AllocGlobal, O: Write, P: Meter, H: Holder>(
         (OnRescueRefusal R.File.remaining file_disk target.old.sync (out.new ≡ out.old)) }
 {
     plan_rescue(rt.alloc(), disk)?;
-    let told = make_rescue(rt, disk, target)?;
+    target.hold()?;
+    let rescued = fill_file(rt, disk, target);
+    remove_refused(rt, target.path, &rescued);
+    let told = rescued?;
     match print_rescued(out, told.clean.as_slice(), told.left.as_slice()) {
         Ok(()) => Ok(()),
         Err(_) => Err(CopyRefusal::Output),
     }
-}
-
-// Rescues the files of the image on a disk into a new file.
-fn make_rescue<'a, R: Files + AllocGlobal, P: Meter, H: Holder>(
-    rt: &R,
-    disk: &mut FileDisk<R::File>,
-    target: &mut Target<'a, P, H>,
-) -> Result<Rescued, CopyRefusal>
-    ensures filled { IfOk result (HasFilledRescue file_disk target.old.sync disk.old) }
-    ensures refused { IfErr result (IsUnmadeRescue file_disk disk.old disk.new) }
-{
-    target.hold()?;
-    let rescued = fill_file(rt, disk, target);
-    remove_refused(rt, target.path, &rescued);
-    rescued
 }
 
 // Rescues the files of the image on a disk into the file, which is held.

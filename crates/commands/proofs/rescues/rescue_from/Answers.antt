@@ -1,9 +1,10 @@
-use Rattle.std.proofs.Common.{ℕ, List, inl, refl, subst}
+use Rattle.std.proofs.Common.{Bool, ℕ, List, inl, refl, subst}
 use Rattle.std.specs.Io.KnownBytes.{Appends}
 use Rattle.std.proofs.lemmas.Result.{err_from_is_err_and}
 use Rattle.cmd.specs.Lemmas.Disks.{file_disk}
-use Rattle.commands.specs.Rescues.{HasMadeRescue, HasNotOpened}
+use Rattle.commands.specs.Rescues.{HasFilledRescue, HasMadeRescue, HasNotOpened}
 use Rattle.messages.specs.Output.{rescued_text}
+use Rattle.commands.proofs.Ended.{where_made, where_refused}
 use Rattle.commands.proofs.Rescuing.{unrescued}
 use Rattle.commands.proofs.rescues.rescue_from.Given.{Over}
 use Rattle.commands.proofs.rescues.rescue_from.Goals.{After-print_rescued}
@@ -22,7 +23,7 @@ returns-in_err-plan_rescue-clause-refused g c =
 
 pub returns-in_err-told-clause-refused : goal.returns-in_err-told-clause-refused
 returns-in_err-told-clause-refused g c =
-    let told = unrescued g.R.File.Read.remaining file_disk c.args.disk.now c.plan_rescue.new.disk c.make_rescue.new.disk _ c.requires c.plan_rescue.ensures.reads refl c.args.target.now.sync c.in_err-told.field-0.0 c.in_err-told.ensures.refused in
+    let told = unrescued g.R.File.Read.remaining file_disk c.args.disk.now c.plan_rescue.new.disk c.fill_file-rescued.new.disk _ c.requires c.plan_rescue.ensures.reads refl c.args.target.now.sync c.in_err-told.field-0.0 (where_refused c.fill_file-rescued.result c.in_err-told.field-0.0 _ c.in_err-told.was c.fill_file-rescued.ensures.refused) in
     let p = err_from_is_err_and c.from_residual-in_err-told.result c.from_residual-in_err-told.ensures.1 in
     rw (p.1, p.2) told
 
@@ -34,7 +35,7 @@ module _ (g : Over) (c : After-print_rescued g) where
     read = c.plan_rescue.new.disk;
     is = c.requires;
     reads = c.plan_rescue.ensures.reads;
-    filled = c.in_ok-told.ensures.filled;
+    filled = subst (λ (sync : Bool). HasFilledRescue file_disk sync c.plan_rescue.new.disk c.in_ok-told.told) c.hold.ensures.sync (where_made c.fill_file-rescued.result c.in_ok-told.told _ c.in_ok-told.was c.fill_file-rescued.ensures.filled);
   }
 
 pub returns-in-Ok-clause-rescued : goal.returns-in-Ok-clause-rescued
