@@ -1,9 +1,11 @@
 -- The command line, as clap is told it.
-use Rattle.std.specs.Prelude.{◌≡◌, ◌≢◌, ◌≤◌, ⊤, ℕ, Bool, List, IfOk, IsSome, Option, Result, Some, None, true, false, codes, pos}
+use Rattle.std.specs.Prelude.{◌≡◌, ◌≢◌, ◌≤◌, ⊤, ℕ, List, IfOk, Option, Result, Some, None, true, false, codes, pos}
 use Rattle.clap.specs.Words.{App, Row, Rule, new_app, new_rule, app_of, first_of, one_of, with_rule, with_subcommand}
 use Rattle.cli.specs.Asking.{HasChoice, HasFlag, Wording}
+use Rattle.cli.specs.declared.words.Part.{Part}
+use Rattle.cli.specs.declared.words.Part.TheVariants.{Whole, File, Log}
 use Rattle.cli.specs.declared.words.Request.{Request}
-use Rattle.cli.specs.declared.words.Request.TheVariants.{Mkfs, Check, Recover, Cat, Ls, Df, Show, Put, Copy, Rescue, Replay, Run, Stops}
+use Rattle.cli.specs.declared.words.Request.TheVariants.{Mkfs, Check, Recover, Cat, Ls, Df, Show, ShowLog, Put, Copy, Rescue, Replay, Run, Stops}
 use Rattle.clap.specs.declared.builder.command.Command.{Command}
 use Rattle.clap.specs.declared.builder.command.Command.TheViews.{out-Command}
 use Rattle.clap.specs.declared.builder.action.ArgAction.TheVariants.{SetTrue}
@@ -148,12 +150,17 @@ abbrev pub HasFewWorkers : Request → Type 0
 HasFewWorkers (Run image script workers sync) = (1 ≤ workers) × (workers ≤ 32)
 HasFewWorkers request = ⊤
 
--- the part of an image that a word asks for: the log by its name, a file by another word, and the
--- whole where there is none
-abbrev pub HasPart : Option (List ℕ) → Option ℕ → Bool → Type 0
-HasPart None inum log = (inum ≡ None) × (log ≡ false)
-HasPart (Some word) inum true = (word ≡ codes "log") × (inum ≡ None)
-HasPart (Some word) inum false = (word ≢ codes "log") × IsSome inum
+-- the part of an image that a word asks for: the whole where there is none, the log by its name, and
+-- a file by any other
+abbrev pub HasPart : Option (List ℕ) → Part → Type 0
+HasPart word Whole = word ≡ None
+HasPart word (File number) = (word ≢ None) × (word ≢ Some (codes "log"))
+HasPart word Log = word ≡ Some (codes "log")
+
+-- the part that a number asks for
+abbrev pub part_of : Option ℕ → Part
+part_of None = Whole
+part_of (Some number) = File number
 
 -- a command of this name, with these values, asks for the request
 abbrev pub AsksBy : List ℕ → List Row → Request → Type 0
@@ -170,9 +177,12 @@ AsksBy name rows (Ls image) = (name ≡ codes "ls")
     × (first_of (codes "IMAGE") rows ≡ Some image.now)
 AsksBy name rows (Df image) = (name ≡ codes "df")
     × (first_of (codes "IMAGE") rows ≡ Some image.now)
-AsksBy name rows (Show image inum log) = (name ≡ codes "show")
+AsksBy name rows (Show image inum) = (name ≡ codes "show")
     × (first_of (codes "IMAGE") rows ≡ Some image.now)
-    × HasPart (first_of (codes "INUM") rows) inum log
+    × HasPart (first_of (codes "INUM") rows) (part_of inum)
+AsksBy name rows (ShowLog image) = (name ≡ codes "show")
+    × (first_of (codes "IMAGE") rows ≡ Some image.now)
+    × HasPart (first_of (codes "INUM") rows) Log
 AsksBy name rows (Put image file inum sync no_sync) = (name ≡ codes "put")
     × (first_of (codes "IMAGE") rows ≡ Some image.now)
     × (first_of (codes "FILE") rows ≡ Some file.now) × HasChoice (codes "INUM") rows inum

@@ -56,14 +56,17 @@ pub enum Request<'a> {
         /// The path of the image's file.
         image: &'a str,
     },
-    /// The blocks of an image, or of one of its files, or those of its log.
+    /// The blocks of an image, or of one of its files.
     Show {
         /// The path of the image's file.
         image: &'a str,
         /// The file's number.
         inum: Option<u32>,
-        /// Whether what the log holds is told, and no blocks.
-        log: bool,
+    },
+    /// What the log of an image holds.
+    ShowLog {
+        /// The path of the image's file.
+        image: &'a str,
     },
     /// A file of the system, put into an image.
     Put {
@@ -282,21 +285,33 @@ fn show_request<'a>(values: &ArgMatches<'a>) -> Option<Request<'a>>
     ensures { IfSome result (AsksBy (codes "show") (rows_of (found_of values.now))) }
 {
     let image = values.get_str("IMAGE")?;
-    let (inum, log) = part_of(values.get_str("INUM"))?;
-    Some(Request::Show { image, inum, log })
+    match part_of(values.get_str("INUM"))? {
+        Part::Whole => Some(Request::Show { image, inum: None }),
+        Part::File(number) => Some(Request::Show {
+            image,
+            inum: Some(number),
+        }),
+        Part::Log => Some(Request::ShowLog { image }),
+    }
 }
 
-// Which part of an image a word asks for: a file by its number, or the log, or the whole. None where
-// it is neither `log` nor a number.
-fn part_of(word: Option<&str>) -> Option<(Option<u32>, bool)>
-    ensures { IfSome result
-        (λ part. HasPart (option_map (λ word. word.now) word.entry) part.0 part.1) }
+// The part of an image whose blocks are asked for.
+enum Part {
+    Whole,
+    // The file of a number.
+    File(u32),
+    Log,
+}
+
+// Which part of an image a word asks for. None where it is neither `log` nor a number.
+fn part_of(word: Option<&str>) -> Option<Part>
+    ensures { IfSome result (HasPart (option_map (λ word. word.now) word.entry)) }
 {
     match word {
-        None => Some((None, false)),
-        Some("log") => Some((None, true)),
+        None => Some(Part::Whole),
+        Some("log") => Some(Part::Log),
         Some(number) => match number.parse::<u32>() {
-            Ok(number) => Some((Some(number), false)),
+            Ok(number) => Some(Part::File(number)),
             Err(_) => None,
         },
     }
