@@ -1,12 +1,12 @@
 -- What is known where another program has the image, and nothing was done.
-use Rattle.std.proofs.Common.{ℕ, true, false, List, [], Option}
+use Rattle.std.proofs.Common.{ℕ, List, [], Option}
 use Rattle.blocks.specs.declared.errors.FileFault.TheVariants.{Locked}
 use Rattle.scripts.specs.declared.script.ScriptFault.TheVariants as script
 use Rattle.commands.specs.declared.runs.ReplayFilesRefusal.TheVariants as replay
 use Rattle.commands.specs.declared.runs.RunFilesRefusal.TheVariants as run
 use Rattle.xvfs.specs.declared.stopping.StopsRefusal.TheVariants as stops
 use Rattle.cli.specs.declared.words.Request.{Request}
-use Rattle.cli.specs.declared.words.Request.TheVariants.{Mkfs, Check, Recover, Cat, Ls, Df, Show, Put, Copy, Rescue, Replay, Run, Stops}
+use Rattle.cli.specs.declared.words.Request.TheVariants.{Mkfs, Check, Recover, Cat, Ls, Df, Show, ShowLog, Put, Copy, Rescue, Replay, Run, Stops}
 use Rattle.cmd.specs.declared.files.OnFile.TheVariants as on
 use Rattle.commands.specs.declared.refused.CopyRefusal.TheVariants as copy
 use Rattle.commands.specs.declared.refused.PutFileRefusal.TheVariants as put
@@ -20,8 +20,8 @@ locked_out file (Recover image sync) old new none silent = (on.File Locked, sile
 locked_out file (Cat image inum) old new none silent = (on.File Locked, silent)
 locked_out file (Ls image) old new none silent = (on.File Locked, silent)
 locked_out file (Df image) old new none silent = (on.File Locked, silent)
-locked_out file (Show image inum false) old new none silent = (on.File Locked, silent)
-locked_out file (Show image inum true) old new none silent = (on.File Locked, silent)
+locked_out file (Show image inum) old new none silent = (on.File Locked, silent)
+locked_out file (ShowLog image) old new none silent = (on.File Locked, silent)
 locked_out file (Put image path inum sync no_sync) old new none silent = (put.Of (on.File Locked), record { bytes = []; refused = silent })
 locked_out file (Copy from to size no_sync) old new none silent = (copy.File Locked, silent)
 locked_out file (Rescue from to no_sync) old new none silent = (copy.File Locked, silent)

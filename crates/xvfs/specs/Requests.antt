@@ -1,5 +1,5 @@
 -- What a request is answered.
-use Rattle.std.specs.Prelude.{◌≡◌, ◌⊎◌, ⊤, ℕ, Bool, true, false, not, if◌then◌else◌, List, [], ◌∷◌, ◌++◌, Option, unwrap_or}
+use Rattle.std.specs.Prelude.{◌≡◌, ◌⊎◌, ⊤, ℕ, Bool, false, not, if◌then◌else◌, List, [], ◌∷◌, ◌++◌, Option, unwrap_or}
 use Rattle.std.specs.Io.KnownBytes.{Appends}
 use Rattle.model.specs.declared.types.image.Form.{Form}
 use Rattle.model.specs.declared.types.image.Form.TheVariants.{One, Two}
@@ -12,7 +12,7 @@ use Rattle.cli.specs.declared.explanation.Explanation.{Explanation}
 use Rattle.cli.specs.declared.explanation.Explanation.TheVariants.{Help, Mistake, NoMemory}
 use Rattle.cli.specs.declared.topics.Topic.{Topic}
 use Rattle.cli.specs.declared.words.Request.{Request}
-use Rattle.cli.specs.declared.words.Request.TheVariants.{Mkfs, Check, Recover, Cat, Ls, Df, Show, Put, Copy, Rescue, Replay, Run, Stops}
+use Rattle.cli.specs.declared.words.Request.TheVariants.{Mkfs, Check, Recover, Cat, Ls, Df, Show, ShowLog, Put, Copy, Rescue, Replay, Run, Stops}
 use Rattle.cmd.specs.Lemmas.Disks.{file_disk}
 use Rattle.cmd.specs.Opened.{OpensDisk}
 use Rattle.cmd.specs.Over.{IsRefusedOn}
@@ -49,9 +49,9 @@ Answers file (Ls image) old new =
     OpensDisk file.remaining file_disk false (λ d e. HasListed file_disk d e old new)
 Answers file (Df image) old new =
     OpensDisk file.remaining file_disk false (λ d e. HasCounted file_disk d e old new)
-Answers file (Show image inum false) old new =
+Answers file (Show image inum) old new =
     OpensDisk file.remaining file_disk false (λ d e. HasBlocksShown file_disk inum d e old new)
-Answers file (Show image inum true) old new =
+Answers file (ShowLog image) old new =
     OpensDisk file.remaining file_disk false (λ d e. HasLogShown file_disk d e old new)
 Answers file (Put image path inum sync no_sync) old new =
     HasPut file.remaining inum sync (not no_sync) old new
@@ -86,9 +86,9 @@ OnRefused file (Ls image) old new none =
     Refuses (IsRefusedOn file.remaining false none (λ d e. IsUnlisted file_disk d e none))
 OnRefused file (Df image) old new none =
     Refuses (IsRefusedOn file.remaining false none (λ d e. IsUncounted file_disk d e none))
-OnRefused file (Show image inum false) old new none =
+OnRefused file (Show image inum) old new none =
     Refuses (IsRefusedOn file.remaining false none (λ d e. IsHidden file_disk inum d e none))
-OnRefused file (Show image inum true) old new none =
+OnRefused file (ShowLog image) old new none =
     Refuses (IsRefusedOn file.remaining false none (λ d e. IsUndrawn file_disk d e none))
 OnRefused file (Put image path inum sync no_sync) old new none =
     Refuses (OnPutRefusal file.remaining inum sync (not no_sync) none)

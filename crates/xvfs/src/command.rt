@@ -231,16 +231,15 @@ where
         ),
         Request::Ls { image } => perform(rt, OverFile(image, Access::Look, Ls), out, err),
         Request::Df { image } => perform(rt, OverFile(image, Access::Look, Df), out, err),
-        Request::Show {
-            image,
-            inum,
-            log: false,
-        } => perform(rt, OverFile(image, Access::Look, Show(inum)), out, err),
-        Request::Show {
-            image,
-            inum: _,
-            log: true,
-        } => perform(rt, OverFile(image, Access::Look, ShowLog), out, err),
+        Request::Show { image, inum } => perform(
+            rt,
+            OverFile(image, Access::Look, Show(inum)),
+            out,
+            err,
+        ),
+        Request::ShowLog { image } => {
+            perform(rt, OverFile(image, Access::Look, ShowLog), out, err)
+        }
         Request::Put {
             image,
             file,

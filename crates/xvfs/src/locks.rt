@@ -24,6 +24,7 @@ pub fn lock_image<L: Locks>(
         Request::Ls { image } => locks.lock(image, Share::Lookers, wait),
         Request::Df { image } => locks.lock(image, Share::Lookers, wait),
         Request::Show { image, .. } => locks.lock(image, Share::Lookers, wait),
+        Request::ShowLog { image } => locks.lock(image, Share::Lookers, wait),
         Request::Copy { old, .. } => locks.lock(old, Share::Lookers, wait),
         Request::Rescue { old, .. } => locks.lock(old, Share::Lookers, wait),
         Request::Recover { image, .. } => locks.lock(image, Share::Nobody, wait),

@@ -83,7 +83,8 @@ fn given<'a>(request: &Request<'a>) -> Given<'a> {
         },
         Request::Ls { image } => Given::over(image, false),
         Request::Df { image } => Given::over(image, false),
-        Request::Show { image, inum, .. } => Given {
+        Request::ShowLog { image } => Given::over(image, false),
+        Request::Show { image, inum } => Given {
             inum,
             ..Given::over(image, false)
         },

@@ -98,6 +98,14 @@ pub returns-in-Show-clause-refused : goal.returns-in-Show-clause-refused
 returns-in-Show-clause-refused g c =
     λ refused. subst (λ request. OnRefused (seen_by g.R.File.Read.remaining) request (g.O.Write.contents c.args.out.now) (g.O.Write.contents c.perform-in-Show.new.out) (c.perform-in-Show.new.out ≡ c.args.out.now)) (sym c.in-Show.is) (c.perform-in-Show.ensures.refused refused)
 
+pub returns-in-ShowLog-clause-done : goal.returns-in-ShowLog-clause-done
+returns-in-ShowLog-clause-done g c =
+    λ done. subst (λ request. Answers (seen_by g.R.File.Read.remaining) request (g.O.Write.contents c.args.out.now) (g.O.Write.contents c.perform-in-ShowLog.new.out)) (sym c.in-ShowLog.is) (c.perform-in-ShowLog.ensures.done done)
+
+pub returns-in-ShowLog-clause-refused : goal.returns-in-ShowLog-clause-refused
+returns-in-ShowLog-clause-refused g c =
+    λ refused. subst (λ request. OnRefused (seen_by g.R.File.Read.remaining) request (g.O.Write.contents c.args.out.now) (g.O.Write.contents c.perform-in-ShowLog.new.out) (c.perform-in-ShowLog.new.out ≡ c.args.out.now)) (sym c.in-ShowLog.is) (c.perform-in-ShowLog.ensures.refused refused)
+
 pub returns-in-Check-clause-done : goal.returns-in-Check-clause-done
 returns-in-Check-clause-done g c =
     λ done. subst (λ request. Answers (seen_by g.R.File.Read.remaining) request (g.O.Write.contents c.args.out.now) (g.O.Write.contents c.perform-in-Check.new.out)) (sym c.in-Check.is) (c.perform-in-Check.ensures.done done)
