@@ -2,4 +2,3 @@ mod LoadedFiles
 mod Walking
 pub mod AddedTexts
 mod Looking
-mod Copied

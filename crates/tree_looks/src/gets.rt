@@ -1,9 +1,6 @@
 // Files of an image, copied into new files of the system.
-ghost use Rattle.std.specs.Prelude.{◌≡◌, true, length, IfErr, IfOk, Ok, OnOk};
-ghost use Rattle.names.specs.Paths.{names_of};
-ghost use Rattle.names.specs.Trees.{root, IsDirectory, leads_down};
-ghost use Rattle.names.specs.Walks.{walked};
-ghost use Rattle.tree_looks.specs.Gets.{CopiesBelow, CopiesEntry, HasGot, HasCopied, HasGotAll, HasWrittenNew, HasWrittenTo};
+ghost use Rattle.std.specs.Prelude.{◌≡◌};
+ghost use Rattle.tree_looks.specs.Gets.{HasGot};
 
 use crate::entries::text_of;
 use crate::faults::{GetRefusal, LookRefusal};
@@ -13,7 +10,6 @@ use crate::looks::Cat;
 use crate::over_files::OverFiles;
 use blocks::FileFault;
 use cmd::{Access, Command, OnFile, OverFile, open_to_look};
-use messages::{Unwritten, pass_on, write_bytes};
 use model::types::File as Stored;
 use names::{ENTRY_SIZE, Refusal, entries_in, leads_down, number_in};
 use std::alloc::Global;
@@ -37,7 +33,7 @@ pub struct Get<'a> {
 impl<'a, R: Files + AllocGlobal> Command<R> for Get<'a> {
     type Refusal = GetRefusal;
 
-    ghost done = { λ get. HasGot R.File.remaining R.File.contents get.path.now };
+    ghost done = { λ get. HasGot R.File.remaining get.path.now };
 
     ghost refused = { λ get old new none r. none };
 
@@ -55,9 +51,7 @@ impl<'a, R: Files + AllocGlobal> Command<R> for Get<'a> {
 }
 
 // Makes a file of these bytes, where nothing has its name. None is left where they can't be written.
-pub fn write_new<R: Files>(rt: &R, path: &str, bytes: &[u8]) -> Result<(), GetRefusal>
-    ensures { OnOk result (HasWrittenNew R.File.contents bytes.now) }
-{
+pub fn write_new<R: Files>(rt: &R, path: &str, bytes: &[u8]) -> Result<(), GetRefusal> {
     let file = File::create_new(rt, path).map_err(|error| GetRefusal::Made(fault_of(error)))?;
     match write_whole(file, bytes) {
         Ok(()) => Ok(()),
@@ -68,12 +62,10 @@ pub fn write_new<R: Files>(rt: &R, path: &str, bytes: &[u8]) -> Result<(), GetRe
     }
 }
 
-fn write_whole<W: Write + Drop>(file: W, bytes: &[u8]) -> Result<(), Unwritten>
-    ensures { OnOk result (HasWrittenTo W.contents file bytes.now) }
-{
+fn write_whole<W: Write + Drop>(file: W, bytes: &[u8]) -> io::Result<()> {
     let mut file = file;
-    write_bytes(&mut file, bytes)?;
-    pass_on(&mut file)
+    file.write_all(bytes)?;
+    file.flush()
 }
 
 // Why a file can't be made.
@@ -100,7 +92,7 @@ pub struct GetAll<'a> {
 impl<'a, R: Files + AllocGlobal> Command<R> for GetAll<'a> {
     type Refusal = GetRefusal;
 
-    ghost done = { λ get. HasGotAll R.File.remaining R.File.contents get.path.now };
+    ghost done = { λ get old new. new ≡ old };
 
     ghost refused = { λ get old new none r. none };
 
@@ -112,32 +104,14 @@ impl<'a, R: Files + AllocGlobal> Command<R> for GetAll<'a> {
             Ok(disk) => disk,
             Err(fault) => return Err(GetRefusal::Of(OnFile::File(fault))),
         };
-        let files = match load(rt.alloc(), &mut disk) {
-            Ok(files) => files,
-            Err(refusal) => return Err(of(refusal)),
-        };
-        get_below(rt, files.as_slice(), self.path, self.folder)
-    }
-}
-
-// Copies what is in the directory at a path into a new folder, which is taken away again where that
-// can't be done.
-fn get_below<R: Files + AllocGlobal>(
-    rt: &R,
-    files: &[Option<Stored>],
-    path: &str,
-    folder: &str,
-) -> Result<(), GetRefusal>
-    ensures { OnOk result (HasCopied R.File.contents path.now files.now) }
-{
-    let number = directory_at(rt.alloc(), files, path)?;
-    make_folder(rt, folder)?;
-    match fill_folder(rt, files, number, folder, files.len()) {
-        Ok(()) => Ok(()),
-        Err(refusal) => {
-            let _gone = remove_dir_all(rt, folder);
-            Err(refusal)
+        let files = load(rt.alloc(), &mut disk).map_err(|refusal| of(refusal))?;
+        let number = directory_at(rt.alloc(), files.as_slice(), self.path)?;
+        make_folder(rt, self.folder)?;
+        let filled = fill_folder(rt, files.as_slice(), number, self.folder, files.len());
+        if filled.is_err() {
+            let _gone = remove_dir_all(rt, self.folder);
         }
+        filled
     }
 }
 
@@ -146,10 +120,7 @@ fn of(refusal: LookRefusal) -> GetRefusal {
 }
 
 // The number of the directory at a path.
-fn directory_at(alloc: Global, files: &[Option<Stored>], path: &str) -> Result<u32, GetRefusal>
-    ensures led { IfOk result (λ number. walked files.now root (names_of path.now) ≡ Ok number) }
-    ensures directory { IfOk result (IsDirectory files.now) }
-{
+fn directory_at(alloc: Global, files: &[Option<Stored>], path: &str) -> Result<u32, GetRefusal> {
     match find(alloc, files, path.as_bytes()) {
         Ok(found) => {
             if is_directory(files, found.number) {
@@ -178,19 +149,19 @@ fn fill_folder<R: Files + AllocGlobal>(
     number: u32,
     folder: &str,
     depth: usize,
-) -> Result<(), GetRefusal>
-    ensures { OnOk result (CopiesBelow R.File.contents depth files.now number) }
-{
+) -> Result<(), GetRefusal> {
     if depth == 0 {
         return Ok(());
     }
     for entry in entries_in(bytes_at(files, number)) {
-        copy_entry(rt, files, entry, folder, depth - 1)?;
+        if leads_down(entry) {
+            copy_entry(rt, files, entry, folder, depth - 1)?;
+        }
     }
     Ok(())
 }
 
-// Copies the file of an entry that leads down into a folder, with all below it, down to a depth.
+// Copies the file of an entry into a folder, with all below it, down to a depth.
 #[cycle(folders)]
 fn copy_entry<R: Files + AllocGlobal>(
     rt: &R,
@@ -198,12 +169,7 @@ fn copy_entry<R: Files + AllocGlobal>(
     entry: &[u8; ENTRY_SIZE],
     folder: &str,
     depth: usize,
-) -> Result<(), GetRefusal>
-    ensures { OnOk result (CopiesEntry R.File.contents depth files.now entry.now) }
-{
-    if !leads_down(entry) {
-        return Ok(());
-    }
+) -> Result<(), GetRefusal> {
     let number = u32::from(number_in(entry));
     let path = path_in(rt.alloc(), folder, text_of(&entry[2..ENTRY_SIZE]))?;
     if is_directory(files, number) {
