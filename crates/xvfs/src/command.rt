@@ -74,6 +74,7 @@ where
 }
 
 // The same where they ask for no format.
+#[tactic(auto, using(cli::specs::Lemmas::Workers::few_workers))]
 fn command_of<
     R: Files + AllocGlobal + Threads + Wait + Clock + Screen + Locks + Sync,
     S: AsStr,

@@ -1,4 +1,6 @@
-use Rattle.std.proofs.Common.{List, ℕ, subst}
+use Rattle.std.proofs.Common.{List, ℕ, rules, subst}
+use Rattle.model.specs.Files.{files_of}
+use Rattle.calls.specs.Calls.{image_on}
 use Rattle.names.specs.Paths.{names_of}
 use Rattle.names.specs.Renaming.{RenamesAt}
 use Rattle.tree_changes.specs.Changes.{AnyOf, LeavesMidst}
@@ -16,3 +18,10 @@ returns-in-Err-clause-leaves g c = λ whole.
     subst (λ (from : List ℕ). LeavesMidst g.D.Disk (AnyOf (RenamesAt (names_of from) (names_of c.args.self.now.to.now))) c.args.tree.now.kernel c.rename.new.self.kernel) c.as_bytes.ensures.value
     (subst (λ (to : List ℕ). LeavesMidst g.D.Disk (AnyOf (RenamesAt (names_of c.as_bytes.result.now) (names_of to))) c.args.tree.now.kernel c.rename.new.self.kernel) c.as_bytes-2.ensures.value
     (leaves_any g.D.Disk (RenamesAt (names_of c.as_bytes.result.now) (names_of c.as_bytes-2.result.now)) c.args.tree.now.kernel c.rename.new.self.kernel (c.rename.ensures.leaves c.requires.some)))
+
+pub returns-in-Ok-clause-makes : goal.returns-in-Ok-clause-makes
+returns-in-Ok-clause-makes g c =
+    let old = files_of (image_on g.D.Disk.image c.args.tree.now.kernel) in
+    let new = files_of (image_on g.D.Disk.image c.rename.new.self.kernel) in
+    let there = subst (λ (to : List ℕ). RenamesAt (names_of c.as_bytes.result.now) (names_of to) tt old new) c.as_bytes-2.ensures.value c.in-Ok.ensures.renames in
+    (search rules, subst (λ (from : List ℕ). RenamesAt (names_of from) (names_of c.args.self.now.to.now) tt old new) c.as_bytes.ensures.value there)
