@@ -136,29 +136,38 @@ pub const IMAGE_KEPT: Word = Word {
     help: "The path of the image's file, which is not changed",
 };
 
+/// The path of an image that is made.
+pub const IMAGE_MADE: Word = Word {
+    name: "IMAGE",
+    kind: Kind::Needed,
+    help: "The path of the image's file, which is made or replaced",
+};
+
+/// How many blocks an image has that is made.
+pub const SIZE: Word = Word {
+    name: "SIZE",
+    kind: Kind::Number,
+    help: "Blocks of 1024 bytes, from one more than the blocks before the data up to 8191",
+};
+
+/// How many inode numbers it has.
+pub const NINODES: Word = Word {
+    name: "NINODES",
+    kind: Kind::Number,
+    help: "Inode numbers, from 2 to 1024, the unused number 0 included",
+};
+
 const LINES: &[Line] = &[
     Line {
         name: "mkfs",
         about: "Makes an image in a new file, or in place of an old one",
         example: "Example: xvfs mkfs fs.img 2000 200",
         words: &[
-            Word {
-                name: "IMAGE",
-                kind: Kind::Needed,
-                help: "The path of the image's file, which is made or replaced",
-            },
+            IMAGE_MADE,
             WAIT,
             EXPLAIN,
-            Word {
-                name: "SIZE",
-                kind: Kind::Number,
-                help: "Blocks of 1024 bytes, from one more than the blocks before the data up to 8191",
-            },
-            Word {
-                name: "NINODES",
-                kind: Kind::Number,
-                help: "Inode numbers, from 2 to 1024, the unused number 0 included",
-            },
+            SIZE,
+            NINODES,
             Word {
                 name: "large",
                 kind: Kind::Flag,

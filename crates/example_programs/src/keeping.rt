@@ -4,9 +4,10 @@ ghost use Rattle.calls.specs.Calls.{call_count};
 ghost use Rattle.calls.specs.Transactions.{Rests};
 
 use crate::pairing::{new_disk, open, print_file};
+use crate::together::make_file;
 use anyhow::bail;
 use blocks::{Disk, FaultyDisk, Kind};
-use calls::transactions::{Pair, TransactionFault, abandon, begin, call, make_both};
+use calls::transactions::{Pair, TransactionFault, abandon, begin, call};
 use model::content::Content;
 use model::types::{Op, Reply};
 use std::alloc::Global;
@@ -17,17 +18,17 @@ const MOST_WRITES: u64 = 20;
 const TEXT: &[u8] = b"to be, or not to be";
 
 // Makes file 1 and writes into it.
-fn make_file<D: Disk>(
+fn make_text<D: Disk>(
     alloc: Global,
     kernel: &mut Pair<D>,
 ) -> Result<(Reply, Reply), TransactionFault>
     requires rests { Rests D.fault_count kernel.old }
     requires none { call_count kernel.old ≡ 0 }
 {
-    let Ok(text) = Content::copy_of(alloc, TEXT) else {
-        return Err(TransactionFault::NoMemory);
-    };
-    make_both(alloc, kernel, Op::Create(2), Op::Write(1, 0, text))
+    match Content::copy_of(alloc, TEXT) {
+        Ok(text) => make_file(alloc, kernel, text),
+        Err(_refused) => Err(TransactionFault::NoMemory),
+    }
 }
 
 /// Stops the transaction before each of its writes, until one is made to its end, and prints what
@@ -36,7 +37,7 @@ pub fn print_stopped(rt: &impl Print, alloc: Global) -> anyhow::Result<()> {
     for write in 1..=MOST_WRITES {
         let disk = FaultyDisk::new(new_disk(alloc)?, write, Kind::WriteOld);
         let mut kernel = open(alloc, disk)?;
-        let made = make_file(alloc, &mut kernel);
+        let made = make_text(alloc, &mut kernel);
         match &made {
             Ok((one, two)) => print!(rt; "made to its end, {one:?} and {two:?}: ")?,
             Err(fault) => print!(rt; "stopped before write {write}, {fault}: ")?,

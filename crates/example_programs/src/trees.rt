@@ -15,13 +15,24 @@ use std::alloc::Global;
 // More writes than the making of a file makes.
 const MOST_WRITES: u64 = 20;
 
-// What is asked of a path.
+// What is asked of a path as a name.
 #[derive(Drop)]
-enum Ask<'a> {
+enum Name<'a> {
     Make,
+    MakeDirectory,
     Find,
     Rename(&'a str),
     Remove,
+    RemoveDirectory,
+}
+
+// What is asked of the bytes that a path leads to.
+#[derive(Drop)]
+enum Bytes<'a> {
+    Write(&'a str),
+    Put(&'a str),
+    Read,
+    Look,
     List,
 }
 
@@ -39,8 +50,8 @@ pub fn print_trees(rt: &impl Print, alloc: Global) -> anyhow::Result<()> {
     }
 }
 
-// A tree of the root alone, on a new disk.
-fn new_tree(alloc: Global) -> anyhow::Result<Tree<MemDisk>>
+/// A tree of the root alone, on a new disk.
+pub fn new_tree(alloc: Global) -> anyhow::Result<Tree<MemDisk>>
     ensures { IfOk result (λ tree. IsReady ⟦<MemDisk as Disk>⟧ tree.kernel tree.calls_left) }
 {
     match new_disk(alloc) {
@@ -70,26 +81,26 @@ fn ask_all<D: Disk>(rt: &impl Print, alloc: Global, tree: &mut Tree<D>) -> anyho
     requires { MayGoOn D.Disk tree.old.kernel tree.old.calls_left }
 {
     make_all(rt, alloc, tree)?;
-    write(rt, alloc, tree, "docs/notes", "to be, or not to be")?;
-    read(rt, alloc, tree, "docs/notes")?;
-    print_answer(rt, alloc, tree, Ask::Find, "/./docs/../plan")?;
-    print_answer(rt, alloc, tree, Ask::Rename("docs/notes"), "plan")?;
-    print_answer(rt, alloc, tree, Ask::Rename("docs/plan"), "plan")?;
+    ask_bytes(rt, alloc, tree, Bytes::Write("to be, or not to be"), "docs/notes")?;
+    ask_bytes(rt, alloc, tree, Bytes::Read, "docs/notes")?;
+    ask_name(rt, alloc, tree, Name::Find, "/./docs/../plan")?;
+    ask_name(rt, alloc, tree, Name::Rename("docs/notes"), "plan")?;
+    ask_name(rt, alloc, tree, Name::Rename("docs/plan"), "plan")?;
     move_directory(rt, alloc, tree)?;
     remove_all(rt, alloc, tree)?;
-    print_answer(rt, alloc, tree, Ask::List, "/")
+    ask_bytes(rt, alloc, tree, Bytes::List, "/")
 }
 
 fn make_all<D: Disk>(rt: &impl Print, alloc: Global, tree: &mut Tree<D>) -> anyhow::Result<()>
     requires { MayGoOn D.Disk tree.old.kernel tree.old.calls_left }
     ensures { MayGoOn D.Disk tree.new.kernel tree.new.calls_left }
 {
-    make_directory(rt, alloc, tree, "/docs")?;
-    print_answer(rt, alloc, tree, Ask::Make, "docs/notes")?;
-    print_answer(rt, alloc, tree, Ask::Make, "plan")?;
-    print_answer(rt, alloc, tree, Ask::Make, "//docs/notes/")?;
-    print_answer(rt, alloc, tree, Ask::Make, "plan/today")?;
-    print_answer(rt, alloc, tree, Ask::Make, "a-name-of-15-by")
+    ask_name(rt, alloc, tree, Name::MakeDirectory, "/docs")?;
+    ask_name(rt, alloc, tree, Name::Make, "docs/notes")?;
+    ask_name(rt, alloc, tree, Name::Make, "plan")?;
+    ask_name(rt, alloc, tree, Name::Make, "//docs/notes/")?;
+    ask_name(rt, alloc, tree, Name::Make, "plan/today")?;
+    ask_name(rt, alloc, tree, Name::Make, "a-name-of-15-by")
 }
 
 // A directory is moved into another one, and bytes are put into a file of it, and others then.
@@ -97,162 +108,103 @@ fn move_directory<D: Disk>(rt: &impl Print, alloc: Global, tree: &mut Tree<D>) -
     requires { MayGoOn D.Disk tree.old.kernel tree.old.calls_left }
     ensures { MayGoOn D.Disk tree.new.kernel tree.new.calls_left }
 {
-    make_directory(rt, alloc, tree, "old")?;
-    print_answer(rt, alloc, tree, Ask::Rename("docs/old"), "old")?;
-    print_answer(rt, alloc, tree, Ask::Rename("docs/old/docs"), "docs")?;
-    put(rt, alloc, tree, "docs/old/list", "milk and bread")?;
-    put(rt, alloc, tree, "docs/old/list", "milk")?;
-    look(rt, alloc, tree, "docs/old/list")
+    ask_name(rt, alloc, tree, Name::MakeDirectory, "old")?;
+    ask_name(rt, alloc, tree, Name::Rename("docs/old"), "old")?;
+    ask_name(rt, alloc, tree, Name::Rename("docs/old/docs"), "docs")?;
+    ask_bytes(rt, alloc, tree, Bytes::Put("milk and bread"), "docs/old/list")?;
+    ask_bytes(rt, alloc, tree, Bytes::Put("milk"), "docs/old/list")?;
+    ask_bytes(rt, alloc, tree, Bytes::Look, "docs/old/list")
 }
 
 fn remove_all<D: Disk>(rt: &impl Print, alloc: Global, tree: &mut Tree<D>) -> anyhow::Result<()>
     requires { MayGoOn D.Disk tree.old.kernel tree.old.calls_left }
     ensures { MayGoOn D.Disk tree.new.kernel tree.new.calls_left }
 {
-    remove_directory(rt, alloc, tree, "docs")?;
-    print_answer(rt, alloc, tree, Ask::Remove, "docs/notes")?;
-    print_answer(rt, alloc, tree, Ask::Remove, "docs/plan")?;
-    print_answer(rt, alloc, tree, Ask::Remove, "docs/old/list")?;
-    remove_directory(rt, alloc, tree, "docs/old")?;
-    print_answer(rt, alloc, tree, Ask::Remove, "..")?;
-    print_answer(rt, alloc, tree, Ask::Find, "docs/notes")?;
-    remove_directory(rt, alloc, tree, "docs")
+    ask_name(rt, alloc, tree, Name::RemoveDirectory, "docs")?;
+    ask_name(rt, alloc, tree, Name::Remove, "docs/notes")?;
+    ask_name(rt, alloc, tree, Name::Remove, "docs/plan")?;
+    ask_name(rt, alloc, tree, Name::Remove, "docs/old/list")?;
+    ask_name(rt, alloc, tree, Name::RemoveDirectory, "docs/old")?;
+    ask_name(rt, alloc, tree, Name::Remove, "..")?;
+    ask_name(rt, alloc, tree, Name::Find, "docs/notes")?;
+    ask_name(rt, alloc, tree, Name::RemoveDirectory, "docs")
 }
 
-fn print_answer<D: Disk>(
+fn ask_name<D: Disk>(
     rt: &impl Print,
     alloc: Global,
     tree: &mut Tree<D>,
-    what: Ask<'_>,
+    what: Name<'_>,
     path: &str,
 ) -> anyhow::Result<()>
     requires { MayGoOn D.Disk tree.old.kernel tree.old.calls_left }
     ensures { MayGoOn D.Disk tree.new.kernel tree.new.calls_left }
 {
     match what {
-        Ask::Make => match tree.make(alloc, path.as_bytes()) {
+        Name::Make => match tree.make(alloc, path.as_bytes()) {
             Ok(number) => println!(rt; "{path} was made, file {number}")?,
             Err(fault) => println!(rt; "{path} was not made: {fault}")?,
         },
-        Ask::Find => match tree.lookup(alloc, path.as_bytes()) {
+        Name::MakeDirectory => match tree.make_directory(alloc, path.as_bytes()) {
+            Ok(number) => println!(rt; "{path} was made, directory {number}")?,
+            Err(fault) => println!(rt; "{path} was not made: {fault}")?,
+        },
+        Name::Find => match tree.lookup(alloc, path.as_bytes()) {
             Ok(number) => println!(rt; "{path} is file {number}")?,
             Err(fault) => println!(rt; "{path} was not found: {fault}")?,
         },
-        Ask::Rename(name) => match tree.rename(alloc, path.as_bytes(), name.as_bytes()) {
-            Ok(()) => println!(rt; "{path} is {name} now")?,
-            Err(fault) => println!(rt; "{path} did not become {name}: {fault}")?,
+        Name::Rename(new) => match tree.rename(alloc, path.as_bytes(), new.as_bytes()) {
+            Ok(()) => println!(rt; "{path} is {new} now")?,
+            Err(fault) => println!(rt; "{path} did not become {new}: {fault}")?,
         },
-        Ask::Remove => match tree.remove(alloc, path.as_bytes()) {
+        Name::Remove => match tree.remove(alloc, path.as_bytes()) {
             Ok(()) => println!(rt; "{path} was removed")?,
             Err(fault) => println!(rt; "{path} was not removed: {fault}")?,
         },
-        Ask::List => match tree.list(alloc, path.as_bytes()) {
-            Ok(bytes) => println!(rt; "{path} has {} entries", bytes.len() / ENTRY_SIZE)?,
-            Err(fault) => println!(rt; "{path} was not listed: {fault}")?,
+        Name::RemoveDirectory => match tree.remove_directory(alloc, path.as_bytes()) {
+            Ok(()) => println!(rt; "{path} was removed")?,
+            Err(fault) => println!(rt; "{path} was not removed: {fault}")?,
         },
     }
     Ok(())
 }
 
-fn make_directory<D: Disk>(
+fn ask_bytes<D: Disk>(
     rt: &impl Print,
     alloc: Global,
     tree: &mut Tree<D>,
+    what: Bytes<'_>,
     path: &str,
 ) -> anyhow::Result<()>
     requires { MayGoOn D.Disk tree.old.kernel tree.old.calls_left }
     ensures { MayGoOn D.Disk tree.new.kernel tree.new.calls_left }
 {
-    match tree.make_directory(alloc, path.as_bytes()) {
-        Ok(number) => println!(rt; "{path} was made, directory {number}")?,
-        Err(fault) => println!(rt; "{path} was not made: {fault}")?,
-    }
-    Ok(())
-}
-
-fn remove_directory<D: Disk>(
-    rt: &impl Print,
-    alloc: Global,
-    tree: &mut Tree<D>,
-    path: &str,
-) -> anyhow::Result<()>
-    requires { MayGoOn D.Disk tree.old.kernel tree.old.calls_left }
-    ensures { MayGoOn D.Disk tree.new.kernel tree.new.calls_left }
-{
-    match tree.remove_directory(alloc, path.as_bytes()) {
-        Ok(()) => println!(rt; "{path} was removed")?,
-        Err(fault) => println!(rt; "{path} was not removed: {fault}")?,
-    }
-    Ok(())
-}
-
-fn write<D: Disk>(
-    rt: &impl Print,
-    alloc: Global,
-    tree: &mut Tree<D>,
-    path: &str,
-    text: &str,
-) -> anyhow::Result<()>
-    requires { MayGoOn D.Disk tree.old.kernel tree.old.calls_left }
-    ensures { MayGoOn D.Disk tree.new.kernel tree.new.calls_left }
-{
-    match tree.write(alloc, path.as_bytes(), 0, text.as_bytes()) {
-        Ok(Ok(())) => println!(rt; "{path} has {} bytes", text.len())?,
-        Ok(Err(cause)) => println!(rt; "{path} was not written: {cause}")?,
-        Err(fault) => println!(rt; "{path} was not written: {fault}")?,
-    }
-    Ok(())
-}
-
-fn read<D: Disk>(
-    rt: &impl Print,
-    alloc: Global,
-    tree: &mut Tree<D>,
-    path: &str,
-) -> anyhow::Result<()>
-    requires { MayGoOn D.Disk tree.old.kernel tree.old.calls_left }
-    ensures { MayGoOn D.Disk tree.new.kernel tree.new.calls_left }
-{
-    match tree.read(alloc, path.as_bytes(), 6, 100) {
-        Ok(bytes) => println!(rt; "{path} has {} bytes from byte 6 on", bytes.len())?,
-        Err(fault) => println!(rt; "{path} was not read: {fault}")?,
-    }
-    Ok(())
-}
-
-fn put<D: Disk>(
-    rt: &impl Print,
-    alloc: Global,
-    tree: &mut Tree<D>,
-    path: &str,
-    text: &str,
-) -> anyhow::Result<()>
-    requires { MayGoOn D.Disk tree.old.kernel tree.old.calls_left }
-    ensures { MayGoOn D.Disk tree.new.kernel tree.new.calls_left }
-{
-    match tree.put(alloc, path.as_bytes(), text.as_bytes()) {
-        Ok(Ok(number)) => println!(rt; "{path} has {} bytes now, file {number}", text.len())?,
-        Ok(Err(cause)) => println!(rt; "{path} was not put: {cause}")?,
-        Err(fault) => println!(rt; "{path} was not put: {fault}")?,
-    }
-    Ok(())
-}
-
-fn look<D: Disk>(
-    rt: &impl Print,
-    alloc: Global,
-    tree: &mut Tree<D>,
-    path: &str,
-) -> anyhow::Result<()>
-    requires { MayGoOn D.Disk tree.old.kernel tree.old.calls_left }
-    ensures { MayGoOn D.Disk tree.new.kernel tree.new.calls_left }
-{
-    match tree.look(alloc, path.as_bytes()) {
-        Ok(found) => println!(rt;
-            "{path} is of type {} and has {} bytes",
-            found.kind, found.size
-        )?,
-        Err(fault) => println!(rt; "{path} was not found: {fault}")?,
+    match what {
+        Bytes::Write(text) => match tree.write(alloc, path.as_bytes(), 0, text.as_bytes()) {
+            Ok(Ok(())) => println!(rt; "{path} has {} bytes", text.len())?,
+            Ok(Err(cause)) => println!(rt; "{path} was not written: {cause}")?,
+            Err(fault) => println!(rt; "{path} was not written: {fault}")?,
+        },
+        Bytes::Put(text) => match tree.put(alloc, path.as_bytes(), text.as_bytes()) {
+            Ok(Ok(number)) => println!(rt; "{path} has {} bytes now, file {number}", text.len())?,
+            Ok(Err(cause)) => println!(rt; "{path} was not put: {cause}")?,
+            Err(fault) => println!(rt; "{path} was not put: {fault}")?,
+        },
+        Bytes::Read => match tree.read(alloc, path.as_bytes(), 6, 100) {
+            Ok(bytes) => println!(rt; "{path} has {} bytes from byte 6 on", bytes.len())?,
+            Err(fault) => println!(rt; "{path} was not read: {fault}")?,
+        },
+        Bytes::Look => match tree.look(alloc, path.as_bytes()) {
+            Ok(found) => println!(rt;
+                "{path} is of type {} and has {} bytes",
+                found.kind, found.size
+            )?,
+            Err(fault) => println!(rt; "{path} was not found: {fault}")?,
+        },
+        Bytes::List => match tree.list(alloc, path.as_bytes()) {
+            Ok(bytes) => println!(rt; "{path} has {} entries", bytes.len() / ENTRY_SIZE)?,
+            Err(fault) => println!(rt; "{path} was not listed: {fault}")?,
+        },
     }
     Ok(())
 }

@@ -1,20 +1,36 @@
 // What docs/USING.md shows, and what comes of it.
 use crate::calling::write_and_read;
 use crate::making::open_new;
+use crate::naming::make_note;
 use crate::stopping::stop_two;
+use crate::trees::new_tree;
 use anyhow::bail;
 use blocks::MemDisk;
 use model::content::Content;
 use offline::check;
 use std::alloc::Global;
 
-/// Writes and reads a file, and stops two processes before each of five writes.
+/// Writes and reads a file, stops two processes before each of five writes, and gives a file a name.
 pub fn print_using(rt: &impl Print, alloc: Global) -> anyhow::Result<()> {
     print_read(rt, alloc)?;
     for write in 1..=5 {
         print_stop(rt, alloc, write)?;
     }
+    print_note(rt, alloc)
+}
+
+// Makes a file that has a name, and prints its number.
+fn print_note(rt: &impl Print, alloc: Global) -> anyhow::Result<()> {
+    let number = note_in_new(alloc)?;
+    println!(rt; "/docs/note is file {number}")?;
     Ok(())
+}
+
+fn note_in_new(alloc: Global) -> anyhow::Result<u32> {
+    match new_tree(alloc) {
+        Ok(mut tree) => make_note(alloc, &mut tree, b"to be, or not to be"),
+        Err(fault) => Err(fault),
+    }
 }
 
 // Writes a file and prints what is read of it.

@@ -1,5 +1,8 @@
 // The commands of `xvnames`, and their words, as a table.
-use cli::table::{EXPLAIN, IMAGE, IMAGE_KEPT, Kind, Line, NO_SYNC, Outline, SYNC, WAIT, Word};
+use cli::table::{
+    EXPLAIN, IMAGE, IMAGE_KEPT, IMAGE_MADE, Kind, Line, NINODES, NO_SYNC, Outline, SIZE, SYNC, WAIT,
+    Word,
+};
 
 pub const XVNAMES: Outline = Outline {
     name: "xvnames",
@@ -123,23 +126,11 @@ const LINES: &[Line] = &[
         about: "Makes an image with a root directory and these files in it, in a new file or in place of an old one",
         example: "Example: xvnames mkfs fs.img 2000 200 README _cat _ls",
         words: &[
-            Word {
-                name: "IMAGE",
-                kind: Kind::Needed,
-                help: "The path of the image's file, which is made or replaced",
-            },
+            IMAGE_MADE,
             WAIT,
             EXPLAIN,
-            Word {
-                name: "SIZE",
-                kind: Kind::Number,
-                help: "Blocks of 1024 bytes, from one more than the blocks before the data up to 8191",
-            },
-            Word {
-                name: "NINODES",
-                kind: Kind::Number,
-                help: "Inode numbers, from 2 to 1024, the unused number 0 included",
-            },
+            SIZE,
+            NINODES,
             Word {
                 name: "FILE",
                 kind: Kind::Rest,
