@@ -6,11 +6,7 @@ use names::Tree;
 use std::alloc::Global;
 
 /// Puts these bytes into a file of a new directory, gives it another name, and finds it. Its number.
-pub fn make_note<D: Disk>(
-    alloc: Global,
-    tree: &mut Tree<D>,
-    bytes: &[u8],
-) -> anyhow::Result<u32>
+pub fn make_note<D: Disk>(alloc: Global, tree: &mut Tree<D>, bytes: &[u8]) -> anyhow::Result<u32>
     requires { MayGoOn D.Disk tree.old.kernel tree.old.calls_left }
     ensures { MayGoOn D.Disk tree.new.kernel tree.new.calls_left }
 {

@@ -81,7 +81,13 @@ fn ask_all<D: Disk>(rt: &impl Print, alloc: Global, tree: &mut Tree<D>) -> anyho
     requires { MayGoOn D.Disk tree.old.kernel tree.old.calls_left }
 {
     make_all(rt, alloc, tree)?;
-    ask_bytes(rt, alloc, tree, Bytes::Write("to be, or not to be"), "docs/notes")?;
+    ask_bytes(
+        rt,
+        alloc,
+        tree,
+        Bytes::Write("to be, or not to be"),
+        "docs/notes",
+    )?;
     ask_bytes(rt, alloc, tree, Bytes::Read, "docs/notes")?;
     ask_name(rt, alloc, tree, Name::Find, "/./docs/../plan")?;
     ask_name(rt, alloc, tree, Name::Rename("docs/notes"), "plan")?;
@@ -111,7 +117,13 @@ fn move_directory<D: Disk>(rt: &impl Print, alloc: Global, tree: &mut Tree<D>) -
     ask_name(rt, alloc, tree, Name::MakeDirectory, "old")?;
     ask_name(rt, alloc, tree, Name::Rename("docs/old"), "old")?;
     ask_name(rt, alloc, tree, Name::Rename("docs/old/docs"), "docs")?;
-    ask_bytes(rt, alloc, tree, Bytes::Put("milk and bread"), "docs/old/list")?;
+    ask_bytes(
+        rt,
+        alloc,
+        tree,
+        Bytes::Put("milk and bread"),
+        "docs/old/list",
+    )?;
     ask_bytes(rt, alloc, tree, Bytes::Put("milk"), "docs/old/list")?;
     ask_bytes(rt, alloc, tree, Bytes::Look, "docs/old/list")
 }

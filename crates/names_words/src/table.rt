@@ -1,7 +1,7 @@
 // The commands of `xvnames`, and their words, as a table.
 use cli::table::{
-    EXPLAIN, IMAGE, IMAGE_KEPT, IMAGE_MADE, Kind, Line, NINODES, NO_SYNC, Outline, SIZE, SYNC, WAIT,
-    Word,
+    EXPLAIN, IMAGE, IMAGE_KEPT, IMAGE_MADE, Kind, Line, NINODES, NO_SYNC, Outline, SIZE, SYNC,
+    WAIT, Word,
 };
 
 pub const XVNAMES: Outline = Outline {
