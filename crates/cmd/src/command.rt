@@ -23,8 +23,10 @@ pub trait Command<R> {
 }
 
 /// Does a command: prints its answer to `out`, or why it was refused to `err`, as far as that can be
-/// written. The exit status: 0 where it was done, 1 where it was refused.
+/// written, by a line of the program of that name. The exit status: 0 where it was done, 1 where it
+/// was refused.
 pub fn perform<R, C: Command<R>, O: Write, E: Write>(
+    program: &str,
     rt: &R,
     command: C,
     out: &mut O,
@@ -36,12 +38,12 @@ pub fn perform<R, C: Command<R>, O: Write, E: Write>(
     ensures refused { result ≡ 1 → (r : C.Refusal) × C.refused command
         (O.contents out.old) (O.contents out.new) (out.new ≡ out.old) r }
 {
-    end(command.run(rt, out), err)
+    end(program, command.run(rt, out), err)
 }
 
-/// Ends a command: says to `err` why it was refused, if it was, as far as that can be written. The
-/// exit status: 0 where it was done, 1 where it was refused.
-pub fn end<R: Reason + Drop, E: Write>(ended: Result<(), R>, err: &mut E) -> u8
+/// Ends a command: says to `err` why it was refused, if it was, as far as that can be written, by a
+/// line of the program of that name. The exit status: 0 where it was done, 1 where it was refused.
+pub fn end<R: Reason + Drop, E: Write>(program: &str, ended: Result<(), R>, err: &mut E) -> u8
     ensures status { result ≤ 1 }
     ensures done { result ≡ 0 → IsOk ended }
     ensures silent { result ≡ 0 → err.new ≡ err.old }
@@ -50,7 +52,7 @@ pub fn end<R: Reason + Drop, E: Write>(ended: Result<(), R>, err: &mut E) -> u8
     match ended {
         Ok(()) => 0,
         Err(refusal) => {
-            let _unwritten = print_refusal(err, &refusal);
+            let _unwritten = print_refusal(program, &refusal, err);
             1
         }
     }

@@ -1,7 +1,6 @@
 -- An image that there is was made, or was not.
-use Rattle.std.proofs.Common.{◌≡◌, ◌∙◌, ℕ, Bool, true, false, ◌&&◌, eqb, length, ap, sym}
+use Rattle.std.proofs.Common.{◌≡◌, ◌∙◌, ℕ, Bool, true, length, ap}
 use Rattle.std.proofs.lemmas.List.{length-replicate}
-use Rattle.std.proofs.lemmas.Bool.{eqb-false}
 use Rattle.std.specs.Prelude.{replicate, Result, Ok, Err, OnOk, IfOk}
 use Rattle.blocks.specs.Block.{zero_block}
 use Rattle.blocks.specs.declared.disk.Disk.{Ghosts}
@@ -13,11 +12,8 @@ use Rattle.model.specs.declared.types.image.Form.{Form}
 use Rattle.model.specs.declared.types.image.Super.{Super}
 use Rattle.offline.specs.Making.{MakesAs}
 use Rattle.player.specs.Looks.{EndsSynced}
+use Rattle.commands.specs.Lemmas.Plans.{not_off}
 use Rattle.commands.specs.Making.{IsFilledWith, IsNotFilledWith, IsNotMadeIn, IsPlan}
-
-not_off : (fits : Bool) (size long : ℕ) → fits ≡ true → long ≡ size → (fits && eqb size long) ≡ false → ⊥
-not_off true size long fit same off = eqb-false size long off (sym same)
-not_off false size long fit same off = absurd (cc fit)
 
 pub unfilled_so : {D N : Type 0} (disk : Ghosts D N) (form : Form) (size n : ℕ) (d : D) → IsPlan size n → disk.image d ≡ replicate size zero_block → (fault : MkfsFault) → IsNotFilledWith disk form size n d fault → IsNotMadeIn (Of fault)
 unfilled_so disk form size n d plan zeroes InodeRange why = absurd (cc (plan.0, why.cause.0))

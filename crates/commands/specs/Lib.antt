@@ -4,3 +4,5 @@ pub mod Copies
 pub mod Rescues
 pub mod Making
 pub mod Runs
+pub mod Words
+pub mod Lemmas

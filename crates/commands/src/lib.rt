@@ -1,11 +1,12 @@
 //! The commands over the files that they name: each opens these, hands the disk and what was read to
 //! `transfer`, `player` or `runner`, and does nothing else.
 //!
-//! Who makes the files of images holds their locks. No function here reads the words of a command line,
-//! and none checks a script at its stops.
+//! Who makes the files of images holds their locks. No function here reads the words of a command line;
+//! what is told where these make no command is here. None checks a script at its stops.
 #![tactic(auto)]
 
 mod copies;
+mod explaining;
 mod holding;
 mod inputs;
 mod locks;
@@ -14,9 +15,11 @@ mod puts;
 mod refused;
 mod rescues;
 mod runs;
+mod starting;
 mod targets;
 
 pub use copies::Copy;
+pub use explaining::explain;
 pub use holding::Holder;
 pub use inputs::{schedule_from, script_from};
 pub use locks::{Keeper, Locks, Share};
@@ -25,4 +28,5 @@ pub use puts::{Put, bytes_from};
 pub use refused::{CopyRefusal, PutFileRefusal, ReadFault};
 pub use rescues::Rescue;
 pub use runs::{ReplayFilesRefusal, RunFilesRefusal, replay_files, run_files};
+pub use starting::{Unbegun, end_unbegun, words_and_output};
 pub use targets::Target;

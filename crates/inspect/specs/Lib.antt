@@ -13,3 +13,4 @@ pub mod Usage
 pub mod Fields
 pub mod Texts
 pub mod Beginnings
+pub mod Lines

@@ -49,13 +49,14 @@ fn explanation<R: Files + AllocGlobal>(rt: &R, given: &Given<'_>, line: &[u8]) -
         "copy" => of_copy(rt, given, refusal.number),
         "mkfs" => of_making(rt, given, refusal.number),
         "disk" => of_disk(rt, given),
+        "names" => with_phrase(rt.alloc(), given.name?, names_phrase(refusal.number)?),
         "recover" | "open" | "output" => standing(rt, given),
         "stops" => of_stops(rt, given, refusal.number),
         _ => None,
     }
 }
 
-// The line of a refusal: `xvfs: LAYER N NAME`, and a number behind that where it names something.
+// The line of a refusal: `PROGRAM: LAYER N NAME`, and a number behind that where it names something.
 fn refusal_in(line: &[u8]) -> Option<Refusal<'_>> {
     let text = str::from_utf8(line).ok()?;
     let mut words = text.trim_end().split(' ');
@@ -84,12 +85,20 @@ fn of_file<R: Files + AllocGlobal>(rt: &R, given: &Given<'_>, number: u32) -> Op
             given.image.or(given.made)?,
             "another program has it; --wait waits for that",
         ),
-        5 => with_phrase(
+        5 => there_already(rt, given),
+        _ => None,
+    }
+}
+
+// Of a file that can't be made, since something is at its path, or where an image is made first.
+fn there_already<R: Files + AllocGlobal>(rt: &R, given: &Given<'_>) -> Option<String> {
+    match given.got {
+        Some(path) => with_phrase(rt.alloc(), path, "it is there already"),
+        None => with_phrase(
             rt.alloc(),
             given.made?,
             "what has this name with .new behind it is no plain file",
         ),
-        _ => None,
     }
 }
 
@@ -152,6 +161,30 @@ fn fault_phrase(number: u32) -> Option<&'static str> {
         8 => Some("the block is used, and its bit is clear"),
         9 => Some("the block's bit is set, and it stands at no place"),
         10 => Some("a block of it can't be read"),
+        _ => None,
+    }
+}
+
+// Of a path in an image.
+fn names_phrase(number: u32) -> Option<&'static str> {
+    match number {
+        1 => Some("a name of it is not there"),
+        2 => Some("a file on it, or the file itself, is no directory"),
+        3 => Some("it is a directory"),
+        4 => Some("it is there already"),
+        5 => Some("something is in the directory"),
+        6 => Some("it is the root"),
+        7 => Some("its last name is . or .."),
+        8 => Some("a name of it has more than 14 bytes"),
+        9 => Some("its directory has 192 entries, and has no room for one more"),
+        10 => Some("each number has a file"),
+        11 => Some("no block is free"),
+        12 => Some("a file of the image can't have so many bytes"),
+        13 => Some("the files of the image are no tree of directories"),
+        14 => Some("the directory would be moved into itself"),
+        15 => Some("a name of it has a zero byte"),
+        16 => Some("memory was refused"),
+        19 => Some("a name below it can't be that of a file of the system"),
         _ => None,
     }
 }

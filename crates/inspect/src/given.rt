@@ -21,6 +21,10 @@ pub struct Given<'a> {
     pub file: Option<&'a str>,
     /// The number of a file of the image.
     pub inum: Option<u32>,
+    /// The path of a file of the image.
+    pub name: Option<&'a str>,
+    /// The path of the file that it makes of one of the image.
+    pub got: Option<&'a str>,
     /// Where a check of its script met a mismatch, in words.
     pub mismatch: Option<&'a str>,
 }
@@ -47,6 +51,8 @@ impl<'a> Given<'a> {
             schedule: None,
             file: None,
             inum: None,
+            name: None,
+            got: None,
             mismatch: None,
         }
     }

@@ -22,11 +22,11 @@ mod room;
 mod showing;
 mod signs;
 mod standing;
+mod telling;
 mod texts;
 mod usage;
 
 pub use drawing::show_disk;
-pub use explaining::explain;
 pub use given::Given;
 pub use listing::list_disk;
 pub use logging::show_log;
@@ -34,4 +34,5 @@ pub use looks::{Df, Ls, Show, ShowLog};
 pub use owned::Owned;
 pub use refused::{DfRefusal, LsRefusal, ShowRefusal};
 pub use showing::show_file;
+pub use telling::{Line, tell, tell_fault};
 pub use usage::count_disk;

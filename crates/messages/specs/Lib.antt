@@ -5,3 +5,4 @@ pub mod Output
 pub mod Events
 pub mod Deeds
 pub mod Lemmas
+pub mod Refusing

@@ -4,7 +4,7 @@ ghost use Rattle.std.specs.List.{flat_map};
 ghost use Rattle.std.specs.Io.KnownBytes.{Appends, Keeps};
 ghost use Rattle.messages.specs.Events.{event_line};
 ghost use Rattle.messages.specs.declared.events.Event.TheVariants.{Stepped};
-ghost use Rattle.messages.specs.Telling.{telling_line};
+ghost use Rattle.messages.specs.Refusing.{refusal_line};
 ghost use Rattle.messages.specs.Output.{copied_text, counts_text, fault_line, faults_text, files_text, images_text, left_line, number_text, numbers_text, report_text, rescued_line, rescued_text};
 
 use crate::answers::print_answer;
@@ -248,11 +248,15 @@ pub fn print_images<O: Write>(out: &mut O, images: u64) -> Result<(), Unwritten>
     print_last(out, format_args!("images {images}\n"))
 }
 
-/// Prints the line of a refusal, as the last text of a command.
-pub fn print_refusal<E: Write, R: Reason>(err: &mut E, refusal: &R) -> Result<(), Unwritten>
+/// Prints the line of a program of that name for a refusal, as the last text of a command.
+pub fn print_refusal<E: Write, R: Reason>(
+    program: &str,
+    refusal: &R,
+    err: &mut E,
+) -> Result<(), Unwritten>
     ensures { OnOk result (Appends (E.contents err.old) (E.contents err.new)
-        (telling_line (R.telling refusal.now))) }
+        (refusal_line program.now (R.telling refusal.now))) }
 {
     let told = refusal.told();
-    print_last(err, format_args!("xvfs: {told}\n"))
+    print_last(err, format_args!("{program}: {told}\n"))
 }

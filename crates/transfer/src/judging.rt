@@ -1,9 +1,10 @@
 // What is told of an image before anything is written.
-ghost use Rattle.std.specs.Prelude.{◌≡◌, ◌≤◌, ◌^◌, IfErr, IfOk, OnOk};
+ghost use Rattle.std.specs.Prelude.{◌≡◌, ◌≤◌, ◌+◌, ◌^◌, IfErr, IfOk, None, OnOk};
 ghost use Rattle.blocks.specs.Calls.{OnlyReads};
+ghost use Rattle.model.specs.Layout.{form_of};
 ghost use Rattle.model.specs.Log.{recovered};
 ghost use Rattle.transfer.specs.Judging.{FailsByDisk, FindsOld, IsCheckedOf, IsFit, IsOldRefused, IsTold};
-ghost use Rattle.transfer.specs.Needs.{free_count, has_room_twice};
+ghost use Rattle.transfer.specs.Needs.{free_count, has_room_twice, needed_blocks};
 
 use crate::filling::PLAIN;
 use crate::needs::{count_free, fits_twice, needed_blocks};
@@ -40,6 +41,36 @@ pub fn judge<D: Disk>(
         return Err(PutRefusal::Full);
     }
     Ok(fits_twice(image.form, count as u32, free, old))
+}
+
+/// Checks the image of a disk, and judges whether that many bytes have room there in a new file. How
+/// many blocks are free besides those that this needs. It writes no block.
+///
+/// # Errors
+///
+/// `Check` for a fault of the image, of its check or of a read behind that; `NoMemory` where memory is
+/// refused behind the check; `TooBig`; `Full` where the free blocks are too few.
+pub fn judge_new<D: Disk>(alloc: Global, disk: &mut D, count: usize) -> Result<u32, PutRefusal>
+    ensures fit { OnOk result (IsFit D.Disk None count disk.old disk.new) }
+    ensures besides { IfOk result (λ besides.
+        needed_blocks (form_of (recovered (D.image disk.old))) count + besides
+        ≡ free_count (recovered (D.image disk.old))) }
+    ensures refused { IfErr result (IsTold D.Disk None count disk.old disk.new) }
+{
+    check(alloc, disk)?;
+    let Ok(mut block) = Block::zeroed(alloc) else {
+        return Err(PutRefusal::NoMemory);
+    };
+    let image = Recovered::open(disk, &mut block)?;
+    if count > greatest_size(image.form) as usize {
+        return Err(PutRefusal::TooBig);
+    }
+    let free = free_blocks(disk, &image, &mut block)?;
+    let needed = needed_blocks(image.form, count as u32);
+    if needed > free {
+        return Err(PutRefusal::Full);
+    }
+    Ok(free - needed)
 }
 
 // The blocks that the size of the old file needs, of a disk that was checked. It has to be there, and

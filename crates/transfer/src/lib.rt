@@ -30,7 +30,7 @@ mod writing_out;
 pub use choosing::put_disk;
 pub use copier::copy;
 pub use fault::CopyFault;
-pub use judging::free_blocks;
+pub use judging::{free_blocks, judge_new};
 pub use needs::needed_blocks;
 pub use picking::Rescued;
 pub use refused::PutRefusal;

@@ -1,18 +1,15 @@
 -- What a request is answered.
-use Rattle.std.specs.Prelude.{◌≡◌, ◌⊎◌, ⊤, ℕ, Bool, false, not, if◌then◌else◌, List, [], ◌∷◌, ◌++◌, Option, unwrap_or}
+use Rattle.std.specs.Prelude.{◌⊎◌, ℕ, Bool, false, not, if◌then◌else◌, List, Option, unwrap_or}
 use Rattle.std.specs.Io.KnownBytes.{Appends}
 use Rattle.model.specs.declared.types.image.Form.{Form}
 use Rattle.model.specs.declared.types.image.Form.TheVariants.{One, Two}
 use Rattle.messages.specs.declared.told.Unwritten.{Unwritten}
-use Rattle.cli.specs.Asking.{AskFor}
 use Rattle.cli.specs.CommandLine.{xvfs_words}
-use Rattle.cli.specs.Told.{AskForHelp, IsToldOf}
 use Rattle.cli.specs.Topics.{AsksAbout, topic_text}
-use Rattle.cli.specs.declared.explanation.Explanation.{Explanation}
-use Rattle.cli.specs.declared.explanation.Explanation.TheVariants.{Help, Mistake, NoMemory}
 use Rattle.cli.specs.declared.topics.Topic.{Topic}
 use Rattle.cli.specs.declared.words.Request.{Request}
 use Rattle.cli.specs.declared.words.Request.TheVariants.{Mkfs, Check, Recover, Cat, Ls, Df, Show, ShowLog, Put, Copy, Rescue, Replay, Run, Stops}
+use Rattle.cmd.specs.Batches.{AreDone, StopsAmong}
 use Rattle.cmd.specs.Lemmas.Disks.{file_disk}
 use Rattle.cmd.specs.Opened.{OpensDisk}
 use Rattle.cmd.specs.Over.{IsRefusedOn}
@@ -26,6 +23,7 @@ use Rattle.commands.specs.Copies.{HasCopied, OnCopyRefusal}
 use Rattle.commands.specs.Making.{IsMade, IsNotMade}
 use Rattle.commands.specs.Rescues.{HasRescued, OnRescueRefusal}
 use Rattle.commands.specs.Puts.{HasPut, OnPutRefusal}
+use Rattle.commands.specs.Words.{IsDoneOf, IsNotDone, IsRefusedOf}
 use Rattle.xvfs.specs.Files.{FileGhosts}
 use Rattle.xvfs.specs.Scripts.{ChecksScript, IsScriptUnchecked}
 
@@ -111,53 +109,21 @@ HasTold words old new = (topic : Topic) × AsksAbout words topic × Appends old 
 -- in whose place clap's text is printed.
 abbrev pub IsDone : {F N : Type 0} → FileGhosts F N → List (List ℕ) → Option (List ℕ)
     → Option (List ℕ) → Type 0
-IsDone file words old new =
-    ((request : Request) × AskFor xvfs_words words request × Answers file request old new)
-    ⊎ (AskForHelp xvfs_words words ⊎ HasTold words old new)
+IsDone file words old new = IsDoneOf xvfs_words (Answers file) words old new ⊎ HasTold words old new
 
--- the words ask for help
-abbrev pub AskToBeTold : List (List ℕ) → Type 0
-AskToBeTold words = AskForHelp xvfs_words words ⊎ ((topic : Topic) × AsksAbout words topic)
-
--- a request of the words was refused; or help was asked for, and the output refused its text
+-- a request of the words was refused; or help or a format was asked for, and the output refused its
+-- text
 abbrev pub IsRefused : {F N : Type 0} → FileGhosts F N → List (List ℕ) → Option (List ℕ)
     → Option (List ℕ) → Type 0 → Type 0
-IsRefused file words old new none =
-    ((request : Request) × AskFor xvfs_words words request × OnRefused file request old new none)
-    ⊎ Refuses (λ (r : Unwritten). AskToBeTold words)
-
--- it is an answer: the text of help or of the version
-abbrev pub IsHelp : Explanation → Type 0
-IsHelp (Help _) = ⊤
-IsHelp (Mistake _) = ⊥
-IsHelp NoMemory = ⊥
-
--- the words make no command, and this is told of them; `none` says that nothing was printed
-abbrev pub IsMisused : List (List ℕ) → Type 0 → Explanation → Type 0
-IsMisused words none e = none × IsToldOf xvfs_words words e × (¬ (IsHelp e))
+IsRefused file words old new none = IsRefusedOf xvfs_words (OnRefused file) words old new none
+    ⊎ ((r : Unwritten) × ((topic : Topic) × AsksAbout words topic))
 
 -- the commands of these lines were done, one after the other
-abbrev pub AreDone : {F N : Type 0} → FileGhosts F N → List (List (List ℕ)) → Option (List ℕ)
+abbrev pub DoesAll : {F N : Type 0} → FileGhosts F N → List (List (List ℕ)) → Option (List ℕ)
     → Option (List ℕ) → Type 0
-AreDone file [] old new = new ≡ old
-AreDone file (words ∷ rest) old new = (mid : Option (List ℕ)) × IsDone file words old mid
-    × AreDone file rest mid new
+DoesAll file = AreDone (IsDone file)
 
--- the command of these words ended without being done, and left this of the output
-abbrev pub IsNotDone : {F N O : Type 0} → FileGhosts F N → (O → Option (List ℕ))
-    → List (List ℕ) → O → O → Type 0
-IsNotDone file contents words old new =
-    IsRefused file words (contents old) (contents new) (new ≡ old)
-    ⊎ ((e : Explanation) × IsMisused words (new ≡ old) e)
-
--- the commands of these lines were done, one after the other, up to one that was not, and none
--- after it was begun
-pub record StopsAmong {F N O : Type 0} (file : FileGhosts F N) (contents : O → Option (List ℕ))
-    (lines : List (List (List ℕ))) (old new : O) : Type 0 where
-  pub before : List (List (List ℕ))
-  pub words : List (List ℕ)
-  pub after : List (List (List ℕ))
-  pub mid : O
-  pub split : lines ≡ before ++ words ∷ after
-  pub done : AreDone file before (contents old) (contents mid)
-  pub fails : IsNotDone file contents words mid new
+-- they were done up to one that was not
+abbrev pub StopsAt : {F N O : Type 0} → FileGhosts F N → (O → Option (List ℕ))
+    → List (List (List ℕ)) → O → O → Type 0
+StopsAt file = StopsAmong (IsDone file) (IsNotDone xvfs_words (IsRefused file))

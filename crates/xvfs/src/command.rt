@@ -1,33 +1,25 @@
 // One command, and the exit status that it ends with.
 ghost use Rattle.std.specs.Prelude.{◌≡◌, ◌≤◌, map};
-ghost use Rattle.std.specs.Io.KnownBytes.{Appends};
-ghost use Rattle.cli.specs.CommandLine.{HasFewWorkers};
-ghost use Rattle.cli.specs.Told.{explanation_text};
+ghost use Rattle.cli.specs.CommandLine.{HasFewWorkers, xvfs_words};
+ghost use Rattle.commands.specs.Words.{IsDoneOf, IsMisused, IsRefusedOf};
 ghost use Rattle.xvfs.specs.Files.{ghosts_of};
-ghost use Rattle.xvfs.specs.Requests.{
-  Answers,
-  IsDone,
-  IsHelp,
-  IsMisused,
-  IsRefused,
-  OnRefused,
-  form_asked,
-};
+ghost use Rattle.xvfs.specs.Requests.{Answers, IsDone, IsRefused, OnRefused, form_asked};
 ghost use Rattle.cli.specs.declared.explanation.Explanation.{Explanation as SomeExplanation};
-ghost use Rattle.messages.specs.declared.told.Unwritten.{Unwritten as IsUnwritten};
 
 use crate::locks::lock_image;
 use crate::progress::{Screen, TerminalMeter};
 use crate::stopping::{end_stops, stops_files};
-use crate::telling::{Line, tell, tell_fault};
+use crate::telling::{given, says_more};
 use crate::topics::print_topic;
 use arrayvec::ArrayVec;
 use blocks::{Disk, FaultyDisk, FileDisk};
-use cli::{Asked, Explanation, Request, Topic, parse};
+use cli::{Asked, Request, Topic, parse};
 use cmd::{Access, OverFile, end, perform};
-use commands::{Copy, Keeper, Locks, Making, Mkfs, Put, Rescue, Target, replay_files, run_files};
-use inspect::{Df, Ls, Show, ShowLog};
-use messages::{Detail, print_last};
+use commands::{
+    Copy, Keeper, Locks, Making, Mkfs, Put, Rescue, Target, explain, replay_files, run_files,
+};
+use inspect::{Df, Line, Ls, Show, ShowLog, tell, tell_fault};
+use messages::Detail;
 use model::types::Form;
 use player::{Cat, Check, Recover};
 use std::convert::AsStr;
@@ -35,6 +27,9 @@ use std::io::Write;
 use std::rt::{Clock, Files};
 use std::sync::Wait;
 use std::thread::Threads;
+
+/// The program's name, with which the line of each refusal begins.
+pub const NAME: &str = "xvfs";
 
 /// Does the command that these words ask for, the program's name not among them: prints what it
 /// answers to `out`, and why it wasn't done to `err`, as far as that can be written, in a second line
@@ -63,12 +58,12 @@ where
         ⟦<FileDisk<R::File> as Disk>⟧ ⟦<FaultyDisk<FileDisk<R::File>> as Disk>⟧)
         (map S.text words.now) (O.contents out.old) (O.contents out.new) (out.new ≡ out.old) }
     ensures wrong { result ≡ 2 → (e : SomeExplanation)
-        × IsMisused (map S.text words.now) (out.new ≡ out.old) e }
+        × IsMisused xvfs_words (map S.text words.now) (out.new ≡ out.old) e }
     ensures silent { result ≡ 0 → err.new ≡ err.old }
     ensures misused { result ≡ 2 → out.new ≡ out.old }
 {
     match Topic::asked(words) {
-        Some(topic) => end(print_topic(out, topic), err),
+        Some(topic) => end(NAME, print_topic(out, topic), err),
         None => command_of(rt, words, out, err),
     }
 }
@@ -84,20 +79,20 @@ fn command_of<
 where
     R::File: Send,
     ensures status { result ≤ 2 }
-    ensures done { result ≡ 0 → IsDone (ghosts_of R.File.remaining
-        ⟦<FileDisk<R::File> as Disk>⟧ ⟦<FaultyDisk<FileDisk<R::File>> as Disk>⟧)
+    ensures done { result ≡ 0 → IsDoneOf xvfs_words (Answers (ghosts_of R.File.remaining
+        ⟦<FileDisk<R::File> as Disk>⟧ ⟦<FaultyDisk<FileDisk<R::File>> as Disk>⟧))
         (map S.text words.now) (O.contents out.old) (O.contents out.new) }
-    ensures refused { result ≡ 1 → IsRefused (ghosts_of R.File.remaining
-        ⟦<FileDisk<R::File> as Disk>⟧ ⟦<FaultyDisk<FileDisk<R::File>> as Disk>⟧)
+    ensures refused { result ≡ 1 → IsRefusedOf xvfs_words (OnRefused (ghosts_of R.File.remaining
+        ⟦<FileDisk<R::File> as Disk>⟧ ⟦<FaultyDisk<FileDisk<R::File>> as Disk>⟧))
         (map S.text words.now) (O.contents out.old) (O.contents out.new) (out.new ≡ out.old) }
     ensures wrong { result ≡ 2 → (e : SomeExplanation)
-        × IsMisused (map S.text words.now) (out.new ≡ out.old) e }
+        × IsMisused xvfs_words (map S.text words.now) (out.new ≡ out.old) e }
     ensures silent { result ≡ 0 → err.new ≡ err.old }
     ensures misused { result ≡ 2 → out.new ≡ out.old }
 {
     match parse(rt.alloc(), words) {
         Ok(asked) => dispatch_alone(rt, asked, out, err),
-        Err(explanation) => explain(explanation, out, err),
+        Err(explanation) => explain(NAME, explanation, out, err),
     }
 }
 
@@ -115,26 +110,6 @@ fn target_at<'a, R: Clock + Screen + Locks>(
         sync,
         progress: TerminalMeter::new(rt),
         holder: Keeper::new(rt, wait),
-    }
-}
-
-// Help and the version are answers, the other texts are not.
-fn explain<O: Write, E: Write>(explanation: Explanation, out: &mut O, err: &mut E) -> u8
-    ensures status { result ≤ 2 }
-    ensures help { result ≡ 0 → IsHelp explanation }
-    ensures printed { result ≡ 0 → Appends (O.contents out.old) (O.contents out.new)
-        (explanation_text explanation) }
-    ensures unwritten { result ≡ 1 → IsUnwritten × IsHelp explanation }
-    ensures mistake { result ≡ 2 → ¬ (IsHelp explanation) }
-    ensures misused { result ≡ 2 → out.new ≡ out.old }
-    ensures silent { result ≡ 0 → err.new ≡ err.old }
-{
-    match explanation {
-        Explanation::Help(text) => end(print_last(out, text), err),
-        mistake => {
-            let _unwritten = print_last(err, mistake);
-            2
-        }
     }
 }
 
@@ -162,11 +137,15 @@ where
             let mut line: Line = ArrayVec::new();
             let status = dispatch(rt, asked.request, asked.wait, out, &mut line);
             if status > 0 {
-                tell(rt, &asked, line.as_slice(), err);
+                let more = says_more(rt, asked.explain);
+                tell(rt, more, &given(&asked.request), line.as_slice(), err);
             }
             status
         }
-        Err(fault) => tell_fault(rt, &asked, fault, err),
+        Err(fault) => {
+            let more = says_more(rt, asked.explain);
+            tell_fault(NAME, rt, more, &given(&asked.request), fault, err)
+        }
     }
 }
 
@@ -196,6 +175,7 @@ where
             large,
             no_sync,
         } => perform(
+            NAME,
             rt,
             Mkfs {
                 image,
@@ -211,13 +191,14 @@ where
             err,
         ),
         Request::Check { image, all } => {
-            perform(rt, OverFile(image, Access::Look, Check { all }), out, err)
+            perform(NAME, rt, OverFile(image, Access::Look, Check { all }), out, err)
         }
         Request::Recover { image, sync } => {
             let recover = Recover {
                 progress: TerminalMeter::new(rt),
             };
             perform(
+                NAME,
                 rt,
                 OverFile(image, Access::Change { sync }, recover),
                 out,
@@ -225,21 +206,23 @@ where
             )
         }
         Request::Cat { image, inum } => perform(
+            NAME,
             rt,
             OverFile(image, Access::Look, Cat(inum)),
             out,
             err,
         ),
-        Request::Ls { image } => perform(rt, OverFile(image, Access::Look, Ls), out, err),
-        Request::Df { image } => perform(rt, OverFile(image, Access::Look, Df), out, err),
+        Request::Ls { image } => perform(NAME, rt, OverFile(image, Access::Look, Ls), out, err),
+        Request::Df { image } => perform(NAME, rt, OverFile(image, Access::Look, Df), out, err),
         Request::Show { image, inum } => perform(
+            NAME,
             rt,
             OverFile(image, Access::Look, Show(inum)),
             out,
             err,
         ),
         Request::ShowLog { image } => {
-            perform(rt, OverFile(image, Access::Look, ShowLog), out, err)
+            perform(NAME, rt, OverFile(image, Access::Look, ShowLog), out, err)
         }
         Request::Put {
             image,
@@ -250,6 +233,7 @@ where
         } => {
             let progress = TerminalMeter::new(rt);
             perform(
+                NAME,
                 rt,
                 Put {
                     image,
@@ -270,11 +254,11 @@ where
             no_sync,
         } => {
             let target = target_at(rt, new, !no_sync, wait);
-            perform(rt, Copy { old, size, target }, out, err)
+            perform(NAME, rt, Copy { old, size, target }, out, err)
         }
         Request::Rescue { old, new, no_sync } => {
             let target = target_at(rt, new, !no_sync, wait);
-            perform(rt, Rescue { old, target }, out, err)
+            perform(NAME, rt, Rescue { old, target }, out, err)
         }
         Request::Replay {
             image,
@@ -288,6 +272,7 @@ where
             let mut progress = TerminalMeter::beside_lines(rt);
             let detail = Detail { steps, writes };
             end(
+                NAME,
                 replay_files(
                     rt,
                     image,
@@ -307,12 +292,12 @@ where
             script,
             workers,
             sync,
-        } => end(run_files(rt, image, script, workers, sync, out), err),
+        } => end(NAME, run_files(rt, image, script, workers, sync, out), err),
         Request::Stops {
             script,
             schedule,
             held,
-        } => end_stops(stops_files(rt, script, schedule, held, out), err),
+        } => end_stops(NAME, stops_files(rt, script, schedule, held, out), err),
     }
 }
 

@@ -1,7 +1,7 @@
 // Why command lines can't be had.
 ghost use Rattle.std.specs.Prelude.{◌≡◌, ◌≢◌};
 ghost use Rattle.std.specs.IoError.{error_kind};
-ghost use Rattle.xvfs.specs.Input.{input_telling};
+ghost use Rattle.cmd.specs.Input.{input_telling};
 
 use messages::{Reason, Told};
 use std::alloc::AllocError;
@@ -32,7 +32,7 @@ impl Reason for InputFault {
 }
 
 impl From<AllocError> for InputFault {
-    ghost use Rattle.xvfs.specs.declared.input.InputFault.TheVariants as fault;
+    ghost use Rattle.cmd.specs.declared.input.InputFault.TheVariants as fault;
 
     ghost from_gives = { λ _ e. e ≡ fault.NoMemory };
 

@@ -1,6 +1,6 @@
 use Rattle.std.proofs.Common.{◌≡◌, map, take}
-use Rattle.xvfs.specs.Lines.{script_in}
-use Rattle.xvfs.proofs.batch.words_of_lines.Given as goal
+use Rattle.cmd.specs.Lines.{script_in}
+use Rattle.cmd.proofs.batch.words_of_lines.Given as goal
 
 abbrev pub invariant-loop-line : goal.invariant-loop-line
 invariant-loop-line l =

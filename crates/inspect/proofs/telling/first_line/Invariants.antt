@@ -1,6 +1,6 @@
 use Rattle.std.proofs.Common.{◌≡◌, ◌+◌, drop}
-use Rattle.xvfs.specs.Lines.{line_length}
-use Rattle.xvfs.proofs.telling.first_line.Given as goal
+use Rattle.inspect.specs.Lines.{line_length}
+use Rattle.inspect.proofs.telling.first_line.Given as goal
 
 -- the first line goes on behind those bytes
 abbrev pub invariant-loop-end : goal.invariant-loop-end

@@ -1,9 +1,9 @@
 use Rattle.std.proofs.Common.{◌≡◌, rules, take, subst}
 use Rattle.std.specs.Prelude.{IfSome, option_map, string_bytes}
-use Rattle.xvfs.specs.declared.input.InputFault.TheVariants as fault
-use Rattle.xvfs.specs.declared.batch.TheConstants.{LIMIT}
-use Rattle.xvfs.proofs.Reading.{whole_read}
-use Rattle.xvfs.proofs.batch.read_text.Goals as goal
+use Rattle.cmd.specs.declared.input.InputFault.TheVariants as fault
+use Rattle.cmd.specs.declared.batch.TheConstants.{LIMIT}
+use Rattle.cmd.proofs.Reading.{whole_read}
+use Rattle.cmd.proofs.batch.read_text.Goals as goal
 
 pub returns : goal.returns
 returns g c =

@@ -1,0 +1,3 @@
+-- What the proofs of the crates above use.
+pub mod Ends
+pub mod Plans
