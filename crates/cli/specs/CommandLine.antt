@@ -1,11 +1,11 @@
 -- The command line, as clap is told it.
-use Rattle.std.specs.Prelude.{◌≡◌, ◌≢◌, ◌≤◌, ⊤, ℕ, List, IfOk, Option, Result, Some, None, true, false, codes, pos}
+use Rattle.std.specs.Prelude.{◌≡◌, ◌≢◌, ◌≤◌, ⊤, ℕ, List, IfOk, Option, Result, Some, None, true, false, codes, pos, option_map}
 use Rattle.clap.specs.Words.{App, Row, Rule, new_app, new_rule, app_of, first_of, one_of, with_rule, with_subcommand}
 use Rattle.cli.specs.Asking.{HasChoice, HasFlag, Wording}
 use Rattle.cli.specs.declared.words.Part.{Part}
 use Rattle.cli.specs.declared.words.Part.TheVariants.{Whole, File, Log}
 use Rattle.cli.specs.declared.words.Request.{Request}
-use Rattle.cli.specs.declared.words.Request.TheVariants.{Mkfs, Check, Recover, Cat, Ls, Df, Show, ShowLog, Put, Copy, Rescue, Replay, Run, Stops}
+use Rattle.cli.specs.declared.words.Request.TheVariants.{Mkfs, Check, Recover, Cat, Ls, Df, Show, ShowLog, ShowPicture, Put, Copy, Rescue, Replay, Run, Stops}
 use Rattle.clap.specs.declared.builder.command.Command.{Command}
 use Rattle.clap.specs.declared.builder.command.Command.TheViews.{out-Command}
 use Rattle.clap.specs.declared.builder.action.ArgAction.TheVariants.{SetTrue}
@@ -62,8 +62,15 @@ cat_app = with_rule (image_app (codes "cat")) (number_rule (codes "INUM"))
 abbrev pub choice_rule : List ℕ → Rule
 choice_rule id = record (new_rule id) { parser = Some (Signed (pos 0) (pos 4294967295)) }
 
+-- `--picture FILE`
+abbrev pub picture_rule : Rule
+picture_rule = record (new_rule (codes "picture")) {
+  long = Some (codes "picture");
+  value_names = 1;
+}
+
 abbrev pub show_app : App
-show_app = with_rule (image_app (codes "show")) (new_rule (codes "INUM"))
+show_app = with_rule (with_rule (image_app (codes "show")) (new_rule (codes "INUM"))) picture_rule
 
 abbrev pub put_app : App
 put_app = with_rule (with_rule (with_rule (with_rule (image_app (codes "put"))
@@ -87,10 +94,10 @@ rescue_app = with_rule (with_rule (waiting_app (codes "rescue") (codes "OLD"))
     (required_rule (codes "NEW"))) (flag_rule (codes "no-sync"))
 
 abbrev pub replay_app : App
-replay_app = with_rule (with_rule (with_rule (with_rule (with_rule (with_rule
+replay_app = with_rule (with_rule (with_rule (with_rule (with_rule (with_rule (with_rule
     (image_app (codes "replay")) (required_rule (codes "SCRIPT")))
     (required_rule (codes "SCHEDULE"))) stop_rule) (flag_rule (codes "sync")))
-    (flag_rule (codes "writes"))) (flag_rule (codes "steps"))
+    (flag_rule (codes "writes"))) (flag_rule (codes "steps"))) picture_rule
 
 -- `--workers N`, where N is from 1 to 32
 abbrev pub workers_rule : Rule
@@ -180,9 +187,14 @@ AsksBy name rows (Df image) = (name ≡ codes "df")
 AsksBy name rows (Show image inum) = (name ≡ codes "show")
     × (first_of (codes "IMAGE") rows ≡ Some image.now)
     × HasPart (first_of (codes "INUM") rows) (part_of inum)
+    × (first_of (codes "picture") rows ≡ None)
 AsksBy name rows (ShowLog image) = (name ≡ codes "show")
     × (first_of (codes "IMAGE") rows ≡ Some image.now)
-    × HasPart (first_of (codes "INUM") rows) Log
+    × HasPart (first_of (codes "INUM") rows) Log × (first_of (codes "picture") rows ≡ None)
+AsksBy name rows (ShowPicture image picture) = (name ≡ codes "show")
+    × (first_of (codes "IMAGE") rows ≡ Some image.now)
+    × HasPart (first_of (codes "INUM") rows) Whole
+    × (first_of (codes "picture") rows ≡ Some picture.now)
 AsksBy name rows (Put image file inum sync no_sync) = (name ≡ codes "put")
     × (first_of (codes "IMAGE") rows ≡ Some image.now)
     × (first_of (codes "FILE") rows ≡ Some file.now) × HasChoice (codes "INUM") rows inum
@@ -195,11 +207,12 @@ AsksBy name rows (Rescue old new no_sync) = (name ≡ codes "rescue")
     × (first_of (codes "OLD") rows ≡ Some old.now)
     × (first_of (codes "NEW") rows ≡ Some new.now)
     × HasFlag (codes "no-sync") rows no_sync
-AsksBy name rows (Replay image script schedule stop sync writes steps) =
+AsksBy name rows (Replay image script schedule stop sync writes steps picture) =
     (name ≡ codes "replay") × (first_of (codes "IMAGE") rows ≡ Some image.now)
     × (first_of (codes "SCRIPT") rows ≡ Some script.now)
     × (first_of (codes "SCHEDULE") rows ≡ Some schedule.now) × HasFlag (codes "sync") rows sync
     × HasFlag (codes "writes") rows writes × HasFlag (codes "steps") rows steps
+    × (option_map (λ path. path.now) picture ≡ first_of (codes "picture") rows)
 AsksBy name rows (Run image script workers sync) =
     (name ≡ codes "run") × (first_of (codes "IMAGE") rows ≡ Some image.now)
     × (first_of (codes "SCRIPT") rows ≡ Some script.now) × HasWorkers rows workers

@@ -5,7 +5,7 @@ use Rattle.clap.specs.Words.{App, Rule, new_app, new_rule, with_rule, with_subco
 use Rattle.clap.specs.declared.builder.value_parser.ValueParser.TheVariants.{Signed, Unsigned}
 use Rattle.cli.specs.CommandLine.{choice_rule, flag_rule, named_app, number_rule, required_rule}
 use Rattle.cli.specs.declared.table.Kind.{Kind}
-use Rattle.cli.specs.declared.table.Kind.TheVariants.{Needed, Free, Rest, Number, Choice, Flag, Letter, Valued, FewValued, LongValued}
+use Rattle.cli.specs.declared.table.Kind.TheVariants.{Needed, Free, Rest, Number, Choice, Flag, Letter, Valued, FewValued, LongValued, Path}
 use Rattle.cli.specs.declared.table.Line.{Line}
 use Rattle.cli.specs.declared.table.Outline.{Outline}
 use Rattle.cli.specs.declared.table.Word.{Word}
@@ -28,6 +28,7 @@ kind_rule FewValued id =
     valued_rule id (record (new_rule id) { parser = Some (Signed (pos 1) (pos 32)) })
 kind_rule LongValued id =
     valued_rule id (record (new_rule id) { parser = Some (Unsigned 1 18446744073709551615) })
+kind_rule Path id = valued_rule id (new_rule id)
 
 abbrev pub word_rule : Word → Rule
 word_rule word = kind_rule word.kind word.name.now

@@ -86,18 +86,21 @@ fn argument<'a>(alloc: Global, word: Word) -> Arg<'a>
         Kind::Choice => argument.value_parser(value_parser!(u32)),
         Kind::Flag => argument.long(word.name).action(ArgAction::SetTrue),
         Kind::Letter(letter) => argument.short(letter).action(ArgAction::SetTrue),
-        Kind::Valued => valued(argument, word.name).value_parser(value_parser!(u32)),
-        Kind::FewValued => valued(argument, word.name).value_parser(value_parser!(u32).range(
+        Kind::Valued => valued(argument, word.name, "N").value_parser(value_parser!(u32)),
+        Kind::FewValued => valued(argument, word.name, "N").value_parser(value_parser!(u32).range(
             1..=32,
         )),
-        Kind::LongValued => valued(argument, word.name).value_parser(value_parser!(u64).range(1..)),
+        Kind::LongValued => {
+            valued(argument, word.name, "N").value_parser(value_parser!(u64).range(1..))
+        }
+        Kind::Path => valued(argument, word.name, "FILE"),
     }
 }
 
-// A word after `--` that has a value, which help calls N.
-fn valued<'a>(argument: Arg<'a>, name: &'a str) -> Arg<'a>
+// A word after `--` that has a value, which help calls so.
+fn valued<'a>(argument: Arg<'a>, name: &'a str, value: &'a str) -> Arg<'a>
     ensures rule { rule_of result ≡ valued_rule name.entry.now (rule_of argument.entry) }
     ensures local { result.global ≡ argument.entry.global }
 {
-    argument.long(name).value_name("N")
+    argument.long(name).value_name(value)
 }

@@ -24,6 +24,8 @@ pub enum Kind {
     FewValued,
     /// The same, a number of 64 bits, from 1.
     LongValued,
+    /// Its name after `--`, with a path behind it.
+    Path,
 }
 
 /// A word of a command line.
@@ -231,6 +233,11 @@ const LINES: &[Line] = &[
                 kind: Kind::Free,
                 help: "A file's inode number, whose blocks are listed in their order; or log, for the logged blocks with their homes",
             },
+            Word {
+                name: "picture",
+                kind: Kind::Path,
+                help: "Draws the blocks of the whole image into this file, too, as a page that a browser shows",
+            },
         ],
     },
     Line {
@@ -314,6 +321,11 @@ const LINES: &[Line] = &[
                 name: "steps",
                 kind: Kind::Flag,
                 help: "Tells each step of a turn below its line: what it was to do",
+            },
+            Word {
+                name: "picture",
+                kind: Kind::Path,
+                help: "Draws the steps into this file, too, as a page that a browser shows",
             },
         ],
     },

@@ -78,6 +78,7 @@ pub const REFUSALS: &[&str] = &[
     "  copy      2 NotFirst, 4 Full i, 5 NoMemory, 6 Disk, 7 Exists",
     "  run       1 Thread, 3 Unanswered",
     "  stops     1 Mismatch, 2 NoMemory",
+    "  picture   1 NoMemory, 2 TooLong n, 3 Write",
     "  disk      1 DiskFault b, 2 SyncFault",
     "  input     1 Read, 2 TooLarge, 3 NoMemory",
     "  output    1 Write",

@@ -3,6 +3,8 @@ ghost use Rattle.std.specs.Prelude.{◌≡◌, true, codes, option_map, IfSome};
 ghost use Rattle.clap.specs.Words.{found_of, is_simple_and_free, rows_of};
 ghost use Rattle.cli.specs.CommandLine.{AsksBy, HasPart, HasWorkers, xvfs_app, xvfs_words};
 ghost use Rattle.cli.specs.Table.{outline_app};
+ghost use Rattle.cli.specs.declared.words.Part.TheVariants as parts;
+ghost use Rattle.cli.specs.declared.words.Request.TheVariants as requests;
 
 use crate::asking::ByWords;
 use crate::table::{Outline, XVFS};
@@ -68,6 +70,13 @@ pub enum Request<'a> {
         /// The path of the image's file.
         image: &'a str,
     },
+    /// The blocks of an image, drawn into a file, too.
+    ShowPicture {
+        /// The path of the image's file.
+        image: &'a str,
+        /// The path of the file into which they are drawn.
+        picture: &'a str,
+    },
     /// A file of the system, put into an image.
     Put {
         /// The path of the image's file.
@@ -117,6 +126,8 @@ pub enum Request<'a> {
         writes: bool,
         /// Whether each step is told.
         steps: bool,
+        /// The path of the file into which the run is drawn.
+        picture: Option<&'a str>,
     },
     /// A script's operations over an image, by callers and workers on threads.
     Run {
@@ -218,6 +229,7 @@ fn replay_request<'a>(values: &ArgMatches<'a>) -> Option<Request<'a>>
         sync: values.get_flag("sync"),
         writes: values.get_flag("writes"),
         steps: values.get_flag("steps"),
+        picture: values.get_str("picture"),
     })
 }
 
@@ -285,7 +297,11 @@ fn show_request<'a>(values: &ArgMatches<'a>) -> Option<Request<'a>>
     ensures { IfSome result (AsksBy (codes "show") (rows_of (found_of values.now))) }
 {
     let image = values.get_str("IMAGE")?;
-    match part_of(values.get_str("INUM"))? {
+    let part = part_of(values.get_str("INUM"))?;
+    if let Some(picture) = values.get_str("picture") {
+        return drawn(image, part, picture);
+    }
+    match part {
         Part::Whole => Some(Request::Show { image, inum: None }),
         Part::File(number) => Some(Request::Show {
             image,
@@ -295,7 +311,19 @@ fn show_request<'a>(values: &ArgMatches<'a>) -> Option<Request<'a>>
     }
 }
 
+// A picture that has a part of an image: there is one of the whole alone.
+fn drawn<'a>(image: &'a str, part: Part, picture: &'a str) -> Option<Request<'a>>
+    ensures { IfSome result (λ asked. (part ≡ parts.Whole)
+        × (asked ≡ requests.ShowPicture image.entry picture.entry)) }
+{
+    match part {
+        Part::Whole => Some(Request::ShowPicture { image, picture }),
+        _ => None,
+    }
+}
+
 // The part of an image whose blocks are asked for.
+#[derive(Clone, Copy)]
 enum Part {
     Whole,
     // The file of a number.

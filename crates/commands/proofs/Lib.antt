@@ -3,3 +3,4 @@ pub mod Rescuing
 pub mod MakingLemmas
 pub mod Ended
 pub mod Putting
+pub mod Recording

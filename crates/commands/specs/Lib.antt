@@ -6,3 +6,6 @@ pub mod Making
 pub mod Runs
 pub mod Words
 pub mod Lemmas
+pub mod Recorded
+pub mod Pictures
+pub mod Shown

@@ -6,27 +6,35 @@
 #![tactic(auto)]
 
 mod copies;
+mod drawing;
 mod explaining;
 mod holding;
 mod inputs;
 mod locks;
 mod making;
+mod picture_teller;
+mod picturing;
 mod puts;
 mod refused;
 mod rescues;
 mod runs;
+mod showing;
 mod starting;
 mod targets;
 
 pub use copies::Copy;
+pub use drawing::{PictureFault, draw};
 pub use explaining::explain;
 pub use holding::Holder;
 pub use inputs::{schedule_from, script_from};
 pub use locks::{Keeper, Locks, Share};
 pub use making::{MakesThere, Making, Mkfs, make_file, make_in_place};
+pub use picture_teller::PictureTeller;
+pub use picturing::{PicturedRefusal, replay_into, replay_pictured};
 pub use puts::{Put, bytes_from};
 pub use refused::{CopyRefusal, PutFileRefusal, ReadFault};
 pub use rescues::Rescue;
 pub use runs::{ReplayFilesRefusal, RunFilesRefusal, replay_files, run_files};
+pub use showing::{ShowPicture, ShowPictureRefusal};
 pub use starting::{Unbegun, end_unbegun, words_and_output};
 pub use targets::Target;

@@ -2,6 +2,7 @@ pub mod Owned
 pub mod Refusals
 pub mod Gathering
 pub mod Causes
+pub mod Cells
 pub mod Listing
 pub mod Showing
 pub mod Logging

@@ -1,17 +1,20 @@
 // A drawing of the blocks of an image.
-ghost use Rattle.std.specs.Prelude.{◌≡◌, ◌*◌, ◌+◌, IfErr, None, OnOk, length, take, drop};
+ghost use Rattle.std.specs.Prelude.{◌≡◌, ◌*◌, ◌+◌, IfErr, IfOk, None, OnOk, length, take, drop};
 ghost use Rattle.std.specs.Io.KnownBytes.{Appends};
 ghost use Rattle.blocks.specs.Calls.{OnlyReads};
 ghost use Rattle.model.specs.Verdict.{verdict};
 ghost use Rattle.inspect.specs.Causes.{IsUndrawn};
+ghost use Rattle.inspect.specs.Cells.{cells_of};
 ghost use Rattle.inspect.specs.Drawing.{drawing_of, drawing_text, label_text, row_text};
 
+use crate::cells::gather_cells;
 use crate::refused::ShowRefusal;
 use crate::signs::gather_signs;
 use blocks::Disk;
 use itoa::Buffer;
 use messages::{Unwritten, print, print_last, write_bytes};
 use offline::check;
+use pictures::Cell;
 use std::alloc::Global;
 use std::io::Write;
 
@@ -45,6 +48,33 @@ pub fn show_disk<D: Disk, O: Write>(
     check(alloc, disk).map_err(ShowRefusal::Check)?;
     let signs = gather_signs(alloc, disk)?;
     draw(out, signs.as_slice()).map_err(|_| ShowRefusal::Output)
+}
+
+/// Draws the blocks of an image as `show_disk`, and hands out what each of them is, and whose, for a
+/// picture.
+///
+/// # Errors
+///
+/// As those of `show_disk`.
+pub fn show_cells<D: Disk, O: Write>(
+    alloc: Global,
+    disk: &mut D,
+    out: &mut O,
+) -> Result<Vec<Cell>, ShowRefusal>
+    ensures sound { OnOk result (verdict (D.image disk.old) ≡ None) }
+    ensures printed { OnOk result (Appends (O.contents out.old) (O.contents out.new)
+        (drawing_of (D.image disk.old))) }
+    ensures cells { IfOk result (λ cells. cells.items ≡ cells_of (D.image disk.old)) }
+    ensures reads { OnlyReads D.Disk disk.old disk.new }
+    ensures refused { IfErr result (IsUndrawn D.Disk disk.old disk.new (out.new ≡ out.old)) }
+{
+    check(alloc, disk).map_err(ShowRefusal::Check)?;
+    let signs = gather_signs(alloc, disk)?;
+    let cells = gather_cells(alloc, disk, signs.as_slice())?;
+    match draw(out, signs.as_slice()) {
+        Ok(()) => Ok(cells),
+        Err(_) => Err(ShowRefusal::Output),
+    }
 }
 
 // Prints rows of these signs, and the key, as the last text of a command.

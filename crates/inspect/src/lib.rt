@@ -6,6 +6,7 @@
 //! the command was given.
 #![tactic(auto)]
 
+mod cells;
 mod drawing;
 mod explaining;
 mod fault;
@@ -26,7 +27,7 @@ mod telling;
 mod texts;
 mod usage;
 
-pub use drawing::show_disk;
+pub use drawing::{show_cells, show_disk};
 pub use given::Given;
 pub use listing::list_disk;
 pub use logging::show_log;

@@ -13,3 +13,5 @@ pub mod Page
 pub mod Timeline
 pub mod Recording
 pub mod Recorders
+pub mod Cells
+pub mod Stops

@@ -55,6 +55,9 @@ markup_text Markup.BandStyle =
     ++ codes "dcb0}.k2{fill:#fbe3a6}.k3{fill:#a8c8e8}.k4{fill:#f3c9b5}.k5{fill:url(#or)}g:focus{"
     ++ codes "outline:none}g:focus>rect{stroke:#c00;stroke-width:3px}g:focus>.tip{visibility:vis"
     ++ codes "ible}"
+markup_text Markup.CellStyle =
+    codes ".g{fill:#e3c4ec;stroke:#7a3d8c}.k6{fill:#d9d3ee;stroke:#444}.key b{display:inline-"
+    ++ codes "block;min-width:1.2em;text-align:center;border:1px solid #555;margin:0 2px 0 8px}"
 markup_text Markup.Heading = codes "</style></head>\n<body><h1>"
 markup_text Markup.HeadingEnd = codes "</h1>\n"
 markup_text Markup.Intro =
@@ -73,6 +76,32 @@ markup_text Markup.Hatch =
     ++ codes "ht='8' fill='#bbb'/></pattern></defs>\n"
 markup_text Markup.ToldOpen =
     codes "</svg></div>\n<details><summary>The steps as text</summary><pre>\n"
+markup_text Markup.CellsIntro =
+    codes "<p>Each square is a block, 64 in a row, as the image is once its log is copied hom"
+    ++ codes "e: the number before a row is that of its first block.</p>\n<p class='key'><b>b</b"
+    ++ codes ">boot<b>s</b>superblock<b>l</b>log<b>i</b>inodes<b>m</b>bitmap<b>a</b>addresses<b>"
+    ++ codes "0</b>to<b>9</b>data, by the last digit of the file's number<b>.</b>free<b>*</b>a b"
+    ++ codes "lock whose newer content is in the log. Point at a square, or go to it with the ta"
+    ++ codes "b key, to read whose it is.</p>\n"
+markup_text Markup.CellsOpen = codes "<div class='sheet'><svg width='1156' height='"
+markup_text Markup.CellsLabel =
+    codes "' role='group' aria-label='the blocks, 64 in a row'><defs><pattern id='or' width='"
+    ++ codes "8' height='8' patternUnits='userSpaceOnUse' patternTransform='rotate(45)'><rect wi"
+    ++ codes "dth='8' height='8' fill='#fff'/><rect width='3' height='8' fill='#bbb'/></pattern>"
+    ++ codes "</defs>\n"
+markup_text Markup.CellsTold =
+    codes "</svg></div>\n<details><summary>The blocks as text</summary><pre>\n"
+markup_text Markup.StopsIntro =
+    codes "<p>Each column is a stop: end for the whole run, the number of the write that isn'"
+    ++ codes "t made, or s and that of the sync that fails. Each green square is an image that t"
+    ++ codes "he stop may leave, one for each choice of the writes that are held, and passed: on"
+    ++ codes "ce recovered it has the files of the committed groups. A red square is the first t"
+    ++ codes "hat hasn't. Point at a square, or go to it with the tab key, to read which it is.<"
+    ++ codes "/p>\n"
+markup_text Markup.StopsOpen = codes "<div class='sheet'><svg width='"
+markup_text Markup.StopsLabel = codes "' role='group' aria-label='the stops, from left to right'>\n"
+markup_text Markup.StopsTold =
+    codes "</svg></div>\n<details><summary>The stops as text</summary><pre>\n"
 markup_text Markup.PageEnd = codes "</pre></details>\n</body></html>\n"
 
 -- a piece and a number

@@ -1,5 +1,5 @@
 -- The page of a picture, and what stands round the drawing of a run.
-use Rattle.std.specs.Prelude.{ℕ, ◌+◌, List, ◌++◌, codes}
+use Rattle.std.specs.Prelude.{ℕ, ◌+◌, List, [], ◌++◌, codes, if◌then◌else◌}
 use Rattle.std.specs.List.{flat_map, range_with_len}
 use Rattle.pictures.specs.Markups.{attribute_text, markup_text}
 use Rattle.pictures.specs.Places.{drawing_height, lane_y, row_y, sheet_width}
@@ -13,7 +13,7 @@ use Rattle.pictures.specs.declared.types.Frame.{Frame}
 unfoldable pub style_text : List ℕ
 style_text =
     markup_text Markup.Style ++ markup_text Markup.BodyStyle ++ markup_text Markup.TextStyle
-    ++ markup_text Markup.BoxStyle ++ markup_text Markup.BandStyle
+    ++ markup_text Markup.BoxStyle ++ markup_text Markup.BandStyle ++ markup_text Markup.CellStyle
 
 unfoldable pub heading_text : List ℕ → List ℕ
 heading_text heading = markup_text Markup.Heading ++ heading ++ markup_text Markup.HeadingEnd
@@ -33,10 +33,13 @@ lane_name p = counted_text (codes "r") (spot 8 (lane_y p + 24)) (codes "process 
 unfoldable pub row_name : Frame → ℕ → List ℕ → List ℕ
 row_name f below words = label_text (codes "r") (spot 8 (row_y f below)) words
 
+unfoldable pub files_name : Frame → List ℕ
+files_name f = if f.has_files then row_name f 121 (codes "files, recovered") else []
+
 unfoldable pub row_names : Frame → List ℕ
 row_names f =
     label_text (codes "r") (spot 8 14) (codes "step") ++ row_name f 22 (codes "disk write")
-    ++ row_name f 90 (codes "a stop here keeps") ++ row_name f 121 (codes "files, recovered")
+    ++ row_name f 90 (codes "a stop here keeps") ++ files_name f
 
 unfoldable pub names_text : Frame → List ℕ
 names_text f =

@@ -1,5 +1,5 @@
 -- Where the parts of a run's drawing stand, in pixels.
-use Rattle.std.specs.Prelude.{ℕ, ◌+◌, ◌*◌}
+use Rattle.std.specs.Prelude.{ℕ, ◌+◌, ◌*◌, if◌then◌else◌}
 use Rattle.pictures.specs.declared.types.Frame.{Frame}
 
 -- the left edge of a column
@@ -19,4 +19,4 @@ abbrev pub sheet_width : Frame → ℕ
 sheet_width f = column_x f.columns + 72
 
 abbrev pub drawing_height : Frame → ℕ
-drawing_height f = row_y f 222
+drawing_height f = if f.has_files then row_y f 222 else row_y f 106

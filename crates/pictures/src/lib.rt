@@ -8,19 +8,25 @@
 mod bands;
 mod boxes;
 mod brackets;
+mod cells;
 mod files;
 mod markups;
 mod page;
+mod picture;
 mod places;
 mod recorder;
 mod replies;
 mod shapes;
+mod stops;
 mod timeline;
 mod titles;
 mod types;
 mod written;
 
+pub use cells::{Cell, Cells, Owner};
+pub use picture::Picture;
 pub use recorder::{MOST_COLUMNS, Recorder};
 pub use replies::{Gist, gist_of};
-pub use timeline::print_timeline;
+pub use stops::{At, Column, Lost, Stops};
+pub use timeline::Timeline;
 pub use types::{FileLine, FilesThen, Frame, Moment};

@@ -70,6 +70,8 @@ pub enum Markup {
     BoxStyle,
     // The bands.
     BandStyle,
+    // The squares.
+    CellStyle,
     // The heading.
     Heading,
     // Its end.
@@ -88,6 +90,22 @@ pub enum Markup {
     Hatch,
     // The end of the sheet, and the steps as text.
     ToldOpen,
+    // How the drawing of an image's blocks is read.
+    CellsIntro,
+    // The sheet of that.
+    CellsOpen,
+    // What it shows.
+    CellsLabel,
+    // Its end, and the blocks as text.
+    CellsTold,
+    // How the drawing of a run's stops is read.
+    StopsIntro,
+    // The sheet of that.
+    StopsOpen,
+    // What it shows.
+    StopsLabel,
+    // Its end, and the stops as text.
+    StopsTold,
     // The end of a page.
     PageEnd,
 }
@@ -150,6 +168,8 @@ fn text_of(markup: Markup) -> &'static str
             "rect{rx:3px}rect.b{fill:#dfe8f4;stroke:#6f87a8}rect.t{fill:#f7f3e9;stroke:#bdb49c}rect.w{fill:#a9c8ea;stroke:#4a78ad}rect.c{fill:#0a5c28;stroke:#000;stroke-width:2}rect.h{fill:#2f5f9e;stroke:#1d3d66}rect.e{fill:#c9ced4;stroke:#777}rect.s{fill:#fff;stroke:#5b2d8c;stroke-width:2}rect.z,rect.i{fill:#fff;stroke:#888;stroke-dasharray:4 3}rect.x{fill:#7a1020}rect.a{fill:#ffd861;stroke:#a5821a}rect.q{fill:transparent}",
         Markup::BandStyle =>
             "rect.v{fill:#f1f1f1}path.v{fill:none;stroke:#333;stroke-width:2}path.l{stroke:#ddd}path.j{stroke:#333}.k0,.k1,.k2,.k3,.k4,.k5{stroke:#444}.k0{fill:#fff}.k1{fill:#b9dcb0}.k2{fill:#fbe3a6}.k3{fill:#a8c8e8}.k4{fill:#f3c9b5}.k5{fill:url(#or)}g:focus{outline:none}g:focus>rect{stroke:#c00;stroke-width:3px}g:focus>.tip{visibility:visible}",
+        Markup::CellStyle =>
+            ".g{fill:#e3c4ec;stroke:#7a3d8c}.k6{fill:#d9d3ee;stroke:#444}.key b{display:inline-block;min-width:1.2em;text-align:center;border:1px solid #555;margin:0 2px 0 8px}",
         Markup::Heading => "</style></head>\n<body><h1>",
         Markup::HeadingEnd => "</h1>\n",
         Markup::Intro =>
@@ -161,6 +181,17 @@ fn text_of(markup: Markup) -> &'static str
         Markup::Hatch =>
             "<defs><pattern id='or' width='8' height='8' patternUnits='userSpaceOnUse' patternTransform='rotate(45)'><rect width='8' height='8' fill='#fff'/><rect width='3' height='8' fill='#bbb'/></pattern></defs>\n",
         Markup::ToldOpen => "</svg></div>\n<details><summary>The steps as text</summary><pre>\n",
+        Markup::CellsIntro =>
+            "<p>Each square is a block, 64 in a row, as the image is once its log is copied home: the number before a row is that of its first block.</p>\n<p class='key'><b>b</b>boot<b>s</b>superblock<b>l</b>log<b>i</b>inodes<b>m</b>bitmap<b>a</b>addresses<b>0</b>to<b>9</b>data, by the last digit of the file's number<b>.</b>free<b>*</b>a block whose newer content is in the log. Point at a square, or go to it with the tab key, to read whose it is.</p>\n",
+        Markup::CellsOpen => "<div class='sheet'><svg width='1156' height='",
+        Markup::CellsLabel =>
+            "' role='group' aria-label='the blocks, 64 in a row'><defs><pattern id='or' width='8' height='8' patternUnits='userSpaceOnUse' patternTransform='rotate(45)'><rect width='8' height='8' fill='#fff'/><rect width='3' height='8' fill='#bbb'/></pattern></defs>\n",
+        Markup::CellsTold => "</svg></div>\n<details><summary>The blocks as text</summary><pre>\n",
+        Markup::StopsIntro =>
+            "<p>Each column is a stop: end for the whole run, the number of the write that isn't made, or s and that of the sync that fails. Each green square is an image that the stop may leave, one for each choice of the writes that are held, and passed: once recovered it has the files of the committed groups. A red square is the first that hasn't. Point at a square, or go to it with the tab key, to read which it is.</p>\n",
+        Markup::StopsOpen => "<div class='sheet'><svg width='",
+        Markup::StopsLabel => "' role='group' aria-label='the stops, from left to right'>\n",
+        Markup::StopsTold => "</svg></div>\n<details><summary>The stops as text</summary><pre>\n",
         Markup::PageEnd => "</pre></details>\n</body></html>\n",
     }
 }

@@ -2,7 +2,7 @@
 ghost use Rattle.std.specs.Prelude.{OnOk};
 ghost use Rattle.std.specs.Io.KnownBytes.{Appends};
 ghost use Rattle.std.specs.List.{flat_map, range_with_len};
-ghost use Rattle.pictures.specs.Page.{heading_text, lane_line, lane_name, names_open, names_text, page_open, row_name, row_names, sheet_open, sheet_text, style_text};
+ghost use Rattle.pictures.specs.Page.{files_name, heading_text, lane_line, lane_name, names_open, names_text, page_open, row_name, row_names, sheet_open, sheet_text, style_text};
 
 use crate::markups::{Markup, print_attribute, print_markup};
 use crate::places::{drawing_height, lane_y, row_y, sheet_width};
@@ -32,7 +32,8 @@ fn print_style<O: Write>(out: &mut O) -> Result<(), Unwritten>
     print_markup(out, Markup::BodyStyle)?;
     print_markup(out, Markup::TextStyle)?;
     print_markup(out, Markup::BoxStyle)?;
-    print_markup(out, Markup::BandStyle)
+    print_markup(out, Markup::BandStyle)?;
+    print_markup(out, Markup::CellStyle)
 }
 
 #[tactic(auto, unfolding(crate::specs::Page::heading_text))]
@@ -96,6 +97,17 @@ fn print_row_names<O: Write>(out: &mut O, frame: Frame) -> Result<(), Unwritten>
     print_label(out, "r", Spot { x: 8, y: 14 }, "step")?;
     print_row_name(out, frame, 22, "disk write")?;
     print_row_name(out, frame, 90, "a stop here keeps")?;
+    print_files_name(out, frame)
+}
+
+#[tactic(auto, unfolding(crate::specs::Page::files_name))]
+fn print_files_name<O: Write>(out: &mut O, frame: Frame) -> Result<(), Unwritten>
+    ensures ok { OnOk result (Appends (O.contents out.old) (O.contents out.new)
+        (files_name frame)) }
+{
+    if !frame.has_files {
+        return Ok(());
+    }
     print_row_name(out, frame, 121, "files, recovered")
 }
 

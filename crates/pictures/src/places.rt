@@ -37,5 +37,9 @@ pub fn sheet_width(frame: Frame) -> u64
 pub fn drawing_height(frame: Frame) -> u64
     ensures { result ≡ drawing_height frame }
 {
-    row_y(frame, 222)
+    if frame.has_files {
+        row_y(frame, 222)
+    } else {
+        row_y(frame, 106)
+    }
 }

@@ -1,5 +1,5 @@
 // The steps of a run, recorded turn by turn.
-ghost use Rattle.std.specs.Prelude.{◌≡◌, [], IfOk};
+ghost use Rattle.std.specs.Prelude.{◌≡◌, [], IfOk, length};
 ghost use Rattle.pictures.specs.Along.{left_along};
 ghost use Rattle.pictures.specs.Recording.{answer_behind, answer_in, with_moment};
 
@@ -21,14 +21,14 @@ pub struct Moments {
 }
 
 impl Model for Moments {
-    ghost use Rattle.std.specs.Prelude.{◌≤◌, List, vec_capacity};
+    ghost use Rattle.std.specs.Prelude.{◌≤◌, List, length, vec_capacity};
     ghost use Rattle.pictures.specs.declared.types.Moment.{Moment};
 
     ghost Value = { List Moment };
 
     ghost view = { λ r. r.list.items };
 
-    ghost invariant = { λ r. 2001 ≤ vec_capacity r.list };
+    ghost invariant = { λ r. (2001 ≤ vec_capacity r.list) × (length r.list.items ≤ 2001) };
 }
 
 impl Moments {
@@ -39,6 +39,13 @@ impl Moments {
         Ok(Moments {
             list: Vec::with_capacity(alloc, MOST_COLUMNS + 1)?,
         })
+    }
+
+    // How many there are.
+    fn count(&self) -> u32
+        ensures { result ≡ length self.now }
+    {
+        self.list.len() as u32
     }
 
     // Adds the steps of a turn, with what a process was answered in it. No memory is taken.
@@ -95,6 +102,13 @@ impl Recorder {
         ensures { result ≡ self.now.steps }
     {
         self.steps
+    }
+
+    /// How many of them were recorded.
+    pub fn columns(&self) -> u32
+        ensures { result ≡ length self.now.moments }
+    {
+        self.moments.count()
     }
 
     /// The steps that were recorded.

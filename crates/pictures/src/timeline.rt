@@ -13,20 +13,34 @@ use crate::brackets::print_brackets;
 use crate::files::print_files_then;
 use crate::markups::{Markup, print_markup};
 use crate::page::{open_page, print_names, print_sheet};
+use crate::picture::Picture;
 use crate::titles::{print_title, print_told};
 use crate::types::{FilesThen, Frame, Moment};
 use crate::written::print_written;
 use messages::{Unwritten, pass_on};
 use std::io::Write;
 
-/// Writes the picture of a run, as a page of HTML, and passes on what the writer holds back. The files
-/// are those from a step on, where they changed.
-///
-/// # Errors
-///
-/// `Unwritten` where the output can't be written.
+/// The picture of a run: its steps, and the files from a step on, where they changed.
+#[derive(Clone, Copy, Debug)]
+pub struct Timeline<'a> {
+    /// What all of its parts share.
+    pub frame: Frame,
+    /// The steps, the first at column 0.
+    pub moments: &'a [Moment],
+    /// The files, where there is a row of them.
+    pub files: &'a [FilesThen],
+}
+
+impl<'a> Picture for Timeline<'a> {
+    ghost text = { λ t. timeline_text t.frame t.moments.now t.files.now };
+
+    fn print<O: Write>(&self, out: &mut O) -> Result<(), Unwritten> {
+        print_timeline(out, self.frame, self.moments, self.files)
+    }
+}
+
 #[tactic(auto, unfolding(crate::specs::Timeline::timeline_text))]
-pub fn print_timeline<O: Write>(
+fn print_timeline<O: Write>(
     out: &mut O,
     frame: Frame,
     moments: &[Moment],

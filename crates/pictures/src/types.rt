@@ -13,6 +13,8 @@ pub struct Frame {
     pub inode_count: u32,
     /// Whether the disk holds writes back until a sync.
     pub holds: bool,
+    /// Whether there is a row of the files.
+    pub has_files: bool,
 }
 
 /// A step of a run.

@@ -14,6 +14,11 @@ pub value_read : (f : Found) (id text : List ℕ) → Some text ≡ first_value 
     → first_of id (rows_of f) ≡ Some text
 value_read f id text gives = sym (gives ∙ first_value-rows f id)
 
+-- the first value of a word that may be left out
+pub path_read : (f : Found) (id : List ℕ) (given : Option (List ℕ)) → given ≡ first_value f id
+    → given ≡ first_of id (rows_of f)
+path_read f id given gives = gives ∙ first_value-rows f id
+
 -- what clap says of a word that may be given
 pub flag_read : (f : Found) (id : List ℕ) (given : Bool) → (one_text f id ≡ None → given ≡ false)
     → (one_text f id ≡ Some (codes "true") → given ≡ true)

@@ -1,6 +1,6 @@
 use Rattle.std.proofs.Common.{codes, refl}
 use Rattle.clap.specs.Words.{found_of}
-use Rattle.cli.specs.Lemmas.Parses.{flag_read, value_read}
+use Rattle.cli.specs.Lemmas.Parses.{flag_read, path_read, value_read}
 use Rattle.cli.proofs.words.replay_request.Goals as goal
 
 pub returns : goal.returns
@@ -13,4 +13,5 @@ returns c =
       flag_read found (codes "sync") c.get_flag.result c.get_flag.ensures.none c.get_flag.ensures.value c.get_flag.ensures.other,
       flag_read found (codes "writes") c.get_flag-2.result c.get_flag-2.ensures.none c.get_flag-2.ensures.value c.get_flag-2.ensures.other,
       flag_read found (codes "steps") c.get_flag-3.result c.get_flag-3.ensures.none c.get_flag-3.ensures.value c.get_flag-3.ensures.other,
+      path_read found (codes "picture") _ c.get_str-4.ensures,
     )

@@ -1,9 +1,11 @@
-use Rattle.std.proofs.Common.{◌≡◌, ◌∙◌, ℕ, List, Option, codes, rules, subst}
+use Rattle.std.proofs.Common.{◌≡◌, ◌∙◌, ℕ, List, Option, Some, None, codes, refl, rules, subst, sym}
+use Rattle.std.specs.Prelude.{IfSome}
 use Rattle.clap.proofs.WalkLemmas.{first_value-rows}
 use Rattle.clap.specs.Words.{first_of, first_value, found_of, rows_of}
 use Rattle.clap.specs.declared.parser.matches.Found.{Found}
-use Rattle.cli.specs.CommandLine.{HasPart}
-use Rattle.cli.specs.Lemmas.Parses.{value_read}
+use Rattle.cli.specs.CommandLine.{AsksBy, HasPart}
+use Rattle.cli.specs.Lemmas.Parses.{path_read, value_read}
+use Rattle.cli.specs.declared.words.Request.{Request}
 use Rattle.cli.specs.declared.words.Part.{Part}
 use Rattle.cli.proofs.words.show_request.Goals as goal
 
@@ -14,14 +16,30 @@ part_read found word given part gives has is =
 pub returns-in-Whole : goal.returns-in-Whole
 returns-in-Whole c =
     let found = found_of c.args.values.now in
-    (search rules, value_read found (codes "IMAGE") _ c.in_ok-image.ensures, part_read found _ _ _ c.get_str-2.ensures c.in_ok-part_of.ensures c.in-Whole.is)
+    (search rules, value_read found (codes "IMAGE") _ c.in_ok-image.ensures, part_read found _ _ _ c.get_str-2.ensures c.in_ok-part.ensures c.in-Whole.is, sym (path_read found (codes "picture") None c.in_default.ensures))
 
 pub returns-in-File : goal.returns-in-File
 returns-in-File c =
     let found = found_of c.args.values.now in
-    (search rules, value_read found (codes "IMAGE") _ c.in_ok-image.ensures, part_read found _ _ _ c.get_str-2.ensures c.in_ok-part_of.ensures c.in-File.is)
+    (search rules, value_read found (codes "IMAGE") _ c.in_ok-image.ensures, part_read found _ _ _ c.get_str-2.ensures c.in_ok-part.ensures c.in-File.is, sym (path_read found (codes "picture") None c.in_default.ensures))
 
 pub returns-in-Log : goal.returns-in-Log
 returns-in-Log c =
     let found = found_of c.args.values.now in
-    (search rules, value_read found (codes "IMAGE") _ c.in_ok-image.ensures, part_read found _ _ _ c.get_str-2.ensures c.in_ok-part_of.ensures c.in-Log.is)
+    (search rules, value_read found (codes "IMAGE") _ c.in_ok-image.ensures, part_read found _ _ _ c.get_str-2.ensures c.in_ok-part.ensures c.in-Log.is, sym (path_read found (codes "picture") None c.in_default.ensures))
+
+shown_so : (r : Option Request) (P Q : Request → Type 0) → ((request : Request) → P request → Q request) → IfSome r P → IfSome r Q
+shown_so None P Q follows is = tt
+shown_so (Some request) P Q follows is = follows request is
+
+pub returns-in-Some : goal.returns-in-Some
+returns-in-Some c =
+    let found = found_of c.args.values.now in
+    shown_so c.drawn.result _ _
+    (λ request so. subst (AsksBy (codes "show") (rows_of found)) (sym so.1) (
+      refl,
+      value_read found (codes "IMAGE") _ c.in_ok-image.ensures,
+      part_read found _ _ _ c.get_str-2.ensures c.in_ok-part.ensures so.0,
+      value_read found (codes "picture") _ c.in-Some.ensures,
+    ))
+    c.drawn.ensures
