@@ -2,3 +2,5 @@ mod LoadedFiles
 mod Walking
 pub mod AddedTexts
 mod Looking
+mod Copied
+mod Ungot

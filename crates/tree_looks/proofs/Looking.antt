@@ -1,6 +1,6 @@
 -- What a look at a disk comes to.
-use Rattle.std.proofs.Common.{◌≡◌, ◌∙◌, ℕ, List, Option, None, sym, subst, inl, inr}
-use Rattle.std.specs.Prelude.{◌⊎◌, Result, Ok, Err, IfErr, IfOk, OnOk}
+use Rattle.std.proofs.Common.{◌≡◌, ℕ, List, Option, None, subst, inl, inr}
+use Rattle.std.specs.Prelude.{Result, Ok, Err, IfErr, IfOk, OnOk}
 use Rattle.std.specs.Io.KnownBytes.{Appends}
 use Rattle.blocks.specs.Calls.{OnlyReads}
 use Rattle.blocks.specs.declared.disk.Disk.{Ghosts}
@@ -39,7 +39,3 @@ module _ {D N : Type 0} (disk : Ghosts D N) (d e : D) (reads : OnlyReads disk d 
 pub kept_told : {V E F : Type 0} (made : Result V E) (r : Result V F) (P : V → Type 0) → IfOk r (λ text. made ≡ Ok text) → IfOk made P → IfOk r P
 kept_told made (Ok text) P same known = subst (λ q. IfOk q P) same known
 kept_told made (Err refused) P same known = tt
-
-pub where_done : {F : Type 0} (r : Result (Unit {0}) F) (P : Type 0) → P → OnOk r P
-where_done (Ok _) P is = is
-where_done (Err refused) P is = tt

@@ -1,6 +1,25 @@
 // Files of an image, copied into new files of the system.
-ghost use Rattle.std.specs.Prelude.{◌≡◌};
-ghost use Rattle.tree_looks.specs.Gets.{HasGot};
+ghost use Rattle.std.specs.Prelude.{◌≡◌, length, IfErr, IfOk, Ok, OnOk};
+ghost use Rattle.cmd.specs.declared.files.OnFile.TheVariants as on;
+ghost use Rattle.names.specs.Paths.{names_of};
+ghost use Rattle.names.specs.Trees.{root, IsDirectory};
+ghost use Rattle.names.specs.Walks.{walked};
+ghost use Rattle.tree_looks.specs.Gets.{
+  CopiesBelow,
+  CopiesEntry,
+  HasCopied,
+  HasGot,
+  HasGotAll,
+  HasWrittenNew,
+  HasWrittenTo,
+  IsOfFolder,
+  IsOfNew,
+  IsUncopied,
+  IsUngot,
+  IsUngotAll,
+};
+ghost use Rattle.tree_looks.specs.Looks.{HasNoPaths};
+ghost use Rattle.tree_looks.specs.declared.faults.GetRefusal.TheVariants as get;
 
 use crate::entries::text_of;
 use crate::faults::{GetRefusal, LookRefusal};
@@ -10,6 +29,7 @@ use crate::looks::Cat;
 use crate::over_files::OverFiles;
 use blocks::FileFault;
 use cmd::{Access, Command, OnFile, OverFile, open_to_look};
+use messages::{Unwritten, pass_on, write_bytes};
 use model::types::File as Stored;
 use names::{ENTRY_SIZE, Refusal, entries_in, leads_down, number_in};
 use std::alloc::Global;
@@ -33,9 +53,9 @@ pub struct Get<'a> {
 impl<'a, R: Files + AllocGlobal> Command<R> for Get<'a> {
     type Refusal = GetRefusal;
 
-    ghost done = { λ get. HasGot R.File.remaining get.path.now };
+    ghost done = { λ get. HasGot R.File.remaining R.File.contents get.path.now };
 
-    ghost refused = { λ get old new none r. none };
+    ghost refused = { λ get old new. IsUngot R.File.remaining get.path.now };
 
     fn run<O: Write>(self, rt: &R, _out: &mut O) -> Result<(), GetRefusal> {
         if let Ok(true) = exists(rt, self.file) {
@@ -51,7 +71,11 @@ impl<'a, R: Files + AllocGlobal> Command<R> for Get<'a> {
 }
 
 // Makes a file of these bytes, where nothing has its name. None is left where they can't be written.
-pub fn write_new<R: Files>(rt: &R, path: &str, bytes: &[u8]) -> Result<(), GetRefusal> {
+pub fn write_new<R: Files>(rt: &R, path: &str, bytes: &[u8]) -> Result<(), GetRefusal>
+    ensures written { OnOk result (HasWrittenNew R.File.contents bytes.now) }
+    ensures cause { IfErr result IsOfNew }
+    ensures below { IfErr result IsOfFolder }
+{
     let file = File::create_new(rt, path).map_err(|error| GetRefusal::Made(fault_of(error)))?;
     match write_whole(file, bytes) {
         Ok(()) => Ok(()),
@@ -62,10 +86,12 @@ pub fn write_new<R: Files>(rt: &R, path: &str, bytes: &[u8]) -> Result<(), GetRe
     }
 }
 
-fn write_whole<W: Write + Drop>(file: W, bytes: &[u8]) -> io::Result<()> {
+fn write_whole<W: Write + Drop>(file: W, bytes: &[u8]) -> Result<(), Unwritten>
+    ensures { OnOk result (HasWrittenTo W.contents file bytes.now) }
+{
     let mut file = file;
-    file.write_all(bytes)?;
-    file.flush()
+    write_bytes(&mut file, bytes)?;
+    pass_on(&mut file)
 }
 
 // Why a file can't be made.
@@ -92,9 +118,9 @@ pub struct GetAll<'a> {
 impl<'a, R: Files + AllocGlobal> Command<R> for GetAll<'a> {
     type Refusal = GetRefusal;
 
-    ghost done = { λ get old new. new ≡ old };
+    ghost done = { λ get. HasGotAll R.File.remaining R.File.contents get.path.now };
 
-    ghost refused = { λ get old new none r. none };
+    ghost refused = { λ get old new. IsUngotAll R.File.remaining get.path.now };
 
     fn run<O: Write>(self, rt: &R, _out: &mut O) -> Result<(), GetRefusal> {
         if let Ok(true) = exists(rt, self.folder) {
@@ -104,37 +130,79 @@ impl<'a, R: Files + AllocGlobal> Command<R> for GetAll<'a> {
             Ok(disk) => disk,
             Err(fault) => return Err(GetRefusal::Of(OnFile::File(fault))),
         };
-        let files = load(rt.alloc(), &mut disk).map_err(|refusal| of(refusal))?;
-        let number = directory_at(rt.alloc(), files.as_slice(), self.path)?;
-        make_folder(rt, self.folder)?;
-        let filled = fill_folder(rt, files.as_slice(), number, self.folder, files.len());
-        if filled.is_err() {
-            let _gone = remove_dir_all(rt, self.folder);
-        }
-        filled
+        let files = match load(rt.alloc(), &mut disk) {
+            Ok(files) => files,
+            Err(refusal) => return Err(of(refusal)),
+        };
+        get_below(rt, files.as_slice(), self.path, self.folder)
     }
 }
 
-fn of(refusal: LookRefusal) -> GetRefusal {
-    GetRefusal::Of(OnFile::Of(refusal))
-}
-
-// The number of the directory at a path.
-fn directory_at(alloc: Global, files: &[Option<Stored>], path: &str) -> Result<u32, GetRefusal> {
-    match find(alloc, files, path.as_bytes()) {
-        Ok(found) => {
-            if is_directory(files, found.number) {
-                Ok(found.number)
-            } else {
-                Err(of(LookRefusal::Refused(Refusal::NotADirectory)))
-            }
-        }
+// Copies what is in the directory at a path into a new folder.
+fn get_below<R: Files + AllocGlobal>(
+    rt: &R,
+    files: &[Option<Stored>],
+    path: &str,
+    folder: &str,
+) -> Result<(), GetRefusal>
+    ensures copied { OnOk result (HasCopied R.File.contents path.now files.now) }
+    ensures refused { IfErr result (IsUncopied path.now files.now) }
+{
+    match directory_at(rt.alloc(), files, path) {
+        Ok(number) => fill_new(rt, files, number, folder),
         Err(refusal) => Err(of(refusal)),
     }
 }
 
+// Copies what is in a directory into a new folder, which is taken away again where that can't be done.
+fn fill_new<R: Files + AllocGlobal>(
+    rt: &R,
+    files: &[Option<Stored>],
+    number: u32,
+    folder: &str,
+) -> Result<(), GetRefusal>
+    ensures copied { OnOk result
+        (CopiesBelow R.File.contents (length files.now) files.now number) }
+    ensures cause { IfErr result IsOfFolder }
+{
+    make_folder(rt, folder)?;
+    match fill_folder(rt, files, number, folder, files.len()) {
+        Ok(()) => Ok(()),
+        Err(refusal) => {
+            let _gone = remove_dir_all(rt, folder);
+            Err(refusal)
+        }
+    }
+}
+
+fn of(refusal: LookRefusal) -> GetRefusal
+    ensures { result ≡ get.Of (on.Of refusal) }
+{
+    GetRefusal::Of(OnFile::Of(refusal))
+}
+
+// The number of the directory at a path.
+fn directory_at(alloc: Global, files: &[Option<Stored>], path: &str) -> Result<u32, LookRefusal>
+    ensures led { IfOk result (λ number. walked files.now root (names_of path.now) ≡ Ok number) }
+    ensures directory { IfOk result (IsDirectory files.now) }
+    ensures refused { IfErr result (HasNoPaths path.now files.now) }
+{
+    match find(alloc, files, path.as_bytes()) {
+        Ok(found) => {
+            let number = found.number;
+            if !is_directory(files, number) {
+                return Err(LookRefusal::Refused(Refusal::NotADirectory));
+            }
+            Ok(number)
+        }
+        Err(refusal) => Err(refusal),
+    }
+}
+
 // Makes a folder, where nothing has its name.
-fn make_folder<R: Files>(rt: &R, folder: &str) -> Result<(), GetRefusal> {
+fn make_folder<R: Files>(rt: &R, folder: &str) -> Result<(), GetRefusal>
+    ensures { IfErr result IsOfFolder }
+{
     match create_dir(rt, folder) {
         Ok(()) => Ok(()),
         Err(error) => Err(GetRefusal::Made(fault_of(error))),
@@ -149,19 +217,20 @@ fn fill_folder<R: Files + AllocGlobal>(
     number: u32,
     folder: &str,
     depth: usize,
-) -> Result<(), GetRefusal> {
+) -> Result<(), GetRefusal>
+    ensures copied { OnOk result (CopiesBelow R.File.contents depth files.now number) }
+    ensures cause { IfErr result IsOfFolder }
+{
     if depth == 0 {
         return Ok(());
     }
     for entry in entries_in(bytes_at(files, number)) {
-        if leads_down(entry) {
-            copy_entry(rt, files, entry, folder, depth - 1)?;
-        }
+        copy_entry(rt, files, entry, folder, depth - 1)?;
     }
     Ok(())
 }
 
-// Copies the file of an entry into a folder, with all below it, down to a depth.
+// Copies the file of an entry that leads down into a folder, with all below it, down to a depth.
 #[cycle(folders)]
 fn copy_entry<R: Files + AllocGlobal>(
     rt: &R,
@@ -169,7 +238,13 @@ fn copy_entry<R: Files + AllocGlobal>(
     entry: &[u8; ENTRY_SIZE],
     folder: &str,
     depth: usize,
-) -> Result<(), GetRefusal> {
+) -> Result<(), GetRefusal>
+    ensures copied { OnOk result (CopiesEntry R.File.contents depth files.now entry.now) }
+    ensures cause { IfErr result IsOfFolder }
+{
+    if !leads_down(entry) {
+        return Ok(());
+    }
     let number = u32::from(number_in(entry));
     let path = path_in(rt.alloc(), folder, text_of(&entry[2..ENTRY_SIZE]))?;
     if is_directory(files, number) {
@@ -181,7 +256,9 @@ fn copy_entry<R: Files + AllocGlobal>(
 }
 
 // The path of a name in a folder. A name that isn't one there, as `a/b`, has none.
-fn path_in(alloc: Global, folder: &str, name: &[u8]) -> Result<String, GetRefusal> {
+fn path_in(alloc: Global, folder: &str, name: &[u8]) -> Result<String, GetRefusal>
+    ensures { IfErr result IsOfFolder }
+{
     let Ok(name) = str::from_utf8(name) else {
         return Err(GetRefusal::BadName);
     };
