@@ -194,7 +194,13 @@ where
             err,
         ),
         Request::Check { image, all } => {
-            perform(NAME, rt, OverFile(image, Access::Look, Check { all }), out, err)
+            perform(
+                NAME,
+                rt,
+                OverFile(image, Access::Look, Check { all }),
+                out,
+                err,
+            )
         }
         Request::Recover { image, sync } => {
             let recover = Recover {

@@ -60,7 +60,7 @@ returns-in-Rescue-clause-refused g c =
 
 pub returns-in-Replay-clause-done : goal.returns-in-Replay-clause-done
 returns-in-Replay-clause-done g c =
-    λ done. subst (λ request. Answers (seen_by g.R.File.Read.remaining g.R.File.Write.contents) request (g.O.Write.contents c.args.out.now) (g.O.Write.contents c.replay_into.new.out)) (sym c.in-Replay.is) (was_done c.replay_into.result _ c.replay_into.ensures.opened (c.end.ensures.done done))
+    λ done. subst (λ request. Answers (seen_by g.R.File.Read.remaining g.R.File.Write.contents) request (g.O.Write.contents c.args.out.now) (g.O.Write.contents c.replay_into.new.out)) (sym c.in-Replay.is) (was_done c.replay_into.result _ c.replay_into.ensures.done (c.end.ensures.done done))
 
 pub returns-in-Replay-clause-refused : goal.returns-in-Replay-clause-refused
 returns-in-Replay-clause-refused g c =
