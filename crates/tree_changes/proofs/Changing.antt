@@ -1,7 +1,7 @@
 -- What a change of files over a disk comes to, from its opening to its end.
-use Rattle.std.proofs.Common.{◌≡◌, ◌∙◌, ℕ, Bool, true, false, List, Option, None, refl, sym, ap, subst, inl, inr, ⊎_elim}
-use Rattle.std.specs.Prelude.{Result, Ok, Err, IfErr, IfOk, OnOk, IsTrue}
-use Rattle.blocks.specs.Disk.{AddsNone, Image, LeavesOnly, Rose}
+use Rattle.std.proofs.Common.{◌≡◌, ◌∙◌, ℕ, Bool, true, false, List, Option, None, sym, ap, subst, inl, inr, ⊎_elim}
+use Rattle.std.specs.Prelude.{Result, Ok, Err, IfErr, OnOk}
+use Rattle.blocks.specs.Disk.{AddsNone, Image, LeavesOnly}
 use Rattle.blocks.specs.Lemmas.Moments.{stays}
 use Rattle.blocks.specs.declared.disk.Disk.{Ghosts}
 use Rattle.calls.specs.Calls.{image_on}
@@ -24,7 +24,7 @@ use Rattle.names.specs.declared.opening.TreeOpenFault.TheVariants as opening
 use Rattle.opening.specs.Lemmas.Stopping.{if_synced, opened_leaves, recovered_if_synced, run_leaves}
 use Rattle.transfer.specs.Ending.{SyncsIf}
 use Rattle.wal.specs.Recovery.{RecoversAs}
-use Rattle.tree_changes.specs.Changes.{AnyOf, FailsInTree, FailsSynced, HasChanged, HasMade, HasNotChanged, IsOfTree, IsUnended, IsUntold, LeavesMidst, StopsChange, Tells, Turn, turn}
+use Rattle.tree_changes.specs.Changes.{AnyOf, HasChanged, HasMade, HasNotChanged, IsOfTree, IsUnended, LeavesMidst, StopsChange, Tells, Turn, turn}
 use Rattle.tree_changes.specs.declared.faults.ChangeRefusal.{ChangeRefusal}
 use Rattle.tree_changes.specs.declared.faults.ChangeRefusal.TheVariants.{Unopened, Tree, Unwritten, Disk, Output}
 

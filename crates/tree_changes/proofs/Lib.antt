@@ -1,2 +1,3 @@
 mod Changing
 mod Pieces
+mod Rooms

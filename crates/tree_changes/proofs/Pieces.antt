@@ -1,5 +1,5 @@
 -- Bytes that are put, in one call or piece by piece.
-use Rattle.std.proofs.Common.{◌≡◌, ◌∙◌, ℕ, ◌+◌, ◌-◌, ◌*◌, ◌<◌, ◌≤◌, List, [], length, take, drop, Option, ⊎_elim, add-one, sym, ap, subst, inl, inr, arith}
+use Rattle.std.proofs.Common.{◌≡◌, ◌∙◌, ℕ, ◌+◌, ◌-◌, ◌*◌, ◌<◌, ◌≤◌, List, length, take, drop, Option, ⊎_elim, add-one, sym, ap, subst, inl, arith}
 use Rattle.std.specs.Prelude.{min, Result, Ok, IfOk}
 use Rattle.std.proofs.lemmas.Bool.{cases_lt}
 use Rattle.std.proofs.lemmas.List.{length-drop, take_all}
@@ -26,7 +26,7 @@ module _ {D N : Type 0} (disk : Ghosts D N) where
   over_on k m e first then_on = record { opening = then_on.opening ∙ first.opening; name = then_on.name ∙ first.name }
 
 -- a piece up to the next one, or to the end
-piece_is : (bytes : List ℕ) (from to : ℕ) → to ≡ min (from + 3072) (length bytes) → take (to - from) (drop from bytes) ≡ take 3072 (drop from bytes)
+pub piece_is : (bytes : List ℕ) (from to : ℕ) → to ≡ min (from + 3072) (length bytes) → take (to - from) (drop from bytes) ≡ take 3072 (drop from bytes)
 piece_is bytes from to is =
     let rest : length (drop from bytes) ≡ length bytes - from = length-drop from bytes in
     ⊎_elim

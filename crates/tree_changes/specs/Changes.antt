@@ -1,7 +1,7 @@
 -- What changes of the files of a disk come to.
-use Rattle.std.specs.Prelude.{◌≡◌, ◌⊎◌, ⊤, ℕ, ◌<◌, Bool, List, Option, None, Some, IsTrue}
+use Rattle.std.specs.Prelude.{◌≡◌, ⊤, ℕ, Bool, List, Option, None, Some, IsTrue}
 use Rattle.std.specs.Io.KnownBytes.{Appends}
-use Rattle.blocks.specs.Disk.{Image, LeavesOnly, Rose}
+use Rattle.blocks.specs.Disk.{LeavesOnly, Rose}
 use Rattle.blocks.specs.declared.disk.Disk.{Ghosts}
 use Rattle.calls.specs.Calls.{image_on}
 use Rattle.calls.specs.Opening.{IsOpenedPair}
@@ -16,10 +16,7 @@ use Rattle.names.specs.Making.{MakesDirectoryAt}
 use Rattle.names.specs.Opening.{IsUnopened}
 use Rattle.names.specs.Paths.{names_of}
 use Rattle.names.specs.Ready.{KeepsTree}
-use Rattle.names.specs.Removing.{RemovesAt}
-use Rattle.names.specs.Renaming.{RenamesAt}
 use Rattle.names.specs.Trees.{IsTree}
-use Rattle.names.specs.Undirecting.{RemovesDirectoryAt}
 use Rattle.names.specs.declared.refusal.TreeFault.{TreeFault}
 use Rattle.opening.specs.Stops.{LeavesIfSynced}
 use Rattle.transfer.specs.Ending.{SyncsIf}

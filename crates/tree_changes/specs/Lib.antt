@@ -1,3 +1,4 @@
 pub mod Tellings
 pub mod Changes
 pub mod Puts
+pub mod Room

@@ -1,14 +1,23 @@
 -- Bytes put under a path.
-use Rattle.std.specs.Prelude.{◌≡◌, ◌⊎◌, ℕ, zero, suc, ◌*◌, ◌<◌, ◌≤◌, Bool, List, [], length, take, drop, Option, Some, Ok}
+use Rattle.std.specs.Prelude.{◌≡◌, ◌⊎◌, ℕ, zero, suc, ◌*◌, ◌^◌, ◌<◌, ◌≤◌, Bool, List, [], length, take, drop, Option, Some, Ok, Err}
 use Rattle.std.specs.Int.{div_ceil}
+use Rattle.blocks.specs.declared.disk.Disk.{Ghosts}
+use Rattle.calls.specs.Calls.{image_on}
+use Rattle.calls.specs.Stepping.{Plain}
 use Rattle.cmd.specs.Lemmas.Disks.{file_disk}
 use Rattle.cmd.specs.Opened.{OpensDisk}
-use Rattle.model.specs.Files.{Files}
+use Rattle.model.specs.Files.{Files, files_of}
 use Rattle.model.specs.Operations.{transfer_limit}
 use Rattle.model.specs.declared.types.image.Form.{Form}
+use Rattle.names.specs.Inside.{form_seen}
 use Rattle.names.specs.Paths.{names_of}
-use Rattle.names.specs.Putting.{PutsAt}
+use Rattle.names.specs.Putting.{IsUnputIn, PutsAt}
+use Rattle.names.specs.Ready.{IsUnwritten}
+use Rattle.names.specs.Walks.{IsUndoneIn}
+use Rattle.names.specs.Contents.{LeadsToNoPlain}
 use Rattle.names.specs.Writing.{Writes}
+use Rattle.tree_changes.specs.declared.faults.ChangeRefusal.{ChangeRefusal}
+use Rattle.tree_changes.specs.declared.faults.ChangeRefusal.TheVariants as change
 use Rattle.tree_changes.specs.Changes.{AnyOf, HasChanged, StopsChange}
 
 -- the bytes were put in one transaction
@@ -38,6 +47,50 @@ Puts path bytes form told files new =
     ((length bytes ≤ transfer_limit) × PutsFew path bytes told files new)
     ⊎ ((transfer_limit < length bytes) × ((empty : Files) × PutsFew path [] told files empty
     × WritesPieces form path bytes (piece_count bytes) empty new))
+
+-- Why no more bytes than one call writes were not put over kernel k, which is m now, here and below:
+-- they are more, or the tree did not answer.
+abbrev pub IsUnputFew : {D N : Type 0} → Ghosts D N → List ℕ → List ℕ → Plain D → Plain D
+    → ChangeRefusal → Type 0
+IsUnputFew disk path bytes k m (change.Tree fault) =
+    IsUnwritten disk path (IsUndoneIn IsUnputIn (names_of path)) k m fault
+IsUnputFew disk path bytes k m (change.Unwritten cause) = PutsAt bytes (names_of path) (Err cause)
+    (files_of (image_on disk.image k)) (files_of (image_on disk.image m))
+IsUnputFew disk path bytes k m (change.Unopened fault) = ⊥
+IsUnputFew disk path bytes k m (change.Disk fault) = ⊥
+IsUnputFew disk path bytes k m change.Output = ⊥
+
+-- why a piece was not written behind so many bytes: a write of it is refused, or stands too far
+abbrev pub IsUnappended : {D N : Type 0} → Ghosts D N → List ℕ → ℕ → List ℕ → Plain D → Plain D
+    → ChangeRefusal → Type 0
+IsUnappended disk path from bytes k m (change.Tree fault) =
+    IsUnwritten disk path (LeadsToNoPlain (names_of path)) k m fault
+IsUnappended disk path from bytes k m (change.Unwritten cause) = (2 ^ 32 ≤ from)
+    ⊎ Writes (form_seen disk.image k) (names_of path) from bytes (Err cause)
+    (files_of (image_on disk.image k)) (files_of (image_on disk.image m))
+IsUnappended disk path from bytes k m (change.Unopened fault) = ⊥
+IsUnappended disk path from bytes k m (change.Disk fault) = ⊥
+IsUnappended disk path from bytes k m change.Output = ⊥
+
+-- so many pieces were written, and the one behind them was not
+pub record StopsWriting {D N : Type 0} (disk : Ghosts D N) (path bytes : List ℕ) (k m : Plain D)
+    (r : ChangeRefusal) : Type 0 where
+  pub piece : ℕ
+  pub mid : Plain D
+  pub written : WritesPieces (form_seen disk.image k) path bytes piece
+      (files_of (image_on disk.image k)) (files_of (image_on disk.image mid))
+  pub why : IsUnappended disk path (piece * transfer_limit) (piece_of bytes piece) mid m r
+
+-- Why bytes were not put: few of them for such a cause; or more, since the file was not made or did not
+-- lose its own, or was, and then so many of the pieces were written.
+abbrev pub IsUnputAt : {D N : Type 0} → Ghosts D N → List ℕ → List ℕ → Plain D → Plain D
+    → ChangeRefusal → Type 0
+IsUnputAt {D} disk path bytes k m r =
+    ((length bytes ≤ transfer_limit) × IsUnputFew disk path bytes k m r)
+    ⊎ ((transfer_limit < length bytes) × (IsUnputFew disk path [] k m r
+    ⊎ ((told : Option ℕ) × ((mid : Plain D) × PutsFew path [] told
+    (files_of (image_on disk.image k)) (files_of (image_on disk.image mid))
+    × StopsWriting disk path bytes mid m r))))
 
 -- what a stop may leave of a put of few
 abbrev pub PutsSome : List ℕ → List ℕ → Files → Files → Type 0

@@ -9,7 +9,7 @@ ghost use Rattle.names.specs.Paths.{names_of};
 ghost use Rattle.names.specs.Ready.{MayGoOn};
 ghost use Rattle.names.specs.Writing.{Writes};
 ghost use Rattle.tree_changes.specs.Changes.{IsOfTree, LeavesMidst};
-ghost use Rattle.tree_changes.specs.Puts.{piece_count, Puts, PutsFew, PutsSome, WritesPieces};
+ghost use Rattle.tree_changes.specs.Puts.{piece_count, IsUnappended, IsUnputAt, IsUnputFew, Puts, PutsFew, PutsSome, StopsWriting, WritesPieces};
 
 use crate::faults::ChangeRefusal;
 use crate::over_tree::TreeChange;
@@ -39,7 +39,7 @@ impl<'a> TreeChange for Put<'a> {
 
     ghost midst = { λ put form. PutsSome put.path.now put.bytes.items };
 
-    ghost undone = { λ put t. IsOfTree };
+    ghost undone = { λ put t. IsUnputAt t.disk put.path.now put.bytes.items t.was t.now };
 
     fn make<D: Disk>(
         &self,
@@ -52,8 +52,10 @@ impl<'a> TreeChange for Put<'a> {
             return put_few(alloc, tree, path, bytes);
         }
         let number = put_few(alloc, tree, path, &[])?;
-        append_all(alloc, tree, path, bytes)?;
-        Ok(number)
+        match append_all(alloc, tree, path, bytes) {
+            Ok(()) => Ok(number),
+            Err(refusal) => Err(refusal),
+        }
     }
 }
 
@@ -69,6 +71,8 @@ fn put_few<D: Disk>(
     ensures puts { IfOk result (λ told. PutsFew path.now bytes.now told
         (files_of (image_on D.image tree.old.kernel))
         (files_of (image_on D.image tree.new.kernel))) }
+    ensures undone { IfErr result
+        (IsUnputFew D.Disk path.now bytes.now tree.old.kernel tree.new.kernel) }
     ensures cause { IfErr result IsOfTree }
     ensures leaves { 0 < tree.old.calls_left → LeavesMidst D.Disk (PutsSome path.now bytes.now)
         tree.old.kernel tree.new.kernel }
@@ -99,6 +103,8 @@ pub fn append_all<D: Disk>(
         path.now bytes.now (piece_count bytes.now)
         (files_of (image_on D.image tree.old.kernel))
         (files_of (image_on D.image tree.new.kernel))) }
+    ensures undone { IfErr result
+        (StopsWriting D.Disk path.now bytes.now tree.old.kernel tree.new.kernel) }
     ensures cause { IfErr result IsOfTree }
     ensures stays { StaysOver D.Disk tree.old.kernel tree.new.kernel }
 {
@@ -124,6 +130,8 @@ fn append<D: Disk>(
         (names_of path.now) from bytes.now (Ok tt)
         (files_of (image_on D.image tree.old.kernel))
         (files_of (image_on D.image tree.new.kernel))) }
+    ensures undone { IfErr result
+        (IsUnappended D.Disk path.now from bytes.now tree.old.kernel tree.new.kernel) }
     ensures cause { IfErr result IsOfTree }
     ensures stays { StaysOver D.Disk tree.old.kernel tree.new.kernel }
 {

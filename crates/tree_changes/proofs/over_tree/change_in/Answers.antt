@@ -1,4 +1,4 @@
-use Rattle.std.proofs.Common.{◌≡◌, refl}
+use Rattle.std.proofs.Common.{refl}
 use Rattle.tree_changes.proofs.Changing.{changed_so, changed_stops, ended_stops, failed_so, made_so, not_told, tree_was}
 use Rattle.tree_changes.proofs.over_tree.change_in.Goals as goal
 

@@ -1,10 +1,10 @@
-use Rattle.std.proofs.Common.{◌≡◌, ℕ, ◌*◌, length, refl, subst, arith}
+use Rattle.std.proofs.Common.{◌≡◌, ℕ, ◌*◌, List, length, refl, rules, subst, arith}
 use Rattle.std.specs.Int.{div_ceil}
 use Rattle.calls.specs.Calls.{image_on}
 use Rattle.model.specs.Files.{files_of}
 use Rattle.names.specs.Inside.{form_seen}
-use Rattle.tree_changes.specs.Puts.{WritesPieces}
-use Rattle.tree_changes.proofs.Pieces.{over_on, piece_written}
+use Rattle.tree_changes.specs.Puts.{IsUnappended, StopsWriting, WritesPieces}
+use Rattle.tree_changes.proofs.Pieces.{over_on, piece_is, piece_written}
 use Rattle.tree_changes.proofs.puts.append_all.Goals as goal
 
 pub loop-piece-init : goal.loop-piece-init
@@ -24,6 +24,19 @@ loop-piece-preserved g c =
 
 pub returns-in_err-append-clause-stays : goal.returns-in_err-append-clause-stays
 returns-in_err-append-clause-stays g c = over_on g.D.Disk _ c.loop-piece.tree.kernel _ c.loop-piece.invariant.stays c.append.ensures.stays
+
+pub returns-in_err-append-clause-undone : goal.returns-in_err-append-clause-undone
+returns-in_err-append-clause-undone g c =
+    let i = c.loop-piece.piece in
+    let mid = c.loop-piece.tree.kernel in
+    let stops : StopsWriting g.D.Disk c.args.path.now c.args.bytes.now c.args.tree.now.kernel c.append.new.tree.kernel c.in_err-append.field-0.0
+    = record {
+      piece = i;
+      mid = mid;
+      written = c.loop-piece.invariant.writes;
+      why = subst (λ (piece : List ℕ). IsUnappended g.D.Disk c.args.path.now (i * 3072) piece mid c.append.new.tree.kernel c.in_err-append.field-0.0) (piece_is c.args.bytes.now (i * 3072) c.min-to.result c.min-to.ensures) c.in_err-append.ensures.undone;
+    } in
+    search rules
 
 pub returns-clause-writes : goal.returns-clause-writes
 returns-clause-writes g c =
