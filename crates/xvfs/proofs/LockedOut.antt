@@ -2,11 +2,13 @@
 use Rattle.std.proofs.Common.{ℕ, List, [], Option}
 use Rattle.blocks.specs.declared.errors.FileFault.TheVariants.{Locked}
 use Rattle.scripts.specs.declared.script.ScriptFault.TheVariants as script
+use Rattle.commands.specs.declared.picturing.PicturedRefusal.TheVariants as pictured
 use Rattle.commands.specs.declared.runs.ReplayFilesRefusal.TheVariants as replay
 use Rattle.commands.specs.declared.runs.RunFilesRefusal.TheVariants as run
+use Rattle.commands.specs.declared.showing.ShowPictureRefusal.TheVariants as shown
 use Rattle.xvfs.specs.declared.stopping.StopsRefusal.TheVariants as stops
 use Rattle.cli.specs.declared.words.Request.{Request}
-use Rattle.cli.specs.declared.words.Request.TheVariants.{Mkfs, Check, Recover, Cat, Ls, Df, Show, ShowLog, Put, Copy, Rescue, Replay, Run, Stops}
+use Rattle.cli.specs.declared.words.Request.TheVariants.{Mkfs, Check, Recover, Cat, Ls, Df, Show, ShowLog, ShowPicture, Put, Copy, Rescue, Replay, Run, Stops}
 use Rattle.cmd.specs.declared.files.OnFile.TheVariants as on
 use Rattle.commands.specs.declared.refused.CopyRefusal.TheVariants as copy
 use Rattle.commands.specs.declared.refused.PutFileRefusal.TheVariants as put
@@ -22,9 +24,10 @@ locked_out file (Ls image) old new none silent = (on.File Locked, silent)
 locked_out file (Df image) old new none silent = (on.File Locked, silent)
 locked_out file (Show image inum) old new none silent = (on.File Locked, silent)
 locked_out file (ShowLog image) old new none silent = (on.File Locked, silent)
+locked_out file (ShowPicture image picture) old new none silent = (shown.Show (on.File Locked), silent)
 locked_out file (Put image path inum sync no_sync) old new none silent = (put.Of (on.File Locked), record { bytes = []; refused = silent })
 locked_out file (Copy from to size no_sync) old new none silent = (copy.File Locked, silent)
 locked_out file (Rescue from to no_sync) old new none silent = (copy.File Locked, silent)
-locked_out file (Replay image text schedule stop sync writes steps) old new none silent = (replay.File Locked, silent)
+locked_out file (Replay image text schedule stop sync writes steps picture) old new none silent = (pictured.Replay (replay.File Locked), silent)
 locked_out file (Run image text workers sync) old new none silent = (run.File Locked, silent)
 locked_out file (Stops text schedule held) old new none silent = (stops.Script script.File, silent)

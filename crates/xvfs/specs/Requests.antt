@@ -8,7 +8,7 @@ use Rattle.cli.specs.CommandLine.{xvfs_words}
 use Rattle.cli.specs.Topics.{AsksAbout, topic_text}
 use Rattle.cli.specs.declared.topics.Topic.{Topic}
 use Rattle.cli.specs.declared.words.Request.{Request}
-use Rattle.cli.specs.declared.words.Request.TheVariants.{Mkfs, Check, Recover, Cat, Ls, Df, Show, ShowLog, Put, Copy, Rescue, Replay, Run, Stops}
+use Rattle.cli.specs.declared.words.Request.TheVariants.{Mkfs, Check, Recover, Cat, Ls, Df, Show, ShowLog, ShowPicture, Put, Copy, Rescue, Replay, Run, Stops}
 use Rattle.cmd.specs.Batches.{AreDone, StopsAmong}
 use Rattle.cmd.specs.Lemmas.Disks.{file_disk}
 use Rattle.cmd.specs.Opened.{OpensDisk}
@@ -18,7 +18,9 @@ use Rattle.inspect.specs.Looks.{HasCounted, HasListed, HasLogShown, HasShown as 
 use Rattle.player.specs.Causes.{IsNotRecovered, IsUncheckedBy}
 use Rattle.player.specs.Looks.{HasRecovered, HasReported, HasShown}
 use Rattle.player.specs.Showing.{IsNotShown}
-use Rattle.commands.specs.Runs.{IsNotRun, IsReplayed, IsRun, IsUnreplayed}
+use Rattle.commands.specs.Pictures.{IsReplayedInto, IsUnpictured}
+use Rattle.commands.specs.Runs.{IsNotRun, IsRun}
+use Rattle.commands.specs.Shown.{IsShownInto, IsUnshown}
 use Rattle.commands.specs.Copies.{HasCopied, OnCopyRefusal}
 use Rattle.commands.specs.Making.{IsMade, IsNotMade}
 use Rattle.commands.specs.Rescues.{HasRescued, OnRescueRefusal}
@@ -51,15 +53,17 @@ Answers file (Show image inum) old new =
     OpensDisk file.remaining file_disk false (λ d e. HasBlocksShown file_disk inum d e old new)
 Answers file (ShowLog image) old new =
     OpensDisk file.remaining file_disk false (λ d e. HasLogShown file_disk d e old new)
+Answers file (ShowPicture image picture) old new =
+    IsShownInto file.remaining file.contents old new
 Answers file (Put image path inum sync no_sync) old new =
     HasPut file.remaining inum sync (not no_sync) old new
 Answers file (Copy from to size no_sync) old new =
     HasCopied file.remaining file_disk size (not no_sync) old new
 Answers file (Rescue from to no_sync) old new =
     HasRescued file.remaining file_disk (not no_sync) old new
-Answers file (Replay image script schedule stop sync writes steps) old new =
-    OpensDisk file.remaining file_disk sync
-    (IsReplayed (record { steps = steps; writes = writes }) (unwrap_or stop 0) old new)
+Answers file (Replay image script schedule stop sync writes steps picture) old new =
+    OpensDisk file.remaining file_disk sync (IsReplayedInto file.contents sync
+    (record { steps = steps; writes = writes }) (unwrap_or stop 0) old new picture)
 Answers file (Run image script workers sync) old new =
     OpensDisk file.remaining file_disk sync (IsRun old new)
 Answers file (Stops script schedule held) old new = ChecksScript held old new
@@ -88,14 +92,16 @@ OnRefused file (Show image inum) old new none =
     Refuses (IsRefusedOn file.remaining false none (λ d e. IsHidden file_disk inum d e none))
 OnRefused file (ShowLog image) old new none =
     Refuses (IsRefusedOn file.remaining false none (λ d e. IsUndrawn file_disk d e none))
+OnRefused file (ShowPicture image picture) old new none =
+    Refuses (IsUnshown file.remaining old new none)
 OnRefused file (Put image path inum sync no_sync) old new none =
     Refuses (OnPutRefusal file.remaining inum sync (not no_sync) none)
 OnRefused file (Copy from to size no_sync) old new none =
     Refuses (OnCopyRefusal file.remaining file_disk size (not no_sync) none)
 OnRefused file (Rescue from to no_sync) old new none =
     Refuses (OnRescueRefusal file.remaining file_disk (not no_sync) none)
-OnRefused file (Replay image script schedule stop sync writes steps) old new none =
-    Refuses (IsUnreplayed file.remaining sync (record { steps = steps; writes = writes })
+OnRefused file (Replay image script schedule stop sync writes steps picture) old new none =
+    Refuses (IsUnpictured file.remaining sync (record { steps = steps; writes = writes })
     (unwrap_or stop 0) old new none)
 OnRefused file (Run image script workers sync) old new none =
     Refuses (IsNotRun file.remaining sync old new none)

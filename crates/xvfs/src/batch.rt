@@ -31,10 +31,12 @@ where
     ensures large { IfSome (I.remaining input)
         (λ bytes. LIMIT < length bytes → (result ≡ 1) × (out.new ≡ out.old)) }
     ensures done { IfSome (I.remaining input) (λ bytes. result ≡ 0 → DoesAll (ghosts_of
-        R.File.remaining ⟦<FileDisk<R::File> as Disk>⟧ ⟦<FaultyDisk<FileDisk<R::File>> as Disk>⟧)
+        R.File.remaining R.File.contents
+        ⟦<FileDisk<R::File> as Disk>⟧ ⟦<FaultyDisk<FileDisk<R::File>> as Disk>⟧)
         (script_in (lines_in bytes)) (O.contents out.old) (O.contents out.new)) }
     ensures stopped { IfSome (I.remaining input) (λ bytes. result ≢ 0 → StopsAt (ghosts_of
-        R.File.remaining ⟦<FileDisk<R::File> as Disk>⟧ ⟦<FaultyDisk<FileDisk<R::File>> as Disk>⟧)
+        R.File.remaining R.File.contents
+        ⟦<FileDisk<R::File> as Disk>⟧ ⟦<FaultyDisk<FileDisk<R::File>> as Disk>⟧)
         O.contents (script_in (lines_in bytes)) out.old out.new ⊎ (out.new ≡ out.old)) }
     ensures silent { result ≡ 0 → err.new ≡ err.old }
 {
@@ -52,10 +54,10 @@ fn perform_text<
 where
     R::File: Send,
     ensures status { result ≤ 2 }
-    ensures done { result ≡ 0 → DoesAll (ghosts_of R.File.remaining
+    ensures done { result ≡ 0 → DoesAll (ghosts_of R.File.remaining R.File.contents
         ⟦<FileDisk<R::File> as Disk>⟧ ⟦<FaultyDisk<FileDisk<R::File>> as Disk>⟧)
         (script_in (lines_in text.now)) (O.contents out.old) (O.contents out.new) }
-    ensures stopped { result ≢ 0 → StopsAt (ghosts_of R.File.remaining
+    ensures stopped { result ≢ 0 → StopsAt (ghosts_of R.File.remaining R.File.contents
         ⟦<FileDisk<R::File> as Disk>⟧ ⟦<FaultyDisk<FileDisk<R::File>> as Disk>⟧)
         O.contents (script_in (lines_in text.now)) out.old out.new ⊎ (out.new ≡ out.old) }
     ensures silent { result ≡ 0 → err.new ≡ err.old }
@@ -75,11 +77,11 @@ where
     R::File: Send,
     ensures status { result ≤ 2 }
     ensures none { lines.now ≡ [] → (result ≡ 0) × (out.new ≡ out.old) }
-    ensures done { result ≡ 0 → DoesAll (ghosts_of R.File.remaining
+    ensures done { result ≡ 0 → DoesAll (ghosts_of R.File.remaining R.File.contents
         ⟦<FileDisk<R::File> as Disk>⟧ ⟦<FaultyDisk<FileDisk<R::File>> as Disk>⟧)
         (map (λ words. map (λ word. word.now) words.items) lines.now)
         (O.contents out.old) (O.contents out.new) }
-    ensures stopped { result ≢ 0 → StopsAt (ghosts_of R.File.remaining
+    ensures stopped { result ≢ 0 → StopsAt (ghosts_of R.File.remaining R.File.contents
         ⟦<FileDisk<R::File> as Disk>⟧ ⟦<FaultyDisk<FileDisk<R::File>> as Disk>⟧)
         O.contents (map (λ words. map (λ word. word.now) words.items) lines.now)
         out.old out.new }

@@ -16,7 +16,8 @@ use blocks::{Disk, FaultyDisk, FileDisk};
 use cli::{Asked, Request, Topic, parse};
 use cmd::{Access, OverFile, end, perform};
 use commands::{
-    Copy, Keeper, Locks, Making, Mkfs, Put, Rescue, Target, explain, replay_files, run_files,
+    Copy, Keeper, Locks, Making, Mkfs, Put, Rescue, ShowPicture, Target, explain, replay_into,
+    run_files,
 };
 use inspect::{Df, Line, Ls, Show, ShowLog, tell, tell_fault};
 use messages::Detail;
@@ -51,10 +52,10 @@ pub fn command<
 where
     R::File: Send,
     ensures status { result ≤ 2 }
-    ensures done { result ≡ 0 → IsDone (ghosts_of R.File.remaining
+    ensures done { result ≡ 0 → IsDone (ghosts_of R.File.remaining R.File.contents
         ⟦<FileDisk<R::File> as Disk>⟧ ⟦<FaultyDisk<FileDisk<R::File>> as Disk>⟧)
         (map S.text words.now) (O.contents out.old) (O.contents out.new) }
-    ensures refused { result ≡ 1 → IsRefused (ghosts_of R.File.remaining
+    ensures refused { result ≡ 1 → IsRefused (ghosts_of R.File.remaining R.File.contents
         ⟦<FileDisk<R::File> as Disk>⟧ ⟦<FaultyDisk<FileDisk<R::File>> as Disk>⟧)
         (map S.text words.now) (O.contents out.old) (O.contents out.new) (out.new ≡ out.old) }
     ensures wrong { result ≡ 2 → (e : SomeExplanation)
@@ -79,10 +80,12 @@ fn command_of<
 where
     R::File: Send,
     ensures status { result ≤ 2 }
-    ensures done { result ≡ 0 → IsDoneOf xvfs_words (Answers (ghosts_of R.File.remaining
+    ensures done { result ≡ 0 → IsDoneOf xvfs_words (Answers (ghosts_of
+        R.File.remaining R.File.contents
         ⟦<FileDisk<R::File> as Disk>⟧ ⟦<FaultyDisk<FileDisk<R::File>> as Disk>⟧))
         (map S.text words.now) (O.contents out.old) (O.contents out.new) }
-    ensures refused { result ≡ 1 → IsRefusedOf xvfs_words (OnRefused (ghosts_of R.File.remaining
+    ensures refused { result ≡ 1 → IsRefusedOf xvfs_words (OnRefused (ghosts_of
+        R.File.remaining R.File.contents
         ⟦<FileDisk<R::File> as Disk>⟧ ⟦<FaultyDisk<FileDisk<R::File>> as Disk>⟧))
         (map S.text words.now) (O.contents out.old) (O.contents out.new) (out.new ≡ out.old) }
     ensures wrong { result ≡ 2 → (e : SomeExplanation)
@@ -124,10 +127,10 @@ where
     R::File: Send,
     requires { HasFewWorkers asked.request }
     ensures status { result ≤ 1 }
-    ensures done { result ≡ 0 → Answers (ghosts_of R.File.remaining
+    ensures done { result ≡ 0 → Answers (ghosts_of R.File.remaining R.File.contents
         ⟦<FileDisk<R::File> as Disk>⟧ ⟦<FaultyDisk<FileDisk<R::File>> as Disk>⟧)
         asked.entry.request (O.contents out.old) (O.contents out.new) }
-    ensures refused { result ≡ 1 → OnRefused (ghosts_of R.File.remaining
+    ensures refused { result ≡ 1 → OnRefused (ghosts_of R.File.remaining R.File.contents
         ⟦<FileDisk<R::File> as Disk>⟧ ⟦<FaultyDisk<FileDisk<R::File>> as Disk>⟧)
         asked.entry.request (O.contents out.old) (O.contents out.new) (out.new ≡ out.old) }
     ensures silent { result ≡ 0 → err.new ≡ err.old }
@@ -159,10 +162,10 @@ where
     R::File: Send,
     requires { HasFewWorkers request }
     ensures status { result ≤ 1 }
-    ensures done { result ≡ 0 → Answers (ghosts_of R.File.remaining
+    ensures done { result ≡ 0 → Answers (ghosts_of R.File.remaining R.File.contents
         ⟦<FileDisk<R::File> as Disk>⟧ ⟦<FaultyDisk<FileDisk<R::File>> as Disk>⟧)
         request.entry (O.contents out.old) (O.contents out.new) }
-    ensures refused { result ≡ 1 → OnRefused (ghosts_of R.File.remaining
+    ensures refused { result ≡ 1 → OnRefused (ghosts_of R.File.remaining R.File.contents
         ⟦<FileDisk<R::File> as Disk>⟧ ⟦<FaultyDisk<FileDisk<R::File>> as Disk>⟧)
         request.entry (O.contents out.old) (O.contents out.new) (out.new ≡ out.old) }
     ensures silent { result ≡ 0 → err.new ≡ err.old }
@@ -191,7 +194,13 @@ where
             err,
         ),
         Request::Check { image, all } => {
-            perform(NAME, rt, OverFile(image, Access::Look, Check { all }), out, err)
+            perform(
+                NAME,
+                rt,
+                OverFile(image, Access::Look, Check { all }),
+                out,
+                err,
+            )
         }
         Request::Recover { image, sync } => {
             let recover = Recover {
@@ -224,6 +233,17 @@ where
         Request::ShowLog { image } => {
             perform(NAME, rt, OverFile(image, Access::Look, ShowLog), out, err)
         }
+        Request::ShowPicture { image, picture } => perform(
+            NAME,
+            rt,
+            ShowPicture {
+                image,
+                picture,
+                holder: Keeper::new(rt, false),
+            },
+            out,
+            err,
+        ),
         Request::Put {
             image,
             file,
@@ -268,12 +288,14 @@ where
             sync,
             writes,
             steps,
+            picture,
         } => {
             let mut progress = TerminalMeter::beside_lines(rt);
+            let mut holder = Keeper::new(rt, false);
             let detail = Detail { steps, writes };
             end(
                 NAME,
-                replay_files(
+                replay_into(
                     rt,
                     image,
                     script,
@@ -281,7 +303,9 @@ where
                     stop,
                     sync,
                     detail,
+                    picture,
                     &mut progress,
+                    &mut holder,
                     out,
                 ),
                 err,

@@ -25,6 +25,7 @@ pub fn lock_image<L: Locks>(
         Request::Df { image } => locks.lock(image, Share::Lookers, wait),
         Request::Show { image, .. } => locks.lock(image, Share::Lookers, wait),
         Request::ShowLog { image } => locks.lock(image, Share::Lookers, wait),
+        Request::ShowPicture { image, .. } => locks.lock(image, Share::Lookers, wait),
         Request::Copy { old, .. } => locks.lock(old, Share::Lookers, wait),
         Request::Rescue { old, .. } => locks.lock(old, Share::Lookers, wait),
         Request::Recover { image, .. } => locks.lock(image, Share::Nobody, wait),

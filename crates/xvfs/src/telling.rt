@@ -33,6 +33,10 @@ pub fn given<'a>(request: &Request<'a>) -> Given<'a> {
         Request::Ls { image } => Given::over(image, false),
         Request::Df { image } => Given::over(image, false),
         Request::ShowLog { image } => Given::over(image, false),
+        Request::ShowPicture { image, picture } => Given {
+            made: Some(picture),
+            ..Given::over(image, false)
+        },
         Request::Show { image, inum } => Given {
             inum,
             ..Given::over(image, false)
@@ -60,8 +64,10 @@ pub fn given<'a>(request: &Request<'a>) -> Given<'a> {
             image,
             script,
             schedule,
+            picture,
             ..
         } => Given {
+            made: picture,
             script: Some(script),
             schedule: Some(schedule),
             ..Given::over(image, true)

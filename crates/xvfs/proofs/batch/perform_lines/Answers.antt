@@ -13,7 +13,7 @@ loop-words-init g c = record { silent = refl; none = λ e. refl; done = refl }
 
 pub loop-words-preserved : goal.loop-words-preserved
 loop-words-preserved g c =
-    let file = seen_by g.R.File.Read.remaining in
+    let file = seen_by g.R.File.Read.remaining g.R.File.Write.contents in
     let lt : c.loop-words.words-index < length c.args.lines.now = search rules in
     record {
       silent = search rules;
@@ -26,7 +26,7 @@ loop-words-preserved g c =
 
 pub returns-then-status-ne0-clause-stopped : goal.returns-then-status-ne0-clause-stopped
 returns-then-status-ne0-clause-stopped g c =
-    let file = seen_by g.R.File.Read.remaining in
+    let file = seen_by g.R.File.Read.remaining g.R.File.Write.contents in
     let contents = g.O.Write.contents in
     let lt : c.loop-words.words-index < length c.args.lines.now = search rules in
     λ other. stops_here (IsDone file) (IsNotDone xvfs_words (IsRefused file)) contents (λ words. map (λ word. word.now) words.items) c.args.lines.now c.loop-words.words-index _ c.args.out.now c.loop-words.out c.command-status.new.out lt

@@ -7,4 +7,4 @@ pub returns-in-Err-clause-done : goal.returns-in-Err-clause-done
 returns-in-Err-clause-done g c = λ done. absurd (omega (arith, done, c.tell_fault.ensures))
 
 pub returns-in-Err-clause-refused : goal.returns-in-Err-clause-refused
-returns-in-Err-clause-refused g c = λ refused. locked_out (seen_by g.R.File.Read.remaining) _ _ _ _ refl
+returns-in-Err-clause-refused g c = λ refused. locked_out (seen_by g.R.File.Read.remaining g.R.File.Write.contents) _ _ _ _ refl
