@@ -76,8 +76,8 @@ Answers remaining contents (Mkdir image path sync no_sync) old new = Changes rem
 Answers remaining contents (Rmdir image path sync no_sync) old new = Changes remaining
     (λ form. Plainly (RemovesDirectoryAt (names_of path.now)))
     (λ form. AnyOf (RemovesDirectoryAt (names_of path.now))) sync no_sync old new
-Answers remaining contents (Mkfs image size ninodes files no_sync) old new =
-    IsMadeWith file_disk (making_asked size ninodes no_sync) (map (λ file. file.now) files.items)
+Answers {F} remaining contents (Mkfs image size ninodes files no_sync) old new =
+    IsMadeWith {F = F} file_disk (making_asked size ninodes no_sync) (map (λ file. file.now) files.items)
     old new
 
 -- a command was refused, for some reason of its own

@@ -16,7 +16,7 @@ use crate::making::Mkfs;
 use crate::putting::PutFile;
 use crate::telling::{Screen, given};
 use arrayvec::ArrayVec;
-use blocks::FileFault;
+use blocks::{Disk, FileDisk, FileFault};
 use cli::{Asked, parse};
 use cmd::{Access, DiskCommand, OverFile, perform};
 use commands::{Keeper, Locks, Making, Share, explain};
@@ -314,7 +314,7 @@ fn make<R: Files + AllocGlobal + Locks, O: Write, E: Write>(
     err: &mut E,
 ) -> u8
     ensures status { result ≤ 1 }
-    ensures done { result ≡ 0 → IsMadeWith file_disk making (map (λ file. file.now) files.now)
+    ensures done { result ≡ 0 → IsMadeWith ⟦<FileDisk<R::File> as Disk>⟧ making (map (λ file. file.now) files.now)
         (O.contents out.old) (O.contents out.new) }
     ensures refused { result ≡ 1 → (r : SomeMkfsRefusal)
         × IsNotMadeWith making (out.new ≡ out.old) r }

@@ -1,7 +1,6 @@
 // The command that makes an image with a root directory and files.
 ghost use Rattle.std.specs.Prelude.{◌≡◌, length, map, IfErr, IfOk, OnOk};
 ghost use Rattle.calls.specs.Calls.{image_on};
-ghost use Rattle.cmd.specs.Lemmas.Disks.{file_disk};
 ghost use Rattle.commands.specs.Making.{IsPlan};
 ghost use Rattle.model.specs.Files.{files_of};
 ghost use Rattle.model.specs.Layout.{planned_super};
@@ -61,7 +60,8 @@ pub struct Mkfs<'a, H> {
 impl<'a, R: Files + AllocGlobal, H: Holder + Drop> Command<R> for Mkfs<'a, H> {
     type Refusal = MkfsRefusal;
 
-    ghost done = { λ mkfs. IsMadeWith file_disk mkfs.making (map (λ file. file.now) mkfs.files.now) };
+    ghost done = { λ mkfs. IsMadeWith ⟦<FileDisk<R::File> as Disk>⟧ mkfs.making
+        (map (λ file. file.now) mkfs.files.now) };
 
     ghost refused = { λ mkfs old new. IsNotMadeWith mkfs.making };
 
@@ -164,7 +164,7 @@ impl<'a, R: Files + AllocGlobal> MakesThere<R> for Filled<'a> {
     ghost can = { λ filled. IsPlan filled.making.size filled.making.ninodes };
 
     ghost made = { λ filled.
-        HasMadeWith file_disk filled.making (files_named filled.files.now) };
+        HasMadeWith ⟦<FileDisk<R::File> as Disk>⟧ filled.making (files_named filled.files.now) };
 
     ghost unmade = { λ filled. IsNotMadeIn filled.making };
 
