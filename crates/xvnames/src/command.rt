@@ -314,8 +314,8 @@ fn make<R: Files + AllocGlobal + Locks, O: Write, E: Write>(
     err: &mut E,
 ) -> u8
     ensures status { result ≤ 1 }
-    ensures done { result ≡ 0 → IsMadeWith ⟦<FileDisk<R::File> as Disk>⟧ making (map (λ file. file.now) files.now)
-        (O.contents out.old) (O.contents out.new) }
+    ensures done { result ≡ 0 → IsMadeWith ⟦<FileDisk<R::File> as Disk>⟧ making
+        (map (λ file. file.now) files.now) (O.contents out.old) (O.contents out.new) }
     ensures refused { result ≡ 1 → (r : SomeMkfsRefusal)
         × IsNotMadeWith making (out.new ≡ out.old) r }
     ensures silent { result ≡ 0 → err.new ≡ err.old }
