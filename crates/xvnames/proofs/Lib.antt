@@ -1,0 +1,3 @@
+mod Added
+mod Fits
+mod LockedOut

@@ -1,0 +1,87 @@
+use Rattle.std.proofs.Common.{List, ℕ, map, subst, sym}
+use Rattle.std.specs.Prelude.{◌≡◌}
+use Rattle.cmd.specs.Lemmas.Disks.{file_disk}
+use Rattle.xvnames.specs.Making.{IsMadeWith}
+use Rattle.xvnames.specs.Requests.{Answers, OnRefused, making_asked}
+use Rattle.xvnames.proofs.command.dispatch.Goals as goal
+
+pub returns-in-Ls-clause-done : goal.returns-in-Ls-clause-done
+returns-in-Ls-clause-done g c =
+    λ done. subst (λ request. Answers g.R.File.Read.remaining g.R.File.Write.contents request (g.O.Write.contents c.args.out.now) (g.O.Write.contents c.look.new.out)) (sym c.in-Ls.is) (c.look.ensures.done done)
+
+pub returns-in-Ls-clause-refused : goal.returns-in-Ls-clause-refused
+returns-in-Ls-clause-refused g c =
+    λ refused. subst (λ request. OnRefused g.R.File.Read.remaining request (g.O.Write.contents c.args.out.now) (g.O.Write.contents c.look.new.out) (c.look.new.out ≡ c.args.out.now)) (sym c.in-Ls.is) (c.look.ensures.refused refused)
+
+pub returns-in-Tree-clause-done : goal.returns-in-Tree-clause-done
+returns-in-Tree-clause-done g c =
+    λ done. subst (λ request. Answers g.R.File.Read.remaining g.R.File.Write.contents request (g.O.Write.contents c.args.out.now) (g.O.Write.contents c.look-in-Tree.new.out)) (sym c.in-Tree.is) (c.look-in-Tree.ensures.done done)
+
+pub returns-in-Tree-clause-refused : goal.returns-in-Tree-clause-refused
+returns-in-Tree-clause-refused g c =
+    λ refused. subst (λ request. OnRefused g.R.File.Read.remaining request (g.O.Write.contents c.args.out.now) (g.O.Write.contents c.look-in-Tree.new.out) (c.look-in-Tree.new.out ≡ c.args.out.now)) (sym c.in-Tree.is) (c.look-in-Tree.ensures.refused refused)
+
+pub returns-in-Cat-clause-done : goal.returns-in-Cat-clause-done
+returns-in-Cat-clause-done g c =
+    λ done. subst (λ request. Answers g.R.File.Read.remaining g.R.File.Write.contents request (g.O.Write.contents c.args.out.now) (g.O.Write.contents c.look-in-Cat.new.out)) (sym c.in-Cat.is) (c.look-in-Cat.ensures.done done)
+
+pub returns-in-Cat-clause-refused : goal.returns-in-Cat-clause-refused
+returns-in-Cat-clause-refused g c =
+    λ refused. subst (λ request. OnRefused g.R.File.Read.remaining request (g.O.Write.contents c.args.out.now) (g.O.Write.contents c.look-in-Cat.new.out) (c.look-in-Cat.new.out ≡ c.args.out.now)) (sym c.in-Cat.is) (c.look-in-Cat.ensures.refused refused)
+
+pub returns-in-Get-clause-done : goal.returns-in-Get-clause-done
+returns-in-Get-clause-done g c =
+    λ done. subst (λ request. Answers g.R.File.Read.remaining g.R.File.Write.contents request (g.O.Write.contents c.args.out.now) (g.O.Write.contents c.get.new.out)) (sym c.in-Get.is) (c.get.ensures.done done)
+
+pub returns-in-Get-clause-refused : goal.returns-in-Get-clause-refused
+returns-in-Get-clause-refused g c =
+    λ refused. subst (λ request. OnRefused g.R.File.Read.remaining request (g.O.Write.contents c.args.out.now) (g.O.Write.contents c.get.new.out) (c.get.new.out ≡ c.args.out.now)) (sym c.in-Get.is) (c.get.ensures.refused refused)
+
+pub returns-in-Put-clause-done : goal.returns-in-Put-clause-done
+returns-in-Put-clause-done g c =
+    λ done. subst (λ request. Answers g.R.File.Read.remaining g.R.File.Write.contents request (g.O.Write.contents c.args.out.now) (g.O.Write.contents c.perform.new.out)) (sym c.in-Put.is) (c.perform.ensures.done done)
+
+pub returns-in-Put-clause-refused : goal.returns-in-Put-clause-refused
+returns-in-Put-clause-refused g c =
+    λ refused. subst (λ request. OnRefused g.R.File.Read.remaining request (g.O.Write.contents c.args.out.now) (g.O.Write.contents c.perform.new.out) (c.perform.new.out ≡ c.args.out.now)) (sym c.in-Put.is) (c.perform.ensures.refused refused)
+
+pub returns-in-Rm-clause-done : goal.returns-in-Rm-clause-done
+returns-in-Rm-clause-done g c =
+    λ done. subst (λ request. Answers g.R.File.Read.remaining g.R.File.Write.contents request (g.O.Write.contents c.args.out.now) (g.O.Write.contents c.change.new.out)) (sym c.in-Rm.is) (c.change.ensures.done done)
+
+pub returns-in-Rm-clause-refused : goal.returns-in-Rm-clause-refused
+returns-in-Rm-clause-refused g c =
+    λ refused. subst (λ request. OnRefused g.R.File.Read.remaining request (g.O.Write.contents c.args.out.now) (g.O.Write.contents c.change.new.out) (c.change.new.out ≡ c.args.out.now)) (sym c.in-Rm.is) (c.change.ensures.refused refused)
+
+pub returns-in-Mv-clause-done : goal.returns-in-Mv-clause-done
+returns-in-Mv-clause-done g c =
+    λ done. subst (λ request. Answers g.R.File.Read.remaining g.R.File.Write.contents request (g.O.Write.contents c.args.out.now) (g.O.Write.contents c.change-in-Mv.new.out)) (sym c.in-Mv.is) (c.change-in-Mv.ensures.done done)
+
+pub returns-in-Mv-clause-refused : goal.returns-in-Mv-clause-refused
+returns-in-Mv-clause-refused g c =
+    λ refused. subst (λ request. OnRefused g.R.File.Read.remaining request (g.O.Write.contents c.args.out.now) (g.O.Write.contents c.change-in-Mv.new.out) (c.change-in-Mv.new.out ≡ c.args.out.now)) (sym c.in-Mv.is) (c.change-in-Mv.ensures.refused refused)
+
+pub returns-in-Mkdir-clause-done : goal.returns-in-Mkdir-clause-done
+returns-in-Mkdir-clause-done g c =
+    λ done. subst (λ request. Answers g.R.File.Read.remaining g.R.File.Write.contents request (g.O.Write.contents c.args.out.now) (g.O.Write.contents c.change-in-Mkdir.new.out)) (sym c.in-Mkdir.is) (c.change-in-Mkdir.ensures.done done)
+
+pub returns-in-Mkdir-clause-refused : goal.returns-in-Mkdir-clause-refused
+returns-in-Mkdir-clause-refused g c =
+    λ refused. subst (λ request. OnRefused g.R.File.Read.remaining request (g.O.Write.contents c.args.out.now) (g.O.Write.contents c.change-in-Mkdir.new.out) (c.change-in-Mkdir.new.out ≡ c.args.out.now)) (sym c.in-Mkdir.is) (c.change-in-Mkdir.ensures.refused refused)
+
+pub returns-in-Rmdir-clause-done : goal.returns-in-Rmdir-clause-done
+returns-in-Rmdir-clause-done g c =
+    λ done. subst (λ request. Answers g.R.File.Read.remaining g.R.File.Write.contents request (g.O.Write.contents c.args.out.now) (g.O.Write.contents c.change-in-Rmdir.new.out)) (sym c.in-Rmdir.is) (c.change-in-Rmdir.ensures.done done)
+
+pub returns-in-Rmdir-clause-refused : goal.returns-in-Rmdir-clause-refused
+returns-in-Rmdir-clause-refused g c =
+    λ refused. subst (λ request. OnRefused g.R.File.Read.remaining request (g.O.Write.contents c.args.out.now) (g.O.Write.contents c.change-in-Rmdir.new.out) (c.change-in-Rmdir.new.out ≡ c.args.out.now)) (sym c.in-Rmdir.is) (c.change-in-Rmdir.ensures.refused refused)
+
+pub returns-in-Mkfs-clause-done : goal.returns-in-Mkfs-clause-done
+returns-in-Mkfs-clause-done g c =
+    λ done. subst (λ request. Answers g.R.File.Read.remaining g.R.File.Write.contents request (g.O.Write.contents c.args.out.now) (g.O.Write.contents c.make.new.out)) (sym c.in-Mkfs.is)
+    (subst (λ (files : _). IsMadeWith file_disk (making_asked c.in-Mkfs.size.now c.in-Mkfs.ninodes.now c.in-Mkfs.no_sync.now) (map (λ file. file.now) files) (g.O.Write.contents c.args.out.now) (g.O.Write.contents c.make.new.out)) c.as_slice.ensures.value (c.make.ensures.done done))
+
+pub returns-in-Mkfs-clause-refused : goal.returns-in-Mkfs-clause-refused
+returns-in-Mkfs-clause-refused g c =
+    λ refused. subst (λ request. OnRefused g.R.File.Read.remaining request (g.O.Write.contents c.args.out.now) (g.O.Write.contents c.make.new.out) (c.make.new.out ≡ c.args.out.now)) (sym c.in-Mkfs.is) (c.make.ensures.refused refused)

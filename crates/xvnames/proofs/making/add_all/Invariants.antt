@@ -1,0 +1,13 @@
+use Rattle.std.proofs.Common.{take}
+use Rattle.calls.specs.Calls.{image_on}
+use Rattle.model.specs.Files.{files_of}
+use Rattle.names.specs.Ready.{MayGoOn}
+use Rattle.xvnames.specs.Making.{AddsAll, files_named}
+use Rattle.xvnames.proofs.making.add_all.Given as goal
+
+-- the first files were added
+abbrev pub invariant-loop-file : goal.invariant-loop-file
+invariant-loop-file g l = record {
+  ready : MayGoOn g.D.Disk l.tree.kernel l.tree.calls_left;
+  added : AddsAll (files_named (take l.file-index l.files)) (files_of (image_on g.D.Disk.image l.initial.tree.kernel)) (files_of (image_on g.D.Disk.image l.tree.kernel));
+}

@@ -1,0 +1,61 @@
+-- How it is told that a command over files of the system isn't done.
+use Rattle.std.specs.Prelude.{⊤, ℕ, ◌<◌, ◌≤◌, Bool, false, List, length, Option}
+use Rattle.cmd.specs.Lemmas.Disks.{file_disk}
+use Rattle.cmd.specs.Opened.{OpensDisk}
+use Rattle.cmd.specs.Over.{IsRefusedOn, on_file_telling}
+use Rattle.cmd.specs.declared.files.OnFile.{OnFile}
+use Rattle.cmd.specs.declared.files.OnFile.TheVariants.{File, Of}
+use Rattle.commands.specs.Refusals.{reading_telling}
+use Rattle.messages.specs.Telling.{Telling, mkfs_telling as planning_telling, unwritten}
+use Rattle.tree_changes.specs.Tellings.{change_telling}
+use Rattle.model.specs.Operations.{transfer_limit}
+use Rattle.tree_changes.specs.Changes.{HasNotChanged, StopsChange}
+use Rattle.tree_changes.specs.Puts.{IsUnputAt, Puts, PutsSome}
+use Rattle.tree_changes.specs.Room.{LacksRoom}
+use Rattle.tree_changes.specs.declared.faults.ChangeRefusal.{ChangeRefusal}
+use Rattle.xvnames.specs.declared.refused.FillFault.{FillFault}
+use Rattle.xvnames.specs.declared.refused.FillFault.TheVariants as fill
+use Rattle.xvnames.specs.declared.refused.MkfsRefusal.{MkfsRefusal}
+use Rattle.xvnames.specs.declared.refused.MkfsRefusal.TheVariants as mkfs
+use Rattle.xvnames.specs.declared.refused.PutRefusal.{PutRefusal}
+use Rattle.xvnames.specs.declared.refused.PutRefusal.TheVariants as put
+
+abbrev pub put_telling : PutRefusal → Telling
+put_telling (put.Unread fault) = reading_telling fault
+put_telling (put.NoRoom refused) = on_file_telling change_telling refused
+put_telling (put.Of refused) = on_file_telling change_telling refused
+
+abbrev pub fill_telling : FillFault → Telling
+fill_telling (fill.Mkfs fault) = planning_telling fault
+fill_telling (fill.Change refused) = change_telling refused
+
+abbrev pub mkfs_telling : MkfsRefusal → Telling
+mkfs_telling (mkfs.Unplanned fault) = planning_telling fault
+mkfs_telling (mkfs.Unread fault) = reading_telling fault
+mkfs_telling (mkfs.Of refused) = on_file_telling fill_telling refused
+mkfs_telling mkfs.Output = unwritten
+
+-- Some bytes were not put on the disk of a file, for this reason, and what a stop leaves of that;
+-- `none` says that nothing was printed.
+pub record HasNotPut {F : Type 0} (remaining : F → Option (List ℕ)) (path : List ℕ)
+    (sync last : Bool) (none : Type 0) (r : OnFile ChangeRefusal) : Type 0 where
+  pub bytes : List ℕ
+  pub refused : IsRefusedOn remaining sync none (λ d e why.
+      HasNotChanged file_disk (Puts path bytes)
+      (λ t. IsUnputAt t.disk path bytes t.was t.now) last d e none why
+      × (length bytes ≤ transfer_limit → StopsChange file_disk (λ form. PutsSome path bytes) d e)) r
+
+-- so many bytes have no room on the disk of a file, which was only read; or that can't be used as one
+abbrev pub HasNoRoom : {F : Type 0} → (F → Option (List ℕ)) → ℕ → OnFile ChangeRefusal → Type 0
+HasNoRoom remaining count (File fault) = ⊤
+HasNoRoom remaining count (Of r) =
+    OpensDisk remaining file_disk false (λ d e. LacksRoom file_disk count d e r)
+
+-- why bytes were not put: they can't be had, or are more than one call writes and have no room, or the
+-- change was not made
+abbrev pub IsUnput : {F : Type 0} → (F → Option (List ℕ)) → List ℕ → Bool → Bool → Type 0
+    → PutRefusal → Type 0
+IsUnput remaining path sync last none (put.Unread fault) = none
+IsUnput remaining path sync last none (put.NoRoom r) = none
+    × ((bytes : List ℕ) × (transfer_limit < length bytes) × HasNoRoom remaining (length bytes) r)
+IsUnput remaining path sync last none (put.Of r) = HasNotPut remaining path sync last none r

@@ -1,0 +1,153 @@
+-- What a request is answered.
+use Rattle.std.specs.Prelude.{◌≡◌, ℕ, Bool, true, false, not, List, map, Option}
+use Rattle.cmd.specs.Batches.{AreDone, StopsAmong}
+use Rattle.cmd.specs.Lemmas.Disks.{file_disk}
+use Rattle.cmd.specs.Opened.{OpensDisk}
+use Rattle.cmd.specs.Over.{IsRefusedOn}
+use Rattle.commands.specs.Words.{IsDoneOf, IsNotDone, IsRefusedOf}
+use Rattle.commands.specs.declared.making.Making.{Making}
+use Rattle.model.specs.Files.{Files}
+use Rattle.model.specs.declared.types.image.Form.{Form}
+use Rattle.model.specs.declared.types.image.Form.TheVariants.{One}
+use Rattle.names.specs.Making.{IsUnmadeIn, MakesDirectoryAt}
+use Rattle.names.specs.Paths.{names_of}
+use Rattle.names.specs.Ready.{IsUndone}
+use Rattle.names.specs.Removing.{IsUnremovedIn, RemovesAt}
+use Rattle.names.specs.Renaming.{IsUndoneAt, IsUndoneAtBoth, RenamesAt}
+use Rattle.names.specs.Undirecting.{IsUnemptiedIn, RemovesDirectoryAt}
+use Rattle.names.specs.Walks.{IsUndoneIn}
+use Rattle.names.specs.declared.refusal.Refusal.{Refusal}
+use Rattle.names_words.specs.CommandLine.{xvnames_words}
+use Rattle.names_words.specs.declared.words.Request.{Request}
+use Rattle.names_words.specs.declared.words.Request.TheVariants.{Ls, Tree, Cat, Get, Put, Rm, Mv, Mkdir, Rmdir, Mkfs}
+use Rattle.tree_changes.specs.Changes.{AnyOf, HasChanged, HasNotChanged, MakesDirectory, OnTree, Plainly, StopsChange, Turn}
+use Rattle.tree_changes.specs.Puts.{HasPut}
+use Rattle.tree_changes.specs.declared.faults.ChangeRefusal.{ChangeRefusal}
+use Rattle.tree_looks.specs.Gets.{HasGot, HasGotAll, IsUngot, IsUngotAll}
+use Rattle.tree_looks.specs.Looks.{HasLooked, HasNoPaths, HasNotLooked, IsUnlisted, IsUnshown, Lists, Shows, ShowsPaths}
+use Rattle.tree_looks.specs.declared.faults.LookRefusal.{LookRefusal}
+use Rattle.xvnames.specs.Making.{IsMadeWith, IsNotMadeWith}
+use Rattle.xvnames.specs.Refusals.{IsUnput}
+
+-- a disk was opened from a file, and this told of its files
+abbrev pub Looks : {F : Type 0} → (F → Option (List ℕ)) → (Files → List ℕ → Type 0)
+    → Option (List ℕ) → Option (List ℕ) → Type 0
+Looks remaining tells old new =
+    OpensDisk remaining file_disk false (λ d e. HasLooked file_disk tells d e old new)
+
+-- a disk was opened from a file, and its files changed so
+abbrev pub Changes : {F : Type 0} → (F → Option (List ℕ))
+    → (Form → Option ℕ → Files → Files → Type 0) → (Form → Files → Files → Type 0) → Bool → Bool
+    → Option (List ℕ) → Option (List ℕ) → Type 0
+Changes remaining makes midst sync no_sync old new = OpensDisk remaining file_disk sync
+    (λ d e. HasChanged file_disk makes (not no_sync) d e old new
+    × (Unit {0} → StopsChange file_disk midst d e))
+
+-- a file was copied out, or all below a directory
+abbrev pub Gets : {F : Type 0} → (F → Option (List ℕ)) → (F → Option (List ℕ)) → Bool → List ℕ
+    → Option (List ℕ) → Option (List ℕ) → Type 0
+Gets remaining contents true path old new = HasGotAll remaining contents path old new
+Gets remaining contents false path old new = HasGot remaining contents path old new
+
+-- the image that is asked for
+abbrev pub making_asked : ℕ → ℕ → Bool → Making
+making_asked size ninodes no_sync =
+    record { form = One; size = size; ninodes = ninodes; sync = not no_sync }
+
+-- a request was done, and its answer printed
+abbrev pub Answers : {F : Type 0} → (F → Option (List ℕ)) → (F → Option (List ℕ)) → Request
+    → Option (List ℕ) → Option (List ℕ) → Type 0
+Answers remaining contents (Ls image path) old new = Looks remaining (Lists path.now) old new
+Answers remaining contents (Tree image path) old new = Looks remaining (ShowsPaths path.now) old new
+Answers remaining contents (Cat image path) old new = Looks remaining (Shows path.now) old new
+Answers remaining contents (Get image path file all) old new =
+    Gets remaining contents all path.now old new
+Answers remaining contents (Put image file path sync no_sync) old new =
+    HasPut remaining path.now sync (not no_sync) old new
+Answers remaining contents (Rm image path sync no_sync) old new = Changes remaining
+    (λ form. Plainly (RemovesAt (names_of path.now))) (λ form. AnyOf (RemovesAt (names_of path.now)))
+    sync no_sync old new
+Answers remaining contents (Mv image from to sync no_sync) old new = Changes remaining
+    (λ form. Plainly (RenamesAt (names_of from.now) (names_of to.now)))
+    (λ form. AnyOf (RenamesAt (names_of from.now) (names_of to.now))) sync no_sync old new
+Answers remaining contents (Mkdir image path sync no_sync) old new = Changes remaining
+    (λ form. MakesDirectory path.now) (λ form. AnyOf (MakesDirectoryAt (names_of path.now)))
+    sync no_sync old new
+Answers remaining contents (Rmdir image path sync no_sync) old new = Changes remaining
+    (λ form. Plainly (RemovesDirectoryAt (names_of path.now)))
+    (λ form. AnyOf (RemovesDirectoryAt (names_of path.now))) sync no_sync old new
+Answers {F} remaining contents (Mkfs image size ninodes files no_sync) old new =
+    IsMadeWith {F = F} file_disk (making_asked size ninodes no_sync) (map (λ file. file.now) files.items)
+    old new
+
+-- a command was refused, for some reason of its own
+abbrev pub Refuses : {R : Type 0} → (R → Type 0) → Type 0
+Refuses {R} why = (r : R) × why r
+
+-- a look was refused: no disk was opened, or nothing told of its files
+abbrev pub LooksNot : {F : Type 0} → (F → Option (List ℕ)) → (Files → LookRefusal → Type 0)
+    → Type 0 → Type 0
+LooksNot remaining refuses none = Refuses
+    (IsRefusedOn remaining false none (λ d e. HasNotLooked file_disk refuses d e none))
+
+-- a change was refused: no disk was opened, or its files were not changed so
+abbrev pub ChangesNot : {F : Type 0} → (F → Option (List ℕ))
+    → (Form → Option ℕ → Files → Files → Type 0) → (Form → Files → Files → Type 0)
+    → (Turn → ChangeRefusal → Type 0) → Bool → Bool → Type 0 → Type 0
+ChangesNot remaining makes midst undone sync no_sync none = Refuses
+    (IsRefusedOn remaining sync none (λ d e r.
+    HasNotChanged file_disk makes undone (not no_sync) d e none r
+    × (Unit {0} → StopsChange file_disk midst d e)))
+
+-- a file was not copied out, nor all below a directory
+abbrev pub GetsNot : {F : Type 0} → (F → Option (List ℕ)) → Bool → List ℕ → Type 0 → Type 0
+GetsNot remaining true path none = Refuses (IsUngotAll remaining path none)
+GetsNot remaining false path none = Refuses (IsUngot remaining path none)
+
+-- why a call at one path was not answered, for a cause of these
+abbrev pub UndoneAt : List ℕ → (Files → ℕ → List ℕ → Refusal → Type 0) → Turn → ChangeRefusal
+    → Type 0
+UndoneAt path why t = OnTree (IsUndone t.disk path (IsUndoneIn why (names_of path)) t.was t.now)
+
+-- a request names an image that is there
+abbrev pub NamesImage : Request → Type 0
+NamesImage (Mkfs image size ninodes files no_sync) = ⊥
+NamesImage request = Unit {0}
+
+-- A request was refused, for a reason of its command; `none` says that nothing was printed.
+abbrev pub OnRefused : {F : Type 0} → (F → Option (List ℕ)) → Request → Option (List ℕ)
+    → Option (List ℕ) → Type 0 → Type 0
+OnRefused remaining (Ls image path) old new none = LooksNot remaining (IsUnlisted path.now) none
+OnRefused remaining (Tree image path) old new none = LooksNot remaining (HasNoPaths path.now) none
+OnRefused remaining (Cat image path) old new none = LooksNot remaining (IsUnshown path.now) none
+OnRefused remaining (Get image path file all) old new none = GetsNot remaining all path.now none
+OnRefused remaining (Put image file path sync no_sync) old new none =
+    Refuses (IsUnput remaining path.now sync (not no_sync) none)
+OnRefused remaining (Rm image path sync no_sync) old new none = ChangesNot remaining
+    (λ form. Plainly (RemovesAt (names_of path.now))) (λ form. AnyOf (RemovesAt (names_of path.now)))
+    (UndoneAt path.now IsUnremovedIn) sync no_sync none
+OnRefused remaining (Mv image from to sync no_sync) old new none = ChangesNot remaining
+    (λ form. Plainly (RenamesAt (names_of from.now) (names_of to.now)))
+    (λ form. AnyOf (RenamesAt (names_of from.now) (names_of to.now)))
+    (λ t. OnTree (IsUndoneAtBoth t.disk from.now to.now
+    (IsUndoneAt (names_of from.now) (names_of to.now)) t.was t.now)) sync no_sync none
+OnRefused remaining (Mkdir image path sync no_sync) old new none = ChangesNot remaining
+    (λ form. MakesDirectory path.now) (λ form. AnyOf (MakesDirectoryAt (names_of path.now)))
+    (UndoneAt path.now IsUnmadeIn) sync no_sync none
+OnRefused remaining (Rmdir image path sync no_sync) old new none = ChangesNot remaining
+    (λ form. Plainly (RemovesDirectoryAt (names_of path.now)))
+    (λ form. AnyOf (RemovesDirectoryAt (names_of path.now)))
+    (UndoneAt path.now IsUnemptiedIn) sync no_sync none
+OnRefused remaining (Mkfs image size ninodes files no_sync) old new none =
+    Refuses (IsNotMadeWith (making_asked size ninodes no_sync) none)
+
+-- the commands of these lines were done, one after the other
+abbrev pub DoesAll : {F : Type 0} → (F → Option (List ℕ)) → (F → Option (List ℕ))
+    → List (List (List ℕ)) → Option (List ℕ) → Option (List ℕ) → Type 0
+DoesAll remaining contents = AreDone (IsDoneOf xvnames_words (Answers remaining contents))
+
+-- they were done up to one that was not
+abbrev pub StopsAt : {F O : Type 0} → (F → Option (List ℕ)) → (F → Option (List ℕ))
+    → (O → Option (List ℕ)) → List (List (List ℕ)) → O → O → Type 0
+StopsAt remaining contents = StopsAmong (IsDoneOf xvnames_words (Answers remaining contents))
+    (IsNotDone xvnames_words (IsRefusedOf xvnames_words (OnRefused remaining)))

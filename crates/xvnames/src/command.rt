@@ -1,0 +1,330 @@
+// One command, and the exit status that it ends with.
+ghost use Rattle.std.specs.Prelude.{◌≡◌, ◌≤◌, true, false, map, IfErr, IsOk, OnErr};
+ghost use Rattle.cmd.specs.Changes.{change as change_of};
+ghost use Rattle.cmd.specs.Lemmas.Disks.{file_disk};
+ghost use Rattle.cmd.specs.Opened.{OpensDisk};
+ghost use Rattle.cmd.specs.Over.{IsRefusedOn};
+ghost use Rattle.commands.specs.Words.{IsDoneOf, IsMisused, IsRefusedOf};
+ghost use Rattle.names_words.specs.CommandLine.{xvnames_words};
+ghost use Rattle.xvnames.specs.Requests.{Answers, Gets, GetsNot, NamesImage, OnRefused};
+ghost use Rattle.xvnames.specs.Making.{IsMadeWith, IsNotMadeWith};
+ghost use Rattle.cli.specs.declared.explanation.Explanation.{Explanation as SomeExplanation};
+ghost use Rattle.cmd.specs.declared.files.OnFile.{OnFile as SomeOnFile};
+ghost use Rattle.xvnames.specs.declared.refused.MkfsRefusal.{MkfsRefusal as SomeMkfsRefusal};
+
+use crate::making::Mkfs;
+use crate::putting::PutFile;
+use crate::telling::{Screen, given};
+use arrayvec::ArrayVec;
+use blocks::{Disk, FileDisk, FileFault};
+use cli::{Asked, parse};
+use cmd::{Access, DiskCommand, OverFile, perform};
+use commands::{Keeper, Locks, Making, Share, explain};
+use inspect::{Line, tell, tell_fault};
+use model::types::Form;
+use names_words::Request;
+use std::convert::AsStr;
+use std::io::Write;
+use std::rt::Files;
+use tree_changes::{MakeDirectory, OverTree, Remove, RemoveDirectory, Rename};
+use tree_looks::{Cat, Get, GetAll, Ls, OverFiles, Paths};
+
+/// The program's name, with which the line of each refusal begins.
+pub const NAME: &str = "xvnames";
+
+/// Does the command that these words ask for, the program's name not among them: prints what it
+/// answers to `out`, and why it wasn't done to `err`, as far as that can be written, in a second line
+/// more of it where that is asked for, or a terminal is at the standard error. The exit status: 0
+/// where it was done, 1 for a refusal, 2 where the words are no command.
+///
+/// With 0 the words make a command, and `out` has its answer, which is that of the disk that was
+/// opened from a file; or they ask for help or the version, whose text is clap's. With 1 they do too.
+/// Then no disk was opened, or the refusal is that disk's; and nothing was printed, unless the output
+/// failed. With 2 nothing is written to `out`, with 0 nothing to `err`.
+pub fn command<R: Files + AllocGlobal + Screen + Locks, S: AsStr, O: Write, E: Write>(
+    rt: &R,
+    words: &[S],
+    out: &mut O,
+    err: &mut E,
+) -> u8
+    ensures status { result ≤ 2 }
+    ensures done { result ≡ 0 → IsDoneOf xvnames_words (Answers R.File.remaining R.File.contents)
+        (map S.text words.now) (O.contents out.old) (O.contents out.new) }
+    ensures refused { result ≡ 1 → IsRefusedOf xvnames_words (OnRefused R.File.remaining)
+        (map S.text words.now) (O.contents out.old) (O.contents out.new) (out.new ≡ out.old) }
+    ensures wrong { result ≡ 2 → (e : SomeExplanation)
+        × IsMisused xvnames_words (map S.text words.now) (out.new ≡ out.old) e }
+    ensures silent { result ≡ 0 → err.new ≡ err.old }
+    ensures misused { result ≡ 2 → out.new ≡ out.old }
+{
+    match parse(rt.alloc(), words) {
+        Ok(asked) => dispatch_alone(rt, asked, out, err),
+        Err(explanation) => explain(NAME, explanation, out, err),
+    }
+}
+
+// Does what is asked for where no other program has the image, and tells why it was refused; it may
+// be asked to wait. The exit status.
+fn dispatch_alone<R: Files + AllocGlobal + Screen + Locks, O: Write, E: Write>(
+    rt: &R,
+    asked: Asked<Request<'_>>,
+    out: &mut O,
+    err: &mut E,
+) -> u8
+    ensures status { result ≤ 1 }
+    ensures done { result ≡ 0 → Answers R.File.remaining R.File.contents asked.entry.request
+        (O.contents out.old) (O.contents out.new) }
+    ensures refused { result ≡ 1 → OnRefused R.File.remaining asked.entry.request
+        (O.contents out.old) (O.contents out.new) (out.new ≡ out.old) }
+    ensures silent { result ≡ 0 → err.new ≡ err.old }
+{
+    match lock_image(rt, &asked.request, asked.wait) {
+        Ok(_lock) => {
+            let mut line: Line = ArrayVec::new();
+            let status = dispatch(rt, &asked, out, &mut line);
+            if status > 0 {
+                let more = asked.explain || rt.shows_errors();
+                tell(rt, more, &given(&asked.request), line.as_slice(), err);
+            }
+            status
+        }
+        Err(fault) => {
+            let more = asked.explain || rt.shows_errors();
+            tell_fault(NAME, rt, more, &given(&asked.request), fault, err)
+        }
+    }
+}
+
+// Takes the lock of the image that a request names: shared by those that only look.
+fn lock_image<L: Locks>(
+    locks: &L,
+    request: &Request<'_>,
+    wait: bool,
+) -> Result<Option<L::Lock>, FileFault>
+    ensures locked { IfErr result (λ fault. fault ≡ FileFault.Locked) }
+    ensures names { OnErr result (NamesImage request.now) }
+    ensures waits { wait ≡ true → IsOk result }
+{
+    match request {
+        Request::Ls { image, .. } => locks.lock(image, Share::Lookers, wait),
+        Request::Tree { image, .. } => locks.lock(image, Share::Lookers, wait),
+        Request::Cat { image, .. } => locks.lock(image, Share::Lookers, wait),
+        Request::Get { image, .. } => locks.lock(image, Share::Lookers, wait),
+        Request::Put { image, .. } => locks.lock(image, Share::Nobody, wait),
+        Request::Rm { image, .. } => locks.lock(image, Share::Nobody, wait),
+        Request::Mv { image, .. } => locks.lock(image, Share::Nobody, wait),
+        Request::Mkdir { image, .. } => locks.lock(image, Share::Nobody, wait),
+        Request::Rmdir { image, .. } => locks.lock(image, Share::Nobody, wait),
+        // It holds the files that it makes or replaces by a `Keeper`.
+        Request::Mkfs { .. } => Ok(None),
+    }
+}
+
+// A look at the image in a file.
+fn look<R: Files + AllocGlobal, C: DiskCommand + Drop, O: Write, E: Write>(
+    rt: &R,
+    image: &str,
+    look: C,
+    out: &mut O,
+    err: &mut E,
+) -> u8
+    ensures status { result ≤ 1 }
+    ensures done { result ≡ 0 → OpensDisk R.File.remaining file_disk false
+        (λ d e. C.done look (change_of file_disk d e) (O.contents out.old) (O.contents out.new)) }
+    ensures refused { result ≡ 1 → (r : SomeOnFile C.Refusal) × IsRefusedOn R.File.remaining false
+        (out.new ≡ out.old) (λ d e. C.refused look (change_of file_disk d e)
+        (O.contents out.old) (O.contents out.new) (out.new ≡ out.old)) r }
+    ensures silent { result ≡ 0 → err.new ≡ err.old }
+{
+    perform(NAME, rt, OverFile(image, Access::Look, look), out, err)
+}
+
+// A change of the image in a file.
+fn change<R: Files + AllocGlobal, C: DiskCommand + Drop, O: Write, E: Write>(
+    rt: &R,
+    image: &str,
+    sync: bool,
+    change: C,
+    out: &mut O,
+    err: &mut E,
+) -> u8
+    ensures status { result ≤ 1 }
+    ensures done { result ≡ 0 → OpensDisk R.File.remaining file_disk sync
+        (λ d e. C.done change (change_of file_disk d e) (O.contents out.old) (O.contents out.new)) }
+    ensures refused { result ≡ 1 → (r : SomeOnFile C.Refusal) × IsRefusedOn R.File.remaining sync
+        (out.new ≡ out.old) (λ d e. C.refused change (change_of file_disk d e)
+        (O.contents out.old) (O.contents out.new) (out.new ≡ out.old)) r }
+    ensures silent { result ≡ 0 → err.new ≡ err.old }
+{
+    let access = Access::Change { sync };
+    perform(NAME, rt, OverFile(image, access, change), out, err)
+}
+
+// Does what is asked for, and prints the answer, or why it was refused. The exit status.
+fn dispatch<R: Files + AllocGlobal + Locks, O: Write, E: Write>(
+    rt: &R,
+    asked: &Asked<Request<'_>>,
+    out: &mut O,
+    err: &mut E,
+) -> u8
+    ensures status { result ≤ 1 }
+    ensures done { result ≡ 0 → Answers R.File.remaining R.File.contents asked.now.request
+        (O.contents out.old) (O.contents out.new) }
+    ensures refused { result ≡ 1 → OnRefused R.File.remaining asked.now.request
+        (O.contents out.old) (O.contents out.new) (out.new ≡ out.old) }
+    ensures silent { result ≡ 0 → err.new ≡ err.old }
+{
+    match &asked.request {
+        Request::Ls { image, path } => look(rt, image, OverFiles(Ls { path }), out, err),
+        Request::Tree { image, path } => look(rt, image, OverFiles(Paths { path }), out, err),
+        Request::Cat { image, path } => look(rt, image, OverFiles(Cat { path }), out, err),
+        Request::Get {
+            image,
+            path,
+            file,
+            all,
+        } => get(rt, image, path, file, *all, out, err),
+        Request::Put {
+            image,
+            file,
+            path,
+            sync,
+            no_sync,
+        } => perform(
+            NAME,
+            rt,
+            PutFile {
+                image,
+                file,
+                path,
+                sync: *sync,
+                last: !*no_sync,
+            },
+            out,
+            err,
+        ),
+        Request::Rm {
+            image,
+            path,
+            sync,
+            no_sync,
+        } => {
+            let over = OverTree {
+                change: Remove { path },
+                last: !*no_sync,
+            };
+            change(rt, image, *sync, over, out, err)
+        }
+        Request::Mv {
+            image,
+            from,
+            to,
+            sync,
+            no_sync,
+        } => {
+            let over = OverTree {
+                change: Rename { from, to },
+                last: !*no_sync,
+            };
+            change(rt, image, *sync, over, out, err)
+        }
+        Request::Mkdir {
+            image,
+            path,
+            sync,
+            no_sync,
+        } => {
+            let over = OverTree {
+                change: MakeDirectory { path },
+                last: !*no_sync,
+            };
+            change(rt, image, *sync, over, out, err)
+        }
+        Request::Rmdir {
+            image,
+            path,
+            sync,
+            no_sync,
+        } => {
+            let over = OverTree {
+                change: RemoveDirectory { path },
+                last: !*no_sync,
+            };
+            change(rt, image, *sync, over, out, err)
+        }
+        Request::Mkfs {
+            image,
+            size,
+            ninodes,
+            files,
+            no_sync,
+        } => {
+            let making = Making {
+                form: Form::One,
+                size: *size,
+                ninodes: *ninodes,
+                sync: !*no_sync,
+            };
+            make(rt, image, making, files.as_slice(), asked.wait, out, err)
+        }
+    }
+}
+
+// Copies a file, or a directory with all below it.
+fn get<R: Files + AllocGlobal, O: Write, E: Write>(
+    rt: &R,
+    image: &str,
+    path: &str,
+    file: &str,
+    all: bool,
+    out: &mut O,
+    err: &mut E,
+) -> u8
+    ensures status { result ≤ 1 }
+    ensures done { result ≡ 0 → Gets R.File.remaining R.File.contents all path.now
+        (O.contents out.old) (O.contents out.new) }
+    ensures refused { result ≡ 1 → GetsNot R.File.remaining all path.now (out.new ≡ out.old) }
+    ensures silent { result ≡ 0 → err.new ≡ err.old }
+{
+    if all {
+        let folder = file;
+        return perform(
+            NAME,
+            rt,
+            GetAll {
+                image,
+                path,
+                folder,
+            },
+            out,
+            err,
+        );
+    }
+    perform(NAME, rt, Get { image, path, file }, out, err)
+}
+
+// Makes an image with files.
+fn make<R: Files + AllocGlobal + Locks, O: Write, E: Write>(
+    rt: &R,
+    image: &str,
+    making: Making,
+    files: &[&str],
+    wait: bool,
+    out: &mut O,
+    err: &mut E,
+) -> u8
+    ensures status { result ≤ 1 }
+    ensures done { result ≡ 0 → IsMadeWith ⟦<FileDisk<R::File> as Disk>⟧ making
+        (map (λ file. file.now) files.now) (O.contents out.old) (O.contents out.new) }
+    ensures refused { result ≡ 1 → (r : SomeMkfsRefusal)
+        × IsNotMadeWith making (out.new ≡ out.old) r }
+    ensures silent { result ≡ 0 → err.new ≡ err.old }
+{
+    let mkfs = Mkfs {
+        image,
+        making,
+        files,
+        holder: Keeper::new(rt, wait),
+    };
+    perform(NAME, rt, mkfs, out, err)
+}

@@ -1,0 +1,69 @@
+// What more is said of a refusal.
+use inspect::Given;
+use names_words::Request;
+use std::io::{IsTerminal, Stderr};
+
+/// Where it is seen whether a terminal is at the standard error.
+pub trait Screen {
+    /// Whether one is.
+    fn shows_errors(&self) -> bool;
+}
+
+impl Screen for HostRuntime {
+    fn shows_errors(&self) -> bool {
+        let screen: Stderr = self.stderr();
+        screen.is_terminal()
+    }
+}
+
+/// The paths of a request, and what else a refusal may be about.
+pub fn given<'a>(request: &Request<'a>) -> Given<'a> {
+    match *request {
+        Request::Ls { image, path } => at(image, path, false),
+        Request::Tree { image, path } => at(image, path, false),
+        Request::Cat { image, path } => at(image, path, false),
+        Request::Get {
+            image,
+            path,
+            file,
+            ..
+        } => Given {
+            made: Some(file),
+            got: Some(file),
+            ..at(image, path, false)
+        },
+        Request::Put {
+            image,
+            file,
+            path,
+            ..
+        } => Given {
+            file: Some(file),
+            ..at(image, path, true)
+        },
+        Request::Rm { image, path, .. } => at(image, path, true),
+        Request::Mv { image, from, .. } => at(image, from, true),
+        Request::Mkdir { image, path, .. } => at(image, path, true),
+        Request::Rmdir { image, path, .. } => at(image, path, true),
+        Request::Mkfs {
+            image,
+            size,
+            ninodes,
+            ..
+        } => Given {
+            made: Some(image),
+            name: Some(image),
+            size: Some(size),
+            ninodes: Some(ninodes),
+            ..Given::nothing()
+        },
+    }
+}
+
+// What a command was given over a file of the image at a path.
+fn at<'a>(image: &'a str, path: &'a str, changes: bool) -> Given<'a> {
+    Given {
+        name: Some(path),
+        ..Given::over(image, changes)
+    }
+}

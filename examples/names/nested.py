@@ -1,0 +1,167 @@
+"""Changes of a tree of 200 files in nested directories, each by one run of the program, beside a plain model
+that is a dictionary; and chosen changes killed before each of their writes.
+
+    nested.py PROGRAM FAULTS.SO
+"""
+import os
+import random
+import signal
+import subprocess
+import sys
+import tempfile
+
+from reader import read
+
+PROGRAM, FAULTS = os.path.realpath(sys.argv[1]), os.path.realpath(sys.argv[2])
+FILES, PIECE = 200, 3072
+random.seed(20)
+
+
+def fail(text):
+    print("names: " + text)
+    sys.exit(1)
+
+
+def run(*words, status=0, **env):
+    ran = subprocess.run([PROGRAM, *words], capture_output=True, env=dict(os.environ, **env), timeout=60)
+    if status is not None and ran.returncode != status:
+        fail("%s: status %d, %s" % (" ".join(words), ran.returncode, ran.stderr.decode().strip()))
+    return ran
+
+
+def found(path):
+    """What an independent reader finds: each path with its bytes."""
+    with open(path, "rb") as file:
+        files, wrong = read(file.read())
+    if wrong:
+        fail("%s: %s" % (path, "; ".join(wrong)))
+    return {name: data for name, (_kind, _links, data) in files.items()}
+
+
+class Model:
+    """The tree as a dictionary, and the image beside it."""
+
+    def __init__(self):
+        self.files = {}
+        run("mkfs", "a.img", "4000", "400")
+
+    def directories(self):
+        return ["/"] + [path for path in self.files if path.endswith("/")]
+
+    def plain(self):
+        return [path for path in self.files if not path.endswith("/")]
+
+    def new_path(self):
+        return random.choice(self.directories()) + "n%d" % random.randrange(10**6)
+
+    def mkdir(self):
+        path = self.new_path()
+        self.files[path + "/"] = None
+        return "mkdir", "a.img", path
+
+    def put(self, path=None, size=None):
+        path = path or (random.choice(self.plain()) if self.plain() and random.random() < 0.2 else self.new_path())
+        data = random.randbytes(random.choice([0, 1, 700, PIECE, 4000, 20000]) if size is None else size)
+        with open("host", "wb") as file:
+            file.write(data)
+        self.files[path] = data
+        return "put", "a.img", "host", path
+
+    def remove(self):
+        path = random.choice(self.plain())
+        del self.files[path]
+        return "rm", "a.img", path
+
+    def remove_directory(self):
+        empty = [path for path in self.directories()[1:] if not any(p != path and p.startswith(path) for p in self.files)]
+        if not empty:
+            return self.mkdir()
+        path = random.choice(empty)
+        del self.files[path]
+        return "rmdir", "a.img", path[:-1]
+
+    def move(self):
+        path, new = random.choice(self.plain()), self.new_path()
+        self.files[new] = self.files.pop(path)
+        return "mv", "a.img", path, new
+
+    def move_directory(self):
+        movable = [path for path in self.directories()[1:]]
+        path = random.choice(movable) if movable else None
+        into = [to for to in self.directories() if path is None or not to.startswith(path)]
+        if path is None:
+            return self.mkdir()
+        new = random.choice(into) + "n%d" % random.randrange(10**6) + "/"
+        for old in [old for old in self.files if old.startswith(path)]:
+            self.files[new + old[len(path):]] = self.files.pop(old)
+        return "mv", "a.img", path[:-1], new[:-1]
+
+
+def is_between(left, before, after):
+    """Whether a stop left the tree of before or of after a change, or a file with a beginning of its bytes."""
+    if left in (before, after):
+        return True
+    changed = [path for path in after if after[path] is not None and before.get(path) != after[path]]
+    if len(changed) != 1 or len(after[changed[0]]) <= PIECE:
+        return False
+    path = changed[0]
+    begun = dict(before)
+    begun[path] = left.get(path)
+    return left == begun and left[path] is not None and after[path].startswith(left[path])
+
+
+def stopped(words, before, after):
+    """Runs a change, killed before each of its writes in turn, each time from the same image. How many stops."""
+    with open("a.img", "rb") as file:
+        image = file.read()
+    for at in range(1, 10**6):
+        with open("a.img", "wb") as file:
+            file.write(image)
+        ran = run(*words, status=None, LD_PRELOAD=FAULTS, FAULTS_FILE="a.img", FAULTS_CALL="write",
+                  FAULTS_AT=str(at), FAULTS_HOW="kill")
+        left = found("a.img")
+        if ran.returncode == 0:
+            if left != after:
+                fail("%s made something else" % " ".join(words))
+            return at - 1
+        if ran.returncode != -signal.SIGKILL:
+            fail("%s: status %d before write %d" % (" ".join(words), ran.returncode, at))
+        if not is_between(left, before, after):
+            fail("%s: stopped before write %d it left neither tree" % (" ".join(words), at))
+
+
+def main():
+    model, changes, stops = Model(), 0, 0
+    kinds = [model.mkdir, model.put, model.put, model.put, model.put, model.put, model.move, model.move_directory,
+             model.remove, model.remove_directory]
+    while len(model.plain()) < FILES:
+        kind = random.choice(kinds)
+        if kind in (model.move, model.remove) and not model.plain():
+            continue
+        run(*kind())
+        changes += 1
+        if changes % 25 == 0 and found("a.img") != model.files:
+            fail("after %d changes the tree is another one" % changes)
+    if found("a.img") != model.files:
+        fail("the tree is another one")
+    listed = sorted(run("tree", "a.img").stdout.decode().splitlines())
+    if listed != sorted(path[1:] for path in model.files):
+        fail("tree lists something else")
+    for path in random.sample(model.plain(), 20):
+        if run("cat", "a.img", path).stdout != model.files[path]:
+            fail("cat %s writes something else" % path)
+    chosen = [model.mkdir, model.move, model.move_directory, model.remove, model.remove_directory,
+              lambda: model.put(model.new_path(), 0), lambda: model.put(model.new_path(), PIECE),
+              lambda: model.put(random.choice(model.plain()), 700), lambda: model.put(random.choice(model.plain()), PIECE),
+              lambda: model.put(model.new_path(), 10000)]
+    for change in chosen:
+        before = dict(model.files)
+        stops += stopped(change(), before, model.files)
+    print("%d changes of a tree with %d files and %d directories; %d stops, each of which left a whole tree"
+          % (changes, len(model.plain()), len(model.directories()), stops))
+
+
+if __name__ == "__main__":
+    with tempfile.TemporaryDirectory() as folder:
+        os.chdir(folder)
+        main()

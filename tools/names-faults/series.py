@@ -1,0 +1,216 @@
+"""The series of faults of `xvnames`, and what each run has to come to."""
+import concurrent.futures
+import os
+import re
+import signal
+import subprocess
+import sys
+import tempfile
+
+from reader import read
+
+PROGRAM, WORK = os.path.realpath(sys.argv[1]), sys.argv[2]
+MOST = 10**6 if "--all" in sys.argv[3:] else 25
+PIECE = 3072
+TOLD = re.compile(r"xvnames: [a-z]+ \d+ [A-Z][A-Za-z]*( \d+)?\n")
+HOWS = {
+    "write": ["eio", "enospc", "zero", "short", "eintr", "kill"],
+    "read": ["eio", "short", "zero"],
+    "fdatasync": ["eio", "kill"],
+}
+SMALL, LONG = b"small " * 100, b"0123456789abcdef" * 1000
+COMMANDS = {
+    "mkdir": ["mkdir", "a.img", "/docs/new"],
+    "rmdir": ["rmdir", "a.img", "/docs/empty"],
+    "rm": ["rm", "a.img", "/docs/long"],
+    "mv of a file": ["mv", "a.img", "/first", "/docs/moved"],
+    "mv of a directory": ["mv", "a.img", "/docs", "/others/docs"],
+    "put of a small file": ["put", "a.img", "small", "/new"],
+    "put over a file": ["put", "a.img", "small", "/docs/long"],
+    "put of a long file": ["put", "a.img", "long", "/new"],
+    "put with --sync": ["put", "a.img", "small", "/new", "--sync"],
+}
+LOOKS = {
+    "ls": ["ls", "a.img", "/docs"],
+    "tree": ["tree", "a.img"],
+    "cat": ["cat", "a.img", "/docs/long"],
+    "get": ["get", "a.img", "/docs/long", "out"],
+}
+
+
+class Trial:
+    """A run of the program over an image of its own, in a folder of its own."""
+
+    def __init__(self, image, words, **env):
+        self.folder = tempfile.TemporaryDirectory(dir=WORK)
+        self.put("a.img", image)
+        self.put("small", SMALL)
+        self.put("long", LONG)
+        ran = subprocess.run([PROGRAM, *words], cwd=self.folder.name, env=dict(os.environ, **env),
+                             stdin=subprocess.DEVNULL, capture_output=True, timeout=60)
+        self.status, self.out, self.err = ran.returncode, ran.stdout, ran.stderr.decode()
+
+    def path(self, name):
+        return os.path.join(self.folder.name, name)
+
+    def put(self, name, data):
+        with open(self.path(name), "wb") as file:
+            file.write(data)
+
+    def bytes(self, name):
+        if not os.path.exists(self.path(name)):
+            return None
+        with open(self.path(name), "rb") as file:
+            return file.read()
+
+    def tree(self):
+        """The files by their paths, and what is wrong with the tree."""
+        files, wrong = read(self.bytes("a.img"))
+        return {path: data for path, (_kind, _links, data) in files.items()}, wrong
+
+
+def made():
+    """An image with some files and directories."""
+    with tempfile.TemporaryDirectory(dir=WORK) as folder:
+        for name, data in ("small", SMALL), ("long", LONG):
+            with open(os.path.join(folder, name), "wb") as file:
+                file.write(data)
+        for words in (["mkfs", "a.img", "400", "64"], ["mkdir", "a.img", "/docs"], ["mkdir", "a.img", "/others"],
+                      ["mkdir", "a.img", "/docs/empty"], ["put", "a.img", "small", "/first"],
+                      ["put", "a.img", "long", "/docs/long"]):
+            subprocess.run([PROGRAM, *words], cwd=folder, check=True, capture_output=True)
+        with open(os.path.join(folder, "a.img"), "rb") as file:
+            return file.read()
+
+
+BASE = made()
+
+
+def begun(left, before, after):
+    """Whether a long file has a beginning of its bytes, and all else is as before."""
+    changed = [path for path in after if after[path] is not None and before.get(path) != after[path]]
+    if len(changed) != 1 or len(after[changed[0]]) <= PIECE:
+        return False
+    one = dict(before)
+    one[changed[0]] = left.get(changed[0])
+    return left == one and left[changed[0]] is not None and after[changed[0]].startswith(left[changed[0]])
+
+
+def judge(trial, usual, has_failed):
+    """Why an end is not as it should be."""
+    (before, _), (after, _) = BASE_TREE, usual.tree()
+    left, wrong = trial.tree()
+    if wrong:
+        return "; ".join(wrong)
+    if left not in (before, after) and not begun(left, before, after):
+        return "the tree is neither that of before nor that of the change"
+    if trial.status == 0:
+        if has_failed:
+            return "status 0"
+        return None if left == after and trial.out == usual.out and trial.err == "" else "status 0, and not all was done"
+    if trial.status == -signal.SIGKILL:
+        return None
+    if trial.status == 2 and trial.err.startswith("error: out of memory"):
+        return None if left == before else "status 2, and the tree is another one"
+    if trial.status != 1 or not TOLD.fullmatch(trial.err):
+        return f"status {trial.status}: {trial.err.strip()}"
+    return None
+
+
+def judge_look(trial, usual):
+    """A look changes nothing, and prints what it prints, or a beginning, or is refused."""
+    if trial.bytes("a.img") != BASE:
+        return "the image was written"
+    if trial.status == 0:
+        same = trial.out == usual.out and trial.bytes("out") == usual.bytes("out")
+        return None if same else "status 0, and another answer"
+    if trial.status == 2 and trial.err.startswith("error: out of memory"):
+        return None
+    if trial.status != 1 or not TOLD.fullmatch(trial.err):
+        return f"status {trial.status}: {trial.err.strip()}"
+    return None if usual.out.startswith(trial.out) else "refused behind another answer"
+
+
+def places(count):
+    return range(1, count + 1, max(1, -(-count // MOST)))
+
+
+def count_calls(words, call):
+    """How many calls of that kind a run makes."""
+    low, high = 0, 1
+    shows = lambda n: Trial(BASE, words, **fault(call, n, "kill")).status == -signal.SIGKILL
+    while shows(high):
+        low, high = high, high * 2
+    while high - low > 1:
+        middle = (low + high) // 2
+        low, high = (middle, high) if shows(middle) else (low, middle)
+    return low
+
+
+def fault(call, at, how):
+    return {"LD_PRELOAD": WORK + "/faults.so", "FAULTS_FILE": "a.img", "FAULTS_CALL": call, "FAULTS_AT": str(at),
+            "FAULTS_HOW": how}
+
+
+def calls(words, call, how, usual, is_look):
+    for at in places(count_calls(words, call)):
+        trial = Trial(BASE, words, **fault(call, at, how))
+        if is_look:
+            yield at, judge_look(trial, usual)
+        else:
+            yield at, judge(trial, usual, how in ("eio", "enospc", "zero") and call != "read")
+
+
+def allocations(words, usual, is_look):
+    counting = Trial(BASE, words, LD_PRELOAD=WORK + "/refuse.so", COUNT_ALLOCATIONS=WORK + "/count-%d" % hash(tuple(words)))
+    with open(WORK + "/count-%d" % hash(tuple(words)), "rb") as file:
+        count = len(file.read())
+    if counting.status != 0:
+        yield "its count", f"status {counting.status}"
+    for at in places(count):
+        trial = Trial(BASE, words, LD_PRELOAD=WORK + "/refuse.so", REFUSE_ALLOCATION=str(at))
+        yield at, judge_look(trial, usual) if is_look else judge(trial, usual, False)
+
+
+def series():
+    for is_look, commands in (False, COMMANDS), (True, LOOKS):
+        for name, words in commands.items():
+            usual = Trial(BASE, words)
+            if usual.status != 0:
+                yield name, iter([("undisturbed", usual.err.strip())])
+                continue
+            for call, hows in HOWS.items():
+                if is_look and call != "read" or call == "fdatasync" and words[0] not in ("put", "mkdir"):
+                    continue
+                for how in hows:
+                    yield f"{name}, {call} {how}", calls(words, call, how, usual, is_look)
+            yield f"{name}, each allocation refused", allocations(words, usual, is_look)
+
+
+BASE_TREE = Trial(BASE, ["tree", "a.img"]).tree()
+
+
+def tried(one):
+    name, ends = one
+    runs, bad = 0, []
+    for at, why in ends:
+        runs += 1
+        if why:
+            bad.append(f"{name}, at {at}: {why}")
+    return name, runs, bad
+
+
+def main():
+    if BASE_TREE[1]:
+        print("the image that is tried has no whole tree: " + "; ".join(BASE_TREE[1]))
+        return 1
+    with concurrent.futures.ThreadPoolExecutor(os.cpu_count()) as pool:
+        results = list(pool.map(tried, series()))
+    for _name, _runs, bad in results:
+        for line in bad[:3]:
+            print(line)
+    print(f"{len(results)} series, {sum(runs for _, runs, _ in results)} runs, {sum(bool(bad) for _, _, bad in results)} not as they should be")
+    return any(bad for _, _, bad in results)
+
+
+sys.exit(main())
