@@ -1,6 +1,6 @@
 -- Facts of an image that is made.
-use Rattle.std.proofs.Common.{◌≡◌, Bool, true, false, length, refl}
-use Rattle.std.specs.Prelude.{◌&&◌, Err}
+use Rattle.std.proofs.Common.{◌≡◌, Bool, length, refl}
+use Rattle.std.specs.Prelude.{Err}
 use Rattle.blocks.specs.declared.disk.Disk.{Ghosts}
 use Rattle.commands.specs.Lemmas.Plans.{not_off}
 use Rattle.commands.specs.Making.{IsPlan}
@@ -14,11 +14,6 @@ use Rattle.tree_changes.specs.declared.faults.ChangeRefusal.{ChangeRefusal}
 use Rattle.tree_changes.specs.declared.faults.ChangeRefusal.TheVariants.{Unopened, Tree, Unwritten, Disk, Output}
 use Rattle.xvnames.specs.Making.{IsUnfilled, IsUnfilledBy}
 use Rattle.xvnames.specs.declared.refused.FillFault.TheVariants as fill
-
-pub both : (a b : Bool) → (a && b) ≡ true → (a ≡ true) × (b ≡ true)
-both true true is = (refl, refl)
-both true false is = absurd (cc is)
-both false b is = absurd (cc is)
 
 -- what a tree refuses
 pub of_tree : (sync : Bool) (r : ChangeRefusal) → IsOfTree r → IsUnfilledBy sync r

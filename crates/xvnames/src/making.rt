@@ -119,7 +119,7 @@ fn read_all<'a, R: Files + AllocGlobal>(
             name: name_of(path.as_bytes()),
             bytes,
         };
-        if files.push(named).is_err() {
+        if let Err(_full) = files.push(named) {
             return Err(ReadFault::NoMemory);
         }
     }

@@ -80,7 +80,7 @@ returns-in-Rmdir-clause-refused g c =
 pub returns-in-Mkfs-clause-done : goal.returns-in-Mkfs-clause-done
 returns-in-Mkfs-clause-done g c =
     λ done. subst (λ request. Answers g.R.File.Read.remaining g.R.File.Write.contents request (g.O.Write.contents c.args.out.now) (g.O.Write.contents c.make.new.out)) (sym c.in-Mkfs.is)
-    (subst (λ (files : _). IsMadeWith file_disk (making_asked c.in-Mkfs.size.now c.in-Mkfs.ninodes.now c.in-Mkfs.no_sync.now) (map (λ file. file.now) files) (g.O.Write.contents c.args.out.now) (g.O.Write.contents c.make.new.out)) c.as_slice.ensures.value (c.make.ensures.done done))
+    (subst (λ (files : _). IsMadeWith (file_disk {F = g.row.R-File.Denot}) (making_asked c.in-Mkfs.size c.in-Mkfs.ninodes c.in-Mkfs.no_sync) (map (λ file. file.now) files) (g.O.Write.contents c.args.out.now) (g.O.Write.contents c.make.new.out)) c.as_slice.ensures.value (c.make.ensures.done done))
 
 pub returns-in-Mkfs-clause-refused : goal.returns-in-Mkfs-clause-refused
 returns-in-Mkfs-clause-refused g c =
