@@ -14,6 +14,6 @@ pub fn make_note<D: Disk>(alloc: Global, tree: &mut Tree<D>, bytes: &[u8]) -> an
     if let Err(cause) = tree.put(alloc, b"/docs/draft", bytes)? {
         return Err(cause.into());
     }
-    tree.rename(alloc, b"/docs/draft", b"note")?;
+    tree.rename(alloc, b"/docs/draft", b"/docs/note")?;
     Ok(tree.lookup(alloc, b"/docs/note")?)
 }
