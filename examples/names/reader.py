@@ -42,9 +42,9 @@ class Image:
         return [pair for pair in pairs if pair[0] != 0]
 
 
-def read(data):
+def read(data, may_link=False):
     """The files by their paths, a directory's path with a slash behind it: type, links and bytes (None of a
-    directory). And what is wrong."""
+    directory). And what is wrong. A file that is no directory may have several names where that is said."""
     image, files, wrong, named = Image(data), {}, [], {ROOT: "/"}
     left = [(ROOT, ROOT, "")]
     if image.inode(ROOT)[0] != DIRECTORY:
@@ -64,6 +64,9 @@ def read(data):
             kind, links, _size, _addresses = image.inode(to) if 0 < to < image.ninodes else (0, 0, 0, ())
             if kind == 0:
                 wrong.append("%s leads to %d, which is free" % (below, to))
+                continue
+            if to in named and may_link and kind != DIRECTORY:
+                files[below] = (kind, links, image.bytes(to))
                 continue
             if to in named:
                 wrong.append("%s and %s are one file" % (below, named[to]))

@@ -3,6 +3,7 @@ use Rattle.std.specs.Prelude.{◌≡◌, ◌⊎◌, ℕ, List, [], Bool, true, f
 use Rattle.clap.specs.Words.{App, HasKind, Kinds, Row, fault_of, kind_of, one_of, subcommand_of}
 use Rattle.clap.specs.declared.error.Error.{Error}
 use Rattle.clap.specs.declared.error.kind.ErrorKind.TheVariants as kind
+use Rattle.cli.specs.declared.asking.Asked.{Asked}
 
 -- a program's words: its command line, as clap is told it, and what a command of a name, with some
 -- values, asks for
@@ -49,6 +50,13 @@ AskToWait wording words wait = Gives (codes "wait") (subcommand_of wording.app w
 abbrev pub AskToExplain : {Q : Type 0} → Wording Q → List (List ℕ) → Bool → Type 0
 AskToExplain wording words explain =
     Gives (codes "explain") (subcommand_of wording.app words) explain
+
+-- the words ask for this, and how it is done
+pub record IsAsked {Q : Type 0} (wording : Wording Q) (words : List (List ℕ))
+    (asked : Asked Q) : Type 0 where
+  pub request : AskFor wording words asked.request
+  pub wait : AskToWait wording words asked.wait
+  pub explain : AskToExplain wording words asked.explain
 
 -- the error is a mistake in the words, or that memory was refused
 abbrev pub IsMistakeIn : {Q : Type 0} → Wording Q → List (List ℕ) → Error → Type 0

@@ -112,9 +112,9 @@ run_app = with_rule (with_rule (with_rule (image_app (codes "run"))
     (required_rule (codes "SCRIPT"))) workers_rule) (flag_rule (codes "sync"))
 
 abbrev pub stops_app : App
-stops_app = with_rule (explained (with_rule (with_rule (new_app (codes "stops"))
+stops_app = with_rule (with_rule (explained (with_rule (with_rule (new_app (codes "stops"))
     (required_rule (codes "SCRIPT"))) (required_rule (codes "SCHEDULE"))))
-    (flag_rule (codes "held"))
+    (flag_rule (codes "held"))) picture_rule
 
 -- a program of that name, with no command yet
 abbrev pub named_app : List ℕ → App
@@ -217,9 +217,10 @@ AsksBy name rows (Run image script workers sync) =
     (name ≡ codes "run") × (first_of (codes "IMAGE") rows ≡ Some image.now)
     × (first_of (codes "SCRIPT") rows ≡ Some script.now) × HasWorkers rows workers
     × HasFlag (codes "sync") rows sync
-AsksBy name rows (Stops script schedule held) =
+AsksBy name rows (Stops script schedule held picture) =
     (name ≡ codes "stops") × (first_of (codes "SCRIPT") rows ≡ Some script.now)
     × (first_of (codes "SCHEDULE") rows ≡ Some schedule.now) × HasFlag (codes "held") rows held
+    × (option_map (λ path. path.now) picture ≡ first_of (codes "picture") rows)
 
 -- the words of `xvfs`
 abbrev pub xvfs_words : Wording Request

@@ -1,15 +1,7 @@
 // What the words of a command line ask a program for.
 ghost use Rattle.std.specs.Prelude.{◌≡◌, true, codes, map, IfErr, IfOk, IfSome};
 ghost use Rattle.clap.specs.Words.{found_of, is_simple_and_free, rows_of, subcommand_rows_of};
-ghost use Rattle.cli.specs.Asking.{
-  AskFor,
-  AskToExplain,
-  AskToWait,
-  Asks,
-  Gives,
-  IsMistakeIn,
-  Wording,
-};
+ghost use Rattle.cli.specs.Asking.{Asks, Gives, IsAsked, IsMistakeIn, Wording};
 ghost use Rattle.cli.specs.CommandLine.{HasApp};
 ghost use Rattle.cli.specs.Table.{outline_app};
 ghost use Rattle.cli.specs.Told.{IsToldOf};
@@ -63,12 +55,7 @@ pub fn parse<'a, Q: ByWords<'a>, S: AsStr>(
     alloc: Global,
     words: &'a [S],
 ) -> Result<Asked<Q>, Explanation>
-    ensures ok { IfOk result
-        (λ asked. AskFor Q.wording (map S.text words.entry.now) asked.request) }
-    ensures wait { IfOk result
-        (λ asked. AskToWait Q.wording (map S.text words.entry.now) asked.wait) }
-    ensures explain { IfOk result
-        (λ asked. AskToExplain Q.wording (map S.text words.entry.now) asked.explain) }
+    ensures ok { IfOk result (IsAsked Q.wording (map S.text words.entry.now)) }
     ensures err { IfErr result (IsToldOf Q.wording (map S.text words.entry.now)) }
 {
     match read(alloc, words) {
@@ -79,12 +66,7 @@ pub fn parse<'a, Q: ByWords<'a>, S: AsStr>(
 
 // What the words ask for, or clap's error.
 fn read<'a, Q: ByWords<'a>, S: AsStr>(alloc: Global, words: &'a [S]) -> Result<Asked<Q>, Error>
-    ensures ok { IfOk result
-        (λ asked. AskFor Q.wording (map S.text words.entry.now) asked.request) }
-    ensures wait { IfOk result
-        (λ asked. AskToWait Q.wording (map S.text words.entry.now) asked.wait) }
-    ensures explain { IfOk result
-        (λ asked. AskToExplain Q.wording (map S.text words.entry.now) asked.explain) }
+    ensures ok { IfOk result (IsAsked Q.wording (map S.text words.entry.now)) }
     ensures err { IfErr result (IsMistakeIn Q.wording (map S.text words.entry.now)) }
 {
     let mut program = program_of(alloc, Q::outline())?;
@@ -99,12 +81,7 @@ fn read_by<'a, Q: ByWords<'a>, S: AsStr>(
 ) -> Result<Asked<Q>, Error>
     requires app { HasApp Q.wording.app program.old }
     requires free { is_simple_and_free Q.wording.app ≡ true }
-    ensures ok { IfOk result
-        (λ asked. AskFor Q.wording (map S.text words.entry.now) asked.request) }
-    ensures wait { IfOk result
-        (λ asked. AskToWait Q.wording (map S.text words.entry.now) asked.wait) }
-    ensures explain { IfOk result
-        (λ asked. AskToExplain Q.wording (map S.text words.entry.now) asked.explain) }
+    ensures ok { IfOk result (IsAsked Q.wording (map S.text words.entry.now)) }
     ensures err { IfErr result (IsMistakeIn Q.wording (map S.text words.entry.now)) }
 {
     let matches = program.try_get_matches_from_mut(words)?;

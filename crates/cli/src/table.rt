@@ -359,6 +359,11 @@ const LINES: &[Line] = &[
                 kind: Kind::Flag,
                 help: "Makes them over a disk that holds writes back, and loses any of these at each stop",
             },
+            Word {
+                name: "picture",
+                kind: Kind::Path,
+                help: "Draws the stops into this file, too, as a page that a browser shows",
+            },
         ],
     },
 ];

@@ -148,6 +148,8 @@ pub enum Request<'a> {
         schedule: &'a str,
         /// Whether the disk holds writes back until it is synced.
         held: bool,
+        /// The path of the file into which the stops are drawn.
+        picture: Option<&'a str>,
     },
 }
 
@@ -194,6 +196,7 @@ fn stops_request<'a>(values: &ArgMatches<'a>) -> Option<Request<'a>>
         script: values.get_str("SCRIPT")?,
         schedule: values.get_str("SCHEDULE")?,
         held: values.get_flag("held"),
+        picture: values.get_str("picture"),
     })
 }
 

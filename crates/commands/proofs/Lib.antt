@@ -4,3 +4,6 @@ pub mod MakingLemmas
 pub mod Ended
 pub mod Putting
 pub mod Recording
+pub mod CopiedBlocks
+pub mod Lines
+pub mod Leaving

@@ -13,32 +13,57 @@ use Rattle.pictures.specs.declared.recorder.Recorder.{Recorder}
 use Rattle.player.specs.Told.{Told, is_last_told}
 use Rattle.player.specs.Turns.{IfLast, Turns}
 use Rattle.scripts.specs.declared.schedule.Word.{Word}
-use Rattle.commands.specs.Pictures.{HasNoPicture, HasPicture, IsDrawn, IsReplayedSo, IsSceneOf, IsUndrawn, IsUnpictured}
-use Rattle.commands.specs.Recorded.{hear_of, none_recorded, recorded, run_picture}
+use Rattle.scripts.specs.declared.script.Task.{Task}
+use Rattle.commands.specs.Filed.{copied_image}
+use Rattle.commands.specs.Pictures.{HasNoPicture, HasPicture, IsMadeOf, IsPictured, IsSceneOf, IsUndrawn, IsUnpictured}
+use Rattle.commands.specs.Recorded.{hear_of, none_recorded, recorded}
+use Rattle.commands.specs.Runs.{IsReplayedSo}
+use Rattle.commands.specs.declared.anew.Anew.{Anew}
 use Rattle.commands.specs.declared.picturing.PicturedRefusal.{PicturedRefusal}
-use Rattle.commands.specs.declared.picturing.PicturedRefusal.TheVariants.{NoMemory, Replay, TooLong, Picture}
-use Rattle.commands.specs.declared.picturing.Scene.{Scene}
+use Rattle.commands.specs.declared.picturing.PicturedRefusal.TheVariants.{NoMemory, Replay, TooLong, Unfiled, Picture}
+use Rattle.commands.specs.declared.scene.Scene.{Scene}
 
--- who heard of turns has recorded them
-module _ {T : Type 0} (hears : Word → Told → T → T → Type 0) (recorder_of : T → Recorder)
-    (each : (w : Word) (told : Told) (a b : T) → hears w told a b → recorder_of b ≡ hear_of (recorder_of a) told) where
-  pub all_recorded : (words : List Word) (tolds : List Told) (t u : T) → Turns is_last_told hears words tolds t u → recorder_of u ≡ left_along hear_of (recorder_of t) tolds
-  all_recorded [] tolds t u heard = ap recorder_of heard.1 ∙ ap (left_along hear_of (recorder_of t)) (sym heard.0)
-  all_recorded (w ∷ words) [] t u heard = absurd heard
-  all_recorded (w ∷ words) (told ∷ tolds) t u (mid, turn, rest) = on (is_last_told told) (λ more. all_recorded words tolds mid u more) rest
+-- what who heard of turns has is left along them
+module _ {T S : Type 0} (hears : Word → Told → T → T → Type 0) (state_of : T → S) (hear : S → Told → S)
+    (each : (w : Word) (told : Told) (a b : T) → hears w told a b → state_of b ≡ hear (state_of a) told) where
+  pub all_heard : (words : List Word) (tolds : List Told) (t u : T) → Turns is_last_told hears words tolds t u → state_of u ≡ left_along hear (state_of t) tolds
+  all_heard [] tolds t u heard = ap state_of heard.1 ∙ ap (left_along hear (state_of t)) (sym heard.0)
+  all_heard (w ∷ words) [] t u heard = absurd heard
+  all_heard (w ∷ words) (told ∷ tolds) t u (mid, turn, rest) = on (is_last_told told) (λ more. all_heard words tolds mid u more) rest
     where
-      on : (b : Bool) → (Turns is_last_told hears words tolds mid u → recorder_of u ≡ left_along hear_of (recorder_of mid) tolds)
-          → IfLast b ((tolds ≡ []) × (u ≡ mid)) (Turns is_last_told hears words tolds mid u) → recorder_of u ≡ left_along hear_of (hear_of (recorder_of t) told) tolds
-      on true go ends = ap recorder_of ends.1 ∙ each w told t mid turn ∙ ap (left_along hear_of (hear_of (recorder_of t) told)) (sym ends.0)
-      on false go more = go more ∙ ap (λ r. left_along hear_of r tolds) (each w told t mid turn)
+      on : (b : Bool) → (Turns is_last_told hears words tolds mid u → state_of u ≡ left_along hear (state_of mid) tolds)
+          → IfLast b ((tolds ≡ []) × (u ≡ mid)) (Turns is_last_told hears words tolds mid u) → state_of u ≡ left_along hear (hear (state_of t) told) tolds
+      on true go ends = ap state_of ends.1 ∙ each w told t mid turn ∙ ap (left_along hear (hear (state_of t) told)) (sym ends.0)
+      on false go more = go more ∙ ap (λ (s : S). left_along hear s tolds) (each w told t mid turn)
+
+-- what was drawn of a run that this was made of
+pub pictured_of : {F : Type 0} (contents : F → Option (List ℕ)) (anew : Anew) (holds : Bool) (x : Image) (tasks : List Task) (processes : ℕ) (words : List Word) (n m : ℕ) (r s : Recorder) →
+    IsMadeOf anew holds x tasks processes words → n ≡ m → r ≡ s →
+    IsPictured contents anew.holds (copied_image anew.copied) anew.tasks.items anew.processes anew.words.items n r →
+    IsPictured contents holds x tasks processes words m s
+pictured_of contents anew holds x tasks processes words n m r s made count same drawn =
+    subst (λ (ts : List Task). IsPictured contents holds x ts processes words m s) made.tasks
+    (subst (λ (ws : List Word). IsPictured contents holds x anew.tasks.items processes ws m s) made.words
+    (subst (λ (k : ℕ). IsPictured contents holds x anew.tasks.items k anew.words.items m s) made.processes
+    (subst (λ (y : Image). IsPictured contents holds y anew.tasks.items anew.processes anew.words.items m s) made.image
+    (subst (λ (h : Bool). IsPictured contents h (copied_image anew.copied) anew.tasks.items anew.processes anew.words.items m s) made.holds
+    (subst (λ (k : ℕ). IsPictured contents anew.holds (copied_image anew.copied) anew.tasks.items anew.processes anew.words.items k s) count
+    (subst (λ (q : Recorder). IsPictured contents anew.holds (copied_image anew.copied) anew.tasks.items anew.processes anew.words.items n q) same drawn))))))
+
+-- a replay by a teller with this detail, of which this is recorded
+pub heard_so : {F : Type 0} (told asked : Detail) (stop : ℕ) (old new : Option (List ℕ)) (was heard is : Recorder) (holds : Bool) (scene : Scene) (d e : FileDisk F) → told ≡ asked → is ≡ heard → IsReplayedSo told stop old new (IsSceneOf was heard holds scene) d e
+    → IsReplayedSo asked stop old new (IsSceneOf was is holds scene) d e
+heard_so told asked stop old new was heard is holds scene d e same_detail same so =
+    subst (λ (r : Recorder). IsReplayedSo asked stop old new (IsSceneOf was r holds scene) d e) (sym same)
+    (subst (λ (o : Detail). IsReplayedSo o stop old new (IsSceneOf was heard holds scene) d e) same_detail so)
 
 module _ {F : Type 0} (contents : F → Option (List ℕ)) (detail : Detail) (stop : ℕ) (old new : Option (List ℕ)) (was is : Recorder) (holds : Bool) (scene : Scene) (d e : FileDisk F)
     (none : was ≡ none_recorded) (so : IsReplayedSo detail stop old new (IsSceneOf was is holds scene) d e) where
   same : is ≡ recorded so.tolds
-  same = so.more.1 ∙ ap (λ r. left_along hear_of r so.tolds) none
+  same = so.more.heard ∙ ap (λ r. left_along hear_of r so.tolds) none
 
   -- the run was drawn
-  pub pictured : is.steps ≤ 2000 → IsDrawn contents (run_picture scene.holds scene.processes scene.inode_count is) → IsReplayedSo detail stop old new (HasPicture contents holds) d e
+  pub pictured : is.steps ≤ 2000 → IsPictured contents scene.anew.holds (copied_image scene.anew.copied) scene.anew.tasks.items scene.anew.processes scene.anew.words.items scene.inode_count is → IsReplayedSo detail stop old new (HasPicture contents holds) d e
   pictured fits drawn = record {
     tasks = so.tasks;
     processes = so.processes;
@@ -47,8 +72,7 @@ module _ {F : Type 0} (contents : F → Option (List ℕ)) (detail : Detail) (st
     replays = so.replays;
     more = (
       subst (λ (r : Recorder). r.steps ≤ 2000) same fits,
-      subst (λ (s : Scene). IsDrawn contents (run_picture s.holds s.processes s.inode_count (recorded so.tolds))) so.more.0
-          (subst (λ (r : Recorder). IsDrawn contents (run_picture scene.holds scene.processes scene.inode_count r)) same drawn),
+      pictured_of contents scene.anew holds (file_disk.image d) so.tasks so.processes so.words scene.inode_count _ is (recorded so.tolds) so.more.made so.more.count same drawn,
     );
   }
 
@@ -69,13 +93,8 @@ module _ {F : Type 0} (contents : F → Option (List ℕ)) (detail : Detail) (st
     unpictured_for NoMemory why = absurd why
     unpictured_for (Replay refusal) why = absurd why
     unpictured_for (TooLong steps) why = (d, (e, opened, unpictured (TooLong steps) why))
+    unpictured_for Unfiled why = (d, (e, opened, unpictured Unfiled why))
     unpictured_for (Picture fault) why = (d, (e, opened, unpictured (Picture fault) why))
-
-abbrev scene_of : ℕ → Bool → ℕ → Scene
-scene_of processes holds n = record { processes = processes; inode_count = n; holds = holds }
-
-pub scene_same : (processes : ℕ) (holds : Bool) (n m : ℕ) → n ≡ m → scene_of processes holds n ≡ scene_of processes holds m
-scene_same processes holds n m same = ap (scene_of processes holds) same
 
 -- what follows where two facts are known of what was done
 pub both_done : {T E : Type 0} (r : Result T E) (P Q S : Type 0) → (P → Q → S) → OnOk r P → OnOk r Q → OnOk r S

@@ -7,5 +7,7 @@ pub mod Runs
 pub mod Words
 pub mod Lemmas
 pub mod Recorded
+pub mod FileLines
+pub mod Filed
 pub mod Pictures
 pub mod Shown

@@ -1,25 +1,28 @@
 -- What became of the disk in a file over which a script's operations were made, and drawn or not.
 use Rattle.std.specs.Prelude.{◌≡◌, ◌<◌, ◌≤◌, ℕ, min, Bool, List, Option, Some, None, codes}
 use Rattle.std.specs.Io.KnownBytes.{Appends}
+use Rattle.blocks.specs.Disk.{Image}
 use Rattle.blocks.specs.declared.file.FileDisk.{FileDisk}
-use Rattle.cmd.specs.Lemmas.Disks.{faulty_disk, file_disk}
+use Rattle.cmd.specs.Lemmas.Disks.{file_disk}
 use Rattle.cmd.specs.Opened.{OpensDisk}
 use Rattle.messages.specs.declared.deeds.Detail.{Detail}
 use Rattle.messages.specs.Telling.{Telling, file_telling, naming, plain}
 use Rattle.model.specs.Layout.{inode_count_of}
 use Rattle.pictures.specs.Along.{left_along}
 use Rattle.pictures.specs.declared.recorder.Recorder.{Recorder}
-use Rattle.player.specs.Opening.{Replays}
-use Rattle.player.specs.Told.{Told, told_text}
+use Rattle.pictures.specs.declared.types.FilesThen.{FilesThen}
+use Rattle.player.specs.Told.{Told}
 use Rattle.scripts.specs.declared.schedule.Word.{Word}
 use Rattle.scripts.specs.declared.script.Task.{Task}
+use Rattle.commands.specs.Filed.{AreFiled, HasFiles, copied_image, stops_of}
 use Rattle.commands.specs.Recorded.{hear_of, recorded, run_picture}
-use Rattle.commands.specs.Runs.{IsReplayed, IsUnreplayed, replay_files_telling}
+use Rattle.commands.specs.Runs.{IsReplayed, IsReplayedSo, IsUnreplayed, replay_files_telling}
+use Rattle.commands.specs.declared.anew.Anew.{Anew}
 use Rattle.commands.specs.declared.drawing.PictureFault.{PictureFault}
 use Rattle.commands.specs.declared.drawing.PictureFault.TheVariants as fault
 use Rattle.commands.specs.declared.picturing.PicturedRefusal.{PicturedRefusal}
-use Rattle.commands.specs.declared.picturing.PicturedRefusal.TheVariants.{NoMemory, Replay, TooLong, Picture}
-use Rattle.commands.specs.declared.picturing.Scene.{Scene}
+use Rattle.commands.specs.declared.picturing.PicturedRefusal.TheVariants.{NoMemory, Replay, TooLong, Unfiled, Picture}
+use Rattle.commands.specs.declared.scene.Scene.{Scene}
 
 -- how the refusals are told
 abbrev pub picture_telling : PictureFault → Telling
@@ -29,6 +32,7 @@ picture_telling fault.Write = plain (codes "picture") 3 (codes "Write")
 abbrev pub pictured_telling : PicturedRefusal → Telling
 pictured_telling NoMemory = plain (codes "picture") 1 (codes "NoMemory")
 pictured_telling (Replay r) = replay_files_telling r
+pictured_telling Unfiled = plain (codes "picture") 1 (codes "NoMemory")
 pictured_telling (TooLong steps) = naming (codes "picture") 2 (codes "TooLong") steps
 pictured_telling (Picture f) = picture_telling f
 
@@ -42,44 +46,53 @@ pub record IsDrawn {F : Type 0} (contents : F → Option (List ℕ)) (text : Lis
 
 -- ---- a run
 
--- It was recovered, and the turns of some words made and printed, as `IsReplayed` says, and P says
--- more of the processes and of what was told of the turns.
-pub record IsReplayedSo {F : Type 0} (detail : Detail) (stop : ℕ) (old new : Option (List ℕ))
-    (P : ℕ → List Told → FileDisk F → Type 0) (d e : FileDisk F) : Type 0 where
-  pub tasks : List Task
-  pub processes : ℕ
-  pub words : List Word
-  pub tolds : List Told
-  pub replays : Replays file_disk faulty_disk d e tasks processes words stop (told_text detail) None
-      old new tolds
-  pub more : P processes tolds e
+-- this is what it was made of: these operations, in the turns of these words, over a disk of such an
+-- image, which holds writes back or doesn't
+pub record IsMadeOf (anew : Anew) (sync : Bool) (x : Image) (ops : List Task) (count : ℕ)
+    (turns : List Word) : Type 0 where
+  pub image : copied_image anew.copied ≡ x
+  pub holds : anew.holds ≡ sync
+  pub tasks : anew.tasks.items ≡ ops
+  pub processes : anew.processes ≡ count
+  pub words : anew.words.items ≡ turns
 
 -- This is told of it besides its steps, and who had heard of so much before its turns heard of these,
 -- too.
-abbrev pub IsSceneOf : {F : Type 0} → Recorder → Recorder → Bool → Scene → ℕ → List Told → FileDisk F
-    → Type 0
-IsSceneOf old new holds scene processes tolds e = (scene ≡ record {
-  processes = processes;
-  inode_count = inode_count_of (file_disk.image e);
-  holds = holds;
-}) × (new ≡ left_along hear_of old tolds)
+pub record IsSceneOf {F : Type 0} (old new : Recorder) (holds : Bool) (scene : Scene)
+    (tasks : List Task) (processes : ℕ) (words : List Word) (tolds : List Told) (d e : FileDisk F)
+    : Type 0 where
+  pub made : IsMadeOf scene.anew holds (file_disk.image d) tasks processes words
+  pub count : scene.inode_count ≡ inode_count_of (file_disk.image e)
+  pub heard : new ≡ left_along hear_of old tolds
+
+-- a file got the picture of a run of these operations, in the turns of these words, over a disk whose
+-- image was x: of its steps that were recorded, and of the files at the opening and behind each step
+-- with which a group was committed, each time those that a stop there leaves
+pub record IsPictured {F : Type 0} (contents : F → Option (List ℕ)) (holds : Bool) (x : Image)
+    (tasks : List Task) (processes : ℕ) (words : List Word) (inode_count : ℕ) (r : Recorder)
+    : Type 0 where
+  pub files : List FilesThen
+  pub filed : AreFiled (HasFiles holds x tasks processes words) (stops_of r.moments) files
+  pub drawn : IsDrawn contents (run_picture holds processes inode_count r files)
 
 -- a picture has so many steps, and a file got that of the run
-abbrev pub HasPicture : {F : Type 0} → (F → Option (List ℕ)) → Bool → ℕ → List Told → FileDisk F
-    → Type 0
-HasPicture contents holds processes tolds e = ((recorded tolds).steps ≤ 2000)
-    × IsDrawn contents
-    (run_picture holds processes (inode_count_of (file_disk.image e)) (recorded tolds))
+abbrev pub HasPicture : {F : Type 0} → (F → Option (List ℕ)) → Bool → List Task → ℕ → List Word
+    → List Told → FileDisk F → FileDisk F → Type 0
+HasPicture contents holds tasks processes words tolds d e = ((recorded tolds).steps ≤ 2000)
+    × IsPictured contents holds (file_disk.image d) tasks processes words
+    (inode_count_of (file_disk.image e)) (recorded tolds)
 
 -- why none did
 abbrev pub IsUndrawn : PicturedRefusal → Recorder → Type 0
 IsUndrawn NoMemory r = ⊥
 IsUndrawn (Replay refusal) r = ⊥
 IsUndrawn (TooLong steps) r = (2000 < r.steps) × (steps ≡ min r.steps 4294967295)
+IsUndrawn Unfiled r = r.steps ≤ 2000
 IsUndrawn (Picture f) r = r.steps ≤ 2000
 
-abbrev pub HasNoPicture : {F : Type 0} → PicturedRefusal → ℕ → List Told → FileDisk F → Type 0
-HasNoPicture refusal processes tolds e = IsUndrawn refusal (recorded tolds)
+abbrev pub HasNoPicture : {F : Type 0} → PicturedRefusal → List Task → ℕ → List Word → List Told
+    → FileDisk F → FileDisk F → Type 0
+HasNoPicture refusal tasks processes words tolds d e = IsUndrawn refusal (recorded tolds)
 
 -- a script was replayed over the disk in a file, and drawn into the file at a path, where there is one
 abbrev pub IsReplayedInto : {F P : Type 0} → (F → Option (List ℕ)) → Bool → Detail → ℕ

@@ -1,9 +1,10 @@
 -- The steps of a run that were recorded, and their picture.
-use Rattle.std.specs.Prelude.{ℕ, Bool, false, List, [], length}
+use Rattle.std.specs.Prelude.{ℕ, ◌+◌, Bool, true, List, [], length, min}
 use Rattle.pictures.specs.Along.{left_along}
 use Rattle.pictures.specs.Recorders.{heard}
 use Rattle.pictures.specs.Timeline.{timeline_text}
 use Rattle.pictures.specs.declared.recorder.Recorder.{Recorder}
+use Rattle.pictures.specs.declared.types.FilesThen.{FilesThen}
 use Rattle.pictures.specs.declared.types.Frame.{Frame}
 use Rattle.player.specs.Told.{Told}
 
@@ -19,17 +20,17 @@ abbrev pub recorded : List Told → Recorder
 recorded tolds = left_along hear_of none_recorded tolds
 
 -- the frame of a run of so many processes, over an image of so many inode numbers, on a disk that holds
--- writes back or doesn't
+-- writes back or doesn't: two columns are left free for the last files
 abbrev pub frame_of : Bool → ℕ → ℕ → ℕ → Frame
 frame_of holds processes inode_count columns = record {
-  columns = columns;
+  columns = min (columns + 2) 4294967295;
   processes = processes;
   inode_count = inode_count;
   holds = holds;
-  has_files = false;
+  has_files = true;
 }
 
--- the picture of its steps
-abbrev pub run_picture : Bool → ℕ → ℕ → Recorder → List ℕ
-run_picture holds processes inode_count r =
-    timeline_text (frame_of holds processes inode_count (length r.moments)) r.moments []
+-- the picture of its steps, and of the files
+abbrev pub run_picture : Bool → ℕ → ℕ → Recorder → List FilesThen → List ℕ
+run_picture holds processes inode_count r files =
+    timeline_text (frame_of holds processes inode_count (length r.moments)) r.moments files

@@ -1,5 +1,6 @@
 -- What became of the disk in a file over which a script's operations were made, or were not.
-use Rattle.std.specs.Prelude.{ℕ, Bool, true, List, Option, None}
+use Rattle.std.specs.Prelude.{◌≡◌, ◌<◌, ⊤, ℕ, Bool, true, List, All, IsTrue, Option, None}
+use Rattle.std.specs.List.{list_all}
 use Rattle.blocks.specs.declared.file.FileDisk.{FileDisk}
 use Rattle.cmd.specs.Lemmas.Disks.{faulty_disk, file_disk}
 use Rattle.cmd.specs.Opened.{OpensDisk}
@@ -9,9 +10,11 @@ use Rattle.player.specs.Opening.{IsNotReplayed, Replays}
 use Rattle.player.specs.Refusals.{replay_telling}
 use Rattle.player.specs.Told.{Told, told_text}
 use Rattle.player.specs.declared.refusals.ReplayRefusal.{ReplayRefusal}
+use Rattle.player.specs.declared.replaying.Scenario.{Scenario}
 use Rattle.runner.specs.Refusals.{run_telling}
 use Rattle.runner.specs.Running.{IsNotRun as IsNotRunOver, Runs}
 use Rattle.runner.specs.declared.refusals.RunRefusal.{RunRefusal}
+use Rattle.scripts.specs.Schedule.{is_word_of}
 use Rattle.scripts.specs.declared.schedule.Word.{Word}
 use Rattle.scripts.specs.declared.script.Task.{Task}
 use Rattle.commands.specs.declared.runs.ReplayFilesRefusal.{ReplayFilesRefusal}
@@ -31,16 +34,35 @@ run_files_telling (run.Script fault) = script_telling fault
 run_files_telling (run.File fault) = file_telling fault
 run_files_telling (run.Run refusal) = run_telling refusal
 
--- it was recovered, a player of some operations was opened over it, and the turns of some words
--- made, and printed with what is told of their steps
-pub record IsReplayed {F : Type 0} (detail : Detail) (stop : ℕ) (old new : Option (List ℕ))
-    (d e : FileDisk F) : Type 0 where
+-- the operations are of its processes, the turns too, and it stops there
+pub record IsScenario (stop : Option ℕ) (scenario : Scenario) : Type 0 where
+  pub stops : scenario.stop ≡ stop
+  pub tasks : All (λ task. task.pid < scenario.processes) scenario.tasks.items
+  pub words : IsTrue (list_all (is_word_of scenario.processes) scenario.words.items)
+
+-- why a replay could not be read, or its disk not opened
+abbrev pub IsUnread : ReplayFilesRefusal → Type 0
+IsUnread (replay.Script fault) = ⊤
+IsUnread (replay.Schedule fault) = ⊤
+IsUnread (replay.File fault) = ⊤
+IsUnread (replay.Replay refusal) = ⊥
+
+-- It was recovered, a player of some operations was opened over it, and the turns of some words made,
+-- and printed with what is told of their steps. P says more of these, and of what was told.
+pub record IsReplayedSo {F : Type 0} (detail : Detail) (stop : ℕ) (old new : Option (List ℕ))
+    (P : List Task → ℕ → List Word → List Told → FileDisk F → FileDisk F → Type 0) (d e : FileDisk F)
+    : Type 0 where
   pub tasks : List Task
   pub processes : ℕ
   pub words : List Word
   pub tolds : List Told
   pub replays : Replays file_disk faulty_disk d e tasks processes words stop (told_text detail) None
       old new tolds
+  pub more : P tasks processes words tolds d e
+
+abbrev pub IsReplayed : {F : Type 0} → Detail → ℕ → Option (List ℕ) → Option (List ℕ) → FileDisk F
+    → FileDisk F → Type 0
+IsReplayed detail stop old new = IsReplayedSo detail stop old new (λ tasks processes words tolds d e. ⊤)
 
 -- it was recovered, the operations of a script were run over it by threads, and what they came to
 -- printed

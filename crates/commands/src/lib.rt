@@ -5,19 +5,26 @@
 //! what is told where these make no command is here. None checks a script at its stops.
 #![tactic(auto)]
 
+mod anew;
+mod changes;
+mod copied;
 mod copies;
 mod drawing;
 mod explaining;
+mod file_lines;
+mod heard;
 mod holding;
 mod inputs;
 mod locks;
 mod making;
+mod mute;
 mod picture_teller;
 mod picturing;
 mod puts;
 mod refused;
 mod rescues;
 mod runs;
+mod scene;
 mod showing;
 mod starting;
 mod targets;
@@ -34,7 +41,7 @@ pub use picturing::{PicturedRefusal, replay_into, replay_pictured};
 pub use puts::{Put, bytes_from};
 pub use refused::{CopyRefusal, PutFileRefusal, ReadFault};
 pub use rescues::Rescue;
-pub use runs::{ReplayFilesRefusal, RunFilesRefusal, replay_files, run_files};
+pub use runs::{Replay, ReplayFilesRefusal, RunFilesRefusal, replay_files, run_files};
 pub use showing::{ShowPicture, ShowPictureRefusal};
 pub use starting::{Unbegun, end_unbegun, words_and_output};
 pub use targets::Target;

@@ -2,26 +2,22 @@
 ghost use Rattle.std.specs.Prelude.{◌≡◌, ◌≤◌, IfErr, IfOk, OnOk, unwrap_or};
 ghost use Rattle.cmd.specs.Lemmas.Disks.{file_disk};
 ghost use Rattle.cmd.specs.Opened.{OpensDisk};
-ghost use Rattle.model.specs.Layout.{inode_count_of};
-ghost use Rattle.commands.specs.Pictures.{HasPicture, IsDrawn, IsReplayedInto, IsReplayedSo, IsSceneOf, IsUndrawn, IsUnpictured, pictured_telling};
-ghost use Rattle.commands.specs.Recorded.{none_recorded, run_picture};
-ghost use Rattle.commands.specs.Runs.{IsUnreplayed};
+ghost use Rattle.commands.specs.Filed.{copied_image};
+ghost use Rattle.commands.specs.Pictures.{HasPicture, IsPictured, IsReplayedInto, IsSceneOf, IsUndrawn, IsUnpictured, pictured_telling};
+ghost use Rattle.commands.specs.Recorded.{none_recorded};
+ghost use Rattle.commands.specs.Runs.{IsReplayedSo};
 
 use crate::drawing::{PictureFault, draw};
+use crate::heard::replay_told;
 use crate::holding::Holder;
-use crate::inputs::{schedule_from, script_from};
 use crate::picture_teller::PictureTeller;
-use crate::runs::{ReplayFilesRefusal, replay_files};
-use blocks::{Block, Disk, FileDisk, NoMemory};
-use cmd::open;
-use layout::superblock;
+use crate::runs::{Replay, ReplayFilesRefusal, read_replay, replay_files};
+use crate::scene::Scene;
+use blocks::{Block, NoMemory};
 use messages::{Detail, Meter, Reason, Told};
 use pictures::{Frame, MOST_COLUMNS, Recorder, Timeline};
-use player::{Scenario, replay_with};
-use scripts::processes;
 use std::alloc::Global;
-use std::fs::OpenFile;
-use std::io::{Seek, Write};
+use std::io::Write;
 use std::rt::Files;
 
 /// Why a script isn't replayed and drawn.
@@ -33,6 +29,8 @@ pub enum PicturedRefusal {
     Replay(ReplayFilesRefusal),
     /// The replay was made and printed. It has so many steps, which is more than a picture has.
     TooLong(u32),
+    /// The replay was made and printed. Memory to make it once more, for its files, was refused.
+    Unfiled,
     /// The replay was made and printed, and isn't drawn.
     Picture(PictureFault),
 }
@@ -42,7 +40,9 @@ impl Reason for PicturedRefusal {
 
     fn told(&self) -> Told {
         match self {
-            PicturedRefusal::NoMemory => Told::new("picture", 1, "NoMemory"),
+            PicturedRefusal::NoMemory | PicturedRefusal::Unfiled => Told::new(
+                "picture", 1, "NoMemory",
+            ),
             PicturedRefusal::Replay(refusal) => refusal.told(),
             PicturedRefusal::TooLong(steps) => Told::naming("picture", 2, "TooLong", *steps),
             PicturedRefusal::Picture(fault) => fault.told(),
@@ -58,94 +58,65 @@ impl Reason for PicturedRefusal {
 /// As those of `replay_pictured`.
 pub fn replay_into<R: Files + AllocGlobal, P: Meter, H: Holder, O: Write>(
     rt: &R,
-    image: &str,
-    script: &str,
-    schedule: &str,
-    stop: Option<u64>,
-    sync: bool,
-    detail: Detail,
+    replay: Replay<'_>,
     picture: Option<&str>,
     progress: &mut P,
     holder: &mut H,
     out: &mut O,
 ) -> Result<(), PicturedRefusal>
-    ensures done { OnOk result (OpensDisk R.File.remaining file_disk sync
-        (IsReplayedInto R.File.contents sync detail (unwrap_or stop 0)
-        (O.contents out.old) (O.contents out.new) picture.entry)) }
-    ensures refused { IfErr result (IsUnpictured R.File.remaining sync detail (unwrap_or stop 0)
+    ensures done { OnOk result (OpensDisk R.File.remaining file_disk replay.entry.sync
+        (IsReplayedInto R.File.contents replay.entry.sync replay.entry.detail
+        (unwrap_or replay.entry.stop 0) (O.contents out.old) (O.contents out.new)
+        picture.entry)) }
+    ensures refused { IfErr result (IsUnpictured R.File.remaining replay.entry.sync
+        replay.entry.detail (unwrap_or replay.entry.stop 0)
         (O.contents out.old) (O.contents out.new) (out.new ≡ out.old)) }
 {
     if let Some(path) = picture {
-        return replay_pictured(
-            rt, image, script, schedule, stop, sync, detail, path, progress, holder, out,
-        );
+        return replay_pictured(rt, replay, path, progress, holder, out);
     }
-    match replay_files(
-        rt, image, script, schedule, stop, sync, detail, progress, out,
-    ) {
+    match replay_files(rt, replay, progress, out) {
         Ok(()) => Ok(()),
         Err(refusal) => Err(PicturedRefusal::Replay(refusal)),
     }
 }
 
 /// Replays a script as `replay_files`, and then draws its steps into the file at the path `picture`,
-/// as `draw`.
+/// as `draw`, with the files that recovery gives of what a stop leaves: before the first write, and
+/// behind each step with which a group was committed. For each of these stops the replay is made once
+/// more in memory, over a copy of the disk as it was opened.
 ///
 /// # Errors
 ///
 /// `NoMemory`, and then nothing was done; `Replay` with a refusal of `replay_files`, and then nothing
 /// was drawn. With the others the replay was made and printed: `TooLong` where it has more steps than
-/// `MOST_COLUMNS`; `Picture` with a fault of `draw`.
+/// `MOST_COLUMNS`; `Unfiled` where memory to make it once more is refused; `Picture` with a fault of
+/// `draw`.
 pub fn replay_pictured<R: Files + AllocGlobal, P: Meter, H: Holder, O: Write>(
     rt: &R,
-    image: &str,
-    script: &str,
-    schedule: &str,
-    stop: Option<u64>,
-    sync: bool,
-    detail: Detail,
+    replay: Replay<'_>,
     picture: &str,
     progress: &mut P,
     holder: &mut H,
     out: &mut O,
 ) -> Result<(), PicturedRefusal>
-    ensures drawn { OnOk result (OpensDisk R.File.remaining file_disk sync
-        (IsReplayedSo detail (unwrap_or stop 0) (O.contents out.old) (O.contents out.new)
-        (HasPicture R.File.contents sync))) }
-    ensures refused { IfErr result (IsUnpictured R.File.remaining sync detail (unwrap_or stop 0)
+    ensures drawn { OnOk result (OpensDisk R.File.remaining file_disk replay.entry.sync
+        (IsReplayedSo replay.entry.detail (unwrap_or replay.entry.stop 0)
+        (O.contents out.old) (O.contents out.new)
+        (HasPicture R.File.contents replay.entry.sync))) }
+    ensures refused { IfErr result (IsUnpictured R.File.remaining replay.entry.sync
+        replay.entry.detail (unwrap_or replay.entry.stop 0)
         (O.contents out.old) (O.contents out.new) (out.new ≡ out.old)) }
 {
-    let (mut teller, mut block) = match take_room(rt.alloc(), detail) {
+    let (mut teller, mut block) = match take_room(rt.alloc(), replay.detail) {
         Ok(room) => room,
         Err(_refused) => return Err(PicturedRefusal::NoMemory),
     };
-    let replayed = replay_heard(
-        rt,
-        image,
-        script,
-        schedule,
-        stop,
-        sync,
-        &mut teller,
-        &mut block,
-        progress,
-        out,
-    );
+    let replayed = replay_heard(rt, replay, &mut teller, &mut block, progress, out);
     match replayed {
-        Ok(scene) => draw_run(rt, picture, scene, teller.recorder(), holder),
-        Err(refusal) => Err(PicturedRefusal::Replay(refusal)),
+        Ok(scene) => draw_run(rt, picture, &scene, teller.recorder(), holder),
+        Err(refusal) => Err(refusal),
     }
-}
-
-// What is told of a run besides its steps.
-#[derive(Clone, Copy)]
-pub struct Scene {
-    // Its processes.
-    pub processes: u32,
-    // The inode numbers of its image.
-    pub inode_count: u32,
-    // Whether its disk holds writes back.
-    pub holds: bool,
 }
 
 // Room for the steps of a run, and for a block.
@@ -159,57 +130,34 @@ fn take_room(alloc: Global, detail: Detail) -> Result<(PictureTeller, Block), No
 // Replays a script, whose turns the teller hears of. The block is room for a superblock.
 fn replay_heard<R: Files + AllocGlobal, P: Meter, O: Write>(
     rt: &R,
-    image: &str,
-    script: &str,
-    schedule: &str,
-    stop: Option<u64>,
-    sync: bool,
+    replay: Replay<'_>,
     teller: &mut PictureTeller,
     block: &mut Block,
     progress: &mut P,
     out: &mut O,
-) -> Result<Scene, ReplayFilesRefusal>
-    ensures replayed { IfOk result (λ scene. OpensDisk R.File.remaining file_disk sync
-        (IsReplayedSo teller.old.lines.detail (unwrap_or stop 0)
+) -> Result<Scene, PicturedRefusal>
+    ensures replayed { IfOk result (λ scene. OpensDisk R.File.remaining file_disk replay.entry.sync
+        (IsReplayedSo teller.old.lines.detail (unwrap_or replay.entry.stop 0)
         (O.contents out.old) (O.contents out.new)
-        (IsSceneOf teller.old.recorder teller.new.recorder sync scene))) }
-    ensures refused { IfErr result (IsUnreplayed R.File.remaining sync teller.old.lines.detail
-        (unwrap_or stop 0) (O.contents out.old) (O.contents out.new) (out.new ≡ out.old)) }
+        (IsSceneOf teller.old.recorder teller.new.recorder replay.entry.sync scene))) }
+    ensures refused { IfErr result (IsUnpictured R.File.remaining replay.entry.sync
+        teller.old.lines.detail (unwrap_or replay.entry.stop 0)
+        (O.contents out.old) (O.contents out.new) (out.new ≡ out.old)) }
 {
-    let tasks = script_from(rt, script).map_err(ReplayFilesRefusal::Script)?;
-    let processes = processes(tasks.as_slice());
-    let words = schedule_from(rt, schedule, processes).map_err(ReplayFilesRefusal::Schedule)?;
-    let disk = match open(rt, image, sync) {
-        Ok(disk) => disk,
-        Err(fault) => return Err(ReplayFilesRefusal::File(fault)),
-    };
-    let scenario = Scenario {
-        tasks,
-        processes,
-        words,
-        stop,
-    };
-    let (ran, mut disk) = replay_with(rt.alloc(), disk, scenario, teller, progress, out);
-    match ran {
-        Ok(()) => Ok(Scene {
-            processes,
-            inode_count: count_inodes(&mut disk, block),
-            holds: sync,
-        }),
-        Err(refusal) => Err(ReplayFilesRefusal::Replay(refusal)),
-    }
-}
-
-// The inode numbers that the superblock on a disk tells: none where there is no such block.
-fn count_inodes<F: Write + Seek + OpenFile + Drop>(disk: &mut FileDisk<F>, block: &mut Block) -> u32
-    ensures { result ≡ inode_count_of (file_disk.image disk.old) }
-{
-    if disk.size() < 2 {
-        return 0;
-    }
-    match disk.read(1, block) {
-        Ok(()) => superblock::read(block.as_slice()).ninodes,
-        Err(_) => unreachable!(),
+    match read_replay(rt, replay) {
+        Ok((scenario, disk)) => {
+            replay_told(
+                rt,
+                disk,
+                scenario,
+                replay.sync,
+                teller,
+                block,
+                progress,
+                out,
+            )
+        }
+        Err(refusal) => Err(PicturedRefusal::Replay(refusal)),
     }
 }
 
@@ -217,29 +165,36 @@ fn count_inodes<F: Write + Seek + OpenFile + Drop>(disk: &mut FileDisk<F>, block
 fn draw_run<R: Files + AllocGlobal, H: Holder>(
     rt: &R,
     path: &str,
-    scene: Scene,
+    scene: &Scene,
     recorder: &Recorder,
     holder: &mut H,
 ) -> Result<(), PicturedRefusal>
     ensures fits { OnOk result (recorder.now.steps ≤ 2000) }
-    ensures drawn { OnOk result (IsDrawn R.File.contents
-        (run_picture scene.holds scene.processes scene.inode_count recorder.now)) }
+    ensures drawn { OnOk result (IsPictured R.File.contents scene.now.anew.holds
+        (copied_image scene.now.anew.copied) scene.now.anew.tasks.items
+        scene.now.anew.processes scene.now.anew.words.items scene.now.inode_count
+        recorder.now) }
     ensures undrawn { IfErr result (λ refusal. IsUndrawn refusal recorder.now) }
 {
     if recorder.steps() > MOST_COLUMNS as u64 {
         return Err(PicturedRefusal::TooLong(recorder.steps().min(4_294_967_295) as u32));
     }
+    let files = match scene.anew.files(rt.alloc(), recorder.moments()) {
+        Ok(files) => files,
+        Err(_refused) => return Err(PicturedRefusal::Unfiled),
+    };
+    // Two columns are left free for the last files.
     let frame = Frame {
-        columns: recorder.columns(),
-        processes: scene.processes,
+        columns: recorder.columns().saturating_add(2),
+        processes: scene.anew.processes,
         inode_count: scene.inode_count,
-        holds: scene.holds,
-        has_files: false,
+        holds: scene.anew.holds,
+        has_files: true,
     };
     let timeline = Timeline {
         frame,
         moments: recorder.moments(),
-        files: &[],
+        files: files.as_slice(),
     };
     match draw(rt, path, &timeline, holder) {
         Ok(()) => Ok(()),

@@ -1,18 +1,18 @@
 // The commands that make a script's operations over the disk in a file, in turns or by threads.
-ghost use Rattle.std.specs.Prelude.{◌≡◌, IfErr, OnOk, unwrap_or};
+ghost use Rattle.std.specs.Prelude.{◌≡◌, IfErr, IfOk, OnOk, unwrap_or};
 ghost use Rattle.sysring.specs.Origins.{AreWorkers};
 ghost use Rattle.cmd.specs.Lemmas.Disks.{file_disk};
-ghost use Rattle.cmd.specs.Opened.{OpensDisk};
-ghost use Rattle.commands.specs.Runs.{IsNotRun, IsReplayed, IsRun, IsUnreplayed, replay_files_telling, run_files_telling};
+ghost use Rattle.cmd.specs.Opened.{IsOpened, OpensDisk};
+ghost use Rattle.commands.specs.Runs.{IsNotRun, IsReplayed, IsRun, IsScenario, IsUnread, IsUnreplayed, replay_files_telling, run_files_telling};
 
 use crate::inputs::{schedule_from, script_from};
-use blocks::FileFault;
+use blocks::{FileDisk, FileFault};
 use cmd::open;
 use messages::{Detail, Meter, Reason, Told};
 use player::{ReplayRefusal, Scenario, replay_disk};
 use runner::{RunRefusal, run_disk};
 use scripts::{ScheduleFault, ScriptFault, processes};
-use std::io::{Read, Write};
+use std::io::Write;
 use std::rt::{Clock, Files};
 use std::sync::Wait;
 use std::thread::Threads;
@@ -66,10 +66,25 @@ impl Reason for RunFilesRefusal {
     }
 }
 
-/// Recovers the image in the file at this path, and makes the operations of a script in the turns
-/// of a schedule, as `replay_disk`, which tells of their steps what is asked for. With `stop` the
-/// write of this number, from 1, is not made, and ends the run. With `sync` the file is a disk that
-/// holds writes back, and is synced. The meter is told how many of the schedule's words were done.
+/// What is replayed, over which disk, and how.
+#[derive(Clone, Copy, Debug)]
+pub struct Replay<'a> {
+    /// The path of the file with the image.
+    pub image: &'a str,
+    /// The path of the script.
+    pub script: &'a str,
+    /// The path of the schedule.
+    pub schedule: &'a str,
+    /// The number, from 1, of the write that is not made, and ends the run.
+    pub stop: Option<u64>,
+    /// Whether the file is a disk that holds writes back, and is synced.
+    pub sync: bool,
+    /// What is told of the steps.
+    pub detail: Detail,
+}
+
+/// Recovers the image in the file of a replay, and makes the operations of its script in the turns of
+/// its schedule, as `replay_disk`. The meter is told how many of the schedule's words were done.
 ///
 /// # Errors
 ///
@@ -77,37 +92,52 @@ impl Reason for RunFilesRefusal {
 /// `replay_disk`.
 pub fn replay_files<R: Files + AllocGlobal, P: Meter, O: Write>(
     rt: &R,
-    image: &str,
-    script: &str,
-    schedule: &str,
-    stop: Option<u64>,
-    sync: bool,
-    detail: Detail,
+    replay: Replay<'_>,
     progress: &mut P,
     out: &mut O,
 ) -> Result<(), ReplayFilesRefusal>
-    ensures opened { OnOk result (OpensDisk R.File.remaining file_disk sync
-        (IsReplayed detail (unwrap_or stop 0) (O.contents out.old) (O.contents out.new))) }
-    ensures refused { IfErr result (IsUnreplayed R.File.remaining sync detail (unwrap_or stop 0)
+    ensures opened { OnOk result (OpensDisk R.File.remaining file_disk replay.entry.sync
+        (IsReplayed replay.entry.detail (unwrap_or replay.entry.stop 0)
+        (O.contents out.old) (O.contents out.new))) }
+    ensures refused { IfErr result (IsUnreplayed R.File.remaining replay.entry.sync
+        replay.entry.detail (unwrap_or replay.entry.stop 0)
         (O.contents out.old) (O.contents out.new) (out.new ≡ out.old)) }
 {
-    let tasks = script_from(rt, script).map_err(ReplayFilesRefusal::Script)?;
-    let processes = processes(tasks.as_slice());
-    let words = schedule_from(rt, schedule, processes).map_err(ReplayFilesRefusal::Schedule)?;
-    let disk = match open(rt, image, sync) {
-        Ok(disk) => disk,
-        Err(fault) => return Err(ReplayFilesRefusal::File(fault)),
+    let (scenario, disk) = match read_replay(rt, replay) {
+        Ok(read) => read,
+        Err(refusal) => return Err(refusal),
     };
+    let (ran, _disk) = replay_disk(rt.alloc(), disk, scenario, replay.detail, progress, out);
+    match ran {
+        Ok(()) => Ok(()),
+        Err(refusal) => Err(ReplayFilesRefusal::Replay(refusal)),
+    }
+}
+
+// What is replayed, read from its files, and the disk in the file of its image.
+pub(crate) fn read_replay<R: Files + AllocGlobal>(
+    rt: &R,
+    replay: Replay<'_>,
+) -> Result<(Scenario, FileDisk<R::File>), ReplayFilesRefusal>
+    ensures scenario { IfOk result (λ read. IsScenario replay.entry.stop read.0) }
+    ensures opened { IfOk result (λ read. IsOpened R.File.remaining file_disk replay.entry.sync
+        read.1) }
+    ensures refused { IfErr result IsUnread }
+{
+    let tasks = script_from(rt, replay.script).map_err(ReplayFilesRefusal::Script)?;
+    let processes = processes(tasks.as_slice());
+    let words = schedule_from(rt, replay.schedule, processes).map_err(
+        ReplayFilesRefusal::Schedule,
+    )?;
     let scenario = Scenario {
         tasks,
         processes,
         words,
-        stop,
+        stop: replay.stop,
     };
-    let (ran, _disk) = replay_disk(rt.alloc(), disk, scenario, detail, progress, out);
-    match ran {
-        Ok(()) => Ok(()),
-        Err(refusal) => Err(ReplayFilesRefusal::Replay(refusal)),
+    match open(rt, replay.image, replay.sync) {
+        Ok(disk) => Ok((scenario, disk)),
+        Err(fault) => Err(ReplayFilesRefusal::File(fault)),
     }
 }
 

@@ -1,15 +1,16 @@
 //! Programs that stand on these crates, as examples. With the word `using` it does what docs/USING.md
 //! shows: an image is made and opened, operations are called one after the other, and two processes
 //! take turns up to a stop. With `trees` it makes directories and files by paths, finds and removes some,
-//! and stops the making of one before each of its writes. With `transactions` one is made to its end,
-//! stopped before each of its writes, given up, and made too large for the log. With no word it does
-//! all three.
+//! stops the making of one before each of its writes, and asks for a file with two names. With
+//! `transactions` one is made to its end, stopped before each of its writes, given up, and made too large
+//! for the log. With no word it does all three.
 #![tactic(auto)]
 
 mod calling;
 mod filling;
 mod keeping;
 mod knowing;
+mod linking;
 mod making;
 mod naming;
 mod pairing;
@@ -22,6 +23,7 @@ mod using;
 
 use crate::filling::print_full;
 use crate::keeping::{print_abandoned, print_stopped};
+use crate::linking::print_linked;
 use crate::trees::print_trees;
 use crate::using::print_using;
 use anyhow::bail;
@@ -35,6 +37,7 @@ fn main(rt: HostRuntime) -> anyhow::Result<()> {
         None => {
             print_using(&rt, rt.alloc())?;
             print_trees(&rt, rt.alloc())?;
+            print_linked(&rt, rt.alloc())?;
             print_transactions(&rt, rt.alloc())
         }
     }
@@ -43,7 +46,10 @@ fn main(rt: HostRuntime) -> anyhow::Result<()> {
 fn print_part(rt: &impl Print, alloc: Global, part: &str) -> anyhow::Result<()> {
     match part {
         "using" => print_using(rt, alloc),
-        "trees" => print_trees(rt, alloc),
+        "trees" => {
+            print_trees(rt, alloc)?;
+            print_linked(rt, alloc)
+        }
         "transactions" => print_transactions(rt, alloc),
         _ => bail!("the word is using, trees or transactions"),
     }

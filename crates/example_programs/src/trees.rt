@@ -15,9 +15,9 @@ use std::alloc::Global;
 // More writes than the making of a file makes.
 const MOST_WRITES: u64 = 20;
 
-// What is asked of a path as a name.
+/// What is asked of a path as a name.
 #[derive(Drop)]
-enum Name<'a> {
+pub enum Name<'a> {
     Make,
     MakeDirectory,
     Find,
@@ -26,9 +26,9 @@ enum Name<'a> {
     RemoveDirectory,
 }
 
-// What is asked of the bytes that a path leads to.
+/// What is asked of the bytes that a path leads to.
 #[derive(Drop)]
-enum Bytes<'a> {
+pub enum Bytes<'a> {
     Write(&'a str),
     Put(&'a str),
     Read,
@@ -142,7 +142,8 @@ fn remove_all<D: Disk>(rt: &impl Print, alloc: Global, tree: &mut Tree<D>) -> an
     ask_name(rt, alloc, tree, Name::RemoveDirectory, "docs")
 }
 
-fn ask_name<D: Disk>(
+/// Asks it, and prints what came of it.
+pub fn ask_name<D: Disk>(
     rt: &impl Print,
     alloc: Global,
     tree: &mut Tree<D>,
@@ -181,7 +182,8 @@ fn ask_name<D: Disk>(
     Ok(())
 }
 
-fn ask_bytes<D: Disk>(
+/// Asks it, and prints what came of it.
+pub fn ask_bytes<D: Disk>(
     rt: &impl Print,
     alloc: Global,
     tree: &mut Tree<D>,

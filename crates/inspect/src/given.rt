@@ -39,6 +39,16 @@ impl<'a> Given<'a> {
         }
     }
 
+    /// What a command was given that makes an image of so many blocks and inode numbers.
+    pub fn making(path: &'a str, size: u32, ninodes: u32) -> Given<'a> {
+        Given {
+            made: Some(path),
+            size: Some(size),
+            ninodes: Some(ninodes),
+            ..Given::nothing()
+        }
+    }
+
     /// What a command was given that opens no image.
     pub fn nothing() -> Given<'a> {
         Given {

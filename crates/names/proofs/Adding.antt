@@ -8,9 +8,9 @@ use Rattle.model.specs.Files.{Files, file_in}
 use Rattle.names.specs.Entries.{lookup}
 use Rattle.names.specs.Trees.{bytes_of, directory_in, kind_of, number_of, parent_name, self_name, IsDirectory, IsDirectoryOf, IsDown, IsFile, Steps, StepsDown}
 use Rattle.names.specs.TreeChanges.{AddsName, ChangesName}
-use Rattle.names.specs.TreeLaws.{AddingKeeps, IsNew}
+use Rattle.names.specs.TreeLaws.{AddingKeeps, AddingKeepsOnce, IsNew}
 use Rattle.names.proofs.Rooted.{AddsDown, depth_with, rooted_added}
-use Rattle.names.proofs.TreeBy.{depth_in, directory_is_file, steps_make_tree, tree_makes_steps, IsTreeBy}
+use Rattle.names.proofs.TreeBy.{depth_in, directory_is_file, once_behind, once_by, steps_make_tree, tree_makes_steps, IsTreeBy}
 use Rattle.names.proofs.Unnamed.{apart_from, some_ne_none}
 
 pub same_name : (a b : List ℕ) → (a ≡ b) ⊎ (a ≢ b)
@@ -73,9 +73,15 @@ from_old files new from i name file is is_new adds at to other step =
     (cases_eq at from))
     (cases_eq at i)
 
+old_kind : (files new : Files) (from i : ℕ) (name : List ℕ) (file : File) → IsDirectory files from → AddsName files new from name i file →
+    (j : ℕ) → j ≢ i → IsDirectory new j → IsDirectory files j
+old_kind files new from i name file is adds j not_new now =
+    ⊎_elim (λ (in_from : j ≡ from). ap (λ (k : ℕ). kind_of (file_in files k)) in_from ∙ is)
+    (λ (elsewhere : j ≢ from). ap kind_of (sym (adds.rest j elsewhere not_new)) ∙ now) (cases_eq j from)
+
 adds_down : (files new : Files) (depth : ℕ → ℕ) (from i : ℕ) (name : List ℕ) (file : File) → IsTreeBy files depth → IsDirectory files from →
     IsDown name → IsNew file i from → AddsName files new from name i file →
-    AddsDown (StepsDown files) (StepsDown new) (IsFile files) (IsFile new) from name i
+    AddsDown (StepsDown files) (StepsDown new) (IsFile files) (IsFile new) (IsDirectory files) (IsDirectory new) from name i
 adds_down files new depth from i name file tree is down is_new adds = record {
   in_parent = directory_is_file files from is;
   fresh = λ was. was adds.free;
@@ -105,6 +111,7 @@ adds_down files new depth from i name file tree is down is_new adds = record {
   was = λ j not_new there none.
       ⊎_elim (λ (in_from : j ≡ from). directory_is_file files from is (ap (file_in files) (sym in_from) ∙ none))
       (λ (elsewhere : j ≢ from). there (adds.rest j elsewhere not_new ∙ none)) (cases_eq j from);
+  one = old_kind files new from i name file is adds;
 }
 
 -- a directory that was there is one still, with the same number and parent
@@ -114,12 +121,6 @@ old_directory files new from i name file down adds j parent not_new is =
     ⊎_elim (λ (in_from : j ≡ from).
     directory_changed files new j parent name down (subst (λ (k : ℕ). ChangesName files new k name) (sym in_from) adds.changes) is)
     (λ (elsewhere : j ≢ from). directory_same files new j parent (adds.rest j elsewhere not_new) is) (cases_eq j from)
-
-old_kind : (files new : Files) (from i : ℕ) (name : List ℕ) (file : File) → IsDirectory files from → AddsName files new from name i file →
-    (j : ℕ) → j ≢ i → IsDirectory new j → IsDirectory files j
-old_kind files new from i name file is adds j not_new now =
-    ⊎_elim (λ (in_from : j ≡ from). ap (λ (k : ℕ). kind_of (file_in files k)) in_from ∙ is)
-    (λ (elsewhere : j ≢ from). ap kind_of (sym (adds.rest j elsewhere not_new)) ∙ now) (cases_eq j from)
 
 adds_by : (files new : Files) (depth : ℕ → ℕ) (from i : ℕ) (name : List ℕ) (file : File) → IsTreeBy files depth → IsDirectory files from →
     IsDown name → IsNew file i from → AddsName files new from name i file → IsTreeBy new (depth_with depth from i)
@@ -143,7 +144,7 @@ adds_by files new depth from i name file tree is down is_new adds =
           old_directory files new from i name file down adds to at not_new
           (tree.below at to other other_down old.1 (old_kind files new from i name file is adds to not_new now)))
           (from_old files new from i name file is is_new adds at to other (other_down, step));
-      shape = rooted_added (StepsDown files) (StepsDown new) (IsFile files) (IsFile new) depth from name i tree.shape
+      shape = rooted_added (StepsDown files) (StepsDown new) (IsFile files) (IsFile new) (IsDirectory files) (IsDirectory new) depth from name i tree.shape
           (adds_down files new depth from i name file tree is down is_new adds);
     }
 
@@ -151,3 +152,22 @@ pub adding_keeps : AddingKeeps
 adding_keeps files new from i name file tree is down is_new adds =
     let depth : ℕ → ℕ = depth_in files tree in
     steps_make_tree new (depth_with depth from i) (adds_by files new depth from i name file (tree_makes_steps files tree) is down is_new adds)
+
+-- ---- names of the files
+
+-- what had one name has one still
+pub adding_keeps_once : AddingKeepsOnce
+adding_keeps_once files new from i name file tree is down is_new adds j once =
+    let by = tree_makes_steps files tree in
+    let steps = from_old files new from i name file is is_new adds in
+    ⊎_elim
+    (λ (same : j ≡ i).
+    once_by new from j name
+    (λ at other step.
+    ⊎_elim (λ (this : (j ≡ i) × (at ≡ from) × (other ≡ name)). (this.1, this.2))
+    (λ (was : StepsDown files at other j). absurd ((by.shape.lead at j other was).0 (ap (file_in files) same ∙ adds.free))) (steps at j other step)))
+    (λ (ne : j ≢ i).
+    once_behind files new j once
+    (λ at other step.
+    ⊎_elim (λ (this : (j ≡ i) × (at ≡ from) × (other ≡ name)). absurd (ne this.0)) (λ (was : StepsDown files at other j). was) (steps at j other step)))
+    (cases_eq j i)

@@ -3,7 +3,7 @@ use Rattle.std.proofs.Common.{◌≡◌, ◌≢◌, ℕ, Bool, true, false, ◌|
 use Rattle.std.proofs.lemmas.Bool.{eqb-true, eq-eqb, false_from_ne_true, ne_eqb, or_cases}
 use Rattle.model.specs.declared.types.image.File.{File}
 use Rattle.model.specs.Files.{Files, file_in}
-use Rattle.names.specs.Trees.{number_of, parent_name, IsDirectory, IsFile, IsOutside, IsPath, IsTree, StepsDown}
+use Rattle.names.specs.Trees.{number_of, parent_name, IsDirectory, IsOutside, IsPath, IsTree, StepsDown}
 use Rattle.names.specs.TreeMeaning.{ParentsDecide, RootIsOutside}
 use Rattle.names.proofs.TreeBy.{directory_is_file, one_number, tree_makes_steps}
 
@@ -55,41 +55,42 @@ pub is_below : (files : Files) → IsTree files → ℕ → ℕ → Bool
 is_below files tree number i = below_by files tree number i (file_in files i) refl
 
 below_by_path : (files : Files) (tree : IsTree files) (number i : ℕ) (o : Option File) (is : file_in files i ≡ o) (names : List (List ℕ))
-    (path : IsPath files 1 names i) → below_by files tree number i o is ≡ passes files number names i path
+    (path : IsPath files 1 names i) → IsDirectory files i → below_by files tree number i o is ≡ passes files number names i path
 unfolding below_by
-below_by_path files tree number i None is names path = absurd (tree.lead names i path is)
-below_by_path files tree number i (Some file) is names path =
+below_by_path files tree number i None is names path directory = absurd (tree.lead names i path is)
+below_by_path files tree number i (Some file) is names path directory =
     let reached = tree.reach i (λ none. let both : Some file ≡ None = sym is ∙ none in absurd (cc both)) in
-    passes_any files number reached.0 names i (tree.one reached.0 names i reached.1 path) reached.1 path
+    passes_any files number reached.0 names i (tree.one reached.0 names i directory reached.1 path) reached.1 path
 
 pub below_path : (files : Files) (tree : IsTree files) (number i : ℕ) (names : List (List ℕ)) (path : IsPath files 1 names i) →
-    is_below files tree number i ≡ passes files number names i path
+    IsDirectory files i → is_below files tree number i ≡ passes files number names i path
 unfolding is_below
-below_path files tree number i names path = below_by_path files tree number i (file_in files i) refl names path
+below_path files tree number i names path directory = below_by_path files tree number i (file_in files i) refl names path directory
 
-pub below_itself : (files : Files) (tree : IsTree files) (number : ℕ) → IsFile files number → is_below files tree number number ≡ true
-below_itself files tree number there =
-    let path = tree.reach number there in below_path files tree number number path.0 path.1 ∙ passes_itself files number path.0 path.1
+pub below_itself : (files : Files) (tree : IsTree files) (number : ℕ) → IsDirectory files number → is_below files tree number number ≡ true
+below_itself files tree number is =
+    let path = tree.reach number (directory_is_file files number is) in
+    below_path files tree number number path.0 path.1 is ∙ passes_itself files number path.0 path.1
 
 -- what is not below a file is outside
-pub not_below : (files : Files) (tree : IsTree files) (number i : ℕ) → IsFile files i → IsOutside files number i → is_below files tree number i ≡ false
-not_below files tree number i there outside =
-    let path = tree.reach i there in
+pub not_below : (files : Files) (tree : IsTree files) (number i : ℕ) → IsDirectory files i → IsOutside files number i → is_below files tree number i ≡ false
+not_below files tree number i is outside =
+    let path = tree.reach i (directory_is_file files i is) in
     false_from_ne_true (is_below files tree number i)
-    (λ below. let rest = passed files number path.0 i path.1 (sym (below_path files tree number i path.0 path.1) ∙ below) in outside rest.0 rest.1)
+    (λ below. let rest = passed files number path.0 i path.1 (sym (below_path files tree number i path.0 path.1 is) ∙ below) in outside rest.0 rest.1)
 
 or_else : (a b : Bool) → a ≡ false → (a || b) ≡ b
 or_else a b none = ap (λ (c : Bool). c || b) none
 
--- a file is below another where its directory is, unless it is that itself
-pub below_along : (files : Files) (tree : IsTree files) (number from i : ℕ) (name : List ℕ) → i ≢ number → StepsDown files from name i →
+-- a directory is below a file where its parent is, unless it is that itself
+pub below_along : (files : Files) (tree : IsTree files) (number from i : ℕ) (name : List ℕ) → IsDirectory files i → i ≢ number → StepsDown files from name i →
     is_below files tree number i ≡ is_below files tree number from
 unfolding passes
-below_along files tree number from i name ne step =
+below_along files tree number from i name is ne step =
     let up = tree.reach from (directory_is_file files from step.1.0) in
-    below_path files tree number i (name ∷ up.0) (from, step.0, up.1, step.1)
+    below_path files tree number i (name ∷ up.0) (from, step.0, up.1, step.1) is
     ∙ or_else (eqb i number) (passes files number up.0 from up.1) (ne_eqb i number ne)
-    ∙ sym (below_path files tree number from up.0 up.1)
+    ∙ sym (below_path files tree number from up.0 up.1 step.1.0)
 
 -- ---- decided by the parents
 

@@ -1,121 +1,204 @@
 -- The numbers of a directory's first entries are added behind others.
-use Rattle.std.proofs.Common.{◌≡◌, ℕ, zero, suc, ◌+◌, ◌<◌, ◌≤◌, true, false, List, [], ◌∷◌, ◌++◌, length, take, drop, get_or, replicate, sym, ap, subst, ◌∙◌, arith}
-use Rattle.std.specs.Prelude.{Contains}
-use Rattle.std.proofs.lemmas.Bool.{cond-false, cond-true}
-use Rattle.std.proofs.lemmas.List.{append_assoc, append-nil, get_or_default, get_or_append_left, get_or-append-add, length-append, replicate_more, take-append-drop, take_all, take_more}
-use Rattle.names.specs.Checks.{numbers_down, AddsChildren, AreApart, IsAmong}
+use Rattle.std.proofs.Common.{◌≡◌, ◌≢◌, ◌⊎◌, inl, inr, ℕ, ◌+◌, ◌<◌, true, List, [], ◌∷◌, ◌++◌, length, get_or, replicate, sym, ap, subst, ◌∙◌, ⊎_elim, arith}
+use Rattle.std.proofs.lemmas.List.{append_assoc, append-nil, length-append, replicate_more}
+use Rattle.names.specs.Checks.{AddsChild, AddsFirst, AreApart, HasEntry, HasTwice, IsAmong, LeadsAt}
 use Rattle.names.specs.Entries.{number_in}
 use Rattle.names.specs.Trees.{leads_down}
-use Rattle.names.proofs.NumbersDown.{apart_left, apart_parts, numbers_down-append}
+use Rattle.names.proofs.FoundNext.{at_last}
+use Rattle.names.proofs.Apart.{among_either, among_left, among_right, apart_one_more, at_one, none_among, stands_first}
 
--- what of the first entries leads down was added
-pub record Took (entries : List (List ℕ)) (from : ℕ) (numbers parents : List ℕ) (k : ℕ) (now up : List ℕ) : Type 0 where
-  pub numbers_are : now ≡ numbers ++ numbers_down (take k entries)
-  pub parents_are : up ≡ parents ++ replicate (length (numbers_down (take k entries))) from
-  pub apart : AreApart now
+pub added_none : (entries : List (List ℕ)) (from : ℕ) (numbers parents again : List ℕ) → AreApart numbers →
+    AddsFirst entries from numbers parents again 0 numbers parents again
+added_none entries from numbers parents again apart = record {
+  more = [];
+  numbers_are = sym (append-nil numbers);
+  parents_are = sym (append-nil parents);
+  apart = apart;
+  lead = λ n s. absurd (none_among n s);
+  each = λ j n low. absurd (omega arith);
+  pairs = λ i j n low. absurd (omega arith);
+  kept = λ n s. s;
+  twice = λ n s. inl s;
+}
 
-pub took_none : (entries : List (List ℕ)) (from : ℕ) (numbers parents : List ℕ) → AreApart numbers → Took entries from numbers parents 0 numbers parents
-took_none entries from numbers parents apart =
-    record { numbers_are = sym (append-nil numbers); parents_are = sym (append-nil parents); apart = apart }
+-- ---- one entry more
 
-one_down : (e : List ℕ) → leads_down e ≡ true → numbers_down (e ∷ []) ≡ number_in e ∷ []
-one_down e h = cond-true (leads_down e) (number_in e ∷ []) [] h
+entry_later : (entries : List (List ℕ)) (k n : ℕ) → HasEntry entries k n → HasEntry entries (k + 1) n
+entry_later entries k n has =
+    let low : has.place < k = has.inside in record { place = has.place; inside = omega arith; leads = has.leads }
 
-none_down : (e : List ℕ) → leads_down e ≡ false → numbers_down (e ∷ []) ≡ []
-none_down e h = cond-false (leads_down e) (number_in e ∷ []) [] h
-
-down_next : (entries : List (List ℕ)) (k : ℕ) → k < length entries →
-    numbers_down (take (k + 1) entries) ≡ numbers_down (take k entries) ++ numbers_down (get_or entries k [] ∷ [])
-down_next entries k inside =
-    ap numbers_down (take_more entries k [] inside) ∙ numbers_down-append (take k entries) (get_or entries k [] ∷ [])
-
-down_one : (entries : List (List ℕ)) (k : ℕ) → k < length entries → leads_down (get_or entries k []) ≡ true →
-    numbers_down (take (k + 1) entries) ≡ numbers_down (take k entries) ++ number_in (get_or entries k []) ∷ []
-down_one entries k inside h =
-    down_next entries k inside ∙ ap (λ (l : List ℕ). numbers_down (take k entries) ++ l) (one_down (get_or entries k []) h)
-
-one_alone : (n : ℕ) → AreApart (n ∷ [])
-one_alone n = record { same = λ j k at_j at_k e. omega arith }
-
-at_place : (m n p : ℕ) → p < length (m ∷ []) → get_or (m ∷ []) p 0 ≡ n → n ≡ m
-at_place m n zero inside e = sym e
-at_place m n (suc p) inside e = absurd (omega arith)
-
-at_one : (m n : ℕ) → IsAmong (m ∷ []) n → n ≡ m
-at_one m n s = at_place m n s.place s.inside s.is
-
-pub took_more : (entries : List (List ℕ)) (from : ℕ) (numbers parents : List ℕ) (k number : ℕ) (now up : List ℕ) → k < length entries →
-    leads_down (get_or entries k []) ≡ true → number ≡ number_in (get_or entries k []) → (IsAmong now number → ⊥) →
-    Took entries from numbers parents k now up → Took entries from numbers parents (k + 1) (now ++ number ∷ []) (up ++ from ∷ [])
-took_more entries from numbers parents k number now up inside down is new took =
-    let before : List ℕ = numbers_down (take k entries) in
-    let next = down_one entries k inside down in
-    let count : length (numbers_down (take (k + 1) entries)) ≡ length before + 1 =
-    ap (λ (l : List ℕ). length l) next ∙ length-append before (number_in (get_or entries k []) ∷ []) in
+twice_later : (entries : List (List ℕ)) (k : ℕ) (numbers : List ℕ) (n : ℕ) → HasTwice entries k numbers n → HasTwice entries (k + 1) numbers n
+twice_later entries k numbers n has =
+    let low : has.place < k = has.inside in
     record {
-      numbers_are = ap (λ (l : List ℕ). l ++ number ∷ []) took.numbers_are ∙ append_assoc numbers before (number ∷ [])
-          ∙ ap (λ (n : ℕ). numbers ++ (before ++ n ∷ [])) is ∙ ap (λ (l : List ℕ). numbers ++ l) (sym next);
-      parents_are = ap (λ (l : List ℕ). l ++ from ∷ []) took.parents_are ∙ append_assoc parents (replicate (length before) from) (from ∷ [])
-          ∙ ap (λ (l : List ℕ). parents ++ l) (replicate_more (length before) from) ∙ ap (λ (n : ℕ). parents ++ replicate n from) (sym count);
-      apart = apart_parts now (number ∷ []) took.apart (one_alone number) (λ n in_now in_one. new (subst (λ (m : ℕ). IsAmong now m) (at_one number n in_one) in_now));
+      place = has.place;
+      inside = omega arith;
+      leads = has.leads;
+      again =
+          ⊎_elim (λ (before : IsAmong numbers n). inl before)
+          (λ (o : (other : ℕ) × (other < k) × (other ≢ has.place) × LeadsAt entries other n).
+          let below : o.0 < k = o.1 in inr (o.0, omega arith, o.2, o.3)) has.again;
     }
 
-pub took_same : (entries : List (List ℕ)) (from : ℕ) (numbers parents : List ℕ) (k : ℕ) (now up : List ℕ) → k < length entries →
-    leads_down (get_or entries k []) ≡ false → Took entries from numbers parents k now up → Took entries from numbers parents (k + 1) now up
-took_same entries from numbers parents k now up inside down took =
-    let before : List ℕ = numbers_down (take k entries) in
-    let next : numbers_down (take (k + 1) entries) ≡ before =
-    down_next entries k inside ∙ ap (λ (l : List ℕ). before ++ l) (none_down (get_or entries k []) down) ∙ append-nil before in
-    record {
-      numbers_are = took.numbers_are ∙ ap (λ (l : List ℕ). numbers ++ l) (sym next);
-      parents_are = took.parents_are ∙ ap (λ (l : List ℕ). parents ++ replicate (length l) from) (sym next);
-      apart = took.apart;
+module _ (entries : List (List ℕ)) (from : ℕ) (numbers parents again : List ℕ) (k : ℕ) (now up rest : List ℕ)
+    (added : AddsFirst entries from numbers parents again k now up rest) where
+  -- an entry that leads nowhere down
+  module _ (none : leads_down (get_or entries k []) ≡ true → ⊥) where
+    not_here : (j n : ℕ) → j ≡ k → LeadsAt entries j n → ⊥
+    not_here j n same leads = none (subst (λ (i : ℕ). leads_down (get_or entries i []) ≡ true) same leads.0)
+
+    pub added_same : AddsFirst entries from numbers parents again (k + 1) now up rest
+    added_same = record {
+      more = added.more;
+      numbers_are = added.numbers_are;
+      parents_are = added.parents_are;
+      apart = added.apart;
+      lead = λ n s. entry_later entries k n (added.lead n s);
+      each = λ j n low leads.
+          ⊎_elim (λ (before : j < k). added.each j n before leads) (λ (same : j ≡ k). absurd (not_here j n same leads)) (at_last j k low);
+      pairs = λ i j n low_i low_j leads_i leads_j.
+          ⊎_elim
+          (λ (before_i : i < k).
+          ⊎_elim (λ (before_j : j < k). added.pairs i j n before_i before_j leads_i leads_j) (λ (same : j ≡ k). absurd (not_here j n same leads_j))
+          (at_last j k low_j))
+          (λ (same : i ≡ k). absurd (not_here i n same leads_i)) (at_last i k low_i);
+      kept = added.kept;
+      twice = λ n s.
+          ⊎_elim (λ (before : IsAmong again n). inl before)
+          (λ (t : IsAmong now n × HasTwice entries k numbers n). inr (t.0, twice_later entries k numbers n t.1)) (added.twice n s);
     }
 
-pub took_all : (entries : List (List ℕ)) (from : ℕ) (numbers parents : List ℕ) (k : ℕ) (now up : List ℕ) → length entries ≤ k →
-    Took entries from numbers parents k now up → AddsChildren entries from numbers parents now up true
-took_all entries from numbers parents k now up all took =
-    let whole : take k entries ≡ entries = take_all k entries all in (
-      took.numbers_are ∙ ap (λ (l : List (List ℕ)). numbers ++ numbers_down l) whole,
-      took.parents_are ∙ ap (λ (l : List (List ℕ)). parents ++ replicate (length (numbers_down l)) from) whole,
-      took.apart,
-    )
+  -- an entry that leads down to a number
+  module _ (number : ℕ) (down : leads_down (get_or entries k []) ≡ true) (is : number ≡ number_in (get_or entries k [])) where
+    here : LeadsAt entries k number
+    here = (down, sym is)
 
--- ---- a number that was there
+    number_at : (j n : ℕ) → j ≡ k → LeadsAt entries j n → n ≡ number
+    number_at j n same leads = sym leads.1 ∙ ap (λ (i : ℕ). number_in (get_or entries i [])) same ∙ sym is
 
-not_twice : (now : List ℕ) (n : ℕ) → AreApart (now ++ n ∷ []) → IsAmong now n → ⊥
-not_twice now n apart s =
-    let inside : s.place < length now = s.inside in
-    let long : length (now ++ n ∷ []) ≡ length now + 1 = length-append now (n ∷ []) in
-    let end : length now + 0 ≡ length now = omega arith in
-    let last : get_or (now ++ n ∷ []) (length now) 0 ≡ n =
-    ap (λ (i : ℕ). get_or (now ++ n ∷ []) i 0) (sym end) ∙ get_or-append-add now (n ∷ []) 0 0 in
-    let same : s.place ≡ length now =
-    apart.same s.place (length now) (omega arith) (omega arith) (get_or_append_left now (n ∷ []) 0 s.place inside ∙ s.is ∙ sym last) in
-    omega arith
+    added_entry : HasEntry entries (k + 1) number
+    added_entry = record { place = k; inside = omega arith; leads = here }
 
-pub took_twice : (entries : List (List ℕ)) (from : ℕ) (numbers parents : List ℕ) (k number : ℕ) (now up : List ℕ) → k < length entries →
-    leads_down (get_or entries k []) ≡ true → number ≡ number_in (get_or entries k []) → IsAmong now number →
-    Took entries from numbers parents k now up → AreApart (numbers ++ numbers_down entries) → ⊥
-took_twice entries from numbers parents k number now up inside down is there took apart =
-    let n : ℕ = number_in (get_or entries k []) in
-    let before : List ℕ = numbers_down (take k entries) in
-    let rest : List ℕ = numbers_down (drop (k + 1) entries) in
-    let parts : numbers_down entries ≡ before ++ n ∷ [] ++ rest =
-    ap numbers_down (sym (take-append-drop (k + 1) entries)) ∙ numbers_down-append (take (k + 1) entries) (drop (k + 1) entries)
-    ∙ ap (λ (l : List ℕ). l ++ rest) (down_one entries k inside down) in
-    let whole : numbers ++ numbers_down entries ≡ now ++ n ∷ [] ++ rest =
-    ap (λ (l : List ℕ). numbers ++ l) parts
-    ∙ sym (append_assoc numbers (before ++ n ∷ []) rest)
-    ∙ ap (λ (l : List ℕ). l ++ rest) (sym (append_assoc numbers before (n ∷ [])))
-    ∙ ap (λ (l : List ℕ). l ++ n ∷ [] ++ rest) (sym took.numbers_are) in
-    not_twice now n (apart_left (now ++ n ∷ []) rest (subst (λ (l : List ℕ). AreApart l) whole apart))
-    (subst (λ (m : ℕ). IsAmong now m) is there)
+    -- a number that was found before the directory, or by an entry of it
+    seen_before : IsAmong now number → IsAmong numbers number ⊎ HasEntry entries k number
+    seen_before s =
+        ⊎_elim (λ (before : IsAmong numbers number). inl before) (λ (new : IsAmong added.more number). inr (added.lead number new))
+        (among_either numbers added.more number (subst (λ (l : List ℕ). IsAmong l number) added.numbers_are s))
 
--- ---- what a list contains
+    found_twice : IsAmong now number → HasTwice entries (k + 1) numbers number
+    found_twice s = record {
+      place = k;
+      inside = omega arith;
+      leads = here;
+      again =
+          ⊎_elim (λ (before : IsAmong numbers number). inl before)
+          (λ (has : HasEntry entries k number).
+          let low : has.place < k = has.inside in
+          inr (has.place, omega arith, λ same. absurd (omega (arith, low, same)), has.leads)) (seen_before s);
+    }
 
-pub stands_from : (numbers : List ℕ) (n : ℕ) → Contains numbers n → IsAmong numbers n
-stands_from numbers n has = record { place = has.0; inside = has.1; is = get_or_default numbers has.0 0 n has.1 ∙ has.2 }
+    -- it was found again
+    module _ (known : IsAmong now number) where
+      in_rest : IsAmong (rest ++ number ∷ []) number
+      in_rest = among_right rest (number ∷ []) number (stands_first number [])
 
-pub contains_from : (numbers : List ℕ) (n : ℕ) → IsAmong numbers n → Contains numbers n
-contains_from numbers n s = (s.place, s.inside, get_or_default numbers s.place n 0 s.inside ∙ s.is)
+      in_rest_at : (j n : ℕ) → j ≡ k → LeadsAt entries j n → IsAmong (rest ++ number ∷ []) n
+      in_rest_at j n same leads = subst (λ (i : ℕ). IsAmong (rest ++ number ∷ []) i) (sym (number_at j n same leads)) in_rest
+
+      added_again : AddsFirst entries from numbers parents again (k + 1) now up (rest ++ number ∷ [])
+      added_again = record {
+        more = added.more;
+        numbers_are = added.numbers_are;
+        parents_are = added.parents_are;
+        apart = added.apart;
+        lead = λ n s. entry_later entries k n (added.lead n s);
+        each = λ j n low leads.
+            ⊎_elim
+            (λ (before : j < k).
+            ⊎_elim (λ (new : IsAmong added.more n). inl new) (λ (s : IsAmong rest n). inr (among_left rest (number ∷ []) n s))
+            (added.each j n before leads))
+            (λ (same : j ≡ k). inr (in_rest_at j n same leads)) (at_last j k low);
+        pairs = λ i j n low_i low_j leads_i leads_j.
+            ⊎_elim
+            (λ (before_i : i < k).
+            ⊎_elim
+            (λ (before_j : j < k).
+            ⊎_elim (λ (one : i ≡ j). inl one) (λ (s : IsAmong rest n). inr (among_left rest (number ∷ []) n s))
+            (added.pairs i j n before_i before_j leads_i leads_j))
+            (λ (same : j ≡ k). inr (in_rest_at j n same leads_j)) (at_last j k low_j))
+            (λ (same : i ≡ k). inr (in_rest_at i n same leads_i)) (at_last i k low_i);
+        kept = λ n s. among_left rest (number ∷ []) n (added.kept n s);
+        twice = λ n s.
+            ⊎_elim
+            (λ (old : IsAmong rest n).
+            ⊎_elim (λ (before : IsAmong again n). inl before)
+            (λ (t : IsAmong now n × HasTwice entries k numbers n). inr (t.0, twice_later entries k numbers n t.1)) (added.twice n old))
+            (λ (one : IsAmong (number ∷ []) n).
+            let same : n ≡ number = at_one number n one in
+            inr (
+              subst (λ (i : ℕ). IsAmong now i) (sym same) known,
+              subst (λ (i : ℕ). HasTwice entries (k + 1) numbers i) (sym same) (found_twice known),
+            ))
+            (among_either rest (number ∷ []) n s);
+      }
+
+    -- it is new
+    module _ (fresh : IsAmong now number → ⊥) where
+      in_more : (j n : ℕ) → j ≡ k → LeadsAt entries j n → IsAmong (added.more ++ number ∷ []) n
+      in_more j n same leads =
+          subst (λ (i : ℕ). IsAmong (added.more ++ number ∷ []) i) (sym (number_at j n same leads))
+          (among_right added.more (number ∷ []) number (stands_first number []))
+
+      -- no entry before led to it
+      none_before : (j n : ℕ) → j < k → n ≡ number → LeadsAt entries j n → IsAmong rest n
+      none_before j n low same leads =
+          ⊎_elim
+          (λ (new : IsAmong added.more n).
+          absurd (fresh (subst (λ (l : List ℕ). IsAmong l number) (sym added.numbers_are)
+          (among_right numbers added.more number (subst (λ (i : ℕ). IsAmong added.more i) same new)))))
+          (λ (s : IsAmong rest n). s) (added.each j n low leads)
+
+      added_new : AddsFirst entries from numbers parents again (k + 1) (now ++ number ∷ []) (up ++ from ∷ []) rest
+      added_new =
+          let count : length (added.more ++ number ∷ []) ≡ length added.more + 1 = length-append added.more (number ∷ []) in
+          record {
+            more = added.more ++ number ∷ [];
+            numbers_are = ap (λ (l : List ℕ). l ++ number ∷ []) added.numbers_are ∙ append_assoc numbers added.more (number ∷ []);
+            parents_are = ap (λ (l : List ℕ). l ++ from ∷ []) added.parents_are ∙ append_assoc parents (replicate (length added.more) from) (from ∷ [])
+                ∙ ap (λ (l : List ℕ). parents ++ l) (replicate_more (length added.more) from) ∙ ap (λ (n : ℕ). parents ++ replicate n from) (sym count);
+            apart = apart_one_more now number added.apart fresh;
+            lead = λ n s.
+                ⊎_elim (λ (old : IsAmong added.more n). entry_later entries k n (added.lead n old))
+                (λ (one : IsAmong (number ∷ []) n). subst (λ (i : ℕ). HasEntry entries (k + 1) i) (sym (at_one number n one)) added_entry)
+                (among_either added.more (number ∷ []) n s);
+            each = λ j n low leads.
+                ⊎_elim
+                (λ (before : j < k).
+                ⊎_elim (λ (new : IsAmong added.more n). inl (among_left added.more (number ∷ []) n new)) (λ (s : IsAmong rest n). inr s)
+                (added.each j n before leads))
+                (λ (same : j ≡ k). inl (in_more j n same leads)) (at_last j k low);
+            pairs = λ i j n low_i low_j leads_i leads_j.
+                ⊎_elim
+                (λ (before_i : i < k).
+                ⊎_elim (λ (before_j : j < k). added.pairs i j n before_i before_j leads_i leads_j)
+                (λ (same : j ≡ k). inr (none_before i n before_i (number_at j n same leads_j) leads_i)) (at_last j k low_j))
+                (λ (same_i : i ≡ k).
+                ⊎_elim (λ (before_j : j < k). inr (none_before j n before_j (number_at i n same_i leads_i) leads_j))
+                (λ (same : j ≡ k). inl (same_i ∙ sym same)) (at_last j k low_j)) (at_last i k low_i);
+            kept = added.kept;
+            twice = λ n s.
+                ⊎_elim (λ (before : IsAmong again n). inl before)
+                (λ (t : IsAmong now n × HasTwice entries k numbers n).
+                inr (among_left now (number ∷ []) n t.0, twice_later entries k numbers n t.1)) (added.twice n s);
+          }
+
+    pub added_child : (next next_up next_rest : List ℕ) → AddsChild number from now up rest next next_up next_rest →
+        AddsFirst entries from numbers parents again (k + 1) next next_up next_rest
+    added_child next next_up next_rest (inl new) =
+        subst (λ (l : List ℕ). AddsFirst entries from numbers parents again (k + 1) l next_up next_rest) (sym new.1)
+        (subst (λ (l : List ℕ). AddsFirst entries from numbers parents again (k + 1) (now ++ number ∷ []) l next_rest) (sym new.2)
+        (subst (λ (l : List ℕ). AddsFirst entries from numbers parents again (k + 1) (now ++ number ∷ []) (up ++ from ∷ []) l) (sym new.3) (added_new new.0)))
+    added_child next next_up next_rest (inr old) =
+        subst (λ (l : List ℕ). AddsFirst entries from numbers parents again (k + 1) l next_up next_rest) (sym old.1)
+        (subst (λ (l : List ℕ). AddsFirst entries from numbers parents again (k + 1) now l next_rest) (sym old.2)
+        (subst (λ (l : List ℕ). AddsFirst entries from numbers parents again (k + 1) now up l) (sym old.3) (added_again old.0)))

@@ -4,10 +4,11 @@ use Rattle.model.specs.Files.{Files}
 use Rattle.names.specs.Entries.{lookup}
 use Rattle.names.specs.Removing.{MayDrop}
 use Rattle.names.specs.TreeChanges.{DropsDirectory, DropsName}
-use Rattle.names.specs.Trees.{directory_in, number_of, IsDirectory, IsDown, IsEmpty}
+use Rattle.names.specs.Trees.{directory_in, number_of, IsDirectory, IsDown, IsEmpty, IsTree}
 use Rattle.names.specs.Undirecting.{IsEmptinessOf}
 use Rattle.names.specs.Walks.{IsDirectoryFound}
 use Rattle.names.proofs.Entering.{found_bytes}
+use Rattle.names.proofs.TreeBy.{directory_named_once}
 
 -- the file is a directory, and whether it is empty
 emptied : (files : Files) (i : ℕ) (found : Option Bool) (empty : Bool) → found ≡ Some empty → IsEmptinessOf files i found → IsEmptinessOf files i (Some empty)
@@ -37,7 +38,7 @@ led_full files seen from number i name bytes slice found other empty here is sli
 module _ (files a e : Files) (from number i : ℕ) (name bytes slice again : List ℕ) (found : Option (List ℕ)) (other : Option Bool) (empty : Bool)
     (looked : a ≡ files) (here : IsDirectoryFound files from found) (found_is : found ≡ Some bytes) (down : IsDown name) (slice_is : slice ≡ bytes)
     (again_is : again ≡ bytes) (led : lookup slice name ≡ Some number) (same : i ≡ number) (saw : e ≡ a) (there : IsEmptinessOf a i other)
-    (other_is : other ≡ Some empty) (is_empty : empty ≡ true) where
+    (other_is : other ≡ Some empty) (is_empty : empty ≡ true) (tree : IsTree files) where
   was : IsEmptinessOf files i (Some empty)
   was = emptied files i other empty other_is (subst (λ (f : Files). IsEmptinessOf f i other) looked there)
 
@@ -49,6 +50,7 @@ module _ (files a e : Files) (from number i : ℕ) (name bytes slice again : Lis
         bytes_are = again_is ∙ (found_bytes files from found bytes found_is here).1;
         down = down;
         led = is.1 ∙ ap (λ (j : ℕ). Some j) (sym same);
+        once = directory_named_once files tree i was.0;
         empty = λ it. was.1.0 is_empty;
       })
 

@@ -5,13 +5,14 @@ use Rattle.std.proofs.lemmas.List.{get_or_append_left, get_or-append-add, length
 use Rattle.model.specs.Files.{Files}
 use Rattle.names.specs.Checks.{AreApart, HasFound, HasName, WasFound}
 use Rattle.names.specs.Trees.{IsDirectory, IsFile}
+use Rattle.names.proofs.Apart.{none_among}
 
 -- ---- at the beginning
 
 one_alone : AreApart (1 ∷ [])
 one_alone = record { same = λ j k at_j at_k e. omega arith }
 
-pub begin_found : (files : Files) → HasFound files 0 (1 ∷ []) (1 ∷ [])
+pub begin_found : (files : Files) → HasFound files 0 (1 ∷ []) (1 ∷ []) []
 begin_found files = record {
   few = refl;
   some = omega arith;
@@ -24,6 +25,7 @@ begin_found files = record {
   down = λ j number name seen step. absurd (omega arith);
   names = λ j number x y seen to_x to_y. absurd (omega arith);
   up = λ m behind inside. absurd (omega arith);
+  twice = λ n s. absurd (none_among n s);
 }
 
 -- ---- a file that is no directory
@@ -36,9 +38,9 @@ name_later files k numbers parents m has =
     let seen : has.from < k = has.seen in
     record { from = has.from; before = has.before; seen = omega arith; parent = has.parent; name = has.name; step = has.step }
 
-pub next_plain : (files : Files) (k : ℕ) (numbers parents : List ℕ) → HasFound files k numbers parents → k < length numbers →
-    IsFile files (get_or numbers k 0) → (IsDirectory files (get_or numbers k 0) → ⊥) → HasFound files (k + 1) numbers parents
-next_plain files k numbers parents found inside there plain =
+pub next_plain : (files : Files) (k : ℕ) (numbers parents again : List ℕ) → HasFound files k numbers parents again → k < length numbers →
+    IsFile files (get_or numbers k 0) → (IsDirectory files (get_or numbers k 0) → ⊥) → HasFound files (k + 1) numbers parents again
+next_plain files k numbers parents again found inside there plain =
     let not_here : (j : ℕ) → j ≡ k → IsDirectory files (get_or numbers j 0) → ⊥ =
     λ j same is. plain (subst (λ (i : ℕ). IsDirectory files (get_or numbers i 0)) same is) in
     record {
@@ -59,6 +61,7 @@ next_plain files k numbers parents found inside there plain =
           ⊎_elim (λ (before : j < k). found.names j number x y before to_x to_y) (λ (same : j ≡ k). absurd (not_here j same to_x.1.0))
           (at_last j k seen);
       up = λ m behind inside. name_later files k numbers parents m (found.up m behind inside);
+      twice = found.twice;
     }
 
 -- ---- a directory

@@ -1,65 +1,55 @@
 -- Files that are seen one after the other from the root on, and whether they are a tree.
-use Rattle.std.proofs.Common.{◌≡◌, ℕ, suc, ◌+◌, ◌<◌, ◌≤◌, Bool, true, false, eqb, List, [], ◌∷◌, ◌++◌, length, take, get_or, replicate, refl, sym, subst, ◌∙◌, ⊎_elim, inl, inr, arith}
+use Rattle.std.proofs.Common.{◌≡◌, ℕ, suc, ◌+◌, ◌<◌, ◌≤◌, Bool, true, false, eqb, List, [], ◌∷◌, length, take, get_or, refl, sym, subst, ◌∙◌, ⊎_elim, arith}
 use Rattle.std.specs.Prelude.{◌↔◌, IsTrue}
 use Rattle.std.specs.List.{AllByRecursion, IsDistinct, list_any}
 use Rattle.std.proofs.lemmas.Bool.{eqb-true, ne_eqb, or_cases}
 use Rattle.std.proofs.lemmas.List.{get_or-take, length-take-le}
 use Rattle.std.proofs.lemmas.Map.Steps.{length-le_from_distinct_below}
 use Rattle.model.specs.Files.{Files}
-use Rattle.names.specs.Checks.{numbers_down, AddsChildren, AreApart, HasFound, IsAmong}
+use Rattle.names.specs.Checks.{AddsChildren, AreApart, HasFound, IsAmong}
 use Rattle.names.specs.Entries.{entries_of}
-use Rattle.names.specs.Judging.{AreAmong, HasLookedThrough, IsSeen, TakesIn}
+use Rattle.names.specs.Judging.{AreAmong, ArePlain, HasLookedThrough, IsSeen, TakesIn}
 use Rattle.names.specs.Trees.{directory_in, IsDirectory, IsDirectoryOf, IsFile, IsTree}
 use Rattle.names.specs.declared.judging.Seen.{Seen}
 use Rattle.names.specs.declared.judging.Seen.TheVariants.{Nothing, Plain, Directory}
-use Rattle.names.proofs.FoundFiles.{all_found, found_directory, found_each, found_file}
-use Rattle.names.proofs.FoundDirectory.{children, children_apart, next_directory}
+use Rattle.names.proofs.FoundFiles.{again_plain, all_found, found_directory, found_each, found_file}
+use Rattle.names.proofs.FoundDirectory.{next_directory}
 use Rattle.names.proofs.FoundNext.{next_plain}
-use Rattle.names.proofs.NumbersDown.{apart_first, apart_rest, stands_first, stands_more}
+use Rattle.names.proofs.Apart.{apart_first, apart_rest, stands_first, stands_more}
 
 -- ---- one more is looked into
 
-module _ (files : Files) (k number parent : ℕ) (numbers parents new up : List ℕ) (found : HasFound files k numbers parents) (inside : k < length numbers) (is : get_or numbers k 0 ≡ number) (up_is : get_or parents k 0 ≡ parent) where
+module _ (files : Files) (k number parent : ℕ) (numbers parents again new up rest : List ℕ) (found : HasFound files k numbers parents again) (inside : k < length numbers)
+    (is : get_or numbers k 0 ≡ number) (up_is : get_or parents k 0 ≡ parent) where
   -- in a tree, what is there is a file, and a directory as it should be
   file_there : IsTree files → IsFile files number
-  file_there tree = subst (λ (i : ℕ). IsFile files i) is (found_file files k numbers parents found tree k inside)
+  file_there tree = subst (λ (i : ℕ). IsFile files i) is (found_file files k numbers parents again found tree k inside)
 
   directory_there : IsTree files → IsDirectory files number → IsDirectoryOf (directory_in files number) number parent
   directory_there tree directory =
       subst (λ (i : ℕ). IsDirectoryOf (directory_in files number) number i) up_is
       (subst (λ (i : ℕ). IsDirectoryOf (directory_in files i) i (get_or parents k 0)) is
-      (found_directory files k numbers parents found tree k inside (subst (λ (i : ℕ). IsDirectory files i) (sym is) directory)))
+      (found_directory files k numbers parents again found tree k inside (subst (λ (i : ℕ). IsDirectory files i) (sym is) directory)))
 
-  plain_next : IsFile files number → (IsDirectory files number → ⊥) → new ≡ numbers → up ≡ parents → HasFound files (k + 1) new up
-  plain_next there plain same same_up =
-      let next = next_plain files k numbers parents found inside (subst (λ (i : ℕ). IsFile files i) (sym is) there)
+  plain_next : IsFile files number → (IsDirectory files number → ⊥) → new ≡ numbers → up ≡ parents → rest ≡ again → HasFound files (k + 1) new up rest
+  plain_next there plain same same_up same_rest =
+      let next = next_plain files k numbers parents again found inside (subst (λ (i : ℕ). IsFile files i) (sym is) there)
       (λ directory. plain (subst (λ (i : ℕ). IsDirectory files i) is directory)) in
-      subst (λ (l : List ℕ). HasFound files (k + 1) l up) (sym same) (subst (λ (l : List ℕ). HasFound files (k + 1) numbers l) (sym same_up) next)
+      subst (λ (l : List ℕ). HasFound files (k + 1) l up rest) (sym same) (subst (λ (l : List ℕ). HasFound files (k + 1) numbers l rest) (sym same_up)
+      (subst (λ (l : List ℕ). HasFound files (k + 1) numbers parents l) (sym same_rest) next))
 
-  down_next : IsDirectory files number → IsDirectoryOf (directory_in files number) number parent →
-      AddsChildren (entries_of (directory_in files number)) number numbers parents new up true → HasFound files (k + 1) new up
-  unfolding children
-  down_next directory of added =
-      let next = next_directory files k number numbers parents (replicate (length (children files number)) number) found inside is refl directory
-      (subst (λ (i : ℕ). IsDirectoryOf (directory_in files number) number i) (sym up_is) of)
-      (subst (λ (l : List ℕ). AreApart l) added.0 added.2) in
-      subst (λ (l : List ℕ). HasFound files (k + 1) l up) (sym added.0)
-      (subst (λ (l : List ℕ). HasFound files (k + 1) (numbers ++ children files number) l) (sym added.1) next)
-
-  pub next_found : (seen : Seen) → IsSeen files number seen → TakesIn seen number parent numbers parents new up true → HasFound files (k + 1) new up
+  pub next_found : (seen : Seen) → IsSeen files number seen → TakesIn seen number parent numbers parents again new up rest true → HasFound files (k + 1) new up rest
   next_found Nothing here takes = absurd (cc takes)
-  next_found Plain here takes = plain_next here.0 here.1 takes.1 takes.2
+  next_found Plain here takes = plain_next here.0 here.1 takes.1 takes.2 takes.3
   next_found (Directory bytes) here takes =
-      down_next here.0 (subst (λ (b : List ℕ). IsDirectoryOf b number parent) here.1 takes.0)
-      (subst (λ (b : List ℕ). AddsChildren (entries_of b) number numbers parents new up true) here.1 takes.1)
+      next_directory files k number numbers parents again new up rest found inside is here.0
+      (subst (λ (i : ℕ). IsDirectoryOf (directory_in files number) number i) (sym up_is) (subst (λ (b : List ℕ). IsDirectoryOf b number parent) here.1 takes.0))
+      (subst (λ (b : List ℕ). AddsChildren (entries_of b) number numbers parents again new up rest) here.1 takes.1)
 
-  pub no_tree : (seen : Seen) → IsSeen files number seen → TakesIn seen number parent numbers parents new up false → IsTree files → ⊥
-  unfolding children
+  pub no_tree : (seen : Seen) → IsSeen files number seen → TakesIn seen number parent numbers parents again new up rest false → IsTree files → ⊥
   no_tree Nothing here takes tree = here (file_there tree)
   no_tree Plain here takes tree = let other : false ≡ true = takes.0 in cc other
-  no_tree (Directory bytes) here (inl other) tree = other (subst (λ (b : List ℕ). IsDirectoryOf b number parent) (sym here.1) (directory_there tree here.0))
-  no_tree (Directory bytes) here (inr twice) tree =
-      twice (subst (λ (b : List ℕ). AreApart (numbers ++ numbers_down (entries_of b))) (sym here.1) (children_apart files k number numbers parents found inside is tree here.0))
+  no_tree (Directory bytes) here other tree = other (subst (λ (b : List ℕ). IsDirectoryOf b number parent) (sym here.1) (directory_there tree here.0))
 
 -- ---- how many are found
 
@@ -84,8 +74,8 @@ below (n ∷ numbers) most low q any =
     (or_cases (eqb q n) (list_any (eqb q) numbers) any)
 
 -- no more are looked into than there are numbers for files
-pub few_looked : (files : Files) (k most : ℕ) (numbers parents : List ℕ) → HasFound files k numbers parents → ((i : ℕ) → IsFile files i → i < most) → k ≤ most
-few_looked files k most numbers parents found inside =
+pub few_looked : (files : Files) (k most : ℕ) (numbers parents again : List ℕ) → HasFound files k numbers parents again → ((i : ℕ) → IsFile files i → i < most) → k ≤ most
+few_looked files k most numbers parents again found inside =
     let low : k ≤ length numbers = found.low in
     let long : length (take k numbers) ≡ k = length-take-le k numbers low in
     let at : (j : ℕ) → j < k → get_or (take k numbers) j 0 ≡ get_or numbers j 0 = λ j seen. get_or-take k numbers j 0 seen in
@@ -98,8 +88,14 @@ few_looked files k most numbers parents found inside =
 
 -- ---- all are looked into
 
--- once all that were found are looked into, each file is among them exactly where the files are a tree
-pub told_by : (files : Files) (numbers : List ℕ) (are : Bool) → IsDirectory files 1 → HasLookedThrough files numbers true → IsTrue are ↔ AreAmong files numbers →
-    IsTrue are ↔ IsTree files
-told_by files numbers are rooted looked among =
-    (λ yes. all_found files numbers looked.0 looked.1 rooted (among.0 yes), λ tree. among.1 (found_each files numbers looked.0 looked.1 tree))
+-- once all that were found are looked into, and no directory was found again, each file is among them exactly where the files are a tree
+pub told_by : (files : Files) (numbers again : List ℕ) (are : Bool) → IsDirectory files 1 → HasLookedThrough files numbers again true → ArePlain files again →
+    IsTrue are ↔ AreAmong files numbers → IsTrue are ↔ IsTree files
+told_by files numbers again are rooted looked plain among = (
+  λ yes. all_found files numbers looked.0 again looked.1 rooted (among.0 yes) plain,
+  λ tree. among.1 (found_each files numbers looked.0 again looked.1 tree),
+)
+
+-- and where one was, they are none
+pub not_plain : (files : Files) (numbers again : List ℕ) → HasLookedThrough files numbers again true → (ArePlain files again → ⊥) → IsTree files → ⊥
+not_plain files numbers again looked not tree = not (λ i s. again_plain files tree i (looked.1.twice i s).1)

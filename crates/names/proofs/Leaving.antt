@@ -1,5 +1,6 @@
 -- A file goes from a tree with its name.
-use Rattle.std.proofs.Common.{◌≡◌, ◌≢◌, ◌≤◌, ℕ, Bool, List, length, Option, Some, None, refl, sym, ap, subst, ◌∙◌, ⊎_elim}
+use Rattle.std.proofs.Common.{◌≡◌, ◌≢◌, ◌≤◌, ℕ, Bool, List, length, Option, Some, None, false, true, refl, sym, ap, subst, ◌∙◌, ⊎_elim}
+use Rattle.std.specs.Prelude.{◌↔◌, IsTrue}
 use Rattle.std.proofs.lemmas.Bool.{cases_eq}
 use Rattle.blocks.specs.declared.disk.Disk.{Ghosts}
 use Rattle.model.specs.declared.types.image.Form.{Form}
@@ -15,11 +16,12 @@ use Rattle.names.specs.Inside.{files_seen, form_seen, Answers}
 use Rattle.names.specs.Making.{HasEntered}
 use Rattle.names.specs.Removing.{MayDrop}
 use Rattle.names.specs.TreeChanges.{DropsName}
-use Rattle.names.specs.Trees.{number_of, parent_name, IsDirectory, IsDown, IsTree}
+use Rattle.names.specs.Trees.{number_of, parent_name, HasOtherName, IsDirectory, IsDown, IsTree}
 use Rattle.names.specs.Walks.{IsDirectoryFound}
 use Rattle.names.specs.Writes.{Unlinks}
 use Rattle.names.proofs.Below.{parents_decide}
 use Rattle.names.proofs.Entering.{found_bytes}
+use Rattle.names.proofs.OtherLooks.{once_alone}
 use Rattle.names.proofs.TreeMeaning.{directories_are_tidy}
 use Rattle.names.proofs.WholeChanges.{removes_file_whole}
 
@@ -58,23 +60,28 @@ unlinked_drops {D} disk k b d from i bytes name write whole reply tree may unlin
     let form : Form = form_seen disk.image k in
     let second : after form (files_seen disk.image b) (Remove i) reply ≡ Some (files_seen disk.image d) =
     subst (λ (o : D). after (form_of (disk.image o)) (files_seen disk.image b) (Remove i) reply ≡ Some (files_seen disk.image d)) opening answers in
-    let all = removes_file_whole form fs (files_seen disk.image b) (files_seen disk.image d) from i name write entered.reply reply tree may.is may.down may.led may.empty
+    let all = removes_file_whole form fs (files_seen disk.image b) (files_seen disk.image d) from i name write entered.reply reply tree may.is may.down may.led may.once may.empty
     (subst (λ (l : List ℕ). Unlinks l name write) may.bytes_are unlinks) entered.answers second in
     (all.2, all.3)
 
--- In a transaction the directory was looked at, which left the files `a`, and the file that a name of it leads to, which left them `e`: it is no directory.
-pub may_remove : (files a e : Files) (from number i : ℕ) (name bytes slice again : List ℕ) (found other : Option (List ℕ)) → IsTree files → a ≡ files →
-    IsDirectoryFound files from found → found ≡ Some bytes → slice ≡ bytes → again ≡ bytes → lookup slice name ≡ Some number → i ≡ number → e ≡ a →
-    IsDirectoryFound a i other → ((x : List ℕ) → other ≡ Some x → ⊥) → MayDrop e from again name i
-may_remove files a e from number i name bytes slice again found other tree looked here found_is slice_is again_is led same saw there none =
+-- In a transaction the directory was looked at, which left the files `a`, the file that a name of it leads to, which left them `d`: it is no directory; and the
+-- other ones, which left them `e`: no other name leads down to it.
+pub may_remove : (files a d e : Files) (from number i : ℕ) (name bytes slice again : List ℕ) (found other : Option (List ℕ)) (has : Bool) → IsTree files → a ≡ files →
+    IsDirectoryFound files from found → found ≡ Some bytes → slice ≡ bytes → again ≡ bytes → lookup slice name ≡ Some number → i ≡ number → d ≡ a →
+    IsDirectoryFound a i other → ((x : List ℕ) → other ≡ Some x → ⊥) → e ≡ d → IsTrue has ↔ HasOtherName d from name i → has ≡ false → MayDrop e from again name i
+may_remove files a d e from number i name bytes slice again found other has tree looked here found_is slice_is again_is led same saw there none same_still told only =
     let is = found_bytes files from found bytes found_is here in
     let leads : number_of files from name ≡ Some i = ap (λ (l : List ℕ). lookup l name) (sym (slice_is ∙ is.1)) ∙ led ∙ ap (λ (j : ℕ). Some j) (sym same) in
     let plain : IsDirectory files i → ⊥ = none_found files i other none (subst (λ (f : Files). IsDirectoryFound f i other) looked there) in
-    subst (λ (f : Files). MayDrop f from again name i) (sym (saw ∙ looked)) (record {
+    let down : IsDown name = down_file files from i name tree is.0 leads plain in
+    let alone : HasOtherName files from name i → ⊥ =
+    λ other. let both : false ≡ true = sym only ∙ told.1 (subst (λ (f : Files). HasOtherName f from name i) (sym (saw ∙ looked)) other) in cc both in
+    subst (λ (f : Files). MayDrop f from again name i) (sym (same_still ∙ saw ∙ looked)) (record {
       is = is.0;
       bytes_are = again_is ∙ is.1;
-      down = down_file files from i name tree is.0 leads plain;
+      down = down;
       led = leads;
+      once = once_alone files from i name (down, (is.0, leads)) alone;
       empty = λ it. absurd (plain it);
     })
 

@@ -31,7 +31,7 @@ pub mod PlainFiles
 pub mod PlainWrites
 pub mod PlainPuts
 pub mod FoundFiles
-pub mod NumbersDown
+pub mod Apart
 pub mod EntryPaths
 pub mod FoundNext
 pub mod FoundDirectory
@@ -44,6 +44,7 @@ pub mod Transacting
 pub mod FileMakes
 pub mod Entering
 pub mod Leading
+pub mod OtherLooks
 pub mod Leaving
 pub mod Emptied
 pub mod Filling

@@ -1,12 +1,12 @@
 -- A tree stays one where a file has another name in place of its old one.
-use Rattle.std.proofs.Common.{◌≡◌, ◌≢◌, ◌⊎◌, inl, inr, ℕ, suc, ◌<◌, List, Some, None, refl, sym, ap, subst, ◌∙◌, ⊎_elim, arith}
+use Rattle.std.proofs.Common.{◌≡◌, ◌≢◌, ◌⊎◌, inl, inr, ℕ, ◌<◌, List, Some, None, sym, ap, subst, ◌∙◌, ⊎_elim, arith}
 use Rattle.std.proofs.lemmas.Bool.{cases_eq}
 use Rattle.model.specs.Files.{Files, file_in}
-use Rattle.names.specs.Trees.{directory_in, kind_of, number_of, parent_name, self_name, IsDirectory, IsDirectoryOf, IsDown, IsFile, StepsDown}
+use Rattle.names.specs.Trees.{directory_in, kind_of, number_of, parent_name, self_name, IsDirectory, IsDirectoryOf, IsDown, IsFile, IsTree, StepsDown}
 use Rattle.names.specs.TreeChanges.{MovesName}
-use Rattle.names.specs.TreeLaws.{MovingKeeps}
-use Rattle.names.proofs.Rooted.{depth_other, depth_there, depth_with, rooted_moved, IsRooted, MovesDown}
-use Rattle.names.proofs.TreeBy.{depth_in, directory_is_file, steps_make_tree, tree_makes_steps, IsTreeBy}
+use Rattle.names.specs.TreeLaws.{KeepsOnce, MovingKeeps, MovingKeepsOnce}
+use Rattle.names.proofs.Rooted.{rooted_moved, IsRooted, MovesDown}
+use Rattle.names.proofs.TreeBy.{depth_in, directory_is_file, once_behind, once_by, steps_make_tree, tree_makes_steps, IsTreeBy}
 use Rattle.names.proofs.Adding.{same_name}
 
 -- the name of a directory is not that one
@@ -33,12 +33,12 @@ pub record MovesAt (files new : Files) (from : ℕ) (old : List ℕ) (to : ℕ) 
   pub was : (i : ℕ) → IsFile new i → IsFile files i
   pub directories : (i parent : ℕ) → i ≢ number → IsDirectoryOf (directory_in files i) i parent → IsDirectoryOf (directory_in new i) i parent
   pub itself : IsDirectory files number → IsDirectoryOf (directory_in new number) number to
-  pub here : deep to < deep number
-  pub deeper : (at below : ℕ) (other : List ℕ) → below ≢ number → StepsDown files at other below → deep at < deep below
+  pub here : IsDirectory files number → deep to < deep number
+  pub deeper : (at below : ℕ) (other : List ℕ) → IsDirectory files below → below ≢ number → StepsDown files at other below → deep at < deep below
 
 old_steps : (files new : Files) (depth deep : ℕ → ℕ) (from to i : ℕ) (old name : List ℕ) → IsTreeBy files depth → IsDirectory files from →
     IsDown old → MovesAt files new from old to name i deep → (at below : ℕ) (other : List ℕ) → StepsDown new at other below →
-    ((below ≡ i) × (at ≡ to) × (other ≡ name)) ⊎ ((below ≢ i) × StepsDown files at other below)
+    ((below ≡ i) × (at ≡ to) × (other ≡ name)) ⊎ ((IsDirectory files below → below ≢ i) × StepsDown files at other below)
 old_steps files new depth deep from to i old name tree is old_down moves at below other step =
     ⊎_elim
     (λ (here : (at ≡ to) × (other ≡ name)).
@@ -55,11 +55,12 @@ old_steps files new depth deep from to i old name tree is old_down moves at belo
     let was : StepsDown files at other below =
     (step.0, (sym (moves.kinds at) ∙ step.1.0, sym (moves.others at other step.0 not_old not_new) ∙ step.1.1)) in
     inr (
-      λ same.
+      λ directory same.
+          let it : IsDirectory files i = subst (λ (k : ℕ). IsDirectory files k) same directory in
           let this : StepsDown files at other i = subst (λ (k : ℕ). StepsDown files at other k) same was in
           let that : StepsDown files from old i = (old_down, (is, moves.led)) in
-          let parents : at ≡ from = tree.shape.parent at from i other old this that in
-          let names : other ≡ old = tree.shape.name from i other old (subst (λ (k : ℕ). StepsDown files k other i) parents this) that in
+          let parents : at ≡ from = tree.shape.parent at from i other old it this that in
+          let names : other ≡ old = tree.shape.name from i other old it (subst (λ (k : ℕ). StepsDown files k other i) parents this) that in
           ⊎_elim (λ (differ : at ≢ from). differ parents) (λ (differ : other ≢ old). differ names) not_old,
       was,
     ))
@@ -68,7 +69,7 @@ old_steps files new depth deep from to i old name tree is old_down moves at belo
 
 moves_down : (files new : Files) (depth deep : ℕ → ℕ) (from to i : ℕ) (old name : List ℕ) → IsTreeBy files depth → IsDirectory files from →
     IsDirectory files to → IsDown old → IsDown name → MovesAt files new from old to name i deep →
-    MovesDown (StepsDown files) (StepsDown new) (IsFile files) deep to name i
+    MovesDown (StepsDown files) (StepsDown new) (IsFile files) (IsDirectory files) deep to name i
 moves_down files new depth deep from to i old name tree is is_to old_down down moves =
     let led = tree.shape.lead from i old (old_down, (is, moves.led)) in
     record {
@@ -96,15 +97,15 @@ moves_down files new depth deep from to i old name tree is is_to old_down down m
     }
 
 -- the same files are there
-there_again : (Down : ℕ → List ℕ → ℕ → Type 0) (Was Is : ℕ → Type 0) (depth : ℕ → ℕ) → ((i : ℕ) → Was i → Is i) → ((i : ℕ) → Is i → Was i) →
-    IsRooted Down Was depth → IsRooted Down Is depth
-there_again Down Was Is depth still was tree = record {
+there_again : (Down : ℕ → List ℕ → ℕ → Type 0) (Was Is WasOne IsOne : ℕ → Type 0) (depth : ℕ → ℕ) → ((i : ℕ) → Was i → Is i) → ((i : ℕ) → Is i → Was i) →
+    ((i : ℕ) → IsOne i → WasOne i) → IsRooted Down Was WasOne depth → IsRooted Down Is IsOne depth
+there_again Down Was Is WasOne IsOne depth still was one tree = record {
   above = λ from to name d. still from (tree.above from to name d);
   lead = λ from to name d. let led = tree.lead from to name d in (still to led.0, led.1);
   named = λ i ne is. tree.named i ne (was i is);
-  parent = tree.parent;
-  name = tree.name;
-  deeper = tree.deeper;
+  parent = λ a b i x y is. tree.parent a b i x y (one i is);
+  name = λ a i x y is. tree.name a i x y (one i is);
+  deeper = λ from to name is. tree.deeper from to name (one to is);
 }
 
 pub moves_by : (files new : Files) (depth deep : ℕ → ℕ) (from to i : ℕ) (old name : List ℕ) → IsTreeBy files depth → IsDirectory files from →
@@ -121,11 +122,12 @@ moves_by files new depth deep from to i old name tree is is_to old_down down mov
           let own : IsDirectoryOf (directory_in new i) i to = moves.itself (ap (λ (k : ℕ). kind_of (file_in files k)) (sym this.0) ∙ was) in
           subst (λ (k : ℕ). IsDirectoryOf (directory_in new to_file) to_file k) (sym this.1)
           (subst (λ (k : ℕ). IsDirectoryOf (directory_in new k) k to) (sym this.0) own))
-          (λ (that : (to_file ≢ i) × StepsDown files at other to_file).
-          moves.directories to_file at that.0 (tree.below at to_file other other_down that.1.1 was))
+          (λ (that : (IsDirectory files to_file → to_file ≢ i) × StepsDown files at other to_file).
+          moves.directories to_file at (that.0 was) (tree.below at to_file other other_down that.1.1 was))
           (old_steps files new depth deep from to i old name tree is old_down moves at to_file other (other_down, step));
-      shape = there_again (StepsDown new) (IsFile files) (IsFile new) deep moves.still moves.was
-          (rooted_moved (StepsDown files) (StepsDown new) (IsFile files) depth deep to name i tree.shape
+      shape = there_again (StepsDown new) (IsFile files) (IsFile new) (IsDirectory files) (IsDirectory new) deep moves.still moves.was
+          (λ j now. sym (moves.kinds j) ∙ now)
+          (rooted_moved (StepsDown files) (StepsDown new) (IsFile files) (IsDirectory files) depth deep to name i tree.shape
           (moves_down files new depth deep from to i old name tree is is_to old_down down moves));
     }
 
@@ -158,7 +160,7 @@ moved_was files new from to i old name is is_to moves j there none =
 
 name_moves : (files new : Files) (depth deep : ℕ → ℕ) (from to i : ℕ) (old name : List ℕ) → IsTreeBy files depth → IsDirectory files from →
     IsDirectory files to → IsDown old → IsDown name → (IsDirectory files i → from ≡ to) → MovesName files new from old to name i →
-    deep to < deep i → ((at below : ℕ) (other : List ℕ) → below ≢ i → StepsDown files at other below → deep at < deep below) →
+    (IsDirectory files i → deep to < deep i) → ((at below : ℕ) (other : List ℕ) → IsDirectory files below → below ≢ i → StepsDown files at other below → deep at < deep below) →
     MovesAt files new from old to name i deep
 name_moves files new depth deep from to i old name tree is is_to old_down down within moves here deeper = record {
   led = moves.led;
@@ -177,39 +179,54 @@ name_moves files new depth deep from to i old name tree is is_to old_down down w
   deeper = deeper;
 }
 
--- a file that is no directory lies below its new one
-file_deeper : (files : Files) (depth : ℕ → ℕ) (to i : ℕ) → IsTreeBy files depth → IsDirectory files to → (IsDirectory files i → ⊥) →
-    (at below : ℕ) (other : List ℕ) → below ≢ i → StepsDown files at other below → depth_with depth to i at < depth_with depth to i below
-file_deeper files depth to i tree is_to plain at below other ne step =
-    let not_from : at ≢ i = λ same. plain (ap (λ (k : ℕ). kind_of (file_in files k)) (sym same) ∙ step.1.0) in
-    let a = depth_other depth to i at not_from in
-    let b = depth_other depth to i below ne in let deep = tree.shape.deeper at below other step in omega arith
+within_here : (files : Files) (depth : ℕ → ℕ) (from to i : ℕ) (old : List ℕ) → IsTreeBy files depth → from ≡ to → IsDirectory files i →
+    StepsDown files from old i → depth to < depth i
+within_here files depth from to i old tree same directory step =
+    let deep = tree.shape.deeper from i old directory step in let e : depth from ≡ depth to = ap depth same in omega arith
 
-file_here : (files : Files) (depth : ℕ → ℕ) (to i : ℕ) → IsDirectory files to → (IsDirectory files i → ⊥) →
-    depth_with depth to i to < depth_with depth to i i
-file_here files depth to i is_to plain =
-    let not_to : to ≢ i = λ same. plain (ap (λ (k : ℕ). kind_of (file_in files k)) (sym same) ∙ is_to) in
-    let a = depth_other depth to i to not_to in let b : depth_with depth to i i ≡ suc (depth to) = depth_there depth to i i refl in omega arith
-
-within_here : (files : Files) (depth : ℕ → ℕ) (from to i : ℕ) (old : List ℕ) → IsTreeBy files depth → from ≡ to → StepsDown files from old i →
-    depth to < depth i
-within_here files depth from to i old tree same step =
-    let deep = tree.shape.deeper from i old step in let e : depth from ≡ depth to = ap depth same in omega arith
+moved_at : (files new : Files) (tree : IsTree files) (from to i : ℕ) (old name : List ℕ) → IsDirectory files from → IsDirectory files to → IsDown old → IsDown name →
+    (IsDirectory files i → from ≡ to) → MovesName files new from old to name i → MovesAt files new from old to name i (depth_in files tree)
+moved_at files new tree from to i old name is is_to old_down down within moves =
+    let depth : ℕ → ℕ = depth_in files tree in
+    let by = tree_makes_steps files tree in
+    name_moves files new depth depth from to i old name by is is_to old_down down within moves
+    (λ directory. within_here files depth from to i old by (within directory) directory (old_down, (is, moves.led)))
+    (λ at below other directory ne step. by.shape.deeper at below other directory step)
 
 pub moving_keeps : MovingKeeps
 moving_keeps files new from to i old name tree is is_to old_down down within moves =
     let depth : ℕ → ℕ = depth_in files tree in
-    let by = tree_makes_steps files tree in
-    ⊎_elim
-    (λ (directory : IsDirectory files i).
     steps_make_tree new depth
-    (moves_by files new depth depth from to i old name by is is_to old_down down
-    (name_moves files new depth depth from to i old name by is is_to old_down down within moves
-    (within_here files depth from to i old by (within directory) (old_down, (is, moves.led)))
-    (λ at below other ne step. by.shape.deeper at below other step))))
-    (λ (plain : IsDirectory files i → ⊥).
-    steps_make_tree new (depth_with depth to i)
-    (moves_by files new depth (depth_with depth to i) from to i old name by is is_to old_down down
-    (name_moves files new depth (depth_with depth to i) from to i old name by is is_to old_down down within moves
-    (file_here files depth to i is_to plain) (file_deeper files depth to i by is_to plain))))
-    (cases_eq (kind_of (file_in files i)) 1)
+    (moves_by files new depth depth from to i old name (tree_makes_steps files tree) is is_to old_down down
+    (moved_at files new tree from to i old name is is_to old_down down within moves))
+
+-- ---- names of the files
+
+-- what had one name has one still
+pub moves_once : (files new : Files) (depth deep : ℕ → ℕ) (from to i : ℕ) (old name : List ℕ) → IsTreeBy files depth → IsDirectory files from →
+    IsDown old → MovesAt files new from old to name i deep → KeepsOnce files new
+moves_once files new depth deep from to i old name tree is old_down moves j once =
+    let steps = old_steps files new depth deep from to i old name tree is old_down moves in
+    ⊎_elim
+    (λ (same : j ≡ i).
+    let that : StepsDown files from old j = subst (λ (k : ℕ). StepsDown files from old k) (sym same) (old_down, (is, moves.led)) in
+    once_by new to j name
+    (λ at other step.
+    ⊎_elim (λ (this : (j ≡ i) × (at ≡ to) × (other ≡ name)). (this.1, this.2))
+    (λ (was : (IsDirectory files j → j ≢ i) × StepsDown files at other j).
+    let at_old : at ≡ from = once.directory at from other old was.1 that in
+    let old_name : other ≡ old = once.name at from other old was.1 that in
+    let led : number_of new from old ≡ Some j = ap (λ (k : ℕ). number_of new k old) (sym at_old) ∙ ap (number_of new at) (sym old_name) ∙ step.1.1 in
+    let both : None ≡ Some j = sym moves.gone ∙ led in absurd (cc both)) (steps at j other step)))
+    (λ (ne : j ≢ i).
+    once_behind files new j once
+    (λ at other step.
+    ⊎_elim (λ (this : (j ≡ i) × (at ≡ to) × (other ≡ name)). absurd (ne this.0))
+    (λ (was : (IsDirectory files j → j ≢ i) × StepsDown files at other j). was.1) (steps at j other step)))
+    (cases_eq j i)
+
+pub moving_keeps_once : MovingKeepsOnce
+moving_keeps_once files new from to i old name tree is is_to old_down down within moves =
+    let depth : ℕ → ℕ = depth_in files tree in
+    moves_once files new depth depth from to i old name (tree_makes_steps files tree) is old_down
+    (moved_at files new tree from to i old name is is_to old_down down within moves)

@@ -4,13 +4,13 @@ use Rattle.std.specs.Str.{bytes_eq}
 use Rattle.std.proofs.lemmas.Bool.{both_ways, cases_Bool, cases_eq}
 use Rattle.std.proofs.lemmas.Slice.Eq.{bytes_eq-Decides}
 use Rattle.model.specs.Files.{Files, file_in}
-use Rattle.names.specs.Trees.{directory_in, parent_name, self_name, IsDirectory, IsDirectoryOf, IsDown, StepsDown}
+use Rattle.names.specs.Trees.{directory_in, parent_name, self_name, IsDirectory, IsDirectoryOf, IsDown, IsOutside, IsTree, StepsDown}
 use Rattle.names.specs.TreeChanges.{MovesDirectory}
-use Rattle.names.specs.TreeLaws.{MovingDirectoryKeeps}
+use Rattle.names.specs.TreeLaws.{MovingDirectoryKeeps, MovingDirectoryKeepsOnce}
 use Rattle.names.proofs.Adding.{directory_same}
 use Rattle.names.proofs.Below.{below_along, below_itself, is_below, not_below}
 use Rattle.names.proofs.Moves.{other_kinds, other_leads}
-use Rattle.names.proofs.Moving.{moved_directory, moved_still, moved_was, moves_by, MovesAt}
+use Rattle.names.proofs.Moving.{moved_directory, moved_still, moved_was, moves_by, moves_once, MovesAt}
 use Rattle.names.proofs.TreeBy.{depth_in, directory_is_file, steps_make_tree, tree_makes_steps, IsTreeBy}
 
 -- the depths, where a file with those below it is put below another
@@ -46,7 +46,7 @@ self_apart e = both_ways (bytes_eq self_name parent_name) refl ((bytes_eq-Decide
 
 directory_moves : (files new : Files) (depth deep : ℕ → ℕ) (from to i : ℕ) (old name : List ℕ) → IsTreeBy files depth → IsDirectory files from →
     IsDirectory files to → IsDirectory files i → IsDown old → IsDown name → MovesDirectory files new from old to name i →
-    deep to < deep i → ((at below : ℕ) (other : List ℕ) → below ≢ i → StepsDown files at other below → deep at < deep below) →
+    deep to < deep i → ((at below : ℕ) (other : List ℕ) → IsDirectory files below → below ≢ i → StepsDown files at other below → deep at < deep below) →
     MovesAt files new from old to name i deep
 directory_moves files new depth deep from to i old name tree is is_to directory old_down down moves here deeper =
     let mid : Files = moves.mid in
@@ -74,21 +74,38 @@ directory_moves files new depth deep from to i old name tree is is_to directory 
           let of : IsDirectoryOf (directory_in mid i) i from =
           mid_directory i from (tree.below from i old old_down (is, moves.moves.led) directory) in
           record { tidy = moves.up.changes.tidy; own = moves.up.changes.others self_name self_apart ∙ of.own; up = moves.up.leads };
-      here = here;
+      here = λ it. here;
       deeper = deeper;
     }
 
+-- at depths where the directory lies below its new parent
+module _ (files new : Files) (tree : IsTree files) (from to i : ℕ) (old name : List ℕ) (is : IsDirectory files from) (is_to : IsDirectory files to)
+    (directory : IsDirectory files i) (old_down : IsDown old) (down : IsDown name) (outside : IsOutside files i to)
+    (moves : MovesDirectory files new from old to name i) where
+  abbrev depth : ℕ → ℕ
+  depth = depth_in files tree
+
+  abbrev deep : ℕ → ℕ
+  deep = depth_moved depth (is_below files tree i) to
+
+  by : IsTreeBy files depth
+  by = tree_makes_steps files tree
+
+  moved_at : MovesAt files new from old to name i deep
+  moved_at =
+      directory_moves files new depth deep from to i old name by is is_to directory old_down down moves
+      (moved_here depth (is_below files tree i) to i (below_itself files tree i directory) (not_below files tree i to is_to outside))
+      (λ at to_file other it ne step.
+      moved_same depth (is_below files tree i) to at to_file (below_along files tree i at to_file other it ne step) (by.shape.deeper at to_file other it step))
+
 pub moving_directory_keeps : MovingDirectoryKeeps
 moving_directory_keeps files new from to i old name tree is is_to directory old_down down outside moves =
-    let depth : ℕ → ℕ = depth_in files tree in
-    let below : ℕ → Bool = is_below files tree i in
-    let by = tree_makes_steps files tree in
-    let deep : ℕ → ℕ = depth_moved depth below to in
-    let there = below_itself files tree i (directory_is_file files i directory) in
-    let out = not_below files tree i to (directory_is_file files to is_to) outside in
+    let deep = deep files new tree from to i old name is is_to directory old_down down outside moves in
     steps_make_tree new deep
-    (moves_by files new depth deep from to i old name by is is_to old_down down
-    (directory_moves files new depth deep from to i old name by is is_to directory old_down down moves
-    (moved_here depth below to i there out)
-    (λ at to_file other ne step.
-    moved_same depth below to at to_file (below_along files tree i at to_file other ne step) (by.shape.deeper at to_file other step))))
+    (moves_by files new (depth_in files tree) deep from to i old name (tree_makes_steps files tree) is is_to old_down down
+    (moved_at files new tree from to i old name is is_to directory old_down down outside moves))
+
+pub moving_directory_keeps_once : MovingDirectoryKeepsOnce
+moving_directory_keeps_once files new from to i old name tree is is_to directory old_down down outside moves =
+    moves_once files new (depth_in files tree) (deep files new tree from to i old name is is_to directory old_down down outside moves) from to i old name
+    (tree_makes_steps files tree) is old_down (moved_at files new tree from to i old name is is_to directory old_down down outside moves)

@@ -138,9 +138,9 @@ root_by files there none =
         above = λ from to name step. absurd (nowhere from to name step);
         lead = λ from to name step. absurd (nowhere from to name step);
         named = λ i ne is. absurd (is (none i ne));
-        parent = λ a b i x y at_a at_b. absurd (nowhere a i x at_a);
-        name = λ a i x y at_x at_y. absurd (nowhere a i x at_x);
-        deeper = λ from to name step. absurd (nowhere from to name step);
+        parent = λ a b i x y is at_a at_b. absurd (nowhere a i x at_a);
+        name = λ a i x y is at_x at_y. absurd (nowhere a i x at_x);
+        deeper = λ from to name is step. absurd (nowhere from to name step);
       };
     }
 

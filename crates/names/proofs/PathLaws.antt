@@ -7,10 +7,10 @@ use Rattle.model.specs.Files.{Files, file_in}
 use Rattle.names.specs.declared.refusal.Refusal.{Refusal}
 use Rattle.names.specs.declared.refusal.Refusal.TheVariants.{NotADirectory}
 use Rattle.names.specs.Trees.{kind_of, number_of, parent_name, self_name, IsDown, IsFile, IsPath, IsTree, Steps}
-use Rattle.names.specs.PathLaws.{AreDown, FilesAreReached, NamesAreOne, NamesLead}
+use Rattle.names.specs.PathLaws.{AreDown, DirectoriesAreNamedOnce, FilesAreReached, NamesAreOne, NamesLead}
 use Rattle.names.specs.Walks.{and_on, found_or, stepped, walked}
 use Rattle.names.proofs.Adding.{same_name}
-use Rattle.names.proofs.TreeBy.{depth_in, directory_is_file, tree_makes_steps}
+use Rattle.names.proofs.TreeBy.{depth_in, directory_is_file, directory_named_once, named_once_one_path, tree_makes_steps}
 use Rattle.names.proofs.TreeMeaning.{directory_by}
 
 -- ---- steps
@@ -126,7 +126,11 @@ files_are_reached files i tree there =
     let path = tree.reach i there in (reverse path.0, path_down files 1 path.0 i path.1, path_walked files 1 path.0 i path.1)
 
 pub names_are_one : NamesAreOne
-names_are_one files a b i tree a_down b_down to_a to_b =
+names_are_one files a b i tree once a_down b_down to_a to_b =
     sym (reverse-reverse a)
-    ∙ ap (λ (l : List (List ℕ)). reverse l) (tree.one (reverse a) (reverse b) i (walked_path files 1 a i a_down to_a) (walked_path files 1 b i b_down to_b))
+    ∙ ap (λ (l : List (List ℕ)). reverse l)
+    (named_once_one_path files tree (reverse a) (reverse b) i once (walked_path files 1 a i a_down to_a) (walked_path files 1 b i b_down to_b))
     ∙ reverse-reverse b
+
+pub directories_are_named_once : DirectoriesAreNamedOnce
+directories_are_named_once files i tree is = directory_named_once files tree i is

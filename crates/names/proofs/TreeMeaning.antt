@@ -5,7 +5,7 @@ use Rattle.std.proofs.lemmas.Bool.{cases_eq, and_from, not_from_false, false_fro
 use Rattle.std.proofs.lemmas.Slice.Eq.{bytes_eq-Decides}
 use Rattle.model.specs.Files.{Files}
 use Rattle.names.specs.Entries.{entries_of, entry_at, name_in, is_free, is_for, HasOnce, IsFor}
-use Rattle.names.specs.Trees.{directory_in, number_of, parent_name, IsDirectory, IsDirectoryOf, IsFile, IsTree, Steps, StepsDown}
+use Rattle.names.specs.Trees.{directory_in, number_of, parent_name, IsDirectory, IsDirectoryOf, IsFile, IsNamedOnce, IsTree, Steps, StepsDown}
 use Rattle.names.specs.TreeChanges.{LeadsTo}
 use Rattle.names.specs.TreeMeaning.{name_at, number_at, DirectoriesAreTidy, EntriesLead, IsUsed, NoHalfIsTree, NumbersStandOnce, StepsLead}
 use Rattle.names.proofs.Standing.{StandsAt, lookup_at}
@@ -13,7 +13,7 @@ use Rattle.names.proofs.Adding.{step_same}
 use Rattle.names.proofs.Dropping.{apart_below}
 use Rattle.names.proofs.Moves.{other_kinds, other_leads}
 use Rattle.names.proofs.Moving.{same_entry, IsOther}
-use Rattle.names.proofs.TreeBy.{depth_in, directory_is_file, tree_makes_steps, IsTreeBy}
+use Rattle.names.proofs.TreeBy.{depth_in, directory_is_file, directory_named_once, not_named_once, tree_makes_steps, IsTreeBy}
 use Rattle.names.proofs.Unnamed.{apart_from}
 
 -- ---- directories
@@ -68,16 +68,16 @@ same_place files from j k tree at_j at_k same =
     (at_k.inside, for_itself (entry_at bytes k) at_k.used)
 
 pub numbers_stand_once : NumbersStandOnce
-numbers_stand_once files from j other k tree at_j down_j at_k down_k same =
+numbers_stand_once files from j other k tree at_j down_j at_k down_k same is =
     let by = tree_makes_steps files tree in
     let i : ℕ = number_at files other k in
     let here : StepsDown files from (name_at files from j) i =
     (down_j, (at_j.directory, entries_lead files from j tree at_j ∙ ap (λ (n : ℕ). Some n) same)) in
     let there : StepsDown files other (name_at files other k) i = (down_k, (at_k.directory, entries_lead files other k tree at_k)) in
-    let parents : from ≡ other = by.shape.parent from other i (name_at files from j) (name_at files other k) here there in
+    let parents : from ≡ other = by.shape.parent from other i (name_at files from j) (name_at files other k) is here there in
     let at_other : IsUsed files other j = subst (λ (d : ℕ). IsUsed files d j) parents at_j in
     let names : name_at files from j ≡ name_at files other k =
-    by.shape.name other i (name_at files from j) (name_at files other k)
+    by.shape.name other i (name_at files from j) (name_at files other k) is
     (subst (λ (d : ℕ). StepsDown files d (name_at files from j) i) parents here) there in
     (parents, same_place files other j k tree at_other at_k (ap (λ (d : ℕ). name_at files d j) (sym parents) ∙ names))
 
@@ -95,12 +95,10 @@ step_behind files half from name o is led at to other apart step =
     (step.0, (other_kinds files half from name o is led at ∙ step.1.0, other_leads files half from name o led at other apart ∙ step.1.1))
 
 -- the one step to a file is not another
-no_other_step : (files : Files) (depth : ℕ → ℕ) (from at i : ℕ) (name other : List ℕ) → IsTreeBy files depth → StepsDown files from name i →
+no_other_step : (files : Files) (from at i : ℕ) (name other : List ℕ) → IsNamedOnce files i → StepsDown files from name i →
     StepsDown files at other i → IsOther at other from name → ⊥
-no_other_step files depth from at i name other tree here there apart =
-    let parents : at ≡ from = tree.shape.parent at from i other name there here in
-    let names : other ≡ name = tree.shape.name from i other name (subst (λ (k : ℕ). StepsDown files k other i) parents there) here in
-    ⊎_elim (λ (differ : at ≢ from). differ parents) (λ (differ : other ≢ name). differ names) apart
+no_other_step files from at i name other once here there apart =
+    not_named_once files from i name here (record { other = at; second = other; apart = apart; leads = there }) once
 
 -- where a name leads nowhere, another name leads to a file
 not_nowhere : (files : Files) (from at to : ℕ) (name other : List ℕ) → number_of files from name ≡ None → StepsDown files at other to →
@@ -125,24 +123,25 @@ no_half_is_tree files half tree =
           let apart : named.0 ≢ i = λ same. apart_below half (depth_in half half_tree) named.0 i named.1 half_by named.2 (sym same) in
           let old : Steps files named.0 named.1 i = step_same half files named.0 i named.1 (sym (unnamed.rest named.0 apart)) named.2.1 in
           (by.shape.lead named.0 i named.1 (named.2.0, old)).0 unnamed.free;
-      freed = λ from i name down step led half_tree.
+      freed = λ from i name down step once led half_tree.
           let half_by = tree_makes_steps half half_tree in
           let here = by.shape.lead from i name (down, step) in
           let apart = apart_below files depth from i name by (down, step) in
           let named = half_by.shape.named i here.1 (λ none. here.0 (sym (led.rest i apart) ∙ none)) in
           let differ = not_nowhere half from named.0 i name named.1 led.leads named.2 in
-          no_other_step files depth from named.0 i name named.1 by (down, step)
+          no_other_step files from named.0 i name named.1 once (down, step)
           (step_before files half from name None step.0 led named.0 i named.1 differ named.2) differ;
       removed = λ from i name down step gone rest half_tree.
           let apart = apart_below files depth from i name by (down, step) in
           let now : Steps half from name i = step_same files half from i name (rest from (λ same. apart (sym same))) step in
           ((tree_makes_steps half half_tree).shape.lead from i name (down, now)).0 gone;
-      linked = λ from i name down is there absent led half_tree.
+      linked = λ from i name down is directory absent led half_tree.
           let half_by = tree_makes_steps half half_tree in
           let here : StepsDown half from name i = (down, (led.changes.directory, led.leads)) in
-          let named = by.shape.named i (half_by.shape.lead from i name here).1 there in
+          let named = by.shape.named i (half_by.shape.lead from i name here).1 (directory_is_file files i directory) in
+          let still : IsDirectory half i = other_kinds files half from name (Some i) is led i ∙ directory in
           let differ = not_nowhere files from named.0 i name named.1 absent named.2 in
-          no_other_step half (depth_in half half_tree) from named.0 i name named.1 half_by here
+          no_other_step half from named.0 i name named.1 (directory_named_once half half_tree i still) here
           (step_behind files half from name (Some i) is led named.0 i named.1 differ named.2) differ;
       moved = λ from to i old name old_down down is is_to directory differ moves half_tree.
           let half_by = tree_makes_steps half half_tree in

@@ -73,11 +73,11 @@ makes_directory_whole form files made filled new from i name write reply tree is
     (linked_new form files filled new from i name (directory_file i from) write reply tree is unnamed links below h)
 
 pub removes_file_whole : RemovesFileWhole
-removes_file_whole form files freed new from i name write first second tree is down led empty unlinks freeing removing =
+removes_file_whole form files freed new from i name write first second tree is down led once empty unlinks freeing removing =
     let lead = steps_lead files from i name tree down (is, led) in
     let nowhere = unlink_leads_nowhere form files freed from name write first is (tidy_in files from tree is) unlinks freeing in
     let drops = remove_drops form files freed new from i name second lead.0 lead.2 led nowhere.1 removing in
-    (nowhere.0, drops.0, drops.1, dropping_keeps files new from i name tree is down empty drops.1)
+    (nowhere.0, drops.0, drops.1, dropping_keeps files new from i name tree is down once empty drops.1)
 
 pub renames_file_whole : RenamesFileWhole
 renames_file_whole form files freed new from i old name unlink link first second tree is old_down down led absent unlinks freeing links h =

@@ -9,10 +9,12 @@ use Rattle.model.specs.Files.{Files, file_in}
 use Rattle.model.specs.Operations.{after}
 use Rattle.names.specs.declared.entries.EntryWrite.{EntryWrite}
 use Rattle.names.specs.Entries.{entries_of, entry_bytes, lookup, number_in, padded}
-use Rattle.names.specs.Trees.{directory_in, new_directory, parent_name, self_name, IsDown, IsTree}
+use Rattle.names.specs.Trees.{directory_in, new_directory, parent_name, self_name, IsDown, IsNamedOnce, IsTree, StepsDown}
 use Rattle.names.specs.TreeChanges.{directory_file, empty_file, AddsName, DropsName}
 use Rattle.names.specs.Writes.{Links, Unlinks}
+use Rattle.names.proofs.Adding.{adding_keeps_once}
 use Rattle.names.proofs.NewDirectory.{root_is_tree}
+use Rattle.names.proofs.TreeMeaning.{steps_lead}
 use Rattle.names.proofs.WholeChanges.{makes_file_whole, removes_file_whole}
 
 -- the root alone
@@ -84,9 +86,18 @@ leads : lookup (directory_in named 1) name ≡ Some 2
 unfolding entries_of number_in lookup
 leads = refl
 
+-- which has one name
+none_named : IsNamedOnce files 2
+none_named =
+    let none : (from : ℕ) (x : List ℕ) → StepsDown files from x 2 → ⊥ = λ from x step. (steps_lead files from 2 x root_alone step.0 step.1).0 refl in
+    record { directory = λ a b x y at_a at_b. absurd (none a x at_a); name = λ a b x y at_a at_b. absurd (none a x at_a) }
+
+once : IsNamedOnce named 2
+once = adding_keeps_once files named 1 2 name (empty_file 2) root_alone refl down (λ e. absurd (omega arith)) adds.0 2 none_named
+
 -- and removed
 pub drops : DropsName named emptied 1 name 2 × IsTree emptied
 unfolding after
 drops =
-    let whole = removes_file_whole One named freed emptied 1 2 name unlink (Wrote 16) Done adds.1 refl down leads (λ directory. absurd (omega arith)) unlinks refl refl in
+    let whole = removes_file_whole One named freed emptied 1 2 name unlink (Wrote 16) Done adds.1 refl down leads once (λ directory. absurd (omega arith)) unlinks refl refl in
     (whole.2, whole.3)

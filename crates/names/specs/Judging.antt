@@ -1,5 +1,5 @@
 -- What is seen of files without a kernel, and when it tells that they are a tree.
-use Rattle.std.specs.Prelude.{◌≡◌, ◌⊎◌, ℕ, Bool, true, false, List, length, Result, MatchResult}
+use Rattle.std.specs.Prelude.{◌≡◌, ℕ, Bool, true, false, List, length, Result, MatchResult}
 use Rattle.blocks.specs.Disk.{Rose}
 use Rattle.model.specs.Files.{Files}
 use Rattle.model.specs.declared.types.fault.CheckFault.{CheckFault}
@@ -33,22 +33,28 @@ IsSeen files number (Directory bytes) =
     IsDirectory files number × (bytes.items ≡ directory_in files number)
 
 -- Whether what is seen may be so in a tree, and what is found by it.
-abbrev pub TakesIn : Seen → ℕ → ℕ → List ℕ → List ℕ → List ℕ → List ℕ → Bool → Type 0
-TakesIn Nothing number parent numbers parents new_numbers new_parents may = may ≡ false
-TakesIn Plain number parent numbers parents new_numbers new_parents may =
-    (may ≡ true) × (new_numbers ≡ numbers) × (new_parents ≡ parents)
-TakesIn (Directory bytes) number parent numbers parents new_numbers new_parents true =
-    IsDirectoryOf bytes.items number parent
-    × AddsChildren (entries_of bytes.items) number numbers parents new_numbers new_parents true
-TakesIn (Directory bytes) number parent numbers parents new_numbers new_parents false =
-    (IsDirectoryOf bytes.items number parent → ⊥)
-    ⊎ AddsChildren (entries_of bytes.items) number numbers parents new_numbers new_parents false
+abbrev pub TakesIn : Seen → ℕ → ℕ → List ℕ → List ℕ → List ℕ → List ℕ → List ℕ → List ℕ → Bool
+    → Type 0
+TakesIn Nothing number parent numbers parents again new_numbers new_parents new_again may =
+    may ≡ false
+TakesIn Plain number parent numbers parents again new_numbers new_parents new_again may =
+    (may ≡ true) × (new_numbers ≡ numbers) × (new_parents ≡ parents) × (new_again ≡ again)
+TakesIn (Directory bytes) number parent numbers parents again new_numbers new_parents new_again
+    true = IsDirectoryOf bytes.items number parent
+    × AddsChildren (entries_of bytes.items) number numbers parents again
+    new_numbers new_parents new_again
+TakesIn (Directory bytes) number parent numbers parents again new_numbers new_parents new_again
+    false = IsDirectoryOf bytes.items number parent → ⊥
 
 -- all that was found from the root on was looked into, or something is not as in a tree
-abbrev pub HasLookedThrough : Files → List ℕ → Bool → Type 0
-HasLookedThrough files numbers true =
-    (parents : List ℕ) × HasFound files (length numbers) numbers parents
-HasLookedThrough files numbers false = IsTree files → ⊥
+abbrev pub HasLookedThrough : Files → List ℕ → List ℕ → Bool → Type 0
+HasLookedThrough files numbers again true =
+    (parents : List ℕ) × HasFound files (length numbers) numbers parents again
+HasLookedThrough files numbers again false = IsTree files → ⊥
+
+-- none of these numbers is that of a directory
+abbrev pub ArePlain : Files → List ℕ → Type 0
+ArePlain files numbers = (i : ℕ) → IsAmong numbers i → IsDirectory files i → ⊥
 
 -- each file is among those of these numbers
 abbrev pub AreAmong : Files → List ℕ → Type 0

@@ -5,6 +5,7 @@ pub mod Inside
 pub mod Ready
 pub mod Walks
 pub mod Making
+pub mod OtherNames
 pub mod Removing
 pub mod Undirecting
 pub mod Renaming

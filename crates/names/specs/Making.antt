@@ -11,7 +11,7 @@ use Rattle.names.specs.declared.entries.EntryWrite.{EntryWrite}
 use Rattle.names.specs.declared.entries.LinkFault.{LinkFault}
 use Rattle.names.specs.declared.entries.LinkFault.TheVariants as link_fault
 use Rattle.names.specs.declared.refusal.Refusal.{Refusal}
-use Rattle.names.specs.declared.refusal.Refusal.TheVariants.{NotFound, NotADirectory, IsRoot, Exists, Full, NoNumber, NoBlock, IsADirectory, NotEmpty, IsInside, NotDown}
+use Rattle.names.specs.declared.refusal.Refusal.TheVariants.{NotFound, NotADirectory, IsRoot, Exists, Full, NoNumber, NoBlock, IsADirectory, NotEmpty, IsInside, NotDown, LinkedTwice}
 use Rattle.names.specs.Entries.{entry_size}
 use Rattle.names.specs.Inside.{Answers}
 use Rattle.names.specs.Ready.{is_filled}
@@ -81,6 +81,7 @@ IsUnmadeIn files from name IsADirectory = ⊥
 IsUnmadeIn files from name NotEmpty = ⊥
 IsUnmadeIn files from name IsInside = ⊥
 IsUnmadeIn files from name NotDown = ⊥
+IsUnmadeIn files from name LinkedTwice = ⊥
 
 -- an empty file was made under the last of these names, in the directory that the others lead to
 abbrev pub MakesAt : List (List ℕ) → ℕ → Files → Files → Type 0

@@ -1,7 +1,7 @@
 -- Where paths lead in a tree.
 use Rattle.std.specs.Prelude.{◌≡◌, ℕ, List, [], ◌∷◌, Ok}
 use Rattle.model.specs.Files.{Files}
-use Rattle.names.specs.Trees.{root, IsDown, IsFile, IsTree}
+use Rattle.names.specs.Trees.{root, IsDirectory, IsDown, IsFile, IsNamedOnce, IsTree}
 use Rattle.names.specs.Walks.{walked}
 
 -- each of these names leads down
@@ -19,8 +19,13 @@ abbrev pub FilesAreReached : Type 0
 FilesAreReached = (files : Files) (number : ℕ) → IsTree files → IsFile files number
     → (names : List (List ℕ)) × AreDown names × (walked files root names ≡ Ok number)
 
--- by one list of names that lead down.
+-- where it has one name by one list of names that lead down,
 abbrev pub NamesAreOne : Type 0
 NamesAreOne = (files : Files) (a b : List (List ℕ)) (number : ℕ) → IsTree files
-    → AreDown a → AreDown b
+    → IsNamedOnce files number → AreDown a → AreDown b
     → walked files root a ≡ Ok number → walked files root b ≡ Ok number → a ≡ b
+
+-- as each directory has.
+abbrev pub DirectoriesAreNamedOnce : Type 0
+DirectoriesAreNamedOnce = (files : Files) (number : ℕ) → IsTree files → IsDirectory files number
+    → IsNamedOnce files number

@@ -2,22 +2,24 @@
 use Rattle.std.specs.Prelude.{◌≡◌, ℕ, List, Some, None}
 use Rattle.model.specs.Files.{Files}
 use Rattle.names.specs.declared.refusal.Refusal.{Refusal}
-use Rattle.names.specs.declared.refusal.Refusal.TheVariants.{NotFound, NotADirectory, IsRoot, Exists, Full, NoNumber, NoBlock, IsADirectory, NotEmpty, IsInside, NotDown}
+use Rattle.names.specs.declared.refusal.Refusal.TheVariants.{NotFound, NotADirectory, IsRoot, Exists, Full, NoNumber, NoBlock, IsADirectory, NotEmpty, IsInside, NotDown, LinkedTwice}
 use Rattle.names.specs.TreeChanges.{DropsName}
-use Rattle.names.specs.Trees.{directory_in, number_of, IsDirectory, IsDown, IsEmpty}
+use Rattle.names.specs.Trees.{directory_in, number_of, HasOtherName, IsDirectory, IsDown, IsEmpty, IsNamedOnce}
 use Rattle.names.specs.Walks.{AtLast}
 
--- a name of a directory is gone, and its file
+-- a name of a directory is gone, and its file, which had no other name
 abbrev pub RemovesIn : ℕ → List ℕ → Unit {0} → Files → Files → Type 0
-RemovesIn from name done files new = (number : ℕ) × DropsName files new from name number
+RemovesIn from name done files new =
+    (number : ℕ) × DropsName files new from name number × IsNamedOnce files number
 
--- In a directory of these bytes a name that leads down leads to that file; a directory has nothing
--- in it.
+-- In a directory of these bytes a name that leads down leads to that file, and no other name does; a
+-- directory has nothing in it.
 pub record MayDrop (files : Files) (from : ℕ) (bytes name : List ℕ) (number : ℕ) : Type 0 where
   pub is : IsDirectory files from
   pub bytes_are : bytes ≡ directory_in files from
   pub down : IsDown name
   pub led : number_of files from name ≡ Some number
+  pub once : IsNamedOnce files number
   pub empty : IsDirectory files number → IsEmpty (directory_in files number)
 
 -- why none is
@@ -27,6 +29,9 @@ IsUnremovedIn files from name NotFound =
     IsDirectory files from × (number_of files from name ≡ None)
 IsUnremovedIn files from name IsADirectory = IsDirectory files from
     × ((number : ℕ) × (number_of files from name ≡ Some number) × IsDirectory files number)
+IsUnremovedIn files from name LinkedTwice = IsDirectory files from
+    × ((number : ℕ) × (number_of files from name ≡ Some number)
+    × HasOtherName files from name number)
 IsUnremovedIn files from name IsRoot = ⊥
 IsUnremovedIn files from name Exists = ⊥
 IsUnremovedIn files from name Full = ⊥

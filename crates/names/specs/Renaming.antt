@@ -7,7 +7,7 @@ use Rattle.names.specs.declared.entries.EntryWrite.{EntryWrite}
 use Rattle.names.specs.declared.entries.LinkFault.TheVariants as link_fault
 use Rattle.names.specs.Entries.{most_entries}
 use Rattle.names.specs.declared.refusal.Refusal.{Refusal}
-use Rattle.names.specs.declared.refusal.Refusal.TheVariants.{NotFound, NotADirectory, IsRoot, Exists, Full, NoNumber, NoBlock, IsADirectory, NotEmpty, IsInside, NotDown}
+use Rattle.names.specs.declared.refusal.Refusal.TheVariants.{NotFound, NotADirectory, IsRoot, Exists, Full, NoNumber, NoBlock, IsADirectory, NotEmpty, IsInside, NotDown, LinkedTwice}
 use Rattle.names.specs.declared.planning.Plan.{Plan}
 use Rattle.names.specs.declared.refusal.TreeFault.{TreeFault}
 use Rattle.names.specs.declared.refusal.TreeFault.TheVariants.{Path, Refused, Call, NoSpace, NoCall}
@@ -80,6 +80,7 @@ IsUnrenamed files from old to name IsRoot = ⊥
 IsUnrenamed files from old to name NoNumber = ⊥
 IsUnrenamed files from old to name IsADirectory = ⊥
 IsUnrenamed files from old to name NotEmpty = ⊥
+IsUnrenamed files from old to name LinkedTwice = ⊥
 
 -- they are found, or the move is refused
 abbrev pub IsPlanned : Files → ℕ → List ℕ → ℕ → List ℕ → Result Plan Refusal → Type 0

@@ -3,7 +3,7 @@ use Rattle.std.specs.Prelude.{◌≡◌, ◌≢◌, ℕ, ◌<◌, false, List, l
 use Rattle.model.specs.declared.types.image.File.{File}
 use Rattle.model.specs.Files.{Files, file_in}
 use Rattle.names.specs.Entries.{entries_of, entry_at, is_free, name_in, number_in}
-use Rattle.names.specs.Trees.{directory_in, number_of, parent_name, root, IsDirectory, IsDirectoryOf, IsDown, IsFile, IsOutside, IsTidy, IsTree, Steps}
+use Rattle.names.specs.Trees.{directory_in, number_of, parent_name, root, IsDirectory, IsDirectoryOf, IsDown, IsFile, IsNamedOnce, IsOutside, IsTidy, IsTree, Steps}
 use Rattle.names.specs.TreeChanges.{IsUnnamed, LeadsTo, MovesName}
 
 -- Each directory of a tree has its own two entries.
@@ -49,26 +49,27 @@ abbrev pub EntriesLead : Type 0
 EntriesLead = (files : Files) (from place : ℕ) → IsTree files → IsUsed files from place
     → number_of files from (name_at files from place) ≡ Some (number_at files from place)
 
--- No number stands in two entries of a tree, but in those for itself and for its parent.
+-- No directory's number stands in two entries of a tree, but in those for itself and for its parent.
 abbrev pub NumbersStandOnce : Type 0
 NumbersStandOnce = (files : Files) (from place other behind : ℕ) → IsTree files
     → IsUsed files from place → IsDown (name_at files from place)
     → IsUsed files other behind → IsDown (name_at files other behind)
     → number_at files from place ≡ number_at files other behind
+    → IsDirectory files (number_at files other behind)
     → (from ≡ other) × (place ≡ behind)
 
--- A file that was made and not linked leaves no tree, nor does a name unlinked whose file is there, a
--- file removed whose name is there, a second name for a file, or a directory moved to another that
--- has the first one yet as its parent.
+-- A file that was made and not linked leaves no tree, nor does the only name of a file unlinked whose
+-- file is there, a file removed whose name is there, a second name for a directory, or a directory
+-- moved to another that has the first one yet as its parent.
 pub record HalvesAreNoTree (files half : Files) : Type 0 where
   pub made : (number : ℕ) (file : File) → IsUnnamed files half number file → IsTree half → ⊥
   pub freed : (from number : ℕ) (name : List ℕ) → IsDown name → Steps files from name number
-      → LeadsTo files half from name None → IsTree half → ⊥
+      → IsNamedOnce files number → LeadsTo files half from name None → IsTree half → ⊥
   pub removed : (from number : ℕ) (name : List ℕ) → IsDown name → Steps files from name number
       → file_in half number ≡ None
       → ((i : ℕ) → i ≢ number → file_in half i ≡ file_in files i) → IsTree half → ⊥
   pub linked : (from number : ℕ) (name : List ℕ) → IsDown name → IsDirectory files from
-      → IsFile files number → number_of files from name ≡ None
+      → IsDirectory files number → number_of files from name ≡ None
       → LeadsTo files half from name (Some number) → IsTree half → ⊥
   pub moved : (from to number : ℕ) (old name : List ℕ) → IsDown old → IsDown name
       → IsDirectory files from → IsDirectory files to → IsDirectory files number → from ≢ to

@@ -1,5 +1,5 @@
 -- Directories within directories, as names: where they lead, and when they are a tree.
-use Rattle.std.specs.Prelude.{◌≡◌, ◌≢◌, Bool, ◌||◌, not, ℕ, ◌%◌, ◌≤◌, List, [], ◌∷◌, ◌++◌, length, Option, Some, None}
+use Rattle.std.specs.Prelude.{◌≡◌, ◌≢◌, ◌⊎◌, Bool, ◌||◌, not, ℕ, ◌%◌, ◌≤◌, List, [], ◌∷◌, ◌++◌, length, Option, Some, None}
 use Rattle.std.specs.Str.{bytes_eq}
 use Rattle.model.specs.declared.types.image.File.{File}
 use Rattle.model.specs.Files.{Files, file_in}
@@ -64,6 +64,20 @@ IsPath files from [] number = from ≡ number
 IsPath files from (name ∷ names) number =
     (up : ℕ) × IsDown name × IsPath files from names up × Steps files up name number
 
+-- At most one name of all directories leads down to a number.
+pub record IsNamedOnce (files : Files) (number : ℕ) : Type 0 where
+  pub directory : (from other : ℕ) (x y : List ℕ) → StepsDown files from x number
+      → StepsDown files other y number → from ≡ other
+  pub name : (from other : ℕ) (x y : List ℕ) → StepsDown files from x number
+      → StepsDown files other y number → x ≡ y
+
+-- A name of a directory is not the only one that leads down to a number.
+pub record HasOtherName (files : Files) (from : ℕ) (name : List ℕ) (number : ℕ) : Type 0 where
+  pub other : ℕ
+  pub second : List ℕ
+  pub apart : (other ≢ from) ⊎ (second ≢ name)
+  pub leads : StepsDown files other second number
+
 -- no file is moved into itself: no path leads from it to the other
 abbrev pub IsOutside : Files → ℕ → ℕ → Type 0
 IsOutside files number other = (names : List (List ℕ)) → IsPath files number names other → ⊥
@@ -101,8 +115,9 @@ new_directory number parent = entry_bytes number self_name ++ entry_bytes parent
 
 -- ---- the tree
 
--- Each path leads to a file, and each file has one path from the root: so each but the root has one
--- parent and one name there, none is out of reach, and there is no cycle. The root is its own parent.
+-- Each path leads to a file, each file has a path from the root, and each directory one: so each
+-- directory but the root has one parent and one name there, none is out of reach, and there is no
+-- cycle. The root is its own parent. A file that is no directory may have several names.
 pub record IsTree (files : Files) : Type 0 where
   pub rooted : IsDirectory files root
   pub top : IsDirectoryOf (directory_in files root) root root
@@ -112,5 +127,5 @@ pub record IsTree (files : Files) : Type 0 where
       → IsFile files number
   pub reach : (number : ℕ) → IsFile files number
       → (names : List (List ℕ)) × IsPath files root names number
-  pub one : (a b : List (List ℕ)) (number : ℕ) → IsPath files root a number
-      → IsPath files root b number → a ≡ b
+  pub one : (a b : List (List ℕ)) (number : ℕ) → IsDirectory files number
+      → IsPath files root a number → IsPath files root b number → a ≡ b

@@ -8,7 +8,7 @@ use Rattle.model.specs.Files.{Files, file_in}
 use Rattle.model.specs.Operations.{after}
 use Rattle.names.specs.declared.entries.EntryWrite.{EntryWrite}
 use Rattle.names.specs.Entries.{entry_size, most_entries}
-use Rattle.names.specs.Trees.{directory_in, directory_kind, new_directory, number_of, parent_name, root, IsDirectory, IsDown, IsEmpty, IsOutside, IsTree}
+use Rattle.names.specs.Trees.{directory_in, directory_kind, new_directory, number_of, parent_name, root, IsDirectory, IsDown, IsEmpty, IsNamedOnce, IsOutside, IsTree}
 use Rattle.names.specs.TreeChanges.{empty_file, AddsDirectory, AddsName, DropsName, MovesDirectory, MovesName}
 use Rattle.names.specs.Writes.{operation_of, Links, Repoints, Unlinks}
 
@@ -37,12 +37,12 @@ MakesDirectoryWhole = (form : Form) (files made filled new : Files) (from number
     → ((reply ≡ Wrote entry_size) × AddsDirectory files new from name number × IsTree new)
     ⊎ ((reply ≡ Wrote 0) × (new ≡ filled))
 
--- A name is unlinked and then its file removed, neither of which is refused.
+-- A file's only name is unlinked and then the file removed, neither of which is refused.
 abbrev pub RemovesFileWhole : Type 0
 RemovesFileWhole = (form : Form) (files freed new : Files) (from number : ℕ) (name : List ℕ)
     (write : EntryWrite) (first second : Reply)
     → IsTree files → IsDirectory files from → IsDown name
-    → number_of files from name ≡ Some number
+    → number_of files from name ≡ Some number → IsNamedOnce files number
     → (IsDirectory files number → IsEmpty (directory_in files number))
     → Unlinks (directory_in files from) name write
     → after form files (operation_of from write) first ≡ Some freed

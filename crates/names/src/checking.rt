@@ -1,6 +1,6 @@
 // Whether the bytes of directories are as those of a tree.
-ghost use Rattle.std.specs.Prelude.{◌≡◌, ◌↔◌, ◌%◌, ◌≤◌, length, position, Contains, EachIndex, IfOk, IsTrue};
-ghost use Rattle.names.specs.Checks.{AddsChildren, AreApart, IsFirst};
+ghost use Rattle.std.specs.Prelude.{◌≡◌, ◌↔◌, ◌%◌, ◌≤◌, length, position, Contains, EachIndex, IsTrue, OnOk};
+ghost use Rattle.names.specs.Checks.{AddsChild, AddsChildren, AreApart, IsFirst};
 ghost use Rattle.names.specs.Entries.{directory_size, entries_of, entry_size, is_for, name_in};
 ghost use Rattle.names.specs.Trees.{IsDirectoryOf, IsTidy};
 
@@ -60,7 +60,7 @@ fn is_named(entry: &[u8; ENTRY_SIZE], named: &[u8; ENTRY_SIZE]) -> bool
 }
 
 /// Adds the numbers that a directory's entries lead down to behind those found before, with the
-/// directory as their parent. Whether each is new; else some of them may have been added.
+/// directory as their parent. One that was found before is added to those found again.
 ///
 /// # Errors
 ///
@@ -70,22 +70,40 @@ pub fn add_children(
     from: u16,
     numbers: &mut Vec<u16>,
     parents: &mut Vec<u16>,
-) -> Result<bool, NoMemory>
+    again: &mut Vec<u16>,
+) -> Result<(), NoMemory>
     requires { AreApart numbers.old.items }
-    ensures { IfOk result (AddsChildren entries.now from
-        numbers.old.items parents.old.items numbers.new.items parents.new.items) }
+    ensures { OnOk result (AddsChildren entries.now from
+        numbers.old.items parents.old.items again.old.items
+        numbers.new.items parents.new.items again.new.items) }
 {
     for entry in entries {
         if leads_down(entry) {
-            let number = number_in(entry);
-            if is_among(numbers, number) {
-                return Ok(false);
-            }
-            numbers.push(number)?;
-            parents.push(from)?;
+            add_child(number_in(entry), from, numbers, parents, again)?;
         }
     }
-    Ok(true)
+    Ok(())
+}
+
+// Adds a number behind those found before, or to those found again.
+fn add_child(
+    number: u16,
+    from: u16,
+    numbers: &mut Vec<u16>,
+    parents: &mut Vec<u16>,
+    again: &mut Vec<u16>,
+) -> Result<(), NoMemory>
+    ensures { OnOk result (AddsChild number from
+        numbers.old.items parents.old.items again.old.items
+        numbers.new.items parents.new.items again.new.items) }
+{
+    if is_among(numbers, number) {
+        again.push(number)?;
+    } else {
+        numbers.push(number)?;
+        parents.push(from)?;
+    }
+    Ok(())
 }
 
 // Whether a number is one of those.

@@ -6,7 +6,7 @@ ghost use Rattle.model.specs.Log.{recovered};
 ghost use Rattle.model.specs.Verdict.{verdict};
 ghost use Rattle.offline.specs.Checked.{IsCheckedOf};
 ghost use Rattle.names.specs.Checks.{AreApart, IsAmong};
-ghost use Rattle.names.specs.Judging.{AreAmong, HasLookedThrough, IsSeen, KeepsCount, TakesIn};
+ghost use Rattle.names.specs.Judging.{AreAmong, ArePlain, HasLookedThrough, IsSeen, KeepsCount, TakesIn};
 ghost use Rattle.names.specs.Trees.{IsTree, kind_of};
 
 use crate::checking::{add_children, is_among, is_directory_of};
@@ -40,13 +40,13 @@ pub(crate) enum Seen {
 
 /// Whether the files of a disk whose image was checked, as recovery would leave them, are a tree:
 /// directories within directories from file 1 on, as xv6 lays them out (the xv6 book, the chapter "File
-/// system": "Directory layer"). It writes no block.
+/// system": "Directory layer"). A file that is no directory may have several names. It writes no block.
 ///
 /// # Errors
 ///
 /// - `Disk`: a read failed.
-/// - `NoMemory`: memory was refused, which is needed for a block, a directory, and two numbers for each
-///   file.
+/// - `NoMemory`: memory was refused, which is needed for a block, a directory, two numbers for each
+///   file, and one for each further name of a file.
 pub fn is_tree<D: Disk>(alloc: Global, disk: &mut D) -> Result<bool, JudgeFault>
     requires { verdict (D.image disk.old) ≡ None }
     ensures told { IfOk result (λ is. IsTrue is
@@ -60,7 +60,7 @@ pub fn is_tree<D: Disk>(alloc: Global, disk: &mut D) -> Result<bool, JudgeFault>
 }
 
 // Whether the files are a tree: the root is a directory, all that is found from it on is as in a tree,
-// and there is no other file.
+// no directory is found again, and there is no other file.
 fn is_tree_of<D: Disk>(
     alloc: Global,
     disk: &mut D,
@@ -77,7 +77,11 @@ fn is_tree_of<D: Disk>(
         return Ok(false);
     }
     let mut numbers = Vec::new(alloc);
-    if !look_through(alloc, disk, image, block, &mut numbers)? {
+    let mut again = Vec::new(alloc);
+    if !look_through(alloc, disk, image, block, &mut numbers, &mut again)? {
+        return Ok(false);
+    }
+    if !are_plain(disk, image, block, again.as_slice())? {
         return Ok(false);
     }
     are_among(disk, image, block, numbers.as_slice())
@@ -109,11 +113,13 @@ fn look_through<D: Disk>(
     image: &Recovered,
     block: &mut Block,
     numbers: &mut Vec<u16>,
+    again: &mut Vec<u16>,
 ) -> Result<bool, JudgeFault>
     requires reader { IsCheckedOf (D.image disk.old) image.now }
     requires none { length numbers.old.items ≡ 0 }
-    ensures looked { IfOk result
-        (HasLookedThrough (files_of (recovered (D.image disk.old))) numbers.new.items) }
+    requires none_again { length again.old.items ≡ 0 }
+    ensures looked { IfOk result (HasLookedThrough (files_of (recovered (D.image disk.old)))
+        numbers.new.items again.new.items) }
     ensures reads { OnlyReads D.Disk disk.old disk.new }
     ensures faults { KeepsCount result (D.fault_count disk.old) (D.fault_count disk.new) }
 {
@@ -125,7 +131,7 @@ fn look_through<D: Disk>(
         let number = numbers[looked];
         let parent = parents[looked];
         let seen = look(alloc, disk, image, block, u32::from(number))?;
-        if !take_in(seen, number, parent, numbers, &mut parents)? {
+        if !take_in(seen, number, parent, numbers, &mut parents, again)? {
             return Ok(false);
         }
         looked += 1;
@@ -141,10 +147,12 @@ fn take_in(
     parent: u16,
     numbers: &mut Vec<u16>,
     parents: &mut Vec<u16>,
+    again: &mut Vec<u16>,
 ) -> Result<bool, NoMemory>
     requires { AreApart numbers.old.items }
     ensures { IfOk result (TakesIn seen number parent
-        numbers.old.items parents.old.items numbers.new.items parents.new.items) }
+        numbers.old.items parents.old.items again.old.items
+        numbers.new.items parents.new.items again.new.items) }
 {
     match seen {
         Seen::Nothing => Ok(false),
@@ -153,7 +161,14 @@ fn take_in(
             if !is_directory_of(bytes.as_slice(), number, parent) {
                 return Ok(false);
             }
-            add_children(entries_in(bytes.as_slice()), number, numbers, parents)
+            add_children(
+                entries_in(bytes.as_slice()),
+                number,
+                numbers,
+                parents,
+                again,
+            )?;
+            Ok(true)
         }
     }
 }
@@ -179,6 +194,27 @@ fn look<D: Disk>(
     }
     let bytes = image.all_bytes(alloc, disk, &inode, block)?;
     Ok(Seen::Directory(bytes))
+}
+
+// Whether none of these numbers is that of a directory.
+fn are_plain<D: Disk>(
+    disk: &mut D,
+    image: &Recovered,
+    block: &mut Block,
+    numbers: &[u16],
+) -> Result<bool, JudgeFault>
+    requires { IsCheckedOf (D.image disk.old) image.now }
+    ensures plain { IfOk result (λ are. IsTrue are
+        ↔ ArePlain (files_of (recovered (D.image disk.old))) numbers.now) }
+    ensures reads { OnlyReads D.Disk disk.old disk.new }
+    ensures faults { KeepsCount result (D.fault_count disk.old) (D.fault_count disk.new) }
+{
+    for number in numbers {
+        if kind_at(disk, image, u32::from(*number), block)? == DIRECTORY_KIND {
+            return Ok(false);
+        }
+    }
+    Ok(true)
 }
 
 // Whether each file is among those of these numbers.

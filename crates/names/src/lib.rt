@@ -8,7 +8,7 @@
 //!
 //! `Tree` are files in directories within directories, found by their paths, over a kernel of two
 //! processes. Each of its calls is one transaction: a stop at any moment leaves the tree as it was or
-//! as the call makes it, in which each file has one path.
+//! as the call makes it, in which each file has a path, and each directory one.
 //!
 //! `tree_laws` says when directories within directories are a tree, and that changes leave one.
 #![tactic(auto)]
@@ -27,6 +27,7 @@ mod looking;
 mod making;
 mod name;
 mod opening;
+mod other_names;
 mod path;
 mod planning;
 mod putting;

@@ -39,6 +39,9 @@ pub enum Refusal {
     /// The last name is a directory's for itself or for its parent.
     #[error("the last name does not lead down")]
     NotDown,
+    /// Another name leads to the file, which is not removed then.
+    #[error("the file has another name")]
+    LinkedTwice,
 }
 
 /// Why a call of a tree was not answered.

@@ -50,19 +50,23 @@ impl ChangeIn for RemoveFile {
         if let Some(_other) = tree.directory(number)? {
             return Ok(Err(Refusal::IsADirectory));
         }
+        if tree.has_other_name(from, name, number)? {
+            return Ok(Err(Refusal::LinkedTwice));
+        }
         tree.dropped(alloc, from, bytes.as_slice(), name, number)?;
         Ok(Ok(()))
     }
 }
 
 impl<D: Disk> Tree<D> {
-    /// Removes the file at a path with its name. A directory is not removed so.
+    /// Removes the file at a path with its name. A directory is not removed so, nor a file with
+    /// several names: each directory is looked into for another one.
     ///
     /// # Errors
     ///
     /// - `Path`: the bytes are no path; nothing was done.
     /// - `Refused`, with the files as they were: `NotFound`, `NotADirectory` and `IsRoot` for the path;
-    ///   `IsADirectory` where the name leads to one.
+    ///   `IsADirectory` where the name leads to one, `LinkedTwice` where another name leads to its file.
     /// - `Call`, `NoCall`: as every call of a tree.
     pub fn remove(&mut self, alloc: Global, path: &[u8]) -> Result<(), TreeFault>
         requires ready { MayGoOn D.Disk self.old.kernel self.old.calls_left }
@@ -79,7 +83,7 @@ impl<D: Disk> Tree<D> {
         self.changed(alloc, path, &Last { change: RemoveFile })
     }
 
-    // Frees the entry of a name in a directory of those bytes, and removes the file that it leads to.
+    // Frees the entry of a file's only name in a directory of those bytes, and removes the file.
     pub(crate) fn dropped(
         &mut self,
         alloc: Global,

@@ -1,5 +1,5 @@
 // A kernel whose files are a tree of directories, and the calls of its transactions.
-ghost use Rattle.std.specs.Prelude.{◌≡◌, ◌<◌, IfErr, IfOk, OnOk};
+ghost use Rattle.std.specs.Prelude.{◌≡◌, ◌↔◌, ◌<◌, IfErr, IfOk, IsTrue, OnOk};
 ghost use Rattle.names.specs.Inside.{files_seen, Answers, Ends, HasCause, IsUnderWay, LeavesFiles, Proceeds};
 ghost use Rattle.names.specs.Ready.{EndsOn, HasBegun, HasCommitted, IsIdle, MayGoOn};
 ghost use Rattle.names.specs.Trees.{IsTree};
@@ -20,6 +20,13 @@ pub struct Tree<D: Disk> {
 }
 
 impl<D: Disk> Tree<D> {
+    /// Whether another call may be made.
+    pub fn may_call(&self) -> bool
+        ensures { IsTrue result ↔ 0 < self.now.calls_left }
+    {
+        self.calls_left > 0
+    }
+
     // Does nothing: it says what a stop leaves between transactions.
     pub(crate) fn stands(&self)
         requires { MayGoOn D.Disk self.now.kernel self.now.calls_left }

@@ -1,6 +1,6 @@
 //! What changes of names make of a tree of directories, the contracts of functions that do nothing.
-ghost use Rattle.names.specs.PathLaws.{FilesAreReached, NamesAreOne, NamesLead};
-ghost use Rattle.names.specs.TreeLaws.{AddingKeeps, CreateMakes, DroppingKeeps, FilesAreNew, KeepingKeeps, LinkAdds, LinkLeads, LinkMoves, MovingDirectoryKeeps, MovingKeeps, PlainKeeps, ReadsWhole, RelinkLeads, RemoveDrops, RemoveUndoes, RepointLeads, RootIsTree, UnlinkLeads, UnlinkMoves, WriteFills};
+ghost use Rattle.names.specs.PathLaws.{DirectoriesAreNamedOnce, FilesAreReached, NamesAreOne, NamesLead};
+ghost use Rattle.names.specs.TreeLaws.{AddingKeeps, AddingKeepsOnce, CreateMakes, DroppingKeeps, DroppingKeepsOnce, FilesAreNew, KeepingKeeps, KeepingKeepsOnce, LinkAdds, LinkLeads, LinkMoves, MovingDirectoryKeeps, MovingDirectoryKeepsOnce, MovingKeeps, MovingKeepsOnce, PlainKeeps, ReadsWhole, RelinkLeads, RemoveDrops, RemoveUndoes, RepointLeads, RootIsTree, UnlinkLeads, UnlinkMoves, WriteFills};
 ghost use Rattle.names.specs.TreeMeaning.{DirectoriesAreTidy, EntriesLead, NoHalfIsTree, NumbersStandOnce, ParentsDecide, RootIsOutside, StepsLead};
 ghost use Rattle.names.specs.WholeChanges.{MakesDirectoryWhole, MakesFileWhole, MakesRootWhole, MovesDirectoryWhole, MovesFileWhole, RemovesFileWhole, RenamesFileWhole};
 
@@ -30,11 +30,11 @@ pub fn operations_change()
     ensures fresh { FilesAreNew }
 {}
 
-/// In a tree each path leads to a file, and each file has one path. The root alone is one. It stays
-/// one where a file or an empty directory is added under a name, where a file or an empty directory is
-/// dropped with its name, where a file has another name in any directory, or a directory in its own or,
-/// with its name for its parent, in one that is not below it, and where files that are no directories
-/// are written.
+/// In a tree each path leads to a file, each file has a path, and each directory one. The root alone is
+/// one. It stays one where a file or an empty directory is added under a name, where a file or an empty
+/// directory is dropped with its only name, where a file has another name in any directory, or a
+/// directory in its own or, with its name for its parent, in one that is not below it, and where files
+/// that are no directories are written.
 pub fn trees_stay()
     ensures begun { RootIsTree }
     ensures added { AddingKeeps }
@@ -42,6 +42,16 @@ pub fn trees_stay()
     ensures moved { MovingKeeps }
     ensures moved_directory { MovingDirectoryKeeps }
     ensures kept { KeepingKeeps }
+{}
+
+/// Each change of a tree leaves one name at most to each file that had one at most. So where each file
+/// had one path from the root, each has one still.
+pub fn names_stay_one()
+    ensures added { AddingKeepsOnce }
+    ensures dropped { DroppingKeepsOnce }
+    ensures moved { MovingKeepsOnce }
+    ensures moved_directory { MovingDirectoryKeepsOnce }
+    ensures kept { KeepingKeepsOnce }
 {}
 
 /// The operations of each whole change, with their replies, leave a tree, in which just that changed.
@@ -57,9 +67,9 @@ pub fn changes_leave_trees()
 {}
 
 /// In a tree each directory has its own two entries, each other used entry's name leads to a file, and
-/// no number stands in two of these. Whether a directory is below another is told by the parents up to
-/// the root. And one of the operations that make, remove or rename a file is
-/// never enough for a tree: they belong into one transaction.
+/// no directory's number stands in two of these. Whether a directory is below another is told by the
+/// parents up to the root. And one of the operations that make, remove or rename a file is never enough
+/// for a tree: they belong into one transaction.
 pub fn trees_mean()
     ensures tidy { DirectoriesAreTidy }
     ensures steps { StepsLead }
@@ -71,9 +81,11 @@ pub fn trees_mean()
 {}
 
 /// In a tree the names of a path lead to a file, wherever they lead, those for a directory and for its
-/// parent among them. And each file is reached from the root, by one list of names that lead down.
+/// parent among them. And each file is reached from the root, where it has one name by one list of names
+/// that lead down, as each directory has.
 pub fn paths_name_files()
     ensures lead { NamesLead }
     ensures reached { FilesAreReached }
     ensures one { NamesAreOne }
+    ensures directories { DirectoriesAreNamedOnce }
 {}

@@ -23,6 +23,18 @@ const FOLDER: Word = Word {
     help: "The directory's path in the image; the root where it is not given",
 };
 
+const FILE_PUT: Word = Word {
+    name: "FILE",
+    kind: Kind::Needed,
+    help: "The path of the file whose bytes are put; a stop leaves the old bytes or the new, and of more than 3072 maybe a beginning of the new",
+};
+
+const FILES: Word = Word {
+    name: "FILE",
+    kind: Kind::Rest,
+    help: "The paths of the files; each is named by the last part of its path, without a _ that this begins with",
+};
+
 const LINES: &[Line] = &[
     Line {
         name: "ls",
@@ -67,19 +79,7 @@ const LINES: &[Line] = &[
         name: "put",
         about: "Puts a file into an image under a path, as a new file or in place of one, and prints its number",
         example: "Example: xvnames put fs.img notes.txt /docs/notes.txt",
-        words: &[
-            IMAGE,
-            WAIT,
-            EXPLAIN,
-            Word {
-                name: "FILE",
-                kind: Kind::Needed,
-                help: "The path of the file whose bytes are put; a stop leaves the old bytes or the new, and of more than 3072 maybe a beginning of the new",
-            },
-            PATH,
-            SYNC,
-            NO_SYNC,
-        ],
+        words: &[IMAGE, WAIT, EXPLAIN, FILE_PUT, PATH, SYNC, NO_SYNC],
     },
     Line {
         name: "rm",
@@ -125,18 +125,6 @@ const LINES: &[Line] = &[
         name: "mkfs",
         about: "Makes an image with a root directory and these files in it, in a new file or in place of an old one",
         example: "Example: xvnames mkfs fs.img 2000 200 README _cat _ls",
-        words: &[
-            IMAGE_MADE,
-            WAIT,
-            EXPLAIN,
-            SIZE,
-            NINODES,
-            Word {
-                name: "FILE",
-                kind: Kind::Rest,
-                help: "The paths of the files; each is named by the last part of its path, without a _ that this begins with",
-            },
-            NO_SYNC,
-        ],
+        words: &[IMAGE_MADE, WAIT, EXPLAIN, SIZE, NINODES, FILES, NO_SYNC],
     },
 ];

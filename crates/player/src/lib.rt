@@ -7,6 +7,7 @@
 #![tactic(auto)]
 
 mod checking;
+mod copying;
 mod looks;
 mod making;
 mod noting;
@@ -23,6 +24,7 @@ mod telling;
 mod turns;
 
 pub use checking::{check_disk, check_disk_all};
+pub use copying::copies_of;
 pub use looks::{Cat, Check, Recover};
 pub use making::make_disk;
 pub use noting::Base;

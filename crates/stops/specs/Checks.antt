@@ -12,27 +12,30 @@ use Rattle.messages.specs.declared.printed.Printed.{Printed}
 use Rattle.messages.specs.declared.printed.Printed.TheVariants.{Fault, Output}
 use Rattle.stops.specs.Holding.{AllHeldPass, SomeHeldFails}
 use Rattle.stops.specs.Trials.{AllPass, SomeFails}
+use Rattle.pictures.specs.declared.stops.Column.{Column}
 
--- every run passes, with so many images in all
-abbrev pub PassesAll : Bool → List Task → ℕ → List Word → ℕ → Type 0
-PassesAll false tasks processes words images = AllPass tasks processes words images
-PassesAll true tasks processes words images = AllHeldPass tasks processes words images
+-- every run passes, with so many images in all, and these stops were tried
+abbrev pub PassesAll : Bool → List Task → ℕ → List Word → ℕ → List Column → Type 0
+PassesAll false tasks processes words images tried = AllPass tasks processes words images tried
+PassesAll true tasks processes words images tried =
+    AllHeldPass tasks processes words images tried
 
--- the one that a mismatch tells doesn't
-abbrev pub FailsSome : Bool → List Task → ℕ → List Word → SomeMismatch → Type 0
-FailsSome false tasks processes words m = SomeFails tasks processes words m
-FailsSome true tasks processes words m = SomeHeldFails tasks processes words m
+-- the one that a mismatch tells doesn't, and these passed before
+abbrev pub FailsSome : Bool → List Task → ℕ → List Word → SomeMismatch → List Column → Type 0
+FailsSome false tasks processes words m tried = SomeFails tasks processes words m tried
+FailsSome true tasks processes words m tried = SomeHeldFails tasks processes words m tried
 
 -- all images passed, and how many there were was printed
-abbrev pub ChecksAll : Bool → List Task → ℕ → List Word → Option (List ℕ) → Option (List ℕ)
-    → Type 0
-ChecksAll held tasks processes words old new = (images : ℕ)
-    × PassesAll held tasks processes words images × Appends old new (images_text images)
+abbrev pub ChecksAll : Bool → List Task → ℕ → List Word → List Column → Option (List ℕ)
+    → Option (List ℕ) → Type 0
+ChecksAll held tasks processes words tried old new = (images : ℕ)
+    × PassesAll held tasks processes words images tried × Appends old new (images_text images)
 
 -- why a check wasn't done; `none` says that nothing was printed
-abbrev pub IsUnchecked : Bool → List Task → ℕ → List Word → Type 0 → Printed StopsFault → Type 0
-IsUnchecked held tasks processes words none (Fault (Mismatch m)) =
-    FailsSome held tasks processes words m × none
-IsUnchecked held tasks processes words none (Fault NoMemory) = none
-IsUnchecked held tasks processes words none Output =
-    (images : ℕ) × PassesAll held tasks processes words images
+abbrev pub IsUnchecked : Bool → List Task → ℕ → List Word → List Column → Type 0
+    → Printed StopsFault → Type 0
+IsUnchecked held tasks processes words tried none (Fault (Mismatch m)) =
+    FailsSome held tasks processes words m tried × none
+IsUnchecked held tasks processes words tried none (Fault NoMemory) = none
+IsUnchecked held tasks processes words tried none Output =
+    (images : ℕ) × PassesAll held tasks processes words images tried

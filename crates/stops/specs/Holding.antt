@@ -1,5 +1,5 @@
 -- The runs of a script over a disk that holds writes back, and the images that their stops may leave.
-use Rattle.std.specs.Prelude.{◌≡◌, ◌<◌, ◌⊎◌, ◌+◌, ◌-◌, ℕ, zero, suc, Bool, List, length, min, Option, Some, option_map, ◌^◌}
+use Rattle.std.specs.Prelude.{◌≡◌, ◌<◌, ◌⊎◌, ◌+◌, ◌-◌, ℕ, zero, suc, Bool, List, [], ◌∷◌, ◌++◌, length, min, Option, Some, option_map, ◌^◌}
 use Rattle.blocks.specs.FaultyDisk.{inner_of, kind_of, trap_of}
 use Rattle.blocks.specs.SyncDisk.{held_of}
 use Rattle.blocks.specs.contracts.sync.SyncDiskDisk.TheImpl.{ghosts}
@@ -27,7 +27,9 @@ use Rattle.stops.specs.Trials.{HasPlayed, IsUnopenedNew, MakesRun, TellsOtherRun
 use Rattle.stops.specs.declared.held_trial.Calls.{Calls}
 use Rattle.stops.specs.declared.held_trial.Calls.TheVariants.{Writes, Syncs}
 use Rattle.stops.specs.declared.held_trial.HeldRun.{HeldRun}
+use Rattle.stops.specs.Tried.{tried_at}
 use Rattle.stops.specs.declared.held_trial.Played.{Played}
+use Rattle.pictures.specs.declared.stops.Column.{Column}
 
 -- a disk in memory that holds writes back, of which one sync fails
 abbrev pub HeldDisk : Type 0
@@ -198,38 +200,46 @@ FailsHeldBehind tasks processes words calls before m = (m.stop ≡ stop_behind c
 abbrev pub limited_sum : ℕ → ℕ → ℕ
 limited_sum a b = min (a + b) (2 ^ 64 - 1)
 
--- the runs that are stopped before each of so many calls pass, with so many images in all
-abbrev pub PassEach : List Task → ℕ → List Word → Calls → ℕ → ℕ → Type 0
-PassEach tasks processes words calls zero images = images ≡ 0
-PassEach tasks processes words calls (suc k) images = (before : ℕ) × (one : ℕ)
-    × PassEach tasks processes words calls k before
+-- the runs that are stopped before each of so many calls pass, with so many images in all; these stops
+-- were tried
+abbrev pub PassEach : List Task → ℕ → List Word → Calls → ℕ → ℕ → List Column → Type 0
+PassEach tasks processes words calls zero images tried = (images ≡ 0) × (tried ≡ [])
+PassEach tasks processes words calls (suc k) images tried = (before : ℕ) × (one : ℕ)
+    × (early : List Column) × PassEach tasks processes words calls k before early
     × PassesHeld tasks processes words calls k one × (images ≡ limited_sum before one)
+    × (tried ≡ early ++ tried_at (stop_behind calls k) one ∷ [])
 
 -- The whole run passes, and each that is stopped before one of its writes or its syncs, with so many
--- images in all.
+-- images in all. These stops were tried.
 pub record AllHeldPass (tasks : List Task) (processes : ℕ) (words : List Word) (images : ℕ)
-    : Type 0 where
+    (tried : List Column) : Type 0 where
   pub run : HeldRun
   pub whole : IsTriedHeld tasks processes words 0 0 run
   pub before_writes : ℕ
-  pub writes : PassEach tasks processes words Writes run.writes before_writes
+  pub at_writes : List Column
+  pub writes : PassEach tasks processes words Writes run.writes before_writes at_writes
   pub before_syncs : ℕ
-  pub syncs : PassEach tasks processes words Syncs (run.syncs - 1) before_syncs
+  pub at_syncs : List Column
+  pub syncs : PassEach tasks processes words Syncs (run.syncs - 1) before_syncs at_syncs
   pub count : images ≡ limited_sum (limited_sum run.images before_writes) before_syncs
+  pub told : tried ≡ tried_at End run.images ∷ at_writes ++ at_syncs
 
 -- the first run that doesn't pass, of those that are stopped before so many calls, is the one that a
--- mismatch tells
-abbrev pub FirstFails : List Task → ℕ → List Word → Calls → ℕ → Mismatch → Type 0
-FirstFails tasks processes words calls count m = (before : ℕ) × (before < count)
+-- mismatch tells; these passed before
+abbrev pub FirstFails : List Task → ℕ → List Word → Calls → ℕ → Mismatch → List Column → Type 0
+FirstFails tasks processes words calls count m tried = (before : ℕ) × (before < count)
     × FailsHeldBehind tasks processes words calls before m
-    × (images : ℕ) × PassEach tasks processes words calls before images
+    × (images : ℕ) × PassEach tasks processes words calls before images tried
 
 -- The run that a mismatch tells doesn't pass: the whole one, or the first of those that are stopped,
--- before a write or, behind all these, before a sync.
-abbrev pub SomeHeldFails : List Task → ℕ → List Word → Mismatch → Type 0
-SomeHeldFails tasks processes words m =
-    ((m.stop ≡ End) × FailsHeld tasks processes words 0 0 m)
-    ⊎ ((run : HeldRun) × IsTriedHeld tasks processes words 0 0 run
-    × (FirstFails tasks processes words Writes run.writes m
-    ⊎ (FirstFails tasks processes words Syncs (run.syncs - 1) m
-    × (images : ℕ) × PassEach tasks processes words Writes run.writes images)))
+-- before a write or, behind all these, before a sync. These passed before.
+abbrev pub SomeHeldFails : List Task → ℕ → List Word → Mismatch → List Column → Type 0
+SomeHeldFails tasks processes words m tried =
+    ((m.stop ≡ End) × (tried ≡ []) × FailsHeld tasks processes words 0 0 m)
+    ⊎ ((run : HeldRun) × IsTriedHeld tasks processes words 0 0 run × (more : List Column)
+    × (tried ≡ tried_at End run.images ∷ more)
+    × (FirstFails tasks processes words Writes run.writes m more
+    ⊎ ((images : ℕ) × (at_writes : List Column) × (at_syncs : List Column)
+    × (more ≡ at_writes ++ at_syncs)
+    × PassEach tasks processes words Writes run.writes images at_writes
+    × FirstFails tasks processes words Syncs (run.syncs - 1) m at_syncs)))

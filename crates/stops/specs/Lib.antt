@@ -1,3 +1,4 @@
 pub mod Checks
 pub mod Holding
 pub mod Trials
+pub mod Tried

@@ -1,5 +1,6 @@
 -- The runs of a script over a new image, and whether what they leave has the files that it has to.
-use Rattle.std.specs.Prelude.{◌≡◌, ◌≢◌, ◌<◌, ◌⊎◌, ◌+◌, ◌-◌, ⊤, ℕ, false, List, None, option_map}
+use Rattle.std.specs.Prelude.{◌≡◌, ◌≢◌, ◌<◌, ◌⊎◌, ◌+◌, ◌-◌, ⊤, ℕ, false, List, [], ◌∷◌, map, None, option_map}
+use Rattle.std.specs.List.{range_with_len}
 use Rattle.blocks.specs.Disk.{counted}
 use Rattle.blocks.specs.contracts.memory.MemDiskDisk.TheImpl.{ghosts}
 use Rattle.blocks.specs.declared.disk.Disk.{Ghosts}
@@ -22,7 +23,9 @@ use Rattle.crash_check.specs.declared.mismatch.Cause.{Cause}
 use Rattle.crash_check.specs.declared.mismatch.Cause.TheVariants.{Unopened, OtherRun}
 use Rattle.crash_check.specs.declared.mismatch.Mismatch.{Mismatch}
 use Rattle.crash_check.specs.declared.mismatch.Stop.TheVariants.{End, Write}
+use Rattle.stops.specs.Tried.{tried_at}
 use Rattle.stops.specs.declared.trial.Played.{Played}
+use Rattle.pictures.specs.declared.stops.Column.{Column}
 
 -- what contracts see of a disk in memory of which one call fails
 abbrev pub memory : Ghosts (FaultyDisk MemDisk) (Unit {0} × Trap)
@@ -158,18 +161,30 @@ FailsBehind tasks processes words before m = (m.stop ≡ Write (before + 1))
     × (Fails tasks processes words (before + 1) m ⊎ (TellsOtherRun m
     × (writes : ℕ) × (writes ≢ before) × IsTried tasks processes words (before + 1) writes))
 
+-- the stop before the write behind so many, which leaves one image
+abbrev pub tried_before : ℕ → Column
+tried_before before = tried_at (Write (before + 1)) 1
+
+-- the whole run, and those that are stopped before each of so many writes
+abbrev pub tried_writes : ℕ → List Column
+tried_writes count = tried_at End 1 ∷ map tried_before (range_with_len 0 count)
+
 -- A run made so many writes, and kept its files; and so did one stopped before each of them. There
--- is an image for each, and one more.
+-- is an image for each, and one more. These stops were tried.
 pub record AllPass (tasks : List Task) (processes : ℕ) (words : List Word) (images : ℕ)
-    : Type 0 where
+    (tried : List Column) : Type 0 where
   pub writes : ℕ
   pub whole : IsTried tasks processes words 0 writes
   pub each : (before : ℕ) → before < writes → Passes tasks processes words before
   pub count : images ≡ counted writes 1
+  pub told : tried ≡ tried_writes writes
 
 -- The run that a mismatch tells doesn't pass: the whole one, or the first of those that are stopped.
-abbrev pub SomeFails : List Task → ℕ → List Word → Mismatch → Type 0
-SomeFails tasks processes words m = ((m.stop ≡ End) × Fails tasks processes words 0 m)
+-- These passed before.
+abbrev pub SomeFails : List Task → ℕ → List Word → Mismatch → List Column → Type 0
+SomeFails tasks processes words m tried =
+    ((m.stop ≡ End) × (tried ≡ []) × Fails tasks processes words 0 m)
     ⊎ ((writes : ℕ) × IsTried tasks processes words 0 writes
     × (before : ℕ) × (before < writes) × FailsBehind tasks processes words before m
-    × ((earlier : ℕ) → earlier < before → Passes tasks processes words earlier))
+    × ((earlier : ℕ) → earlier < before → Passes tasks processes words earlier)
+    × (tried ≡ tried_writes before))

@@ -28,12 +28,11 @@ ghost use Rattle.crash_check.specs.Choices.{LacksDue};
 ghost use Rattle.crash_check.specs.Images.{kept_files, new_image};
 ghost use Rattle.crash_check.specs.Mismatches.{OnMismatch};
 
-use crate::copying::copies_of;
 use crate::running::{opened, play};
 use blocks::{Disk, FaultyDisk, Kind, NoMemory, SyncDisk};
 use crash_check::{Due, Stop, StopsFault, kept_files, new_image, try_choices};
 use model::types::Entry;
-use player::{Hands, Outcome, Player, open_player, take_board};
+use player::{Hands, Outcome, Player, copies_of, open_player, take_board};
 use rings::Board;
 use scripts::{Task, Word};
 use std::alloc::Global;

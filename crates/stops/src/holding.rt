@@ -1,5 +1,5 @@
 // A script over a disk that holds writes back, at each of its stops.
-ghost use Rattle.std.specs.Prelude.{◌≡◌, ◌<◌, ◌≤◌, ◌+◌, ◌^◌, All, IfOk, IfErr, IsTrue};
+ghost use Rattle.std.specs.Prelude.{◌≡◌, ◌<◌, ◌≤◌, ◌+◌, ◌^◌, [], All, IfOk, IfErr, IsTrue};
 ghost use Rattle.std.specs.List.{list_all};
 ghost use Rattle.scripts.specs.Schedule.{is_word_of};
 ghost use Rattle.crash_check.specs.Mismatches.{OnMismatch};
@@ -16,15 +16,18 @@ ghost use Rattle.stops.specs.Holding.{
   calls_of,
   sync_behind,
 };
+ghost use Rattle.stops.specs.Tried.{TriesMore};
 
 use crate::held_trial::{Calls, HeldRun, try_held_run};
+use crate::tried::add;
 use crash_check::{Cause, Mismatch, Stop, StopsFault};
 use messages::Meter;
+use pictures::Column;
 use scripts::{Task, Word};
 use std::alloc::Global;
 
 /// Makes the whole run, and then one up to each of its writes, and one up to each of its syncs. How
-/// many images these may leave.
+/// many images these may leave. The stops that passed are added to `tried`, which has none yet.
 ///
 /// # Errors
 ///
@@ -37,14 +40,18 @@ pub fn try_held_stops<P: Meter>(
     processes: u32,
     words: &[Word],
     progress: &mut P,
+    tried: &mut Vec<Column>,
 ) -> Result<u64, StopsFault>
     requires tasks { All (λ task. task.pid < processes) tasks.now }
     requires words { IsTrue (list_all (is_word_of processes) words.now) }
-    ensures all { IfOk result (AllHeldPass tasks.now processes words.now) }
-    ensures some { IfErr result (λ f. OnMismatch f
-        (SomeHeldFails tasks.now processes words.now)) }
+    requires none { tried.old.items ≡ [] }
+    ensures all { IfOk result (λ images.
+        AllHeldPass tasks.now processes words.now images tried.new.items) }
+    ensures some { IfErr result (λ f. OnMismatch f (λ m.
+        SomeHeldFails tasks.now processes words.now m tried.new.items)) }
 {
     let whole = try_whole(alloc, tasks, processes, words)?;
+    add(tried, Stop::End, whole.images)?;
     let writes = Calls::Writes.made_by(whole);
     let at_writes = try_before(
         alloc,
@@ -54,6 +61,7 @@ pub fn try_held_stops<P: Meter>(
         Calls::Writes,
         writes,
         progress,
+        tried,
     )?;
     let syncs = Calls::Syncs.made_by(whole);
     let at_syncs = try_before(
@@ -64,6 +72,7 @@ pub fn try_held_stops<P: Meter>(
         Calls::Syncs,
         syncs,
         progress,
+        tried,
     )?;
     Ok(
         whole
@@ -101,17 +110,20 @@ fn try_before<P: Meter>(
     calls: Calls,
     count: u64,
     progress: &mut P,
+    tried: &mut Vec<Column>,
 ) -> Result<u64, StopsFault>
     requires tasks { All (λ task. task.pid < processes) tasks.now }
     requires words { IsTrue (list_all (is_word_of processes) words.now) }
     requires some { sync_behind calls count ≤ 2 ^ 64 }
-    ensures all { IfOk result (PassEach tasks.now processes words.now calls count) }
-    ensures some { IfErr result (λ f. OnMismatch f
-        (FirstFails tasks.now processes words.now calls count)) }
+    ensures all { IfOk result (λ images. TriesMore tried.old.items tried.new.items
+        (PassEach tasks.now processes words.now calls count images)) }
+    ensures some { IfErr result (λ f. OnMismatch f (λ m. TriesMore tried.old.items tried.new.items
+        (FirstFails tasks.now processes words.now calls count m))) }
 {
     let mut images = 0u64;
     for before in 0..count {
         let left = try_stop(alloc, tasks, processes, words, calls, before)?;
+        add(tried, calls.stop_behind(before), left)?;
         images = images.saturating_add(left);
         progress.reached(before + 1, count, "stops");
     }

@@ -12,11 +12,12 @@
 //! A run begins anew for each stop, and takes the memory that it needs. No file is opened here.
 #![tactic(auto)]
 
-mod copying;
 mod held_trial;
 mod holding;
 mod running;
 mod stopping;
 mod trial;
+mod tried;
 
 pub use stopping::check_stops;
+pub use tried::at_of;

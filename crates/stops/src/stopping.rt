@@ -1,5 +1,5 @@
 // A script at each of its stops, and what is printed of it.
-ghost use Rattle.std.specs.Prelude.{◌≡◌, ◌<◌, ◌+◌, ◌^◌, All, IfOk, IfErr, IsTrue, OnOk};
+ghost use Rattle.std.specs.Prelude.{◌≡◌, ◌<◌, ◌+◌, ◌^◌, [], All, IfOk, IfErr, IsTrue, OnOk};
 ghost use Rattle.std.specs.List.{list_all};
 ghost use Rattle.scripts.specs.Schedule.{is_word_of};
 ghost use Rattle.crash_check.specs.Mismatches.{OnMismatch};
@@ -9,8 +9,10 @@ ghost use Rattle.stops.specs.Trials.{AllPass, Fails, FailsBehind, IsTried, Passe
 
 use crate::holding::try_held_stops;
 use crate::trial::try_run;
+use crate::tried::add;
 use crash_check::{Cause, Mismatch, Stop, StopsFault};
 use messages::{Meter, Printed, print_images};
+use pictures::Column;
 use scripts::{Task, Word};
 use std::alloc::Global;
 use std::io::Write;
@@ -19,7 +21,8 @@ use std::io::Write;
 /// prints how many images these left: one more than the writes of the whole run. Where `held` is
 /// said, it is made over a disk that holds writes back, and stopped before each sync, too; each stop
 /// then leaves an image for each choice of the held writes that get through, or, where more than 6
-/// are held, for each beginning of them.
+/// are held, for each beginning of them. The stops that passed are put into `tried`, in this order: the
+/// whole run, those before its writes, those at its syncs; nothing else is in it then.
 ///
 /// # Errors
 ///
@@ -35,19 +38,21 @@ pub fn check_stops<P: Meter, O: Write>(
     processes: u32,
     words: &[Word],
     held: bool,
+    tried: &mut Vec<Column>,
     progress: &mut P,
     out: &mut O,
 ) -> Result<(), Printed<StopsFault>>
     requires tasks { All (λ task. task.pid < processes) tasks.now }
     requires words { IsTrue (list_all (is_word_of processes) words.now) }
     ensures checked { OnOk result (ChecksAll held tasks.now processes words.now
-        (O.contents out.old) (O.contents out.new)) }
+        tried.new.items (O.contents out.old) (O.contents out.new)) }
     ensures refused { IfErr result (IsUnchecked held tasks.now processes words.now
-        (out.new ≡ out.old)) }
+        tried.new.items (out.new ≡ out.old)) }
 {
-    let tried = try_all(alloc, tasks, processes, words, progress, held);
+    tried.clear();
+    let all = try_all(alloc, tasks, processes, words, progress, held, tried);
     progress.ended();
-    let images = tried.map_err(Printed::Fault)?;
+    let images = all.map_err(Printed::Fault)?;
     print_images(out, images).map_err(|_| Printed::Output)
 }
 
@@ -59,17 +64,20 @@ fn try_all<P: Meter>(
     words: &[Word],
     progress: &mut P,
     held: bool,
+    tried: &mut Vec<Column>,
 ) -> Result<u64, StopsFault>
     requires tasks { All (λ task. task.pid < processes) tasks.now }
     requires words { IsTrue (list_all (is_word_of processes) words.now) }
-    ensures all { IfOk result (PassesAll held tasks.now processes words.now) }
-    ensures some { IfErr result (λ f. OnMismatch f
-        (FailsSome held tasks.now processes words.now)) }
+    requires none { tried.old.items ≡ [] }
+    ensures all { IfOk result (λ images.
+        PassesAll held tasks.now processes words.now images tried.new.items) }
+    ensures some { IfErr result (λ f. OnMismatch f (λ m.
+        FailsSome held tasks.now processes words.now m tried.new.items)) }
 {
     if held {
-        try_held_stops(alloc, tasks, processes, words, progress)
+        try_held_stops(alloc, tasks, processes, words, progress, tried)
     } else {
-        try_stops(alloc, progress, tasks, processes, words)
+        try_stops(alloc, progress, tasks, processes, words, tried)
     }
 }
 
@@ -80,16 +88,21 @@ fn try_stops<P: Meter>(
     tasks: &[Task],
     processes: u32,
     words: &[Word],
+    tried: &mut Vec<Column>,
 ) -> Result<u64, StopsFault>
     requires tasks { All (λ task. task.pid < processes) tasks.now }
     requires words { IsTrue (list_all (is_word_of processes) words.now) }
-    ensures all { IfOk result (AllPass tasks.now processes words.now) }
-    ensures some { IfErr result (λ f. OnMismatch f
-        (SomeFails tasks.now processes words.now)) }
+    requires none { tried.old.items ≡ [] }
+    ensures all { IfOk result (λ images.
+        AllPass tasks.now processes words.now images tried.new.items) }
+    ensures some { IfErr result (λ f. OnMismatch f (λ m.
+        SomeFails tasks.now processes words.now m tried.new.items)) }
 {
     let writes = try_whole(alloc, tasks, processes, words)?;
+    add(tried, Stop::End, 1)?;
     for before in 0..writes {
         try_behind(alloc, tasks, processes, words, before)?;
+        add(tried, Stop::Write(before + 1), 1)?;
         progress.reached(before + 1, writes, "stops");
     }
     Ok(writes.saturating_add(1))

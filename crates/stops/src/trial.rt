@@ -21,11 +21,10 @@ ghost use Rattle.stops.specs.Trials.{
   memory,
 };
 
-use crate::copying::copies_of;
 use crate::running::{opened, play};
 use blocks::{Disk, MemDisk, NoMemory};
 use crash_check::{Mismatch, StopsFault, cause_in, kept_files, new_image};
-use player::{Hands, Outcome, Player, open_player, take_board};
+use player::{Hands, Outcome, Player, copies_of, open_player, take_board};
 use reference::files::Files;
 use rings::Board;
 use scripts::{Task, Word};

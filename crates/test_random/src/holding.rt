@@ -70,10 +70,7 @@ fn stop_at_turns(
         Err(what) => return Err(what.at(Part::Turn, 0)),
     };
     match open(alloc, disk, ground.setting.processes) {
-        Ok(mut kernel) => {
-            let script = &mut ground.script();
-            take_turns(alloc, &mut kernel, script, ground, chance, tally)
-        }
+        Ok(mut kernel) => take_turns(alloc, &mut kernel, ground, chance, tally),
         Err((fault, _disk)) => Err(What::Opening(fault).at(Part::Turn, 0)),
     }
 }
@@ -81,13 +78,13 @@ fn stop_at_turns(
 fn take_turns(
     alloc: Global,
     kernel: &mut Over<SyncDisk>,
-    script: &mut Script,
     ground: &Ground,
     chance: &mut Chance,
     tally: &mut Tally,
 ) -> Result<(), Wrong> {
+    let mut script = ground.script();
     for turn in 0..MOST_TURNS {
-        match take_and_stop(alloc, kernel, script, ground, chance, tally) {
+        match take_and_stop(alloc, kernel, &mut script, ground, chance, tally) {
             Ok(true) => {}
             Ok(false) => return Ok(()),
             Err(what) => return Err(what.at(Part::Turn, turn as u64)),

@@ -1,5 +1,5 @@
 -- Bytes put under a path.
-use Rattle.std.specs.Prelude.{◌≡◌, ◌⊎◌, ℕ, zero, suc, ◌*◌, ◌^◌, ◌<◌, ◌≤◌, Bool, List, [], length, take, drop, Option, Some, Ok, Err}
+use Rattle.std.specs.Prelude.{◌≡◌, ◌⊎◌, ℕ, zero, suc, ◌*◌, ◌^◌, ◌<◌, ◌≤◌, Bool, false, List, [], length, take, drop, Option, Some, Ok, Err}
 use Rattle.std.specs.Int.{div_ceil}
 use Rattle.blocks.specs.declared.disk.Disk.{Ghosts}
 use Rattle.calls.specs.Calls.{image_on}
@@ -18,7 +18,8 @@ use Rattle.names.specs.Contents.{LeadsToNoPlain}
 use Rattle.names.specs.Writing.{Writes}
 use Rattle.tree_changes.specs.declared.faults.ChangeRefusal.{ChangeRefusal}
 use Rattle.tree_changes.specs.declared.faults.ChangeRefusal.TheVariants as change
-use Rattle.tree_changes.specs.Changes.{AnyOf, HasChanged, StopsChange}
+use Rattle.tree_changes.specs.Changes.{AnyOf, HasChanged, LeavesMidst, StopsChange}
+use Rattle.tree_changes.specs.Room.{HasRoomFor}
 
 -- the bytes were put in one transaction
 abbrev pub PutsFew : List ℕ → List ℕ → Option ℕ → Files → Files → Type 0
@@ -92,14 +93,34 @@ IsUnputAt {D} disk path bytes k m r =
     (files_of (image_on disk.image k)) (files_of (image_on disk.image mid))
     × StopsWriting disk path bytes mid m r))))
 
--- what a stop may leave of a put of few
-abbrev pub PutsSome : List ℕ → List ℕ → Files → Files → Type 0
-PutsSome path bytes = AnyOf (PutsAt bytes (names_of path))
+-- at most so many of the pieces were written
+abbrev pub WritesSome : Form → List ℕ → List ℕ → ℕ → Files → Files → Type 0
+WritesSome form path bytes count files new =
+    (piece : ℕ) × (piece ≤ count) × WritesPieces form path bytes piece files new
 
--- some bytes were put on the disk of a file, which holds writes back where `sync` says so
+-- bytes were put in one transaction, or refused
+abbrev pub PutsAny : List ℕ → List ℕ → Files → Files → Type 0
+PutsAny path bytes = AnyOf (PutsAt bytes (names_of path))
+
+-- What a stop may leave of a put, besides the files as they were: few bytes were put, all of them; of
+-- more some pieces were, from the first on, into a file that was made without bytes, or lost its own.
+abbrev pub PutsSome : List ℕ → List ℕ → Form → Files → Files → Type 0
+PutsSome path bytes form files new = ((length bytes ≤ transfer_limit) × PutsAny path bytes files new)
+    ⊎ ((transfer_limit < length bytes) × ((empty : Files) × PutsAny path [] files empty
+    × WritesSome form path bytes (piece_count bytes) empty new))
+
+-- nothing was done over kernel k, which is m now, or a stop leaves of it as said
+abbrev pub LeavesIfDone : {D N : Type 0} → Ghosts D N → (Files → Files → Type 0) → Plain D → Plain D
+    → Type 0
+LeavesIfDone disk midst k m = (m ≡ k) ⊎ LeavesMidst disk midst k m
+
+-- Some bytes were put on the disk of a file, which holds writes back where `sync` says so. Where one
+-- call does not write them, there was room for them before.
 pub record HasPut {F : Type 0} (remaining : F → Option (List ℕ)) (path : List ℕ)
     (sync last : Bool) (old new : Option (List ℕ)) : Type 0 where
   pub bytes : List ℕ
   pub put : OpensDisk remaining file_disk sync (λ d e.
       HasChanged file_disk (Puts path bytes) last d e old new
-      × (length bytes ≤ transfer_limit → StopsChange file_disk (λ form. PutsSome path bytes) d e))
+      × StopsChange file_disk (PutsSome path bytes) d e)
+  pub room : transfer_limit < length bytes
+      → OpensDisk remaining file_disk false (HasRoomFor file_disk (length bytes))

@@ -47,8 +47,6 @@ pub struct Rename<'a> {
 impl<'a> TreeChange for Remove<'a> {
     ghost makes = { λ change form. Plainly (RemovesAt (names_of change.path.now)) };
 
-    ghost whole = { λ change. Unit {0} };
-
     ghost midst = { λ change form. AnyOf (RemovesAt (names_of change.path.now)) };
 
     ghost undone = { λ change t. OnTree (IsUndone t.disk change.path.now
@@ -68,8 +66,6 @@ impl<'a> TreeChange for Remove<'a> {
 
 impl<'a> TreeChange for RemoveDirectory<'a> {
     ghost makes = { λ change form. Plainly (RemovesDirectoryAt (names_of change.path.now)) };
-
-    ghost whole = { λ change. Unit {0} };
 
     ghost midst = { λ change form. AnyOf (RemovesDirectoryAt (names_of change.path.now)) };
 
@@ -91,8 +87,6 @@ impl<'a> TreeChange for RemoveDirectory<'a> {
 impl<'a> TreeChange for MakeDirectory<'a> {
     ghost makes = { λ change form. MakesDirectory change.path.now };
 
-    ghost whole = { λ change. Unit {0} };
-
     ghost midst = { λ change form. AnyOf (MakesDirectoryAt (names_of change.path.now)) };
 
     ghost undone = { λ change t. OnTree (IsUndone t.disk change.path.now
@@ -112,8 +106,6 @@ impl<'a> TreeChange for MakeDirectory<'a> {
 
 impl<'a> TreeChange for Rename<'a> {
     ghost makes = { λ change form. Plainly (RenamesAt (names_of change.from.now) (names_of change.to.now)) };
-
-    ghost whole = { λ change. Unit {0} };
 
     ghost midst = { λ change form.
         AnyOf (RenamesAt (names_of change.from.now) (names_of change.to.now)) };

@@ -26,10 +26,7 @@ pub trait TreeChange {
     /// In a kernel of this form it makes this of the files, and answers this number.
     ghost makes: { Self → Form → Option ℕ → Files → Files → Type 0 };
 
-    /// It is one transaction.
-    ghost whole: { Self → Type 0 };
-
-    /// A stop in its midst may leave that of the files, besides them as they were, where it is one.
+    /// A stop in its midst may leave that of the files, besides them as they were.
     ghost midst: { Self → Form → Files → Files → Type 0 };
 
     /// Why it is not made, over a kernel that was one and is another.
@@ -46,8 +43,7 @@ pub trait TreeChange {
         ensures undone { IfErr result
             (undone self.now (turn D.Disk tree.old.kernel tree.new.kernel)) }
         ensures cause { IfErr result IsOfTree }
-        ensures leaves { whole self.now
-            → LeavesMidst D.Disk (midst self.now (form_seen D.image tree.old.kernel))
+        ensures leaves { LeavesMidst D.Disk (midst self.now (form_seen D.image tree.old.kernel))
             tree.old.kernel tree.new.kernel }
         ensures stays { StaysOver D.Disk tree.old.kernel tree.new.kernel };
 }
@@ -67,12 +63,12 @@ impl<C: TreeChange + Drop> DiskCommand for OverTree<C> {
 
     ghost done = { λ over c old new.
         HasChanged c.disk (C.makes over.change) over.last c.was c.now old new
-        × (C.whole over.change → StopsChange c.disk (C.midst over.change) c.was c.now) };
+        × StopsChange c.disk (C.midst over.change) c.was c.now };
 
     ghost refused = { λ over c old new none r.
         HasNotChanged c.disk (C.makes over.change) (C.undone over.change) over.last c.was c.now
         none r
-        × (C.whole over.change → StopsChange c.disk (C.midst over.change) c.was c.now) };
+        × StopsChange c.disk (C.midst over.change) c.was c.now };
 
     fn run_on<D: Disk + Drop, O: Write>(
         self,
@@ -103,7 +99,7 @@ fn change_in<D: Disk + Drop, C: TreeChange, O: Write>(
     ensures refused { (d : D) → IsOpenedPair D.Disk d tree.kernel → IfErr result.0
         (HasNotChanged D.Disk (C.makes change.now) (C.undone change.now) last d result.1
         (out.new ≡ out.old)) }
-    ensures stops { (d : D) → IsOpenedPair D.Disk d tree.kernel → C.whole change.now
+    ensures stops { (d : D) → IsOpenedPair D.Disk d tree.kernel
         → StopsChange D.Disk (C.midst change.now) d result.1 }
 {
     let mut tree = tree;

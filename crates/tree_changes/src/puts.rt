@@ -8,22 +8,35 @@ ghost use Rattle.names.specs.Inside.{form_seen};
 ghost use Rattle.names.specs.Paths.{names_of};
 ghost use Rattle.names.specs.Ready.{MayGoOn};
 ghost use Rattle.names.specs.Writing.{Writes};
-ghost use Rattle.tree_changes.specs.Changes.{IsOfTree, LeavesMidst};
-ghost use Rattle.tree_changes.specs.Puts.{piece_count, IsUnappended, IsUnputAt, IsUnputFew, Puts, PutsFew, PutsSome, StopsWriting, WritesPieces};
+ghost use Rattle.tree_changes.specs.Changes.{AnyOf, IsOfTree, LeavesMidst};
+ghost use Rattle.tree_changes.specs.Puts.{
+  piece_count,
+  IsUnappended,
+  IsUnputAt,
+  IsUnputFew,
+  LeavesIfDone,
+  Puts,
+  PutsAny,
+  PutsFew,
+  PutsSome,
+  StopsWriting,
+  WritesPieces,
+  WritesSome,
+};
 
 use crate::faults::ChangeRefusal;
 use crate::over_tree::TreeChange;
 use blocks::Disk;
 use model::types::TRANSFER_LIMIT;
-use names::{Tree, Unwritten};
+use names::{Tree, TreeFault, Unwritten};
 use std::alloc::Global;
 
 // So many bytes are written by one call.
 const PIECE: usize = TRANSFER_LIMIT as usize;
 
 /// Puts bytes into the file at a path, in place of its own, which is made where nothing is there.
-/// Answers its number. No more than 3072 are put by one transaction; of more a stop leaves a
-/// beginning.
+/// Answers its number. No more than 3072 are put by one transaction; of more the file loses its own
+/// first, and then gets pieces of 3072, so that a stop leaves a beginning of them.
 #[derive(Drop)]
 pub struct Put<'a> {
     /// The path, from the root.
@@ -35,9 +48,7 @@ pub struct Put<'a> {
 impl<'a> TreeChange for Put<'a> {
     ghost makes = { λ put. Puts put.path.now put.bytes.items };
 
-    ghost whole = { λ put. length put.bytes.items ≤ transfer_limit };
-
-    ghost midst = { λ put form. PutsSome put.path.now put.bytes.items };
+    ghost midst = { λ put. PutsSome put.path.now put.bytes.items };
 
     ghost undone = { λ put t. IsUnputAt t.disk put.path.now put.bytes.items t.was t.now };
 
@@ -74,7 +85,7 @@ fn put_few<D: Disk>(
     ensures undone { IfErr result
         (IsUnputFew D.Disk path.now bytes.now tree.old.kernel tree.new.kernel) }
     ensures cause { IfErr result IsOfTree }
-    ensures leaves { 0 < tree.old.calls_left → LeavesMidst D.Disk (PutsSome path.now bytes.now)
+    ensures leaves { 0 < tree.old.calls_left → LeavesMidst D.Disk (PutsAny path.now bytes.now)
         tree.old.kernel tree.new.kernel }
     ensures stays { StaysOver D.Disk tree.old.kernel tree.new.kernel }
 {
@@ -90,7 +101,7 @@ fn put_few<D: Disk>(
 /// # Errors
 ///
 /// `Unwritten` where the kernel refuses a piece, `Tree` where the tree doesn't answer. Then the pieces
-/// before it were written.
+/// before it were written. Whatever a stop leaves has a beginning of the pieces.
 pub fn append_all<D: Disk>(
     alloc: Global,
     tree: &mut Tree<D>,
@@ -106,6 +117,8 @@ pub fn append_all<D: Disk>(
     ensures undone { IfErr result
         (StopsWriting D.Disk path.now bytes.now tree.old.kernel tree.new.kernel) }
     ensures cause { IfErr result IsOfTree }
+    ensures leaves { LeavesIfDone D.Disk (WritesSome (form_seen D.image tree.old.kernel)
+        path.now bytes.now (piece_count bytes.now)) tree.old.kernel tree.new.kernel }
     ensures stays { StaysOver D.Disk tree.old.kernel tree.new.kernel }
 {
     for piece in 0..bytes.len().div_ceil(PIECE) {
@@ -116,7 +129,7 @@ pub fn append_all<D: Disk>(
     Ok(())
 }
 
-// Writes a piece behind the bytes that a file has.
+// Writes a piece behind the bytes that a file has, where another call may be made.
 fn append<D: Disk>(
     alloc: Global,
     tree: &mut Tree<D>,
@@ -133,11 +146,16 @@ fn append<D: Disk>(
     ensures undone { IfErr result
         (IsUnappended D.Disk path.now from bytes.now tree.old.kernel tree.new.kernel) }
     ensures cause { IfErr result IsOfTree }
+    ensures leaves { LeavesIfDone D.Disk (AnyOf (Writes (form_seen D.image tree.old.kernel)
+        (names_of path.now) from bytes.now)) tree.old.kernel tree.new.kernel }
     ensures stays { StaysOver D.Disk tree.old.kernel tree.new.kernel }
 {
     let Ok(from) = u32::try_from(from) else {
         return Err(ChangeRefusal::Unwritten(Unwritten::TooBig));
     };
+    if !tree.may_call() {
+        return Err(ChangeRefusal::Tree(TreeFault::NoCall));
+    }
     match tree.write(alloc, path, from, bytes) {
         Ok(Ok(())) => Ok(()),
         Ok(Err(fault)) => Err(ChangeRefusal::Unwritten(fault)),

@@ -33,6 +33,7 @@ refusal_telling refusal.Full = names_told 9 (codes "Full")
 refusal_telling refusal.NoNumber = names_told 10 (codes "NoNumber")
 refusal_telling refusal.NoBlock = names_told 11 (codes "NoBlock")
 refusal_telling refusal.IsInside = names_told 14 (codes "IsInside")
+refusal_telling refusal.LinkedTwice = names_told 20 (codes "LinkedTwice")
 
 abbrev pub path_telling : PathFault → Telling
 path_telling path.NameTooLong = names_told 8 (codes "NameTooLong")

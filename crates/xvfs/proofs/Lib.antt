@@ -1,3 +1,4 @@
 pub mod Dispatch
 mod Disks
+mod Drawn
 pub mod LockedOut

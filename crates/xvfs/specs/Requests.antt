@@ -27,7 +27,7 @@ use Rattle.commands.specs.Rescues.{HasRescued, OnRescueRefusal}
 use Rattle.commands.specs.Puts.{HasPut, OnPutRefusal}
 use Rattle.commands.specs.Words.{IsDoneOf, IsNotDone, IsRefusedOf}
 use Rattle.xvfs.specs.Files.{FileGhosts}
-use Rattle.xvfs.specs.Scripts.{ChecksScript, IsScriptUnchecked}
+use Rattle.xvfs.specs.StopsDrawn.{ChecksInto, IsUncheckedInto}
 
 -- the form of the image that is made
 abbrev pub form_asked : Bool → Form
@@ -66,7 +66,8 @@ Answers file (Replay image script schedule stop sync writes steps picture) old n
     (record { steps = steps; writes = writes }) (unwrap_or stop 0) old new picture)
 Answers file (Run image script workers sync) old new =
     OpensDisk file.remaining file_disk sync (IsRun old new)
-Answers file (Stops script schedule held) old new = ChecksScript held old new
+Answers file (Stops script schedule held picture) old new =
+    ChecksInto file.contents held old new picture
 
 -- a command was refused, for some reason of its own
 abbrev pub Refuses : {R : Type 0} → (R → Type 0) → Type 0
@@ -105,7 +106,8 @@ OnRefused file (Replay image script schedule stop sync writes steps picture) old
     (unwrap_or stop 0) old new none)
 OnRefused file (Run image script workers sync) old new none =
     Refuses (IsNotRun file.remaining sync old new none)
-OnRefused file (Stops script schedule held) old new none = Refuses (IsScriptUnchecked held none)
+OnRefused file (Stops script schedule held picture) old new none =
+    Refuses (IsUncheckedInto file.contents held old new none picture)
 
 -- the words ask help for a format, and its lines were printed
 abbrev pub HasTold : List (List ℕ) → Option (List ℕ) → Option (List ℕ) → Type 0

@@ -8,7 +8,7 @@ ghost use Rattle.cli.specs.declared.explanation.Explanation.{Explanation as Some
 
 use crate::locks::lock_image;
 use crate::progress::{Screen, TerminalMeter};
-use crate::stopping::{end_stops, stops_files};
+use crate::stopping::{end_stops, stops_into};
 use crate::telling::{given, says_more};
 use crate::topics::print_topic;
 use arrayvec::ArrayVec;
@@ -16,8 +16,8 @@ use blocks::{Disk, FaultyDisk, FileDisk};
 use cli::{Asked, Request, Topic, parse};
 use cmd::{Access, OverFile, end, perform};
 use commands::{
-    Copy, Keeper, Locks, Making, Mkfs, Put, Rescue, ShowPicture, Target, explain, replay_into,
-    run_files,
+    Copy, Keeper, Locks, Making, Mkfs, Put, Replay, Rescue, ShowPicture, Target, explain,
+    replay_into, run_files,
 };
 use inspect::{Df, Line, Ls, Show, ShowLog, tell, tell_fault};
 use messages::Detail;
@@ -292,22 +292,17 @@ where
         } => {
             let mut progress = TerminalMeter::beside_lines(rt);
             let mut holder = Keeper::new(rt, false);
-            let detail = Detail { steps, writes };
+            let replay = Replay {
+                image,
+                script,
+                schedule,
+                stop,
+                sync,
+                detail: Detail { steps, writes },
+            };
             end(
                 NAME,
-                replay_into(
-                    rt,
-                    image,
-                    script,
-                    schedule,
-                    stop,
-                    sync,
-                    detail,
-                    picture,
-                    &mut progress,
-                    &mut holder,
-                    out,
-                ),
+                replay_into(rt, replay, picture, &mut progress, &mut holder, out),
                 err,
             )
         }
@@ -321,7 +316,15 @@ where
             script,
             schedule,
             held,
-        } => end_stops(NAME, stops_files(rt, script, schedule, held, out), err),
+            picture,
+        } => {
+            let mut holder = Keeper::new(rt, false);
+            end_stops(
+                NAME,
+                stops_into(rt, script, schedule, held, picture, &mut holder, out),
+                err,
+            )
+        }
     }
 }
 

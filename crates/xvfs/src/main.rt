@@ -7,6 +7,7 @@ mod command;
 mod locks;
 mod progress;
 mod stopping;
+mod stops_drawing;
 mod telling;
 mod topics;
 

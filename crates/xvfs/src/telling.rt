@@ -18,12 +18,7 @@ pub fn given<'a>(request: &Request<'a>) -> Given<'a> {
             size,
             ninodes,
             ..
-        } => Given {
-            made: Some(image),
-            size: Some(size),
-            ninodes: Some(ninodes),
-            ..Given::nothing()
-        },
+        } => Given::making(image, size, ninodes),
         Request::Check { image, .. } => Given::over(image, false),
         Request::Recover { image, .. } => Given::over(image, true),
         Request::Cat { image, inum } => Given {
@@ -66,12 +61,7 @@ pub fn given<'a>(request: &Request<'a>) -> Given<'a> {
             schedule,
             picture,
             ..
-        } => Given {
-            made: picture,
-            script: Some(script),
-            schedule: Some(schedule),
-            ..Given::over(image, true)
-        },
+        } => played(Given::over(image, true), script, schedule, picture),
         Request::Run { image, script, .. } => Given {
             script: Some(script),
             ..Given::over(image, true)
@@ -79,11 +69,23 @@ pub fn given<'a>(request: &Request<'a>) -> Given<'a> {
         Request::Stops {
             script,
             schedule,
+            picture,
             ..
-        } => Given {
-            script: Some(script),
-            schedule: Some(schedule),
-            ..Given::nothing()
-        },
+        } => played(Given::nothing(), script, schedule, picture),
+    }
+}
+
+// What a command was given that plays a script, and maybe draws it.
+fn played<'a>(
+    given: Given<'a>,
+    script: &'a str,
+    schedule: &'a str,
+    picture: Option<&'a str>,
+) -> Given<'a> {
+    Given {
+        made: picture,
+        script: Some(script),
+        schedule: Some(schedule),
+        ..given
     }
 }

@@ -11,7 +11,7 @@ use Rattle.tree_changes.specs.Tellings.{change_telling}
 use Rattle.model.specs.Operations.{transfer_limit}
 use Rattle.tree_changes.specs.Changes.{HasNotChanged, StopsChange}
 use Rattle.tree_changes.specs.Puts.{IsUnputAt, Puts, PutsSome}
-use Rattle.tree_changes.specs.Room.{LacksRoom}
+use Rattle.tree_changes.specs.Room.{HasRoomFor, LacksRoom}
 use Rattle.tree_changes.specs.declared.faults.ChangeRefusal.{ChangeRefusal}
 use Rattle.xvnames.specs.declared.refused.FillFault.{FillFault}
 use Rattle.xvnames.specs.declared.refused.FillFault.TheVariants as fill
@@ -35,15 +35,17 @@ mkfs_telling (mkfs.Unread fault) = reading_telling fault
 mkfs_telling (mkfs.Of refused) = on_file_telling fill_telling refused
 mkfs_telling mkfs.Output = unwritten
 
--- Some bytes were not put on the disk of a file, for this reason, and what a stop leaves of that;
--- `none` says that nothing was printed.
+-- Some bytes were not put on the disk of a file, for this reason, and what a stop leaves of that. Where
+-- one call does not write them, there was room for them before. `none` says that nothing was printed.
 pub record HasNotPut {F : Type 0} (remaining : F → Option (List ℕ)) (path : List ℕ)
     (sync last : Bool) (none : Type 0) (r : OnFile ChangeRefusal) : Type 0 where
   pub bytes : List ℕ
   pub refused : IsRefusedOn remaining sync none (λ d e why.
       HasNotChanged file_disk (Puts path bytes)
       (λ t. IsUnputAt t.disk path bytes t.was t.now) last d e none why
-      × (length bytes ≤ transfer_limit → StopsChange file_disk (λ form. PutsSome path bytes) d e)) r
+      × StopsChange file_disk (PutsSome path bytes) d e) r
+  pub room : transfer_limit < length bytes
+      → OpensDisk remaining file_disk false (HasRoomFor file_disk (length bytes))
 
 -- so many bytes have no room on the disk of a file, which was only read; or that can't be used as one
 abbrev pub HasNoRoom : {F : Type 0} → (F → Option (List ℕ)) → ℕ → OnFile ChangeRefusal → Type 0

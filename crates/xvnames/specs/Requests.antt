@@ -41,7 +41,7 @@ abbrev pub Changes : {F : Type 0} → (F → Option (List ℕ))
     → Option (List ℕ) → Option (List ℕ) → Type 0
 Changes remaining makes midst sync no_sync old new = OpensDisk remaining file_disk sync
     (λ d e. HasChanged file_disk makes (not no_sync) d e old new
-    × (Unit {0} → StopsChange file_disk midst d e))
+    × StopsChange file_disk midst d e)
 
 -- a file was copied out, or all below a directory
 abbrev pub Gets : {F : Type 0} → (F → Option (List ℕ)) → (F → Option (List ℕ)) → Bool → List ℕ
@@ -97,7 +97,7 @@ abbrev pub ChangesNot : {F : Type 0} → (F → Option (List ℕ))
 ChangesNot remaining makes midst undone sync no_sync none = Refuses
     (IsRefusedOn remaining sync none (λ d e r.
     HasNotChanged file_disk makes undone (not no_sync) d e none r
-    × (Unit {0} → StopsChange file_disk midst d e)))
+    × StopsChange file_disk midst d e))
 
 -- a file was not copied out, nor all below a directory
 abbrev pub GetsNot : {F : Type 0} → (F → Option (List ℕ)) → Bool → List ℕ → Type 0 → Type 0

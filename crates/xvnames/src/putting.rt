@@ -1,6 +1,10 @@
 // The command that puts a file of the system under a path of an image.
-ghost use Rattle.std.specs.Prelude.{IfErr};
+ghost use Rattle.std.specs.Prelude.{◌<◌, false, IfErr, OnErr, OnOk};
+ghost use Rattle.cmd.specs.Lemmas.Disks.{file_disk};
+ghost use Rattle.cmd.specs.Opened.{OpensDisk};
+ghost use Rattle.model.specs.Operations.{transfer_limit};
 ghost use Rattle.tree_changes.specs.Puts.{HasPut};
+ghost use Rattle.tree_changes.specs.Room.{HasRoomFor};
 ghost use Rattle.xvnames.specs.Refusals.{HasNoRoom, IsUnput};
 
 use crate::refused::PutRefusal;
@@ -41,10 +45,8 @@ impl<'a, R: Files + AllocGlobal> Command<R> for PutFile<'a> {
             Ok(bytes) => bytes,
             Err(fault) => return Err(PutRefusal::Unread(fault)),
         };
-        if bytes.len() > TRANSFER_LIMIT as usize {
-            if let Err(refusal) = judge(rt, self.image, bytes.len()) {
-                return Err(PutRefusal::NoRoom(refusal));
-            }
+        if let Err(refusal) = judge(rt, self.image, bytes.len()) {
+            return Err(PutRefusal::NoRoom(refusal));
         }
         let put = OverTree {
             change: Put {
@@ -62,14 +64,21 @@ impl<'a, R: Files + AllocGlobal> Command<R> for PutFile<'a> {
 }
 
 // Whether that many bytes may be put into the image in a file, as far as that is told before anything
-// of it is changed. So a file loses no bytes for others that it can't have.
+// of it is changed: no more than one call writes always may. So a file loses no bytes for others that it
+// can't have.
 fn judge<R: Files + AllocGlobal>(
     rt: &R,
     image: &str,
     count: usize,
 ) -> Result<(), OnFile<ChangeRefusal>>
-    ensures { IfErr result (HasNoRoom R.File.remaining count) }
+    ensures room { OnOk result (transfer_limit < count
+        → OpensDisk R.File.remaining file_disk false (HasRoomFor file_disk count)) }
+    ensures many { OnErr result (transfer_limit < count) }
+    ensures refused { IfErr result (HasNoRoom R.File.remaining count) }
 {
+    if count <= TRANSFER_LIMIT as usize {
+        return Ok(());
+    }
     let mut disk = match open_to_look(rt, image) {
         Ok(disk) => disk,
         Err(fault) => return Err(OnFile::File(fault)),

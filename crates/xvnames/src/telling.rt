@@ -51,11 +51,8 @@ pub fn given<'a>(request: &Request<'a>) -> Given<'a> {
             ninodes,
             ..
         } => Given {
-            made: Some(image),
             name: Some(image),
-            size: Some(size),
-            ninodes: Some(ninodes),
-            ..Given::nothing()
+            ..Given::making(image, size, ninodes)
         },
     }
 }

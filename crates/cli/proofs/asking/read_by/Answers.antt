@@ -1,4 +1,5 @@
-use Rattle.std.proofs.Common.{codes, map, rules}
+use Rattle.std.proofs.Common.{ℕ, List, Option, codes, map, rules}
+use Rattle.clap.specs.Words.{Row, subcommand_of, subcommand_rows_of}
 use Rattle.cli.specs.Asking.{Asks, Gives, IsMistakeIn}
 use Rattle.cli.proofs.CommandLines.{met, mistaken, none_mistaken}
 use Rattle.cli.proofs.asking.read_by.Goals as goal
@@ -13,15 +14,15 @@ pub returns-in-Some-clause-ok : goal.returns-in-Some-clause-ok
 returns-in-Some-clause-ok g c =
     let words = map g.S.AsStr.text c.args.words.now in
     let wording = g.Q.ByWords.wording in
+    let matches = c.in_ok-matches.matches in
+    let asked = c.in-Some.asked in
+    let says : (P : Option (List ℕ × List Row) → Type 0) → P (subcommand_rows_of matches) → P (subcommand_of wording.app words) =
+    λ P. met wording _ words matches P c.requires.free c.requires.app.0 c.in_ok-matches.ensures.ok.2 in
     record {
-      right = none_mistaken wording _ words c.in_ok-matches.matches c.requires.free c.requires.app.0 c.in_ok-matches.ensures.kinds;
-      asks = met wording _ words c.in_ok-matches.matches (λ command. Asks wording command c.in-Some.asked.request) c.requires.free c.requires.app.0 c.in_ok-matches.ensures.ok.2 (rw c.in-Some.is at c.in_ok-asked.ensures.asks);
+      request = record {
+        right = none_mistaken wording _ words matches c.requires.free c.requires.app.0 c.in_ok-matches.ensures.kinds;
+        asks = says (λ command. Asks wording command asked.request) (rw c.in-Some.is at c.in_ok-asked.ensures.asks);
+      };
+      wait = says (λ command. Gives (codes "wait") command asked.wait) (rw c.in-Some.is at c.in_ok-asked.ensures.waits);
+      explain = says (λ command. Gives (codes "explain") command asked.explain) (rw c.in-Some.is at c.in_ok-asked.ensures.explains);
     }
-
-pub returns-in-Some-clause-wait : goal.returns-in-Some-clause-wait
-returns-in-Some-clause-wait g c =
-    met g.Q.ByWords.wording _ (map g.S.AsStr.text c.args.words.now) c.in_ok-matches.matches (λ command. Gives (codes "wait") command c.in-Some.asked.wait) c.requires.free c.requires.app.0 c.in_ok-matches.ensures.ok.2 (rw c.in-Some.is at c.in_ok-asked.ensures.waits)
-
-pub returns-in-Some-clause-explain : goal.returns-in-Some-clause-explain
-returns-in-Some-clause-explain g c =
-    met g.Q.ByWords.wording _ (map g.S.AsStr.text c.args.words.now) c.in_ok-matches.matches (λ command. Gives (codes "explain") command c.in-Some.asked.explain) c.requires.free c.requires.app.0 c.in_ok-matches.ensures.ok.2 (rw c.in-Some.is at c.in_ok-asked.ensures.explains)

@@ -4,14 +4,13 @@ use Rattle.cli.specs.Lemmas.Parses.{flag_read, path_read, value_read}
 use Rattle.cli.proofs.words.replay_request.Goals as goal
 
 pub returns : goal.returns
-returns c =
-    let found = found_of c.args.values.now in (
-      refl,
-      value_read found (codes "IMAGE") _ c.in_ok-get_str.ensures,
-      value_read found (codes "SCRIPT") _ c.in_ok-get_str-2.ensures,
-      value_read found (codes "SCHEDULE") _ c.in_ok-get_str-3.ensures,
-      flag_read found (codes "sync") c.get_flag.result c.get_flag.ensures.none c.get_flag.ensures.value c.get_flag.ensures.other,
-      flag_read found (codes "writes") c.get_flag-2.result c.get_flag-2.ensures.none c.get_flag-2.ensures.value c.get_flag-2.ensures.other,
-      flag_read found (codes "steps") c.get_flag-3.result c.get_flag-3.ensures.none c.get_flag-3.ensures.value c.get_flag-3.ensures.other,
-      path_read found (codes "picture") _ c.get_str-4.ensures,
-    )
+returns c = (
+  refl,
+  value_read (found_of c.args.values.now) (codes "IMAGE") _ c.in_ok-get_str.ensures,
+  value_read (found_of c.args.values.now) (codes "SCRIPT") _ c.in_ok-get_str-2.ensures,
+  value_read (found_of c.args.values.now) (codes "SCHEDULE") _ c.in_ok-get_str-3.ensures,
+  flag_read (found_of c.args.values.now) (codes "sync") c.get_flag.result c.get_flag.ensures.none c.get_flag.ensures.value c.get_flag.ensures.other,
+  flag_read (found_of c.args.values.now) (codes "writes") c.get_flag-2.result c.get_flag-2.ensures.none c.get_flag-2.ensures.value c.get_flag-2.ensures.other,
+  flag_read (found_of c.args.values.now) (codes "steps") c.get_flag-3.result c.get_flag-3.ensures.none c.get_flag-3.ensures.value c.get_flag-3.ensures.other,
+  path_read (found_of c.args.values.now) (codes "picture") _ c.get_str-4.ensures,
+)

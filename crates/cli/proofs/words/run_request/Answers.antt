@@ -4,11 +4,10 @@ use Rattle.cli.specs.Lemmas.Parses.{flag_read, value_read}
 use Rattle.cli.proofs.words.run_request.Goals as goal
 
 pub returns : goal.returns
-returns c =
-    let found = found_of c.args.values.now in (
-      refl,
-      value_read found (codes "IMAGE") _ c.in_ok-get_str.ensures,
-      value_read found (codes "SCRIPT") _ c.in_ok-get_str-2.ensures,
-      c.workers_of.ensures,
-      flag_read found (codes "sync") c.get_flag.result c.get_flag.ensures.none c.get_flag.ensures.value c.get_flag.ensures.other,
-    )
+returns c = (
+  refl,
+  value_read (found_of c.args.values.now) (codes "IMAGE") _ c.in_ok-get_str.ensures,
+  value_read (found_of c.args.values.now) (codes "SCRIPT") _ c.in_ok-get_str-2.ensures,
+  c.workers_of.ensures,
+  flag_read (found_of c.args.values.now) (codes "sync") c.get_flag.result c.get_flag.ensures.none c.get_flag.ensures.value c.get_flag.ensures.other,
+)

@@ -1,6 +1,6 @@
 use Rattle.std.proofs.Common.{codes, refl}
 use Rattle.clap.specs.Words.{found_of}
-use Rattle.cli.specs.Lemmas.Parses.{flag_read, value_read}
+use Rattle.cli.specs.Lemmas.Parses.{flag_read, path_read, value_read}
 use Rattle.cli.proofs.words.stops_request.Goals as goal
 
 pub returns : goal.returns
@@ -10,4 +10,5 @@ returns c =
       value_read found (codes "SCRIPT") _ c.in_ok-get_str.ensures,
       value_read found (codes "SCHEDULE") _ c.in_ok-get_str-2.ensures,
       flag_read found (codes "held") c.get_flag.result c.get_flag.ensures.none c.get_flag.ensures.value c.get_flag.ensures.other,
+      path_read found (codes "picture") _ c.get_str-3.ensures,
     )

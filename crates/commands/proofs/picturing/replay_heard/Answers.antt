@@ -1,28 +1,18 @@
-use Rattle.commands.proofs.Ended.{where_done, where_refused}
-use Rattle.commands.proofs.Recording.{all_recorded, scene_same}
-use Rattle.commands.specs.declared.picture_teller.PictureTeller.{PictureTeller}
+use Rattle.std.proofs.Common.{◌≡◌, ℕ, Option, subst}
+use Rattle.std.specs.Prelude.{IfErr, IfOk, unwrap_or}
+use Rattle.cmd.specs.Lemmas.Disks.{file_disk}
+use Rattle.cmd.specs.Opened.{OpensDisk}
+use Rattle.commands.specs.Pictures.{IsSceneOf, IsUnpictured}
+use Rattle.commands.specs.Runs.{IsReplayedSo}
 use Rattle.commands.proofs.picturing.replay_heard.Goals as goal
 
-pub returns-in-Ok-ran-clause-replayed : goal.returns-in-Ok-ran-clause-replayed
-returns-in-Ok-ran-clause-replayed g c =
-    let ran = c.replay_with-ran in
-    let told = where_done ran.result.0 _ _ c.in-Ok-ran.is ran.ensures.printed in (
-      c.in-Ok.disk,
-      (
-        ran.result.1,
-        c.in-Ok.ensures,
-        record {
-          tasks = _;
-          processes = _;
-          words = _;
-          tolds = told.tolds;
-          replays = told.told;
-          more = (scene_same _ _ _ _ c.count_inodes.ensures, all_recorded _ (λ (t : PictureTeller). t.recorder) (λ w one a b h. h.2) _ told.tolds _ _ told.heard);
-        },
-      ),
-    )
+pub returns-in-Ok-clause-replayed : goal.returns-in-Ok-clause-replayed
+returns-in-Ok-clause-replayed g c =
+    let was = c.args.teller.now in
+    subst (λ (stop : Option ℕ). IfOk c.replay_told.result (λ scene. OpensDisk g.R.File.Read.remaining file_disk c.args.replay.sync (IsReplayedSo was.lines.detail (unwrap_or stop 0) (g.O.Write.contents c.args.out.now) (g.O.Write.contents c.replay_told.new.out) (IsSceneOf was.recorder c.replay_told.new.teller.recorder c.args.replay.sync scene))))
+    c.in-Ok.ensures.scenario.stops c.replay_told.ensures.replayed
 
-pub returns-clause-refused : goal.returns-clause-refused
-returns-clause-refused g c =
-    let ran = c.replay_with-ran in
-    (c.in-Ok.disk, (ran.result.1, c.in-Ok.ensures, record { tasks = _; processes = _; words = _; refused = where_refused ran.result.0 c.in-Err-ran.refusal _ c.in-Err-ran.is ran.ensures.refused }))
+pub returns-in-Ok-clause-refused : goal.returns-in-Ok-clause-refused
+returns-in-Ok-clause-refused g c =
+    subst (λ (stop : Option ℕ). IfErr c.replay_told.result (IsUnpictured g.R.File.Read.remaining c.args.replay.sync c.args.teller.now.lines.detail (unwrap_or stop 0) (g.O.Write.contents c.args.out.now) (g.O.Write.contents c.replay_told.new.out) (c.replay_told.new.out ≡ c.args.out.now)))
+    c.in-Ok.ensures.scenario.stops c.replay_told.ensures.refused

@@ -33,20 +33,20 @@ module _ (g : Over) (c : In_ok-take_in g) where
       (subst (λ (y : Image). IsSeen (files_of (recovered y)) c.from.result c.in_ok-seen.seen) c.loop-looked.invariant.reads.image c.in_ok-seen.ensures.seen)
 
   takes : (may : Bool) → c.in_ok-take_in.field-0 ≡ may →
-      TakesIn c.in_ok-seen.seen c.index-number.result.now c.index-parent.result.now c.loop-looked.numbers.items c.loop-looked.parents.items c.take_in.new.numbers.items c.take_in.new.parents.items may
+      TakesIn c.in_ok-seen.seen c.index-number.result.now c.index-parent.result.now c.loop-looked.numbers.items c.loop-looked.parents.items c.loop-looked.again.items c.take_in.new.numbers.items c.take_in.new.parents.items c.take_in.new.again.items may
   takes may is =
-      subst (λ (b : Bool). TakesIn c.in_ok-seen.seen c.index-number.result.now c.index-parent.result.now c.loop-looked.numbers.items c.loop-looked.parents.items c.take_in.new.numbers.items c.take_in.new.parents.items b)
+      subst (λ (b : Bool). TakesIn c.in_ok-seen.seen c.index-number.result.now c.index-parent.result.now c.loop-looked.numbers.items c.loop-looked.parents.items c.loop-looked.again.items c.take_in.new.numbers.items c.take_in.new.parents.items c.take_in.new.again.items b)
       is c.in_ok-take_in.ensures
 
-  next : c.in_ok-take_in.field-0 ≡ true → HasFound fs (c.loop-looked.looked + 1) c.take_in.new.numbers.items c.take_in.new.parents.items
+  next : c.in_ok-take_in.field-0 ≡ true → HasFound fs (c.loop-looked.looked + 1) c.take_in.new.numbers.items c.take_in.new.parents.items c.take_in.new.again.items
   next is =
-      next_found fs c.loop-looked.looked c.index-number.result.now c.index-parent.result.now c.loop-looked.numbers.items c.loop-looked.parents.items c.take_in.new.numbers.items c.take_in.new.parents.items
+      next_found fs c.loop-looked.looked c.index-number.result.now c.index-parent.result.now c.loop-looked.numbers.items c.loop-looked.parents.items c.loop-looked.again.items c.take_in.new.numbers.items c.take_in.new.parents.items c.take_in.new.again.items
       c.loop-looked.invariant.found inside number parent c.in_ok-seen.seen seen (takes true is)
 
 pub returns-then-not-branch-clause-looked : goal.returns-then-not-branch-clause-looked
 returns-then-not-branch-clause-looked g c =
     let at = (goal.at.returns-then-not-branch-clause-looked g c).In_ok-take_in in
-    no_tree (fs g at) c.loop-looked.looked c.index-number.result.now c.index-parent.result.now c.loop-looked.numbers.items c.loop-looked.parents.items c.take_in.new.numbers.items c.take_in.new.parents.items
+    no_tree (fs g at) c.loop-looked.looked c.index-number.result.now c.index-parent.result.now c.loop-looked.numbers.items c.loop-looked.parents.items c.loop-looked.again.items c.take_in.new.numbers.items c.take_in.new.parents.items c.take_in.new.again.items
     c.loop-looked.invariant.found (inside g at) (number g at) (parent g at) c.in_ok-seen.seen (seen g at) (takes g at false c.if-not-branch.true)
 
 pub loop-looked-smaller : goal.loop-looked-smaller
@@ -54,7 +54,7 @@ loop-looked-smaller g c =
     let at = (goal.at.loop-looked-smaller g c).In_ok-take_in in
     let most = c.args.image.now.sup.ninodes in
     let few : c.loop-looked.looked + 1 ≤ most =
-    few_looked (fs g at) (c.loop-looked.looked + 1) most c.take_in.new.numbers.items c.take_in.new.parents.items (next g at c.if-not-branch.false)
+    few_looked (fs g at) (c.loop-looked.looked + 1) most c.take_in.new.numbers.items c.take_in.new.parents.items c.take_in.new.again.items (next g at c.if-not-branch.false)
     (λ i there. (number_inside (g.D.Disk.image c.args.disk.now) c.args.image.now c.requires.reader.recovered i there).1) in
     omega (arith, few)
 

@@ -12,5 +12,5 @@ abbrev pub invariant-loop-looked : goal.invariant-loop-looked
 invariant-loop-looked g l = record {
   reads : OnlyReads g.D.Disk l.fn.disk l.disk;
   faults : g.D.Disk.fault_count l.disk ≡ g.D.Disk.fault_count l.fn.disk;
-  found : HasFound (files_of (recovered (g.D.Disk.image l.fn.disk))) l.looked l.numbers.items l.parents.items;
+  found : HasFound (files_of (recovered (g.D.Disk.image l.fn.disk))) l.looked l.numbers.items l.parents.items l.again.items;
 }

@@ -1,4 +1,4 @@
-use Rattle.names.proofs.PathLaws.{files_are_reached, names_are_one, names_lead}
+use Rattle.names.proofs.PathLaws.{directories_are_named_once, files_are_reached, names_are_one, names_lead}
 use Rattle.names.proofs.tree_laws.paths_name_files.Goals as goal
 
 pub returns-clause-lead : goal.returns-clause-lead
@@ -9,3 +9,6 @@ returns-clause-reached c = files_are_reached
 
 pub returns-clause-one : goal.returns-clause-one
 returns-clause-one c = names_are_one
+
+pub returns-clause-directories : goal.returns-clause-directories
+returns-clause-directories c = directories_are_named_once

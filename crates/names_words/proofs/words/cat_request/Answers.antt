@@ -4,9 +4,8 @@ use Rattle.cli.specs.Lemmas.Parses.{value_read}
 use Rattle.names_words.proofs.words.cat_request.Goals as goal
 
 pub returns : goal.returns
-returns c =
-    let found = found_of c.args.values.now in (
-      refl,
-      value_read found (codes "IMAGE") _ c.in_ok-get_str.ensures,
-      value_read found (codes "PATH") _ c.in_ok-get_str-2.ensures,
-    )
+returns c = (
+  refl,
+  value_read (found_of c.args.values.now) (codes "IMAGE") _ c.in_ok-get_str.ensures,
+  value_read (found_of c.args.values.now) (codes "PATH") _ c.in_ok-get_str-2.ensures,
+)

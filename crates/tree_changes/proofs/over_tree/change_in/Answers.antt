@@ -17,21 +17,18 @@ returns-in-Ok-clause-changed g c = λ d opened.
 pub returns-in-Ok-clause-refused : goal.returns-in-Ok-clause-refused
 returns-in-Ok-clause-refused g c = λ d opened.
     let disk = g.D.Disk in
-    let k = c.args.tree.kernel in
     let m = c.make.new.tree.kernel in
-    let tree = tree_was disk d k opened c.requires.ready.tree in
-    let makes = g.C.TreeChange.makes c.args.change.now in
-    let undone = g.C.TreeChange.undone c.args.change.now in
-    not_told disk makes undone c.args.last d k m opened tree c.in-Ok.number c.into_disk-disk.result c.tell-told.new.disk
-    (made_so disk makes undone c.args.last d k m opened tree c.in-Ok.number c.into_disk-disk.result c.into_disk-disk.ensures.disk c.in-Ok.ensures.makes)
+    let was = tree_was disk d c.args.tree.kernel opened c.requires.ready.tree in
+    not_told disk (g.C.TreeChange.makes c.args.change.now) (g.C.TreeChange.undone c.args.change.now) c.args.last d c.args.tree.kernel m opened was c.in-Ok.number c.into_disk-disk.result c.tell-told.new.disk
+    (made_so disk (g.C.TreeChange.makes c.args.change.now) (g.C.TreeChange.undone c.args.change.now) c.args.last d c.args.tree.kernel m opened was c.in-Ok.number c.into_disk-disk.result c.into_disk-disk.ensures.disk c.in-Ok.ensures.makes)
     c.tell-told.result _ c.tell-told.ensures.refused
 
 pub returns-in-Ok-clause-stops : goal.returns-in-Ok-clause-stops
-returns-in-Ok-clause-stops g c = λ d opened whole.
+returns-in-Ok-clause-stops g c = λ d opened.
     let disk = g.D.Disk in
     let k = c.args.tree.kernel in
     let m = c.make.new.tree.kernel in
-    ended_stops disk (g.C.TreeChange.midst c.args.change.now) d k m opened (c.make.ensures.leaves whole) (tree_was disk d k opened c.requires.ready.tree) c.into_disk-disk.result c.tell-told.new.disk c.into_disk-disk.ensures.disk c.tell-told.ensures.time
+    ended_stops disk (g.C.TreeChange.midst c.args.change.now) d k m opened c.make.ensures.leaves (tree_was disk d k opened c.requires.ready.tree) c.into_disk-disk.result c.tell-told.new.disk c.into_disk-disk.ensures.disk c.tell-told.ensures.time
 
 pub returns-in-Err-clause-refused : goal.returns-in-Err-clause-refused
 returns-in-Err-clause-refused g c = λ d opened.
@@ -41,8 +38,8 @@ returns-in-Err-clause-refused g c = λ d opened.
     failed_so disk (g.C.TreeChange.makes c.args.change.now) (g.C.TreeChange.undone c.args.change.now) c.args.last d k m opened (tree_was disk d k opened c.requires.ready.tree) c.into_disk.result _ c.into_disk.ensures.disk refl c.in-Err.refusal c.in-Err.ensures.cause c.in-Err.ensures.undone
 
 pub returns-in-Err-clause-stops : goal.returns-in-Err-clause-stops
-returns-in-Err-clause-stops g c = λ d opened whole.
+returns-in-Err-clause-stops g c = λ d opened.
     let disk = g.D.Disk in
     let k = c.args.tree.kernel in
     let m = c.make.new.tree.kernel in
-    changed_stops disk (g.C.TreeChange.midst c.args.change.now) d k m opened (c.make.ensures.leaves whole) (tree_was disk d k opened c.requires.ready.tree) c.into_disk.result c.into_disk.ensures.disk
+    changed_stops disk (g.C.TreeChange.midst c.args.change.now) d k m opened c.make.ensures.leaves (tree_was disk d k opened c.requires.ready.tree) c.into_disk.result c.into_disk.ensures.disk

@@ -1,14 +1,14 @@
-use Rattle.std.proofs.Common.{◌≡◌, ℕ, ◌*◌, List, length, refl, rules, subst, arith}
+use Rattle.std.proofs.Common.{◌≡◌, ◌≤◌, ℕ, ◌+◌, ◌*◌, List, length, inl, refl, rules, subst, arith}
 use Rattle.std.specs.Int.{div_ceil}
 use Rattle.calls.specs.Calls.{image_on}
 use Rattle.model.specs.Files.{files_of}
 use Rattle.names.specs.Inside.{form_seen}
-use Rattle.tree_changes.specs.Puts.{IsUnappended, StopsWriting, WritesPieces}
-use Rattle.tree_changes.proofs.Pieces.{over_on, piece_is, piece_written}
+use Rattle.tree_changes.specs.Puts.{IsUnappended, StopsWriting, WritesPieces, piece_count}
+use Rattle.tree_changes.proofs.Pieces.{left_by, over_on, piece_is, piece_left, piece_written}
 use Rattle.tree_changes.proofs.puts.append_all.Goals as goal
 
 pub loop-piece-init : goal.loop-piece-init
-loop-piece-init g c = record { ready = c.requires.ready; stays = record { opening = refl; name = refl }; writes = refl }
+loop-piece-init g c = record { ready = c.requires.ready; stays = record { opening = refl; name = refl }; leaves = inl refl; writes = refl }
 
 pub loop-piece-preserved : goal.loop-piece-preserved
 loop-piece-preserved g c =
@@ -19,7 +19,8 @@ loop-piece-preserved g c =
     record {
       ready = c.append.ensures.ready;
       stays = over_on g.D.Disk k m e so_far.stays c.append.ensures.stays;
-      writes = piece_written g.D.Disk k m e c.args.path.now c.args.bytes.now c.loop-piece.piece c.min-to.result so_far.stays c.min-to.ensures _ so_far.writes c.in_ok-append.ensures.writes;
+      leaves = piece_left g.D.Disk k m e c.args.path.now c.args.bytes.now c.loop-piece.piece c.min-to.result so_far.stays c.min-to.ensures so_far.writes so_far.leaves c.append.ensures.leaves;
+      writes = piece_written g.D.Disk k m c.args.path.now c.args.bytes.now c.loop-piece.piece c.min-to.result so_far.stays c.min-to.ensures _ _ so_far.writes c.in_ok-append.ensures.writes;
     }
 
 pub returns-in_err-append-clause-stays : goal.returns-in_err-append-clause-stays
@@ -37,6 +38,21 @@ returns-in_err-append-clause-undone g c =
       why = subst (λ (piece : List ℕ). IsUnappended g.D.Disk c.args.path.now (i * 3072) piece mid c.append.new.tree.kernel c.in_err-append.field-0.0) (piece_is c.args.bytes.now (i * 3072) c.min-to.result c.min-to.ensures) c.in_err-append.ensures.undone;
     } in
     search rules
+
+pub returns-in_err-append-clause-leaves : goal.returns-in_err-append-clause-leaves
+returns-in_err-append-clause-leaves g c =
+    let so_far = c.loop-piece.invariant in
+    let k = c.args.tree.now.kernel in
+    let count = piece_count c.args.bytes.now in
+    let low : c.loop-piece.piece + 1 ≤ count = omega (arith, c.loop-piece-test.true, c.div_ceil-piece-end.ensures) in
+    left_by g.D.Disk k c.append.new.tree.kernel (form_seen g.D.Disk.image k) c.args.path.now c.args.bytes.now (c.loop-piece.piece + 1) count low
+    (piece_left g.D.Disk k c.loop-piece.tree.kernel c.append.new.tree.kernel c.args.path.now c.args.bytes.now c.loop-piece.piece c.min-to.result so_far.stays c.min-to.ensures so_far.writes so_far.leaves c.append.ensures.leaves)
+
+pub returns-clause-leaves : goal.returns-clause-leaves
+returns-clause-leaves g c =
+    let k = c.args.tree.now.kernel in
+    let low : c.loop-piece.piece ≤ piece_count c.args.bytes.now = omega (arith, c.loop-piece-test.false, c.loop-piece.auto.piece-end, c.div_ceil-piece-end.ensures) in
+    left_by g.D.Disk k c.loop-piece.tree.kernel (form_seen g.D.Disk.image k) c.args.path.now c.args.bytes.now c.loop-piece.piece (piece_count c.args.bytes.now) low c.loop-piece.invariant.leaves
 
 pub returns-clause-writes : goal.returns-clause-writes
 returns-clause-writes g c =

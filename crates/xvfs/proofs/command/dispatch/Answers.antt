@@ -76,11 +76,11 @@ returns-in-Run-clause-refused g c =
 
 pub returns-in-Stops-clause-done : goal.returns-in-Stops-clause-done
 returns-in-Stops-clause-done g c =
-    λ done. subst (λ request. Answers (seen_by g.R.File.Read.remaining g.R.File.Write.contents) request (g.O.Write.contents c.args.out.now) (g.O.Write.contents c.stops_files.new.out)) (sym c.in-Stops.is) (was_done c.stops_files.result _ c.stops_files.ensures.checked (c.end_stops.ensures.done done))
+    λ done. subst (λ request. Answers (seen_by g.R.File.Read.remaining g.R.File.Write.contents) request (g.O.Write.contents c.args.out.now) (g.O.Write.contents c.stops_into.new.out)) (sym c.in-Stops.is) (was_done c.stops_into.result _ c.stops_into.ensures.checked (c.end_stops.ensures.done done))
 
 pub returns-in-Stops-clause-refused : goal.returns-in-Stops-clause-refused
 returns-in-Stops-clause-refused g c =
-    λ refused. subst (λ request. OnRefused (seen_by g.R.File.Read.remaining g.R.File.Write.contents) request (g.O.Write.contents c.args.out.now) (g.O.Write.contents c.stops_files.new.out) (c.stops_files.new.out ≡ c.args.out.now)) (sym c.in-Stops.is) (was_refused c.stops_files.result _ c.stops_files.ensures.refused (c.end_stops.ensures.refused refused))
+    λ refused. subst (λ request. OnRefused (seen_by g.R.File.Read.remaining g.R.File.Write.contents) request (g.O.Write.contents c.args.out.now) (g.O.Write.contents c.stops_into.new.out) (c.stops_into.new.out ≡ c.args.out.now)) (sym c.in-Stops.is) (was_refused c.stops_into.result _ c.stops_into.ensures.refused (c.end_stops.ensures.refused refused))
 
 pub returns-in-Cat-clause-done : goal.returns-in-Cat-clause-done
 returns-in-Cat-clause-done g c =

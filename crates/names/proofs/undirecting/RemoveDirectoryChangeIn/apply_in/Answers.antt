@@ -25,7 +25,7 @@ dropped-requires-clause-drops g c =
     may_empty (files_seen g.D.Disk.image c.args.tree.now.kernel) (files_seen g.D.Disk.image c.directory.new.self.kernel) (files_seen g.D.Disk.image c.emptiness.new.self.kernel)
     c.args.from c.in-Some-lookup.number c.from-number.result c.args.name.now c.in-Some.bytes c.as_slice.result.now c.as_slice-2.result.now c.in_ok-bytes.field-0
     c.in_ok-empty.field-0 c.in-Some-2.empty c.in_ok-bytes.ensures.same c.in_ok-bytes.ensures.found c.in-Some.is down c.as_slice.ensures c.as_slice-2.ensures
-    (sym c.in-Some-lookup.ensures) c.from-number.ensures c.in_ok-empty.ensures.same c.in_ok-empty.ensures.found c.in-Some-2.is empty
+    (sym c.in-Some-lookup.ensures) c.from-number.ensures c.in_ok-empty.ensures.same c.in_ok-empty.ensures.found c.in-Some-2.is empty c.requires.tree
 
 pub returns-clause-made : goal.returns-clause-made
 returns-clause-made g c =
@@ -35,6 +35,6 @@ returns-clause-made g c =
       emptied_drops (files_seen g.D.Disk.image c.args.tree.now.kernel) (files_seen g.D.Disk.image c.directory.new.self.kernel) (files_seen g.D.Disk.image c.emptiness.new.self.kernel)
           c.args.from c.in-Some-lookup.number c.from-number.result c.args.name.now c.in-Some.bytes c.as_slice.result.now c.as_slice-2.result.now c.in_ok-bytes.field-0
           c.in_ok-empty.field-0 c.in-Some-2.empty c.in_ok-bytes.ensures.same c.in_ok-bytes.ensures.found c.in-Some.is down c.as_slice.ensures c.as_slice-2.ensures
-          (sym c.in-Some-lookup.ensures) c.from-number.ensures c.in_ok-empty.ensures.same c.in_ok-empty.ensures.found c.in-Some-2.is empty
+          (sym c.in-Some-lookup.ensures) c.from-number.ensures c.in_ok-empty.ensures.same c.in_ok-empty.ensures.found c.in-Some-2.is empty c.requires.tree
           (files_seen g.D.Disk.image c.dropped.new.self.kernel) c.in_ok-dropped.ensures.drops,
     )

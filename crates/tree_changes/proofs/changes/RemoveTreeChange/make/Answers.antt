@@ -6,11 +6,11 @@ use Rattle.tree_changes.proofs.Changing.{leaves_any}
 use Rattle.tree_changes.proofs.changes.RemoveTreeChange.make.Goals as goal
 
 pub returns-in-Ok-clause-leaves : goal.returns-in-Ok-clause-leaves
-returns-in-Ok-clause-leaves g c = λ whole.
+returns-in-Ok-clause-leaves g c =
     subst (λ (path : List ℕ). LeavesMidst g.D.Disk (AnyOf (RemovesAt (names_of path))) c.args.tree.now.kernel c.remove.new.self.kernel) c.as_bytes.ensures.value
     (leaves_any g.D.Disk (RemovesAt (names_of c.as_bytes.result.now)) c.args.tree.now.kernel c.remove.new.self.kernel (c.remove.ensures.leaves c.requires.some))
 
 pub returns-in-Err-clause-leaves : goal.returns-in-Err-clause-leaves
-returns-in-Err-clause-leaves g c = λ whole.
+returns-in-Err-clause-leaves g c =
     subst (λ (path : List ℕ). LeavesMidst g.D.Disk (AnyOf (RemovesAt (names_of path))) c.args.tree.now.kernel c.remove.new.self.kernel) c.as_bytes.ensures.value
     (leaves_any g.D.Disk (RemovesAt (names_of c.as_bytes.result.now)) c.args.tree.now.kernel c.remove.new.self.kernel (c.remove.ensures.leaves c.requires.some))

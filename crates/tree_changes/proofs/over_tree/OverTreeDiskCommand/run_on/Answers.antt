@@ -12,4 +12,4 @@ returns-in-Ok-clause-refused g c =
 
 pub returns-clause-refused : goal.returns-clause-refused
 returns-clause-refused g c =
-    ((c.in-Err.ensures.refused, refl), λ whole. unopened_stops g.D.Disk (g.C.TreeChange.midst c.args.self.change) c.args.disk c.in-Err.disk c.in-Err.fault c.in-Err.ensures.refused)
+    ((c.in-Err.ensures.refused, refl), unopened_stops g.D.Disk (g.C.TreeChange.midst c.args.self.change) c.args.disk c.in-Err.disk c.in-Err.fault c.in-Err.ensures.refused)

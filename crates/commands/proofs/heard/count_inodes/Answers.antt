@@ -1,7 +1,7 @@
 use Rattle.std.proofs.Common.{arith, sym}
 use Rattle.cmd.specs.Lemmas.Disks.{file_disk}
 use Rattle.commands.proofs.Recording.{no_super}
-use Rattle.commands.proofs.picturing.count_inodes.Goals as goal
+use Rattle.commands.proofs.heard.count_inodes.Goals as goal
 
 pub returns-then-size-lt2 : goal.returns-then-size-lt2
 returns-then-size-lt2 g c =

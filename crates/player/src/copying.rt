@@ -8,6 +8,10 @@ use scripts::Task;
 use std::alloc::Global;
 
 /// The same operations.
+///
+/// # Errors
+///
+/// `NoMemory` where the allocator refuses the memory that they take.
 pub fn copies_of(alloc: Global, tasks: &[Task]) -> Result<Vec<Task>, NoMemory>
     ensures { IfOk result (λ copies. copies.items ≡ tasks.now) }
 {
