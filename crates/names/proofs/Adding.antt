@@ -6,9 +6,9 @@ use Rattle.std.proofs.lemmas.Slice.Eq.{bytes_eq-Decides}
 use Rattle.model.specs.declared.types.image.File.{File}
 use Rattle.model.specs.Files.{Files, file_in}
 use Rattle.names.specs.Entries.{lookup}
-use Rattle.names.specs.Trees.{bytes_of, directory_in, kind_of, number_of, parent_name, self_name, IsDirectory, IsDirectoryOf, IsDown, IsFile, Steps, StepsDown}
+use Rattle.names.specs.Trees.{bytes_of, directory_in, kind_of, number_of, parent_name, self_name, IsDirectory, IsDirectoryOf, IsDown, IsFile, IsTree, KeepsOnce, Steps, StepsDown}
 use Rattle.names.specs.TreeChanges.{AddsName, ChangesName}
-use Rattle.names.specs.TreeLaws.{AddingKeeps, AddingKeepsOnce, IsNew}
+use Rattle.names.specs.TreeLaws.{AddingKeeps, IsNew}
 use Rattle.names.proofs.Rooted.{AddsDown, depth_with, rooted_added}
 use Rattle.names.proofs.TreeBy.{depth_in, directory_is_file, once_behind, once_by, steps_make_tree, tree_makes_steps, IsTreeBy}
 use Rattle.names.proofs.Unnamed.{apart_from, some_ne_none}
@@ -148,15 +148,11 @@ adds_by files new depth from i name file tree is down is_new adds =
           (adds_down files new depth from i name file tree is down is_new adds);
     }
 
-pub adding_keeps : AddingKeeps
-adding_keeps files new from i name file tree is down is_new adds =
-    let depth : ℕ → ℕ = depth_in files tree in
-    steps_make_tree new (depth_with depth from i) (adds_by files new depth from i name file (tree_makes_steps files tree) is down is_new adds)
-
 -- ---- names of the files
 
 -- what had one name has one still
-pub adding_keeps_once : AddingKeepsOnce
+adding_keeps_once : (files new : Files) (from number : ℕ) (name : List ℕ) (file : File) → IsTree files → IsDirectory files from → IsDown name → IsNew file number from →
+    AddsName files new from name number file → KeepsOnce files new
 adding_keeps_once files new from i name file tree is down is_new adds j once =
     let by = tree_makes_steps files tree in
     let steps = from_old files new from i name file is is_new adds in
@@ -171,3 +167,11 @@ adding_keeps_once files new from i name file tree is down is_new adds j once =
     (λ at other step.
     ⊎_elim (λ (this : (j ≡ i) × (at ≡ from) × (other ≡ name)). absurd (ne this.0)) (λ (was : StepsDown files at other j). was) (steps at j other step)))
     (cases_eq j i)
+
+pub adding_keeps : AddingKeeps
+adding_keeps files new from i name file tree is down is_new adds =
+    let depth : ℕ → ℕ = depth_in files tree in
+    record {
+      tree = steps_make_tree new (depth_with depth from i) (adds_by files new depth from i name file (tree_makes_steps files tree) is down is_new adds);
+      once = adding_keeps_once files new from i name file tree is down is_new adds;
+    }

@@ -4,7 +4,7 @@ use Rattle.std.proofs.lemmas.Bool.{cases_eq}
 use Rattle.model.specs.Files.{Files, file_in}
 use Rattle.names.specs.Trees.{directory_in, kind_of, number_of, IsDirectory, IsDirectoryOf, IsDown, IsEmpty, IsFile, IsNamedOnce, Steps, StepsDown}
 use Rattle.names.specs.TreeChanges.{ChangesName, DropsName, KeepsNames}
-use Rattle.names.specs.TreeLaws.{DroppingKeeps, DroppingKeepsOnce, KeepingKeeps, KeepingKeepsOnce}
+use Rattle.names.specs.TreeLaws.{DroppingKeeps, KeepingKeeps}
 use Rattle.names.proofs.Rooted.{DropsDown, rooted_dropped}
 use Rattle.names.proofs.TreeBy.{depth_in, directory_is_file, once_behind, steps_make_tree, tree_makes_steps, IsTreeBy}
 use Rattle.names.proofs.Adding.{directory_changed, directory_same, step_same}
@@ -113,7 +113,10 @@ drops_by files new depth from i name tree is down once empty drops =
 pub dropping_keeps : DroppingKeeps
 dropping_keeps files new from i name tree is down once empty drops =
     let depth : ℕ → ℕ = depth_in files tree in
-    steps_make_tree new depth (drops_by files new depth from i name (tree_makes_steps files tree) is down once empty drops)
+    record {
+      tree = steps_make_tree new depth (drops_by files new depth from i name (tree_makes_steps files tree) is down once empty drops);
+      once = λ j only. once_behind files new j only (λ at other step. (was_step files new from i name is down once drops at j other step).1);
+    }
 
 -- ---- files that are no directories
 
@@ -143,16 +146,9 @@ keeps_by files new depth tree keeps =
 
 pub keeping_keeps : KeepingKeeps
 keeping_keeps files new tree keeps =
-    let depth : ℕ → ℕ = depth_in files tree in steps_make_tree new depth (keeps_by files new depth (tree_makes_steps files tree) keeps)
-
--- ---- names of the files
-
--- what had one name has one still
-pub dropping_keeps_once : DroppingKeepsOnce
-dropping_keeps_once files new from i name tree is down only drops j once =
-    once_behind files new j once (λ at other step. (was_step files new from i name is down only drops at j other step).1)
-
-pub keeping_keeps_once : KeepingKeepsOnce
-keeping_keeps_once files new keeps j once =
-    once_behind files new j once
-    (λ at other step. (step.0, step_same new files at j other (sym (keeps.directories at (sym (keeps.kinds at) ∙ step.1.0))) step.1))
+    let depth : ℕ → ℕ = depth_in files tree in
+    record {
+      tree = steps_make_tree new depth (keeps_by files new depth (tree_makes_steps files tree) keeps);
+      once = λ j once. once_behind files new j once
+          (λ at other step. (step.0, step_same new files at j other (sym (keeps.directories at (sym (keeps.kinds at) ∙ step.1.0))) step.1));
+    }

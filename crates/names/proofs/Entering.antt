@@ -13,7 +13,7 @@ use Rattle.names.specs.Making.{is_entered, HasCreatedNew, HasEntered, Uncreates}
 use Rattle.names.specs.declared.refusal.Refusal.{Refusal}
 use Rattle.names.specs.Walks.{IsDirectoryFound}
 use Rattle.names.specs.TreeChanges.{empty_file, AddsName, IsUnnamed}
-use Rattle.names.specs.Trees.{directory_in, number_of, IsDirectory, IsDown, IsTree}
+use Rattle.names.specs.Trees.{directory_in, number_of, IsDirectory, IsDown, IsTree, StaysTree}
 use Rattle.names.specs.Writes.{operation_of, Links}
 use Rattle.model.specs.declared.types.image.File.{File}
 use Rattle.names.specs.TreeLaws.{IsNew}
@@ -43,7 +43,7 @@ module _ (form : Form) (files made new : Files) (from number : ℕ) (name : List
       (λ (none : (reply ≡ Wrote 0) × (new ≡ made)).
       let both : true ≡ false = sym holds ∙ told ∙ ap is_entered none.0 in absurd (cc both)) either
 
-  pub entered_tree : whole ≡ true → IsTree new
+  pub entered_tree : whole ≡ true → StaysTree files new
   entered_tree holds =
       adding_keeps files new from number name file tree is (down_absent files from name tree is links.absent) fresh (entered_adds holds)
 
@@ -96,7 +96,7 @@ module _ {D N : Type 0} (disk : Ghosts D N) (k a b d : Plain D) (from number : �
       entered_adds (form_seen disk.image b) fs (files_seen disk.image b) (files_seen disk.image d) from number name file write entered.reply whole tree there.0
       fresh made_unnamed named below entered.answers entered.told holds
 
-  pub made_tree : whole ≡ true → IsTree (files_seen disk.image d)
+  pub made_tree : whole ≡ true → StaysTree fs (files_seen disk.image d)
   made_tree holds =
       entered_tree (form_seen disk.image b) fs (files_seen disk.image b) (files_seen disk.image d) from number name file write entered.reply whole tree there.0
       fresh made_unnamed named below entered.answers entered.told holds

@@ -16,7 +16,7 @@ use Rattle.names.specs.Inside.{files_seen, form_seen, Answers}
 use Rattle.names.specs.Making.{HasEntered}
 use Rattle.names.specs.Removing.{MayDrop}
 use Rattle.names.specs.TreeChanges.{DropsName}
-use Rattle.names.specs.Trees.{number_of, parent_name, HasOtherName, IsDirectory, IsDown, IsTree}
+use Rattle.names.specs.Trees.{number_of, parent_name, HasOtherName, IsDirectory, IsDown, IsTree, StaysTree}
 use Rattle.names.specs.Walks.{IsDirectoryFound}
 use Rattle.names.specs.Writes.{Unlinks}
 use Rattle.names.proofs.Below.{parents_decide}
@@ -54,7 +54,7 @@ down_file files from number name tree is led plain =
 pub unlinked_drops : {D N : Type 0} (disk : Ghosts D N) (k b d : Plain D) (from i : ℕ) (bytes name : List ℕ) (write : EntryWrite) (whole : Bool)
     (reply : Reply) → IsTree (files_seen disk.image k) → MayDrop (files_seen disk.image k) from bytes name i → Unlinks bytes name write →
     HasEntered disk.image from write k b whole → b.opening ≡ k.opening → Answers disk.image (Remove i) b d reply →
-    DropsName (files_seen disk.image k) (files_seen disk.image d) from name i × IsTree (files_seen disk.image d)
+    DropsName (files_seen disk.image k) (files_seen disk.image d) from name i × StaysTree (files_seen disk.image k) (files_seen disk.image d)
 unlinked_drops {D} disk k b d from i bytes name write whole reply tree may unlinks entered opening answers =
     let fs : Files = files_seen disk.image k in
     let form : Form = form_seen disk.image k in

@@ -14,6 +14,7 @@ pub mod Dropping
 pub mod Moving
 pub mod Moves
 pub mod Plain
+pub mod Staying
 pub mod NewDirectory
 pub mod TreeMeaning
 pub mod WholeChanges

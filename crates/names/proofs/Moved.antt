@@ -15,7 +15,7 @@ use Rattle.names.specs.Inside.{files_seen, form_seen}
 use Rattle.names.specs.Making.{is_entered, HasEntered}
 use Rattle.names.specs.Renaming.{IsPlan, IsRise, IsUnrenamed, IsUp, Renames, Rises}
 use Rattle.names.specs.TreeChanges.{LeadsTo}
-use Rattle.names.specs.Trees.{directory_in, number_of, self_name, IsDirectory, IsDown, IsTree}
+use Rattle.names.specs.Trees.{directory_in, number_of, self_name, IsDirectory, IsDown, IsTree, StaysTree}
 use Rattle.names.specs.Walks.{IsDirectoryFound}
 use Rattle.names.specs.Writes.{operation_of, Links, Unlinks}
 use Rattle.names.proofs.Entering.{down_absent, found_bytes}
@@ -121,7 +121,7 @@ module _ {D N : Type 0} (disk : Ghosts D N) (k a b : Plain D) (from to : ℕ) (o
     second =
         subst (λ (o : D). after (form_of (disk.image o)) (files_seen disk.image b) (operation_of from plan.unlink) freed.reply ≡ Some (files_seen disk.image c)) opening freed.answers
 
-    pub moved_file : plan.up ≡ None → Renames from old to name tt all (files_seen disk.image c) × IsTree (files_seen disk.image c)
+    pub moved_file : plan.up ≡ None → Renames from old to name tt all (files_seen disk.image c) × StaysTree all (files_seen disk.image c)
     moved_file none =
         let plain : IsDirectory all plan.file → ⊥ = subst (λ (o : Option EntryWrite). IsUp all plan.file to o) none is.up in
         let moved = moves_file_whole (form_seen disk.image a) all (files_seen disk.image b) (files_seen disk.image c) from to plan.file old name plan.unlink plan.link freed.reply tree
@@ -130,7 +130,7 @@ module _ {D N : Type 0} (disk : Ghosts D N) (k a b : Plain D) (from to : ℕ) (o
 
     -- and d gave the directory its new parent
     pub moved_directory : (d : Plain D) (up : EntryWrite) (all_up : Bool) → plan.up ≡ Some up → HasEntered disk.image plan.file up c d all_up →
-        c.opening ≡ b.opening → Renames from old to name tt all (files_seen disk.image d) × IsTree (files_seen disk.image d)
+        c.opening ≡ b.opening → Renames from old to name tt all (files_seen disk.image d) × StaysTree all (files_seen disk.image d)
     moved_directory d up all_up some turned still =
         let rise : IsRise all plan.file to up = subst (λ (o : Option EntryWrite). IsUp all plan.file to o) some is.up in
         let third : after (form_seen disk.image a) (files_seen disk.image c) (operation_of plan.file up) turned.reply ≡ Some (files_seen disk.image d) =

@@ -2,9 +2,9 @@
 use Rattle.std.proofs.Common.{◌≡◌, ◌≢◌, ◌⊎◌, inl, inr, ℕ, ◌<◌, List, Some, None, sym, ap, subst, ◌∙◌, ⊎_elim, arith}
 use Rattle.std.proofs.lemmas.Bool.{cases_eq}
 use Rattle.model.specs.Files.{Files, file_in}
-use Rattle.names.specs.Trees.{directory_in, kind_of, number_of, parent_name, self_name, IsDirectory, IsDirectoryOf, IsDown, IsFile, IsTree, StepsDown}
+use Rattle.names.specs.Trees.{directory_in, kind_of, number_of, parent_name, self_name, IsDirectory, IsDirectoryOf, IsDown, IsFile, IsTree, KeepsOnce, StepsDown}
 use Rattle.names.specs.TreeChanges.{MovesName}
-use Rattle.names.specs.TreeLaws.{KeepsOnce, MovingKeeps, MovingKeepsOnce}
+use Rattle.names.specs.TreeLaws.{MovingKeeps}
 use Rattle.names.proofs.Rooted.{rooted_moved, IsRooted, MovesDown}
 use Rattle.names.proofs.TreeBy.{depth_in, directory_is_file, once_behind, once_by, steps_make_tree, tree_makes_steps, IsTreeBy}
 use Rattle.names.proofs.Adding.{same_name}
@@ -193,13 +193,6 @@ moved_at files new tree from to i old name is is_to old_down down within moves =
     (λ directory. within_here files depth from to i old by (within directory) directory (old_down, (is, moves.led)))
     (λ at below other directory ne step. by.shape.deeper at below other directory step)
 
-pub moving_keeps : MovingKeeps
-moving_keeps files new from to i old name tree is is_to old_down down within moves =
-    let depth : ℕ → ℕ = depth_in files tree in
-    steps_make_tree new depth
-    (moves_by files new depth depth from to i old name (tree_makes_steps files tree) is is_to old_down down
-    (moved_at files new tree from to i old name is is_to old_down down within moves))
-
 -- ---- names of the files
 
 -- what had one name has one still
@@ -225,8 +218,14 @@ moves_once files new depth deep from to i old name tree is old_down moves j once
     (λ (was : (IsDirectory files j → j ≢ i) × StepsDown files at other j). was.1) (steps at j other step)))
     (cases_eq j i)
 
-pub moving_keeps_once : MovingKeepsOnce
-moving_keeps_once files new from to i old name tree is is_to old_down down within moves =
+-- ---- the tree
+
+pub moving_keeps : MovingKeeps
+moving_keeps files new from to i old name tree is is_to old_down down within moves =
     let depth : ℕ → ℕ = depth_in files tree in
-    moves_once files new depth depth from to i old name (tree_makes_steps files tree) is old_down
-    (moved_at files new tree from to i old name is is_to old_down down within moves)
+    let by = tree_makes_steps files tree in
+    let at = moved_at files new tree from to i old name is is_to old_down down within moves in
+    record {
+      tree = steps_make_tree new depth (moves_by files new depth depth from to i old name by is is_to old_down down at);
+      once = moves_once files new depth depth from to i old name by is old_down at;
+    }

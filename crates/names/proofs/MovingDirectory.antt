@@ -6,7 +6,7 @@ use Rattle.std.proofs.lemmas.Slice.Eq.{bytes_eq-Decides}
 use Rattle.model.specs.Files.{Files, file_in}
 use Rattle.names.specs.Trees.{directory_in, parent_name, self_name, IsDirectory, IsDirectoryOf, IsDown, IsOutside, IsTree, StepsDown}
 use Rattle.names.specs.TreeChanges.{MovesDirectory}
-use Rattle.names.specs.TreeLaws.{MovingDirectoryKeeps, MovingDirectoryKeepsOnce}
+use Rattle.names.specs.TreeLaws.{MovingDirectoryKeeps}
 use Rattle.names.proofs.Adding.{directory_same}
 use Rattle.names.proofs.Below.{below_along, below_itself, is_below, not_below}
 use Rattle.names.proofs.Moves.{other_kinds, other_leads}
@@ -101,11 +101,9 @@ module _ (files new : Files) (tree : IsTree files) (from to i : ℕ) (old name :
 pub moving_directory_keeps : MovingDirectoryKeeps
 moving_directory_keeps files new from to i old name tree is is_to directory old_down down outside moves =
     let deep = deep files new tree from to i old name is is_to directory old_down down outside moves in
-    steps_make_tree new deep
-    (moves_by files new (depth_in files tree) deep from to i old name (tree_makes_steps files tree) is is_to old_down down
-    (moved_at files new tree from to i old name is is_to directory old_down down outside moves))
-
-pub moving_directory_keeps_once : MovingDirectoryKeepsOnce
-moving_directory_keeps_once files new from to i old name tree is is_to directory old_down down outside moves =
-    moves_once files new (depth_in files tree) (deep files new tree from to i old name is is_to directory old_down down outside moves) from to i old name
-    (tree_makes_steps files tree) is old_down (moved_at files new tree from to i old name is is_to directory old_down down outside moves)
+    let by = tree_makes_steps files tree in
+    let at = moved_at files new tree from to i old name is is_to directory old_down down outside moves in
+    record {
+      tree = steps_make_tree new deep (moves_by files new (depth_in files tree) deep from to i old name by is is_to old_down down at);
+      once = moves_once files new (depth_in files tree) deep from to i old name by is old_down at;
+    }

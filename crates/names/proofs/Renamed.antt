@@ -22,7 +22,7 @@ use Rattle.names.specs.declared.refusal.TreeFault.TheVariants.{Path, Refused, Ca
 use Rattle.names.specs.Ready.{Happens, IsUndone}
 use Rattle.names.specs.Renaming.{IsUndoneAt, IsUndoneAtBoth, IsUnrenamed, LeadBoth, Renames, RenamesAt}
 use Rattle.names.specs.TreeChanges.{LeadsTo, MovesName}
-use Rattle.names.specs.Trees.{directory_in, number_of, IsDirectory, IsDown, IsTidy, IsTree}
+use Rattle.names.specs.Trees.{directory_in, number_of, IsDirectory, IsDown, IsTidy, IsTree, StaysTree}
 use Rattle.names.specs.Walks.{walked, IsDirectoryFound, LeadsIn}
 use Rattle.names.specs.Writes.{free_place, operation_of, written, IsLinkCause, Links, Unlinks}
 use Rattle.names.proofs.Changes.{lookup_absent}
@@ -138,7 +138,7 @@ module _ {D N : Type 0} (disk : Ghosts D N) (k a b : Plain D) (from i : ℕ) (ol
       -- and d linked the name
       module _ (d : Plain D) (down : IsDown old) (write : EntryWrite) (all : Bool) (links : Links third name i write) (linked : HasEntered disk.image from write c d all)
           (opening : c.opening ≡ a.opening) where
-        both : MovesName fs (files_seen disk.image d) from old from name i × IsTree (files_seen disk.image d)
+        both : MovesName fs (files_seen disk.image d) from old from name i × StaysTree fs (files_seen disk.image d)
         both =
             let first : after (form_seen disk.image a) (files_seen disk.image c) (operation_of from write) linked.reply ≡ Some (files_seen disk.image d) =
             subst (λ (o : D). after (form_of (disk.image o)) (files_seen disk.image c) (operation_of from write) linked.reply ≡ Some (files_seen disk.image d)) opening linked.answers in
@@ -148,7 +148,7 @@ module _ {D N : Type 0} (disk : Ghosts D N) (k a b : Plain D) (from i : ℕ) (ol
             (subst (λ (f : Files). after (form_seen disk.image a) f (operation_of from write) linked.reply ≡ Some (files_seen disk.image d)) saw first) in
             (whole.2, whole.3)
 
-        pub renamed_whole : Renames from old from name tt fs (files_seen disk.image d) × IsTree (files_seen disk.image d)
+        pub renamed_whole : Renames from old from name tt fs (files_seen disk.image d) × StaysTree fs (files_seen disk.image d)
         renamed_whole = ((i, inl (both.0, λ is. refl)), both.1)
 
 -- ---- at two paths

@@ -16,7 +16,7 @@ use Rattle.names.specs.declared.refusal.TreeFault.{TreeFault}
 use Rattle.names.specs.declared.refusal.TreeFault.TheVariants.{Path, Refused, Call, NoSpace, NoCall}
 use Rattle.names.specs.Inside.{files_seen, Answers, Goes, IsBroken, IsBrokenOr, IsSame, LeavesFiles}
 use Rattle.names.specs.Paths.{IsPathCause}
-use Rattle.names.specs.Trees.{new_directory, root, IsTree}
+use Rattle.names.specs.Trees.{new_directory, root, IsTree, KeepsOnce}
 use Rattle.names.specs.TreeChanges.{directory_file}
 
 -- No transaction is under way, so many calls may be made yet, and the files on the disk are a tree.
@@ -113,12 +113,13 @@ answer_of (Ok made) = Ok made
 answer_of (Err cause) = Err (Refused cause)
 
 -- ALL OR NOTHING: what a stop leaves of image x: recovery gives a sound image whose files are a tree,
--- those of x or those after a change of them.
+-- those of x or those after a change of them, and none has several names that had one at most.
 pub record KeepsTree {T : Type 0} (change : T → Files → Files → Type 0) (x z : Image)
     : Type 0 where
   pub log : IsTrue (is_lawful_log z)
   pub sound : IsSound (recovered z)
   pub tree : IsTree (files_of (recovered z))
+  pub once : KeepsOnce (files_of x) (files_of (recovered z))
   pub files : (files_of (recovered z) ≡ files_of x)
       ⊎ ((made : T) × change made (files_of x) (files_of (recovered z)))
 

@@ -10,7 +10,7 @@ use Rattle.model.specs.Files.{Files, file_in}
 use Rattle.model.specs.Operations.{after}
 use Rattle.names.specs.declared.entries.EntryWrite.{EntryWrite}
 use Rattle.names.specs.Entries.{directory_size, entry_size, most_entries}
-use Rattle.names.specs.Trees.{directory_in, directory_kind, new_directory, number_of, root, IsDirectory, IsDirectoryOf, IsDown, IsEmpty, IsFile, IsNamedOnce, IsOutside, IsTidy, IsTree}
+use Rattle.names.specs.Trees.{directory_in, directory_kind, new_directory, number_of, root, IsDirectory, IsDirectoryOf, IsDown, IsEmpty, IsFile, IsNamedOnce, IsOutside, IsTidy, IsTree, StaysTree}
 use Rattle.names.specs.TreeChanges.{directory_file, empty_file, AddsName, DropsName, IsUnnamed, KeepsNames, LeadsTo, MovesDirectory, MovesName}
 use Rattle.names.specs.Writes.{operation_of, Links, Repoints, Unlinks}
 
@@ -143,7 +143,7 @@ FilesAreNew = ((kind number parent : ℕ) → kind ≢ directory_kind
     × ((number parent : ℕ) → 0 < number → number < 2 ^ 16 → 0 < parent → parent < 2 ^ 16
     → IsNew (directory_file number parent) number parent)
 
--- ---- what stays a tree
+-- ---- what stays a tree, in which no file has several names that had one at most
 
 -- The root with its two entries alone is a tree.
 abbrev pub RootIsTree : Type 0
@@ -156,7 +156,7 @@ abbrev pub AddingKeeps : Type 0
 AddingKeeps = (files new : Files) (from number : ℕ) (name : List ℕ) (file : File)
     → IsTree files → IsDirectory files from → IsDown name → IsNew file number from
     → AddsName files new from name number file
-    → IsTree new
+    → StaysTree files new
 
 -- A tree stays one where a file is dropped with its only name, but for a directory with files in it.
 abbrev pub DroppingKeeps : Type 0
@@ -164,7 +164,7 @@ DroppingKeeps = (files new : Files) (from number : ℕ) (name : List ℕ)
     → IsTree files → IsDirectory files from → IsDown name → IsNamedOnce files number
     → (IsDirectory files number → IsEmpty (directory_in files number))
     → DropsName files new from name number
-    → IsTree new
+    → StaysTree files new
 
 -- A tree stays one where a file has another name, if it is no directory or stays in its own.
 abbrev pub MovingKeeps : Type 0
@@ -172,7 +172,7 @@ MovingKeeps = (files new : Files) (from to number : ℕ) (old name : List ℕ)
     → IsTree files → IsDirectory files from → IsDirectory files to → IsDown old → IsDown name
     → (IsDirectory files number → from ≡ to)
     → MovesName files new from old to name number
-    → IsTree new
+    → StaysTree files new
 
 -- A tree stays one where a directory moves to another one that is not below it.
 abbrev pub MovingDirectoryKeeps : Type 0
@@ -180,48 +180,8 @@ MovingDirectoryKeeps = (files new : Files) (from to number : ℕ) (old name : Li
     → IsTree files → IsDirectory files from → IsDirectory files to → IsDirectory files number
     → IsDown old → IsDown name → IsOutside files number to
     → MovesDirectory files new from old to name number
-    → IsTree new
+    → StaysTree files new
 
 -- A tree stays one where the files that are no directories are written.
 abbrev pub KeepingKeeps : Type 0
-KeepingKeeps = (files new : Files) → IsTree files → KeepsNames files new → IsTree new
-
--- ---- what keeps one name
-
--- No file has several names that had one at most.
-abbrev pub KeepsOnce : Files → Files → Type 0
-KeepsOnce files new = (i : ℕ) → IsNamedOnce files i → IsNamedOnce new i
-
--- So it is where a file is added under a name,
-abbrev pub AddingKeepsOnce : Type 0
-AddingKeepsOnce = (files new : Files) (from number : ℕ) (name : List ℕ) (file : File)
-    → IsTree files → IsDirectory files from → IsDown name → IsNew file number from
-    → AddsName files new from name number file
-    → KeepsOnce files new
-
--- where a file is dropped with its only name,
-abbrev pub DroppingKeepsOnce : Type 0
-DroppingKeepsOnce = (files new : Files) (from number : ℕ) (name : List ℕ)
-    → IsTree files → IsDirectory files from → IsDown name → IsNamedOnce files number
-    → DropsName files new from name number
-    → KeepsOnce files new
-
--- where a file has another name, if it is no directory or stays in its own,
-abbrev pub MovingKeepsOnce : Type 0
-MovingKeepsOnce = (files new : Files) (from to number : ℕ) (old name : List ℕ)
-    → IsTree files → IsDirectory files from → IsDirectory files to → IsDown old → IsDown name
-    → (IsDirectory files number → from ≡ to)
-    → MovesName files new from old to name number
-    → KeepsOnce files new
-
--- where a directory moves to another one that is not below it,
-abbrev pub MovingDirectoryKeepsOnce : Type 0
-MovingDirectoryKeepsOnce = (files new : Files) (from to number : ℕ) (old name : List ℕ)
-    → IsTree files → IsDirectory files from → IsDirectory files to → IsDirectory files number
-    → IsDown old → IsDown name → IsOutside files number to
-    → MovesDirectory files new from old to name number
-    → KeepsOnce files new
-
--- and where the files that are no directories are written.
-abbrev pub KeepingKeepsOnce : Type 0
-KeepingKeepsOnce = (files new : Files) → KeepsNames files new → KeepsOnce files new
+KeepingKeeps = (files new : Files) → IsTree files → KeepsNames files new → StaysTree files new

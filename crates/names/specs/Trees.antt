@@ -129,3 +129,12 @@ pub record IsTree (files : Files) : Type 0 where
       → (names : List (List ℕ)) × IsPath files root names number
   pub one : (a b : List (List ℕ)) (number : ℕ) → IsDirectory files number
       → IsPath files root a number → IsPath files root b number → a ≡ b
+
+-- No file has several names that had one at most.
+abbrev pub KeepsOnce : Files → Files → Type 0
+KeepsOnce files new = (i : ℕ) → IsNamedOnce files i → IsNamedOnce new i
+
+-- A tree came of another one, and no file has several names that had one at most.
+pub record StaysTree (files new : Files) : Type 0 where
+  pub tree : IsTree new
+  pub once : KeepsOnce files new

@@ -8,7 +8,7 @@ use Rattle.model.specs.Files.{Files, file_in}
 use Rattle.model.specs.Operations.{after}
 use Rattle.names.specs.declared.entries.EntryWrite.{EntryWrite}
 use Rattle.names.specs.Entries.{entry_size, most_entries}
-use Rattle.names.specs.Trees.{directory_in, directory_kind, new_directory, number_of, parent_name, root, IsDirectory, IsDown, IsEmpty, IsNamedOnce, IsOutside, IsTree}
+use Rattle.names.specs.Trees.{directory_in, directory_kind, new_directory, number_of, parent_name, root, IsDirectory, IsDown, IsEmpty, IsNamedOnce, IsOutside, IsTree, StaysTree}
 use Rattle.names.specs.TreeChanges.{empty_file, AddsDirectory, AddsName, DropsName, MovesDirectory, MovesName}
 use Rattle.names.specs.Writes.{operation_of, Links, Repoints, Unlinks}
 
@@ -22,7 +22,7 @@ MakesFileWhole = (form : Form) (files made new : Files) (from number kind : ℕ)
     → Links (directory_in files from) name number write → write.place < most_entries
     → after form made (operation_of from write) reply ≡ Some new
     → ((reply ≡ Wrote entry_size) × AddsName files new from name number (empty_file kind)
-    × IsTree new)
+    × StaysTree files new)
     ⊎ ((reply ≡ Wrote 0) × (new ≡ made))
 
 -- A directory is made, its two entries are written, and then it is linked.
@@ -34,7 +34,7 @@ MakesDirectoryWhole = (form : Form) (files made filled new : Files) (from number
     → after form made (Write number 0 (new_directory number from)) (Wrote 32) ≡ Some filled
     → Links (directory_in files from) name number write → write.place < most_entries
     → after form filled (operation_of from write) reply ≡ Some new
-    → ((reply ≡ Wrote entry_size) × AddsDirectory files new from name number × IsTree new)
+    → ((reply ≡ Wrote entry_size) × AddsDirectory files new from name number × StaysTree files new)
     ⊎ ((reply ≡ Wrote 0) × (new ≡ filled))
 
 -- A file's only name is unlinked and then the file removed, neither of which is refused.
@@ -48,7 +48,7 @@ RemovesFileWhole = (form : Form) (files freed new : Files) (from number : ℕ) (
     → after form files (operation_of from write) first ≡ Some freed
     → after form freed (Remove number) second ≡ Some new
     → (first ≡ Wrote entry_size) × (second ≡ Done)
-    × DropsName files new from name number × IsTree new
+    × DropsName files new from name number × StaysTree files new
 
 -- In one directory a file's old name is unlinked and then its new one linked, neither of which is
 -- refused.
@@ -62,7 +62,7 @@ RenamesFileWhole = (form : Form) (files freed new : Files) (from number : ℕ) (
     → Links (directory_in freed from) name number link
     → after form freed (operation_of from link) second ≡ Some new
     → (first ≡ Wrote entry_size) × (second ≡ Wrote entry_size)
-    × MovesName files new from old from name number × IsTree new
+    × MovesName files new from old from name number × StaysTree files new
 
 -- A file's new name is linked in another directory, which may find no block, and then its old one is
 -- unlinked, which is not refused.
@@ -76,7 +76,7 @@ MovesFileWhole = (form : Form) (files both new : Files) (from to number : ℕ) (
     → after form files (operation_of to link) (Wrote entry_size) ≡ Some both
     → Unlinks (directory_in files from) old unlink
     → after form both (operation_of from unlink) reply ≡ Some new
-    → (reply ≡ Wrote entry_size) × MovesName files new from old to name number × IsTree new
+    → (reply ≡ Wrote entry_size) × MovesName files new from old to name number × StaysTree files new
 
 -- A directory's new name is linked in another one outside it, its old one is unlinked, and its name
 -- for its parent leads to the new one.
@@ -93,7 +93,7 @@ MovesDirectoryWhole = (form : Form) (files both mid new : Files) (from to number
     → Repoints (directory_in files number) parent_name to up
     → after form mid (operation_of number up) second ≡ Some new
     → (first ≡ Wrote entry_size) × (second ≡ Wrote entry_size)
-    × MovesDirectory files new from old to name number × IsTree new
+    × MovesDirectory files new from old to name number × StaysTree files new
 
 -- The root is made where no file is, and its two entries are written.
 abbrev pub MakesRootWhole : Type 0

@@ -8,7 +8,7 @@ ghost use Rattle.names.specs.declared.refusal.Refusal.{Refusal};
 ghost use Rattle.names.specs.Inside.{files_seen, form_seen, IsUnderWay, ProceedsOr};
 ghost use Rattle.names.specs.Paths.{names_of};
 ghost use Rattle.names.specs.Ready.{answer_of, Happens, IsUnansweredOr, IsUndoneOr, LeavesTree, MayGoOn};
-ghost use Rattle.names.specs.Trees.{IsTree};
+ghost use Rattle.names.specs.Trees.{IsTree, KeepsOnce, StaysTree};
 ghost use Rattle.names.specs.Walks.{AtLast, IsUndoneIn};
 
 use crate::name::Name;
@@ -38,7 +38,8 @@ pub(crate) trait Change {
         requires tree { IsTree (files_seen D.image tree.old.kernel) }
         ensures goes { ProceedsOr (fills self.now) D.Disk result
             tree.old.kernel tree.new.kernel tree.new.calls_left }
-        ensures tree { OnOk result (IsTree (files_seen D.image tree.new.kernel)) }
+        ensures tree { OnOk result (StaysTree (files_seen D.image tree.old.kernel)
+            (files_seen D.image tree.new.kernel)) }
         ensures made { IfOk result (Happens
             (makes self.now (form_seen D.image tree.old.kernel) names.now)
             (refuses self.now names.now)
@@ -71,7 +72,8 @@ pub(crate) trait ChangeIn {
         requires tree { IsTree (files_seen D.image tree.old.kernel) }
         ensures goes { ProceedsOr (fills self.now) D.Disk result
             tree.old.kernel tree.new.kernel tree.new.calls_left }
-        ensures tree { OnOk result (IsTree (files_seen D.image tree.new.kernel)) }
+        ensures tree { OnOk result (StaysTree (files_seen D.image tree.old.kernel)
+            (files_seen D.image tree.new.kernel)) }
         ensures made { IfOk result (Happens (makes self.now from name.now)
             (λ files. refuses self.now files from name.now)
             (files_seen D.image tree.old.kernel) (files_seen D.image tree.new.kernel)) };
@@ -118,6 +120,8 @@ impl<D: Disk> Tree<D> {
             C.makes change.now (form_seen D.image self.old.kernel) (names_of path.now) made
             (files_of (image_on D.image self.old.kernel))
             (files_of (image_on D.image self.new.kernel))) }
+        ensures once { OnOk result (KeepsOnce (files_of (image_on D.image self.old.kernel))
+            (files_of (image_on D.image self.new.kernel))) }
         ensures refused { IfErr result (IsUndoneOr (C.fills change.now) D.Disk path.now
             (C.refuses change.now (names_of path.now)) self.old.kernel self.new.kernel) }
         ensures leaves { 0 < self.old.calls_left → LeavesTree D.Disk
@@ -146,6 +150,8 @@ impl<D: Disk> Tree<D> {
         ensures makes { IfOk result (λ made.
             C.makes change.now (form_seen D.image self.old.kernel) names.now made
             (files_of (image_on D.image self.old.kernel))
+            (files_of (image_on D.image self.new.kernel))) }
+        ensures once { OnOk result (KeepsOnce (files_of (image_on D.image self.old.kernel))
             (files_of (image_on D.image self.new.kernel))) }
         ensures refused { IfErr result (IsUnansweredOr (C.fills change.now) D.Disk
             (C.refuses change.now names.now) self.old.kernel self.new.kernel) }

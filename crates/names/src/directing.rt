@@ -1,5 +1,5 @@
 // Directories made in a tree.
-ghost use Rattle.std.specs.Prelude.{◌<◌, IfErr, IfOk};
+ghost use Rattle.std.specs.Prelude.{◌<◌, IfErr, IfOk, OnOk};
 ghost use Rattle.calls.specs.Calls.{image_on};
 ghost use Rattle.calls.specs.Stopped.{StaysOver};
 ghost use Rattle.model.specs.Files.{files_of};
@@ -8,6 +8,7 @@ ghost use Rattle.names.specs.Making.{HasFilledFor, IsUnmadeIn, MakesDirectoryAt}
 ghost use Rattle.names.specs.Paths.{names_of};
 ghost use Rattle.names.specs.Ready.{IsUndone, LeavesTree, MayGoOn};
 ghost use Rattle.names.specs.TreeChanges.{directory_file};
+ghost use Rattle.names.specs.Trees.{KeepsOnce};
 ghost use Rattle.names.specs.Walks.{IsUndoneIn};
 
 use crate::changing::Last;
@@ -65,6 +66,8 @@ impl<D: Disk> Tree<D> {
         ensures ready { MayGoOn D.Disk self.new.kernel self.new.calls_left }
         ensures makes { IfOk result (λ number. MakesDirectoryAt (names_of path.now) number
             (files_of (image_on D.image self.old.kernel))
+            (files_of (image_on D.image self.new.kernel))) }
+        ensures once { OnOk result (KeepsOnce (files_of (image_on D.image self.old.kernel))
             (files_of (image_on D.image self.new.kernel))) }
         ensures refused { IfErr result (IsUndone D.Disk path.now
             (IsUndoneIn IsUnmadeIn (names_of path.now)) self.old.kernel self.new.kernel) }

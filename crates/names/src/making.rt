@@ -11,6 +11,7 @@ ghost use Rattle.names.specs.Making.{file_kind, HasCreated, HasCreatedNew, HasEn
 ghost use Rattle.names.specs.Paths.{names_of};
 ghost use Rattle.names.specs.Ready.{IsUndone, LeavesTree, MayGoOn};
 ghost use Rattle.names.specs.TreeChanges.{empty_file, AddsName};
+ghost use Rattle.names.specs.Trees.{KeepsOnce};
 ghost use Rattle.names.specs.Walks.{IsUndoneIn};
 
 use crate::changing::{ChangeIn, Last};
@@ -116,6 +117,8 @@ impl<D: Disk> Tree<D> {
         ensures ready { MayGoOn D.Disk self.new.kernel self.new.calls_left }
         ensures makes { IfOk result (λ number. MakesAt (names_of path.now) number
             (files_of (image_on D.image self.old.kernel))
+            (files_of (image_on D.image self.new.kernel))) }
+        ensures once { OnOk result (KeepsOnce (files_of (image_on D.image self.old.kernel))
             (files_of (image_on D.image self.new.kernel))) }
         ensures refused { IfErr result (IsUndone D.Disk path.now
             (IsUndoneIn IsUnmadeIn (names_of path.now)) self.old.kernel self.new.kernel) }

@@ -8,7 +8,7 @@ ghost use Rattle.names.specs.Paths.{names_of};
 ghost use Rattle.names.specs.Ready.{IsUndone, LeavesTree, MayGoOn};
 ghost use Rattle.names.specs.Removing.{IsUnremovedIn, MayDrop, RemovesAt, RemovesIn};
 ghost use Rattle.names.specs.TreeChanges.{DropsName};
-ghost use Rattle.names.specs.Trees.{IsTree};
+ghost use Rattle.names.specs.Trees.{IsTree, KeepsOnce, StaysTree};
 ghost use Rattle.names.specs.Walks.{IsUndoneIn};
 
 use crate::changing::{ChangeIn, Last};
@@ -74,6 +74,8 @@ impl<D: Disk> Tree<D> {
         ensures removes { IfOk result (λ done. RemovesAt (names_of path.now) done
             (files_of (image_on D.image self.old.kernel))
             (files_of (image_on D.image self.new.kernel))) }
+        ensures once { OnOk result (KeepsOnce (files_of (image_on D.image self.old.kernel))
+            (files_of (image_on D.image self.new.kernel))) }
         ensures refused { IfErr result (IsUndone D.Disk path.now
             (IsUndoneIn IsUnremovedIn (names_of path.now)) self.old.kernel self.new.kernel) }
         ensures leaves { 0 < self.old.calls_left → LeavesTree D.Disk (RemovesAt (names_of path.now))
@@ -97,7 +99,8 @@ impl<D: Disk> Tree<D> {
         requires drops { MayDrop (files_seen D.image self.old.kernel)
             from bytes.now name.now number }
         ensures goes { Proceeds D.Disk result self.old.kernel self.new.kernel self.new.calls_left }
-        ensures tree { OnOk result (IsTree (files_seen D.image self.new.kernel)) }
+        ensures tree { OnOk result (StaysTree (files_seen D.image self.old.kernel)
+            (files_seen D.image self.new.kernel)) }
         ensures drops { OnOk result (DropsName (files_seen D.image self.old.kernel)
             (files_seen D.image self.new.kernel) from name.now number) }
     {

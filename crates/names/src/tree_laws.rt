@@ -1,6 +1,6 @@
 //! What changes of names make of a tree of directories, the contracts of functions that do nothing.
 ghost use Rattle.names.specs.PathLaws.{DirectoriesAreNamedOnce, FilesAreReached, NamesAreOne, NamesLead};
-ghost use Rattle.names.specs.TreeLaws.{AddingKeeps, AddingKeepsOnce, CreateMakes, DroppingKeeps, DroppingKeepsOnce, FilesAreNew, KeepingKeeps, KeepingKeepsOnce, LinkAdds, LinkLeads, LinkMoves, MovingDirectoryKeeps, MovingDirectoryKeepsOnce, MovingKeeps, MovingKeepsOnce, PlainKeeps, ReadsWhole, RelinkLeads, RemoveDrops, RemoveUndoes, RepointLeads, RootIsTree, UnlinkLeads, UnlinkMoves, WriteFills};
+ghost use Rattle.names.specs.TreeLaws.{AddingKeeps, CreateMakes, DroppingKeeps, FilesAreNew, KeepingKeeps, LinkAdds, LinkLeads, LinkMoves, MovingDirectoryKeeps, MovingKeeps, PlainKeeps, ReadsWhole, RelinkLeads, RemoveDrops, RemoveUndoes, RepointLeads, RootIsTree, UnlinkLeads, UnlinkMoves, WriteFills};
 ghost use Rattle.names.specs.TreeMeaning.{DirectoriesAreTidy, EntriesLead, NoHalfIsTree, NumbersStandOnce, ParentsDecide, RootIsOutside, StepsLead};
 ghost use Rattle.names.specs.WholeChanges.{MakesDirectoryWhole, MakesFileWhole, MakesRootWhole, MovesDirectoryWhole, MovesFileWhole, RemovesFileWhole, RenamesFileWhole};
 
@@ -34,7 +34,8 @@ pub fn operations_change()
 /// one. It stays one where a file or an empty directory is added under a name, where a file or an empty
 /// directory is dropped with its only name, where a file has another name in any directory, or a
 /// directory in its own or, with its name for its parent, in one that is not below it, and where files
-/// that are no directories are written.
+/// that are no directories are written. And no file has several names then that had one at most, so each
+/// that had one path from the root has one still.
 pub fn trees_stay()
     ensures begun { RootIsTree }
     ensures added { AddingKeeps }
@@ -44,17 +45,8 @@ pub fn trees_stay()
     ensures kept { KeepingKeeps }
 {}
 
-/// Each change of a tree leaves one name at most to each file that had one at most. So where each file
-/// had one path from the root, each has one still.
-pub fn names_stay_one()
-    ensures added { AddingKeepsOnce }
-    ensures dropped { DroppingKeepsOnce }
-    ensures moved { MovingKeepsOnce }
-    ensures moved_directory { MovingDirectoryKeepsOnce }
-    ensures kept { KeepingKeepsOnce }
-{}
-
-/// The operations of each whole change, with their replies, leave a tree, in which just that changed.
+/// The operations of each whole change, with their replies, leave a tree, in which just that changed, and
+/// no file has several names that had one at most.
 /// An unlink, a removal and a link into a freed entry are not refused.
 pub fn changes_leave_trees()
     ensures root { MakesRootWhole }

@@ -7,7 +7,7 @@ ghost use Rattle.names.specs.Inside.{files_seen, IsUnderWay, Proceeds, SeesSame}
 ghost use Rattle.names.specs.Paths.{names_of};
 ghost use Rattle.names.specs.Ready.{IsUndone, LeavesTree, MayGoOn};
 ghost use Rattle.names.specs.Undirecting.{IsEmptinessOf, IsUnemptiedIn, RemovesDirectoryAt, RemovesDirectoryIn};
-ghost use Rattle.names.specs.Trees.{IsTree};
+ghost use Rattle.names.specs.Trees.{IsTree, KeepsOnce};
 ghost use Rattle.names.specs.Walks.{IsUndoneIn};
 
 use crate::changing::{ChangeIn, Last};
@@ -75,6 +75,8 @@ impl<D: Disk> Tree<D> {
         ensures ready { MayGoOn D.Disk self.new.kernel self.new.calls_left }
         ensures removes { IfOk result (λ done. RemovesDirectoryAt (names_of path.now) done
             (files_of (image_on D.image self.old.kernel))
+            (files_of (image_on D.image self.new.kernel))) }
+        ensures once { OnOk result (KeepsOnce (files_of (image_on D.image self.old.kernel))
             (files_of (image_on D.image self.new.kernel))) }
         ensures refused { IfErr result (IsUndone D.Disk path.now
             (IsUndoneIn IsUnemptiedIn (names_of path.now)) self.old.kernel self.new.kernel) }

@@ -18,7 +18,7 @@ use Rattle.model.specs.declared.types.image.Form.{Form}
 use Rattle.names.specs.Inside.{form_seen}
 use Rattle.names.specs.Opening.{IsUnopened}
 use Rattle.names.specs.Ready.{KeepsTree, LeavesTree}
-use Rattle.names.specs.Trees.{IsTree}
+use Rattle.names.specs.Trees.{IsNamedOnce, IsTree, KeepsOnce}
 use Rattle.names.specs.declared.opening.TreeOpenFault.{TreeOpenFault}
 use Rattle.names.specs.declared.opening.TreeOpenFault.TheVariants as opening
 use Rattle.opening.specs.Lemmas.Stopping.{if_synced, opened_leaves, recovered_if_synced, run_leaves}
@@ -41,6 +41,7 @@ leaves_any {D} {N} {T} disk change k m leaves =
       log = kept.log;
       sound = kept.sound;
       tree = kept.tree;
+      once = kept.once;
       files = ⊎_elim (λ (same : files_of (recovered z) ≡ files_of (image_on disk.image k)). inl same) (λ (made : (t : T) × change t (files_of (image_on disk.image k)) (files_of (recovered z))). inr (tt, made)) kept.files;
     }) leaves
 
@@ -55,6 +56,7 @@ module _ {D N : Type 0} (disk : Ghosts D N) (midst : Form → Files → Files �
         log = same.lawful ∙ is.1;
         sound = subst IsSound (sym same.image) is.2;
         tree = subst (λ (y : Image). IsTree (files_of y)) (sym same.image) tree;
+        once = λ i only. subst (λ (y : Image). IsNamedOnce (files_of y) i) (sym same.image) only;
         files = inl (ap files_of same.image);
       }
 
@@ -94,13 +96,15 @@ module _ {D N : Type 0} (disk : Ghosts D N) (midst : Form → Files → Files �
 
 module _ {D N : Type 0} (disk : Ghosts D N) (makes : Form → Option ℕ → Files → Files → Type 0) (undone : Turn → ChangeRefusal → Type 0) (last : Bool) (d : D) (k m : Plain D) (opened : IsOpenedPair disk d k) (tree : IsTree (files_of (recovered (disk.image d)))) where
   -- it was made
-  pub made_so : (number : Option ℕ) (dev : D) → dev ≡ m.store.volume.device → makes (form_seen disk.image k) number (files_of (image_on disk.image k)) (files_of (image_on disk.image m)) → HasMade disk makes d dev number
-  made_so number dev same made = record {
+  pub made_so : (number : Option ℕ) (dev : D) → dev ≡ m.store.volume.device → makes (form_seen disk.image k) number (files_of (image_on disk.image k)) (files_of (image_on disk.image m)) → KeepsOnce (files_of (image_on disk.image k)) (files_of (image_on disk.image m)) → HasMade disk makes d dev number
+  made_so number dev same made once = record {
     sound = opened.sound;
     tree = tree;
     made = subst (λ (o : D). makes (form_of (recovered (disk.image d))) number (files_of (recovered (disk.image d))) (files_of (disk.image o))) (sym same)
         (subst (λ (x : Image). makes (form_of (recovered (disk.image d))) number (files_of x) (files_of (image_on disk.image m))) opened.image
         (subst (λ (form : Form). makes form number (files_of (image_on disk.image k)) (files_of (image_on disk.image m))) (form_is disk (λ form files new. Unit {0}) d k m opened) made));
+    once = subst (λ (o : D). KeepsOnce (files_of (recovered (disk.image d))) (files_of (disk.image o))) (sym same)
+        (subst (λ (x : Image). KeepsOnce (files_of x) (files_of (image_on disk.image m))) opened.image once);
   }
 
   -- or was not
@@ -117,6 +121,7 @@ module _ {D N : Type 0} (disk : Ghosts D N) (makes : Form → Option ℕ → Fil
       sound = first.sound;
       tree = first.tree;
       made = subst (λ (y : Image). makes (form_of (recovered (disk.image d))) number (files_of (recovered (disk.image d))) (files_of y)) (sym (left_same disk last dev e syncs)) first.made;
+      once = subst (λ (y : Image). KeepsOnce (files_of (recovered (disk.image d))) (files_of y)) (sym (left_same disk last dev e syncs)) first.once;
     }
 
     pub changed_so : (r : Result (Unit {0}) ChangeRefusal) (old new : Option (List ℕ)) → OnOk r (SyncsIf last disk dev e) → OnOk r (Tells number old new) → OnOk r (HasChanged disk makes last d e old new)

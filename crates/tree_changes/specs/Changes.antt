@@ -16,7 +16,7 @@ use Rattle.names.specs.Making.{MakesDirectoryAt}
 use Rattle.names.specs.Opening.{IsUnopened}
 use Rattle.names.specs.Paths.{names_of}
 use Rattle.names.specs.Ready.{KeepsTree}
-use Rattle.names.specs.Trees.{IsTree}
+use Rattle.names.specs.Trees.{IsTree, KeepsOnce}
 use Rattle.names.specs.declared.refusal.TreeFault.{TreeFault}
 use Rattle.opening.specs.Stops.{LeavesIfSynced}
 use Rattle.transfer.specs.Ending.{SyncsIf}
@@ -78,7 +78,7 @@ Tells None old new = new ≡ old
 Tells (Some number) old new = Appends old new (number_text number)
 
 -- The disk d, now e, had no fault, and its files, as recovery leaves them, were a tree. A change made
--- this of them.
+-- this of them, and none has several names that had one at most.
 pub record HasMade {D N : Type 0} (disk : Ghosts D N)
     (makes : Form → Option ℕ → Files → Files → Type 0) (d e : D) (number : Option ℕ)
     : Type 0 where
@@ -86,6 +86,7 @@ pub record HasMade {D N : Type 0} (disk : Ghosts D N)
   pub tree : IsTree (files_of (recovered (disk.image d)))
   pub made : makes (form_of (recovered (disk.image d))) number
       (files_of (recovered (disk.image d))) (files_of (disk.image e))
+  pub once : KeepsOnce (files_of (recovered (disk.image d))) (files_of (disk.image e))
 
 -- the last call to it was a sync that was done where one is asked for, and the number was printed
 pub record HasChanged {D N : Type 0} (disk : Ghosts D N)

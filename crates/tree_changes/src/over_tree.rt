@@ -8,6 +8,7 @@ ghost use Rattle.model.specs.Files.{Files, files_of};
 ghost use Rattle.model.specs.declared.types.image.Form.{Form};
 ghost use Rattle.names.specs.Inside.{form_seen};
 ghost use Rattle.names.specs.Ready.{IsReady};
+ghost use Rattle.names.specs.Trees.{KeepsOnce};
 ghost use Rattle.transfer.specs.Ending.{SyncsIf};
 ghost use Rattle.tree_changes.specs.Changes.{HasChanged, HasNotChanged, IsOfTree, IsUnended, LeavesMidst, StopsChange, Tells, Turn, turn};
 ghost use Rattle.tree_changes.specs.declared.faults.ChangeRefusal.{ChangeRefusal as SomeChangeRefusal};
@@ -39,6 +40,8 @@ pub trait TreeChange {
         ensures makes { IfOk result (λ number.
             makes self.now (form_seen D.image tree.old.kernel) number
             (files_of (image_on D.image tree.old.kernel))
+            (files_of (image_on D.image tree.new.kernel))) }
+        ensures once { OnOk result (KeepsOnce (files_of (image_on D.image tree.old.kernel))
             (files_of (image_on D.image tree.new.kernel))) }
         ensures undone { IfErr result
             (undone self.now (turn D.Disk tree.old.kernel tree.new.kernel)) }

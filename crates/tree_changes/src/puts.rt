@@ -7,6 +7,7 @@ ghost use Rattle.model.specs.Operations.{transfer_limit};
 ghost use Rattle.names.specs.Inside.{form_seen};
 ghost use Rattle.names.specs.Paths.{names_of};
 ghost use Rattle.names.specs.Ready.{MayGoOn};
+ghost use Rattle.names.specs.Trees.{KeepsOnce};
 ghost use Rattle.names.specs.Writing.{Writes};
 ghost use Rattle.tree_changes.specs.Changes.{AnyOf, IsOfTree, LeavesMidst};
 ghost use Rattle.tree_changes.specs.Puts.{
@@ -82,6 +83,8 @@ fn put_few<D: Disk>(
     ensures puts { IfOk result (λ told. PutsFew path.now bytes.now told
         (files_of (image_on D.image tree.old.kernel))
         (files_of (image_on D.image tree.new.kernel))) }
+    ensures once { OnOk result (KeepsOnce (files_of (image_on D.image tree.old.kernel))
+        (files_of (image_on D.image tree.new.kernel))) }
     ensures undone { IfErr result
         (IsUnputFew D.Disk path.now bytes.now tree.old.kernel tree.new.kernel) }
     ensures cause { IfErr result IsOfTree }
@@ -114,6 +117,8 @@ pub fn append_all<D: Disk>(
         path.now bytes.now (piece_count bytes.now)
         (files_of (image_on D.image tree.old.kernel))
         (files_of (image_on D.image tree.new.kernel))) }
+    ensures once { OnOk result (KeepsOnce (files_of (image_on D.image tree.old.kernel))
+        (files_of (image_on D.image tree.new.kernel))) }
     ensures undone { IfErr result
         (StopsWriting D.Disk path.now bytes.now tree.old.kernel tree.new.kernel) }
     ensures cause { IfErr result IsOfTree }
@@ -142,6 +147,8 @@ fn append<D: Disk>(
     ensures writes { OnOk result (Writes (form_seen D.image tree.old.kernel)
         (names_of path.now) from bytes.now (Ok tt)
         (files_of (image_on D.image tree.old.kernel))
+        (files_of (image_on D.image tree.new.kernel))) }
+    ensures once { OnOk result (KeepsOnce (files_of (image_on D.image tree.old.kernel))
         (files_of (image_on D.image tree.new.kernel))) }
     ensures undone { IfErr result
         (IsUnappended D.Disk path.now from bytes.now tree.old.kernel tree.new.kernel) }

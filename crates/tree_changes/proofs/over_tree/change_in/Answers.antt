@@ -11,7 +11,7 @@ returns-in-Ok-clause-changed g c = λ d opened.
     let makes = g.C.TreeChange.makes c.args.change.now in
     let undone = g.C.TreeChange.undone c.args.change.now in
     changed_so disk makes undone c.args.last d k m opened tree c.in-Ok.number c.into_disk-disk.result c.tell-told.new.disk
-    (made_so disk makes undone c.args.last d k m opened tree c.in-Ok.number c.into_disk-disk.result c.into_disk-disk.ensures.disk c.in-Ok.ensures.makes)
+    (made_so disk makes undone c.args.last d k m opened tree c.in-Ok.number c.into_disk-disk.result c.into_disk-disk.ensures.disk c.in-Ok.ensures.makes c.in-Ok.ensures.once)
     c.tell-told.result _ _ c.tell-told.ensures.syncs c.tell-told.ensures.told
 
 pub returns-in-Ok-clause-refused : goal.returns-in-Ok-clause-refused
@@ -20,7 +20,7 @@ returns-in-Ok-clause-refused g c = λ d opened.
     let m = c.make.new.tree.kernel in
     let was = tree_was disk d c.args.tree.kernel opened c.requires.ready.tree in
     not_told disk (g.C.TreeChange.makes c.args.change.now) (g.C.TreeChange.undone c.args.change.now) c.args.last d c.args.tree.kernel m opened was c.in-Ok.number c.into_disk-disk.result c.tell-told.new.disk
-    (made_so disk (g.C.TreeChange.makes c.args.change.now) (g.C.TreeChange.undone c.args.change.now) c.args.last d c.args.tree.kernel m opened was c.in-Ok.number c.into_disk-disk.result c.into_disk-disk.ensures.disk c.in-Ok.ensures.makes)
+    (made_so disk (g.C.TreeChange.makes c.args.change.now) (g.C.TreeChange.undone c.args.change.now) c.args.last d c.args.tree.kernel m opened was c.in-Ok.number c.into_disk-disk.result c.into_disk-disk.ensures.disk c.in-Ok.ensures.makes c.in-Ok.ensures.once)
     c.tell-told.result _ c.tell-told.ensures.refused
 
 pub returns-in-Ok-clause-stops : goal.returns-in-Ok-clause-stops

@@ -1,7 +1,7 @@
 use Rattle.names.specs.Inside.{files_seen}
-use Rattle.std.proofs.Common.{◌≡◌, sym, subst}
-use Rattle.names.specs.Trees.{IsTree}
+use Rattle.std.proofs.Common.{◌≡◌}
 use Rattle.names.proofs.Entering.{created_new, found_fits, made_absent, made_adds, made_tree, made_undone}
+use Rattle.names.proofs.Staying.{stays_same}
 use Rattle.names.proofs.making.MakeChangeIn.apply_in.Goals as goal
 
 pub link-requires-clause-size : goal.link-requires-clause-size
@@ -39,7 +39,7 @@ returns-clause-tree g c =
     (created_new (g.N.New.file c.args.self.now.kind) c.args.from (files_seen g.D.Disk.image c.directory.new.self.kernel) (files_seen g.D.Disk.image c.create.new.tree.kernel) c.in_ok-number.field-0 c.in-Ok.number c.in-Ok.is c.in_ok-number.ensures.made).0 c.as_slice-2.ensures
     c.in-Ok-link.ensures.links c.in-Ok-link.ensures.within c.in_ok-entered.ensures.entered
     c.uncreated.new.self.kernel c.from.result c.from.ensures c.if-branch.false c.in_ok-uncreated.ensures.undoes in
-    subst (λ f. IsTree f) (sym same) c.requires.tree
+    stays_same (files_seen g.D.Disk.image c.args.tree.now.kernel) (files_seen g.D.Disk.image c.uncreated.new.self.kernel) same c.requires.tree
 
 pub returns-clause-made : goal.returns-clause-made
 returns-clause-made g c = (

@@ -1,29 +1,48 @@
-use Rattle.std.proofs.Common.{◌<◌, ap, subst}
+use Rattle.std.proofs.Common.{◌<◌, ℕ, ap, rules, subst}
+use Rattle.calls.specs.Calls.{image_on}
+use Rattle.model.specs.Files.{files_of}
 use Rattle.model.specs.Layout.{form_of}
 use Rattle.model.specs.declared.types.image.Form.{Form}
 use Rattle.names.specs.Inside.{files_seen, form_seen}
-use Rattle.names.specs.Ready.{Happens, LeavesTree}
-use Rattle.names.proofs.Transacting.{whole_by, whole_leaves}
+use Rattle.names.specs.Ready.{Happens, HasCommitted, LeavesTree}
+use Rattle.names.specs.Trees.{KeepsOnce}
+use Rattle.names.proofs.Transacting.{on_ok, unchanged_leaves, whole_by, whole_leaves, whole_once}
 use Rattle.names.proofs.tree.Tree.changed_at.Given.{Over}
 use Rattle.names.proofs.tree.Tree.changed_at.Goals.{After-committed}
 use Rattle.names.proofs.tree.Tree.changed_at.Goals as goal
 
--- what the call leaves, whether it ends well or not
-leaves : (g : Over) (c : After-committed g) → 0 < c.args.self.now.calls_left → LeavesTree g.D.Disk (g.C.Change.makes c.args.change.now (form_seen g.D.Disk.image c.args.self.now.kernel) c.args.names.now) c.args.self.now.kernel c.committed.new.self.kernel
-leaves g c some =
-    let change = g.C.Change.makes c.args.change.now (form_seen g.D.Disk.image c.args.self.now.kernel) c.args.names.now in
-    let why = g.C.Change.refuses c.args.change.now c.args.names.now in
-    whole_leaves g.D.Disk change why c.args.self.now.kernel c.apply.new.tree.kernel c.committed.new.self.kernel c.in_ok-made.made
-    (whole_by g.D.Disk change why c.args.self.now.kernel c.begun.new.self.kernel c.apply.new.tree.kernel c.args.self.now.calls_left c.begun.new.self.calls_left
-    c.in_ok-made.made (c.requires.ready some) c.in_ok-begun.ensures.begins c.begun.ensures.leaves c.in_ok-made.ensures.goes.on.same c.apply.ensures.goes.stays
-    c.in_ok-made.ensures.tree
-    (subst (λ (f : Form). Happens (g.C.Change.makes c.args.change.now f c.args.names.now) why
-    (files_seen g.D.Disk.image c.begun.new.self.kernel) (files_seen g.D.Disk.image c.apply.new.tree.kernel) c.in_ok-made.made)
-    (ap (λ d. form_of (g.D.Disk.image d)) c.in_ok-begun.ensures.begins.goes.opening) c.in_ok-made.ensures.made))
-    c.committed.ensures.leaves
+-- what the call leaves, whether it ends well or not; and where it does, what had one name at most has one still
+module _ (g : Over) (c : After-committed g) where
+  whole : 0 < c.args.self.now.calls_left → LeavesTree g.D.Disk (g.C.Change.makes c.args.change.now (form_seen g.D.Disk.image c.args.self.now.kernel) c.args.names.now) c.args.self.now.kernel c.committed.new.self.kernel
+      × ((left : ℕ) → HasCommitted g.D.Disk c.apply.new.tree.kernel c.committed.new.self.kernel left →
+      KeepsOnce (files_of (image_on g.D.Disk.image c.args.self.now.kernel)) (files_of (image_on g.D.Disk.image c.committed.new.self.kernel)))
+  whole some =
+      let change = g.C.Change.makes c.args.change.now (form_seen g.D.Disk.image c.args.self.now.kernel) c.args.names.now in
+      let why = g.C.Change.refuses c.args.change.now c.args.names.now in
+      let is =
+      whole_by g.D.Disk change why c.args.self.now.kernel c.begun.new.self.kernel c.apply.new.tree.kernel c.args.self.now.calls_left c.begun.new.self.calls_left
+      c.in_ok-made.made (c.requires.ready some) c.in_ok-begun.ensures.begins c.begun.ensures.leaves c.in_ok-made.ensures.goes.on.same c.apply.ensures.goes.stays
+      c.in_ok-made.ensures.tree
+      (subst (λ (f : Form). Happens (g.C.Change.makes c.args.change.now f c.args.names.now) why
+      (files_seen g.D.Disk.image c.begun.new.self.kernel) (files_seen g.D.Disk.image c.apply.new.tree.kernel) c.in_ok-made.made)
+      (ap (λ d. form_of (g.D.Disk.image d)) c.in_ok-begun.ensures.begins.goes.opening) c.in_ok-made.ensures.made) in (
+        whole_leaves g.D.Disk change why c.args.self.now.kernel c.apply.new.tree.kernel c.committed.new.self.kernel c.in_ok-made.made is c.committed.ensures.leaves,
+        λ left committed. whole_once g.D.Disk change why c.args.self.now.kernel c.apply.new.tree.kernel c.committed.new.self.kernel c.in_ok-made.made is left committed,
+      )
+
+pub returns-in_err-made-clause-leaves : goal.returns-in_err-made-clause-leaves
+returns-in_err-made-clause-leaves g c = λ some.
+    unchanged_leaves g.D.Disk (g.C.Change.makes c.args.change.now (form_seen g.D.Disk.image c.args.self.now.kernel) c.args.names.now)
+    (g.C.Change.refuses c.args.change.now c.args.names.now) c.args.self.now.kernel c.apply.new.tree.kernel (c.requires.ready some).tree
+    (c.apply.ensures.goes.stays.on c.args.self.now.kernel c.in_ok-begun.ensures.begins.goes.same c.begun.ensures.leaves)
 
 pub returns-in_err-committed-clause-leaves : goal.returns-in_err-committed-clause-leaves
-returns-in_err-committed-clause-leaves g c = leaves g (goal.at.returns-in_err-committed-clause-leaves g c).After-committed
+returns-in_err-committed-clause-leaves g c = λ some. (whole g (goal.at.returns-in_err-committed-clause-leaves g c).After-committed some).0
 
 pub returns-clause-leaves : goal.returns-clause-leaves
-returns-clause-leaves g c = leaves g (goal.at.returns-clause-leaves g c).After-committed
+returns-clause-leaves g c = λ some. (whole g (goal.at.returns-clause-leaves g c).After-committed some).0
+
+pub returns-clause-once : goal.returns-clause-once
+returns-clause-once g c =
+    let some : 0 < c.args.self.now.calls_left = search rules in
+    on_ok _ _ ((whole g (goal.at.returns-clause-once g c).After-committed some).1 c.committed.new.self.calls_left c.in_ok-committed.ensures.commits)

@@ -1,12 +1,12 @@
 use Rattle.std.proofs.Common.{◌≡◌, Result, true, sym, subst, rules}
-use Rattle.model.specs.Files.{Files}
 use Rattle.names.specs.declared.planning.Plan.{Plan}
 use Rattle.names.specs.declared.refusal.Refusal.{Refusal}
 use Rattle.names.specs.Inside.{files_seen}
 use Rattle.names.specs.Renaming.{IsPlan, IsPlanned, Renames}
-use Rattle.names.specs.Trees.{number_of, IsDirectory, IsTree}
+use Rattle.names.specs.Trees.{number_of, IsDirectory, StaysTree}
 use Rattle.std.specs.Prelude.{None}
 use Rattle.names.proofs.Moved.{moved_directory, moved_file, unlinked_absent, unlinked_same}
+use Rattle.names.proofs.Staying.{stays_same}
 use Rattle.names.proofs.tree.Tree.moved.Given.{Over}
 use Rattle.names.proofs.tree.Tree.moved.Goals as goal
 
@@ -29,7 +29,7 @@ module _ (g : Over) (c : goal.Then-not-branch g) where
       c.in_ok-entered.field-0 c.requires.tree c.requires.apart c.in_ok-plan.ensures.same plan_of c.in_ok-entered.ensures.entered
 
 pub returns-then-not-branch-clause-tree : goal.returns-then-not-branch-clause-tree
-returns-then-not-branch-clause-tree g c = subst (λ (f : Files). IsTree f) (sym (same_files g c)) c.requires.tree
+returns-then-not-branch-clause-tree g c = stays_same (files_seen g.D.Disk.image c.args.self.now.kernel) (files_seen g.D.Disk.image c.entered.new.self.kernel) (same_files g c) c.requires.tree
 
 pub returns-then-not-branch-clause-moved : goal.returns-then-not-branch-clause-moved
 returns-then-not-branch-clause-moved g c = (same_files g c, (c.requires.apart, (absent_there g c).0, (absent_there g c).1))
@@ -41,7 +41,7 @@ module _ (g : Over) (c : goal.In_default g) where
       c.in-Ok.is c.in_ok-plan.ensures.planned
 
   file_moved : Renames c.args.from c.args.old.now c.args.to c.args.name.now tt (files_seen g.D.Disk.image c.args.self.now.kernel)
-      (files_seen g.D.Disk.image c.entered-2.new.self.kernel) × IsTree (files_seen g.D.Disk.image c.entered-2.new.self.kernel)
+      (files_seen g.D.Disk.image c.entered-2.new.self.kernel) × StaysTree (files_seen g.D.Disk.image c.args.self.now.kernel) (files_seen g.D.Disk.image c.entered-2.new.self.kernel)
   file_moved =
       let holds : c.in_ok-entered.field-0 ≡ true = search rules in
       moved_file g.D.Disk c.args.self.now.kernel c.planned.new.self.kernel c.entered.new.self.kernel c.args.from c.args.to c.args.old.now c.args.name.now c.in-Ok.plan
@@ -61,7 +61,7 @@ module _ (g : Over) (c : goal.In_ok-_turned g) where
       c.in-Ok.is c.in_ok-plan.ensures.planned
 
   directory_moved : Renames c.args.from c.args.old.now c.args.to c.args.name.now tt (files_seen g.D.Disk.image c.args.self.now.kernel)
-      (files_seen g.D.Disk.image c.entered-3.new.self.kernel) × IsTree (files_seen g.D.Disk.image c.entered-3.new.self.kernel)
+      (files_seen g.D.Disk.image c.entered-3.new.self.kernel) × StaysTree (files_seen g.D.Disk.image c.args.self.now.kernel) (files_seen g.D.Disk.image c.entered-3.new.self.kernel)
   directory_moved =
       let holds : c.in_ok-entered.field-0 ≡ true = search rules in
       moved_directory g.D.Disk c.args.self.now.kernel c.planned.new.self.kernel c.entered.new.self.kernel c.args.from c.args.to c.args.old.now c.args.name.now c.in-Ok.plan

@@ -1,6 +1,6 @@
 use Rattle.std.proofs.Common.{◌∙◌, sym, rules}
 use Rattle.names.specs.Inside.{files_seen}
-use Rattle.names.specs.Trees.{IsDown, IsTree}
+use Rattle.names.specs.Trees.{IsDown, StaysTree}
 use Rattle.names.proofs.Entering.{found_fits}
 use Rattle.names.proofs.Renamed.{freed_directory, freed_fits, freed_links, freed_tidy, lookup_used, renamed_whole}
 use Rattle.names.specs.Renaming.{Renames}
@@ -48,7 +48,7 @@ unreachable-requires-in_default-link g c =
 
 module _ (g : Over) (c : goal.After-drop-bytes-inside-3 g) where
   whole : Renames c.args.from c.args.old.now c.args.from c.args.name.now tt (files_seen g.D.Disk.image c.args.self.now.kernel)
-      (files_seen g.D.Disk.image c.entered-2.new.self.kernel) × IsTree (files_seen g.D.Disk.image c.entered-2.new.self.kernel)
+      (files_seen g.D.Disk.image c.entered-2.new.self.kernel) × StaysTree (files_seen g.D.Disk.image c.args.self.now.kernel) (files_seen g.D.Disk.image c.entered-2.new.self.kernel)
   whole =
       let down : IsDown c.args.old.now = search rules in
       renamed_whole g.D.Disk c.args.self.now.kernel c.directory.new.self.kernel c.entered.new.self.kernel c.args.from c.in-Some-lookup.number c.args.old.now c.in-Some.bytes
