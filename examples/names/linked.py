@@ -74,6 +74,7 @@ def main():
     found({"/one": (2, first), "/two": (1, second), "/again": (2, first)})
     refuse("rm", "a.img", "one", refused="20 LinkedTwice")
     refuse("rm", "a.img", "./again", refused="20 LinkedTwice")
+    refuse("rm", "a.img", "again", "--explain", refused="20 LinkedTwice\nagain: another name leads to the file")
     run("mkdir", "a.img", "docs")
     run("mv", "a.img", "again", "docs/again")
     run("put", "a.img", "three", "one")

@@ -1,5 +1,5 @@
 -- What became of the disk in a file over which a script's operations were made, and drawn or not.
-use Rattle.std.specs.Prelude.{◌≡◌, ◌<◌, ◌≤◌, ℕ, min, Bool, List, Option, Some, None, codes}
+use Rattle.std.specs.Prelude.{◌≡◌, ◌<◌, ◌≤◌, ⊤, ℕ, min, Bool, List, Option, Some, None, codes}
 use Rattle.std.specs.Io.KnownBytes.{Appends}
 use Rattle.blocks.specs.Disk.{Image}
 use Rattle.blocks.specs.declared.file.FileDisk.{FileDisk}
@@ -93,6 +93,14 @@ IsUndrawn (Picture f) r = r.steps ≤ 2000
 abbrev pub HasNoPicture : {F : Type 0} → PicturedRefusal → List Task → ℕ → List Word → List Told
     → FileDisk F → FileDisk F → Type 0
 HasNoPicture refusal tasks processes words tolds d e = IsUndrawn refusal (recorded tolds)
+
+-- with this none was begun
+abbrev pub IsUnbegun : PicturedRefusal → Type 0
+IsUnbegun NoMemory = ⊤
+IsUnbegun (Replay refusal) = ⊤
+IsUnbegun (TooLong steps) = ⊤
+IsUnbegun Unfiled = ⊤
+IsUnbegun (Picture f) = ⊥
 
 -- a script was replayed over the disk in a file, and drawn into the file at a path, where there is one
 abbrev pub IsReplayedInto : {F P : Type 0} → (F → Option (List ℕ)) → Bool → Detail → ℕ

@@ -3,7 +3,16 @@ ghost use Rattle.std.specs.Prelude.{◌≡◌, ◌≤◌, IfErr, IfOk, OnOk, unw
 ghost use Rattle.cmd.specs.Lemmas.Disks.{file_disk};
 ghost use Rattle.cmd.specs.Opened.{OpensDisk};
 ghost use Rattle.commands.specs.Filed.{copied_image};
-ghost use Rattle.commands.specs.Pictures.{HasPicture, IsPictured, IsReplayedInto, IsSceneOf, IsUndrawn, IsUnpictured, pictured_telling};
+ghost use Rattle.commands.specs.Pictures.{
+  HasPicture,
+  IsPictured,
+  IsReplayedInto,
+  IsSceneOf,
+  IsUnbegun,
+  IsUndrawn,
+  IsUnpictured,
+  pictured_telling,
+};
 ghost use Rattle.commands.specs.Recorded.{none_recorded};
 ghost use Rattle.commands.specs.Runs.{IsReplayedSo};
 
@@ -71,6 +80,7 @@ pub fn replay_into<R: Files + AllocGlobal, P: Meter, H: Holder, O: Write>(
     ensures refused { IfErr result (IsUnpictured R.File.remaining replay.entry.sync
         replay.entry.detail (unwrap_or replay.entry.stop 0)
         (O.contents out.old) (O.contents out.new) (out.new ≡ out.old)) }
+    ensures unbegun { IfErr result (λ refusal. IsUnbegun refusal → holder.new ≡ holder.old) }
 {
     if let Some(path) = picture {
         return replay_pictured(rt, replay, path, progress, holder, out);
@@ -91,7 +101,7 @@ pub fn replay_into<R: Files + AllocGlobal, P: Meter, H: Holder, O: Write>(
 /// `NoMemory`, and then nothing was done; `Replay` with a refusal of `replay_files`, and then nothing
 /// was drawn. With the others the replay was made and printed: `TooLong` where it has more steps than
 /// `MOST_COLUMNS`; `Unfiled` where memory to make it once more is refused; `Picture` with a fault of
-/// `draw`.
+/// `draw`. With all but `Picture` the holder is as it was.
 pub fn replay_pictured<R: Files + AllocGlobal, P: Meter, H: Holder, O: Write>(
     rt: &R,
     replay: Replay<'_>,
@@ -107,6 +117,7 @@ pub fn replay_pictured<R: Files + AllocGlobal, P: Meter, H: Holder, O: Write>(
     ensures refused { IfErr result (IsUnpictured R.File.remaining replay.entry.sync
         replay.entry.detail (unwrap_or replay.entry.stop 0)
         (O.contents out.old) (O.contents out.new) (out.new ≡ out.old)) }
+    ensures unbegun { IfErr result (λ refusal. IsUnbegun refusal → holder.new ≡ holder.old) }
 {
     let (mut teller, mut block) = match take_room(rt.alloc(), replay.detail) {
         Ok(room) => room,
@@ -175,6 +186,7 @@ fn draw_run<R: Files + AllocGlobal, H: Holder>(
         scene.now.anew.processes scene.now.anew.words.items scene.now.inode_count
         recorder.now) }
     ensures undrawn { IfErr result (λ refusal. IsUndrawn refusal recorder.now) }
+    ensures unbegun { IfErr result (λ refusal. IsUnbegun refusal → holder.new ≡ holder.old) }
 {
     if recorder.steps() > MOST_COLUMNS as u64 {
         return Err(PicturedRefusal::TooLong(recorder.steps().min(4_294_967_295) as u32));

@@ -7,6 +7,7 @@ use crate::standing::standing;
 use crate::texts::{bad_line, bad_word};
 use layout::{MOST_BLOCKS, meta_count};
 use messages::print_last;
+use pictures::MOST_COLUMNS;
 use std::fs::metadata;
 use std::io::{ErrorKind, Write};
 use std::path::Path;
@@ -23,7 +24,7 @@ struct Refusal<'a> {
 /// Says more of a refusal, in one line, as far as looking once more tells it and memory is given: the
 /// path with the system's words; the number of a superblock, the line or the word that is objected to,
 /// with what it has to be; the blocks that are needed, and those that are free; where bytes were
-/// being put, which files have them; and where a check of stops met a mismatch.
+/// being put, which files have them; where a check of stops met a mismatch; and how much is drawn.
 ///
 /// By its code it reads files, and writes to `err` alone. What it finds is so when it looks.
 pub fn explain<R: Files + AllocGlobal, E: Write>(
@@ -52,6 +53,7 @@ fn explanation<R: Files + AllocGlobal>(rt: &R, given: &Given<'_>, line: &[u8]) -
         "names" => with_phrase(rt.alloc(), given.name?, names_phrase(refusal.number)?),
         "recover" | "open" | "output" => standing(rt, given),
         "stops" => of_stops(rt, given, refusal.number),
+        "picture" => of_picture(rt, given, refusal.number),
         _ => None,
     }
 }
@@ -185,6 +187,7 @@ fn names_phrase(number: u32) -> Option<&'static str> {
         15 => Some("a name of it has a zero byte"),
         16 => Some("memory was refused"),
         19 => Some("a name below it can't be that of a file of the system"),
+        20 => Some("another name leads to the file"),
         _ => None,
     }
 }
@@ -225,6 +228,19 @@ fn of_schedule<R: Files + AllocGlobal>(
 fn of_stops<R: Files + AllocGlobal>(rt: &R, given: &Given<'_>, number: u32) -> Option<String> {
     match number {
         1 => with_phrase(rt.alloc(), given.script?, given.mismatch?),
+        _ => None,
+    }
+}
+
+// Of a picture that isn't drawn. Only where memory was refused may the run not be made, either.
+fn of_picture<R: Files + AllocGlobal>(rt: &R, given: &Given<'_>, number: u32) -> Option<String> {
+    let path = given.made?;
+    let alloc = rt.alloc();
+    let most = MOST_COLUMNS;
+    match number {
+        1 => with_phrase(alloc, path, "memory was refused for what it draws"),
+        2 => format!(in alloc; "{path}: at most {most} steps or stops; all else was done").ok(),
+        3 => with_phrase(alloc, path, "a write to it failed; all else was done"),
         _ => None,
     }
 }

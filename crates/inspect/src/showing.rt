@@ -7,7 +7,6 @@ ghost use Rattle.model.specs.Log.{recovered};
 ghost use Rattle.model.specs.Verdict.{verdict};
 ghost use Rattle.inspect.specs.Causes.{IsUnshown};
 ghost use Rattle.inspect.specs.Gathering.{KeepsCount};
-ghost use Rattle.inspect.specs.Owned.{owned_of};
 ghost use Rattle.inspect.specs.Showing.{IsOwnedBy, block_line, blocks_text, file_text};
 
 use crate::fault::GatherFault;
