@@ -53,7 +53,7 @@ DrawsLost contents tried m = (lost : Lost) × (lost.at ≡ at_of m.stop)
     × (lost.words.now ≡ mismatch_text m) × DrawsStops contents tried (Some lost)
 
 -- The stops that were tried where a check was refused: those that passed, and the first that didn't;
--- or all, of which only the count couldn't be printed.
+-- or all, of which only the count couldn't be printed. The other refusals have no picture: `HasNone`.
 abbrev pub DrawsRefused : {F : Type 0} → (F → Option (List ℕ)) → List Column → StopsRefusal → Type 0
 DrawsRefused contents tried (check.Script f) = ⊤
 DrawsRefused contents tried (check.Schedule f) = ⊤
@@ -65,6 +65,25 @@ DrawsRefused contents tried (check.Stops Output) = DrawsStops contents tried Non
 abbrev pub IsUndrawn : Undrawn → List Column → Type 0
 IsUndrawn (undrawn.TooLong n) tried = (2000 < length tried) × (n ≡ min (length tried) 4294967295)
 IsUndrawn (undrawn.Picture f) tried = length tried ≤ 2000
+
+-- there were too many of them
+abbrev pub IsTooLong : Undrawn → Type 0
+IsTooLong (undrawn.TooLong n) = ⊤
+IsTooLong (undrawn.Picture f) = ⊥
+
+-- a check that was so refused has no picture
+abbrev pub HasNone : StopsRefusal → Type 0
+HasNone (check.Script f) = ⊤
+HasNone (check.Schedule f) = ⊤
+HasNone (check.Stops (Fault (Mismatch m))) = ⊥
+HasNone (check.Stops (Fault Memory)) = ⊤
+HasNone (check.Stops Output) = ⊥
+
+-- with this no picture was begun
+abbrev pub IsUnbegun : DrawnStopsRefusal → Type 0
+IsUnbegun NoMemory = ⊤
+IsUnbegun (Stops r u) = HasNone r
+IsUnbegun (Picture u) = IsTooLong u
 
 -- they were drawn, or were not for this reason
 abbrev pub DrawsOr : Result (Unit {0}) Undrawn → List Column → Type 0 → Type 0

@@ -1,10 +1,15 @@
 // The picture of a script's stops, in the file of a path.
-ghost use Rattle.std.specs.Prelude.{◌≡◌, ◌≤◌, IfErr, IsErrAnd, None, OnOk, length};
-ghost use Rattle.crash_check.specs.Faults.{mismatch_text};
-ghost use Rattle.pictures.specs.Stops.{stops_text};
+ghost use Rattle.std.specs.Prelude.{◌≡◌, ◌≤◌, IfErr, IsErrAnd, IsOk, None, OnOk, length};
 ghost use Rattle.stops.specs.Tried.{at_of};
-ghost use Rattle.commands.specs.Pictures.{IsDrawn};
-ghost use Rattle.xvfs.specs.StopsDrawn.{DrawsLost, DrawsRefused, DrawsStops, IsUndrawn, undrawn_telling};
+ghost use Rattle.xvfs.specs.StopsDrawn.{
+  DrawsLost,
+  DrawsRefused,
+  DrawsStops,
+  HasNone,
+  IsTooLong,
+  IsUndrawn,
+  undrawn_telling,
+};
 
 use crate::stopping::StopsRefusal;
 use arrayvec::ArrayVec;
@@ -39,7 +44,8 @@ impl Reason for Undrawn {
 ///
 /// # Errors
 ///
-/// `TooLong` where there are more than `MOST_COLUMNS`; `Picture` with a fault of `draw`.
+/// `TooLong` where there are more than `MOST_COLUMNS`, and then the holder is as it was; `Picture` with a
+/// fault of `draw`.
 pub fn draw_passed<R: Files + AllocGlobal, H: Holder>(
     rt: &R,
     path: &str,
@@ -48,12 +54,14 @@ pub fn draw_passed<R: Files + AllocGlobal, H: Holder>(
 ) -> Result<(), Undrawn>
     ensures drawn { OnOk result (DrawsStops R.File.contents columns.now None) }
     ensures undrawn { IfErr result (λ undrawn. IsUndrawn undrawn columns.now) }
+    ensures long { IfErr result (λ undrawn. IsTooLong undrawn → holder.new ≡ holder.old) }
 {
     draw_stops(rt, path, columns, None, holder)
 }
 
 /// Draws the stops that were tried where a check was refused: those that passed, and behind them the one
-/// that didn't; all, where only the output can't be written; none with another refusal.
+/// that didn't; all, where only the output can't be written; none with another refusal, and then the
+/// holder is as it was.
 ///
 /// # Errors
 ///
@@ -67,6 +75,8 @@ pub fn draw_refused<R: Files + AllocGlobal, H: Holder>(
 ) -> Result<(), Undrawn>
     ensures drawn { OnOk result (DrawsRefused R.File.contents columns.now refusal.now) }
     ensures undrawn { IfErr result (λ undrawn. IsUndrawn undrawn columns.now) }
+    ensures none { HasNone refusal.now → IsOk result }
+    ensures untouched { HasNone refusal.now → holder.new ≡ holder.old }
 {
     match refusal {
         StopsRefusal::Script(_) => Ok(()),
@@ -141,6 +151,7 @@ fn draw_stops<R: Files + AllocGlobal, H: Holder>(
 ) -> Result<(), Undrawn>
     ensures drawn { OnOk result (DrawsStops R.File.contents columns.now lost.entry) }
     ensures undrawn { IfErr result (λ undrawn. IsUndrawn undrawn columns.now) }
+    ensures long { IfErr result (λ undrawn. IsTooLong undrawn → holder.new ≡ holder.old) }
 {
     if let Err(undrawn) = fits(columns) {
         return Err(undrawn);

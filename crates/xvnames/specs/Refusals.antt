@@ -1,5 +1,5 @@
 -- How it is told that a command over files of the system isn't done.
-use Rattle.std.specs.Prelude.{⊤, ℕ, ◌<◌, ◌≤◌, Bool, false, List, length, Option}
+use Rattle.std.specs.Prelude.{⊤, ℕ, ◌<◌, Bool, false, List, length, Option}
 use Rattle.cmd.specs.Lemmas.Disks.{file_disk}
 use Rattle.cmd.specs.Opened.{OpensDisk}
 use Rattle.cmd.specs.Over.{IsRefusedOn, on_file_telling}
