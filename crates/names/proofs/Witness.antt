@@ -9,10 +9,9 @@ use Rattle.model.specs.Files.{Files, file_in}
 use Rattle.model.specs.Operations.{after}
 use Rattle.names.specs.declared.entries.EntryWrite.{EntryWrite}
 use Rattle.names.specs.Entries.{entries_of, entry_bytes, lookup, number_in, padded}
-use Rattle.names.specs.Trees.{directory_in, new_directory, parent_name, self_name, IsDown, IsNamedOnce, IsTree, StepsDown}
+use Rattle.names.specs.Trees.{directory_in, new_directory, parent_name, self_name, IsDown, IsNamedOnce, IsTree, StaysTree, StepsDown}
 use Rattle.names.specs.TreeChanges.{directory_file, empty_file, AddsName, DropsName}
 use Rattle.names.specs.Writes.{Links, Unlinks}
-use Rattle.names.proofs.Adding.{adding_keeps_once}
 use Rattle.names.proofs.NewDirectory.{root_is_tree}
 use Rattle.names.proofs.TreeMeaning.{steps_lead}
 use Rattle.names.proofs.WholeChanges.{makes_file_whole, removes_file_whole}
@@ -71,10 +70,10 @@ links = record {
 }
 
 -- a file is made
-pub adds : AddsName files named 1 name 2 (empty_file 2) × IsTree named
+pub adds : AddsName files named 1 name 2 (empty_file 2) × StaysTree files named
 unfolding after
 adds =
-    ⊎_elim (λ (done : (Wrote 16 ≡ Wrote 16) × AddsName files named 1 name 2 (empty_file 2) × IsTree named). (done.1, done.2))
+    ⊎_elim (λ (done : (Wrote 16 ≡ Wrote 16) × AddsName files named 1 name 2 (empty_file 2) × StaysTree files named). (done.1, done.2))
     (λ (none : (Wrote 16 ≡ Wrote 0) × (named ≡ made)). absurd (cc (none.0)))
     (makes_file_whole One files made named 1 2 2 name link (Wrote 16) root_alone refl down (λ e. absurd (omega arith)) refl links (omega arith) refl)
 
@@ -93,11 +92,11 @@ none_named =
     record { directory = λ a b x y at_a at_b. absurd (none a x at_a); name = λ a b x y at_a at_b. absurd (none a x at_a) }
 
 once : IsNamedOnce named 2
-once = adding_keeps_once files named 1 2 name (empty_file 2) root_alone refl down (λ e. absurd (omega arith)) adds.0 2 none_named
+once = adds.1.once 2 none_named
 
 -- and removed
-pub drops : DropsName named emptied 1 name 2 × IsTree emptied
+pub drops : DropsName named emptied 1 name 2 × StaysTree named emptied
 unfolding after
 drops =
-    let whole = removes_file_whole One named freed emptied 1 2 name unlink (Wrote 16) Done adds.1 refl down leads once (λ directory. absurd (omega arith)) unlinks refl refl in
+    let whole = removes_file_whole One named freed emptied 1 2 name unlink (Wrote 16) Done adds.1.tree refl down leads once (λ directory. absurd (omega arith)) unlinks refl refl in
     (whole.2, whole.3)
