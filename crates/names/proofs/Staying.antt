@@ -1,6 +1,7 @@
 -- Trees that came of trees, in which no file has several names that had one at most.
 use Rattle.std.proofs.Common.{◌≡◌, sym, subst}
 use Rattle.model.specs.Files.{Files}
+use Rattle.names.specs.Lemmas.Once.{once_on}
 use Rattle.names.specs.Trees.{IsNamedOnce, IsTree, StaysTree}
 
 -- the files are the same
@@ -16,4 +17,4 @@ stays_from files seen new same stays = subst (λ (f : Files). StaysTree f new) s
 
 -- one came of another
 pub stays_on : (files mid new : Files) → StaysTree files mid → StaysTree mid new → StaysTree files new
-stays_on files mid new first then_on = record { tree = then_on.tree; once = λ i once. then_on.once i (first.once i once) }
+stays_on files mid new first then_on = record { tree = then_on.tree; once = once_on first.once then_on.once }

@@ -16,7 +16,7 @@ use Rattle.names.specs.declared.refusal.TreeFault.{TreeFault}
 use Rattle.names.specs.declared.refusal.TreeFault.TheVariants.{Path, Refused, Call, NoSpace, NoCall}
 use Rattle.names.specs.Inside.{files_seen, Answers, Goes, IsBroken, IsBrokenOr, IsSame, LeavesFiles}
 use Rattle.names.specs.Paths.{IsPathCause}
-use Rattle.names.specs.Trees.{new_directory, root, IsTree, KeepsOnce}
+use Rattle.names.specs.Trees.{new_directory, root, IsTree, KeepsOnce, StaysTree}
 use Rattle.names.specs.TreeChanges.{directory_file}
 
 -- No transaction is under way, so many calls may be made yet, and the files on the disk are a tree.
@@ -111,6 +111,14 @@ Happens change why files new (Err cause) = (new ≡ files) × why files cause
 abbrev pub answer_of : {T : Type 0} → Result T Refusal → Result T TreeFault
 answer_of (Ok made) = Ok made
 answer_of (Err cause) = Err (Refused cause)
+
+-- From kernel k to m no file on the disk got several names that had one at most.
+abbrev pub NamesStayOnce : {D : Type 0} → (D → Image) → Plain D → Plain D → Type 0
+NamesStayOnce image k m = KeepsOnce (files_of (image_on image k)) (files_of (image_on image m))
+
+-- The files that a transaction sees in m are a tree that came of those that it saw in k.
+abbrev pub TreeStays : {D : Type 0} → (D → Image) → Plain D → Plain D → Type 0
+TreeStays image k m = StaysTree (files_seen image k) (files_seen image m)
 
 -- ALL OR NOTHING: what a stop leaves of image x: recovery gives a sound image whose files are a tree,
 -- those of x or those after a change of them, and none has several names that had one at most.

@@ -7,8 +7,8 @@ ghost use Rattle.model.specs.declared.types.image.Form.{Form};
 ghost use Rattle.names.specs.declared.refusal.Refusal.{Refusal};
 ghost use Rattle.names.specs.Inside.{files_seen, form_seen, IsUnderWay, ProceedsOr};
 ghost use Rattle.names.specs.Paths.{names_of};
-ghost use Rattle.names.specs.Ready.{answer_of, Happens, IsUnansweredOr, IsUndoneOr, LeavesTree, MayGoOn};
-ghost use Rattle.names.specs.Trees.{IsTree, KeepsOnce, StaysTree};
+ghost use Rattle.names.specs.Ready.{answer_of, Happens, IsUnansweredOr, IsUndoneOr, LeavesTree, MayGoOn, NamesStayOnce, TreeStays};
+ghost use Rattle.names.specs.Trees.{IsTree};
 ghost use Rattle.names.specs.Walks.{AtLast, IsUndoneIn};
 
 use crate::name::Name;
@@ -38,8 +38,7 @@ pub(crate) trait Change {
         requires tree { IsTree (files_seen D.image tree.old.kernel) }
         ensures goes { ProceedsOr (fills self.now) D.Disk result
             tree.old.kernel tree.new.kernel tree.new.calls_left }
-        ensures tree { OnOk result (StaysTree (files_seen D.image tree.old.kernel)
-            (files_seen D.image tree.new.kernel)) }
+        ensures tree { OnOk result (TreeStays D.image tree.old.kernel tree.new.kernel) }
         ensures made { IfOk result (Happens
             (makes self.now (form_seen D.image tree.old.kernel) names.now)
             (refuses self.now names.now)
@@ -72,8 +71,7 @@ pub(crate) trait ChangeIn {
         requires tree { IsTree (files_seen D.image tree.old.kernel) }
         ensures goes { ProceedsOr (fills self.now) D.Disk result
             tree.old.kernel tree.new.kernel tree.new.calls_left }
-        ensures tree { OnOk result (StaysTree (files_seen D.image tree.old.kernel)
-            (files_seen D.image tree.new.kernel)) }
+        ensures tree { OnOk result (TreeStays D.image tree.old.kernel tree.new.kernel) }
         ensures made { IfOk result (Happens (makes self.now from name.now)
             (λ files. refuses self.now files from name.now)
             (files_seen D.image tree.old.kernel) (files_seen D.image tree.new.kernel)) };
@@ -120,8 +118,7 @@ impl<D: Disk> Tree<D> {
             C.makes change.now (form_seen D.image self.old.kernel) (names_of path.now) made
             (files_of (image_on D.image self.old.kernel))
             (files_of (image_on D.image self.new.kernel))) }
-        ensures once { OnOk result (KeepsOnce (files_of (image_on D.image self.old.kernel))
-            (files_of (image_on D.image self.new.kernel))) }
+        ensures once { OnOk result (NamesStayOnce D.image self.old.kernel self.new.kernel) }
         ensures refused { IfErr result (IsUndoneOr (C.fills change.now) D.Disk path.now
             (C.refuses change.now (names_of path.now)) self.old.kernel self.new.kernel) }
         ensures leaves { 0 < self.old.calls_left → LeavesTree D.Disk
@@ -151,8 +148,7 @@ impl<D: Disk> Tree<D> {
             C.makes change.now (form_seen D.image self.old.kernel) names.now made
             (files_of (image_on D.image self.old.kernel))
             (files_of (image_on D.image self.new.kernel))) }
-        ensures once { OnOk result (KeepsOnce (files_of (image_on D.image self.old.kernel))
-            (files_of (image_on D.image self.new.kernel))) }
+        ensures once { OnOk result (NamesStayOnce D.image self.old.kernel self.new.kernel) }
         ensures refused { IfErr result (IsUnansweredOr (C.fills change.now) D.Disk
             (C.refuses change.now names.now) self.old.kernel self.new.kernel) }
         ensures leaves { 0 < self.old.calls_left → LeavesTree D.Disk

@@ -6,8 +6,8 @@ ghost use Rattle.model.specs.Files.{files_of};
 ghost use Rattle.names.specs.Contents.{Empties, HasOnly, IsNoPlain, LeadsToNoPlain, Reads, ReadsOf};
 ghost use Rattle.names.specs.Inside.{files_seen, IsUnderWay, Proceeds, SeesSame};
 ghost use Rattle.names.specs.Paths.{names_of};
-ghost use Rattle.names.specs.Ready.{Happens, IsUndone, LeavesTree, MayGoOn};
-ghost use Rattle.names.specs.Trees.{IsDirectory, IsFile, IsTree, KeepsOnce, StaysTree};
+ghost use Rattle.names.specs.Ready.{Happens, IsUndone, LeavesTree, MayGoOn, NamesStayOnce, TreeStays};
+ghost use Rattle.names.specs.Trees.{IsDirectory, IsFile, IsTree};
 
 use crate::changing::Change;
 use crate::looking::DIRECTORY_KIND;
@@ -79,8 +79,7 @@ impl<D: Disk> Tree<D> {
         ensures empties { IfOk result (λ done. Empties (names_of path.now) done
             (files_of (image_on D.image self.old.kernel))
             (files_of (image_on D.image self.new.kernel))) }
-        ensures once { OnOk result (KeepsOnce (files_of (image_on D.image self.old.kernel))
-            (files_of (image_on D.image self.new.kernel))) }
+        ensures once { OnOk result (NamesStayOnce D.image self.old.kernel self.new.kernel) }
         ensures refused { IfErr result (IsUndone D.Disk path.now
             (LeadsToNoPlain (names_of path.now)) self.old.kernel self.new.kernel) }
         ensures leaves { 0 < self.old.calls_left → LeavesTree D.Disk (Empties (names_of path.now))
@@ -96,8 +95,7 @@ impl<D: Disk> Tree<D> {
         requires tree { IsTree (files_seen D.image self.old.kernel) }
         requires there { IsFile (files_seen D.image self.old.kernel) number }
         ensures goes { Proceeds D.Disk result self.old.kernel self.new.kernel self.new.calls_left }
-        ensures tree { OnOk result (StaysTree (files_seen D.image self.old.kernel)
-            (files_seen D.image self.new.kernel)) }
+        ensures tree { OnOk result (TreeStays D.image self.old.kernel self.new.kernel) }
         ensures emptied { IfOk result (Happens (λ done. HasOnly number []) (IsNoPlain number)
             (files_seen D.image self.old.kernel) (files_seen D.image self.new.kernel)) }
     {

@@ -9,9 +9,8 @@ ghost use Rattle.model.specs.declared.types.image.File.{File};
 ghost use Rattle.names.specs.Inside.{files_seen, IsUnderWay, Proceeds};
 ghost use Rattle.names.specs.Making.{file_kind, HasCreated, HasCreatedNew, HasEntered, IsUnmadeIn, MakesAt, Uncreates, unlinked};
 ghost use Rattle.names.specs.Paths.{names_of};
-ghost use Rattle.names.specs.Ready.{IsUndone, LeavesTree, MayGoOn};
+ghost use Rattle.names.specs.Ready.{IsUndone, LeavesTree, MayGoOn, NamesStayOnce};
 ghost use Rattle.names.specs.TreeChanges.{empty_file, AddsName};
-ghost use Rattle.names.specs.Trees.{KeepsOnce};
 ghost use Rattle.names.specs.Walks.{IsUndoneIn};
 
 use crate::changing::{ChangeIn, Last};
@@ -118,8 +117,7 @@ impl<D: Disk> Tree<D> {
         ensures makes { IfOk result (λ number. MakesAt (names_of path.now) number
             (files_of (image_on D.image self.old.kernel))
             (files_of (image_on D.image self.new.kernel))) }
-        ensures once { OnOk result (KeepsOnce (files_of (image_on D.image self.old.kernel))
-            (files_of (image_on D.image self.new.kernel))) }
+        ensures once { OnOk result (NamesStayOnce D.image self.old.kernel self.new.kernel) }
         ensures refused { IfErr result (IsUndone D.Disk path.now
             (IsUndoneIn IsUnmadeIn (names_of path.now)) self.old.kernel self.new.kernel) }
         ensures leaves { 0 < self.old.calls_left → LeavesTree D.Disk (MakesAt (names_of path.now))

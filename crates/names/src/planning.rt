@@ -1,9 +1,9 @@
 // Files of a tree that get a name in another directory.
 ghost use Rattle.std.specs.Prelude.{◌≡◌, ◌≢◌, ◌↔◌, IfErr, IfOk, IsTrue, OnOk};
 ghost use Rattle.names.specs.Inside.{files_seen, IsUnderWay, Proceeds, SeesSame};
-ghost use Rattle.names.specs.Ready.{Happens};
+ghost use Rattle.names.specs.Ready.{Happens, TreeStays};
 ghost use Rattle.names.specs.Renaming.{IsPlanned, IsUnrenamed, Renames, Rises};
-ghost use Rattle.names.specs.Trees.{root, IsDirectory, IsOutside, IsTree, StaysTree};
+ghost use Rattle.names.specs.Trees.{root, IsDirectory, IsOutside, IsTree};
 
 use crate::entries::{DIRECTORY, EntryWrite, link, lookup, repoint, unlink};
 use crate::making::unlinked;
@@ -39,8 +39,7 @@ impl<D: Disk> Tree<D> {
         requires tree { IsTree (files_seen D.image self.old.kernel) }
         requires apart { from ≢ to }
         ensures goes { Proceeds D.Disk result self.old.kernel self.new.kernel self.new.calls_left }
-        ensures tree { OnOk result (StaysTree (files_seen D.image self.old.kernel)
-            (files_seen D.image self.new.kernel)) }
+        ensures tree { OnOk result (TreeStays D.image self.old.kernel self.new.kernel) }
         ensures moved { IfOk result (Happens (Renames from old.now to name.now)
             (λ files. IsUnrenamed files from old.now to name.now)
             (files_seen D.image self.old.kernel) (files_seen D.image self.new.kernel)) }

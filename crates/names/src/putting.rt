@@ -8,8 +8,8 @@ ghost use Rattle.names.specs.Contents.{IsNoPlain};
 ghost use Rattle.names.specs.Inside.{files_seen, IsUnderWay, ProceedsOr};
 ghost use Rattle.names.specs.Paths.{names_of};
 ghost use Rattle.names.specs.Putting.{file_of, told, IsUnputIn, PutsAt, PutsIn, Refills};
-ghost use Rattle.names.specs.Ready.{Happens, IsUnwritten, LeavesTree, MayGoOn};
-ghost use Rattle.names.specs.Trees.{IsFile, IsTree, KeepsOnce, StaysTree};
+ghost use Rattle.names.specs.Ready.{Happens, IsUnwritten, LeavesTree, MayGoOn, NamesStayOnce, TreeStays};
+ghost use Rattle.names.specs.Trees.{IsFile, IsTree};
 ghost use Rattle.names.specs.Walks.{IsUndoneIn};
 
 use crate::changing::{ChangeIn, Last};
@@ -111,8 +111,7 @@ impl<D: Disk> Tree<D> {
         ensures puts { IfOk result (λ done. PutsAt bytes.now (names_of path.now) done
             (files_of (image_on D.image self.old.kernel))
             (files_of (image_on D.image self.new.kernel))) }
-        ensures once { OnOk result (KeepsOnce (files_of (image_on D.image self.old.kernel))
-            (files_of (image_on D.image self.new.kernel))) }
+        ensures once { OnOk result (NamesStayOnce D.image self.old.kernel self.new.kernel) }
         ensures refused { IfErr result (IsUnwritten D.Disk path.now
             (IsUndoneIn IsUnputIn (names_of path.now)) self.old.kernel self.new.kernel) }
         ensures leaves { 0 < self.old.calls_left → LeavesTree D.Disk
@@ -133,8 +132,7 @@ impl<D: Disk> Tree<D> {
         requires few { length bytes.now ≤ transfer_limit }
         ensures goes { ProceedsOr ⊤ D.Disk result
             self.old.kernel self.new.kernel self.new.calls_left }
-        ensures tree { OnOk result (StaysTree (files_seen D.image self.old.kernel)
-            (files_seen D.image self.new.kernel)) }
+        ensures tree { OnOk result (TreeStays D.image self.old.kernel self.new.kernel) }
         ensures filled { IfOk result (Happens (Refills number bytes.now) (IsNoPlain number)
             (files_seen D.image self.old.kernel) (files_seen D.image self.new.kernel)) }
     {

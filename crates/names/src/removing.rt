@@ -5,10 +5,10 @@ ghost use Rattle.calls.specs.Stopped.{StaysOver};
 ghost use Rattle.model.specs.Files.{files_of};
 ghost use Rattle.names.specs.Inside.{files_seen, IsUnderWay, Proceeds};
 ghost use Rattle.names.specs.Paths.{names_of};
-ghost use Rattle.names.specs.Ready.{IsUndone, LeavesTree, MayGoOn};
+ghost use Rattle.names.specs.Ready.{IsUndone, LeavesTree, MayGoOn, NamesStayOnce, TreeStays};
 ghost use Rattle.names.specs.Removing.{IsUnremovedIn, MayDrop, RemovesAt, RemovesIn};
 ghost use Rattle.names.specs.TreeChanges.{DropsName};
-ghost use Rattle.names.specs.Trees.{IsTree, KeepsOnce, StaysTree};
+ghost use Rattle.names.specs.Trees.{IsTree};
 ghost use Rattle.names.specs.Walks.{IsUndoneIn};
 
 use crate::changing::{ChangeIn, Last};
@@ -74,8 +74,7 @@ impl<D: Disk> Tree<D> {
         ensures removes { IfOk result (λ done. RemovesAt (names_of path.now) done
             (files_of (image_on D.image self.old.kernel))
             (files_of (image_on D.image self.new.kernel))) }
-        ensures once { OnOk result (KeepsOnce (files_of (image_on D.image self.old.kernel))
-            (files_of (image_on D.image self.new.kernel))) }
+        ensures once { OnOk result (NamesStayOnce D.image self.old.kernel self.new.kernel) }
         ensures refused { IfErr result (IsUndone D.Disk path.now
             (IsUndoneIn IsUnremovedIn (names_of path.now)) self.old.kernel self.new.kernel) }
         ensures leaves { 0 < self.old.calls_left → LeavesTree D.Disk (RemovesAt (names_of path.now))
@@ -99,8 +98,7 @@ impl<D: Disk> Tree<D> {
         requires drops { MayDrop (files_seen D.image self.old.kernel)
             from bytes.now name.now number }
         ensures goes { Proceeds D.Disk result self.old.kernel self.new.kernel self.new.calls_left }
-        ensures tree { OnOk result (StaysTree (files_seen D.image self.old.kernel)
-            (files_seen D.image self.new.kernel)) }
+        ensures tree { OnOk result (TreeStays D.image self.old.kernel self.new.kernel) }
         ensures drops { OnOk result (DropsName (files_seen D.image self.old.kernel)
             (files_seen D.image self.new.kernel) from name.now number) }
     {

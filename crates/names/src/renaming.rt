@@ -5,9 +5,9 @@ ghost use Rattle.calls.specs.Stopped.{StaysOver};
 ghost use Rattle.model.specs.Files.{files_of};
 ghost use Rattle.names.specs.Inside.{files_seen, IsUnderWay, Proceeds};
 ghost use Rattle.names.specs.Paths.{names_of};
-ghost use Rattle.names.specs.Ready.{Happens, LeavesTree, MayGoOn};
+ghost use Rattle.names.specs.Ready.{Happens, LeavesTree, MayGoOn, NamesStayOnce, TreeStays};
 ghost use Rattle.names.specs.Renaming.{IsUndoneAt, IsUndoneAtBoth, IsUnrenamed, Renames, RenamesAt};
-ghost use Rattle.names.specs.Trees.{IsTree, KeepsOnce, StaysTree};
+ghost use Rattle.names.specs.Trees.{IsTree};
 
 use crate::changing::Change;
 use crate::entries::{link, lookup, unlink};
@@ -77,8 +77,7 @@ impl<D: Disk> Tree<D> {
         ensures renames { IfOk result (λ done. RenamesAt (names_of path.now) (names_of into.now) done
             (files_of (image_on D.image self.old.kernel))
             (files_of (image_on D.image self.new.kernel))) }
-        ensures once { OnOk result (KeepsOnce (files_of (image_on D.image self.old.kernel))
-            (files_of (image_on D.image self.new.kernel))) }
+        ensures once { OnOk result (NamesStayOnce D.image self.old.kernel self.new.kernel) }
         ensures refused { IfErr result (IsUndoneAtBoth D.Disk path.now into.now
             (IsUndoneAt (names_of path.now) (names_of into.now)) self.old.kernel self.new.kernel) }
         ensures leaves { 0 < self.old.calls_left → LeavesTree D.Disk
@@ -104,8 +103,7 @@ impl<D: Disk> Tree<D> {
         requires way { IsUnderWay D.Disk self.old.kernel self.old.calls_left }
         requires tree { IsTree (files_seen D.image self.old.kernel) }
         ensures goes { Proceeds D.Disk result self.old.kernel self.new.kernel self.new.calls_left }
-        ensures tree { OnOk result (StaysTree (files_seen D.image self.old.kernel)
-            (files_seen D.image self.new.kernel)) }
+        ensures tree { OnOk result (TreeStays D.image self.old.kernel self.new.kernel) }
         ensures renamed { IfOk result (Happens (Renames from old.now from name.now)
             (λ files. IsUnrenamed files from old.now from name.now)
             (files_seen D.image self.old.kernel) (files_seen D.image self.new.kernel)) }

@@ -5,9 +5,9 @@ ghost use Rattle.calls.specs.Stopped.{StaysOver};
 ghost use Rattle.model.specs.Files.{files_of};
 ghost use Rattle.names.specs.Inside.{files_seen, IsUnderWay, Proceeds, SeesSame};
 ghost use Rattle.names.specs.Paths.{names_of};
-ghost use Rattle.names.specs.Ready.{IsUndone, LeavesTree, MayGoOn};
+ghost use Rattle.names.specs.Ready.{IsUndone, LeavesTree, MayGoOn, NamesStayOnce};
 ghost use Rattle.names.specs.Undirecting.{IsEmptinessOf, IsUnemptiedIn, RemovesDirectoryAt, RemovesDirectoryIn};
-ghost use Rattle.names.specs.Trees.{IsTree, KeepsOnce};
+ghost use Rattle.names.specs.Trees.{IsTree};
 ghost use Rattle.names.specs.Walks.{IsUndoneIn};
 
 use crate::changing::{ChangeIn, Last};
@@ -76,8 +76,7 @@ impl<D: Disk> Tree<D> {
         ensures removes { IfOk result (λ done. RemovesDirectoryAt (names_of path.now) done
             (files_of (image_on D.image self.old.kernel))
             (files_of (image_on D.image self.new.kernel))) }
-        ensures once { OnOk result (KeepsOnce (files_of (image_on D.image self.old.kernel))
-            (files_of (image_on D.image self.new.kernel))) }
+        ensures once { OnOk result (NamesStayOnce D.image self.old.kernel self.new.kernel) }
         ensures refused { IfErr result (IsUndone D.Disk path.now
             (IsUndoneIn IsUnemptiedIn (names_of path.now)) self.old.kernel self.new.kernel) }
         ensures leaves { 0 < self.old.calls_left → LeavesTree D.Disk

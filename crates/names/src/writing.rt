@@ -7,8 +7,8 @@ ghost use Rattle.model.specs.Operations.{where_true};
 ghost use Rattle.names.specs.Contents.{IsNoPlain, LeadsToNoPlain};
 ghost use Rattle.names.specs.Inside.{files_seen, form_seen, IsUnderWay, Proceeds, ProceedsOr};
 ghost use Rattle.names.specs.Paths.{names_of};
-ghost use Rattle.names.specs.Ready.{Happens, IsUnwritten, LeavesTree, MayGoOn};
-ghost use Rattle.names.specs.Trees.{IsFile, IsTree, KeepsOnce, StaysTree};
+ghost use Rattle.names.specs.Ready.{Happens, IsUnwritten, LeavesTree, MayGoOn, NamesStayOnce, TreeStays};
+ghost use Rattle.names.specs.Trees.{IsFile, IsTree};
 ghost use Rattle.names.specs.Writing.{written, HasWritten, Writes, WritesOf};
 
 use crate::changing::Change;
@@ -90,8 +90,7 @@ impl<D: Disk> Tree<D> {
             (names_of path.now) offset bytes.now done
             (files_of (image_on D.image self.old.kernel))
             (files_of (image_on D.image self.new.kernel))) }
-        ensures once { OnOk result (KeepsOnce (files_of (image_on D.image self.old.kernel))
-            (files_of (image_on D.image self.new.kernel))) }
+        ensures once { OnOk result (NamesStayOnce D.image self.old.kernel self.new.kernel) }
         ensures refused { IfErr result (IsUnwritten D.Disk path.now
             (LeadsToNoPlain (names_of path.now)) self.old.kernel self.new.kernel) }
         ensures leaves { 0 < self.old.calls_left → LeavesTree D.Disk
@@ -115,8 +114,7 @@ impl<D: Disk> Tree<D> {
         requires there { IsFile (files_seen D.image self.old.kernel) number }
         ensures goes { ProceedsOr ⊤ D.Disk result
             self.old.kernel self.new.kernel self.new.calls_left }
-        ensures tree { OnOk result (StaysTree (files_seen D.image self.old.kernel)
-            (files_seen D.image self.new.kernel)) }
+        ensures tree { OnOk result (TreeStays D.image self.old.kernel self.new.kernel) }
         ensures wrote { IfOk result (Happens
             (WritesOf (form_seen D.image self.old.kernel) number offset bytes.now)
             (IsNoPlain number)

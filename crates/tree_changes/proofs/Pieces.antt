@@ -12,10 +12,11 @@ use Rattle.calls.specs.Stepping.{Plain}
 use Rattle.calls.specs.Stopped.{StaysOver}
 use Rattle.history.specs.Lemmas.Leaving.{leaves_wider}
 use Rattle.model.specs.Files.{Files, files_of}
-use Rattle.model.specs.Layout.{form_of}
 use Rattle.model.specs.Log.{recovered}
 use Rattle.model.specs.declared.types.image.Form.{Form}
 use Rattle.names.specs.Inside.{form_seen}
+use Rattle.names.specs.Lemmas.Once.{once_on}
+use Rattle.names.specs.Lemmas.Over.{form_stays}
 use Rattle.names.specs.Paths.{names_of}
 use Rattle.names.specs.Ready.{KeepsTree}
 use Rattle.names.specs.Trees.{KeepsOnce}
@@ -23,14 +24,6 @@ use Rattle.names.specs.Writing.{Outcome, Writes}
 use Rattle.tree_changes.specs.Changes.{AnyOf, LeavesMidst}
 use Rattle.tree_changes.specs.Puts.{LeavesIfDone, Puts, PutsAny, PutsFew, PutsSome, WritesPieces, WritesSome, piece_count, piece_of}
 use Rattle.tree_changes.specs.declared.faults.ChangeRefusal.{ChangeRefusal}
-
-module _ {D N : Type 0} (disk : Ghosts D N) where
-  -- a kernel over the same disk has a volume of the same form
-  pub form_stays : (k m : Plain D) → StaysOver disk k m → form_seen disk.image m ≡ form_seen disk.image k
-  form_stays k m stays = ap (λ (o : D). form_of (disk.image o)) stays.opening
-
-  pub over_on : (k m e : Plain D) → StaysOver disk k m → StaysOver disk m e → StaysOver disk k e
-  over_on k m e first then_on = record { opening = then_on.opening ∙ first.opening; name = then_on.name ∙ first.name }
 
 -- a piece up to the next one, or to the end
 pub piece_is : (bytes : List ℕ) (from to : ℕ) → to ≡ min (from + 3072) (length bytes) → take (to - from) (drop from bytes) ≡ take 3072 (drop from bytes)
@@ -53,10 +46,6 @@ piece_written disk k m path bytes i to stays is files new before write =
 -- no more than one call writes
 pub few_put : (r : Result (Option ℕ) ChangeRefusal) (path bytes : List ℕ) (form : Form) (files new : Files) → length bytes ≤ 3072 → IfOk r (λ told. PutsFew path bytes told files new) → IfOk r (λ told. Puts path bytes form told files new)
 few_put r path bytes form files new few = IfOk-weaker r _ _ (λ told put. inl (few, put))
-
--- what had one name at most has one still, and then again
-pub once_on : {x y z : Files} → KeepsOnce x y → KeepsOnce y z → KeepsOnce x z
-once_on first then_on i only = then_on i (first i only)
 
 module _ {D N : Type 0} (disk : Ghosts D N) where
   -- what a stop leaves is less than that

@@ -7,8 +7,7 @@ ghost use Rattle.calls.specs.Stopped.{StaysOver};
 ghost use Rattle.model.specs.Files.{Files, files_of};
 ghost use Rattle.model.specs.declared.types.image.Form.{Form};
 ghost use Rattle.names.specs.Inside.{form_seen};
-ghost use Rattle.names.specs.Ready.{IsReady};
-ghost use Rattle.names.specs.Trees.{KeepsOnce};
+ghost use Rattle.names.specs.Ready.{IsReady, NamesStayOnce};
 ghost use Rattle.transfer.specs.Ending.{SyncsIf};
 ghost use Rattle.tree_changes.specs.Changes.{HasChanged, HasNotChanged, IsOfTree, IsUnended, LeavesMidst, StopsChange, Tells, Turn, turn};
 ghost use Rattle.tree_changes.specs.declared.faults.ChangeRefusal.{ChangeRefusal as SomeChangeRefusal};
@@ -41,8 +40,7 @@ pub trait TreeChange {
             makes self.now (form_seen D.image tree.old.kernel) number
             (files_of (image_on D.image tree.old.kernel))
             (files_of (image_on D.image tree.new.kernel))) }
-        ensures once { OnOk result (KeepsOnce (files_of (image_on D.image tree.old.kernel))
-            (files_of (image_on D.image tree.new.kernel))) }
+        ensures once { OnOk result (NamesStayOnce D.image tree.old.kernel tree.new.kernel) }
         ensures undone { IfErr result
             (undone self.now (turn D.Disk tree.old.kernel tree.new.kernel)) }
         ensures cause { IfErr result IsOfTree }

@@ -6,8 +6,7 @@ ghost use Rattle.model.specs.Files.{files_of};
 ghost use Rattle.model.specs.Operations.{transfer_limit};
 ghost use Rattle.names.specs.Inside.{form_seen};
 ghost use Rattle.names.specs.Paths.{names_of};
-ghost use Rattle.names.specs.Ready.{MayGoOn};
-ghost use Rattle.names.specs.Trees.{KeepsOnce};
+ghost use Rattle.names.specs.Ready.{MayGoOn, NamesStayOnce};
 ghost use Rattle.names.specs.Writing.{Writes};
 ghost use Rattle.tree_changes.specs.Changes.{AnyOf, IsOfTree, LeavesMidst};
 ghost use Rattle.tree_changes.specs.Puts.{
@@ -83,8 +82,7 @@ fn put_few<D: Disk>(
     ensures puts { IfOk result (λ told. PutsFew path.now bytes.now told
         (files_of (image_on D.image tree.old.kernel))
         (files_of (image_on D.image tree.new.kernel))) }
-    ensures once { OnOk result (KeepsOnce (files_of (image_on D.image tree.old.kernel))
-        (files_of (image_on D.image tree.new.kernel))) }
+    ensures once { OnOk result (NamesStayOnce D.image tree.old.kernel tree.new.kernel) }
     ensures undone { IfErr result
         (IsUnputFew D.Disk path.now bytes.now tree.old.kernel tree.new.kernel) }
     ensures cause { IfErr result IsOfTree }
@@ -117,8 +115,7 @@ pub fn append_all<D: Disk>(
         path.now bytes.now (piece_count bytes.now)
         (files_of (image_on D.image tree.old.kernel))
         (files_of (image_on D.image tree.new.kernel))) }
-    ensures once { OnOk result (KeepsOnce (files_of (image_on D.image tree.old.kernel))
-        (files_of (image_on D.image tree.new.kernel))) }
+    ensures once { OnOk result (NamesStayOnce D.image tree.old.kernel tree.new.kernel) }
     ensures undone { IfErr result
         (StopsWriting D.Disk path.now bytes.now tree.old.kernel tree.new.kernel) }
     ensures cause { IfErr result IsOfTree }
@@ -148,8 +145,7 @@ fn append<D: Disk>(
         (names_of path.now) from bytes.now (Ok tt)
         (files_of (image_on D.image tree.old.kernel))
         (files_of (image_on D.image tree.new.kernel))) }
-    ensures once { OnOk result (KeepsOnce (files_of (image_on D.image tree.old.kernel))
-        (files_of (image_on D.image tree.new.kernel))) }
+    ensures once { OnOk result (NamesStayOnce D.image tree.old.kernel tree.new.kernel) }
     ensures undone { IfErr result
         (IsUnappended D.Disk path.now from bytes.now tree.old.kernel tree.new.kernel) }
     ensures cause { IfErr result IsOfTree }

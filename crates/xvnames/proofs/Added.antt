@@ -1,14 +1,27 @@
 -- Files that are added to a tree one after the other.
-use Rattle.std.proofs.Common.{List, [], ◌∷◌, ◌++◌, ℕ, ◌+◌, ◌<◌, Bor, length, map, slice_index_or, take, refl, subst, sym}
-use Rattle.std.proofs.lemmas.List.{map_more, map_push}
-use Rattle.model.specs.Files.{Files}
-use Rattle.xvnames.specs.Making.{AddsAll, AddsFile, AreNamed, IsNameOf, files_named}
+use Rattle.std.proofs.Common.{◌≡◌, true, if◌then◌else◌, ◌==◌, arith, List, [], ◌∷◌, ◌++◌, ℕ, ◌+◌, ◌<◌, Bor, length, map, slice_index_or, take, drop, refl, subst, sym, ap, ◌∙◌}
+use Rattle.std.proofs.lemmas.List.{drop_more, map-append, map_more, map_push, take-append-drop}
+use Rattle.blocks.specs.Disk.{Image}
+use Rattle.blocks.specs.declared.disk.Disk.{Ghosts}
+use Rattle.calls.specs.Calls.{image_on}
+use Rattle.calls.specs.Opening.{IsOpenedPair}
+use Rattle.calls.specs.Stepping.{Plain}
+use Rattle.model.specs.Codec.{made_image}
+use Rattle.model.specs.Files.{Files, files_of}
+use Rattle.model.specs.Layout.{form_of, is_inode_count, is_size, magic_at, magic_of}
+use Rattle.model.specs.Lemmas.Log.{recovered_empty}
+use Rattle.model.specs.Lemmas.MadeImages.{is_within, magic-made_image, sound-made_image}
+use Rattle.model.specs.Log.{recovered}
+use Rattle.model.specs.declared.types.image.Form.{Form}
+use Rattle.model.specs.declared.types.image.Form.TheVariants.{One, Two}
+use Rattle.names.specs.Inside.{form_seen}
+use Rattle.xvnames.specs.Making.{AddsAll, AddsFile, AreNamed, HasGrown, IsNameOf, files_named}
 use Rattle.xvnames.specs.declared.making.Named.{Named}
 
 -- one more at the end
-pub one_more_added : (named : List (List ℕ × List ℕ)) (file : List ℕ × List ℕ) (a b c : Files) → AddsAll named a b → AddsFile file.0 file.1 b c → AddsAll (named ++ file ∷ []) a c
-one_more_added [] file a b c is adds = (c, subst (λ (f : Files). AddsFile file.0 file.1 f c) is adds, refl)
-one_more_added (first ∷ named) file a b c is adds = (is.0, is.1, one_more_added named file is.0 b c is.2 adds)
+pub one_more_added : (form : Form) (named : List (List ℕ × List ℕ)) (file : List ℕ × List ℕ) (a b c : Files) → AddsAll form named a b → AddsFile form file.0 file.1 b c → AddsAll form (named ++ file ∷ []) a c
+one_more_added form [] file a b c is adds = (c, subst (λ (f : Files). AddsFile form file.0 file.1 f c) is adds, refl)
+one_more_added form (first ∷ named) file a b c is adds = (is.0, is.1, one_more_added form named file is.0 b c is.2 adds)
 
 -- so is one more that is named by its path
 pub one_more_named : (paths : List (List ℕ)) (path : List ℕ) (named : List (List ℕ × List ℕ)) (file : List ℕ × List ℕ) → AreNamed paths named → IsNameOf path file.0 → AreNamed (paths ++ path ∷ []) (named ++ file ∷ [])
@@ -17,13 +30,17 @@ one_more_named [] path (first ∷ named) file are is = absurd are
 one_more_named (first ∷ paths) path [] file are is = absurd are
 one_more_named (first ∷ paths) path (other ∷ named) file are is = (are.0, one_more_named paths path named file are.1 is)
 
-abbrev pair_of : Named → List ℕ × List ℕ
+abbrev pub pair_of : Named → List ℕ × List ℕ
 pair_of file = (file.name.now, file.bytes.items)
 
 -- the next of some files was added
-pub file_more_added : (files : List Named) (i : ℕ) (d : Named) (a b c : Files) → i < length files → AddsAll (files_named (take i files)) a b → AddsFile (slice_index_or files i d).name.now (slice_index_or files i d).bytes.items b c → AddsAll (files_named (take (i + 1) files)) a c
-file_more_added files i d a b c lt so_far one =
-    subst (λ (named : List (List ℕ × List ℕ)). AddsAll named a c) (sym (map_more pair_of files i d lt)) (one_more_added (files_named (take i files)) (pair_of (slice_index_or files i d)) a b c so_far one)
+pub file_more_added : (form : Form) (files : List Named) (i : ℕ) (d : Named) (a b c : Files) → i < length files → AddsAll form (files_named (take i files)) a b → AddsFile form (slice_index_or files i d).name.now (slice_index_or files i d).bytes.items b c → AddsAll form (files_named (take (i + 1) files)) a c
+file_more_added form files i d a b c lt so_far one =
+    subst (λ (named : List (List ℕ × List ℕ)). AddsAll form named a c) (sym (map_more pair_of files i d lt)) (one_more_added form (files_named (take i files)) (pair_of (slice_index_or files i d)) a b c so_far one)
+
+-- those before the next, it, and those behind it
+pub files_split : (files : List Named) (i : ℕ) (d : Named) → i < length files → files_named files ≡ files_named (take i files) ++ pair_of (slice_index_or files i d) ∷ files_named (drop (i + 1) files)
+files_split files i d lt = ap files_named (sym (take-append-drop i files)) ∙ map-append pair_of (take i files) (drop i files) ∙ ap (λ (rest : List Named). files_named (take i files) ++ files_named rest) (drop_more files i d lt)
 
 -- the file at the next path was read
 pub path_more_named : (paths : List (Bor (List ℕ))) (i : ℕ) (d : Bor (List ℕ)) (files : List Named) (file : Named) → i < length paths → AreNamed (map (λ path. path.now) (take i paths)) (files_named files) → IsNameOf (slice_index_or paths i d).now file.name.now
@@ -33,3 +50,25 @@ path_more_named paths i d files file lt so_far one =
     subst (λ (ps : List (List ℕ)). AreNamed ps (files_named (files ++ file ∷ []))) (sym (map_more text paths i d lt))
     (subst (λ (named : List (List ℕ × List ℕ)). AreNamed (map text (take i paths) ++ text (slice_index_or paths i d) ∷ []) named) (sym (map_push pair_of files file))
     (one_more_named (map text (take i paths)) (text (slice_index_or paths i d)) (files_named files) (pair_of file) so_far one))
+
+module _ {D N : Type 0} (disk : Ghosts D N) where
+  -- a tree that grew over a disk has the form of the image there
+  pub form_opened : (named : List (List ℕ × List ℕ)) (d : D) (k first last : Plain D) (e : D) → IsOpenedPair disk d k → first ≡ k → e ≡ last.store.volume.device
+      → HasGrown (form_seen disk.image first) named (files_of (image_on disk.image last)) → HasGrown (form_of (recovered (disk.image d))) named (files_of (disk.image e))
+  form_opened named d k first last e opened is left grown =
+      let one_form : form_seen disk.image first ≡ form_of (recovered (disk.image d))
+      = ap (λ (m : Plain D). form_seen disk.image m) is ∙ ap (λ (o : D). form_of (disk.image o)) (sym opened.device) ∙ ap form_of opened.image in
+      subst (λ (o : D). HasGrown (form_of (recovered (disk.image d))) named (files_of (disk.image o))) (sym left)
+      (subst (λ (f : Form). HasGrown f named (files_of (image_on disk.image last))) one_form grown)
+
+-- an image has the form of its magic number
+form_from_magic : (form : Form) (x : Image) → magic_at x ≡ magic_of form → form_of x ≡ form
+form_from_magic One x is = ap (λ (m : ℕ). if m == magic_of Two then Two else One) is
+form_from_magic Two x is = ap (λ (m : ℕ). if m == magic_of Two then Two else One) is
+
+-- a new image has the form that was asked for
+pub new_has_form : (form : Form) (size n : ℕ) → is_inode_count n ≡ true → is_size size n ≡ true → form_of (recovered (made_image form size n)) ≡ form
+new_has_form form size n count fits =
+    let x = made_image form size n in
+    let room = (is_within size n count fits).room in
+    ap form_of (recovered_empty x (sound-made_image form size n count fits).empty_log) ∙ form_from_magic form x (magic-made_image form size n (omega arith))

@@ -1,3 +1,4 @@
 pub mod Making
+pub mod Unmade
 pub mod Requests
 pub mod Refusals

@@ -26,8 +26,9 @@ use Rattle.tree_changes.specs.declared.faults.ChangeRefusal.{ChangeRefusal}
 use Rattle.tree_looks.specs.Gets.{HasGot, HasGotAll, IsUngot, IsUngotAll}
 use Rattle.tree_looks.specs.Looks.{HasLooked, HasNoPaths, HasNotLooked, IsUnlisted, IsUnshown, Lists, Shows, ShowsPaths}
 use Rattle.tree_looks.specs.declared.faults.LookRefusal.{LookRefusal}
-use Rattle.xvnames.specs.Making.{IsMadeWith, IsNotMadeWith}
+use Rattle.xvnames.specs.Making.{IsMadeWith}
 use Rattle.xvnames.specs.Refusals.{IsUnput}
+use Rattle.xvnames.specs.Unmade.{IsNotMadeWith}
 
 -- a disk was opened from a file, and this told of its files
 abbrev pub Looks : {F : Type 0} → (F → Option (List ℕ)) → (Files → List ℕ → Type 0)
@@ -138,8 +139,9 @@ OnRefused remaining (Rmdir image path sync no_sync) old new none = ChangesNot re
     (λ form. Plainly (RemovesDirectoryAt (names_of path.now)))
     (λ form. AnyOf (RemovesDirectoryAt (names_of path.now)))
     (UndoneAt path.now IsUnemptiedIn) sync no_sync none
-OnRefused remaining (Mkfs image size ninodes files no_sync) old new none =
-    Refuses (IsNotMadeWith (making_asked size ninodes no_sync) none)
+OnRefused {F} remaining (Mkfs image size ninodes files no_sync) old new none =
+    Refuses (IsNotMadeWith {F = F} file_disk (making_asked size ninodes no_sync)
+    (map (λ file. file.now) files.items) none)
 
 -- the commands of these lines were done, one after the other
 abbrev pub DoesAll : {F : Type 0} → (F → Option (List ℕ)) → (F → Option (List ℕ))

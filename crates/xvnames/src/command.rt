@@ -7,7 +7,8 @@ ghost use Rattle.cmd.specs.Over.{IsRefusedOn};
 ghost use Rattle.commands.specs.Words.{IsDoneOf, IsMisused, IsRefusedOf};
 ghost use Rattle.names_words.specs.CommandLine.{xvnames_words};
 ghost use Rattle.xvnames.specs.Requests.{Answers, Gets, GetsNot, NamesImage, OnRefused};
-ghost use Rattle.xvnames.specs.Making.{IsMadeWith, IsNotMadeWith};
+ghost use Rattle.xvnames.specs.Making.{IsMadeWith};
+ghost use Rattle.xvnames.specs.Unmade.{IsNotMadeWith};
 ghost use Rattle.cli.specs.declared.explanation.Explanation.{Explanation as SomeExplanation};
 ghost use Rattle.cmd.specs.declared.files.OnFile.{OnFile as SomeOnFile};
 ghost use Rattle.xvnames.specs.declared.refused.MkfsRefusal.{MkfsRefusal as SomeMkfsRefusal};
@@ -317,7 +318,8 @@ fn make<R: Files + AllocGlobal + Locks, O: Write, E: Write>(
     ensures done { result ≡ 0 → IsMadeWith ⟦<FileDisk<R::File> as Disk>⟧ making
         (map (λ file. file.now) files.now) (O.contents out.old) (O.contents out.new) }
     ensures refused { result ≡ 1 → (r : SomeMkfsRefusal)
-        × IsNotMadeWith making (out.new ≡ out.old) r }
+        × IsNotMadeWith ⟦<FileDisk<R::File> as Disk>⟧ making (map (λ file. file.now) files.now)
+        (out.new ≡ out.old) r }
     ensures silent { result ≡ 0 → err.new ≡ err.old }
 {
     let mkfs = Mkfs {

@@ -1,11 +1,14 @@
 // The command that makes an image with a root directory and files.
 ghost use Rattle.std.specs.Prelude.{◌≡◌, length, map, IfErr, IfOk, OnOk};
 ghost use Rattle.calls.specs.Calls.{image_on};
+ghost use Rattle.calls.specs.Stopped.{StaysOver};
 ghost use Rattle.commands.specs.Making.{IsPlan};
 ghost use Rattle.model.specs.Files.{files_of};
-ghost use Rattle.model.specs.Layout.{planned_super};
+ghost use Rattle.model.specs.Layout.{form_of, planned_super};
 ghost use Rattle.model.specs.Log.{recovered};
+ghost use Rattle.names.specs.Inside.{form_seen};
 ghost use Rattle.names.specs.Ready.{HasNoFile, IsIdle, MayGoOn};
+ghost use Rattle.offline.specs.Making.{MakesAs};
 ghost use Rattle.transfer.specs.Ending.{SyncsIf};
 ghost use Rattle.tree_changes.specs.Changes.{IsOfTree};
 ghost use Rattle.xvnames.specs.Making.{
@@ -19,12 +22,19 @@ ghost use Rattle.xvnames.specs.Making.{
   IsLastOf,
   IsMadeWith,
   IsNameOf,
-  IsNotMadeIn,
-  IsNotMadeWith,
-  IsUnfilled,
-  IsUnfilledBy,
   bare,
   files_named,
+};
+ghost use Rattle.xvnames.specs.Unmade.{
+  IsNotMadeIn,
+  IsNotMadeWith,
+  IsUnadded,
+  IsUnfilled,
+  IsUnfilledBy,
+  IsUngrown,
+  IsUnmadeOn,
+  IsUnsynced,
+  StopsAdding,
 };
 
 use crate::refused::{FillFault, MkfsRefusal};
@@ -63,7 +73,8 @@ impl<'a, R: Files + AllocGlobal, H: Holder + Drop> Command<R> for Mkfs<'a, H> {
     ghost done = { λ mkfs. IsMadeWith ⟦<FileDisk<R::File> as Disk>⟧ mkfs.making
         (map (λ file. file.now) mkfs.files.now) };
 
-    ghost refused = { λ mkfs old new. IsNotMadeWith mkfs.making };
+    ghost refused = { λ mkfs old new. IsNotMadeWith ⟦<FileDisk<R::File> as Disk>⟧ mkfs.making
+        (map (λ file. file.now) mkfs.files.now) };
 
     fn run<O: Write>(self, rt: &R, out: &mut O) -> Result<(), MkfsRefusal> {
         let Mkfs {
@@ -166,7 +177,8 @@ impl<'a, R: Files + AllocGlobal> MakesThere<R> for Filled<'a> {
     ghost made = { λ filled.
         HasMadeWith ⟦<FileDisk<R::File> as Disk>⟧ filled.making (files_named filled.files.now) };
 
-    ghost unmade = { λ filled. IsNotMadeIn filled.making };
+    ghost unmade = { λ filled.
+        IsNotMadeIn ⟦<FileDisk<R::File> as Disk>⟧ filled.making (files_named filled.files.now) };
 
     ghost files = { λ filled fault. tt };
 
@@ -187,7 +199,8 @@ fn fill<D: Disk + Drop>(alloc: Global, disk: D, filled: &Filled<'_>) -> Result<S
     requires long { length (D.image disk) ≡ filled.now.making.size }
     ensures filled { IfOk result (IsFilledWith D.Disk filled.now.making
         (files_named filled.now.files.now) disk) }
-    ensures refused { IfErr result (IsUnfilled filled.now.making) }
+    ensures refused { IfErr result (IsUnfilled D.Disk filled.now.making
+        (files_named filled.now.files.now) disk) }
 {
     let mut disk = disk;
     let fields = make_empty(alloc, &mut disk, filled.making)?;
@@ -201,9 +214,11 @@ fn fill<D: Disk + Drop>(alloc: Global, disk: D, filled: &Filled<'_>) -> Result<S
 fn make_empty<D: Disk>(alloc: Global, disk: &mut D, making: Making) -> Result<Super, FillFault>
     requires plan { IsPlan making.size making.ninodes }
     requires long { length (D.image disk.old) ≡ making.size }
+    ensures made { OnOk result
+        (MakesAs D.Disk making.form making.size making.ninodes disk.old disk.new) }
     ensures none { OnOk result (HasNoFile (files_of (recovered (D.image disk.new)))) }
     ensures fields { IfOk result (λ fields. fields ≡ planned_super making.size making.ninodes) }
-    ensures refused { IfErr result (IsUnfilled making) }
+    ensures refused { IfErr result (IsUnmadeOn D.Disk disk.old disk.new) }
 {
     match plan(making.size, making.ninodes) {
         Ok(fields) => match mkfs_as(alloc, disk, making.size, making.ninodes, making.form) {
@@ -223,8 +238,10 @@ fn fill_tree<D: Disk + Drop>(
     sync: bool,
 ) -> Result<D, ChangeRefusal>
     requires { HasNoFile (files_of (recovered (D.image disk))) }
-    ensures filled { IfOk result (HasAddedTo D.Disk sync (files_named files.now)) }
-    ensures refused { IfErr result (IsUnfilledBy sync) }
+    ensures filled { IfOk result (HasAddedTo D.Disk sync
+        (form_of (recovered (D.image disk))) (files_named files.now)) }
+    ensures refused { IfErr result (IsUnfilledBy D.Disk sync
+        (form_of (recovered (D.image disk))) (files_named files.now) disk) }
 {
     let kernel = match open_pair(alloc, disk) {
         Ok(kernel) => kernel,
@@ -240,7 +257,7 @@ fn fill_tree<D: Disk + Drop>(
 // Syncs a disk where that is asked for, and else leaves it alone. The disk.
 fn synced<D: Disk + Drop>(disk: D, sync: bool) -> Result<D, ChangeRefusal>
     ensures syncs { IfOk result (λ e. SyncsIf sync D.Disk disk e) }
-    ensures refused { IfErr result (IsUnfilledBy sync) }
+    ensures refused { IfErr result (IsUnsynced D.Disk sync disk) }
 {
     let mut disk = disk;
     if sync {
@@ -259,8 +276,10 @@ fn grow<D: Disk>(
 ) -> Result<(), ChangeRefusal>
     requires idle { IsIdle D.Disk tree.old.kernel tree.old.calls_left }
     requires none { HasNoFile (files_of (image_on D.image tree.old.kernel)) }
-    ensures grown { OnOk result
-        (HasGrown (files_named files.now) (files_of (image_on D.image tree.new.kernel))) }
+    ensures grown { OnOk result (HasGrown (form_seen D.image tree.old.kernel)
+        (files_named files.now) (files_of (image_on D.image tree.new.kernel))) }
+    ensures refused { IfErr result
+        (IsUngrown D.Disk (files_named files.now) tree.old.kernel tree.new.kernel) }
     ensures cause { IfErr result IsOfTree }
 {
     match tree.make_root(alloc) {
@@ -277,10 +296,13 @@ fn add_all<D: Disk>(
 ) -> Result<(), ChangeRefusal>
     requires { MayGoOn D.Disk tree.old.kernel tree.old.calls_left }
     ensures ready { MayGoOn D.Disk tree.new.kernel tree.new.calls_left }
-    ensures added { OnOk result (AddsAll (files_named files.now)
-        (files_of (image_on D.image tree.old.kernel))
+    ensures added { OnOk result (AddsAll (form_seen D.image tree.old.kernel)
+        (files_named files.now) (files_of (image_on D.image tree.old.kernel))
         (files_of (image_on D.image tree.new.kernel))) }
+    ensures refused { IfErr result
+        (StopsAdding D.Disk (files_named files.now) tree.old.kernel tree.new.kernel) }
     ensures cause { IfErr result IsOfTree }
+    ensures stays { StaysOver D.Disk tree.old.kernel tree.new.kernel }
 {
     for file in files {
         add(alloc, tree, file)?;
@@ -292,10 +314,14 @@ fn add_all<D: Disk>(
 fn add<D: Disk>(alloc: Global, tree: &mut Tree<D>, file: &Named<'_>) -> Result<(), ChangeRefusal>
     requires { MayGoOn D.Disk tree.old.kernel tree.old.calls_left }
     ensures ready { MayGoOn D.Disk tree.new.kernel tree.new.calls_left }
-    ensures added { OnOk result (AddsFile file.now.name.now file.now.bytes.items
+    ensures added { OnOk result (AddsFile (form_seen D.image tree.old.kernel)
+        file.now.name.now file.now.bytes.items
         (files_of (image_on D.image tree.old.kernel))
         (files_of (image_on D.image tree.new.kernel))) }
+    ensures refused { IfErr result (IsUnadded D.Disk file.now.name.now file.now.bytes.items
+        tree.old.kernel tree.new.kernel) }
     ensures cause { IfErr result IsOfTree }
+    ensures stays { StaysOver D.Disk tree.old.kernel tree.new.kernel }
 {
     let path = file.name;
     if let Err(fault) = tree.make(alloc, path) {

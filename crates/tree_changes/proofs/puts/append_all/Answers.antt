@@ -3,8 +3,10 @@ use Rattle.std.specs.Int.{div_ceil}
 use Rattle.calls.specs.Calls.{image_on}
 use Rattle.model.specs.Files.{files_of}
 use Rattle.names.specs.Inside.{form_seen}
+use Rattle.names.specs.Lemmas.Once.{once_on}
+use Rattle.names.specs.Lemmas.Over.{over_on}
 use Rattle.tree_changes.specs.Puts.{IsUnappended, StopsWriting, WritesPieces, piece_count}
-use Rattle.tree_changes.proofs.Pieces.{left_by, once_on, over_on, piece_is, piece_left, piece_written}
+use Rattle.tree_changes.proofs.Pieces.{left_by, piece_is, piece_left, piece_written}
 use Rattle.tree_changes.proofs.puts.append_all.Goals as goal
 
 pub loop-piece-init : goal.loop-piece-init

@@ -1,18 +1,51 @@
-use Rattle.std.proofs.Common.{subst}
+use Rattle.std.proofs.Common.{ℕ, ◌+◌, drop, refl, rules, slice_index_or, subst, take}
 use Rattle.calls.specs.Calls.{image_on}
 use Rattle.model.specs.Files.{files_of}
-use Rattle.xvnames.specs.Making.{AddsFile}
+use Rattle.model.specs.declared.types.image.Form.{Form}
+use Rattle.names.specs.Inside.{form_seen}
+use Rattle.names.specs.Lemmas.Over.{form_stays, over_on}
+use Rattle.xvnames.specs.Making.{AddsFile, files_named}
+use Rattle.xvnames.specs.Unmade.{IsUnadded, StopsAdding}
 use Rattle.xvnames.specs.declared.making.Named.{Named}
-use Rattle.xvnames.proofs.Added.{file_more_added}
+use Rattle.xvnames.proofs.Added.{file_more_added, files_split, pair_of}
 use Rattle.xvnames.proofs.making.add_all.Goals as goal
 
 pub loop-file-preserved : goal.loop-file-preserved
 loop-file-preserved g c =
-    let old = files_of (image_on g.D.Disk.image c.args.tree.now.kernel) in
-    let mid = files_of (image_on g.D.Disk.image c.loop-file.tree.kernel) in
-    let new = files_of (image_on g.D.Disk.image c.add.new.tree.kernel) in
-    let one = subst (λ (file : Named). AddsFile file.name.now file.bytes.items mid new) c.file-item.is c.in_ok-add.ensures.added in
+    let k = c.args.tree.now.kernel in
+    let m = c.loop-file.tree.kernel in
+    let e = c.add.new.tree.kernel in
+    let form = form_seen g.D.Disk.image k in
+    let old = files_of (image_on g.D.Disk.image k) in
+    let mid = files_of (image_on g.D.Disk.image m) in
+    let new = files_of (image_on g.D.Disk.image e) in
+    let one_form = form_stays g.D.Disk k m c.loop-file.invariant.stays in
+    let one = subst (λ (file : Named). AddsFile (form_seen g.D.Disk.image m) file.name.now file.bytes.items mid new) c.file-item.is c.in_ok-add.ensures.added in
+    let in_form = subst (λ (f : Form). AddsFile f _ _ mid new) one_form one in
     record {
       ready = c.add.ensures.ready;
-      added = file_more_added c.args.files.now c.loop-file.file-index c.file-item.result old mid new c.loop-file-test.true c.loop-file.invariant.added one;
+      stays = over_on g.D.Disk k m e c.loop-file.invariant.stays c.add.ensures.stays;
+      added = file_more_added form c.args.files.now c.loop-file.file-index c.file-item.result old mid new c.loop-file-test.true c.loop-file.invariant.added in_form;
     }
+
+pub returns-in_err-add-clause-stays : goal.returns-in_err-add-clause-stays
+returns-in_err-add-clause-stays g c = over_on g.D.Disk _ c.loop-file.tree.kernel _ c.loop-file.invariant.stays c.add.ensures.stays
+
+pub returns-in_err-add-clause-refused : goal.returns-in_err-add-clause-refused
+returns-in_err-add-clause-refused g c =
+    let files = c.args.files.now in
+    let i = c.loop-file.file-index in
+    let m = c.loop-file.tree.kernel in
+    let e = c.add.new.tree.kernel in
+    let refusal = c.in_err-add.field-0.0 in
+    let stops : StopsAdding g.D.Disk (files_named files) c.args.tree.now.kernel e refusal
+    = record {
+      before = files_named (take i files);
+      file = pair_of (slice_index_or files i c.file-item.result);
+      behind = files_named (drop (i + 1) files);
+      split = files_split files i c.file-item.result c.loop-file-test.true;
+      mid = m;
+      added = c.loop-file.invariant.added;
+      why = subst (λ (file : Named). IsUnadded g.D.Disk file.name.now file.bytes.items m e refusal) c.file-item.is c.in_err-add.ensures.refused;
+    } in
+    search rules

@@ -1,8 +1,9 @@
 use Rattle.std.proofs.Common.{◌<◌, List, ℕ, length, inr, arith, subst}
 use Rattle.model.specs.Operations.{transfer_limit}
 use Rattle.names.specs.Inside.{form_seen}
+use Rattle.names.specs.Lemmas.Once.{once_on}
 use Rattle.tree_changes.specs.Puts.{IsUnputAt}
-use Rattle.tree_changes.proofs.Pieces.{emptied_left, left_as_given, once_on, put_left}
+use Rattle.tree_changes.proofs.Pieces.{emptied_left, left_as_given, put_left}
 use Rattle.tree_changes.proofs.puts.PutTreeChange.make.Goals as goal
 
 pub returns-in-Err-clause-undone : goal.returns-in-Err-clause-undone
