@@ -21,7 +21,6 @@ use Rattle.names.specs.Making.{IsUnmadeIn, MakesAt}
 use Rattle.names.specs.Paths.{names_of}
 use Rattle.names.specs.Ready.{IsRootAlone, IsRootless, IsUndone}
 use Rattle.names.specs.Walks.{IsUndoneIn}
-use Rattle.names.specs.declared.opening.TreeOpenFault.{TreeOpenFault}
 use Rattle.names.specs.declared.opening.TreeOpenFault.TheVariants as opening
 use Rattle.offline.specs.Making.{MakesAs}
 use Rattle.tree_changes.specs.Changes.{OnTree}

@@ -23,8 +23,8 @@ returns-clause-added g c =
     let one_form = form_stays g.D.Disk k m c.make.ensures.stays in
     subst (λ (bytes : List ℕ). OnOk c.append_all.result (AddsFile form name bytes old new)) c.as_slice.ensures.value
     (on_ok_weaker c.append_all.result
-        (λ writes. (c.in_default.field-0, (made, c.in_default.ensures.makes, subst (λ (f : Form). WritesPieces f name bytes (piece_count bytes) made new) one_form writes)))
-        c.append_all.ensures.writes)
+    (λ writes. (c.in_default.field-0, (made, c.in_default.ensures.makes, subst (λ (f : Form). WritesPieces f name bytes (piece_count bytes) made new) one_form writes)))
+    c.append_all.ensures.writes)
 
 pub returns-clause-stays : goal.returns-clause-stays
 returns-clause-stays g c = over_on g.D.Disk c.args.tree.now.kernel c.make.new.self.kernel c.append_all.new.tree.kernel c.make.ensures.stays c.append_all.ensures.stays
@@ -40,4 +40,4 @@ returns-clause-refused g c =
     let m = c.append_all.new.tree.kernel in
     subst (λ (bytes : List ℕ). IfErr c.append_all.result (IsUnadded g.D.Disk name bytes k m)) c.as_slice.ensures.value
     (IfErr-weaker c.append_all.result (StopsWriting g.D.Disk name bytes c.make.new.self.kernel m) (IsUnadded g.D.Disk name bytes k m)
-        (λ r stops. inr (c.in_default.field-0, (c.make.new.self.kernel, c.in_default.ensures.makes, stops))) c.append_all.ensures.undone)
+    (λ r stops. inr (c.in_default.field-0, (c.make.new.self.kernel, c.in_default.ensures.makes, stops))) c.append_all.ensures.undone)

@@ -1,4 +1,4 @@
-use Rattle.std.proofs.Common.{ℕ, ◌+◌, drop, refl, rules, slice_index_or, subst, take}
+use Rattle.std.proofs.Common.{◌+◌, drop, rules, slice_index_or, subst, take}
 use Rattle.calls.specs.Calls.{image_on}
 use Rattle.model.specs.Files.{files_of}
 use Rattle.model.specs.declared.types.image.Form.{Form}
@@ -21,7 +21,8 @@ loop-file-preserved g c =
     let new = files_of (image_on g.D.Disk.image e) in
     let one_form = form_stays g.D.Disk k m c.loop-file.invariant.stays in
     let one = subst (λ (file : Named). AddsFile (form_seen g.D.Disk.image m) file.name.now file.bytes.items mid new) c.file-item.is c.in_ok-add.ensures.added in
-    let in_form = subst (λ (f : Form). AddsFile f _ _ mid new) one_form one in
+    let file = slice_index_or c.args.files.now c.loop-file.file-index c.file-item.result in
+    let in_form = subst (λ (f : Form). AddsFile f file.name.now file.bytes.items mid new) one_form one in
     record {
       ready = c.add.ensures.ready;
       stays = over_on g.D.Disk k m e c.loop-file.invariant.stays c.add.ensures.stays;

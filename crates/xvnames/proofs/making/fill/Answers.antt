@@ -15,8 +15,8 @@ returns-in-Ok-clause-filled g c =
     let named = files_named c.args.filled.now.files.now in
     let one_form = ap (λ x. form_of (recovered x)) c.in_ok-fields.ensures.made.image ∙ new_has_form making.form making.size making.ninodes plan.0 plan.1 in
     record {
-      now = c.in-Ok.field-0;
-      adds = subst (λ (f : Form). HasAddedTo g.D.Disk making.sync f named c.in-Ok.field-0) one_form c.in-Ok.ensures.filled;
+      now = c.in-Ok._disk;
+      adds = subst (λ (f : Form). HasAddedTo g.D.Disk making.sync f named c.in-Ok._disk) one_form c.in-Ok.ensures.filled;
       told = c.in_ok-fields.ensures.fields;
     }
 
@@ -27,7 +27,7 @@ returns-in-Err-clause-refused g c =
     let named = files_named c.args.filled.now.files.now in
     let mid = c.make_empty.new.disk in
     let one_form = ap (λ x. form_of (recovered x)) c.in_ok-fields.ensures.made.image ∙ new_has_form making.form making.size making.ninodes plan.0 plan.1 in
-    (mid, c.in_ok-fields.ensures.made, subst (λ (f : Form). IsUnfilledBy g.D.Disk making.sync f named mid c.in-Err.field-0) one_form c.in-Err.ensures.refused)
+    (mid, c.in_ok-fields.ensures.made, subst (λ (f : Form). IsUnfilledBy g.D.Disk making.sync f named mid c.in-Err.refusal) one_form c.in-Err.ensures.refused)
 
 pub returns-in_err-fields-clause-refused : goal.returns-in_err-fields-clause-refused
 returns-in_err-fields-clause-refused g c =

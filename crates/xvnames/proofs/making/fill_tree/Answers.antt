@@ -1,13 +1,11 @@
-use Rattle.std.proofs.Common.{◌≡◌, ◌∙◌, ap, sym, subst}
+use Rattle.std.proofs.Common.{sym, subst}
 use Rattle.std.proofs.lemmas.Result.{IfErr-weaker, IfOk-weaker}
 use Rattle.blocks.specs.Disk.{Image}
 use Rattle.model.specs.Files.{files_of}
 use Rattle.model.specs.Layout.{form_of}
 use Rattle.model.specs.Log.{recovered}
-use Rattle.model.specs.declared.types.image.Form.{Form}
-use Rattle.names.specs.Inside.{form_seen}
 use Rattle.names.specs.Ready.{HasNoFile}
-use Rattle.xvnames.specs.Making.{HasAddedTo, HasGrown, files_named}
+use Rattle.xvnames.specs.Making.{HasAddedTo, files_named}
 use Rattle.xvnames.specs.Unmade.{IsUngrown, IsUnfilledBy, IsUnsynced}
 use Rattle.xvnames.proofs.Fits.{of_sync, of_tree}
 use Rattle.xvnames.proofs.Added.{form_opened}
@@ -22,14 +20,14 @@ pub returns-in-Ok-grow-clause-filled : goal.returns-in-Ok-grow-clause-filled
 returns-in-Ok-grow-clause-filled g c =
     let named = files_named c.args.files.now in
     let form = form_of (recovered (g.D.Disk.image c.args.disk)) in
-    let grown = form_opened g.D.Disk named c.args.disk c.in-Ok.field-0 c.over-tree.result.kernel c.grow.new.tree.kernel c.into_disk.result c.in-Ok.ensures.opened c.over-tree.ensures.kernel c.into_disk.ensures.disk c.in-Ok-grow.ensures.grown in
+    let grown = form_opened g.D.Disk named c.args.disk c.in-Ok.kernel c.over-tree.result.kernel c.grow.new.tree.kernel c.into_disk.result c.in-Ok.ensures.opened c.over-tree.ensures.kernel c.into_disk.ensures.disk c.in-Ok-grow.ensures.grown in
     IfOk-weaker c.synced.result _ (HasAddedTo g.D.Disk c.args.sync form named) (λ e syncs. record { unsynced = c.into_disk.result; grown = grown; syncs = syncs }) c.synced.ensures.syncs
 
 pub returns-in-Ok-grow-clause-refused : goal.returns-in-Ok-grow-clause-refused
 returns-in-Ok-grow-clause-refused g c =
     let named = files_named c.args.files.now in
     let form = form_of (recovered (g.D.Disk.image c.args.disk)) in
-    let grown = form_opened g.D.Disk named c.args.disk c.in-Ok.field-0 c.over-tree.result.kernel c.grow.new.tree.kernel c.into_disk.result c.in-Ok.ensures.opened c.over-tree.ensures.kernel c.into_disk.ensures.disk c.in-Ok-grow.ensures.grown in
+    let grown = form_opened g.D.Disk named c.args.disk c.in-Ok.kernel c.over-tree.result.kernel c.grow.new.tree.kernel c.into_disk.result c.in-Ok.ensures.opened c.over-tree.ensures.kernel c.into_disk.ensures.disk c.in-Ok-grow.ensures.grown in
     IfErr-weaker c.synced.result (IsUnsynced g.D.Disk c.args.sync c.into_disk.result) (IsUnfilledBy g.D.Disk c.args.sync form named c.args.disk)
     (λ r fails. of_sync g.D.Disk c.args.sync form named c.args.disk c.into_disk.result r grown fails) c.synced.ensures.refused
 
@@ -37,10 +35,10 @@ pub returns-in-Err-grow-clause-refused : goal.returns-in-Err-grow-clause-refused
 returns-in-Err-grow-clause-refused g c =
     let named = files_named c.args.files.now in
     let form = form_of (recovered (g.D.Disk.image c.args.disk)) in
-    of_tree g.D.Disk c.args.sync form named c.args.disk c.in-Err-grow.field-0 c.in-Err-grow.ensures.cause
+    of_tree g.D.Disk c.args.sync form named c.args.disk c.in-Err-grow.refusal c.in-Err-grow.ensures.cause
     (record {
-      first = c.in-Ok.field-0;
+      first = c.in-Ok.kernel;
       opened = c.in-Ok.ensures.opened;
       last = c.grow.new.tree.kernel;
-      why = subst (λ k. IsUngrown g.D.Disk named k c.grow.new.tree.kernel c.in-Err-grow.field-0) c.over-tree.ensures.kernel c.in-Err-grow.ensures.refused;
+      why = subst (λ k. IsUngrown g.D.Disk named k c.grow.new.tree.kernel c.in-Err-grow.refusal) c.over-tree.ensures.kernel c.in-Err-grow.ensures.refused;
     })
