@@ -1,5 +1,5 @@
 -- What a request is answered.
-use Rattle.std.specs.Prelude.{◌≡◌, ℕ, Bool, true, false, not, List, map, Option}
+use Rattle.std.specs.Prelude.{ℕ, Bool, true, false, not, List, map, Option}
 use Rattle.cmd.specs.Batches.{AreDone, StopsAmong}
 use Rattle.cmd.specs.Lemmas.Disks.{file_disk}
 use Rattle.cmd.specs.Opened.{OpensDisk}

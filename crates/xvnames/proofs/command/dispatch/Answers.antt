@@ -1,8 +1,9 @@
-use Rattle.std.proofs.Common.{List, ℕ, map, subst, sym}
+use Rattle.std.proofs.Common.{map, subst, sym}
 use Rattle.std.specs.Prelude.{◌≡◌}
 use Rattle.cmd.specs.Lemmas.Disks.{file_disk}
 use Rattle.xvnames.specs.Making.{IsMadeWith}
-use Rattle.xvnames.specs.Requests.{Answers, OnRefused, making_asked}
+use Rattle.xvnames.specs.Requests.{Answers, OnRefused, Refuses, making_asked}
+use Rattle.xvnames.specs.Unmade.{IsNotMadeWith}
 use Rattle.xvnames.proofs.command.dispatch.Goals as goal
 
 pub returns-in-Ls-clause-done : goal.returns-in-Ls-clause-done
@@ -84,4 +85,5 @@ returns-in-Mkfs-clause-done g c =
 
 pub returns-in-Mkfs-clause-refused : goal.returns-in-Mkfs-clause-refused
 returns-in-Mkfs-clause-refused g c =
-    λ refused. subst (λ request. OnRefused g.R.File.Read.remaining request (g.O.Write.contents c.args.out.now) (g.O.Write.contents c.make.new.out) (c.make.new.out ≡ c.args.out.now)) (sym c.in-Mkfs.is) (c.make.ensures.refused refused)
+    λ refused. subst (λ request. OnRefused g.R.File.Read.remaining request (g.O.Write.contents c.args.out.now) (g.O.Write.contents c.make.new.out) (c.make.new.out ≡ c.args.out.now)) (sym c.in-Mkfs.is)
+    (subst (λ (files : _). Refuses (IsNotMadeWith (file_disk {F = g.row.R-File.Denot}) (making_asked c.in-Mkfs.size c.in-Mkfs.ninodes c.in-Mkfs.no_sync) (map (λ file. file.now) files) (c.make.new.out ≡ c.args.out.now))) c.as_slice.ensures.value (c.make.ensures.refused refused))
