@@ -99,6 +99,30 @@ int openat(int folder, const char *path, int flags, ...) {
     return open_as(((int (*)(int, const char *, int, ...))next("openat"))(folder, path, flags, mode), path);
 }
 
+// Another handle of a file is watched as that is.
+static int copied(const char *name, int fd, int call, void *more) {
+    int made = ((int (*)(int, int, void *))next(name))(fd, call, more);
+    if ((call == F_DUPFD || call == F_DUPFD_CLOEXEC) && made >= 0 && made < (int)sizeof watched)
+        watched[made] = is_watched(fd);
+    return made;
+}
+
+int fcntl(int fd, int call, ...) {
+    va_list more;
+    va_start(more, call);
+    void *argument = va_arg(more, void *);
+    va_end(more);
+    return copied("fcntl", fd, call, argument);
+}
+
+int fcntl64(int fd, int call, ...) {
+    va_list more;
+    va_start(more, call);
+    void *argument = va_arg(more, void *);
+    va_end(more);
+    return copied("fcntl64", fd, call, argument);
+}
+
 int close(int fd) {
     if (fd >= 0 && fd < (int)sizeof watched)
         watched[fd] = 0;

@@ -1,6 +1,6 @@
-"""The series of faults, and what each run has to come to."""
+"""Faults of the calls that move an image's bytes, power cuts, and two programs at once: the series, and what each
+run has to come to."""
 import collections
-import concurrent.futures
 import hashlib
 import os
 import re
@@ -131,9 +131,9 @@ def places(count, most=MOST):
 
 
 def count_calls(words, call, image, over="a.img"):
-    """How many calls of that kind a run makes, to the nearest at which one that fails shows."""
+    """How many calls of that kind a run makes."""
     low, high = 0, 1
-    shows = lambda n: Trial(image, words, call, n, "eio", over=over).status != 0
+    shows = lambda n: Trial(image, words, call, n, "kill", over=over).status == -signal.SIGKILL
     while shows(high):
         low, high = high, high * 2
     while high - low > 1:
@@ -145,6 +145,12 @@ def count_calls(words, call, image, over="a.img"):
 def is_failure(how):
     """Whether the program has to tell of it; else it has to go on."""
     return how in ("eio", "enospc", "zero")
+
+
+def is_rewriting(words, call, at):
+    """Whether the call is one of those that write the log's header over itself, before a disk that holds writes
+    back is recovered: that one fails need not be told."""
+    return "--sync" in words and at <= {"write": 1, "lseek": 2, "read": 1}.get(call, 0)
 
 
 def judge_groups(trial, how, states, told, later):
@@ -170,7 +176,8 @@ def replay(call, how, sync):
         told = r"xvfs: (disk 2 SyncFault|recover 4 Sync)\n"
     for at in places(COUNTS[call, sync]):
         trial = Trial(BASE, replay_words(sync), call, at, how)
-        yield at, judge_groups(trial, how, STATES[sync], told, 1 if call == "fdatasync" else 0)
+        untold = trial.status == 0 and is_rewriting(replay_words(sync), call, at)
+        yield at, judge_groups(trial, "none" if untold else how, STATES[sync], told, 1 if call == "fdatasync" else 0)
 
 
 def power_cut(seed):
@@ -202,7 +209,7 @@ def recover(call, how):
         trial = Trial(LOGGED, words, call, at, how)
         if trial.files() != LOGGED_FILES:
             yield at, f"other files: {trial.checked()}"
-        elif is_failure(how) and trial.status != 1:
+        elif is_failure(how) and trial.status != 1 and not is_rewriting(words, call, at):
             yield at, f"status {trial.status}"
         else:
             yield at, None
@@ -212,18 +219,18 @@ def mkfs(call, how, old):
     """A new image, or one in place of an old one, which is kept where the new one isn't made."""
     words = ["mkfs", "a.img", "200", "32"]
     for at in places(200 if call == "write" else 1):
-        trial = Trial(old, words, call, at, how, over="a.img.new")
+        trial = Trial(old, words, call, at, how, over="a.img.xvfs-new")
         if how in ("short", "eintr"):
             good = trial.status == 0 and trial.bytes() == BASE
         elif old is None:
             good = trial.status in (1, -signal.SIGKILL) and not os.path.exists(trial.image)
         else:
             good = trial.status in (1, -signal.SIGKILL) and trial.bytes() == old
-        beside = os.path.exists(trial.image + ".new")
+        beside = os.path.exists(trial.image + ".xvfs-new")
         good = good and beside == (trial.status == -signal.SIGKILL)
         if beside:
             good = good and trial.run(*words).returncode == 0 and trial.bytes() == BASE
-            good = good and not os.path.exists(trial.image + ".new")
+            good = good and not os.path.exists(trial.image + ".xvfs-new")
         yield at, None if good else f"status {trial.status}: {trial.checked()}"
 
 
@@ -284,7 +291,7 @@ def syncs():
     for line, over, least, most in [
             ("put a.img short", "a.img", 1, 1), ("put a.img short --no-sync", "a.img", 0, 0),
             ("put a.img short --sync", "a.img", 6, 6), ("put a.img long --sync", "a.img", 8, 200),
-            ("mkfs a.img 200 32", "a.img.new", 1, 1), ("mkfs a.img 200 32 --no-sync", "a.img.new", 0, 0),
+            ("mkfs a.img 200 32", "a.img.xvfs-new", 1, 1), ("mkfs a.img 200 32 --no-sync", "a.img.xvfs-new", 0, 0),
             ("copy a.img b.img", "b.img", 2, 2), ("copy a.img b.img --sync", "b.img", 2, 2),
             ("copy a.img b.img --no-sync", "b.img", 1, 1)]:
         count = count_calls(line.split(), "fdatasync", ONE_FILE, over)
@@ -359,7 +366,7 @@ def replaced(old):
     """A put and another mkfs while an image is made: both wait for its new file, or are refused."""
     for at in range(1, 11):
         trial = Trial(old, ["--version"])
-        first = trial.begin("mkfs", "a.img", "200", "32", over="a.img.new")
+        first = trial.begin("mkfs", "a.img", "200", "32", over="a.img.xvfs-new")
         ends = [ended(trial.begin("mkfs", "a.img", "200", "32"))]
         waiting = [trial.begin("mkfs", "a.img", "200", "32", "--wait")] if at % 2 == 0 else []
         waiting += [trial.begin("put", "a.img", "long", "--wait")] if old else []
@@ -369,7 +376,7 @@ def replaced(old):
         waited = [ended(running) for running in waiting]
         files = trial.run("ls", "a.img").stdout.decode()
         right = ends == [LOCKED, DONE] and all(end in (DONE, (0, "1\n", "")) for end in waited)
-        right = right and trial.checked().startswith("sound") and not os.path.exists(trial.image + ".new")
+        right = right and trial.checked().startswith("sound") and not os.path.exists(trial.image + ".xvfs-new")
         if old and files:
             right = right and files.startswith("1 type 2 size 40000 ") and files.count("\n") == 1
             right = right and trial.run("cat", "a.img", "1").stdout == FILES["long"]
@@ -408,11 +415,6 @@ def looked_at():
         yield at, None if right else f"{ends}"
 
 
-def told_wrong(series, *words):
-    name = " ".join([series.__name__, *[str(word) for word in words]])
-    return [f"{name}: at {at}: {wrong}" for at, wrong in series(*words) if wrong]
-
-
 FILES["short"] = bytes(range(256)) * 9
 FILES["few"] = bytes(range(255, -1, -1)) * 12
 FILES["long"] = b"".join(b"%07d\n" % n for n in range(5000))
@@ -446,7 +448,3 @@ SERIES += [(put_over, call, how) for call in ("write", "lseek") for how in HOWS[
 SERIES += [(put_over, "write", "kill", seed) for seed in (1, 2, 3)]
 SERIES += [(put_few, call, how, inum) for inum in ([], ["1"]) for call in ("write", "lseek") for how in HOWS[call]]
 SERIES += [(put_few, "write", "kill", inum, seed) for inum in ([], ["1"]) for seed in (1, 2)]
-with concurrent.futures.ThreadPoolExecutor(os.cpu_count()) as pool:
-    found = [line for lines in pool.map(lambda one: told_wrong(*one), SERIES) for line in lines]
-print("\n".join(found + [f"faults: {len(SERIES)} series, {len(found)} ends that are not as they should be"]))
-sys.exit(1 if found else 0)

@@ -1,5 +1,6 @@
 """The series of faults of `xvnames`, and what each run has to come to."""
 import concurrent.futures
+import itertools
 import os
 import re
 import signal
@@ -30,6 +31,7 @@ COMMANDS = {
     "put of a long file": ["put", "a.img", "long", "/new"],
     "put with --sync": ["put", "a.img", "small", "/new", "--sync"],
 }
+MKFS = ["mkfs", "b.img", "400", "64", "small"]
 LOOKS = {
     "ls": ["ls", "a.img", "/docs"],
     "tree": ["tree", "a.img"],
@@ -38,15 +40,21 @@ LOOKS = {
 }
 
 
+def closing(closed):
+    """The words of a shell that starts a program with these of its standard descriptors closed."""
+    shell = 'exec "$@" ' + " ".join(("<&-", ">&-", "2>&-")[fd] for fd in closed)
+    return ["sh", "-c", shell, "sh"] if closed else []
+
+
 class Trial:
     """A run of the program over an image of its own, in a folder of its own."""
 
-    def __init__(self, image, words, **env):
+    def __init__(self, image, words, closed=(), **env):
         self.folder = tempfile.TemporaryDirectory(dir=WORK)
         self.put("a.img", image)
         self.put("small", SMALL)
         self.put("long", LONG)
-        ran = subprocess.run([PROGRAM, *words], cwd=self.folder.name, env=dict(os.environ, **env),
+        ran = subprocess.run([*closing(closed), PROGRAM, *words], cwd=self.folder.name, env=dict(os.environ, **env),
                              stdin=subprocess.DEVNULL, capture_output=True, timeout=60)
         self.status, self.out, self.err = ran.returncode, ran.stdout, ran.stderr.decode()
 
@@ -158,7 +166,9 @@ def calls(words, call, how, usual, is_look):
         if is_look:
             yield at, judge_look(trial, usual)
         else:
-            yield at, judge(trial, usual, how in ("eio", "enospc", "zero") and call != "read")
+            # The header is written over itself before a disk that holds writes is read: that needs not be told.
+            is_rewriting = "--sync" in words and call == "write" and at == 1
+            yield at, judge(trial, usual, how in ("eio", "enospc", "zero") and call != "read" and not is_rewriting)
 
 
 def allocations(words, usual, is_look):
@@ -170,6 +180,37 @@ def allocations(words, usual, is_look):
     for at in places(count):
         trial = Trial(BASE, words, LD_PRELOAD=WORK + "/refuse.so", REFUSE_ALLOCATION=str(at))
         yield at, judge_look(trial, usual) if is_look else judge(trial, usual, False)
+
+
+def closed_descriptors(words, usual):
+    """Each choice of closed standard descriptors: no answer is written into a file that was opened, and one that
+    had to be printed is `output 1 Write`."""
+    is_look, made = words in LOOKS.values(), "b.img" if words == MKFS else "out"
+    for closed in [choice for count in range(4) for choice in itertools.combinations((0, 1, 2), count)]:
+        trial = Trial(BASE, words, closed=closed)
+        unprinted = 1 in closed and usual.out != b""
+        told = "xvnames: output 1 Write\n" if unprinted and 2 not in closed else ""
+        left, wrong = trial.tree()
+        (before, _), (after, _) = BASE_TREE, usual.tree()
+        if (trial.status, trial.err) != (1 if unprinted else 0, told):
+            yield f"closed {closed}", f"status {trial.status}: {trial.err.strip()}"
+        elif wrong or left not in (before, after) or (is_look or words == MKFS) and trial.bytes("a.img") != BASE:
+            yield f"closed {closed}", "the image is another one: " + "; ".join(wrong)
+        elif trial.bytes(made) not in (None, usual.bytes(made)):
+            yield f"closed {closed}", f"{made} is another one"
+        else:
+            same = 1 in closed or trial.out == usual.out and trial.bytes(made) == usual.bytes(made)
+            yield f"closed {closed}", None if same else "another answer"
+
+
+def without_locks(words):
+    """A file system without locks: refused, and nothing is changed."""
+    for how in ("enolck", "eopnotsupp", "eio"):
+        trial = Trial(BASE, words, LD_PRELOAD=WORK + "/strikes.so", STRIKES_IN=os.path.realpath(WORK),
+                      STRIKES="lock:1+:" + how)
+        left = trial.bytes("a.img") == BASE and trial.bytes("b.img") is None and trial.bytes("out") is None
+        refused = (trial.status, trial.err) == (1, "xvnames: file 6 Unlockable\n")
+        yield "no lock, " + how, None if left and refused else f"status {trial.status}: {trial.err.strip()}"
 
 
 def series():
@@ -185,6 +226,9 @@ def series():
                 for how in hows:
                     yield f"{name}, {call} {how}", calls(words, call, how, usual, is_look)
             yield f"{name}, each allocation refused", allocations(words, usual, is_look)
+    for words in [*COMMANDS.values(), *LOOKS.values(), MKFS]:
+        ends = itertools.chain(closed_descriptors(words, Trial(BASE, words)), without_locks(words))
+        yield f"{' '.join(words)}, closed descriptors and no locks", ends
 
 
 BASE_TREE = Trial(BASE, ["tree", "a.img"]).tree()

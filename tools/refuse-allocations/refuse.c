@@ -1,5 +1,5 @@
 /* Refuses the Nth allocation of a program, of all its threads together, N being the number in
-   REFUSE_ALLOCATION, and adds a byte to the file COUNT_ALLOCATIONS for each; preloaded by the script `run`
+   REFUSE_ALLOCATION, or each from the Nth on, N being that in REFUSE_FROM, and adds a byte to the file COUNT_ALLOCATIONS for each; preloaded by the script `run`
    beside it. Allocations made before the program's main count as well. What is not refused goes to the C
    library's own functions, by the names that it gives them beside the usual ones. */
 #include <errno.h>
@@ -24,9 +24,10 @@ static void tell(const char *path) {
 
 static int is_refused(void) {
     const char *path = getenv("COUNT_ALLOCATIONS"), *number = getenv("REFUSE_ALLOCATION");
+    const char *first = getenv("REFUSE_FROM");
     long nth = atomic_fetch_add(&made, 1) + 1;
     if (path) tell(path);
-    if (!number || nth != atol(number)) return 0;
+    if (!(number && nth == atol(number)) && !(first && nth >= atol(first))) return 0;
     errno = ENOMEM;
     return 1;
 }

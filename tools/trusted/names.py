@@ -114,7 +114,7 @@ class Names:
             if spec:
                 own = spec.scope.own.get(name, [])
                 return own or [node for there, called in spec.scope.names.get(name, [])
-                               if there != path for node in self.of_spec(there, called)]
+                               if there != path for node in self.lookup(there, called, False)]
         return []
 
     def of_declared(self, crate, path, name):
@@ -216,7 +216,7 @@ class Names:
             return None
         for block in self.repository.items(item.source.crate, ('impl',)):
             if block.trait == 'Model' and block.name == item.name:
-                return next(each for each in block.children('ghost') if each.name == 'Value')
+                return next((each for each in block.children('ghost') if each.name == 'Value'), None)
         return None
 
 

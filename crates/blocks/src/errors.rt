@@ -53,6 +53,10 @@ pub enum FileFault {
     /// A new file was asked for, and something has its name.
     #[error("there is such a file")]
     Exists,
+    /// The system gives no lock of the file, and that not since another program holds it. No function
+    /// of this crate asks for a lock.
+    #[error("the file can't be locked")]
+    Unlockable,
 }
 
 impl From<NoMemory> for FileFault {

@@ -58,7 +58,7 @@ impl<F: Read + Write + Seek + OpenFile + Drop> FileDisk<F> {
     /// The first of these. `Open` where the file can't be opened, as a directory can't; `Length`
     /// where its length is not a whole number of blocks, from 1 to `MAX_BLOCKS`; `NoMemory` where
     /// memory for the blocks, or for the system's own use, is refused; `Open` where the file can't
-    /// be read.
+    /// be read. A device has the length up to its end.
     pub fn open<R: Files<File = F> + AllocGlobal>(
         rt: &R,
         path: &str,
@@ -82,11 +82,15 @@ impl<F: Read + Write + Seek + OpenFile + Drop> FileDisk<F> {
         FileDisk::whole_file(rt.alloc(), open_file(rt, path, false)?)
     }
 
-    // The disk that a file holds which was just opened.
-    fn whole_file(alloc: Global, file: F) -> Result<FileDisk<F>, FileFault>
+    /// The disk that a file holds which was just opened: it is read from its start to its end.
+    ///
+    /// # Errors
+    ///
+    /// As those of `open` over an opened file.
+    pub fn whole_file(alloc: Global, mut file: F) -> Result<FileDisk<F>, FileFault>
         ensures { IfOk result (IsFirstRead F.remaining ⟦<FileDisk<F> as Disk>⟧) }
     {
-        let size = file.metadata().map_err(fault_of)?.len();
+        let size = length_of(&mut file)?;
         FileDisk::over_file(alloc, file, size)
     }
 
@@ -116,12 +120,12 @@ impl<F: Read + Write + Seek + OpenFile + Drop> FileDisk<F> {
 
     /// A disk of this many blocks of zeroes, in a new file at this path, which takes the place of
     /// one that stands there. Memory for the blocks is taken first, so that the old file is kept
-    /// where it is refused.
+    /// where it is refused. A device of just that length is filled with zeroes.
     ///
     /// # Errors
     ///
     /// `NoMemory` where memory is refused; `Open` where the file can't be made or given its
-    /// length.
+    /// length, as a device of another length can't.
     pub fn create<R: Files<File = F> + AllocGlobal>(
         rt: &R,
         path: &str,
@@ -139,6 +143,22 @@ impl<F: Read + Write + Seek + OpenFile + Drop> FileDisk<F> {
             .truncate(true)
             .open(rt, path)
             .map_err(fault_of)?;
+        FileDisk::sized(copy, file)
+    }
+
+    /// A disk of this many blocks of zeroes in an opened file, whose bytes are lost. A device of just
+    /// that length is filled with zeroes. Memory for the blocks is taken first, so that the file is as
+    /// it was where it is refused.
+    ///
+    /// # Errors
+    ///
+    /// `NoMemory` where memory is refused; `Open` where the file can't be given its length.
+    pub fn zeroed(alloc: Global, file: F, size: u32) -> Result<FileDisk<F>, FileFault>
+        ensures made { IfOk result (IsZeroed size ⟦<FileDisk<F> as Disk>⟧) }
+        ensures exists { IfErr result (λ fault. fault ≢ FileFault.Exists) }
+        ensures err { IfErr result (λ fault. fault ≢ FileFault.Length) }
+    {
+        let copy = MemDisk::new(alloc, size)?;
         FileDisk::sized(copy, file)
     }
 
@@ -167,15 +187,14 @@ impl<F: Read + Write + Seek + OpenFile + Drop> FileDisk<F> {
     }
 
     // The disk of these blocks in a new file, which gets its length.
-    fn sized(copy: MemDisk, file: F) -> Result<FileDisk<F>, FileFault>
+    fn sized(copy: MemDisk, mut file: F) -> Result<FileDisk<F>, FileFault>
         ensures copy { IfOk result (λ disk. disk.copy ≡ copy) }
         ensures faults { IfOk result (λ disk. disk.faults ≡ 0) }
         ensures plain { IfOk result (λ disk. disk.holds ≡ false) }
         ensures exists { IfErr result (λ fault. fault ≢ FileFault.Exists) }
         ensures err { IfErr result (λ fault. fault ≢ FileFault.Length) }
     {
-        file.set_len(copy.size() as u64 * BLOCK_SIZE as u64)
-            .map_err(fault_of)?;
+        give_length(&mut file, copy.size()).map_err(fault_of)?;
         Ok(FileDisk::over(copy, file))
     }
 }
@@ -240,6 +259,36 @@ fn open_file<R: Files>(rt: &R, path: &str, writes: bool) -> Result<R::File, File
         .write(writes)
         .open(rt, path)
         .map_err(fault_of)
+}
+
+// How many bytes a file has that stands at its start, and is left there: of a device up to its end.
+fn length_of<F: Seek + OpenFile>(file: &mut F) -> Result<u64, FileFault> {
+    let found = file.metadata().map_err(fault_of)?;
+    if found.is_file() {
+        return Ok(found.len());
+    }
+    match file.seek(SeekFrom::End(0)) {
+        Ok(end) => {
+            file.seek(SeekFrom::Start(0)).map_err(fault_of)?;
+            Ok(end)
+        }
+        // A pipe has no end to be sought.
+        Err(_) => Ok(found.len()),
+    }
+}
+
+// Gives a file so many blocks of zeroes. A device, which has to have that length, is filled.
+fn give_length<F: Write + Seek + OpenFile>(file: &mut F, size: u32) -> io::Result<()> {
+    let length = size as u64 * BLOCK_SIZE as u64;
+    if file.metadata()?.is_file() || file.seek(SeekFrom::End(0))? != length {
+        file.set_len(0)?;
+        return file.set_len(length);
+    }
+    file.seek(SeekFrom::Start(0))?;
+    for _ in 0..size {
+        file.write_all(&[0; BLOCK_SIZE])?;
+    }
+    Ok(())
 }
 
 // What an error of the system's means: memory that it was refused, or a file that can't be used.

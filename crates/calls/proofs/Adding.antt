@@ -304,6 +304,7 @@ module _ {D N : Type 0} (disk : Ghosts D N) (op : Op) (r : Step) (k m : Plain D)
 -- ---- what it leaves, however it ends
 
 pub record LeavesInside {D N : Type 0} (disk : Ghosts D N) (k m : Plain D) : Type 0 where
+  pub reads : OnlyReads disk k.store.volume.device m.store.volume.device
   pub leaves : LeavesOnly disk.moment disk.leaves k.store.volume.device m.store.volume.device (KeepsFiles (image_on disk.image k))
   pub reached : IsReached disk k m
   pub opening : m.opening ≡ k.opening
@@ -311,6 +312,7 @@ pub record LeavesInside {D N : Type 0} (disk : Ghosts D N) (k m : Plain D) : Typ
 
 pub call_left : {D N : Type 0} (disk : Ghosts D N) (op : Op) (r : Step) (k m : Plain D) → IsAdding disk op r k m → ((d : D) → disk.leaves d (disk.moment d) (disk.image d)) → LeavesInside disk k m
 call_left disk op r k m adding has_now = record {
+  reads = call_reads disk op r k m adding;
   leaves = call_leaves disk op r k m adding has_now;
   reached = call_reached disk op r k m adding;
   opening = call_opening disk 0 op r k m adding.call;
@@ -320,6 +322,7 @@ call_left disk op r k m adding has_now = record {
 -- once the answer is fetched, too
 pub fetched_left : {D N : Type 0} (disk : Ghosts D N) (k m n : Plain D) → n ≡ with_intake m n.intake → LeavesInside disk k m → LeavesInside disk k n
 fetched_left disk k m n same left = record {
+  reads = subst (λ (s : Plain _). OnlyReads disk k.store.volume.device s.store.volume.device) (sym same) left.reads;
   leaves = subst (λ (s : Plain _). LeavesOnly disk.moment disk.leaves k.store.volume.device s.store.volume.device (KeepsFiles (image_on disk.image k))) (sym same) left.leaves;
   reached = reached_then disk k m n left.reached (reached_ports disk m n same);
   opening = ap (λ (s : Plain _). s.opening) same ∙ left.opening;

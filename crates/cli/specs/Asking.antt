@@ -51,12 +51,18 @@ abbrev pub AskToExplain : {Q : Type 0} → Wording Q → List (List ℕ) → Boo
 AskToExplain wording words explain =
     Gives (codes "explain") (subcommand_of wording.app words) explain
 
+-- the words ask for a command that takes no lock of the image, or takes one
+abbrev pub AskForNoLock : {Q : Type 0} → Wording Q → List (List ℕ) → Bool → Type 0
+AskForNoLock wording words no_lock =
+    Gives (codes "no-lock") (subcommand_of wording.app words) no_lock
+
 -- the words ask for this, and how it is done
 pub record IsAsked {Q : Type 0} (wording : Wording Q) (words : List (List ℕ))
     (asked : Asked Q) : Type 0 where
   pub request : AskFor wording words asked.request
   pub wait : AskToWait wording words asked.wait
   pub explain : AskToExplain wording words asked.explain
+  pub no_lock : AskForNoLock wording words asked.no_lock
 
 -- the error is a mistake in the words, or that memory was refused
 abbrev pub IsMistakeIn : {Q : Type 0} → Wording Q → List (List ℕ) → Error → Type 0

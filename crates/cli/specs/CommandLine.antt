@@ -35,10 +35,12 @@ flag_rule id = record (new_rule id) { long = Some id; action = Some SetTrue }
 abbrev pub explained : App → App
 explained app = with_rule app (flag_rule (codes "explain"))
 
--- a command whose first word is a path of an image, and which waits for it where that is asked for
+-- a command whose first word is a path of an image, and which waits for it, or takes no lock, where
+-- that is asked for
 abbrev pub waiting_app : List ℕ → List ℕ → App
 waiting_app name word =
-    explained (with_rule (with_rule (new_app name) (required_rule word)) (flag_rule (codes "wait")))
+    with_rule (explained (with_rule (with_rule (new_app name) (required_rule word))
+    (flag_rule (codes "wait")))) (flag_rule (codes "no-lock"))
 
 -- a command over an image
 abbrev pub image_app : List ℕ → App
@@ -56,7 +58,8 @@ abbrev pub recover_app : App
 recover_app = with_rule (image_app (codes "recover")) (flag_rule (codes "sync"))
 
 abbrev pub cat_app : App
-cat_app = with_rule (image_app (codes "cat")) (number_rule (codes "INUM"))
+cat_app = with_rule (with_rule (image_app (codes "cat")) (number_rule (codes "INUM")))
+    (flag_rule (codes "read-only"))
 
 -- the same number where it may be left out
 abbrev pub choice_rule : List ℕ → Rule
@@ -178,8 +181,9 @@ AsksBy name rows (Check image all) = (name ≡ codes "check")
     × (first_of (codes "IMAGE") rows ≡ Some image.now) × HasFlag (codes "all") rows all
 AsksBy name rows (Recover image sync) = (name ≡ codes "recover")
     × (first_of (codes "IMAGE") rows ≡ Some image.now) × HasFlag (codes "sync") rows sync
-AsksBy name rows (Cat image inum) = (name ≡ codes "cat")
+AsksBy name rows (Cat image inum read_only) = (name ≡ codes "cat")
     × (first_of (codes "IMAGE") rows ≡ Some image.now)
+    × HasFlag (codes "read-only") rows read_only
 AsksBy name rows (Ls image) = (name ≡ codes "ls")
     × (first_of (codes "IMAGE") rows ≡ Some image.now)
 AsksBy name rows (Df image) = (name ≡ codes "df")

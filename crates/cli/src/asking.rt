@@ -43,6 +43,8 @@ pub struct Asked<Q> {
     pub wait: bool,
     /// Whether more is said of a refusal.
     pub explain: bool,
+    /// Whether it takes no lock of the image.
+    pub no_lock: bool,
 }
 
 /// What these words, without the program's name, ask a program for.
@@ -105,6 +107,8 @@ fn asked_of<'a, Q: ByWords<'a>>(
         (λ asked. Gives (codes "wait") (subcommand_rows_of matches.now) asked.wait)) }
     ensures explains { IfOk result (λ read. IfSome read
         (λ asked. Gives (codes "explain") (subcommand_rows_of matches.now) asked.explain)) }
+    ensures unlocked { IfOk result (λ read. IfSome read
+        (λ asked. Gives (codes "no-lock") (subcommand_rows_of matches.now) asked.no_lock)) }
 {
     let Some((name, values)) = matches.subcommand() else {
         return Ok(None);
@@ -116,5 +120,6 @@ fn asked_of<'a, Q: ByWords<'a>>(
         request,
         wait: values.get_flag("wait"),
         explain: values.get_flag("explain"),
+        no_lock: values.get_flag("no-lock"),
     }))
 }

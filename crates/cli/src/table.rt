@@ -93,6 +93,13 @@ pub const WAIT: Word = Word {
     help: "Waits while another program has the image, in place of being refused",
 };
 
+/// `--no-lock`.
+pub const NO_LOCK: Word = Word {
+    name: "no-lock",
+    kind: Kind::Flag,
+    help: "Takes no lock of the image, for a system that gives none; two programs at once may lose files",
+};
+
 /// `--explain`.
 pub const EXPLAIN: Word = Word {
     name: "explain",
@@ -168,6 +175,7 @@ const LINES: &[Line] = &[
             IMAGE_MADE,
             WAIT,
             EXPLAIN,
+            NO_LOCK,
             SIZE,
             NINODES,
             Word {
@@ -186,6 +194,7 @@ const LINES: &[Line] = &[
             IMAGE_KEPT,
             WAIT,
             EXPLAIN,
+            NO_LOCK,
             Word {
                 name: "all",
                 kind: Kind::Flag,
@@ -197,26 +206,32 @@ const LINES: &[Line] = &[
         name: "ls",
         about: "Lists the files of an image: number, type, bytes and blocks",
         example: "Example: xvfs ls fs.img",
-        words: &[IMAGE_KEPT, WAIT, EXPLAIN],
+        words: &[IMAGE_KEPT, WAIT, EXPLAIN, NO_LOCK],
     },
     Line {
         name: "df",
         about: "Counts the blocks and the inodes of an image, used and free ones",
         example: "Example: xvfs df fs.img",
-        words: &[IMAGE_KEPT, WAIT, EXPLAIN],
+        words: &[IMAGE_KEPT, WAIT, EXPLAIN, NO_LOCK],
     },
     Line {
         name: "cat",
         about: "Recovers an image, and writes the bytes of one of its files",
-        example: "Example: xvfs cat fs.img 1",
+        example: "Examples: xvfs cat fs.img 1, xvfs cat fs.img 1 --read-only",
         words: &[
             IMAGE,
             WAIT,
             EXPLAIN,
+            NO_LOCK,
             Word {
                 name: "INUM",
                 kind: Kind::Number,
                 help: "The file's inode number",
+            },
+            Word {
+                name: "read-only",
+                kind: Kind::Flag,
+                help: "Writes nothing to the image, and reads its files as a recovery would leave them",
             },
         ],
     },
@@ -228,6 +243,7 @@ const LINES: &[Line] = &[
             IMAGE_KEPT,
             WAIT,
             EXPLAIN,
+            NO_LOCK,
             Word {
                 name: "INUM",
                 kind: Kind::Free,
@@ -248,6 +264,7 @@ const LINES: &[Line] = &[
             IMAGE,
             WAIT,
             EXPLAIN,
+            NO_LOCK,
             Word {
                 name: "FILE",
                 kind: Kind::Needed,
@@ -270,6 +287,7 @@ const LINES: &[Line] = &[
             OLD,
             WAIT,
             EXPLAIN,
+            NO_LOCK,
             NEW,
             Word {
                 name: "size",
@@ -288,13 +306,13 @@ const LINES: &[Line] = &[
         name: "rescue",
         about: "Copies the files of a damaged image that are whole into a new one, and tells which these are",
         example: "Example: xvfs rescue old.img new.img",
-        words: &[OLD, WAIT, EXPLAIN, NEW, NO_SYNC],
+        words: &[OLD, WAIT, EXPLAIN, NO_LOCK, NEW, NO_SYNC],
     },
     Line {
         name: "recover",
         about: "Checks an image, and copies the blocks of its log home",
         example: "Example: xvfs recover fs.img",
-        words: &[IMAGE, WAIT, EXPLAIN, SYNC],
+        words: &[IMAGE, WAIT, EXPLAIN, NO_LOCK, SYNC],
     },
     Line {
         name: "replay",
@@ -304,6 +322,7 @@ const LINES: &[Line] = &[
             IMAGE,
             WAIT,
             EXPLAIN,
+            NO_LOCK,
             SCRIPT,
             SCHEDULE,
             Word {
@@ -337,6 +356,7 @@ const LINES: &[Line] = &[
             IMAGE,
             WAIT,
             EXPLAIN,
+            NO_LOCK,
             SCRIPT,
             Word {
                 name: "workers",

@@ -47,6 +47,8 @@ pub enum Request<'a> {
         image: &'a str,
         /// The file's number.
         inum: u32,
+        /// Whether the image is only read, and not recovered.
+        read_only: bool,
     },
     /// The files of an image.
     Ls {
@@ -289,6 +291,7 @@ fn request_over<'a>(name: &str, values: &ArgMatches<'a>) -> Option<Request<'a>>
         "cat" => Some(Request::Cat {
             image,
             inum: values.get_one("INUM")?,
+            read_only: values.get_flag("read-only"),
         }),
         "ls" => Some(Request::Ls { image }),
         "df" => Some(Request::Df { image }),

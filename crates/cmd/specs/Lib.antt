@@ -1,4 +1,6 @@
 pub mod Opened
+pub mod Locks
+pub mod Freshening
 pub mod Lemmas
 pub mod Changes
 pub mod Over

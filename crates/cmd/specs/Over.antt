@@ -11,8 +11,8 @@ use Rattle.cmd.specs.declared.opened.Access.TheVariants.{Look, Change}
 
 -- whether a disk that is opened for that holds writes back
 abbrev pub holds_back : Access → Bool
-holds_back Look = false
-holds_back (Change sync) = sync
+holds_back (Look locking) = false
+holds_back (Change sync locking) = sync
 
 -- no disk was opened, and nothing printed; or one was, and is now another, as P says of the refusal
 abbrev pub IsRefusedOn : {F R : Type 0} → (F → Option (List ℕ)) → Bool → Type 0

@@ -6,12 +6,13 @@ ghost use Rattle.cmd.specs.Changes.{Change, change};
 ghost use Rattle.cmd.specs.Over.{IsRefusedOn, holds_back, of, on_file_telling};
 
 use crate::command::Command;
-use crate::opened::{Access, open_for};
+use crate::locks::Locks;
+use crate::opened::{Access, disk_over, open_for};
 use blocks::{Disk, FileFault};
 use messages::{Reason, Told};
 use std::alloc::Global;
-use std::io::Write;
-use std::rt::Files;
+use std::fs::OpenFile;
+use std::io::{Read, Seek, Write};
 
 /// A command over any disk.
 pub trait DiskCommand {
@@ -63,7 +64,7 @@ impl<R: Reason> Reason for OnFile<R> {
 #[derive(Drop)]
 pub struct OverFile<'a, C>(pub &'a str, pub Access, pub C);
 
-impl<'a, R: Files + AllocGlobal, C: DiskCommand + Drop> Command<R> for OverFile<'a, C> {
+impl<'a, R: Locks + AllocGlobal, C: DiskCommand + Drop> Command<R> for OverFile<'a, C> {
     type Refusal = OnFile<C::Refusal>;
 
     ghost done = { λ over old new. OpensDisk R.File.remaining file_disk (holds_back over.1)
@@ -80,6 +81,33 @@ impl<'a, R: Files + AllocGlobal, C: DiskCommand + Drop> Command<R> for OverFile<
         let (ended, _disk) = self.2.run_on(rt.alloc(), disk, out);
         of(ended)
     }
+}
+
+/// Does a command over the disk in an opened file, over another handle of it, as `OverFile` does; with
+/// `sync` that disk holds writes back.
+///
+/// # Errors
+///
+/// `File` with a fault of `disk_over`, or `Of` with the command's.
+pub fn run_over<F: Read + Write + Seek + OpenFile + Drop, C: DiskCommand + Drop, O: Write>(
+    alloc: Global,
+    file: &F,
+    sync: bool,
+    command: C,
+    out: &mut O,
+) -> Result<(), OnFile<C::Refusal>>
+    ensures done { OnOk result (OpensDisk F.remaining file_disk sync (λ d e.
+        C.done command (change file_disk d e) (O.contents out.old) (O.contents out.new))) }
+    ensures refused { IfErr result (IsRefusedOn F.remaining sync (out.new ≡ out.old) (λ d e.
+        C.refused command (change file_disk d e) (O.contents out.old) (O.contents out.new)
+        (out.new ≡ out.old))) }
+{
+    let disk = match disk_over(alloc, file, sync) {
+        Ok(disk) => disk,
+        Err(fault) => return Err(OnFile::File(fault)),
+    };
+    let (ended, _disk) = command.run_on(alloc, disk, out);
+    of(ended)
 }
 
 // The refusal of a command over a file, of one over its disk.

@@ -11,10 +11,12 @@ pub mod batch;
 mod command;
 mod files;
 mod input;
+mod locks;
 mod opened;
 
 pub use batch::{read_text, script_of};
 pub use command::{Command, end, perform};
-pub use files::{DiskCommand, OnFile, OverFile};
+pub use files::{DiskCommand, OnFile, OverFile, run_over};
 pub use input::{InputFault, input_unread};
-pub use opened::{Access, open, open_to_look};
+pub use locks::{Locking, Locks, Share, fault_of, is_at, is_held_at, open_held};
+pub use opened::{Access, disk_over, freshen, open_for, open_image, open_to_look};

@@ -1,3 +1,4 @@
+mod CatLemmas
 pub mod Copying
 pub mod Rescuing
 pub mod MakingLemmas

@@ -1,5 +1,6 @@
 pub mod Puts
 pub mod Refusals
+pub mod Cats
 pub mod Copies
 pub mod Rescues
 pub mod Making

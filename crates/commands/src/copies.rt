@@ -16,37 +16,43 @@ ghost use Rattle.commands.specs.Copies.{
 
 use crate::holding::Holder;
 use crate::refused::CopyRefusal;
-use crate::targets::{Target, ensure_free, remove_refused};
+use crate::targets::{Target, ensure_free, hold, mode_of, remove_refused, sync_folder, zeroes_in};
 use blocks::{Disk, FileDisk};
-use cmd::{Command, open_to_look};
+use cmd::{Access, Command, Locking, Locks, open_for};
 use layout::plan;
 use messages::{Meter, print_files};
 use model::types::Form;
 use offline::check;
 use std::alloc::Global;
-use std::io::Write;
+use std::fs::OpenFile;
+use std::io::{Read, Seek, Write};
 use std::rt::Files;
 use transfer::{CopyFault, copy};
 
 /// Copies the image in the file at the path `old` into a new file, as `transfer::copy`, and prints how
 /// many files it has. The new image has `size` blocks, as many as the old one where none is given.
 ///
-/// It is refused for the first of these. `Exists` where there is a file at the target's path; `File`
-/// with a fault of `open_to_look` over the old one; `Of` with `Old` and a fault of the old image,
+/// It is refused for the first of these. `Exists` where something is at the target's path; `File`
+/// with a fault of `open_for` over the old one; `Of` with `Old` and a fault of the old image,
 /// with `NotFirst`, or with `Mkfs` and `SizeRange`: with these no file was made. A fault of
-/// `Holder::hold_new`, where `Exists` and `Locked` are told as above; one of `FileDisk::create`, and then
-/// `Of` with one of the copy: by its code the new file is taken away.
+/// `Holder::hold_new`, where `Exists` and `Locked` are told as above; one of `FileDisk::zeroed`, and then
+/// `Of` with one of the copy, or `File` where its folder can't be synced: by its code the new file is
+/// taken away. `Output`, and then it stays. Who may use the old file may use the new one, and nobody
+/// else.
 #[derive(Drop)]
 pub struct Copy<'a, P, H> {
     /// The path of the old image.
     pub old: &'a str,
+    /// How its lock is taken.
+    pub locking: Locking,
     /// How many blocks the new one has.
     pub size: Option<u32>,
     /// Where it is made.
     pub target: Target<'a, P, H>,
 }
 
-impl<'a, R: Files + AllocGlobal, P: Meter + Drop, H: Holder + Drop> Command<R> for Copy<'a, P, H> {
+impl<'a, R: Locks + AllocGlobal, P: Meter + Drop, H: Holder<R::File> + Drop> Command<R>
+    for Copy<'a, P, H> {
     type Refusal = CopyRefusal;
 
     ghost done = { λ copy. HasCopied R.File.remaining file_disk copy.size copy.target.sync };
@@ -56,13 +62,14 @@ impl<'a, R: Files + AllocGlobal, P: Meter + Drop, H: Holder + Drop> Command<R> f
 
     fn run<O: Write>(self, rt: &R, out: &mut O) -> Result<(), CopyRefusal> {
         let mut target = self.target;
-        copy_files(rt, self.old, self.size, &mut target, out)
+        copy_files(rt, self.old, self.locking, self.size, &mut target, out)
     }
 }
 
-fn copy_files<'a, R: Files + AllocGlobal, O: Write, P: Meter, H: Holder>(
+fn copy_files<'a, R: Locks + AllocGlobal, O: Write, P: Meter, H: Holder<R::File>>(
     rt: &R,
     old: &str,
+    locking: Locking,
     size: Option<u32>,
     target: &mut Target<'a, P, H>,
     out: &mut O,
@@ -72,16 +79,18 @@ fn copy_files<'a, R: Files + AllocGlobal, O: Write, P: Meter, H: Holder>(
     ensures refused { IfErr result
         (OnCopyRefusal R.File.remaining file_disk size target.old.sync (out.new ≡ out.old)) }
 {
-    ensure_free(rt, target.path)?;
-    let mut disk = open_to_look(rt, old)?;
-    copy_from(rt, &mut disk, size, target, out)
+    ensure_free(rt, target.path, locking)?;
+    let mut disk = open_for(rt, old, Access::Look(locking))?;
+    let mode = mode_of(rt, old)?;
+    copy_from(rt, &mut disk, mode, size, target, out)
 }
 
 // Copies the image on a disk that was opened into a new file. The disk is lent, so that the proof
 // doesn't repeat its type at each exit.
-fn copy_from<'a, R: Files + AllocGlobal, O: Write, P: Meter, H: Holder>(
+fn copy_from<'a, R: Files + AllocGlobal, O: Write, P: Meter, H: Holder<R::File>>(
     rt: &R,
     disk: &mut FileDisk<R::File>,
+    mode: u32,
     size: Option<u32>,
     target: &mut Target<'a, P, H>,
     out: &mut O,
@@ -93,9 +102,9 @@ fn copy_from<'a, R: Files + AllocGlobal, O: Write, P: Meter, H: Holder>(
         (OnCopyRefusal R.File.remaining file_disk size target.old.sync (out.new ≡ out.old)) }
 {
     let size = plan_copy(rt.alloc(), disk, size)?;
-    target.hold()?;
-    let copied = fill_file(rt, disk, size, target);
-    remove_refused(rt, target.path, &copied);
+    let file = hold(target, mode)?;
+    let copied = fill_file(rt, disk, size, &file, target);
+    remove_refused(rt, target.path, &file, &copied);
     let files = copied?;
     match print_files(out, files) {
         Ok(()) => Ok(()),
@@ -103,25 +112,42 @@ fn copy_from<'a, R: Files + AllocGlobal, O: Write, P: Meter, H: Holder>(
     }
 }
 
-// Copies the image on a disk into the file, which is held, with so many blocks. How many files it has.
+// Copies the image on a disk into the file, which is held, with so many blocks, and syncs its folder
+// where that is asked for. How many files it has.
 fn fill_file<'a, R: Files + AllocGlobal, P: Meter, H>(
     rt: &R,
     disk: &mut FileDisk<R::File>,
     size: u32,
+    file: &R::File,
     target: &mut Target<'a, P, H>,
 ) -> Result<u32, CopyRefusal>
     ensures filled { IfOk result (HasFilled file_disk size target.old.sync disk.old) }
     ensures refused { IfErr result (IsUnmade file_disk size disk.old disk.new) }
 {
-    match FileDisk::create(rt, target.path, size) {
-        Ok(new) => match fill(
-            rt.alloc(),
-            disk,
-            new,
-            size,
-            target.sync,
-            &mut target.progress,
-        ) {
+    let path = target.path;
+    let sync = target.sync;
+    match fill_disk(rt.alloc(), disk, size, file, target) {
+        Ok(files) => match sync_folder(rt, path, sync) {
+            Ok(()) => Ok(files),
+            Err(fault) => Err(CopyRefusal::File(fault)),
+        },
+        Err(refusal) => Err(refusal),
+    }
+}
+
+// Copies the image on a disk into the file, which is held, with so many blocks. How many files it has.
+fn fill_disk<'a, F: Read + Write + Seek + OpenFile + Drop, P: Meter, H>(
+    alloc: Global,
+    disk: &mut FileDisk<F>,
+    size: u32,
+    file: &F,
+    target: &mut Target<'a, P, H>,
+) -> Result<u32, CopyRefusal>
+    ensures filled { IfOk result (HasFilled file_disk size target.old.sync disk.old) }
+    ensures refused { IfErr result (IsUnmade file_disk size disk.old disk.new) }
+{
+    match zeroes_in(alloc, file, size) {
+        Ok(new) => match fill(alloc, disk, new, size, target.sync, &mut target.progress) {
             Ok(files) => Ok(files),
             Err(fault) => Err(CopyRefusal::Of(fault)),
         },

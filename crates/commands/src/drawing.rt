@@ -4,15 +4,13 @@ ghost use Rattle.std.specs.Io.KnownBytes.{Appends};
 ghost use Rattle.commands.specs.Pictures.{IsDrawn, picture_telling};
 
 use crate::holding::Holder;
-use crate::making::{MakesThere, make_in_place};
+use crate::replacing::{MakesThere, make_in_place};
 use blocks::FileFault;
 use cmd::OnFile;
 use messages::{Reason, Told};
 use pictures::Picture;
 use std::alloc::Global;
-use std::fs::File;
-use std::io;
-use std::io::{BufWriter, ErrorKind, Write};
+use std::io::{BufWriter, Write};
 use std::rt::Files;
 
 // How many bytes of a picture are held back.
@@ -44,7 +42,7 @@ impl Reason for PictureFault {
 /// # Errors
 ///
 /// `File` with a fault of `make_in_place`; `Write` where the picture can't be written.
-pub fn draw<R: Files + AllocGlobal, P: Picture, H: Holder>(
+pub fn draw<R: Files + AllocGlobal, P: Picture, H: Holder<R::File>>(
     rt: &R,
     path: &str,
     picture: &P,
@@ -83,13 +81,10 @@ impl<'a, R: Files + AllocGlobal, P: Picture> MakesThere<R> for Drawing<'a, P> {
 
     ghost files = { λ drawing fault. tt };
 
-    fn make_there(&self, rt: &R, path: &str) -> Result<(), OnFile<Unflushed>> {
-        match File::create(rt, path) {
-            Ok(file) => match write_into(rt.alloc(), file, self.0) {
-                Ok(_written) => Ok(()),
-                Err(fault) => Err(fault),
-            },
-            Err(error) => Err(OnFile::File(fault_of(error))),
+    fn make_there(&self, rt: &R, file: R::File) -> Result<(), OnFile<Unflushed>> {
+        match write_into(rt.alloc(), file, self.0) {
+            Ok(_written) => Ok(()),
+            Err(fault) => Err(fault),
         }
     }
 }
@@ -113,12 +108,5 @@ fn write_into<F: Write + Drop, P: Picture>(
             Err(_unflushed) => Err(OnFile::Of(Unflushed)),
         },
         Err(_unwritten) => Err(OnFile::Of(Unflushed)),
-    }
-}
-
-fn fault_of(error: io::Error) -> FileFault {
-    match error.kind() {
-        ErrorKind::OutOfMemory => FileFault::NoMemory,
-        _ => FileFault::Open,
     }
 }

@@ -23,6 +23,7 @@ use crate::picture_teller::PictureTeller;
 use crate::runs::{Replay, ReplayFilesRefusal, read_replay, replay_files};
 use crate::scene::Scene;
 use blocks::{Block, NoMemory};
+use cmd::Locks;
 use messages::{Detail, Meter, Reason, Told};
 use pictures::{Frame, MOST_COLUMNS, Recorder, Timeline};
 use std::alloc::Global;
@@ -65,7 +66,7 @@ impl Reason for PicturedRefusal {
 /// # Errors
 ///
 /// As those of `replay_pictured`.
-pub fn replay_into<R: Files + AllocGlobal, P: Meter, H: Holder, O: Write>(
+pub fn replay_into<R: Locks + AllocGlobal, P: Meter, H: Holder<R::File>, O: Write>(
     rt: &R,
     replay: Replay<'_>,
     picture: Option<&str>,
@@ -102,7 +103,7 @@ pub fn replay_into<R: Files + AllocGlobal, P: Meter, H: Holder, O: Write>(
 /// was drawn. With the others the replay was made and printed: `TooLong` where it has more steps than
 /// `MOST_COLUMNS`; `Unfiled` where memory to make it once more is refused; `Picture` with a fault of
 /// `draw`. With all but `Picture` the holder is as it was.
-pub fn replay_pictured<R: Files + AllocGlobal, P: Meter, H: Holder, O: Write>(
+pub fn replay_pictured<R: Locks + AllocGlobal, P: Meter, H: Holder<R::File>, O: Write>(
     rt: &R,
     replay: Replay<'_>,
     picture: &str,
@@ -139,7 +140,7 @@ fn take_room(alloc: Global, detail: Detail) -> Result<(PictureTeller, Block), No
 }
 
 // Replays a script, whose turns the teller hears of. The block is room for a superblock.
-fn replay_heard<R: Files + AllocGlobal, P: Meter, O: Write>(
+fn replay_heard<R: Locks + AllocGlobal, P: Meter, O: Write>(
     rt: &R,
     replay: Replay<'_>,
     teller: &mut PictureTeller,
@@ -173,7 +174,7 @@ fn replay_heard<R: Files + AllocGlobal, P: Meter, O: Write>(
 }
 
 // Draws the steps of a run.
-fn draw_run<R: Files + AllocGlobal, H: Holder>(
+fn draw_run<R: Files + AllocGlobal, H: Holder<R::File>>(
     rt: &R,
     path: &str,
     scene: &Scene,

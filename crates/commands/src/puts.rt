@@ -3,7 +3,7 @@ ghost use Rattle.commands.specs.Puts.{HasPut, IsUnputOver, OnPutRefusal, PutsOve
 
 use crate::refused::{PutFileRefusal, ReadFault};
 use blocks::Disk;
-use cmd::{Access, Command, DiskCommand, OverFile};
+use cmd::{Access, Command, DiskCommand, Locking, Locks, OverFile};
 use layout::greatest_size;
 use messages::Meter;
 use model::types::Form;
@@ -32,11 +32,13 @@ pub struct Put<'a, P> {
     pub sync: bool,
     /// Whether it is synced at the end.
     pub last: bool,
+    /// How its lock is taken, once the bytes are read.
+    pub locking: Locking,
     /// Who is told how far the put is.
     pub progress: P,
 }
 
-impl<'a, R: Files + AllocGlobal, P: Meter + Drop> Command<R> for Put<'a, P> {
+impl<'a, R: Locks + AllocGlobal, P: Meter + Drop> Command<R> for Put<'a, P> {
     type Refusal = PutFileRefusal;
 
     ghost done = { λ put. HasPut R.File.remaining put.inum put.sync put.last };
@@ -52,7 +54,10 @@ impl<'a, R: Files + AllocGlobal, P: Meter + Drop> Command<R> for Put<'a, P> {
             last: self.last,
             progress: self.progress,
         };
-        let access = Access::Change { sync: self.sync };
+        let access = Access::Change {
+            sync: self.sync,
+            locking: self.locking,
+        };
         match OverFile(self.image, access, put).run(rt, out) {
             Ok(()) => Ok(()),
             Err(refusal) => Err(PutFileRefusal::Of(refusal)),

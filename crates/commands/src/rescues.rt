@@ -15,13 +15,14 @@ ghost use Rattle.transfer.specs.Rescues.{IsUnopened};
 
 use crate::holding::Holder;
 use crate::refused::CopyRefusal;
-use crate::targets::{Target, ensure_free, remove_refused};
+use crate::targets::{Target, ensure_free, hold, mode_of, remove_refused, sync_folder, zeroes_in};
 use blocks::{Block, Disk, FileDisk};
-use cmd::{Command, open_to_look};
+use cmd::{Access, Command, Locking, Locks, open_for};
 use messages::{Meter, print_rescued};
 use offline::Recovered;
 use std::alloc::Global;
-use std::io::Write;
+use std::fs::OpenFile;
+use std::io::{Read, Seek, Write};
 use std::rt::Files;
 use transfer::{CopyFault, Rescued, rescue};
 
@@ -34,11 +35,13 @@ use transfer::{CopyFault, Rescued, rescue};
 pub struct Rescue<'a, P, H> {
     /// The path of the old image.
     pub old: &'a str,
+    /// How its lock is taken.
+    pub locking: Locking,
     /// Where the new one is made.
     pub target: Target<'a, P, H>,
 }
 
-impl<'a, R: Files + AllocGlobal, P: Meter + Drop, H: Holder + Drop> Command<R>
+impl<'a, R: Locks + AllocGlobal, P: Meter + Drop, H: Holder<R::File> + Drop> Command<R>
     for Rescue<'a, P, H> {
     type Refusal = CopyRefusal;
 
@@ -49,13 +52,14 @@ impl<'a, R: Files + AllocGlobal, P: Meter + Drop, H: Holder + Drop> Command<R>
 
     fn run<O: Write>(self, rt: &R, out: &mut O) -> Result<(), CopyRefusal> {
         let mut target = self.target;
-        rescue_files(rt, self.old, &mut target, out)
+        rescue_files(rt, self.old, self.locking, &mut target, out)
     }
 }
 
-fn rescue_files<'a, R: Files + AllocGlobal, O: Write, P: Meter, H: Holder>(
+fn rescue_files<'a, R: Locks + AllocGlobal, O: Write, P: Meter, H: Holder<R::File>>(
     rt: &R,
     old: &str,
+    locking: Locking,
     target: &mut Target<'a, P, H>,
     out: &mut O,
 ) -> Result<(), CopyRefusal>
@@ -64,16 +68,18 @@ fn rescue_files<'a, R: Files + AllocGlobal, O: Write, P: Meter, H: Holder>(
     ensures refused { IfErr result
         (OnRescueRefusal R.File.remaining file_disk target.old.sync (out.new ≡ out.old)) }
 {
-    ensure_free(rt, target.path)?;
-    let mut disk = open_to_look(rt, old)?;
-    rescue_from(rt, &mut disk, target, out)
+    ensure_free(rt, target.path, locking)?;
+    let mut disk = open_for(rt, old, Access::Look(locking))?;
+    let mode = mode_of(rt, old)?;
+    rescue_from(rt, &mut disk, mode, target, out)
 }
 
 // Rescues the files of the image on a disk that was opened into a new file. The disk is lent, so that
 // the proof doesn't repeat its type at each exit.
-fn rescue_from<'a, R: Files + AllocGlobal, O: Write, P: Meter, H: Holder>(
+fn rescue_from<'a, R: Files + AllocGlobal, O: Write, P: Meter, H: Holder<R::File>>(
     rt: &R,
     disk: &mut FileDisk<R::File>,
+    mode: u32,
     target: &mut Target<'a, P, H>,
     out: &mut O,
 ) -> Result<(), CopyRefusal>
@@ -84,9 +90,9 @@ fn rescue_from<'a, R: Files + AllocGlobal, O: Write, P: Meter, H: Holder>(
         (OnRescueRefusal R.File.remaining file_disk target.old.sync (out.new ≡ out.old)) }
 {
     plan_rescue(rt.alloc(), disk)?;
-    target.hold()?;
-    let rescued = fill_file(rt, disk, target);
-    remove_refused(rt, target.path, &rescued);
+    let file = hold(target, mode)?;
+    let rescued = fill_file(rt, disk, &file, target);
+    remove_refused(rt, target.path, &file, &rescued);
     let told = rescued?;
     match print_rescued(out, told.clean.as_slice(), told.left.as_slice()) {
         Ok(()) => Ok(()),
@@ -94,17 +100,40 @@ fn rescue_from<'a, R: Files + AllocGlobal, O: Write, P: Meter, H: Holder>(
     }
 }
 
-// Rescues the files of the image on a disk into the file, which is held.
+// Rescues the files of the image on a disk into the file, which is held, and syncs its folder where that
+// is asked for.
 fn fill_file<'a, R: Files + AllocGlobal, P: Meter, H>(
     rt: &R,
     disk: &mut FileDisk<R::File>,
+    file: &R::File,
     target: &mut Target<'a, P, H>,
 ) -> Result<Rescued, CopyRefusal>
     ensures filled { IfOk result (HasFilledRescue file_disk target.old.sync disk.old) }
     ensures refused { IfErr result (IsUnmadeRescue file_disk disk.old disk.new) }
 {
-    match FileDisk::create(rt, target.path, disk.size()) {
-        Ok(new) => match fill(rt.alloc(), disk, new, target.sync, &mut target.progress) {
+    let path = target.path;
+    let sync = target.sync;
+    match fill_disk(rt.alloc(), disk, file, target) {
+        Ok(told) => match sync_folder(rt, path, sync) {
+            Ok(()) => Ok(told),
+            Err(fault) => Err(CopyRefusal::File(fault)),
+        },
+        Err(refusal) => Err(refusal),
+    }
+}
+
+// Rescues the files of the image on a disk into the file, which is held.
+fn fill_disk<'a, F: Read + Write + Seek + OpenFile + Drop, P: Meter, H>(
+    alloc: Global,
+    disk: &mut FileDisk<F>,
+    file: &F,
+    target: &mut Target<'a, P, H>,
+) -> Result<Rescued, CopyRefusal>
+    ensures filled { IfOk result (HasFilledRescue file_disk target.old.sync disk.old) }
+    ensures refused { IfErr result (IsUnmadeRescue file_disk disk.old disk.new) }
+{
+    match zeroes_in(alloc, file, disk.size()) {
+        Ok(new) => match fill(alloc, disk, new, target.sync, &mut target.progress) {
             Ok(told) => Ok(told),
             Err(fault) => Err(CopyRefusal::Of(fault)),
         },

@@ -7,13 +7,13 @@ ghost use Rattle.commands.specs.Runs.{IsNotRun, IsReplayed, IsRun, IsScenario, I
 
 use crate::inputs::{schedule_from, script_from};
 use blocks::{FileDisk, FileFault};
-use cmd::open;
+use cmd::{Access, Locking, Locks, open_for};
 use messages::{Detail, Meter, Reason, Told};
 use player::{ReplayRefusal, Scenario, replay_disk};
 use runner::{RunRefusal, run_disk};
 use scripts::{ScheduleFault, ScriptFault, processes};
 use std::io::Write;
-use std::rt::{Clock, Files};
+use std::rt::Clock;
 use std::sync::Wait;
 use std::thread::Threads;
 
@@ -79,6 +79,8 @@ pub struct Replay<'a> {
     pub stop: Option<u64>,
     /// Whether the file is a disk that holds writes back, and is synced.
     pub sync: bool,
+    /// How its lock is taken, once script and schedule are read.
+    pub locking: Locking,
     /// What is told of the steps.
     pub detail: Detail,
 }
@@ -90,7 +92,7 @@ pub struct Replay<'a> {
 ///
 /// A fault of the script, then of the schedule, then of `FileDisk::open`, then a refusal of
 /// `replay_disk`.
-pub fn replay_files<R: Files + AllocGlobal, P: Meter, O: Write>(
+pub fn replay_files<R: Locks + AllocGlobal, P: Meter, O: Write>(
     rt: &R,
     replay: Replay<'_>,
     progress: &mut P,
@@ -115,7 +117,7 @@ pub fn replay_files<R: Files + AllocGlobal, P: Meter, O: Write>(
 }
 
 // What is replayed, read from its files, and the disk in the file of its image.
-pub(crate) fn read_replay<R: Files + AllocGlobal>(
+pub(crate) fn read_replay<R: Locks + AllocGlobal>(
     rt: &R,
     replay: Replay<'_>,
 ) -> Result<(Scenario, FileDisk<R::File>), ReplayFilesRefusal>
@@ -135,7 +137,11 @@ pub(crate) fn read_replay<R: Files + AllocGlobal>(
         words,
         stop: replay.stop,
     };
-    match open(rt, replay.image, replay.sync) {
+    let access = Access::Change {
+        sync: replay.sync,
+        locking: replay.locking,
+    };
+    match open_for(rt, replay.image, access) {
         Ok(disk) => Ok((scenario, disk)),
         Err(fault) => Err(ReplayFilesRefusal::File(fault)),
     }
@@ -148,12 +154,13 @@ pub(crate) fn read_replay<R: Files + AllocGlobal>(
 /// # Errors
 ///
 /// A fault of the script, then of `FileDisk::open`, then a refusal of `run_disk`.
-pub fn run_files<R: Files + AllocGlobal + Threads + Wait + Clock + Sync, O: Write>(
+pub fn run_files<R: Locks + AllocGlobal + Threads + Wait + Clock + Sync, O: Write>(
     rt: &R,
     image: &str,
     script: &str,
     workers: u32,
     sync: bool,
+    locking: Locking,
     out: &mut O,
 ) -> Result<(), RunFilesRefusal>
 where
@@ -166,7 +173,7 @@ where
 {
     let tasks = script_from(rt, script).map_err(RunFilesRefusal::Script)?;
     let processes = processes(tasks.as_slice());
-    let disk = match open(rt, image, sync) {
+    let disk = match open_for(rt, image, Access::Change { sync, locking }) {
         Ok(disk) => disk,
         Err(fault) => return Err(RunFilesRefusal::File(fault)),
     };

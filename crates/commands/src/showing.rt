@@ -9,7 +9,7 @@ ghost use Rattle.commands.specs.Shown.{IsShownInto, IsUnshown, shown_telling};
 use crate::drawing::{PictureFault, draw};
 use crate::holding::Holder;
 use blocks::FileDisk;
-use cmd::{Command, OnFile, open_to_look};
+use cmd::{Access, Command, Locking, Locks, OnFile, open_for};
 use inspect::{ShowRefusal, show_cells};
 use messages::{Reason, Told};
 use pictures::{Cell, Cells};
@@ -44,13 +44,15 @@ impl Reason for ShowPictureRefusal {
 pub struct ShowPicture<'a, H> {
     /// The path of the image's file.
     pub image: &'a str,
+    /// How its lock is taken.
+    pub locking: Locking,
     /// That of the picture's.
     pub picture: &'a str,
     /// Who holds the files that are made.
     pub holder: H,
 }
 
-impl<'a, R: Files + AllocGlobal, H: Holder + Drop> Command<R> for ShowPicture<'a, H> {
+impl<'a, R: Locks + AllocGlobal, H: Holder<R::File> + Drop> Command<R> for ShowPicture<'a, H> {
     type Refusal = ShowPictureRefusal;
 
     ghost done = { λ show. IsShownInto R.File.remaining R.File.contents };
@@ -59,7 +61,7 @@ impl<'a, R: Files + AllocGlobal, H: Holder + Drop> Command<R> for ShowPicture<'a
 
     fn run<O: Write>(self, rt: &R, out: &mut O) -> Result<(), ShowPictureRefusal> {
         let mut holder = self.holder;
-        match open_to_look(rt, self.image) {
+        match open_for(rt, self.image, Access::Look(self.locking)) {
             Ok(mut disk) => show_from(rt, &mut disk, self.picture, &mut holder, out),
             Err(fault) => Err(ShowPictureRefusal::Show(OnFile::File(fault))),
         }
@@ -67,7 +69,7 @@ impl<'a, R: Files + AllocGlobal, H: Holder + Drop> Command<R> for ShowPicture<'a
 }
 
 // Prints the blocks of the image on a disk that was opened, and draws them.
-fn show_from<R: Files + AllocGlobal, H: Holder, O: Write>(
+fn show_from<R: Files + AllocGlobal, H: Holder<R::File>, O: Write>(
     rt: &R,
     disk: &mut FileDisk<R::File>,
     picture: &str,
@@ -90,7 +92,7 @@ fn show_from<R: Files + AllocGlobal, H: Holder, O: Write>(
 }
 
 // Draws these blocks.
-fn draw_cells<R: Files + AllocGlobal, H: Holder>(
+fn draw_cells<R: Files + AllocGlobal, H: Holder<R::File>>(
     rt: &R,
     path: &str,
     cells: &[Cell],

@@ -4,6 +4,8 @@ ghost use Rattle.std.specs.Prelude.{◌≤◌};
 use cli::arguments;
 use cli::arguments::WordsFault;
 use cmd::{InputFault, end, input_unread};
+use messages::print_last;
+use std::fs::File;
 use std::io::{BufWriter, IsTerminal, Stdout, Write};
 
 // How many bytes of the output are held back where that is no terminal: ten times the digits of the
@@ -17,6 +19,15 @@ pub enum Unbegun {
     NotUtf8,
     /// Memory was refused.
     Input(InputFault),
+}
+
+/// A file of nothing, opened to be read, which takes the least number that is free, until it goes.
+pub fn take_number(rt: &HostRuntime) -> Option<File> {
+    match File::open(rt, "/dev/null") {
+        Ok(file) => Some(file),
+        // A system without devices has a root folder.
+        Err(_) => File::open(rt, "/").ok(),
+    }
 }
 
 /// The words that the program was started with, and its output, which is held back up to the end of
@@ -50,5 +61,16 @@ pub fn end_unbegun<E: Write>(program: &str, unbegun: Unbegun, err: &mut E) -> u8
             let _unwritten = err.write_all(b"error: an argument isn't UTF-8\n");
             2
         }
+    }
+}
+
+/// Says on a terminal that its lines are taken as those of commands of the program of that name, and how
+/// they end, as far as that can be written. Elsewhere it says nothing.
+pub fn greet<I: IsTerminal, E: Write>(program: &str, input: &I, err: &mut E) {
+    if input.is_terminal() {
+        let _unwritten = print_last(
+            err,
+            format_args!("{program}: a command a line, up to Ctrl-D; {program} help tells them\n"),
+        );
     }
 }

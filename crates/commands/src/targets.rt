@@ -1,11 +1,18 @@
 // The new file in which a command makes an image.
-ghost use Rattle.std.specs.Prelude.{◌≡◌, IfErr};
+ghost use Rattle.std.specs.Prelude.{◌≡◌, ◌≢◌, IfErr, IfOk};
+ghost use Rattle.blocks.specs.FileDisk.{IsZeroed};
 ghost use Rattle.commands.specs.Copies.{IsOfPath};
 
 use crate::holding::Holder;
+use crate::keeper::stays;
 use crate::refused::CopyRefusal;
-use blocks::FileFault;
-use std::fs::{exists, remove_file};
+use blocks::{Disk, FileDisk, FileFault};
+use cmd::{Locking, Locks, fault_of, is_at};
+use std::alloc::Global;
+use std::fs::{File, OpenFile, metadata, remove_file, symlink_metadata};
+use std::io::{ErrorKind, Read, Seek, Write};
+use std::os::unix::fs::PermissionsExt;
+use std::path::Path;
 use std::rt::Files;
 
 /// A file that is to be new, in which an image is made.
@@ -21,33 +28,89 @@ pub struct Target<'a, P, H> {
     pub holder: H,
 }
 
-impl<'a, P, H: Holder> Target<'a, P, H> {
-    // Makes the file, empty, where nothing has its name, and holds it.
-    pub fn hold(&mut self) -> Result<(), CopyRefusal>
-        ensures sync { self.new.sync ≡ self.old.sync }
-        ensures refused { IfErr result IsOfPath }
-    {
-        match self.holder.hold_new(self.path) {
-            Ok(()) => Ok(()),
-            Err(FileFault::Exists | FileFault::Locked) => Err(CopyRefusal::Exists),
-            Err(fault) => Err(CopyRefusal::File(fault)),
-        }
-    }
-}
-
-// Refuses a path where there is a file.
-pub fn ensure_free<R: Files>(rt: &R, path: &str) -> Result<(), CopyRefusal>
+// Makes the file of a target, empty, where nothing has its name, and holds it. Others may use it as this
+// mode lets them, and the system's mask.
+pub fn hold<'a, F, P, H: Holder<F>>(
+    target: &mut Target<'a, P, H>,
+    mode: u32,
+) -> Result<F, CopyRefusal>
+    ensures sync { target.new.sync ≡ target.old.sync }
     ensures refused { IfErr result IsOfPath }
 {
-    match exists(rt, path) {
-        Ok(true) => Err(CopyRefusal::Exists),
-        _ => Ok(()),
+    match target.holder.hold_new(target.path, mode) {
+        Ok(file) => Ok(file),
+        Err(FileFault::Exists | FileFault::Locked) => Err(CopyRefusal::Exists),
+        Err(fault) => Err(CopyRefusal::File(fault)),
     }
 }
 
-// Takes the file at the path away where no image was made in it.
-pub fn remove_refused<R: Files, T, E>(rt: &R, path: &str, made: &Result<T, E>) {
-    if made.is_err() {
+// Refuses a path where something is, or is still once no other program has it, where that is waited for.
+pub fn ensure_free<R: Locks>(rt: &R, path: &str, locking: Locking) -> Result<(), CopyRefusal>
+    ensures refused { IfErr result IsOfPath }
+{
+    if symlink_metadata(rt, path).is_err() {
+        return Ok(());
+    }
+    match locking {
+        Locking::Wait => match stays(rt, path) {
+            Ok(true) => Err(CopyRefusal::Exists),
+            Ok(false) => Ok(()),
+            Err(fault) => Err(CopyRefusal::File(fault)),
+        },
+        _ => Err(CopyRefusal::Exists),
+    }
+}
+
+// A disk of so many blocks of zeroes in a file, over another handle of it.
+pub fn zeroes_in<F: Read + Write + Seek + OpenFile + Drop>(
+    alloc: Global,
+    file: &F,
+    size: u32,
+) -> Result<FileDisk<F>, FileFault>
+    ensures made { IfOk result (IsZeroed size ⟦<FileDisk<F> as Disk>⟧) }
+    ensures err { IfErr result (λ fault. fault ≢ FileFault.Length) }
+{
+    match file.try_clone() {
+        Ok(own) => FileDisk::zeroed(alloc, own, size),
+        Err(error) => Err(fault_of(error)),
+    }
+}
+
+// What others may do with a copy of the file at a path: what they may with that.
+pub fn mode_of<R: Files>(rt: &R, path: &str) -> Result<u32, CopyRefusal>
+    ensures refused { IfErr result IsOfPath }
+{
+    match metadata(rt, path) {
+        Ok(found) => Ok(found.permissions().mode() & 0o777),
+        Err(error) => Err(CopyRefusal::File(fault_of(error))),
+    }
+}
+
+// Takes a file that is held away from its path, if it is still there, where nothing was made in it.
+pub fn remove_refused<R: Files, T, E>(rt: &R, path: &str, file: &R::File, made: &Result<T, E>) {
+    if made.is_err() && matches!(is_at(rt, file, path), Ok(true)) {
         let _gone = remove_file(rt, path);
+    }
+}
+
+// Syncs the folder that has a name where that is asked for, as far as the system does that: a folder
+// that may not be read, or of a file system that syncs none, is left alone.
+pub fn sync_folder<R: Files>(rt: &R, name: &str, sync: bool) -> Result<(), FileFault> {
+    if !sync {
+        return Ok(());
+    }
+    let folder = match Path::new(name).parent() {
+        Some(folder) if !folder.as_str().is_empty() => folder.as_str(),
+        _ => ".",
+    };
+    let Ok(opened) = File::open(rt, folder) else {
+        return Ok(());
+    };
+    match opened.sync_all() {
+        Ok(()) => Ok(()),
+        Err(error) => match error.kind() {
+            ErrorKind::InvalidInput | ErrorKind::Unsupported => Ok(()),
+            _ => Err(FileFault::Open),
+        },
     }
 }

@@ -97,7 +97,7 @@ is_made TaskProgress.Over = true
 is_made (TaskProgress.Sleeping why) = false
 is_made (TaskProgress.Fault fault) = false
 
--- a step reads one block at most, and writes none
+-- a step only reads; how often isn't said
 pub record Reads {D N : Type 0} (disk : Ghosts D N) (old : StoreState D) (r : TaskProgress)
     (new : StoreState D) : Type 0 where
   pub device : OnlyReads disk old.volume.device new.volume.device

@@ -6,3 +6,4 @@ pub mod TextLemmas
 pub mod FileLemmas
 pub mod BeginningLemmas
 pub mod LogLemmas
+pub mod QuotingLemmas

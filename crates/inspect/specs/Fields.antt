@@ -21,11 +21,11 @@ exactly name found wanted = from_to name found wanted wanted
 -- those of a superblock in an image of that many blocks
 abbrev pub fields_of : Super → ℕ → List Field
 fields_of sup block_count =
-    exactly Size sup.size block_count
+    exactly Nlog sup.nlog log_blocks
+    ∷ exactly Size sup.size block_count
     ∷ from_to Ninodes sup.ninodes 2 most_inodes
     ∷ from_to Size sup.size (meta_count sup.size sup.ninodes + 1) most_blocks
     ∷ exactly Nblocks sup.nblocks (sup.size - meta_count sup.size sup.ninodes)
-    ∷ exactly Nlog sup.nlog log_blocks
     ∷ exactly Logstart sup.logstart log_start
     ∷ exactly Inodestart sup.inodestart inode_start
     ∷ exactly Bmapstart sup.bmapstart (bitmap_block sup.ninodes)

@@ -1,13 +1,18 @@
 // What more there is to say of a refusal.
+use crate::faulty::wrong_inode;
 use crate::fields::{wrong_geometry, wrong_magic};
 use crate::given::Given;
-use crate::paths::{length_of, opening_error, reading_error, with_phrase, with_words};
+use crate::paths::{length_of, opening_error, reading_error, whole_error, with_phrase, with_words};
+use crate::phrases::{fault_phrase, input_phrase, names_phrase, recover_phrase, run_phrase};
+use crate::quoting::quoted;
 use crate::room::{room_to_copy, room_to_put, too_big};
 use crate::standing::standing;
 use crate::texts::{bad_line, bad_word};
 use layout::{MOST_BLOCKS, meta_count};
 use messages::print_last;
 use pictures::MOST_COLUMNS;
+use scripts::{SCHEDULE_LIMIT, SCRIPT_LIMIT};
+use std::alloc::Global;
 use std::fs::metadata;
 use std::io::{ErrorKind, Write};
 use std::path::Path;
@@ -18,13 +23,15 @@ use std::rt::Files;
 struct Refusal<'a> {
     layer: &'a str,
     number: u32,
+    name: &'a str,
     argument: Option<u32>,
 }
 
 /// Says more of a refusal, in one line, as far as looking once more tells it and memory is given: the
-/// path with the system's words; the number of a superblock, the line or the word that is objected to,
-/// with what it has to be; the blocks that are needed, and those that are free; where bytes were
-/// being put, which files have them; where a check of stops met a mismatch; and how much is drawn.
+/// path in quotes, with the system's words; the number of a superblock or an inode, the line or the word
+/// that is objected to, with what it has to be; the blocks that are needed, and those that are free;
+/// where bytes were being put, which files have them; which disk failed; where a check of stops met a
+/// mismatch; and how much is drawn.
 ///
 /// By its code it reads files, and writes to `err` alone. What it finds is so when it looks.
 pub fn explain<R: Files + AllocGlobal, E: Write>(
@@ -40,22 +47,50 @@ pub fn explain<R: Files + AllocGlobal, E: Write>(
 
 fn explanation<R: Files + AllocGlobal>(rt: &R, given: &Given<'_>, line: &[u8]) -> Option<String> {
     let refusal = refusal_in(line)?;
+    match of_layer(rt, given, refusal) {
+        Some(text) => Some(text),
+        None => of_memory(rt.alloc(), given, refusal.name),
+    }
+}
+
+fn of_layer<R: Files + AllocGlobal>(
+    rt: &R,
+    given: &Given<'_>,
+    refusal: Refusal<'_>,
+) -> Option<String> {
     match refusal.layer {
         "file" => of_file(rt, given, refusal.number),
-        "check" => of_image(rt, given, refusal.number),
+        "check" => of_image(rt, given, refusal),
         "script" => of_script(rt, given, refusal),
         "schedule" => of_schedule(rt, given, refusal),
         "cat" | "show" => of_number(rt, given, refusal.number),
         "put" => of_put(rt, given, refusal.number),
         "copy" => of_copy(rt, given, refusal.number),
         "mkfs" => of_making(rt, given, refusal.number),
-        "disk" => of_disk(rt, given),
+        "disk" => of_disk(rt, given, refusal),
         "names" => with_phrase(rt.alloc(), given.name?, names_phrase(refusal.number)?),
-        "recover" | "open" | "output" => standing(rt, given),
+        "recover" | "open" => of_opening(rt, given, refusal),
+        "output" => of_output(rt, given),
+        "run" => with_phrase(rt.alloc(), given.image?, run_phrase(refusal.number)?),
+        "input" => bare(rt.alloc(), input_phrase(refusal.number)?),
         "stops" => of_stops(rt, given, refusal.number),
         "picture" => of_picture(rt, given, refusal.number),
         _ => None,
     }
+}
+
+// Of memory that was refused: all that is known is for what.
+fn of_memory(alloc: Global, given: &Given<'_>, name: &str) -> Option<String> {
+    if name != "NoMemory" {
+        return None;
+    }
+    let path = given.image.or(given.made).or(given.script)?;
+    with_phrase(alloc, path, "memory was refused")
+}
+
+// What is said where there is no path.
+fn bare(alloc: Global, phrase: &str) -> Option<String> {
+    format!(in alloc; "{phrase}").ok()
 }
 
 // The line of a refusal: `PROGRAM: LAYER N NAME`, and a number behind that where it names something.
@@ -65,7 +100,7 @@ fn refusal_in(line: &[u8]) -> Option<Refusal<'_>> {
     let _program = words.next()?;
     let layer = words.next()?;
     let number = words.next()?.parse::<u32>().ok()?;
-    let _name = words.next()?;
+    let name = words.next()?;
     let argument = match words.next() {
         Some(word) => word.parse::<u32>().ok(),
         None => None,
@@ -73,6 +108,7 @@ fn refusal_in(line: &[u8]) -> Option<Refusal<'_>> {
     Some(Refusal {
         layer,
         number,
+        name,
         argument,
     })
 }
@@ -88,6 +124,11 @@ fn of_file<R: Files + AllocGlobal>(rt: &R, given: &Given<'_>, number: u32) -> Op
             "another program has it; --wait waits for that",
         ),
         5 => there_already(rt, given),
+        6 => with_phrase(
+            rt.alloc(),
+            given.image.or(given.made)?,
+            "the system gives no lock of it; --no-lock goes without",
+        ),
         _ => None,
     }
 }
@@ -99,13 +140,14 @@ fn there_already<R: Files + AllocGlobal>(rt: &R, given: &Given<'_>) -> Option<St
         None => with_phrase(
             rt.alloc(),
             given.made?,
-            "what has this name with .new behind it is no plain file",
+            "what has this name with .xvfs-new behind it is no file that was left",
         ),
     }
 }
 
 fn of_length<R: Files + AllocGlobal>(rt: &R, path: &str) -> Option<String> {
     let length = length_of(rt, path)?;
+    let path = quoted(rt.alloc(), path)?;
     format!(in rt.alloc(); "{path}: {length} bytes, expected 1 to 8191 blocks of 1024").ok()
 }
 
@@ -144,51 +186,34 @@ fn folder_of(path: &str) -> &str {
 }
 
 // Of an image that has a fault.
-fn of_image<R: Files + AllocGlobal>(rt: &R, given: &Given<'_>, number: u32) -> Option<String> {
+fn of_image<R: Files + AllocGlobal>(
+    rt: &R,
+    given: &Given<'_>,
+    refusal: Refusal<'_>,
+) -> Option<String> {
     let path = given.image?;
-    match number {
+    match refusal.number {
         1 => wrong_magic(rt, path),
         2 => wrong_geometry(rt, path),
-        _ => with_phrase(rt.alloc(), path, fault_phrase(number)?),
+        4..=6 => of_inode(rt, path, refusal.number, refusal.argument?),
+        10 => unread(rt, path),
+        number => with_phrase(rt.alloc(), path, fault_phrase(number)?),
     }
 }
 
-fn fault_phrase(number: u32) -> Option<&'static str> {
-    match number {
-        3 => Some("its log has more than 30 blocks, or a home outside the image's, or one twice"),
-        4 => Some("the inode's type is over 3"),
-        5 => Some("the inode's size is over that of the largest file"),
-        6 => Some("an address of the inode is missing, or is that of no data block"),
-        7 => Some("the block stands at two places"),
-        8 => Some("the block is used, and its bit is clear"),
-        9 => Some("the block's bit is set, and it stands at no place"),
-        10 => Some("a block of it can't be read"),
-        _ => None,
+// Of an inode that has a fault.
+fn of_inode<R: Files + AllocGlobal>(rt: &R, path: &str, fault: u32, number: u32) -> Option<String> {
+    match wrong_inode(rt, path, fault, number) {
+        Some(text) => Some(text),
+        None => with_phrase(rt.alloc(), path, fault_phrase(fault)?),
     }
 }
 
-// Of a path in an image.
-fn names_phrase(number: u32) -> Option<&'static str> {
-    match number {
-        1 => Some("a name of it is not there"),
-        2 => Some("a file on it, or the file itself, is no directory"),
-        3 => Some("it is a directory"),
-        4 => Some("it is there already"),
-        5 => Some("something is in the directory"),
-        6 => Some("it is the root"),
-        7 => Some("its last name is . or .."),
-        8 => Some("a name of it has more than 14 bytes"),
-        9 => Some("its directory has 192 entries, and has no room for one more"),
-        10 => Some("each number has a file"),
-        11 => Some("no block is free"),
-        12 => Some("a file of the image can't have so many bytes"),
-        13 => Some("the files of the image are no tree of directories"),
-        14 => Some("the directory would be moved into itself"),
-        15 => Some("a name of it has a zero byte"),
-        16 => Some("memory was refused"),
-        19 => Some("a name below it can't be that of a file of the system"),
-        20 => Some("another name leads to the file"),
-        _ => None,
+// Of an image in whose reading the disk failed.
+fn unread<R: Files + AllocGlobal>(rt: &R, path: &str) -> Option<String> {
+    match whole_error(rt, path) {
+        Some(error) => with_words(rt.alloc(), path, error),
+        None => with_phrase(rt.alloc(), path, "a read of it failed"),
     }
 }
 
@@ -200,14 +225,25 @@ fn of_script<R: Files + AllocGlobal>(
     let path = given.script?;
     match refusal.number {
         1 => bad_line(rt, path, refusal.argument?),
-        2 => with_phrase(
-            rt.alloc(),
-            path,
-            "it has more than 4194304 bytes, or than 10000 operations",
-        ),
+        2 => match too_long(rt, path, SCRIPT_LIMIT as u64) {
+            Some(text) => Some(text),
+            None => with_phrase(rt.alloc(), path, "it has more than 10000 operations"),
+        },
         4 => with_words(rt.alloc(), path, reading_error(rt, path)?),
         _ => None,
     }
+}
+
+// Of a file that has more than so many bytes. Of a pipe nobody knows how many it had.
+fn too_long<R: Files + AllocGlobal>(rt: &R, path: &str, most: u64) -> Option<String> {
+    let Some(length) = length_of(rt, path) else {
+        return with_phrase(rt.alloc(), path, "it has too many bytes or operations");
+    };
+    if length <= most {
+        return None;
+    }
+    let path = quoted(rt.alloc(), path)?;
+    format!(in rt.alloc(); "{path}: {length} bytes, expected {most} at most").ok()
 }
 
 fn of_schedule<R: Files + AllocGlobal>(
@@ -218,7 +254,7 @@ fn of_schedule<R: Files + AllocGlobal>(
     let path = given.schedule?;
     match refusal.number {
         1 => bad_word(rt, given, path, refusal.argument?),
-        2 => with_phrase(rt.alloc(), path, "it has more than 1048576 bytes"),
+        2 => too_long(rt, path, SCHEDULE_LIMIT as u64),
         4 => with_words(rt.alloc(), path, reading_error(rt, path)?),
         _ => None,
     }
@@ -239,7 +275,10 @@ fn of_picture<R: Files + AllocGlobal>(rt: &R, given: &Given<'_>, number: u32) ->
     let most = MOST_COLUMNS;
     match number {
         1 => with_phrase(alloc, path, "memory was refused for what it draws"),
-        2 => format!(in alloc; "{path}: at most {most} steps or stops; all else was done").ok(),
+        2 => {
+            let path = quoted(alloc, path)?;
+            format!(in alloc; "{path}: at most {most} steps or stops; all else was done").ok()
+        }
         3 => with_phrase(alloc, path, "a write to it failed; all else was done"),
         _ => None,
     }
@@ -250,7 +289,7 @@ fn of_number<R: Files + AllocGlobal>(rt: &R, given: &Given<'_>, number: u32) -> 
     if number != 1 {
         return None;
     }
-    let path = given.image?;
+    let path = quoted(rt.alloc(), given.image?)?;
     let inum = given.inum?;
     format!(in rt.alloc(); "{path}: no file has the number {inum}").ok()
 }
@@ -275,15 +314,47 @@ fn of_put<R: Files + AllocGlobal>(rt: &R, given: &Given<'_>, number: u32) -> Opt
     }
 }
 
-// Of a disk that failed.
-fn of_disk<R: Files + AllocGlobal>(rt: &R, given: &Given<'_>) -> Option<String> {
+// Of the disk of an image, which failed. Where bytes were being put, which files have them.
+fn of_disk<R: Files + AllocGlobal>(
+    rt: &R,
+    given: &Given<'_>,
+    refusal: Refusal<'_>,
+) -> Option<String> {
+    if let Some(text) = standing(rt, given) {
+        return Some(text);
+    }
+    let path = given.image.or(given.made)?;
+    match (refusal.number, refusal.argument) {
+        (1, Some(block)) => {
+            let path = quoted(rt.alloc(), path)?;
+            format!(in rt.alloc(); "{path}: a read or a write of block {block} failed").ok()
+        }
+        (2, _) => with_phrase(rt.alloc(), path, "a sync of it failed"),
+        _ => None,
+    }
+}
+
+// Of an image that isn't recovered, or over which no kernel is opened.
+fn of_opening<R: Files + AllocGlobal>(
+    rt: &R,
+    given: &Given<'_>,
+    refusal: Refusal<'_>,
+) -> Option<String> {
     match standing(rt, given) {
         Some(text) => Some(text),
         None => with_phrase(
             rt.alloc(),
-            given.image?,
-            "a read, a write or a sync of it failed",
+            given.image.or(given.made)?,
+            recover_phrase(refusal.name)?,
         ),
+    }
+}
+
+// Of an output that can't be written.
+fn of_output<R: Files + AllocGlobal>(rt: &R, given: &Given<'_>) -> Option<String> {
+    match standing(rt, given) {
+        Some(text) => Some(text),
+        None => bare(rt.alloc(), "standard output: a write to it failed"),
     }
 }
 
@@ -292,6 +363,7 @@ fn of_copy<R: Files + AllocGlobal>(rt: &R, given: &Given<'_>, number: u32) -> Op
     match number {
         2 => with_phrase(rt.alloc(), given.image?, "it is of the second form"),
         4 => room_to_copy(rt, given),
+        6 => of_two_disks(rt, given),
         7 => with_phrase(
             rt.alloc(),
             given.made?,
@@ -301,6 +373,19 @@ fn of_copy<R: Files + AllocGlobal>(rt: &R, given: &Given<'_>, number: u32) -> Op
     }
 }
 
+// Of a copy in which one of two disks failed: the old one, where it can't be read now either.
+fn of_two_disks<R: Files + AllocGlobal>(rt: &R, given: &Given<'_>) -> Option<String> {
+    let old = given.image?;
+    if let Some(error) = whole_error(rt, old) {
+        return with_words(rt.alloc(), old, error);
+    }
+    let old = quoted(rt.alloc(), old)?;
+    let new = quoted(rt.alloc(), given.made?)?;
+    format!(in rt.alloc();
+        "{new}: a write or a sync of it failed, as all of {old} can be read"
+    ).ok()
+}
+
 // Of an image that isn't made.
 fn of_making<R: Files + AllocGlobal>(rt: &R, given: &Given<'_>, number: u32) -> Option<String> {
     let path = given.made?;
@@ -308,8 +393,10 @@ fn of_making<R: Files + AllocGlobal>(rt: &R, given: &Given<'_>, number: u32) -> 
         1 => of_size(rt, given, path),
         2 => {
             let ninodes = given.ninodes?;
+            let path = quoted(rt.alloc(), path)?;
             format!(in rt.alloc(); "{path}: {ninodes} inode numbers, expected 2 to 1024").ok()
         }
+        3 => with_phrase(rt.alloc(), path, "a write or a sync of the new file failed"),
         _ => None,
     }
 }
@@ -324,5 +411,6 @@ fn of_size<R: Files + AllocGlobal>(rt: &R, given: &Given<'_>, path: &str) -> Opt
     };
     let size = given.size?;
     let least = meta_count(MOST_BLOCKS, ninodes).saturating_add(1);
+    let path = quoted(rt.alloc(), path)?;
     format!(in rt.alloc(); "{path}: {size} blocks, expected {least} to 8191").ok()
 }

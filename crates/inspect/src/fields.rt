@@ -3,6 +3,7 @@ ghost use Rattle.std.specs.Prelude.{◌≡◌, find, not};
 ghost use Rattle.inspect.specs.Fields.{exactly, fields_of, from_to, is_lawful};
 
 use crate::paths::{bytes_of, length_of, with_phrase};
+use crate::quoting::quoted;
 use blocks::BLOCK_SIZE;
 use layout::{
     Form, INODE_START, LOG_BLOCKS, LOG_START, MOST_BLOCKS, MOST_INODES, Super, bitmap_block,
@@ -40,6 +41,7 @@ pub fn wrong_magic<R: Files + AllocGlobal>(rt: &R, path: &str) -> Option<String>
     let found = superblock::magic(&bytes[BLOCK_SIZE..]);
     let first = superblock::magic_of(Form::One);
     let second = superblock::magic_of(Form::Two);
+    let path = quoted(rt.alloc(), path)?;
     format!(in rt.alloc();
         "{path}: magic 0x{found:08x}, expected 0x{first:08x} or 0x{second:08x}"
     ).ok()
@@ -59,6 +61,7 @@ pub fn wrong_geometry<R: Files + AllocGlobal>(rt: &R, path: &str) -> Option<Stri
     let found = field.found;
     let least = field.least;
     let most = field.most;
+    let path = quoted(alloc, path)?;
     if least == most {
         format!(in alloc; "{path}: {name} {found}, expected {least}").ok()
     } else {
@@ -74,8 +77,8 @@ fn wrong_field(sup: &Super, block_count: u32) -> Option<Field>
     fields.iter().copied().find(|field| !is_lawful(field))
 }
 
-// The fields of a superblock in an image of that many blocks. The numbers of inodes are judged before
-// what follows from them.
+// The fields of a superblock in an image of that many blocks. The log's size and the numbers of inodes
+// are judged before what follows from them.
 fn fields_of(sup: &Super, block_count: u32) -> [Field; 8]
     ensures { result ≡ fields_of sup.now block_count }
 {
@@ -83,11 +86,11 @@ fn fields_of(sup: &Super, block_count: u32) -> [Field; 8]
     let ninodes = sup.ninodes;
     let meta = meta_count(size, ninodes);
     [
+        exactly(Name::Nlog, sup.nlog, LOG_BLOCKS),
         exactly(Name::Size, size, block_count),
         from_to(Name::Ninodes, ninodes, 2, MOST_INODES),
         from_to(Name::Size, size, meta + 1, MOST_BLOCKS),
         exactly(Name::Nblocks, sup.nblocks, size.saturating_sub(meta)),
-        exactly(Name::Nlog, sup.nlog, LOG_BLOCKS),
         exactly(Name::Logstart, sup.logstart, LOG_START),
         exactly(Name::Inodestart, sup.inodestart, INODE_START),
         exactly(Name::Bmapstart, sup.bmapstart, bitmap_block(ninodes)),

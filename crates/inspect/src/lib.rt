@@ -6,10 +6,12 @@
 //! the command was given.
 #![tactic(auto)]
 
+mod addresses;
 mod cells;
 mod drawing;
 mod explaining;
 mod fault;
+mod faulty;
 mod fields;
 mod given;
 pub mod laws;
@@ -18,6 +20,8 @@ mod logging;
 mod looks;
 mod owned;
 mod paths;
+mod phrases;
+mod quoting;
 mod refused;
 mod room;
 mod showing;
@@ -35,5 +39,5 @@ pub use looks::{Df, Ls, Show, ShowLog};
 pub use owned::Owned;
 pub use refused::{DfRefusal, LsRefusal, ShowRefusal};
 pub use showing::show_file;
-pub use telling::{Line, tell, tell_fault};
+pub use telling::{Line, asks_more, tell, tell_fault};
 pub use usage::count_disk;

@@ -1,4 +1,7 @@
 // What the system says of paths, which are looked at once more. Nothing here writes.
+use crate::quoting::quoted;
+use blocks::BLOCK_SIZE;
+use layout::MOST_BLOCKS;
 use std::alloc::Global;
 use std::fs::{File, OpenOptions, metadata};
 use std::io;
@@ -49,6 +52,26 @@ pub fn bytes_of<R: Files + AllocGlobal>(rt: &R, path: &str, most: u64) -> Option
     Some(bytes)
 }
 
+// Why a plain file can't be read to its end, as far as an image may have blocks.
+pub fn whole_error<R: Files>(rt: &R, path: &str) -> Option<io::Error> {
+    if !is_plain(rt, path) {
+        return None;
+    }
+    let mut file = match File::open(rt, path) {
+        Ok(file) => file,
+        Err(error) => return Some(error),
+    };
+    let mut block = [0; BLOCK_SIZE];
+    for _ in 0..MOST_BLOCKS {
+        match file.read(&mut block) {
+            Ok(0) => return None,
+            Ok(_) => {}
+            Err(error) => return Some(error),
+        }
+    }
+    None
+}
+
 // How many bytes a plain file has.
 pub fn length_of<R: Files>(rt: &R, path: &str) -> Option<u64> {
     let found = metadata(rt, path).ok()?;
@@ -63,12 +86,13 @@ fn is_plain<R: Files>(rt: &R, path: &str) -> bool {
     matches!(metadata(rt, path), Ok(found) if found.is_file())
 }
 
-// A path, and what is to be said of it.
+// A path in quotes, and what is to be said of it.
 pub fn with_phrase(alloc: Global, path: &str, phrase: &str) -> Option<String> {
+    let path = quoted(alloc, path)?;
     format!(in alloc; "{path}: {phrase}").ok()
 }
 
-// A path, and the system's words for an error, without its number.
+// A path in quotes, and the system's words for an error, without its number.
 pub fn with_words(alloc: Global, path: &str, error: io::Error) -> Option<String> {
     let words = format!(in alloc; "{error}").ok()?;
     match words.as_str().split_once(" (os error ") {

@@ -10,6 +10,7 @@ ghost use Rattle.inspect.specs.Owned.{owned_by_all};
 use crate::given::Given;
 use crate::owned::owned_by_all;
 use crate::paths::{bytes_of, length_of};
+use crate::quoting::quoted;
 use blocks::{BLOCK_SIZE, Block, Disk, DiskFault};
 use cmd::open_to_look;
 use layout::{ADDRESSES_PER_BLOCK, Form, direct_count, greatest_size, plan, superblock};
@@ -55,6 +56,7 @@ pub fn too_big<R: Files + AllocGlobal>(rt: &R, given: &Given<'_>) -> Option<Stri
         return None;
     }
     let most = greatest_size(superblock::form(&bytes[BLOCK_SIZE..]));
+    let path = quoted(rt.alloc(), path)?;
     format!(in rt.alloc(); "{path}: {length} bytes, expected {most} at most").ok()
 }
 
@@ -63,6 +65,7 @@ fn told(alloc: Global, path: &str, room: Room) -> Option<String> {
     if needed <= free {
         return None;
     }
+    let path = quoted(alloc, path)?;
     format!(in alloc; "{path}: {needed} blocks are needed, {free} are free").ok()
 }
 

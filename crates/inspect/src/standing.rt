@@ -13,6 +13,7 @@ ghost use Rattle.offline.specs.Checked.{IsCheckedOf};
 use crate::fault::GatherFault;
 use crate::given::Given;
 use crate::paths::bytes_of;
+use crate::quoting::quoted;
 use blocks::{BLOCK_SIZE, Block, Disk, DiskFault};
 use cmd::open_to_look;
 use layout::{Dinode, Form, greatest_size};
@@ -39,9 +40,18 @@ pub fn standing<R: Files + AllocGlobal>(rt: &R, given: &Given<'_>) -> Option<Str
     let file = given.file?;
     let bytes = bytes_of(rt, file, greatest_size(Form::Two) as u64)?;
     let found = beginnings_in(rt, path, bytes.as_slice())?;
-    told(rt.alloc(), path, file, bytes.len(), found.as_slice())
+    let path = quoted(rt.alloc(), path)?;
+    let file = quoted(rt.alloc(), file)?;
+    told(
+        rt.alloc(),
+        path.as_str(),
+        file.as_str(),
+        bytes.len(),
+        found.as_slice(),
+    )
 }
 
+// The paths are in quotes.
 fn told(
     alloc: Global,
     path: &str,

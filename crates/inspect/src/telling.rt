@@ -6,8 +6,9 @@ use crate::explaining::explain;
 use crate::given::Given;
 use arrayvec::ArrayVec;
 use messages::{Reason, print_refusal, write_bytes};
+use std::env::{VarError, var};
 use std::io::Write;
-use std::rt::Files;
+use std::rt::{Env, Files};
 
 /// Room for the line of a refusal, and where a mismatch was met, neither of which has as many bytes.
 pub type Line = ArrayVec<u8, 400>;
@@ -60,4 +61,13 @@ pub fn tell_fault<R: Files + AllocGlobal, F: Reason + Drop, E: Write>(
     let _unwritten = print_refusal(program, &fault, &mut line);
     tell(rt, more, given, line.as_slice(), err);
     1
+}
+
+/// Whether the environment asks for more of each refusal: `XVFS_EXPLAIN` isn't empty there.
+pub fn asks_more<R: Env + AllocGlobal>(rt: &R) -> bool {
+    match var(rt, "XVFS_EXPLAIN") {
+        Ok(word) => !word.as_str().is_empty(),
+        Err(VarError::NotUnicode) => true,
+        Err(_) => false,
+    }
 }

@@ -6,6 +6,7 @@ ghost use Rattle.inspect.specs.Texts.{shown_of, visible_of};
 
 use crate::given::Given;
 use crate::paths::bytes_of;
+use crate::quoting::quoted;
 use scripts::{SCHEDULE_LIMIT, SCRIPT_LIMIT, processes, read_script};
 use std::alloc::{AllocError, Global};
 use std::rt::Files;
@@ -25,6 +26,7 @@ pub fn bad_line<R: Files + AllocGlobal>(rt: &R, path: &str, number: u32) -> Opti
     let told = shown(alloc, line)?;
     let rest = rest_sign(line);
     let forms = LINE_FORMS;
+    let path = quoted(alloc, path)?;
     format!(in alloc; "{path}:{number}: {told}{rest} (expected {forms})").ok()
 }
 
@@ -41,6 +43,7 @@ pub fn bad_word<R: Files + AllocGlobal>(
     let told = shown(alloc, word)?;
     let rest = rest_sign(word);
     let below = processes_of(rt, given.script?)?;
+    let path = quoted(alloc, path)?;
     format!(in alloc;
         "{path}: word {number}: {told}{rest} (expected P, P! or S, P below {below})"
     ).ok()

@@ -7,7 +7,7 @@ use Rattle.model.specs.Lemmas.Super.{super_of-recovered}
 use Rattle.wal.specs.declared.faults.RecoverFault.{RecoverFault}
 use Rattle.kernel.specs.Lemmas.Openings.{lawful_super}
 use Rattle.kernel.specs.Device.{SameUse, counts_of}
-use Rattle.kernel.specs.Opening.{MayWrite, IsRecoverCause}
+use Rattle.kernel.specs.Opening.{MayWrite, IsRecoverCause, UnlessDisk}
 use Rattle.kernel.specs.declared.types.OpenFault.TheVariants.{Recover}
 
 pub super_size : (x : Image) (sup : Super) → verdict x ≡ None → sup ≡ super_of x → sup.size ≡ length x
@@ -116,6 +116,14 @@ recover_unwritten T disk d e f RecoverFault.Disk reads cause same = inl tt
 recover_unwritten T disk d e f RecoverFault.BadLog reads cause same = absurd cause
 recover_unwritten T disk d e f RecoverFault.NoMemory reads cause same = inr (ap disk.image same ∙ reads.image, (ap disk.write_count same ∙ reads.writes, ap disk.sync_count same ∙ reads.syncs))
 recover_unwritten T disk d e f RecoverFault.Sync reads cause same = inl tt
+
+-- no failed call of the disk is told as anything else
+pub recover_faults : {D N : Type 0} (T : Type 0) (disk : Ghosts D N) (d e f : D) (fault : RecoverFault) → disk.fault_count e ≡ disk.fault_count d → IsRecoverCause disk d f fault → OnNoMemory {T = T} (Err fault) (f ≡ e)
+    → UnlessDisk (Recover fault) (disk.fault_count f ≡ disk.fault_count d)
+recover_faults T disk d e f RecoverFault.Disk kept cause same = tt
+recover_faults T disk d e f RecoverFault.BadLog kept cause same = absurd cause
+recover_faults T disk d e f RecoverFault.NoMemory kept cause same = ap disk.fault_count same ∙ kept
+recover_faults T disk d e f RecoverFault.Sync kept cause same = tt
 
 -- a store by its parts
 pub store_is : {D : Type 0} (v u : VolumeState D) (ts us : List TaskState) (f g : Form) (m n : ℕ) → v ≡ u → ts ≡ us → f ≡ g → m ≡ n

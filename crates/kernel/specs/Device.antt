@@ -56,8 +56,8 @@ abbrev pub FailsSo : {D : Type 0} → Phase → StoreState D → ℕ → DeviceF
 FailsSo a s p (Block fault) = fault.0 ≡ block_at_step a s p
 FailsSo a s p (Sync fault) = SyncsAt a s
 
--- a step of process p, which stands so, uses the disk of a store: it reads or writes one block at
--- most, or syncs
+-- a step of process p, which stands so, uses the disk of a store: it writes one block, or syncs, or
+-- only reads; how often it reads isn't said
 pub record UsesDisk {D N : Type 0} (disk : Ghosts D N) (a : Phase) (p : ℕ) (r : Step)
     (s t : StoreState D) : Type 0 where
   pub halted : (r ≡ Step.Halted) ↔ IsSome t.volume.fault

@@ -1,11 +1,12 @@
 -- A kernel that was opened, and why one isn't.
-use Rattle.std.specs.Prelude.{◌≡◌, ◌≤◌, ◌<◌, ◌⊎◌, ℕ, true, replicate, None}
+use Rattle.std.specs.Prelude.{◌≡◌, ◌≢◌, ◌≤◌, ◌<◌, ◌⊎◌, ⊤, ℕ, true, replicate, None}
 use Rattle.blocks.specs.Disk.{AddsOnly, HasTurned, Rose, counted}
 use Rattle.blocks.specs.Calls.{UnlessHolds}
 use Rattle.blocks.specs.declared.disk.Disk.{Ghosts}
 use Rattle.model.specs.Layout.{form_of, inode_count_of}
 use Rattle.model.specs.Log.{recovered, logged_count}
 use Rattle.model.specs.Verdict.{verdict}
+use Rattle.model.specs.declared.types.fault.CheckFault.TheVariants as check
 use Rattle.offline.specs.Cause.{IsCause}
 use Rattle.wal.specs.Recovery.{IsCalm, LeavesIfCalm, RecoversAs, syncs_to_recover, writes_to_recover}
 use Rattle.wal.specs.declared.faults.RecoverFault.{RecoverFault}
@@ -70,6 +71,16 @@ MayWrite (Recover RecoverFault.Sync) = Unit {0}
 MayWrite NoMemory = ⊥
 MayWrite ProcRange = ⊥
 
+-- P holds but where this tells that a call of the disk failed
+abbrev pub UnlessDisk : OpenFault → Type 0 → Type 0
+UnlessDisk (Check fault) P = fault ≢ check.Disk → P
+UnlessDisk (Recover RecoverFault.Disk) P = ⊤
+UnlessDisk (Recover RecoverFault.BadLog) P = P
+UnlessDisk (Recover RecoverFault.NoMemory) P = P
+UnlessDisk (Recover RecoverFault.Sync) P = ⊤
+UnlessDisk NoMemory P = P
+UnlessDisk ProcRange P = P
+
 -- the disk d is handed back as e, for that reason
 abbrev pub IsOpenCause : {D N : Type 0} → Ghosts D N → D → D → ℕ → OpenFault → Type 0
 IsOpenCause disk d e processes (Check fault) =
@@ -88,6 +99,8 @@ pub record RefusesToOpen {D N : Type 0} (disk : Ghosts D N) (d e : D) (processes
   pub cause : IsOpenCause disk d e processes fault
   pub unwritten : MayWrite fault
       ⊎ ((disk.image e ≡ disk.image d) × SameUse (counts_of disk d) (counts_of disk e))
+  -- no failed call is told as anything else
+  pub faults : UnlessDisk fault (disk.fault_count e ≡ disk.fault_count d)
   pub name : disk.name e ≡ disk.name d
   pub leaves : LeavesRecovered disk d e
   -- a disk that holds no writes back is not synced

@@ -3,31 +3,45 @@ ghost use Rattle.kernel.specs.Deeds.{DoesItsDeed};
 ghost use Rattle.kernel.specs.Causes.{MadeHasCause, NoInodeHasCause, ShortHasCause};
 ghost use Rattle.kernel.specs.Rounds.{RoundsEndAll};
 ghost use Rattle.kernel.specs.Sleeping.{SleepsForCause, SoleWaitsForAnswers, WaitsWithCause};
-ghost use Rattle.kernel.specs.Theorem.{ExactlyTheCommitted, NoneIsLost, RecoversGoing, RecoversHeld, RecoversSince, RecoversWhole, SessionKeeps};
+ghost use Rattle.kernel.specs.Theorem.{ExactlyTheCommitted, NoneIsLost, RecoversDisks, RecoversGoing, RecoversHeld, RecoversSince, RecoversStopped, RecoversWhole, SessionKeeps};
 
 use blocks::Disk;
 use ports::{Herald, Intake};
 
-/// The recovery theorem, of any kernel, whatever was done with it since it was opened. Whatever a
-/// stop at any moment since the opening began leaves, recovery makes of it a sound image whose files
-/// are those of the recovered image after exactly the changing operations of the first groups, each
-/// once in the order of their turns; each process's are a beginning of those that were taken of it;
-/// and a second recovery changes nothing. Of a disk that held writes back at first this is so from
-/// the sync on with which its recovery began. A stop since some moment of a session loses no group
+/// The recovery theorem, of any kernel, whatever was done with it since it was opened, and of
+/// whoever recovers: it speaks of images. Of whatever a stop at any moment since the opening began
+/// leaves, recovery makes a sound image whose files are those of the recovered image after exactly
+/// the changing operations of the first groups, each once in the order of their turns; each process's
+/// are a beginning of those that were taken of it; and a second recovery changes nothing. So it is
+/// where a recovery is stopped and made again. Of a disk that held writes back at first this is so
+/// from the sync on with which its recovery began. A stop since some moment of a run loses no group
 /// that was committed then; one now keeps exactly the committed groups, and one more exactly where a
-/// header got through whose write failed or whose sync is still to come. A session keeps what was
-/// committed, and behind a shutdown takes no operation.
+/// header got through whose write failed or whose sync is still to come.
 ///
-/// All that it rests on is what `Kernel::known`, `step` and `open` ensure. So there is no body of the
-/// kernel that this law alone refuses: each that breaks it is refused by one of those.
-pub fn recovery_theorem<D: Disk, I: Intake, H: Herald>()
-    ensures since { RecoversSince D.Disk I.Intake H.Herald }
-    ensures whole { RecoversWhole D.Disk I.Intake H.Herald }
-    ensures going { RecoversGoing D.Disk I.Intake H.Herald }
-    ensures held { RecoversHeld D.Disk I.Intake H.Herald }
-    ensures lost { NoneIsLost D.Disk I.Intake H.Herald }
-    ensures now { ExactlyTheCommitted D.Disk I.Intake H.Herald }
-    ensures keeps { SessionKeeps D.Disk I.Intake H.Herald }
+/// `Kernel::recovers` says it of a kernel. What `KnownStop` asks for, `Kernel::known` ensures, what
+/// `KnownOpening`, `Kernel::open`, and `RunsOn` is by `sessions_keep` and by each run. So there is no body of the kernel that this law
+/// alone refuses: each that breaks it is refused by one of those.
+pub fn recovery_theorem<D: Disk, I, H>()
+    ensures since { RecoversSince I H D.Disk }
+    ensures stopped { RecoversStopped I H D.Disk }
+    ensures whole { RecoversWhole I H D.Disk }
+    ensures going { RecoversGoing I H D.Disk }
+    ensures held { RecoversHeld I H D.Disk }
+    ensures lost { NoneIsLost I H D.Disk }
+    ensures now { ExactlyTheCommitted I H D.Disk }
+{}
+
+/// The same of each disk, of any type, that a recovery made of an image which a stop left, or which
+/// one left of its recovery: of the opening of a kernel that is opened over it, and of a disk that
+/// `wal::recover` recovered.
+pub fn recovered_disks<D: Disk, E: Disk, I, H>()
+    ensures { RecoversDisks I H D.Disk E.Disk }
+{}
+
+/// A session, any list of turns with anything handed in and fetched between them, keeps its opening
+/// and what was committed, also by a stop at any moment, and behind a shutdown takes no operation.
+pub fn sessions_keep<D: Disk, I: Intake, H: Herald>()
+    ensures { SessionKeeps D.Disk I.Intake H.Herald }
 {}
 
 /// The causes of answers that give less than was asked for, over any session in which the operation

@@ -56,7 +56,7 @@ impl<D: Disk, I: Intake, H: Herald> Kernel<D, I, H> {
     /// Hands the disk back with `ProcRange` where there are not 1 to 32 processes; with the fault
     /// of the check; with `NoMemory` where memory was refused; with the fault of the recovery. But
     /// for the last of them no block was written, and no disk was synced; nor was one ever that holds
-    /// no writes back.
+    /// no writes back. A call of the disk that failed is told as `Disk` or `Sync`.
     pub fn open(
         alloc: Global,
         mut disk: D,

@@ -58,6 +58,10 @@ impl<D: Disk, I: Intake, H: Herald> Kernel<D, I, H> {
     ghost use Rattle.kernel.specs.Acts.{Acts};
     ghost use Rattle.kernel.specs.Progress.{MakesProgress};
     ghost use Rattle.kernel.specs.State.{StopsIn};
+    ghost use Rattle.blocks.specs.Disk.{Image};
+    ghost use Rattle.model.specs.Log.{recovered};
+    ghost use Rattle.wal.specs.Recovery.{RecoversAs};
+    ghost use Rattle.kernel.specs.Theorem.{IsExact, IsRecoveredRun};
 
     /// Does nothing: it says what is known of a kernel between two steps, above all what a stop now
     /// leaves: an image that is recovered to a sound one with the opening's files after the
@@ -68,6 +72,23 @@ impl<D: Disk, I: Intake, H: Herald> Kernel<D, I, H> {
     {
         self.store.known();
         self.store.volume().cache().known();
+    }
+
+    /// THE RECOVERY THEOREM of this kernel. Does nothing: it says what recovery makes of each image
+    /// that a stop may leave, whoever recovers it: at any moment since the opening, also where that
+    /// recovery is stopped and made again, and now.
+    pub fn recovers(&self)
+        ensures since { (x : Image)
+            → D.leaves self.now.store.volume.device (D.moment self.now.opening) x
+            → IsRecoveredRun (D.image self.now.opening) 0 self.now (recovered x) }
+        ensures stopped { (x z : Image)
+            → D.leaves self.now.store.volume.device (D.moment self.now.opening) x → RecoversAs x z
+            → IsRecoveredRun (D.image self.now.opening) 0 self.now (recovered z) }
+        ensures now { (x : Image)
+            → D.leaves self.now.store.volume.device (D.moment self.now.store.volume.device) x
+            → IsExact (D.image self.now.opening) self.now x }
+    {
+        self.known();
     }
 
     /// Does nothing: it says what room there is between two steps. Where the disk hasn't failed, the log

@@ -20,10 +20,13 @@ report_text logged files =
 abbrev pub fault_line : CheckFault → List ℕ
 fault_line fault = telling_text (check_telling fault) ++ codes "\n"
 
+-- how many there are
+abbrev pub fault_count_text : ℕ → List ℕ
+fault_count_text count = codes "faults " ++ decimal count ++ codes "\n"
+
 -- faults of an image, a line each, and how many there are
 abbrev pub faults_text : List CheckFault → List ℕ
-faults_text faults =
-    flat_map fault_line faults ++ codes "faults " ++ decimal (length faults) ++ codes "\n"
+faults_text faults = flat_map fault_line faults ++ fault_count_text (length faults)
 
 -- how many blocks were copied home
 abbrev pub copied_text : ℕ → List ℕ

@@ -74,6 +74,7 @@ file_telling file.Length = plain (codes "file") 2 (codes "Length")
 file_telling file.NoMemory = plain (codes "file") 3 (codes "NoMemory")
 file_telling file.Locked = plain (codes "file") 4 (codes "Locked")
 file_telling file.Exists = plain (codes "file") 5 (codes "Exists")
+file_telling file.Unlockable = plain (codes "file") 6 (codes "Unlockable")
 
 abbrev pub mkfs_telling : MkfsFault → Telling
 mkfs_telling mkfs.SizeRange = plain (codes "mkfs") 1 (codes "SizeRange")

@@ -25,6 +25,7 @@ impl Reason for FileFault {
             FileFault::NoMemory => Told::new("file", 3, "NoMemory"),
             FileFault::Locked => Told::new("file", 4, "Locked"),
             FileFault::Exists => Told::new("file", 5, "Exists"),
+            FileFault::Unlockable => Told::new("file", 6, "Unlockable"),
         }
     }
 }

@@ -22,9 +22,9 @@ pub use events::Event;
 pub use lines::{AccountLine, AnswerLine};
 pub use meter::{Meter, Silent};
 pub use output::{
-    pass_on, print, print_copied, print_counts, print_event, print_faults, print_files,
-    print_images, print_last, print_number, print_numbers, print_refusal, print_report,
-    print_rescued, write_bytes,
+    pass_on, print, print_copied, print_counts, print_event, print_fault, print_fault_count,
+    print_files, print_images, print_last, print_number, print_numbers, print_refusal,
+    print_report, print_rescued, write_bytes,
 };
 pub use printed::Printed;
 pub use told::{Reason, Told, Unwritten};

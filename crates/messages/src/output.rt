@@ -5,7 +5,7 @@ ghost use Rattle.std.specs.Io.KnownBytes.{Appends, Keeps};
 ghost use Rattle.messages.specs.Events.{event_line};
 ghost use Rattle.messages.specs.declared.events.Event.TheVariants.{Stepped};
 ghost use Rattle.messages.specs.Refusing.{refusal_line};
-ghost use Rattle.messages.specs.Output.{copied_text, counts_text, fault_line, faults_text, files_text, images_text, left_line, number_text, numbers_text, report_text, rescued_line, rescued_text};
+ghost use Rattle.messages.specs.Output.{copied_text, counts_text, fault_count_text, fault_line, files_text, images_text, left_line, number_text, numbers_text, report_text, rescued_line, rescued_text};
 
 use crate::answers::print_answer;
 use crate::events::{Event, end_of_line};
@@ -118,25 +118,23 @@ pub fn print_report<O: Write>(out: &mut O, report: &Report) -> Result<(), Unwrit
     print_last(out, format_args!("sound log {logged} files {files}\n"))
 }
 
-/// Prints the faults of an image, a line each, and how many there are, as the last text of a command.
-pub fn print_faults<O: Write>(out: &mut O, faults: &[CheckFault]) -> Result<(), Unwritten>
-    ensures ok { OnOk result (Appends (O.contents out.old) (O.contents out.new)
-        (faults_text faults.now)) }
-{
-    for fault in faults {
-        print_fault(out, fault)?;
-    }
-    let mut buffer = Buffer::new();
-    let count = buffer.format(faults.len());
-    print_last(out, format_args!("faults {count}\n"))
-}
-
-fn print_fault<O: Write>(out: &mut O, fault: &CheckFault) -> Result<(), Unwritten>
+/// Prints the line of a fault of an image. The writer may hold it back.
+pub fn print_fault<O: Write>(out: &mut O, fault: &CheckFault) -> Result<(), Unwritten>
     ensures ok { OnOk result (Appends (O.contents out.old) (O.contents out.new)
         (fault_line fault.now)) }
 {
     let told = fault.told();
     print(out, format_args!("{told}\n"))
+}
+
+/// Prints how many faults an image has, as the last text of a command.
+pub fn print_fault_count<O: Write>(out: &mut O, count: u64) -> Result<(), Unwritten>
+    ensures ok { OnOk result (Appends (O.contents out.old) (O.contents out.new)
+        (fault_count_text count)) }
+{
+    let mut buffer = Buffer::new();
+    let count = buffer.format(count);
+    print_last(out, format_args!("faults {count}\n"))
 }
 
 /// Prints how many blocks were copied home, as the last text of a command.

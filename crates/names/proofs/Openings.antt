@@ -8,7 +8,7 @@ use Rattle.calls.specs.Opening.{IsNotOpenedPair, IsOpenedPair}
 use Rattle.calls.specs.Calls.{IsWhole, image_on}
 use Rattle.calls.specs.Stepping.{Plain}
 use Rattle.kernel.specs.Common.{adds_behind, only_added, turned_behind, verdict}
-use Rattle.kernel.specs.Opening.{IsOpenCause, IsRecoverCause, LeavesRecovered, RefusesToOpen}
+use Rattle.kernel.specs.Opening.{IsOpenCause, IsRecoverCause, LeavesRecovered, RefusesToOpen, UnlessDisk}
 use Rattle.kernel.specs.declared.types.OpenFault.{OpenFault}
 use Rattle.kernel.specs.declared.types.OpenFault.TheVariants as open_fault
 use Rattle.model.specs.Log.{logged_count, recovered}
@@ -71,10 +71,11 @@ module _ {D N : Type 0} (disk : Ghosts D N) where
   }
 
   -- reads alone, and a refusal
-  pub read_refuses : (d e : D) (cause : OpenFault) → OnlyReads disk d e → IsOpenCause disk d e 2 cause → RefusesToOpen disk d e 2 cause
-  read_refuses d e cause reads why = record {
+  pub read_refuses : (d e : D) (cause : OpenFault) → OnlyReads disk d e → UnlessDisk cause (disk.fault_count e ≡ disk.fault_count d) → IsOpenCause disk d e 2 cause → RefusesToOpen disk d e 2 cause
+  read_refuses d e cause reads faults why = record {
     cause = why;
     unwritten = inr (reads.image, (reads.writes, reads.syncs));
+    faults = faults;
     name = reads.name;
     leaves = leaves_read d e reads;
     plain = λ free. reads.syncs;
@@ -99,11 +100,21 @@ module _ {D N : Type 0} (disk : Ghosts D N) where
   cause_behind d m e open_fault.NoMemory reads faults why = (why.0, why.1, subst (λ (y : Image). verdict y ≡ None) reads.image why.2)
   cause_behind d m e open_fault.ProcRange reads faults why = absurd (⊎_elim (λ low. omega (arith, low)) (λ high. omega (arith, high)) why.0)
 
+  faults_behind : (d m e : D) (cause : OpenFault) → disk.fault_count m ≡ disk.fault_count d → UnlessDisk cause (disk.fault_count e ≡ disk.fault_count m) → UnlessDisk cause (disk.fault_count e ≡ disk.fault_count d)
+  faults_behind d m e (open_fault.Check fault) same kept = λ other. kept other ∙ same
+  faults_behind d m e (open_fault.Recover RecoverFault.Disk) same kept = kept
+  faults_behind d m e (open_fault.Recover RecoverFault.BadLog) same kept = kept ∙ same
+  faults_behind d m e (open_fault.Recover RecoverFault.NoMemory) same kept = kept ∙ same
+  faults_behind d m e (open_fault.Recover RecoverFault.Sync) same kept = kept
+  faults_behind d m e open_fault.NoMemory same kept = kept ∙ same
+  faults_behind d m e open_fault.ProcRange same kept = kept ∙ same
+
   refuses_behind : (d m e : D) (cause : OpenFault) → OnlyReads disk d m → disk.fault_count m ≡ disk.fault_count d → RefusesToOpen disk m e 2 cause → RefusesToOpen disk d e 2 cause
   refuses_behind d m e cause reads faults why = record {
     cause = cause_behind d m e cause reads faults why.cause;
     unwritten = ⊎_elim (λ may. inl may)
         (λ none. inr (none.0 ∙ reads.image, (none.1.0 ∙ reads.writes, none.1.1 ∙ reads.syncs))) why.unwritten;
+    faults = faults_behind d m e cause faults why.faults;
     name = why.name ∙ reads.name;
     leaves = leaves_behind d m e reads why.leaves;
     plain = λ free. why.plain (ap disk.holding reads.name ∙ free) ∙ reads.syncs;
@@ -114,7 +125,7 @@ module _ {D N : Type 0} (disk : Ghosts D N) where
   unopened_behind d m e cause sound reads faults (inl none) =
       subst (λ (c : OpenFault). RefusesToOpen disk d e 2 c) (sym none.0)
       (subst (λ (x : D). RefusesToOpen disk d x 2 open_fault.NoMemory) (sym none.1)
-      (read_refuses d m open_fault.NoMemory reads (omega arith, omega arith, sound)))
+      (read_refuses d m open_fault.NoMemory reads faults (omega arith, omega arith, sound)))
   unopened_behind d m e cause sound reads faults (inr why) = refuses_behind d m e cause reads faults why
 
   -- the same of a tree

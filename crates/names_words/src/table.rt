@@ -1,7 +1,7 @@
 // The commands of `xvnames`, and their words, as a table.
 use cli::table::{
-    EXPLAIN, IMAGE, IMAGE_KEPT, IMAGE_MADE, Kind, Line, NINODES, NO_SYNC, Outline, SIZE, SYNC,
-    WAIT, Word,
+    EXPLAIN, IMAGE, IMAGE_KEPT, IMAGE_MADE, Kind, Line, NINODES, NO_LOCK, NO_SYNC, Outline, SIZE,
+    SYNC, WAIT, Word,
 };
 
 pub const XVNAMES: Outline = Outline {
@@ -40,19 +40,19 @@ const LINES: &[Line] = &[
         name: "ls",
         about: "Lists a directory but for . and .., a line an entry: name, number, type and bytes",
         example: "Examples: xvnames ls fs.img, xvnames ls fs.img /docs",
-        words: &[IMAGE_KEPT, WAIT, EXPLAIN, FOLDER],
+        words: &[IMAGE_KEPT, WAIT, EXPLAIN, NO_LOCK, FOLDER],
     },
     Line {
         name: "tree",
         about: "Prints the paths of all files below a directory, a line each; those of directories end with a slash",
         example: "Examples: xvnames tree fs.img, xvnames tree fs.img /docs",
-        words: &[IMAGE_KEPT, WAIT, EXPLAIN, FOLDER],
+        words: &[IMAGE_KEPT, WAIT, EXPLAIN, NO_LOCK, FOLDER],
     },
     Line {
         name: "cat",
         about: "Writes the bytes of a file",
         example: "Example: xvnames cat fs.img /README",
-        words: &[IMAGE_KEPT, WAIT, EXPLAIN, PATH],
+        words: &[IMAGE_KEPT, WAIT, EXPLAIN, NO_LOCK, PATH],
     },
     Line {
         name: "get",
@@ -62,6 +62,7 @@ const LINES: &[Line] = &[
             IMAGE_KEPT,
             WAIT,
             EXPLAIN,
+            NO_LOCK,
             PATH,
             Word {
                 name: "FILE",
@@ -79,13 +80,13 @@ const LINES: &[Line] = &[
         name: "put",
         about: "Puts a file into an image under a path, as a new file or in place of one, and prints its number",
         example: "Example: xvnames put fs.img notes.txt /docs/notes.txt",
-        words: &[IMAGE, WAIT, EXPLAIN, FILE_PUT, PATH, SYNC, NO_SYNC],
+        words: &[IMAGE, WAIT, EXPLAIN, NO_LOCK, FILE_PUT, PATH, SYNC, NO_SYNC],
     },
     Line {
         name: "rm",
         about: "Removes a file, which is no directory",
         example: "Example: xvnames rm fs.img /docs/notes.txt",
-        words: &[IMAGE, WAIT, EXPLAIN, PATH, SYNC, NO_SYNC],
+        words: &[IMAGE, WAIT, EXPLAIN, NO_LOCK, PATH, SYNC, NO_SYNC],
     },
     Line {
         name: "mv",
@@ -95,6 +96,7 @@ const LINES: &[Line] = &[
             IMAGE,
             WAIT,
             EXPLAIN,
+            NO_LOCK,
             Word {
                 name: "FROM",
                 kind: Kind::Needed,
@@ -113,18 +115,20 @@ const LINES: &[Line] = &[
         name: "mkdir",
         about: "Makes a directory",
         example: "Example: xvnames mkdir fs.img /docs",
-        words: &[IMAGE, WAIT, EXPLAIN, PATH, SYNC, NO_SYNC],
+        words: &[IMAGE, WAIT, EXPLAIN, NO_LOCK, PATH, SYNC, NO_SYNC],
     },
     Line {
         name: "rmdir",
         about: "Removes a directory in which nothing is",
         example: "Example: xvnames rmdir fs.img /docs",
-        words: &[IMAGE, WAIT, EXPLAIN, PATH, SYNC, NO_SYNC],
+        words: &[IMAGE, WAIT, EXPLAIN, NO_LOCK, PATH, SYNC, NO_SYNC],
     },
     Line {
         name: "mkfs",
         about: "Makes an image with a root directory and these files in it, in a new file or in place of an old one",
         example: "Example: xvnames mkfs fs.img 2000 200 README _cat _ls",
-        words: &[IMAGE_MADE, WAIT, EXPLAIN, SIZE, NINODES, FILES, NO_SYNC],
+        words: &[
+            IMAGE_MADE, WAIT, EXPLAIN, NO_LOCK, SIZE, NINODES, FILES, NO_SYNC,
+        ],
     },
 ];

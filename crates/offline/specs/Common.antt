@@ -32,7 +32,8 @@ pub use Rattle.model.specs.declared.types.image.Form.{Form}
 pub use Rattle.model.specs.declared.types.image.Pointer.{Pointer}
 pub use Rattle.model.specs.declared.types.image.Super.{Super}
 pub use Rattle.offline.specs.Cause.{GoesThrough, IsBreak, IsCause, source_among, source_at}
-pub use Rattle.offline.specs.Notes.{early_fault, HasNoted, IsRefusedFor, judged_faults, NotesInode, NotesPointers}
+pub use Rattle.offline.specs.Hearing.{BreaksOff, HearsFirst, TellsAll, TellsAlone}
+pub use Rattle.offline.specs.Notes.{early_fault, HasNoted, judged_faults, NotesInode, NotesPointers, NotesUpTo}
 pub use Rattle.offline.specs.Owners.{entry_pointers, Judges, JudgesAddress, JudgesInode, JudgesInodes, SameLimits, Stand, there}
 pub use Rattle.offline.specs.Recovered.{IsHeaderOf, IsRecoveredOf, LeadsAlong, LeadsUnder, LiesBehindLog, MayReadFile}
 pub use Rattle.offline.specs.declared.owners.Owners.{Owners}

@@ -2,6 +2,7 @@ pub mod Making
 pub mod Cause
 pub mod Owners
 pub mod Taking
+pub mod Hearing
 pub mod Notes
 pub mod Recovered
 pub mod Checked

@@ -1,8 +1,8 @@
--- What a walk over all of an image notes: the places in the table, and the faults in a list.
-use Rattle.std.specs.Prelude.{◌≡◌, ◌≢◌, ◌⊎◌, ℕ, ◌+◌, nat_lt, if◌then◌else◌, List, [], ◌++◌, Option, Some, None}
+-- What a walk over all of an image notes: the places in the table; and what it tells of faults.
+use Rattle.std.specs.Prelude.{ℕ, ◌+◌, nat_lt, if◌then◌else◌, List, [], ◌++◌, Option, Some, None, Result, MatchResult}
 use Rattle.blocks.specs.Disk.{Image}
 use Rattle.model.specs.declared.types.fault.CheckFault.{CheckFault}
-use Rattle.model.specs.declared.types.fault.CheckFault.TheVariants.{BadType, BadSize, Disk, NoMemory}
+use Rattle.model.specs.declared.types.fault.CheckFault.TheVariants.{BadType, BadSize}
 use Rattle.model.specs.declared.types.image.Dinode.{Dinode}
 use Rattle.model.specs.declared.types.image.Form.{Form}
 use Rattle.model.specs.declared.types.image.Pointer.{Pointer}
@@ -10,6 +10,7 @@ use Rattle.model.specs.Faults.{pointer_faults, inode_faults, inodes_faults}
 use Rattle.model.specs.Layout.{greatest_size}
 use Rattle.model.specs.Places.{addresses_in, places_of}
 use Rattle.model.specs.Verdict.{places_below}
+use Rattle.offline.specs.Hearing.{BreaksOff}
 use Rattle.offline.specs.Owners.{Stand}
 use Rattle.offline.specs.declared.notes.Owner.{Owner}
 use Rattle.offline.specs.declared.owners.Owners.{Owners}
@@ -26,30 +27,34 @@ abbrev pub judged_faults : Image → Owner → List ℕ → List Pointer → Lis
 judged_faults y owner earlier pointers =
     if owner.is_judged then pointer_faults y owner.number earlier pointers else []
 
--- pointers were noted behind those places: their addresses joined these, and their faults the list
-pub record HasNoted (y : Image) (owner : Owner) (earlier : List ℕ) (pointers : List Pointer)
-    (new : Owners) (before after : List CheckFault) : Type 0 where
+-- pointers were noted behind those places: their addresses joined these, and their faults were told
+pub record HasNoted {H : Type 0} (hears : H → List CheckFault → H → Type 0) (y : Image)
+    (owner : Owner) (earlier : List ℕ) (pointers : List Pointer) (new : Owners) (before after : H)
+    : Type 0 where
   pub stand : Stand new y (earlier ++ addresses_in pointers)
-  pub faults : after ≡ before ++ judged_faults y owner earlier pointers
+  pub heard : hears before (judged_faults y owner earlier pointers) after
 
 -- the same whatever places stood in the table
-abbrev pub NotesPointers : Image → Owner → List Pointer → Owners → Owners → List CheckFault
-    → List CheckFault → Type 0
-NotesPointers y owner pointers old new before after = (earlier : List ℕ) →
-    Stand old y earlier → HasNoted y owner earlier pointers new before after
+abbrev pub NotesPointers : {H : Type 0} → (H → List CheckFault → H → Type 0) → Image → Owner
+    → List Pointer → Owners → Owners → H → H → Type 0
+NotesPointers hears y owner pointers old new before after = (earlier : List ℕ) →
+    Stand old y earlier → HasNoted hears y owner earlier pointers new before after
 
--- inode i was noted behind those below it
-pub record NotesInode (y : Image) (i : ℕ) (new : Owners) (before after : List CheckFault)
-    : Type 0 where
-  pub stand : Stand new y (places_below y (i + 1))
-  pub faults : after ≡ before ++ inode_faults y i
+-- those places stand, where the faults were all told
+abbrev pub NotesUpTo : {H : Type 0} → (H → List CheckFault → H → Type 0) → Image → List ℕ
+    → List CheckFault → Owners → H → H → Result (Unit {0}) CheckFault → Type 0
+NotesUpTo hears y places faults new before after result =
+    MatchResult result (λ _. Stand new y places × hears before faults after)
+    (λ _. BreaksOff hears faults before after)
 
--- all inodes were noted
-pub record NotesInodes (y : Image) (new : Owners) (before after : List CheckFault) : Type 0 where
-  pub stand : Stand new y (places_of y)
-  pub faults : after ≡ before ++ inodes_faults y
+-- inode i was noted behind those below it, or a beginning of its faults told
+abbrev pub NotesInode : {H : Type 0} → (H → List CheckFault → H → Type 0) → Image → ℕ → Owners → H
+    → H → Result (Unit {0}) CheckFault → Type 0
+NotesInode hears y i new before after result =
+    NotesUpTo hears y (places_below y (i + 1)) (inode_faults y i) new before after result
 
--- no list of that fault: the disk failed, or memory was refused
-abbrev pub IsRefusedFor : CheckFault → CheckFault → Type 0
-IsRefusedFor refusal fault =
-    ((refusal ≡ Disk) × (fault ≡ Disk)) ⊎ ((refusal ≡ NoMemory) × (fault ≢ Disk))
+-- all inodes were noted, or a beginning of their faults told
+abbrev pub NotesInodes : {H : Type 0} → (H → List CheckFault → H → Type 0) → Image → Owners → H → H
+    → Result (Unit {0}) CheckFault → Type 0
+NotesInodes hears y new before after result =
+    NotesUpTo hears y (places_of y) (inodes_faults y) new before after result

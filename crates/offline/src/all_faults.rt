@@ -1,5 +1,5 @@
 // All faults of an image, in one pass over what recovery would leave.
-ghost use Rattle.std.specs.Prelude.{◌≡◌, ◌≢◌, ◌≤◌, ◌<◌, ◌∷◌, ◌++◌, [], length, None, OnOk, IfOk, IfErr};
+ghost use Rattle.std.specs.Prelude.{◌≡◌, ◌≢◌, ◌≤◌, ◌<◌, ◌∷◌, ◌++◌, [], length, None, OnErr, OnOk, IfOk};
 ghost use Rattle.blocks.specs.Calls.{OnlyReads};
 ghost use Rattle.blocks.specs.Disk.{Image};
 ghost use Rattle.model.specs.Faults.{faults, inodes_faults, marks_faults};
@@ -9,16 +9,18 @@ ghost use Rattle.model.specs.Places.{places_of};
 ghost use Rattle.model.specs.Verdict.{places_below};
 ghost use Rattle.offline.specs.Cause.{GoesThrough};
 ghost use Rattle.offline.specs.Check.{IsGround, MayJudge};
-ghost use Rattle.offline.specs.Notes.{IsRefusedFor, NotesInode, NotesInodes, early_fault};
+ghost use Rattle.offline.specs.Hearing.{HearsFirst, TellsAll, TellsAlone};
+ghost use Rattle.offline.specs.Notes.{NotesInode, NotesInodes, early_fault};
 ghost use Rattle.offline.specs.Owners.{SameLimits, Stand};
 ghost use Rattle.offline.specs.Recovered.{IsRecoveredOf};
 
 use crate::checking::{is_too_large, load_inode};
-use crate::notes::{Owner, add, add_if_some, note_list};
+use crate::hearing::HearsFaults;
+use crate::notes::{Owner, note_list, tell_if_some};
 use crate::owners::Owners;
 use crate::pointers::read_pointers;
 use crate::recovered::Recovered;
-use blocks::{Block, Disk, NoMemory};
+use blocks::{Block, Disk};
 use layout::meta_count;
 use model::types::{CheckFault, Dinode, Form};
 use std::alloc::Global;
@@ -36,14 +38,14 @@ pub(crate) fn early_fault(i: u32, inode: &Dinode, form: Form) -> Option<CheckFau
     None
 }
 
-// Notes inode i and its faults.
-fn note_inode<D: Disk>(
+// Notes inode i, and tells its faults; a beginning of these where a read fails or memory is refused.
+fn note_inode<D: Disk, H: HearsFaults>(
     alloc: Global,
     disk: &mut D,
     image: &Recovered,
     owners: &mut Owners,
     entries: &mut Block,
-    faults: &mut Vec<CheckFault>,
+    hearer: &mut H,
     i: u32,
     inode: &Dinode,
 ) -> Result<(), CheckFault>
@@ -54,34 +56,33 @@ fn note_inode<D: Disk>(
     ensures reads { OnlyReads D.Disk disk.old disk.new }
     ensures counts { GoesThrough result (D.fault_count disk.old) (D.fault_count disk.new) }
     ensures limits { SameLimits owners.old owners.new }
-    ensures noted { OnOk result (Stand owners.old (recovered (D.image disk.old))
-        (places_below (recovered (D.image disk.old)) i) →
-        NotesInode (recovered (D.image disk.old)) i
-        owners.new faults.old.items faults.new.items) }
+    ensures noted { Stand owners.old (recovered (D.image disk.old))
+        (places_below (recovered (D.image disk.old)) i) → NotesInode H.hears
+        (recovered (D.image disk.old)) i owners.new hearer.old hearer.new result }
 {
     if inode.kind == 0 {
         return Ok(());
     }
     let fault = early_fault(i, inode, image.form);
-    add_if_some(faults, fault)?;
+    tell_if_some(hearer, fault);
     let owner = Owner {
         number: i,
         is_judged: fault.is_none(),
     };
     let list = read_pointers(alloc, disk, image, entries, i, inode)?;
-    note_list(owners, faults, owner, &list)?;
+    note_list(owners, hearer, owner, &list);
     Ok(())
 }
 
-// Notes all inodes and their faults.
-fn note_inodes<D: Disk>(
+// Notes all inodes, and tells their faults; a beginning of these where it breaks off.
+fn note_inodes<D: Disk, H: HearsFaults>(
     alloc: Global,
     disk: &mut D,
     image: &Recovered,
     owners: &mut Owners,
     block: &mut Block,
     entries: &mut Block,
-    faults: &mut Vec<CheckFault>,
+    hearer: &mut H,
     ninodes: u32,
 ) -> Result<(), CheckFault>
     requires judging { MayJudge (D.image disk.old) image.now owners.old }
@@ -91,25 +92,24 @@ fn note_inodes<D: Disk>(
     ensures reads { OnlyReads D.Disk disk.old disk.new }
     ensures counts { GoesThrough result (D.fault_count disk.old) (D.fault_count disk.new) }
     ensures limits { SameLimits owners.old owners.new }
-    ensures noted { OnOk result (Stand owners.old (recovered (D.image disk.old)) [] →
-        NotesInodes (recovered (D.image disk.old)) owners.new faults.old.items faults.new.items) }
+    ensures noted { Stand owners.old (recovered (D.image disk.old)) [] → NotesInodes H.hears
+        (recovered (D.image disk.old)) owners.new hearer.old hearer.new result }
 {
     for i in 1..ninodes {
         let inode = load_inode(disk, image, block, i)?;
-        note_inode(alloc, disk, image, owners, entries, faults, i, &inode)?;
+        note_inode(alloc, disk, image, owners, entries, hearer, i, &inode)?;
     }
     Ok(())
 }
 
-// Adds the faults of the bitmap, once all places are noted.
-fn note_marks(owners: &Owners, faults: &mut Vec<CheckFault>) -> Result<(), NoMemory>
-    ensures { OnOk result ((y : Image) → Stand owners.now y (places_of y) →
-        faults.new.items ≡ faults.old.items ++ marks_faults y) }
+// Tells the faults of the bitmap, once all places are noted.
+fn note_marks<H: HearsFaults>(owners: &Owners, hearer: &mut H)
+    ensures { (y : Image) → Stand owners.now y (places_of y) →
+        H.hears hearer.old (marks_faults y) hearer.new }
 {
     for b in 0..owners.size {
-        add_if_some(faults, owners.mark_fault(b))?;
+        tell_if_some(hearer, owners.mark_fault(b));
     }
-    Ok(())
 }
 
 // The table of an image's blocks, none of them owned yet.
@@ -128,23 +128,23 @@ fn new_owners<D: Disk>(alloc: Global, disk: &mut D, image: &Recovered) -> Result
     Ok(Owners::new(alloc, first_data, sup.size, bitmap)?)
 }
 
-// The faults of inodes and bitmap.
-fn contents_faults<D: Disk>(
+// Tells the faults of inodes and bitmap.
+fn tell_contents<D: Disk, H: HearsFaults>(
     alloc: Global,
     disk: &mut D,
     image: &Recovered,
     block: &mut Block,
-) -> Result<Vec<CheckFault>, CheckFault>
+    hearer: &mut H,
+) -> Result<(), CheckFault>
     requires ground { IsGround (D.image disk.old) image.now.sup image.now.form }
     requires recovered { IsRecoveredOf (D.image disk.old) image.now }
-    ensures all { IfOk result (λ found. found.items
-        ≡ inodes_faults (recovered (D.image disk.old)) ++ marks_faults (recovered (D.image disk.old))) }
+    ensures told { TellsAll H.hears (inodes_faults (recovered (D.image disk.old))
+        ++ marks_faults (recovered (D.image disk.old))) hearer.old hearer.new result }
     ensures reads { OnlyReads D.Disk disk.old disk.new }
     ensures counts { GoesThrough result (D.fault_count disk.old) (D.fault_count disk.new) }
 {
     let mut entries = Block::zeroed(alloc)?;
     let mut owners = new_owners(alloc, disk, image)?;
-    let mut faults = Vec::new(alloc);
     let ninodes = image.sup.ninodes;
     note_inodes(
         alloc,
@@ -153,53 +153,59 @@ fn contents_faults<D: Disk>(
         &mut owners,
         block,
         &mut entries,
-        &mut faults,
+        hearer,
         ninodes,
     )?;
-    note_marks(&owners, &mut faults)?;
-    Ok(faults)
+    note_marks(&owners, hearer);
+    Ok(())
 }
 
-// The list of the fault for which no image was opened, alone, unless the disk failed.
-fn alone(alloc: Global, fault: CheckFault) -> Result<Vec<CheckFault>, CheckFault>
-    ensures one { IfOk result (λ found.
-        (found.items ≡ fault ∷ []) × (fault ≢ CheckFault.Disk)) }
-    ensures refused { IfErr result (λ refusal. IsRefusedFor refusal fault) }
+// Tells the fault for which no image was opened, which then stands alone, unless the disk failed.
+fn tell_alone<H: HearsFaults>(hearer: &mut H, fault: CheckFault) -> Result<(), CheckFault>
+    ensures { TellsAlone H.hears fault hearer.old hearer.new result }
 {
     match fault {
         CheckFault::Disk => Err(CheckFault::Disk),
         fault => {
-            let mut faults = Vec::new(alloc);
-            add(&mut faults, fault)?;
-            Ok(faults)
+            hearer.hear(fault);
+            Ok(())
         }
     }
 }
 
-/// All faults of a disk's image, in the order in which `check` meets them; none where it is sound.
-/// It writes nothing. A fault of the superblock or of the log stands alone. An inode of another type
-/// or size than there are has that fault alone; its blocks are still at a place of it. A block at
-/// more places than one is told at each but the first.
+/// Tells all faults of a disk's image, one by one as it walks over the image, in the order in which
+/// `check` meets them; none where it is sound. It writes nothing, and keeps no list. A fault of the
+/// superblock or of the log stands alone. An inode of another type or size than there are has that
+/// fault alone; its blocks are still at a place of it. A block at more places than one is told at
+/// each but the first.
 ///
 /// # Errors
 ///
+/// The faults that were told by then are a beginning of the image's.
+///
 /// - `Disk`: a read failed.
-/// - `NoMemory`: memory was refused. It needs three blocks, one byte for each block of the image,
-///   room for the addresses of one inode, and for the list, of one fault at most for each address and
-///   for each block.
-pub fn check_all<D: Disk>(alloc: Global, disk: &mut D) -> Result<Vec<CheckFault>, CheckFault>
-    ensures all { IfOk result (λ found. found.items ≡ faults (D.image disk.old)) }
+/// - `NoMemory`: memory was refused. It needs three blocks, one byte for each block of the image, and
+///   room for the addresses of one inode.
+pub fn check_all<D: Disk, H: HearsFaults>(
+    alloc: Global,
+    disk: &mut D,
+    hearer: &mut H,
+) -> Result<(), CheckFault>
+    ensures heard { OnOk result (H.hears hearer.old (faults (D.image disk.old)) hearer.new) }
+    ensures broken { OnErr result
+        (HearsFirst H.hears (faults (D.image disk.old)) hearer.old hearer.new) }
 
     // nothing is written
     ensures reads { OnlyReads D.Disk disk.old disk.new }
     ensures counts { GoesThrough result (D.fault_count disk.old) (D.fault_count disk.new) }
 {
     if disk.size() < 2 {
-        return alone(alloc, CheckFault::BadGeometry);
+        hearer.hear(CheckFault::BadGeometry);
+        return Ok(());
     }
     let mut block = Block::zeroed(alloc)?;
     match Recovered::open(disk, &mut block) {
-        Ok(image) => contents_faults(alloc, disk, &image, &mut block),
-        Err(fault) => alone(alloc, fault),
+        Ok(image) => tell_contents(alloc, disk, &image, &mut block, hearer),
+        Err(fault) => tell_alone(hearer, fault),
     }
 }

@@ -5,6 +5,7 @@ mod all_faults;
 mod checked;
 mod checking;
 mod claims;
+mod hearing;
 pub mod laws;
 mod making;
 mod new_image;
@@ -18,6 +19,7 @@ mod walking;
 
 pub use all_faults::check_all;
 pub use checking::{Report, check};
+pub use hearing::HearsFaults;
 pub use making::{mkfs, mkfs_as};
 pub use recovered::Recovered;
 pub use sorting::{Sorted, sort_numbers};

@@ -1,14 +1,13 @@
 // All faults of an inode's pointers, whatever they lead to.
-ghost use Rattle.std.specs.Prelude.{◌≡◌, ◌∷◌, ◌++◌, [], OnOk};
+ghost use Rattle.std.specs.Prelude.{◌∷◌, []};
 ghost use Rattle.blocks.specs.Disk.{Image};
 ghost use Rattle.model.specs.Faults.{listed};
 ghost use Rattle.offline.specs.Notes.{NotesPointers};
 ghost use Rattle.offline.specs.Owners.{SameLimits};
 
+use crate::hearing::HearsFaults;
 use crate::owners::Owners;
-use blocks::NoMemory;
 use model::types::{CheckFault, Pointer};
-use std::alloc::Global;
 
 // An inode whose pointers are noted.
 #[derive(Clone, Copy)]
@@ -18,55 +17,39 @@ pub struct Owner {
     pub is_judged: bool,
 }
 
-// Adds a fault to a list.
-pub fn add(faults: &mut Vec<CheckFault>, fault: CheckFault) -> Result<(), NoMemory>
-    ensures { OnOk result (faults.new.items ≡ faults.old.items ++ fault ∷ []) }
+// Tells a fault, if there is one.
+pub fn tell_if_some<H: HearsFaults>(hearer: &mut H, fault: Option<CheckFault>)
+    ensures { H.hears hearer.old (listed fault) hearer.new }
 {
-    faults.push(fault)?;
-    Ok(())
-}
-
-// Adds a fault to a list, if there is one.
-pub fn add_if_some(faults: &mut Vec<CheckFault>, fault: Option<CheckFault>) -> Result<(), NoMemory>
-    ensures { OnOk result (faults.new.items ≡ faults.old.items ++ listed fault) }
-{
-    match fault {
-        Some(fault) => add(faults, fault),
-        None => Ok(()),
+    if let Some(fault) = fault {
+        hearer.hear(fault);
     }
 }
 
-// Notes where the block of a pointer stands, and the fault of that, if it is told.
-fn note_pointer(
-    owners: &mut Owners,
-    faults: &mut Vec<CheckFault>,
-    owner: Owner,
-    pointer: Pointer,
-) -> Result<(), NoMemory>
+// Notes where the block of a pointer stands, and tells the fault of that, if its owner is judged.
+fn note_pointer<H: HearsFaults>(owners: &mut Owners, hearer: &mut H, owner: Owner, pointer: Pointer)
     ensures limits { SameLimits owners.old owners.new }
-    ensures noted { (y : Image) → OnOk result (NotesPointers y owner (pointer ∷ [])
-        owners.old owners.new faults.old.items faults.new.items) }
+    ensures noted { (y : Image) → NotesPointers H.hears y owner (pointer ∷ [])
+        owners.old owners.new hearer.old hearer.new }
 {
     let fault = owners.note(owner.number, pointer);
     if owner.is_judged {
-        return add_if_some(faults, fault);
+        tell_if_some(hearer, fault);
     }
-    Ok(())
 }
 
 // The same of a list of them, in their order.
-pub fn note_list(
+pub fn note_list<H: HearsFaults>(
     owners: &mut Owners,
-    faults: &mut Vec<CheckFault>,
+    hearer: &mut H,
     owner: Owner,
     list: &Vec<Pointer>,
-) -> Result<(), NoMemory>
+)
     ensures limits { SameLimits owners.old owners.new }
-    ensures noted { (y : Image) → OnOk result (NotesPointers y owner list.now.items
-        owners.old owners.new faults.old.items faults.new.items) }
+    ensures noted { (y : Image) → NotesPointers H.hears y owner list.now.items
+        owners.old owners.new hearer.old hearer.new }
 {
     for k in 0..list.len() {
-        note_pointer(owners, faults, owner, list[k])?;
+        note_pointer(owners, hearer, owner, list[k]);
     }
-    Ok(())
 }

@@ -5,12 +5,14 @@
 //! its own layer's fault, and the kernel's own two faults as those of `open`.
 #![tactic(auto)]
 
+mod behind;
 mod recovering;
 
 ghost use Rattle.std.specs.Prelude.{◌≡◌};
 ghost use Rattle.messages.specs.Telling.{telling_of};
 ghost use Rattle.opening.specs.Openings.{open_telling};
 
+pub use behind::recover_behind_a_stop;
 use kernel::OpenFault;
 use messages::{Reason, Told};
 pub use recovering::{RecoverRefusal, recover_image};

@@ -1,19 +1,22 @@
 -- Why a check that tells all faults was refused.
-use Rattle.std.proofs.Common.{◌≡◌, ◌∙◌, ℕ, List, [], ◌∷◌, Option, Some, None, inl, inr, refl, sym, ap, subst}
-use Rattle.std.specs.Prelude.{slice_get}
+use Rattle.std.proofs.Common.{◌≡◌, ◌∙◌, ℕ, Bool, true, false, not, List, length, take, Option, Some, None, inl, inr, refl, sym, ap, subst, zero-add}
+use Rattle.std.specs.List.{flat_map}
 use Rattle.std.specs.Io.KnownBytes.{Appends}
+use Rattle.std.proofs.KnownBytes.{Appends-nil, Appends-trans}
 use Rattle.blocks.specs.Disk.{Image}
 use Rattle.blocks.specs.declared.disk.Disk.{Ghosts}
-use Rattle.model.specs.Faults.{faults, first_in}
+use Rattle.model.specs.Faults.{faults}
 use Rattle.model.specs.Lemmas.Faults.{verdict_is_first}
 use Rattle.model.specs.Verdict.{verdict}
 use Rattle.model.specs.declared.types.fault.CheckFault.{CheckFault}
 use Rattle.model.specs.declared.types.fault.CheckFault.TheVariants.{BadMagic, BadGeometry, BadLog, BadType, BadSize, BadAddress, TwiceUsed, UsedButFree, LostBlock, Disk, NoMemory}
-use Rattle.messages.specs.Output.{faults_text}
+use Rattle.messages.specs.Output.{fault_count_text, fault_line}
 use Rattle.messages.specs.declared.printed.Printed.{Printed}
 use Rattle.messages.specs.declared.printed.Printed.TheVariants as printed
 use Rattle.offline.specs.Cause.{IsBreak, IsCause}
-use Rattle.player.specs.Causes.{HasFaultsTold, IsToldWith, IsUnchecked}
+use Rattle.player.specs.Causes.{HasFaultsTold, IsToldWith, IsUnchecked, TellsFirst}
+use Rattle.player.specs.FaultLines.{nothing_heard, PrintsFaults}
+use Rattle.player.specs.declared.fault_lines.Heard.{Heard}
 
 -- a walk that broke off
 pub break_is_cause : (old new : ℕ) (fault : CheckFault) → IsBreak old new fault → IsCause None old new fault
@@ -29,35 +32,50 @@ break_is_cause old new (LostBlock b) h = absurd h
 break_is_cause old new Disk h = inr (inl (refl, h))
 break_is_cause old new NoMemory h = inr (inr refl)
 
--- an image whose list is empty has no fault
-pub none_found : (x : Image) (found : List CheckFault) → found ≡ faults x → found ≡ [] → verdict x ≡ None
-none_found x found all none = (verdict_is_first x).none.1 (sym all ∙ none)
+pub not_false : (b : Bool) → not b ≡ false → b ≡ true
+not_false true h = refl
+not_false false h = absurd (cc h)
 
--- its faults were told
-pub faults_told : {D N : Type 0} (disk : Ghosts D N) (d e : D) (old new : Option (List ℕ)) (none : Type 0) (found : List CheckFault) (first : CheckFault) (r : Printed CheckFault) →
-    found ≡ faults (disk.image d) → first_in found ≡ Some first → IsToldWith old new found first r → HasFaultsTold disk d e old new none r
-faults_told disk d e old new none found first (printed.Fault fault) all is told =
-    inl (
-      (verdict_is_first (disk.image d)).first ∙ ap first_in (sym all) ∙ is ∙ ap Some (sym told.0),
-      subst (λ (l : List CheckFault). Appends old new (faults_text l)) all told.1,
-    )
-faults_told disk d e old new none found first printed.Output all is told = tt
+module _ {O : Type 0} (contents : O → Option (List ℕ)) where
+  -- an image of which no fault was heard has none, and nothing was printed
+  pub none_found : (x : Image) (old new : O) (heard : Heard) → PrintsFaults contents (faults x) old nothing_heard new heard → heard.first ≡ None → (verdict x ≡ None) × (new ≡ old)
+  none_found x old new heard prints none =
+      let sound : verdict x ≡ None = (verdict_is_first x).first ∙ sym prints.first ∙ none in
+      (sound, prints.none ((verdict_is_first x).none.0 sound))
 
--- what a check of a sound image tells, where it was read before
-pub unchecked_told : {D N : Type 0} (disk : Ghosts D N) (d mid e : D) (old new : Option (List ℕ)) (none : Type 0) (r : Printed CheckFault) → verdict (disk.image d) ≡ None →
-    disk.image mid ≡ disk.image d → disk.fault_count mid ≡ disk.fault_count d → IsUnchecked disk mid e none r → HasFaultsTold disk d e old new none r
-unchecked_told disk d mid e old new none (printed.Fault fault) sound image count why =
-    inr (
-      subst (λ (n : ℕ). IsCause None n (disk.fault_count e) fault) count
-          (subst (λ (o : Option CheckFault). IsCause o (disk.fault_count mid) (disk.fault_count e) fault) (ap verdict image ∙ sound) why.0),
-      why.1,
-    )
-unchecked_told disk d mid e old new none printed.Output sound image count why = tt
+  -- where none was told
+  tells_none : (list : List CheckFault) (old new : O) → new ≡ old → TellsFirst list (contents old) (contents new) (new ≡ old)
+  tells_none list old new same =
+      (0, (λ _. same), subst (λ (o : O). Appends (contents old) (contents o) (flat_map fault_line (take 0 list))) (sym same) (Appends-nil (contents old)))
 
-pub first_is_in : (found : List CheckFault) → slice_get found 0 ≡ first_in found
-first_is_in [] = refl
-first_is_in (a ∷ found) = refl
+  -- those that were told by then
+  pub tells_first : (list : List CheckFault) (old new : O) (heard : Heard) (count : ℕ) → heard.is_printed ≡ true → PrintsFaults contents (take count list) old nothing_heard new heard →
+      TellsFirst list (contents old) (contents new) (new ≡ old)
+  tells_first list old new heard count all prints = (count, prints.none, (prints.printed all).lines)
 
-pub empty_where : (found : List CheckFault) → None ≡ slice_get found 0 → found ≡ []
-empty_where [] h = refl
-empty_where (a ∷ found) h = absurd (cc h)
+  module _ {D N : Type 0} (disk : Ghosts D N) where
+    -- its faults were told
+    pub faults_told : (d e : D) (old mid new : O) (heard : Heard) (first : CheckFault) (r : Printed CheckFault) → heard.is_printed ≡ true →
+        PrintsFaults contents (faults (disk.image d)) old nothing_heard mid heard → heard.first ≡ Some first → IsToldWith (contents mid) (contents new) heard.count first r →
+        HasFaultsTold disk d e (contents old) (contents new) (new ≡ old) r
+    faults_told d e old mid new heard first (printed.Fault fault) all prints is told =
+        let x = disk.image d in
+        let lines = prints.printed all in
+        inl (
+          (verdict_is_first x).first ∙ sym prints.first ∙ is ∙ ap Some (sym told.0),
+          Appends-trans (contents old) (contents mid) (contents new) (flat_map fault_line (faults x)) (fault_count_text (length (faults x))) lines.lines
+              (subst (λ n. Appends (contents mid) (contents new) (fault_count_text n)) (lines.count ∙ zero-add (length (faults x))) told.1),
+        )
+    faults_told d e old mid new heard first printed.Output all prints is told = tt
+
+    -- what a check of a sound image tells, where it was read before
+    pub unchecked_told : (d mid e : D) (old new : O) (r : Printed CheckFault) → verdict (disk.image d) ≡ None →
+        disk.image mid ≡ disk.image d → disk.fault_count mid ≡ disk.fault_count d → IsUnchecked disk mid e (new ≡ old) r →
+        HasFaultsTold disk d e (contents old) (contents new) (new ≡ old) r
+    unchecked_told d mid e old new (printed.Fault fault) sound image count why =
+        inr (
+          subst (λ (n : ℕ). IsCause None n (disk.fault_count e) fault) count
+              (subst (λ (o : Option CheckFault). IsCause o (disk.fault_count mid) (disk.fault_count e) fault) (ap verdict image ∙ sound) why.0),
+          tells_none (faults (disk.image d)) old new why.1,
+        )
+    unchecked_told d mid e old new printed.Output sound image count why = tt

@@ -1,5 +1,6 @@
 -- Why a command over a disk wasn't done, and how the disk is then.
-use Rattle.std.specs.Prelude.{◌≡◌, ◌⊎◌, ◌&&◌, ◌==◌, ⊤, ℕ, Bool, true, false, List, length, Option, Some, None}
+use Rattle.std.specs.Prelude.{◌≡◌, ◌⊎◌, ◌&&◌, ◌==◌, ⊤, ℕ, Bool, true, false, List, [], length, take, Option, Some, None}
+use Rattle.std.specs.List.{flat_map}
 use Rattle.std.specs.Io.KnownBytes.{Appends}
 use Rattle.blocks.specs.Disk.{Image, Rose}
 use Rattle.blocks.specs.declared.disk.Disk.{Ghosts}
@@ -14,7 +15,7 @@ use Rattle.model.specs.declared.types.fault.CheckFault.{CheckFault}
 use Rattle.model.specs.declared.types.image.Form.{Form}
 use Rattle.opening.specs.Recoveries.{IsUnrecovered}
 use Rattle.opening.specs.declared.recovering.RecoverRefusal.{RecoverRefusal}
-use Rattle.messages.specs.Output.{faults_text}
+use Rattle.messages.specs.Output.{fault_count_text, fault_line, faults_text}
 use Rattle.messages.specs.declared.printed.Printed.{Printed}
 use Rattle.messages.specs.declared.printed.Printed.TheVariants as printed
 
@@ -25,21 +26,29 @@ IsUnchecked disk d e none (printed.Fault fault) =
     IsCause (verdict (disk.image d)) (disk.fault_count d) (disk.fault_count e) fault × none
 IsUnchecked disk d e none printed.Output = verdict (disk.image d) ≡ None
 
--- these faults were printed, and the refusal is the first; or they could not be printed
-abbrev pub IsToldWith : Option (List ℕ) → Option (List ℕ) → List CheckFault → CheckFault
-    → Printed CheckFault → Type 0
-IsToldWith old new faults first (printed.Fault fault) =
-    (fault ≡ first) × Appends old new (faults_text faults)
-IsToldWith old new faults first printed.Output = ⊤
+-- so many faults were told, and the refusal is the first; or how many could not be printed
+abbrev pub IsToldWith : Option (List ℕ) → Option (List ℕ) → ℕ → CheckFault → Printed CheckFault
+    → Type 0
+IsToldWith old new count first (printed.Fault fault) =
+    (fault ≡ first) × Appends old new (fault_count_text count)
+IsToldWith old new count first printed.Output = ⊤
+
+-- Of these faults the first ones were printed, so many as were met until it broke off, a line each;
+-- where there were none, nothing was.
+abbrev pub TellsFirst : List CheckFault → Option (List ℕ) → Option (List ℕ) → Type 0 → Type 0
+TellsFirst faults old new none = (count : ℕ) × (take count faults ≡ [] → none)
+    × Appends old new (flat_map fault_line (take count faults))
 
 -- The image of the disk d, now e, has faults, all of which were printed, and the refusal is the
--- first; or what was found could not be printed; or a read failed, or memory was refused.
+-- first; or what was found could not be printed; or a read failed, or memory was refused, and a
+-- beginning of its faults was printed.
 abbrev pub HasFaultsTold : {D N : Type 0} → Ghosts D N → D → D → Option (List ℕ)
     → Option (List ℕ) → Type 0 → Printed CheckFault → Type 0
 HasFaultsTold disk d e old new none (printed.Fault fault) =
     ((verdict (disk.image d) ≡ Some fault)
     × Appends old new (faults_text (faults (disk.image d))))
-    ⊎ (IsCause None (disk.fault_count d) (disk.fault_count e) fault × none)
+    ⊎ (IsCause None (disk.fault_count d) (disk.fault_count e) fault
+    × TellsFirst (faults (disk.image d)) old new none)
 HasFaultsTold disk d e old new none printed.Output = ⊤
 
 -- why a check that tells the first fault, or all of them, was refused

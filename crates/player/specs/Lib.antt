@@ -8,3 +8,5 @@ pub mod Showing
 pub mod Refusals
 pub mod Looks
 pub mod Disks
+pub mod FaultLines
+pub mod Lemmas

@@ -1,6 +1,7 @@
 -- What a command over a disk came to.
 use Rattle.std.specs.Prelude.{◌≡◌, ℕ, List, Option, None}
 use Rattle.std.specs.Io.KnownBytes.{Appends}
+use Rattle.blocks.specs.Calls.{OnlyReads}
 use Rattle.blocks.specs.declared.disk.Disk.{Ghosts}
 use Rattle.model.specs.Files.{file_count, files_of}
 use Rattle.model.specs.Log.{logged_count, recovered}
@@ -28,6 +29,11 @@ abbrev pub HasShown : {D N : Type 0} → Ghosts D N → ℕ → D → D → Opti
     → Option (List ℕ) → Type 0
 HasShown disk i d e old new =
     IsRecovered disk (logged_count (disk.image d)) d e × Shows (disk.image d) i old new
+
+-- it was only read, and the bytes of its file of number i written
+abbrev pub HasRead : {D N : Type 0} → Ghosts D N → ℕ → D → D → Option (List ℕ)
+    → Option (List ℕ) → Type 0
+HasRead disk i d e old new = OnlyReads disk d e × Shows (disk.image d) i old new
 
 -- the last call to the disk, now e, was a sync that was done, and nothing is held any more
 pub record EndsSynced {D N : Type 0} (disk : Ghosts D N) (e : D) : Type 0 where

@@ -8,7 +8,9 @@ use Rattle.model.specs.Files.{files_of, file_in}
 use Rattle.model.specs.Log.{logged_count, recovered}
 use Rattle.model.specs.Verdict.{verdict}
 use Rattle.model.specs.declared.types.image.File.{File}
+use Rattle.offline.specs.Cause.{IsCause}
 use Rattle.opening.specs.Recoveries.{IsRecovered}
+use Rattle.opening.specs.declared.recovering.RecoverRefusal.TheVariants.{Check, Recover}
 use Rattle.player.specs.Afterwards.{FailsRecovered, FailsToRecover}
 use Rattle.player.specs.declared.refusals.CatRefusal.{CatRefusal}
 use Rattle.player.specs.declared.refusals.CatRefusal.TheVariants.{NoMemory, Unrecovered, NoFile, Disk, Output}
@@ -78,3 +80,18 @@ IsNotShown disk d e i old new none (Disk fault) =
     IsOfBlock (disk.image d) fault × FailsRecovered disk d e
     × (none ⊎ ShowsPart (disk.image d) i old new)
 IsNotShown disk d e i old new none Output = IsRecovered disk (logged_count (disk.image d)) d e
+
+-- why it was not of a disk that was only read
+abbrev pub IsUnread : {D N : Type 0} → Ghosts D N → D → D → ℕ → Option (List ℕ)
+    → Option (List ℕ) → Type 0 → CatRefusal → Type 0
+IsUnread disk d e i old new none NoMemory = (e ≡ d) × none
+IsUnread disk d e i old new none (Unrecovered (Check fault)) =
+    IsCause (verdict (disk.image d)) (disk.fault_count d) (disk.fault_count e) fault × none
+IsUnread disk d e i old new none (Unrecovered (Recover fault)) = ⊥
+IsUnread disk d e i old new none NoFile = (disk.fault_count e ≡ disk.fault_count d)
+    × HasNoFile (disk.image d) i × none
+IsUnread disk d e i old new none (Disk fault) = IsOfBlock (disk.image d) fault
+    × (verdict (disk.image d) ≡ None) × Rose (disk.fault_count d) (disk.fault_count e)
+    × (none ⊎ ShowsPart (disk.image d) i old new)
+IsUnread disk d e i old new none Output = (disk.fault_count e ≡ disk.fault_count d)
+    × (verdict (disk.image d) ≡ None)

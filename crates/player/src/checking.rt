@@ -4,10 +4,11 @@ ghost use Rattle.blocks.specs.Calls.{OnlyReads};
 ghost use Rattle.player.specs.Causes.{HasFaultsTold, IsToldWith, IsUnchecked};
 ghost use Rattle.player.specs.Looks.{HasReported};
 
+use crate::fault_lines::print_faults;
 use blocks::Disk;
-use messages::{Printed, print_faults, print_report};
+use messages::{Printed, print_fault_count, print_report};
 use model::types::CheckFault;
-use offline::{check, check_all};
+use offline::check;
 use std::alloc::Global;
 use std::io::Write;
 
@@ -31,13 +32,13 @@ pub fn check_disk<D: Disk, O: Write>(
     print_report(out, &report).map_err(|_| Printed::Output)
 }
 
-/// Checks the image of a disk as `check_disk`, but that of one with faults it prints them all, a line
-/// each, and how many they are. It writes no block.
+/// Checks the image of a disk as `check_disk`, but that of one with faults it prints them all while
+/// the image is walked over, a line each, and then how many they are. It writes no block.
 ///
 /// # Errors
 ///
 /// The first fault of the image, and then all were printed. What else kept it from an answer, and
-/// then nothing was printed; or `Output`.
+/// then a beginning of the image's faults was printed. `Output` where one of them was not.
 pub fn check_disk_all<D: Disk, O: Write>(
     alloc: Global,
     disk: &mut D,
@@ -49,21 +50,24 @@ pub fn check_disk_all<D: Disk, O: Write>(
     ensures refused { IfErr result (HasFaultsTold D.Disk disk.old disk.new
         (O.contents out.old) (O.contents out.new) (out.new ≡ out.old)) }
 {
-    let faults = match check_all(alloc, disk) {
-        Ok(faults) => faults,
-        Err(fault) => return Err(Printed::Fault(fault)),
-    };
-    match faults.as_slice().first() {
-        None => check_disk(alloc, disk, out),
-        Some(first) => Err(tell(out, faults.as_slice(), *first)),
+    let (ended, heard) = print_faults(alloc, disk, out);
+    if !heard.is_printed {
+        return Err(Printed::Output);
+    }
+    match ended {
+        Ok(()) => match heard.first {
+            None => check_disk(alloc, disk, out),
+            Some(first) => Err(tell_count(out, heard.count, first)),
+        },
+        Err(fault) => Err(Printed::Fault(fault)),
     }
 }
 
-// Prints these faults. The refusal: the first of them, or that they could not be printed.
-fn tell<O: Write>(out: &mut O, faults: &[CheckFault], first: CheckFault) -> Printed<CheckFault>
-    ensures { IsToldWith (O.contents out.old) (O.contents out.new) faults.now first result }
+// Prints how many faults there were. The refusal: the first of them, or that it could not be printed.
+fn tell_count<O: Write>(out: &mut O, count: u64, first: CheckFault) -> Printed<CheckFault>
+    ensures { IsToldWith (O.contents out.old) (O.contents out.new) count first result }
 {
-    match print_faults(out, faults) {
+    match print_fault_count(out, count) {
         Ok(()) => Printed::Fault(first),
         Err(_) => Printed::Output,
     }

@@ -8,6 +8,7 @@
 
 mod checking;
 mod copying;
+mod fault_lines;
 mod looks;
 mod making;
 mod noting;
@@ -25,7 +26,7 @@ mod turns;
 
 pub use checking::{check_disk, check_disk_all};
 pub use copying::copies_of;
-pub use looks::{Cat, Check, Recover};
+pub use looks::{Cat, CatReadOnly, Check, Recover};
 pub use making::make_disk;
 pub use noting::Base;
 pub use player::Player;
@@ -33,7 +34,7 @@ pub use playing::make_turns;
 pub use recovering::recover_disk;
 pub use refusals::{CatRefusal, ReplayRefusal};
 pub use replaying::{Scenario, replay_disk, replay_with, take_board};
-pub use showing::cat_disk;
+pub use showing::{cat_disk, cat_read_only};
 pub use teller::Teller;
 pub use tellers::{LineTeller, StepTeller};
 pub use turns::{Hands, Outcome, open_player};

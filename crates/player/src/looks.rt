@@ -1,12 +1,13 @@
 // The commands over a disk that need no kernel.
 ghost use Rattle.player.specs.Causes.{IsNotRecovered, IsUncheckedBy};
-ghost use Rattle.player.specs.Looks.{HasRecovered, HasReported, HasShown};
-ghost use Rattle.player.specs.Showing.{IsNotShown};
+ghost use Rattle.blocks.specs.Calls.{OnlyReads};
+ghost use Rattle.player.specs.Looks.{HasRead, HasRecovered, HasReported, HasShown};
+ghost use Rattle.player.specs.Showing.{IsNotShown, IsUnread};
 
 use crate::checking::{check_disk, check_disk_all};
 use crate::recovering::recover_disk;
 use crate::refusals::CatRefusal;
-use crate::showing::cat_disk;
+use crate::showing::{cat_disk, cat_read_only};
 use blocks::Disk;
 use cmd::DiskCommand;
 use messages::{Meter, Printed};
@@ -90,5 +91,29 @@ impl DiskCommand for Cat {
         out: &mut O,
     ) -> (Result<(), CatRefusal>, D) {
         cat_disk(alloc, disk, self.0, out)
+    }
+}
+
+/// Writes the bytes of an image's file of this number, as `cat_read_only`.
+#[derive(Clone, Copy, Drop)]
+pub struct CatReadOnly(pub u32);
+
+impl DiskCommand for CatReadOnly {
+    type Refusal = CatRefusal;
+
+    ghost done = { λ cat c. HasRead c.disk cat.0 c.was c.now };
+
+    ghost refused = { λ cat c old new none r. OnlyReads c.disk c.was c.now
+        × IsUnread c.disk c.was c.now cat.0 old new none r };
+
+    fn run_on<D: Disk + Drop, O: Write>(
+        self,
+        alloc: Global,
+        disk: D,
+        out: &mut O,
+    ) -> (Result<(), CatRefusal>, D) {
+        let mut disk = disk;
+        let ended = cat_read_only(alloc, &mut disk, self.0, out);
+        (ended, disk)
     }
 }

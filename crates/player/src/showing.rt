@@ -8,14 +8,14 @@ ghost use Rattle.model.specs.Verdict.{verdict};
 ghost use Rattle.offline.specs.Recovered.{IsRecoveredOf, MayReadFile};
 ghost use Rattle.wal.specs.Recovery.{LeavesIfCalm, RecoversAs};
 ghost use Rattle.opening.specs.Recoveries.{IsRecovered};
-ghost use Rattle.player.specs.Showing.{IsLeftUnlogged, IsNotShown, IsPartly, IsUnshown, Shows, ShowsFile};
+ghost use Rattle.player.specs.Showing.{IsLeftUnlogged, IsNotShown, IsPartly, IsUnread, IsUnshown, Shows, ShowsFile};
 
 use crate::refusals::CatRefusal;
 use blocks::{BLOCK_SIZE, Block, Disk};
 use layout::Dinode;
 use messages::{Silent, pass_on, write_bytes};
-use offline::Recovered;
-use opening::recover_image;
+use offline::{Recovered, check};
+use opening::{RecoverRefusal, recover_image};
 use std::alloc::Global;
 use std::io::Write;
 
@@ -61,6 +61,36 @@ pub fn cat_disk<D: Disk + Drop, O: Write>(
     }
     let shown = show(&mut disk, number, &mut block, out);
     (shown, disk)
+}
+
+/// Checks the image of a disk, and writes the bytes of its file of a number, and nothing else, as a
+/// recovery would leave the image. It writes no block.
+///
+/// # Errors
+///
+/// `NoMemory` where memory for a block is refused. `Unrecovered` with a fault of the image or of its
+/// check, or `NoFile` where there is no such file: with these nothing was written. `Disk` where a read
+/// after the check failed: then the file's first bytes were written, if any. `Output`.
+pub fn cat_read_only<D: Disk, O: Write>(
+    alloc: Global,
+    disk: &mut D,
+    number: u32,
+    out: &mut O,
+) -> Result<(), CatRefusal>
+    ensures shown { OnOk result
+        (Shows (D.image disk.old) number (O.contents out.old) (O.contents out.new)) }
+    ensures refused { IfErr result (IsUnread D.Disk disk.old disk.new number
+        (O.contents out.old) (O.contents out.new) (out.new ≡ out.old)) }
+    ensures reads { OnlyReads D.Disk disk.old disk.new }
+{
+    let mut block = match Block::zeroed(alloc) {
+        Ok(block) => block,
+        Err(_) => return Err(CatRefusal::NoMemory),
+    };
+    if let Err(fault) = check(alloc, disk) {
+        return Err(CatRefusal::Unrecovered(RecoverRefusal::Check(fault)));
+    }
+    show(disk, number, &mut block, out)
 }
 
 // Writes the bytes of the file of a number of a disk that has no fault, and passes them on. What

@@ -32,7 +32,7 @@ use Rattle.opening.specs.Lemmas.Stopping.{opened_leaves, run_leaves}
 use Rattle.opening.specs.Stops.{LeavesFromSync}
 use Rattle.opening.specs.Openings.{IsNotOpened}
 use Rattle.runner.specs.declared.refusals.RunRefusal.{RunRefusal}
-use Rattle.runner.specs.declared.refusals.RunRefusal.TheVariants.{Unopened, Thread, Disk, Unanswered, Output}
+use Rattle.runner.specs.declared.refusals.RunRefusal.TheVariants.{Unopened, Thread, Disk, Unanswered, NoMemory, Output}
 use Rattle.runner.specs.Reports.{IsReport}
 use Rattle.runner.specs.Running.{Ends, HasNotBegun, IsEndedBy, IsNotRun, IsServed, KeepsTasks, Ringed}
 
@@ -102,12 +102,13 @@ module _ {D N H : Type 0} (disk : Ghosts D N) {heralds : herald_trait.Ghosts H} 
 module _ {D N : Type 0} (disk : Ghosts D N) (d e : D) (tasks : List Task) (processes : ℕ) (old new : Option (List ℕ)) (none : Type 0) where
   -- what a run that was refused came to
   pub not_run : (m : Ringed D) (names : ℕ → Option Names) (cs : List Client) → IsServed disk d e processes m → AreClients names tasks processes cs → KeepsTasks disk tasks processes m
-      → (r : RunRefusal) → IsEndedBy (inode_count_of (disk.image m.opening)) m (ops_at cs) (length cs) old new r → IsNotRun disk d e tasks processes old new none r
-  not_run m names cs served are own (Disk fault) (all, why) = (all, record { last = m; served = served; own = own; ends = ends_so (inode_count_of (disk.image m.opening)) m names tasks processes cs (Some fault) all old new are why })
-  not_run m names cs served are own Unanswered why = record { last = m; served = served; own = own; ends = ends_so (inode_count_of (disk.image m.opening)) m names tasks processes cs None false old new are why }
-  not_run m names cs served are own Output why = record { last = m; served = served; own = own }
-  not_run m names cs served are own (Unopened fault) why = absurd why
-  not_run m names cs served are own Thread why = absurd why
+      → (starved : Bool) (r : RunRefusal) → IsEndedBy (inode_count_of (disk.image m.opening)) m (ops_at cs) (length cs) starved old new r → IsNotRun disk d e tasks processes old new none r
+  not_run m names cs served are own starved (Disk fault) (all, why) = (all, record { last = m; served = served; own = own; ends = ends_so (inode_count_of (disk.image m.opening)) m names tasks processes cs (Some fault) all old new are why })
+  not_run m names cs served are own starved Unanswered why = record { last = m; served = served; own = own; ends = ends_so (inode_count_of (disk.image m.opening)) m names tasks processes cs None false old new are why.0 }
+  not_run m names cs served are own starved NoMemory why = record { last = m; served = served; own = own; ends = ends_so (inode_count_of (disk.image m.opening)) m names tasks processes cs None false old new are why.0 }
+  not_run m names cs served are own starved Output why = record { last = m; served = served; own = own }
+  not_run m names cs served are own starved (Unopened fault) why = absurd why
+  not_run m names cs served are own starved Thread why = absurd why
 
 -- what it came to where no kernel was opened
 pub not_begun : {D N : Type 0} (disk : Ghosts D N) (d e : D) (processes : ℕ) (fault : OpenFault) → IsNotOpened disk processes d e fault → HasNotBegun disk d e processes fault

@@ -1,5 +1,5 @@
 -- What a run by threads comes to.
-use Rattle.std.specs.Prelude.{◌≡◌, ⊤, ℕ, Bool, false, List, Option, Some, None, IfNone, length}
+use Rattle.std.specs.Prelude.{◌≡◌, ⊤, ℕ, Bool, false, true, List, Option, Some, None, IfNone, length}
 use Rattle.blocks.specs.Disk.{Image}
 use Rattle.blocks.specs.declared.disk.Disk.{Ghosts}
 use Rattle.wal.specs.declared.types.DeviceFault.{DeviceFault}
@@ -25,7 +25,7 @@ use Rattle.kernel.specs.declared.types.OpenFault.{OpenFault}
 use Rattle.opening.specs.Openings.{IsNotOpened}
 use Rattle.opening.specs.Stops.{LeavesFromSync}
 use Rattle.runner.specs.declared.refusals.RunRefusal.{RunRefusal}
-use Rattle.runner.specs.declared.refusals.RunRefusal.TheVariants.{Unopened, Thread, Disk, Unanswered, Output}
+use Rattle.runner.specs.declared.refusals.RunRefusal.TheVariants.{Unopened, Thread, Disk, Unanswered, NoMemory, Output}
 use Rattle.runner.specs.Reports.{IsReported}
 
 -- a kernel over rings and a board
@@ -63,16 +63,18 @@ pub record Ends {D I H : Type 0} (inode_count : ℕ) (k : State D I H) (ops : �
   pub tells : k.store.volume.fault ≡ fault
   pub reported : IsReported inode_count k ops processes all old new
 
--- the same where it was refused: the disk had failed, an operation had no answer, or the output
--- failed
-abbrev pub IsEndedBy : {D I H : Type 0} → ℕ → State D I H → (ℕ → List Op) → ℕ → Option (List ℕ)
-    → Option (List ℕ) → RunRefusal → Type 0
-IsEndedBy inode_count k ops processes old new (Disk fault) =
+-- the same where it was refused: the disk had failed, an operation had no answer, with memory
+-- refused for long or not, or the output failed
+abbrev pub IsEndedBy : {D I H : Type 0} → ℕ → State D I H → (ℕ → List Op) → ℕ → Bool
+    → Option (List ℕ) → Option (List ℕ) → RunRefusal → Type 0
+IsEndedBy inode_count k ops processes starved old new (Disk fault) =
     (all : Bool) × Ends inode_count k ops processes (Some fault) all old new
-IsEndedBy inode_count k ops processes old new Unanswered =
-    Ends inode_count k ops processes None false old new
-IsEndedBy inode_count k ops processes old new Output = ⊤
-IsEndedBy inode_count k ops processes old new r = ⊥
+IsEndedBy inode_count k ops processes starved old new Unanswered =
+    Ends inode_count k ops processes None false old new × (starved ≡ false)
+IsEndedBy inode_count k ops processes starved old new NoMemory =
+    Ends inode_count k ops processes None false old new × (starved ≡ true)
+IsEndedBy inode_count k ops processes starved old new Output = ⊤
+IsEndedBy inode_count k ops processes starved old new r = ⊥
 
 -- up to any group, what is kept of each process is a beginning of its changing operations
 abbrev pub KeepsTasks : {D N H : Type 0} → Ghosts D N → List Task → ℕ → State D RingIntake H
@@ -120,5 +122,7 @@ IsNotRun disk d e tasks processes old new none Thread = IsUndriven disk d e proc
 IsNotRun disk d e tasks processes old new none (Disk fault) =
     (all : Bool) × Runs disk d e tasks processes (Some fault) all old new
 IsNotRun disk d e tasks processes old new none Unanswered =
+    Runs disk d e tasks processes None false old new
+IsNotRun disk d e tasks processes old new none NoMemory =
     Runs disk d e tasks processes None false old new
 IsNotRun disk d e tasks processes old new none Output = RunsPart disk d e tasks processes

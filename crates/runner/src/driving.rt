@@ -3,6 +3,7 @@ ghost use Rattle.std.specs.Prelude.{All};
 ghost use Rattle.rings.specs.Boards.{WatchOf};
 ghost use Rattle.clients.specs.Clients.{AreSameClients};
 
+use crate::lull::Lull;
 use clients::{Client, call_all};
 use std::rt::Clock;
 use std::sync::Wait;
@@ -16,8 +17,9 @@ const SHORTEST_REST: u64 = 50;
 
 const LONGEST_REST: u64 = 200;
 
-/// Calls the clients in turn until each has all its answers, or the workers have ended, and then
-/// asks for a shutdown: so by its code. What is promised is that these are the same clients. The
+/// Calls the clients in turn until each has all its answers, or the workers have ended, or nothing
+/// has moved for a second since memory is refused, and then asks for a shutdown: so by its code. It
+/// answers whether it was for the memory. What is promised is that these are the same clients. The
 /// watches are of that board.
 pub fn drive<R: Wait + Clock>(
     rt: &R,
@@ -25,17 +27,19 @@ pub fn drive<R: Wait + Clock>(
     mut watches: Vec<Watch>,
     mut clients: Vec<Client>,
     serving: &Serving,
-) -> Vec<Client>
+) -> (Vec<Client>, bool)
     requires { All (WatchOf board.now) watches.items }
-    ensures { AreSameClients clients.items result.items }
+    ensures { AreSameClients clients.items result.0.items }
 {
     let mut rest = SHORTEST_REST;
+    let mut lull = Lull::new(rt, serving);
     for _round in rt.forever() {
         if call_all(&mut clients) {
             rest = SHORTEST_REST;
+            lull = Lull::new(rt, serving);
             continue;
         }
-        if serving.has_ended() || clients.iter().all(|client| client.is_done()) {
+        if lull.has_ended(rt, serving) || clients.iter().all(|client| client.is_done()) {
             break;
         }
         thread::sleep(rt, Duration::from_micros(rest));
@@ -44,5 +48,5 @@ pub fn drive<R: Wait + Clock>(
     if let Some(mut watch) = watches.pop() {
         board.ask_shut(&mut watch);
     }
-    clients
+    (clients, lull.is_long())
 }

@@ -17,6 +17,8 @@ pub enum RunRefusal {
     Disk(DeviceFault),
     /// An operation has no answer.
     Unanswered,
+    /// An operation has no answer, and for a second nothing moved, since memory was refused.
+    NoMemory,
     /// The output can't be written.
     Output,
 }
@@ -30,6 +32,7 @@ impl Reason for RunRefusal {
             RunRefusal::Thread => Told::new("run", 1, "Thread"),
             RunRefusal::Disk(fault) => fault.told(),
             RunRefusal::Unanswered => Told::new("run", 3, "Unanswered"),
+            RunRefusal::NoMemory => Told::new("run", 4, "NoMemory"),
             RunRefusal::Output => Unwritten.told(),
         }
     }

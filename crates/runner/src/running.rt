@@ -52,8 +52,9 @@ impl Gate for NoGate {
 /// `Unopened` with a fault of the kernel's opening, with `NoMemory` also where memory for the
 /// operations, the rings or the board is refused: then nothing was printed, and whatever a stop
 /// leaves is recovered to the same image. `Thread` where no thread can be started, and then nothing
-/// was printed either. With these two all was printed: `Disk` with the kernel's fault, and
-/// `Unanswered` where an operation has no answer, which by the code can't come. Else `Output`.
+/// was printed either. With these three all was printed: `Disk` with the kernel's fault; `NoMemory`
+/// and `Unanswered` only where an operation has no answer, and the disk no fault, by the code the
+/// first where nothing moved for a second for want of memory, the other never. Else `Output`.
 pub fn run_disk<D: Disk + Drop + Send, R: Threads + Wait + Clock + AllocGlobal + Sync, O: Write>(
     rt: &R,
     disk: D,
@@ -83,7 +84,7 @@ pub fn run_disk<D: Disk + Drop + Send, R: Threads + Wait + Clock + AllocGlobal +
     };
     let (called, kernel) = call(rt, kernel, &board, watches, clients, workers);
     match called {
-        Some(clients) => close(kernel, clients, out),
+        Some((clients, is_refused)) => close(kernel, clients, is_refused, out),
         None => (Err(RunRefusal::Thread), kernel.into_disk()),
     }
 }
@@ -107,7 +108,8 @@ fn open<'a, D: Disk + Drop>(
     Kernel::open(alloc, disk, intake, herald, processes)
 }
 
-// Serves the kernel while the clients are called. The watches are of that board.
+// Serves the kernel while the clients are called, and answers as `drive`. The watches are of that
+// board.
 fn call<D: Disk + Send, H: Herald + Send, R: Threads + Wait + Clock + Sync>(
     rt: &R,
     kernel: Kernel<D, RingIntake, H>,
@@ -115,10 +117,10 @@ fn call<D: Disk + Send, H: Herald + Send, R: Threads + Wait + Clock + Sync>(
     watches: Vec<Watch>,
     clients: Vec<Client>,
     workers: u32,
-) -> (Option<Vec<Client>>, Kernel<D, RingIntake, H>)
+) -> (Option<(Vec<Client>, bool)>, Kernel<D, RingIntake, H>)
     requires workers { AreWorkers workers }
     requires watches { All (WatchOf board.now) watches.items }
-    ensures same { IfSome result.0 (λ after. AreSameClients clients.items after.items) }
+    ensures same { IfSome result.0 (λ after. AreSameClients clients.items after.0.items) }
     ensures known { Known D.Disk ⟦<RingIntake as Intake>⟧ H.Herald result.1 }
     ensures origin { HasOriginOf D.Disk H.Herald kernel result.1 }
 {
@@ -127,18 +129,19 @@ fn call<D: Disk + Send, H: Herald + Send, R: Threads + Wait + Clock + Sync>(
         kernel,
         workers,
         &NoGate,
-        move |serving| -> Vec<Client>
+        move |serving| -> (Vec<Client>, bool)
             requires { All (WatchOf board.now) watches.items }
-            ensures { AreSameClients clients.items result.items }
+            ensures { AreSameClients clients.items result.0.items }
         { drive(rt, board, watches, clients, serving) },
     )
 }
 
 // Prints what the clients of a kernel came to, and hands its disk back. There is one for each
-// process, with its rings.
+// process, with its rings. Where one has no answer, it is told whether that is for the memory.
 fn close<D: Disk + Drop, H: Herald, O: Write>(
     mut kernel: Kernel<D, RingIntake, H>,
     clients: Vec<Client>,
+    is_refused: bool,
     out: &mut O,
 ) -> (Result<(), RunRefusal>, D)
     requires many { length clients.items ≡ length kernel.world.processes }
@@ -150,7 +153,7 @@ fn close<D: Disk + Drop, H: Herald, O: Write>(
         (ops_at clients.items) (length clients.items) None true
         (O.contents out.old) (O.contents out.new)) }
     ensures refused { IfErr result.0 (IsEndedBy (inode_count_of (D.image kernel.opening)) kernel
-        (ops_at clients.items) (length clients.items)
+        (ops_at clients.items) (length clients.items) is_refused
         (O.contents out.old) (O.contents out.new)) }
 {
     let fault = kernel.fault();
@@ -159,6 +162,7 @@ fn close<D: Disk + Drop, H: Herald, O: Write>(
     match (reported, fault) {
         (Ok(_), Some(fault)) => (Err(RunRefusal::Disk(fault)), disk),
         (Ok(true), None) => (Ok(()), disk),
+        (Ok(false), None) if is_refused => (Err(RunRefusal::NoMemory), disk),
         (Ok(false), None) => (Err(RunRefusal::Unanswered), disk),
         (Err(Unwritten), _) => (Err(RunRefusal::Output), disk),
     }

@@ -17,14 +17,10 @@ use Rattle.history.proofs.processes.Processes.TheSendSync as processes
 use Rattle.kernel.specs.contracts.stepping.Kernel as Kernel
 use Rattle.rings.proofs.intake.RingIntake.TheSendSync as rings
 use Rattle.sysring.specs.contracts.session.Session as Session
-use Rattle.sysring.specs.contracts.serving.Serving as Serving
 use Rattle.sysring.specs.contracts.shared.Shared as Shared
 use Rattle.sysring.specs.declared.session.Origin as origin
 
 pub ruleset parts = (crosses, stage.the_field_send, gathered.the_send, inodes.the_send, volume.the_send, processes.the_send)
-
-pub Serving-sync : IsSync Serving.the_row
-Serving-sync = search (sendable, crosses) depth 20
 
 Task-send : IsSend Task.the_row
 Task-send = search (sendable, parts) depth 20

@@ -11,6 +11,7 @@
 
 mod accounting;
 mod comparing;
+mod pace;
 mod serving;
 mod session;
 mod settling;
@@ -19,8 +20,9 @@ mod workers;
 
 pub use accounting::{Reconciling, account};
 pub use comparing::{Comparing, compare};
+pub use pace::Serving;
 pub use rings::{Board, BoardHerald, Caller, Finished, Keeper, RingIntake, Watch, rings};
-pub use serving::{Serving, serve_while};
+pub use serving::serve_while;
 pub use session::{Origin, Session};
 pub use settling::{Account, Settling, settle};
 pub use shared::Shared;

@@ -4,6 +4,7 @@ ghost use Rattle.kernel.specs.Known.{Known};
 ghost use Rattle.rings.specs.declared.intake.RingIntake.{RingIntake};
 ghost use Rattle.sysring.specs.Origins.{AreWorkers, HasOriginOf, IsOfOrigin};
 
+use crate::pace::Serving;
 use crate::session::Origin;
 use crate::shared::Shared;
 use crate::workers::{Gate, serve};
@@ -14,38 +15,13 @@ use rings::RingIntake;
 use std::marker::Brand;
 use std::rt::Clock;
 use std::sync::Wait;
-use std::sync::atomic::{AtomicU64, Ordering};
 use std::thread;
 use std::thread::Threads;
 
-/// Whether the workers still go on.
-#[derive(Drop)]
-pub struct Serving {
-    // 1 once they have ended.
-    ended: AtomicU64,
-}
-
-impl Serving {
-    fn new() -> Serving {
-        Serving {
-            ended: AtomicU64::new(0),
-        }
-    }
-
-    /// Whether they have ended. That no process goes on then is by the code: no clause says it.
-    pub fn has_ended(&self) -> bool {
-        self.ended.load(Ordering::SeqCst) == 1
-    }
-
-    fn end(&self) {
-        self.ended.store(1, Ordering::SeqCst);
-    }
-}
-
 /// Serves a kernel with so many workers, from 1 to 32, on threads of their own, while the calling
 /// thread does what `callers` does: it hands operations in, polls answers, and at last asks for a
-/// shutdown, without which the workers go on. It may ask whether they have ended, as they do after
-/// a fault of the disk. Hands the kernel back when both have ended: it goes on from the one that was
+/// shutdown, without which the workers go on. It may ask how they get on: above all whether they
+/// have ended, as they do after a fault of the disk, and whether they are refused memory. Hands the kernel back when both have ended: it goes on from the one that was
 /// handed in, with the same rings, and no group that was committed then is lost, also by a stop at
 /// any moment since.
 ///
@@ -98,8 +74,7 @@ fn serve_under<
     ensures origin { IsOfOrigin D.Disk H.Herald K.outset result.1 }
 {
     let shared = Shared::<D, H, K>::new(kernel);
-    let serving = Serving::new();
-    let done = serve_beside(rt, &shared, &serving, workers, gate, callers);
+    let done = serve_beside(rt, &shared, workers, gate, callers);
     (done, shared.into_kernel())
 }
 
@@ -112,14 +87,7 @@ fn serve_beside<
     K: Origin<D, H> + Send,
     R: Threads + Wait + Clock + Sync,
     G: Gate + Sync,
->(
-    rt: &R,
-    shared: &Shared<D, H, K>,
-    serving: &Serving,
-    workers: u32,
-    gate: &G,
-    callers: F,
-) -> Option<T>
+>(rt: &R, shared: &Shared<D, H, K>, workers: u32, gate: &G, callers: F) -> Option<T>
     requires workers { AreWorkers workers }
     requires callers { F.IsAlwaysCallable callers }
     ensures done { IfSome result (λ gift. (at : _) × F.post callers at gift) }
@@ -136,13 +104,13 @@ fn serve_beside<
                     requires { AreWorkers workers }
                 {
                     serve(rt, shared, workers, gate);
-                    serving.end();
+                    shared.serving().end();
                 },
             );
             if served.is_err() {
                 return None;
             }
-            Some(callers(serving))
+            Some(callers(shared.serving()))
         },
     )
 }

@@ -1,9 +1,14 @@
 // A kernel behind a lock.
 ghost use Rattle.std.specs.Prelude.{◌<◌};
 ghost use Rattle.std.specs.Sync.Mutex.{mutex_guard_value};
+ghost use Rattle.blocks.specs.Disk.{Image};
+ghost use Rattle.model.specs.Log.{recovered};
+ghost use Rattle.wal.specs.Recovery.{RecoversAs};
 ghost use Rattle.kernel.specs.Known.{Known};
+ghost use Rattle.kernel.specs.Theorem.{IsExact, IsRecoveredRun};
 ghost use Rattle.sysring.specs.Origins.{IsOfOrigin, processes_in};
 
+use crate::pace::Serving;
 use crate::session::{Origin, Session};
 use blocks::Disk;
 use kernel::{Kernel, Step};
@@ -25,6 +30,7 @@ pub struct Shared<D: Disk, H: Herald, K: Origin<D, H>> {
     // Those who wait for a change. It is written under the lock.
     waiting: AtomicU64,
     changed: Condvar,
+    serving: Serving,
 }
 
 impl<D: Disk, H: Herald, K: Origin<D, H>> Shared<D, H, K> {
@@ -37,6 +43,7 @@ impl<D: Disk, H: Herald, K: Origin<D, H>> Shared<D, H, K> {
             changes: AtomicU64::new(0),
             waiting: AtomicU64::new(0),
             changed: Condvar::new(),
+            serving: Serving::new(),
         }
     }
 
@@ -48,6 +55,26 @@ impl<D: Disk, H: Herald, K: Origin<D, H>> Shared<D, H, K> {
     {
         let kernel = self.acquire(rt);
         kernel.kernel().known();
+        kernel
+    }
+
+    /// Gets the lock, and says THE RECOVERY THEOREM of the kernel behind it, whoever had it before:
+    /// what recovery makes of each image that a stop may leave, at any moment since the opening, also
+    /// where that recovery is stopped and made again, and now.
+    pub fn recovers<R: Wait>(&self, rt: &R) -> MutexGuard<'_, Session<D, H, K>>
+        ensures since { let k = mutex_guard_value result in (x : Image)
+            → D.leaves k.store.volume.device (D.moment k.opening) x
+            → IsRecoveredRun (D.image k.opening) 0 k (recovered x) }
+        ensures stopped { let k = mutex_guard_value result in (x z : Image)
+            → D.leaves k.store.volume.device (D.moment k.opening) x → RecoversAs x z
+            → IsRecoveredRun (D.image k.opening) 0 k (recovered z) }
+        ensures now { let k = mutex_guard_value result in (x : Image)
+            → D.leaves k.store.volume.device (D.moment k.store.volume.device) x
+            → IsExact (D.image k.opening) k x }
+        ensures origin { IsOfOrigin D.Disk H.Herald K.outset (mutex_guard_value result) }
+    {
+        let kernel = self.lock(rt);
+        kernel.kernel().recovers();
         kernel
     }
 
@@ -89,6 +116,11 @@ impl<D: Disk, H: Herald, K: Origin<D, H>> Shared<D, H, K> {
             }
         }
         step
+    }
+
+    // How its workers get on.
+    pub(crate) fn serving(&self) -> &Serving {
+        &self.serving
     }
 
     // How many steps changed something, wrapping.

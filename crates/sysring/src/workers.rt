@@ -58,15 +58,61 @@ impl Share {
 }
 
 // What a round of steps came to, one of each process.
+#[derive(Clone, Copy)]
 enum Round {
     // No process goes on any more.
     Over,
     // Each sleeps until another process moves.
     Asleep,
+    // None moved, and memory was refused.
+    Refused,
     // None moved.
     Quiet,
     // Some moved.
     Busy,
+}
+
+// What the steps of a round have in common so far.
+#[derive(Clone, Copy)]
+struct Steps {
+    over: bool,
+    asleep: bool,
+    moved: bool,
+    refused: bool,
+}
+
+impl Steps {
+    fn none() -> Steps {
+        Steps {
+            over: true,
+            asleep: true,
+            moved: false,
+            refused: false,
+        }
+    }
+
+    fn and(self, step: Step) -> Steps {
+        Steps {
+            over: self.over & is_over(step),
+            asleep: self.asleep & is_asleep(step),
+            moved: self.moved | is_move(step),
+            refused: self.refused | matches!(step, Step::NoMemory),
+        }
+    }
+
+    fn round(self) -> Round {
+        if self.over {
+            Round::Over
+        } else if self.asleep {
+            Round::Asleep
+        } else if self.moved {
+            Round::Busy
+        } else if self.refused {
+            Round::Refused
+        } else {
+            Round::Quiet
+        }
+    }
 }
 
 /// Makes the steps of all processes with so many workers, from 1 to 32, the calling thread among
@@ -87,6 +133,7 @@ pub fn serve<
     requires { AreWorkers workers }
 {
     let processes = processes_of(rt, shared);
+    shared.serving().wake(u32::MAX >> (32 - workers));
     thread::scope(
         thread::scope_env(),
         rt,
@@ -134,15 +181,25 @@ fn work<D: Disk, H: Herald, K: Origin<D, H>, R: Wait + Clock, G: Gate>(
     let mut rest = SHORTEST_REST;
     for _ in rt.forever() {
         let seen = shared.changes();
-        match make_round(rt, shared, share, gate) {
+        let round = make_round(rt, shared, share, gate);
+        if matches!(round, Round::Busy) {
+            shared.serving().count_move();
+            rest = SHORTEST_REST;
+            continue;
+        }
+        if matches!(round, Round::Refused) {
+            shared.serving().count_refusal();
+        }
+        shared.serving().rest(share.mine);
+        match round {
             Round::Over => return,
             Round::Asleep => shared.wait_past(rt, seen),
-            Round::Quiet => {
+            Round::Refused | Round::Quiet | Round::Busy => {
                 thread::sleep(rt, Duration::from_micros(rest));
                 rest = rest.saturating_mul(2).min(LONGEST_REST);
             }
-            Round::Busy => rest = SHORTEST_REST,
         }
+        shared.serving().wake(share.mine);
     }
 }
 
@@ -155,9 +212,7 @@ fn make_round<D: Disk, H: Herald, K: Origin<D, H>, R: Wait, G: Gate>(
 ) -> Round
     requires { share.processes ≡ processes_in K.outset }
 {
-    let mut over = true;
-    let mut asleep = true;
-    let mut quiet = true;
+    let mut steps = Steps::none();
     for pid in 0..share.processes {
         if !share.has(pid) {
             continue;
@@ -165,19 +220,9 @@ fn make_round<D: Disk, H: Herald, K: Origin<D, H>, R: Wait, G: Gate>(
         gate.before(pid);
         let step = shared.step(rt, pid);
         gate.after(pid);
-        over &= is_over(step);
-        asleep &= is_asleep(step);
-        quiet &= !is_move(step);
+        steps = steps.and(step);
     }
-    if over {
-        Round::Over
-    } else if asleep {
-        Round::Asleep
-    } else if quiet {
-        Round::Quiet
-    } else {
-        Round::Busy
-    }
+    steps.round()
 }
 
 fn is_over(step: Step) -> bool {

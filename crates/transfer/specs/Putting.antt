@@ -71,8 +71,8 @@ pub record RunsOut {D N : Type 0} (disk : Ghosts D N) (inum : Option ℕ) (bytes
   pub faults : disk.fault_count e ≡ disk.fault_count d
 
 -- No block was free for all of as few bytes as one write moves, so their transaction was given up:
--- a kernel that was opened over the disk d, now e, made turns, its calls wrote only the first of them,
--- and no block is free of the image that they see. That on the disk is as recovery leaves it.
+-- a kernel that was opened over the disk d, now e, went on, its calls wrote only the first of them, and
+-- no block is free of the image that they see. That on the disk is as recovery leaves it.
 pub record PutsNone {D N : Type 0} (disk : Ghosts D N) (inum : Option ℕ) (bytes : List ℕ) (d e : D)
     : Type 0 where
   pub small : length bytes ≤ transfer_limit
@@ -89,7 +89,8 @@ pub record PutsNone {D N : Type 0} (disk : Ghosts D N) (inum : Option ℕ) (byte
   pub image : disk.image e ≡ recovered (disk.image d)
   pub faults : disk.fault_count e ≡ disk.fault_count d
 
--- a kernel that was opened over the disk d, now e, made turns, and then had just this fault
+-- A kernel that was opened over the disk d, now e, went on, and then had just this fault, which one of
+-- its steps met.
 pub record EndsFailed {D N : Type 0} (disk : Ghosts D N) (count : ℕ) (d e : D) (cause : DeviceFault)
     : Type 0 where
   pub first : Plain D

@@ -42,7 +42,7 @@ pub(crate) fn copy_chosen<D: Disk, E: Disk, P: Meter>(
 {
     check_size(new, size, source.image.sup.ninodes)?;
     let memory = fill_new(alloc, old, source, size, progress)?;
-    write_out(alloc, memory, new, sync)?;
+    write_out(alloc, memory, new, sync, progress)?;
     Ok(())
 }
 

@@ -8,6 +8,7 @@ ghost use Rattle.transfer.specs.Writing.{IsNoneOr, IsNotWrittenOut, KeepsSuperbl
 use crate::ending::sync_if;
 use crate::fault::CopyFault;
 use blocks::{Block, Disk, DiskFault, MemDisk};
+use messages::Meter;
 use std::alloc::Global;
 
 /// Writes the image in memory to a disk of its size, without a log: block 0, then blocks 2 to the
@@ -18,11 +19,12 @@ use std::alloc::Global;
 ///
 /// `NoMemory` where memory for a block was refused: nothing was written. `Disk` where the disk
 /// failed: what it holds then is not said, but for the above.
-pub(crate) fn write_out<E: Disk>(
+pub(crate) fn write_out<E: Disk, P: Meter>(
     alloc: Global,
     mut memory: MemDisk,
     disk: &mut E,
     sync: bool,
+    progress: &mut P,
 ) -> Result<(), CopyFault>
     requires size { length (E.image disk.old) ≡ length (⟦<MemDisk as Disk>⟧.image memory) }
     requires some { 2 ≤ length (⟦<MemDisk as Disk>⟧.image memory) }
@@ -34,16 +36,17 @@ pub(crate) fn write_out<E: Disk>(
         (IsNoneOr (E.image disk.old) (⟦<MemDisk as Disk>⟧.image memory)) }
 {
     let mut block = Block::zeroed(alloc)?;
-    write_all(&mut memory, disk, sync, &mut block)
+    write_all(&mut memory, disk, sync, &mut block, progress)
 }
 
 // Writes all blocks, the superblock last, with a sync before it and, where that is asked for, one after
 // it.
-fn write_all<E: Disk>(
+fn write_all<E: Disk, P: Meter>(
     memory: &mut MemDisk,
     disk: &mut E,
     sync: bool,
     block: &mut Block,
+    progress: &mut P,
 ) -> Result<(), CopyFault>
     requires size { length (E.image disk.old) ≡ length (⟦<MemDisk as Disk>⟧.image memory.old) }
     requires some { 2 ≤ length (⟦<MemDisk as Disk>⟧.image memory.old) }
@@ -54,17 +57,18 @@ fn write_all<E: Disk>(
     ensures stops { LeavesIfCalm E.Disk disk.old disk.new
         (IsNoneOr (E.image disk.old) (⟦<MemDisk as Disk>⟧.image memory.old)) }
 {
-    write_rest(memory, disk, block)?;
+    write_rest(memory, disk, block, progress)?;
     disk.sync()?;
     write_block(memory, disk, 1, block)?;
     Ok(sync_if(sync, disk)?)
 }
 
 // Writes all blocks but the superblock, in order.
-fn write_rest<E: Disk>(
+fn write_rest<E: Disk, P: Meter>(
     memory: &mut MemDisk,
     disk: &mut E,
     block: &mut Block,
+    progress: &mut P,
 ) -> Result<(), DiskFault>
     requires size { length (E.image disk.old) ≡ length (⟦<MemDisk as Disk>⟧.image memory.old) }
     requires some { 2 ≤ length (⟦<MemDisk as Disk>⟧.image memory.old) }
@@ -78,6 +82,7 @@ fn write_rest<E: Disk>(
     write_block(memory, disk, 0, block)?;
     for b in 2..memory.size() {
         write_block(memory, disk, b, block)?;
+        progress.reached(u64::from(b), u64::from(memory.size()), "blocks");
     }
     Ok(())
 }

@@ -28,7 +28,7 @@ use crate::loading::load;
 use crate::looks::Cat;
 use crate::over_files::OverFiles;
 use blocks::FileFault;
-use cmd::{Access, Command, OnFile, OverFile, open_to_look};
+use cmd::{Access, Command, Locking, Locks, OnFile, OverFile, open_for};
 use messages::{Unwritten, pass_on, write_bytes};
 use model::types::File as Stored;
 use names::{ENTRY_SIZE, Refusal, entries_in, leads_down, number_in};
@@ -44,13 +44,15 @@ use std::rt::Files;
 pub struct Get<'a> {
     /// The path of the image's file.
     pub image: &'a str,
+    /// How its lock is taken.
+    pub locking: Locking,
     /// The file's path in the image.
     pub path: &'a str,
     /// The path of the file that is made.
     pub file: &'a str,
 }
 
-impl<'a, R: Files + AllocGlobal> Command<R> for Get<'a> {
+impl<'a, R: Locks + AllocGlobal> Command<R> for Get<'a> {
     type Refusal = GetRefusal;
 
     ghost done = { λ get. HasGot R.File.remaining R.File.contents get.path.now };
@@ -63,7 +65,7 @@ impl<'a, R: Files + AllocGlobal> Command<R> for Get<'a> {
         }
         let mut bytes = Vec::new(rt.alloc());
         let look = OverFiles(Cat { path: self.path });
-        match OverFile(self.image, Access::Look, look).run(rt, &mut bytes) {
+        match OverFile(self.image, Access::Look(self.locking), look).run(rt, &mut bytes) {
             Ok(()) => write_new(rt, self.file, bytes.as_slice()),
             Err(refusal) => Err(GetRefusal::Of(refusal)),
         }
@@ -109,13 +111,15 @@ fn fault_of(error: io::Error) -> FileFault {
 pub struct GetAll<'a> {
     /// The path of the image's file.
     pub image: &'a str,
+    /// How its lock is taken.
+    pub locking: Locking,
     /// The directory's path in the image.
     pub path: &'a str,
     /// The path of the folder that is made.
     pub folder: &'a str,
 }
 
-impl<'a, R: Files + AllocGlobal> Command<R> for GetAll<'a> {
+impl<'a, R: Locks + AllocGlobal> Command<R> for GetAll<'a> {
     type Refusal = GetRefusal;
 
     ghost done = { λ get. HasGotAll R.File.remaining R.File.contents get.path.now };
@@ -126,7 +130,7 @@ impl<'a, R: Files + AllocGlobal> Command<R> for GetAll<'a> {
         if let Ok(true) = exists(rt, self.folder) {
             return Err(GetRefusal::Made(FileFault::Exists));
         }
-        let mut disk = match open_to_look(rt, self.image) {
+        let mut disk = match open_for(rt, self.image, Access::Look(self.locking)) {
             Ok(disk) => disk,
             Err(fault) => return Err(GetRefusal::Of(OnFile::File(fault))),
         };

@@ -1,4 +1,3 @@
 pub mod Dispatch
 mod Disks
 mod Drawn
-pub mod LockedOut

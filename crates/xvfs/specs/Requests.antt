@@ -16,8 +16,8 @@ use Rattle.cmd.specs.Over.{IsRefusedOn}
 use Rattle.inspect.specs.Causes.{IsHidden, IsUncounted, IsUndrawn, IsUnlisted}
 use Rattle.inspect.specs.Looks.{HasCounted, HasListed, HasLogShown, HasShown as HasBlocksShown}
 use Rattle.player.specs.Causes.{IsNotRecovered, IsUncheckedBy}
-use Rattle.player.specs.Looks.{HasRecovered, HasReported, HasShown}
-use Rattle.player.specs.Showing.{IsNotShown}
+use Rattle.player.specs.Looks.{HasRecovered, HasReported}
+use Rattle.commands.specs.Cats.{HasCat, IsNotCat}
 use Rattle.commands.specs.Pictures.{IsReplayedInto, IsUnpictured}
 use Rattle.commands.specs.Runs.{IsNotRun, IsRun}
 use Rattle.commands.specs.Shown.{IsShownInto, IsUnshown}
@@ -43,8 +43,8 @@ Answers file (Check image all) old new =
     OpensDisk file.remaining file_disk false (λ d e. HasReported file_disk d e old new)
 Answers file (Recover image sync) old new =
     OpensDisk file.remaining file_disk sync (λ d e. HasRecovered file_disk d e old new)
-Answers file (Cat image inum) old new =
-    OpensDisk file.remaining file_disk false (λ d e. HasShown file_disk inum d e old new)
+Answers file (Cat image inum read_only) old new =
+    HasCat file.remaining read_only inum old new
 Answers file (Ls image) old new =
     OpensDisk file.remaining file_disk false (λ d e. HasListed file_disk d e old new)
 Answers file (Df image) old new =
@@ -83,8 +83,8 @@ OnRefused file (Check image all) old new none = Refuses
     (IsRefusedOn file.remaining false none (λ d e. IsUncheckedBy file_disk all d e old new none))
 OnRefused file (Recover image sync) old new none =
     Refuses (IsRefusedOn file.remaining sync none (λ d e. IsNotRecovered file_disk d e none))
-OnRefused file (Cat image inum) old new none = Refuses
-    (IsRefusedOn file.remaining false none (λ d e. IsNotShown file_disk d e inum old new none))
+OnRefused file (Cat image inum read_only) old new none =
+    Refuses (IsNotCat file.remaining read_only inum none)
 OnRefused file (Ls image) old new none =
     Refuses (IsRefusedOn file.remaining false none (λ d e. IsUnlisted file_disk d e none))
 OnRefused file (Df image) old new none =

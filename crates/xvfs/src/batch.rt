@@ -7,11 +7,12 @@ ghost use Rattle.xvfs.specs.Requests.{DoesAll, StopsAt};
 
 use crate::command::{NAME, command};
 use crate::progress::Screen;
+use crate::telling::says_more;
 use blocks::{Disk, FaultyDisk, FileDisk};
-use cmd::{InputFault, end, read_text, script_of};
-use commands::Locks;
+use cmd::{InputFault, Locks, read_text, script_of};
+use inspect::{Given, tell_fault};
 use std::io::{Read, Write};
-use std::rt::{Clock, Files};
+use std::rt::Clock;
 use std::sync::Wait;
 use std::thread::Threads;
 
@@ -20,7 +21,7 @@ use std::thread::Threads;
 /// `command` does, and so nothing to `err` where the status is 0; then each line's command was
 /// done. Status 1, and no command is done, where the text can't be had.
 pub fn commands<
-    R: Files + AllocGlobal + Threads + Wait + Clock + Screen + Locks + Sync,
+    R: Locks + AllocGlobal + Threads + Wait + Clock + Screen + Sync,
     I: Read + Drop,
     O: Write,
     E: Write,
@@ -42,12 +43,24 @@ where
 {
     match read_text(rt.alloc(), input) {
         Ok(text) => perform_text(rt, text.as_str(), out, err),
-        Err(fault) => end(NAME, Err(fault), err),
+        Err(fault) => tell_unread(rt, fault, err),
     }
 }
 
+// Tells why there are no command lines. The exit status.
+fn tell_unread<R: Locks + AllocGlobal + Screen, E: Write>(
+    rt: &R,
+    fault: InputFault,
+    err: &mut E,
+) -> u8
+    ensures { result ≡ 1 }
+{
+    let more = says_more(rt, false);
+    tell_fault(NAME, rt, more, &Given::nothing(), fault, err)
+}
+
 fn perform_text<
-    R: Files + AllocGlobal + Threads + Wait + Clock + Screen + Locks + Sync,
+    R: Locks + AllocGlobal + Threads + Wait + Clock + Screen + Sync,
     O: Write,
     E: Write,
 >(rt: &R, text: &str, out: &mut O, err: &mut E) -> u8
@@ -64,12 +77,12 @@ where
 {
     match script_of(rt.alloc(), text) {
         Ok(lines) => perform_lines(rt, lines.as_slice(), out, err),
-        Err(_) => end(NAME, Err(InputFault::NoMemory), err),
+        Err(_) => tell_unread(rt, InputFault::NoMemory, err),
     }
 }
 
 fn perform_lines<
-    R: Files + AllocGlobal + Threads + Wait + Clock + Screen + Locks + Sync,
+    R: Locks + AllocGlobal + Threads + Wait + Clock + Screen + Sync,
     O: Write,
     E: Write,
 >(rt: &R, lines: &[Vec<&str>], out: &mut O, err: &mut E) -> u8

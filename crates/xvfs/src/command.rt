@@ -6,26 +6,26 @@ ghost use Rattle.xvfs.specs.Files.{ghosts_of};
 ghost use Rattle.xvfs.specs.Requests.{Answers, IsDone, IsRefused, OnRefused, form_asked};
 ghost use Rattle.cli.specs.declared.explanation.Explanation.{Explanation as SomeExplanation};
 
-use crate::locks::lock_image;
 use crate::progress::{Screen, TerminalMeter};
+use crate::sparing::Sparing;
 use crate::stopping::{end_stops, stops_into};
 use crate::telling::{given, says_more};
 use crate::topics::print_topic;
 use arrayvec::ArrayVec;
 use blocks::{Disk, FaultyDisk, FileDisk};
 use cli::{Asked, Request, Topic, parse};
-use cmd::{Access, OverFile, end, perform};
+use cmd::{Access, Locking, Locks, OverFile, end, perform};
 use commands::{
-    Copy, Keeper, Locks, Making, Mkfs, Put, Replay, Rescue, ShowPicture, Target, explain,
+    Cat, Copy, Keeper, Making, Mkfs, Put, Replay, Rescue, ShowPicture, Target, explain,
     replay_into, run_files,
 };
-use inspect::{Df, Line, Ls, Show, ShowLog, tell, tell_fault};
+use inspect::{Df, Line, Ls, Show, ShowLog, tell};
 use messages::Detail;
 use model::types::Form;
-use player::{Cat, Check, Recover};
+use player::{Check, Recover};
 use std::convert::AsStr;
 use std::io::Write;
-use std::rt::{Clock, Files};
+use std::rt::Clock;
 use std::sync::Wait;
 use std::thread::Threads;
 
@@ -44,7 +44,7 @@ pub const NAME: &str = "xvfs";
 /// memory failed, and of an output that failed. With 2 nothing is written to `out`, with 0 nothing
 /// to `err`. What else `err` gets no contract tells, since it may fail at any byte.
 pub fn command<
-    R: Files + AllocGlobal + Threads + Wait + Clock + Screen + Locks + Sync,
+    R: Locks + AllocGlobal + Threads + Wait + Clock + Screen + Sync,
     S: AsStr,
     O: Write,
     E: Write,
@@ -72,7 +72,7 @@ where
 // The same where they ask for no format.
 #[tactic(auto, using(cli::specs::Lemmas::Workers::few_workers))]
 fn command_of<
-    R: Files + AllocGlobal + Threads + Wait + Clock + Screen + Locks + Sync,
+    R: Locks + AllocGlobal + Threads + Wait + Clock + Screen + Sync,
     S: AsStr,
     O: Write,
     E: Write,
@@ -104,7 +104,7 @@ fn target_at<'a, R: Clock + Screen + Locks>(
     rt: &'a R,
     path: &'a str,
     sync: bool,
-    wait: bool,
+    locking: Locking,
 ) -> Target<'a, TerminalMeter<'a, R>, Keeper<'a, R>>
     ensures { result.sync ≡ sync }
 {
@@ -112,14 +112,24 @@ fn target_at<'a, R: Clock + Screen + Locks>(
         path,
         sync,
         progress: TerminalMeter::new(rt),
-        holder: Keeper::new(rt, wait),
+        holder: Keeper::new(rt, locking),
     }
 }
 
-// Does what is asked for where no other program has the image, as `dispatch`, and tells why it was
-// refused; it may be asked to wait. The exit status.
+// How the locks of files are taken, as is asked.
+fn locking_of<'a>(asked: &Asked<Request<'a>>) -> Locking {
+    if asked.no_lock {
+        Locking::Never
+    } else if asked.wait {
+        Locking::Wait
+    } else {
+        Locking::AtOnce
+    }
+}
+
+// Does what is asked for, as `dispatch`, and tells why it was refused. The exit status.
 fn dispatch_alone<
-    R: Files + AllocGlobal + Threads + Wait + Clock + Screen + Locks + Sync,
+    R: Locks + AllocGlobal + Threads + Wait + Clock + Screen + Sync,
     O: Write,
     E: Write,
 >(rt: &R, asked: Asked<Request<'_>>, out: &mut O, err: &mut E) -> u8
@@ -135,29 +145,23 @@ where
         asked.entry.request (O.contents out.old) (O.contents out.new) (out.new ≡ out.old) }
     ensures silent { result ≡ 0 → err.new ≡ err.old }
 {
-    match lock_image(rt, &asked.request, asked.wait) {
-        Ok(_lock) => {
-            let mut line: Line = ArrayVec::new();
-            let status = dispatch(rt, asked.request, asked.wait, out, &mut line);
-            if status > 0 {
-                let more = says_more(rt, asked.explain);
-                tell(rt, more, &given(&asked.request), line.as_slice(), err);
-            }
-            status
-        }
-        Err(fault) => {
-            let more = says_more(rt, asked.explain);
-            tell_fault(NAME, rt, more, &given(&asked.request), fault, err)
-        }
+    let mut line: Line = ArrayVec::new();
+    let status = dispatch(rt, asked.request, locking_of(&asked), out, &mut line);
+    if status > 0 {
+        let more = says_more(rt, asked.explain);
+        tell(rt, more, &given(&asked.request), line.as_slice(), err);
     }
+    status
 }
 
 // Does what is asked for, and prints the answer, or why it was refused. The exit status.
-fn dispatch<
-    R: Files + AllocGlobal + Threads + Wait + Clock + Screen + Locks + Sync,
-    O: Write,
-    E: Write,
->(rt: &R, request: Request<'_>, wait: bool, out: &mut O, err: &mut E) -> u8
+fn dispatch<R: Locks + AllocGlobal + Threads + Wait + Clock + Screen + Sync, O: Write, E: Write>(
+    rt: &R,
+    request: Request<'_>,
+    locking: Locking,
+    out: &mut O,
+    err: &mut E,
+) -> u8
 where
     R::File: Send,
     requires { HasFewWorkers request }
@@ -188,7 +192,7 @@ where
                     ninodes,
                     sync: !no_sync,
                 },
-                holder: Keeper::new(rt, wait),
+                holder: Keeper::new(rt, locking),
             },
             out,
             err,
@@ -197,7 +201,7 @@ where
             perform(
                 NAME,
                 rt,
-                OverFile(image, Access::Look, Check { all }),
+                OverFile(image, Access::Look(locking), Check { all }),
                 out,
                 err,
             )
@@ -209,37 +213,62 @@ where
             perform(
                 NAME,
                 rt,
-                OverFile(image, Access::Change { sync }, recover),
+                OverFile(image, Access::Change { sync, locking }, recover),
                 out,
                 err,
             )
         }
-        Request::Cat { image, inum } => perform(
+        Request::Cat {
+            image,
+            inum,
+            read_only,
+        } => {
+            let cat = Cat {
+                image,
+                inum,
+                read_only,
+                locking,
+            };
+            perform(NAME, rt, cat, out, err)
+        }
+        Request::Ls { image } => perform(
             NAME,
             rt,
-            OverFile(image, Access::Look, Cat(inum)),
+            OverFile(image, Access::Look(locking), Ls),
             out,
             err,
         ),
-        Request::Ls { image } => perform(NAME, rt, OverFile(image, Access::Look, Ls), out, err),
-        Request::Df { image } => perform(NAME, rt, OverFile(image, Access::Look, Df), out, err),
+        Request::Df { image } => perform(
+            NAME,
+            rt,
+            OverFile(image, Access::Look(locking), Df),
+            out,
+            err,
+        ),
         Request::Show { image, inum } => perform(
             NAME,
             rt,
-            OverFile(image, Access::Look, Show(inum)),
+            OverFile(image, Access::Look(locking), Show(inum)),
             out,
             err,
         ),
         Request::ShowLog { image } => {
-            perform(NAME, rt, OverFile(image, Access::Look, ShowLog), out, err)
+            perform(
+                NAME,
+                rt,
+                OverFile(image, Access::Look(locking), ShowLog),
+                out,
+                err,
+            )
         }
         Request::ShowPicture { image, picture } => perform(
             NAME,
             rt,
             ShowPicture {
                 image,
+                locking,
                 picture,
-                holder: Keeper::new(rt, false),
+                holder: Keeper::new(rt, at_once(locking)),
             },
             out,
             err,
@@ -261,6 +290,7 @@ where
                     inum,
                     sync,
                     last: !no_sync,
+                    locking,
                     progress,
                 },
                 out,
@@ -273,12 +303,23 @@ where
             size,
             no_sync,
         } => {
-            let target = target_at(rt, new, !no_sync, wait);
-            perform(NAME, rt, Copy { old, size, target }, out, err)
+            let target = target_at(rt, new, !no_sync, locking);
+            let copy = Copy {
+                old,
+                locking,
+                size,
+                target,
+            };
+            perform(NAME, rt, copy, out, err)
         }
         Request::Rescue { old, new, no_sync } => {
-            let target = target_at(rt, new, !no_sync, wait);
-            perform(NAME, rt, Rescue { old, target }, out, err)
+            let target = target_at(rt, new, !no_sync, locking);
+            let rescue = Rescue {
+                old,
+                locking,
+                target,
+            };
+            perform(NAME, rt, rescue, out, err)
         }
         Request::Replay {
             image,
@@ -291,13 +332,14 @@ where
             picture,
         } => {
             let mut progress = TerminalMeter::beside_lines(rt);
-            let mut holder = Keeper::new(rt, false);
+            let mut holder = Sparing::new(rt, at_once(locking), image);
             let replay = Replay {
                 image,
                 script,
                 schedule,
                 stop,
                 sync,
+                locking,
                 detail: Detail { steps, writes },
             };
             end(
@@ -311,20 +353,32 @@ where
             script,
             workers,
             sync,
-        } => end(NAME, run_files(rt, image, script, workers, sync, out), err),
+        } => end(
+            NAME,
+            run_files(rt, image, script, workers, sync, locking, out),
+            err,
+        ),
         Request::Stops {
             script,
             schedule,
             held,
             picture,
         } => {
-            let mut holder = Keeper::new(rt, false);
+            let mut holder = Keeper::new(rt, at_once(locking));
             end_stops(
                 NAME,
                 stops_into(rt, script, schedule, held, picture, &mut holder, out),
                 err,
             )
         }
+    }
+}
+
+// How the lock of a picture's file is taken, for which nothing waits.
+fn at_once(locking: Locking) -> Locking {
+    match locking {
+        Locking::Wait => Locking::AtOnce,
+        locking => locking,
     }
 }
 

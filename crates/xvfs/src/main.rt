@@ -4,8 +4,8 @@
 
 mod batch;
 mod command;
-mod locks;
 mod progress;
+mod sparing;
 mod stopping;
 mod stops_drawing;
 mod telling;
@@ -13,16 +13,21 @@ mod topics;
 
 use batch::commands;
 use command::{NAME, command};
-use commands::{end_unbegun, words_and_output};
+use commands::{end_unbegun, greet, take_number, words_and_output};
 use std::process::ExitCode;
 
 fn main(rt: HostRuntime) -> ExitCode {
+    // The numbers of the standard streams are taken where they are free, so that no file of an image
+    // gets one of them.
+    let _streams = (take_number(&rt), take_number(&rt), take_number(&rt));
     let mut err = rt.stderr();
     let status = match words_and_output(&rt) {
         Err(unbegun) => end_unbegun(NAME, unbegun, &mut err),
         Ok((words, mut out)) => {
             if words.is_empty() {
-                commands(&rt, rt.stdin(), &mut out, &mut err)
+                let input = rt.stdin();
+                greet(NAME, &input, &mut err);
+                commands(&rt, input, &mut out, &mut err)
             } else {
                 command(&rt, words.as_slice(), &mut out, &mut err)
             }

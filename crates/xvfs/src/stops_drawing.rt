@@ -46,7 +46,7 @@ impl Reason for Undrawn {
 ///
 /// `TooLong` where there are more than `MOST_COLUMNS`, and then the holder is as it was; `Picture` with a
 /// fault of `draw`.
-pub fn draw_passed<R: Files + AllocGlobal, H: Holder>(
+pub fn draw_passed<R: Files + AllocGlobal, H: Holder<R::File>>(
     rt: &R,
     path: &str,
     columns: &[Column],
@@ -66,7 +66,7 @@ pub fn draw_passed<R: Files + AllocGlobal, H: Holder>(
 /// # Errors
 ///
 /// As those of `draw_passed`; `Picture`, too, where a mismatch has no short words.
-pub fn draw_refused<R: Files + AllocGlobal, H: Holder>(
+pub fn draw_refused<R: Files + AllocGlobal, H: Holder<R::File>>(
     rt: &R,
     path: &str,
     columns: &[Column],
@@ -90,7 +90,7 @@ pub fn draw_refused<R: Files + AllocGlobal, H: Holder>(
 }
 
 // Draws the stops that passed, and behind them the one at which an image didn't.
-fn draw_lost<R: Files + AllocGlobal, H: Holder>(
+fn draw_lost<R: Files + AllocGlobal, H: Holder<R::File>>(
     rt: &R,
     path: &str,
     columns: &[Column],
@@ -142,7 +142,7 @@ fn fits(columns: &[Column]) -> Result<(), Undrawn>
 }
 
 // Draws the stops that passed, and the one behind them that didn't, if there is one.
-fn draw_stops<R: Files + AllocGlobal, H: Holder>(
+fn draw_stops<R: Files + AllocGlobal, H: Holder<R::File>>(
     rt: &R,
     path: &str,
     columns: &[Column],

@@ -4,10 +4,10 @@ use cli::Request;
 use inspect::Given;
 use std::io::IsTerminal;
 
-/// Whether more is said of a refusal, in a second line: where that is asked for, or a terminal is at
-/// the standard error.
+/// Whether more is said of a refusal, in a second line: where that is asked for, also by the
+/// environment, or a terminal is at the standard error.
 pub fn says_more<R: Screen>(rt: &R, asked: bool) -> bool {
-    asked || rt.screen().is_terminal()
+    asked || rt.asks_more() || rt.screen().is_terminal()
 }
 
 /// The paths of a request, and what else a refusal may be about.
@@ -21,7 +21,7 @@ pub fn given<'a>(request: &Request<'a>) -> Given<'a> {
         } => Given::making(image, size, ninodes),
         Request::Check { image, .. } => Given::over(image, false),
         Request::Recover { image, .. } => Given::over(image, true),
-        Request::Cat { image, inum } => Given {
+        Request::Cat { image, inum, .. } => Given {
             inum: Some(inum),
             ..Given::over(image, false)
         },

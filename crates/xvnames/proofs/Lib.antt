@@ -1,3 +1,2 @@
 mod Added
 mod Fits
-mod LockedOut

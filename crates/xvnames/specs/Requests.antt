@@ -110,11 +110,6 @@ abbrev pub UndoneAt : List ℕ → (Files → ℕ → List ℕ → Refusal → T
     → Type 0
 UndoneAt path why t = OnTree (IsUndone t.disk path (IsUndoneIn why (names_of path)) t.was t.now)
 
--- a request names an image that is there
-abbrev pub NamesImage : Request → Type 0
-NamesImage (Mkfs image size ninodes files no_sync) = ⊥
-NamesImage request = Unit {0}
-
 -- A request was refused, for a reason of its command; `none` says that nothing was printed.
 abbrev pub OnRefused : {F : Type 0} → (F → Option (List ℕ)) → Request → Option (List ℕ)
     → Option (List ℕ) → Type 0 → Type 0

@@ -6,16 +6,15 @@ ghost use Rattle.xvnames.specs.Requests.{DoesAll, StopsAt};
 
 use crate::command::{NAME, command};
 use crate::telling::Screen;
-use cmd::{InputFault, end, read_text, script_of};
-use commands::Locks;
+use cmd::{InputFault, Locks, read_text, script_of};
+use inspect::{Given, tell_fault};
 use std::io::{Read, Write};
-use std::rt::Files;
 
 /// Does the commands of a text: each line is one, its words have one space between them, and empty
 /// lines are none. Ends at the first whose exit status isn't 0, and answers that, else 0. Prints as
 /// `command` does, and so nothing to `err` where the status is 0; then each line's command was
 /// done. Status 1, and no command is done, where the text can't be had.
-pub fn commands<R: Files + AllocGlobal + Screen + Locks, I: Read + Drop, O: Write, E: Write>(
+pub fn commands<R: Locks + AllocGlobal + Screen, I: Read + Drop, O: Write, E: Write>(
     rt: &R,
     input: I,
     out: &mut O,
@@ -34,11 +33,22 @@ pub fn commands<R: Files + AllocGlobal + Screen + Locks, I: Read + Drop, O: Writ
 {
     match read_text(rt.alloc(), input) {
         Ok(text) => perform_text(rt, text.as_str(), out, err),
-        Err(fault) => end(NAME, Err(fault), err),
+        Err(fault) => tell_unread(rt, fault, err),
     }
 }
 
-fn perform_text<R: Files + AllocGlobal + Screen + Locks, O: Write, E: Write>(
+// Tells why there are no command lines. The exit status.
+fn tell_unread<R: Locks + AllocGlobal + Screen, E: Write>(
+    rt: &R,
+    fault: InputFault,
+    err: &mut E,
+) -> u8
+    ensures { result ≡ 1 }
+{
+    tell_fault(NAME, rt, rt.shows_errors(), &Given::nothing(), fault, err)
+}
+
+fn perform_text<R: Locks + AllocGlobal + Screen, O: Write, E: Write>(
     rt: &R,
     text: &str,
     out: &mut O,
@@ -53,11 +63,11 @@ fn perform_text<R: Files + AllocGlobal + Screen + Locks, O: Write, E: Write>(
 {
     match script_of(rt.alloc(), text) {
         Ok(lines) => perform_lines(rt, lines.as_slice(), out, err),
-        Err(_) => end(NAME, Err(InputFault::NoMemory), err),
+        Err(_) => tell_unread(rt, InputFault::NoMemory, err),
     }
 }
 
-fn perform_lines<R: Files + AllocGlobal + Screen + Locks, O: Write, E: Write>(
+fn perform_lines<R: Locks + AllocGlobal + Screen, O: Write, E: Write>(
     rt: &R,
     lines: &[Vec<&str>],
     out: &mut O,

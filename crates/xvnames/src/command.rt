@@ -1,12 +1,12 @@
 // One command, and the exit status that it ends with.
-ghost use Rattle.std.specs.Prelude.{◌≡◌, ◌≤◌, true, false, map, IfErr, IsOk, OnErr};
+ghost use Rattle.std.specs.Prelude.{◌≡◌, ◌≤◌, false, map};
 ghost use Rattle.cmd.specs.Changes.{change as change_of};
 ghost use Rattle.cmd.specs.Lemmas.Disks.{file_disk};
 ghost use Rattle.cmd.specs.Opened.{OpensDisk};
 ghost use Rattle.cmd.specs.Over.{IsRefusedOn};
 ghost use Rattle.commands.specs.Words.{IsDoneOf, IsMisused, IsRefusedOf};
 ghost use Rattle.names_words.specs.CommandLine.{xvnames_words};
-ghost use Rattle.xvnames.specs.Requests.{Answers, Gets, GetsNot, NamesImage, OnRefused};
+ghost use Rattle.xvnames.specs.Requests.{Answers, Gets, GetsNot, OnRefused};
 ghost use Rattle.xvnames.specs.Making.{IsMadeWith};
 ghost use Rattle.xvnames.specs.Unmade.{IsNotMadeWith};
 ghost use Rattle.cli.specs.declared.explanation.Explanation.{Explanation as SomeExplanation};
@@ -17,16 +17,15 @@ use crate::making::Mkfs;
 use crate::putting::PutFile;
 use crate::telling::{Screen, given};
 use arrayvec::ArrayVec;
-use blocks::{Disk, FileDisk, FileFault};
+use blocks::{Disk, FileDisk};
 use cli::{Asked, parse};
-use cmd::{Access, DiskCommand, OverFile, perform};
-use commands::{Keeper, Locks, Making, Share, explain};
-use inspect::{Line, tell, tell_fault};
+use cmd::{Access, DiskCommand, Locking, Locks, OverFile, perform};
+use commands::{Keeper, Making, explain};
+use inspect::{Line, tell};
 use model::types::Form;
 use names_words::Request;
 use std::convert::AsStr;
 use std::io::Write;
-use std::rt::Files;
 use tree_changes::{MakeDirectory, OverTree, Remove, RemoveDirectory, Rename};
 use tree_looks::{Cat, Get, GetAll, Ls, OverFiles, Paths};
 
@@ -42,7 +41,7 @@ pub const NAME: &str = "xvnames";
 /// opened from a file; or they ask for help or the version, whose text is clap's. With 1 they do too.
 /// Then no disk was opened, or the refusal is that disk's; and nothing was printed, unless the output
 /// failed. With 2 nothing is written to `out`, with 0 nothing to `err`.
-pub fn command<R: Files + AllocGlobal + Screen + Locks, S: AsStr, O: Write, E: Write>(
+pub fn command<R: Locks + AllocGlobal + Screen, S: AsStr, O: Write, E: Write>(
     rt: &R,
     words: &[S],
     out: &mut O,
@@ -66,7 +65,7 @@ pub fn command<R: Files + AllocGlobal + Screen + Locks, S: AsStr, O: Write, E: W
 
 // Does what is asked for where no other program has the image, and tells why it was refused; it may
 // be asked to wait. The exit status.
-fn dispatch_alone<R: Files + AllocGlobal + Screen + Locks, O: Write, E: Write>(
+fn dispatch_alone<R: Locks + AllocGlobal + Screen, O: Write, E: Write>(
     rt: &R,
     asked: Asked<Request<'_>>,
     out: &mut O,
@@ -79,52 +78,31 @@ fn dispatch_alone<R: Files + AllocGlobal + Screen + Locks, O: Write, E: Write>(
         (O.contents out.old) (O.contents out.new) (out.new ≡ out.old) }
     ensures silent { result ≡ 0 → err.new ≡ err.old }
 {
-    match lock_image(rt, &asked.request, asked.wait) {
-        Ok(_lock) => {
-            let mut line: Line = ArrayVec::new();
-            let status = dispatch(rt, &asked, out, &mut line);
-            if status > 0 {
-                let more = asked.explain || rt.shows_errors();
-                tell(rt, more, &given(&asked.request), line.as_slice(), err);
-            }
-            status
-        }
-        Err(fault) => {
-            let more = asked.explain || rt.shows_errors();
-            tell_fault(NAME, rt, more, &given(&asked.request), fault, err)
-        }
+    let mut line: Line = ArrayVec::new();
+    let status = dispatch(rt, &asked, locking_of(&asked), out, &mut line);
+    if status > 0 {
+        let more = asked.explain || rt.shows_errors();
+        tell(rt, more, &given(&asked.request), line.as_slice(), err);
     }
+    status
 }
 
-// Takes the lock of the image that a request names: shared by those that only look.
-fn lock_image<L: Locks>(
-    locks: &L,
-    request: &Request<'_>,
-    wait: bool,
-) -> Result<Option<L::Lock>, FileFault>
-    ensures locked { IfErr result (λ fault. fault ≡ FileFault.Locked) }
-    ensures names { OnErr result (NamesImage request.now) }
-    ensures waits { wait ≡ true → IsOk result }
-{
-    match request {
-        Request::Ls { image, .. } => locks.lock(image, Share::Lookers, wait),
-        Request::Tree { image, .. } => locks.lock(image, Share::Lookers, wait),
-        Request::Cat { image, .. } => locks.lock(image, Share::Lookers, wait),
-        Request::Get { image, .. } => locks.lock(image, Share::Lookers, wait),
-        Request::Put { image, .. } => locks.lock(image, Share::Nobody, wait),
-        Request::Rm { image, .. } => locks.lock(image, Share::Nobody, wait),
-        Request::Mv { image, .. } => locks.lock(image, Share::Nobody, wait),
-        Request::Mkdir { image, .. } => locks.lock(image, Share::Nobody, wait),
-        Request::Rmdir { image, .. } => locks.lock(image, Share::Nobody, wait),
-        // It holds the files that it makes or replaces by a `Keeper`.
-        Request::Mkfs { .. } => Ok(None),
+// How the locks of files are taken, as is asked.
+fn locking_of(asked: &Asked<Request<'_>>) -> Locking {
+    if asked.no_lock {
+        Locking::Never
+    } else if asked.wait {
+        Locking::Wait
+    } else {
+        Locking::AtOnce
     }
 }
 
 // A look at the image in a file.
-fn look<R: Files + AllocGlobal, C: DiskCommand + Drop, O: Write, E: Write>(
+fn look<R: Locks + AllocGlobal, C: DiskCommand + Drop, O: Write, E: Write>(
     rt: &R,
     image: &str,
+    locking: Locking,
     look: C,
     out: &mut O,
     err: &mut E,
@@ -137,13 +115,20 @@ fn look<R: Files + AllocGlobal, C: DiskCommand + Drop, O: Write, E: Write>(
         (O.contents out.old) (O.contents out.new) (out.new ≡ out.old)) r }
     ensures silent { result ≡ 0 → err.new ≡ err.old }
 {
-    perform(NAME, rt, OverFile(image, Access::Look, look), out, err)
+    perform(
+        NAME,
+        rt,
+        OverFile(image, Access::Look(locking), look),
+        out,
+        err,
+    )
 }
 
 // A change of the image in a file.
-fn change<R: Files + AllocGlobal, C: DiskCommand + Drop, O: Write, E: Write>(
+fn change<R: Locks + AllocGlobal, C: DiskCommand + Drop, O: Write, E: Write>(
     rt: &R,
     image: &str,
+    locking: Locking,
     sync: bool,
     change: C,
     out: &mut O,
@@ -157,14 +142,15 @@ fn change<R: Files + AllocGlobal, C: DiskCommand + Drop, O: Write, E: Write>(
         (O.contents out.old) (O.contents out.new) (out.new ≡ out.old)) r }
     ensures silent { result ≡ 0 → err.new ≡ err.old }
 {
-    let access = Access::Change { sync };
+    let access = Access::Change { sync, locking };
     perform(NAME, rt, OverFile(image, access, change), out, err)
 }
 
 // Does what is asked for, and prints the answer, or why it was refused. The exit status.
-fn dispatch<R: Files + AllocGlobal + Locks, O: Write, E: Write>(
+fn dispatch<R: Locks + AllocGlobal, O: Write, E: Write>(
     rt: &R,
     asked: &Asked<Request<'_>>,
+    locking: Locking,
     out: &mut O,
     err: &mut E,
 ) -> u8
@@ -176,15 +162,22 @@ fn dispatch<R: Files + AllocGlobal + Locks, O: Write, E: Write>(
     ensures silent { result ≡ 0 → err.new ≡ err.old }
 {
     match &asked.request {
-        Request::Ls { image, path } => look(rt, image, OverFiles(Ls { path }), out, err),
-        Request::Tree { image, path } => look(rt, image, OverFiles(Paths { path }), out, err),
-        Request::Cat { image, path } => look(rt, image, OverFiles(Cat { path }), out, err),
+        Request::Ls { image, path } => look(rt, image, locking, OverFiles(Ls { path }), out, err),
+        Request::Tree { image, path } => look(
+            rt,
+            image,
+            locking,
+            OverFiles(Paths { path }),
+            out,
+            err,
+        ),
+        Request::Cat { image, path } => look(rt, image, locking, OverFiles(Cat { path }), out, err),
         Request::Get {
             image,
             path,
             file,
             all,
-        } => get(rt, image, path, file, *all, out, err),
+        } => get(rt, image, locking, path, file, *all, out, err),
         Request::Put {
             image,
             file,
@@ -200,6 +193,7 @@ fn dispatch<R: Files + AllocGlobal + Locks, O: Write, E: Write>(
                 path,
                 sync: *sync,
                 last: !*no_sync,
+                locking,
             },
             out,
             err,
@@ -214,7 +208,7 @@ fn dispatch<R: Files + AllocGlobal + Locks, O: Write, E: Write>(
                 change: Remove { path },
                 last: !*no_sync,
             };
-            change(rt, image, *sync, over, out, err)
+            change(rt, image, locking, *sync, over, out, err)
         }
         Request::Mv {
             image,
@@ -227,7 +221,7 @@ fn dispatch<R: Files + AllocGlobal + Locks, O: Write, E: Write>(
                 change: Rename { from, to },
                 last: !*no_sync,
             };
-            change(rt, image, *sync, over, out, err)
+            change(rt, image, locking, *sync, over, out, err)
         }
         Request::Mkdir {
             image,
@@ -239,7 +233,7 @@ fn dispatch<R: Files + AllocGlobal + Locks, O: Write, E: Write>(
                 change: MakeDirectory { path },
                 last: !*no_sync,
             };
-            change(rt, image, *sync, over, out, err)
+            change(rt, image, locking, *sync, over, out, err)
         }
         Request::Rmdir {
             image,
@@ -251,7 +245,7 @@ fn dispatch<R: Files + AllocGlobal + Locks, O: Write, E: Write>(
                 change: RemoveDirectory { path },
                 last: !*no_sync,
             };
-            change(rt, image, *sync, over, out, err)
+            change(rt, image, locking, *sync, over, out, err)
         }
         Request::Mkfs {
             image,
@@ -266,15 +260,16 @@ fn dispatch<R: Files + AllocGlobal + Locks, O: Write, E: Write>(
                 ninodes: *ninodes,
                 sync: !*no_sync,
             };
-            make(rt, image, making, files.as_slice(), asked.wait, out, err)
+            make(rt, image, making, files.as_slice(), locking, out, err)
         }
     }
 }
 
 // Copies a file, or a directory with all below it.
-fn get<R: Files + AllocGlobal, O: Write, E: Write>(
+fn get<R: Locks + AllocGlobal, O: Write, E: Write>(
     rt: &R,
     image: &str,
+    locking: Locking,
     path: &str,
     file: &str,
     all: bool,
@@ -294,6 +289,7 @@ fn get<R: Files + AllocGlobal, O: Write, E: Write>(
             rt,
             GetAll {
                 image,
+                locking,
                 path,
                 folder,
             },
@@ -301,16 +297,22 @@ fn get<R: Files + AllocGlobal, O: Write, E: Write>(
             err,
         );
     }
-    perform(NAME, rt, Get { image, path, file }, out, err)
+    let get = Get {
+        image,
+        locking,
+        path,
+        file,
+    };
+    perform(NAME, rt, get, out, err)
 }
 
 // Makes an image with files.
-fn make<R: Files + AllocGlobal + Locks, O: Write, E: Write>(
+fn make<R: Locks + AllocGlobal, O: Write, E: Write>(
     rt: &R,
     image: &str,
     making: Making,
     files: &[&str],
-    wait: bool,
+    locking: Locking,
     out: &mut O,
     err: &mut E,
 ) -> u8
@@ -326,7 +328,7 @@ fn make<R: Files + AllocGlobal + Locks, O: Write, E: Write>(
         image,
         making,
         files,
-        holder: Keeper::new(rt, wait),
+        holder: Keeper::new(rt, locking),
     };
     perform(NAME, rt, mkfs, out, err)
 }

@@ -67,7 +67,7 @@ pub struct Mkfs<'a, H> {
     pub holder: H,
 }
 
-impl<'a, R: Files + AllocGlobal, H: Holder + Drop> Command<R> for Mkfs<'a, H> {
+impl<'a, R: Files + AllocGlobal, H: Holder<R::File> + Drop> Command<R> for Mkfs<'a, H> {
     type Refusal = MkfsRefusal;
 
     ghost done = { λ mkfs. IsMadeWith ⟦<FileDisk<R::File> as Disk>⟧ mkfs.making
@@ -182,8 +182,8 @@ impl<'a, R: Files + AllocGlobal> MakesThere<R> for Filled<'a> {
 
     ghost files = { λ filled fault. tt };
 
-    fn make_there(&self, rt: &R, path: &str) -> Result<Super, OnFile<FillFault>> {
-        match FileDisk::create(rt, path, self.making.size) {
+    fn make_there(&self, rt: &R, file: R::File) -> Result<Super, OnFile<FillFault>> {
+        match FileDisk::zeroed(rt.alloc(), file, self.making.size) {
             Ok(created) => match fill(rt.alloc(), created, self) {
                 Ok(fields) => Ok(fields),
                 Err(fault) => Err(OnFile::Of(fault)),

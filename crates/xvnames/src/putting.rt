@@ -8,11 +8,12 @@ ghost use Rattle.tree_changes.specs.Room.{HasRoomFor};
 ghost use Rattle.xvnames.specs.Refusals.{HasNoRoom, IsUnput};
 
 use crate::refused::PutRefusal;
-use cmd::{Access, Command, OnFile, OverFile, open_to_look};
+use cmd::{Access, Command, Locking, Locks, OnFile, disk_over, open_image, run_over};
 use commands::bytes_from;
 use model::types::TRANSFER_LIMIT;
-use std::io::Write;
-use std::rt::Files;
+use std::alloc::Global;
+use std::fs::OpenFile;
+use std::io::{Read, Seek, Write};
 use tree_changes::{ChangeRefusal, OverTree, Put, judge_room};
 
 /// Puts the bytes of the file at the path `file` under a path of the image in the file at the path
@@ -30,9 +31,11 @@ pub struct PutFile<'a> {
     pub sync: bool,
     /// Whether it is synced at the end.
     pub last: bool,
+    /// How its lock is taken, once the bytes are read.
+    pub locking: Locking,
 }
 
-impl<'a, R: Files + AllocGlobal> Command<R> for PutFile<'a> {
+impl<'a, R: Locks + AllocGlobal> Command<R> for PutFile<'a> {
     type Refusal = PutRefusal;
 
     ghost done = { λ put. HasPut R.File.remaining put.path.now put.sync put.last };
@@ -45,7 +48,15 @@ impl<'a, R: Files + AllocGlobal> Command<R> for PutFile<'a> {
             Ok(bytes) => bytes,
             Err(fault) => return Err(PutRefusal::Unread(fault)),
         };
-        if let Err(refusal) = judge(rt, self.image, bytes.len()) {
+        let access = Access::Change {
+            sync: self.sync,
+            locking: self.locking,
+        };
+        let file = match open_image(rt, self.image, access) {
+            Ok(file) => file,
+            Err(fault) => return Err(PutRefusal::Of(OnFile::File(fault))),
+        };
+        if let Err(refusal) = judge(rt.alloc(), &file, bytes.len()) {
             return Err(PutRefusal::NoRoom(refusal));
         }
         let put = OverTree {
@@ -55,8 +66,7 @@ impl<'a, R: Files + AllocGlobal> Command<R> for PutFile<'a> {
             },
             last: self.last,
         };
-        let access = Access::Change { sync: self.sync };
-        match OverFile(self.image, access, put).run(rt, out) {
+        match run_over(rt.alloc(), &file, self.sync, put, out) {
             Ok(()) => Ok(()),
             Err(refusal) => Err(PutRefusal::Of(refusal)),
         }
@@ -66,24 +76,24 @@ impl<'a, R: Files + AllocGlobal> Command<R> for PutFile<'a> {
 // Whether that many bytes may be put into the image in a file, as far as that is told before anything
 // of it is changed: no more than one call writes always may. So a file loses no bytes for others that it
 // can't have.
-fn judge<R: Files + AllocGlobal>(
-    rt: &R,
-    image: &str,
+fn judge<F: Read + Write + Seek + OpenFile + Drop>(
+    alloc: Global,
+    file: &F,
     count: usize,
 ) -> Result<(), OnFile<ChangeRefusal>>
     ensures room { OnOk result (transfer_limit < count
-        → OpensDisk R.File.remaining file_disk false (HasRoomFor file_disk count)) }
+        → OpensDisk F.remaining file_disk false (HasRoomFor file_disk count)) }
     ensures many { OnErr result (transfer_limit < count) }
-    ensures refused { IfErr result (HasNoRoom R.File.remaining count) }
+    ensures refused { IfErr result (HasNoRoom F.remaining count) }
 {
     if count <= TRANSFER_LIMIT as usize {
         return Ok(());
     }
-    let mut disk = match open_to_look(rt, image) {
+    let mut disk = match disk_over(alloc, file, false) {
         Ok(disk) => disk,
         Err(fault) => return Err(OnFile::File(fault)),
     };
-    match judge_room(rt.alloc(), &mut disk, count) {
+    match judge_room(alloc, &mut disk, count) {
         Ok(()) => Ok(()),
         Err(refusal) => Err(OnFile::Of(refusal)),
     }

@@ -1,18 +1,18 @@
 // What more is said of a refusal.
-use inspect::Given;
+use inspect::{Given, asks_more};
 use names_words::Request;
 use std::io::{IsTerminal, Stderr};
 
-/// Where it is seen whether a terminal is at the standard error.
+/// Where it is seen whether more is said of each refusal, in a second line.
 pub trait Screen {
-    /// Whether one is.
+    /// Whether a terminal is at the standard error, or the environment asks for that.
     fn shows_errors(&self) -> bool;
 }
 
 impl Screen for HostRuntime {
     fn shows_errors(&self) -> bool {
         let screen: Stderr = self.stderr();
-        screen.is_terminal()
+        screen.is_terminal() || asks_more(self)
     }
 }
 

@@ -1,5 +1,6 @@
 // Calls in a transaction.
 ghost use Rattle.std.specs.Prelude.{◌≡◌, ◌<◌, ◌^◌, IfErr, IfOk, OnOk};
+ghost use Rattle.blocks.specs.Calls.{OnlyReads};
 ghost use Rattle.calls.specs.Calls.{LeavesFiles, call_count};
 ghost use Rattle.calls.specs.Transactions.{Adds, IsInside, IsUncalled, has_room};
 ghost use Rattle.calls.specs.Stepping.{IsReached};
@@ -14,7 +15,7 @@ use model::types::{Op, Reply};
 use ports::{PlainHerald, QueueIntake};
 
 /// Makes an operation in a transaction, from its submission to its answer. Nothing of it is kept
-/// until the commit, and the disk is only read. A creation logs one block at most, a write nine, what
+/// until the commit: however it ends, the disk was neither written nor synced. A creation logs one block at most, a write nine, what
 /// frees blocks two and a look none; so two calls always have room.
 ///
 /// # Errors
@@ -33,6 +34,8 @@ pub fn call<D: Disk>(kernel: &mut Pair<D>, op: Op) -> Result<Reply, TransactionF
     ensures inside { OnOk result (IsInside D.fault_count kernel.new) }
     ensures adds { IfOk result (Adds D.image op kernel.old kernel.new) }
     ensures refused { IfErr result (IsUncalled D.Disk op kernel.old kernel.new) }
+    ensures reads { OnlyReads D.Disk kernel.old.store.volume.device
+        kernel.new.store.volume.device }
     ensures leaves { LeavesFiles D.Disk kernel.old kernel.new }
     ensures reached { IsReached D.Disk kernel.old kernel.new }
     ensures opening { kernel.new.opening ≡ kernel.old.opening }

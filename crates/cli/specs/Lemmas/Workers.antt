@@ -10,7 +10,7 @@ few_by : (name : List ℕ) (rows : List Row) (request : Request) → AsksBy name
 few_by name rows (Mkfs image size ninodes large no_sync) asks = tt
 few_by name rows (Check image all) asks = tt
 few_by name rows (Recover image sync) asks = tt
-few_by name rows (Cat image inum) asks = tt
+few_by name rows (Cat image inum read_only) asks = tt
 few_by name rows (Ls image) asks = tt
 few_by name rows (Df image) asks = tt
 few_by name rows (Show image inum) asks = tt

@@ -25,4 +25,5 @@ returns-in-Some-clause-ok g c =
       };
       wait = says (λ command. Gives (codes "wait") command asked.wait) (rw c.in-Some.is at c.in_ok-asked.ensures.waits);
       explain = says (λ command. Gives (codes "explain") command asked.explain) (rw c.in-Some.is at c.in_ok-asked.ensures.explains);
+      no_lock = says (λ command. Gives (codes "no-lock") command asked.no_lock) (rw c.in-Some.is at c.in_ok-asked.ensures.unlocked);
     }

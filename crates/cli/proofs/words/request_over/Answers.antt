@@ -10,7 +10,7 @@ pub returns-in-recover : goal.returns-in-recover
 returns-in-recover c = (search rules, value_read (found_of c.args.values.now) (codes "IMAGE") _ c.in_ok-image.ensures, flag_read (found_of c.args.values.now) (codes "sync") c.get_flag-in-recover.result c.get_flag-in-recover.ensures.none c.get_flag-in-recover.ensures.value c.get_flag-in-recover.ensures.other)
 
 pub returns-in_ok-get_one-in-cat : goal.returns-in_ok-get_one-in-cat
-returns-in_ok-get_one-in-cat c = (search rules, value_read (found_of c.args.values.now) (codes "IMAGE") _ c.in_ok-image.ensures)
+returns-in_ok-get_one-in-cat c = (search rules, value_read (found_of c.args.values.now) (codes "IMAGE") _ c.in_ok-image.ensures, flag_read (found_of c.args.values.now) (codes "read-only") c.get_flag-in-cat.result c.get_flag-in-cat.ensures.none c.get_flag-in-cat.ensures.value c.get_flag-in-cat.ensures.other)
 
 pub returns-in-ls : goal.returns-in-ls
 returns-in-ls c = (search rules, value_read (found_of c.args.values.now) (codes "IMAGE") _ c.in_ok-image.ensures)

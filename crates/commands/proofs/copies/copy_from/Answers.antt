@@ -29,6 +29,6 @@ returns-in-Ok-clause-copied g c =
     let made = has_made g.R.File.Read.remaining file_disk c.args.size c.args.target.now.sync c.in_ok-size.size c.in_ok-files.files c.args.disk.now c.plan_copy.new.disk c.requires c.plan_copy.ensures.reads c.in_ok-size.ensures.planned.asked (subst (λ (sync : Bool). HasFilled file_disk c.in_ok-size.size sync c.plan_copy.new.disk c.in_ok-files.files) c.hold.ensures.sync (where_made c.fill_file-copied.result c.in_ok-files.files _ c.in_ok-files.was c.fill_file-copied.ensures.filled)) in
     record { count = c.in_ok-files.files; made = made; printed = c.in-Ok.ensures.ok }
 
-pub returns-in-Err-clause-refused : goal.returns-in-Err-clause-refused
-returns-in-Err-clause-refused g c =
+pub returns-clause-refused : goal.returns-clause-refused
+returns-clause-refused g c =
     (c.in_ok-files.files, has_made g.R.File.Read.remaining file_disk c.args.size c.args.target.now.sync c.in_ok-size.size c.in_ok-files.files c.args.disk.now c.plan_copy.new.disk c.requires c.plan_copy.ensures.reads c.in_ok-size.ensures.planned.asked (subst (λ (sync : Bool). HasFilled file_disk c.in_ok-size.size sync c.plan_copy.new.disk c.in_ok-files.files) c.hold.ensures.sync (where_made c.fill_file-copied.result c.in_ok-files.files _ c.in_ok-files.was c.fill_file-copied.ensures.filled)))

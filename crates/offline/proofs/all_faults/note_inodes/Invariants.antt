@@ -1,4 +1,4 @@
-use Rattle.std.proofs.Common.{◌≡◌, ◌⊎◌, ◌-◌, ◌++◌, []}
+use Rattle.std.proofs.Common.{◌≡◌, ◌⊎◌, ◌-◌, []}
 use Rattle.std.specs.List.{flat_map, range_with_len}
 use Rattle.offline.specs.Common.{block_at, inode_block, OnlyReads, places_below, recovered, SameLimits, Stand}
 use Rattle.model.specs.Faults.{inode_faults}
@@ -13,5 +13,5 @@ invariant-loop-i g l =
       limits : SameLimits l.initial.owners l.owners;
       loaded : (l.i ≡ 1) ⊎ (l.block ≡ block_at y (inode_block (l.i - 1)));
       stand : Stand l.initial.owners y [] → Stand l.owners y (places_below y l.i);
-      found : Stand l.initial.owners y [] → l.faults.items ≡ l.initial.faults.items ++ flat_map (inode_faults y) (range_with_len 1 (l.i - 1));
+      heard : Stand l.initial.owners y [] → g.H.HearsFaults.hears l.initial.hearer (flat_map (inode_faults y) (range_with_len 1 (l.i - 1))) l.hearer;
     }

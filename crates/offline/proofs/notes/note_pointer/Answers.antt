@@ -1,19 +1,16 @@
-use Rattle.std.proofs.Common.{sym}
-use Rattle.offline.specs.Common.{append-nil, on_ok_weaker}
 use Rattle.offline.proofs.NoteLemmas.{noted_one}
 use Rattle.offline.proofs.notes.note_pointer.Goals as goal
 
 pub returns-then-owner-clause-noted : goal.returns-then-owner-clause-noted
-returns-then-owner-clause-noted c = λ y.
-    let before = c.args.faults.now.items in
-    on_ok_weaker c.add_if_some.result
-    (λ added earlier stand.
+returns-then-owner-clause-noted g c = λ y earlier stand.
+    let met = g.met.H.HearsFaults in
     let here = c.note-fault.ensures.noted y earlier stand in
-    noted_one y c.args.owner earlier c.args.pointer c.note-fault.new.self c.note-fault.result before c.add_if_some.new.faults.items here.0 here.1 (rw c.if-owner.true added))
-    c.add_if_some.ensures
+    noted_one g.H.HearsFaults.hears met.hears_none met.hears_more y c.args.owner earlier c.args.pointer c.note-fault.new.self c.note-fault.result c.args.hearer.now c.tell_if_some.new.hearer here.0 here.1
+    (rw c.if-owner.true c.tell_if_some.ensures)
 
-pub returns-clause-noted : goal.returns-clause-noted
-returns-clause-noted c = λ y earlier stand.
-    let before = c.args.faults.now.items in
+pub returns-else-owner-clause-noted : goal.returns-else-owner-clause-noted
+returns-else-owner-clause-noted g c = λ y earlier stand.
+    let met = g.met.H.HearsFaults in
     let here = c.note-fault.ensures.noted y earlier stand in
-    noted_one y c.args.owner earlier c.args.pointer c.note-fault.new.self c.note-fault.result before before here.0 here.1 (rw c.if-owner.false (sym (append-nil before)))
+    noted_one g.H.HearsFaults.hears met.hears_none met.hears_more y c.args.owner earlier c.args.pointer c.note-fault.new.self c.note-fault.result c.args.hearer.now c.args.hearer.now here.0 here.1
+    (rw c.if-owner.false (met.hears_none c.args.hearer.now))

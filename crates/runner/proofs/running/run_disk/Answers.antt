@@ -13,14 +13,14 @@ call-called-requires-clause-watches g c κs inside = λ k d low. (c.in-Ok-new.en
 pub close-requires-clause-many : goal.close-requires-clause-many
 close-requires-clause-many g c =
     let called = c.call-called in
-    let same = subst (λ o. IfSome o (λ after. AreSameClients c.in-Ok.made.1.items after.items)) c.in-Some.is called.ensures.same in
+    let same = subst (λ o. IfSome o (λ after. AreSameClients c.in-Ok.made.1.items after.0.items)) c.in-Some.is called.ensures.same in
     let are = same (intake_names c.in-Ok.made.0) c.args.tasks.items c.args.processes c.in-Ok.ensures.clients in
     are.count ∙ sym (many_are g.D.Disk c.args.disk c.in-Ok.made.0 c.in-Ok-open.kernel.herald c.args.processes c.in-Ok-open.kernel called.result.1 c.in-Ok-open.ensures.opened called.ensures.origin)
 
 pub close-requires-clause-rings : goal.close-requires-clause-rings
 close-requires-clause-rings g c =
     let called = c.call-called in
-    let same = subst (λ o. IfSome o (λ after. AreSameClients c.in-Ok.made.1.items after.items)) c.in-Some.is called.ensures.same in
+    let same = subst (λ o. IfSome o (λ after. AreSameClients c.in-Ok.made.1.items after.0.items)) c.in-Some.is called.ensures.same in
     let are = same (intake_names c.in-Ok.made.0) c.args.tasks.items c.args.processes c.in-Ok.ensures.clients in
     have_rings g.D.Disk c.args.disk c.in-Ok.made.0 c.in-Ok-open.kernel.herald c.args.processes c.in-Ok-open.kernel called.result.1 c.in-Ok-open.ensures.opened called.ensures.origin c.args.tasks.items c.in-Some.clients.items are
 
@@ -30,7 +30,7 @@ returns-in-Err-open-clause-refused g c = (not_begun g.D.Disk c.args.disk c.in-Er
 pub returns-in-Some-clause-ran : goal.returns-in-Some-clause-ran
 returns-in-Some-clause-ran g c =
     let called = c.call-called in
-    let same = subst (λ o. IfSome o (λ after. AreSameClients c.in-Ok.made.1.items after.items)) c.in-Some.is called.ensures.same in
+    let same = subst (λ o. IfSome o (λ after. AreSameClients c.in-Ok.made.1.items after.0.items)) c.in-Some.is called.ensures.same in
     let are = same (intake_names c.in-Ok.made.0) c.args.tasks.items c.args.processes c.in-Ok.ensures.clients in
     let law = g.met.D.Disk g.world.𝓛 g.world.𝓜 g.world.𝓡 ((λ s x. x), (λ x. x), (λ x. x), λ x. x) in
     on_ok_weaker c.close.result.0
@@ -45,12 +45,12 @@ returns-in-Some-clause-ran g c =
 pub returns-in-Some-clause-refused : goal.returns-in-Some-clause-refused
 returns-in-Some-clause-refused g c =
     let called = c.call-called in
-    let same = subst (λ o. IfSome o (λ after. AreSameClients c.in-Ok.made.1.items after.items)) c.in-Some.is called.ensures.same in
+    let same = subst (λ o. IfSome o (λ after. AreSameClients c.in-Ok.made.1.items after.0.items)) c.in-Some.is called.ensures.same in
     let are = same (intake_names c.in-Ok.made.0) c.args.tasks.items c.args.processes c.in-Ok.ensures.clients in
     let law = g.met.D.Disk g.world.𝓛 g.world.𝓜 g.world.𝓡 ((λ s x. x), (λ x. x), (λ x. x), λ x. x) in
     let served = is_served g.D.Disk law.has_now c.args.disk c.in-Ok.made.0 c.in-Ok-open.kernel.herald c.args.processes c.in-Ok-open.kernel called.result.1 c.in-Ok-open.ensures.opened called.ensures.origin _ _ called.ensures.known c.close.result.1 c.close.ensures.disk in
     IfErr-weaker c.close.result.0 _ _
-    (not_run g.D.Disk c.args.disk c.close.result.1 c.args.tasks.items c.args.processes (g.O.Write.contents c.args.out.now) (g.O.Write.contents c.close.new.out) (c.close.new.out ≡ c.args.out.now) called.result.1 (intake_names c.in-Ok.made.0) c.in-Some.clients.items served are (keeps_tasks g.D.Disk called.result.1 (intake_names c.in-Ok.made.0) c.args.tasks.items c.args.processes c.in-Some.clients.items are c.close.ensures.own))
+    (not_run g.D.Disk c.args.disk c.close.result.1 c.args.tasks.items c.args.processes (g.O.Write.contents c.args.out.now) (g.O.Write.contents c.close.new.out) (c.close.new.out ≡ c.args.out.now) called.result.1 (intake_names c.in-Ok.made.0) c.in-Some.clients.items served are (keeps_tasks g.D.Disk called.result.1 (intake_names c.in-Ok.made.0) c.args.tasks.items c.args.processes c.in-Some.clients.items are c.close.ensures.own) c.in-Some.is_refused)
     c.close.ensures.refused
 
 pub returns-clause-refused : goal.returns-clause-refused

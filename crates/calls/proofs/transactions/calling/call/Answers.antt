@@ -1,4 +1,5 @@
 use Rattle.std.proofs.Common.{◌≡◌, ◌∙◌, refl, ◌≤◌, ◌⊎◌, ◌+◌, ◌^◌, length, rules, subst, sym, ap, ⊎_elim, arith}
+use Rattle.blocks.specs.Lemmas.Reads.{reads_none}
 use Rattle.ports.specs.History.{first_in}
 use Rattle.ports.specs.Lanes.{polled_after}
 use Rattle.ports.specs.Queues.{polled, waiting}
@@ -38,6 +39,7 @@ returns-then-not-has_room g c =
       inside = search rules;
       adds = search rules;
       refused = record { same = refl; changes = full.0; full = full.1 };
+      reads = reads_none g.D.Disk k.store.volume.device;
       leaves = leaves_still g.D.Disk g.met.D.Disk.has_now k c.known.ensures c.requires.inside.pair.well open_one.quiet;
       reached = reached_none g.D.Disk k;
       opening = refl;
@@ -56,6 +58,7 @@ returns-in-Some g c =
       inside = search rules;
       adds = search rules;
       refused = call_failed g.D.Disk 0 c.args.op c.make_steps-step.result c.args.kernel.now c.make_steps-step.new.kernel (called g at).call c.in-Some.fault (search rules);
+      reads = (left g at).reads;
       leaves = (left g at).leaves;
       reached = (left g at).reached;
       opening = (left g at).opening;
@@ -70,6 +73,7 @@ returns-in-NoMemory g c =
       inside = search rules;
       adds = search rules;
       refused = call_stays g.D.Disk c.args.op c.make_steps-step.result c.args.kernel.now c.make_steps-step.new.kernel (called g at) (search rules);
+      reads = (left g at).reads;
       leaves = (left g at).leaves;
       reached = (left g at).reached;
       opening = (left g at).opening;
@@ -96,6 +100,7 @@ returns-in-Some-poll g c =
           (c.poll.ensures.polled ∙ ap (λ a. polled_after a (polled m.intake 0)) c.poll.ensures.oldest) c.poll.ensures.others;
       adds = subst (λ a. Adds g.D.Disk.image op k c.poll.new.self a.reply) (sym answer) (call_adds g.D.Disk op r k m call so g.met.D.Disk.has_now well c.poll.new.self c.poll.ensures.same);
       refused = search rules;
+      reads = behind.reads;
       leaves = behind.leaves;
       reached = behind.reached;
       opening = behind.opening;

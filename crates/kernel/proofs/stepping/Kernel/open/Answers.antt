@@ -4,7 +4,7 @@ use Rattle.kernel.specs.Opening.{LeavesRecovered}
 use Rattle.inodes.specs.Store.{FitsFiles}
 use Rattle.kernel.proofs.Valid.{agreed_now}
 use Rattle.kernel.proofs.AtOpening.{right_new}
-use Rattle.kernel.proofs.Openings.{super_size, lawful_here, recover_cause, syncs_at_open, opened_form, opened_numbers, empty_left, recover_unwritten, store_is}
+use Rattle.kernel.proofs.Openings.{super_size, lawful_here, recover_cause, syncs_at_open, opened_form, opened_numbers, empty_left, recover_faults, recover_unwritten, store_is}
 use Rattle.kernel.proofs.Ports.{ports_new}
 use Rattle.kernel.proofs.Since.{since_new}
 use Rattle.kernel.specs.Lemmas.Openings.{opened_leaves, lawful_super}
@@ -85,6 +85,7 @@ returns-in-Err-recover-clause-refused g c =
     record {
       cause = (search rules, search rules, c.in-Ok.ensures.ok, cause);
       unwritten = recover_unwritten ℕ g.D.Disk c.args.disk c.check.new.disk c.recover.new.disk c.in-Err-recover.fault reads cause refused.memory;
+      faults = recover_faults ℕ g.D.Disk c.args.disk c.check.new.disk c.recover.new.disk c.in-Err-recover.fault c.in-Ok.ensures.faults cause refused.memory;
       name = c.recover.ensures.name ∙ reads.name;
       leaves = opened_leaves g.D.Disk c.args.disk c.check.new.disk c.recover.new.disk reads c.recover.ensures.stops;
       plain = λ free. c.recover.ensures.stops.plain (ap g.D.Disk.holding reads.name ∙ free) ∙ reads.syncs;

@@ -1,20 +1,28 @@
-use Rattle.std.proofs.Common.{◌∙◌, ◌<◌, ℕ, false, subst}
+use Rattle.std.proofs.Common.{◌∙◌, ◌<◌, ℕ, [], arith, false, refl, subst}
 use Rattle.cmd.specs.Lemmas.Disks.{file_disk}
 use Rattle.cmd.specs.Opened.{OpensDisk}
 use Rattle.model.specs.Operations.{transfer_limit}
 use Rattle.tree_changes.specs.Room.{HasRoomFor}
 use Rattle.xvnames.proofs.putting.PutFileCommand.run.Goals as goal
 
-pub returns-in-Ok-run-clause-done : goal.returns-in-Ok-run-clause-done
-returns-in-Ok-run-clause-done g c = record {
+-- no file was opened, and so nothing tells how many bytes were to be put
+pub returns-in-Err-open_image-clause-refused : goal.returns-in-Err-open_image-clause-refused
+returns-in-Err-open_image-clause-refused g c = record {
+  bytes = [];
+  refused = refl;
+  room = λ many. absurd (omega (arith, many));
+}
+
+pub returns-in-Ok-run_over-clause-done : goal.returns-in-Ok-run_over-clause-done
+returns-in-Ok-run_over-clause-done g c = record {
   bytes = c.in-Ok.bytes.items;
-  put = c.in-Ok-run.ensures.done;
+  put = c.in-Ok-run_over.ensures.done;
   room = subst (λ (n : ℕ). transfer_limit < n → OpensDisk g.R.File.Read.remaining file_disk false (HasRoomFor file_disk n)) (c.len.ensures ∙ c.in-Ok.bytes.ok.0) c.in_default.ensures.room;
 }
 
-pub returns-in-Err-run-clause-refused : goal.returns-in-Err-run-clause-refused
-returns-in-Err-run-clause-refused g c = record {
+pub returns-clause-refused : goal.returns-clause-refused
+returns-clause-refused g c = record {
   bytes = c.in-Ok.bytes.items;
-  refused = c.in-Err-run.ensures.refused;
+  refused = c.in-Err-run_over.ensures.refused;
   room = subst (λ (n : ℕ). transfer_limit < n → OpensDisk g.R.File.Read.remaining file_disk false (HasRoomFor file_disk n)) (c.len.ensures ∙ c.in-Ok.bytes.ok.0) c.in_default.ensures.room;
 }
