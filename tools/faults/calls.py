@@ -35,15 +35,20 @@ def is_kept(line, old, new, usual):
     return files is not None and files.get(1) == (2, SHORT)
 
 
-def is_done(after, usual, call):
-    """Whether all is there that a run leaves. Where OLD's permissions aren't told NEW may be its owner's alone,
-    and what can't be removed stays."""
+def holds_alike(new, usual):
+    """Whether two images have the same files."""
+    return image.files_of(new or b"") == image.files_of(usual) is not None
+
+
+def is_done(after, usual, call, free):
+    """Whether all is there that a run leaves, but for what is judged by its files. Where OLD's permissions aren't
+    told NEW may be its owner's alone, and what can't be removed stays."""
     if call == "unlink":
         after = {name: found for name, found in after.items() if not name.endswith(".xvfs-new")}
     narrow = "-rw-------"
     return sorted(after) == sorted(usual) and all(
         (found[2], found[0] == narrow or found[0] == usual[name][0]) == (usual[name][2], True)
-        for name, found in after.items())
+        for name, found in after.items() if name not in free)
 
 
 def judge(line, room, before, usual_end, usual, end, call):
@@ -59,7 +64,9 @@ def judge(line, room, before, usual_end, usual, end, call):
         # What may not be written is read alone.
         after = {**after, "a.img": usual.listing()["a.img"]}
     if end.status == 0:
-        done = line.startswith("run ") or (end.out == usual_end.out and is_done(after, usual.listing(), call))
+        # A put that has no place for a new file goes through the log.
+        logged = {"a.img"} if line == "put a.img long --sync" and holds_alike(room.bytes(), usual.bytes()) else set()
+        done = line.startswith("run ") or (end.out == usual_end.out and is_done(after, usual.listing(), call, logged))
         return None if done else f"status 0, and not what was to be done: {changed(usual.listing(), after)}"
     if end.status != 1 or not REFUSAL.fullmatch(end.err):
         return short_of(end)

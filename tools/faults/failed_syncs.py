@@ -144,14 +144,22 @@ def groups_in(line, before, known):
             return most
 
 
+def room_of(line, before):
+    """A room with that image; what a put of many bytes is made in has two names, so that its log is written."""
+    room = ROOMS.room(a=before)
+    if line.startswith("put a.img long"):
+        os.link(room.path("a.img"), room.path("a.img.name"))
+    return room
+
+
 def failed_sync(line, before):
     """One command with each of its syncs failing, then each second one."""
     known, chance, total = {}, random.Random(4), 0
     groups = groups_in(line, before, known) if line.startswith("replay") else None
-    _end, events = traced(ROOMS.room(a=before), line)
+    _end, events = traced(room_of(line, before), line)
     syncs = sum(1 for event in events if event is True)
     for at in range(1, syncs + 1, 1 if ALL else max(1, syncs // 40)):
-        room = ROOMS.room(a=before)
+        room = room_of(line, before)
         end, events = traced(room, line, f"sync@a.img:{at}:eio")
         if end.status != 1:
             yield f"sync {at}", short_of(end)

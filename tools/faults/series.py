@@ -26,11 +26,13 @@ BEHIND_LOG = 33 * 1024
 class Trial:
     """A run of the program over an image of its own, in a folder of its own."""
 
-    def __init__(self, image, words, call=None, at=0, how=None, power=None, over="a.img"):
+    def __init__(self, image, words, call=None, at=0, how=None, power=None, over="a.img", names=1):
         self.folder = tempfile.TemporaryDirectory(dir=WORK)
         self.image = os.path.join(self.folder.name, "a.img")
         if image is not None:
             self.put("a.img", image)
+        if names == 2:
+            os.link(self.image, self.image + ".name")
         for name, text in FILES.items():
             self.put(name, text)
         env = dict(os.environ, LD_PRELOAD=WORK + "/faults.so", FAULTS_FILE=over)
@@ -130,10 +132,10 @@ def places(count, most=MOST):
     return range(1, count + 1, max(1, -(-count // most)))
 
 
-def count_calls(words, call, image, over="a.img"):
+def count_calls(words, call, image, over="a.img", names=1):
     """How many calls of that kind a run makes."""
     low, high = 0, 1
-    shows = lambda n: Trial(image, words, call, n, "kill", over=over).status == -signal.SIGKILL
+    shows = lambda n: Trial(image, words, call, n, "kill", over=over, names=names).status == -signal.SIGKILL
     while shows(high):
         low, high = high, high * 2
     while high - low > 1:
@@ -236,10 +238,11 @@ def mkfs(call, how, old):
 
 def put(call, how, seed=None):
     """A new file beside one that is there: the old one stays, and the new one is a first part; with a seed
-    also where it syncs, and the power is cut."""
+    also where it syncs an image with two names, and the power is cut."""
     words = ["put", "a.img", "long", *(["--sync"] if seed else [])]
-    for at in places(count_calls(words, call, ONE_FILE)):
-        trial = Trial(ONE_FILE, words, call, at, how, power=seed and seed * 1000 + at)
+    names = 2 if seed else 1
+    for at in places(count_calls(words, call, ONE_FILE, names=names)):
+        trial = Trial(ONE_FILE, words, call, at, how, power=seed and seed * 1000 + at, names=names)
         whole = trial.run("recover", "a.img").returncode == 0 and trial.checked().startswith("sound")
         old, new = trial.run("cat", "a.img", "1").stdout, trial.run("cat", "a.img", "2").stdout
         if not whole or old != FILES["short"] or not FILES["long"].startswith(new):
@@ -253,8 +256,9 @@ def put(call, how, seed=None):
 def put_over(call, how, seed=None):
     """In place of a file, with room for both: its old bytes are there, or the new ones, as its own or a new file's."""
     words = ["put", "a.img", "long", "1", *(["--sync"] if seed else [])]
-    for at in places(count_calls(words, call, ONE_FILE)):
-        trial = Trial(ONE_FILE, words, call, at, how, power=seed and seed * 1000 + at)
+    names = 2 if seed else 1
+    for at in places(count_calls(words, call, ONE_FILE, names=names)):
+        trial = Trial(ONE_FILE, words, call, at, how, power=seed and seed * 1000 + at, names=names)
         whole = trial.run("recover", "a.img").returncode == 0 and trial.checked().startswith("sound")
         numbers = [line.split()[0] for line in trial.run("ls", "a.img").stdout.decode().splitlines()]
         files = {number: trial.run("cat", "a.img", number).stdout for number in numbers}
@@ -266,6 +270,22 @@ def put_over(call, how, seed=None):
             yield at, f"status 0, {len(files)} files"
         else:
             yield at, None
+
+
+def put_anew(call, how, inum, seed=None):
+    """By way of a new file: the image is as it was, to the byte, or has all of the bytes; with a seed the power
+    is cut, too."""
+    words, over = ["put", "a.img", "long", *inum, "--sync"], "a.img.xvfs-new"
+    usual = Trial(ONE_FILE, words).bytes()
+    for at in places(count_calls(words, call, ONE_FILE, over)):
+        trial = Trial(ONE_FILE, words, call, at, how, power=seed and seed * 1000 + at, over=over)
+        done = trial.status == 0 if how in ("short", "eintr") else trial.status in (1, -signal.SIGKILL)
+        good = done and trial.bytes() == (usual if trial.status == 0 else ONE_FILE)
+        beside = os.path.exists(os.path.join(trial.folder.name, over))
+        good = good and beside == (trial.status == -signal.SIGKILL)
+        if beside:
+            good = good and trial.run(*words).returncode == 0 and trial.bytes() == usual
+        yield at, None if good else f"status {trial.status}: {trial.err.strip()}, {trial.checked()}"
 
 
 def put_few(call, how, inum, seed=None):
@@ -290,7 +310,8 @@ def syncs():
     """How often a command syncs the file that it writes."""
     for line, over, least, most in [
             ("put a.img short", "a.img", 1, 1), ("put a.img short --no-sync", "a.img", 0, 0),
-            ("put a.img short --sync", "a.img", 6, 6), ("put a.img long --sync", "a.img", 8, 200),
+            ("put a.img short --sync", "a.img", 6, 6), ("put a.img long --sync", "a.img", 0, 0),
+            ("put a.img long --sync", "a.img.xvfs-new", 2, 2),
             ("mkfs a.img 200 32", "a.img.xvfs-new", 1, 1), ("mkfs a.img 200 32 --no-sync", "a.img.xvfs-new", 0, 0),
             ("copy a.img b.img", "b.img", 2, 2), ("copy a.img b.img --sync", "b.img", 2, 2),
             ("copy a.img b.img --no-sync", "b.img", 1, 1)]:
@@ -446,5 +467,8 @@ SERIES += [(put, call, how) for call in ("write", "lseek") for how in HOWS[call]
 SERIES += [(put, "write", "kill", seed) for seed in (1, 2, 3)] + [(syncs,)]
 SERIES += [(put_over, call, how) for call in ("write", "lseek") for how in HOWS[call]]
 SERIES += [(put_over, "write", "kill", seed) for seed in (1, 2, 3)]
+SERIES += [(put_anew, call, how, inum) for inum in ([], ["1"]) for call in ("write", "lseek", "fdatasync", "ftruncate")
+           for how in HOWS[call]]
+SERIES += [(put_anew, "write", "kill", inum, seed) for inum in ([], ["1"]) for seed in (1, 2)]
 SERIES += [(put_few, call, how, inum) for inum in ([], ["1"]) for call in ("write", "lseek") for how in HOWS[call]]
 SERIES += [(put_few, "write", "kill", inum, seed) for inum in ([], ["1"]) for seed in (1, 2)]

@@ -6,7 +6,7 @@ use Rattle.model.specs.Verdict.{verdict}
 use Rattle.transfer.specs.Putting.{IsPut, IsUnput}
 use Rattle.transfer.specs.Stopped.{StopsPut}
 use Rattle.transfer.specs.declared.refused.PutRefusal.{PutRefusal}
-use Rattle.commands.specs.Puts.{IsUnputOver, PutsOver}
+use Rattle.commands.specs.PutsOver.{IsUnputOver, PutsOver}
 
 module _ {D N : Type 0} (disk : Ghosts D N) (inum : Option ℕ) (bytes : List ℕ) (last : Bool) (d e : D) (stops : verdict (disk.image d) ≡ None → StopsPut disk inum bytes d e) where
   pub put_over : (r : Result (Unit {0}) PutRefusal) (old new : Option (List ℕ)) → OnOk r (IsPut disk inum bytes last d e old new) → OnOk r (PutsOver disk inum bytes last d e old new)

@@ -1,3 +1,5 @@
+pub mod PutsOver
+pub mod PutsAnew
 pub mod Puts
 pub mod Refusals
 pub mod Cats

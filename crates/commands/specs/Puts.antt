@@ -1,36 +1,23 @@
 -- What became of the disk in a file into which a file of the system was put.
-use Rattle.std.specs.Prelude.{◌≡◌, ℕ, Bool, List, Option, None}
-use Rattle.blocks.specs.declared.disk.Disk.{Ghosts}
+use Rattle.std.specs.Prelude.{◌⊎◌, ℕ, Bool, IsTrue, List, Option}
 use Rattle.cmd.specs.Lemmas.Disks.{file_disk}
 use Rattle.cmd.specs.Opened.{OpensDisk}
 use Rattle.cmd.specs.Over.{IsRefusedOn}
 use Rattle.cmd.specs.declared.files.OnFile.{OnFile}
-use Rattle.model.specs.Verdict.{verdict}
-use Rattle.transfer.specs.Putting.{IsPut, IsUnput}
-use Rattle.transfer.specs.Stopped.{StopsPut}
 use Rattle.transfer.specs.declared.refused.PutRefusal.{PutRefusal}
+use Rattle.commands.specs.PutsAnew.{HasPutAnew, IsUnputAnew, PrintsPut}
+use Rattle.commands.specs.PutsOver.{IsUnputOver, PutsOver}
 use Rattle.commands.specs.declared.refused.PutFileRefusal.{PutFileRefusal}
 use Rattle.commands.specs.declared.refused.PutFileRefusal.TheVariants.{Unread, Of}
 
--- the bytes were put on the disk d, now e, which was synced at the end where `last` says so, here and
--- below; and what a stop leaves of that
-pub record PutsOver {D N : Type 0} (disk : Ghosts D N) (inum : Option ℕ) (bytes : List ℕ)
-    (last : Bool) (d e : D) (old new : Option (List ℕ)) : Type 0 where
-  pub put : IsPut disk inum bytes last d e old new
-  pub stops : StopsPut disk inum bytes d e
-
--- or they were not, for this reason
-pub record IsUnputOver {D N : Type 0} (disk : Ghosts D N) (inum : Option ℕ) (bytes : List ℕ)
-    (last : Bool) (none : Type 0) (d e : D) (r : PutRefusal) : Type 0 where
-  pub why : IsUnput disk inum bytes last d e none r
-  pub stops : verdict (disk.image d) ≡ None → StopsPut disk inum bytes d e
-
--- the bytes of some file were put on the disk of a file, which holds writes back where `sync` says so
+-- The bytes of some file were put on the disk of a file, which holds writes back where `sync` says so.
+-- Where it does, more than one write moves may be put by way of a new file.
 pub record HasPut {F : Type 0} (remaining : F → Option (List ℕ)) (inum : Option ℕ)
     (sync last : Bool) (old new : Option (List ℕ)) : Type 0 where
   pub bytes : List ℕ
   pub put : OpensDisk remaining file_disk sync
       (λ d e. PutsOver file_disk inum bytes last d e old new)
+      ⊎ (IsTrue sync × PrintsPut remaining inum bytes old new)
 
 -- or were not, for this reason
 pub record HasNotPut {F : Type 0} (remaining : F → Option (List ℕ)) (inum : Option ℕ)
@@ -38,6 +25,7 @@ pub record HasNotPut {F : Type 0} (remaining : F → Option (List ℕ)) (inum : 
   pub bytes : List ℕ
   pub refused : IsRefusedOn remaining sync none
       (λ d e. IsUnputOver file_disk inum bytes last none d e) r
+      ⊎ (IsTrue sync × IsUnputAnew remaining inum bytes none r)
 
 -- Where the command was refused: the file's bytes could not be had, and then no disk was opened; or
 -- the disk could not be opened, or was, and the bytes were not put. `none` says that nothing was

@@ -121,7 +121,8 @@ fn may_be_written<R: Files>(rt: &R, path: &str) -> bool {
     }
 }
 
-fn write_whole<O: Write>(out: &mut O, bytes: &[u8]) -> Result<(), Unwritten>
+// Writes bytes, as the last text of a command.
+pub fn write_whole<O: Write>(out: &mut O, bytes: &[u8]) -> Result<(), Unwritten>
     ensures { OnOk result (Appends (O.contents out.old) (O.contents out.new) bytes.now) }
 {
     write_bytes(out, bytes)?;

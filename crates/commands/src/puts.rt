@@ -1,12 +1,17 @@
 // The command that puts a file of the system into an image.
-ghost use Rattle.commands.specs.Puts.{HasPut, IsUnputOver, OnPutRefusal, PutsOver};
+ghost use Rattle.std.specs.Prelude.{◌≡◌, IfErr, IfOk};
+ghost use Rattle.commands.specs.Puts.{HasPut, OnPutRefusal};
+ghost use Rattle.commands.specs.PutsAnew.{HasPutIfSo, IsUnputAnew};
+ghost use Rattle.commands.specs.PutsOver.{IsUnputOver, PutsOver};
 
+use crate::holding::Holder;
+use crate::puts_anew::{PutAnew, put_anew};
 use crate::refused::{PutFileRefusal, ReadFault};
 use blocks::Disk;
-use cmd::{Access, Command, DiskCommand, Locking, Locks, OverFile};
+use cmd::{Access, Command, DiskCommand, Locking, Locks, OnFile, OverFile};
 use layout::greatest_size;
 use messages::Meter;
-use model::types::Form;
+use model::types::{Form, TRANSFER_LIMIT};
 use std::alloc::Global;
 use std::fs::File;
 use std::io;
@@ -17,11 +22,16 @@ use transfer::{PutRefusal, put_disk};
 /// Puts the bytes of the file at the path `file` into the image in the file at the path `image`, as
 /// `put_disk`.
 ///
+/// With `sync`, more bytes than one write moves are put into a copy of the image, which is written to a
+/// file beside it, synced, and then takes its name: the image is the old one or the new one, whatever
+/// stops the system. So it is where the image is in a plain file with one name, whose folder has a place
+/// for a new file with the same owner; else the image's log is written.
+///
 /// It is refused for the first of these. `Unread` where the file can't be read, or with `NoMemory`,
-/// and then nothing else was done; `Of` with a fault of `FileDisk::open` or a refusal of `put_disk`.
-/// No contract of std says which bytes a path's file has.
+/// and then nothing else was done; `Of` with a fault of `FileDisk::open` or a refusal of `put_disk`, or of
+/// the new file, and then the old one stands. No contract of std says which bytes a path's file has.
 #[derive(Drop)]
-pub struct Put<'a, P> {
+pub struct Put<'a, P, H> {
     /// The path of the image's file.
     pub image: &'a str,
     /// The path of the file whose bytes are put.
@@ -36,9 +46,12 @@ pub struct Put<'a, P> {
     pub locking: Locking,
     /// Who is told how far the put is.
     pub progress: P,
+    /// Who holds the files where a new one is made.
+    pub holder: H,
 }
 
-impl<'a, R: Locks + AllocGlobal, P: Meter + Drop> Command<R> for Put<'a, P> {
+impl<'a, R: Locks + AllocGlobal, P: Meter + Drop, H: Holder<R::File> + Drop> Command<R>
+    for Put<'a, P, H> {
     type Refusal = PutFileRefusal;
 
     ghost done = { λ put. HasPut R.File.remaining put.inum put.sync put.last };
@@ -48,21 +61,55 @@ impl<'a, R: Locks + AllocGlobal, P: Meter + Drop> Command<R> for Put<'a, P> {
 
     fn run<O: Write>(self, rt: &R, out: &mut O) -> Result<(), PutFileRefusal> {
         let bytes = bytes_from(rt, self.file)?;
+        let Put {
+            image,
+            inum,
+            sync,
+            last,
+            locking,
+            progress,
+            mut holder,
+            ..
+        } = self;
+        if sync {
+            match put_whole(rt, image, bytes.as_slice(), inum, &mut holder, out) {
+                Ok(true) => return Ok(()),
+                Ok(false) => {}
+                Err(refusal) => return Err(PutFileRefusal::Of(refusal)),
+            }
+        }
+        let access = Access::Change { sync, locking };
         let put = PutBytes {
             bytes,
-            inum: self.inum,
-            last: self.last,
-            progress: self.progress,
+            inum,
+            last,
+            progress,
         };
-        let access = Access::Change {
-            sync: self.sync,
-            locking: self.locking,
-        };
-        match OverFile(self.image, access, put).run(rt, out) {
+        match OverFile(image, access, put).run(rt, out) {
             Ok(()) => Ok(()),
             Err(refusal) => Err(PutFileRefusal::Of(refusal)),
         }
     }
+}
+
+// Puts bytes by way of a new file where that is the way. False where it isn't, and then nothing was done.
+fn put_whole<R: Locks + AllocGlobal, H: Holder<R::File>, O: Write>(
+    rt: &R,
+    image: &str,
+    bytes: &[u8],
+    inum: Option<u32>,
+    holder: &mut H,
+    out: &mut O,
+) -> Result<bool, OnFile<PutRefusal>>
+    ensures put { IfOk result (HasPutIfSo R.File.remaining inum bytes.now
+        (O.contents out.old) (O.contents out.new) (out.new ≡ out.old)) }
+    ensures refused { IfErr result
+        (IsUnputAnew R.File.remaining inum bytes.now (out.new ≡ out.old)) }
+{
+    if bytes.len() <= TRANSFER_LIMIT as usize {
+        return Ok(false);
+    }
+    put_anew(rt, &PutAnew { image, bytes, inum }, holder, out)
 }
 
 // Puts these bytes.

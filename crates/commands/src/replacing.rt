@@ -1,5 +1,5 @@
 // A new file in place of the one at a path, which is kept until the new one is whole.
-ghost use Rattle.std.specs.Prelude.{IfErr, IfOk};
+ghost use Rattle.std.specs.Prelude.{IfErr, IfOk, IfSome};
 ghost use Rattle.cmd.specs.declared.files.OnFile.{OnFile as SomeOnFile};
 ghost use Rattle.cmd.specs.declared.files.OnFile.TheVariants as on;
 ghost use Rattle.blocks.specs.declared.errors.FileFault.{FileFault as SomeFileFault};
@@ -82,6 +82,106 @@ pub fn make_in_place<R: Files + AllocGlobal, M: MakesThere<R>, H: Holder<R::File
     }
 }
 
+/// The same in place of a plain file with one name, and of nothing else: none where that isn't so, or its
+/// folder has no place for a new file with its owner. Then by its code nothing was done.
+///
+/// # Errors
+///
+/// As those of `make_in_place`, but that a folder without a place for it is no error.
+pub fn make_instead<R: Files + AllocGlobal, M: MakesThere<R>, H: Holder<R::File>>(
+    rt: &R,
+    image: &str,
+    making: &M,
+    holder: &mut H,
+) -> Result<Option<M::Made>, OnFile<M::Fault>>
+    requires { M.can making.now }
+    ensures made { IfOk result (λ made. IfSome made (M.made making.now)) }
+    ensures unmade { IfErr result (M.unmade making.now) }
+{
+    match home_of(rt, image) {
+        Ok(Some(home)) if has_one_name(rt, home.as_str()) => {
+            make_alike(rt, home.as_str(), making, holder)
+        }
+        Ok(_) => Ok(None),
+        Err(fault) => Err(OnFile::File(fault)),
+    }
+}
+
+fn has_one_name<R: Files>(rt: &R, path: &str) -> bool {
+    matches!(symlink_metadata(rt, path), Ok(found) if found.is_file() && found.nlink() == 1)
+}
+
+// Makes something in a file beside `home` that has its owner, and then takes its name. None where there
+// is no place for such a file.
+fn make_alike<R: Files + AllocGlobal, M: MakesThere<R>, H: Holder<R::File>>(
+    rt: &R,
+    home: &str,
+    making: &M,
+    holder: &mut H,
+) -> Result<Option<M::Made>, OnFile<M::Fault>>
+    requires { M.can making.now }
+    ensures made { IfOk result (λ made. IfSome made (M.made making.now)) }
+    ensures unmade { IfErr result (M.unmade making.now) }
+{
+    let beside = match beside_of(rt.alloc(), home) {
+        Ok(beside) => beside,
+        Err(_) => return Err(OnFile::File(FileFault::NoMemory)),
+    };
+    let path = beside.as_str();
+    match hold_alike(rt, path, home, holder) {
+        Ok(Some(file)) => match make_synced(rt, path, home, &file, making, true, holder) {
+            Ok(made) => Ok(Some(made)),
+            Err(refused) => Err(refused),
+        },
+        Ok(None) => Ok(None),
+        Err(fault) => Err(OnFile::File(fault)),
+    }
+}
+
+// Holds a file at a path that has the owner of another. None where there is no place for one.
+fn hold_alike<R: Files, H: Holder<R::File>>(
+    rt: &R,
+    path: &str,
+    home: &str,
+    holder: &mut H,
+) -> Result<Option<R::File>, FileFault> {
+    match holder.hold_left(path, mode_there(rt, home)) {
+        Ok(file) => {
+            if give_owner(rt, path, home).is_ok() {
+                return Ok(Some(file));
+            }
+            let _gone = remove_file(rt, path);
+            Ok(None)
+        }
+        Err(FileFault::Open | FileFault::Exists) => Ok(None),
+        Err(fault) => Err(fault),
+    }
+}
+
+// Makes something in the file at a path, which is held and then takes the name `home`, and syncs the
+// folder where that is asked for.
+fn make_synced<R: Files + AllocGlobal, M: MakesThere<R>, H: Holder<R::File>>(
+    rt: &R,
+    path: &str,
+    home: &str,
+    file: &R::File,
+    making: &M,
+    sync: bool,
+    holder: &mut H,
+) -> Result<M::Made, OnFile<M::Fault>>
+    requires { M.can making.now }
+    ensures made { IfOk result (M.made making.now) }
+    ensures unmade { IfErr result (M.unmade making.now) }
+{
+    match make_held(rt, path, home, file, making, holder) {
+        Ok(made) => match sync_folder(rt, home, sync) {
+            Ok(()) => Ok(made),
+            Err(fault) => Err(OnFile::File(fault)),
+        },
+        Err(refused) => Err(refused),
+    }
+}
+
 // The name that a new file with an image at this path is given. None where it is made at the path.
 fn home_of<R: Files + AllocGlobal>(rt: &R, path: &str) -> Result<Option<String>, FileFault> {
     match symlink_metadata(rt, path) {
@@ -143,13 +243,7 @@ fn make_beside<R: Files + AllocGlobal, M: MakesThere<R>, H: Holder<R::File>>(
     };
     let path = beside.as_str();
     match holder.hold_left(path, mode_there(rt, home)) {
-        Ok(file) => match make_held(rt, path, home, &file, making, holder) {
-            Ok(made) => match sync_folder(rt, home, sync) {
-                Ok(()) => Ok(made),
-                Err(fault) => Err(OnFile::File(fault)),
-            },
-            Err(refused) => Err(refused),
-        },
+        Ok(file) => make_synced(rt, path, home, &file, making, sync, holder),
         Err(fault) => Err(OnFile::File(fault)),
     }
 }
@@ -280,11 +374,18 @@ fn name_new<R: Files, H: Holder<R::File>>(
 
 // Gives a file the name of another, its owner and its permissions.
 fn replace<R: Files>(rt: &R, path: &str, name: &str) -> Result<(), FileFault> {
+    give_owner(rt, path, name)?;
     let old = metadata(rt, name).map_err(|error| fault_of(error))?;
-    let new = metadata(rt, path).map_err(|error| fault_of(error))?;
-    if old.uid() != new.uid() || old.gid() != new.gid() {
-        chown(rt, path, Some(old.uid()), Some(old.gid())).map_err(|error| fault_of(error))?;
-    }
     set_permissions(rt, path, old.permissions()).map_err(|error| fault_of(error))?;
     rename(rt, path, name).map_err(|error| fault_of(error))
+}
+
+// Gives a file the owner of another.
+fn give_owner<R: Files>(rt: &R, path: &str, name: &str) -> Result<(), FileFault> {
+    let old = metadata(rt, name).map_err(|error| fault_of(error))?;
+    let new = metadata(rt, path).map_err(|error| fault_of(error))?;
+    if old.uid() == new.uid() && old.gid() == new.gid() {
+        return Ok(());
+    }
+    chown(rt, path, Some(old.uid()), Some(old.gid())).map_err(|error| fault_of(error))
 }

@@ -5,6 +5,7 @@ pub mod Source
 pub mod Holding
 pub mod Ending
 pub mod Writing
+pub mod Written
 pub mod Copies
 pub mod Rescues
 pub mod Laws

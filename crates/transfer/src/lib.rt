@@ -35,3 +35,4 @@ pub use needs::needed_blocks;
 pub use picking::Rescued;
 pub use refused::PutRefusal;
 pub use rescuer::rescue;
+pub use writing_out::{WriteFault, write_image};

@@ -2,6 +2,7 @@
 ghost use Rattle.std.specs.Prelude.{◌≡◌};
 ghost use Rattle.transfer.specs.Tellings.{put_telling};
 
+use crate::writing_out::WriteFault;
 use kernel::OpenFault;
 use layout::CheckFault;
 use messages::{Reason, Told, Unwritten};
@@ -60,5 +61,19 @@ impl From<CheckFault> for PutRefusal {
 
     fn from(fault: CheckFault) -> PutRefusal {
         PutRefusal::Check(fault)
+    }
+}
+
+impl From<WriteFault> for PutRefusal {
+    ghost use Rattle.transfer.specs.Written.{device_fault};
+    ghost use Rattle.transfer.specs.declared.refused.PutRefusal.TheVariants as put;
+
+    ghost from_gives = { λ failed r. r ≡ put.Disk (device_fault failed) };
+
+    fn from(failed: WriteFault) -> PutRefusal {
+        match failed {
+            WriteFault::Block(fault) => PutRefusal::Disk(DeviceFault::Block(fault)),
+            WriteFault::Sync(fault) => PutRefusal::Disk(DeviceFault::Sync(fault)),
+        }
     }
 }

@@ -7,7 +7,7 @@ ghost use Rattle.transfer.specs.Writing.{IsNoneOr, IsNotWrittenOut, KeepsSuperbl
 
 use crate::ending::sync_if;
 use crate::fault::CopyFault;
-use blocks::{Block, Disk, DiskFault, MemDisk};
+use blocks::{Block, Disk, DiskFault, MemDisk, SyncFault};
 use messages::Meter;
 use std::alloc::Global;
 
@@ -36,23 +36,60 @@ pub(crate) fn write_out<E: Disk, P: Meter>(
         (IsNoneOr (E.image disk.old) (⟦<MemDisk as Disk>⟧.image memory)) }
 {
     let mut block = Block::zeroed(alloc)?;
-    write_all(&mut memory, disk, sync, &mut block, progress)
+    match write_image(&mut memory, disk, sync, &mut block, progress) {
+        Ok(()) => Ok(()),
+        Err(_) => Err(CopyFault::Disk),
+    }
 }
 
-// Writes all blocks, the superblock last, with a sync before it and, where that is asked for, one after
-// it.
-fn write_all<E: Disk, P: Meter>(
+/// How a disk failed to which an image is written.
+#[derive(Clone, Copy, Debug)]
+pub enum WriteFault {
+    /// A write failed.
+    Block(DiskFault),
+    /// A sync failed.
+    Sync(SyncFault),
+}
+
+impl From<DiskFault> for WriteFault {
+    ghost use Rattle.transfer.specs.declared.writing_out.WriteFault.TheVariants as fault;
+
+    ghost from_gives = { λ failed e. e ≡ fault.Block failed };
+
+    fn from(failed: DiskFault) -> WriteFault {
+        WriteFault::Block(failed)
+    }
+}
+
+impl From<SyncFault> for WriteFault {
+    ghost use Rattle.transfer.specs.declared.writing_out.WriteFault.TheVariants as fault;
+
+    ghost from_gives = { λ failed e. e ≡ fault.Sync failed };
+
+    fn from(failed: SyncFault) -> WriteFault {
+        WriteFault::Sync(failed)
+    }
+}
+
+/// Writes the image in memory to a disk of its size, as `write_out`. The block is room for one: what it
+/// holds afterwards is not said.
+///
+/// # Errors
+///
+/// The disk's: what it holds then is not said, but that block 1 is as it was or all of the image is
+/// there.
+pub fn write_image<E: Disk, P: Meter>(
     memory: &mut MemDisk,
     disk: &mut E,
     sync: bool,
     block: &mut Block,
     progress: &mut P,
-) -> Result<(), CopyFault>
+) -> Result<(), WriteFault>
     requires size { length (E.image disk.old) ≡ length (⟦<MemDisk as Disk>⟧.image memory.old) }
     requires some { 2 ≤ length (⟦<MemDisk as Disk>⟧.image memory.old) }
     ensures written { OnOk result
         (WritesOut E.Disk (⟦<MemDisk as Disk>⟧.image memory.old) sync disk.old disk.new) }
-    ensures refused { IfErr result (IsNotWrittenOut E.Disk disk.old disk.new) }
+    ensures rose { OnErr result (Rose (E.fault_count disk.old) (E.fault_count disk.new)) }
     ensures name { E.name disk.new ≡ E.name disk.old }
     ensures stops { LeavesIfCalm E.Disk disk.old disk.new
         (IsNoneOr (E.image disk.old) (⟦<MemDisk as Disk>⟧.image memory.old)) }

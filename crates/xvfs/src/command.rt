@@ -292,6 +292,7 @@ where
                     last: !no_sync,
                     locking,
                     progress,
+                    holder: Keeper::new(rt, locking),
                 },
                 out,
                 err,

@@ -1,6 +1,6 @@
 use Rattle.std.proofs.Common.{◌≡◌, rules, subst}
 use Rattle.std.specs.Prelude.{IfErr, OnOk}
-use Rattle.commands.specs.Puts.{IsUnputOver, PutsOver}
+use Rattle.commands.specs.PutsOver.{IsUnputOver, PutsOver}
 use Rattle.commands.proofs.Putting.{put_over, unput_over}
 use Rattle.commands.proofs.puts.PutBytesDiskCommand.run_on.Goals as goal
 

@@ -5,9 +5,9 @@ use Rattle.blocks.specs.contracts.memory.MemDiskDisk.TheImpl.{ghosts}
 use Rattle.wal.specs.Recovery.{LeavesIfCalm}
 use Rattle.transfer.specs.Writing.{IsNoneOr}
 use Rattle.transfer.proofs.WritingLemmas.{counted_all, ended, ended_image, stops_after_sync, stops_synced, written_all}
-use Rattle.transfer.proofs.writing_out.write_all.Given.{Over}
-use Rattle.transfer.proofs.writing_out.write_all.Goals.{After-write_block}
-use Rattle.transfer.proofs.writing_out.write_all.Goals as goal
+use Rattle.transfer.proofs.writing_out.write_image.Given.{Over}
+use Rattle.transfer.proofs.writing_out.write_image.Goals.{After-write_block}
+use Rattle.transfer.proofs.writing_out.write_image.Goals as goal
 
 -- what a stop leaves once block 1 was written, or not
 stopped : (g : Over) (c : After-write_block g) → LeavesIfCalm g.E.Disk c.args.disk.now c.write_block.new.disk (IsNoneOr (g.E.Disk.image c.args.disk.now) (ghosts.image c.args.memory.now))
