@@ -8,14 +8,15 @@ use Rattle.model.specs.Lemmas.OutsideLog.{behind_log}
 use Rattle.model.specs.Lemmas.Codecs.{homes_in-header_block, logged_in-header_block}
 use Rattle.model.specs.Lemmas.Recovery.{home_behind, no_homes}
 use Rattle.wal.specs.Common.{are_distinct, are_in_place, block_at, cases_eq, cases_lt, eq-eqb, get_or-set_other, get_or-set_same, get_or_past, header_block, homes_in, homes_of, Image, is_lawful_log, is_outside_log, IsSameOutsideLog, le-leb, length-recovered, list_any_at, logged_count, logged_in, lt-ltb, ne_eqb, no_place, place_among, place_below, recovered, recovered_empty}
-use Rattle.lost_writes.specs.Device.{Outlasts, StopLeaves, BreaksOff, TornImages, written}
+use Rattle.lost_writes.specs.Device.{IsReadOf, Outlasts, StopLeaves, BreaksOff, TornImages, written}
 use Rattle.lost_writes.specs.Laws.{CommitsOverStale, CommittedOverStale, Ends, IsAtRest}
 use Rattle.lost_writes.specs.Runs.{Group, IsGroup, clearing, commit_of, copied_from, copied_to}
 use Rattle.lost_writes.specs.Stale.{IsStale, RecoversTo, freshened, may_be_stale}
-use Rattle.lost_writes.proofs.Stale.{is_lawful_empty, logged_at, no_header, outside_kept, outside_then, recovers_stale, same_outside, stale_between, stale_here, unlogged_at}
+use Rattle.lost_writes.proofs.Stale.{header_kept, is_lawful_empty, stale_alike, logged_at, no_header, outside_kept, outside_then, recovers_stale, same_outside, stale_between, stale_here, unlogged_at}
 use Rattle.lost_writes.proofs.Sector.{SameSector, recovers_sector, torn_header}
 use Rattle.lost_writes.proofs.Writes.{GoTo, go_first, go_to, of_one, torn_all, torn_stale, row_at, row_goes}
-use Rattle.lost_writes.proofs.Recovery.{ends_some, fresh, fresh_stale}
+use Rattle.lost_writes.proofs.Recovery.{ends_some}
+use Rattle.lost_writes.proofs.MixedReads.{fresh_stale, header_reads, mixed_stale}
 
 place_from : (homes : List ℕ) (n b j : ℕ) → position_from (λ h. h == b) n homes ≡ Some j → n ≤ j
 place_from [] n b j e = absurd (cc e)
@@ -220,33 +221,48 @@ module _ (x z : Image) (g : Group) (rest : IsAtRest x z) (is : IsGroup x g) wher
           (torn_header (after z) w header bytes (omega (arith, (after_stale z rest.stale).size, long)) tears now)
       stops w (inr (inr more)) = inr (to_image w (ends_homes.outlasts.stops w more))
 
-      heading : (y w : Image) → y ≡ reads → length w ≡ length x → ((b : ℕ) → b ≢ 2 → block_at w b ≡ block_at (after z) b) → Either y × (is_lawful_log y ≡ true) × IsStale y (freshened y w)
-      heading y w now size same = subst (λ (v : Image). Either v × (is_lawful_log v ≡ true) × IsStale v (freshened v w)) (sym now) (
-        inr (behind reads (stale_here reads)),
-        reads_lawful,
-        fresh reads w (size ∙ sym (size_of x (stale_here x))) (λ b other out. same b other ∙ alike b other out ∙ sym (get_or-set_other (after x) 2 b header [] other)),
-      )
-
       part_way : (y w : Image) → IsStale x y → IsStale x w → Either y × (is_lawful_log y ≡ true) × IsStale y (freshened y w)
       part_way y w first other = let r = before y first in (inl r, r.lawful, fresh_stale y w (stale_between x y w lawful first other))
 
-      header_breaks : (y w : Image) (k : ℕ) → y ≡ applied (after x) (take k ((2, header) ∷ [])) → TornImages (after z) (take k ((2, header) ∷ [])) w → Either y × (is_lawful_log y ≡ true) × IsStale y (freshened y w)
-      header_breaks y w k now torn = ⊎_elim
+      header_breaks : (y w : Image) (k : ℕ) → TornImages (after z) (take k ((2, header) ∷ [])) w → IsReadOf (applied (after x) (take k ((2, header) ∷ []))) w y → Either y × (is_lawful_log y ≡ true) × IsStale y (freshened y w)
+      header_breaks y w k torn read = ⊎_elim
           (λ (none : take k ((2, header) ∷ []) ≡ []).
-          let same : y ≡ after x = now ∙ ap (applied (after x)) none in
           let old : w ≡ after z = subst (λ (l : List Write). TornImages (after z) l w) none torn in
-          part_way y w (subst (IsStale x) (sym same) (after_stale x (stale_here x))) (subst (IsStale x) (sym old) (after_stale z rest.stale)))
+          let there : IsStale x w = subst (IsStale x) (sym old) (after_stale z rest.stale) in
+          part_way y w (mixed_stale x (after x) w y (after_stale x (stale_here x)) there (subst (λ (l : List Write). IsReadOf (applied (after x) l) w y) none read)) there)
           (λ (one : take k ((2, header) ∷ []) ≡ (2, header) ∷ []).
           let t : TornImages (after z) ((2, header) ∷ []) w = subst (λ (l : List Write). TornImages (after z) l w) one torn in
-          heading y w (now ∙ ap (applied (after x)) one) (ap length t.2 ∙ length-set (after z) 2 t.0 ∙ (after_stale z rest.stale).size)
-          (λ b other. ap (λ (v : Image). block_at v b) t.2 ∙ get_or-set_other (after z) 2 b t.0 [] other))
+          let here = after_stale x (stale_here x) in
+          let there = after_stale z rest.stale in
+          let r = header_reads Either closed (after x) (after z) w y header t.0 (omega (arith, here.size, long)) (there.size ∙ sym here.size) (header_kept x (after z) lawful there ∙ sym (header_kept x (after x) lawful here))
+          (λ m size two each. inl (before m (record {
+            size = size ∙ here.size;
+            agree = λ b out. elim (cases_eq b 2) [
+              | inl is ↦ ap (block_at m) is ∙ two ∙ header_kept x (after x) lawful here ∙ sym (ap (block_at x) is)
+              | inr other ↦ ⊎_elim (λ r. r ∙ here.agree b out) (λ d. d ∙ there.agree b out) (each b other)
+            ];
+          })))
+          (λ m size two each. inr (behind m (record {
+            size = size ∙ sym (length-set (after x) 2 header);
+            agree = λ b out. elim (cases_eq b 2) [
+              | inl is ↦ ap (block_at m) is ∙ two ∙ sym (ap (block_at reads) is ∙ header_is x (stale_here x))
+              | inr other ↦ ⊎_elim (λ r. r) (λ d. d ∙ alike b other out) (each b other) ∙ sym (get_or-set_other (after x) 2 b header [] other)
+            ];
+          })))
+          (λ b other out. let kept : not (may_be_stale x b) ≡ true = ap not (sym (stale_alike x (after x) b (header_kept x (after x) lawful here))) ∙ out in there.agree b kept ∙ sym (here.agree b kept))
+          alike t.1 t.2 (subst (λ (l : List Write). IsReadOf (applied (after x) l) w y) one read) in
+          (r.0, ⊎_elim (λ (e : RecoversTo x y). e.lawful) (λ (e : RecoversTo cur y). e.lawful) r.0, r.1))
           (of_one k (2, header))
+        where
+          closed : (v u : Image) → SameSector v u → Either v → Either u
+          closed v u same either = ⊎_elim (λ e. inl (recovers_sector x v u same e)) (λ e. inr (recovers_sector cur v u same e)) either
 
       breaks : (y w : Image) → BreaksOff x z (commit_of g) y w → Either y × (is_lawful_log y ≡ true) × IsStale y (freshened y w)
-      breaks y w (inl (k, now, torn)) =
+      breaks y w (inl (k, torn, read)) =
           let go = go_first (λ b. may_be_stale x b ≡ true) k logs to_stale in
-          part_way y w (torn_stale x x y (take k logs) go (stale_here x) (subst (TornImages x (take k logs)) (sym now) (torn_all x (take k logs)))) (torn_stale x z w (take k logs) go rest.stale torn)
-      breaks y w (inr (inl (k, now, torn))) = header_breaks y w k now torn
+          let there = torn_stale x z w (take k logs) go rest.stale torn in
+          part_way y w (mixed_stale x (applied x (take k logs)) w y (torn_stale x x (applied x (take k logs)) (take k logs) go (stale_here x) (torn_all x (take k logs))) there read) there
+      breaks y w (inr (inl (k, torn, read))) = header_breaks y w k torn read
       breaks y w (inr (inr more)) = let r = ends_homes.outlasts.breaks y w more in (inr (to_image y r.0), r.1, r.2)
 
   pub commits : Ends cur x z Either (commit_of g)

@@ -12,7 +12,7 @@ use Rattle.lost_writes.proofs.Stale.{recovers_stale}
 
 pub breaks_as_stopped : BreaksAsStopped
 breaks_as_stopped x z y w [] none = absurd none
-breaks_as_stopped x z y w (part ∷ parts) (inl first) = inl (torn_more z w first.0 part first.2)
+breaks_as_stopped x z y w (part ∷ parts) (inl first) = inl (torn_more z w first.0 part first.1)
 breaks_as_stopped x z y w (part ∷ parts) (inr later) = inr (breaks_as_stopped (applied x part) (applied z part) y w parts later)
 
 pub freshens_safely : FreshensSafely

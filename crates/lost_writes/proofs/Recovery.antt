@@ -1,5 +1,5 @@
 -- A recovery over a stale device.
-use Rattle.std.proofs.Common.{◌≡◌, ◌≢◌, inl, inr, ⊎_elim, ℕ, zero, suc, ◌+◌, ◌<◌, ◌==◌, ltb, take, true, false, not, List, [], ◌∷◌, length, get_or, Some, refl, sym, ap, ◌∙◌, subst, arith, set, length-set}
+use Rattle.std.proofs.Common.{◌≡◌, ◌≢◌, ◌⊎◌, inl, inr, ⊎_elim, ℕ, zero, suc, ◌+◌, ◌<◌, ◌==◌, ltb, take, true, false, not, List, [], ◌∷◌, length, get_or, Some, refl, sym, ap, ◌∙◌, subst, arith, set, length-set}
 use Rattle.std.specs.List.{list_any, position_from}
 use Rattle.std.proofs.lemmas.Bool.{cases_Bool}
 use Rattle.blocks.specs.Held.{Write, applied}
@@ -7,30 +7,15 @@ use Rattle.model.specs.Laws.{is_home}
 use Rattle.model.specs.Lemmas.Log.{recovered_low}
 use Rattle.model.specs.Lemmas.OutsideLog.{behind_log}
 use Rattle.model.specs.Lemmas.Recovery.{logged_count-short, no_homes}
-use Rattle.wal.specs.Common.{are_distinct, block_at, both_of, both_ways, cases_eq, cases_lt, eq-eqb, ext_get_or, get_or-set_other, get_or-set_same, get_or_past, home_of_log, homes_of, Image, is_lawful_log, is_outside_log, le-ltb, lt-ltb, list_any_at, length-recovered, logged_count, ne_eqb, none_cleared, not-true, place_among, recovered, recovered_at, recovered_block-header, recovered_empty, set-set, zero_block}
-use Rattle.lost_writes.specs.Device.{Outlasts, StopLeaves, BreaksOff, TornImages}
+use Rattle.wal.specs.Common.{are_distinct, block_at, both_of, both_ways, cases_eq, cases_lt, eq-eqb, ext_get_or, get_or-set_other, get_or-set_same, home_of_log, homes_of, Image, is_lawful_log, is_outside_log, le-ltb, lt-ltb, list_any_at, length-recovered, logged_count, ne_eqb, none_cleared, not-true, place_among, recovered, recovered_at, recovered_block-header, recovered_empty, zero_block}
+use Rattle.lost_writes.specs.Device.{IsReadOf, Outlasts, StopLeaves, BreaksOff, TornImages}
 use Rattle.lost_writes.specs.Laws.{Ends, IsAtRest, RecoversOverStale, RecoveryWrites}
 use Rattle.lost_writes.specs.Runs.{clearing, copied_from}
 use Rattle.lost_writes.specs.Stale.{IsStale, RecoversTo, freshened, may_be_stale}
-use Rattle.lost_writes.proofs.Stale.{is_lawful_empty, logged_at, low_no_home, no_header, outside_is, outside_kept, outside_then, recovers_stale, same_outside, stale_between, stale_here, unlogged_at}
+use Rattle.lost_writes.proofs.Stale.{header_kept, is_lawful_empty, stale_alike, logged_at, low_no_home, no_header, outside_is, outside_kept, outside_then, recovers_stale, same_outside, stale_between, stale_here, unlogged_at}
+use Rattle.lost_writes.proofs.MixedReads.{fresh_stale, header_reads, mixed_stale, set_here}
 use Rattle.lost_writes.proofs.Sector.{SameSector, recovers_sector, torn_header}
 use Rattle.lost_writes.proofs.Writes.{GoTo, applied_other, copied_at, copies_go, go_first, of_one, torn_all, torn_stale}
-
--- a device that is stale but for its header is stale once that is written as reads give it
-pub fresh : (y w : Image) → length w ≡ length y → ((b : ℕ) → b ≢ 2 → not (may_be_stale y b) ≡ true → block_at w b ≡ block_at y b) → IsStale y (freshened y w)
-fresh y w size same = record {
-  size = length-set w 2 (block_at y 2) ∙ size;
-  agree = λ b out. elim (cases_eq b 2) [
-    | inr other ↦ get_or-set_other w 2 b (block_at y 2) [] other ∙ same b other out
-    | inl two ↦ ap (block_at (freshened y w)) two ∙ elim (cases_lt 2 (length w)) [
-      | inl long ↦ get_or-set_same w 2 (block_at y 2) [] long
-      | inr short ↦ get_or_past (freshened y w) 2 [] (omega (arith, length-set w 2 (block_at y 2), short)) ∙ sym (get_or_past y 2 [] (omega (arith, size, short)))
-    ] ∙ ap (block_at y) (sym two)
-  ];
-}
-
-pub fresh_stale : (y w : Image) → IsStale y w → IsStale y (freshened y w)
-fresh_stale y w stale = fresh y w stale.size (λ b other out. stale.agree b out)
 
 -- with an empty header, what may not be stale is outside the log, but for the header
 pub empty_outside : (y : Image) (b : ℕ) → logged_count y ≡ 0 → b ≢ 2 → not (may_be_stale y b) ≡ true → is_outside_log b ≡ true
@@ -96,29 +81,28 @@ module _ (x z : Image) (lawful : is_lawful_log x ≡ true) (stale : IsStale x z)
   ]
 
   -- and with the header emptied it is recovered
-  cleared_to : (v : Image) → IsStale x v → (logged_count (set (applied v copies) 2 zero_block) ≡ 0) × RecoversTo (recovered x) (set (applied v copies) 2 zero_block)
-  cleared_to v is =
-      let y = applied v copies in
-      let size : length y ≡ length x = (torn_stale x v y copies to_stale is (torn_all v copies)).size in
+  emptied_to : (y : Image) → length y ≡ length x → ((b : ℕ) → is_outside_log b ≡ true → block_at y b ≡ block_at (recovered x) b)
+      → (logged_count (set y 2 zero_block) ≡ 0) × RecoversTo (recovered x) (set y 2 zero_block)
+  emptied_to y size home =
       let none = none_cleared y (omega (arith, size, long)) in (
         none,
         record {
           lawful = is_lawful_empty (set y 2 zero_block) none;
           same = outside_then (recovered x) (set y 2 zero_block) (recovered (set y 2 zero_block))
               (same_outside (recovered x) (set y 2 zero_block) (length-set y 2 zero_block ∙ size ∙ sym (length-recovered x))
-              (λ b out lt. get_or-set_other y 2 b zero_block [] (no_header b out) ∙ brought_home v is b out))
+              (λ b out lt. get_or-set_other y 2 b zero_block [] (no_header b out) ∙ home b out))
               (outside_is (set y 2 zero_block) (recovered (set y 2 zero_block)) (recovered_empty (set y 2 zero_block) none));
         },
       )
 
-  -- reads and a device, both with the copies made, once the reads' header is empty
-  at_rest : (w : Image) → length w ≡ length x → ((b : ℕ) → is_outside_log b ≡ true → block_at w b ≡ block_at device b) → IsStale (set reads 2 zero_block) (freshened (set reads 2 zero_block) w)
-  at_rest w size same =
-      let y = set reads 2 zero_block in
-      fresh y w (size ∙ sym (length-set reads 2 zero_block ∙ reads_stale.size))
-      (λ b other out.
-      let outside = empty_outside y b (cleared_to x (stale_here x)).0 other out in
-      same b outside ∙ brought_home z stale b outside ∙ sym (get_or-set_other reads 2 b zero_block [] other ∙ brought_home x (stale_here x) b outside))
+  cleared_to : (v : Image) → IsStale x v → (logged_count (set (applied v copies) 2 zero_block) ≡ 0) × RecoversTo (recovered x) (set (applied v copies) 2 zero_block)
+  cleared_to v is = emptied_to (applied v copies) (torn_stale x v (applied v copies) copies to_stale is (torn_all v copies)).size (brought_home v is)
+
+  -- reads and the device, both with the copies made, once the reads' header is empty
+  apart : (b : ℕ) → b ≢ 2 → not (may_be_stale (set reads 2 zero_block) b) ≡ true → block_at device b ≡ block_at reads b
+  apart b other out =
+      let outside = empty_outside (set reads 2 zero_block) b (cleared_to x (stale_here x)).0 other out in
+      brought_home z stale b outside ∙ sym (brought_home x (stale_here x) b outside)
 
   outlasts : Outlasts (RecoversTo (recovered x)) x z (copies ∷ clearing ∷ [])
   outlasts = record { stops = stops; breaks = breaks }
@@ -131,40 +115,55 @@ module _ (x z : Image) (lawful : is_lawful_log x ≡ true) (stale : IsStale x z)
           (torn_header device w zero_block bytes (omega (arith, device_stale.size, long)) tears is)
       stops w (inr (inr is)) = subst (RecoversTo (recovered x)) (sym is) (cleared_to z stale).1
 
-      emptied : (y w : Image) → y ≡ set reads 2 zero_block → length w ≡ length x → ((b : ℕ) → is_outside_log b ≡ true → block_at w b ≡ block_at device b)
-          → RecoversTo (recovered x) y × (is_lawful_log y ≡ true) × IsStale y (freshened y w)
-      emptied y w is size same = subst (λ (v : Image). RecoversTo (recovered x) v × (is_lawful_log v ≡ true) × IsStale v (freshened v w)) (sym is)
-          ((cleared_to x (stale_here x)).1, (cleared_to x (stale_here x)).1.lawful, at_rest w size same)
-
       part_way : (y w : Image) → IsStale x y → IsStale x w → RecoversTo (recovered x) y × (is_lawful_log y ≡ true) × IsStale y (freshened y w)
       part_way y w first other = let r = recovers_stale x y lawful first in (r, r.lawful, fresh_stale y w (stale_between x y w lawful first other))
 
-      clearing_breaks : (y w : Image) (k : ℕ) → y ≡ applied reads (take k clearing) → TornImages device (take k clearing) w → RecoversTo (recovered x) y × (is_lawful_log y ≡ true) × IsStale y (freshened y w)
-      clearing_breaks y w k now torn = ⊎_elim
+      mixed_home : (m : Image) → ((b : ℕ) → b ≢ 2 → (block_at m b ≡ block_at reads b) ⊎ (block_at m b ≡ block_at device b)) → (b : ℕ) → is_outside_log b ≡ true → block_at m b ≡ block_at (recovered x) b
+      mixed_home m each b out = ⊎_elim (λ r. r ∙ brought_home x (stale_here x) b out) (λ d. d ∙ brought_home z stale b out) (each b (no_header b out))
+
+      clearing_breaks : (y w : Image) (k : ℕ) → TornImages device (take k clearing) w → IsReadOf (applied reads (take k clearing)) w y → RecoversTo (recovered x) y × (is_lawful_log y ≡ true) × IsStale y (freshened y w)
+      clearing_breaks y w k torn read = ⊎_elim
           (λ (none : take k clearing ≡ []).
-          let same : y ≡ reads = now ∙ ap (applied reads) none in
           let old : w ≡ device = subst (λ (l : List Write). TornImages device l w) none torn in
-          part_way y w (subst (IsStale x) (sym same) reads_stale) (subst (IsStale x) (sym old) device_stale))
+          let there : IsStale x w = subst (IsStale x) (sym old) device_stale in
+          part_way y w (mixed_stale x reads w y reads_stale there (subst (λ (l : List Write). IsReadOf (applied reads l) w y) none read)) there)
           (λ (one : take k clearing ≡ clearing).
           let t : TornImages device clearing w = subst (λ (l : List Write). TornImages device l w) one torn in
-          emptied y w (now ∙ ap (applied reads) one) (ap length t.2 ∙ length-set device 2 t.0 ∙ device_stale.size)
-          (λ b out. ap (λ (v : Image). block_at v b) t.2 ∙ get_or-set_other device 2 b t.0 [] (no_header b out)))
+          let r = header_reads (RecoversTo (recovered x)) (recovers_sector (recovered x)) reads device w y zero_block t.0 (omega (arith, reads_stale.size, long)) (device_stale.size ∙ sym reads_stale.size) (header_kept x device lawful device_stale ∙ sym (header_kept x reads lawful reads_stale))
+          (λ m size two each. recovers_stale x m lawful (record {
+            size = size ∙ reads_stale.size;
+            agree = λ b out. elim (cases_eq b 2) [
+              | inl is ↦ ap (block_at m) is ∙ two ∙ header_kept x reads lawful reads_stale ∙ sym (ap (block_at x) is)
+              | inr other ↦ ⊎_elim (λ r. r ∙ reads_stale.agree b out) (λ d. d ∙ device_stale.agree b out) (each b other)
+            ];
+          }))
+          (λ m size two each. subst (RecoversTo (recovered x)) (set_here m 2 zero_block two) (emptied_to m (size ∙ reads_stale.size) (mixed_home m each)).1)
+          (λ b other out. let kept : not (may_be_stale x b) ≡ true = ap not (sym (stale_alike x reads b (header_kept x reads lawful reads_stale))) ∙ out in device_stale.agree b kept ∙ sym (reads_stale.agree b kept))
+          apart t.1 t.2 (subst (λ (l : List Write). IsReadOf (applied reads l) w y) one read) in
+          (r.0, r.0.lawful, r.1))
           (of_one k (2, zero_block))
 
       breaks : (y w : Image) → BreaksOff x z (copies ∷ clearing ∷ []) y w → RecoversTo (recovered x) y × (is_lawful_log y ≡ true) × IsStale y (freshened y w)
-      breaks y w (inl (k, now, torn)) =
+      breaks y w (inl (k, torn, read)) =
           let go = go_first (λ b. may_be_stale x b ≡ true) k copies to_stale in
-          part_way y w (torn_stale x x y (take k copies) go (stale_here x) (subst (TornImages x (take k copies)) (sym now) (torn_all x (take k copies)))) (torn_stale x z w (take k copies) go stale torn)
-      breaks y w (inr (inl (k, now, torn))) = clearing_breaks y w k now torn
+          let there = torn_stale x z w (take k copies) go stale torn in
+          part_way y w (mixed_stale x (applied x (take k copies)) w y (torn_stale x x (applied x (take k copies)) (take k copies) go (stale_here x) (torn_all x (take k copies))) there read) there
+      breaks y w (inr (inl (k, torn, read))) = clearing_breaks y w k torn read
       breaks y w (inr (inr none)) = absurd none
 
   -- with all written, reads have an empty header, and the device is stale in the log alone
   rests : IsAtRest (set reads 2 zero_block) (set device 2 zero_block)
   rests = record {
     empty = (cleared_to x (stale_here x)).0;
-    stale = subst (IsStale (set reads 2 zero_block)) (set-set device 2 zero_block zero_block ∙ refl)
-        (subst (λ (v : List ℕ). IsStale (set reads 2 zero_block) (set (set device 2 zero_block) 2 v)) (get_or-set_same reads 2 zero_block [] (omega (arith, reads_stale.size, long)))
-        (at_rest (set device 2 zero_block) (length-set device 2 zero_block ∙ device_stale.size) (λ b out. get_or-set_other device 2 b zero_block [] (no_header b out))));
+    stale = record {
+      size = length-set device 2 zero_block ∙ device_stale.size ∙ sym (length-set reads 2 zero_block ∙ reads_stale.size);
+      agree = λ b out. elim (cases_eq b 2) [
+        | inl two ↦
+            ap (block_at (set device 2 zero_block)) two ∙ get_or-set_same device 2 zero_block [] (omega (arith, device_stale.size, long))
+            ∙ sym (ap (block_at (set reads 2 zero_block)) two ∙ get_or-set_same reads 2 zero_block [] (omega (arith, reads_stale.size, long)))
+        | inr other ↦ get_or-set_other device 2 b zero_block [] other ∙ apart b other out ∙ sym (get_or-set_other reads 2 b zero_block [] other)
+      ];
+    };
   }
 
   pub ends_some : Ends (recovered x) x z (RecoversTo (recovered x)) (copies ∷ clearing ∷ [])

@@ -40,6 +40,13 @@ pub record SameSector (v w : Image) : Type 0 where
   pub agree : (b : ℕ) → b ≢ 2 → block_at w b ≡ block_at v b
   pub header : BeginsAs (block_at v 2) (block_at w 2)
 
+-- have the same numbers in it
+pub same_numbers : (v w : Image) → SameSector v w → (logged_in (block_at w 2) ≡ logged_in (block_at v 2)) × (homes_in (block_at w 2) ≡ homes_in (block_at v 2))
+same_numbers v w same = (
+  sym (logged_in-take (block_at w 2)) ∙ ap logged_in same.header ∙ logged_in-take (block_at v 2),
+  sym (homes_in-take (block_at w 2)) ∙ ap homes_in same.header ∙ homes_in-take (block_at v 2),
+)
+
 -- a block outside the log once a log is recovered
 from_its_log : (x : Image) (b : ℕ) → logged_count x ≢ 0 → b ≢ 2 → b < length x → block_at (recovered x) b ≡ block_from_log x b (place_among (homes_of x) b)
 unfolding recovered_block
@@ -47,7 +54,7 @@ from_its_log x b some other lt =
     let chosen : recovered_block x b ≡ block_from_log x b (place_among (homes_of x) b) = rw (ne_eqb b 2 other) refl in
     recovered_at x b some lt ∙ chosen
 
--- are recovered alike
+-- and are recovered alike
 pub recovers_sector : (y v w : Image) → SameSector v w → RecoversTo y v → RecoversTo y w
 recovers_sector y v w same r = record {
   lawful =
@@ -60,10 +67,10 @@ recovers_sector y v w same r = record {
 }
   where
     count : logged_count w ≡ logged_count v
-    count = sym (logged_in-take (block_at w 2)) ∙ ap logged_in same.header ∙ logged_in-take (block_at v 2)
+    count = (same_numbers v w same).0
 
     names : homes_of w ≡ homes_of v
-    names = sym (homes_in-take (block_at w 2)) ∙ ap homes_in same.header ∙ homes_in-take (block_at v 2)
+    names = (same_numbers v w same).1
 
     from_log : (b : ℕ) → b ≢ 2 → (p : Option ℕ) → block_from_log w b p ≡ block_from_log v b p
     from_log b other None = same.agree b other

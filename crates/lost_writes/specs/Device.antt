@@ -1,6 +1,6 @@
 -- A device to which writes go in parts, each with a sync behind it: what a stop leaves on it, and
 -- what a sync that fails.
-use Rattle.std.specs.Prelude.{◌≡◌, ◌⊎◌, ◌∷◌, [], ℕ, IsTrue, List, slice_set, take}
+use Rattle.std.specs.Prelude.{◌≡◌, ◌⊎◌, ◌∷◌, [], ℕ, IsTrue, List, length, slice_set, take}
 use Rattle.blocks.specs.Disk.{Image, block_at}
 use Rattle.blocks.specs.Held.{Write, applied}
 use Rattle.model.specs.Format.{log_start}
@@ -38,13 +38,19 @@ abbrev pub StopLeaves : Image → List (List Write) → Image → Type 0
 StopLeaves z [] w = w ≡ z
 StopLeaves z (part ∷ parts) w = TornImages z part w ⊎ StopLeaves (applied z part) parts w
 
+-- reads of a device with w give y: of each block what was last written, or, where the system let go
+-- of that, what the device has
+pub record IsReadOf (last w y : Image) : Type 0 where
+  pub size : length y ≡ length last
+  pub each : (b : ℕ) → (block_at y b ≡ block_at last b) ⊎ (block_at y b ≡ block_at w b)
+
 -- WHAT A RUN LEAVES THAT BREAKS OFF, by a sync or a write that failed, where reads gave x and the
--- device had z: reads give y, with the first writes of a part, or all; the device has w, with any
--- of these
+-- device had z: of a part the first writes were made, or all; the device has w, with any of these;
+-- and reads give y
 abbrev pub BreaksOff : Image → Image → List (List Write) → Image → Image → Type 0
 BreaksOff x z [] y w = ⊥
 BreaksOff x z (part ∷ parts) y w =
-    ((k : ℕ) × (y ≡ applied x (take k part)) × TornImages z (take k part) w)
+    ((k : ℕ) × TornImages z (take k part) w × IsReadOf (applied x (take k part)) w y)
     ⊎ BreaksOff (applied x part) (applied z part) parts y w
 
 -- What is promised of such parts: each stop leaves an image that has P; and where they break off,
