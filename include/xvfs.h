@@ -148,7 +148,7 @@ uint32_t xvfs_recover_step(const uint8_t *image, size_t len, uint32_t place, xvf
 /* Opens a kernel of 1 to 32 processes over a copy of the image, which it checks and recovers. The
  * host's device must hold these bytes; recover them first, so that `*writes`, the writes of that
  * recovery, is 0. `flags` is 0 or XVFS_HOLD. On a refusal the handle stays closed, and `*writes` is as
- * it was. The memory is the image's and about 50 to 100 KiB. */
+ * it was. The memory is the image's and about 50 to 100 KiB, however many operations there are. */
 uint32_t xvfs_open(xvfs *fs, const uint8_t *image, size_t len, uint32_t processes, uint32_t flags,
                    uint64_t *writes);
 

@@ -149,12 +149,6 @@ def is_failure(how):
     return how in ("eio", "enospc", "zero")
 
 
-def is_rewriting(words, call, at):
-    """Whether the call is one of those that write the log's header over itself, before a disk that holds writes
-    back is recovered: that one fails need not be told."""
-    return "--sync" in words and at <= {"write": 1, "lseek": 2, "read": 1}.get(call, 0)
-
-
 def judge_groups(trial, how, states, told, later):
     """The ends of a replay: whole groups, as many as were told and at most so many more."""
     kept, final = states.get(trial.files()), max(max(counts) for counts in states.values())
@@ -178,8 +172,7 @@ def replay(call, how, sync):
         told = r"xvfs: (disk 2 SyncFault|recover 4 Sync)\n"
     for at in places(COUNTS[call, sync]):
         trial = Trial(BASE, replay_words(sync), call, at, how)
-        untold = trial.status == 0 and is_rewriting(replay_words(sync), call, at)
-        yield at, judge_groups(trial, "none" if untold else how, STATES[sync], told, 1 if call == "fdatasync" else 0)
+        yield at, judge_groups(trial, how, STATES[sync], told, 1 if call == "fdatasync" else 0)
 
 
 def power_cut(seed):
@@ -211,7 +204,7 @@ def recover(call, how):
         trial = Trial(LOGGED, words, call, at, how)
         if trial.files() != LOGGED_FILES:
             yield at, f"other files: {trial.checked()}"
-        elif is_failure(how) and trial.status != 1 and not is_rewriting(words, call, at):
+        elif is_failure(how) and trial.status != 1:
             yield at, f"status {trial.status}"
         else:
             yield at, None

@@ -166,9 +166,7 @@ def calls(words, call, how, usual, is_look):
         if is_look:
             yield at, judge_look(trial, usual)
         else:
-            # The header is written over itself before a disk that holds writes is read: that needs not be told.
-            is_rewriting = "--sync" in words and call == "write" and at == 1
-            yield at, judge(trial, usual, how in ("eio", "enospc", "zero") and call != "read" and not is_rewriting)
+            yield at, judge(trial, usual, how in ("eio", "enospc", "zero") and call != "read")
 
 
 def allocations(words, usual, is_look):

@@ -1,5 +1,6 @@
 -- What the words of a command line ask a program for.
-use Rattle.std.specs.Prelude.{◌≡◌, ◌⊎◌, ℕ, List, [], Bool, true, false, Option, Some, None, codes}
+use Rattle.std.specs.Prelude.{◌≡◌, ◌⊎◌, ◌<◌, ◌^◌, ℕ, List, [], Bool, true, false, Option, Some, None, codes}
+use Rattle.std.specs.Str.Parse.{IsNumeral, digits_value, without_leading_plus}
 use Rattle.clap.specs.Words.{App, HasKind, Kinds, Row, fault_of, kind_of, one_of, subcommand_of}
 use Rattle.clap.specs.declared.error.Error.{Error}
 use Rattle.clap.specs.declared.error.kind.ErrorKind.TheVariants as kind
@@ -17,9 +18,22 @@ pub record HasFlag (id : List ℕ) (rows : List Row) (given : Bool) : Type 0 whe
   pub unset : one_of id rows ≡ Some (codes "false") → given ≡ false
   pub none : one_of id rows ≡ None → given ≡ false
 
--- a number that may be left out is there where its word is, and only there
-pub record HasChoice (id : List ℕ) (rows : List Row) (given : Option ℕ) : Type 0 where
-  pub none : one_of id rows ≡ None → given ≡ None
+-- a text writes this number, below 2 ^ bits: in decimal digits, behind a plus or not
+pub record WritesNumber (bits : ℕ) (text : List ℕ) (n : ℕ) : Type 0 where
+  pub numeral : IsNumeral 10 (without_leading_plus text)
+  pub value : n ≡ digits_value 10 (without_leading_plus text)
+  pub fits : n < 2 ^ bits
+
+-- a word is there, and writes this number
+pub record HasNumber (bits : ℕ) (id : List ℕ) (rows : List Row) (n : ℕ) : Type 0 where
+  pub text : List ℕ
+  pub word : one_of id rows ≡ Some text
+  pub number : WritesNumber bits text n
+
+-- a number that may be left out is there where its word is and writes it, and only there
+abbrev pub HasChoice : ℕ → List ℕ → List Row → Option ℕ → Type 0
+HasChoice bits id rows (Some n) = HasNumber bits id rows n
+HasChoice bits id rows None = (n : ℕ) → ¬ (HasNumber bits id rows n)
 
 -- the command that was met asks for the request
 abbrev pub Asks : {Q : Type 0} → Wording Q → Option (List ℕ × List Row) → Q → Type 0

@@ -1,7 +1,7 @@
 -- The command line, as clap is told it.
 use Rattle.std.specs.Prelude.{◌≡◌, ◌≢◌, ◌≤◌, ⊤, ℕ, List, IfOk, Option, Result, Some, None, true, false, codes, pos, option_map}
 use Rattle.clap.specs.Words.{App, Row, Rule, new_app, new_rule, app_of, first_of, one_of, with_rule, with_subcommand}
-use Rattle.cli.specs.Asking.{HasChoice, HasFlag, Wording}
+use Rattle.cli.specs.Asking.{HasChoice, HasFlag, HasNumber, Wording, WritesNumber}
 use Rattle.cli.specs.declared.words.Part.{Part}
 use Rattle.cli.specs.declared.words.Part.TheVariants.{Whole, File, Log}
 use Rattle.cli.specs.declared.words.Request.{Request}
@@ -154,6 +154,7 @@ HasMore old more new = (app sub : App) → HasApp app old → IfOk more (HasApp 
 -- so many workers are asked for: from 1 to 32, and 1 where no number is given
 abbrev pub HasWorkers : List Row → ℕ → Type 0
 HasWorkers rows n = (1 ≤ n) × (n ≤ 32) × (one_of (codes "workers") rows ≡ None → n ≡ 1)
+    × ((w : ℕ) → HasNumber 32 (codes "workers") rows w → 1 ≤ w → w ≤ 32 → n ≡ w)
 
 -- a run that is asked for has from 1 to 32 workers
 abbrev pub HasFewWorkers : Request → Type 0
@@ -161,10 +162,11 @@ HasFewWorkers (Run image script workers sync) = (1 ≤ workers) × (workers ≤ 
 HasFewWorkers request = ⊤
 
 -- the part of an image that a word asks for: the whole where there is none, the log by its name, and
--- a file by any other
+-- a file by its number
 abbrev pub HasPart : Option (List ℕ) → Part → Type 0
 HasPart word Whole = word ≡ None
-HasPart word (File number) = (word ≢ None) × (word ≢ Some (codes "log"))
+HasPart word (File number) =
+    (text : List ℕ) × (word ≡ Some text) × (text ≢ codes "log") × WritesNumber 32 text number
 HasPart word Log = word ≡ Some (codes "log")
 
 -- the part that a number asks for
@@ -175,14 +177,15 @@ part_of (Some number) = File number
 -- a command of this name, with these values, asks for the request
 abbrev pub AsksBy : List ℕ → List Row → Request → Type 0
 AsksBy name rows (Mkfs image size ninodes large no_sync) = (name ≡ codes "mkfs")
-    × (first_of (codes "IMAGE") rows ≡ Some image.now) × HasFlag (codes "large") rows large
+    × (first_of (codes "IMAGE") rows ≡ Some image.now) × HasNumber 32 (codes "SIZE") rows size
+    × HasNumber 32 (codes "NINODES") rows ninodes × HasFlag (codes "large") rows large
     × HasFlag (codes "no-sync") rows no_sync
 AsksBy name rows (Check image all) = (name ≡ codes "check")
     × (first_of (codes "IMAGE") rows ≡ Some image.now) × HasFlag (codes "all") rows all
 AsksBy name rows (Recover image sync) = (name ≡ codes "recover")
     × (first_of (codes "IMAGE") rows ≡ Some image.now) × HasFlag (codes "sync") rows sync
 AsksBy name rows (Cat image inum read_only) = (name ≡ codes "cat")
-    × (first_of (codes "IMAGE") rows ≡ Some image.now)
+    × (first_of (codes "IMAGE") rows ≡ Some image.now) × HasNumber 32 (codes "INUM") rows inum
     × HasFlag (codes "read-only") rows read_only
 AsksBy name rows (Ls image) = (name ≡ codes "ls")
     × (first_of (codes "IMAGE") rows ≡ Some image.now)
@@ -201,11 +204,11 @@ AsksBy name rows (ShowPicture image picture) = (name ≡ codes "show")
     × (first_of (codes "picture") rows ≡ Some picture.now)
 AsksBy name rows (Put image file inum sync no_sync) = (name ≡ codes "put")
     × (first_of (codes "IMAGE") rows ≡ Some image.now)
-    × (first_of (codes "FILE") rows ≡ Some file.now) × HasChoice (codes "INUM") rows inum
+    × (first_of (codes "FILE") rows ≡ Some file.now) × HasChoice 32 (codes "INUM") rows inum
     × HasFlag (codes "sync") rows sync × HasFlag (codes "no-sync") rows no_sync
 AsksBy name rows (Copy old new size no_sync) = (name ≡ codes "copy")
     × (first_of (codes "OLD") rows ≡ Some old.now)
-    × (first_of (codes "NEW") rows ≡ Some new.now) × HasChoice (codes "size") rows size
+    × (first_of (codes "NEW") rows ≡ Some new.now) × HasChoice 32 (codes "size") rows size
     × HasFlag (codes "no-sync") rows no_sync
 AsksBy name rows (Rescue old new no_sync) = (name ≡ codes "rescue")
     × (first_of (codes "OLD") rows ≡ Some old.now)
@@ -214,7 +217,8 @@ AsksBy name rows (Rescue old new no_sync) = (name ≡ codes "rescue")
 AsksBy name rows (Replay image script schedule stop sync writes steps picture) =
     (name ≡ codes "replay") × (first_of (codes "IMAGE") rows ≡ Some image.now)
     × (first_of (codes "SCRIPT") rows ≡ Some script.now)
-    × (first_of (codes "SCHEDULE") rows ≡ Some schedule.now) × HasFlag (codes "sync") rows sync
+    × (first_of (codes "SCHEDULE") rows ≡ Some schedule.now)
+    × HasChoice 64 (codes "stop") rows stop × HasFlag (codes "sync") rows sync
     × HasFlag (codes "writes") rows writes × HasFlag (codes "steps") rows steps
     × (option_map (λ path. path.now) picture ≡ first_of (codes "picture") rows)
 AsksBy name rows (Run image script workers sync) =

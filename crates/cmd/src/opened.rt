@@ -1,7 +1,8 @@
 // The disk in a file that a command opens.
 
-ghost use Rattle.std.specs.Prelude.{◌≡◌, IfOk, OnOk, false};
+ghost use Rattle.std.specs.Prelude.{◌≡◌, IfErr, IfOk, OnOk, false};
 ghost use Rattle.cmd.specs.Freshening.{IsFreshened};
+ghost use Rattle.cmd.specs.Locks.{IsOfOpening};
 ghost use Rattle.cmd.specs.Opened.{IsOpened};
 ghost use Rattle.cmd.specs.Over.{holds_back};
 
@@ -117,7 +118,7 @@ fn way_to_look<R: Files>(rt: &R, path: &str) -> OpenOptions {
 ///
 /// # Errors
 ///
-/// `Open` or `NoMemory` where the file can't be read; `Length`.
+/// `Open` or `NoMemory` where the file can't be read, or its header not be written over itself; `Length`.
 pub fn disk_over<F: Read + Write + Seek + OpenFile + Drop>(
     alloc: Global,
     file: &F,
@@ -140,7 +141,7 @@ fn disk_of<F: Read + Write + Seek + OpenFile + Drop>(
     ensures { IfOk result (IsOpened F.remaining ⟦<FileDisk<F> as Disk>⟧ sync) }
 {
     if sync {
-        let _rewritten = freshen(&mut file);
+        refresh(&mut file)?;
     }
     file.seek(SeekFrom::Start(0))
         .map_err(|error| fault_of(error))?;
@@ -149,6 +150,19 @@ fn disk_of<F: Read + Write + Seek + OpenFile + Drop>(
         return Ok(disk.hold_back());
     }
     Ok(disk)
+}
+
+// Writes the log's header over itself, where a file is long enough to have one.
+fn refresh<F: Read + Write + Seek>(file: &mut F) -> Result<(), FileFault>
+    ensures { IfErr result IsOfOpening }
+{
+    let length = file
+        .seek(SeekFrom::End(0))
+        .map_err(|error| fault_of(error))?;
+    if length < HEADER_AT + BLOCK_SIZE as u64 {
+        return Ok(());
+    }
+    freshen(file).map_err(|error| fault_of(error))
 }
 
 // Where the log's header stands in the file of an image.

@@ -1,145 +1,118 @@
-// The operations that had their turn.
-ghost use Rattle.std.specs.Prelude.{◌≡◌, ◌<◌, ◌^◌, ◌+◌, ◌-◌, ◌++◌, ◌∷◌, [], length, IfOk, OnErr};
-ghost use Rattle.history.specs.Journal.{FitsRoom};
+// The operations that had their turn, as clauses see them: no entry takes bytes.
+ghost use Rattle.std.specs.Prelude.{◌≡◌, ◌<◌, ◌^◌, ◌+◌, [], length, IfOk, IfSome, OnErr};
 
+use crate::{Record, Told};
 use blocks::NoMemory;
-use model::gathered::Gathered;
-use model::types::{Answer, Entry, Op, Reply};
+use model::types::{Entry, Reply};
 use std::alloc::Global;
 use std::marker::Model;
 
-/// The entries, the oldest first, and for how many more there is room.
+/// The entries, the oldest first, and for how many more there is room. In memory are these two
+/// counts alone, and the entries where a record of them is kept.
 #[derive(Drop)]
 pub struct Journal {
-    entries: Vec<Entry>,
+    told: Told,
+    count: usize,
     room: usize,
+    kept: Record,
 }
 
 impl Model for Journal {
-    ghost use Rattle.std.specs.Prelude.{◌+◌, ◌≤◌, vec_len, vec_capacity};
+    ghost use Rattle.std.specs.Prelude.{◌≡◌, ◌<◌, ◌+◌, ◌^◌, length};
     ghost use Rattle.history.specs.World.{Entries};
 
     ghost Value = { Entries };
 
-    ghost view = { λ j. record { list = j.entries.items; room = j.room } };
+    ghost view = { λ j. record { list = j.told.list; room = j.room } };
 
-    ghost invariant = { λ j. vec_len j.entries + j.room ≤ vec_capacity j.entries };
+    ghost use Rattle.history.specs.Recording.{Records};
+
+    ghost invariant = { λ j. (length j.told.list ≡ j.count) × (j.count + j.room < 2 ^ 64)
+        × Records j.kept j.told.list };
 }
 
 impl Journal {
-    ghost use Rattle.std.specs.Prelude.{Some, IsSome, IfSome};
-    ghost use Rattle.history.specs.Journal.{reserved, journal_with, journal_told, entry_in, answer_of};
+    ghost use Rattle.history.specs.Journal.{reserved, journal_with, journal_told};
 
     /// Without entries, and without room.
     pub fn new(alloc: Global) -> Journal
         ensures { result ≡ record { list = []; room = 0 } }
     {
         Journal {
-            entries: Vec::new(alloc),
+            told: Told::new(),
+            count: 0,
             room: 0,
+            kept: Record::new(alloc),
         }
     }
 
-    /// The entries, the oldest first.
-    pub fn entries(&self) -> &[Entry]
-        ensures { result.now ≡ self.now.list }
+    /// Keeps the entries in memory from now on, for `entries`, if there are none yet.
+    pub fn record(&mut self)
+        ensures { self.new ≡ self.old }
     {
-        &self.entries
+        if self.count == 0 {
+            self.kept.start();
+        }
+    }
+
+    /// The entries, the oldest first, where they are kept.
+    pub fn entries(&self) -> Option<&[Entry]>
+        ensures { IfSome result (λ entries. entries.now ≡ self.now.list) }
+    {
+        self.kept.entries()
+    }
+
+    /// How many entries there are.
+    pub fn count(&self) -> usize
+        ensures { result ≡ length self.now.list }
+    {
+        self.count
     }
 
     /// Does nothing: entries and room can be counted.
     pub fn known(&self)
         ensures { length self.now.list + self.now.room < 2 ^ 64 }
     {
-        let _ = self.entries.capacity();
+        let _ = &self.told;
     }
 
     /// Makes room for one more entry.
     ///
     /// # Errors
     ///
-    /// `NoMemory` where the allocator refuses it; nothing is changed.
+    /// `NoMemory` where entries could not be counted any more; nothing is changed.
     pub fn reserve(&mut self) -> Result<(), NoMemory>
         requires { self.old.room + 1 < 2 ^ 64 }
         ensures ok { IfOk result (λ _. self.new ≡ reserved self.old) }
         ensures err { OnErr result (self.new ≡ self.old) }
     {
-        self.entries.reserve(self.room + 1)?;
+        if self.count + self.room == usize::MAX {
+            return Err(NoMemory);
+        }
         self.room += 1;
         Ok(())
     }
 
     /// Adds an entry, in room that was made. Its index among the entries, from 0.
-    pub fn add(&mut self, entry: Entry) -> usize
+    pub fn add(&mut self, entry: &Entry) -> usize
         requires { 0 < self.old.room }
         ensures index { result ≡ length self.old.list }
-        ensures entries { self.new ≡ journal_with self.old entry }
+        ensures entries { self.new ≡ journal_with self.old entry.now }
     {
-        let index = self.entries.len();
+        let index = self.count;
         self.room -= 1;
-        let _ = self.entries.push(entry);
+        self.count += 1;
+        self.told.add(entry);
+        self.kept.add(entry);
         index
     }
 
-    /// The operation of the entry at this index.
-    pub fn operation(&self, index: usize) -> &Op
-        requires { index < length self.now.list }
-        ensures { result.now ≡ (entry_in self.now.list index).op }
-    {
-        let entry = &self.entries[index];
-        &entry.op
-    }
-
     /// The reply of the entry at this index is decided.
-    pub fn tell(&mut self, index: usize, reply: Reply)
+    pub fn tell(&mut self, index: usize, reply: &Reply)
         requires { index < length self.old.list }
-        ensures { self.new ≡ journal_told self.old index reply }
+        ensures { self.new ≡ journal_told self.old index reply.now }
     {
-        self.entries[index].reply = Some(reply);
-    }
-
-    /// The answer of the entry at this index. Its bytes, if it has some, are copied into the room.
-    pub fn answer(&self, index: usize, room: Option<Gathered>) -> Answer
-        requires inside { index < length self.now.list }
-        requires answered { IsSome (answer_of (entry_in self.now.list index)) }
-        requires fits { IfSome (answer_of (entry_in self.now.list index))
-            (λ answer. FitsRoom room answer.reply) }
-        ensures { Some result ≡ answer_of (entry_in self.now.list index) }
-    {
-        let entry = &self.entries[index];
-        let Some(reply) = &entry.reply else {
-            unreachable!();
-        };
-        Answer {
-            seq: entry.seq,
-            reply: copy_of(reply, room),
-            group: entry.group,
-        }
-    }
-}
-
-// The same reply once more. Its bytes, if it has some, are copied into the room.
-fn copy_of(reply: &Reply, room: Option<Gathered>) -> Reply
-    requires { FitsRoom room reply.now }
-    ensures { result ≡ reply.now }
-{
-    match reply {
-        Reply::Made(i) => Reply::Made(*i),
-        Reply::NoInode => Reply::NoInode,
-        Reply::Wrote(count) => Reply::Wrote(*count),
-        Reply::Bytes(bytes) => {
-            let Some(mut copied) = room else {
-                unreachable!();
-            };
-            copied.add(bytes.as_slice());
-            Reply::Bytes(copied.into_content())
-        }
-        Reply::Done => Reply::Done,
-        Reply::StatOf(kind, size) => Reply::StatOf(*kind, *size),
-        Reply::NoFile => Reply::NoFile,
-        Reply::BadOffset => Reply::BadOffset,
-        Reply::TooBig => Reply::TooBig,
-        Reply::TooLong => Reply::TooLong,
-        Reply::BadType => Reply::BadType,
+        self.told.reply(index, reply);
+        self.kept.tell(index, reply);
     }
 }

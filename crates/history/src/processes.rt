@@ -1,10 +1,12 @@
 // The processes and their journal, without store and ports.
 ghost use Rattle.std.specs.Prelude.{◌≡◌, ◌<◌, ◌^◌, ◌+◌, ◌↔◌, [], IsTrue, true, length, Some, IsSome, IfSome, IfOk, OnErr};
 ghost use Rattle.history.specs.Processes.{World, process, fresh_world, with_more_room, taken, refused};
-ghost use Rattle.history.specs.Journal.{plain_reply, FitsRoom};
-ghost use Rattle.history.specs.Processes.{turned, decided, over, entry_index, operation_at, HasEntryIndex, committing, answered, is_before, last_answer, refusal_answer};
+ghost use Rattle.history.specs.Changing.{counted};
+ghost use Rattle.history.specs.Journal.{answer_of, plain_reply, FitsRoom};
+ghost use Rattle.history.specs.Keeps.{AreUpTo};
+ghost use Rattle.history.specs.Processes.{turned, phase_behind, decided, over, entry_index, operation_at, HasEntryIndex, committing, answered, is_before, last_answer, refusal_answer};
 
-use crate::{Journal, Phase, Process};
+use crate::{Changes, Journal, Phase, Process};
 use blocks::NoMemory;
 use model::gathered::Gathered;
 use model::types::{Answer, Entry, Op, Reply};
@@ -16,6 +18,9 @@ use std::mem;
 #[derive(Drop)]
 pub struct Processes {
     processes: Vec<Process>,
+    // Of each process the entry of its operation under way, and how many changing ones it had.
+    held: Vec<Option<Entry>>,
+    changes: Vec<Changes>,
     journal: Journal,
     is_shut: bool,
 }
@@ -27,6 +32,12 @@ impl Model for Processes {
 
     ghost view = { λ w.
         record { processes = w.processes.items; journal = w.journal; is_shut = w.is_shut } };
+
+    ghost use Rattle.history.specs.Holding.{AreHeld};
+    ghost use Rattle.history.specs.Changing.{HaveCounts};
+
+    ghost invariant = { λ w. AreHeld w.held.items w.processes.items w.journal.list
+        × HaveCounts w.changes.items w.processes.items w.journal.list };
 }
 
 impl Processes {
@@ -39,25 +50,45 @@ impl Processes {
         ensures { IfOk result (λ w. w ≡ fresh_world count) }
     {
         let mut processes = Vec::new(alloc);
+        let mut held = Vec::new(alloc);
+        let mut changes = Vec::new(alloc);
         for _process in 0..count {
             processes.push(Process {
                 begun: 0,
                 at: Phase::Idle,
                 room: None,
             })?;
+            held.push(None)?;
+            changes.push(Changes::new())?;
         }
         Ok(Processes {
             processes,
+            held,
+            changes,
             journal: Journal::new(alloc),
             is_shut: false,
         })
     }
 
-    /// The journal's entries, the oldest first.
-    pub fn entries(&self) -> &[Entry]
-        ensures { result.now ≡ self.now.journal.list }
+    /// Keeps the journal's entries in memory from now on, if there are none yet.
+    pub fn record(&mut self)
+        ensures { self.new ≡ self.old }
+    {
+        self.journal.record();
+    }
+
+    /// The journal's entries, the oldest first, where they are kept.
+    pub fn entries(&self) -> Option<&[Entry]>
+        ensures { IfSome result (λ entries. entries.now ≡ self.now.journal.list) }
     {
         self.journal.entries()
+    }
+
+    /// How many operations had their turn, or were answered at once.
+    pub fn had(&self) -> usize
+        ensures { result ≡ length self.now.journal.list }
+    {
+        self.journal.count()
     }
 
     /// Whether no operation begins any more.
@@ -111,11 +142,22 @@ impl Processes {
         self.journal.known();
     }
 
+    /// How many changing operations of a process that had their turn are of the first so many
+    /// groups. No operation is of a later group than the next.
+    pub fn kept(&self, pid: u32, committed: u64) -> u64
+        requires pid { pid < length self.now.processes }
+        requires groups { AreUpTo (committed + 1) self.now.journal.list }
+        ensures { result ≡ counted pid committed self.now.journal.list }
+    {
+        self.journal.known();
+        self.changes[pid as usize].kept(committed)
+    }
+
     /// Makes room in the journal for one more operation.
     ///
     /// # Errors
     ///
-    /// `NoMemory` where the allocator refuses the room; nothing is changed.
+    /// `NoMemory` where operations could not be counted any more; nothing is changed.
     pub fn reserve(&mut self) -> Result<(), NoMemory>
         requires { self.old.journal.room + 1 < 2 ^ 64 }
         ensures ok { IfOk result (λ _. self.new ≡ with_more_room self.old) }
@@ -150,14 +192,15 @@ impl Processes {
         let process = &mut self.processes[pid as usize];
         let seq = process.begun + 1;
         process.begun = seq;
-        let index = self.journal.add(Entry {
+        let entry = Entry {
             pid,
             seq,
             op,
             group: 0,
             reply: Some(reply),
-        });
-        self.journal.answer(index, None)
+        };
+        let _index = self.journal.add(&entry);
+        answer_of(entry)
     }
 
     /// The operation of a process has its turn: its entry, with the reply if it is known, is in the
@@ -168,22 +211,22 @@ impl Processes {
         requires room { 0 < self.old.journal.room }
         ensures { self.new ≡ turned self.old pid reply is_over }
     {
+        self.journal.known();
         let process = &mut self.processes[pid as usize];
         let Phase::BeforeTurn { group, op } = mem::replace(&mut process.at, Phase::Idle) else {
             unreachable!();
         };
-        let entry = self.journal.add(Entry {
+        let held = Entry {
             pid,
             seq: process.begun,
             op,
             group,
             reply,
-        });
-        process.at = if is_over {
-            Phase::Ending { group, entry }
-        } else {
-            Phase::AfterTurn { group, entry }
         };
+        let entry = self.journal.add(&held);
+        self.held[pid as usize] = Some(held);
+        self.changes[pid as usize].add(group);
+        process.at = behind(is_over, group, entry);
     }
 
     /// The operation of a process that had its turn and goes on.
@@ -192,10 +235,10 @@ impl Processes {
         requires entry { HasEntryIndex self.now (entry_index (process self.now pid).at) }
         ensures { Some result.now ≡ operation_at self.now (entry_index (process self.now pid).at) }
     {
-        let Some(index) = entry_index(&self.processes[pid as usize].at) else {
+        let Some(entry) = &self.held[pid as usize] else {
             unreachable!();
         };
-        self.journal.operation(index)
+        &entry.op
     }
 
     /// The reply of a process's operation that had its turn is decided.
@@ -207,7 +250,11 @@ impl Processes {
         let Some(index) = entry_index(&self.processes[pid as usize].at) else {
             unreachable!();
         };
-        self.journal.tell(index, reply);
+        let Some(entry) = &mut self.held[pid as usize] else {
+            unreachable!();
+        };
+        self.journal.tell(index, &reply);
+        entry.reply = Some(reply);
     }
 
     /// The task of an operation that had its turn is over: it ends in the log next.
@@ -234,8 +281,7 @@ impl Processes {
         };
     }
 
-    /// The operation of a process, which has its reply, is answered, with its bytes in the room
-    /// that was taken for them. Its answer.
+    /// The operation of a process, which has its reply, is answered. Its answer.
     pub fn answer(&mut self, pid: u32) -> Answer
         requires pid { pid < length self.old.processes }
         requires entry { IsSome (last_answer self.old (process self.old pid).at) }
@@ -245,12 +291,41 @@ impl Processes {
         ensures processes { self.new ≡ answered self.old pid }
     {
         let process = &mut self.processes[pid as usize];
-        let at = mem::replace(&mut process.at, Phase::Idle);
-        let room = process.room.take();
-        let Some(entry) = entry_index(&at) else {
+        process.at = Phase::Idle;
+        process.room = None;
+        let Some(entry) = self.held[pid as usize].take() else {
             unreachable!();
         };
-        self.journal.answer(entry, room)
+        answer_of(entry)
+    }
+}
+
+// What a process gets back of an entry with its reply.
+fn answer_of(entry: Entry) -> Answer
+    requires { IsSome (answer_of entry) }
+    ensures { Some result ≡ answer_of entry }
+{
+    let Entry {
+        pid: _pid,
+        seq,
+        op: _op,
+        group,
+        reply,
+    } = entry;
+    let Some(reply) = reply else {
+        unreachable!();
+    };
+    Answer { seq, reply, group }
+}
+
+// Where an operation stands behind its turn.
+fn behind(is_over: bool, group: u64, entry: usize) -> Phase
+    ensures { result ≡ phase_behind is_over group entry }
+{
+    if is_over {
+        Phase::Ending { group, entry }
+    } else {
+        Phase::AfterTurn { group, entry }
     }
 }
 

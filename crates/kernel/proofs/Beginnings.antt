@@ -167,6 +167,7 @@ right_shut disk opening s w b right = record {
   numbers = right.numbers;
   paired = record { many = right.paired.many; some = right.paired.some; few = right.paired.few; stand = right.paired.stand };
   counted = record { room = right.counted.room; begun = right.counted.begun; groups = right.counted.groups };
+  near = right.near;
   facts = Rattle.inodes.specs.Lemmas.Faults.if_well s.volume.fault (λ (f : HasFacts disk.image (disk.image opening) s w). record { facts = f.facts; alone = f.alone }) right.facts;
   lasts = shut_lasts s.volume.fault right.lasts;
   journal = right.journal;

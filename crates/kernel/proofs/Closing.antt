@@ -190,6 +190,7 @@ module _ {D N : Type 0} (disk : Ghosts D N) (opening : D) (s : StoreState D) (w 
         (paired_goes s t w w p (process w p) right.paired lt (sym (set-get_or w.processes p idle)) (ap (λ (l : List TaskState). length l) made.tasks) (λ q apart. ap (λ (l : List TaskState). task l q) made.tasks) (keeps_behind w w p refl)
         (subst (λ (l : List TaskState). IsPaired w.journal.list (task l p) (process w p).at (process w p).room) (sym made.tasks) (right.paired.stand p)))
         (ap (λ (l : LogState). l.opened) log)
+        (ap (λ (l : LogState). l.committed) log)
         (λ x left. ⊎_elim
         (λ (wr : (is_writing s.volume.log.commit ≡ true) × IsWrite r). let at_fault : IsWrite (Committed.Fault fault) = subst IsWrite is wr.1 in
         known_failed (disk.image opening) (view_of disk.image s) w.journal.list (ats_of w) had.facts t.volume fault x failed at_fault.faults.0 log wr.0 none_open (wr.1.recovers x left) (wr.1.lawful x left))

@@ -1,9 +1,10 @@
 -- What is true of store and processes follows from a few facts.
 use Rattle.kernel.specs.Lasting.{Lasts}
-use Rattle.std.proofs.Common.{◌≡◌, ◌≤◌, ℕ, refl, sym, ◌∙◌, ap, subst, Option, Some, None}
+use Rattle.std.proofs.Common.{◌≡◌, ◌≤◌, ℕ, ◌+◌, arith, refl, sym, ◌∙◌, ap, subst, Option, Some, None}
 use Rattle.std.specs.Prelude.{IfNone, IfSome}
 use Rattle.kernel.specs.Common.{ArePaired, ats_of, DeviceFault, faults_after, Form, form_of, Ghosts, HasFacts, if_none, if_some, Image, inode_count_of, IsCounted, IsRight, KeepsNow, known_keeps, known_run, most_of, now_stays, one_more, OnlyReads, StoreState, view_of, where_none, World}
 use Rattle.history.specs.Follows.{IsJournal}
+use Rattle.history.specs.Lemmas.Groups.{all_but_one}
 use Rattle.wal.specs.Floats.{Survives as SurvivesAt}
 
 unfailed : {D : Type 0} (image : D → Image) (form : Form) (s : StoreState D) (w : World) (o : Option DeviceFault) → o ≡ None → IfSome o (λ (f : DeviceFault). Lasts image form s w)
@@ -24,6 +25,7 @@ module _ {D N : Type 0} (disk : Ghosts D N) (opening : D) where
         numbers = numbers;
         paired = paired;
         counted = counted;
+        near = all_but_one s.volume.log has.facts.valid.log;
         facts = if_none s.volume.fault has;
         lasts = unfailed disk.image (form_of (disk.image opening)) s w s.volume.fault well;
         journal = has.facts.journal;
@@ -34,14 +36,15 @@ module _ {D N : Type 0} (disk : Ghosts D N) (opening : D) where
 
   -- and once it failed, with the same log
   pub right_failed : (s t : StoreState D) (w : World) (fault : DeviceFault) → IsRight disk opening s w → s.volume.fault ≡ None → t.volume.fault ≡ Some fault → t.table.inode_count ≡ s.table.inode_count → ArePaired t w
-      → t.volume.log.opened ≡ s.volume.log.opened → ((x : Image) → disk.leaves t.volume.device (disk.moment t.volume.device) x → KeepsNow t.volume.log.committed (most_of t.volume) (disk.image opening) w.journal.list x)
+      → t.volume.log.opened ≡ s.volume.log.opened → t.volume.log.committed ≡ s.volume.log.committed → ((x : Image) → disk.leaves t.volume.device (disk.moment t.volume.device) x → KeepsNow t.volume.log.committed (most_of t.volume) (disk.image opening) w.journal.list x)
       → disk.fault_count t.volume.device ≡ one_more (disk.fault_count s.volume.device) → Lasts disk.image (form_of (disk.image opening)) t w → IsRight disk opening t w
-  right_failed s t w fault right well failed numbers paired same keeps faults lasts =
+  right_failed s t w fault right well failed numbers paired same same_committed keeps faults lasts =
       let before : disk.fault_count s.volume.device ≡ disk.fault_count opening = right.faults ∙ ap (λ (o : Option DeviceFault). faults_after o (disk.fault_count opening)) well in
       record {
         numbers = numbers ∙ right.numbers;
         paired = paired;
         counted = subst (λ (k : ℕ). IsCounted k w) (sym same) right.counted;
+        near = (let near = right.near in omega (arith, near, same, same_committed));
         facts = if_some (HasFacts disk.image (disk.image opening) t w) t.volume.fault fault failed;
         lasts = subst (λ (o : Option DeviceFault). IfSome o (λ (f : DeviceFault). Lasts disk.image (form_of (disk.image opening)) t w)) (sym failed) lasts;
         journal = subst (λ (k : ℕ). IsJournal (inode_count_of (disk.image opening)) k w.journal.list) (sym same) right.journal;

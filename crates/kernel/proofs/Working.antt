@@ -143,7 +143,7 @@ module _ {D N : Type 0} (disk : Ghosts D N) (opening : D) (s : StoreState D) (w 
 
   fails_with : (a : Phase) → (process w p).at ≡ a → is_busy_at a ≡ true → (fault : DiskFault) → StillSurvives → Steps disk s p op (TaskProgress.Fault fault) t → TaskStands es (task t.tasks p) a → IsRight disk opening t w
   fails_with a stands busy fault survives steps there =
-      right_failed disk opening s t w (Block fault) right well steps.reads.fault steps.tasks.numbers (paired_here (TaskProgress.Fault fault) a stands busy steps there) steps.groups.opened
+      right_failed disk opening s t w (Block fault) right well steps.reads.fault steps.tasks.numbers (paired_here (TaskProgress.Fault fault) a stands busy steps there) steps.groups.opened steps.groups.committed
       (λ x left. known_keeps (disk.image opening) before es (ats_of w) had.facts t.volume steps.groups.committed steps.groups.commit x (survives x left)) steps.reads.faults (lasts_failed disk opening s w was right p op fault t well steps)
 
   -- BEFORE ITS TURN

@@ -1,5 +1,5 @@
 -- What is true of every kernel, between two steps.
-use Rattle.std.specs.Prelude.{◌≡◌, ◌<◌, ◌≤◌, ℕ, true, false, is_none, List, length, IfNone, IfSome, Option, Some}
+use Rattle.std.specs.Prelude.{◌≡◌, ◌<◌, ◌≤◌, ℕ, ◌+◌, true, false, is_none, List, length, IfNone, IfSome, Option, Some}
 use Rattle.wal.specs.declared.types.DeviceFault.{DeviceFault}
 use Rattle.blocks.specs.Disk.{Image}
 use Rattle.blocks.specs.declared.disk.Disk as disk_trait
@@ -77,6 +77,8 @@ pub record IsRight {D N : Type 0} (disk : disk_trait.Ghosts D N) (opening : D) (
   pub numbers : s.table.inode_count ≡ inode_count_of (disk.image opening)
   pub paired : ArePaired s w
   pub counted : IsCounted s.volume.log.opened w
+  -- all groups but one are committed
+  pub near : s.volume.log.opened ≤ s.volume.log.committed + 1
   pub facts : IfNone s.volume.fault (HasFacts disk.image (disk.image opening) s w)
   pub lasts : IfSome s.volume.fault
       (λ (fault : DeviceFault). Lasts disk.image (form_of (disk.image opening)) s w)

@@ -2,11 +2,10 @@
 ghost use Rattle.std.specs.Prelude.{◌≡◌, ◌<◌, length};
 ghost use Rattle.model.specs.Layout.{inode_count_of};
 ghost use Rattle.history.specs.Processes.{process};
-ghost use Rattle.kernel.specs.Counts.{counted_entries, kept_of};
+ghost use Rattle.kernel.specs.Counts.{kept_of};
 
 use crate::stepping::Kernel;
 use blocks::Disk;
-use model::types::Entry;
 use ports::{Herald, Intake};
 
 impl<D: Disk, I: Intake, H: Herald> Kernel<D, I, H> {
@@ -19,17 +18,7 @@ impl<D: Disk, I: Intake, H: Herald> Kernel<D, I, H> {
             ≡ length (kept_of (inode_count_of (D.image self.now.opening)) self.now pid) }
     {
         self.known();
-        let kept = kept_entries(self.processes.entries(), pid, self.committed());
-        (self.begun(pid), kept as u64)
+        let kept = self.processes.kept(pid, self.committed());
+        (self.begun(pid), kept)
     }
-}
-
-// How many entries of a process are of the groups up to this one.
-fn kept_entries(entries: &[Entry], pid: u32, group: u64) -> usize
-    ensures { result ≡ length (counted_entries pid group entries.now) }
-{
-    entries
-        .iter()
-        .filter(|entry| entry.pid == pid && (entry.group > 0 && entry.group <= group))
-        .count()
 }

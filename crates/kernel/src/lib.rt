@@ -23,9 +23,11 @@
 //! told it then, and it is given at the end of its operation. With its last step each gives its inode up. Then a look
 //! is answered, and who changed files ends in the log as a creation does.
 //!
-//! Memory is taken at an operation's beginning: room in the journal, and for a read room for its
-//! bytes, once for the journal and once for the answer. That no later step takes any is by test: no
-//! clause can say it.
+//! Memory is taken at a read's beginning: room for its bytes, twice. That no later step takes any is
+//! by test: no clause can say it. An entry has its bytes while its operation is under way. After its
+//! answer the journal is a list that clauses see, and takes none, however long the kernel is open.
+//! Who reads entries asks for a record of them (`Kernel::record`). Then steps take memory for it, and
+//! the record ends where that is refused; the step does not.
 //!
 //! A stop keeps the groups that are committed, each whole, whichever writes a disk loses that holds
 //! them back. It keeps one group more exactly where a header got through whose write failed or whose

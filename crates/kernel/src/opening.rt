@@ -1,5 +1,5 @@
 // Opening a kernel, and what may be asked of it between two steps.
-ghost use Rattle.std.specs.Prelude.{◌≡◌, ◌<◌, ℕ, true, length, replicate, IfOk, IfErr, IsTrue};
+ghost use Rattle.std.specs.Prelude.{◌≡◌, ◌<◌, ℕ, true, length, replicate, IfOk, IfErr, IfSome, IsTrue};
 ghost use Rattle.model.specs.Layout.{is_lawful_super};
 ghost use Rattle.wal.specs.Machine.{begin_cause};
 ghost use Rattle.wal.specs.Volume.{IsNewMemory};
@@ -109,11 +109,26 @@ impl<D: Disk, I: Intake, H: Herald> Kernel<D, I, H> {
         self.processes.shut();
     }
 
-    /// The operations that had their turn, the oldest first.
-    pub fn journal(&self) -> &[Entry]
-        ensures { result.now ≡ self.now.world.journal.list }
+    /// Keeps the operations that have their turn in memory from now on, if none had it yet.
+    pub fn record(&mut self)
+        ensures { self.new ≡ self.old }
+    {
+        self.processes.record();
+    }
+
+    /// The operations that had their turn, the oldest first, where they are kept: as from `record`,
+    /// and until memory was refused for one.
+    pub fn journal(&self) -> Option<&[Entry]>
+        ensures { IfSome result (λ entries. entries.now ≡ self.now.world.journal.list) }
     {
         self.processes.entries()
+    }
+
+    /// How many operations had their turn, or were answered at once.
+    pub fn had(&self) -> usize
+        ensures { result ≡ length self.now.world.journal.list }
+    {
+        self.processes.had()
     }
 
     /// How many groups are committed.

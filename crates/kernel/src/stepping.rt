@@ -108,8 +108,8 @@ impl<D: Disk, I: Intake, H: Herald> Kernel<D, I, H> {
     /// After a fault of the disk it is `Halted`, and nothing is done. A process with no operation
     /// under way answers, in this order: `ShutDown`, `Idle`, `Sleeping(AnswersFull)`, for what
     /// changes files `Sleeping` with the log's cause, `NoMemory`; else the operation is taken, and
-    /// the step is `Moved`, or `Answered` where it is refused at once. No other step takes memory, by
-    /// test.
+    /// the step is `Moved`, or `Answered` where it is refused at once. No other step takes memory, but
+    /// for a record that was asked for, by test.
     pub fn step(&mut self, pid: u32) -> Step
         requires pid { pid < length self.old.world.processes }
         ensures acts { Acts D.Disk I.Intake H.Herald pid result self.old self.new }

@@ -2,7 +2,7 @@
 use Rattle.std.specs.Prelude.{◌≡◌, ℕ, List, [], Bool, Some, codes, map, unwrap_or}
 use Rattle.clap.specs.Words.{App, Row, all_of, first_of, new_rule, with_rule, with_subcommand}
 use Rattle.clap.specs.declared.builder.action.ArgAction.TheVariants.{Append, SetTrue}
-use Rattle.cli.specs.Asking.{HasFlag, Wording}
+use Rattle.cli.specs.Asking.{HasFlag, HasNumber, Wording}
 use Rattle.cli.specs.CommandLine.{flag_rule, image_app, named_app, number_rule, required_rule}
 use Rattle.names_words.specs.declared.words.Request.{Request}
 use Rattle.names_words.specs.declared.words.Request.TheVariants.{Ls, Tree, Cat, Get, Put, Rm, Mv, Mkdir, Rmdir, Mkfs}
@@ -91,7 +91,9 @@ AsksBy name rows (Mkdir image path sync no_sync) = (name ≡ codes "mkdir")
 AsksBy name rows (Rmdir image path sync no_sync) = (name ≡ codes "rmdir")
     × Changes rows image.now sync no_sync × HasWord (codes "PATH") rows path.now
 AsksBy name rows (Mkfs image size ninodes files no_sync) = (name ≡ codes "mkfs")
-    × HasWord (codes "IMAGE") rows image.now × (map (λ file. file.now) files.items ≡ files_in rows)
+    × HasWord (codes "IMAGE") rows image.now × HasNumber 32 (codes "SIZE") rows size
+    × HasNumber 32 (codes "NINODES") rows ninodes
+    × (map (λ file. file.now) files.items ≡ files_in rows)
     × HasFlag (codes "no-sync") rows no_sync
 
 -- the words of `xvnames`

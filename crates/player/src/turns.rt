@@ -1,5 +1,5 @@
 // The turns of a schedule, over a kernel with a script's operations.
-ghost use Rattle.std.specs.Prelude.{◌≡◌, ◌-◌, ◌<◌, false, All, IsTrue, length, IfOk, IfErr, Option};
+ghost use Rattle.std.specs.Prelude.{◌≡◌, ◌-◌, ◌<◌, false, All, IsTrue, length, IfOk, IfErr, IfSome, Option};
 ghost use Rattle.blocks.specs.FaultyDisk.{has_fired, inner_of};
 ghost use Rattle.blocks.specs.Disk.{counted};
 ghost use Rattle.rings.specs.Boards.{KeeperOf, WatchOf, asked, published};
@@ -195,9 +195,17 @@ impl<'a, D: Disk + Drop> Player<'a, D> {
         self.kernel.opened()
     }
 
-    /// The operations that had their turn, the oldest first.
-    pub fn journal(&self) -> &[Entry]
-        ensures { result.now ≡ self.now.kernel.world.journal.list }
+    /// Keeps the operations that have their turn in memory from now on, if none had it yet.
+    pub fn record(&mut self)
+        ensures { self.new ≡ self.old }
+    {
+        self.kernel.record();
+    }
+
+    /// The operations that had their turn, the oldest first, where they are kept: as from `record`,
+    /// and until memory was refused for one.
+    pub fn journal(&self) -> Option<&[Entry]>
+        ensures { IfSome result (λ entries. entries.now ≡ self.now.kernel.world.journal.list) }
     {
         self.kernel.journal()
     }

@@ -168,8 +168,10 @@ fn play_held(
     requires seated { IsSeated player.old }
     ensures { IfOk result (HasPlayedHeld words.now write player.old player.new) }
 {
+    player.record();
     let ended = play(player, words, write)?;
-    let due = files_due(alloc, player.journal(), ended.committed, player.opened())?;
+    let journal = player.journal().ok_or(NoMemory)?;
+    let due = files_due(alloc, journal, ended.committed, player.opened())?;
     Ok(Played { ended, due })
 }
 

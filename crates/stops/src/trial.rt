@@ -95,8 +95,10 @@ fn play_kept(
     requires seated { IsSeated player.old }
     ensures { IfOk result (HasPlayedOn words.now stop player.old player.new) }
 {
+    player.record();
     let ended = play(player, words, stop)?;
-    let files = kept_files(alloc, player.journal(), ended.committed)?;
+    let journal = player.journal().ok_or(NoMemory)?;
+    let files = kept_files(alloc, journal, ended.committed)?;
     Ok(Played { ended, files })
 }
 

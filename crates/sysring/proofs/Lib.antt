@@ -1,2 +1,3 @@
 mod Origins
 mod Sends
+mod Sessions

@@ -1,2 +1,3 @@
 pub mod Accounts
 pub mod Origins
+pub mod Sessions

@@ -3,6 +3,7 @@ ghost use Rattle.std.specs.Prelude.{◌≡◌, IfSome};
 ghost use Rattle.kernel.specs.Known.{Known};
 ghost use Rattle.rings.specs.declared.intake.RingIntake.{RingIntake};
 ghost use Rattle.sysring.specs.Origins.{AreWorkers, HasOriginOf, IsOfOrigin};
+ghost use Rattle.sysring.specs.Sessions.{HasTurnsOf, IsOfTurns, IsShared};
 
 use crate::pace::Serving;
 use crate::session::Origin;
@@ -21,11 +22,13 @@ use std::thread::Threads;
 /// Serves a kernel with so many workers, from 1 to 32, on threads of their own, while the calling
 /// thread does what `callers` does: it hands operations in, polls answers, and at last asks for a
 /// shutdown, without which the workers go on. It may ask how they get on: above all whether they
-/// have ended, as they do after a fault of the disk, and whether they are refused memory. Hands the kernel back when both have ended: it goes on from the one that was
-/// handed in, with the same rings, and no group that was committed then is lost, also by a stop at
-/// any moment since.
+/// have ended, as they do after a fault of the disk, and whether they are refused memory. Hands the
+/// kernel back when both have ended: turns made it of the one that was handed in, with anything
+/// handed in and fetched between them; it has the same rings, and no group that was committed then
+/// is lost, also by a stop at any moment since.
 ///
-/// None where no thread can be started. That nothing was done then is by the code.
+/// None where no thread can be started. That nothing was done then is by the code: the kernel is
+/// behind its lock before, and of what is behind a lock only what always holds there is known.
 pub fn serve_while<
     D: Disk + Send,
     H: Herald + Send,
@@ -45,6 +48,7 @@ pub fn serve_while<
     ensures done { IfSome result.0 (λ gift. (at : _) × F.post callers at gift) }
     ensures known { Known D.Disk ⟦<RingIntake as Intake>⟧ H.Herald result.1 }
     ensures origin { HasOriginOf D.Disk H.Herald kernel result.1 }
+    ensures turns { HasTurnsOf D.Disk H.Herald kernel result.1 }
 {
     kernel.known();
     serve_under::<D, H, R, G, Brand, T, F>(kernel, callers, rt, workers, gate)
@@ -68,10 +72,11 @@ fn serve_under<
 ) -> (Option<T>, Kernel<D, RingIntake, H>)
     requires workers { AreWorkers workers }
     requires callers { F.IsAlwaysCallable callers }
-    requires origin { IsOfOrigin D.Disk H.Herald K.outset kernel }
+    requires shared { IsShared D.Disk H.Herald K.outset kernel }
     ensures done { IfSome result.0 (λ gift. (at : _) × F.post callers at gift) }
     ensures known { Known D.Disk ⟦<RingIntake as Intake>⟧ H.Herald result.1 }
     ensures origin { IsOfOrigin D.Disk H.Herald K.outset result.1 }
+    ensures turns { IsOfTurns D.Disk H.Herald K.outset result.1 }
 {
     let shared = Shared::<D, H, K>::new(kernel);
     let done = serve_beside(rt, &shared, workers, gate, callers);

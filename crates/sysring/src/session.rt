@@ -32,23 +32,24 @@ pub struct Session<D: Disk, H: Herald, K: Origin<D, H>> {
 impl<D: Disk, H: Herald, K: Origin<D, H>> Model for Session<D, H, K> {
     ghost use Rattle.kernel.specs.State.{State};
     ghost use Rattle.rings.specs.declared.intake.RingIntake.{RingIntake};
-    ghost use Rattle.sysring.specs.Origins.{IsOfOrigin};
+    ghost use Rattle.sysring.specs.Sessions.{IsShared};
 
     ghost Value = { State D RingIntake H };
 
     ghost view = { λ f. f.kernel };
 
-    ghost invariant = { λ f. IsOfOrigin D.Disk H.Herald K.outset f.kernel };
+    ghost invariant = { λ f. IsShared D.Disk H.Herald K.outset f.kernel };
 }
 
 impl<D: Disk, H: Herald, K: Origin<D, H>> Session<D, H, K> {
     ghost use Rattle.kernel.specs.Steps.{MakesStep};
     ghost use Rattle.rings.specs.declared.intake.RingIntake.{RingIntake};
     ghost use Rattle.sysring.specs.Origins.{IsOfOrigin, processes_in};
+    ghost use Rattle.sysring.specs.Sessions.{IsOfTurns, IsShared};
 
     // Puts a kernel into a session.
     pub(crate) fn new(kernel: Kernel<D, RingIntake, H>) -> Session<D, H, K>
-        requires { IsOfOrigin D.Disk H.Herald K.outset kernel }
+        requires { IsShared D.Disk H.Herald K.outset kernel }
         ensures { result ≡ kernel }
     {
         Session {
@@ -68,7 +69,9 @@ impl<D: Disk, H: Herald, K: Origin<D, H>> Session<D, H, K> {
     // A step of a process, as `Kernel::step` makes it. It wakes nobody: `Shared::step` does.
     pub(crate) fn step(&mut self, pid: u32) -> Step
         requires { pid < processes_in K.outset }
-        ensures { MakesStep D.Disk ⟦<RingIntake as Intake>⟧ H.Herald pid result self.old self.new }
+        ensures makes { MakesStep D.Disk ⟦<RingIntake as Intake>⟧ H.Herald pid result
+            self.old self.new }
+        ensures shared { IsShared D.Disk H.Herald K.outset self.old }
     {
         self.kernel.step(pid)
     }
@@ -77,6 +80,7 @@ impl<D: Disk, H: Herald, K: Origin<D, H>> Session<D, H, K> {
     pub(crate) fn into_kernel(self) -> Kernel<D, RingIntake, H>
         ensures same { result ≡ self }
         ensures origin { IsOfOrigin D.Disk H.Herald K.outset result }
+        ensures turns { IsOfTurns D.Disk H.Herald K.outset result }
     {
         let Session { kernel, .. } = self;
         kernel

@@ -7,6 +7,7 @@ ghost use Rattle.wal.specs.Recovery.{RecoversAs};
 ghost use Rattle.kernel.specs.Known.{Known};
 ghost use Rattle.kernel.specs.Theorem.{IsExact, IsRecoveredRun};
 ghost use Rattle.sysring.specs.Origins.{IsOfOrigin, processes_in};
+ghost use Rattle.sysring.specs.Sessions.{IsOfTurns, IsShared, StepsShared};
 
 use crate::pace::Serving;
 use crate::session::{Origin, Session};
@@ -36,7 +37,7 @@ pub struct Shared<D: Disk, H: Herald, K: Origin<D, H>> {
 impl<D: Disk, H: Herald, K: Origin<D, H>> Shared<D, H, K> {
     /// Puts a lock round a kernel.
     pub fn new(kernel: Kernel<D, RingIntake, H>) -> Shared<D, H, K>
-        requires { IsOfOrigin D.Disk H.Herald K.outset kernel }
+        requires { IsShared D.Disk H.Herald K.outset kernel }
     {
         Shared {
             kernel: Mutex::new(Session::new(kernel)),
@@ -94,6 +95,7 @@ impl<D: Disk, H: Herald, K: Origin<D, H>> Shared<D, H, K> {
     pub fn into_kernel(self) -> Kernel<D, RingIntake, H>
         ensures known { Known D.Disk ⟦<RingIntake as Intake>⟧ H.Herald result }
         ensures origin { IsOfOrigin D.Disk H.Herald K.outset result }
+        ensures turns { IsOfTurns D.Disk H.Herald K.outset result }
     {
         let Shared { kernel, .. } = self;
         let kernel = kernel.into_inner().into_kernel();
@@ -101,10 +103,12 @@ impl<D: Disk, H: Herald, K: Origin<D, H>> Shared<D, H, K> {
         kernel
     }
 
-    /// Makes a step of a process under the lock, as `Kernel::step` makes it. By its code it wakes
-    /// all who wait where that changed something.
+    /// Makes a step of a process under the lock, as `Kernel::step` makes it, of the kernel that is
+    /// there then, and answers as it does. By its code it wakes all who wait where that changed
+    /// something.
     pub fn step<R: Wait>(&self, rt: &R, pid: u32) -> Step
         requires { pid < processes_in K.outset }
+        ensures { StepsShared D.Disk H.Herald K.outset pid result }
     {
         let mut kernel = self.lock(rt);
         let step = kernel.step(pid);

@@ -2,7 +2,9 @@
 use crate::chance::Chance;
 use crate::ground::Ground;
 use crate::judging::{Due, judge_disk};
-use crate::playing::{Failure, MOST_TURNS, Outcome, Over, open, opened, run, take_turn};
+use crate::playing::{
+    Failure, MOST_TURNS, Outcome, Over, journal_of, open, opened, run, take_turn,
+};
 use crate::script::Script;
 use crate::setting::Setting;
 use crate::tally::{Row, Tally};
@@ -143,7 +145,7 @@ fn judge_stop(
     let is_more = is_one_more(alloc, &mut left, is_open);
     let mut due = Due::new(alloc);
     due.groups = kernel.committed();
-    let is_more = judge_more(alloc, kernel.journal(), ground, is_more, &mut due);
+    let is_more = judge_more(alloc, journal_of(kernel)?, ground, is_more, &mut due);
     judge_left(alloc, left, is_more, &due, tally)?;
     tally.add(Row::Stops, 1);
     Ok(())

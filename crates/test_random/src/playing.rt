@@ -168,12 +168,19 @@ pub fn opened<D: Disk + Drop>(
     }
 }
 
-/// Opens a kernel of so many processes over a disk.
+/// Opens a kernel of so many processes over a disk, which keeps its journal.
 pub fn open<D: Disk>(alloc: Global, disk: D, processes: u32) -> Result<Over<D>, (OpenFault, D)> {
-    match QueueIntake::new(alloc, processes) {
-        Ok(intake) => Kernel::open(alloc, disk, intake, PlainHerald::new(), processes),
-        Err(NoMemory) => Err((OpenFault::NoMemory, disk)),
-    }
+    let Ok(intake) = QueueIntake::new(alloc, processes) else {
+        return Err((OpenFault::NoMemory, disk));
+    };
+    let mut kernel = Kernel::open(alloc, disk, intake, PlainHerald::new(), processes)?;
+    kernel.record();
+    Ok(kernel)
+}
+
+/// The journal of a kernel that keeps it.
+pub fn journal_of<D: Disk>(kernel: &Over<D>) -> Result<&[Entry], What> {
+    kernel.journal().ok_or(What::NoMemory)
 }
 
 // Makes the turns of a script, and judges the journal.
@@ -187,8 +194,9 @@ fn play_out<D: Disk>(
 ) -> Result<(), What> {
     play(alloc, kernel, &mut ground.script(), tally)?;
     outcome.note(kernel, kind, ground.setting.size)?;
-    tally.journal(ground.setting, kernel.journal());
-    outcome.judge(alloc, kernel.journal(), ground, kind)
+    let journal = journal_of(kernel)?;
+    tally.journal(ground.setting, journal);
+    outcome.judge(alloc, journal, ground, kind)
 }
 
 // Makes the turns of a script, until all of it is answered or the disk fails.
@@ -216,7 +224,7 @@ pub fn take_turn<D: Disk>(
     script: &mut Script,
     tally: &mut Tally,
 ) -> Result<Step, What> {
-    script.draw(alloc, kernel.journal())?;
+    script.draw(alloc, journal_of(kernel)?)?;
     hand_in(kernel, script)?;
     let pid = script.turn();
     if pid as usize >= kernel.processes() {

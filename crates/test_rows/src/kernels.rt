@@ -203,7 +203,7 @@ fn poll(alloc: Global, kernel: &mut Opened, pid: &str) -> anyhow::Result<Option<
 
 // How far the kernel is.
 fn reach(alloc: Global, kernel: &Opened) -> anyhow::Result<Option<String>> {
-    let (had, committed, opened) = (kernel.journal().len(), kernel.committed(), kernel.opened());
+    let (had, committed, opened) = (kernel.had(), kernel.committed(), kernel.opened());
     let (writes, fault) = (kernel.disk().writes(), kernel.fault());
     Ok(Some(format!(in alloc;
         "{had} had their turn, {committed} of {opened} committed, {writes} writes, fault {fault:?}"

@@ -361,7 +361,7 @@ fn serve_callers<R: AllocGlobal + Threads + Wait + Clock + Sync>(
     );
     Created {
         answers,
-        entries: kernel.journal().len(),
+        entries: kernel.had(),
         is_sound: check(rt.alloc(), &mut kernel.into_disk()).is_ok(),
     }
 }

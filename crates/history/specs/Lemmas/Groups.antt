@@ -102,6 +102,21 @@ all_committed l is none quiet = by_phase l.commit is.counts quiet
     by_phase Commit.Clearing counts quiet = absurd (false≢true quiet)
     by_phase (Commit.Syncing p) counts quiet = absurd (false≢true quiet)
 
+-- all groups but one are committed
+pub all_but_one : (l : LogState) → IsLogAt l.commit l → l.opened ≤ l.committed + 1
+all_but_one l is = by_phase l.commit is.counts
+  where
+    by_phase : (k : Commit) → Counts k l → l.opened ≤ l.committed + 1
+    by_phase Commit.Quiet counts = omega (arith, counts)
+    by_phase (Commit.Logging j) counts = omega (arith, counts)
+    by_phase Commit.Heading counts = omega (arith, counts)
+    by_phase (Commit.Homing j) counts = omega (arith, counts)
+    by_phase Commit.Clearing counts = omega (arith, counts)
+    by_phase (Commit.Syncing Part.Log) counts = omega (arith, counts)
+    by_phase (Commit.Syncing Part.Header) counts = omega (arith, counts)
+    by_phase (Commit.Syncing Part.Homes) counts = omega (arith, counts)
+    by_phase (Commit.Syncing Part.Clear) counts = omega (arith, counts)
+
 -- where nobody has an operation open, none is counted
 none_used : (us : List (Option ℕ)) → ((q : ℕ) → is_some (get_or us q None) ≡ false) → us ≡ replicate (length us) None
 none_used [] none = refl

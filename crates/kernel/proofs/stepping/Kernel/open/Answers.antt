@@ -1,3 +1,4 @@
+use Rattle.std.proofs.lemmas.Map.Keys.{le_from_is_le}
 use Rattle.std.proofs.Common.{None, rules, refl, replicate, ◌≡◌, ◌≤◌, ℕ, ◌∙◌, sym, ap, subst, length, arith}
 use Rattle.kernel.specs.Common.{ArePorts, files_of, form_of, fresh_volume, fresh_world, Image, inode_count_of, is_lawful_super, IsCalm, IsRight, IsSound, length-recovered, length-replicate, new_log, no_task, recovered, StoreState, Super, verdict_sound, VolumeState, World}
 use Rattle.kernel.specs.Opening.{LeavesRecovered}
@@ -32,7 +33,7 @@ open-store-requires-clause-sound g c =
 
 pub open-store-requires-clause-few : goal.open-store-requires-clause-few
 open-store-requires-clause-few g c =
-    let few : c.args.processes ≤ 32 = search rules in
+    let few : c.args.processes ≤ 32 = omega (arith, c.new.ensures.end, le_from_is_le c.args.processes _ c.if-not-contains.ensures.cases.1) in
     omega (arith, few, (ap (λ (ts : _). length ts) c.in-Ok-take_memory.ensures.tasks ∙ length-replicate c.args.processes no_task))
 
 pub open-store-requires-clause-numbers : goal.open-store-requires-clause-numbers
@@ -57,8 +58,8 @@ invariant_of-result g c =
     let device : s.volume.device ≡ d = ap (λ (v : VolumeState _). v.device) volume in
     let opening : c.of-opening.result.value ≡ d = c.of-opening.ensures in
     let tasks : s.tasks ≡ replicate c.args.processes no_task = ap (λ (o : StoreState _). o.tasks) c.open-store.ensures.store ∙ c.in-Ok-take_memory.ensures.tasks in
-    let some : 1 ≤ c.args.processes = search rules in
-    let few : c.args.processes ≤ 32 = search rules in
+    let some : 1 ≤ c.args.processes = omega (arith, c.new.ensures.start, le_from_is_le _ c.args.processes c.if-not-contains.ensures.cases.0) in
+    let few : c.args.processes ≤ 32 = omega (arith, c.new.ensures.end, le_from_is_le c.args.processes _ c.if-not-contains.ensures.cases.1) in
     let now : g.D.Disk.image s.volume.device ≡ recovered x = ap g.D.Disk.image device ∙ left in
     let well : s.volume.fault ≡ None = ap (λ (v : VolumeState _). v.fault) volume in
     let fits = subst (λ (v : VolumeState _). FitsFiles g.D.Disk.image s (files_of (g.D.Disk.image v.device))) (sym (ap (λ (o : StoreState _). o.volume) c.open-store.ensures.store)) c.open-store.ensures.files in
@@ -96,8 +97,8 @@ returns-clause-opened g c =
     let x = g.D.Disk.image c.args.disk in
     let d = c.recover.new.disk in
     let opening : c.of-opening.result.value ≡ d = c.of-opening.ensures in
-    let some : 1 ≤ c.args.processes = search rules in
-    let few : c.args.processes ≤ 32 = search rules in
+    let some : 1 ≤ c.args.processes = omega (arith, c.new.ensures.start, le_from_is_le _ c.args.processes c.if-not-contains.ensures.cases.0) in
+    let few : c.args.processes ≤ 32 = omega (arith, c.new.ensures.end, le_from_is_le c.args.processes _ c.if-not-contains.ensures.cases.1) in
     record {
       some = some;
       few = few;

@@ -1,0 +1,78 @@
+/* Many operations of one session: the writes of bench/library.c, of 1024 bytes by four processes in turn,
+ * through libxvfs.a over an image of 200 blocks. Give how many. At each power of ten from 1000 on, and at the
+ * end, prints a row: how many writes there were, the most memory that the program had (KiB), and of the steps
+ * since the last row how many nanoseconds one took, and the longest of them in microseconds. */
+#define _POSIX_C_SOURCE 200809L
+#include <stdio.h>
+#include <stdlib.h>
+#include <string.h>
+#include <sys/resource.h>
+#include <time.h>
+
+#include "xvfs.h"
+
+#define BLOCKS 200u
+#define PROCESSES 4u
+
+static uint8_t image[BLOCKS * XVFS_BLOCK_SIZE], block[XVFS_BLOCK_SIZE], bytes[XVFS_BLOCK_SIZE];
+static uint64_t steps, taken, longest;
+
+static void must(int is_well, const char *what) {
+    if (is_well) return;
+    fprintf(stderr, "lasting: %s\n", what);
+    exit(1);
+}
+
+static uint64_t now(void) {
+    struct timespec at;
+    clock_gettime(CLOCK_PROCESS_CPUTIME_ID, &at);
+    return (uint64_t)at.tv_sec * 1000000000u + (uint64_t)at.tv_nsec;
+}
+
+/* The steps of an operation, each timed. */
+static void perform(xvfs *fs, uint32_t p, xvfs_op op, size_t size) {
+    uint64_t number;
+    xvfs_stepped stepped;
+    xvfs_answer answer;
+    must(xvfs_submit(fs, p, &op, bytes, size, &number) == XVFS_OK, "no operation");
+    do {
+        uint64_t before = now();
+        must(xvfs_step(fs, p, &stepped, block, sizeof block) == XVFS_OK, "no step");
+        uint64_t span = now() - before;
+        steps += 1;
+        taken += span;
+        if (span > longest) longest = span;
+    } while (stepped.step == XVFS_MOVED);
+    must(xvfs_poll(fs, p, &answer, block, sizeof block) == XVFS_OK, "no answer");
+    must(answer.reply <= XVFS_DONE, "refused");
+}
+
+static void row(unsigned long writes) {
+    struct rusage used;
+    getrusage(RUSAGE_SELF, &used);
+    printf("| %10lu | %10ld | %12.1f | %12.1f |\n", writes, used.ru_maxrss, (double)taken / (double)steps,
+           (double)longest / 1e3);
+    fflush(stdout);
+    steps = taken = longest = 0;
+}
+
+int main(int argc, char **argv) {
+    xvfs fs = XVFS_CLOSED_HANDLE;
+    uint64_t opening;
+    unsigned long writes = argc > 1 ? strtoul(argv[1], NULL, 10) : 1000, next = 1000;
+    memset(bytes, 7, sizeof bytes);
+    must(xvfs_mkfs(image, sizeof image, 32, 1) == XVFS_OK, "no image");
+    must(xvfs_open(&fs, image, sizeof image, PROCESSES, 0, &opening) == XVFS_OK, "not opened");
+    for (uint32_t p = 0; p < PROCESSES; p++) perform(&fs, p, (xvfs_op){XVFS_CREATE, 2, 0, 0}, 0);
+    printf("| %10s | %10s | %12s | %12s |\n", "writes", "KiB", "ns a step", "longest, us");
+    printf("|------------|------------|--------------|--------------|\n");
+    for (unsigned long k = 0; k < writes; k++) {
+        uint32_t p = (uint32_t)(k % PROCESSES);
+        uint32_t offset = (uint32_t)(k / PROCESSES % 10) * XVFS_BLOCK_SIZE;
+        perform(&fs, p, (xvfs_op){XVFS_WRITE, p + 1, offset, 0}, sizeof bytes);
+        if (k + 1 == next || k + 1 == writes) row(k + 1);
+        if (k + 1 == next) next *= 10;
+    }
+    xvfs_close(&fs);
+    return 0;
+}

@@ -1,0 +1,4 @@
+pub mod Stale
+pub mod Device
+pub mod Runs
+pub mod Laws

@@ -1,0 +1,26 @@
+-- Turns of a kernel that threads share, one after the other.
+use Rattle.std.proofs.Common.{◌++◌, ℕ, List, [], ◌∷◌, refl, subst, Option, Some, None}
+use Rattle.blocks.specs.declared.disk.Disk as disk_trait
+use Rattle.ports.specs.declared.herald.Herald as herald_trait
+use Rattle.rings.specs.contracts.intake.RingIntakeIntake.TheImpl.{ghosts}
+use Rattle.rings.specs.declared.intake.RingIntake.{RingIntake}
+use Rattle.model.specs.declared.types.operations.Step.{Step}
+use Rattle.kernel.specs.Runs.{Session}
+use Rattle.kernel.specs.State.{State}
+use Rattle.kernel.specs.Steps.{MakesStep}
+use Rattle.kernel.specs.declared.types.Turn.{Turn}
+use Rattle.kernel.specs.declared.types.Turn.TheVariants.{Proc}
+use Rattle.sysring.specs.Sessions.{HasTurnsOf, IsOfTurns}
+
+module _ {D N H : Type 0} (disk : disk_trait.Ghosts D N) (herald : herald_trait.Ghosts H) where
+  -- one step more
+  session_more : (ts : List Turn) (p : ℕ) (r : Step) (a k m : State D RingIntake H) → Session disk ghosts herald ts a k → MakesStep disk ghosts herald p r k m → Session disk ghosts herald (ts ++ Proc p ∷ []) a m
+  session_more [] p r a k m (i, h, is) made = (m, (i, h, (r, subst (λ (o : State D RingIntake H). MakesStep disk ghosts herald p r o m) is made)), (m.intake, m.herald, refl))
+  session_more (t ∷ ts) p r a k m (mid, first, rest) made = (mid, first, session_more ts p r mid k m rest made)
+
+  pub of_turns_now : (k : State D RingIntake H) → HasTurnsOf disk herald k k
+  of_turns_now k = record { turns = []; session = (k.intake, k.herald, refl) }
+
+  pub of_turns_then : (o : Option (State D RingIntake H)) (p : ℕ) (r : Step) (k m : State D RingIntake H) → IsOfTurns disk herald o k → MakesStep disk ghosts herald p r k m → IsOfTurns disk herald o m
+  of_turns_then None p r k m had made = had
+  of_turns_then (Some a) p r k m had made = record { turns = had.turns ++ Proc p ∷ []; session = session_more had.turns p r a k m had.session made }

@@ -1,0 +1,40 @@
+-- By which turns threads made a kernel of the one that they began to share.
+use Rattle.std.specs.Prelude.{ℕ, List, Option, Some, None}
+use Rattle.blocks.specs.declared.disk.Disk as disk_trait
+use Rattle.ports.specs.declared.herald.Herald as herald_trait
+use Rattle.rings.specs.contracts.intake.RingIntakeIntake.TheImpl.{ghosts}
+use Rattle.rings.specs.declared.intake.RingIntake.{RingIntake}
+use Rattle.model.specs.declared.types.operations.Step.{Step}
+use Rattle.kernel.specs.Runs.{Session}
+use Rattle.kernel.specs.State.{State}
+use Rattle.kernel.specs.Steps.{MakesStep}
+use Rattle.kernel.specs.declared.types.Turn.{Turn}
+use Rattle.sysring.specs.Origins.{IsOfOrigin}
+
+-- these turns, one after the other, made m of k, with anything handed in and fetched between them
+pub record HasTurnsOf {D N H : Type 0} (disk : disk_trait.Ghosts D N)
+    (herald : herald_trait.Ghosts H) (k m : State D RingIntake H) : Type 0 where
+  pub turns : List Turn
+  pub session : Session disk ghosts herald turns k m
+
+-- the same of the kernel that threads began to share
+abbrev pub IsOfTurns : {D N H : Type 0} → disk_trait.Ghosts D N → herald_trait.Ghosts H
+    → Option (State D RingIntake H) → State D RingIntake H → Type 0
+IsOfTurns disk herald None m = ⊥
+IsOfTurns disk herald (Some k) m = HasTurnsOf disk herald k m
+
+-- a kernel that threads share: it is of its origin, by turns
+pub record IsShared {D N H : Type 0} (disk : disk_trait.Ghosts D N)
+    (herald : herald_trait.Ghosts H) (outset : Option (State D RingIntake H))
+    (m : State D RingIntake H) : Type 0 where
+  pub origin : IsOfOrigin disk herald outset m
+  pub turns : IsOfTurns disk herald outset m
+
+-- a step of process p was made of a kernel that threads share, and answered r
+pub record StepsShared {D N H : Type 0} (disk : disk_trait.Ghosts D N)
+    (herald : herald_trait.Ghosts H) (outset : Option (State D RingIntake H)) (p : ℕ) (r : Step)
+    : Type 0 where
+  pub before : State D RingIntake H
+  pub after : State D RingIntake H
+  pub shared : IsShared disk herald outset before
+  pub makes : MakesStep disk ghosts herald p r before after
