@@ -6,3 +6,4 @@ pub mod Recovery
 pub mod Freshening
 pub mod Commit
 pub mod Runs
+pub mod Carrying
