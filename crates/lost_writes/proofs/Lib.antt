@@ -7,3 +7,4 @@ pub mod Freshening
 pub mod Commit
 pub mod Runs
 pub mod Carrying
+pub mod KernelCarrying

@@ -1,5 +1,5 @@
 -- The steps of a commit, carried to a device that may be stale, and may lose and tear writes.
-use Rattle.std.specs.Prelude.{◌≡◌, ◌⊎◌, ◌+◌, ◌<◌, ◌≤◌, ◌∷◌, ◌++◌, [], ℕ, true, List, length, Option, Some, None}
+use Rattle.std.specs.Prelude.{◌≡◌, ◌≢◌, ◌⊎◌, ◌+◌, ◌<◌, ◌≤◌, ◌∷◌, ◌++◌, [], ℕ, true, List, length, Option, Some, None}
 use Rattle.blocks.specs.Block.{zero_block}
 use Rattle.blocks.specs.Disk.{Image, block_at}
 use Rattle.blocks.specs.Held.{Write, applied}
@@ -7,7 +7,10 @@ use Rattle.blocks.specs.declared.disk.Disk.{Ghosts}
 use Rattle.model.specs.Codec.{header_block}
 use Rattle.model.specs.Format.{inode_start, log_start}
 use Rattle.model.specs.Log.{cleared, recovered}
-use Rattle.wal.specs.Deeds.{commit_deed}
+use Rattle.model.specs.declared.types.operations.Step.{Step}
+use Rattle.ports.specs.declared.herald.Herald as herald_trait
+use Rattle.ports.specs.declared.intake.Intake as intake_trait
+use Rattle.wal.specs.Deeds.{commit_deed, commit_of}
 use Rattle.wal.specs.Joint.{Joint, seen}
 use Rattle.wal.specs.Machine.{LogState}
 use Rattle.wal.specs.Volume.{VolumeCommits, VolumeState, fault_of_step}
@@ -15,6 +18,9 @@ use Rattle.wal.specs.declared.deeds.CommitDeed.{CommitDeed}
 use Rattle.wal.specs.declared.types.Commit.{Commit}
 use Rattle.wal.specs.declared.types.Committed.{Committed}
 use Rattle.wal.specs.declared.types.Part.{Part}
+use Rattle.kernel.specs.Deeds.{next_deed}
+use Rattle.kernel.specs.State.{State}
+use Rattle.kernel.specs.Steps.{MakesStep}
 use Rattle.lost_writes.specs.Device.{TornImages}
 use Rattle.lost_writes.specs.Stale.{IsStale, RecoversTo}
 
@@ -87,7 +93,8 @@ pub record CarriesAt (k : Commit) (homes : List ℕ) (x : Image) (l : Ledger) : 
 abbrev pub Carries : Image → LogState → Ledger → Type 0
 Carries x log l = CarriesAt log.commit log.homes x l
 
--- A STEP OF A COMMIT that succeeds, over a disk that holds writes back, is carried on as it was told
+-- A STEP OF A COMMIT that succeeds, over a disk that holds writes back, is carried on as it was
+-- told
 abbrev pub CommitCarries : {D N : Type 0} → Ghosts D N → Type 0
 CommitCarries {D} disk = (v w : VolumeState D) (r : Committed) (l : Ledger) →
     disk.holding (disk.name v.device) ≡ true → fault_of_step r ≡ None →
@@ -96,8 +103,22 @@ CommitCarries {D} disk = (v w : VolumeState D) (r : Committed) (l : Ledger) →
     Carries (disk.image w.device) w.log
     (after_deed v.log.homes (seen (disk.image v.device) v.buffers) (commit_deed v.log) l)
 
--- A STOP leaves on such a device what is recovered as reads are, or, only where the header waits for
--- its sync, as they are without it
+-- A STEP OF A KERNEL that doesn't halt, of any process: what its deed told is carried on, and where
+-- that is nothing, nothing is
+abbrev pub KernelCarries : {D N I M H : Type 0} → Ghosts D N → intake_trait.Ghosts I M
+    → herald_trait.Ghosts H → Type 0
+KernelCarries {D} {N} {I} {M} {H} disk intake herald =
+    (k m : State D I H) (p : ℕ) (r : Step) (l : Ledger) →
+    disk.holding (disk.name k.store.volume.device) ≡ true → r ≢ Step.Halted →
+    Joint (disk.image k.store.volume.device) k.store.volume.buffers k.store.volume.log →
+    MakesStep disk intake herald p r k m →
+    Carries (disk.image k.store.volume.device) k.store.volume.log l →
+    Carries (disk.image m.store.volume.device) m.store.volume.log
+    (after_deed k.store.volume.log.homes
+    (seen (disk.image k.store.volume.device) k.store.volume.buffers) (commit_of (next_deed k p)) l)
+
+-- A STOP leaves on such a device what is recovered as reads are, or, only where the header waits
+-- for its sync, as they are without it
 abbrev pub Endures : Commit → Image → Image → Type 0
 Endures k x w = RecoversTo (recovered x) w
     ⊎ ((k ≡ Commit.Syncing Part.Header) × RecoversTo (cleared x) w)
