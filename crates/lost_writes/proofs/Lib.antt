@@ -6,3 +6,5 @@ pub mod Recovery
 pub mod Freshening
 pub mod Commit
 pub mod Runs
+pub mod Carrying
+pub mod KernelCarrying

@@ -1,5 +1,5 @@
 -- Laws of a device of which a sync failed.
-use Rattle.std.specs.Prelude.{◌≡◌, ◌⊎◌, ◌↔◌, ◌∷◌, [], IsTrue, List, drop, length, take, None}
+use Rattle.std.specs.Prelude.{◌≡◌, ◌⊎◌, ◌↔◌, ◌∷◌, [], ℕ, IsTrue, List, drop, length, take, None}
 use Rattle.std.specs.List.{flat_map}
 use Rattle.blocks.specs.Disk.{Image, block_at}
 use Rattle.model.specs.Files.{files_of}
@@ -9,6 +9,11 @@ use Rattle.model.specs.Soundness.{IsSound}
 use Rattle.model.specs.Verdict.{verdict}
 use Rattle.wal.specs.Recovery.{RecoversAs}
 use Rattle.blocks.specs.Held.{HeldImages, Write}
+use Rattle.bcache.specs.Buffers.{Buffers}
+use Rattle.wal.specs.Joint.{Joint}
+use Rattle.wal.specs.Machine.{LogState}
+use Rattle.wal.specs.declared.types.Commit.{Commit}
+use Rattle.lost_writes.specs.Carried.{Carries, CarriesAt, Endures, Ledger}
 use Rattle.lost_writes.specs.Device.{Outlasts, StopLeaves, BreaksOff, TornImages, written}
 use Rattle.lost_writes.specs.Runs.{AreGroups, Group, IsGroup, KeepsSome, commit_of, image_after, recovery_of, run_of}
 use Rattle.lost_writes.specs.Stale.{IsStale, RecoversTo, freshened}
@@ -88,3 +93,14 @@ RunsOverStale = (x z : Image) (gs : List Group) → IsTrue (is_lawful_log x) →
 -- what a disk may leave that holds writes back, each whole, a device may that tears them
 abbrev pub HeldMayTear : Type 0
 HeldMayTear = (z w : Image) (writes : List Write) → HeldImages z writes w → TornImages z writes w
+
+-- A stale device at rest carries what a recovery and commits left, and a commit that begins
+abbrev pub RestIsCarried : Type 0
+RestIsCarried = (x z : Image) (homes : List ℕ) → IsAtRest x z →
+    CarriesAt Commit.Quiet homes x (record { synced = z; held = [] })
+    × CarriesAt (Commit.Logging 0) homes x (record { synced = z; held = [] })
+
+-- what a device that carries a volume's commit leaves at a stop
+abbrev pub CarriedEndures : Type 0
+CarriedEndures = (x w : Image) (c : Buffers) (log : LogState) (l : Ledger) → Joint x c log →
+    Carries x log l → TornImages l.synced l.held w → Endures log.commit x w

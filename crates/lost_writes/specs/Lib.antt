@@ -1,4 +1,5 @@
 pub mod Stale
 pub mod Device
 pub mod Runs
+pub mod Carried
 pub mod Laws

@@ -1,5 +1,9 @@
 //! Laws of a device that loses and tears writes, each the contract of a function that does nothing.
-ghost use Rattle.lost_writes.specs.Laws.{CommitsInTurn, CommitsOverStale, CommittedOverStale, BreaksAsStopped, FreshensSafely, HeldMayTear, RecoversFiles, RecoversOverStale, RecoveryWrites, RunsOverStale, StaleIsRecovered};
+ghost use Rattle.lost_writes.specs.Carried.{CommitCarries, KernelCarries};
+ghost use Rattle.lost_writes.specs.Laws.{CarriedEndures, RestIsCarried, CommitsInTurn, CommitsOverStale, CommittedOverStale, BreaksAsStopped, FreshensSafely, HeldMayTear, RecoversFiles, RecoversOverStale, RecoveryWrites, RunsOverStale, StaleIsRecovered};
+
+use blocks::Disk;
+use ports::{Herald, Intake};
 
 /// Where reads give one image and a failed sync left another on the device, both have the same
 /// header and superblock, and are recovered alike: outside the log to the same blocks; one has no
@@ -53,4 +57,22 @@ pub fn runs_over_stale()
 /// What a disk may leave that holds writes back, each of them whole, is among the torn images.
 pub fn held_may_tear()
     ensures { HeldMayTear }
+{}
+
+/// The steps of a commit that `wal::Volume::commit_step` makes, carried to a device that is stale
+/// in the log's blocks, and that may lose and tear what was written since the last sync: each is
+/// carried on as the log told it before. And whatever a stop leaves on such a device is recovered,
+/// outside the log, as what reads give, or, only while the header waits for its sync, as they would
+/// be without it.
+pub fn commits_are_carried<D: Disk>()
+    ensures begins { RestIsCarried }
+    ensures steps { CommitCarries D.Disk }
+    ensures stops { CarriedEndures }
+{}
+
+/// The steps of a kernel, of any process, carried to such a device as `Kernel::deed` tells each
+/// before it: a step of a commit as above, and another changes nothing there. What is asked of the
+/// kernel's store, `inodes::Store::known` ensures.
+pub fn steps_are_carried<D: Disk, I: Intake, H: Herald>()
+    ensures { KernelCarries D.Disk I.Intake H.Herald }
 {}

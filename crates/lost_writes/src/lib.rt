@@ -5,9 +5,9 @@
 //! stale then. And a block that is being written, or held back, when a stop comes may be torn: a
 //! device writes sectors of 512 bytes whole, and no more.
 //!
-//! The laws are of images, and of lists of writes with syncs between them. Those of a commit are
-//! what `kernel::laws::deeds_are_done` says that its steps write; those of a recovery, what
-//! `wal::recover` writes. That a disk does no worse is the laws' premise; the trait `Disk` asks for
+//! The laws are of images, and of lists of writes with syncs between them: those of a commit, and
+//! those that `wal::recover` makes. `steps_are_carried` says of each step of a kernel what it means
+//! to such a device. That a device does no worse is the laws' premise; the trait `Disk` asks for
 //! more.
 #![tactic(auto)]
 

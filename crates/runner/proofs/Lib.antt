@@ -1,3 +1,4 @@
+mod Answers
 mod Calls
 mod Lines
 mod Reports

@@ -34,6 +34,7 @@ use Rattle.opening.specs.Openings.{IsNotOpened}
 use Rattle.runner.specs.declared.refusals.RunRefusal.{RunRefusal}
 use Rattle.runner.specs.declared.refusals.RunRefusal.TheVariants.{Unopened, Thread, Disk, Unanswered, NoMemory, Output}
 use Rattle.runner.specs.Reports.{IsReport}
+use Rattle.runner.specs.Sessions.{ComesBySession, RefusesSession}
 use Rattle.runner.specs.Running.{Ends, HasNotBegun, IsEndedBy, IsNotRun, IsServed, KeepsTasks, Ringed}
 
 -- the clients of a script have its operations
@@ -109,6 +110,17 @@ module _ {D N : Type 0} (disk : Ghosts D N) (d e : D) (tasks : List Task) (proce
   not_run m names cs served are own starved Output why = record { last = m; served = served; own = own }
   not_run m names cs served are own starved (Unopened fault) why = absurd why
   not_run m names cs served are own starved Thread why = absurd why
+
+module _ {D N : Type 0} (disk : Ghosts D N) (d e : D) (tasks : List Task) (processes : ℕ) (old new : Option (List ℕ)) where
+  -- of which session it was
+  pub not_run_so : (m : Ringed D) (names : ℕ → Option Names) (cs : List Client) → ComesBySession disk d e processes m → AreClients names tasks processes cs
+      → (starved : Bool) (r : RunRefusal) → IsEndedBy (inode_count_of (disk.image m.opening)) m (ops_at cs) (length cs) starved old new r → RefusesSession disk d e tasks processes old new r
+  not_run_so m names cs comes are starved (Disk fault) (all, why) = (all, record { last = m; comes = comes; ends = ends_so (inode_count_of (disk.image m.opening)) m names tasks processes cs (Some fault) all old new are why })
+  not_run_so m names cs comes are starved Unanswered why = record { last = m; comes = comes; ends = ends_so (inode_count_of (disk.image m.opening)) m names tasks processes cs None false old new are why.0 }
+  not_run_so m names cs comes are starved NoMemory why = record { last = m; comes = comes; ends = ends_so (inode_count_of (disk.image m.opening)) m names tasks processes cs None false old new are why.0 }
+  not_run_so m names cs comes are starved Output why = (m, comes)
+  not_run_so m names cs comes are starved (Unopened fault) why = absurd why
+  not_run_so m names cs comes are starved Thread why = absurd why
 
 -- what it came to where no kernel was opened
 pub not_begun : {D N : Type 0} (disk : Ghosts D N) (d e : D) (processes : ℕ) (fault : OpenFault) → IsNotOpened disk processes d e fault → HasNotBegun disk d e processes fault

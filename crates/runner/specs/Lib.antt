@@ -1,3 +1,5 @@
+pub mod Causes
 pub mod Refusals
 pub mod Reports
 pub mod Running
+pub mod Sessions

@@ -7,6 +7,7 @@
 #![tactic(auto)]
 
 mod driving;
+pub mod laws;
 mod lull;
 mod refusals;
 mod reporting;

@@ -11,7 +11,9 @@ ghost use Rattle.ports.specs.History.{nothing_yet};
 ghost use Rattle.rings.specs.declared.intake.RingIntake.{RingIntake};
 ghost use Rattle.rings.specs.Callers.{intake_count, intake_names, IntakeFits};
 ghost use Rattle.sysring.specs.Origins.{AreWorkers, HasOriginOf};
+ghost use Rattle.sysring.specs.Sessions.{HasTurnsOf};
 ghost use Rattle.runner.specs.Running.{Ends, IsEndedBy, IsNotRun, Runs};
+ghost use Rattle.runner.specs.Sessions.{PrintsSession, RefusesSession};
 
 use crate::driving::drive;
 use crate::refusals::RunRefusal;
@@ -42,6 +44,8 @@ impl Gate for NoGate {
 /// process's in order, with so many workers, from 1 to 32, on threads of their own. Prints, process
 /// by process, a line for each answer and one for what became of the operations.
 ///
+/// What is printed is what turns, one after the other, made of the kernel that was opened.
+///
 /// Hands the disk back as the last step left it. Whatever a stop leaves keeps a beginning of the
 /// groups: one at any moment, or, where the disk held writes back at the start, one since the sync
 /// with which the recovery began; and what one now leaves keeps all that were committed. What is
@@ -69,6 +73,10 @@ pub fn run_disk<D: Disk + Drop + Send, R: Threads + Wait + Clock + AllocGlobal +
         (O.contents out.old) (O.contents out.new)) }
     ensures refused { IfErr result.0 (IsNotRun D.Disk disk result.1 tasks.items processes
         (O.contents out.old) (O.contents out.new) (out.new ≡ out.old)) }
+    ensures session { OnOk result.0 (PrintsSession D.Disk disk result.1 tasks.items processes
+        None true (O.contents out.old) (O.contents out.new)) }
+    ensures part { IfErr result.0 (RefusesSession D.Disk disk result.1 tasks.items processes
+        (O.contents out.old) (O.contents out.new)) }
 {
     let (intake, clients) = match clients(rt.alloc(), tasks, processes) {
         Ok(made) => made,
@@ -123,7 +131,10 @@ fn call<D: Disk + Send, H: Herald + Send, R: Threads + Wait + Clock + Sync>(
     ensures same { IfSome result.0 (λ after. AreSameClients clients.items after.0.items) }
     ensures known { Known D.Disk ⟦<RingIntake as Intake>⟧ H.Herald result.1 }
     ensures origin { HasOriginOf D.Disk H.Herald kernel result.1 }
+    ensures turns { HasTurnsOf D.Disk H.Herald kernel result.1 }
+    ensures before { Known D.Disk ⟦<RingIntake as Intake>⟧ H.Herald kernel }
 {
+    kernel.known();
     serve_while(
         rt,
         kernel,

@@ -12,15 +12,31 @@ use Rattle.inodes.specs.contracts.store.Store as Store
 use Rattle.inodes.proofs.tasks.Stage.TheSendSync as stage
 use Rattle.inodes.proofs.table.Inodes.TheSendSync as inodes
 use Rattle.model.proofs.gathered.Gathered.TheSendSync as gathered
+use Rattle.model.proofs.types.operations.Entry.TheSendSync as entry
 use Rattle.wal.proofs.volume.Volume.TheSendSync as volume
-use Rattle.history.proofs.processes.Processes.TheSendSync as processes
+use Rattle.history.proofs.changes.Changes.TheSendSync as changes
+use Rattle.history.proofs.record.Record.TheSendSync as kept
+use Rattle.history.proofs.told.Told.TheLaws.TheKnot.{send-Told}
+use Rattle.history.proofs.types.Process.TheSendSync as process
+use Rattle.history.specs.contracts.journal.Journal as Journal
+use Rattle.history.specs.contracts.processes.Processes as Processes
+use Rattle.history.specs.contracts.told.Told as Told
 use Rattle.kernel.specs.contracts.stepping.Kernel as Kernel
 use Rattle.rings.proofs.intake.RingIntake.TheSendSync as rings
 use Rattle.sysring.specs.contracts.session.Session as Session
 use Rattle.sysring.specs.contracts.shared.Shared as Shared
 use Rattle.sysring.specs.declared.session.Origin as origin
 
-pub ruleset parts = (crosses, stage.the_field_send, gathered.the_send, inodes.the_send, volume.the_send, processes.the_send)
+pub ruleset parts = (crosses, stage.the_field_send, gathered.the_send, inodes.the_send, volume.the_send)
+
+Told-send : IsSend Told.the_row
+Told-send = search (sendable, crosses, send-Told) depth 20
+
+Journal-send : IsSend Journal.the_row
+Journal-send = search (sendable, crosses, Told-send, kept.the_send) depth 20
+
+Processes-send : IsSend Processes.the_row
+Processes-send = search (sendable, crosses, process.the_send, changes.the_send, entry.the_send, Journal-send) depth 20
 
 Task-send : IsSend Task.the_row
 Task-send = search (sendable, parts) depth 20
@@ -34,7 +50,7 @@ module _ (D N : RattleType) (g : disk.Ghosts D.Denot N.Denot) where
 
 module _ (D I H N M : RattleType) (g : disk.Ghosts D.Denot N.Denot) (i : intake.Ghosts I.Denot M.Denot) (h : herald.Ghosts H.Denot) where
   Kernel-send : IsSend D → IsSend I → IsSend H → IsSend (Kernel.the_row D I H N M g i h)
-  Kernel-send d n e = let a = Store-send D N g d in search (sendable, parts) depth 20
+  Kernel-send d n e = let a = Store-send D N g d in search (sendable, parts, Processes-send) depth 20
 
 module _ (D H K N : RattleType) (g : disk.Ghosts D.Denot N.Denot) (h : herald.Ghosts H.Denot) (k : origin.Ghosts K.Denot D.Denot H.Denot) where
   Session-send : IsSend D → IsSend H → IsSend K → IsSend (Session.the_row D H K N g h k)

@@ -24,7 +24,7 @@ use Rattle.transfer.specs.Holding.{BreaksOff, CutsShort, HasFirst, HasNoRoom, Ho
 use Rattle.transfer.specs.Source.{IsSourceOf, chosen_at, chosen_files}
 use Rattle.transfer.specs.Stages.{kind_at, kept_at, kind_or_plain, listed, made_at, written_at}
 use Rattle.transfer.specs.declared.fault.CopyFault.{CopyFault}
-use Rattle.transfer.specs.declared.fault.CopyFault.TheVariants.{Old, NotFirst, Mkfs, Full, NoMemory, Disk}
+use Rattle.transfer.specs.declared.fault.CopyFault.TheVariants.{Old, NotFirst, Mkfs, Full, Leaked, NoMemory, Disk}
 use Rattle.transfer.specs.declared.source.Source.{Source}
 use Rattle.transfer.proofs.SourceLemmas.{chosen_free, chosen_used, chosen_zero, count_recovered, form_recovered}
 use Rattle.transfer.proofs.StageLemmas.{few_bytes, in_listed, kept_end, kept_removed, kept_same, kept_there, length-listed, made_always, made_next, piece_appended, piece_begun, piece_fits, written_empty, written_end, written_next, written_none, written_start}
@@ -161,10 +161,12 @@ module _ {D N : Type 0} (disk : Ghosts D N) where
       one_unwritten from c d c' p o e (Old fault) refused same opening = refused
       one_unwritten from c d c' p o e NotFirst refused same opening = refused
       one_unwritten from c d c' p o e (Mkfs fault) refused same opening = refused
-      one_unwritten from c d c' p o e (Full i) refused same opening =
+      one_unwritten from c d c' p o e (Full i) refused same opening = refused
+      one_unwritten from c d c' p o e (Leaked i) refused same opening =
           let now = ap (λ (now : Files). appended now (k + 1) file.bytes) before.held ∙ written_next files k room file is in (
             subst (λ (n : ℕ). BreaksOff files n (files_of (disk.image e))) (sym refused.0.0) (subst (λ (old : Files). HasFirst (k + 1) old (files_of (disk.image e))) now refused.0.1),
             subst (λ (d : D). HasNoRoom (length (disk.image d)) (form_of (disk.image d)) (disk.image e)) opening refused.1,
+            refused.2 ∙ same,
           )
       one_unwritten from c d c' p o e NoMemory refused same opening = refused
       one_unwritten from c d c' p o e Disk refused same opening =
@@ -241,7 +243,7 @@ module _ (x : Image) (source : Source) (is : IsSourceOf x source) where
       let kind : kind_at kinds i ≡ (inode_of y i).kind = is.each (i - 1) inside used ∙ ap (λ (j : ℕ). (inode_of y j).kind) at in
       ap without_bytes (chosen_used y kinds i some used kind) ∙ ap empty_file (sym kind))
 
-  none_chosen : file_in chosen 0 ≡ None
+  pub none_chosen : file_in chosen 0 ≡ None
   none_chosen =
       let few = is.few in
       in_listed (inode_count_of (recovered x)) (chosen_at (recovered x) source.kinds.items) 0 (omega (arith, count_source, few)) ∙ chosen_zero (recovered x) source.kinds.items

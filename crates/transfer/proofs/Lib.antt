@@ -7,6 +7,7 @@ pub mod FillingLemmas
 pub mod PlaceLemmas
 pub mod CallLemmas
 pub mod NeedLemmas
+pub mod FittingLemmas
 pub mod PieceLemmas
 pub mod AppendLemmas
 pub mod ImageLemmas

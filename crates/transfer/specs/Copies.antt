@@ -14,10 +14,11 @@ use Rattle.layout.specs.declared.geometry.MkfsFault.{MkfsFault}
 use Rattle.layout.specs.declared.geometry.MkfsFault.TheVariants as mkfs
 use Rattle.calls.specs.Stepping.{Plain}
 use Rattle.wal.specs.Recovery.{LeavesIfCalm}
-use Rattle.transfer.specs.Holding.{DontFit, Holds}
+use Rattle.transfer.specs.Fitting.{DontFit, data_count}
+use Rattle.transfer.specs.Holding.{Holds, RunsShort}
 use Rattle.transfer.specs.Writing.{IsNoneOr, KeepsSuperblock, SettlesIf}
 use Rattle.transfer.specs.declared.fault.CopyFault.{CopyFault}
-use Rattle.transfer.specs.declared.fault.CopyFault.TheVariants.{Old, NotFirst, Mkfs, Full, NoMemory, Disk}
+use Rattle.transfer.specs.declared.fault.CopyFault.TheVariants.{Old, NotFirst, Mkfs, Full, Leaked, NoMemory, Disk}
 
 -- ---- before anything is written
 
@@ -28,6 +29,7 @@ IsUnread old d d' (Old fault) =
 IsUnread old d d' NotFirst = (verdict (old.image d) ≡ None) × (form_of (old.image d) ≡ Two)
 IsUnread old d d' (Mkfs fault) = ⊥
 IsUnread old d d' (Full i) = ⊥
+IsUnread old d d' (Leaked i) = ⊥
 IsUnread old d d' NoMemory = ⊤
 IsUnread old d d' Disk = Rose (old.fault_count d) (old.fault_count d')
 
@@ -55,17 +57,22 @@ IsUnmade new size inode_count n e (Old fault) = ⊥
 IsUnmade new size inode_count n e NotFirst = ⊥
 IsUnmade new size inode_count n e (Mkfs fault) = IsMakingCause new size inode_count n e fault
 IsUnmade new size inode_count n e (Full i) = ⊥
+IsUnmade new size inode_count n e (Leaked i) = ⊥
 IsUnmade new size inode_count n e NoMemory = ⊤
 IsUnmade new size inode_count n e Disk = Rose (new.fault_count n) (new.fault_count e)
 
 -- why these files of the disk d, which is d' then, are not all in an image in memory
-abbrev pub IsUnfilled : {D M : Type 0} → Ghosts D M → ℕ → Form → Files → D → D → CopyFault → Type 0
-IsUnfilled old size form files d d' (Old fault) = ⊥
-IsUnfilled old size form files d d' NotFirst = ⊥
-IsUnfilled old size form files d d' (Mkfs fault) = fault ≡ mkfs.NoMemory
-IsUnfilled old size form files d d' (Full i) = DontFit size form i files
-IsUnfilled old size form files d d' NoMemory = ⊤
-IsUnfilled old size form files d d' Disk = Rose (old.fault_count d) (old.fault_count d')
+abbrev pub IsUnfilled : {D M : Type 0} → Ghosts D M → ℕ → ℕ → Form → Files → D → D → CopyFault
+    → Type 0
+IsUnfilled old size count form files d d' (Old fault) = ⊥
+IsUnfilled old size count form files d d' NotFirst = ⊥
+IsUnfilled old size count form files d d' (Mkfs fault) = fault ≡ mkfs.NoMemory
+IsUnfilled old size count form files d d' (Full i) =
+    DontFit (data_count size count) form (recovered (old.image d)) files i
+IsUnfilled old size count form files d d' (Leaked i) =
+    RunsShort size form i files × (old.fault_count d' ≡ old.fault_count d)
+IsUnfilled old size count form files d d' NoMemory = ⊤
+IsUnfilled old size count form files d d' Disk = Rose (old.fault_count d) (old.fault_count d')
 
 -- ---- the whole
 
@@ -107,7 +114,9 @@ IsNotFilledOut old new size count form files d d' n e NotFirst = ⊥
 IsNotFilledOut old new size count form files d d' n e (Mkfs fault) =
     IsMkfsCause size count (length (new.image n)) fault × (e ≡ n)
 IsNotFilledOut old new size count form files d d' n e (Full i) =
-    DontFit size form i files × (e ≡ n)
+    DontFit (data_count size count) form (recovered (old.image d)) files i × (e ≡ n)
+IsNotFilledOut old new size count form files d d' n e (Leaked i) =
+    RunsShort size form i files × (e ≡ n)
 IsNotFilledOut old new size count form files d d' n e NoMemory = e ≡ n
 IsNotFilledOut old new size count form files d d' n e Disk =
     (Rose (old.fault_count d) (old.fault_count d') × (e ≡ n))
@@ -144,7 +153,12 @@ IsUncopied old new size d d' n e (Mkfs fault) =
     × IsMkfsCause size (inode_count_of (old.image d)) (length (new.image n)) fault × (e ≡ n)
 IsUncopied old new size d d' n e (Full i) =
     (verdict (old.image d) ≡ None) × (form_of (old.image d) ≡ One)
-    × DontFit size Two i (files_of (recovered (old.image d))) × (e ≡ n)
+    × DontFit (data_count size (inode_count_of (old.image d))) Two (recovered (old.image d))
+    (files_of (recovered (old.image d))) i
+    × (e ≡ n)
+IsUncopied old new size d d' n e (Leaked i) =
+    (verdict (old.image d) ≡ None) × (form_of (old.image d) ≡ One)
+    × RunsShort size Two i (files_of (recovered (old.image d))) × (e ≡ n)
 IsUncopied old new size d d' n e NoMemory = e ≡ n
 IsUncopied old new size d d' n e Disk =
     (Rose (old.fault_count d) (old.fault_count d') × (e ≡ n))

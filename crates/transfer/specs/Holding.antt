@@ -15,7 +15,7 @@ use Rattle.calls.specs.declared.fault.CallFault.TheVariants as call
 use Rattle.calls.specs.Files.{IsFull, files_on}
 use Rattle.transfer.specs.Stages.{listed, written_at}
 use Rattle.transfer.specs.declared.fault.CopyFault.{CopyFault}
-use Rattle.transfer.specs.declared.fault.CopyFault.TheVariants.{Old, NotFirst, Mkfs, Full, NoMemory, Disk}
+use Rattle.transfer.specs.declared.fault.CopyFault.TheVariants.{Old, NotFirst, Mkfs, Full, Leaked, NoMemory, Disk}
 
 -- The kernel is at rest after at most so many calls. It has these files, in a sound image that has the
 -- form and is as long as when the kernel was opened.
@@ -56,8 +56,8 @@ pub record HasNoRoom (size : ℕ) (kind : Form) (x : Image) : Type 0 where
   pub long : length x ≡ size
   pub full : IsFull x
 
--- The files don't fit in an image of that size and form: in this one file i is cut short.
-pub record DontFit (size : ℕ) (form : Form) (i : ℕ) (files : Files) : Type 0 where
+-- in an image of that size and form, in which no block is free, file i is cut short
+pub record RunsShort (size : ℕ) (form : Form) (i : ℕ) (files : Files) : Type 0 where
   pub image : Image
   pub part : BreaksOff files i (files_of image)
   pub room : HasNoRoom size form image
@@ -69,9 +69,11 @@ abbrev pub IsUnwritten : {D E M N : Type 0} → Ghosts D M → Ghosts E N → (�
 IsUnwritten old new part d d' o e (Old fault) = ⊥
 IsUnwritten old new part d d' o e NotFirst = ⊥
 IsUnwritten old new part d d' o e (Mkfs fault) = ⊥
-IsUnwritten old new part d d' o e (Full i) =
+IsUnwritten old new part d d' o e (Full i) = ⊥
+IsUnwritten old new part d d' o e (Leaked i) =
     part i (files_of (new.image e))
     × HasNoRoom (length (new.image o)) (form_of (new.image o)) (new.image e)
+    × (old.fault_count d' ≡ old.fault_count d)
 IsUnwritten old new part d d' o e NoMemory = ⊤
 IsUnwritten old new part d d' o e Disk =
     Rose (old.fault_count d) (old.fault_count d') ⊎ Rose (new.fault_count o) (new.fault_count e)

@@ -10,6 +10,7 @@ pub mod Copies
 pub mod Rescues
 pub mod Laws
 pub mod Needs
+pub mod Fitting
 pub mod Places
 pub mod Rounds
 pub mod Stopped

@@ -9,9 +9,10 @@ use Rattle.model.specs.declared.types.fault.CheckFault.{CheckFault}
 use Rattle.offline.specs.Cause.{IsCause}
 use Rattle.offline.specs.Clean.{clean_files, clean_numbers, left_numbers}
 use Rattle.transfer.specs.Copies.{HoldsFiles, IsFilledOut, IsMkfsCause, IsNoneOrFilled}
-use Rattle.transfer.specs.Holding.{DontFit}
+use Rattle.transfer.specs.Fitting.{DontFit, data_count}
+use Rattle.transfer.specs.Holding.{RunsShort}
 use Rattle.transfer.specs.declared.fault.CopyFault.{CopyFault}
-use Rattle.transfer.specs.declared.fault.CopyFault.TheVariants.{Old, NotFirst, Mkfs, Full, NoMemory, Disk}
+use Rattle.transfer.specs.declared.fault.CopyFault.TheVariants.{Old, NotFirst, Mkfs, Full, Leaked, NoMemory, Disk}
 use Rattle.transfer.specs.declared.picking.Rescued.{Rescued}
 
 -- the fault of an image's superblock or log, for which nothing of it is read
@@ -30,6 +31,7 @@ IsUnopened old d d' (Old fault) =
 IsUnopened old d d' NotFirst = ⊥
 IsUnopened old d d' (Mkfs fault) = ⊥
 IsUnopened old d d' (Full i) = ⊥
+IsUnopened old d d' (Leaked i) = ⊥
 IsUnopened old d d' NoMemory = ⊤
 IsUnopened old d d' Disk = ⊥
 
@@ -61,7 +63,11 @@ IsUnrescued old new d d' n e (Mkfs fault) = (opening_fault (old.image d) ≡ Non
     × IsMkfsCause (length (old.image d)) (inode_count_of (old.image d)) (length (new.image n)) fault
     × (e ≡ n)
 IsUnrescued old new d d' n e (Full i) = (opening_fault (old.image d) ≡ None)
-    × DontFit (length (old.image d)) (form_of (old.image d)) i
+    × DontFit (data_count (length (old.image d)) (inode_count_of (old.image d)))
+    (form_of (old.image d)) (recovered (old.image d)) (clean_files (recovered (old.image d))) i
+    × (e ≡ n)
+IsUnrescued old new d d' n e (Leaked i) = (opening_fault (old.image d) ≡ None)
+    × RunsShort (length (old.image d)) (form_of (old.image d)) i
     (clean_files (recovered (old.image d)))
     × (e ≡ n)
 IsUnrescued old new d d' n e NoMemory = e ≡ n

@@ -12,6 +12,7 @@ copy_telling (copy.Old fault) = check_telling fault
 copy_telling copy.NotFirst = plain (codes "copy") 2 (codes "NotFirst")
 copy_telling (copy.Mkfs fault) = mkfs_telling fault
 copy_telling (copy.Full number) = naming (codes "copy") 4 (codes "Full") number
+copy_telling (copy.Leaked number) = naming (codes "copy") 8 (codes "Leaked") number
 copy_telling copy.NoMemory = plain (codes "copy") 5 (codes "NoMemory")
 copy_telling copy.Disk = plain (codes "copy") 6 (codes "Disk")
 

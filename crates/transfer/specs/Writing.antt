@@ -4,7 +4,7 @@ use Rattle.blocks.specs.Disk.{Image, Rose, block_at, counted}
 use Rattle.blocks.specs.declared.disk.Disk.{Ghosts}
 use Rattle.wal.specs.Recovery.{Settles}
 use Rattle.transfer.specs.declared.fault.CopyFault.{CopyFault}
-use Rattle.transfer.specs.declared.fault.CopyFault.TheVariants.{Old, NotFirst, Mkfs, Full, NoMemory, Disk}
+use Rattle.transfer.specs.declared.fault.CopyFault.TheVariants.{Old, NotFirst, Mkfs, Full, Leaked, NoMemory, Disk}
 
 -- block 1, where the superblock stands, is as it was in an image that is as long
 pub record KeepsSuperblock (old x : Image) : Type 0 where
@@ -47,5 +47,6 @@ IsNotWrittenOut disk o e (Old fault) = ⊥
 IsNotWrittenOut disk o e NotFirst = ⊥
 IsNotWrittenOut disk o e (Mkfs fault) = ⊥
 IsNotWrittenOut disk o e (Full i) = ⊥
+IsNotWrittenOut disk o e (Leaked i) = ⊥
 IsNotWrittenOut disk o e NoMemory = e ≡ o
 IsNotWrittenOut disk o e Disk = Rose (disk.fault_count o) (disk.fault_count e)

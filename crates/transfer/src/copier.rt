@@ -33,8 +33,10 @@ use std::alloc::Global;
 /// - `NotFirst`: the old image is of the second form.
 /// - `Mkfs`: with `SizeRange` where there is no image of that size with so many numbers, or the new
 ///   disk has another size; with `NoMemory` where the allocator refused memory.
-/// - `Full`: the files don't fit: no block was free for all bytes of the file of this number, when
-///   those before it were written.
+/// - `Full`: the files don't fit: those up to this number need more blocks than the new image has for
+///   data, and those before it don't.
+/// - `Leaked`: no block was free for all bytes of the file of this number, and yet they fit. By the
+///   code of the kernel, and by no clause, it uses no block that no file needs.
 /// - `NoMemory` where memory was refused.
 /// - `Disk` where one of the disks failed. Where it was the old one, the new one is as it was; else
 ///   block 1 is, or the copy is whole.

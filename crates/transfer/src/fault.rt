@@ -21,9 +21,13 @@ pub enum CopyFault {
     /// No new image was made.
     #[error("no new image was made: {0}")]
     Mkfs(MkfsFault),
-    /// The files don't fit: no block was free for all bytes of the file of this number.
+    /// The files don't fit: those up to this number need more blocks than the new image has for data.
     #[error("the new image has no room for file {0}")]
     Full(u32),
+    /// They fit, and yet no block was free for all bytes of the file of this number: blocks of the
+    /// new image are used that no file needs.
+    #[error("the new image lost blocks before file {0}")]
+    Leaked(u32),
     /// Memory was refused.
     #[error("memory was refused")]
     NoMemory,
@@ -43,6 +47,7 @@ impl Reason for CopyFault {
             CopyFault::NotFirst => Told::new("copy", 2, "NotFirst"),
             CopyFault::Mkfs(fault) => fault.told(),
             CopyFault::Full(number) => Told::naming("copy", 4, "Full", *number),
+            CopyFault::Leaked(number) => Told::naming("copy", 8, "Leaked", *number),
             CopyFault::NoMemory => Told::new("copy", 5, "NoMemory"),
             CopyFault::Disk => Told::new("copy", 6, "Disk"),
         }

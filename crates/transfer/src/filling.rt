@@ -143,7 +143,7 @@ fn write_file<D: Disk, E: Disk>(
         let bytes = &mut room[..TRANSFER_LIMIT.min(inode.size - at) as usize];
         source.image.read(old, &inode, at, bytes, block)?;
         if !append(kernel, alloc, i, at, bytes)? {
-            return Err(CopyFault::Full(i));
+            return Err(CopyFault::Leaked(i));
         }
     }
     Ok(())

@@ -14,6 +14,7 @@ mod copying;
 mod ending;
 mod fault;
 mod filling;
+mod fitting;
 mod judging;
 pub mod laws;
 mod making;

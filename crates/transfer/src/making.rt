@@ -3,6 +3,7 @@ ghost use Rattle.std.specs.Prelude.{◌≡◌, ◌&&◌, ◌==◌, false, length
 ghost use Rattle.model.specs.Layout.{is_inode_count, is_size};
 ghost use Rattle.transfer.specs.Copies.{IsNewKernel, IsUnmade};
 ghost use Rattle.transfer.specs.Faults.{fault_of_opening};
+ghost use Rattle.transfer.specs.Fitting.{data_count};
 
 use crate::fault::CopyFault;
 use blocks::Disk;
@@ -14,18 +15,20 @@ use offline::mkfs_as;
 use std::alloc::Global;
 use wal::RecoverFault;
 
-/// Refuses a size that no image of so many numbers has, or that isn't the disk's.
-pub(crate) fn check_size<E: Disk>(new: &E, size: u32, ninodes: u32) -> Result<(), CopyFault>
+/// Refuses a size that no image of so many numbers has, or that isn't the disk's. How many blocks for
+/// data there are.
+pub(crate) fn check_size<E: Disk>(new: &E, size: u32, ninodes: u32) -> Result<u32, CopyFault>
     requires { IsTrue (is_inode_count ninodes) }
     ensures fits { OnOk result
         (IsTrue (is_size size ninodes) × (length (E.image new.now) ≡ size)) }
+    ensures room { IfOk result (λ room. room ≡ data_count size ninodes) }
     ensures refused { IfErr result (λ fault. (fault ≡ CopyFault.Mkfs MkfsFault.SizeRange)
         × ((is_size size ninodes && (size == length (E.image new.now))) ≡ false)) }
 {
-    if plan(size, ninodes).is_err() || new.size() != size {
-        return Err(CopyFault::Mkfs(MkfsFault::SizeRange));
+    match plan(size, ninodes) {
+        Ok(fields) if new.size() == size => Ok(fields.nblocks),
+        _ => Err(CopyFault::Mkfs(MkfsFault::SizeRange)),
     }
-    Ok(())
 }
 
 /// Makes an image of that form, and opens a kernel of one process over it.

@@ -18,4 +18,4 @@ returns-in_err-copy_chosen-clause-refused g c =
     rw (p.1, p.2)
     (uncopied d g.E.Disk c.args.size c.args.old.now c.copy_chosen.new.old c.args.new.now mid c.in_ok-source.ensures.faults
     (inode_count_of (d.image mid)) c.in_ok-source.source.form (chosen_files (recovered (d.image mid)) kinds) (ap inode_count_of same)
-    all.sound all.first all.form (ap (λ (z : Image). chosen_files (recovered z) kinds) same ∙ all.files) c.copy_chosen.new.new c.in_err-copy_chosen.field-0.0 c.in_err-copy_chosen.ensures.refused)
+    same all.sound all.first all.form (ap (λ (z : Image). chosen_files (recovered z) kinds) same ∙ all.files) c.copy_chosen.new.new c.in_err-copy_chosen.field-0.0 c.in_err-copy_chosen.ensures.refused)

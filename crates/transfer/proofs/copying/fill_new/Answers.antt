@@ -1,6 +1,6 @@
 use Rattle.std.proofs.Common.{◌∙◌, ap, length, refl, subst, sym}
 use Rattle.blocks.specs.contracts.memory.MemDiskDisk.TheImpl.{ghosts}
-use Rattle.model.specs.Layout.{form_of}
+use Rattle.model.specs.Layout.{form_of, inode_count_of}
 use Rattle.model.specs.Log.{recovered}
 use Rattle.transfer.specs.Copies.{HoldsFiles}
 use Rattle.transfer.specs.Source.{chosen_files}
@@ -18,6 +18,6 @@ returns-in-Ok-filled-clause-filled g c =
 
 pub returns-in-Err-filled-clause-refused : goal.returns-in-Err-filled-clause-refused
 returns-in-Err-filled-clause-refused g c =
-    unfilled_in_memory g.D.Disk ghosts (λ e. refl) c.args.size c.args.source.now.form (chosen_files (recovered (g.D.Disk.image c.args.old.now)) c.args.source.now.kinds.items)
+    unfilled_in_memory g.D.Disk ghosts (λ e. refl) c.args.size (inode_count_of (g.D.Disk.image c.args.old.now)) c.args.source.now.form (chosen_files (recovered (g.D.Disk.image c.args.old.now)) c.args.source.now.kinds.items)
     c.args.old.now c.fill-filled.new.old c.in-Ok.kernel.opening c.fill-filled.new.kernel.store.volume.device
     c.in-Err-filled.fault c.in-Ok.ensures.made.long c.in-Ok.ensures.made.form c.in-Err-filled.ensures.refused

@@ -58,10 +58,11 @@ returns-then-not-branch-clause-refused g c =
     let d = c.in_ok-inode.inode in
     let at = c.loop-piece.piece * 3072 in
     let count = c.min.result in
-    part_appended g.E.Disk (files_on g.E.Disk.image c.args.kernel.now) c.args.i c.requires.empty.1 (bytes_in (recovered x) d) d.size at count (few_bytes (recovered x) d) (omega arith) (omega arith)
+    let part = part_appended g.E.Disk (files_on g.E.Disk.image c.args.kernel.now) c.args.i c.requires.empty.1 (bytes_in (recovered x) d) d.size at count (few_bytes (recovered x) d) (omega arith) (omega arith)
     c.read.new.into (read g here) (call_count c.args.kernel.now + c.loop-piece.piece) c.loop-piece.kernel c.loop-piece.invariant.holds
     c.append.new.kernel c.in_ok-append.field-0 c.if-not-branch.true c.in_ok-append.ensures.appends (c.read.auto.into ∙ long g here) c.in_ok-append.ensures.answered
-    c.args.kernel.now.opening c.loop-piece.invariant.opening (bytes_in (recovered x) (inode_of (recovered x) c.args.i)) (ap (bytes_in (recovered x)) {y = inode_of (recovered x) c.args.i} c.in_ok-inode.ensures.ok)
+    c.args.kernel.now.opening c.loop-piece.invariant.opening (bytes_in (recovered x) (inode_of (recovered x) c.args.i)) (ap (bytes_in (recovered x)) {y = inode_of (recovered x) c.args.i} c.in_ok-inode.ensures.ok) in
+    (part.0, part.1, c.in_ok-read.ensures.faults ∙ c.loop-piece.invariant.faults)
 
 pub loop-piece-preserved : goal.loop-piece-preserved
 loop-piece-preserved g c =

@@ -40,7 +40,7 @@ returns-in_err-copy_chosen-clause-refused g c =
     rw (p.1, p.2)
     (unrescued d g.E.Disk source.image.sup.size c.args.old.now c.copy_chosen.new.old c.args.new.now mid c.in_ok-source.ensures.faults
     (inode_count_of (d.image mid)) source.form (chosen_files (recovered (d.image mid)) source.kinds.items) (ap inode_count_of c.read_clean.ensures.reads.image)
-    (opened_none (d.image c.args.old.now) source.image c.in_ok-source.ensures.source.image) (long g here) c.in_ok-source.ensures.clean.form (are g here)
+    c.read_clean.ensures.reads.image (opened_none (d.image c.args.old.now) source.image c.in_ok-source.ensures.source.image) (long g here) c.in_ok-source.ensures.clean.form (are g here)
     c.copy_chosen.new.new c.in_err-copy_chosen.field-0.0 c.in_err-copy_chosen.ensures.refused)
 
 pub returns-in_err-copy_chosen-clause-whole : goal.returns-in_err-copy_chosen-clause-whole
