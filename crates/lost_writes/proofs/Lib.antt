@@ -8,3 +8,4 @@ pub mod Commit
 pub mod Runs
 pub mod Carrying
 pub mod KernelCarrying
+pub mod KernelEnduring

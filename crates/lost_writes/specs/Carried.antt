@@ -19,8 +19,10 @@ use Rattle.wal.specs.declared.types.Commit.{Commit}
 use Rattle.wal.specs.declared.types.Committed.{Committed}
 use Rattle.wal.specs.declared.types.Part.{Part}
 use Rattle.kernel.specs.Deeds.{next_deed}
+use Rattle.kernel.specs.Known.{Known}
 use Rattle.kernel.specs.State.{State}
 use Rattle.kernel.specs.Steps.{MakesStep}
+use Rattle.kernel.specs.Theorem.{IsRecoveredRun}
 use Rattle.lost_writes.specs.Device.{TornImages}
 use Rattle.lost_writes.specs.Stale.{IsStale, RecoversTo}
 
@@ -122,3 +124,18 @@ KernelCarries {D} {N} {I} {M} {H} disk intake herald =
 abbrev pub Endures : Commit → Image → Image → Type 0
 Endures k x w = RecoversTo (recovered x) w
     ⊎ ((k ≡ Commit.Syncing Part.Header) × RecoversTo (cleared x) w)
+
+-- A STOP OF A KERNEL whose disk works, to whose steps such a device was carried: what the device
+-- has is recovered to the files after the committed groups, as the recovery theorem says it of the
+-- disk's own image; or, only while the header waits for its sync, as that image is without it
+abbrev pub KernelEndures : {D N I M H : Type 0} → Ghosts D N → intake_trait.Ghosts I M
+    → herald_trait.Ghosts H → Type 0
+KernelEndures {D} {N} {I} {M} {H} disk intake herald =
+    (m : State D I H) (l : Ledger) (w : Image) → m.store.volume.fault ≡ None →
+    Known disk intake herald m →
+    Joint (disk.image m.store.volume.device) m.store.volume.buffers m.store.volume.log →
+    Carries (disk.image m.store.volume.device) m.store.volume.log l →
+    TornImages l.synced l.held w →
+    IsRecoveredRun (disk.image m.opening) m.store.volume.log.committed m (recovered w)
+    ⊎ ((m.store.volume.log.commit ≡ Commit.Syncing Part.Header)
+    × RecoversTo (cleared (disk.image m.store.volume.device)) w)

@@ -1,5 +1,5 @@
 //! Laws of a device that loses and tears writes, each the contract of a function that does nothing.
-ghost use Rattle.lost_writes.specs.Carried.{CommitCarries, KernelCarries};
+ghost use Rattle.lost_writes.specs.Carried.{CommitCarries, KernelCarries, KernelEndures};
 ghost use Rattle.lost_writes.specs.Laws.{CarriedEndures, RestIsCarried, CommitsInTurn, CommitsOverStale, CommittedOverStale, BreaksAsStopped, FreshensSafely, HeldMayTear, RecoversFiles, RecoversOverStale, RecoveryWrites, RunsOverStale, StaleIsRecovered};
 
 use blocks::Disk;
@@ -71,8 +71,13 @@ pub fn commits_are_carried<D: Disk>()
 {}
 
 /// The steps of a kernel, of any process, carried to such a device as `Kernel::deed` tells each
-/// before it: a step of a commit as above, and another changes nothing there. What is asked of the
-/// kernel's store, `inodes::Store::known` ensures.
+/// before it: a step of a commit as above, and another changes nothing there. So a stop leaves on
+/// the device what is recovered as the recovery theorem says it of the disk's own image: a run of
+/// the committed groups; or, only while the header waits for its sync, what was there before it.
+/// What is asked of the kernel's store, `inodes::Store::known` ensures.
 pub fn steps_are_carried<D: Disk, I: Intake, H: Herald>()
-    ensures { KernelCarries D.Disk I.Intake H.Herald }
-{}
+    ensures steps { KernelCarries D.Disk I.Intake H.Herald }
+    ensures stops { KernelEndures D.Disk I.Intake H.Herald }
+{
+    kernel::laws::recovery_theorem::<D, I, H>();
+}
