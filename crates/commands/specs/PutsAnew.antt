@@ -38,7 +38,7 @@ pub record PutsOpened {F : Type 0} (remaining : F → Option (List ℕ)) (inum :
   pub put : PutsIn inum bytes copy text new
 
 -- that image was written to a disk of zeroes, the superblock last, and that synced
-pub record IsWrittenAnew {F : Type 0} (whole : Image) : Type 0 where
+pub record IsWrittenAnew (F : Type 0) (whole : Image) : Type 0 where
   pub zeroes : FileDisk F
   pub empty : file_disk.image zeroes ≡ replicate (length whole) zero_block
   pub written : FileDisk F
@@ -51,7 +51,7 @@ pub record HasPutAnew {F : Type 0} (remaining : F → Option (List ℕ)) (inum :
   pub many : transfer_limit < length bytes
   pub image : MemDisk
   pub put : PutsOpened remaining inum bytes text image
-  pub written : IsWrittenAnew {F = F} (memory.image image)
+  pub written : IsWrittenAnew F (memory.image image)
 
 -- and that text was printed
 pub record PrintsPut {F : Type 0} (remaining : F → Option (List ℕ)) (inum : Option ℕ)

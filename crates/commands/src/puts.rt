@@ -1,5 +1,5 @@
 // The command that puts a file of the system into an image.
-ghost use Rattle.std.specs.Prelude.{◌≡◌, IfErr, IfOk};
+ghost use Rattle.std.specs.Prelude.{◌≡◌, IfErr, IfOk, IsTrue, OnErr, true};
 ghost use Rattle.commands.specs.Puts.{HasPut, OnPutRefusal};
 ghost use Rattle.commands.specs.PutsAnew.{HasPutIfSo, IsUnputAnew};
 ghost use Rattle.commands.specs.PutsOver.{IsUnputOver, PutsOver};
@@ -61,52 +61,58 @@ impl<'a, R: Locks + AllocGlobal, P: Meter + Drop, H: Holder<R::File> + Drop> Com
 
     fn run<O: Write>(self, rt: &R, out: &mut O) -> Result<(), PutFileRefusal> {
         let bytes = bytes_from(rt, self.file)?;
-        let Put {
-            image,
-            inum,
+        let mut holder = self.holder;
+        let sync = self.sync;
+        match put_whole(
+            rt,
+            self.image,
+            bytes.as_slice(),
+            self.inum,
             sync,
-            last,
-            locking,
-            progress,
-            mut holder,
-            ..
-        } = self;
-        if sync {
-            match put_whole(rt, image, bytes.as_slice(), inum, &mut holder, out) {
-                Ok(true) => return Ok(()),
-                Ok(false) => {}
-                Err(refusal) => return Err(PutFileRefusal::Of(refusal)),
+            &mut holder,
+            out,
+        ) {
+            Ok(true) => Ok(()),
+            Ok(false) => {
+                let put = PutBytes {
+                    bytes,
+                    inum: self.inum,
+                    last: self.last,
+                    progress: self.progress,
+                };
+                let access = Access::Change {
+                    sync,
+                    locking: self.locking,
+                };
+                match OverFile(self.image, access, put).run(rt, out) {
+                    Ok(()) => Ok(()),
+                    Err(refusal) => Err(PutFileRefusal::Of(refusal)),
+                }
             }
-        }
-        let access = Access::Change { sync, locking };
-        let put = PutBytes {
-            bytes,
-            inum,
-            last,
-            progress,
-        };
-        match OverFile(image, access, put).run(rt, out) {
-            Ok(()) => Ok(()),
             Err(refusal) => Err(PutFileRefusal::Of(refusal)),
         }
     }
 }
 
-// Puts bytes by way of a new file where that is the way. False where it isn't, and then nothing was done.
+// Puts bytes by way of a new file where that is asked for and is the way. False where it isn't, and then
+// nothing was done.
 fn put_whole<R: Locks + AllocGlobal, H: Holder<R::File>, O: Write>(
     rt: &R,
     image: &str,
     bytes: &[u8],
     inum: Option<u32>,
+    sync: bool,
     holder: &mut H,
     out: &mut O,
 ) -> Result<bool, OnFile<PutRefusal>>
     ensures put { IfOk result (HasPutIfSo R.File.remaining inum bytes.now
         (O.contents out.old) (O.contents out.new) (out.new ≡ out.old)) }
+    ensures asked { IfOk result (λ whole. whole ≡ true → IsTrue sync) }
     ensures refused { IfErr result
         (IsUnputAnew R.File.remaining inum bytes.now (out.new ≡ out.old)) }
+    ensures only { OnErr result (IsTrue sync) }
 {
-    if bytes.len() <= TRANSFER_LIMIT as usize {
+    if !sync || bytes.len() <= TRANSFER_LIMIT as usize {
         return Ok(false);
     }
     put_anew(rt, &PutAnew { image, bytes, inum }, holder, out)

@@ -1,5 +1,6 @@
 // Many bytes put into an image that is made anew.
 ghost use Rattle.std.specs.Prelude.{◌≡◌, ◌<◌, ◌≤◌, length, IfErr, IfOk, OnOk};
+ghost use Rattle.std.proofs.Common.{inl};
 ghost use Rattle.cmd.specs.Lemmas.Disks.{file_disk};
 ghost use Rattle.cmd.specs.declared.files.OnFile.TheVariants as on;
 ghost use Rattle.model.specs.Operations.{transfer_limit};
@@ -77,7 +78,7 @@ impl<'a, R: Locks + AllocGlobal> MakesThere<R> for PutAnew<'a> {
 
     ghost unmade = { λ put. IsNotPutAnew R.File.remaining put.inum put.bytes.now };
 
-    ghost files = { λ put fault. tt };
+    ghost files = { λ put fault. inl tt };
 
     fn make_there(&self, rt: &R, file: R::File) -> Result<Vec<u8>, OnFile<PutRefusal>> {
         match put_opened(rt, self) {
@@ -148,7 +149,7 @@ fn write_new<F: Read + Write + Seek + OpenFile + Drop>(
     file: F,
 ) -> Result<(), OnFile<PutRefusal>>
     requires { 2 ≤ length (memory.image image.old) }
-    ensures written { OnOk result (IsWrittenAnew {F = F} (memory.image image.old)) }
+    ensures written { OnOk result (IsWrittenAnew F (memory.image image.old)) }
     ensures refused { IfErr result (IsUnwrittenAnew F) }
 {
     let mut block = match Block::zeroed(alloc) {
