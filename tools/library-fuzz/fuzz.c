@@ -488,7 +488,7 @@ static void see_calls(void) {
 /* The first call for memory of a call is refused. */
 static void see_memory(void) {
     xvfs fs = XVFS_CLOSED_HANDLE;
-    xvfs_op write = {XVFS_WRITE, 1, 0, 0};
+    xvfs_op write = {XVFS_WRITE, 1, 0, 0}, read = {XVFS_READ, 1, 0, 100};
     xvfs_stepped stepped;
     xvfs_report report;
     uint64_t n;
@@ -500,7 +500,8 @@ static void see_memory(void) {
     REFUSED(XVFS_OPEN_MEMORY, xvfs_open(&fs, device, device_size, 1, 0, &n));
     EXPECT(XVFS_OK, xvfs_open(&fs, device, device_size, 1, 0, &n));
     REFUSED(XVFS_SUBMIT_MEMORY, xvfs_submit(&fs, 0, &write, bytes, 100, &n));
-    EXPECT(XVFS_OK, xvfs_submit(&fs, 0, &write, bytes, 100, &n));
+    /* Of the six operations a read alone takes memory at its beginning, for its bytes. */
+    EXPECT(XVFS_OK, xvfs_submit(&fs, 0, &read, bytes, 0, &n));
     REFUSED(XVFS_OK, xvfs_step(&fs, 0, &stepped, block, sizeof block));
     EXPECT(XVFS_STEP_MEMORY, stepped.step);
     xvfs_close(&fs);
