@@ -1,1 +1,2 @@
 mod Idle
+mod Beginning

@@ -209,7 +209,7 @@ module _ {D N I M H : Type 0} (disk : disk_trait.Ghosts D N) (intake : intake_tr
       by what ahead (inr (inr (inr none))) = (what, ahead, none)
 
   -- who has to wait changed nothing
-  asleep_same : (k m : State D I H) (p : ℕ) (cause : Why) (before : List Op) (side : Side) (told : Bool) (a : Phase) → NextAt disk a k.store k.world p before side told (Step.Sleeping cause) m.store m.world → Same k.store k.world m.store m.world
+  pub asleep_same : (k m : State D I H) (p : ℕ) (cause : Why) (before : List Op) (side : Side) (told : Bool) (a : Phase) → NextAt disk a k.store k.world p before side told (Step.Sleeping cause) m.store m.world → Same k.store k.world m.store m.world
   asleep_same k m p cause before side told Phase.Idle next = (none_taken k m p cause before side told next).2.same
   asleep_same k m p cause before side told (Phase.BeforeTurn group op) next =
       let asleep = task_sleeps next.progress cause next.answer in

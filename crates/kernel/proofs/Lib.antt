@@ -29,5 +29,6 @@ mod Resting
 mod Awaking
 mod Begun
 mod Rounds
+mod Flushed
 mod DeedsDone
 mod Recovered

@@ -6,7 +6,7 @@ use Rattle.blocks.specs.declared.disk.Disk as disk_trait
 use Rattle.ports.specs.declared.herald.Herald as herald_trait
 use Rattle.ports.specs.declared.intake.Intake as intake_trait
 use Rattle.kernel.specs.Awake.{IsAwake}
-use Rattle.kernel.specs.Progress.{KeepsShutdown}
+use Rattle.kernel.specs.Progress.{IsJoint, KeepsShutdown}
 use Rattle.kernel.proofs.Events.{Event, event_of}
 use Rattle.kernel.proofs.Right.{Survive, keeps_now}
 use Rattle.kernel.proofs.Well.{IsWell, few_numbers}
@@ -82,9 +82,9 @@ module _ {D N I M H : Type 0} (disk : disk_trait.Ghosts D N) (intake : intake_tr
       → ((x : Image) → disk.leaves k.store.volume.device (disk.moment k.store.volume.device) x → KeepsNow k.store.volume.log.committed (most_of k.store.volume) (disk.image k.opening) k.world.journal.list x)
       → Acts disk intake herald p r k m
       → ((x : Image) → disk.leaves m.store.volume.device (disk.moment m.store.volume.device) x → KeepsNow m.store.volume.log.committed (most_of m.store.volume) (disk.image m.opening) m.world.journal.list x)
-      → IfNone m.store.volume.fault (IsAwake disk.image m)
+      → IfNone m.store.volume.fault (IsAwake disk.image m) → IsJoint disk.image m
       → MakesStep disk intake herald p r k m
-  makes_step inv store lt before acts after awake =
+  makes_step inv store lt before acts after awake joint =
       let opening = disk.image k.opening in
       let n = inode_count_of opening in
       let holds = disk.holding (disk.name k.store.volume.device) in
@@ -100,6 +100,7 @@ module _ {D N I M H : Type 0} (disk : disk_trait.Ghosts D N) (intake : intake_tr
           bound = takes_one disk.image (form_of opening) n holds p r k m lt e (ap (λ (o : D). form_of (disk.image o)) acts.opening);
           others = gives_none disk.image (form_of opening) n holds p r k m lt e;
           awake = awake;
+          joint = joint;
           grows = e.grows;
         };
         stop = record {

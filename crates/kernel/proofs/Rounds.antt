@@ -28,7 +28,7 @@ sum_less f g (suc n) p falls others =
       | inr other ↦ let here = others n other in omega (arith, rest, here)
     ]
 
-sum_falls : (f g : ℕ → ℕ) (n p : ℕ) → p < n → f p < g p → ((q : ℕ) → q ≢ p → f q ≤ g q) → sum_below f n < sum_below g n
+pub sum_falls : (f g : ℕ → ℕ) (n p : ℕ) → p < n → f p < g p → ((q : ℕ) → q ≢ p → f q ≤ g q) → sum_below f n < sum_below g n
 sum_falls f g zero p lt falls others = absurd (omega (arith, lt))
 sum_falls f g (suc n) p lt falls others =
     elim (cases_eq n p) [
@@ -38,7 +38,7 @@ sum_falls f g (suc n) p lt falls others =
           omega (arith, (sum_falls f g n p (omega (arith, lt, other)) falls others), (others n other))
     ]
 
-part_of_sum : (f : ℕ → ℕ) (n p : ℕ) → p < n → f p ≤ sum_below f n
+pub part_of_sum : (f : ℕ → ℕ) (n p : ℕ) → p < n → f p ≤ sum_below f n
 part_of_sum f zero p lt = absurd (omega (arith, lt))
 part_of_sum f (suc n) p lt = elim (cases_eq n p) [
   | inl same ↦ let here : f p ≡ f n = ap f (sym same) in omega (arith, here)
@@ -52,9 +52,9 @@ none_left f (suc n) none = let rest = none_left f n none in let here = none n in
 -- ---- what a turn makes
 
 -- store and phases stay
-record Stays {D I H : Type 0} (k m : State D I H) : Type 0 where
-  store : m.store ≡ k.store
-  ats : (q : ℕ) → ats_of m.world q ≡ ats_of k.world q
+pub record Stays {D I H : Type 0} (k m : State D I H) : Type 0 where
+  pub store : m.store ≡ k.store
+  pub ats : (q : ℕ) → ats_of m.world q ≡ ats_of k.world q
 
 module _ {D I H : Type 0} where
   stays_refl : (k m : State D I H) → m ≡ k → Stays k m
@@ -67,18 +67,18 @@ module _ {D I H : Type 0} where
   stays_then : (k j m : State D I H) → Stays k j → Stays j m → Stays k m
   stays_then k j m one two = record { store = two.store ∙ one.store; ats = λ q. two.ats q ∙ one.ats q }
 
-  stays_with : (k m : State D I H) → m.store ≡ k.store → m.world.processes ≡ k.world.processes → Stays k m
+  pub stays_with : (k m : State D I H) → m.store ≡ k.store → m.world.processes ≡ k.world.processes → Stays k m
   stays_with k m store same = record { store = store; ats = λ q. ap (λ (ps : List Process). (get_or ps q idle).at) same }
 
   busy_stays : (k m : State D I H) (q : ℕ) → Stays k m → IsBusy k q → IsBusy m q
   busy_stays k m q stays busy = ap is_busy_at (stays.ats q) ∙ busy
 
-  cause_stays : (k m : State D I H) (q : ℕ) → Stays k m → cause_of m q ≡ cause_of k q
+  pub cause_stays : (k m : State D I H) (q : ℕ) → Stays k m → cause_of m q ≡ cause_of k q
   cause_stays k m q stays =
       ap (λ (a : Phase). cause_by a (sleep_cause m.store q)) (stays.ats q)
       ∙ ap (λ (s : StoreState D). cause_by (ats_of k.world q) (sleep_cause s q)) stays.store
 
-  busy_inside : (k : State D I H) (p : ℕ) → IsBusy k p → p < length k.world.processes
+  pub busy_inside : (k : State D I H) (p : ℕ) → IsBusy k p → p < length k.world.processes
   busy_inside k p busy = elim (cases_lt p (length k.world.processes)) [
     | inl lt ↦ lt
     | inr past ↦
@@ -88,16 +88,16 @@ module _ {D I H : Type 0} where
 
 module _ {D I H : Type 0} (image : D → Image) where
   -- no step is given, and process p took one
-  record Takes (p : ℕ) (k m : State D I H) : Type 0 where
-    falls : left_of image m p < left_of image k p
-    others : GivesNone image k p m
+  pub record Takes (p : ℕ) (k m : State D I H) : Type 0 where
+    pub falls : left_of image m p < left_of image k p
+    pub others : GivesNone image k p m
 
-  left_stays : (k m : State D I H) (q : ℕ) → Stays k m → left_of image m q ≡ left_of image k q
+  pub left_stays : (k m : State D I H) (q : ℕ) → Stays k m → left_of image m q ≡ left_of image k q
   left_stays k m q stays =
       ap (λ (a : Phase). all_steps_left a (task_left image m.store q) m.store.volume.log) (stays.ats q)
       ∙ ap (λ (s : StoreState D). all_steps_left (ats_of k.world q) (task_left image s q) s.volume.log) stays.store
 
-  idle_left : (k : State D I H) (q : ℕ) → ats_of k.world q ≡ Phase.Idle → left_of image k q ≡ 0
+  pub idle_left : (k : State D I H) (q : ℕ) → ats_of k.world q ≡ Phase.Idle → left_of image k q ≡ 0
   idle_left k q is = ap (λ (a : Phase). all_steps_left a (task_left image k.store q) k.store.volume.log) is
 
   -- a shutdown leaves who goes on
@@ -134,11 +134,11 @@ some_fault (Some fault) none some = cc none
 
 module _ {D N I M H : Type 0} (disk : disk_trait.Ghosts D N) (intake : intake_trait.Ghosts I M) (herald : herald_trait.Ghosts H) (sleeps : SleepsForCause disk intake herald) where
   -- no step was made, and who has an operation under way had a cause
-  abbrev Waits : ℕ → State D I H → State D I H → Type 0
+  abbrev pub Waits : ℕ → State D I H → State D I H → Type 0
   Waits p k m = Stays k m × (IsBusy k p → cause_of k p ≢ None)
 
   module _ (k m : State D I H) (p : ℕ) (r : Step) (well : k.store.volume.fault ≡ None) (still : m.store.volume.fault ≡ None) (awake : IsAwake disk.image k) (makes : MakesStep disk intake herald p r k m) where
-    abbrev Goes : Type 0
+    abbrev pub Goes : Type 0
     Goes = Takes disk.image p k m ⊎ Waits p k m
 
     moved : IsBusy k p → r ≡ Step.Moved → Goes
@@ -192,7 +192,7 @@ module _ {D N I M H : Type 0} (disk : disk_trait.Ghosts D N) (intake : intake_tr
     writes (Committed.Fault fault) busy is world = halted is
 
     -- process p takes one of its steps, or nothing changes; and then it had to wait or is idle
-    one_turn : p < length k.world.processes → (process m.world p).begun ≡ (process k.world p).begun → Goes
+    pub one_turn : p < length k.world.processes → (process m.world p).begun ≡ (process k.world p).begun → Goes
     one_turn lt same = by (ats_of k.world p) refl (next_of disk intake herald k m p r well makes)
       where
         busy : (a : Phase) → ats_of k.world p ≡ a → is_busy_at a ≡ true → IsBusy k p
@@ -282,7 +282,7 @@ module _ {D N I M H : Type 0} (disk : disk_trait.Ghosts D N) (intake : intake_tr
   abbrev Outcome : ℕ → List Turn → State D I H → State D I H → Type 0
   Outcome n ts k m = (sum_below (left_of disk.image m) n < sum_below (left_of disk.image k) n) ⊎ (Stays k m × AllWait ts k)
 
-  sum_stays : (n : ℕ) (k m : State D I H) → Stays k m → sum_below (left_of disk.image m) n ≡ sum_below (left_of disk.image k) n
+  pub sum_stays : (n : ℕ) (k m : State D I H) → Stays k m → sum_below (left_of disk.image m) n ≡ sum_below (left_of disk.image k) n
   sum_stays n k m stays = sum_same (left_of disk.image m) (left_of disk.image k) n (λ q. left_stays disk.image k m q stays)
 
   only_turn : (p q : ℕ) → Contains (Proc p ∷ []) (Proc q) → p ≡ q
@@ -351,10 +351,10 @@ module _ {D N I M H : Type 0} (disk : disk_trait.Ghosts D N) (intake : intake_tr
       (turns_go (length k.world.processes) ts k m refl round.turns all run same still)
 
   -- some process has an operation under way, or none has
-  abbrev Someone : State D I H → Type 0
+  abbrev pub Someone : State D I H → Type 0
   Someone k = ((p : ℕ) × IsBusy k p) ⊎ AreIdle k.world
 
-  someone : (k : State D I H) → Someone k
+  pub someone : (k : State D I H) → Someone k
   someone k = elim (sought (λ (t : Process). is_busy_at t.at) idle k.world.processes refl) [
     | inl found ↦ inl found
     | inr none ↦ inr (λ p. idle_not (ats_of k.world p) (none p))

@@ -18,6 +18,7 @@ pub mod Sleeping
 pub mod Deeds
 pub mod Runs
 pub mod Rounds
+pub mod Flush
 pub mod Causes
 pub mod Opening
 pub mod Theorem

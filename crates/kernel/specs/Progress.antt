@@ -1,8 +1,10 @@
 -- How a kernel goes on with each step of a process: its counts, the steps that are left, and that
 -- nobody waits for ever.
 use Rattle.std.specs.Prelude.{◌≡◌, ℕ, ◌+◌, ◌==◌, ◌&&◌, if◌then◌else◌, Bool, true, false, length, IfNone}
+use Rattle.blocks.specs.Disk.{Image}
 use Rattle.blocks.specs.declared.disk.Disk.{Ghosts}
 use Rattle.model.specs.Layout.{inode_count_of}
+use Rattle.wal.specs.Joint.{Joint}
 use Rattle.wal.specs.Machine.{LogState}
 use Rattle.history.specs.declared.types.Phase.{Phase}
 use Rattle.history.specs.Bound.{is_durable}
@@ -46,6 +48,11 @@ pub record StaysShut (w z : World) : Type 0 where
   pub shut : z.is_shut ≡ true
   pub none : (p : ℕ) → (process z p).begun ≡ (process w p).begun
 
+-- unless the disk has a fault, disk, buffers and log agree on what is written, pinned and logged
+abbrev pub IsJoint : {D I H : Type 0} → (D → Image) → State D I H → Type 0
+IsJoint image k = IfNone k.store.volume.fault
+    (Joint (image k.store.volume.device) k.store.volume.buffers k.store.volume.log)
+
 -- how a kernel goes on with a step of process p that answers r
 pub record MakesProgress {D N I H : Type 0} (disk : Ghosts D N) (p : ℕ) (r : Step)
     (k m : State D I H) : Type 0 where
@@ -58,6 +65,8 @@ pub record MakesProgress {D N I H : Type 0} (disk : Ghosts D N) (p : ℕ) (r : S
   pub others : GivesNone disk.image k p m
   -- where an operation is under way then, one goes on
   pub awake : IfNone m.store.volume.fault (IsAwake disk.image m)
+  -- disk, buffers and log agree then
+  pub joint : IsJoint disk.image m
   pub grows : Grows
       (inode_count_of (disk.image k.opening)) k.store.volume k.world.journal.list m.store.volume
       m.world.journal.list

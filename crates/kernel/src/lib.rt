@@ -42,6 +42,7 @@ mod beginning;
 mod class;
 mod counting;
 mod deeds;
+mod flushing;
 pub mod laws;
 mod opening;
 mod queues;

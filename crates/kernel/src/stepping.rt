@@ -56,7 +56,7 @@ impl<D: Disk, I: Intake, H: Herald> Kernel<D, I, H> {
     ghost use Rattle.wal.specs.Machine.{IsLog};
     ghost use Rattle.history.specs.Alone.{is_committing_at};
     ghost use Rattle.kernel.specs.Acts.{Acts};
-    ghost use Rattle.kernel.specs.Progress.{MakesProgress};
+    ghost use Rattle.kernel.specs.Progress.{IsJoint, MakesProgress};
     ghost use Rattle.kernel.specs.State.{StopsIn};
     ghost use Rattle.blocks.specs.Disk.{Image};
     ghost use Rattle.model.specs.Log.{recovered};
@@ -92,10 +92,11 @@ impl<D: Disk, I: Intake, H: Herald> Kernel<D, I, H> {
     }
 
     /// Does nothing: it says what room there is between two steps. Where the disk hasn't failed, the log
-    /// has its homes and its reservations in order, and a process that alone holds buffers never waits
-    /// for a free one.
+    /// has its homes and its reservations in order and agrees with disk and buffers, and a process that
+    /// alone holds buffers never waits for a free one.
     pub fn room_known(&self)
         ensures log { IfNone self.now.store.volume.fault (IsLog self.now.store.volume.log) }
+        ensures joint { IsJoint D.image self.now }
         ensures alone { IfNone self.now.store.volume.fault (AloneGetsBuffers self.now.store) }
     {
         self.store.known();
@@ -120,6 +121,7 @@ impl<D: Disk, I: Intake, H: Herald> Kernel<D, I, H> {
         self.store.known();
         let answer = self.go_on(pid);
         self.known();
+        self.store.known();
         answer
     }
 

@@ -9,3 +9,4 @@ pub mod Runs
 pub mod Carrying
 pub mod KernelCarrying
 pub mod KernelEnduring
+pub mod Sessions

@@ -3,3 +3,4 @@ pub mod Device
 pub mod Runs
 pub mod Carried
 pub mod Laws
+pub mod Sessions

@@ -1,5 +1,6 @@
 //! Laws of a device that loses and tears writes, each the contract of a function that does nothing.
 ghost use Rattle.lost_writes.specs.Carried.{CommitCarries, KernelCarries, KernelEndures};
+ghost use Rattle.lost_writes.specs.Sessions.{OpeningCarries, SessionCarries, SessionEndures};
 ghost use Rattle.lost_writes.specs.Laws.{CarriedEndures, RestIsCarried, CommitsInTurn, CommitsOverStale, CommittedOverStale, BreaksAsStopped, FreshensSafely, HeldMayTear, RecoversFiles, RecoversOverStale, RecoveryWrites, RunsOverStale, StaleIsRecovered};
 
 use blocks::Disk;
@@ -74,10 +75,23 @@ pub fn commits_are_carried<D: Disk>()
 /// before it: a step of a commit as above, and another changes nothing there. So a stop leaves on
 /// the device what is recovered as the recovery theorem says it of the disk's own image: a run of
 /// the committed groups; or, only while the header waits for its sync, what was there before it.
-/// What is asked of the kernel's store, `inodes::Store::known` ensures.
+/// What is asked of disk, buffers and log, `Kernel::room_known` ensures, and each step.
 pub fn steps_are_carried<D: Disk, I: Intake, H: Herald>()
     ensures steps { KernelCarries D.Disk I.Intake H.Herald }
     ensures stops { KernelEndures D.Disk I.Intake H.Herald }
 {
     kernel::laws::recovery_theorem::<D, I, H>();
+}
+
+/// A whole session of a kernel, opened over such a device as a recovery leaves it (`recovers_over_stale`),
+/// with anything handed in and fetched between its turns: where each turn's deed was carried on and the
+/// disk works at the end, a stop then leaves on the device what is recovered to a run of the committed
+/// groups; or, only while the header waits for its sync, what was there before it.
+pub fn sessions_are_carried<D: Disk, I: Intake, H: Herald>()
+    ensures opens { OpeningCarries D.Disk I.Intake H.Herald }
+    ensures turns { SessionCarries D.Disk I.Intake H.Herald }
+    ensures stops { SessionEndures D.Disk I.Intake H.Herald }
+{
+    commits_are_carried::<D>();
+    steps_are_carried::<D, I, H>();
 }

@@ -5,6 +5,7 @@ use Rattle.bcache.specs.Buffers.{Buffers}
 use Rattle.inodes.specs.Waiting.{AloneGetsBuffers}
 use Rattle.kernel.specs.Common.{DeviceFault, Joint, LogState, State}
 use Rattle.wal.specs.Machine.{IsLog}
+use Rattle.kernel.specs.Progress.{IsJoint}
 use Rattle.kernel.proofs.stepping.Kernel.room_known.Goals as goal
 
 log_of : (o : Option DeviceFault) (x : Image) (b : Buffers) (l : LogState) → IfNone o (Joint x b l) → IfNone o (IsLog l)
@@ -20,3 +21,6 @@ returns-clause-log g c =
 pub returns-clause-alone : goal.returns-clause-alone
 returns-clause-alone g c =
     subst (λ (o : State _ _ _). IfNone o.store.volume.fault (AloneGetsBuffers o.store)) c.self.view_is c.known.ensures.alone
+
+pub returns-clause-joint : goal.returns-clause-joint
+returns-clause-joint g c = subst (λ (o : State _ _ _). IsJoint g.D.Disk.image o) c.self.view_is c.known.ensures.volume
