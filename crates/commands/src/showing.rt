@@ -11,8 +11,8 @@ use crate::holding::Holder;
 use blocks::FileDisk;
 use cmd::{Access, Command, Locking, Locks, OnFile, open_for};
 use inspect::{ShowRefusal, show_cells};
-use messages::{Reason, Told};
-use pictures::{Cell, Cells};
+use messages::{Cell, Reason, Told};
+use pictures::Cells;
 use std::io::Write;
 use std::rt::Files;
 

@@ -3,8 +3,8 @@ use Rattle.std.specs.Prelude.{ℕ, List, map, length, Option, Some, None, slice_
 use Rattle.std.specs.List.{range_with_len}
 use Rattle.blocks.specs.Disk.{Image}
 use Rattle.model.specs.Log.{recovered}
-use Rattle.pictures.specs.declared.cells.Cell.{Cell}
-use Rattle.pictures.specs.declared.cells.Owner.{Owner}
+use Rattle.messages.specs.declared.drawing.Cell.{Cell}
+use Rattle.messages.specs.declared.drawing.Owner.{Owner}
 use Rattle.inspect.specs.declared.owned.Owned.{Owned}
 use Rattle.inspect.specs.Owned.{owned_by_all}
 use Rattle.inspect.specs.Signs.{owner_among, signs_of}

@@ -11,8 +11,8 @@ ghost use Rattle.inspect.specs.Signs.{owner_among, signs_of};
 use crate::fault::GatherFault;
 use crate::owned::{Owned, owned_by_all};
 use blocks::{Block, Disk, NoMemory};
+use messages::{Cell, Owner};
 use offline::Recovered;
-use pictures::{Cell, Owner};
 use std::alloc::Global;
 
 // The blocks of a disk that was checked, the first of them block 0. These are their signs.

@@ -12,9 +12,8 @@ use crate::refused::ShowRefusal;
 use crate::signs::gather_signs;
 use blocks::Disk;
 use itoa::Buffer;
-use messages::{Unwritten, print, print_last, write_bytes};
+use messages::{Cell, Unwritten, print, print_last, write_bytes};
 use offline::check;
-use pictures::Cell;
 use std::alloc::Global;
 use std::io::Write;
 

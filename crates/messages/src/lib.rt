@@ -8,6 +8,7 @@
 
 mod answers;
 mod deeds;
+mod drawing;
 mod events;
 mod faults;
 mod hex_digits;
@@ -18,6 +19,7 @@ mod printed;
 mod told;
 
 pub use deeds::{Detail, StepNote, made_deed, print_deed, print_made, print_notes, role_of};
+pub use drawing::{Cell, MOST_COLUMNS, Owner};
 pub use events::Event;
 pub use lines::{AccountLine, AnswerLine};
 pub use meter::{Meter, Silent};

@@ -4,8 +4,8 @@ use Rattle.std.specs.List.{flat_map}
 use Rattle.pictures.specs.Markups.{attribute_text, markup_text}
 use Rattle.pictures.specs.Page.{page_open}
 use Rattle.pictures.specs.Shapes.{area, area_text, counted_text, label_open, spot}
-use Rattle.pictures.specs.declared.cells.Cell.{Cell}
-use Rattle.pictures.specs.declared.cells.Owner.{Owner}
+use Rattle.messages.specs.declared.drawing.Cell.{Cell}
+use Rattle.messages.specs.declared.drawing.Owner.{Owner}
 use Rattle.pictures.specs.declared.markups.Markup.{Markup}
 
 -- ---- what is told of a block

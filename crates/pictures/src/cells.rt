@@ -9,26 +9,8 @@ use crate::page::open_page;
 use crate::picture::Picture;
 use crate::shapes::{Area, Spot, close_label, open_label, print_area, print_counted};
 use itoa::Buffer;
-use messages::{Unwritten, pass_on, print, write_bytes};
+use messages::{Cell, Owner, Unwritten, pass_on, print, write_bytes};
 use std::io::Write;
-
-/// Which file has a block.
-#[derive(Clone, Copy, Debug)]
-pub struct Owner {
-    /// Its number.
-    pub file: u32,
-}
-
-/// A block of an image.
-#[derive(Clone, Copy, Debug)]
-pub struct Cell {
-    /// Its number.
-    pub block: u64,
-    /// Its sign, as `show` draws it.
-    pub sign: u8,
-    /// Which file has it.
-    pub owner: Option<Owner>,
-}
 
 /// The picture of an image's blocks, the first of them block 0.
 #[derive(Clone, Copy, Debug)]

@@ -23,9 +23,9 @@ mod titles;
 mod types;
 mod written;
 
-pub use cells::{Cell, Cells, Owner};
+pub use cells::Cells;
 pub use picture::Picture;
-pub use recorder::{MOST_COLUMNS, Recorder};
+pub use recorder::Recorder;
 pub use replies::{Gist, gist_of};
 pub use stops::{At, Column, Lost, Stops};
 pub use timeline::Timeline;

@@ -6,13 +6,10 @@ ghost use Rattle.pictures.specs.Recording.{answer_behind, answer_in, with_moment
 use crate::replies::{Gist, gist_of};
 use crate::types::Moment;
 use blocks::NoMemory;
-use messages::{Event, StepNote};
+use messages::{Event, MOST_COLUMNS, StepNote};
 use model::types::Step;
 use std::alloc::Global;
 use std::marker::Model;
-
-/// A picture has at most so many steps.
-pub const MOST_COLUMNS: usize = 2000;
 
 /// The first steps of a run, one more than a picture has, with room for all of them.
 #[derive(Drop)]

@@ -15,8 +15,8 @@ use crate::stopping::StopsRefusal;
 use arrayvec::ArrayVec;
 use commands::{Holder, PictureFault, draw};
 use crash_check::{Mismatch, Stop, StopsFault, print_mismatch};
-use messages::{Printed, Reason, Told};
-use pictures::{Column, Lost, MOST_COLUMNS, Stops};
+use messages::{MOST_COLUMNS, Printed, Reason, Told};
+use pictures::{Column, Lost, Stops};
 use std::rt::Files;
 use stops::at_of;
 

@@ -1,6 +1,6 @@
 use Rattle.std.proofs.Common.{◌∙◌, List, subst}
 use Rattle.pictures.specs.Cells.{blocks_text}
-use Rattle.pictures.specs.declared.cells.Cell.{Cell}
+use Rattle.messages.specs.declared.drawing.Cell.{Cell}
 use Rattle.commands.specs.Pictures.{IsDrawn}
 use Rattle.commands.proofs.showing.show_from.Goals as goal
 

@@ -1,8 +1,8 @@
 use Rattle.std.proofs.Common.{◌≡◌, ◌∙◌, ◌++◌, ◌∷◌, [], ℕ, Option, ap, length, map, slice_index, subst, sym, arith}
 use Rattle.std.specs.List.{range_with_len}
 use Rattle.model.specs.Lemmas.Steps.{mapped_more}
-use Rattle.pictures.specs.declared.cells.Cell.{Cell}
-use Rattle.pictures.specs.declared.cells.Owner.{Owner}
+use Rattle.messages.specs.declared.drawing.Cell.{Cell}
+use Rattle.messages.specs.declared.drawing.Owner.{Owner}
 use Rattle.inspect.specs.Cells.{cell_at}
 use Rattle.inspect.proofs.cells.cells_among.Goals as goal
 
