@@ -53,6 +53,7 @@ fn call_open(alloc: Global, kernel: &mut Opened, words: &[&str]) -> anyhow::Resu
         ["pieces", pid, "read", inode, from, to] => gather(alloc, kernel, [pid, inode, from, to]),
         ["rounds", most] => make_rounds(alloc, kernel, most),
         ["poll", pid] => poll(alloc, kernel, pid),
+        ["flush"] => Ok(Some(format!(in alloc; "{:?}", kernel.flush())?)),
         ["shut"] => {
             kernel.shut();
             done(alloc, true)
