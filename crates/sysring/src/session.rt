@@ -6,6 +6,7 @@ use kernel::{Kernel, Step};
 use ports::{Herald, Intake};
 use rings::RingIntake;
 use std::marker::{Brand, Model, PhantomData};
+use wal::DeviceFault;
 
 /// The kernel that threads began to share, as it was then. A call that shares one picks it.
 pub trait Origin<D, H> {
@@ -42,6 +43,9 @@ impl<D: Disk, H: Herald, K: Origin<D, H>> Model for Session<D, H, K> {
 }
 
 impl<D: Disk, H: Herald, K: Origin<D, H>> Session<D, H, K> {
+    ghost use Rattle.std.specs.Prelude.{IfErr, OnOk, Some, None};
+    ghost use Rattle.kernel.specs.Awake.{AreIdle};
+    ghost use Rattle.kernel.specs.Flush.{Flushes};
     ghost use Rattle.kernel.specs.Steps.{MakesStep};
     ghost use Rattle.rings.specs.declared.intake.RingIntake.{RingIntake};
     ghost use Rattle.sysring.specs.Origins.{IsOfOrigin, processes_in};
@@ -74,6 +78,17 @@ impl<D: Disk, H: Herald, K: Origin<D, H>> Session<D, H, K> {
         ensures shared { IsShared D.Disk H.Herald K.outset self.old }
     {
         self.kernel.step(pid)
+    }
+
+    // Ends every operation that is under way, as `Kernel::flush` does. It wakes nobody.
+    pub(crate) fn flush(&mut self) -> Result<(), DeviceFault>
+        ensures shared { IsShared D.Disk H.Herald K.outset self.old }
+        ensures flushes { Flushes D.Disk ⟦<RingIntake as Intake>⟧ H.Herald self.old self.new }
+        ensures idle { OnOk result (AreIdle self.new.world) }
+        ensures works { OnOk result (self.new.store.volume.fault ≡ None) }
+        ensures fault { IfErr result (λ fault. self.new.store.volume.fault ≡ Some fault) }
+    {
+        self.kernel.flush()
     }
 
     // The kernel, out of its session.

@@ -7,7 +7,7 @@ ghost use Rattle.wal.specs.Recovery.{RecoversAs};
 ghost use Rattle.kernel.specs.Known.{Known};
 ghost use Rattle.kernel.specs.Theorem.{IsExact, IsRecoveredRun};
 ghost use Rattle.sysring.specs.Origins.{IsOfOrigin, processes_in};
-ghost use Rattle.sysring.specs.Sessions.{IsOfTurns, IsShared, StepsShared};
+ghost use Rattle.sysring.specs.Sessions.{FlushesShared, IsOfTurns, IsShared, StepsShared};
 
 use crate::pace::Serving;
 use crate::session::{Origin, Session};
@@ -18,6 +18,7 @@ use rings::RingIntake;
 use std::sync::atomic::{AtomicU64, Ordering};
 use std::sync::{Condvar, Mutex, MutexGuard, Wait};
 use std::thread;
+use wal::DeviceFault;
 
 // How often others are let go on before who waits for them sleeps.
 const LOOKS: u32 = 250;
@@ -120,6 +121,25 @@ impl<D: Disk, H: Herald, K: Origin<D, H>> Shared<D, H, K> {
             }
         }
         step
+    }
+
+    /// Brings every answer that was given to the disk, with the lock held meanwhile: it ends each
+    /// operation that is under way, as `Kernel::flush` does, and none begins before. By its code it
+    /// wakes all who wait.
+    ///
+    /// # Errors
+    ///
+    /// The fault of the disk.
+    pub fn flush<R: Wait>(&self, rt: &R) -> Result<(), DeviceFault>
+        ensures { FlushesShared D.Disk H.Herald K.outset result }
+    {
+        let mut kernel = self.lock(rt);
+        let flushed = kernel.flush();
+        self.changes.fetch_add(1, Ordering::SeqCst);
+        if self.waiting.load(Ordering::SeqCst) > 0 {
+            self.changed.notify_all();
+        }
+        flushed
     }
 
     // How its workers get on.
