@@ -21,7 +21,7 @@ use std::thread;
 use wal::DeviceFault;
 
 // How often others are let go on before who waits for them sleeps.
-const LOOKS: u32 = 250;
+const LOOKS: u32 = 8;
 
 /// A kernel that threads share.
 #[derive(Drop)]
