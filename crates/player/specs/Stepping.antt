@@ -1,5 +1,5 @@
 -- What steps and turns make of a kernel, and of the operations that wait to be handed in.
-use Rattle.std.specs.Prelude.{◌≡◌, ⊤, ℕ, ◌-◌, true, length, List, [], ◌∷◌, ◌++◌, set, slice_get, take, Option, Some, None}
+use Rattle.std.specs.Prelude.{◌≡◌, ⊤, ℕ, ◌-◌, Bool, true, false, length, List, [], ◌∷◌, ◌++◌, set, slice_get, take, Option, Some, None}
 use Rattle.std.specs.Io.KnownBytes.{Appends}
 use mathlib.Core.List.{IsPrefix}
 use Rattle.wal.specs.declared.types.DeviceFault.{DeviceFault}
@@ -22,6 +22,7 @@ use Rattle.clients.specs.Backlogs.{backlog_of}
 use Rattle.clients.specs.Feeders.{HasHandedIn, HaveSourceRings, feeder_ops}
 use Rattle.clients.specs.declared.feeder.Feeder.{Feeder}
 use Rattle.model.specs.declared.types.operations.Step.{Step}
+use Rattle.model.specs.declared.types.operations.Step.TheVariants as step
 use Rattle.model.specs.Layout.{inode_count_of}
 use Rattle.model.specs.declared.types.operations.Op.{Op}
 use Rattle.history.specs.Own.{KeepsFirst, KeepsOwn}
@@ -29,7 +30,7 @@ use Rattle.kernel.specs.State.{State}
 use Rattle.kernel.specs.Steps.{MakesStep}
 use Rattle.kernel.specs.Moves.{MakesSteps}
 use Rattle.messages.specs.declared.events.Event.{Event}
-use Rattle.messages.specs.declared.events.Event.TheVariants.{Shut}
+use Rattle.messages.specs.declared.events.Event.TheVariants.{Shut, Stepped}
 use Rattle.player.specs.declared.player.Player.{Player}
 use Rattle.player.specs.declared.refusals.ReplayRefusal.{ReplayRefusal}
 use Rattle.player.specs.declared.refusals.ReplayRefusal.TheVariants.{Disk, Output}
@@ -173,6 +174,23 @@ abbrev pub MakesTurns : {D N : Type 0} → Ghosts (FaultyDisk D) (N × Trap) →
     → List Event → Player D N → Player D N → Type 0
 MakesTurns disk stop words events old new =
     Turns is_last (MakesTurn disk stop) words events old new
+
+-- a step was refused memory, and nothing else came of its turn
+abbrev pub is_refused : Event → Bool
+is_refused (Stepped p step.NoMemory) = true
+is_refused event = false
+
+-- a turn that came to something else
+abbrev pub MakesGrantedTurn : {D N : Type 0} → Ghosts (FaultyDisk D) (N × Trap) → ℕ → Word → Event
+    → Player D N → Player D N → Type 0
+MakesGrantedTurn disk stop word event old new =
+    MakesTurn disk stop word event old new × (is_refused event ≡ false)
+
+-- the turns of these words make new of old, and come to these events: none to refused memory
+abbrev pub MakesGrantedTurns : {D N : Type 0} → Ghosts (FaultyDisk D) (N × Trap) → ℕ → List Word
+    → List Event → Player D N → Player D N → Type 0
+MakesGrantedTurns disk stop words events old new =
+    Turns is_last (MakesGrantedTurn disk stop) words events old new
 
 -- the turns of the first of these words made new of old
 pub record BreaksOff {D N : Type 0} (disk : Ghosts (FaultyDisk D) (N × Trap)) (stop : ℕ)

@@ -3,7 +3,7 @@ ghost use Rattle.std.specs.Prelude.{◌≡◌, List, OnOk, IsTrue, IfErr, None, 
 ghost use Rattle.std.specs.List.{list_all};
 ghost use Rattle.scripts.specs.Schedule.{is_word_of};
 ghost use Rattle.messages.specs.declared.events.Event.{Event as SomeEvent};
-ghost use Rattle.player.specs.Stepping.{BreaksOff, IsClosed, IsSeated, KeepOps, MakesTurns, IsNotClosed};
+ghost use Rattle.player.specs.Stepping.{BreaksOff, IsClosed, IsNotClosed, IsSeated, KeepOps, MakesGrantedTurns, is_refused};
 ghost use Rattle.player.specs.Told.{HearsTurns, IsBrokenOff, PlaysTo, RunsTo};
 ghost use Rattle.kernel.specs.Runs.{RunsOn};
 
@@ -70,7 +70,8 @@ pub fn run<D: Disk + Drop, T: Teller, P: Meter, O: Write>(
 ///
 /// # Errors
 ///
-/// `NoMemory` where memory for an operation was refused, and then no turn behind that was made.
+/// `NoMemory` where memory for an operation was refused, and then no turn behind that was made; that
+/// it was refused no clause can say. No turn of those that were made came to this.
 pub fn make_turns<D: Disk + Drop>(
     player: &mut Player<'_, D>,
     words: &[Word],
@@ -80,11 +81,11 @@ pub fn make_turns<D: Disk + Drop>(
         (list_all (is_word_of (length player.old.kernel.world.processes)) words.now) }
     requires seated { IsSeated player.old }
     ensures made { OnOk result ((events : List SomeEvent)
-        × MakesTurns ⟦<FaultyDisk<D> as Disk>⟧ stop words.now events player.old player.new) }
+        × MakesGrantedTurns ⟦<FaultyDisk<D> as Disk>⟧ stop words.now events player.old player.new) }
 {
     for word in words {
         let event = player.turn(*word, stop);
-        if matches!(event, Event::Stepped(_, Step::NoMemory)) {
+        if is_refused(&event) {
             return Err(NoMemory);
         }
         if event.is_last() {
@@ -92,6 +93,13 @@ pub fn make_turns<D: Disk + Drop>(
         }
     }
     Ok(())
+}
+
+// Whether a turn came to nothing but a step that was refused memory.
+fn is_refused(event: &Event) -> bool
+    ensures { result ≡ is_refused event.now }
+{
+    matches!(event, Event::Stepped(_, Step::NoMemory))
 }
 
 // Makes the turns of the words, up to the last that can be made, and the teller prints what it has to

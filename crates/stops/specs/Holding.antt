@@ -11,7 +11,7 @@ use Rattle.blocks.specs.declared.sync.SyncDisk.{SyncDisk}
 use Rattle.scripts.specs.declared.schedule.Word.{Word}
 use Rattle.scripts.specs.declared.script.Task.{Task}
 use Rattle.player.specs.Disks.{faulty}
-use Rattle.player.specs.Stepping.{MakesTurns}
+use Rattle.player.specs.Stepping.{MakesGrantedTurns}
 use Rattle.player.specs.declared.player.Player.{Player}
 use Rattle.crash_check.specs.Choices.{HasAllDue, IsChoice, choice_count, due_files, left_by}
 use Rattle.crash_check.specs.Images.{HasFiles, kept_files}
@@ -117,7 +117,7 @@ pub record RunsHeld (words : List Word) (write : ℕ) (player : HeldPlayer) (cou
     : Type 0 where
   pub last : HeldPlayer
   pub events : List Event
-  pub makes : MakesTurns over write words events player last
+  pub makes : MakesGrantedTurns over write words events player last
   pub writes : count.writes ≡ over.write_count last.kernel.store.volume.device
       - over.write_count player.kernel.store.volume.device
   pub syncs : count.syncs ≡ over.sync_count last.kernel.store.volume.device
@@ -129,7 +129,7 @@ pub record LosesHeld (words : List Word) (write : ℕ) (player : HeldPlayer) (ch
     (cause : Cause) : Type 0 where
   pub last : HeldPlayer
   pub events : List Event
-  pub makes : MakesTurns over write words events player last
+  pub makes : MakesGrantedTurns over write words events player last
   pub lost : LosesSome last choice cause
 
 -- so is it of turns of which this is told

@@ -14,7 +14,7 @@ use Rattle.kernel.specs.declared.types.OpenFault.{OpenFault}
 use Rattle.player.specs.Afterwards.{IsUnopenedOver}
 use Rattle.player.specs.Disks.{faulty}
 use Rattle.player.specs.Opening.{IsArmed, IsOpenedOver}
-use Rattle.player.specs.Stepping.{MakesTurns}
+use Rattle.player.specs.Stepping.{MakesGrantedTurns}
 use Rattle.player.specs.declared.player.Player.{Player}
 use Rattle.player.specs.declared.turns.Outcome.{Outcome}
 use Rattle.crash_check.specs.Images.{HasFiles, is_want_of_memory, kept_files, new_image}
@@ -35,14 +35,14 @@ memory = faulty ghosts
 abbrev pub MemoryPlayer : Type 0
 MemoryPlayer = Player MemDisk (Unit {0})
 
--- A player of these operations was opened over a new image, and made the turns of these words. The
--- write of that number, from 1, was the one that isn't made.
+-- A player of these operations was opened over a new image, and made the turns of these words, none of
+-- which came to refused memory. The write of that number, from 1, was the one that isn't made.
 pub record MakesRun {D N : Type 0} (disk : Ghosts (FaultyDisk D) (N × Trap)) (tasks : List Task)
     (processes : ℕ) (words : List Word) (stop : ℕ) (player last : Player D N) : Type 0 where
   pub opened : IsOpenedOver disk.image new_image tasks processes player
   pub armed : IsArmed disk stop player.kernel.store.volume.device
   pub events : List Event
-  pub makes : MakesTurns disk stop words events player last
+  pub makes : MakesGrantedTurns disk stop words events player last
 
 -- the writes of a run
 abbrev pub writes_of : MemoryPlayer → MemoryPlayer → ℕ
@@ -55,11 +55,11 @@ IsKept last = HasFiles (memory.image last.kernel.store.volume.device)
     (kept_files last.kernel.world.journal.list last.kernel.store.volume.log.committed)
 
 -- The turns of these words, of which that write is stopped, made `last` of a player, and came to
--- so many writes and groups.
+-- so many writes and groups. None came to refused memory, nor does one in what follows.
 pub record HasPlayed {D N : Type 0} (disk : Ghosts (FaultyDisk D) (N × Trap)) (words : List Word)
     (stop : ℕ) (ended : Outcome) (player last : Player D N) : Type 0 where
   pub events : List Event
-  pub makes : MakesTurns disk stop words events player last
+  pub makes : MakesGrantedTurns disk stop words events player last
   pub writes : ended.writes ≡ disk.write_count last.kernel.store.volume.device
       - disk.write_count player.kernel.store.volume.device
   pub committed : ended.committed ≡ last.kernel.store.volume.log.committed
@@ -86,7 +86,7 @@ pub record RunsTo (words : List Word) (stop : ℕ) (player : MemoryPlayer) (coun
     : Type 0 where
   pub last : MemoryPlayer
   pub events : List Event
-  pub makes : MakesTurns memory stop words events player last
+  pub makes : MakesGrantedTurns memory stop words events player last
   pub writes : count ≡ writes_of player last
   pub kept : IsKept last
 
@@ -100,7 +100,7 @@ pub record Loses (words : List Word) (stop : ℕ) (player : MemoryPlayer) (cause
     : Type 0 where
   pub last : MemoryPlayer
   pub events : List Event
-  pub makes : MakesTurns memory stop words events player last
+  pub makes : MakesGrantedTurns memory stop words events player last
   pub lost : IsLost last cause
 
 -- so did turns of which this is told
