@@ -1,13 +1,12 @@
 -- Where no operation is under way, the next step of a process begins what waits for it.
-use Rattle.std.proofs.Common.{◌≡◌, ◌≢◌, ◌⊎◌, inl, inr, ◌<◌, ◌+◌, ℕ, Bool, true, false, List, [], ◌∷◌, ◌++◌, length, set, Option, Some, None, refl, sym, ◌∙◌, ap, subst}
+use Rattle.std.proofs.Common.{◌≡◌, ◌≢◌, inl, inr, ◌+◌, ℕ, Bool, true, false, List, [], ◌∷◌, set, Option, Some, None, refl, sym, ◌∙◌, ap, subst}
 use Rattle.std.specs.Option.{option_map}
 use Rattle.std.specs.Prelude.{IfNone, IsSome}
 use mathlib.Core.List.{IsPrefix}
 use Rattle.blocks.specs.declared.disk.Disk as disk_trait
 use Rattle.model.specs.declared.types.operations.Op.{Op}
 use Rattle.model.specs.declared.types.operations.Step.{Step}
-use Rattle.model.specs.declared.types.operations.Why.{Why}
-use Rattle.ports.specs.History.{Side, first_in}
+use Rattle.ports.specs.History.{first_in}
 use Rattle.ports.specs.declared.herald.Herald as herald_trait
 use Rattle.ports.specs.declared.intake.Intake as intake_trait
 use Rattle.wal.specs.Machine.{LogState, begin_cause}
@@ -16,13 +15,11 @@ use Rattle.history.specs.Lemmas.Phases.{there_now}
 use Rattle.history.specs.Processes.{World, process}
 use Rattle.history.specs.declared.types.Phase.{Phase}
 use Rattle.history.specs.declared.types.Process.{Process}
-use Rattle.kernel.specs.Awake.{AreIdle, IsAwake}
-use Rattle.kernel.specs.Known.{Known}
+use Rattle.kernel.specs.Awake.{IsAwake}
 use Rattle.kernel.specs.Next.{BeginsNext, BeginsWith, HasNoMemory, HasNoRoom, IsKeptOut, IsNotTaken, NextAt, NextIf}
-use Rattle.kernel.specs.State.{State, class_of}
-use Rattle.kernel.specs.Steps.{MakesStep}
+use Rattle.kernel.specs.State.{class_of}
 use Rattle.kernel.specs.declared.class.OpClass.{OpClass}
-use Rattle.durability.specs.Beginning.{HasAllButTheLog, NoneIsKeptOut}
+use Rattle.durability.specs.Beginning.{NoneIsKeptOut}
 
 -- what waits first still does where more waits behind it
 still_first : (before ahead : List Op) → IsPrefix before ahead → IsSome (first_in before) → IsSome (first_in ahead)

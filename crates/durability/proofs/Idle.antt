@@ -1,7 +1,6 @@
 -- At rest all groups that were opened are committed.
-use Rattle.std.proofs.Common.{◌≡◌, ◌≤◌, ◌<◌, ◌+◌, ◌*◌, ℕ, zero, suc, length, Option, None, sym, subst, arith}
+use Rattle.std.proofs.Common.{◌≡◌, ◌≤◌, ◌<◌, ◌*◌, ℕ, zero, suc, length, Option, None, subst, arith}
 use Rattle.std.specs.Prelude.{IfNone}
-use Rattle.blocks.specs.Disk.{Image}
 use Rattle.blocks.specs.declared.disk.Disk as disk_trait
 use Rattle.model.specs.Layout.{form_of}
 use Rattle.ports.specs.declared.herald.Herald as herald_trait
@@ -14,7 +13,7 @@ use Rattle.kernel.specs.Known.{IsCurrent, Known}
 use Rattle.kernel.specs.Rounds.{all_left, sum_below}
 use Rattle.kernel.specs.State.{State}
 use Rattle.kernel.specs.Theorem.{ExactlyTheCommitted, IsExact, KnownStop}
-use Rattle.durability.specs.Durable.{IdleIsDurable, KeepsAll}
+use Rattle.durability.specs.Durable.{IdleIsDurable}
 
 -- a sum of so many values that are at most b
 sum_at_most : (f : ℕ → ℕ) (n b : ℕ) → ((q : ℕ) → f q < b) → sum_below f n ≤ n * b

@@ -1,5 +1,5 @@
 -- That all answers of a kernel are durable once no operation of it is under way.
-use Rattle.std.specs.Prelude.{◌≡◌, ◌≤◌, ◌*◌, ℕ, List, length, None}
+use Rattle.std.specs.Prelude.{◌≡◌, ◌≤◌, ◌*◌, List, length, None}
 use Rattle.std.specs.List.{All}
 use Rattle.blocks.specs.Disk.{Image}
 use Rattle.blocks.specs.declared.disk.Disk as disk_trait

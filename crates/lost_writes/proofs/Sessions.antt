@@ -1,5 +1,5 @@
 -- A session of a kernel, carried to such a device turn by turn.
-use Rattle.std.proofs.Common.{◌≡◌, ◌≢◌, ℕ, true, List, [], ◌∷◌, Option, Some, None, refl, sym, ap, ◌∙◌, subst}
+use Rattle.std.proofs.Common.{◌≡◌, ◌≢◌, ℕ, List, [], ◌∷◌, Option, Some, None, refl, sym, ap, ◌∙◌, subst}
 use Rattle.std.specs.Prelude.{IfNone, IsSome}
 use Rattle.blocks.specs.declared.disk.Disk.{Ghosts}
 use Rattle.ports.specs.declared.herald.Herald as herald_trait
