@@ -1,21 +1,21 @@
 -- Steps of processes with an operation under way: each that need not wait takes one that is left.
-use Rattle.std.proofs.Common.{◌≡◌, ◌≢◌, ◌⊎◌, inl, inr, ⊎_elim, ℕ, zero, suc, ◌+◌, ◌*◌, ◌<◌, ◌≤◌, Bool, true, false, List, [], ◌∷◌, ◌++◌, length, length-append, refl, sym, ◌∙◌, ap, subst, arith, mul-le-mul_left, mul-suc, Option, Some, None}
+use Rattle.std.proofs.Common.{◌≡◌, ◌≢◌, ◌⊎◌, inl, inr, ℕ, zero, suc, ◌+◌, ◌*◌, ◌<◌, ◌≤◌, true, false, List, [], ◌∷◌, ◌++◌, length, length-append, refl, sym, ◌∙◌, ap, subst, arith, mul-le-mul_left, mul-suc, Option, Some, None}
 use Rattle.std.specs.Prelude.{IfNone, IsSome}
-use Rattle.kernel.specs.Common.{ats_of, cases_eq, DeviceFault, Image, is_busy_at, left_of, MakesStep, NextIf, process, Proc, Process, Runs, State, Step, StoreState, Turn, where_none, Why, World}
+use Rattle.kernel.specs.Common.{ats_of, cases_eq, DeviceFault, is_busy_at, left_of, MakesStep, NextIf, process, Proc, Runs, State, Step, StoreState, Turn, where_none, Why, World}
 use Rattle.blocks.specs.declared.disk.Disk as disk_trait
 use Rattle.ports.specs.declared.herald.Herald as herald_trait
 use Rattle.ports.specs.declared.intake.Intake as intake_trait
 use Rattle.model.specs.Layout.{form_of}
 use Rattle.kernel.specs.Next.{Same}
-use Rattle.kernel.specs.Awake.{AreIdle, IsAwake, IsBusy, OneGoesOn, cause_of}
+use Rattle.kernel.specs.Awake.{AreIdle, IsAwake, IsBusy, cause_of}
 use Rattle.kernel.specs.Bound.{step_bound}
 use Rattle.kernel.specs.Flush.{AreOver, EndsOnly, Flushes, GoesOn}
 use Rattle.kernel.specs.Known.{Known}
 use Rattle.kernel.specs.Rounds.{BeginsNone, all_left, sum_below}
 use Rattle.kernel.specs.Sleeping.{SleepsForCause, WaitsWithCause}
-use Rattle.kernel.proofs.Awaking.{asleep_same, idle_not, next_of}
+use Rattle.kernel.proofs.Awaking.{asleep_same, next_of}
 use Rattle.kernel.proofs.Begun.{begins_none}
-use Rattle.kernel.proofs.Rounds.{Someone, Stays, Takes, Waits, busy_inside, cause_stays, one_turn, someone, stays_with, sum_falls, sum_stays}
+use Rattle.kernel.proofs.Rounds.{Someone, Takes, Waits, busy_inside, cause_stays, one_turn, someone, stays_with, sum_falls, sum_stays}
 use Rattle.kernel.proofs.Turns.{runs_more}
 
 -- a sum of so many values, each below b, is below as many times b by as many at least

@@ -1,6 +1,6 @@
 -- What is true of store and processes follows from a few facts.
 use Rattle.kernel.specs.Lasting.{Lasts}
-use Rattle.std.proofs.Common.{◌≡◌, ◌≤◌, ℕ, ◌+◌, arith, refl, sym, ◌∙◌, ap, subst, Option, Some, None}
+use Rattle.std.proofs.Common.{◌≡◌, ◌≤◌, ℕ, arith, refl, sym, ◌∙◌, ap, subst, Option, Some, None}
 use Rattle.std.specs.Prelude.{IfNone, IfSome}
 use Rattle.kernel.specs.Common.{ArePaired, ats_of, DeviceFault, faults_after, Form, form_of, Ghosts, HasFacts, if_none, if_some, Image, inode_count_of, IsCounted, IsRight, KeepsNow, known_keeps, known_run, most_of, now_stays, one_more, OnlyReads, StoreState, view_of, where_none, World}
 use Rattle.history.specs.Follows.{IsJournal}

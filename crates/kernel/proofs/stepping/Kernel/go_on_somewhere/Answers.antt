@@ -1,5 +1,5 @@
-use Rattle.std.proofs.Common.{◌≡◌, ◌≢◌, ◌∙◌, refl, sym, subst, ap, length, arith, false, true, not, ℕ}
-use Rattle.kernel.specs.Common.{MakesStep, State, Step, Why}
+use Rattle.std.proofs.Common.{◌∙◌, refl, sym, subst, arith, ℕ}
+use Rattle.kernel.specs.Common.{MakesStep, Step}
 use Rattle.kernel.specs.Lemmas.Turns.{runs_on_none, runs_on_step, runs_on_then}
 use Rattle.kernel.proofs.Flushed.{HaveWaited, all_over, halted_goes, more_taken, none_waited, not_asleep, not_halted, one_asleep, one_idle, one_more}
 use Rattle.kernel.proofs.stepping.Kernel.go_on_somewhere.Goals as goal
