@@ -2,4 +2,5 @@ pub mod BlockLemmas
 mod Kept
 mod LastLemmas
 mod HeldLemmas
+mod PlacedLemmas
 mod TrapLemmas

@@ -10,6 +10,7 @@ pub mod Memory
 pub mod Trap
 pub mod FaultyDisk
 pub mod File
+pub mod Placed
 pub mod FileDisk
 pub mod SyncDisk
 pub mod Lemmas

@@ -5,18 +5,20 @@ ghost use Rattle.std.specs.List.{concat};
 ghost use Rattle.std.specs.IoError.{error_kind};
 ghost use Rattle.std.specs.Io.KnownBytes.{Consumes};
 ghost use Rattle.blocks.specs.Block.{zero_block, block_size};
-ghost use Rattle.blocks.specs.Calls.{HasCountsOf, Holds, IsPlain, ReadsOne, WritesOne};
+ghost use Rattle.blocks.specs.Calls.{HasCountsOf, Holds, IsPlain, ReadsOne, SyncsOne, WritesOne};
 ghost use Rattle.blocks.specs.Disk.{Elapses, IsImage};
 ghost use Rattle.blocks.specs.File.{IsReadFrom, IsWrittenAt, is_disk_size};
 ghost use Rattle.blocks.specs.Held.{IsShadow, LeftSince};
 ghost use Rattle.blocks.specs.Lemmas.Held.{left_whole, shadow_has, shadow_now, shadow_plain};
 
 use crate::floating::Shadow;
-use crate::{BLOCK_SIZE, Block, Disk, DiskFault, FileFault, MemDisk, NoMemory, SyncFault};
+use crate::{
+    BLOCK_SIZE, Block, Disk, DiskFault, FileFault, MemDisk, NoMemory, Placed, PlacedRead, SyncFault,
+};
 use std::alloc::Global;
-use std::fs::{OpenFile, OpenOptions};
+use std::fs::OpenOptions;
 use std::io;
-use std::io::{ErrorKind, Read, Seek, SeekFrom, Write};
+use std::io::ErrorKind;
 use std::rt::Files;
 
 /// The most blocks of a file that is opened as a disk.
@@ -33,8 +35,8 @@ const PIECE: u32 = 64;
 /// last, or what it held at some moment since the last sync. By its code a sync of either syncs the
 /// file.
 ///
-/// Contracts speak of the copy. What the file itself holds after a write of it failed is the
-/// system's affair.
+/// Contracts speak of the copy, and of the file's bytes where it tells these: they are the copy's
+/// until a write fails. Which bytes then stand at its place is the system's affair.
 #[derive(Drop)]
 pub struct FileDisk<F> {
     copy: MemDisk,
@@ -47,8 +49,9 @@ pub struct FileDisk<F> {
     ghost shadowed: { IsShadow holds copy.blocks.items shadow },
 }
 
-impl<F: Read + Write + Seek + OpenFile + Drop> FileDisk<F> {
-    ghost use Rattle.blocks.specs.FileDisk.{IsFirstRead, IsZeroed, file_of};
+impl<F: PlacedRead + Drop> FileDisk<F> {
+    ghost use Rattle.blocks.specs.FileDisk.{IsFirstRead, IsZeroed, Mirrors, file_of};
+    ghost use Rattle.blocks.specs.Placed.{AllRemain, BecomesZero, IsLength};
 
     /// The disk that the file at this path holds, opened for reading and writing. It has 1 to
     /// `MAX_BLOCKS` blocks.
@@ -88,9 +91,11 @@ impl<F: Read + Write + Seek + OpenFile + Drop> FileDisk<F> {
     ///
     /// As those of `open` over an opened file.
     pub fn whole_file(alloc: Global, mut file: F) -> Result<FileDisk<F>, FileFault>
-        ensures { IfOk result (IsFirstRead F.remaining ⟦<FileDisk<F> as Disk>⟧) }
+        ensures read { IfOk result (IsFirstRead F.remaining ⟦<FileDisk<F> as Disk>⟧) }
+        ensures mirrors { AllRemain (F.bytes file) (F.remaining file)
+            → IfOk result (Mirrors F.bytes ⟦<FileDisk<F> as Disk>⟧) }
     {
-        let size = length_of(&mut file)?;
+        let size = file.byte_count().map_err(fault_of)?;
         FileDisk::over_file(alloc, file, size)
     }
 
@@ -112,6 +117,8 @@ impl<F: Read + Write + Seek + OpenFile + Drop> FileDisk<F> {
         ensures writes { IfOk result (λ disk. ⟦<FileDisk<F> as Disk>⟧.write_count disk ≡ 0) }
         ensures faults { IfOk result (λ disk. ⟦<FileDisk<F> as Disk>⟧.fault_count disk ≡ 0) }
         ensures plain { IfOk result (λ disk. IsPlain ⟦<FileDisk<F> as Disk>⟧ disk) }
+        ensures mirrors { AllRemain (F.bytes file) (F.remaining file) → IsLength (F.bytes file) size
+            → IfOk result (Mirrors F.bytes ⟦<FileDisk<F> as Disk>⟧) }
     {
         let count = blocks_of_length(size)?;
         let blocks = read_blocks(alloc, &mut file, count)?;
@@ -132,6 +139,7 @@ impl<F: Read + Write + Seek + OpenFile + Drop> FileDisk<F> {
         size: u32,
     ) -> Result<FileDisk<F>, FileFault>
         ensures made { IfOk result (IsZeroed size ⟦<FileDisk<F> as Disk>⟧) }
+        ensures mirrors { IfOk result (Mirrors F.bytes ⟦<FileDisk<F> as Disk>⟧) }
         ensures exists { IfErr result (λ fault. fault ≢ FileFault.Exists) }
         ensures err { IfErr result (λ fault. fault ≢ FileFault.Length) }
     {
@@ -155,6 +163,9 @@ impl<F: Read + Write + Seek + OpenFile + Drop> FileDisk<F> {
     /// `NoMemory` where memory is refused; `Open` where the file can't be given its length.
     pub fn zeroed(alloc: Global, file: F, size: u32) -> Result<FileDisk<F>, FileFault>
         ensures made { IfOk result (IsZeroed size ⟦<FileDisk<F> as Disk>⟧) }
+        ensures mirrors { IfOk result (Mirrors F.bytes ⟦<FileDisk<F> as Disk>⟧) }
+        ensures bytes { IfOk result (λ disk.
+            BecomesZero (F.bytes file) (F.bytes (file_of disk)) (size * block_size)) }
         ensures exists { IfErr result (λ fault. fault ≢ FileFault.Exists) }
         ensures err { IfErr result (λ fault. fault ≢ FileFault.Length) }
     {
@@ -174,6 +185,7 @@ impl<F: Read + Write + Seek + OpenFile + Drop> FileDisk<F> {
         size: u32,
     ) -> Result<FileDisk<F>, FileFault>
         ensures made { IfOk result (IsZeroed size ⟦<FileDisk<F> as Disk>⟧) }
+        ensures mirrors { IfOk result (Mirrors F.bytes ⟦<FileDisk<F> as Disk>⟧) }
         ensures err { IfErr result (λ fault. fault ≢ FileFault.Length) }
     {
         let blocks = MemDisk::new(rt.alloc(), size)?;
@@ -189,17 +201,19 @@ impl<F: Read + Write + Seek + OpenFile + Drop> FileDisk<F> {
     // The disk of these blocks in a new file, which gets its length.
     fn sized(copy: MemDisk, mut file: F) -> Result<FileDisk<F>, FileFault>
         ensures copy { IfOk result (λ disk. disk.copy ≡ copy) }
+        ensures bytes { IfOk result (λ disk. BecomesZero (F.bytes file) (F.bytes disk.file)
+            (length copy.blocks.items * block_size)) }
         ensures faults { IfOk result (λ disk. disk.faults ≡ 0) }
         ensures plain { IfOk result (λ disk. disk.holds ≡ false) }
         ensures exists { IfErr result (λ fault. fault ≢ FileFault.Exists) }
         ensures err { IfErr result (λ fault. fault ≢ FileFault.Length) }
     {
-        give_length(&mut file, copy.size()).map_err(fault_of)?;
+        file.become_zero(copy.size()).map_err(fault_of)?;
         Ok(FileDisk::over(copy, file))
     }
 }
 
-impl<F: Write + Seek + OpenFile + Drop> FileDisk<F> {
+impl<F: Placed + Drop> FileDisk<F> {
     ghost use Rattle.blocks.specs.FileDisk.{file_of};
 
     /// The same disk, which from here on holds its writes back until a sync. What was written to the
@@ -261,36 +275,6 @@ fn open_file<R: Files>(rt: &R, path: &str, writes: bool) -> Result<R::File, File
         .map_err(fault_of)
 }
 
-// How many bytes a file has that stands at its start, and is left there: of a device up to its end.
-fn length_of<F: Seek + OpenFile>(file: &mut F) -> Result<u64, FileFault> {
-    let found = file.metadata().map_err(fault_of)?;
-    if found.is_file() {
-        return Ok(found.len());
-    }
-    match file.seek(SeekFrom::End(0)) {
-        Ok(end) => {
-            file.seek(SeekFrom::Start(0)).map_err(fault_of)?;
-            Ok(end)
-        }
-        // A pipe has no end to be sought.
-        Err(_) => Ok(found.len()),
-    }
-}
-
-// Gives a file so many blocks of zeroes. A device, which has to have that length, is filled.
-fn give_length<F: Write + Seek + OpenFile>(file: &mut F, size: u32) -> io::Result<()> {
-    let length = size as u64 * BLOCK_SIZE as u64;
-    if file.metadata()?.is_file() || file.seek(SeekFrom::End(0))? != length {
-        file.set_len(0)?;
-        return file.set_len(length);
-    }
-    file.seek(SeekFrom::Start(0))?;
-    for _ in 0..size {
-        file.write_all(&[0; BLOCK_SIZE])?;
-    }
-    Ok(())
-}
-
 // What an error of the system's means: memory that it was refused, or a file that can't be used.
 fn fault_of(error: io::Error) -> FileFault
     ensures memory { error_kind error ≡ ErrorKind.OutOfMemory → result ≡ FileFault.NoMemory }
@@ -329,7 +313,7 @@ fn blocks_of_length(length: u64) -> Result<u32, FileFault>
 }
 
 // Reads so many blocks, some with each read.
-fn read_blocks<F: Read>(
+fn read_blocks<F: PlacedRead>(
     alloc: Global,
     file: &mut F,
     size: u32,
@@ -338,6 +322,7 @@ fn read_blocks<F: Read>(
     ensures image { IfOk result (λ blocks. IsImage blocks.items) }
     ensures bytes { IfOk result (λ blocks. Consumes (F.remaining file.old) (F.remaining file.new)
         (concat blocks.items)) }
+    ensures same { F.bytes file.new ≡ F.bytes file.old }
     ensures err { IfErr result (λ fault. fault ≢ FileFault.Length) }
 {
     let mut piece = zeroes(alloc, PIECE as usize * BLOCK_SIZE)?;
@@ -346,7 +331,7 @@ fn read_blocks<F: Read>(
     while left > 0 {
         let count = left.min(PIECE);
         let bytes = &mut piece[..count as usize * BLOCK_SIZE];
-        file.read_exact(bytes).map_err(fault_of)?;
+        file.read_next(bytes).map_err(fault_of)?;
         add_blocks(&mut blocks, bytes)?;
         left -= count;
     }
@@ -381,18 +366,10 @@ fn add_blocks(blocks: &mut Vec<[u8; BLOCK_SIZE]>, bytes: &[u8]) -> Result<(), No
     Ok(())
 }
 
-// Writes the bytes of a block at its place.
-fn write_through<F: Write + Seek>(file: &mut F, block: u32, from: &Block) -> io::Result<()>
-    ensures { OnOk result (IsWrittenAt F.stream_position F.contents file.old file.new
-        (block * block_size) from.now) }
-{
-    file.seek(SeekFrom::Start(block as u64 * BLOCK_SIZE as u64))?;
-    file.write_all(from.as_slice())
-}
-
-impl<F: Write + Seek + OpenFile + Drop> Disk for FileDisk<F> {
+impl<F: Placed + Drop> Disk for FileDisk<F> {
     ghost use Rattle.blocks.specs.Memory.{writes_fit};
-    ghost use Rattle.blocks.specs.FileDisk.{file_of};
+    ghost use Rattle.blocks.specs.FileDisk.{Mirrors, file_of};
+    ghost use Rattle.blocks.specs.Placed.{WritesInPlace};
 
     type Name = bool;
 
@@ -445,8 +422,15 @@ impl<F: Write + Seek + OpenFile + Drop> Disk for FileDisk<F> {
         self.holds
     }
 
-    fn sync(&mut self) -> Result<(), SyncFault> {
-        if self.file.sync_data().is_err() {
+    /// Leaves the file's bytes alone.
+    fn sync(&mut self) -> Result<(), SyncFault>
+        // As of each disk.
+        ensures syncs { SyncsOne ⟦<FileDisk<F> as Disk>⟧ result self.old self.new }
+
+        // Of this one.
+        ensures file { file_of self.new ≡ file_of self.old }
+    {
+        if self.file.sync().is_err() {
             self.faults = self.faults.saturating_add(1);
             return Err(SyncFault);
         }
@@ -470,7 +454,7 @@ impl<F: Write + Seek + OpenFile + Drop> Disk for FileDisk<F> {
     }
 
     /// Fails where the file can't be written at the block's place. Reads then still give the
-    /// block as it was.
+    /// block as it was. No other byte of the file is changed.
     fn write(&mut self, block: u32, from: &Block) -> Result<(), DiskFault>
         requires { block < length (⟦<FileDisk<F> as Disk>⟧.image self.old) }
 
@@ -479,12 +463,17 @@ impl<F: Write + Seek + OpenFile + Drop> Disk for FileDisk<F> {
         ensures fault { IfErr result (λ fault. fault.0 ≡ block) }
 
         // Of this one.
-        ensures file { OnOk result (IsWrittenAt F.stream_position F.contents
+        ensures file { OnOk result (IsWrittenAt F.position F.contents
             (file_of self.old) (file_of self.new) (block * block_size) from.now) }
+        ensures bytes { WritesInPlace (F.bytes (file_of self.old)) (F.bytes (file_of self.new))
+            (block * block_size) from.now result }
+        ensures mirrors { OnOk result (Mirrors F.bytes ⟦<FileDisk<F> as Disk>⟧ self.old
+            → Mirrors F.bytes ⟦<FileDisk<F> as Disk>⟧ self.new) }
         ensures keeps { OnErr result
             (⟦<FileDisk<F> as Disk>⟧.image self.new ≡ ⟦<FileDisk<F> as Disk>⟧.image self.old) }
     {
-        if write_through(&mut self.file, block, from).is_err() {
+        let place = block as u64 * BLOCK_SIZE as u64;
+        if self.file.write_at(place, from.as_slice()).is_err() {
             self.faults = self.faults.saturating_add(1);
             return Err(DiskFault(block));
         }
@@ -494,3 +483,6 @@ impl<F: Write + Seek + OpenFile + Drop> Disk for FileDisk<F> {
         Ok(())
     }
 }
+
+#[cfg(test)]
+mod tests;

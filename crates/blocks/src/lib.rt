@@ -12,6 +12,7 @@ mod held;
 mod memory;
 mod moments;
 mod past;
+mod placed;
 mod sync;
 
 pub use block::{BLOCK_SIZE, Block};
@@ -20,4 +21,5 @@ pub use errors::{DiskFault, FileFault, NoMemory, SyncFault};
 pub use faulty::{FaultyDisk, Kind, Trap};
 pub use file::{FileDisk, MAX_BLOCKS};
 pub use memory::MemDisk;
+pub use placed::{Placed, PlacedRead};
 pub use sync::SyncDisk;
