@@ -63,7 +63,7 @@ pub record IsAdding {D N : Type 0} (disk : Ghosts D N) (op : Op) (r : Step) (k m
   pub call : IsCall disk 0 op r k m
   pub others : OthersWait k.intake call.i 0
 
-pub is_adding : {D N : Type 0} (disk : Ghosts D N) (op : Op) (r : Step) (k l m : Plain D) → IsInside disk.fault_count k → length k.world.journal.list < 2 ^ 32 → has_room op k.store.volume.log ≡ true → l ≡ with_intake k l.intake → waiting l.intake 0 ≡ waiting k.intake 0 ++ op ∷ [] → polled l.intake 0 ≡ polled k.intake 0 → OthersWait k.intake l.intake 0
+pub is_adding : {D N : Type 0} (disk : Ghosts D N) (op : Op) (r : Step) (k l m : Plain D) → IsInside disk.fault_count k → length k.world.journal.list < 2 ^ 63 → has_room op k.store.volume.log ≡ true → l ≡ with_intake k l.intake → waiting l.intake 0 ≡ waiting k.intake 0 ++ op ∷ [] → polled l.intake 0 ≡ polled k.intake 0 → OthersWait k.intake l.intake 0
     → Known disk plain_queues plain_herald l → Known disk plain_queues plain_herald m → MakesSteps disk plain_queues plain_herald 0 r l m → IsAdding disk op r k m
 unfolding is_call
 is_adding disk op r k l m inside few room same waits fetched others known_then known_now makes =

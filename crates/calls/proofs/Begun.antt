@@ -53,7 +53,7 @@ use Rattle.calls.proofs.Keeping.{leaves_before, settled}
 pub record IsBeginning {D N : Type 0} (disk : Ghosts D N) (r : Step) (k m : Plain D) : Type 0 where
   pub i : QueueIntake
   pub rests : Rests disk.fault_count k
-  pub few : length k.world.journal.list < 2 ^ 32
+  pub few : length k.world.journal.list < 2 ^ 63
   pub waits : waiting i 1 ≡ waiting k.intake 1 ++ anchor ∷ []
   pub fetched : polled i 1 ≡ polled k.intake 1
   pub others : OthersWait k.intake i 1
@@ -63,7 +63,7 @@ pub record IsBeginning {D N : Type 0} (disk : Ghosts D N) (r : Step) (k m : Plai
   pub known_now : Known disk plain_queues plain_herald m
   pub makes : MakesPlainStep disk 1 r (with_intake k i) m
 
-pub is_beginning : {D N : Type 0} (disk : Ghosts D N) (r : Step) (k l m : Plain D) → Rests disk.fault_count k → length k.world.journal.list < 2 ^ 32 → l ≡ with_intake k l.intake → waiting l.intake 1 ≡ waiting k.intake 1 ++ anchor ∷ [] → polled l.intake 1 ≡ polled k.intake 1 → OthersWait k.intake l.intake 1
+pub is_beginning : {D N : Type 0} (disk : Ghosts D N) (r : Step) (k l m : Plain D) → Rests disk.fault_count k → length k.world.journal.list < 2 ^ 63 → l ≡ with_intake k l.intake → waiting l.intake 1 ≡ waiting k.intake 1 ++ anchor ∷ [] → polled l.intake 1 ≡ polled k.intake 1 → OthersWait k.intake l.intake 1
     → Known disk plain_queues plain_herald k → IfNone k.store.volume.fault (IsLog k.store.volume.log) → Known disk plain_queues plain_herald l → Known disk plain_queues plain_herald m → MakesPlainStep disk 1 r l m → IsBeginning disk r k m
 is_beginning disk r k l m rests few same waits fetched others known log known_then known_now makes = record {
   i = l.intake;

@@ -40,14 +40,14 @@ pub record IsCall {D N : Type 0} (disk : Ghosts D N) (p : ℕ) (op : Op) (r : St
   pub own : IsFetched k p
   pub unshut : k.world.is_shut ≡ false
   pub faultless : disk.fault_count k.store.volume.device ≡ disk.fault_count k.opening
-  pub few : length k.world.journal.list < 2 ^ 32
+  pub few : length k.world.journal.list < 2 ^ 63
   pub waits : waiting i p ≡ waiting k.intake p ++ op ∷ []
   pub fetched : polled i p ≡ polled k.intake p
   pub known_then : Known disk plain_queues plain_herald (with_intake k i)
   pub known_now : Known disk plain_queues plain_herald m
   pub makes : MakesSteps disk plain_queues plain_herald p r (with_intake k i) m
 
-unfoldable pub is_call : {D N : Type 0} (disk : Ghosts D N) (p : ℕ) (op : Op) (r : Step) (k l m : Plain D) → p < length k.world.processes → (process k.world p).at ≡ at.Idle → IsFetched k p → k.world.is_shut ≡ false → disk.fault_count k.store.volume.device ≡ disk.fault_count k.opening → length k.world.journal.list < 2 ^ 32
+unfoldable pub is_call : {D N : Type 0} (disk : Ghosts D N) (p : ℕ) (op : Op) (r : Step) (k l m : Plain D) → p < length k.world.processes → (process k.world p).at ≡ at.Idle → IsFetched k p → k.world.is_shut ≡ false → disk.fault_count k.store.volume.device ≡ disk.fault_count k.opening → length k.world.journal.list < 2 ^ 63
     → l ≡ with_intake k l.intake → waiting l.intake p ≡ waiting k.intake p ++ op ∷ [] → polled l.intake p ≡ polled k.intake p → Known disk plain_queues plain_herald l → Known disk plain_queues plain_herald m → MakesSteps disk plain_queues plain_herald p r l m → IsCall disk p op r k m
 is_call disk p op r k l m inside idle own unshut faultless few same waits fetched known_then known_now makes = record {
   i = l.intake;

@@ -49,7 +49,7 @@ use Rattle.calls.proofs.Unshown.{untouched_since}
 -- Steps of the anchor made m of k, where a transaction was under way; the last of them answered r.
 pub record IsCommit {D N : Type 0} (disk : Ghosts D N) (r : Step) (k m : Plain D) : Type 0 where
   pub inside : IsInside disk.fault_count k
-  pub few : length k.world.journal.list < 2 ^ 32
+  pub few : length k.world.journal.list < 2 ^ 63
   pub known_then : Known disk plain_queues plain_herald k
   pub known_now : Known disk plain_queues plain_herald m
   pub makes : MakesSteps disk plain_queues plain_herald 1 r k m

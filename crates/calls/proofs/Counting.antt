@@ -95,7 +95,7 @@ own_few p (e ∷ es) = by (e.pid == p) (own_few p es)
     by false rest = omega (arith, rest)
 
 -- an operation is always handed in: none waits, and numbers are left
-pub is_handed_in : {D N : Type 0} (disk : Ghosts D N) (k : Plain D) (p : ℕ) → Known disk plain_queues plain_herald k → p < length k.world.processes → (process k.world p).at ≡ at.Idle → IsFetched k p → length k.world.journal.list < 2 ^ 32 →
+pub is_handed_in : {D N : Type 0} (disk : Ghosts D N) (k : Plain D) (p : ℕ) → Known disk plain_queues plain_herald k → p < length k.world.processes → (process k.world p).at ≡ at.Idle → IsFetched k p → length k.world.journal.list < 2 ^ 63 →
     (16 ≤ length (waiting k.intake p)) ⊎ ((process k.world p).begun + length (waiting k.intake p) + 1 ≡ 2 ^ 64) → ⊥
 is_handed_in disk k p known inside idle fetched few full =
     let none : length (waiting k.intake p) ≡ 0 = ap (λ (l : List Op). length l) fetched.waits in
@@ -108,7 +108,7 @@ is_handed_in disk k p known inside idle fetched few full =
     ]
 
 -- where nothing became of the operation, room is left for its answer: all were fetched
-pub room_left : {D N : Type 0} (disk : Ghosts D N) (k m : Plain D) (p : ℕ) → Known disk plain_queues plain_herald m → p < length k.world.processes → LeavesOthers p k m → polled k.intake p ≡ length (own p k.world.journal.list) → length k.world.journal.list < 2 ^ 32
+pub room_left : {D N : Type 0} (disk : Ghosts D N) (k m : Plain D) (p : ℕ) → Known disk plain_queues plain_herald m → p < length k.world.processes → LeavesOthers p k m → polled k.intake p ≡ length (own p k.world.journal.list) → length k.world.journal.list < 2 ^ 63
     → (process m.world p).at ≡ at.Idle → m.world.journal.list ≡ k.world.journal.list → nat_lt (length (answers m.intake p)) 16 ≡ true
 room_left disk k m p known inside rest fetched few idle list =
     let less = own_few p k.world.journal.list in
@@ -140,7 +140,7 @@ pub record IsAnswered {D : Type 0} (p : ℕ) (op : Op) (k m : Plain D) : Type 0 
   pub replied : entry.reply ≡ Some answer.reply
 
 module _ {D N : Type 0} (disk : Ghosts D N) (p : ℕ) (op : Op) (k m : Plain D) (inside : p < length k.world.processes) (a : Phase) (stands : (process k.world p).at ≡ a) (free : IsFree a)
-    (known : Known disk plain_queues plain_herald k) (known_now : Known disk plain_queues plain_herald m) (polled_all : polled k.intake p ≡ length (own p k.world.journal.list)) (few : length k.world.journal.list < 2 ^ 32)
+    (known : Known disk plain_queues plain_herald k) (known_now : Known disk plain_queues plain_herald m) (polled_all : polled k.intake p ≡ length (own p k.world.journal.list)) (few : length k.world.journal.list < 2 ^ 63)
     (one_more : length (pending_at a) + length (waiting k.intake p) ≡ 1) (P : Where → StoreState D → Type 0) (rest : LeavesOthers p k m) (over : IsOver p op P k.world.journal.list m.store m.world) where
   pub is_answered : IsAnswered p op k m
   is_answered =
@@ -178,7 +178,7 @@ module _ {D N : Type 0} (disk : Ghosts D N) (p : ℕ) (op : Op) (k m : Plain D) 
       }
 
 -- once the answer is fetched, all are
-pub fetched_again : {D : Type 0} (p : ℕ) (op : Op) (k m n : Plain D) → IsAnswered p op k m → length k.world.journal.list < 2 ^ 32 → n.world ≡ m.world → waiting n.intake p ≡ waiting m.intake p
+pub fetched_again : {D : Type 0} (p : ℕ) (op : Op) (k m n : Plain D) → IsAnswered p op k m → length k.world.journal.list < 2 ^ 63 → n.world ≡ m.world → waiting n.intake p ≡ waiting m.intake p
     → polled n.intake p ≡ polled_after (first_in (answers m.intake p)) (polled m.intake p) → IsFetched n p
 fetched_again p op k m n is few world waits fetched =
     let fetched_one : polled n.intake p ≡ min (polled m.intake p + 1) (2 ^ 64 - 1) = fetched ∙ ap (λ (l : List Answer). polled_after (first_in l) (polled m.intake p)) is.only in

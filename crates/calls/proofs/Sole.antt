@@ -62,7 +62,7 @@ pub record IsSole {D N : Type 0} (disk : Ghosts D N) (op : Op) (r : Step) (k m :
   pub known : Known disk plain_queues plain_herald k
   pub call : IsCall disk 0 op r k m
 
-pub is_sole : {D N : Type 0} (disk : Ghosts D N) (op : Op) (r : Step) (k l m : Plain D) → Rests disk.fault_count k → call_count k < 2 ^ 32 → l ≡ with_intake k l.intake → waiting l.intake 0 ≡ waiting k.intake 0 ++ op ∷ [] → polled l.intake 0 ≡ polled k.intake 0
+pub is_sole : {D N : Type 0} (disk : Ghosts D N) (op : Op) (r : Step) (k l m : Plain D) → Rests disk.fault_count k → call_count k < 2 ^ 63 → l ≡ with_intake k l.intake → waiting l.intake 0 ≡ waiting k.intake 0 ++ op ∷ [] → polled l.intake 0 ≡ polled k.intake 0
     → Known disk plain_queues plain_herald k → Known disk plain_queues plain_herald l → Known disk plain_queues plain_herald m → MakesSteps disk plain_queues plain_herald 0 r l m → IsSole disk op r k m
 is_sole disk op r k l m rests few same waits fetched known known_then known_now makes =
     let one = rests.one in
@@ -244,7 +244,7 @@ module _ {D N : Type 0} (disk : Ghosts D N) (op : Op) (r : Step) (k m : Plain D)
       by step.Halted is made comes = halts_not m.store.volume.fault well made.acts.device.halted
 
 -- once the answer is fetched, the kernel rests
-pub rests_again : {D N : Type 0} (disk : Ghosts D N) (op : Op) (k m n : Plain D) → Known disk plain_queues plain_herald m → IsDone op k m → call_count k < 2 ^ 32 → m.store.volume.fault ≡ None → n ≡ with_intake m n.intake → waiting n.intake 0 ≡ waiting m.intake 0
+pub rests_again : {D N : Type 0} (disk : Ghosts D N) (op : Op) (k m n : Plain D) → Known disk plain_queues plain_herald m → IsDone op k m → call_count k < 2 ^ 63 → m.store.volume.fault ≡ None → n ≡ with_intake m n.intake → waiting n.intake 0 ≡ waiting m.intake 0
     → polled n.intake 0 ≡ polled_after (first_in (answers m.intake 0)) (polled m.intake 0) → Rests disk.fault_count n
 rests_again disk op k m n known done few well same waits fetched =
     let now : IsFetched n 0 = fetched_again 0 op k m n done.is few (ap (λ (s : Plain _). s.world) same) waits fetched in

@@ -31,7 +31,7 @@ pub type Sole<D> = Kernel<D, QueueIntake, PlainHerald>;
 /// After either no other call may be made.
 pub fn call<D: Disk>(kernel: &mut Sole<D>, op: Op) -> Result<Reply, CallFault>
     requires rests { Rests D.fault_count kernel.old }
-    requires few { call_count kernel.old < 2 ^ 32 }
+    requires few { call_count kernel.old < 2 ^ 63 }
     ensures rests { OnOk result (Rests D.fault_count kernel.new) }
     ensures calls { IfOk result (Calls D.image op kernel.old kernel.new) }
     ensures refused { IfErr result (IsUncalled D.Disk kernel.old kernel.new) }

@@ -26,7 +26,7 @@ use std::alloc::Global;
 /// Those of `call`.
 pub fn create<D: Disk>(kernel: &mut Sole<D>, kind: u16) -> Result<Option<u32>, CallFault>
     requires rests { Rests D.fault_count kernel.old }
-    requires few { call_count kernel.old < 2 ^ 32 }
+    requires few { call_count kernel.old < 2 ^ 63 }
     requires kind { IsTrue (is_kind kind) }
     ensures creates { IfOk result (λ made.
         Creates kind made (files_on D.image kernel.old) (files_on D.image kernel.new)) }
@@ -50,7 +50,7 @@ pub fn create<D: Disk>(kernel: &mut Sole<D>, kind: u16) -> Result<Option<u32>, C
 /// Those of `call`.
 pub fn remove<D: Disk>(kernel: &mut Sole<D>, i: u32) -> Result<(), CallFault>
     requires rests { Rests D.fault_count kernel.old }
-    requires few { call_count kernel.old < 2 ^ 32 }
+    requires few { call_count kernel.old < 2 ^ 63 }
     requires there { file_in (files_on D.image kernel.old) i ≢ None }
     ensures removes { OnOk result
         (Removes i (files_on D.image kernel.old) (files_on D.image kernel.new)) }
@@ -73,7 +73,7 @@ pub fn remove<D: Disk>(kernel: &mut Sole<D>, i: u32) -> Result<(), CallFault>
 /// Those of `call`.
 pub fn empty<D: Disk>(kernel: &mut Sole<D>, i: u32) -> Result<(), CallFault>
     requires rests { Rests D.fault_count kernel.old }
-    requires few { call_count kernel.old < 2 ^ 32 }
+    requires few { call_count kernel.old < 2 ^ 63 }
     requires there { file_in (files_on D.image kernel.old) i ≢ None }
     ensures empties { OnOk result
         (Empties i (files_on D.image kernel.old) (files_on D.image kernel.new)) }
@@ -103,7 +103,7 @@ pub fn append<D: Disk>(
     bytes: &[u8],
 ) -> Result<bool, CallFault>
     requires rests { Rests D.fault_count kernel.old }
-    requires few { call_count kernel.old < 2 ^ 32 }
+    requires few { call_count kernel.old < 2 ^ 63 }
     requires room { MayAppend (form_of (image_on D.image kernel.old))
         (file_in (files_on D.image kernel.old) i) off (length bytes.now) }
     ensures appends { IfOk result (λ all.

@@ -11,7 +11,7 @@ use model::types::{Op, Reply};
 /// Makes a file with these bytes, and reads up to 100 of them back.
 pub fn write_and_read<D: Disk>(kernel: &mut Sole<D>, bytes: Content) -> anyhow::Result<Content>
     requires rests { Rests D.fault_count kernel.old }
-    requires few { call_count kernel.old + 3 ≤ 2 ^ 32 }
+    requires few { call_count kernel.old + 3 ≤ 2 ^ 63 }
 {
     let Reply::Made(number) = call(kernel, Op::Create(2))? else {
         bail!("each number is taken");

@@ -58,7 +58,7 @@ fn with_note(alloc: Global) -> anyhow::Result<MemDisk> {
 
 fn link_again<D: Disk>(alloc: Global, kernel: &mut Sole<D>) -> anyhow::Result<()>
     requires rests { Rests D.fault_count kernel.old }
-    requires few { call_count kernel.old + 2 ≤ 2 ^ 32 }
+    requires few { call_count kernel.old + 2 ≤ 2 ^ 63 }
 {
     let root = Op::Read(DIRECTORY, 0, DIRECTORY_SIZE as u32);
     let Reply::Bytes(bytes) = call(kernel, root)? else {

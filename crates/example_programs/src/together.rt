@@ -16,7 +16,7 @@ pub fn make_file<D: Disk>(
     bytes: Content,
 ) -> Result<(Reply, Reply), TransactionFault>
     requires rests { Rests D.fault_count kernel.old }
-    requires few { call_count kernel.old + 3 < 2 ^ 32 }
+    requires few { call_count kernel.old + 3 < 2 ^ 63 }
 {
     make_both(alloc, kernel, Op::Create(2), Op::Write(1, 0, bytes))
 }

@@ -131,7 +131,7 @@ module _ {D N : Type 0} (disk : Ghosts D N) where
 
   -- ---- the beginning and the end
 
-  pub begin_goes : (k m : Plain D) (left : ℕ) → call_count k + left ≤ 2 ^ 32 → IsInside disk.fault_count m → m.opening ≡ k.opening → Begins disk.image k m →
+  pub begin_goes : (k m : Plain D) (left : ℕ) → call_count k + left ≤ 2 ^ 63 → IsInside disk.fault_count m → m.opening ≡ k.opening → Begins disk.image k m →
       HasBegun disk k m left
   begin_goes k m left few inside opening begins =
       let count : call_count m ≡ call_count k = ap (λ (es : List Entry). length es) begins.list in

@@ -29,7 +29,7 @@ form_seen image k = form_of (image k.opening)
 -- A transaction is under way, in which so many calls may be made yet, its commit among them.
 pub record IsUnderWay {D N : Type 0} (disk : Ghosts D N) (k : Plain D) (left : ℕ) : Type 0 where
   pub inside : IsInside disk.fault_count k
-  pub few : call_count k + left ≤ 2 ^ 32
+  pub few : call_count k + left ≤ 2 ^ 63
   pub files : HasFiles disk.image k (files_seen disk.image k)
 
 -- The transaction of k goes on in m: nothing was written.

@@ -22,14 +22,14 @@ use Rattle.names.specs.TreeChanges.{directory_file}
 -- No transaction is under way, so many calls may be made yet, and the files on the disk are a tree.
 pub record IsReady {D N : Type 0} (disk : Ghosts D N) (k : Plain D) (left : ℕ) : Type 0 where
   pub rests : Rests disk.fault_count k
-  pub few : call_count k + left ≤ 2 ^ 32
+  pub few : call_count k + left ≤ 2 ^ 63
   pub sound : IsSound (image_on disk.image k)
   pub tree : IsTree (files_of (image_on disk.image k))
 
 -- the same of files that may be no tree
 pub record IsIdle {D N : Type 0} (disk : Ghosts D N) (k : Plain D) (left : ℕ) : Type 0 where
   pub rests : Rests disk.fault_count k
-  pub few : call_count k + left ≤ 2 ^ 32
+  pub few : call_count k + left ≤ 2 ^ 63
 
 -- there is no file, but for one that may be the root
 abbrev pub HasNoFile : Files → Type 0

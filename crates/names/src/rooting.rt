@@ -19,14 +19,14 @@ use model::types::{Op, Reply};
 use std::alloc::Global;
 
 // The calls that a tree may make.
-const MOST_CALLS: u32 = 2147483648;
+const MOST_CALLS: u64 = 1 << 62;
 
 impl<D: Disk> Tree<D> {
     /// A tree over a kernel between two transactions. That the files on its disk are a tree, or that
     /// `make_root` is to make them one, the caller knows.
     pub fn over(kernel: Pair<D>) -> Tree<D>
         requires rests { Rests D.fault_count kernel }
-        requires few { call_count kernel < 2 ^ 31 }
+        requires few { call_count kernel < 2 ^ 62 }
         ensures kernel { result.kernel ≡ kernel }
         ensures idle { IsIdle D.Disk result.kernel result.calls_left }
         ensures some { 0 < result.calls_left }

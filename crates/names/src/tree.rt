@@ -16,7 +16,7 @@ use std::alloc::Global;
 pub struct Tree<D: Disk> {
     pub(crate) kernel: Pair<D>,
     // How many calls may be made yet; none behind one that failed.
-    pub(crate) calls_left: u32,
+    pub(crate) calls_left: u64,
 }
 
 impl<D: Disk> Tree<D> {

@@ -34,7 +34,7 @@ use Rattle.transfer.proofs.PlaceLemmas.{appended_put, emptied_put, made_put, siz
 
 module _ {D N : Type 0} (disk : Ghosts D N) where
   -- a transaction that was just begun
-  pub midst_begun : (k a : Plain D) → call_count k ≤ 2 ^ 31 → IsInside disk.fault_count a → Begins disk.image k a → a.opening ≡ k.opening → IsMidst disk 0 (files_on disk.image a) a
+  pub midst_begun : (k a : Plain D) → call_count k ≤ 2 ^ 62 → IsInside disk.fault_count a → Begins disk.image k a → a.opening ≡ k.opening → IsMidst disk 0 (files_on disk.image a) a
   midst_begun k a few inside begins opening =
       let same : image_on disk.image a ≡ image_on disk.image k = begins.same in
       let none = begins.none in

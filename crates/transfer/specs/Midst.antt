@@ -24,7 +24,7 @@ pub record IsMidst {D N : Type 0} (disk : Ghosts D N) (count : ℕ) (made : File
       → labels_made disk.image k i ≡ labels_due (image_on disk.image k) i
   pub form : form_of (image_on disk.image k) ≡ form_of (disk.image k.opening)
   pub logged : length k.store.volume.log.homes ≤ 9 * count
-  pub few : call_count k ≤ 2 ^ 31 + count
+  pub few : call_count k ≤ 2 ^ 62 + count
 
 -- the disk has the image that it had
 abbrev pub IsSame : {D N : Type 0} → Ghosts D N → Plain D → Plain D → Type 0

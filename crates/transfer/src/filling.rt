@@ -121,7 +121,7 @@ fn write_file<D: Disk, E: Disk>(
 ) -> Result<(), CopyFault>
     requires file { IsFileOf (D.image old.old) source.now i }
     requires form { source.now.form ≡ form_of (E.image kernel.old.opening) }
-    requires few { call_count kernel.old < 2 ^ 31 }
+    requires few { call_count kernel.old < 2 ^ 62 }
     requires empty { Holds E.Disk (call_count kernel.old) (files_on E.image kernel.old) kernel.old
         × (size_of (file_in (files_on E.image kernel.old) i) ≡ Some 0) }
     ensures written { OnOk result (Holds E.Disk (call_count kernel.old + 21935)

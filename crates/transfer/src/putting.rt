@@ -70,7 +70,7 @@ fn put<D: Disk, P: Meter>(
     twice: bool,
     progress: &mut P,
 ) -> Result<u32, PutRefusal>
-    requires ready { MayCall D.Disk (2 ^ 31) kernel.old }
+    requires ready { MayCall D.Disk (2 ^ 62) kernel.old }
     requires there { HasOld (files_on D.image kernel.old) inum }
     requires short { length bytes.now ≤ greatest_size (form_of (image_on D.image kernel.old)) }
     ensures put { IfOk result (λ number. CallsTo twice D.Disk inum bytes.now

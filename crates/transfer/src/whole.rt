@@ -70,7 +70,7 @@ fn put_once<D: Disk, P: Meter>(
     requires few { length bytes.now ≤ transfer_limit }
     requires rests { Rests D.fault_count kernel.old }
     requires opened { (kernel.old.store.volume.device ≡ kernel.old.opening)
-        × (call_count kernel.old ≤ 2 ^ 31) }
+        × (call_count kernel.old ≤ 2 ^ 62) }
     requires there { HasOld (files_on D.image kernel.old) inum }
     requires short { length bytes.now ≤ greatest_size (form_of (image_on D.image kernel.old)) }
     ensures put { IfOk result (λ number.
@@ -102,7 +102,7 @@ pub fn put_whole<D: Disk>(
 ) -> Result<Outcome, TransactionFault>
     requires rests { Rests D.fault_count kernel.old }
     requires opened { (kernel.old.store.volume.device ≡ kernel.old.opening)
-        × (call_count kernel.old ≤ 2 ^ 31) }
+        × (call_count kernel.old ≤ 2 ^ 62) }
     requires there { HasOld (files_on D.image kernel.old) inum }
     requires few { length bytes.now ≤ transfer_limit }
     requires short { length bytes.now ≤ greatest_size (form_of (image_on D.image kernel.old)) }

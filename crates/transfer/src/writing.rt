@@ -41,7 +41,7 @@ pub fn put_bytes<D: Disk, P: Meter>(
     twice: bool,
     progress: &mut P,
 ) -> Result<Outcome, CallFault>
-    requires ready { MayCall D.Disk (2 ^ 31) kernel.old }
+    requires ready { MayCall D.Disk (2 ^ 62) kernel.old }
     requires there { HasOld (files_on D.image kernel.old) inum }
     requires short { length bytes.now ≤ greatest_size (form_of (image_on D.image kernel.old)) }
     ensures comes { IfOk result (PutComes twice (image_on D.image kernel.old) inum bytes.now
@@ -74,7 +74,7 @@ fn go_round<D: Disk, P: Meter>(
     bytes: &[u8],
     progress: &mut P,
 ) -> Result<Outcome, CallFault>
-    requires ready { MayCall D.Disk (2 ^ 31) kernel.old }
+    requires ready { MayCall D.Disk (2 ^ 62) kernel.old }
     requires there { file_in (files_on D.image kernel.old) number ≢ None }
     requires short { length bytes.now ≤ greatest_size (form_of (image_on D.image kernel.old)) }
     ensures comes { IfOk result (PutComes true (image_on D.image kernel.old) (Some number)
@@ -104,12 +104,12 @@ fn add<D: Disk, P: Meter>(
     bytes: &[u8],
     progress: &mut P,
 ) -> Result<Outcome, CallFault>
-    requires ready { MayCall D.Disk (2 ^ 31) kernel.old }
+    requires ready { MayCall D.Disk (2 ^ 62) kernel.old }
     requires short { length bytes.now ≤ greatest_size (form_of (image_on D.image kernel.old)) }
     ensures comes { IfOk result (Comes (image_on D.image kernel.old) None bytes.now
         (image_on D.image kernel.new)) }
     ensures answered { OnOk result (AreAnswered D.Disk kernel.old kernel.new) }
-    ensures few { OnOk result (call_count kernel.new ≤ 2 ^ 31 + 2 ^ 16) }
+    ensures few { OnOk result (call_count kernel.new ≤ 2 ^ 62 + 2 ^ 16) }
     ensures refused { IfErr result (IsCutOff D.Disk None bytes.now
         kernel.old kernel.new) }
     ensures stays { StaysPlace D.Disk (image_on D.image kernel.old) None bytes.now
@@ -133,7 +133,7 @@ fn replace<D: Disk, P: Meter>(
     number: u32,
     progress: &mut P,
 ) -> Result<Outcome, CallFault>
-    requires ready { MayCall D.Disk (2 ^ 31 + 2 ^ 16) kernel.old }
+    requires ready { MayCall D.Disk (2 ^ 62 + 2 ^ 16) kernel.old }
     requires there { file_in (files_on D.image kernel.old) number ≢ None }
     requires short { length bytes.now ≤ greatest_size (form_of (image_on D.image kernel.old)) }
     ensures comes { IfOk result (Comes (image_on D.image kernel.old) (Some number) bytes.now
@@ -159,13 +159,13 @@ fn refill<D: Disk, P: Meter>(
     number: u32,
     progress: &mut P,
 ) -> Result<bool, CallFault>
-    requires ready { MayCall D.Disk (2 ^ 31 + 2 ^ 16) kernel.old }
+    requires ready { MayCall D.Disk (2 ^ 62 + 2 ^ 16) kernel.old }
     requires there { file_in (files_on D.image kernel.old) number ≢ None }
     requires short { length bytes.now ≤ greatest_size (form_of (image_on D.image kernel.old)) }
     ensures puts { IfOk result (λ all. Puts all number bytes.now (image_on D.image kernel.old)
         (image_on D.image kernel.new)) }
     ensures answered { OnOk result (AreAnswered D.Disk kernel.old kernel.new) }
-    ensures few { OnOk result (call_count kernel.new < 2 ^ 32) }
+    ensures few { OnOk result (call_count kernel.new < 2 ^ 63) }
     ensures refused { IfErr result (IsCutOff D.Disk (Some number) bytes.now
         kernel.old kernel.new) }
     ensures stays { StaysPlace D.Disk (image_on D.image kernel.old) (Some number) bytes.now
@@ -183,7 +183,7 @@ fn append_all<D: Disk, P: Meter>(
     bytes: &[u8],
     progress: &mut P,
 ) -> Result<bool, CallFault>
-    requires ready { MayCall D.Disk (2 ^ 31 + 2 ^ 16 + 1) kernel.old }
+    requires ready { MayCall D.Disk (2 ^ 62 + 2 ^ 16 + 1) kernel.old }
     requires empty { size_of (file_in (files_on D.image kernel.old) number) ≡ Some 0 }
     requires short { length bytes.now ≤ greatest_size (form_of (image_on D.image kernel.old)) }
     ensures puts { IfOk result (λ all. Puts all number bytes.now (image_on D.image kernel.old)

@@ -26,7 +26,7 @@ pub type Pair<D> = Kernel<D, QueueIntake, PlainHerald>;
 /// After either no other call may be made.
 pub fn begin<D: Disk>(alloc: Global, kernel: &mut Pair<D>) -> Result<(), TransactionFault>
     requires rests { Rests D.fault_count kernel.old }
-    requires few { call_count kernel.old < 2 ^ 32 }
+    requires few { call_count kernel.old < 2 ^ 63 }
     ensures inside { OnOk result (IsInside D.fault_count kernel.new) }
     ensures begins { OnOk result (Begins D.image kernel.old kernel.new) }
     ensures refused { IfErr result (IsUnbegun D.Disk kernel.old kernel.new) }

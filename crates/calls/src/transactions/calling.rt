@@ -30,7 +30,7 @@ use ports::{PlainHerald, QueueIntake};
 /// transaction: `abandon` hands it back.
 pub fn call<D: Disk>(kernel: &mut Pair<D>, op: Op) -> Result<Reply, TransactionFault>
     requires inside { IsInside D.fault_count kernel.old }
-    requires few { call_count kernel.old < 2 ^ 32 }
+    requires few { call_count kernel.old < 2 ^ 63 }
     ensures inside { OnOk result (IsInside D.fault_count kernel.new) }
     ensures adds { IfOk result (Adds D.image op kernel.old kernel.new) }
     ensures refused { IfErr result (IsUncalled D.Disk op kernel.old kernel.new) }

@@ -23,7 +23,7 @@ use ports::{PlainHerald, QueueIntake};
 /// no other fault is answered: an operation of the anchor waits for nobody, and takes no memory.
 pub fn commit<D: Disk>(kernel: &mut Pair<D>) -> Result<(), TransactionFault>
     requires inside { IsInside D.fault_count kernel.old }
-    requires few { call_count kernel.old < 2 ^ 32 }
+    requires few { call_count kernel.old < 2 ^ 63 }
     ensures rests { OnOk result (Rests D.fault_count kernel.new) }
     ensures commits { OnOk result (Commits D.image kernel.old kernel.new) }
     ensures refused { IfErr result (IsUncommitted D.Disk kernel.old kernel.new) }

@@ -31,7 +31,7 @@ pub fn make_both<D: Disk>(
     second: Op,
 ) -> Result<(Reply, Reply), TransactionFault>
     requires rests { Rests D.fault_count kernel.old }
-    requires few { call_count kernel.old + 3 < 2 ^ 32 }
+    requires few { call_count kernel.old + 3 < 2 ^ 63 }
     ensures rests { OnOk result (Rests D.fault_count kernel.new) }
     ensures makes { IfOk result (λ replies.
         MakesBoth D.image first second kernel.old kernel.new replies.0 replies.1) }
