@@ -1,13 +1,17 @@
 /* Many operations of one session: the writes of bench/library.c, of 1024 bytes by four processes in turn,
  * through libxvfs.a over an image of 200 blocks. Give how many. At each power of ten from 1000 on, and at the
  * end, prints a row: how many writes there were, the most memory that the program had (KiB), and of the steps
- * since the last row how many nanoseconds one took, and the longest of them in microseconds. */
+ * since the last row how many nanoseconds one took, and the longest of them in microseconds. Give a program and
+ * a word besides, and it prints a row of what that program makes of word and number, in a process of its own: the
+ * number, the most memory, and of the number how many microseconds one took. */
 #define _POSIX_C_SOURCE 200809L
 #include <stdio.h>
 #include <stdlib.h>
 #include <string.h>
 #include <sys/resource.h>
+#include <sys/wait.h>
 #include <time.h>
+#include <unistd.h>
 
 #include "xvfs.h"
 
@@ -56,10 +60,28 @@ static void row(unsigned long writes) {
     steps = taken = longest = 0;
 }
 
+static void row_of(const char *program, const char *word, const char *writes) {
+    struct rusage used;
+    int status;
+    pid_t child = fork();
+    if (child == 0) {
+        if (freopen("/dev/null", "w", stdout) != NULL) execl(program, program, word, writes, (char *)NULL);
+        _exit(1);
+    }
+    must(child > 0 && waitpid(child, &status, 0) == child && status == 0, "the program failed");
+    getrusage(RUSAGE_CHILDREN, &used);
+    printf("| %10s | %10ld | %12.1f |\n", writes, used.ru_maxrss,
+           ((double)used.ru_utime.tv_sec * 1e6 + (double)used.ru_utime.tv_usec) / strtod(writes, NULL));
+}
+
 int main(int argc, char **argv) {
     xvfs fs = XVFS_CLOSED_HANDLE;
     uint64_t opening;
     unsigned long writes = argc > 1 ? strtoul(argv[1], NULL, 10) : 1000, next = 1000;
+    if (argc == 4) {
+        row_of(argv[2], argv[3], argv[1]);
+        return 0;
+    }
     memset(bytes, 7, sizeof bytes);
     must(xvfs_mkfs(image, sizeof image, 32, 1) == XVFS_OK, "no image");
     must(xvfs_open(&fs, image, sizeof image, PROCESSES, 0, &opening) == XVFS_OK, "not opened");

@@ -2,6 +2,7 @@
 use blocks::NoMemory;
 use kernel::OpenFault;
 use layout::MkfsFault;
+use names::{TreeFault, Unwritten};
 use thiserror::Error;
 
 /// Why it does.
@@ -23,10 +24,20 @@ pub enum Failed {
     TooManySteps,
     #[error("there is one process, and one watch")]
     NoEnds,
+    #[error("{0}")]
+    Tree(TreeFault),
+    #[error("{0}")]
+    Unwritten(Unwritten),
 }
 
 impl From<NoMemory> for Failed {
     fn from(_refused: NoMemory) -> Failed {
         Failed::NoMemory
+    }
+}
+
+impl From<TreeFault> for Failed {
+    fn from(fault: TreeFault) -> Failed {
+        Failed::Tree(fault)
     }
 }
