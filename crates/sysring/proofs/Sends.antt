@@ -23,6 +23,7 @@ use Rattle.history.specs.contracts.processes.Processes as Processes
 use Rattle.history.specs.contracts.told.Told as Told
 use Rattle.kernel.specs.contracts.stepping.Kernel as Kernel
 use Rattle.rings.proofs.intake.RingIntake.TheSendSync as rings
+use Rattle.sysring.proofs.grouping.Order.TheSendSync as order
 use Rattle.sysring.specs.contracts.session.Session as Session
 use Rattle.sysring.specs.contracts.shared.Shared as Shared
 use Rattle.sysring.specs.declared.session.Origin as origin
@@ -57,4 +58,4 @@ module _ (D H K N : RattleType) (g : disk.Ghosts D.Denot N.Denot) (h : herald.Gh
   Session-send d n e = search (sendable, crosses, rings.the_send, Kernel-send) depth 20
 
   pub Shared-sync : IsSend D → IsSend H → IsSend K → IsSync (Shared.the_field D H K N g h k).row
-  Shared-sync d n e = let a = Session-send d n e in search (sendable, crosses) depth 20
+  Shared-sync d n e = let a = Session-send d n e in search (sendable, crosses, order.the_send) depth 40

@@ -11,6 +11,7 @@
 
 mod accounting;
 mod comparing;
+mod grouping;
 mod pace;
 mod serving;
 mod session;
@@ -20,10 +21,11 @@ mod workers;
 
 pub use accounting::{Reconciling, account};
 pub use comparing::{Comparing, compare};
+pub use grouping::Bound;
 pub use pace::Serving;
 pub use rings::{Board, BoardHerald, Caller, Finished, Keeper, RingIntake, Watch, rings};
-pub use serving::serve_while;
+pub use serving::{serve_grouped_while, serve_while};
 pub use session::{Origin, Session};
 pub use settling::{Account, Settling, settle};
 pub use shared::Shared;
-pub use workers::{Gate, serve};
+pub use workers::{Gate, NoGate, serve, serve_grouped};

@@ -8,6 +8,8 @@ pub struct Serving {
     ended: AtomicU64,
     // The workers that make a round of steps: bit w is worker w's.
     awake: AtomicU32,
+    // 1 where groups are kept open.
+    grouped: AtomicU64,
     // The rounds in which something moved, wrapping.
     moves: AtomicU64,
     // Those in which nothing moved and memory was refused, wrapping.
@@ -19,6 +21,7 @@ impl Serving {
         Serving {
             ended: AtomicU64::new(0),
             awake: AtomicU32::new(0),
+            grouped: AtomicU64::new(0),
             moves: AtomicU64::new(0),
             refusals: AtomicU64::new(0),
         }
@@ -42,6 +45,15 @@ impl Serving {
     /// In how many of their rounds nothing moved and memory was refused, wrapping.
     pub fn refusals(&self) -> u64 {
         self.refusals.load(Ordering::SeqCst)
+    }
+
+    // Whether they keep groups open.
+    pub(crate) fn is_grouped(&self) -> bool {
+        self.grouped.load(Ordering::SeqCst) == 1
+    }
+
+    pub(crate) fn group(&self, is_grouped: bool) {
+        self.grouped.store(u64::from(is_grouped), Ordering::SeqCst);
     }
 
     pub(crate) fn end(&self) {

@@ -5,10 +5,11 @@ ghost use Rattle.rings.specs.declared.intake.RingIntake.{RingIntake};
 ghost use Rattle.sysring.specs.Origins.{AreWorkers, HasOriginOf, IsOfOrigin};
 ghost use Rattle.sysring.specs.Sessions.{HasTurnsOf, IsOfTurns, IsShared};
 
+use crate::grouping::Bound;
 use crate::pace::Serving;
 use crate::session::Origin;
 use crate::shared::Shared;
-use crate::workers::{Gate, serve};
+use crate::workers::{Gate, serve_as};
 use blocks::Disk;
 use kernel::Kernel;
 use ports::{Herald, Intake};
@@ -51,7 +52,34 @@ pub fn serve_while<
     ensures turns { HasTurnsOf D.Disk H.Herald kernel result.1 }
 {
     kernel.known();
-    serve_under::<D, H, R, G, Brand, T, F>(kernel, callers, rt, workers, gate)
+    serve_under::<D, H, R, G, Brand, T, F>(kernel, callers, rt, workers, None, gate)
+}
+
+/// The same in an order for large groups of the log, up to this bound, as `serve_grouped`.
+pub fn serve_grouped_while<
+    D: Disk + Send,
+    H: Herald + Send,
+    R: Threads + Wait + Clock + Sync,
+    G: Gate + Sync,
+    T,
+    F: FnOnce(&Serving) -> T,
+>(
+    rt: &R,
+    kernel: Kernel<D, RingIntake, H>,
+    workers: u32,
+    bound: Bound,
+    gate: &G,
+    callers: F,
+) -> (Option<T>, Kernel<D, RingIntake, H>)
+    requires workers { AreWorkers workers }
+    requires callers { F.IsAlwaysCallable callers }
+    ensures done { IfSome result.0 (λ gift. (at : _) × F.post callers at gift) }
+    ensures known { Known D.Disk ⟦<RingIntake as Intake>⟧ H.Herald result.1 }
+    ensures origin { HasOriginOf D.Disk H.Herald kernel result.1 }
+    ensures turns { HasTurnsOf D.Disk H.Herald kernel result.1 }
+{
+    kernel.known();
+    serve_under::<D, H, R, G, Brand, T, F>(kernel, callers, rt, workers, Some(bound), gate)
 }
 
 // The same with an origin.
@@ -68,6 +96,7 @@ fn serve_under<
     callers: F,
     rt: &R,
     workers: u32,
+    bound: Option<Bound>,
     gate: &G,
 ) -> (Option<T>, Kernel<D, RingIntake, H>)
     requires workers { AreWorkers workers }
@@ -79,6 +108,7 @@ fn serve_under<
     ensures turns { IsOfTurns D.Disk H.Herald K.outset result.1 }
 {
     let shared = Shared::<D, H, K>::new(kernel);
+    shared.group_by(rt, bound);
     let done = serve_beside(rt, &shared, workers, gate, callers);
     (done, shared.into_kernel())
 }
@@ -108,7 +138,7 @@ fn serve_beside<
                 move ||
                     requires { AreWorkers workers }
                 {
-                    serve(rt, shared, workers, gate);
+                    serve_as(rt, shared, workers, gate);
                     shared.serving().end();
                 },
             );

@@ -1,12 +1,13 @@
 // A kernel of which threads know from which one it goes on.
 ghost use Rattle.std.specs.Prelude.{◌≡◌, ◌<◌, length};
 
+use crate::workers::is_move;
 use blocks::Disk;
 use kernel::{Kernel, Step};
 use ports::{Herald, Intake};
 use rings::RingIntake;
 use std::marker::{Brand, Model, PhantomData};
-use wal::DeviceFault;
+use wal::{Deed, DeviceFault};
 
 /// The kernel that threads began to share, as it was then. A call that shares one picks it.
 pub trait Origin<D, H> {
@@ -22,6 +23,9 @@ impl<D, H> Origin<D, H> for Brand {
 
     ghost outset = { None };
 }
+
+// More than any operation has, its commit included.
+const MOST_STEPS: u32 = 65536;
 
 /// A kernel of that origin.
 #[derive(Drop)]
@@ -91,6 +95,47 @@ impl<D: Disk, H: Herald, K: Origin<D, H>> Session<D, H, K> {
         self.kernel.flush()
     }
 
+    // Steps of a process while they move it, up to the end of its operation in the log. What they came
+    // to: the last, or `Moved` where one before it did.
+    pub(crate) fn advance(&mut self, pid: u32) -> Step
+        requires { pid < processes_in K.outset }
+    {
+        let mut came = Step::Idle;
+        for _step in 0..MOST_STEPS {
+            if self.is_before_end(pid) {
+                break;
+            }
+            let step = self.step(pid);
+            came = joined(came, step);
+            if !matches!(step, Step::Moved) {
+                break;
+            }
+        }
+        came
+    }
+
+    // The same behind that end.
+    pub(crate) fn end(&mut self, pid: u32) -> Step
+        requires { pid < processes_in K.outset }
+    {
+        let mut came = Step::Idle;
+        for _step in 0..MOST_STEPS {
+            let step = self.step(pid);
+            came = joined(came, step);
+            if !matches!(step, Step::Moved) {
+                break;
+            }
+        }
+        came
+    }
+
+    // Whether a process stands before the end of its operation in the log.
+    pub(crate) fn is_before_end(&self, pid: u32) -> bool
+        requires { pid < processes_in K.outset }
+    {
+        matches!(self.kernel.deed(pid), Some(Deed::End))
+    }
+
     // The kernel, out of its session.
     pub(crate) fn into_kernel(self) -> Kernel<D, RingIntake, H>
         ensures same { result ≡ self }
@@ -99,5 +144,14 @@ impl<D: Disk, H: Herald, K: Origin<D, H>> Session<D, H, K> {
     {
         let Session { kernel, .. } = self;
         kernel
+    }
+}
+
+// What steps came to, and then one more.
+fn joined(came: Step, step: Step) -> Step {
+    match step {
+        Step::Answered | Step::Halted => step,
+        _ if is_move(came) => came,
+        _ => step,
     }
 }

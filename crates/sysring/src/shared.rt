@@ -9,6 +9,7 @@ ghost use Rattle.kernel.specs.Theorem.{IsExact, IsRecoveredRun};
 ghost use Rattle.sysring.specs.Origins.{IsOfOrigin, processes_in};
 ghost use Rattle.sysring.specs.Sessions.{FlushesShared, IsOfTurns, IsShared, StepsShared};
 
+use crate::grouping::{Bound, Order};
 use crate::pace::Serving;
 use crate::session::{Origin, Session};
 use blocks::Disk;
@@ -32,6 +33,7 @@ pub struct Shared<D: Disk, H: Herald, K: Origin<D, H>> {
     // Those who wait for a change. It is written under the lock.
     waiting: AtomicU64,
     changed: Condvar,
+    order: Mutex<Order>,
     serving: Serving,
 }
 
@@ -45,6 +47,7 @@ impl<D: Disk, H: Herald, K: Origin<D, H>> Shared<D, H, K> {
             changes: AtomicU64::new(0),
             waiting: AtomicU64::new(0),
             changed: Condvar::new(),
+            order: Mutex::new(Order::new(None)),
             serving: Serving::new(),
         }
     }
@@ -113,14 +116,63 @@ impl<D: Disk, H: Herald, K: Origin<D, H>> Shared<D, H, K> {
     {
         let mut kernel = self.lock(rt);
         let step = kernel.step(pid);
+        self.tell(step);
+        step
+    }
+
+    // Makes steps of a process under one lock, each as `Kernel::step` makes it, while they move it:
+    // up to the end of its operation in the log. What they came to, and whether it stands there.
+    pub(crate) fn advance<R: Wait>(&self, rt: &R, pid: u32) -> (Step, bool)
+        requires { pid < processes_in K.outset }
+    {
+        let mut kernel = self.lock(rt);
+        let step = kernel.advance(pid);
+        self.tell(step);
+        (step, kernel.is_before_end(pid))
+    }
+
+    // The same behind that end: it is answered, after the commit of its group where no other operation
+    // is open. What they came to, and whether none is open.
+    pub(crate) fn end<R: Wait>(&self, rt: &R, pid: u32) -> (Step, bool)
+        requires { pid < processes_in K.outset }
+    {
+        let mut kernel = self.lock(rt);
+        let step = kernel.end(pid);
+        self.tell(step);
+        (step, kernel.kernel().log().outstanding() == 0)
+    }
+
+    // Wakes all who wait where a step changed something.
+    fn tell(&self, step: Step) {
         // A fault is a change, too: without a wake-up there who waits would wait for ever.
         if matches!(step, Step::Moved | Step::Answered | Step::Halted) {
-            self.changes.fetch_add(1, Ordering::SeqCst);
-            if self.waiting.load(Ordering::SeqCst) > 0 {
-                self.changed.notify_all();
-            }
+            self.wake();
         }
-        step
+    }
+
+    // Counts a change, and wakes all who wait for one.
+    fn wake(&self) {
+        self.changes.fetch_add(1, Ordering::SeqCst);
+        if self.waiting.load(Ordering::SeqCst) > 0 {
+            self.changed.notify_all();
+        }
+    }
+
+    // From now on groups are kept open, up to this bound, or aren't.
+    pub(crate) fn group_by<R: Wait>(&self, rt: &R, bound: Option<Bound>) {
+        let mut order = self.order.lock(rt);
+        *order = Order::new(bound);
+        self.serving.group(bound.is_some());
+    }
+
+    // Up to which bound groups are kept open, if they are.
+    pub(crate) fn bound<R: Wait>(&self, rt: &R) -> Option<Bound> {
+        self.order.lock(rt).bound
+    }
+
+    // The order of turns.
+    pub(crate) fn order(&self) -> &Mutex<Order> {
+        &self.order
     }
 
     /// Brings every answer that was given to the disk, with the lock held meanwhile: it ends each
@@ -135,10 +187,7 @@ impl<D: Disk, H: Herald, K: Origin<D, H>> Shared<D, H, K> {
     {
         let mut kernel = self.lock(rt);
         let flushed = kernel.flush();
-        self.changes.fetch_add(1, Ordering::SeqCst);
-        if self.waiting.load(Ordering::SeqCst) > 0 {
-            self.changed.notify_all();
-        }
+        self.wake();
         flushed
     }
 

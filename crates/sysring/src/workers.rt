@@ -2,6 +2,7 @@
 ghost use Rattle.std.specs.Prelude.{◌≡◌, ◌≤◌, ◌<◌, ◌^◌, true};
 ghost use Rattle.sysring.specs.Origins.{AreWorkers, processes_in};
 
+use crate::grouping::{Bound, take_turn};
 use crate::session::Origin;
 use crate::shared::Shared;
 use blocks::Disk;
@@ -20,7 +21,7 @@ const SHORTEST_REST: u64 = 50;
 
 const LONGEST_REST: u64 = 5000;
 
-/// What is called outside the lock, round each step.
+/// What is called outside the kernel's lock, round each step, or round each turn of a process.
 pub trait Gate {
     /// A step of this process comes.
     fn before(&self, pid: u32);
@@ -132,6 +133,68 @@ pub fn serve<
 >(rt: &R, shared: &Shared<D, H, K>, workers: u32, gate: &G)
     requires { AreWorkers workers }
 {
+    shared.group_by(rt, None);
+    serve_by(rt, shared, workers, gate);
+}
+
+/// Makes them, and ends, as `serve`, in an order for large groups of the log. Its workers share all
+/// processes and their order, and make turns: a turn makes the steps of one operation under one lock.
+///
+/// By its code, and by no clause: an operation that stands before its end in the log, with no other
+/// open, ends only once another process's one stands there, too. So the group stays open, and blocks
+/// that its operations have in common are written once. It is closed, and then all its answers are
+/// durable, where no process has an operation for it in a whole round, where the log has no room for
+/// one more, or where the bound is reached: so no answer of a group waits for more further ones than
+/// the bound has, nor longer than its time and one turn. Two processes go on in turn for some thirty
+/// operations, and then the next one comes.
+pub fn serve_grouped<
+    D: Disk + Send,
+    H: Herald + Send,
+    K: Origin<D, H> + Send,
+    R: Threads + Wait + Clock + Sync,
+    G: Gate + Sync,
+>(rt: &R, shared: &Shared<D, H, K>, workers: u32, bound: Bound, gate: &G)
+    requires { AreWorkers workers }
+{
+    shared.group_by(rt, Some(bound));
+    serve_by(rt, shared, workers, gate);
+}
+
+/// Nothing is called round a step.
+pub struct NoGate;
+
+impl Gate for NoGate {
+    fn before(&self, _pid: u32) {}
+
+    fn after(&self, _pid: u32) {}
+}
+
+// Makes them as the one or the other, as `Shared::group_by` has it.
+pub(crate) fn serve_as<
+    D: Disk + Send,
+    H: Herald + Send,
+    K: Origin<D, H> + Send,
+    R: Threads + Wait + Clock + Sync,
+    G: Gate + Sync,
+>(rt: &R, shared: &Shared<D, H, K>, workers: u32, gate: &G)
+    requires { AreWorkers workers }
+{
+    match shared.bound(rt) {
+        None => serve(rt, shared, workers, gate),
+        Some(bound) => serve_grouped(rt, shared, workers, bound, gate),
+    }
+}
+
+// Makes them by workers on threads of their own.
+fn serve_by<
+    D: Disk + Send,
+    H: Herald + Send,
+    K: Origin<D, H> + Send,
+    R: Threads + Wait + Clock + Sync,
+    G: Gate + Sync,
+>(rt: &R, shared: &Shared<D, H, K>, workers: u32, gate: &G)
+    requires { AreWorkers workers }
+{
     let processes = processes_of(rt, shared);
     shared.serving().wake(u32::MAX >> (32 - workers));
     thread::scope(
@@ -203,8 +266,51 @@ fn work<D: Disk, H: Herald, K: Origin<D, H>, R: Wait + Clock, G: Gate>(
     }
 }
 
+// Makes a round of steps, or of turns.
+fn make_round<D: Disk, H: Herald, K: Origin<D, H>, R: Wait + Clock, G: Gate>(
+    rt: &R,
+    shared: &Shared<D, H, K>,
+    share: Share,
+    gate: &G,
+) -> Round
+    requires { share.processes ≡ processes_in K.outset }
+{
+    if shared.serving().is_grouped() {
+        make_turns(rt, shared, share.processes, gate)
+    } else {
+        make_steps(rt, shared, share, gate)
+    }
+}
+
+// Makes as many turns as there are processes, unless another worker makes some. While a group is kept
+// open it doesn't rest.
+fn make_turns<D: Disk, H: Herald, K: Origin<D, H>, R: Wait + Clock, G: Gate>(
+    rt: &R,
+    shared: &Shared<D, H, K>,
+    processes: u32,
+    gate: &G,
+) -> Round
+    requires { processes ≡ processes_in K.outset }
+{
+    let Some(mut order) = shared.order().try_lock() else {
+        return Round::Quiet;
+    };
+    let mut steps = Steps::none();
+    for _turn in 0..processes {
+        let pid = order.pass_on(processes);
+        gate.before(pid);
+        let step = take_turn(rt, shared, &mut order, processes, pid);
+        gate.after(pid);
+        steps = steps.and(step);
+    }
+    if order.is_open() {
+        return Round::Busy;
+    }
+    steps.round()
+}
+
 // Makes a step of each of these processes.
-fn make_round<D: Disk, H: Herald, K: Origin<D, H>, R: Wait, G: Gate>(
+fn make_steps<D: Disk, H: Herald, K: Origin<D, H>, R: Wait, G: Gate>(
     rt: &R,
     shared: &Shared<D, H, K>,
     share: Share,
@@ -237,6 +343,6 @@ fn is_asleep(step: Step) -> bool {
     }
 }
 
-fn is_move(step: Step) -> bool {
+pub(crate) fn is_move(step: Step) -> bool {
     matches!(step, Step::Moved | Step::Answered)
 }
