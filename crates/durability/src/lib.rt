@@ -38,5 +38,4 @@ pub fn rounds_make_durable<D: Disk, I: Intake, H: Herald>()
 /// its answer has no room, memory is refused or there is a shutdown.
 pub fn none_is_kept_out<D: Disk, I: Intake, H: Herald>()
     ensures { NoneIsKeptOut D.Disk I.Intake H.Herald }
-{
-}
+{}

@@ -12,7 +12,6 @@ module _ (R : ℕ → ℕ → Type 0) (same : (n : ℕ) → R n n) (both : (a b 
   abbrev Keeps : World → World → Type 0
   Keeps w z = (q : ℕ) → R (process w q).begun (process z q).begun
 
-
   set_keeps : (ps : List Process) (p q : ℕ) (t : Process) → R (get_or ps p idle).begun t.begun → R (get_or ps q idle).begun (get_or (set ps p t) q idle).begun
   set_keeps [] p q t le = same _
   set_keeps (s ∷ ps) zero zero t le = le

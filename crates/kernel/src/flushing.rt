@@ -7,9 +7,8 @@ ghost use Rattle.kernel.specs.Heralds.{SameBoard};
 ghost use Rattle.kernel.specs.Runs.{RunsOn};
 ghost use Rattle.kernel.specs.State.{ats_of};
 
-use crate::Step;
-use crate::laws;
 use crate::stepping::Kernel;
+use crate::{Step, laws};
 use blocks::Disk;
 use history::Phase;
 use ports::{Herald, Intake};

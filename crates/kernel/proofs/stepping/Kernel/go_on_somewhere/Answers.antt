@@ -23,7 +23,7 @@ loop-pid-preserved-then-not-is_under_way g c = record {
 pub loop-pid-preserved : goal.loop-pid-preserved
 loop-pid-preserved g c =
     let made = subst (λ (r : Step). MakesStep g.D.Disk g.I.Intake g.H.Herald c.loop-pid.pid r c.loop-pid.self c.step.new.self) c.in-Sleeping.is
-        (record { acts = c.step.ensures.acts; progress = c.step.ensures.progress; stop = c.step.ensures.stop }) in
+    (record { acts = c.step.ensures.acts; progress = c.step.ensures.progress; stop = c.step.ensures.stop }) in
     record {
       waited = one_asleep g.D.Disk g.I.Intake g.H.Herald c.sleeps_for_cause.ensures.cause c.loop-pid.pid c.in-Sleeping.field-0 c.args.self.now c.loop-pid.self c.step.new.self c.loop-pid.invariant.waited made
           (sym c.is_under_way.ensures ∙ c.if-not-is_under_way.false);
@@ -36,7 +36,7 @@ loop-pid-preserved g c =
 pub returns-in-Halted : goal.returns-in-Halted
 returns-in-Halted g c =
     let made = subst (λ (r : Step). MakesStep g.D.Disk g.I.Intake g.H.Herald c.loop-pid.pid r c.loop-pid.self c.step.new.self) c.in-Halted.is
-        (record { acts = c.step.ensures.acts; progress = c.step.ensures.progress; stop = c.step.ensures.stop }) in
+    (record { acts = c.step.ensures.acts; progress = c.step.ensures.progress; stop = c.step.ensures.stop }) in
     record {
       ends = one_more g.D.Disk g.I.Intake g.H.Herald c.sleeps_for_cause.ensures.cause c.loop-pid.pid Step.Halted c.args.self.now c.loop-pid.self c.step.new.self c.loop-pid.invariant.waited made
           (sym c.is_under_way.ensures ∙ c.if-not-is_under_way.false) (omega (arith, c.loop-pid-test.true, c.processes-pid-end.ensures));
@@ -49,7 +49,7 @@ returns-in-Halted g c =
 pub returns-in-Moved : goal.returns-in-Moved
 returns-in-Moved g c =
     let made : MakesStep g.D.Disk g.I.Intake g.H.Herald c.loop-pid.pid c.step.result c.loop-pid.self c.step.new.self =
-        record { acts = c.step.ensures.acts; progress = c.step.ensures.progress; stop = c.step.ensures.stop } in
+    record { acts = c.step.ensures.acts; progress = c.step.ensures.progress; stop = c.step.ensures.stop } in
     let busy = sym c.is_under_way.ensures ∙ c.if-not-is_under_way.false in
     record {
       ends = one_more g.D.Disk g.I.Intake g.H.Herald c.sleeps_for_cause.ensures.cause c.loop-pid.pid c.step.result c.args.self.now c.loop-pid.self c.step.new.self c.loop-pid.invariant.waited made
