@@ -1,5 +1,6 @@
 pub mod BlockLemmas
 mod Kept
+mod ForgetfulLemmas
 mod LastLemmas
 mod HeldLemmas
 mod PlacedLemmas

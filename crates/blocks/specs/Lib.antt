@@ -13,5 +13,6 @@ pub mod File
 pub mod Placed
 pub mod FileDisk
 pub mod SyncDisk
+pub mod ForgetfulDisk
 pub mod Lemmas
 pub mod Common

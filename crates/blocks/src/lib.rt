@@ -1,5 +1,5 @@
 //! Blocks of 1024 bytes, and the disks that hold them: in memory, over a file, one that holds
-//! writes back, and one of which a call fails.
+//! writes back, one of which a call fails, and one that forgets writes where a sync fails.
 #![tactic(auto)]
 
 mod block;
@@ -8,6 +8,7 @@ mod errors;
 mod faulty;
 mod file;
 mod floating;
+mod forgetful;
 mod held;
 mod memory;
 mod moments;
@@ -20,6 +21,7 @@ pub use disk::Disk;
 pub use errors::{DiskFault, FileFault, NoMemory, SyncFault};
 pub use faulty::{FaultyDisk, Kind, Trap};
 pub use file::{FileDisk, MAX_BLOCKS};
+pub use forgetful::ForgetfulDisk;
 pub use memory::MemDisk;
 pub use placed::{Placed, PlacedRead};
 pub use sync::SyncDisk;

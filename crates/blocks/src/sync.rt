@@ -2,7 +2,7 @@
 ghost use Rattle.std.specs.Prelude.{◌≡◌, ◌≤◌, ◌^◌, ◌<◌, ◌↔◌, ◌∷◌, ◌++◌, [], length, true, IfOk, IfErr, IsErr, IsOk, OnErr, OnOk};
 ghost use Rattle.std.proofs.lemmas.Bool.{true≢false};
 ghost use Rattle.blocks.specs.Calls.{ReadsOne, SyncsOne, WritesOne};
-ghost use Rattle.blocks.specs.Disk.{Image, IsImage, IsSettled};
+ghost use Rattle.blocks.specs.Disk.{Image, IsImage, IsSettled, block_at};
 ghost use Rattle.blocks.specs.Held.{AreInside, HeldImages, IsShadow, LeftSince, chosen, held_by, noted_by};
 ghost use Rattle.blocks.specs.Lemmas.Held.{left_whole, shadow_has, shadow_now};
 
@@ -52,6 +52,7 @@ impl SyncDisk {
         ensures image { IfOk result (λ d. ⟦<SyncDisk as Disk>⟧.image d
             ≡ ⟦<MemDisk as Disk>⟧.image disk) }
         ensures held { IfOk result (λ d. held_of d ≡ []) }
+        ensures synced { IfOk result (λ d. synced_of d ≡ ⟦<MemDisk as Disk>⟧.image disk) }
         ensures settled { IfOk result (λ d. IsSettled (⟦<SyncDisk as Disk>⟧.image d)
             (⟦<SyncDisk as Disk>⟧.leaves d (⟦<SyncDisk as Disk>⟧.moment d))) }
         ensures writes { IfOk result (λ d. ⟦<SyncDisk as Disk>⟧.write_count d
@@ -87,6 +88,14 @@ impl SyncDisk {
         ensures few { result ≤ 64 }
     {
         self.state.count
+    }
+
+    /// The 1024 bytes that a read of this block gives.
+    pub(crate) fn block(&self, block: u32) -> &[u8]
+        requires { block < length (⟦<SyncDisk as Disk>⟧.image self.now) }
+        ensures { result.now ≡ block_at (⟦<SyncDisk as Disk>⟧.image self.now) block }
+    {
+        &self.shown[block as usize]
     }
 
     /// A disk with the image that a crash now leaves where it keeps these of the held writes: one
