@@ -3,8 +3,9 @@
 //!
 //! A caller's own calls (`Caller::submit`, `poll` and `finish`, `Board::durable` and `ask_shut`)
 //! have neither the kernel nor its lock. Workers step the kernel under its lock; that they get it
-//! anew for each step is so by their code. What `Kernel::known` says of a kernel is true each time the lock is got, whoever
-//! had it before: above all what a stop then leaves. An `Origin` is the kernel as it was when threads
+//! anew for each step, or for each turn where groups are kept open, is so by their code. What
+//! `Kernel::known` says of a kernel is true each time the lock is got, whoever had it before: above
+//! all what a stop then leaves. An `Origin` is the kernel as it was when threads
 //! began to share it: behind the lock it keeps its opening, its committed groups, its processes and
 //! their rings.
 #![tactic(auto)]
