@@ -1,5 +1,5 @@
 -- The command line, as clap is told it.
-use Rattle.std.specs.Prelude.{◌≡◌, ◌≢◌, ◌≤◌, ⊤, ℕ, List, IfOk, Option, Result, Some, None, true, false, codes, pos, option_map}
+use Rattle.std.specs.Prelude.{◌≡◌, ◌≢◌, ◌≤◌, ⊤, ℕ, List, [], ◌∷◌, IfOk, Option, Result, Some, None, true, false, codes, pos, option_map}
 use Rattle.clap.specs.Words.{App, Row, Rule, new_app, new_rule, app_of, first_of, one_of, with_rule, with_subcommand}
 use Rattle.cli.specs.Asking.{HasChoice, HasFlag, HasNumber, Wording, WritesNumber}
 use Rattle.cli.specs.declared.words.Part.{Part}
@@ -110,9 +110,19 @@ workers_rule = record (new_rule (codes "workers")) {
   parser = Some (Signed (pos 1) (pos 32));
 }
 
+-- `--group N`, where N is from 1, and 1000 where it is not given
+abbrev pub group_rule : Rule
+group_rule = record (new_rule (codes "group")) {
+  long = Some (codes "group");
+  value_names = 1;
+  range = Some (record { start_inclusive = 0; end_inclusive = 1 });
+  missing = codes "1000" ∷ [];
+  parser = Some (Signed (pos 1) (pos 4294967295));
+}
+
 abbrev pub run_app : App
-run_app = with_rule (with_rule (with_rule (image_app (codes "run"))
-    (required_rule (codes "SCRIPT"))) workers_rule) (flag_rule (codes "sync"))
+run_app = with_rule (with_rule (with_rule (with_rule (image_app (codes "run"))
+    (required_rule (codes "SCRIPT"))) workers_rule) group_rule) (flag_rule (codes "sync"))
 
 abbrev pub stops_app : App
 stops_app = with_rule (with_rule (explained (with_rule (with_rule (new_app (codes "stops"))
@@ -158,7 +168,7 @@ HasWorkers rows n = (1 ≤ n) × (n ≤ 32) × (one_of (codes "workers") rows �
 
 -- a run that is asked for has from 1 to 32 workers
 abbrev pub HasFewWorkers : Request → Type 0
-HasFewWorkers (Run image script workers sync) = (1 ≤ workers) × (workers ≤ 32)
+HasFewWorkers (Run image script workers group sync) = (1 ≤ workers) × (workers ≤ 32)
 HasFewWorkers request = ⊤
 
 -- the part of an image that a word asks for: the whole where there is none, the log by its name, and
@@ -221,10 +231,10 @@ AsksBy name rows (Replay image script schedule stop sync writes steps picture) =
     × HasChoice 64 (codes "stop") rows stop × HasFlag (codes "sync") rows sync
     × HasFlag (codes "writes") rows writes × HasFlag (codes "steps") rows steps
     × (option_map (λ path. path.now) picture ≡ first_of (codes "picture") rows)
-AsksBy name rows (Run image script workers sync) =
+AsksBy name rows (Run image script workers group sync) =
     (name ≡ codes "run") × (first_of (codes "IMAGE") rows ≡ Some image.now)
     × (first_of (codes "SCRIPT") rows ≡ Some script.now) × HasWorkers rows workers
-    × HasFlag (codes "sync") rows sync
+    × HasChoice 32 (codes "group") rows group × HasFlag (codes "sync") rows sync
 AsksBy name rows (Stops script schedule held picture) =
     (name ≡ codes "stops") × (first_of (codes "SCRIPT") rows ≡ Some script.now)
     × (first_of (codes "SCHEDULE") rows ≡ Some schedule.now) × HasFlag (codes "held") rows held

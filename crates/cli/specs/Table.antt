@@ -5,7 +5,7 @@ use Rattle.clap.specs.Words.{App, Rule, new_app, new_rule, with_rule, with_subco
 use Rattle.clap.specs.declared.builder.value_parser.ValueParser.TheVariants.{Signed, Unsigned}
 use Rattle.cli.specs.CommandLine.{choice_rule, flag_rule, named_app, number_rule, required_rule}
 use Rattle.cli.specs.declared.table.Kind.{Kind}
-use Rattle.cli.specs.declared.table.Kind.TheVariants.{Needed, Free, Rest, Number, Choice, Flag, Letter, Valued, FewValued, LongValued, Path}
+use Rattle.cli.specs.declared.table.Kind.TheVariants.{Needed, Free, Rest, Number, Choice, Flag, Letter, Valued, FewValued, LongValued, Preset, Path}
 use Rattle.cli.specs.declared.table.Line.{Line}
 use Rattle.cli.specs.declared.table.Outline.{Outline}
 use Rattle.cli.specs.declared.table.Word.{Word}
@@ -13,6 +13,14 @@ use Rattle.cli.specs.declared.table.Word.{Word}
 -- a word after `--` that has a value
 abbrev pub valued_rule : List ℕ → Rule → Rule
 valued_rule id rule = record rule { long = Some id; value_names = 1 }
+
+-- a word with a number of 32 bits from 1, which is this one where none is given
+abbrev pub preset_rule : List ℕ → Rule → Rule
+preset_rule value rule = record rule {
+  range = Some (record { start_inclusive = 0; end_inclusive = 1 });
+  missing = value ∷ [];
+  parser = Some (Signed (pos 1) (pos 4294967295));
+}
 
 abbrev pub kind_rule : Kind → List ℕ → Rule
 kind_rule Needed id = required_rule id
@@ -28,6 +36,7 @@ kind_rule FewValued id =
     valued_rule id (record (new_rule id) { parser = Some (Signed (pos 1) (pos 32)) })
 kind_rule LongValued id =
     valued_rule id (record (new_rule id) { parser = Some (Unsigned 1 18446744073709551615) })
+kind_rule (Preset value) id = preset_rule value.now (valued_rule id (new_rule id))
 kind_rule Path id = valued_rule id (new_rule id)
 
 abbrev pub word_rule : Word → Rule

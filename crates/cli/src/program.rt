@@ -2,7 +2,7 @@
 ghost use Rattle.std.specs.Prelude.{◌≡◌, false, IfOk};
 ghost use Rattle.clap.specs.Words.{App, rule_of};
 ghost use Rattle.cli.specs.CommandLine.{HasApp, HasMore, named_app};
-ghost use Rattle.cli.specs.Table.{line_app, outline_app, valued_rule, with_lines, word_rule};
+ghost use Rattle.cli.specs.Table.{line_app, outline_app, preset_rule, valued_rule, with_lines, word_rule};
 
 use crate::table::{Kind, Line, Outline, Word};
 use clap::{Arg, ArgAction, Command, value_parser};
@@ -93,6 +93,7 @@ fn argument<'a>(alloc: Global, word: Word) -> Arg<'a>
         Kind::LongValued => {
             valued(argument, word.name, "N").value_parser(value_parser!(u64).range(1..))
         }
+        Kind::Preset(value) => preset(valued(argument, word.name, "N"), value),
         Kind::Path => valued(argument, word.name, "FILE"),
     }
 }
@@ -103,4 +104,15 @@ fn valued<'a>(argument: Arg<'a>, name: &'a str, value: &'a str) -> Arg<'a>
     ensures local { result.global ≡ argument.entry.global }
 {
     argument.long(name).value_name(value)
+}
+
+// A word whose value is a number of 32 bits from 1, and this one where none is given.
+fn preset<'a>(argument: Arg<'a>, value: &'static str) -> Arg<'a>
+    ensures rule { rule_of result ≡ preset_rule value.now (rule_of argument.entry) }
+    ensures local { result.global ≡ argument.entry.global }
+{
+    argument
+        .value_parser(value_parser!(u32).range(1..=4_294_967_295))
+        .num_args(0..=1)
+        .default_missing_value(value)
 }

@@ -24,6 +24,8 @@ pub enum Kind {
     FewValued,
     /// The same, a number of 64 bits, from 1.
     LongValued,
+    /// Its name after `--`, with a number of 32 bits from 1 behind it, or none, for this one.
+    Preset(&'static str),
     /// Its name after `--`, with a path behind it.
     Path,
 }
@@ -351,7 +353,7 @@ const LINES: &[Line] = &[
     Line {
         name: "run",
         about: "Recovers an image, and makes a script's operations, each process's in order, by threads",
-        example: "Example: xvfs run fs.img script --workers 4",
+        example: "Examples: xvfs run fs.img script --group, xvfs run fs.img script --workers 4",
         words: &[
             IMAGE,
             WAIT,
@@ -361,7 +363,12 @@ const LINES: &[Line] = &[
             Word {
                 name: "workers",
                 kind: Kind::FewValued,
-                help: "Threads that make the steps, from 1 to 32; 1 where it is not given",
+                help: "Threads that make the steps, from 1 to 32, to try interleavings and not for speed; 1 where it is not given",
+            },
+            Word {
+                name: "group",
+                kind: Kind::Preset("1000"),
+                help: "For speed: commits many operations as one, up to N answers (1000 where no number is given) or 10 ms; an answer is durable once its group is committed",
             },
             SYNC,
         ],

@@ -139,6 +139,9 @@ pub enum Request<'a> {
         script: &'a str,
         /// The threads that make the steps, from 1 to 32.
         workers: u32,
+        /// How many answers of a group of the log may wait for its commit, where groups are kept
+        /// open for speed.
+        group: Option<u32>,
         /// Whether the file holds writes back until it is synced.
         sync: bool,
     },
@@ -270,6 +273,7 @@ fn run_request<'a>(values: &ArgMatches<'a>) -> Option<Request<'a>>
         image: values.get_str("IMAGE")?,
         script: values.get_str("SCRIPT")?,
         workers: workers_of(values),
+        group: values.get_one("group"),
         sync: values.get_flag("sync"),
     })
 }

@@ -148,7 +148,7 @@ pub(crate) fn read_replay<R: Locks + AllocGlobal>(
 }
 
 /// Recovers the image in the file at this path, and makes the operations of a script by callers and
-/// so many workers, from 1 to 32, on threads, as `run_disk`. With `sync` the file is a disk that
+/// so many workers, from 1 to 32, on threads, as `run_disk`, with groups kept open or not. With `sync` the file is a disk that
 /// holds writes back, and is synced.
 ///
 /// # Errors
@@ -159,6 +159,7 @@ pub fn run_files<R: Locks + AllocGlobal + Threads + Wait + Clock + Sync, O: Writ
     image: &str,
     script: &str,
     workers: u32,
+    group: Option<u32>,
     sync: bool,
     locking: Locking,
     out: &mut O,
@@ -177,7 +178,7 @@ where
         Ok(disk) => disk,
         Err(fault) => return Err(RunFilesRefusal::File(fault)),
     };
-    let (ran, _disk) = run_disk(rt, disk, tasks, processes, workers, out);
+    let (ran, _disk) = run_disk(rt, disk, tasks, processes, workers, group, out);
     match ran {
         Ok(()) => Ok(()),
         Err(refusal) => Err(RunFilesRefusal::Run(refusal)),

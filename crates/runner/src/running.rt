@@ -29,20 +29,16 @@ use std::io::Write;
 use std::rt::Clock;
 use std::sync::Wait;
 use std::thread::Threads;
-use sysring::{Board, BoardHerald, Gate, Keeper, RingIntake, Watch, serve_while};
-
-// Nothing is called round a step.
-struct NoGate;
-
-impl Gate for NoGate {
-    fn before(&self, _pid: u32) {}
-
-    fn after(&self, _pid: u32) {}
-}
+use sysring::{
+    Board, BoardHerald, Bound, Keeper, NoGate, RingIntake, Watch, serve_grouped_while, serve_while,
+};
 
 /// Recovers the image of a disk, and makes the operations of a script of so many processes, each
 /// process's in order, with so many workers, from 1 to 32, on threads of their own. Prints, process
 /// by process, a line for each answer and one for what became of the operations.
+///
+/// With `group` the workers keep groups of the log open, for so many answers at most, as
+/// `sysring::serve_grouped_while`.
 ///
 /// What is printed is what turns, one after the other, made of the kernel that was opened.
 ///
@@ -65,6 +61,7 @@ pub fn run_disk<D: Disk + Drop + Send, R: Threads + Wait + Clock + AllocGlobal +
     tasks: Vec<Task>,
     processes: u32,
     workers: u32,
+    group: Option<u32>,
     out: &mut O,
 ) -> (Result<(), RunRefusal>, D)
     requires tasks { All (λ task. task.pid < processes) tasks.items }
@@ -90,7 +87,7 @@ pub fn run_disk<D: Disk + Drop + Send, R: Threads + Wait + Clock + AllocGlobal +
         Ok(kernel) => kernel,
         Err((fault, disk)) => return (Err(RunRefusal::Unopened(fault)), disk),
     };
-    let (called, kernel) = call(rt, kernel, &board, watches, clients, workers);
+    let (called, kernel) = call(rt, kernel, &board, watches, clients, workers, group);
     match called {
         Some((clients, is_refused)) => close(kernel, clients, is_refused, out),
         None => (Err(RunRefusal::Thread), kernel.into_disk()),
@@ -125,6 +122,7 @@ fn call<D: Disk + Send, H: Herald + Send, R: Threads + Wait + Clock + Sync>(
     watches: Vec<Watch>,
     clients: Vec<Client>,
     workers: u32,
+    group: Option<u32>,
 ) -> (Option<(Vec<Client>, bool)>, Kernel<D, RingIntake, H>)
     requires workers { AreWorkers workers }
     requires watches { All (WatchOf board.now) watches.items }
@@ -135,16 +133,29 @@ fn call<D: Disk + Send, H: Herald + Send, R: Threads + Wait + Clock + Sync>(
     ensures before { Known D.Disk ⟦<RingIntake as Intake>⟧ H.Herald kernel }
 {
     kernel.known();
-    serve_while(
-        rt,
-        kernel,
-        workers,
-        &NoGate,
-        move |serving| -> (Vec<Client>, bool)
-            requires { All (WatchOf board.now) watches.items }
-            ensures { AreSameClients clients.items result.0.items }
-        { drive(rt, board, watches, clients, serving) },
-    )
+    match group {
+        None => serve_while(
+            rt,
+            kernel,
+            workers,
+            &NoGate,
+            move |serving| -> (Vec<Client>, bool)
+                requires { All (WatchOf board.now) watches.items }
+                ensures { AreSameClients clients.items result.0.items }
+            { drive(rt, board, watches, clients, serving) },
+        ),
+        Some(answers) => serve_grouped_while(
+            rt,
+            kernel,
+            workers,
+            Bound::of(answers),
+            &NoGate,
+            move |serving| -> (Vec<Client>, bool)
+                requires { All (WatchOf board.now) watches.items }
+                ensures { AreSameClients clients.items result.0.items }
+            { drive(rt, board, watches, clients, serving) },
+        ),
+    }
 }
 
 // Prints what the clients of a kernel came to, and hands its disk back. There is one for each

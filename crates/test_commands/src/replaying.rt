@@ -56,7 +56,7 @@ pub fn ran<D: Disk + Drop + Send, R: Threads + Wait + Clock + AllocGlobal + Sync
     match read_script(rt.alloc(), script.as_bytes()) {
         Ok(tasks) => {
             let processes = processes(tasks.as_slice());
-            Ok(run_disk(rt, disk, tasks, processes, 2, out))
+            Ok(run_disk(rt, disk, tasks, processes, 2, None, out))
         }
         Err(fault) => Err(Wrong::Script(fault)),
     }

@@ -6,9 +6,10 @@ ghost use Rattle.rings.specs.Callers.{IntakeFits, intake_count};
 ghost use Rattle.sysring.specs.Origins.{AreWorkers};
 
 use crate::lines::new_image;
-use blocks::MemDisk;
+use blocks::{Disk, MemDisk, NoMemory};
 use kernel::Kernel;
 use layout::MkfsFault;
+use model::content::Content;
 use model::types::Op;
 use offline::check;
 use std::alloc::{AllocGlobal, Global};
@@ -17,8 +18,10 @@ use std::sync::Wait;
 use std::sync::atomic::{AtomicU64, Ordering};
 use std::thread;
 use std::thread::Threads;
+use std::time::Duration;
 use sysring::{
-    Board, BoardHerald, Caller, Gate, Keeper, RingIntake, Serving, Watch, rings, serve_while,
+    Board, BoardHerald, Bound, Caller, Gate, Keeper, NoGate, RingIntake, Serving, Watch, rings,
+    serve_grouped_while, serve_while,
 };
 
 // The turns that a process makes until it sees the other one.
@@ -26,6 +29,12 @@ const TURNS: u32 = 100_000_000;
 
 // The processes of which each makes a file.
 const PROCESSES: u32 = 32;
+
+// The writes of each, with which a ring is full.
+const WRITES: u32 = 15;
+
+// More seconds than a group stays open.
+const LONG: u64 = 100;
 
 type Opened<'a> = Kernel<MemDisk, RingIntake, BoardHerald<'a>>;
 
@@ -142,15 +151,6 @@ impl Gate for Passing {
     }
 }
 
-// No gate.
-struct NoGate;
-
-impl Gate for NoGate {
-    fn before(&self, _pid: u32) {}
-
-    fn after(&self, _pid: u32) {}
-}
-
 // Opens a kernel of so many processes, if its image can be used.
 fn opened<'a>(
     alloc: Global,
@@ -172,7 +172,7 @@ fn opened<'a>(
 }
 
 /// Two workers reconcile, and step four processes each in its turn; then 1, 2 and 8 workers serve 32
-/// processes. Prints what came of it.
+/// processes, and keep groups of the log open for others. Prints what came of it.
 pub fn print_sharing<R: Print + AllocGlobal + Threads + Wait + Clock + Sync>(
     rt: &R,
 ) -> anyhow::Result<()> {
@@ -182,7 +182,7 @@ pub fn print_sharing<R: Print + AllocGlobal + Threads + Wait + Clock + Sync>(
         let created = created_by(rt, workers)?;
         println!(rt; "{workers} workers: {created:?}")?;
     }
-    Ok(())
+    print_groups(rt)
 }
 
 // Two workers step two processes at one time.
@@ -228,8 +228,54 @@ fn created_by<R: AllocGlobal + Threads + Wait + Clock + Sync>(
 ) -> Result<Option<Created>, MkfsFault>
     requires { AreWorkers workers }
 {
+    let served = served_by(rt, workers, None, 0)?;
+    Ok(served.map(|served| served.created))
+}
+
+// A creation and 15 writes of each process are there before its kernel is served. So the groups are the
+// same with any number of workers; 497 operations belong to some, and each has at most one operation
+// more than the bound has answers: two with a bound of 1, or of no time.
+fn print_groups<R: Print + AllocGlobal + Threads + Wait + Clock + Sync>(
+    rt: &R,
+) -> anyhow::Result<()> {
+    let served = served_by(rt, 1, None, WRITES)?;
+    println!(rt; "1 workers, in turn: {served:?}")?;
+    for workers in [1, 4, 8, 32] {
+        for answers in [1, 100, 1000] {
+            let grouped = grouped_by(rt, workers, answers, LONG)?;
+            println!(rt; "{workers} workers, groups of {answers} answers: {grouped:?}")?;
+        }
+        let grouped = grouped_by(rt, workers, 1000, 0)?;
+        println!(rt; "{workers} workers, groups of no time: {grouped:?}")?;
+    }
+    Ok(())
+}
+
+fn grouped_by<R: AllocGlobal + Threads + Wait + Clock + Sync>(
+    rt: &R,
+    workers: u32,
+    answers: u32,
+    seconds: u64,
+) -> Result<Option<Served>, MkfsFault>
+    requires { AreWorkers workers }
+{
+    let bound = Bound {
+        answers,
+        time: Duration::from_secs(seconds),
+    };
+    served_by(rt, workers, Some(bound), WRITES)
+}
+
+fn served_by<R: AllocGlobal + Threads + Wait + Clock + Sync>(
+    rt: &R,
+    workers: u32,
+    bound: Option<Bound>,
+    writes: u32,
+) -> Result<Option<Served>, MkfsFault>
+    requires { AreWorkers workers }
+{
     match new_image(rt.alloc()) {
-        Ok(disk) => Ok(create_all(rt, disk, workers)),
+        Ok(disk) => Ok(serve_all(rt, disk, workers, bound, writes)),
         Err(fault) => Err(fault),
     }
 }
@@ -269,12 +315,13 @@ fn shut(board: &Board, mut watches: Vec<Watch>)
     }
 }
 
-// Polls answers until there are 32 of them, and then asks for a shutdown.
+// Polls answers until there are so many of them, and then asks for a shutdown.
 fn collect<R: Wait>(
     rt: &R,
     board: &Board,
     watches: Vec<Watch>,
     mut callers: Vec<Caller>,
+    wanted: u32,
     serving: &Serving,
 ) -> u32
     requires { All (WatchOf board.now) watches.items }
@@ -282,7 +329,7 @@ fn collect<R: Wait>(
     let mut answers = 0u32;
     for _round in rt.forever() {
         answers = answers.saturating_add(poll_all(&mut callers));
-        if answers >= PROCESSES || serving.has_ended() {
+        if answers >= wanted || serving.has_ended() {
             break;
         }
         thread::yield_now();
@@ -302,10 +349,28 @@ fn poll_all(callers: &mut Vec<Caller>) -> u32 {
     answers
 }
 
-fn submit_all(callers: &mut Vec<Caller>) {
+// Hands in a creation of each process, and then so many writes of 64 bytes to a file of its own.
+fn submit_all(alloc: Global, callers: &mut Vec<Caller>, writes: u32) -> Result<(), NoMemory> {
+    let mut file = 0u32;
     for caller in callers.iter_mut() {
+        file = file.wrapping_add(1);
         let _number = caller.submit(Op::Create(2));
+        submit_writes(alloc, caller, file, writes)?;
     }
+    Ok(())
+}
+
+fn submit_writes(
+    alloc: Global,
+    caller: &mut Caller,
+    file: u32,
+    writes: u32,
+) -> Result<(), NoMemory> {
+    for _write in 0..writes {
+        let bytes = Content::copy_of(alloc, &[7; 64])?;
+        let _number = caller.submit(Op::Write(file, 0, bytes));
+    }
+    Ok(())
 }
 
 // What came of the creations: how many answers there were, and of how many the kernel has an entry;
@@ -317,12 +382,22 @@ struct Created {
     is_sound: bool,
 }
 
-// 32 processes with one creation each, and so many workers.
-fn create_all<R: AllocGlobal + Threads + Wait + Clock + Sync>(
+// The same, how many groups were committed, and by how many writes.
+#[derive(Clone, Copy, Debug)]
+struct Served {
+    created: Created,
+    groups: u64,
+    writes: u64,
+}
+
+// 32 processes with one creation each, and so many writes, and so many workers.
+fn serve_all<R: AllocGlobal + Threads + Wait + Clock + Sync>(
     rt: &R,
     disk: MemDisk,
     workers: u32,
-) -> Option<Created>
+    bound: Option<Bound>,
+    writes: u32,
+) -> Option<Served>
     requires { AreWorkers workers }
 {
     let (Ok((intake, mut callers)), Ok((board, keeper, watches))) = (
@@ -331,14 +406,19 @@ fn create_all<R: AllocGlobal + Threads + Wait + Clock + Sync>(
     ) else {
         return None;
     };
-    submit_all(&mut callers);
+    if submit_all(rt.alloc(), &mut callers, writes).is_err() {
+        return None;
+    }
+    let wanted = PROCESSES.saturating_mul(writes.saturating_add(1));
     match opened(rt.alloc(), disk, intake, &board, keeper, PROCESSES) {
-        Some(kernel) => Some(serve_callers(rt, kernel, &board, watches, callers, workers)),
+        Some(kernel) => Some(
+            serve_callers(rt, kernel, &board, watches, callers, workers, bound, wanted),
+        ),
         None => None,
     }
 }
 
-// Serves a kernel, while its callers wait for their answers.
+// Serves a kernel, while its callers wait for so many answers.
 fn serve_callers<R: AllocGlobal + Threads + Wait + Clock + Sync>(
     rt: &R,
     kernel: Opened<'_>,
@@ -346,22 +426,44 @@ fn serve_callers<R: AllocGlobal + Threads + Wait + Clock + Sync>(
     watches: Vec<Watch>,
     callers: Vec<Caller>,
     workers: u32,
-) -> Created
+    bound: Option<Bound>,
+    wanted: u32,
+) -> Served
     requires workers { AreWorkers workers }
     requires watches { All (WatchOf board.now) watches.items }
 {
-    let (answers, kernel) = serve_while(
-        rt,
-        kernel,
-        workers,
-        &NoGate,
-        move |serving| -> u32
-            requires { All (WatchOf board.now) watches.items }
-        { collect(rt, board, watches, callers, serving) },
-    );
-    Created {
-        answers,
-        entries: kernel.had(),
-        is_sound: check(rt.alloc(), &mut kernel.into_disk()).is_ok(),
+    let before = kernel.disk().writes();
+    let (answers, kernel) = match bound {
+        None => serve_while(
+            rt,
+            kernel,
+            workers,
+            &NoGate,
+            move |serving| -> u32
+                requires { All (WatchOf board.now) watches.items }
+            { collect(rt, board, watches, callers, wanted, serving) },
+        ),
+        Some(bound) => serve_grouped_while(
+            rt,
+            kernel,
+            workers,
+            bound,
+            &NoGate,
+            move |serving| -> u32
+                requires { All (WatchOf board.now) watches.items }
+            { collect(rt, board, watches, callers, wanted, serving) },
+        ),
+    };
+    let (entries, groups) = (kernel.had(), kernel.committed());
+    let writes = kernel.disk().writes().wrapping_sub(before);
+    let is_sound = check(rt.alloc(), &mut kernel.into_disk()).is_ok();
+    Served {
+        created: Created {
+            answers,
+            entries,
+            is_sound,
+        },
+        groups,
+        writes,
     }
 }

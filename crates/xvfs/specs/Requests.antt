@@ -64,7 +64,7 @@ Answers file (Rescue from to no_sync) old new =
 Answers file (Replay image script schedule stop sync writes steps picture) old new =
     OpensDisk file.remaining file_disk sync (IsReplayedInto file.contents sync
     (record { steps = steps; writes = writes }) (unwrap_or stop 0) old new picture)
-Answers file (Run image script workers sync) old new =
+Answers file (Run image script workers group sync) old new =
     OpensDisk file.remaining file_disk sync (IsRun old new)
 Answers file (Stops script schedule held picture) old new =
     ChecksInto file.contents held old new picture
@@ -104,7 +104,7 @@ OnRefused file (Rescue from to no_sync) old new none =
 OnRefused file (Replay image script schedule stop sync writes steps picture) old new none =
     Refuses (IsUnpictured file.remaining sync (record { steps = steps; writes = writes })
     (unwrap_or stop 0) old new none)
-OnRefused file (Run image script workers sync) old new none =
+OnRefused file (Run image script workers group sync) old new none =
     Refuses (IsNotRun file.remaining sync old new none)
 OnRefused file (Stops script schedule held picture) old new none =
     Refuses (IsUncheckedInto file.contents held old new none picture)

@@ -353,10 +353,11 @@ where
             image,
             script,
             workers,
+            group,
             sync,
         } => end(
             NAME,
-            run_files(rt, image, script, workers, sync, locking, out),
+            run_files(rt, image, script, workers, group, sync, locking, out),
             err,
         ),
         Request::Stops {

@@ -20,7 +20,7 @@ few_by name rows (Put image file inum sync no_sync) asks = tt
 few_by name rows (Copy old new size no_sync) asks = tt
 few_by name rows (Rescue old new no_sync) asks = tt
 few_by name rows (Replay image script schedule stop sync writes steps picture) asks = tt
-few_by name rows (Run image script workers sync) asks = (asks.3.0, asks.3.1)
+few_by name rows (Run image script workers group sync) asks = (asks.3.0, asks.3.1)
 few_by name rows (Stops script schedule held picture) asks = tt
 
 few_of : (command : Option (List ℕ × List Row)) (request : Request) → Asks xvfs_words command request → HasFewWorkers request
