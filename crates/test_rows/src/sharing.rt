@@ -411,9 +411,9 @@ fn serve_all<R: AllocGlobal + Threads + Wait + Clock + Sync>(
     }
     let wanted = PROCESSES.saturating_mul(writes.saturating_add(1));
     match opened(rt.alloc(), disk, intake, &board, keeper, PROCESSES) {
-        Some(kernel) => Some(
-            serve_callers(rt, kernel, &board, watches, callers, workers, bound, wanted),
-        ),
+        Some(kernel) => Some(serve_callers(
+            rt, kernel, &board, watches, callers, workers, bound, wanted,
+        )),
         None => None,
     }
 }
