@@ -1,5 +1,5 @@
 -- Laws of a device of which a sync failed.
-use Rattle.std.specs.Prelude.{◌≡◌, ◌⊎◌, ◌↔◌, ◌∷◌, [], ℕ, IsTrue, List, drop, length, take, None}
+use Rattle.std.specs.Prelude.{◌≡◌, ◌⊎◌, ◌↔◌, ◌∷◌, [], ℕ, Bool, IsTrue, List, drop, length, take, None}
 use Rattle.std.specs.List.{flat_map}
 use Rattle.blocks.specs.Disk.{Image, block_at}
 use Rattle.model.specs.Files.{files_of}
@@ -8,7 +8,7 @@ use Rattle.model.specs.Log.{is_lawful_log, logged_count, recovered}
 use Rattle.model.specs.Soundness.{IsSound}
 use Rattle.model.specs.Verdict.{verdict}
 use Rattle.wal.specs.Recovery.{RecoversAs}
-use Rattle.blocks.specs.Held.{HeldImages, Write}
+use Rattle.blocks.specs.Held.{HeldImages, Write, applied, chosen}
 use Rattle.bcache.specs.Buffers.{Buffers}
 use Rattle.wal.specs.Joint.{Joint}
 use Rattle.wal.specs.Machine.{LogState}
@@ -93,6 +93,13 @@ RunsOverStale = (x z : Image) (gs : List Group) → IsTrue (is_lawful_log x) →
 -- what a disk may leave that holds writes back, each whole, a device may that tears them
 abbrev pub HeldMayTear : Type 0
 HeldMayTear = (z w : Image) (writes : List Write) → HeldImages z writes w → TornImages z writes w
+
+-- What a sync leaves that fails, of a disk that then has just these of the held writes and whose
+-- reads give them all, is what a run leaves that breaks off there.
+abbrev pub ForgottenBreaksOff : Type 0
+ForgottenBreaksOff = (x z : Image) (held : List Write) (brought : List Bool) →
+    length brought ≡ length held →
+    BreaksOff x z (held ∷ []) (applied x held) (chosen z held brought)
 
 -- A stale device at rest carries what a recovery and commits left, and a commit that begins
 abbrev pub RestIsCarried : Type 0

@@ -1,7 +1,7 @@
 //! Laws of a device that loses and tears writes, each the contract of a function that does nothing.
 ghost use Rattle.lost_writes.specs.Carried.{CommitCarries, KernelCarries, KernelEndures};
 ghost use Rattle.lost_writes.specs.Sessions.{OpeningCarries, SessionCarries, SessionEndures};
-ghost use Rattle.lost_writes.specs.Laws.{CarriedEndures, RestIsCarried, CommitsInTurn, CommitsOverStale, CommittedOverStale, BreaksAsStopped, FreshensSafely, HeldMayTear, RecoversFiles, RecoversOverStale, RecoveryWrites, RunsOverStale, StaleIsRecovered};
+ghost use Rattle.lost_writes.specs.Laws.{CarriedEndures, RestIsCarried, CommitsInTurn, CommitsOverStale, CommittedOverStale, BreaksAsStopped, ForgottenBreaksOff, FreshensSafely, HeldMayTear, RecoversFiles, RecoversOverStale, RecoveryWrites, RunsOverStale, StaleIsRecovered};
 
 use blocks::Disk;
 use ports::{Herald, Intake};
@@ -58,6 +58,12 @@ pub fn runs_over_stale()
 /// What a disk may leave that holds writes back, each of them whole, is among the torn images.
 pub fn held_may_tear()
     ensures { HeldMayTear }
+{}
+
+/// What `blocks::ForgetfulDisk` has behind a sync that fails, and what its reads give, is what a run
+/// leaves that breaks off there. So the laws above are of that disk, too.
+pub fn forgotten_breaks_off()
+    ensures { ForgottenBreaksOff }
 {}
 
 /// The steps of a commit that `wal::Volume::commit_step` makes, carried to a device that is stale
