@@ -248,6 +248,16 @@ impl<F: Placed + Drop> FileDisk<F> {
 }
 
 impl<F> FileDisk<F> {
+    ghost use Rattle.blocks.specs.FileDisk.{file_of};
+
+    /// The file below it.
+    pub fn into_file(self) -> F
+        ensures { result ≡ file_of self }
+    {
+        let FileDisk { file, .. } = self;
+        file
+    }
+
     // A disk over a file that holds the blocks of the copy.
     fn over(copy: MemDisk, file: F) -> FileDisk<F>
         ensures copy { result.copy ≡ copy }
@@ -483,6 +493,3 @@ impl<F: Placed + Drop> Disk for FileDisk<F> {
         Ok(())
     }
 }
-
-#[cfg(test)]
-mod tests;

@@ -142,6 +142,3 @@ impl ForgetfulDisk {
         self.below.left(brought)
     }
 }
-
-#[cfg(test)]
-mod tests;

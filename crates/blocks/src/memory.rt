@@ -220,29 +220,3 @@ impl Disk for MemDisk {
         Ok(())
     }
 }
-
-#[cfg(test)]
-mod tests {
-    use super::*;
-
-    #[test]
-    fn tells_the_last_write(rt: HostRuntime) {
-        let alloc = rt.alloc();
-        let image = [7; 2048];
-        let Ok(mut disk) = MemDisk::over(alloc, &image, 2) else {
-            panic!(rt; "no memory");
-        };
-        assert_eq!(rt; disk.size(), 2);
-        assert_eq!(rt; disk.last(), 0);
-        let Ok(block) = Block::zeroed(alloc) else {
-            panic!(rt; "no memory");
-        };
-        assert!(rt; disk.write(1, &block).is_ok());
-        assert_eq!(rt; disk.last(), 1);
-        assert_eq!(rt; disk.writes(), 1);
-        assert_eq!(rt; disk.block(0)[1023], 7);
-        assert_eq!(rt; disk.block(1)[1023], 0);
-        assert!(rt; disk.sync().is_ok());
-        assert_eq!(rt; disk.syncs(), 1);
-    }
-}

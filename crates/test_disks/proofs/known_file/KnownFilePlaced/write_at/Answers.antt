@@ -2,7 +2,7 @@ use Rattle.std.proofs.Common.{◌≡◌, ◌+◌, ◌≤◌, ◌++◌, ◌∙◌
 use Rattle.std.proofs.lemmas.List.{drop-drop}
 use Rattle.std.specs.Prelude.{Some}
 use Rattle.blocks.specs.Common.{length-drop, length-take-le, overwritten, take-append-drop}
-use Rattle.blocks.proofs.file.tests.KnownFilePlaced.write_at.Goals as goal
+use Rattle.test_disks.proofs.known_file.KnownFilePlaced.write_at.Goals as goal
 
 -- what stands at a place, written there again
 same_again : (xs : List ℕ) (at n : ℕ) → at + n ≤ length xs → overwritten xs at (take n (drop at xs)) ≡ xs
