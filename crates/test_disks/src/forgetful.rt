@@ -1,5 +1,5 @@
 // What a sync that fails leaves out for good, and what brings it to the device.
-use blocks::{Block, DiskFault, ForgetfulDisk, MemDisk, NoMemory};
+use blocks::{Block, Disk, DiskFault, ForgetfulDisk, MemDisk, NoMemory};
 use std::alloc::Global;
 
 /// What the device of a disk of three blocks has where a stop brings none of the held writes, behind
