@@ -203,7 +203,7 @@ module _ {D N : Type 0} (disk : Ghosts D N) (r : Step) (k m : Plain D) (call : I
         let form = form_of (disk.image k.opening) in
         let none = anchor_makes_none form f (files_of (image_on disk.image m)) is.answer.reply i
         (files_then disk k m is.entry anchor is.answer.reply run.opening is.list is.same is.replied f (files_of (image_on disk.image m)) has (disk_files disk m call.known_now all well has_now)) in
-        labels_then_made disk.image k m is.entry is.answer.reply run.opening is.list is.replied i ∙ ap (λ (b : Bool). cond b (0, 0, 1) (labels_made disk.image k i)) none
+        labels_then_made disk.image k m is.entry is.answer.reply run.opening is.list is.replied i ∙ ap (λ (b : Bool). cond b (0, 0) (labels_made disk.image k i)) none
 
     -- the files from before are told by the journal
     told_before : (f : Files) × HasFiles disk.image k f

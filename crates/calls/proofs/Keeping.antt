@@ -272,7 +272,7 @@ module _ {D N : Type 0} (disk : Ghosts D N) (k m : Plain D) (was : IsSettled dis
         let o = disk.image k.opening in
         let es = k.world.journal.list in
         labels_now o (image_on disk.image k) (recovered z) (kept (inode_count_of o) es k.store.volume.log.committed) was.size was.marks (kept (inode_count_of o) m.world.journal.list c) (marks_from c z keeps) i there
-        ∙ ap (λ (b : Bool). cond b (0, 0, 1) (labels_of o i)) (makes_all c (files_of (recovered z)) i high (from_opening c z keeps))
+        ∙ ap (λ (b : Bool). cond b (0, 0) (labels_of o i)) (makes_all c (files_of (recovered z)) i high (from_opening c z keeps))
         ∙ ap (λ (fs : List Entry). due_labels o fs i) (kept_up_to (inode_count_of o) k.store.volume.log.opened c es known.journal.groups high)
         ∙ due_kept o known.replays.files k.store.volume.log.opened i es known.journal.groups known.replays.run
 

@@ -130,7 +130,7 @@ module _ {D N : Type 0} (disk : Ghosts D N) (cur : Image) (n j kind : ℕ) (numb
 -- a used inode has a file
 pub used_file : (x : Image) (i : ℕ) → 0 < i → (inode_of x i).kind ≢ 0 → (f : File) × (file_at x i ≡ Some f)
 unfolding file_of
-used_file x i low used = (record { kind = (inode_of x i).kind; bytes = bytes_in x (inode_of x i) }, rw (ne_eqb i 0 (λ e. omega (arith, low, e)), ne_eqb (inode_of x i).kind 0 used) refl)
+used_file x i low used = (record { kind = (inode_of x i).kind; links = (inode_of x i).nlink; bytes = bytes_in x (inode_of x i) }, rw (ne_eqb i 0 (λ e. omega (arith, low, e)), ne_eqb (inode_of x i).kind 0 used) refl)
 
 -- a number without one is free
 free_number : (x : Image) (i : ℕ) → 0 < i → i < inode_count_of x → file_in (files_of x) i ≡ None → (inode_of x i).kind ≡ 0

@@ -75,9 +75,9 @@ pub labels_then_made : {D : Type 0} (image : D → Image) (k m : Plain D) (e : E
 labels_then_made {D} image k m e r opening list replied i =
     let es = k.world.journal.list in
     ap (λ (d : D). due_labels (image d) m.world.journal.list i) opening ∙ ap (λ (l : List Entry). due_labels (image k.opening) l i) list
-    ∙ ap (λ (b : Bool). cond b (0, 0, 1) (labels_of (image k.opening) i)) (makes_more i es e ∙ ap (λ (o : Option Reply). is_making i o || makes i es) replied)
+    ∙ ap (λ (b : Bool). cond b (0, 0) (labels_of (image k.opening) i)) (makes_more i es e ∙ ap (λ (o : Option Reply). is_making i o || makes i es) replied)
     ∙ by (is_making i (Some r)) (makes i es)
   where
-    by : (a b : Bool) → cond (a || b) (0, 0, 1) (labels_of (image k.opening) i) ≡ cond a (0, 0, 1) (cond b (0, 0, 1) (labels_of (image k.opening) i))
+    by : (a b : Bool) → cond (a || b) (0, 0) (labels_of (image k.opening) i) ≡ cond a (0, 0) (cond b (0, 0) (labels_of (image k.opening) i))
     by true b = refl
     by false b = refl

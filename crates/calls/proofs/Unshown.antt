@@ -100,15 +100,15 @@ module _ (o x y : Image) (es : List Entry) (size : length x ≡ length o) (was :
     or_one false = refl
 
     due_after : (i : ℕ) (b : Bool) → is_making i (Some r) ≡ b → file_in (files_of y) i ≢ None → (file : Option File) → file_in (files_of x) i ≡ file →
-        due_labels o (es ++ e ∷ []) i ≡ cond (is_some file) (labels_of x i) (0, 0, 1)
+        due_labels o (es ++ e ∷ []) i ≡ cond (is_some file) (labels_of x i) (0, 0)
     due_after i true is there None none =
-        ap (λ (b : Bool). cond b (0, 0, 1) (labels_of o i)) (makes_one i ∙ ap (λ (b : Bool). list_any (λ (f : Entry). is_making i f.reply) es || (b || false)) is ∙ or_one (list_any (λ (f : Entry). is_making i f.reply) es))
+        ap (λ (b : Bool). cond b (0, 0) (labels_of o i)) (makes_one i ∙ ap (λ (b : Bool). list_any (λ (f : Entry). is_making i f.reply) es || (b || false)) is ∙ or_one (list_any (λ (f : Entry). is_making i f.reply) es))
     due_after i true is there (Some file) some =
         let both = sym some ∙ (after_tells form (files_of x) (files_of y) e.op r made).made i is in
         absurd (cc both)
     due_after i false is there None none = absurd ((after_tells form (files_of x) (files_of y) e.op r made).others i is there none)
     due_after i false is there (Some file) some =
-        ap (λ (b : Bool). cond b (0, 0, 1) (labels_of o i)) (makes_one i ∙ ap (λ (b : Bool). list_any (λ (f : Entry). is_making i f.reply) es || (b || false)) is ∙ or_none (list_any (λ (f : Entry). is_making i f.reply) es))
+        ap (λ (b : Bool). cond b (0, 0) (labels_of o i)) (makes_one i ∙ ap (λ (b : Bool). list_any (λ (f : Entry). is_making i f.reply) es || (b || false)) is ∙ or_none (list_any (λ (f : Entry). is_making i f.reply) es))
         ∙ sym (labels_then i (λ none. let both = sym some ∙ none in cc both))
 
     pub unshown_more : HasMarks o (es ++ e ∷ []) y → KeepsUnshown x y
@@ -148,12 +148,12 @@ module _ (o x y : Image) (es all : List Entry) (size : length x ≡ length o) (w
   unfolding rest
   makes_all i = ap (makes i) (sym first.1) ∙ list_any-append (λ (f : Entry). is_making i f.reply) es first.0
 
-  labels_by : (i : ℕ) (b c : Bool) → makes i rest ≡ b → makes i es ≡ c → file_in (files_of y) i ≢ None → (labels_of y i ≡ labels_due x i) ⊎ (labels_of y i ≡ (0, 0, 1))
-  labels_by i b true made here there = inr (labels_now o x y es size was all now i there ∙ ap (λ (t : Bool). cond t (0, 0, 1) (labels_of o i)) (makes_all i ∙ ap (λ (t : Bool). t || makes i rest) here))
-  labels_by i true false made here there = inr (labels_now o x y es size was all now i there ∙ ap (λ (t : Bool). cond t (0, 0, 1) (labels_of o i)) (makes_all i ∙ ap (λ (t : Bool). t || makes i rest) here ∙ made))
+  labels_by : (i : ℕ) (b c : Bool) → makes i rest ≡ b → makes i es ≡ c → file_in (files_of y) i ≢ None → (labels_of y i ≡ labels_due x i) ⊎ (labels_of y i ≡ (0, 0))
+  labels_by i b true made here there = inr (labels_now o x y es size was all now i there ∙ ap (λ (t : Bool). cond t (0, 0) (labels_of o i)) (makes_all i ∙ ap (λ (t : Bool). t || makes i rest) here))
+  labels_by i true false made here there = inr (labels_now o x y es size was all now i there ∙ ap (λ (t : Bool). cond t (0, 0) (labels_of o i)) (makes_all i ∙ ap (λ (t : Bool). t || makes i rest) here ∙ made))
   labels_by i false false made here there =
       let there_then = none_made form (files_of x) (files_of y) rest i rest_run made there in
-      inl (labels_now o x y es size was all now i there ∙ ap (λ (t : Bool). cond t (0, 0, 1) (labels_of o i)) (makes_all i ∙ ap (λ (t : Bool). t || makes i rest) here ∙ made ∙ sym here)
+      inl (labels_now o x y es size was all now i there ∙ ap (λ (t : Bool). cond t (0, 0) (labels_of o i)) (makes_all i ∙ ap (λ (t : Bool). t || makes i rest) here ∙ made ∙ sym here)
       ∙ sym (labels_then o x y es size was i there_then) ∙ sym (due_there x i there_then))
 
   pub renews : KeepsOrRenews x y

@@ -15,7 +15,7 @@ files_on image k = files_of (image_on image k)
 
 -- an empty file of that type
 abbrev pub empty_file : ℕ → Option File
-empty_file kind = Some (record { kind = kind; bytes = [] })
+empty_file kind = Some (record { kind = kind; links = 1; bytes = [] })
 
 -- how many bytes a file has, if there is one
 abbrev pub size_of : Option File → Option ℕ

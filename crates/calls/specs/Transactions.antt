@@ -81,12 +81,12 @@ abbrev pub image_seen : {D : Type 0} → (D → Image) → Plain D → Image
 image_seen image k = current_of image k.store.volume
 
 -- the labels of a file that they have made or left: those of a new one where one of them made it
-abbrev pub labels_made : {D : Type 0} → (D → Image) → Plain D → ℕ → ℕ × ℕ × ℕ
+abbrev pub labels_made : {D : Type 0} → (D → Image) → Plain D → ℕ → ℕ × ℕ
 labels_made image k i = due_labels (image k.opening) k.world.journal.list i
 
 -- the labels of a file behind an operation with this reply
-abbrev pub labels_after : Reply → ℕ → ℕ × ℕ × ℕ → ℕ × ℕ × ℕ
-labels_after reply i labels = if is_making i (Some reply) then (0, 0, 1) else labels
+abbrev pub labels_after : Reply → ℕ → ℕ × ℕ → ℕ × ℕ
+labels_after reply i labels = if is_making i (Some reply) then (0, 0) else labels
 
 -- a transaction begins with the files on the disk
 pub record Begins {D : Type 0} (image : D → Image) (k m : Plain D) : Type 0 where
@@ -172,13 +172,13 @@ IsUncommitted disk k m fault.NoMemory = ⊥
 IsUncommitted disk k m fault.NoRoom = ⊥
 
 -- the files of an image have these labels
-abbrev pub HasLabels : (ℕ → ℕ × ℕ × ℕ) → Image → Type 0
+abbrev pub HasLabels : (ℕ → ℕ × ℕ) → Image → Type 0
 HasLabels labels x = (i : ℕ) → file_in (files_of x) i ≢ None → labels_of x i ≡ labels i
 
 -- ALL OR NOTHING: what a stop in the commit of a transaction leaves: recovery gives a sound image
 -- with the files of image x, which stood on the disk before it, or with those that the whole of it
 -- made. What no file shows stays, or the labels of files are those that are told.
-pub record KeepsEither (x : Image) (made : Files) (told : ℕ → ℕ × ℕ × ℕ) (z : Image)
+pub record KeepsEither (x : Image) (made : Files) (told : ℕ → ℕ × ℕ) (z : Image)
     : Type 0 where
   pub log : IsTrue (is_lawful_log z)
   pub sound : IsSound (recovered z)

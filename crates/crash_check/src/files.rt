@@ -86,7 +86,11 @@ fn is_same_file(a: &Option<File>, b: &Option<File>) -> bool
     ensures { IsTrue result ↔ (a.now ≡ b.now) }
 {
     match (a, b) {
-        (Some(a), Some(b)) => a.kind == b.kind && a.bytes.as_slice() == b.bytes.as_slice(),
+        (Some(a), Some(b)) => {
+            a.kind == b.kind
+                && a.links == b.links
+                && a.bytes.as_slice() == b.bytes.as_slice()
+        }
         (None, None) => true,
         _ => false,
     }

@@ -82,7 +82,7 @@ unnamed_by files new i file inside free e = record {
 pub creates : (form : Form) (files new : Files) (kind i : ℕ) → after form files (Create kind) (Made i) ≡ Some new →
     IsUnnamed files new i (empty_file kind)
 creates form files new kind i h =
-    let file : Option File = Some (record { kind = kind; bytes = [] }) in
+    let file : Option File = Some (record { kind = kind; links = 1; bytes = [] }) in
     let made = where_true_some (ltb 0 i && ltb i (length files) && is_none (file_in files i)) (set files i file) new
     (done_of form files new (Create kind) (Made i) (λ r. not_made r i) h) in
     let first = and_parts (ltb 0 i && ltb i (length files)) (is_none (file_in files i)) made.0 in

@@ -75,9 +75,9 @@ create_elsewhere : (files new : Files) (d : File) (kind : ℕ) (reply : Reply) �
     after_create files kind reply ≡ Some new → file_in new 1 ≡ file_in files 1
 create_elsewhere files new d kind (Made i) is h =
     let made = where_true_some (ltb 0 i && ltb i (length files) && is_none (file_in files i))
-    (set files i (Some (record { kind = kind; bytes = [] }))) new h in
+    (set files i (Some (record { kind = kind; links = 1; bytes = [] }))) new h in
     let free = (and_parts (ltb 0 i && ltb i (length files)) (is_none (file_in files i)) made.0).1 in
-    elsewhere files new i (Some (record { kind = kind; bytes = [] }))
+    elsewhere files new i (Some (record { kind = kind; links = 1; bytes = [] }))
     (λ same. both_ways (is_none (file_in files i)) (ap (λ (j : ℕ). is_none (file_in files j)) same ∙ ap (λ (o : Option File). is_none o) is) free)
     made.1
 create_elsewhere files new d kind NoInode is h = let e : files ≡ new = cc h in ap (λ (l : Files). file_in l 1) (sym e)

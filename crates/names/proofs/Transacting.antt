@@ -39,7 +39,7 @@ module _ {D N : Type 0} (disk : Ghosts D N) where
     happened f g (Ok made) z happens same = inr (made, subst (λ (h : Files). change made f h) (sym same) happens)
     happened f g (Err cause) z happens same = inl (same ∙ happens.0)
 
-    keeps_either : (x z : Image) (made : Files) (told : ℕ → ℕ × ℕ × ℕ) (r : Result T Refusal) → IsTree (files_of x) → StaysTree (files_of x) made → Happens change why (files_of x) made r →
+    keeps_either : (x z : Image) (made : Files) (told : ℕ → ℕ × ℕ) (r : Result T Refusal) → IsTree (files_of x) → StaysTree (files_of x) made → Happens change why (files_of x) made r →
         KeepsEither x made told z → KeepsTree change x z
     keeps_either x z made told r tree after happens keeps = record {
       log = keeps.log;

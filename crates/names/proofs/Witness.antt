@@ -34,14 +34,14 @@ unlink = record { place = 2; entry = replicate 16 0 }
 
 -- with a file under a name
 abbrev named : Files
-named = None ∷ Some (record { kind = 1; bytes = new_directory 1 1 ++ entry_bytes 2 name }) ∷ Some (empty_file 2) ∷ []
+named = None ∷ Some (record { kind = 1; links = 1; bytes = new_directory 1 1 ++ entry_bytes 2 name }) ∷ Some (empty_file 2) ∷ []
 
 -- and without it again
 abbrev freed : Files
-freed = None ∷ Some (record { kind = 1; bytes = new_directory 1 1 ++ replicate 16 0 }) ∷ Some (empty_file 2) ∷ []
+freed = None ∷ Some (record { kind = 1; links = 1; bytes = new_directory 1 1 ++ replicate 16 0 }) ∷ Some (empty_file 2) ∷ []
 
 abbrev emptied : Files
-emptied = None ∷ Some (record { kind = 1; bytes = new_directory 1 1 ++ replicate 16 0 }) ∷ None ∷ []
+emptied = None ∷ Some (record { kind = 1; links = 1; bytes = new_directory 1 1 ++ replicate 16 0 }) ∷ None ∷ []
 
 none_else : (i : ℕ) → i ≢ 1 → file_in files i ≡ None
 none_else zero ne = refl

@@ -15,7 +15,7 @@ use Rattle.names.specs.Walks.{AtLast}
 
 -- a file of these bytes that is no directory
 abbrev pub file_of : List ℕ → File
-file_of bytes = record { kind = file_kind; bytes = bytes }
+file_of bytes = record { kind = file_kind; links = 1; bytes = bytes }
 
 -- the file of a number has these alone, and the number is told again
 abbrev pub Refills : ℕ → List ℕ → ℕ → Files → Files → Type 0

@@ -42,11 +42,15 @@ pub record AddsName (files new : Files) (from : ℕ) (name : List ℕ) (number :
 
 -- an empty file of a type
 abbrev pub empty_file : ℕ → File
-empty_file kind = record { kind = kind; bytes = [] }
+empty_file kind = record { kind = kind; links = 1; bytes = [] }
 
 -- the file of a new directory
 abbrev pub directory_file : ℕ → ℕ → File
-directory_file number parent = record { kind = directory_kind; bytes = new_directory number parent }
+directory_file number parent = record {
+  kind = directory_kind;
+  links = 1;
+  bytes = new_directory number parent;
+}
 
 -- The file is a directory of the two entries alone.
 abbrev pub AddsDirectory : Files → Files → ℕ → List ℕ → ℕ → Type 0

@@ -41,7 +41,7 @@ kept_behind (Some a) (Some b) (Some c) bytes before keeps = keeps ∙ before
 -- the file was written whole
 pub shown_whole : (x : Image) (i : ℕ) (d : Dinode) (old mid new : Option (List ℕ)) → IsInodeOf x i d → Appends old mid (bytes_in x d) → Keeps mid new → ShowsFile x i old new
 shown_whole x i d old mid new is written keeps = record {
-  file = record { kind = d.kind; bytes = bytes_in x d };
+  file = record { kind = d.kind; links = d.nlink; bytes = bytes_in x d };
   is = is.file;
   bytes = kept_behind old mid new (bytes_in x d) written keeps;
 }
@@ -89,7 +89,7 @@ part_unshown disk d mid e i inode old new none image same is (Disk fault) why = 
   subst (λ (x : Image). fault.0 < length x) image why.0,
   subst (λ (n : ℕ). Rose n (disk.fault_count e)) same why.1,
   inr (record {
-    file = record { kind = inode.kind; bytes = bytes_in (recovered (disk.image d)) inode };
+    file = record { kind = inode.kind; links = inode.nlink; bytes = bytes_in (recovered (disk.image d)) inode };
     is = is.file;
     count = why.2.0;
     bytes = subst (λ (y : Image). Appends old new (take why.2.0 (bytes_in (recovered y) inode))) image why.2.1;

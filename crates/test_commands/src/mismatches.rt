@@ -182,6 +182,7 @@ fn file_of(alloc: Global, is_there: bool) -> Result<Option<File>, NoMemory> {
     }
     Ok(Some(File {
         kind: 2,
+        links: 1,
         bytes: Content::copy_of(alloc, &[])?,
     }))
 }

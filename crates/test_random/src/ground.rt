@@ -122,6 +122,7 @@ fn copied(alloc: Global, place: &Option<File>) -> Result<Option<File>, What> {
     };
     Ok(Some(File {
         kind: file.kind,
+        links: file.links,
         bytes: Content::copy_of(alloc, file.bytes.as_slice())?,
     }))
 }

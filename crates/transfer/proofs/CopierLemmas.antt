@@ -14,13 +14,13 @@ use Rattle.model.specs.Layout.{form_of, has_known_magic, inode_count_of, is_know
 use Rattle.model.specs.Log.{recovered}
 use Rattle.model.specs.Verdict.{verdict}
 use Rattle.calls.specs.Stepping.{Plain}
-use Rattle.offline.specs.Clean.{clean_files}
 use Rattle.wal.specs.Recovery.{LeavesIfCalm}
 use Rattle.transfer.specs.Copies.{HoldsFiles, IsFilledOut, IsMkfsCause, IsNoneOrFilled, IsNotFilledOut, IsUncopied, IsUnfilled, IsUnmade, IsUnread}
 use Rattle.transfer.specs.Fitting.{DontFit, IsWhyShort, data_count}
 use Rattle.transfer.specs.Holding.{BreaksOff, HasNoRoom, Holds, IsUnwritten, RunsShort}
 use Rattle.transfer.specs.Laws.{StoppedCopyIsRefused}
 use Rattle.transfer.specs.Rescues.{IsUnopened, IsUnrescued, opening_fault}
+use Rattle.transfer.specs.Source.{copied_files, rescued_files}
 use Rattle.transfer.specs.Writing.{IsNoneOr, IsNotWrittenOut, KeepsSuperblock, WritesOut}
 use Rattle.transfer.specs.declared.fault.CopyFault.{CopyFault}
 use Rattle.transfer.specs.declared.fault.CopyFault.TheVariants.{Old, NotFirst, Mkfs, Full, Leaked, NoMemory, Disk}
@@ -198,17 +198,17 @@ module _ {D E M N : Type 0} (old : Ghosts D M) (new : Ghosts E N) (size : ℕ) (
         (subst (λ (f : Form). DontFit (data_count size count) f (recovered (old.image mid)) these i) is
         (subst (λ (fs : Files). DontFit (data_count size count) form (recovered (old.image mid)) fs i) are why)))
 
-    pub uncopied : old.image mid ≡ old.image d → verdict (old.image d) ≡ None → form_of (old.image d) ≡ One → form ≡ Two → files ≡ files_of (recovered (old.image d)) →
+    pub uncopied : old.image mid ≡ old.image d → verdict (old.image d) ≡ None → form_of (old.image d) ≡ One → form ≡ Two → files ≡ copied_files (recovered (old.image d)) →
         (e : E) (fault : CopyFault) → IsNotFilledOut old new size count form files mid d' n e fault → IsUncopied old new size d d' n e fault
     uncopied same sound first is are e (Old cause) why = absurd why
     uncopied same sound first is are e NotFirst why = absurd why
     uncopied same sound first is are e (Mkfs cause) why = (sound, first, subst (λ (c : ℕ). IsMkfsCause size c (length (new.image n)) cause) numbers why.0, why.1)
-    uncopied same sound first is are e (Full i) why = (sound, first, fits_not same Two (files_of (recovered (old.image d))) i is are why.0, why.1)
-    uncopied same sound first is are e (Leaked i) why = (sound, first, cut_short Two (files_of (recovered (old.image d))) i is are why.0, why.1)
+    uncopied same sound first is are e (Full i) why = (sound, first, fits_not same Two (copied_files (recovered (old.image d))) i is are why.0, why.1)
+    uncopied same sound first is are e (Leaked i) why = (sound, first, cut_short Two (copied_files (recovered (old.image d))) i is are why.0, why.1)
     uncopied same sound first is are e NoMemory why = why
     uncopied same sound first is are e Disk why = failed e why
 
-    pub unrescued : old.image mid ≡ old.image d → opening_fault (old.image d) ≡ None → size ≡ length (old.image d) → form ≡ form_of (old.image d) → files ≡ clean_files (recovered (old.image d)) →
+    pub unrescued : old.image mid ≡ old.image d → opening_fault (old.image d) ≡ None → size ≡ length (old.image d) → form ≡ form_of (old.image d) → files ≡ rescued_files (recovered (old.image d)) →
         (e : E) (fault : CopyFault) → IsNotFilledOut old new size count form files mid d' n e fault → IsUnrescued old new d d' n e fault
     unrescued same opened long is are e (Old cause) why = absurd why
     unrescued same opened long is are e NotFirst why = absurd why
@@ -220,14 +220,14 @@ module _ {D E M N : Type 0} (old : Ghosts D M) (new : Ghosts E N) (size : ℕ) (
     )
     unrescued same opened long is are e (Full i) why = (
       opened,
-      subst (λ (s : ℕ). DontFit (data_count s (inode_count_of (old.image d))) (form_of (old.image d)) (recovered (old.image d)) (clean_files (recovered (old.image d))) i) long
-          (fits_not same (form_of (old.image d)) (clean_files (recovered (old.image d))) i is are why.0),
+      subst (λ (s : ℕ). DontFit (data_count s (inode_count_of (old.image d))) (form_of (old.image d)) (recovered (old.image d)) (rescued_files (recovered (old.image d))) i) long
+          (fits_not same (form_of (old.image d)) (rescued_files (recovered (old.image d))) i is are why.0),
       why.1,
     )
     unrescued same opened long is are e (Leaked i) why = (
       opened,
-      subst (λ (s : ℕ). RunsShort s (form_of (old.image d)) i (clean_files (recovered (old.image d)))) long
-          (cut_short (form_of (old.image d)) (clean_files (recovered (old.image d))) i is are why.0),
+      subst (λ (s : ℕ). RunsShort s (form_of (old.image d)) i (rescued_files (recovered (old.image d)))) long
+          (cut_short (form_of (old.image d)) (rescued_files (recovered (old.image d))) i is are why.0),
       why.1,
     )
     unrescued same opened long is are e NoMemory why = why

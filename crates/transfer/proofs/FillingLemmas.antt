@@ -268,7 +268,7 @@ module _ (x : Image) (source : Source) (is : IsSourceOf x source) where
         let at : (k + 1) - 1 ≡ k = omega arith in
         ap (λ (n : ℕ). get_or source.kinds.items n 0) at
 
-    pub file_listed : get_or source.kinds.items k 0 ≢ 0 → file_in chosen (k + 1) ≡ Some (record { kind = (inode_of (recovered x) (k + 1)).kind; bytes = bytes_in (recovered x) (inode_of (recovered x) (k + 1)) })
+    pub file_listed : get_or source.kinds.items k 0 ≢ 0 → file_in chosen (k + 1) ≡ Some (record { kind = (inode_of (recovered x) (k + 1)).kind; links = 1; bytes = bytes_in (recovered x) (inode_of (recovered x) (k + 1)) })
     file_listed used =
         chosen_here ∙ chosen_used (recovered x) source.kinds.items (k + 1) (omega arith) (λ free. used (sym kind_here ∙ free)) (kind_here ∙ is.each k low used)
 

@@ -76,14 +76,14 @@ module _ (x : Image) (image : Recovered) (is : IsCheckedOf x image) where
     unfolding file_of
     free_number free = file_here ∙ rw free refl
 
-    pub file_number : d.kind ≢ 0 → file_in (files_of (recovered x)) i ≡ Some (record { kind = d.kind; bytes = bytes_in (recovered x) d })
+    pub file_number : d.kind ≢ 0 → file_in (files_of (recovered x)) i ≡ Some (record { kind = d.kind; links = d.nlink; bytes = bytes_in (recovered x) d })
     unfolding file_of
     file_number used = file_here ∙ rw (ne_eqb d.kind 0 used) refl
 
     pub used_number : d.kind ≢ 0 → file_in (files_of (recovered x)) i ≢ None
     unfolding file_of
     used_number used none =
-        let file : file_of (recovered x) d ≡ Some (record { kind = d.kind; bytes = bytes_in (recovered x) d }) = rw (ne_eqb d.kind 0 used) refl in
+        let file : file_of (recovered x) d ≡ Some (record { kind = d.kind; links = d.nlink; bytes = bytes_in (recovered x) d }) = rw (ne_eqb d.kind 0 used) refl in
         cc (sym file_here ∙ none, file)
 
 -- ---- a checked image is opened

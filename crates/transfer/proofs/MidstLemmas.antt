@@ -55,10 +55,10 @@ module _ {D N : Type 0} (disk : Ghosts D N) where
     abbrev done : (g : Files) × (after (form_of (disk.image k.opening)) files op r ≡ Some g) × HasFiles disk.image m g
     done = adds.files files midst.files
 
-    labels_more : (i : ℕ) → file_in done.0 i ≢ None → (b : Bool) → is_making i (Some r) ≡ b → cond b (0, 0, 1) (labels_made disk.image k i) ≡ labels_due (image_on disk.image m) i
+    labels_more : (i : ℕ) → file_in done.0 i ≢ None → (b : Bool) → is_making i (Some r) ≡ b → cond b (0, 0) (labels_made disk.image k i) ≡ labels_due (image_on disk.image m) i
     labels_more i there true is =
         let free : file_in (files_on disk.image m) i ≡ None = ap (λ (x : Image). file_in (files_of x) i) adds.same ∙ made i is in
-        ap (λ (o : Option File). cond (is_some o) (labels_of (image_on disk.image m) i) (0, 0, 1)) (sym free)
+        ap (λ (o : Option File). cond (is_some o) (labels_of (image_on disk.image m) i) (0, 0)) (sym free)
     labels_more i there false is =
         midst.labels i ((after_tells (form_of (disk.image k.opening)) files done.0 op r done.1).others i is there) ∙ ap (λ (x : Image). labels_due x i) (sym adds.same)
 

@@ -1,7 +1,7 @@
 -- What a check and a walk over the inodes tell of the old image, and which files are copied of it.
 use Rattle.std.proofs.Common.{◌≡◌, ◌≢◌, ◌∙◌, ℕ, ◌+◌, ◌-◌, ◌<◌, ◌≤◌, Bool, true, false, cond, eqb, List, [], ◌∷◌, ◌++◌, length, get_or, map, take, Option, Some, None, refl, sym, ap, subst, inl, inr, ⊎_elim, arith}
 use Rattle.std.proofs.lemmas.Bool.{cases_Bool, cases_eq, cases_lt, ne_eqb}
-use Rattle.std.proofs.lemmas.List.{get_or-take, get_or_append_left, get_or_past, get_or_push, length-take-le, length_push}
+use Rattle.std.proofs.lemmas.List.{get_or-take, get_or_append_left, get_or_past, get_or_push, length-map, length-take-le, length_push}
 use Rattle.std.proofs.lemmas.List.FromFn.{get_or-map-range_with_len, length-map-range_with_len}
 use Rattle.blocks.specs.Disk.{Image, IsImage, Rose}
 use Rattle.model.specs.declared.types.fault.CheckFault.{CheckFault}
@@ -11,7 +11,7 @@ use Rattle.model.specs.declared.types.image.Form.{Form}
 use Rattle.model.specs.declared.types.image.Form.TheVariants.{One, Two}
 use Rattle.model.specs.declared.types.image.Super.{Super}
 use Rattle.model.specs.Fields.{u32_at}
-use Rattle.model.specs.Files.{bytes_in, file_at, file_of, files_of}
+use Rattle.model.specs.Files.{Files, bytes_in, file_at, file_in, file_of, files_of}
 use Rattle.model.specs.Layout.{form_of, greatest_size, inode_of, inode_count_of, magic_of}
 use Rattle.model.specs.Log.{is_lawful_log, recovered}
 use Rattle.model.specs.Places.{numbers_of}
@@ -29,10 +29,10 @@ use Rattle.offline.specs.Recovered.{IsRecoveredOf}
 use Rattle.offline.specs.declared.recovered.Recovered.{Recovered}
 use Rattle.offline.specs.declared.sorting.Sorted.{Sorted}
 use Rattle.transfer.specs.Rescues.{opening_fault}
-use Rattle.transfer.specs.Source.{AreFirstKinds, chosen_at, chosen_files, CopiesAll, CopiesClean, IsSourceOf}
+use Rattle.transfer.specs.Source.{AreFirstKinds, chosen_at, chosen_files, CopiesAll, CopiesClean, copied_files, IsSourceOf, named_once, rescued_files}
 use Rattle.transfer.specs.Stages.{kind_at}
 use Rattle.transfer.specs.declared.source.Source.{Source}
-use Rattle.transfer.proofs.StageLemmas.{are_listed, listed_below}
+use Rattle.transfer.proofs.StageLemmas.{are_listed, in_listed, length-listed}
 
 -- there are two forms
 pub not_two : (form : Form) → form ≢ Two → form ≡ One
@@ -82,20 +82,25 @@ both_same : {A : Type 0} (b : Bool) (x : A) → cond b x x ≡ x
 both_same true x = refl
 both_same false x = refl
 
-file_there : (y : Image) (i : ℕ) → 1 ≤ i → (inode_of y i).kind ≢ 0 → file_at y i ≡ Some (record { kind = (inode_of y i).kind; bytes = bytes_in y (inode_of y i) })
+file_there : (y : Image) (i : ℕ) → 1 ≤ i → (inode_of y i).kind ≢ 0 → file_at y i ≡ Some (record { kind = (inode_of y i).kind; links = (inode_of y i).nlink; bytes = bytes_in y (inode_of y i) })
 unfolding file_of
 file_there y i some used = rw (ne_eqb i 0 (omega (arith, some)), ne_eqb (inode_of y i).kind 0 used) refl
+
+in_copies : (files : Files) (i : ℕ) → file_in (map named_once files) i ≡ named_once (file_in files i)
+in_copies [] i = refl
+in_copies (file ∷ files) zero = refl
+in_copies (file ∷ files) (suc i) = in_copies files i
 
 module _ (y : Image) (kinds : List ℕ) (i : ℕ) where
   pub chosen_free : kind_at kinds i ≡ 0 → chosen_at y kinds i ≡ None
   chosen_free free = rw free refl
 
-  pub chosen_there : kind_at kinds i ≢ 0 → chosen_at y kinds i ≡ file_at y i
+  pub chosen_there : kind_at kinds i ≢ 0 → chosen_at y kinds i ≡ named_once (file_at y i)
   chosen_there used = rw (ne_eqb (kind_at kinds i) 0 used) refl
 
   pub chosen_used : 1 ≤ i → kind_at kinds i ≢ 0 → kind_at kinds i ≡ (inode_of y i).kind →
-      chosen_at y kinds i ≡ Some (record { kind = (inode_of y i).kind; bytes = bytes_in y (inode_of y i) })
-  chosen_used some used is = chosen_there used ∙ file_there y i some (λ free. used (is ∙ free))
+      chosen_at y kinds i ≡ Some (record { kind = (inode_of y i).kind; links = 1; bytes = bytes_in y (inode_of y i) })
+  chosen_used some used is = chosen_there used ∙ ap named_once (file_there y i some (λ free. used (is ∙ free)))
 
 pub chosen_zero : (y : Image) (kinds : List ℕ) → chosen_at y kinds 0 ≡ None
 chosen_zero y kinds = both_same (eqb (kind_at kinds 0) 0) None
@@ -111,19 +116,21 @@ module _ (y : Image) (kinds : List ℕ) (first : AreFirstKinds y kinds (inode_co
       let at : i - 1 + 1 ≡ i = omega arith in
       same (i - 1) ∙ first.each (i - 1) (omega arith) ∙ ap (λ (j : ℕ). (inode_of y j).kind) at
 
-  chosen_all_at : (i : ℕ) → i < inode_count_of y → file_at y i ≡ chosen_at y cut i
+  chosen_all_at : (i : ℕ) → i < inode_count_of y → named_once (file_at y i) ≡ chosen_at y cut i
   chosen_all_at i low =
       ⊎_elim
-      (λ (zero : i ≡ 0). subst (λ (j : ℕ). file_at y j ≡ chosen_at y cut j) (sym zero) (sym (chosen_zero y cut)))
+      (λ (zero : i ≡ 0). subst (λ (j : ℕ). named_once (file_at y j) ≡ chosen_at y cut j) (sym zero) (sym (chosen_zero y cut)))
       (λ (some : i ≢ 0).
       let is = kind_is i (omega arith) low in
-      ⊎_elim (λ (free : kind_at cut i ≡ 0). file_free y i (sym is ∙ free) ∙ sym (chosen_free y cut i free))
+      ⊎_elim (λ (free : kind_at cut i ≡ 0). ap named_once (file_free y i (sym is ∙ free)) ∙ sym (chosen_free y cut i free))
       (λ (used : kind_at cut i ≢ 0). sym (chosen_there y cut i used))
       (cases_eq (kind_at cut i) 0))
       (cases_eq i 0)
 
-  pub chosen_all : chosen_files y cut ≡ files_of y
-  chosen_all = sym (are_listed (files_of y) (inode_count_of y) (chosen_at y cut) (length-files_of y) (λ j low. file_in-files_of y j low ∙ chosen_all_at j low))
+  pub chosen_all : chosen_files y cut ≡ copied_files y
+  chosen_all =
+      sym (are_listed (copied_files y) (inode_count_of y) (chosen_at y cut) (length-map (files_of y) named_once ∙ length-files_of y)
+      (λ j low. in_copies (files_of y) j ∙ ap named_once (file_in-files_of y j low) ∙ chosen_all_at j low))
 
 -- where each is that of a clean inode, or 0, these are the clean ones
 module _ (y : Image) (kinds : List ℕ) (is : kinds ≡ map (clean_kind y) (numbers_of y)) (cut : List ℕ) (same : (k : ℕ) → get_or cut k 0 ≡ get_or kinds k 0) where
@@ -138,10 +145,10 @@ module _ (y : Image) (kinds : List ℕ) (is : kinds ≡ map (clean_kind y) (numb
   abbrev clean_at : ℕ → Option File
   clean_at i = cond (is_clean y i) (file_at y i) None
 
-  chosen_clean_at : (i : ℕ) → i < inode_count_of y → chosen_at y cut i ≡ clean_at i
+  chosen_clean_at : (i : ℕ) → i < inode_count_of y → named_once (clean_at i) ≡ chosen_at y cut i
   chosen_clean_at i low =
       ⊎_elim
-      (λ (zero : i ≡ 0). subst (λ (j : ℕ). chosen_at y cut j ≡ cond (is_clean y j) (file_at y j) None) (sym zero) (chosen_zero y cut ∙ sym (both_same (is_clean y 0) None)))
+      (λ (zero : i ≡ 0). subst (λ (j : ℕ). named_once (cond (is_clean y j) (file_at y j) None) ≡ chosen_at y cut j) (sym zero) (ap named_once (both_same (is_clean y 0) None) ∙ sym (chosen_zero y cut)))
       (λ (some : i ≢ 0).
       let at : i - 1 + 1 ≡ i = omega arith in
       let kind : kind_at cut i ≡ clean_kind y i = clean_kind_is (i - 1) (omega arith) ∙ ap (clean_kind y) at in
@@ -149,15 +156,17 @@ module _ (y : Image) (kinds : List ℕ) (is : kinds ≡ map (clean_kind y) (numb
       (λ (clean : is_clean y i ≡ true).
       let here : kind_at cut i ≡ (inode_of y i).kind = kind ∙ rw clean refl in
       rw clean
-      (⊎_elim (λ (free : kind_at cut i ≡ 0). chosen_free y cut i free ∙ sym (file_free y i (sym here ∙ free)))
-      (λ (used : kind_at cut i ≢ 0). chosen_there y cut i used)
+      (⊎_elim (λ (free : kind_at cut i ≡ 0). ap named_once (file_free y i (sym here ∙ free)) ∙ sym (chosen_free y cut i free))
+      (λ (used : kind_at cut i ≢ 0). sym (chosen_there y cut i used))
       (cases_eq (kind_at cut i) 0)))
-      (λ (not_clean : is_clean y i ≡ false). rw not_clean (chosen_free y cut i (kind ∙ rw not_clean refl)))
+      (λ (not_clean : is_clean y i ≡ false). rw not_clean (sym (chosen_free y cut i (kind ∙ rw not_clean refl))))
       (cases_Bool (is_clean y i)))
       (cases_eq i 0)
 
-  pub chosen_clean : chosen_files y cut ≡ clean_files y
-  chosen_clean = listed_below (inode_count_of y) (chosen_at y cut) (λ i. cond (is_clean y i) (file_at y i) None) chosen_clean_at
+  pub chosen_clean : chosen_files y cut ≡ rescued_files y
+  chosen_clean =
+      sym (are_listed (rescued_files y) (inode_count_of y) (chosen_at y cut) (length-map (clean_files y) named_once ∙ length-listed (inode_count_of y) clean_at)
+      (λ j low. in_copies (clean_files y) j ∙ ap named_once (in_listed (inode_count_of y) clean_at j low) ∙ chosen_clean_at j low))
 
   -- one that has a type is clean, and the type is that of its inode
   pub clean_used : (k : ℕ) → k < inode_count_of y - 1 → get_or cut k 0 ≢ 0 → (is_clean y (k + 1) ≡ true) × (get_or cut k 0 ≡ (inode_of y (k + 1)).kind)

@@ -32,10 +32,7 @@ are_listed files count at long each =
     ext_get_or None files (listed count at) (long ∙ sym (length-listed count at))
     (λ j low. let within : j < count = omega arith in each j within ∙ sym (in_listed count at j within))
 
--- the same where they stand below the count
-pub listed_below : (count : ℕ) (f g : ℕ → Option File) → ((j : ℕ) → j < count → f j ≡ g j) → listed count f ≡ listed count g
-listed_below count f g each = are_listed (listed count f) count g (length-listed count f) (λ j low. in_listed count f j low ∙ each j low)
-
+-- the same where they stand at each number
 pub listed_same : (count : ℕ) (f g : ℕ → Option File) → ((j : ℕ) → f j ≡ g j) → listed count f ≡ listed count g
 listed_same count f g each = are_listed (listed count f) count g (length-listed count f) (λ j low. in_listed count f j low ∙ each j)
 

@@ -16,6 +16,7 @@ use Rattle.calls.specs.Stepping.{Plain}
 use Rattle.wal.specs.Recovery.{LeavesIfCalm}
 use Rattle.transfer.specs.Fitting.{DontFit, data_count}
 use Rattle.transfer.specs.Holding.{Holds, RunsShort}
+use Rattle.transfer.specs.Source.{copied_files}
 use Rattle.transfer.specs.Writing.{IsNoneOr, KeepsSuperblock, SettlesIf}
 use Rattle.transfer.specs.declared.fault.CopyFault.{CopyFault}
 use Rattle.transfer.specs.declared.fault.CopyFault.TheVariants.{Old, NotFirst, Mkfs, Full, Leaked, NoMemory, Disk}
@@ -127,19 +128,19 @@ IsNotFilledOut old new size count form files d d' n e Disk =
 -- Image x has the files of image old, each with its number, as recovery would leave them. It is a
 -- sound one of the second form and of that size.
 abbrev pub IsCopyOf : ℕ → Image → Image → Type 0
-IsCopyOf size old x = HoldsFiles size Two (files_of (recovered old)) x
+IsCopyOf size old x = HoldsFiles size Two (copied_files (recovered old)) x
 
 -- such a copy of the image on d was made on e, of an image of the first form without a fault
 pub record IsCopied {D E M N : Type 0} (old : Ghosts D M) (new : Ghosts E N) (size : ℕ) (sync : Bool)
     (d : D) (n e : E) (count : ℕ) : Type 0 where
   pub old_sound : verdict (old.image d) ≡ None
   pub first : form_of (old.image d) ≡ One
-  pub copy : IsFilledOut new size Two (files_of (recovered (old.image d))) sync n e
+  pub copy : IsFilledOut new size Two (copied_files (recovered (old.image d))) sync n e
   pub told : count ≡ file_count (files_of (recovered (old.image d)))
 
 -- what a stop leaves of a copy of image old to a disk with image n: block 1 as it was, or the whole
 abbrev pub IsNoneOrWhole : ℕ → Image → Image → Image → Type 0
-IsNoneOrWhole size old n x = IsNoneOrFilled size Two (files_of (recovered old)) n x
+IsNoneOrWhole size old n x = IsNoneOrFilled size Two (copied_files (recovered old)) n x
 
 -- why the files of the disk d, which is d' then, were not copied to n, which is e then
 abbrev pub IsUncopied : {D E M N : Type 0} → Ghosts D M → Ghosts E N → ℕ → D → D → E → E
@@ -154,11 +155,11 @@ IsUncopied old new size d d' n e (Mkfs fault) =
 IsUncopied old new size d d' n e (Full i) =
     (verdict (old.image d) ≡ None) × (form_of (old.image d) ≡ One)
     × DontFit (data_count size (inode_count_of (old.image d))) Two (recovered (old.image d))
-    (files_of (recovered (old.image d))) i
+    (copied_files (recovered (old.image d))) i
     × (e ≡ n)
 IsUncopied old new size d d' n e (Leaked i) =
     (verdict (old.image d) ≡ None) × (form_of (old.image d) ≡ One)
-    × RunsShort size Two i (files_of (recovered (old.image d))) × (e ≡ n)
+    × RunsShort size Two i (copied_files (recovered (old.image d))) × (e ≡ n)
 IsUncopied old new size d d' n e NoMemory = e ≡ n
 IsUncopied old new size d d' n e Disk =
     (Rose (old.fault_count d) (old.fault_count d') × (e ≡ n))

@@ -10,7 +10,7 @@ new_kind = 2
 
 -- a file with these bytes, and the type of the old one
 abbrev pub put_file : Option File → List ℕ → Option File
-put_file None bytes = Some (record { kind = new_kind; bytes = bytes })
+put_file None bytes = Some (record { kind = new_kind; links = 1; bytes = bytes })
 put_file (Some old) bytes = with_bytes old bytes
 
 -- the files once these bytes are put at number i

@@ -1,5 +1,5 @@
 -- What a copy has to know of the old image.
-use Rattle.std.specs.Prelude.{◌≡◌, ◌≢◌, ℕ, ◌+◌, ◌==◌, ◌<◌, ◌≤◌, if◌then◌else◌, List, length, Option, None, slice_index}
+use Rattle.std.specs.Prelude.{◌≡◌, ◌≢◌, ℕ, ◌+◌, ◌==◌, ◌<◌, ◌≤◌, if◌then◌else◌, List, length, map, Option, Some, None, slice_index}
 use Rattle.blocks.specs.Disk.{Image}
 use Rattle.model.specs.declared.types.image.File.{File}
 use Rattle.model.specs.declared.types.image.Form.TheVariants.{One, Two}
@@ -18,9 +18,22 @@ pub record AreFirstKinds (x : Image) (kinds : List ℕ) (count : ℕ) : Type 0 w
   pub long : length kinds ≡ count
   pub each : (k : ℕ) → k < count → slice_index kinds k ≡ (inode_of x (k + 1)).kind
 
--- the file of a number that has a type among these, which are those of the numbers from 1 on
+-- a copy of a file, to which one name leads
+abbrev pub named_once : Option File → Option File
+named_once None = None
+named_once (Some file) = Some (record file { links = 1 })
+
+-- copies of the files of an image, or of its clean ones, each with its number
+abbrev pub copied_files : Image → Files
+copied_files y = map named_once (files_of y)
+
+abbrev pub rescued_files : Image → Files
+rescued_files y = map named_once (clean_files y)
+
+-- the copy of the file of a number that has a type among these, which are those of the numbers from 1
+-- on
 abbrev pub chosen_at : Image → List ℕ → ℕ → Option File
-chosen_at y kinds i = if kind_at kinds i == 0 then None else file_at y i
+chosen_at y kinds i = if kind_at kinds i == 0 then None else named_once (file_at y i)
 
 -- the files that are copied of an image: those of the numbers that have a type
 abbrev pub chosen_files : Image → List ℕ → Files
@@ -50,9 +63,9 @@ pub record CopiesAll (x : Image) (source : Source) : Type 0 where
   pub sound : verdict x ≡ None
   pub first : form_of x ≡ One
   pub form : source.form ≡ Two
-  pub files : chosen_files (recovered x) source.kinds.items ≡ files_of (recovered x)
+  pub files : chosen_files (recovered x) source.kinds.items ≡ copied_files (recovered x)
 
 -- the clean files of an image are copied into one of its own form
 pub record CopiesClean (x : Image) (source : Source) : Type 0 where
   pub form : source.form ≡ form_of x
-  pub files : chosen_files (recovered x) source.kinds.items ≡ clean_files (recovered x)
+  pub files : chosen_files (recovered x) source.kinds.items ≡ rescued_files (recovered x)

@@ -108,6 +108,7 @@ fn file_of<D: Disk>(
     let bytes = image.all_bytes(alloc, disk, &inode, block)?;
     Ok(Some(File {
         kind: inode.kind,
+        links: inode.nlink,
         bytes: Content::new(bytes),
     }))
 }

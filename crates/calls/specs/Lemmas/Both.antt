@@ -23,7 +23,7 @@ use Rattle.calls.specs.Lemmas.Making.{after_tells}
 use Rattle.calls.specs.Lemmas.Unshown.{unshown_renews}
 
 -- where nothing of a transaction was kept
-pub keeps_nothing : (x : Image) (made : Files) (told : ℕ → ℕ × ℕ × ℕ) (z : Image) → KeepsFiles x z → KeepsEither x made told z
+pub keeps_nothing : (x : Image) (made : Files) (told : ℕ → ℕ × ℕ) (z : Image) → KeepsFiles x z → KeepsEither x made told z
 keeps_nothing x made told z keeps = record {
   log = keeps.log;
   sound = keeps.sound;
@@ -119,11 +119,11 @@ module _ {D N : Type 0} (disk : Ghosts D N) (first second : Op) (k a b d : Plain
       labels_of (image_on disk.image m) i ≡ labels_after s i (labels_after r i (labels_of (image_on disk.image k) i))
   both_labels m commits i there b c is_s is_r =
       commits.labels i there ∙ two.labels i ∙ ap (labels_after s i) (one.labels i)
-      ∙ ap (λ (q : Bool). cond q (0, 0, 1) (labels_after r i (labels_made disk.image a i))) is_s ∙ ap (λ (q : Bool). cond b (0, 0, 1) (cond q (0, 0, 1) (labels_made disk.image a i))) is_r
+      ∙ ap (λ (q : Bool). cond q (0, 0) (labels_after r i (labels_made disk.image a i))) is_s ∙ ap (λ (q : Bool). cond b (0, 0) (cond q (0, 0) (labels_made disk.image a i))) is_r
       ∙ by b c is_s is_r
-      ∙ ap (λ (q : Bool). cond b (0, 0, 1) (cond q (0, 0, 1) (labels_of (image_on disk.image k) i))) (sym is_r) ∙ ap (λ (q : Bool). cond q (0, 0, 1) (labels_after r i (labels_of (image_on disk.image k) i))) (sym is_s)
+      ∙ ap (λ (q : Bool). cond b (0, 0) (cond q (0, 0) (labels_of (image_on disk.image k) i))) (sym is_r) ∙ ap (λ (q : Bool). cond q (0, 0) (labels_after r i (labels_of (image_on disk.image k) i))) (sym is_s)
     where
-      by : (b c : Bool) → is_making i (Some s) ≡ b → is_making i (Some r) ≡ c → cond b (0, 0, 1) (cond c (0, 0, 1) (labels_made disk.image a i)) ≡ cond b (0, 0, 1) (cond c (0, 0, 1) (labels_of (image_on disk.image k) i))
+      by : (b c : Bool) → is_making i (Some s) ≡ b → is_making i (Some r) ≡ c → cond b (0, 0) (cond c (0, 0) (labels_made disk.image a i)) ≡ cond b (0, 0) (cond c (0, 0) (labels_of (image_on disk.image k) i))
       by true c is_s is_r = refl
       by false true is_s is_r = refl
       by false false is_s is_r =

@@ -14,7 +14,7 @@ some_there (Some file) there = refl
 
 -- the labels of a file that is there are due to it
 pub due_there : (x : Image) (i : ℕ) → file_in (files_of x) i ≢ None → labels_due x i ≡ labels_of x i
-due_there x i there = ap (λ (b : Bool). cond b (labels_of x i) (0, 0, 1)) (some_there (file_in (files_of x) i) there)
+due_there x i there = ap (λ (b : Bool). cond b (labels_of x i) (0, 0)) (some_there (file_in (files_of x) i) there)
 
 pub unshown_none : (x : Image) → KeepsUnshown x x
 unshown_none x = record { untouched = untouched_same x; labels = λ i there. sym (due_there x i there) }
@@ -26,11 +26,11 @@ unshown_then x y z size lost first second = record {
   labels = λ i there. second.labels i there ∙ due i (file_in (files_of y) i) refl;
 }
   where
-    none_before : (i : ℕ) → file_in (files_of y) i ≡ None → (o : Option File) → file_in (files_of x) i ≡ o → (0, 0, 1) ≡ cond (is_some o) (labels_of x i) (0, 0, 1)
+    none_before : (i : ℕ) → file_in (files_of y) i ≡ None → (o : Option File) → file_in (files_of x) i ≡ o → (0, 0) ≡ cond (is_some o) (labels_of x i) (0, 0)
     none_before i none None is = refl
     none_before i none (Some file) is = absurd (lost i (λ gone. let both = sym is ∙ gone in cc both) none)
 
-    due : (i : ℕ) (o : Option File) → file_in (files_of y) i ≡ o → cond (is_some o) (labels_of y i) (0, 0, 1) ≡ labels_due x i
+    due : (i : ℕ) (o : Option File) → file_in (files_of y) i ≡ o → cond (is_some o) (labels_of y i) (0, 0) ≡ labels_due x i
     due i None is = none_before i is (file_in (files_of x) i) refl
     due i (Some file) is = first.labels i (λ none. let both = sym is ∙ none in cc both)
 

@@ -3,11 +3,10 @@ use Rattle.std.proofs.lemmas.Result.{err_from_is_err_and}
 use Rattle.blocks.specs.Disk.{Image}
 use Rattle.model.specs.Layout.{form_of, inode_count_of}
 use Rattle.model.specs.Log.{recovered}
-use Rattle.offline.specs.Clean.{clean_files}
 use Rattle.wal.specs.Recovery.{LeavesIfCalm}
 use Rattle.transfer.specs.Copies.{IsFilledOut, IsNoneOrFilled}
 use Rattle.transfer.specs.Rescues.{IsNoneOrRescued}
-use Rattle.transfer.specs.Source.{chosen_files}
+use Rattle.transfer.specs.Source.{chosen_files, rescued_files}
 use Rattle.transfer.proofs.CopierLemmas.{filled_as, unrescued, whole_as}
 use Rattle.transfer.proofs.SourceLemmas.{opened_long, opened_none}
 use Rattle.transfer.proofs.rescuer.rescue_into.Given.{Over}
@@ -16,7 +15,7 @@ use Rattle.transfer.proofs.rescuer.rescue_into.Goals as goal
 
 module _ (g : Over) (c : After-copy_chosen g) where
   -- the files that were copied are the clean ones
-  are : chosen_files (recovered (g.D.Disk.image c.read_clean.new.old)) c.in_ok-source.source.kinds.items ≡ clean_files (recovered (g.D.Disk.image c.args.old.now))
+  are : chosen_files (recovered (g.D.Disk.image c.read_clean.new.old)) c.in_ok-source.source.kinds.items ≡ rescued_files (recovered (g.D.Disk.image c.args.old.now))
   are = ap (λ (z : Image). chosen_files (recovered z) c.in_ok-source.source.kinds.items) c.read_clean.ensures.reads.image ∙ c.in_ok-source.ensures.clean.files
 
   long : c.in_ok-source.source.image.sup.size ≡ length (g.D.Disk.image c.args.old.now)
@@ -26,9 +25,9 @@ module _ (g : Over) (c : After-copy_chosen g) where
   whole : LeavesIfCalm g.E.Disk c.args.new.now c.copy_chosen.new.new (IsNoneOrRescued (g.D.Disk.image c.args.old.now) (g.E.Disk.image c.args.new.now))
   whole =
       let x = g.D.Disk.image c.args.old.now in
-      subst (λ (n : ℕ). LeavesIfCalm g.E.Disk c.args.new.now c.copy_chosen.new.new (IsNoneOrFilled n (form_of x) (clean_files (recovered x)) (g.E.Disk.image c.args.new.now))) long
+      subst (λ (n : ℕ). LeavesIfCalm g.E.Disk c.args.new.now c.copy_chosen.new.new (IsNoneOrFilled n (form_of x) (rescued_files (recovered x)) (g.E.Disk.image c.args.new.now))) long
       (whole_as g.E.Disk c.in_ok-source.source.image.sup.size c.in_ok-source.source.form (chosen_files (recovered (g.D.Disk.image c.read_clean.new.old)) c.in_ok-source.source.kinds.items)
-      c.args.new.now c.copy_chosen.new.new (form_of x) (clean_files (recovered x)) c.in_ok-source.ensures.clean.form are c.copy_chosen.ensures.whole)
+      c.args.new.now c.copy_chosen.new.new (form_of x) (rescued_files (recovered x)) c.in_ok-source.ensures.clean.form are c.copy_chosen.ensures.whole)
 
 pub returns-in_err-copy_chosen-clause-refused : goal.returns-in_err-copy_chosen-clause-refused
 returns-in_err-copy_chosen-clause-refused g c =
@@ -53,9 +52,9 @@ returns-clause-rescued g c =
     let source = c.in_ok-source.source in
     record {
       opened = opened_none x source.image c.in_ok-source.ensures.source.image;
-      rescue = subst (λ (n : ℕ). IsFilledOut g.E.Disk n (form_of x) (clean_files (recovered x)) c.args.sync c.args.new.now c.copy_chosen.new.new) (long g here)
+      rescue = subst (λ (n : ℕ). IsFilledOut g.E.Disk n (form_of x) (rescued_files (recovered x)) c.args.sync c.args.new.now c.copy_chosen.new.new) (long g here)
           (filled_as g.E.Disk source.image.sup.size source.form (chosen_files (recovered (g.D.Disk.image c.read_clean.new.old)) source.kinds.items)
-          c.args.new.now c.copy_chosen.new.new (form_of x) (clean_files (recovered x)) c.in_ok-source.ensures.clean.form (are g here) c.args.sync c.in_ok-copy_chosen.ensures.filled);
+          c.args.new.now c.copy_chosen.new.new (form_of x) (rescued_files (recovered x)) c.in_ok-source.ensures.clean.form (are g here) c.args.sync c.in_ok-copy_chosen.ensures.filled);
       tells = c.in_ok-source.ensures.told;
     }
 

@@ -30,7 +30,7 @@ all_bytes-requires-clause-file g c =
 pub returns-clause-file : goal.returns-clause-file
 returns-clause-file g c =
     let d = c.in-Some.inode in
-    let file : List ℕ → Option File = λ b. Some (record { kind = d.kind; bytes = b }) in
+    let file : List ℕ → Option File = λ b. Some (record { kind = d.kind; links = d.nlink; bytes = b }) in
     ap file (c.new.ensures ∙ c.in_ok-bytes.ensures.bytes ∙ ap (λ (x : Image). bytes_in (recovered x) d) c.inode_at.ensures.reads.image)
     ∙ sym (found g (goal.at.returns-clause-file g c).In-Some).file
     ∙ found_at (g.D.Disk.image c.args.disk.now) c.args.image.now c.args.number c.requires.checked.recovered c.requires.inside
