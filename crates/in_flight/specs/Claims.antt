@@ -10,12 +10,12 @@ use Rattle.model.specs.Layout.{inode_of, inode_block}
 pub record HasClaimed (x : Image) (i kind : ℕ) (y : Image) : Type 0 where
   pub size : length y ≡ length x
   pub own : inode_of y i ≡ new_inode kind
-  pub own_labels : labels_of y i ≡ (0, 0, 1)
+  pub own_labels : labels_of y i ≡ (0, 0)
   pub others : (j : ℕ) → j ≢ i → inode_of y j ≡ inode_of x j
   pub other_labels : (j : ℕ) → j ≢ i → labels_of y j ≡ labels_of x j
   pub elsewhere : (b : ℕ) → b ≢ inode_block i → block_at y b ≡ block_at x b
   pub untouched : IsUntouched x y
 
--- the files with an empty one of that type at number i
+-- the files with an empty one of that type at number i, with one link
 abbrev pub with_new_file : Files → ℕ → ℕ → Files
-with_new_file files i kind = slice_set files i (Some (record { kind = kind; bytes = [] }))
+with_new_file files i kind = slice_set files i (Some (record { kind = kind; links = 1; bytes = [] }))

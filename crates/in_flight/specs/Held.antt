@@ -62,30 +62,33 @@ names_claimed x i (Some c) = names_held x c
 abbrev pub owned : Image → Claims → List ℕ
 owned x claims = flat_map (λ i. names_claimed x i (claims i)) (numbers_of x)
 
--- what is left of a file: an empty one of that type, or none
-abbrev pub file_left : ℕ → Option File
-file_left kind = if kind == 0 then None else Some (record { kind = kind; bytes = [] })
+-- what is left of a file: an empty one of that type with so many links, or none
+abbrev pub file_left : ℕ → ℕ → Option File
+file_left kind links =
+    if kind == 0 then None else Some (record { kind = kind; links = links; bytes = [] })
 
 -- A task gives up the number's file. The image's inode is still used, with the copy's type and
--- labels, and the number has the file that the turn left
+-- labels, and the number has the file that the turn left, with the copy's links
 pub record IsHeld (x : Image) (i : ℕ) (h : Held) (file : Option File) : Type 0 where
   pub fields : IsDinode h.copy
   pub used : h.copy.kind ≢ 0
   pub kind : h.copy.kind ≤ 3
   pub same_kind : (inode_of x i).kind ≡ h.copy.kind
-  pub labels : labels_of x i ≡ (h.copy.major, h.copy.minor, h.copy.nlink)
+  pub labels : labels_of x i ≡ (h.copy.major, h.copy.minor)
   pub last : (h.last_kind ≡ 0) ⊎ (h.last_kind ≡ h.copy.kind)
-  pub told : file ≡ file_left h.last_kind
+  pub told : file ≡ file_left h.last_kind h.copy.nlink
 
 -- A task writes into the number's file. The image's inode has the copy's type and labels. The
--- number has its old file still, and the copy's blocks have it with the written bytes over it
+-- number has its old file still, with the copy's type and links, and the copy's blocks have it with
+-- the written bytes over it
 pub record IsGrowing (x : Image) (i : ℕ) (g : Growth) (file : Option File) : Type 0 where
   pub fit : IsFit x g.copy
   pub same_kind : (inode_of x i).kind ≡ g.copy.kind
-  pub labels : labels_of x i ≡ (g.copy.major, g.copy.minor, g.copy.nlink)
+  pub labels : labels_of x i ≡ (g.copy.major, g.copy.minor)
   pub old : File
   pub was : file ≡ Some old
   pub kind : g.copy.kind ≡ old.kind
+  pub links : g.copy.nlink ≡ old.links
   pub reaches : g.offset ≤ length old.bytes
   pub bytes : bytes_in x g.copy ≡ overwritten old.bytes g.offset g.written
 

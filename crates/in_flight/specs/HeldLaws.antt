@@ -133,14 +133,15 @@ TurnHolds = (m : Files) (x : Image) (claims new : Claims) (i last_kind : ℕ) (c
     (last_kind ≡ 0) ⊎ (last_kind ≡ (inode_of x i).kind) → LeavesAlike x (inode_of x i) cursor [] →
     IsClaimedNow claims i
     (Some (frees (record { copy = inode_of x i; cursor = cursor; last_kind = last_kind }))) new →
-    FitsThen (slice_set m i (file_left last_kind)) x claims i x new
+    FitsThen (slice_set m i (file_left last_kind (inode_of x i).nlink)) x claims i x new
 
 -- these are the files after that operation
 abbrev pub TurnAnswers : Type 0
 TurnAnswers = (m : Files) (x : Image) (claims : Claims) (i : ℕ) → FitsHeld m x claims → IsUsed x i →
     claims i ≡ None →
-    (after (form_of x) m (Trunc i) Done ≡ Some (slice_set m i (file_left (inode_of x i).kind)))
-    × (after (form_of x) m (Remove i) Done ≡ Some (slice_set m i (file_left 0)))
+    (after (form_of x) m (Trunc i) Done
+    ≡ Some (slice_set m i (file_left (inode_of x i).kind (inode_of x i).nlink)))
+    × (after (form_of x) m (Remove i) Done ≡ Some (slice_set m i None))
 
 -- a copy without addresses is written back: the number is at rest, with the same files
 abbrev pub WriteBackRests : Type 0

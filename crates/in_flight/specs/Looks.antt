@@ -25,7 +25,11 @@ IsUnused x i = IsTrue (is_number (inode_count_of x) i) × ((inode_of x i).kind �
 pub record HasItsFile (m : Files) (x : Image) (i : ℕ) : Type 0 where
   pub fit : IsFit x (inode_of x i)
   pub file : file_in m i
-      ≡ Some (record { kind = (inode_of x i).kind; bytes = bytes_in x (inode_of x i) })
+      ≡ Some (record {
+        kind = (inode_of x i).kind;
+        links = (inode_of x i).nlink;
+        bytes = bytes_in x (inode_of x i);
+      })
   pub length : length (bytes_in x (inode_of x i)) ≡ (inode_of x i).size
 
 -- each operation on the number's file that is not too long answers that there is none

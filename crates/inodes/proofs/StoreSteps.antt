@@ -100,7 +100,7 @@ marks_claimed x y i kind claimed = record {
   others = λ j number other used.
       let apart : j ≢ i = λ same. other (eq-eqb j i same) in
       (λ none. used (ap (λ (d : Dinode). d.kind) (claimed.others j apart) ∙ none), claimed.other_labels j apart);
-  fresh = λ j number makes. subst (λ (k : ℕ). labels_of y k ≡ (0, 0, 1)) (sym (eqb-true j i makes)) claimed.own_labels;
+  fresh = λ j number makes. subst (λ (k : ℕ). labels_of y k ≡ (0, 0)) (sym (eqb-true j i makes)) claimed.own_labels;
 }
 
 pub groups_after : (l : LogState) (p b : ℕ) (r : Progress (Option ℕ)) → p < length l.used → SameGroups l (log_after l p b r)

@@ -215,7 +215,7 @@ module _ {D N : Type 0} {disk : Ghosts D N} {s : StoreState D} {p : ℕ} {op : O
       let now = with_claim_is (claims_of s.tasks) m.number (Some (frees held)) in
       let new = with_claim (claims_of s.tasks) m.number (Some (frees held)) in
       let holds = turn_holds files.0 cur (claims_of s.tasks) new m.number 0 (0 ∷ []) files.1 (names, used) none (inl refl) (begun_left cur inode) now in
-      few_left (set files.0 m.number (file_left 0)) cur new m.number held (record { fits = holds.fits; number = names; holds = now.own })
+      few_left (set files.0 m.number (file_left 0 inode.nlink)) cur new m.number held (record { fits = holds.fits; number = names; holds = now.own })
 
   -- where blocks are taken
   abbrev extent : Extent
@@ -241,13 +241,13 @@ module _ {D N : Type 0} {disk : Ghosts D N} {s : StoreState D} {p : ℕ} {op : O
 
     -- the number is held now
     begins_freeing : (removes : Bool) → u.stage ≡ Stage.Truncating k (first_freeing (first_trunc m.number inode s.table.form removes extent.bitmap)) → inode.kind ≢ 0 → (files : Files) → FitsHeld files cur (claims_of s.tasks)
-        → FitsFiles disk.image t (set files m.number (file_left (cond removes 0 inode.kind)))
+        → FitsFiles disk.image t (set files m.number (file_left (cond removes 0 inode.kind) inode.nlink))
     begins_freeing removes there used files fits =
         let own : claim_of u m.number ≡ Some (frees (held_at_turn inode removes)) = ap (λ (a : Stage). claim_by u.op a m.number) there ∙ claim_at_turn s.table.form extent.bitmap inode k m.number removes in
         let others : (j : ℕ) → j ≢ m.number → claim_of u j ≡ claim_of (task s.tasks p) j = λ j other. ap (λ (a : Stage). claim_by u.op a j) there ∙ none_of_trunc m.number j s.table.form inode removes extent.bitmap other ∙ sym (holds_nothing j) in
         let now : IsClaimedNow (claims_of s.tasks) m.number (Some (frees (held_at_turn inode removes))) (claims_of (set s.tasks p u)) =
         subst (λ (o : Option Claim). IsClaimedNow (claims_of s.tasks) m.number o (claims_of (set s.tasks p u))) own (claimed_now s.tasks p m.number u h.inside holds_alone others) in
-        fits_then (set files m.number (file_left (cond removes 0 inode.kind)))
+        fits_then (set files m.number (file_left (cond removes 0 inode.kind) inode.nlink))
         (turn_holds files cur (claims_of s.tasks) (claims_of (set s.tasks p u)) m.number (cond removes 0 inode.kind) (0 ∷ []) fits (may_name_now h is_op, used) none (last removes) (begun_left cur inode) now).fits
       where
         last : (b : Bool) → (cond b 0 inode.kind ≡ 0) ⊎ (cond b 0 inode.kind ≡ inode.kind)
@@ -306,15 +306,15 @@ module _ {D N : Type 0} {disk : Ghosts D N} {s : StoreState D} {p : ℕ} {op : O
     used_turn (Read i off n) allowed named there used files fits = same (ap (λ (a : Stage). claim_by u.op a m.number) there ∙ none_of_read k m.number u.op (first_read s.table.form inode off n)) files fits
     used_turn (Trunc i) allowed named there used files fits =
         let before = fits_before files fits in (
-          set files m.number (file_left inode.kind),
-          subst (λ (j : ℕ). after (form_of cur) files (Trunc j) Done ≡ Some (set files m.number (file_left inode.kind))) named
+          set files m.number (file_left inode.kind inode.nlink),
+          subst (λ (j : ℕ). after (form_of cur) files (Trunc j) Done ≡ Some (set files m.number (file_left inode.kind inode.nlink))) named
               (turn_answers files cur (claims_of s.tasks) m.number before (may_name_now h is_op, used) none).0,
           begins_freeing false (there ∙ ap (λ (j : ℕ). Stage.Truncating k (first_freeing (first_trunc j inode s.table.form false extent.bitmap))) (sym named)) used files before,
         )
     used_turn (Remove i) allowed named there used files fits =
         let before = fits_before files fits in (
-          set files m.number (file_left 0),
-          subst (λ (j : ℕ). after (form_of cur) files (Remove j) Done ≡ Some (set files m.number (file_left 0))) named
+          set files m.number None,
+          subst (λ (j : ℕ). after (form_of cur) files (Remove j) Done ≡ Some (set files m.number None)) named
               (turn_answers files cur (claims_of s.tasks) m.number before (may_name_now h is_op, used) none).1,
           begins_freeing true (there ∙ ap (λ (j : ℕ). Stage.Truncating k (first_freeing (first_trunc j inode s.table.form true extent.bitmap))) (sym named)) used files before,
         )

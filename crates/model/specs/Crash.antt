@@ -10,14 +10,14 @@ use Rattle.model.specs.Files.{files_of}
 use Rattle.model.specs.Soundness.{IsSound}
 use Rattle.model.specs.Journal.{replay, kept, is_making, is_number}
 
--- an inode's labels: major, minor and links
-abbrev pub labels_of : Image → ℕ → ℕ × ℕ × ℕ
-labels_of x i = ((inode_of x i).major, (inode_of x i).minor, (inode_of x i).nlink)
+-- an inode's labels: major and minor, which no file shows
+abbrev pub labels_of : Image → ℕ → ℕ × ℕ
+labels_of x i = ((inode_of x i).major, (inode_of x i).minor)
 
 -- the labels that a used inode has to have
-abbrev pub due_labels : Image → List Entry → ℕ → ℕ × ℕ × ℕ
+abbrev pub due_labels : Image → List Entry → ℕ → ℕ × ℕ
 due_labels opening entries i =
-    if list_any (λ (e : Entry). is_making i e.reply) entries then (0, 0, 1) else labels_of opening i
+    if list_any (λ (e : Entry). is_making i e.reply) entries then (0, 0) else labels_of opening i
 
 -- what no operation touches is as it was
 pub record IsUntouched (opening x : Image) : Type 0 where

@@ -34,7 +34,9 @@ bytes_in x d = take d.size (joined x d (blocks_for d.size))
 
 -- the file of an inode; none where it is free
 unfoldable pub file_of : Image → Dinode → Option File
-file_of x d = if d.kind == 0 then None else Some (record { kind = d.kind; bytes = bytes_in x d })
+file_of x d =
+    if d.kind == 0 then None
+    else Some (record { kind = d.kind; links = d.nlink; bytes = bytes_in x d })
 
 -- the file of a number; none for number 0
 abbrev pub file_at : Image → ℕ → Option File

@@ -79,11 +79,11 @@ abbrev pub after_at : Files → ℕ → Option File → Op → Reply → Option 
 after_at files i None op reply = None
 after_at files i (Some file) op reply = after_on files i file op reply
 
--- a creation that is not refused: any free number may be made, or none
+-- a creation that is not refused: any free number may be made, with one link, or none
 abbrev pub after_create : Files → ℕ → Reply → Option Files
 after_create files kind (Made i) =
     where_true (nat_lt 0 i && nat_lt i (length files) && is_none (file_in files i))
-    (slice_set files i (Some (record { kind = kind; bytes = [] })))
+    (slice_set files i (Some (record { kind = kind; links = 1; bytes = [] })))
 after_create files kind NoInode = Some files
 after_create files kind reply = None
 

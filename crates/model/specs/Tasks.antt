@@ -45,4 +45,4 @@ pub record Marks (made : Option Reply) (x y : Image) : Type 0 where
       (inode_of y i).kind ≢ 0
       → ((inode_of x i).kind ≢ 0) × (labels_of y i ≡ labels_of x i)
   pub fresh : (i : ℕ) → IsTrue (is_number (inode_count_of x) i) → is_making i made ≡ true →
-      labels_of y i ≡ (0, 0, 1)
+      labels_of y i ≡ (0, 0)

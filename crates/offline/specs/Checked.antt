@@ -14,5 +14,6 @@ pub record IsCheckedOf (x : Image) (image : Recovered) : Type 0 where
 
 -- the inode of the file of number i of image y, which may be read
 pub record IsInodeOf (y : Image) (i : ℕ) (d : Dinode) : Type 0 where
-  pub file : file_in (files_of y) i ≡ Some (record { kind = d.kind; bytes = bytes_in y d })
+  pub file : file_in (files_of y) i
+      ≡ Some (record { kind = d.kind; links = d.nlink; bytes = bytes_in y d })
   pub readable : MayReadFile y d

@@ -117,6 +117,7 @@ pub fn file_of(alloc: Global, image: &[Block], inode: &Dinode) -> Result<Option<
     }
     Ok(Some(File {
         kind: inode.kind,
+        links: inode.nlink,
         bytes: Content::new(bytes_in(alloc, image, inode)?),
     }))
 }

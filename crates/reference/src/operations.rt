@@ -138,7 +138,7 @@ fn is_free(files: &[Option<File>], i: u32) -> bool
     (i as usize) < files.len() && files[i as usize].is_none()
 }
 
-/// Makes a file, where the creation can answer so. The files stay where it can't.
+/// Makes a file with one link, where the creation can answer so. The files stay where it can't.
 fn apply_create(alloc: Global, files: &mut Files, kind: u16, reply: &Reply) -> bool
     ensures after { after_create files.old.items kind reply.now
         ≡ where_true result files.new.items }
@@ -151,7 +151,11 @@ fn apply_create(alloc: Global, files: &mut Files, kind: u16, reply: &Reply) -> b
                 return false;
             }
             let bytes = Content::new(Vec::new(alloc));
-            files[*i as usize] = Some(File { kind, bytes });
+            files[*i as usize] = Some(File {
+                kind,
+                links: 1,
+                bytes,
+            });
             true
         }
         _ => false,
@@ -183,9 +187,9 @@ fn apply_write(
     if !may_have_written(file.bytes.len(), off, bytes.len(), *k) {
         return Ok(false);
     }
-    let kind = file.kind;
+    let (kind, links) = (file.kind, file.links);
     let bytes = overwritten(alloc, file.bytes.as_slice(), off, &bytes[..*k as usize])?;
-    files[i as usize] = Some(File { kind, bytes });
+    files[i as usize] = Some(File { kind, links, bytes });
     Ok(true)
 }
 
@@ -215,9 +219,9 @@ fn apply_trunc(alloc: Global, files: &mut Files, i: u32, reply: &Reply) -> bool
     if !matches!(reply, Reply::Done) {
         return false;
     }
-    let kind = file.kind;
+    let (kind, links) = (file.kind, file.links);
     let bytes = Content::new(Vec::new(alloc));
-    files[i as usize] = Some(File { kind, bytes });
+    files[i as usize] = Some(File { kind, links, bytes });
     true
 }
 

@@ -23,7 +23,7 @@ module _ (files : Files) (i : ℕ) (x : Option File) where
   create_put kind (Made j) h =
       let ne : j ≢ i = λ e. eqb-false i j h (sym e) in
       rw (length-set files i x, get_or-set_other files i j x None ne)
-      (where_set (ltb 0 j && ltb j (length files) && is_none (file_in files j)) j (Some (record { kind = kind; bytes = [] })) ne)
+      (where_set (ltb 0 j && ltb j (length files) && is_none (file_in files j)) j (Some (record { kind = kind; links = 1; bytes = [] })) ne)
   create_put kind other h = refl
 
   on_put : (j : ℕ) (file : File) (op : Op) (reply : Reply) → j ≢ i → after_on (set files i x) j file op reply ≡ put i x (after_on files j file op reply)

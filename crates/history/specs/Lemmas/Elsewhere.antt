@@ -44,7 +44,7 @@ marks_elsewhere opening es x y same low h =
         bits_past = λ b from to. ap (λ block. has_bit block b) bitmap ∙ h.untouched.bits_past b from to;
       };
       labels = λ i used number.
-          ap (λ (d : Dinode). (d.major, d.minor, d.nlink)) (inode_alike x y i same)
+          ap (λ (d : Dinode). (d.major, d.minor)) (inode_alike x y i same)
           ∙ h.labels i (λ free. used (ap (λ (d : Dinode). d.kind) (inode_alike x y i same) ∙ free)) number;
     }
 

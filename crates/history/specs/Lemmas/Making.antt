@@ -90,7 +90,7 @@ makes_kept form start files n o i (e ∷ es) all run =
 
 -- so the labels that are due after what is kept are those after all of the journal
 pub due_kept : (opening : Image) (files : Files) (o i : ℕ) (es : List Entry) → AreUpTo o es → replay (form_of opening) (files_of opening) (answered es) ≡ Some files → due_labels opening (kept (inode_count_of opening) es o) i ≡ due_labels opening es i
-due_kept opening files o i es all run = ap (λ (b : Bool). cond b (0, 0, 1) (labels_of opening i)) (makes_kept (form_of opening) (files_of opening) files (inode_count_of opening) o i es all run)
+due_kept opening files o i es all run = ap (λ (b : Bool). cond b (0, 0) (labels_of opening i)) (makes_kept (form_of opening) (files_of opening) files (inode_count_of opening) o i es all run)
 
 -- an entry more makes what its reply says, and what a told one made
 or_comm : (a b : Bool) → (b || (a || false)) ≡ (a || b)

@@ -46,10 +46,10 @@ marks_go opening es fs made x y h m goes = record {
     here i number = ap (λ (b : List ℕ). is_number (super_in b).ninodes i) h.untouched.super ∙ number
 
     by_making : (i : ℕ) → (inode_of y i).kind ≢ 0 → is_number (inode_count_of opening) i ≡ true → (is_making i made ≡ true) ⊎ (is_making i made ≡ false) → labels_of y i ≡ due_labels opening fs i
-    by_making i used number (inl is) = m.fresh i (here i number) is ∙ sym (ap (λ (b : Bool). cond b (0, 0, 1) (labels_of opening i)) (goes i ∙ ap (λ (b : Bool). b || makes i es) is))
+    by_making i used number (inl is) = m.fresh i (here i number) is ∙ sym (ap (λ (b : Bool). cond b (0, 0) (labels_of opening i)) (goes i ∙ ap (λ (b : Bool). b || makes i es) is))
     by_making i used number (inr not) =
         let o = m.others i (here i number) (λ t. let q : true ≡ false = sym t ∙ not in cc q) used in
-        o.1 ∙ h.labels i o.0 number ∙ sym (ap (λ (b : Bool). cond b (0, 0, 1) (labels_of opening i)) (goes i ∙ ap (λ (b : Bool). b || makes i es) not))
+        o.1 ∙ h.labels i o.0 number ∙ sym (ap (λ (b : Bool). cond b (0, 0) (labels_of opening i)) (goes i ∙ ap (λ (b : Bool). b || makes i es) not))
 
 -- what is kept of the committed groups stays, at a turn and at a reply
 pub kept_turned : (n c : ℕ) (es : List Entry) (e : Entry) → (is_changing n e.op ≡ true → c < e.group) → kept n (es ++ e ∷ []) c ≡ kept n es c

@@ -32,9 +32,10 @@ turn_grows m x claims new i off f used none inside now =
       fit = its.fit;
       same_kind = refl;
       labels = refl;
-      old = record { kind = d.kind; bytes = bytes_in x d };
+      old = record { kind = d.kind; links = d.nlink; bytes = bytes_in x d };
       was = its.file;
       kind = refl;
+      links = refl;
       reaches = reaches;
       bytes = sym (overwritten_none (bytes_in x d) off reaches);
     })

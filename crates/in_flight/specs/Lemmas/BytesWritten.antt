@@ -226,7 +226,7 @@ module _ (m : Files) (x : Image) (claims new : Claims) (i k at b : ℕ) (bytes :
         size = subst (λ (f : Form). t.copy.size ≤ greatest_size f) (sym same_form) (omega (arith, all, old_all));
         whole = λ j need z. needs j need (sym (leads j) ∙ z);
       })
-      (ap (λ (o : Dinode). o.kind) still ∙ growing.same_kind) (labels_same x y i (d.major, d.minor, d.nlink) still growing.labels) refl
+      (ap (λ (o : Dinode). o.kind) still ∙ growing.same_kind) (labels_same x y i (d.major, d.minor) still growing.labels) refl refl
       (file_now ∙ ap (λ (l : List ℕ). overwritten l q bytes) growing.bytes
       ∙ overwritten-join growing.old.bytes g.written bytes g.offset q (sym h.next.place) growing.reaches)
 

@@ -76,9 +76,9 @@ module _ (x : Image) (i kind : ℕ) (h : IsFor x i kind) where
       record {
         size = base.size;
         own = own_inode;
-        own_labels = ap (λ (d : Dinode). (d.major, d.minor, d.nlink)) own_inode;
+        own_labels = ap (λ (d : Dinode). (d.major, d.minor)) own_inode;
         others = other_inode;
-        other_labels = λ j ne. ap (λ (d : Dinode). (d.major, d.minor, d.nlink)) (other_inode j ne);
+        other_labels = λ j ne. ap (λ (d : Dinode). (d.major, d.minor)) (other_inode j ne);
         elsewhere = other_block;
         untouched = record {
           boot = other_block 0 (λ e. omega arith);
@@ -169,7 +169,7 @@ module _ (m : Files) (x : Image) (i kind : ℕ) (f : Fits m x) (h : IsFor x i ki
       (λ (ne : b ≢ inode_block i). ap length (other_block x i kind h b ne) ∙ f.full b low (omega arith))
       (cases_eq b (inode_block i))
 
-  new_file : file_at z i ≡ Some (record { kind = kind; bytes = [] })
+  new_file : file_at z i ≡ Some (record { kind = kind; links = 1; bytes = [] })
   unfolding file_of bytes_in
   new_file = let some = h.some in rw (ne_eqb i 0 (λ e. omega arith), own_inode x i kind h, ne_eqb kind 0 used) refl
 
@@ -186,18 +186,18 @@ module _ (m : Files) (x : Image) (i kind : ℕ) (f : Fits m x) (h : IsFor x i ki
   own_rest =
       let below = h.below in
       record {
-        same = new_file ∙ sym (get_or-set_same m i (Some (record { kind = kind; bytes = [] })) None (omega (arith, f.count)));
+        same = new_file ∙ sym (get_or-set_same m i (Some (record { kind = kind; links = 1; bytes = [] })) None (omega (arith, f.count)));
         fit = λ u. subst (λ (d : Dinode). IsFit z d) (sym (own_inode x i kind h)) new_fit;
       }
 
   other_rest : (j : ℕ) → 1 ≤ j → j < inode_count_of x → j ≢ i → IsAtRest z j (file_in (with_new_file m i kind) j)
   other_rest j low high ne =
-      subst (IsAtRest z j) (sym (get_or-set_other m i j (Some (record { kind = kind; bytes = [] })) None ne))
+      subst (IsAtRest z j) (sym (get_or-set_other m i j (Some (record { kind = kind; links = 1; bytes = [] })) None ne))
       (rest_alike test x z j (file_in m j) (other_inode x i kind h j ne) (agrees j low high) (f.each j low high))
 
   fits_after : Fits (with_new_file m i kind) z
   fits_after =
-      let new : Option File = Some (record { kind = kind; bytes = [] }) in
+      let new : Option File = Some (record { kind = kind; links = 1; bytes = [] }) in
       let some = h.some in
       let same = base x i kind h in
       let numbers : inode_count_of z ≡ inode_count_of x = ap (λ (s : Super). s.ninodes) (super_same x z same) in

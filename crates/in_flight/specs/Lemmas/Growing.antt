@@ -16,7 +16,7 @@ named_same test x y d h there = ap addresses_in (pointers_agree test x y d (agre
 -- what is taken has no part in the file
 pub growing_with : (x : Image) (i : ℕ) (g : Growth) (t : Option ℕ) (file : Option File) → IsGrowing x i g file →
     IsGrowing x i (record g { taken = t }) file
-growing_with x i g t file h = growing_as x x i g g.copy t g.written file h h.fit h.same_kind h.labels refl h.bytes
+growing_with x i g t file h = growing_as x x i g g.copy t g.written file h h.fit h.same_kind h.labels refl refl h.bytes
 
 -- ---- a block that its number owns is written
 

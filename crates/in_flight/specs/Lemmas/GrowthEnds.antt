@@ -23,6 +23,7 @@ growth_rests m x claims new i g old h none is now =
     let file : File = record old { bytes = overwritten old.bytes g.offset g.written } in
     let count = h.fits.count in
     let kind : g.copy.kind ≡ old.kind = growing.kind ∙ ap (λ (f : File). f.kind) same in
+    let links : g.copy.nlink ≡ old.links = growing.links ∙ ap (λ (f : File). f.links) same in
     let bytes : bytes_in x g.copy ≡ overwritten old.bytes g.offset g.written
     = growing.bytes ∙ ap (λ (f : File). overwritten f.bytes g.offset g.written) same in
     writes_back m x claims i (set m i (Some file)) new g.copy (record {
@@ -36,7 +37,8 @@ growth_rests m x claims new i g old h none is now =
       fit = λ used. growing.fit;
       count = length-set m i (Some file);
       own = get_or-set_same m i (Some file) None (omega (arith, high, count))
-          ∙ ap₂ (λ (k : ℕ) (l : List ℕ). Some (record { kind = k; bytes = l })) (sym kind) (sym bytes)
+          ∙ ap₂ (λ (k n : ℕ). Some (record { kind = k; links = n; bytes = overwritten old.bytes g.offset g.written })) (sym kind) (sym links)
+          ∙ ap (λ (l : List ℕ). Some (record { kind = g.copy.kind; links = g.copy.nlink; bytes = l })) (sym bytes)
           ∙ sym (file_used x g.copy growing.fit.used);
       files = λ j ne. get_or-set_other m i j (Some file) None ne;
     })

@@ -81,8 +81,8 @@ names_same test x y i (Some (grows g)) h same there =
     (pointers_agree test x y g.copy
     (agrees_of test x y g.copy h (passes_behind test (listed g.taken) (addresses_in (pointers_in x g.copy)) there))))
 
-pub labels_same : (x y : Image) (i : ℕ) (labels : ℕ × ℕ × ℕ) → inode_of y i ≡ inode_of x i → labels_of x i ≡ labels → labels_of y i ≡ labels
-labels_same x y i labels same was = ap (λ (d : Dinode). (d.major, d.minor, d.nlink)) same ∙ was
+pub labels_same : (x y : Image) (i : ℕ) (labels : ℕ × ℕ) → inode_of y i ≡ inode_of x i → labels_of x i ≡ labels → labels_of y i ≡ labels
+labels_same x y i labels same was = ap (λ (d : Dinode). (d.major, d.minor)) same ∙ was
 
 -- what a task writes stays where the blocks to which its copy leads do
 pub grown_same : (test : ℕ → Bool) (x y : Image) (i : ℕ) (g : Growth) (file : Option File) → AgreesAt test x y →
@@ -92,10 +92,11 @@ grown_same test x y i g file h same there held =
     record {
       fit = fit_alike test x y g.copy agrees held.fit;
       same_kind = ap (λ (d : Dinode). d.kind) same ∙ held.same_kind;
-      labels = labels_same x y i (g.copy.major, g.copy.minor, g.copy.nlink) same held.labels;
+      labels = labels_same x y i (g.copy.major, g.copy.minor) same held.labels;
       old = held.old;
       was = held.was;
       kind = held.kind;
+      links = held.links;
       reaches = held.reaches;
       bytes = bytes_agree test x y g.copy agrees held.fit.used ∙ held.bytes;
     }
@@ -109,7 +110,7 @@ fine_same test x y i (Some (frees t)) file h same there held = record {
   used = held.used;
   kind = held.kind;
   same_kind = ap (λ (d : Dinode). d.kind) same ∙ held.same_kind;
-  labels = labels_same x y i (t.copy.major, t.copy.minor, t.copy.nlink) same held.labels;
+  labels = labels_same x y i (t.copy.major, t.copy.minor) same held.labels;
   last = held.last;
   told = held.told;
 }

@@ -51,7 +51,7 @@ module _ (m : Files) (x : Image) (f : Fits m x) (none : file_at x 1 ≡ None) (s
   numbers : 1 < inode_count_of y
   numbers =
       let count = made.count in
-      let long = length-set m 1 (Some (record { kind = 2; bytes = [] })) in
+      let long = length-set m 1 (Some (record { kind = 2; links = 1; bytes = [] })) in
       let old = f.count in omega arith
 
   pub removed : FitsHeld (set (with_new_file m 1 2) 1 None) y (remover (inode_of y 1))

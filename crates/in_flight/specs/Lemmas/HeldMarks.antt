@@ -32,7 +32,7 @@ remapped_keeps m x claims bits f past =
       };
       others = λ j number made used.
           let kept = inode_same x bits map j (apart x j f.geometry (between x j number).high).before_map in
-          ((λ z. used (ap (λ (d : Dinode). d.kind) kept ∙ z)), ap (λ (d : Dinode). (d.major, d.minor, d.nlink)) kept);
+          ((λ z. used (ap (λ (d : Dinode). d.kind) kept ∙ z)), ap (λ (d : Dinode). (d.major, d.minor)) kept);
       fresh = λ j number made. absurd (false≢true made);
     }
 
@@ -72,7 +72,7 @@ data_keeps m x claims b bytes f there =
       };
       others = λ j number made used.
           let kept = inode_elsewhere x j b bytes (let low = (apart x j f.geometry (between x j number).high).before_data in λ e. omega arith) in
-          ((λ z. used (ap (λ (d : Dinode). d.kind) kept ∙ z)), ap (λ (d : Dinode). (d.major, d.minor, d.nlink)) kept);
+          ((λ z. used (ap (λ (d : Dinode). d.kind) kept ∙ z)), ap (λ (d : Dinode). (d.major, d.minor)) kept);
       fresh = λ j number made. absurd (false≢true made);
     }
 
@@ -84,7 +84,7 @@ record KeepsLabels (m : Files) (x : Image) (claims : Claims) (i : ℕ) (d : Dino
   number : IsTrue (is_number (inode_count_of x) i)
   fields : IsDinode d
   used : (inode_of x i).kind ≢ 0
-  labels : labels_of x i ≡ (d.major, d.minor, d.nlink)
+  labels : labels_of x i ≡ (d.major, d.minor)
 
 written_back_keeps : (m : Files) (x : Image) (claims : Claims) (i : ℕ) (d : Dinode) → KeepsLabels m x claims i d →
     Marks None x (with_inode x i d)
@@ -116,12 +116,12 @@ written_back_keeps m x claims i d g =
           (λ (e : j ≡ i).
           let own = inode_of-with_inode x i d placed g.fields in (
             (λ z. g.used (ap (λ n. (inode_of x n).kind) (sym e) ∙ z)),
-            ap (λ n. labels_of (with_inode x i d) n) e ∙ ap (λ (o : Dinode). (o.major, o.minor, o.nlink)) own
+            ap (λ n. labels_of (with_inode x i d) n) e ∙ ap (λ (o : Dinode). (o.major, o.minor)) own
                 ∙ sym g.labels ∙ ap (labels_of x) (sym e),
           ))
           (λ (ne : j ≢ i).
           let kept = inode_of-with_inode_other x i j d placed g.fields ne in
-          ((λ z. used (ap (λ (o : Dinode). o.kind) kept ∙ z)), ap (λ (o : Dinode). (o.major, o.minor, o.nlink)) kept))
+          ((λ z. used (ap (λ (o : Dinode). o.kind) kept ∙ z)), ap (λ (o : Dinode). (o.major, o.minor)) kept))
           (cases_eq j i);
       fresh = λ j number made. absurd (false≢true made);
     }

@@ -113,7 +113,7 @@ module _ (m : Files) (x : Image) (i : ℕ) (f : RestsIn m x i) (used : IsUsed x 
       let behind = there.0 in
       (own_fit.whole k low, f.full (address_in x d k) (omega arith) there.1)
 
-  own_file : file_at x i ≡ Some (record { kind = d.kind; bytes = bytes_in x d })
+  own_file : file_at x i ≡ Some (record { kind = d.kind; links = d.nlink; bytes = bytes_in x d })
   unfolding file_of
   own_file =
       let low = at_place.low in

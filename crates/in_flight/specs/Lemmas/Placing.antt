@@ -155,7 +155,7 @@ module _ (m : Files) (x : Image) (claims new : Claims) (i slot a e b depth : ℕ
         size = subst (λ (f : Form). d.size ≤ greatest_size f) (sym same_form) growing.fit.size;
         whole = λ k need z. growing.fit.whole k need (sym (leads_same k need) ∙ z);
       })
-      (ap (λ (o : Dinode). o.kind) still ∙ growing.same_kind) (labels_same x y i (d.major, d.minor, d.nlink) still growing.labels) refl
+      (ap (λ (o : Dinode). o.kind) still ∙ growing.same_kind) (labels_same x y i (d.major, d.minor) still growing.labels) refl refl
       (bytes_alike x y d d refl blocks_same ∙ growing.bytes)
 
   deep : get_or ds slot 0 ≡ over way (suc depth)

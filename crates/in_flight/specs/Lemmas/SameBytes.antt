@@ -18,15 +18,17 @@ bytes_alike x y d e size each =
 
 -- a task whose copy is another, or of another image, or that wrote more
 pub growing_as : (x y : Image) (i : ℕ) (g : Growth) (d : Dinode) (t : Option ℕ) (written : List ℕ) (file : Option File) (h : IsGrowing x i g file) → IsFit y d → (inode_of y i).kind ≡ d.kind →
-    labels_of y i ≡ (d.major, d.minor, d.nlink) → d.kind ≡ g.copy.kind → bytes_in y d ≡ overwritten h.old.bytes g.offset written →
+    labels_of y i ≡ (d.major, d.minor) → d.kind ≡ g.copy.kind → d.nlink ≡ g.copy.nlink →
+    bytes_in y d ≡ overwritten h.old.bytes g.offset written →
     IsGrowing y i (record g { copy = d; taken = t; written = written }) file
-growing_as x y i g d t written file h fit same_kind labels kind bytes = record {
+growing_as x y i g d t written file h fit same_kind labels kind links bytes = record {
   fit = fit;
   same_kind = same_kind;
   labels = labels;
   old = h.old;
   was = h.was;
   kind = kind ∙ h.kind;
+  links = links ∙ h.links;
   reaches = h.reaches;
   bytes = bytes;
 }
@@ -53,4 +55,4 @@ growing_at x i g ws t file h long small same =
       size = h.fit.size;
       whole = λ k need z. h.fit.whole k need (sym (same k need) ∙ z);
     })
-    h.same_kind h.labels refl (bytes_alike x x g.copy (record g.copy { addrs = ws }) refl (λ k need. ap (data_at x) (same k need)) ∙ h.bytes)
+    h.same_kind h.labels refl refl (bytes_alike x x g.copy (record g.copy { addrs = ws }) refl (λ k need. ap (data_at x) (same k need)) ∙ h.bytes)

@@ -86,20 +86,21 @@ pub turn_holds : TurnHolds
 turn_holds m x claims new i last cursor f used none last_is alike now =
     let at = between x i used.0 in
     let d = inode_of x i in
+    let left = file_left last d.nlink in
     let high = at.high in
     let fit = (at_rest_of m x claims i f used none).fit used.1 in
-    changes_claim m x claims i (set m i (file_left last)) new (record {
+    changes_claim m x claims i (set m i left) new (record {
       fits = f;
       low = at.low;
       high = at.high;
       claims_same = now.others;
-      count = length-set m i (file_left last);
-      files = λ j ne. get_or-set_other m i j (file_left last) None ne;
+      count = length-set m i left;
+      files = λ j ne. get_or-set_other m i j left None ne;
       alike = λ c.
           ap (λ (o : Option Claim). count_of c (names_claimed x i o)) now.own
           ∙ alike c ∙ ap (count_of c) (whole_along x (depths (form_of x)) d.addrs ∙ sym (whole_names x d used.1))
           ∙ sym (ap (λ (o : Option Claim). count_of c (names_claimed x i o)) none);
-      fine = subst (λ (o : Option Claim). IsFine x i o (file_in (set m i (file_left last)) i)) (sym now.own)
+      fine = subst (λ (o : Option Claim). IsFine x i o (file_in (set m i left) i)) (sym now.own)
           (record {
             fields = fit.fields;
             used = fit.used;
@@ -107,11 +108,12 @@ turn_holds m x claims new i last cursor f used none last_is alike now =
             same_kind = refl;
             labels = refl;
             last = last_is;
-            told = get_or-set_same m i (file_left last) None (omega (arith, high, f.count));
+            told = get_or-set_same m i left None (omega (arith, high, f.count));
           });
     })
 
-pub used_file : (x : Image) (i : ℕ) → 1 ≤ i → (inode_of x i).kind ≢ 0 → file_at x i ≡ Some (record { kind = (inode_of x i).kind; bytes = bytes_in x (inode_of x i) })
+pub used_file : (x : Image) (i : ℕ) → 1 ≤ i → (inode_of x i).kind ≢ 0 →
+    file_at x i ≡ Some (record { kind = (inode_of x i).kind; links = (inode_of x i).nlink; bytes = bytes_in x (inode_of x i) })
 unfolding file_of
 used_file x i low used = rw (ne_eqb i 0 (λ e. omega (arith, low, e)), ne_eqb (inode_of x i).kind 0 used) refl
 

@@ -144,7 +144,7 @@ bare_names x d bare =
     (ap (λ (l : List ℕ). names_along x (depths (form_of x)) l) bare ∙ no_names x (form_of x)))
     (cases_eq d.kind 0)
 
-bare_file : (x : Image) (d : Dinode) → d.size ≡ 0 → file_of x d ≡ file_left d.kind
+bare_file : (x : Image) (d : Dinode) → d.size ≡ 0 → file_of x d ≡ file_left d.kind d.nlink
 unfolding file_of bytes_in
 bare_file x d size = rw size refl
 
@@ -211,7 +211,7 @@ claim_fits m x claims i kind f number none free is =
     let last = leb-true kind 3 kinds.1 in
     let low = at.low in
     let high = at.high in
-    let new : Option File = Some (record { kind = kind; bytes = [] }) in
+    let new : Option File = Some (record { kind = kind; links = 1; bytes = [] }) in
     let inside : i < length m = omega (arith, high, f.count) in
     let rest : IsAtRest x i (file_in m i) = subst (λ (o : Option Claim). IsFine x i o (file_in m i)) none (f.each i low high) in (
       writes_back m x claims i (with_new_file m i kind) claims (new_inode kind) (record {
@@ -232,5 +232,5 @@ claim_fits m x claims i kind f number none free is =
       after-made (form_of x) m kind i is (omega arith) inside (sym rest.same ∙ free_file x i (omega arith) free),
     )
   where
-    made_left : (k : ℕ) → k ≢ 0 → file_left k ≡ Some (record { kind = k; bytes = [] })
+    made_left : (k : ℕ) → k ≢ 0 → file_left k 1 ≡ Some (record { kind = k; links = 1; bytes = [] })
     made_left k some = rw (ne_eqb k 0 some) refl

@@ -7,7 +7,8 @@ use Rattle.model.specs.Operations.{part_of}
 use Rattle.model.specs.Places.{address_in}
 
 -- the file of a used inode
-pub file_used : (x : Image) (d : Dinode) → d.kind ≢ 0 → file_of x d ≡ Some (record { kind = d.kind; bytes = bytes_in x d })
+pub file_used : (x : Image) (d : Dinode) → d.kind ≢ 0 →
+    file_of x d ≡ Some (record { kind = d.kind; links = d.nlink; bytes = bytes_in x d })
 unfolding file_of
 file_used x d used = rw (ne_eqb d.kind 0 used) refl
 

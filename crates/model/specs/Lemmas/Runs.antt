@@ -240,7 +240,7 @@ at_once_is_refused form files (Stat i) none h =
 
 -- a creation that made a number gives it an empty file
 pub after-made : (form : Form) (files : Files) (kind i : ℕ) → is_kind kind ≡ true → 0 < i → i < length files → file_in files i ≡ None →
-    after form files (Create kind) (Made i) ≡ Some (set files i (Some (record { kind = kind; bytes = [] })))
+    after form files (Create kind) (Made i) ≡ Some (set files i (Some (record { kind = kind; links = 1; bytes = [] })))
 unfolding after
 after-made form files kind i is some below free = rw (is, lt-ltb 0 i some, lt-ltb i (length files) below, free) refl
 

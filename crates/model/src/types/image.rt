@@ -37,7 +37,7 @@ pub struct Dinode {
     pub kind: u16,
     pub major: u16,
     pub minor: u16,
-    /// Links.
+    /// How many names lead to the file.
     pub nlink: u16,
     /// Bytes of the file.
     pub size: u32,
@@ -53,9 +53,10 @@ pub struct Pointer {
     pub needed: bool,
 }
 
-/// A file: its type, from 1 to 3, and its bytes.
+/// A file: its type, from 1 to 3, how many names lead to it, and its bytes.
 #[derive(Drop)]
 pub struct File {
     pub kind: u16,
+    pub links: u16,
     pub bytes: Content,
 }
