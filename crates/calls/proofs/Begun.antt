@@ -46,7 +46,7 @@ use Rattle.calls.specs.Transactions.{Begins, IsInside, KeepsFiles, Rests, IsOnly
 use Rattle.calls.proofs.Called.{has_failed, still_faultless, with_intake}
 use Rattle.calls.proofs.Counting.{counts, room_left}
 use Rattle.calls.proofs.Going.{LeavesOthers, others_none, others_step}
-use Rattle.calls.proofs.Idle.{all_committed, disk_files, disk_labels, numbers, quiet, super, two_idle, unopened}
+use Rattle.calls.proofs.Idle.{all_committed, disk_files, disk_labels, long, numbers, quiet, super, two_idle, unopened}
 use Rattle.calls.proofs.Keeping.{leaves_before, settled}
 
 -- The anchor's operation was handed in to k, which rested, and a step of its process made m of it.
@@ -268,6 +268,8 @@ module _ {D N : Type 0} (disk : Ghosts D N) (has_now : (d : D) → disk.leaves d
           };
           sound = (settled disk has_now k call.known call.rests.pair.well (quiet disk k call.known all call.rests.pair.well)).sound;
           form = form_same (disk.image k.opening) (image_on disk.image k) (super disk k call.known all call.rests.pair.well);
+          size = long disk k call.known all call.rests.pair.well;
+          super = super disk k call.known all call.rests.pair.well;
           list = takes.list;
           none = ap (λ (l : LogState). length l.homes) takes.log ∙ no_homes k.store.volume.log k.store.volume.fault call.rests.pair.well
               (quiet disk k call.known all call.rests.pair.well) (unopened disk k call.known all call.rests.pair.well) call.log;

@@ -10,15 +10,15 @@ use Rattle.model.specs.Files.{file_in}
 use Rattle.model.specs.Layout.{form_of}
 use Rattle.model.specs.Lemmas.FileNumbers.{length-files_of}
 use Rattle.model.specs.Operations.{is_kind}
-use Rattle.calls.specs.Calls.{Calls, image_on}
+use Rattle.calls.specs.Calls.{Makes, image_on}
 use Rattle.calls.specs.Stepping.{Plain}
 use Rattle.calls.specs.Files.{Appends, MakesFile, MakesNone, MayAppend, appended, emptied, empty_file, files_on}
 use Rattle.calls.specs.Lemmas.After.{after_creation, after_emptying, after_removal, after_write, HasWritten}
 
 -- ---- a creation
 
-pub made_file : {D : Type 0} (image : D → Image) (k m : Plain D) (kind i : ℕ) (reply : Reply) → is_kind kind ≡ true →
-    Calls image (Create kind) k m reply → reply ≡ Made i → MakesFile kind i (files_on image k) (files_on image m)
+pub made_file : {D : Type 0} {more : ℕ} (image : D → Image) (k m : Plain D) (kind i : ℕ) (reply : Reply) → is_kind kind ≡ true →
+    Makes more image (Create kind) k m reply → reply ≡ Made i → MakesFile kind i (files_on image k) (files_on image m)
 made_file image k m kind i reply is calls made =
     ⊎_elim
     (λ (j, here, has). let same : j ≡ i = cc (here, made) in record {
@@ -31,8 +31,8 @@ made_file image k m kind i reply is calls made =
     (λ (none, same). absurd (cc (none, made)))
     (after_creation (form_of (image_on image k)) (files_on image k) kind reply (files_on image m) is calls.files)
 
-pub made_none : {D : Type 0} (image : D → Image) (k m : Plain D) (kind : ℕ) (reply : Reply) → is_kind kind ≡ true →
-    Calls image (Create kind) k m reply → reply ≡ NoInode → MakesNone (files_on image k) (files_on image m)
+pub made_none : {D : Type 0} {more : ℕ} (image : D → Image) (k m : Plain D) (kind : ℕ) (reply : Reply) → is_kind kind ≡ true →
+    Makes more image (Create kind) k m reply → reply ≡ NoInode → MakesNone (files_on image k) (files_on image m)
 made_none image k m kind reply is calls none =
     ⊎_elim (λ (j, here, has). absurd (cc (here, none)))
     (λ (is_none, same). record {
@@ -43,35 +43,35 @@ made_none image k m kind reply is calls none =
     (after_creation (form_of (image_on image k)) (files_on image k) kind reply (files_on image m) is calls.files)
 
 -- a creation has no other reply
-pub made_or_none : {D : Type 0} (image : D → Image) (k m : Plain D) (kind : ℕ) (reply : Reply) → is_kind kind ≡ true →
-    Calls image (Create kind) k m reply → ((i : ℕ) → reply ≢ Made i) → reply ≢ NoInode → ⊥
+pub made_or_none : {D : Type 0} {more : ℕ} (image : D → Image) (k m : Plain D) (kind : ℕ) (reply : Reply) → is_kind kind ≡ true →
+    Makes more image (Create kind) k m reply → ((i : ℕ) → reply ≢ Made i) → reply ≢ NoInode → ⊥
 made_or_none image k m kind reply is calls not_made not_none =
     ⊎_elim (λ (i, made, has). not_made i made) (λ (none, same). not_none none)
     (after_creation (form_of (image_on image k)) (files_on image k) kind reply (files_on image m) is calls.files)
 
 -- ---- a removal and a truncation
 
-pub removes : {D : Type 0} (image : D → Image) (k m : Plain D) (i : ℕ) (reply : Reply) → file_in (files_on image k) i ≢ None →
-    Calls image (Remove i) k m reply → (reply ≡ Done) × (files_on image m ≡ set (files_on image k) i None)
+pub removes : {D : Type 0} {more : ℕ} (image : D → Image) (k m : Plain D) (i : ℕ) (reply : Reply) → file_in (files_on image k) i ≢ None →
+    Makes more image (Remove i) k m reply → (reply ≡ Done) × (files_on image m ≡ set (files_on image k) i None)
 removes image k m i reply there calls =
     after_removal (form_of (image_on image k)) (files_on image k) i reply (files_on image m) there calls.files
 
-pub empties : {D : Type 0} (image : D → Image) (k m : Plain D) (i : ℕ) (reply : Reply) → file_in (files_on image k) i ≢ None →
-    Calls image (Trunc i) k m reply → (reply ≡ Done) × (files_on image m ≡ emptied (files_on image k) i)
+pub empties : {D : Type 0} {more : ℕ} (image : D → Image) (k m : Plain D) (i : ℕ) (reply : Reply) → file_in (files_on image k) i ≢ None →
+    Makes more image (Trunc i) k m reply → (reply ≡ Done) × (files_on image m ≡ emptied (files_on image k) i)
 empties image k m i reply there calls =
     after_emptying (form_of (image_on image k)) (files_on image k) i reply (files_on image m) there calls.files
 
 -- ---- a write at the end
 
-pub writes : {D : Type 0} (image : D → Image) (k m : Plain D) (i off : ℕ) (bytes : List ℕ) (reply : Reply) →
+pub writes : {D : Type 0} {more : ℕ} (image : D → Image) (k m : Plain D) (i off : ℕ) (bytes : List ℕ) (reply : Reply) →
     MayAppend (form_of (image_on image k)) (file_in (files_on image k) i) off (length bytes) →
-    Calls image (Write i off bytes) k m reply → (count : ℕ) × (reply ≡ Wrote count) × HasWritten (files_on image k) i bytes count (files_on image m)
+    Makes more image (Write i off bytes) k m reply → (count : ℕ) × (reply ≡ Wrote count) × HasWritten (files_on image k) i bytes count (files_on image m)
 writes image k m i off bytes reply room calls =
     after_write (form_of (image_on image k)) (files_on image k) i off bytes reply (files_on image m) room calls.files
 
-pub appends : {D : Type 0} (image : D → Image) (k m : Plain D) (i off count : ℕ) (bytes : List ℕ) (reply : Reply) →
+pub appends : {D : Type 0} {more : ℕ} (image : D → Image) (k m : Plain D) (i off count : ℕ) (bytes : List ℕ) (reply : Reply) →
     MayAppend (form_of (image_on image k)) (file_in (files_on image k) i) off (length bytes) →
-    Calls image (Write i off bytes) k m reply → reply ≡ Wrote count →
+    Makes more image (Write i off bytes) k m reply → reply ≡ Wrote count →
     Appends (eqb count (length bytes)) i bytes (image_on image k) (image_on image m)
 appends image k m i off count bytes reply room calls is =
     let (done, wrote, has) = writes image k m i off bytes reply room calls in
@@ -94,7 +94,7 @@ appends image k m i off count bytes reply room calls is =
     (cases_eq count (length bytes))
 
 -- a write of a copy of the bytes is one of the bytes
-pub of_copy : {D : Type 0} (image : D → Image) (k m : Plain D) (i off : ℕ) (copy bytes : List ℕ) (reply : Reply) → copy ≡ bytes →
-    Calls image (Write i off copy) k m reply → Calls image (Write i off bytes) k m reply
-of_copy image k m i off copy bytes reply same calls =
-    subst (λ (b : List ℕ). Calls image (Write i off b) k m reply) same calls
+pub of_copy : {D : Type 0} {more : ℕ} (image : D → Image) (k m : Plain D) (i off : ℕ) (copy bytes : List ℕ) (reply : Reply) → copy ≡ bytes →
+    Makes more image (Write i off copy) k m reply → Makes more image (Write i off bytes) k m reply
+of_copy {more = more} image k m i off copy bytes reply same calls =
+    subst (λ (b : List ℕ). Makes more image (Write i off b) k m reply) same calls

@@ -2,7 +2,7 @@
 use Rattle.std.proofs.Common.{◌≡◌, ◌≢◌, ◌∙◌, ◌<◌, inl, inr, ℕ, zero, suc, ◌^◌, Bool, true, false, cond, List, [], ◌∷◌, length, Option, Some, None, refl, sym, ap, subst, ⊎_elim, arith}
 use Rattle.std.specs.Prelude.{IfNone}
 use Rattle.std.proofs.lemmas.List.{length-append, get_or_past}
-use Rattle.blocks.specs.Disk.{LeavesOnly, block_at}
+use Rattle.blocks.specs.Disk.{Image, LeavesOnly, block_at}
 use Rattle.blocks.specs.declared.disk.Disk.{Ghosts}
 use Rattle.model.specs.declared.types.operations.Entry.{Entry}
 use Rattle.model.specs.declared.types.operations.Op.{Op}
@@ -10,12 +10,16 @@ use Rattle.model.specs.declared.types.operations.Why.{Why}
 use Rattle.model.specs.Files.{Files, files_of}
 use Rattle.model.specs.Crash.{IsUntouched}
 use Rattle.model.specs.Journal.{kept, own}
-use Rattle.model.specs.Layout.{form_of, inode_count_of}
+use Rattle.model.specs.Agreement.{is_outside_log}
+use Rattle.model.specs.Fields.{has_bit}
+use Rattle.model.specs.Layout.{bitmap_block, form_of, inode_count_of, is_marked, super_in, super_of}
+use Rattle.model.specs.Lemmas.OutsideLog.{behind_log}
 use Rattle.ports.specs.History.{first_in}
 use Rattle.ports.specs.Lanes.{polled_after}
 use Rattle.ports.specs.Queues.{OthersWait, answers, polled, waiting}
 use Rattle.inodes.specs.Holding.{claim_of}
-use Rattle.inodes.specs.Store.{StoreState}
+use Rattle.inodes.specs.Store.{StoreState, current_of}
+use Rattle.inodes.specs.declared.ilock.LockAt.{LockAt}
 use Rattle.inodes.specs.Tasks.{TaskState, task}
 use Rattle.inodes.specs.Waiting.{sleep_cause}
 use Rattle.wal.specs.declared.types.DeviceFault.{DeviceFault}
@@ -35,11 +39,12 @@ use Rattle.calls.specs.Lemmas.Reaching.{reached_steps}
 use Rattle.calls.specs.Stepping.{IsReached, Plain, MakesPlainStep, plain_herald, plain_queues}
 use Rattle.calls.specs.Calls.{HasFailed, image_on}
 use Rattle.calls.specs.Transactions.{Commits, HasFiles, IsFetched, IsInside, KeepsEither, Rests, anchor, labels_made}
+use Rattle.calls.proofs.Anchored.{Anchored, IsSameSeen, anchored_kept}
 use Rattle.calls.proofs.Anchoring.{anchor_keeps, anchor_makes_none}
 use Rattle.calls.proofs.Called.{halts_not, has_failed, still_faultless, with_intake}
 use Rattle.calls.proofs.Counting.{IsAnswered, IsFree, fetched_again, fetched_still, is_answered}
 use Rattle.calls.proofs.Going.{After, LeavesOthers, Stage, others_none, stages_move, steps_after, steps_name, steps_run}
-use Rattle.calls.proofs.Idle.{disk_files, disk_labels, long, of_two, quiet, super, two_idle}
+use Rattle.calls.proofs.Idle.{bitmap, disk_files, disk_labels, long, of_two, on_disk, quiet, super, two_idle}
 use Rattle.calls.proofs.Keeping.{leaves_either, settled}
 use Rattle.calls.proofs.Sleeping.{asleep_same}
 use Rattle.calls.proofs.Stages.{AfterTurn, Answered, BeforeTurn, Committing, Comes, IsKept, IsOver, ListIs, Over, StandsAt, Waits, Where, is_left, waits_or_busy}
@@ -108,6 +113,13 @@ module _ {D N : Type 0} (disk : Ghosts D N) (r : Step) (k m : Plain D) (call : I
   first = record {
     rest = others_none 1 k call.inside.pair.unshut;
     stands = subst (λ (a : Phase). StandsAt 1 anchor UnderWay k.world.journal.list a (waiting k.intake 1) k.store k.world.journal.list) (sym call.inside.anchored) (refl, refl, tt);
+  }
+
+  first_seen : Stage disk 1 anchor (Anchored disk (current_of disk.image k.store.volume)) k k
+  first_seen = record {
+    rest = others_none 1 k call.inside.pair.unshut;
+    stands = subst (λ (a : Phase). StandsAt 1 anchor (Anchored disk (current_of disk.image k.store.volume)) k.world.journal.list a (waiting k.intake 1) k.store k.world.journal.list) (sym call.inside.anchored)
+        (refl, refl, (λ b out. refl, inl (record { number = 1; at = LockAt.Reference }, call.inside.empty_handed)));
   }
 
   mid_stage : Stage disk 1 anchor UnderWay k call.makes.mid
@@ -209,6 +221,21 @@ module _ {D N : Type 0} (disk : Ghosts D N) (r : Step) (k m : Plain D) (call : I
     told_before : (f : Files) × HasFiles disk.image k f
     told_before = told_files disk k call.known_then (of_two k.world IsFree call.inside.pair.two tt (subst IsFree (sym call.inside.pair.free) tt) (subst IsFree (sym call.inside.anchored) tt))
 
+    -- the anchor changed nothing that all see, and what they saw is on the disk
+    outside : IsSameSeen disk (current_of disk.image k.store.volume) m.store
+    outside =
+        (subst (λ (q : Step). Comes 1 anchor (Anchored disk (current_of disk.image k.store.volume)) k.world.journal.list q (waiting m.intake 1) m.store m.world) so
+        (steps_after disk 1 anchor (Anchored disk (current_of disk.image k.store.volume)) k (anchored_kept disk (current_of disk.image k.store.volume)) room r k m call.makes first_seen).comes).holds
+
+    marks_same : (b : ℕ) → is_marked (image_on disk.image m) b ≡ is_marked (current_of disk.image k.store.volume) b
+    marks_same b =
+        let cur = current_of disk.image k.store.volume in
+        let x = image_on disk.image m in
+        let shown : (c : ℕ) → is_outside_log c ≡ true → block_at x c ≡ block_at cur c = λ c out. ap (λ (y : Image). block_at y c) (sym (on_disk disk m call.known_now all well)) ∙ outside c out in
+        let map : (super_of x).bmapstart ≡ bitmap_block m.store.table.inode_count = bitmap disk m call.known_now all well in
+        let there : (super_of cur).bmapstart ≡ (super_of x).bmapstart = ap (λ (bytes : List ℕ). (super_in bytes).bmapstart) (sym (shown 1 refl)) in
+        ap (λ (bits : List ℕ). has_bit bits b) (shown (super_of x).bmapstart (behind_log (super_of x).bmapstart (omega (arith, map)))) ∙ ap (λ (c : ℕ). has_bit (block_at cur c) b) (sym there)
+
     pub commit_made : ((d : D) → disk.leaves d (disk.moment d) (disk.image d)) → (n : Plain D) → n ≡ with_intake m n.intake → Commits disk.image k n
     commit_made has_now n same =
         let was = settled disk has_now k call.known_then call.inside.pair.well call.inside.open_one.quiet in
@@ -219,6 +246,7 @@ module _ {D N : Type 0} (disk : Ghosts D N) (r : Step) (k m : Plain D) (call : I
           sound = set_m.sound;
           untouched = untouched_since (disk.image k.opening) (image_on disk.image k) (image_on disk.image m) (kept (inode_count_of (disk.image k.opening)) k.world.journal.list k.store.volume.log.committed) was.size was.marks untouched;
           labels = λ i there. disk_labels disk m call.known_now all well has_now i there ∙ labels_still has_now told_before.0 told_before.1 i;
+          marks = marks_same;
           size = long disk m call.known_now all well ∙ ap (λ (d : D). length (disk.image d)) run.opening;
           super = super disk m call.known_now all well ∙ ap (λ (d : D). block_at (disk.image d) 1) run.opening;
           one_more = ap (λ (es : List Entry). length es) commit_answered.list ∙ length-append k.world.journal.list (commit_answered.entry ∷ []);

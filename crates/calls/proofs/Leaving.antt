@@ -132,7 +132,7 @@ module _ {D N : Type 0} (disk : Ghosts D N) (has_now : (d : D) → disk.leaves d
       (leaves.each now (counts_now m.store.volume.device (disk.moment k.store.volume.device) now leaves.later (has_now m.store.volume.device))).unshown
 
 -- only the reply that was given may have come
-pub may_given : {D : Type 0} (op : Op) (k m : Plain D) (is : IsAnswered 0 op k m) (e : Entry) (r : Reply) → m.world.journal.list ≡ k.world.journal.list ++ e ∷ [] → e.reply ≡ Some r → MayReply (Ok is.answer.reply) r
+pub may_given : {D : Type 0} (op : Op) (k m : Plain D) (is : IsAnswered 0 op k m) (e : Entry) (r : Reply) → m.world.journal.list ≡ k.world.journal.list ++ e ∷ [] → e.reply ≡ Some r → MayReply {E = CallFault} (Ok is.answer.reply) r
 may_given op k m is e r list replied =
     let entry : e ≡ is.entry = last_same k.world.journal.list k.world.journal.list e is.entry (sym list ∙ is.list) in
     let both : Some r ≡ Some is.answer.reply = sym replied ∙ ap (λ (f : Entry). f.reply) entry ∙ is.replied in

@@ -5,6 +5,7 @@ pub mod Counting
 pub mod Called
 pub mod Unshown
 pub mod Anchoring
+pub mod Anchored
 pub mod Keeping
 pub mod Idle
 pub mod Telling
@@ -24,3 +25,5 @@ pub mod Released
 pub mod Adding
 pub mod Begun
 pub mod Committed
+pub mod Grouped
+pub mod Appending

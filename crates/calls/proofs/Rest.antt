@@ -92,5 +92,5 @@ module _ {D N : Type 0} (disk : Ghosts D N) (has_now : (d : D) → disk.leaves d
       lowest = lowest disk op r k m sole so done.is (files_of (image_on disk.image m)) call_files;
       none = none_free disk op r k m sole so done.is;
       short = short_full disk op r k m sole so done well;
-      one_more = done.one_more;
+      answered = done.one_more;
     }

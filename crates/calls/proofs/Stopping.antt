@@ -11,7 +11,6 @@ use Rattle.model.specs.Layout.{form_of}
 use Rattle.model.specs.Log.{recovered}
 use Rattle.model.specs.Operations.{after, is_kind}
 use Rattle.calls.specs.Calls.{KeepsCall}
-use Rattle.calls.specs.declared.fault.CallFault.{CallFault}
 use Rattle.calls.specs.Files.{MayAppend}
 use Rattle.calls.specs.Stopped.{AppendsFirst, Empties, KeepsChange, MakesAny, Removes}
 use Rattle.calls.specs.Lemmas.After.{after_creation, after_emptying, after_removal, after_write}
@@ -22,7 +21,7 @@ Leads x op change = (r : Reply) (new : Files) → after (form_of x) (files_of x)
 
 module _ {D N : Type 0} (disk : Ghosts D N) (x : Image) where
   -- where a call was made
-  leaves_called : (op : Op) (change : Files → Files → Type 0) → Leads x op change → (result : Result Reply CallFault) (d e : D) → LeavesOnly disk.moment disk.leaves d e (KeepsCall x op result)
+  leaves_called : {E : Type 0} (op : Op) (change : Files → Files → Type 0) → Leads x op change → (result : Result Reply E) (d e : D) → LeavesOnly disk.moment disk.leaves d e (KeepsCall x op result)
       → LeavesOnly disk.moment disk.leaves d e (KeepsChange change x)
   leaves_called op change leads result d e only =
       let keeps : (z : Image) → KeepsCall x op result z → KeepsChange change x z
@@ -39,7 +38,7 @@ module _ {D N : Type 0} (disk : Ghosts D N) (x : Image) where
         keeps = only.keeps;
       }
 
-  pub leaves_made : (kind : ℕ) → is_kind kind ≡ true → (result : Result Reply CallFault) (d e : D) → LeavesOnly disk.moment disk.leaves d e (KeepsCall x (Create kind) result)
+  pub leaves_made : {E : Type 0} (kind : ℕ) → is_kind kind ≡ true → (result : Result Reply E) (d e : D) → LeavesOnly disk.moment disk.leaves d e (KeepsCall x (Create kind) result)
       → LeavesOnly disk.moment disk.leaves d e (KeepsChange (MakesAny kind) x)
   leaves_made kind is =
       leaves_called (Create kind) (MakesAny kind)
@@ -47,17 +46,17 @@ module _ {D N : Type 0} (disk : Ghosts D N) (x : Image) where
       (λ (i, so, has). inr (record { number = i; some = has.some; below = has.below; free = has.free; files = has.made }))
       (λ (none, same). inl same) (after_creation (form_of x) (files_of x) kind r new is made))
 
-  pub leaves_removed : (i : ℕ) → file_in (files_of x) i ≢ None → (result : Result Reply CallFault) (d e : D) → LeavesOnly disk.moment disk.leaves d e (KeepsCall x (Remove i) result)
+  pub leaves_removed : {E : Type 0} (i : ℕ) → file_in (files_of x) i ≢ None → (result : Result Reply E) (d e : D) → LeavesOnly disk.moment disk.leaves d e (KeepsCall x (Remove i) result)
       → LeavesOnly disk.moment disk.leaves d e (KeepsChange (Removes i) x)
   leaves_removed i there =
       leaves_called (Remove i) (Removes i) (λ r new made. inr (after_removal (form_of x) (files_of x) i r new there made).1)
 
-  pub leaves_emptied : (i : ℕ) → file_in (files_of x) i ≢ None → (result : Result Reply CallFault) (d e : D) → LeavesOnly disk.moment disk.leaves d e (KeepsCall x (Trunc i) result)
+  pub leaves_emptied : {E : Type 0} (i : ℕ) → file_in (files_of x) i ≢ None → (result : Result Reply E) (d e : D) → LeavesOnly disk.moment disk.leaves d e (KeepsCall x (Trunc i) result)
       → LeavesOnly disk.moment disk.leaves d e (KeepsChange (Empties i) x)
   leaves_emptied i there =
       leaves_called (Trunc i) (Empties i) (λ r new made. inr (after_emptying (form_of x) (files_of x) i r new there made).1)
 
-  pub leaves_appended : (i off : ℕ) (copy bytes : List ℕ) → copy ≡ bytes → MayAppend (form_of x) (file_in (files_of x) i) off (length bytes) → (result : Result Reply CallFault) (d e : D)
+  pub leaves_appended : {E : Type 0} (i off : ℕ) (copy bytes : List ℕ) → copy ≡ bytes → MayAppend (form_of x) (file_in (files_of x) i) off (length bytes) → (result : Result Reply E) (d e : D)
       → LeavesOnly disk.moment disk.leaves d e (KeepsCall x (Write i off copy) result) → LeavesOnly disk.moment disk.leaves d e (KeepsChange (AppendsFirst i bytes) x)
   leaves_appended i off copy bytes same room result d e only =
       leaves_called (Write i off bytes) (AppendsFirst i bytes)

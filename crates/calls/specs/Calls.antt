@@ -89,10 +89,11 @@ abbrev pub ShortIsFull : Image → Op → Reply → Type 0
 ShortIsFull y op reply = (i off done : ℕ) (bytes : List ℕ) → op ≡ Write i off bytes →
     reply ≡ Wrote done → done < length bytes → (b : ℕ) → b < length y → is_marked y b ≡ true
 
--- THE PROMISE OF A CALL that is answered so: the files on the disk are those before it, after this
--- operation with this reply, the image is sound, and what no file shows stays.
-pub record Calls {D : Type 0} (image : D → Image) (op : Op) (k m : Plain D) (reply : Reply)
-    : Type 0 where
+-- THE PROMISE OF AN OPERATION that is answered so, and with it so many more: the files on the disk are
+-- those before it, after this operation with this reply, the image is sound, and what no file shows
+-- stays.
+pub record Makes {D : Type 0} (more : ℕ) (image : D → Image) (op : Op) (k m : Plain D)
+    (reply : Reply) : Type 0 where
   pub files : after (form_of (image_on image k)) (files_of (image_on image k)) op reply
       ≡ Some (files_of (image_on image m))
   pub whole : IsWhole (image_on image k) (image_on image m)
@@ -100,7 +101,11 @@ pub record Calls {D : Type 0} (image : D → Image) (op : Op) (k m : Plain D) (r
   pub lowest : MakesLowest (image_on image k) op reply
   pub none : MakesNoneIfFull (image_on image k) op reply
   pub short : ShortIsFull (image_on image m) op reply
-  pub one_more : call_count m ≡ call_count k + 1
+  pub answered : call_count m ≡ call_count k + more
+
+-- of a call, which alone is answered
+abbrev pub Calls : {D : Type 0} → (D → Image) → Op → Plain D → Plain D → Reply → Type 0
+Calls image op k m reply = Makes 1 image op k m reply
 
 -- the disk of kernel k, which is m now, failed, and m has just this fault
 pub record HasFailed {D N : Type 0} (disk : Ghosts D N) (k m : Plain D) (cause : DeviceFault)
@@ -129,13 +134,13 @@ LeavesFiles disk k m =
     (KeepsFiles (image_on disk.image k))
 
 -- a reply that a call may have had
-abbrev pub MayReply : Result Reply CallFault → Reply → Type 0
+abbrev pub MayReply : {E : Type 0} → Result Reply E → Reply → Type 0
 MayReply (Ok reply) r = r ≡ reply
 MayReply (Err cause) r = ⊤
 
 -- What a stop in the midst of a call leaves of image x: recovery gives a sound image with the files
 -- before it, or with those behind it.
-pub record KeepsCall (x : Image) (op : Op) (result : Result Reply CallFault) (z : Image)
+pub record KeepsCall {E : Type 0} (x : Image) (op : Op) (result : Result Reply E) (z : Image)
     : Type 0 where
   pub log : IsTrue (is_lawful_log z)
   pub sound : IsSound (recovered z)

@@ -1,5 +1,5 @@
 -- What changes make of the files on a disk.
-use Rattle.std.specs.Prelude.{◌≡◌, ◌≢◌, ℕ, ◌+◌, ◌<◌, ◌≤◌, Bool, true, false, List, [], ◌++◌, length, take, Option, Some, None, slice_set}
+use Rattle.std.specs.Prelude.{◌≡◌, ◌≢◌, ℕ, ◌+◌, ◌*◌, ◌<◌, ◌≤◌, Bool, true, false, List, [], ◌++◌, length, take, Option, Some, None, slice_set}
 use Rattle.blocks.specs.Disk.{Image}
 use Rattle.model.specs.declared.types.image.Form.{Form}
 use Rattle.model.specs.declared.types.image.File.{File}
@@ -63,6 +63,12 @@ Creates kind None old new = MakesNone old new
 pub record MayAppend (form : Form) (file : Option File) (off count : ℕ) : Type 0 where
   pub size : size_of file ≡ Some off
   pub few : count ≤ transfer_limit
+  pub short : off + count ≤ greatest_size form
+
+-- the same of as many bytes as two writes move
+pub record MayAppendTwo (form : Form) (file : Option File) (off count : ℕ) : Type 0 where
+  pub size : size_of file ≡ Some off
+  pub few : count ≤ 2 * transfer_limit
   pub short : off + count ≤ greatest_size form
 
 -- no block of an image is free

@@ -7,7 +7,7 @@ use Rattle.blocks.specs.declared.disk.Disk.{Ghosts}
 use Rattle.model.specs.Crash.{IsUntouched, due_labels, labels_of}
 use Rattle.model.specs.Files.{Files, file_in, files_of}
 use Rattle.model.specs.Journal.{is_making, own, replay}
-use Rattle.model.specs.Layout.{form_of}
+use Rattle.model.specs.Layout.{form_of, is_marked}
 use Rattle.model.specs.Log.{is_lawful_log, recovered}
 use Rattle.model.specs.Operations.{after}
 use Rattle.model.specs.Soundness.{IsSound}
@@ -94,6 +94,8 @@ pub record Begins {D : Type 0} (image : D → Image) (k m : Plain D) : Type 0 wh
   pub files : HasFiles image m (files_of (image_on image k))
   pub sound : IsSound (image_on image k)
   pub form : form_of (image_on image k) ≡ form_of (image k.opening)
+  pub size : length (image_on image k) ≡ length (image k.opening)
+  pub super : block_at (image_on image k) 1 ≡ block_at (image k.opening) 1
   pub list : m.world.journal.list ≡ k.world.journal.list
   pub none : length m.store.volume.log.homes ≡ 0
   pub labels : (i : ℕ) → file_in (files_of (image_on image k)) i ≢ None
@@ -127,6 +129,8 @@ pub record Commits {D : Type 0} (image : D → Image) (k m : Plain D) : Type 0 w
   pub untouched : IsUntouched (image_on image k) (image_on image m)
   pub labels : (i : ℕ) → file_in (files_of (image_on image m)) i ≢ None
       → labels_of (image_on image m) i ≡ labels_made image k i
+  -- the blocks that are free are those that its calls saw free
+  pub marks : (b : ℕ) → is_marked (image_on image m) b ≡ is_marked (image_seen image k) b
   pub one_more : call_count m ≡ call_count k + 1
 
 -- the disk was only read, and counted no fault

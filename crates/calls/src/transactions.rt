@@ -8,16 +8,20 @@
 
 mod beginning;
 mod calling;
+mod changing;
 mod committing;
 mod fault;
+mod making;
 mod opening;
 mod pairing;
 mod resting;
 
 pub use beginning::{Pair, begin};
 pub use calling::call;
+pub use changing::{append, create, empty, remove};
 pub use committing::commit;
 pub use fault::TransactionFault;
+pub use making::make_one;
 pub use opening::open_pair;
 pub use pairing::make_both;
 pub use resting::{abandon, rested, still};
