@@ -7,7 +7,7 @@ use Rattle.blocks.specs.Disk.{Image}
 use Rattle.model.specs.Files.{Files, file_in, files_of}
 use Rattle.model.specs.Layout.{greatest_size}
 use Rattle.model.specs.declared.types.image.Form.{Form}
-use Rattle.calls.specs.Files.{AppendsPart, MayAppend, appended, size_of}
+use Rattle.calls.specs.Files.{AppendsPart, MayAppendTwo, appended, size_of}
 use Rattle.transfer.specs.Places.{put_at}
 use Rattle.transfer.specs.PutWriting.{PutsPart}
 use Rattle.transfer.proofs.PieceLemmas.{piece_joined}
@@ -15,7 +15,7 @@ use Rattle.transfer.proofs.PlaceLemmas.{appended_put, size_put}
 
 -- y has the bytes before `from` at number i, and the next piece goes on to `to`
 module _ (x y : Image) (i : ℕ) (bytes : List ℕ) (from to : ℕ) (there : i < length (files_of x)) (before : files_of y ≡ put_at (files_of x) i (take from bytes))
-    (inside : from ≤ length bytes) (end : to ≡ min (from + 3072) (length bytes)) where
+    (inside : from ≤ length bytes) (end : to ≡ min (from + 6144) (length bytes)) where
   abbrev piece : List ℕ
   piece = take (to - from) (drop from bytes)
 
@@ -32,7 +32,7 @@ module _ (x y : Image) (i : ℕ) (bytes : List ℕ) (from to : ℕ) (there : i <
   put_behind more =
       ap (λ (files : Files). appended files i more) before ∙ appended_put (files_of x) i (take from bytes) more there
 
-  pub piece_room : (form first : Form) → form ≡ first → length bytes ≤ greatest_size first → MayAppend form (file_in (files_of y) i) from (length piece)
+  pub piece_room : (form first : Form) → form ≡ first → length bytes ≤ greatest_size first → MayAppendTwo form (file_in (files_of y) i) from (length piece)
   piece_room form first same short =
       let long : length (take from bytes) ≡ from = omega (arith, length-take from bytes, inside) in
       record {
@@ -41,8 +41,8 @@ module _ (x y : Image) (i : ℕ) (bytes : List ℕ) (from to : ℕ) (there : i <
         short = omega (arith, piece_long, end, inside, short, ap greatest_size same);
       }
 
-  pub piece_put : (z : Image) → files_of z ≡ appended (files_of y) i piece → files_of z ≡ put_at (files_of x) i (take (from + 3072) bytes)
-  piece_put z is = is ∙ put_behind piece ∙ ap (put_at (files_of x) i) (piece_joined bytes from to 3072 inside end)
+  pub piece_put : (z : Image) → files_of z ≡ appended (files_of y) i piece → files_of z ≡ put_at (files_of x) i (take (from + 6144) bytes)
+  piece_put z is = is ∙ put_behind piece ∙ ap (put_at (files_of x) i) (piece_joined bytes from to 6144 inside end)
 
   pub part_put : (z : Image) → AppendsPart i piece y z → PutsPart i bytes x z
   part_put z part =

@@ -4,15 +4,17 @@ use Rattle.blocks.specs.Disk.{Image, Rose}
 use Rattle.blocks.specs.declared.disk.Disk.{Ghosts}
 use Rattle.model.specs.Files.{Files, files_of}
 use Rattle.model.specs.Soundness.{IsSound}
-use Rattle.calls.specs.Answered.{IsAnswered}
+use Rattle.calls.specs.Answered.{IsCommitted}
 use Rattle.calls.specs.Files.{files_on}
 use Rattle.wal.specs.declared.types.DeviceFault.{DeviceFault}
-use Rattle.calls.specs.Calls.{HasFailed, IsUncalled, IsWhole, Rests, faults_on, image_on}
+use Rattle.calls.specs.Calls.{HasFailed, IsWhole, faults_on, image_on}
 use Rattle.calls.specs.Lemmas.Unshown.{unshown_none, unshown_then}
+use Rattle.calls.specs.Pairing.{IsUnmade}
 use Rattle.calls.specs.Stepping.{Plain}
+use Rattle.calls.specs.Transactions.{Rests}
 use Rattle.calls.specs.Unshown.{KeepsUnshown, LosesNone}
-use Rattle.calls.specs.declared.fault.CallFault.{CallFault}
-use Rattle.calls.specs.declared.fault.CallFault.TheVariants as fault
+use Rattle.calls.specs.declared.transactions.fault.TransactionFault.{TransactionFault}
+use Rattle.calls.specs.declared.transactions.fault.TransactionFault.TheVariants as fault
 use Rattle.transfer.specs.Places.{IsPlace, MayPut, PutsAll, put_at}
 use Rattle.transfer.specs.PutWriting.{AreAnswered, IsCutOff, MayCall, Puts, PutsPart}
 use Rattle.transfer.proofs.PlaceLemmas.{put_at_again}
@@ -56,8 +58,8 @@ module _ {D N : Type 0} (disk : Ghosts D N) where
     opening = refl;
   }
 
-  -- a call more
-  pub answered_then : (k l m : Plain D) → AreAnswered disk k l → IsAnswered disk l m → m.opening ≡ l.opening → LosesNone (files_on disk.image k) (files_on disk.image m) → AreAnswered disk k m
+  -- a transaction more
+  pub answered_then : {most : ℕ} (k l m : Plain D) → AreAnswered disk k l → IsCommitted disk most l m → m.opening ≡ l.opening → LosesNone (files_on disk.image k) (files_on disk.image m) → AreAnswered disk k m
   answered_then k l m before call opening none_lost = record {
     rests = call.rests;
     whole = whole_then (image_on disk.image k) (image_on disk.image l) (image_on disk.image m) before.whole call.whole;
@@ -80,7 +82,7 @@ module _ {D N : Type 0} (disk : Ghosts D N) where
   -- no call failed
   pub faults_same : (k l : Plain D) → Rests disk.fault_count k → AreAnswered disk k l → disk.fault_count l.store.volume.device ≡ disk.fault_count k.store.volume.device
   faults_same k l rests before =
-      before.rests.faultless ∙ ap disk.fault_count before.opening ∙ sym rests.faultless
+      before.rests.pair.faultless ∙ ap disk.fault_count before.opening ∙ sym rests.pair.faultless
 
   -- ---- a call that is not answered
 
@@ -91,10 +93,10 @@ module _ {D N : Type 0} (disk : Ghosts D N) where
   }
 
   cut_memory : (inum : Option ℕ) (bytes : List ℕ) (k l e : Plain D) → Rests disk.fault_count k → AreAnswered disk k l →
-      MayPut (files_on disk.image k) inum bytes (files_on disk.image l) → IsUncalled disk l e fault.NoMemory →
+      MayPut (files_on disk.image k) inum bytes (files_on disk.image l) → IsUnmade disk l e fault.NoMemory →
       IsCutOff disk inum bytes k e fault.NoMemory
   cut_memory inum bytes k l e rests before files why =
-      let same : image_on disk.image e ≡ image_on disk.image l = why.0.image in (
+      let same : image_on disk.image e ≡ image_on disk.image l = why.0 in (
         why.1 ∙ faults_same k l rests before,
         record {
           whole = whole_then (image_on disk.image k) (image_on disk.image l) (image_on disk.image e) before.whole (whole_same (image_on disk.image l) (image_on disk.image e) before.whole.sound same);
@@ -103,11 +105,12 @@ module _ {D N : Type 0} (disk : Ghosts D N) where
         },
       )
 
-  pub cut_after : (inum : Option ℕ) (bytes : List ℕ) (k l e : Plain D) (cause : CallFault) → Rests disk.fault_count k → AreAnswered disk k l →
-      MayPut (files_on disk.image k) inum bytes (files_on disk.image l) → IsUncalled disk l e cause →
+  pub cut_after : (inum : Option ℕ) (bytes : List ℕ) (k l e : Plain D) (cause : TransactionFault) → Rests disk.fault_count k → AreAnswered disk k l →
+      MayPut (files_on disk.image k) inum bytes (files_on disk.image l) → IsUnmade disk l e cause →
       IsCutOff disk inum bytes k e cause
   cut_after inum bytes k l e (fault.Disk cause) rests before files why = failed_after k l e cause rests before why
   cut_after inum bytes k l e fault.NoMemory rests before files why = cut_memory inum bytes k l e rests before files why
+  cut_after inum bytes k l e fault.NoRoom rests before files why = absurd why
 
   -- ---- behind the call that made the file, or emptied it
 
@@ -150,7 +153,7 @@ module _ {D N : Type 0} (disk : Ghosts D N) where
     pub part_first : (y : Image) → PutsPart i bytes (image_on disk.image k) y → MayPut (files_on disk.image k) inum bytes (files_of y)
     part_first y part = inr (record { number = i; place = begins.place; count = part.count; files = part.files })
 
-    pub cut_behind : (e : Plain D) (cause : CallFault) → Rests disk.fault_count k → AreAnswered disk k l → IsCutOff disk (Some i) bytes l e cause →
+    pub cut_behind : (e : Plain D) (cause : TransactionFault) → Rests disk.fault_count k → AreAnswered disk k l → IsCutOff disk (Some i) bytes l e cause →
         IsCutOff disk inum bytes k e cause
     cut_behind e (fault.Disk cause) rests before why = failed_after k l e cause rests before why
     cut_behind e fault.NoMemory rests before why = (
@@ -161,3 +164,4 @@ module _ {D N : Type 0} (disk : Ghosts D N) where
         files = first_behind (files_of (image_on disk.image e)) why.1.files;
       },
     )
+    cut_behind e fault.NoRoom rests before why = absurd why

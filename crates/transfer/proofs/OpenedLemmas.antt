@@ -14,7 +14,7 @@ use Rattle.model.specs.Soundness.{IsSound}
 use Rattle.model.specs.Verdict.{verdict}
 use Rattle.kernel.specs.declared.types.OpenFault.{OpenFault}
 use Rattle.calls.specs.Calls.{HasFailed, IsWhole, image_on}
-use Rattle.calls.specs.Opening.{IsNotOpenedPair, IsNotOpenedSole, IsOpenedOver, IsOpenedPair, IsOpenedSole}
+use Rattle.calls.specs.Opening.{IsNotOpenedPair, IsOpenedOver, IsOpenedPair}
 use Rattle.calls.specs.Lemmas.Unshown.{unshown_none}
 use Rattle.calls.specs.Stepping.{IsReached, Plain}
 use Rattle.calls.specs.Unshown.{KeepsUnshown}
@@ -60,16 +60,14 @@ told_so disk inum bytes sync d e none silent Output why = absurd why.cause
 module _ {D N : Type 0} (disk : Ghosts D N) (inum : Option ℕ) (bytes : List ℕ) (sync : Bool) (d mid : D) (fit : IsFit disk inum (length bytes) d mid) where
   -- ---- no kernel is opened
 
-  pub unopened_then : (e : D) (fault : OpenFault) → (length bytes ≤ transfer_limit → IsNotOpenedPair disk mid e fault) → (transfer_limit < length bytes → IsNotOpenedSole disk mid e fault)
-      → IsUnopenedThen disk inum (length bytes) d e fault
-  unopened_then e fault pair sole = record {
+  pub unopened_then : (e : D) (fault : OpenFault) → IsNotOpenedPair disk mid e fault → IsUnopenedThen disk inum d e fault
+  unopened_then e fault refused = record {
     mid = mid;
     sound = fit.sound;
     plain = fit.room.plain;
     reads = fit.reads;
     faults = fit.faults;
-    pair = pair;
-    sole = sole;
+    refused = refused;
   }
 
   -- ---- calls were made
@@ -93,14 +91,13 @@ module _ {D N : Type 0} (disk : Ghosts D N) (inum : Option ℕ) (bytes : List �
       faults = calls.faults ∙ faults;
     }
 
-    failed_so : (m : Plain D) (cause : DeviceFault) → IsReached disk k m → (length bytes ≤ transfer_limit → IsOpenedPair disk mid k) → (transfer_limit < length bytes → IsOpenedSole disk mid k) → HasFailed disk k m cause
-        → FailsSound disk inum (length bytes) d m.store.volume.device cause
-    failed_so m cause reached pair sole why = record {
+    failed_so : (m : Plain D) (cause : DeviceFault) → IsReached disk k m → IsOpenedPair disk mid k → HasFailed disk k m cause → FailsSound disk inum d m.store.volume.device cause
+    failed_so m cause reached pair why = record {
       sound = fit.sound;
       plain = fit.room.plain;
       mid = mid;
       reads = fit.reads;
-      failed = record { first = k; pair = pair; sole = sole; last = m; reached = reached; fault = why.is; device = refl };
+      failed = record { first = k; opened = pair; last = m; reached = reached; fault = why.is; device = refl };
       faults = subst (λ (n : ℕ). Rose n (disk.fault_count m.store.volume.device)) faults why.rose;
     }
 
@@ -135,13 +132,13 @@ module _ {D N : Type 0} (disk : Ghosts D N) (inum : Option ℕ) (bytes : List �
       }),
       silent,
     )
-    unwhole_so m none few pair reached silent (Disk cause) why = (inl (failed_so m cause reached (λ small. pair) (λ more. let no : ⊥ = omega (arith, few, more) in absurd no) why), silent)
+    unwhole_so m none few pair reached silent (Disk cause) why = (inl (failed_so m cause reached pair why), silent)
     unwhole_so m none few pair reached silent r why = absurd why
 
-    pub unwritten_so : (m : Plain D) (none : Type 0) → transfer_limit < length bytes → IsOpenedSole disk mid k → IsReached disk k m → none → (r : PutRefusal) → IsUnwritten twice disk inum bytes k m r → IsUnput disk inum bytes sync d m.store.volume.device none r
-    unwritten_so m none many sole reached silent NoInode why = (comes_to m _ why, silent)
-    unwritten_so m none many sole reached silent Full why = (inr (inl (many, comes_to m _ why)), silent)
-    unwritten_so m none many sole reached silent NoMemory why = (
+    pub unwritten_so : (m : Plain D) (none : Type 0) → transfer_limit < length bytes → IsOpenedPair disk mid k → IsReached disk k m → none → (r : PutRefusal) → IsUnwritten twice disk inum bytes k m r → IsUnput disk inum bytes sync d m.store.volume.device none r
+    unwritten_so m none many pair reached silent NoInode why = (comes_to m _ why, silent)
+    unwritten_so m none many pair reached silent Full why = (inr (inl (many, comes_to m _ why)), silent)
+    unwritten_so m none many pair reached silent NoMemory why = (
       inr (record {
         sound = fit.sound;
         plain = fit.room.plain;
@@ -152,8 +149,8 @@ module _ {D N : Type 0} (disk : Ghosts D N) (inum : Option ℕ) (bytes : List �
       }),
       silent,
     )
-    unwritten_so m none many sole reached silent (Disk cause) why = (inl (failed_so m cause reached (λ small. let no : ⊥ = omega (arith, many, small) in absurd no) (λ more. sole) why), silent)
-    unwritten_so m none many sole reached silent r why = absurd why
+    unwritten_so m none many pair reached silent (Disk cause) why = (inl (failed_so m cause reached pair why), silent)
+    unwritten_so m none many pair reached silent r why = absurd why
 
     -- ---- and then a sync
 

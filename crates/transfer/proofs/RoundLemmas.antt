@@ -11,14 +11,15 @@ use Rattle.model.specs.Log.{is_lawful_log, recovered}
 use Rattle.model.specs.Soundness.{IsSound}
 use Rattle.model.specs.declared.types.image.File.{File}
 use Rattle.history.specs.Lemmas.Leaving.{leaves_wider}
-use Rattle.calls.specs.Calls.{Rests, image_on}
+use Rattle.calls.specs.Calls.{image_on}
 use Rattle.calls.specs.Files.{files_on}
 use Rattle.calls.specs.Lemmas.Reaching.{reached_then}
 use Rattle.calls.specs.Stepping.{IsReached, Plain}
+use Rattle.calls.specs.Transactions.{Rests}
 use Rattle.calls.specs.Unshown.{KeepsUnshown}
 use Rattle.calls.specs.Stopped.{KeepsChange, LeavesChange, Removes, StaysOver}
-use Rattle.calls.specs.declared.fault.CallFault.{CallFault}
-use Rattle.calls.specs.declared.fault.CallFault.TheVariants as fault
+use Rattle.calls.specs.declared.transactions.fault.TransactionFault.{TransactionFault}
+use Rattle.calls.specs.declared.transactions.fault.TransactionFault.TheVariants as fault
 use Rattle.transfer.specs.Places.{HasNoFree, MayPut, PutsAll, put_at, put_file}
 use Rattle.transfer.specs.PutWriting.{AreAnswered, Comes, FillsUp, IsCutOff, IsPutCutOff, PutComes}
 use Rattle.transfer.specs.Rounds.{Goes, GoesRound, HasBytes, HasFree, HasOldOrNew, HasSpare, IsNeverNeither}
@@ -135,7 +136,7 @@ module _ {D N : Type 0} (disk : Ghosts D N) (inum : ℕ) (bytes : List ℕ) wher
   -- a call that is not answered, behind others
   pub cut_round : (k l : Plain D) (place : Option ℕ) (e : Plain D) → Rests disk.fault_count k → AreAnswered disk k l
       → ((y : Image) → MayPut (files_on disk.image l) place bytes (files_of y) → GoesRound (λ w at. MayPut (files_of w) at bytes (files_of y)) (image_on disk.image k) inum bytes)
-      → (cause : CallFault) → IsCutOff disk place bytes l e cause → IsPutCutOff true disk (Some inum) bytes k e cause
+      → (cause : TransactionFault) → IsCutOff disk place bytes l e cause → IsPutCutOff true disk (Some inum) bytes k e cause
   cut_round k l place e rests before goes (fault.Disk cause) why = failed_after disk k l e cause rests before why
   cut_round k l place e rests before goes fault.NoMemory why = (
     why.0 ∙ faults_same disk k l rests before,
@@ -145,6 +146,7 @@ module _ {D N : Type 0} (disk : Ghosts D N) (inum : ℕ) (bytes : List ℕ) wher
       files = goes (image_on disk.image e) why.1.files;
     },
   )
+  cut_round k l place e rests before goes fault.NoRoom why = absurd why
 
   -- ---- what a stop leaves
 
@@ -225,7 +227,7 @@ module _ (inum : Option ℕ) (twice : Bool) (straight : IsStraight inum twice) (
   comes_straight x y outcome.NoInode comes = comes
   comes_straight x y outcome.Full comes = goes_straight inum twice (λ w place. FillsUp w place bytes y) x bytes straight comes
 
-  pub cut_straight : {D N : Type 0} (disk : Ghosts D N) (d e : Plain D) (cause : CallFault) → IsCutOff disk inum bytes d e cause → IsPutCutOff twice disk inum bytes d e cause
+  pub cut_straight : {D N : Type 0} (disk : Ghosts D N) (d e : Plain D) (cause : TransactionFault) → IsCutOff disk inum bytes d e cause → IsPutCutOff twice disk inum bytes d e cause
   cut_straight disk d e (fault.Disk cause) why = why
   cut_straight disk d e fault.NoMemory why = (
     why.0,
@@ -235,6 +237,7 @@ module _ (inum : Option ℕ) (twice : Bool) (straight : IsStraight inum twice) (
       files = goes_straight inum twice (λ w place. MayPut (files_of w) place bytes (files_of (image_on disk.image e))) (image_on disk.image d) bytes straight why.1.files;
     },
   )
+  cut_straight disk d e fault.NoRoom why = absurd why
 
   pub stays_straight : {D N : Type 0} (disk : Ghosts D N) (x : Image) (k m : Plain D) → StaysPlace disk x inum bytes k m → StaysPut disk twice x inum bytes k m
   stays_straight disk x k m stays = record {

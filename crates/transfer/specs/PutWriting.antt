@@ -7,10 +7,11 @@ use Rattle.model.specs.Layout.{form_of}
 use Rattle.model.specs.Soundness.{IsSound}
 use Rattle.calls.specs.Files.{IsFull, files_on}
 use Rattle.calls.specs.Unshown.{KeepsUnshown, LosesNone}
-use Rattle.calls.specs.Calls.{HasFailed, IsWhole, Rests, call_count, faults_on, image_on}
+use Rattle.calls.specs.Calls.{HasFailed, IsWhole, call_count, faults_on, image_on}
 use Rattle.calls.specs.Stepping.{Plain}
-use Rattle.calls.specs.declared.fault.CallFault.{CallFault}
-use Rattle.calls.specs.declared.fault.CallFault.TheVariants as fault
+use Rattle.calls.specs.Transactions.{Rests}
+use Rattle.calls.specs.declared.transactions.fault.TransactionFault.{TransactionFault}
+use Rattle.calls.specs.declared.transactions.fault.TransactionFault.TheVariants as fault
 use Rattle.transfer.specs.Needs.{has_room_twice}
 use Rattle.transfer.specs.Places.{HasNoFree, IsPlace, MayPut, PutsAll, put_at}
 use Rattle.transfer.specs.Rounds.{Goes}
@@ -80,11 +81,12 @@ pub record KeepsPart (x : Image) (inum : Option ℕ) (bytes : List ℕ) (y : Ima
 
 -- why a call was not answered, of a kernel that was k before all calls and is m
 abbrev pub IsCutOff : {D N : Type 0} → Ghosts D N → Option ℕ → List ℕ → Plain D → Plain D
-    → CallFault → Type 0
+    → TransactionFault → Type 0
 IsCutOff disk inum bytes k m (fault.Disk cause) = HasFailed disk k m cause
 IsCutOff disk inum bytes k m fault.NoMemory =
     (faults_on disk.fault_count m ≡ faults_on disk.fault_count k)
     × KeepsPart (image_on disk.image k) inum bytes (image_on disk.image m)
+IsCutOff disk inum bytes k m fault.NoRoom = ⊥
 
 -- ---- over a file, where there is room `twice`, a put goes round
 
@@ -104,11 +106,12 @@ pub record KeepsSome (twice : Bool) (x : Image) (inum : Option ℕ) (bytes : Lis
 
 -- why a call of a put was not answered
 abbrev pub IsPutCutOff : {D N : Type 0} → Bool → Ghosts D N → Option ℕ → List ℕ → Plain D → Plain D
-    → CallFault → Type 0
+    → TransactionFault → Type 0
 IsPutCutOff twice disk inum bytes k m (fault.Disk cause) = HasFailed disk k m cause
 IsPutCutOff twice disk inum bytes k m fault.NoMemory =
     (faults_on disk.fault_count m ≡ faults_on disk.fault_count k)
     × KeepsSome twice (image_on disk.image k) inum bytes (image_on disk.image m)
+IsPutCutOff twice disk inum bytes k m fault.NoRoom = ⊥
 
 -- the calls came to this, and none failed
 pub record CallsTo {D N : Type 0} (twice : Bool) (disk : Ghosts D N) (inum : Option ℕ)

@@ -12,7 +12,7 @@ use Rattle.wal.specs.Step.{FailsToSync}
 use Rattle.wal.specs.declared.types.DeviceFault.{DeviceFault}
 use Rattle.kernel.specs.declared.types.OpenFault.{OpenFault}
 use Rattle.calls.specs.Calls.{IsWhole}
-use Rattle.calls.specs.Opening.{IsNotOpenedPair, IsNotOpenedSole, IsOpenedPair, IsOpenedSole}
+use Rattle.calls.specs.Opening.{IsNotOpenedPair, IsOpenedPair}
 use Rattle.calls.specs.Stepping.{IsReached, Plain}
 use Rattle.calls.specs.Unshown.{KeepsUnshown}
 use Rattle.messages.specs.Output.{number_text}
@@ -50,16 +50,14 @@ pub record IsPut {D N : Type 0} (disk : Ghosts D N) (inum : Option ℕ) (bytes :
   pub printed : Appends old new (number_text number)
 
 -- no kernel was opened over the disk d, now e, which was only read before
-pub record IsUnopenedThen {D N : Type 0} (disk : Ghosts D N) (inum : Option ℕ) (count : ℕ) (d e : D)
+pub record IsUnopenedThen {D N : Type 0} (disk : Ghosts D N) (inum : Option ℕ) (d e : D)
     (fault : OpenFault) : Type 0 where
   pub mid : D
   pub sound : verdict (disk.image d) ≡ None
   pub plain : IsPlainOld (files_of (recovered (disk.image d))) inum
   pub reads : OnlyReads disk d mid
   pub faults : disk.fault_count mid ≡ disk.fault_count d
-  -- of two processes for as many bytes as one write moves, of one for more
-  pub pair : count ≤ transfer_limit → IsNotOpenedPair disk mid e fault
-  pub sole : transfer_limit < count → IsNotOpenedSole disk mid e fault
+  pub refused : IsNotOpenedPair disk mid e fault
 
 -- memory was refused to a call: the first of the bytes may be put; of as few as one write moves none
 pub record RunsOut {D N : Type 0} (disk : Ghosts D N) (inum : Option ℕ) (bytes : List ℕ) (d e : D)
@@ -91,24 +89,23 @@ pub record PutsNone {D N : Type 0} (disk : Ghosts D N) (inum : Option ℕ) (byte
 
 -- A kernel that was opened over the disk d, now e, went on, and then had just this fault, which one of
 -- its steps met.
-pub record EndsFailed {D N : Type 0} (disk : Ghosts D N) (count : ℕ) (d e : D) (cause : DeviceFault)
+pub record EndsFailed {D N : Type 0} (disk : Ghosts D N) (d e : D) (cause : DeviceFault)
     : Type 0 where
   pub first : Plain D
-  pub pair : count ≤ transfer_limit → IsOpenedPair disk d first
-  pub sole : transfer_limit < count → IsOpenedSole disk d first
+  pub opened : IsOpenedPair disk d first
   pub last : Plain D
   pub reached : IsReached disk first last
   pub fault : last.store.volume.fault ≡ Some cause
   pub device : last.store.volume.device ≡ e
 
 -- the disk failed in a call, over an image without a fault; before the kernel it was only read
-pub record FailsSound {D N : Type 0} (disk : Ghosts D N) (inum : Option ℕ) (count : ℕ) (d e : D)
+pub record FailsSound {D N : Type 0} (disk : Ghosts D N) (inum : Option ℕ) (d e : D)
     (cause : DeviceFault) : Type 0 where
   pub sound : verdict (disk.image d) ≡ None
   pub plain : IsPlainOld (files_of (recovered (disk.image d))) inum
   pub mid : D
   pub reads : OnlyReads disk d mid
-  pub failed : EndsFailed disk count mid e cause
+  pub failed : EndsFailed disk mid e cause
   pub faults : Rose (disk.fault_count d) (disk.fault_count e)
 
 -- the bytes were put, and the sync that was asked for failed
@@ -154,11 +151,11 @@ IsUnput disk inum bytes sync d e none Full =
 IsUnput disk inum bytes sync d e none NoMemory =
     (IsTold disk inum (length bytes) d e NoMemory ⊎ RunsOut disk inum bytes d e) × none
 IsUnput disk inum bytes sync d e none (Unopened fault) =
-    IsUnopenedThen disk inum (length bytes) d e fault × none
+    IsUnopenedThen disk inum d e fault × none
 IsUnput disk inum bytes sync d e none NoInode =
     ComesTo disk inum bytes d e outcome.NoInode × none
 IsUnput disk inum bytes sync d e none (Disk cause) =
-    (FailsSound disk inum (length bytes) d e cause
+    (FailsSound disk inum d e cause
     ⊎ FailsSynced disk inum bytes sync d e cause) × none
 IsUnput disk inum bytes sync d e none Output = HasPutUntold disk inum bytes sync d e
 

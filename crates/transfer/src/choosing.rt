@@ -22,8 +22,9 @@ use std::io::Write;
 /// files as they were, or with all of the bytes; of a disk that held writes back at the start, a stop
 /// since the sync with which the recovery began. What no file shows stays, as in `calls::call`.
 ///
-/// More bytes are put call by call, each a whole operation. So a stop, as above, leaves the files as they
-/// were, or with the old file, or a new one, in which the first of the bytes stand. Over a file there is
+/// More bytes are put in several transactions, with at most two writes each. So a stop, as above, leaves
+/// the files as they were, or with the old file, or a new one, in which the first of the bytes stand.
+/// Over a file there is
 /// a way round, where the free blocks have room for both and a number is free: the bytes go into a new
 /// file first, all of them, and it is removed once the old one has them, too. So whatever a stop leaves,
 /// the old bytes are there or the new ones, at the number of the old file or at another. Else the old

@@ -19,13 +19,13 @@ use crate::judging::judge;
 use crate::refused::PutRefusal;
 use crate::writing::{Outcome, put_bytes};
 use blocks::Disk;
-use calls::{CallFault, Sole, open_sole};
+use calls::transactions::{Pair, TransactionFault, open_pair};
 use messages::{Meter, print_number};
 use std::alloc::Global;
 use std::io::Write;
 use wal::DeviceFault;
 
-// Puts more bytes than one write moves, call by call: `put_disk` says how.
+// Puts more bytes than one write moves, in several transactions: `put_disk` says how.
 pub fn put_long<D: Disk + Drop, P: Meter, O: Write>(
     alloc: Global,
     disk: D,
@@ -44,7 +44,7 @@ pub fn put_long<D: Disk + Drop, P: Meter, O: Write>(
         Ok(twice) => twice,
         Err(refusal) => return (Err(refusal), disk),
     };
-    let mut kernel = match open_sole(alloc, disk) {
+    let mut kernel = match open_pair(alloc, disk) {
         Ok(kernel) => kernel,
         Err((fault, disk)) => return (Err(PutRefusal::Unopened(fault)), disk),
     };
@@ -63,7 +63,7 @@ pub fn put_long<D: Disk + Drop, P: Meter, O: Write>(
 // Puts bytes through a kernel, over a file by way of a new one where there is room `twice`. The number of
 // their file.
 fn put<D: Disk, P: Meter>(
-    kernel: &mut Sole<D>,
+    kernel: &mut Pair<D>,
     alloc: Global,
     bytes: &[u8],
     inum: Option<u32>,
@@ -84,8 +84,10 @@ fn put<D: Disk, P: Meter>(
         Ok(Outcome::Put(number)) => Ok(number),
         Ok(Outcome::NoInode) => Err(PutRefusal::NoInode),
         Ok(Outcome::Full) => Err(PutRefusal::Full),
-        Err(CallFault::Disk(fault)) => Err(PutRefusal::Disk(fault)),
-        Err(CallFault::NoMemory) => Err(PutRefusal::NoMemory),
+        Err(TransactionFault::Disk(fault)) => Err(PutRefusal::Disk(fault)),
+        Err(TransactionFault::NoMemory) => Err(PutRefusal::NoMemory),
+        // Two calls always have room.
+        Err(TransactionFault::NoRoom) => unreachable!(),
     }
 }
 

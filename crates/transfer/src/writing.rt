@@ -9,7 +9,7 @@ ghost use Rattle.transfer.specs.Stopped.{StaysPlace, StaysPut};
 ghost use Rattle.transfer.specs.PutWriting.{AreAnswered, Comes, IsCutOff, IsPutCutOff, MayCall, PutComes, Puts};
 
 use blocks::Disk;
-use calls::{CallFault, Sole, append, create, empty, remove, rested};
+use calls::transactions::{Pair, TransactionFault, append, create, empty, remove, rested};
 use messages::Meter;
 use model::types::TRANSFER_LIMIT;
 use std::alloc::Global;
@@ -17,8 +17,8 @@ use std::alloc::Global;
 // The type of a new file.
 pub const NEW_KIND: u16 = 2;
 
-// The most bytes of a piece.
-const PIECE: usize = TRANSFER_LIMIT as usize;
+// The most bytes of a piece: two writes move them, in one transaction.
+const PIECE: usize = 2 * TRANSFER_LIMIT as usize;
 
 // What the calls came to.
 #[derive(Clone, Copy)]
@@ -35,12 +35,12 @@ pub enum Outcome {
 // room for them in a new file, and then beside it in the old one.
 pub fn put_bytes<D: Disk, P: Meter>(
     alloc: Global,
-    kernel: &mut Sole<D>,
+    kernel: &mut Pair<D>,
     bytes: &[u8],
     inum: Option<u32>,
     twice: bool,
     progress: &mut P,
-) -> Result<Outcome, CallFault>
+) -> Result<Outcome, TransactionFault>
     requires ready { MayCall D.Disk (2 ^ 62) kernel.old }
     requires there { HasOld (files_on D.image kernel.old) inum }
     requires short { length bytes.now ≤ greatest_size (form_of (image_on D.image kernel.old)) }
@@ -68,12 +68,12 @@ pub fn put_bytes<D: Disk, P: Meter>(
 // old one is emptied, and is removed once the old one has them, too. Where each number is taken
 // there is no way round.
 fn go_round<D: Disk, P: Meter>(
-    kernel: &mut Sole<D>,
+    kernel: &mut Pair<D>,
     alloc: Global,
     number: u32,
     bytes: &[u8],
     progress: &mut P,
-) -> Result<Outcome, CallFault>
+) -> Result<Outcome, TransactionFault>
     requires ready { MayCall D.Disk (2 ^ 62) kernel.old }
     requires there { file_in (files_on D.image kernel.old) number ≢ None }
     requires short { length bytes.now ≤ greatest_size (form_of (image_on D.image kernel.old)) }
@@ -93,47 +93,47 @@ fn go_round<D: Disk, P: Meter>(
     if !refill(alloc, kernel, bytes, number, progress)? {
         return Ok(Outcome::Full);
     }
-    remove(kernel, spare)?;
+    remove(alloc, kernel, spare)?;
     Ok(Outcome::Put(number))
 }
 
 // Puts bytes as those of a new file, which is removed again where no block is free for all.
 fn add<D: Disk, P: Meter>(
     alloc: Global,
-    kernel: &mut Sole<D>,
+    kernel: &mut Pair<D>,
     bytes: &[u8],
     progress: &mut P,
-) -> Result<Outcome, CallFault>
+) -> Result<Outcome, TransactionFault>
     requires ready { MayCall D.Disk (2 ^ 62) kernel.old }
     requires short { length bytes.now ≤ greatest_size (form_of (image_on D.image kernel.old)) }
     ensures comes { IfOk result (Comes (image_on D.image kernel.old) None bytes.now
         (image_on D.image kernel.new)) }
     ensures answered { OnOk result (AreAnswered D.Disk kernel.old kernel.new) }
-    ensures few { OnOk result (call_count kernel.new ≤ 2 ^ 62 + 2 ^ 16) }
+    ensures few { OnOk result (call_count kernel.new ≤ 2 ^ 62 + 2 ^ 17) }
     ensures refused { IfErr result (IsCutOff D.Disk None bytes.now
         kernel.old kernel.new) }
     ensures stays { StaysPlace D.Disk (image_on D.image kernel.old) None bytes.now
         kernel.old kernel.new }
 {
-    let Some(number) = create(kernel, NEW_KIND)? else {
+    let Some(number) = create(alloc, kernel, NEW_KIND)? else {
         return Ok(Outcome::NoInode);
     };
     if append_all(kernel, alloc, number, bytes, progress)? {
         return Ok(Outcome::Put(number));
     }
-    remove(kernel, number)?;
+    remove(alloc, kernel, number)?;
     Ok(Outcome::Full)
 }
 
 // Puts bytes in the place of those of a file.
 fn replace<D: Disk, P: Meter>(
     alloc: Global,
-    kernel: &mut Sole<D>,
+    kernel: &mut Pair<D>,
     bytes: &[u8],
     number: u32,
     progress: &mut P,
-) -> Result<Outcome, CallFault>
-    requires ready { MayCall D.Disk (2 ^ 62 + 2 ^ 16) kernel.old }
+) -> Result<Outcome, TransactionFault>
+    requires ready { MayCall D.Disk (2 ^ 62 + 2 ^ 17) kernel.old }
     requires there { file_in (files_on D.image kernel.old) number ≢ None }
     requires short { length bytes.now ≤ greatest_size (form_of (image_on D.image kernel.old)) }
     ensures comes { IfOk result (Comes (image_on D.image kernel.old) (Some number) bytes.now
@@ -154,42 +154,42 @@ fn replace<D: Disk, P: Meter>(
 // Empties a file, and puts bytes into it. False where no block was free for all.
 fn refill<D: Disk, P: Meter>(
     alloc: Global,
-    kernel: &mut Sole<D>,
+    kernel: &mut Pair<D>,
     bytes: &[u8],
     number: u32,
     progress: &mut P,
-) -> Result<bool, CallFault>
-    requires ready { MayCall D.Disk (2 ^ 62 + 2 ^ 16) kernel.old }
+) -> Result<bool, TransactionFault>
+    requires ready { MayCall D.Disk (2 ^ 62 + 2 ^ 17) kernel.old }
     requires there { file_in (files_on D.image kernel.old) number ≢ None }
     requires short { length bytes.now ≤ greatest_size (form_of (image_on D.image kernel.old)) }
     ensures puts { IfOk result (λ all. Puts all number bytes.now (image_on D.image kernel.old)
         (image_on D.image kernel.new)) }
     ensures answered { OnOk result (AreAnswered D.Disk kernel.old kernel.new) }
-    ensures few { OnOk result (call_count kernel.new < 2 ^ 63) }
+    ensures few { OnOk result (call_count kernel.new + 2 < 2 ^ 63) }
     ensures refused { IfErr result (IsCutOff D.Disk (Some number) bytes.now
         kernel.old kernel.new) }
     ensures stays { StaysPlace D.Disk (image_on D.image kernel.old) (Some number) bytes.now
         kernel.old kernel.new }
 {
-    empty(kernel, number)?;
+    empty(alloc, kernel, number)?;
     append_all(kernel, alloc, number, bytes, progress)
 }
 
 // Writes bytes into an empty file, piece by piece. False where no block was free for all.
 fn append_all<D: Disk, P: Meter>(
-    kernel: &mut Sole<D>,
+    kernel: &mut Pair<D>,
     alloc: Global,
     number: u32,
     bytes: &[u8],
     progress: &mut P,
-) -> Result<bool, CallFault>
-    requires ready { MayCall D.Disk (2 ^ 62 + 2 ^ 16 + 1) kernel.old }
+) -> Result<bool, TransactionFault>
+    requires ready { MayCall D.Disk (2 ^ 62 + 2 ^ 18) kernel.old }
     requires empty { size_of (file_in (files_on D.image kernel.old) number) ≡ Some 0 }
     requires short { length bytes.now ≤ greatest_size (form_of (image_on D.image kernel.old)) }
     ensures puts { IfOk result (λ all. Puts all number bytes.now (image_on D.image kernel.old)
         (image_on D.image kernel.new)) }
     ensures answered { OnOk result (AreAnswered D.Disk kernel.old kernel.new) }
-    ensures few { OnOk result (call_count kernel.new ≤ call_count kernel.old + 2 ^ 15) }
+    ensures few { OnOk result (call_count kernel.new ≤ call_count kernel.old + 2 ^ 16) }
     ensures refused { IfErr result (IsCutOff D.Disk (Some number) bytes.now
         kernel.old kernel.new) }
     ensures stays { StaysPlace D.Disk (image_on D.image kernel.old) (Some number) bytes.now
@@ -199,7 +199,7 @@ fn append_all<D: Disk, P: Meter>(
     for piece in 0..bytes.len().div_ceil(PIECE) {
         let from = piece * PIECE;
         let to = (from + PIECE).min(bytes.len());
-        if !append(kernel, alloc, number, from as u32, &bytes[from..to])? {
+        if !append(alloc, kernel, number, from as u32, &bytes[from..to])? {
             return Ok(false);
         }
         progress.reached(to as u64, bytes.len() as u64, "bytes");

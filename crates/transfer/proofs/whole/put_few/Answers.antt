@@ -20,7 +20,7 @@ returns-in-Err g c = record {
 pub returns-in-Err-open_pair : goal.returns-in-Err-open_pair
 returns-in-Err-open_pair g c = record {
   put = tt;
-  refused = (unopened_then g.D.Disk c.args.inum c.args.bytes.now c.args.sync c.args.disk c.judge.new.disk c.in-Ok.ensures.fit c.in-Err-open_pair.disk c.in-Err-open_pair.fault (λ small. c.in-Err-open_pair.ensures.refused) (λ more. let few = c.requires in let no : ⊥ = omega (arith, few, more) in absurd no), refl);
+  refused = (unopened_then g.D.Disk c.args.inum c.args.bytes.now c.args.sync c.args.disk c.judge.new.disk c.in-Ok.ensures.fit c.in-Err-open_pair.disk c.in-Err-open_pair.fault c.in-Err-open_pair.ensures.refused, refl);
   leaves = let d = g.D.Disk in let e = c.in-Err-open_pair.disk in λ sound. recovered_leaves d c.args.inum c.args.bytes.now c.args.disk c.judge.new.disk sound c.in-Ok.ensures.fit.reads e (not_opened_leaves d 2 c.judge.new.disk e c.in-Err-open_pair.fault c.in-Err-open_pair.ensures.refused);
   name = search rules;
 }

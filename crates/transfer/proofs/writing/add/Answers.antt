@@ -27,7 +27,7 @@ module _ (g : Over) (c : After-append_all g) where
   begins = record { below = made.below; place = lowest_made _ _ 2 _ made; files = made.files ∙ made_put _ _ made.free }
 
   answered : AreAnswered g.D.Disk c.args.kernel.now c.create.new.kernel
-  answered = answered_then g.D.Disk _ _ _ (answered_none g.D.Disk _ c.requires.ready) c.in_ok-number.ensures.answered c.in_ok-number.ensures.stays.opening (put_loses_none _ c.in-Some.number _ _ begins.files)
+  answered = answered_then g.D.Disk _ _ _ (answered_none g.D.Disk _ c.requires.ready) c.in_ok-number.ensures.committed c.in_ok-number.ensures.stays.opening (put_loses_none _ c.in-Some.number _ _ begins.files)
 
   put : StaysPlace g.D.Disk (image_on g.D.Disk.image c.args.kernel.now) None c.args.bytes.now c.args.kernel.now c.create.new.kernel
       → StaysPlace g.D.Disk (image_on g.D.Disk.image c.args.kernel.now) None c.args.bytes.now c.args.kernel.now c.append_all.new.kernel
@@ -97,7 +97,7 @@ pub returns-clause-answered : goal.returns-clause-answered
 returns-clause-answered g c =
     let at = goal.at.returns-clause-answered g c in
     let begins = begins g at.After-append_all in
-    answered_then g.D.Disk _ c.append_all.new.kernel _ (answered_both g.D.Disk _ _ _ (answered g at.After-append_all) c.in_ok-append_all.ensures.answered) c.in_ok-remove.ensures.answered c.in_ok-remove.ensures.stays.opening
+    answered_then g.D.Disk _ c.append_all.new.kernel _ (answered_both g.D.Disk _ _ _ (answered g at.After-append_all) c.in_ok-append_all.ensures.answered) c.in_ok-remove.ensures.committed c.in_ok-remove.ensures.stays.opening
     (same_loses_none _ _ (left g at.After-remove begins (part g at.After-remove begins) c.in_ok-remove.ensures.removes))
 
 pub returns-in_err-number-clause-stays : goal.returns-in_err-number-clause-stays

@@ -21,13 +21,13 @@ use Rattle.transfer.proofs.writing.append_all.Goals as goal
 -- a piece, which is inside the bytes
 module _ (g : Over) (c : After-append g) where
   abbrev from : ℕ
-  from = c.loop-piece.piece * 3072
+  from = c.loop-piece.piece * 6144
 
   abbrev piece : List ℕ
   piece = take (c.min-to.result - from) (drop from c.args.bytes.now)
 
   inside : from < length c.args.bytes.now
-  inside = piece_inside (length c.args.bytes.now) 3072 c.loop-piece.piece (omega arith) (omega (arith, c.loop-piece-test.true, c.div_ceil-piece-end.ensures))
+  inside = piece_inside (length c.args.bytes.now) 6144 c.loop-piece.piece (omega arith) (omega (arith, c.loop-piece-test.true, c.div_ceil-piece-end.ensures))
 
   there : file_in (files_on g.D.Disk.image c.args.kernel.now) c.args.number ≢ None
   there = there_of_size _ 0 c.requires.empty
@@ -61,8 +61,8 @@ append-requires-clause-room g c =
     let i = c.args.number in
     let bytes = c.args.bytes.now in
     let before = c.loop-piece.invariant in
-    let inside : c.loop-piece.piece * 3072 < length bytes = piece_inside (length bytes) 3072 c.loop-piece.piece (omega arith) (omega (arith, c.loop-piece-test.true, c.div_ceil-piece-end.ensures)) in
-    piece_room (image_on d.image k) (image_on d.image m) i bytes (c.loop-piece.piece * 3072) c.min-to.result
+    let inside : c.loop-piece.piece * 6144 < length bytes = piece_inside (length bytes) 6144 c.loop-piece.piece (omega arith) (omega (arith, c.loop-piece-test.true, c.div_ceil-piece-end.ensures)) in
+    piece_room (image_on d.image k) (image_on d.image m) i bytes (c.loop-piece.piece * 6144) c.min-to.result
     (below_there (files_on d.image k) i (there_of_size _ 0 c.requires.empty)) before.files (omega (arith, inside)) c.min-to.ensures
     (form_of (image_on d.image m)) (form_of (image_on d.image k)) before.answered.form c.requires.short
 
@@ -84,7 +84,7 @@ returns-then-not-branch-clause-answered g c =
     let at = (goal.at.returns-then-not-branch-clause-answered g c).After-append in
     let call = c.in_ok-append.ensures in
     let part = part g at (subst (λ (all : Bool). Appends all c.args.number (piece g at) (image_on g.D.Disk.image c.loop-piece.kernel) (image_on g.D.Disk.image c.append.new.kernel)) c.if-not-branch.true call.appends) in
-    answered_then g.D.Disk _ c.loop-piece.kernel _ c.loop-piece.invariant.answered call.answered call.stays.opening (put_loses_none _ c.args.number _ _ part.files)
+    answered_then g.D.Disk _ c.loop-piece.kernel _ c.loop-piece.invariant.answered call.committed call.stays.opening (put_loses_none _ c.args.number _ _ part.files)
 
 pub loop-piece-preserved : goal.loop-piece-preserved
 loop-piece-preserved g c =
@@ -95,15 +95,15 @@ loop-piece-preserved g c =
     let before = c.loop-piece.invariant in
     let call = c.in_ok-append.ensures in
     let inside = inside g at in
-    let next : c.loop-piece.piece * 3072 + 3072 ≡ (c.loop-piece.piece + 1) * 3072 = omega arith in
-    let files : files_on g.D.Disk.image e ≡ put_at (files_on g.D.Disk.image k) c.args.number (take ((c.loop-piece.piece + 1) * 3072) c.args.bytes.now)
+    let next : c.loop-piece.piece * 6144 + 6144 ≡ (c.loop-piece.piece + 1) * 6144 = omega arith in
+    let files : files_on g.D.Disk.image e ≡ put_at (files_on g.D.Disk.image k) c.args.number (take ((c.loop-piece.piece + 1) * 6144) c.args.bytes.now)
     = piece_put (image_on g.D.Disk.image k) (image_on g.D.Disk.image m) c.args.number c.args.bytes.now (from g at) c.min-to.result
     (below g at) before.files (omega (arith, inside)) c.min-to.ensures (image_on g.D.Disk.image e)
     (subst (λ (all : Bool). Appends all c.args.number (piece g at) (image_on g.D.Disk.image m) (image_on g.D.Disk.image e)) c.if-not-branch.false call.appends)
     ∙ ap (λ (n : ℕ). put_at (files_on g.D.Disk.image k) c.args.number (take n c.args.bytes.now)) next in
     record {
-      answered = answered_then g.D.Disk k m e before.answered call.answered call.stays.opening (put_loses_none _ c.args.number _ _ files);
-      calls = omega (arith, call.answered.one_more, before.calls);
+      answered = answered_then g.D.Disk k m e before.answered call.committed call.stays.opening (put_loses_none _ c.args.number _ _ files);
+      calls = omega (arith, call.committed.few_more, before.calls);
       files = files;
       stays = stays g at;
     }

@@ -116,7 +116,7 @@ pub returns-clause-answered : goal.returns-clause-answered
 unfolding spared
 returns-clause-answered g c =
     let at = goal.at.returns-clause-answered g c in
-    answered_then g.D.Disk _ c.refill.new.kernel _ (answered_both g.D.Disk _ _ _ c.in_ok-spare.ensures.answered c.in_ok-refill.ensures.answered) c.in_ok-remove.ensures.answered c.in_ok-remove.ensures.stays.opening
+    answered_then g.D.Disk _ c.refill.new.kernel _ (answered_both g.D.Disk _ _ _ c.in_ok-spare.ensures.answered c.in_ok-refill.ensures.answered) c.in_ok-remove.ensures.committed c.in_ok-remove.ensures.stays.opening
     (put_loses_none _ c.args.number c.args.bytes.now _ (put_round g at.After-remove (spared g at.After-refill).put c.in_ok-remove.ensures.removes))
 
 -- ---- why one is not answered

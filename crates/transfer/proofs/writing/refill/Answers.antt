@@ -27,7 +27,7 @@ module _ (g : Over) (c : After-append_all g) where
   }
 
   answered : AreAnswered g.D.Disk c.args.kernel.now c.empty.new.kernel
-  answered = answered_then g.D.Disk _ _ _ (answered_none g.D.Disk _ c.requires.ready) c.in_ok-empty.ensures.answered c.in_ok-empty.ensures.stays.opening (put_loses_none _ c.args.number _ _ begins.files)
+  answered = answered_then g.D.Disk _ _ _ (answered_none g.D.Disk _ c.requires.ready) c.in_ok-empty.ensures.committed c.in_ok-empty.ensures.stays.opening (put_loses_none _ c.args.number _ _ begins.files)
 
 pub returns-clause-puts : goal.returns-clause-puts
 returns-clause-puts g c =
@@ -39,7 +39,7 @@ returns-clause-answered g c =
 
 pub returns-clause-few : goal.returns-clause-few
 returns-clause-few g c =
-    let one = c.in_ok-empty.ensures.answered.one_more in
+    let one = c.in_ok-empty.ensures.committed.few_more in
     on_ok_weaker c.append_all.result (λ few. omega (arith, few, one, c.requires.ready.few)) c.append_all.ensures.few
 
 pub returns-clause-refused : goal.returns-clause-refused
