@@ -80,8 +80,8 @@ module _ {D N : Type 0} (disk : Ghosts D N) where
         (more.0, ap (λ (form : Form). after form made op r) group.form ∙ more.1, more.2)
 
     labels_more : (i : ℕ) → (g : Files) → after (form_of x) made op r ≡ Some g → (is_making i (Some r) ≡ true → file_in (files_of x) i ≡ None) → (file_in g i ≢ None) ⊎ (file_in (files_of x) i ≢ None) → (m : Bool) → is_making i (Some r) ≡ m
-        → cond m (0, 0, 1) (labels_made disk.image b i) ≡ labels_due x i
-    labels_more i g runs free there true is = ap (λ (o : Option File). cond (is_some o) (labels_of x i) (0, 0, 1)) (sym (free is))
+        → cond m (0, 0) (labels_made disk.image b i) ≡ labels_due x i
+    labels_more i g runs free there true is = ap (λ (o : Option File). cond (is_some o) (labels_of x i) (0, 0)) (sym (free is))
     labels_more i g runs free there false is =
         group.labels i (⊎_elim (λ now. inl ((after_tells (form_of x) made g op r runs).others i is now)) (λ was. inr was) there)
 
