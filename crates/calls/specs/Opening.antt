@@ -4,8 +4,8 @@ use Rattle.blocks.specs.Disk.{counted}
 use Rattle.blocks.specs.declared.disk.Disk.{Ghosts}
 use Rattle.model.specs.Log.{logged_count, recovered}
 use Rattle.model.specs.Verdict.{verdict}
-use Rattle.wal.specs.Recovery.{IsCalm, syncs_to_recover, writes_to_recover}
-use Rattle.kernel.specs.Opening.{LeavesRecovered, RefusesToOpen}
+use Rattle.wal.specs.Recovery.{IsCalm, LeavesFromSync, RecoversAs, syncs_to_recover, writes_to_recover}
+use Rattle.kernel.specs.Opening.{RefusesToOpen}
 use Rattle.kernel.specs.declared.types.OpenFault.{OpenFault}
 use Rattle.kernel.specs.declared.types.OpenFault.TheVariants as open_fault
 use Rattle.calls.specs.Calls.{IsWhole, Rests, call_count, image_on}
@@ -29,7 +29,7 @@ pub record IsOpenedOver {D N : Type 0} (disk : Ghosts D N) (resting : Type 0) (d
       (syncs_to_recover (disk.holding (disk.name d)) (logged_count (disk.image d)))
   pub faults : disk.fault_count k.opening ≡ disk.fault_count d
   pub settled : IsCalm disk k.opening
-  pub leaves : LeavesRecovered disk d k.opening
+  pub leaves : LeavesFromSync disk d k.opening (RecoversAs (disk.image d))
 
 -- a kernel of one process, or of two, was opened over the disk d
 abbrev pub IsOpenedSole : {D N : Type 0} → Ghosts D N → D → Plain D → Type 0

@@ -1,6 +1,6 @@
 -- The recovery theorem.
-use Rattle.std.proofs.Common.{◌≡◌, ◌∙◌, ℕ, refl, sym, subst, ⊎_elim}
-use Rattle.kernel.specs.Common.{Image, KeepsBetween, kept_alike, kept_whole, LeavesIfCalm, most_of, recovered, recovers_once, RecoversAs, State}
+use Rattle.std.proofs.Common.{◌≡◌, ◌∙◌, ℕ, refl, sym, subst}
+use Rattle.kernel.specs.Common.{Image, KeepsBetween, kept_alike, kept_whole, LeavesIfCalm, most_of, recovered, recovers_once, RecoversAs, State, synced_joined, synced_wider}
 use Rattle.blocks.specs.declared.disk.Disk as disk_trait
 use Rattle.ports.specs.declared.herald.Herald as herald_trait
 use Rattle.ports.specs.declared.intake.Intake as intake_trait
@@ -77,11 +77,12 @@ module _ {D N : Type 0} (I H : Type 0) (disk : disk_trait.Ghosts D N) where
     recovers_whole x d m calm opened known = recovers_going x d m.opening m calm opened (goes_on m known) known
 
     pub recovers_held : RecoversHeld I H disk
-    recovers_held x d m turned opened known leaves =
-        from_image (recovered (disk.image d)) m x known opened.image
-        (⊎_elim
-        (λ old. alike has_now d m.opening m opened (goes_on m known) x (turned.each x old))
-        (λ kept. kept) (known.since.before turned.turn x turned.until leaves))
+    recovers_held d m holds opened known =
+        let now = m.store.volume.device in
+        let Kept : Image → Type 0 = KeepsBetween 0 (most_of m.store.volume) (disk.image m.opening) m.world.journal.list in
+        synced_wider disk d now Kept (λ x. IsRecoveredRun (recovered (disk.image d)) 0 m (recovered x)) (λ x kept. from_image (recovered (disk.image d)) m x known opened.image kept)
+        (synced_joined disk d m.opening now Kept
+        (synced_wider disk d m.opening (RecoversAs (disk.image d)) Kept (alike has_now d m.opening m opened (goes_on m known)) (opened.leaves.from_sync holds)) known.since)
 
 -- of a disk that a recovery made, of any type
 pub recovers_disks : {D N E M : Type 0} (I H : Type 0) (disk : disk_trait.Ghosts D N) (other : disk_trait.Ghosts E M) → RecoversDisks I H disk other

@@ -3,8 +3,8 @@ pub use Rattle.std.proofs.lemmas.Bool.{and_parts, both_ways, cases_eq, cases_lt,
 pub use Rattle.std.proofs.lemmas.List.{append-nil, get_or-replicate, get_or-set_other, get_or-set_same, get_or_past, length-append, length-replicate, nil_from_length, set-get_or, take_more}
 pub use Rattle.bcache.specs.Buffers.{Buffers, IsCache}
 pub use Rattle.blocks.specs.Calls.{OnlyReads}
-pub use Rattle.blocks.specs.Disk.{AddsOnly, block_at, counted, Elapses, HasTurned, Image, LeavesOnly, one_more, Rose}
-pub use Rattle.blocks.specs.Lemmas.Moments.{adds_behind, now_stays, only_added, started, turned_behind}
+pub use Rattle.blocks.specs.Disk.{block_at, counted, Elapses, Image, LeavesOnly, one_more, Rose}
+pub use Rattle.blocks.specs.Lemmas.Moments.{now_stays, started}
 pub use Rattle.blocks.specs.declared.disk.Disk.{Ghosts}
 pub use Rattle.blocks.specs.declared.errors.DiskFault.{DiskFault}
 pub use Rattle.history.specs.Alone.{CommitsAlone, is_committing_at}
@@ -83,7 +83,8 @@ pub use Rattle.wal.specs.Joint.{Joint, JointAt, place_at, seen, stepped_at}
 pub use Rattle.wal.specs.Lemmas.Commits.{commit_fails, commit_kinds, commit_log, commit_makes, empty_lawful, quiet_is_current}
 pub use Rattle.wal.specs.Lemmas.Volume.{fresh_seen, none_seen}
 pub use Rattle.wal.specs.Machine.{begin_cause, begun, end_answer, ended, is_quiet, is_syncing, is_writing, IsLogAt, LogState, new_log, used_by}
-pub use Rattle.wal.specs.Recovery.{IsCalm, LeavesIfCalm, Looks, MayStop, OnBadLog, OnNoMemory, Recovers, RecoversAs, RefusesToRecover, syncs_to_recover}
+pub use Rattle.wal.specs.Lemmas.Stops.{from_sync_behind, if_synced_behind, synced_joined, synced_wider}
+pub use Rattle.wal.specs.Recovery.{IsCalm, LeavesFromSync, LeavesIfCalm, Looks, OnBadLog, OnNoMemory, Recovers, RecoversAs, RefusesToRecover, syncs_to_recover}
 pub use Rattle.wal.specs.Step.{CommitMakes, CommitSyncs, CommitWrites, FailsAt, FailsToSync, IsFault}
 pub use Rattle.wal.specs.Volume.{fault_of_step, fault_of_task, faults_after, VolumeState}
 pub use Rattle.wal.specs.declared.types.Commit.{Commit}

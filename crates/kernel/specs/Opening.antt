@@ -1,6 +1,6 @@
 -- A kernel that was opened, and why one isn't.
 use Rattle.std.specs.Prelude.{◌≡◌, ◌≢◌, ◌≤◌, ◌<◌, ◌⊎◌, ⊤, ℕ, true, replicate, None}
-use Rattle.blocks.specs.Disk.{AddsOnly, HasTurned, Rose, counted}
+use Rattle.blocks.specs.Disk.{Rose, counted}
 use Rattle.blocks.specs.Calls.{UnlessHolds}
 use Rattle.blocks.specs.declared.disk.Disk.{Ghosts}
 use Rattle.model.specs.Layout.{form_of, inode_count_of}
@@ -8,7 +8,7 @@ use Rattle.model.specs.Log.{recovered, logged_count}
 use Rattle.model.specs.Verdict.{verdict}
 use Rattle.model.specs.declared.types.fault.CheckFault.TheVariants as check
 use Rattle.offline.specs.Cause.{IsCause}
-use Rattle.wal.specs.Recovery.{IsCalm, LeavesIfCalm, RecoversAs, syncs_to_recover, writes_to_recover}
+use Rattle.wal.specs.Recovery.{IsCalm, LeavesFromSync, LeavesIfSynced, RecoversAs, syncs_to_recover, writes_to_recover}
 use Rattle.wal.specs.declared.faults.RecoverFault.{RecoverFault}
 use Rattle.inodes.specs.Store.{fresh_volume}
 use Rattle.inodes.specs.Table.{new_table}
@@ -19,14 +19,9 @@ use Rattle.kernel.specs.State.{State}
 use Rattle.kernel.specs.declared.types.OpenFault.{OpenFault}
 use Rattle.kernel.specs.declared.types.OpenFault.TheVariants.{Check, Recover, NoMemory, ProcRange}
 
--- What a stop leaves of an opening, whose recovery begins with a sync of a disk that holds writes
--- back: it adds nothing else to what a crash may leave, and from that sync on that is all; where
--- nothing is held at the start, that is all from the start on.
-pub record LeavesRecovered {D N : Type 0} (disk : Ghosts D N) (d e : D) : Type 0 where
-  pub any_moment : LeavesIfCalm disk d e (RecoversAs (disk.image d))
-  pub adds : AddsOnly disk.moment disk.leaves d e (RecoversAs (disk.image d))
-  pub from_sync : (disk.sync_count e ≡ disk.sync_count d)
-      ⊎ HasTurned disk.moment disk.leaves d e (RecoversAs (disk.image d))
+-- what a stop leaves of a recovery that may be refused before the sync with which it begins
+abbrev pub LeavesRecovered : {D N : Type 0} → Ghosts D N → D → D → Type 0
+LeavesRecovered disk d e = LeavesIfSynced disk d e (RecoversAs (disk.image d))
 
 -- k was opened with so many processes over the disk d, whose image was sound: it was recovered, and
 -- nothing else happened
@@ -51,7 +46,7 @@ pub record IsOpened {D N I H : Type 0} (disk : Ghosts D N) (d : D) (i : I) (h : 
   pub syncs : disk.sync_count k.opening ≡ counted (disk.sync_count d)
       (syncs_to_recover (disk.holding (disk.name d)) (logged_count (disk.image d)))
   pub settled : IsCalm disk k.opening
-  pub leaves : LeavesRecovered disk d k.opening
+  pub leaves : LeavesFromSync disk d k.opening (RecoversAs (disk.image d))
 
 -- the fault of a recovery after a check that found none
 abbrev pub IsRecoverCause : {D N : Type 0} → Ghosts D N → D → D → RecoverFault → Type 0

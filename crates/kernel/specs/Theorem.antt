@@ -3,7 +3,8 @@
 use Rattle.std.specs.Prelude.{◌≡◌, ◌≢◌, ◌≤◌, ◌==◌, ℕ, if◌then◌else◌, IsTrue, List, map, None, Some}
 use mathlib.Core.List.{IsPrefix}
 use Rattle.std.specs.List.{filter}
-use Rattle.blocks.specs.Disk.{HasTurned, Image, LeavesOnly}
+use Rattle.blocks.specs.Calls.{Holds}
+use Rattle.blocks.specs.Disk.{Image, LeavesOnly}
 use Rattle.blocks.specs.declared.disk.Disk as disk_trait
 use Rattle.model.specs.declared.types.operations.Entry.{Entry}
 use Rattle.model.specs.Crash.{IsUntouched, due_labels, labels_of}
@@ -16,14 +17,13 @@ use Rattle.model.specs.Verdict.{verdict}
 use Rattle.ports.specs.History.{History}
 use Rattle.ports.specs.declared.herald.Herald as herald_trait
 use Rattle.ports.specs.declared.intake.Intake as intake_trait
-use Rattle.wal.specs.Recovery.{IsCalm, RecoversAs}
+use Rattle.wal.specs.Recovery.{HasSynced, IsCalm, LeavesFromSync, RecoversAs}
 use Rattle.history.specs.Histories.{IsHistory}
 use Rattle.history.specs.Keeps.{KeepsBetween}
 use Rattle.history.specs.Most.{most_of}
 use Rattle.history.specs.Processes.{process}
 use Rattle.history.specs.Stop.{KeptNow, KeptSince}
 use Rattle.kernel.specs.declared.types.Turn.{Turn}
-use Rattle.kernel.specs.Opening.{LeavesRecovered}
 use Rattle.kernel.specs.Runs.{RunsOn, Session}
 use Rattle.kernel.specs.State.{State}
 
@@ -93,7 +93,7 @@ pub record KnownOpening {D N : Type 0} (disk : disk_trait.Ghosts D N) (d opening
   where
     pub sound : verdict (disk.image d) ≡ None
     pub image : disk.image opening ≡ recovered (disk.image d)
-    pub leaves : LeavesRecovered disk d opening
+    pub leaves : LeavesFromSync disk d opening (RecoversAs (disk.image d))
 
 -- the same from the disk that it was opened over, for a stop at any moment since the opening began
 abbrev pub RecoversWhole : {D N : Type 0} → (I H : Type 0) → disk_trait.Ghosts D N → Type 0
@@ -120,15 +120,14 @@ RecoversGoing {D} {N} I H disk =
     disk.leaves m.store.volume.device (disk.moment d) x →
     IsRecoveredRun (recovered (disk.image d)) 0 m (recovered x)
 
--- The same from a disk that held writes back at first, for a stop since the sync with which its
--- recovery began, which `leaves.from_sync` of the opening tells.
+-- the same from a disk that holds writes back, for a stop since the sync with which its recovery
+-- began
 abbrev pub RecoversHeld : {D N : Type 0} → (I H : Type 0) → disk_trait.Ghosts D N → Type 0
 RecoversHeld {D} {N} I H disk =
-    (x : Image) (d : D) (m : State D I H)
-    (turned : HasTurned disk.moment disk.leaves d m.opening (RecoversAs (disk.image d))) →
-    KnownOpening disk d m.opening → KnownStop disk m →
-    disk.leaves m.store.volume.device turned.turn x →
-    IsRecoveredRun (recovered (disk.image d)) 0 m (recovered x)
+    (d : D) (m : State D I H) →
+    Holds disk d → KnownOpening disk d m.opening → KnownStop disk m →
+    HasSynced disk d m.store.volume.device
+    (λ x. IsRecoveredRun (recovered (disk.image d)) 0 m (recovered x))
 
 -- and for one since some state of the run: no group that was committed then is lost
 abbrev pub NoneIsLost : {D N : Type 0} → (I H : Type 0) → disk_trait.Ghosts D N → Type 0

@@ -13,8 +13,8 @@ use ports::{Herald, Intake};
 /// leaves, recovery makes a sound image whose files are those of the recovered image after exactly
 /// the changing operations of the first groups, each once in the order of their turns; each process's
 /// are a beginning of those that were taken of it; and a second recovery changes nothing. So it is
-/// where a recovery is stopped and made again. Of a disk that held writes back at first this is so
-/// from the sync on with which its recovery began. A stop since some moment of a run loses no group
+/// where a recovery is stopped and made again. Of a disk that holds writes back this is so from the
+/// sync on with which its recovery began. A stop since some moment of a run loses no group
 /// that was committed then; one now keeps exactly the committed groups, and one more exactly where a
 /// header got through whose write failed or whose sync is still to come.
 ///

@@ -1,19 +1,20 @@
 -- A disk is read, and then a kernel is opened over it, or is not.
-use Rattle.std.proofs.Common.{◌≡◌, ⊎_elim, inl, inr, refl, sym, ◌∙◌, ap, subst, arith}
+use Rattle.std.proofs.Common.{◌≡◌, ⊎_elim, inl, inr, sym, ◌∙◌, ap, subst, arith}
 use Rattle.std.specs.Prelude.{None}
 use Rattle.blocks.specs.Calls.{OnlyReads}
-use Rattle.blocks.specs.Disk.{AddsOnly, HasTurned, Image, Rose, counted}
+use Rattle.blocks.specs.Disk.{Image, Rose, counted}
 use Rattle.blocks.specs.declared.disk.Disk.{Ghosts}
 use Rattle.calls.specs.Opening.{IsNotOpenedPair, IsOpenedPair}
 use Rattle.calls.specs.Calls.{IsWhole, image_on}
 use Rattle.calls.specs.Stepping.{Plain}
-use Rattle.kernel.specs.Common.{adds_behind, only_added, turned_behind, verdict}
-use Rattle.kernel.specs.Opening.{IsOpenCause, IsRecoverCause, LeavesRecovered, RefusesToOpen, UnlessDisk}
+use Rattle.kernel.specs.Common.{verdict}
+use Rattle.kernel.specs.Opening.{IsOpenCause, IsRecoverCause, RefusesToOpen, UnlessDisk}
 use Rattle.kernel.specs.declared.types.OpenFault.{OpenFault}
 use Rattle.kernel.specs.declared.types.OpenFault.TheVariants as open_fault
 use Rattle.model.specs.Log.{logged_count, recovered}
 use Rattle.offline.specs.Cause.{IsCause}
-use Rattle.wal.specs.Recovery.{RecoversAs, syncs_to_recover, writes_to_recover}
+use Rattle.wal.specs.Lemmas.Stops.{from_sync_behind, if_synced_behind, read_if_synced}
+use Rattle.wal.specs.Recovery.{syncs_to_recover, writes_to_recover}
 use Rattle.wal.specs.declared.faults.RecoverFault.{RecoverFault}
 use Rattle.blocks.specs.Lemmas.Reads.{reads_then}
 use Rattle.model.specs.Files.{files_of}
@@ -23,32 +24,6 @@ use Rattle.names.specs.declared.opening.TreeOpenFault.{TreeOpenFault}
 use Rattle.names.specs.declared.opening.TreeOpenFault.TheVariants.{Kernel, NoTree}
 
 module _ {D N : Type 0} (disk : Ghosts D N) where
-  -- what a stop leaves of reads
-  leaves_read : (old new : D) → OnlyReads disk old new → LeavesRecovered disk old new
-  leaves_read old new reads =
-      let P : Image → Type 0 = RecoversAs (disk.image old) in
-      let added : AddsOnly disk.moment disk.leaves old new P =
-      record { later = reads.time.later; adds = λ t x le left. inl (reads.time.adds t x le left); keeps = reads.time.keeps } in
-      record {
-        any_moment = λ calm. only_added disk.moment disk.leaves old new P (λ x left. subst P (sym (calm x left)) (record { image = refl; lawful = refl })) added;
-        adds = added;
-        from_sync = inl reads.syncs;
-      }
-
-  -- and of reads before an opening
-  leaves_behind : (old mid new : D) → OnlyReads disk old mid → LeavesRecovered disk mid new → LeavesRecovered disk old new
-  leaves_behind old mid new reads run =
-      let P : Image → Type 0 = RecoversAs (disk.image old) in
-      let same : (Q : (Image → Type 0) → Type 0) → Q (RecoversAs (disk.image mid)) → Q P = λ Q is. subst (λ (y : Image). Q (RecoversAs y)) reads.image is in
-      let all = adds_behind disk.moment disk.leaves old mid new P reads.time (same (AddsOnly disk.moment disk.leaves mid new) run.adds) in
-      record {
-        any_moment = λ calm. only_added disk.moment disk.leaves old new P (λ x left. subst P (sym (calm x left)) (record { image = refl; lawful = refl })) all;
-        adds = all;
-        from_sync = ⊎_elim (λ none. inl (none ∙ reads.syncs))
-            (λ one. inr (turned_behind disk.moment disk.leaves old mid new P reads.time.later (same (HasTurned disk.moment disk.leaves mid new) one)))
-            run.from_sync;
-      }
-
   -- a kernel opened over a disk that was read is one over the disk
   pub opened_behind : (old mid : D) (k : Plain D) → OnlyReads disk old mid → disk.fault_count mid ≡ disk.fault_count old → IsOpenedPair disk mid k → IsOpenedPair disk old k
   opened_behind old mid k reads faults is = record {
@@ -67,7 +42,7 @@ module _ {D N : Type 0} (disk : Ghosts D N) where
         ∙ ap (λ y. counted (disk.sync_count old) (syncs_to_recover (disk.holding (disk.name old)) (logged_count y))) reads.image;
     faults = is.faults ∙ faults;
     settled = is.settled;
-    leaves = leaves_behind old mid k.opening reads is.leaves;
+    leaves = from_sync_behind disk old mid k.opening reads is.leaves;
   }
 
   -- reads alone, and a refusal
@@ -77,7 +52,7 @@ module _ {D N : Type 0} (disk : Ghosts D N) where
     unwritten = inr (reads.image, (reads.writes, reads.syncs));
     faults = faults;
     name = reads.name;
-    leaves = leaves_read d e reads;
+    leaves = read_if_synced disk d e reads;
     plain = λ free. reads.syncs;
   }
 
@@ -116,7 +91,7 @@ module _ {D N : Type 0} (disk : Ghosts D N) where
         (λ none. inr (none.0 ∙ reads.image, (none.1.0 ∙ reads.writes, none.1.1 ∙ reads.syncs))) why.unwritten;
     faults = faults_behind d m e cause faults why.faults;
     name = why.name ∙ reads.name;
-    leaves = leaves_behind d m e reads why.leaves;
+    leaves = if_synced_behind disk d m e reads why.leaves;
     plain = λ free. why.plain (ap disk.holding reads.name ∙ free) ∙ reads.syncs;
   }
 

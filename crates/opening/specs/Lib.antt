@@ -1,4 +1,3 @@
 pub mod Openings
 pub mod Recoveries
-pub mod Stops
 pub mod Lemmas

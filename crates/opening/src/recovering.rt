@@ -1,6 +1,6 @@
 // A recovery of a disk's image.
 ghost use Rattle.std.specs.Prelude.{◌≡◌, IfOk, OnOk, IfErr};
-ghost use Rattle.wal.specs.Recovery.{IsCalm};
+ghost use Rattle.wal.specs.Recovery.{IsCalm, LeavesFromSync, RecoversAs};
 ghost use Rattle.kernel.specs.Opening.{LeavesRecovered};
 ghost use Rattle.opening.specs.Recoveries.{
   IsRecovered,
@@ -67,6 +67,8 @@ pub fn recover_image<D: Disk, P: Meter>(
     ensures refused { IfErr result (IsUnrecovered D.Disk disk.old disk.new) }
     ensures unwritten { IfErr result (IsUnwritten D.Disk disk.old disk.new) }
     ensures stops { LeavesRecovered D.Disk disk.old disk.new }
+    ensures synced { OnOk result
+        (LeavesFromSync D.Disk disk.old disk.new (RecoversAs (D.image disk.old))) }
     ensures settled { OnOk result (IsCalm D.Disk disk.new) }
 {
     let report = check(alloc, disk)?;

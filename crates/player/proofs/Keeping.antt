@@ -7,12 +7,11 @@ use Rattle.blocks.specs.declared.faulty.Trap.{Trap}
 use Rattle.model.specs.Layout.{inode_count_of}
 use Rattle.model.specs.Log.{recovered}
 use Rattle.model.specs.Lemmas.Recovery.{recovers_once}
-use Rattle.wal.specs.Recovery.{RecoversAs}
+use Rattle.wal.specs.Recovery.{LeavesFromSync, RecoversAs}
 use Rattle.history.specs.Keeps.{KeepsBetween}
 use Rattle.history.specs.Most.{most_of}
 use Rattle.history.specs.Own.{KeepsOwn}
-use Rattle.opening.specs.Lemmas.Stopping.{run_leaves}
-use Rattle.opening.specs.Stops.{LeavesFromSync}
+use Rattle.wal.specs.Lemmas.Stops.{run_leaves}
 use Rattle.clients.specs.Backlogs.{ops_of}
 use Rattle.model.specs.declared.types.operations.Step.{Step}
 use Rattle.model.specs.declared.types.operations.Step.TheVariants as step

@@ -1,6 +1,6 @@
 -- A whole replay, from the recovery on.
 use Rattle.std.proofs.Common.{◌≡◌, ◌∙◌, ℕ, false, List, sym, ap, subst, replicate, None, inl, inr, ⊎_elim}
-use Rattle.blocks.specs.Disk.{Image, LeavesOnly}
+use Rattle.blocks.specs.Disk.{AddsOnly, Image, LeavesOnly}
 use Rattle.blocks.specs.declared.disk.Disk.{Ghosts}
 use Rattle.blocks.specs.declared.faulty.FaultyDisk.{FaultyDisk}
 use Rattle.blocks.specs.declared.faulty.Trap.{Trap}
@@ -9,8 +9,7 @@ use Rattle.inodes.specs.Store.{fresh_volume}
 use Rattle.inodes.specs.Table.{new_table}
 use Rattle.inodes.specs.Tasks.{no_task}
 use Rattle.kernel.specs.Opening.{IsOpened, LeavesRecovered}
-use Rattle.opening.specs.Lemmas.Stopping.{opened_leaves, unopened_leaves}
-use Rattle.opening.specs.Stops.{LeavesFromSync}
+use Rattle.opening.specs.Lemmas.Stopping.{unopened_leaves}
 use Rattle.model.specs.Layout.{form_of, inode_count_of}
 use Rattle.model.specs.Log.{recovered}
 use Rattle.model.specs.Verdict.{verdict}
@@ -20,7 +19,7 @@ use Rattle.clients.specs.Feeders.{AreNewFeeders}
 use Rattle.rings.specs.Callers.{intake_names}
 use Rattle.rings.specs.declared.intake.RingIntake.{RingIntake}
 use Rattle.scripts.specs.declared.script.Task.{Task}
-use Rattle.wal.specs.Recovery.{RecoversAs, writes_to_recover}
+use Rattle.wal.specs.Recovery.{HasSynced, LeavesFromSync, RecoversAs, writes_to_recover}
 use Rattle.player.specs.Afterwards.{IsUnopenedOver, RefusesOver}
 use Rattle.player.specs.Opening.{IsOpenedOver}
 use Rattle.player.specs.Stepping.{Ringed}
@@ -59,19 +58,43 @@ module _ {D N : Type 0} (below : Ghosts D N) where
   pub opened_name : (d : D) (fd : FaultyDisk D) (i : RingIntake) (h : BoardHerald) (processes : ℕ) (k : Ringed (FaultyDisk D)) → fd.inner ≡ d → IsOpened (faulty below) fd i h processes k → below.name k.store.volume.device.inner ≡ below.name d
   opened_name d fd i h processes k is opened = ap (λ s. below.name s.volume.device.inner) opened.store ∙ ap (λ n. n.0) opened.name ∙ ap below.name is
 
-  -- what an opening's stop leaves of such a disk
-  recovered_below : (fd fe : FaultyDisk D) → LeavesRecovered (faulty below) fd fe → LeavesRecovered below fd.inner fe.inner
-  recovered_below fd fe leaves = record {
-    any_moment = λ calm. leaves_below fd fe (RecoversAs (below.image fd.inner)) (leaves.any_moment calm);
-    adds = record { later = leaves.adds.later; adds = leaves.adds.adds; keeps = leaves.adds.keeps };
-    from_sync = ⊎_elim (λ unsynced. inl unsynced) (λ t. inr (record { turn = t.turn; since = t.since; until = t.until; each = t.each })) leaves.from_sync;
+  adds_below : (fd fe : FaultyDisk D) (P : Image → Type 0) → AddsOnly (faulty below).moment (faulty below).leaves fd fe P → AddsOnly below.moment below.leaves fd.inner fe.inner P
+  adds_below fd fe P added = record { later = added.later; adds = added.adds; keeps = added.keeps }
+
+  synced_below : (fd fe : FaultyDisk D) (P : Image → Type 0) → HasSynced (faulty below) fd fe P → HasSynced below fd.inner fe.inner P
+  synced_below fd fe P first = record {
+    at = first.at.inner;
+    name = ap (λ n. n.0) first.name;
+    image = first.image;
+    synced = first.synced;
+    settled = first.settled;
+    time = first.time;
+    then_on = leaves_below first.at fe P first.then_on;
   }
+
+  -- what an opening's stop leaves of such a disk
+  opened_below : (fd fe : FaultyDisk D) (P : Image → Type 0) → LeavesFromSync (faulty below) fd fe P → LeavesFromSync below fd.inner fe.inner P
+  opened_below fd fe P leaves = record {
+    any_moment = λ calm. leaves_below fd fe P (leaves.any_moment calm);
+    adds = adds_below fd fe P leaves.adds;
+    from_sync = λ holds. synced_below fd fe P (leaves.from_sync holds);
+  }
+
+  -- and one's that is refused
+  recovered_below : (fd fe : FaultyDisk D) → LeavesRecovered (faulty below) fd fe → LeavesRecovered below fd.inner fe.inner
+  recovered_below fd fe leaves =
+      let P : Image → Type 0 = RecoversAs (below.image fd.inner) in
+      record {
+        any_moment = λ calm. leaves_below fd fe P (leaves.any_moment calm);
+        adds = adds_below fd fe P leaves.adds;
+        from_sync = λ holds. ⊎_elim (λ unsynced. inl unsynced) (λ first. inr (synced_below fd fe P first)) (leaves.from_sync holds);
+      }
 
   pub opened_only : (d : D) (fd : FaultyDisk D) (i : RingIntake) (h : BoardHerald) (processes : ℕ) (k : Ringed (FaultyDisk D)) → fd.inner ≡ d → IsOpened (faulty below) fd i h processes k → LeavesFromSync below d k.store.volume.device.inner (RecoversAs (below.image d))
   opened_only d fd i h processes k is opened =
       subst (λ o. LeavesFromSync below o k.store.volume.device.inner (RecoversAs (below.image o))) is
       (subst (λ o. LeavesFromSync below fd.inner o (RecoversAs (below.image fd.inner))) (sym (ap (λ s. s.volume.device.inner) opened.store))
-      (opened_leaves below fd.inner k.opening.inner opened.sound opened.opening opened.settled (recovered_below fd k.opening opened.leaves)))
+      (opened_below fd k.opening (RecoversAs (below.image fd.inner)) opened.leaves))
 
   -- and below one that was not
   pub over_name : (processes stop : ℕ) (d e : D) (fault : OpenFault) → IsUnopenedOver (faulty below) processes stop d e fault → below.name e ≡ below.name d

@@ -22,7 +22,7 @@ use Rattle.history.specs.Own.{KeepsOwn}
 use Rattle.history.specs.Most.{most_of}
 use Rattle.kernel.specs.Opening.{LeavesRecovered}
 use Rattle.kernel.specs.Runs.{RunsOn}
-use Rattle.wal.specs.Recovery.{RecoversAs, writes_to_recover}
+use Rattle.wal.specs.Recovery.{LeavesFromSync, RecoversAs, writes_to_recover}
 use Rattle.player.specs.Afterwards.{IsUnready}
 use Rattle.rings.specs.Boards.{asked}
 use Rattle.clients.specs.Backlogs.{ops_of}
@@ -31,7 +31,6 @@ use Rattle.rings.specs.Callers.{intake_names}
 use Rattle.player.specs.Stepping.{BreaksOff, Ringed}
 use Rattle.player.specs.Told.{RunsTo, Told, base_of}
 use Rattle.opening.specs.Recoveries.{IsUnrecovered}
-use Rattle.opening.specs.Stops.{LeavesFromSync}
 use Rattle.player.specs.declared.player.Player.{Player}
 use Rattle.player.specs.declared.refusals.ReplayRefusal.{ReplayRefusal}
 use Rattle.player.specs.declared.refusals.ReplayRefusal.TheVariants.{Unrecovered, Unopened, Disk, Output}

@@ -2,7 +2,7 @@
 ghost use Rattle.std.specs.Prelude.{◌≡◌, OnOk, IfErr};
 ghost use Rattle.std.specs.Io.KnownBytes.{Appends};
 ghost use Rattle.model.specs.Log.{logged_count};
-ghost use Rattle.wal.specs.Recovery.{IsCalm};
+ghost use Rattle.wal.specs.Recovery.{IsCalm, LeavesFromSync, RecoversAs};
 ghost use Rattle.kernel.specs.Opening.{LeavesRecovered};
 ghost use Rattle.opening.specs.Recoveries.{IsRecovered};
 ghost use Rattle.player.specs.Causes.{IsNotRecovered};
@@ -38,6 +38,8 @@ pub fn recover_disk<D: Disk, P: Meter, O: Write>(
         (copied_text (logged_count (D.image disk.old)))) }
     ensures refused { IfErr result (IsNotRecovered D.Disk disk.old disk.new (out.new ≡ out.old)) }
     ensures stops { LeavesRecovered D.Disk disk.old disk.new }
+    ensures synced { OnOk result
+        (LeavesFromSync D.Disk disk.old disk.new (RecoversAs (D.image disk.old))) }
     ensures settled { OnOk result (IsCalm D.Disk disk.new) }
 {
     let copied = match recover_image(alloc, disk, progress) {

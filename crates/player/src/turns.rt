@@ -7,8 +7,7 @@ ghost use Rattle.model.specs.Log.{logged_count};
 ghost use Rattle.model.specs.declared.types.operations.Answer.{Answer as SomeAnswer};
 ghost use Rattle.kernel.specs.Moves.{MakesSteps};
 ghost use Rattle.scripts.specs.Schedule.{is_word_of};
-ghost use Rattle.opening.specs.Stops.{LeavesFromSync};
-ghost use Rattle.wal.specs.Recovery.{RecoversAs, writes_to_recover};
+ghost use Rattle.wal.specs.Recovery.{LeavesFromSync, RecoversAs, writes_to_recover};
 ghost use Rattle.player.specs.Afterwards.{IsUnopenedOver};
 ghost use Rattle.player.specs.Stepping.{
   HandsIn,

@@ -7,7 +7,8 @@ use Rattle.blocks.specs.Disk.{Image, LeavesOnly}
 use Rattle.blocks.specs.declared.disk.Disk.{Ghosts}
 use Rattle.wal.specs.declared.types.DeviceFault.{DeviceFault}
 use Rattle.model.specs.Layout.{inode_count_of}
-use Rattle.wal.specs.Recovery.{RecoversAs}
+use Rattle.wal.specs.Lemmas.Stops.{run_leaves}
+use Rattle.wal.specs.Recovery.{LeavesFromSync, RecoversAs}
 use Rattle.wal.specs.Volume.{faults_after}
 use Rattle.ports.specs.declared.herald.Herald as herald_trait
 use Rattle.ports.specs.declared.intake.Intake as intake_trait
@@ -28,8 +29,6 @@ use Rattle.clients.specs.declared.client.Client.{Client}
 use Rattle.history.specs.Lemmas.Leaving.{kept_alike}
 use Rattle.kernel.specs.declared.types.OpenFault.{OpenFault}
 use Rattle.opening.specs.Lemmas.Keeping.{not_opened_leaves, not_opened_name}
-use Rattle.opening.specs.Lemmas.Stopping.{opened_leaves, run_leaves}
-use Rattle.opening.specs.Stops.{LeavesFromSync}
 use Rattle.opening.specs.Openings.{IsNotOpened}
 use Rattle.runner.specs.declared.refusals.RunRefusal.{RunRefusal}
 use Rattle.runner.specs.declared.refusals.RunRefusal.TheVariants.{Unopened, Thread, Disk, Unanswered, NoMemory, Output}
@@ -83,7 +82,7 @@ module _ {D N H : Type 0} (disk : Ghosts D N) {heralds : herald_trait.Ghosts H} 
       let run = subst (λ o. LeavesOnly disk.moment disk.leaves o m.store.volume.device P) origin.runs.opening since in
       run_leaves disk d k.opening m.store.volume.device (RecoversAs (disk.image d)) P
       (kept_alike disk has_now d k.opening m.store.volume.device (most_of m.store.volume) (disk.image m.opening) m.world.journal.list opened.sound opened.opening run)
-      (opened_leaves disk d k.opening opened.sound opened.opening opened.settled opened.leaves) run
+      opened.leaves run
 
   pub is_served : {M : Type 0} (intake : intake_trait.Ghosts RingIntake M) (herald : herald_trait.Ghosts H) → Known disk intake herald m → (e : D) → e ≡ m.store.volume.device → IsServed disk d e processes m
   is_served intake herald known e is = record {

@@ -7,6 +7,7 @@ use Rattle.model.specs.Layout.{inode_count_of}
 use Rattle.model.specs.Log.{recovered}
 use Rattle.model.specs.Verdict.{verdict}
 use Rattle.model.specs.declared.types.operations.Op.{Op}
+use Rattle.wal.specs.Recovery.{LeavesFromSync}
 use Rattle.wal.specs.Volume.{faults_after}
 use Rattle.rings.specs.declared.herald.BoardHerald.{BoardHerald}
 use Rattle.rings.specs.declared.intake.RingIntake.{RingIntake}
@@ -23,7 +24,6 @@ use Rattle.scripts.specs.declared.script.Task.{Task}
 use Rattle.clients.specs.Backlogs.{ops_of}
 use Rattle.kernel.specs.declared.types.OpenFault.{OpenFault}
 use Rattle.opening.specs.Openings.{IsNotOpened}
-use Rattle.opening.specs.Stops.{LeavesFromSync}
 use Rattle.runner.specs.declared.refusals.RunRefusal.{RunRefusal}
 use Rattle.runner.specs.declared.refusals.RunRefusal.TheVariants.{Unopened, Thread, Disk, Unanswered, NoMemory, Output}
 use Rattle.runner.specs.Reports.{IsReported}

@@ -147,9 +147,7 @@ fn are_same_files(a: &[Option<File>], b: &[Option<File>]) -> bool {
 fn is_same_file(a: &Option<File>, b: &Option<File>) -> bool {
     match (a, b) {
         (Some(a), Some(b)) => {
-            a.kind == b.kind
-                && a.links == b.links
-                && a.bytes.as_slice() == b.bytes.as_slice()
+            a.kind == b.kind && a.links == b.links && a.bytes.as_slice() == b.bytes.as_slice()
         }
         (None, None) => true,
         _ => false,

@@ -19,9 +19,10 @@ use Rattle.calls.specs.Lemmas.Unshown.{unshown_none}
 use Rattle.calls.specs.Stepping.{IsReached, Plain}
 use Rattle.calls.specs.Unshown.{KeepsUnshown}
 use Rattle.kernel.specs.Opening.{LeavesRecovered}
-use Rattle.opening.specs.Lemmas.Stopping.{if_synced, opened_leaves, recovered_behind, recovered_if_synced, run_leaves, unopened_leaves}
+use Rattle.opening.specs.Lemmas.Stopping.{unopened_leaves}
 use Rattle.history.specs.Lemmas.Leaving.{leaves_wider}
 use Rattle.model.specs.Operations.{transfer_limit}
+use Rattle.wal.specs.Lemmas.Stops.{from_sync_behind, if_synced, if_synced_behind, if_synced_wider, run_leaves}
 use Rattle.wal.specs.Recovery.{RecoversAs}
 use Rattle.wal.specs.declared.types.DeviceFault.{DeviceFault}
 use Rattle.transfer.specs.Judging.{IsFit, IsTold}
@@ -211,7 +212,7 @@ module _ {D N : Type 0} (disk : Ghosts D N) (inum : Option ℕ) (bytes : List �
 
   -- the disk was only read, and then recovered, or not
   pub recovered_leaves : (e : D) → LeavesRecovered disk mid e → StopsPut disk inum bytes d e
-  recovered_leaves e leaves = recovered_if_synced disk d e Keeps keeps (recovered_behind disk d mid e reads leaves)
+  recovered_leaves e leaves = if_synced_wider disk d e (RecoversAs (disk.image d)) Keeps keeps (if_synced_behind disk d mid e reads leaves)
 
   pub read_leaves : StopsPut disk inum bytes d mid
   read_leaves = recovered_leaves mid (unopened_leaves disk mid)
@@ -223,9 +224,7 @@ module _ {D N : Type 0} (disk : Ghosts D N) (inum : Option ℕ) (bytes : List �
     -- what a run since the opening leaves
     since : (e : D) → LeavesOnly disk.moment disk.leaves k.opening e Keeps → StopsPut disk inum bytes d e
     since e run =
-        let is : disk.image k.opening ≡ recovered (disk.image d) = subst (λ (o : D). disk.image o ≡ recovered (disk.image d)) opened.device at_first in
-        if_synced disk d e Keeps (run_leaves disk d k.opening e (RecoversAs (disk.image d)) Keeps keeps
-        (opened_leaves disk d k.opening sound is opened.settled (recovered_behind disk d mid k.opening reads opened.leaves)) run)
+        if_synced disk d e Keeps (run_leaves disk d k.opening e (RecoversAs (disk.image d)) Keeps keeps (from_sync_behind disk d mid k.opening reads opened.leaves) run)
 
     -- many bytes are put call by call
     pub long_run : (twice : Bool) → twice ≡ has_room_twice (recovered (disk.image d)) inum (length bytes) → transfer_limit < length bytes → StaysPut disk twice (image_on disk.image k) inum bytes k m → LeavesOnly disk.moment disk.leaves k.opening m.store.volume.device Keeps

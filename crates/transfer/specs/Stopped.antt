@@ -8,7 +8,7 @@ use Rattle.model.specs.Operations.{transfer_limit}
 use Rattle.model.specs.Soundness.{IsSound}
 use Rattle.calls.specs.Stepping.{IsReached, Plain}
 use Rattle.calls.specs.Unshown.{KeepsUnshown}
-use Rattle.opening.specs.Stops.{LeavesIfSynced}
+use Rattle.wal.specs.Recovery.{LeavesIfSynced}
 use Rattle.transfer.specs.Needs.{has_room_twice}
 use Rattle.transfer.specs.Places.{PutsAll, put_at}
 use Rattle.transfer.specs.Rounds.{Goes, IsNeverNeither}

@@ -21,8 +21,8 @@ use Rattle.names.specs.Ready.{KeepsTree, LeavesTree}
 use Rattle.names.specs.Trees.{IsNamedOnce, IsTree, KeepsOnce}
 use Rattle.names.specs.declared.opening.TreeOpenFault.{TreeOpenFault}
 use Rattle.names.specs.declared.opening.TreeOpenFault.TheVariants as opening
-use Rattle.opening.specs.Lemmas.Stopping.{if_synced, opened_leaves, recovered_if_synced, run_leaves}
 use Rattle.transfer.specs.Ending.{SyncsIf}
+use Rattle.wal.specs.Lemmas.Stops.{if_synced, if_synced_wider, run_leaves}
 use Rattle.wal.specs.Recovery.{RecoversAs}
 use Rattle.tree_changes.specs.Changes.{AnyOf, HasChanged, HasMade, HasNotChanged, IsOfTree, IsUnended, LeavesMidst, StopsChange, Tells, Turn, turn}
 use Rattle.tree_changes.specs.declared.faults.ChangeRefusal.{ChangeRefusal}
@@ -62,7 +62,7 @@ module _ {D N : Type 0} (disk : Ghosts D N) (midst : Form → Files → Files �
 
   -- no tree was opened
   pub unopened_stops : (e : D) (cause : TreeOpenFault) → IsUnopened disk d e cause → StopsChange disk midst d e
-  unopened_stops e (opening.Kernel fault) why = λ sound tree. recovered_if_synced disk d e Keeps (keeps sound tree) why.leaves
+  unopened_stops e (opening.Kernel fault) why = λ sound tree. if_synced_wider disk d e (RecoversAs (disk.image d)) Keeps (keeps sound tree) why.leaves
   unopened_stops e opening.NoTree why = λ sound tree. absurd (why.none tree)
 
   module _ (k m : Plain D) (opened : IsOpenedPair disk d k) where
@@ -81,8 +81,7 @@ module _ {D N : Type 0} (disk : Ghosts D N) (midst : Form → Files → Files �
 
     since : (e : D) → verdict (disk.image d) ≡ None → IsTree (files_of (recovered (disk.image d))) → LeavesOnly disk.moment disk.leaves k.opening e Keeps → (StopsChange disk midst d e)
     since e sound tree only = λ _ _.
-        if_synced disk d e Keeps (run_leaves disk d k.opening e (RecoversAs (disk.image d)) Keeps (keeps sound tree)
-        (opened_leaves disk d k.opening sound opening_is opened.settled opened.leaves) only)
+        if_synced disk d e Keeps (run_leaves disk d k.opening e (RecoversAs (disk.image d)) Keeps (keeps sound tree) opened.leaves only)
 
     -- a tree was opened, and the change made or not
     pub changed_stops : LeavesMidst disk (midst (form_seen disk.image k)) k m → IsTree (files_of (recovered (disk.image d))) → (dev : D) → dev ≡ m.store.volume.device → StopsChange disk midst d dev

@@ -18,8 +18,8 @@ use Rattle.names.specs.Paths.{names_of}
 use Rattle.names.specs.Ready.{KeepsTree}
 use Rattle.names.specs.Trees.{IsTree, KeepsOnce}
 use Rattle.names.specs.declared.refusal.TreeFault.{TreeFault}
-use Rattle.opening.specs.Stops.{LeavesIfSynced}
 use Rattle.transfer.specs.Ending.{SyncsIf}
+use Rattle.wal.specs.Recovery.{LeavesIfSynced}
 use Rattle.wal.specs.Step.{FailsToSync}
 use Rattle.tree_changes.specs.declared.faults.ChangeRefusal.{ChangeRefusal}
 use Rattle.tree_changes.specs.declared.faults.ChangeRefusal.TheVariants.{Unopened, Tree, Unwritten, Disk, Output}

@@ -1,12 +1,13 @@
 -- The steps of a recovery, over plain images.
 use Rattle.std.proofs.Common.{◌≡◌, ◌≢◌, ◌⊎◌, inl, inr, ⊎_elim, ℕ, ◌+◌, ◌<◌, ◌≤◌, Bool, true, false, cond, eqb, ◌&&◌, leb, List, [], length, set, Some, Result, Ok, Err, refl, sym, ◌∙◌, ap, subst, arith}
-use Rattle.std.specs.Prelude.{slice_get, IfOk}
+use Rattle.std.specs.Prelude.{slice_get, IfOk, OnOk}
 use Rattle.std.proofs.lemmas.Option.{get_or_from_slice_get}
-use Rattle.wal.specs.Common.{adds_after, AddsNone, are_distinct, are_in_place, block_at, both_of, counted, FailsOnce, few_homes, Ghosts, HasCopied, homes_of, Image, is_lawful_log, IsBlock, IsOldOrNew, IsRecoveredInPart, IsSettled, joined, LeavesOldOrNew, LeavesOnly, leb-true, logged_count, Looks, MayStop, ne_eqb, none_cleared, OnBadLog, OnDisk, one_more, only_added, OnlyReads, OnNoMemory, OnSync, recovered, recovered_empty, Recovers, RecoversAs, RecoversBy, RefusesToRecover, Rests, Settles, started, stays, StopsAlike, syncs_to_restore, syncs_to_settle, turned, writes_to_recover, zero_block}
+use Rattle.wal.specs.Common.{adds_after, AddsNone, are_distinct, are_in_place, block_at, both_of, counted, FailsOnce, few_homes, Ghosts, HasCopied, homes_of, Image, is_lawful_log, IsBlock, IsOldOrNew, IsRecoveredInPart, IsSettled, joined, LeavesFromSync, LeavesOldOrNew, LeavesOnly, leb-true, logged_count, Looks, MayStop, ne_eqb, none_cleared, OnBadLog, OnDisk, one_more, only_added, OnlyReads, OnNoMemory, OnSync, recovered, recovered_empty, Recovers, RecoversAs, RecoversBy, RefusesToRecover, Rests, Settles, started, stays, StopsAlike, syncs_to_restore, syncs_to_settle, writes_to_recover, zero_block}
 use Rattle.wal.specs.declared.faults.RecoverFault.{RecoverFault}
 use Rattle.blocks.specs.Lemmas.Reads.{reads_then}
 use Rattle.wal.proofs.CopyLemmas.{SameBesides, home_at, besides_copied, besides_old_or_new, recovers_besides, recovers_same, copied_more, copied_none, low_stays, cleared, length-homes_of}
 use Rattle.wal.specs.Lemmas.Commits.{empty_lawful}
+use Rattle.wal.specs.Lemmas.Stops.{if_synced, only_wider}
 
 -- the header that was read
 pub header_read : (x : Image) (bytes : List ℕ) → slice_get x 2 ≡ Some bytes → block_at x 2 ≡ bytes
@@ -66,15 +67,6 @@ clear_recovers x y z long lawful some copied (inr is) =
 
 -- where a recovery may stop: at its start, in its copying, and at the write that clears the header
 module _ {D N : Type 0} (disk : Ghosts D N) where
-  -- what is left has a property that follows
-  weaker : (old new : D) (P Q : Image → Type 0) → ((x : Image) → P x → Q x) → LeavesOnly disk.moment disk.leaves old new P → LeavesOnly disk.moment disk.leaves old new Q
-  weaker old new P Q so run = record {
-    later = run.later;
-    each = λ x left. so x (run.each x left);
-    before = λ t x le left. ⊎_elim (λ was. inl was) (λ p. inr (so x p)) (run.before t x le left);
-    keeps = run.keeps;
-  }
-
   pub stops_here : (d : D) → IsSettled (disk.image d) (disk.leaves d (disk.moment d)) → StopsAlike disk d d
   stops_here d settled =
       let x = disk.image d in
@@ -120,9 +112,9 @@ module _ {D N : Type 0} (disk : Ghosts D N) where
       let home = stops_copying old read mid settled reads copying in
       record {
         in_order = λ plain. joined disk.moment disk.leaves old mid new (IsRecoveredInPart x) (home.in_order plain)
-            (weaker mid new (IsOldOrNew y 2 zero_block) (IsRecoveredInPart x) (λ z left. cleared_in_part x y z z (omega (arith, long)) some copied left refl) clearing);
+            (only_wider disk mid new (IsOldOrNew y 2 zero_block) (IsRecoveredInPart x) (λ z left. cleared_in_part x y z z (omega (arith, long)) some copied left refl) clearing);
         any_moment = joined disk.moment disk.leaves old mid new (RecoversAs x) home.any_moment
-            (weaker mid new (IsOldOrNew y 2 zero_block) (RecoversAs x) (λ z left. clear_recovers x y z long lawful some copied left) clearing);
+            (only_wider disk mid new (IsOldOrNew y 2 zero_block) (RecoversAs x) (λ z left. clear_recovers x y z long lawful some copied left) clearing);
         plain = λ free. unsynced free ∙ home.plain free;
       }
 
@@ -157,24 +149,50 @@ module _ {D N : Type 0} (disk : Ghosts D N) where
       → AddsNone (disk.moment old) (disk.moment new) (disk.leaves old) (disk.leaves new) → disk.sync_count new ≡ disk.sync_count old → MayStop disk old new
   may_stop_none old new settled time unsynced = record {
     in_order = λ plain. (stops_resting old old new (stops_here old (settled plain)) time (λ free. unsynced)).in_order plain;
-    any_moment = λ calm. (stops_resting old old new (stops_here old calm) time (λ free. unsynced)).any_moment;
-    adds = record { later = time.later; adds = λ t x le left. inl (time.adds t x le left); keeps = time.keeps };
-    from_sync = inl unsynced;
+    leaves = record {
+      any_moment = λ calm. (stops_resting old old new (stops_here old calm) time (λ free. unsynced)).any_moment;
+      adds = record { later = time.later; adds = λ t x le left. inl (time.adds t x le left); keeps = time.keeps };
+      from_sync = λ holds. inl unsynced;
+    };
     plain = λ free. unsynced;
   }
 
   -- the first sync, and then the rest
-  pub may_stop_then : (old mid new : D) → Rests disk old mid → (disk.holding (disk.name old) ≡ false → mid ≡ old) → StopsAlike disk mid new → MayStop disk old new
-  may_stop_then old mid new first plain_same stops =
-      let x = disk.image old in
-      let run : LeavesOnly disk.moment disk.leaves mid new (RecoversAs x) = subst (λ (z : Image). LeavesOnly disk.moment disk.leaves mid new (RecoversAs z)) first.image stops.any_moment in
-      record {
-        in_order = λ plain. subst (λ (d : D). LeavesOnly disk.moment disk.leaves d new (IsRecoveredInPart (disk.image d))) (plain_same plain) (stops.in_order (ap disk.holding first.name ∙ plain));
-        any_moment = λ calm. only_added disk.moment disk.leaves old new (RecoversAs x) (λ z left. recovers_same x z (calm z left)) (adds_after disk.moment disk.leaves old mid new (RecoversAs x) first.time run);
-        adds = adds_after disk.moment disk.leaves old mid new (RecoversAs x) first.time run;
-        from_sync = inr (turned disk.moment disk.leaves old mid new (RecoversAs x) first.time.later run);
-        plain = λ free. stops.plain (ap disk.holding first.name ∙ free) ∙ ap disk.sync_count (plain_same free);
-      }
+  module _ (old mid new : D) (first : Rests disk old mid) (settles : Settles disk (syncs_to_settle (disk.holding (disk.name old))) old mid) (stops : StopsAlike disk mid new) where
+    abbrev same : Image → Type 0
+    same = RecoversAs (disk.image old)
+
+    run : LeavesOnly disk.moment disk.leaves mid new same
+    run = subst (λ (z : Image). LeavesOnly disk.moment disk.leaves mid new (RecoversAs z)) first.image stops.any_moment
+
+    pub leaves_then : LeavesFromSync disk old new (RecoversAs (disk.image old))
+    leaves_then =
+        let added = adds_after disk.moment disk.leaves old mid new same first.time run in
+        record {
+          any_moment = λ calm. only_added disk.moment disk.leaves old new same (λ z left. recovers_same (disk.image old) z (calm z left)) added;
+          adds = added;
+          from_sync = λ holds. record {
+            at = mid;
+            name = first.name;
+            image = first.image;
+            synced = settles.syncs ∙ ap (λ (h : Bool). counted (disk.sync_count old) (syncs_to_settle h)) holds;
+            settled = settles.settled;
+            time = first.time;
+            then_on = run;
+          };
+        }
+
+    pub may_stop_then : (disk.holding (disk.name old) ≡ false → mid ≡ old) → MayStop disk old new
+    may_stop_then plain_same = record {
+      in_order = λ plain. subst (λ (d : D). LeavesOnly disk.moment disk.leaves d new (IsRecoveredInPart (disk.image d))) (plain_same plain) (stops.in_order (ap disk.holding first.name ∙ plain));
+      leaves = if_synced disk old new same leaves_then;
+      plain = λ free. stops.plain (ap disk.holding first.name ∙ free) ∙ ap disk.sync_count (plain_same free);
+    }
+
+  pub leaves_so : (old mid new : D) (result : Result ℕ RecoverFault) → Rests disk old mid → Settles disk (syncs_to_settle (disk.holding (disk.name old))) old mid → StopsAlike disk mid new
+      → OnOk result (LeavesFromSync disk old new (RecoversAs (disk.image old)))
+  leaves_so old mid new (Ok n) first settles stops = leaves_then old mid new first settles stops
+  leaves_so old mid new (Err fault) first settles stops = tt
 
   -- the syncs of a recovery
   syncs_all : (h b : Bool) (s : ℕ) → counted (counted s (cond h 1 0)) (cond h (cond b 0 2) 0) ≡ counted s (cond h (cond b 1 3) 0)

@@ -12,7 +12,7 @@ pub use Rattle.bcache.specs.declared.types.Buffer.{Buffer}
 pub use Rattle.blocks.specs.Block.{IsBlock, overwritten, zero_block}
 pub use Rattle.blocks.specs.Calls.{OnlyReads, UnlessHolds}
 pub use Rattle.blocks.specs.Disk.{AddsNone, block_at, counted, Elapses, Image, IsImage, IsOldOrNew, IsSettled, LeavesOldOrNew, LeavesOnly, one_more, Rose}
-pub use Rattle.blocks.specs.Lemmas.Moments.{adds_after, goes_on, joined, now_stays, only_added, started, stays, turned}
+pub use Rattle.blocks.specs.Lemmas.Moments.{adds_after, goes_on, joined, now_stays, only_added, started, stays}
 pub use Rattle.blocks.specs.declared.disk.Disk.{Ghosts}
 pub use Rattle.model.specs.Agreement.{is_outside_log, IsSameOutsideLog}
 pub use Rattle.model.specs.Codec.{header_block}
@@ -26,7 +26,7 @@ pub use Rattle.model.specs.declared.types.operations.Why.{Why}
 pub use Rattle.wal.specs.Held.{GetsLock, GivesUpLock, HasLock, HoldsBlock, KeepsHeld, LeavesLocks, LocksAfter, TakesLock, WaitsFor}
 pub use Rattle.wal.specs.Joint.{AreBlocks, bytes_at, bytes_found, HasHeader, HasPin, held_at, IsHeader, IsPinned, IsWithin, Joint, JointAt, live_at, Logs, Phase, pins_of, place_at, SameButLog, seen, source_at, stepped_at, synced_at, unpinned_found, written_at, written_cache}
 pub use Rattle.wal.specs.Machine.{added_by, after_begin, after_begin_by, appended, AreHomes, begin_cause, begun, closed, Counts, ended, HasRoom, Idle, is_among, is_quiet, is_syncing, is_writing, IsLogAt, left_by, LogState, new_log, noted, noted_cache, one_used, ten, unused, used_by}
-pub use Rattle.wal.specs.Recovery.{copied_block, FailsOnce, HasCopied, IsRecoveredInPart, Looks, MayStop, OnBadLog, OnDisk, OnNoMemory, OnSync, Recovers, RecoversAs, RecoversBy, RefusesToRecover, Rests, Settles, StopsAlike, syncs_to_restore, syncs_to_settle, writes_to_recover}
+pub use Rattle.wal.specs.Recovery.{copied_block, FailsOnce, HasCopied, IsRecoveredInPart, LeavesFromSync, Looks, MayStop, OnBadLog, OnDisk, OnNoMemory, OnSync, Recovers, RecoversAs, RecoversBy, RefusesToRecover, Rests, Settles, StopsAlike, syncs_to_restore, syncs_to_settle, writes_to_recover}
 pub use Rattle.wal.specs.Step.{answer_at, answer_synced, CommitMakes, CommitSteps, CommitStepsAt, CommitsTo, CommitSyncs, CommitWrites, FailsAt, FailsToSync, Faulted, IsFault, Stepped, Synced, Unsynced}
 pub use Rattle.wal.specs.Volume.{cause_of_get, cause_to_get, fault_of_step, fill_answer, get_answer_by, Holds, OnFault, OnGot, UnlessFault, VolumeCommits, VolumeState, why_busy}
 pub use Rattle.wal.specs.declared.types.Commit.{Commit}

@@ -1,9 +1,9 @@
 -- What recovery makes of an image, and why it may refuse.
 use Rattle.std.specs.Prelude.{◌≡◌, ◌⊎◌, ◌≤◌, ℕ, Bool, true, false, ◌+◌, ◌==◌, ⊤, nat_lt, if◌then◌else◌, IsTrue, List, length, slice_set, Result, Ok, Err, IfErr, OnErr, Option, Some, None}
 use Rattle.blocks.specs.Block.{zero_block}
-use Rattle.blocks.specs.Calls.{OnlyReads, UnlessHolds}
+use Rattle.blocks.specs.Calls.{Holds, OnlyReads, UnlessHolds}
 use Rattle.blocks.specs.declared.disk.Disk.{Ghosts}
-use Rattle.blocks.specs.Disk.{Image, AddsNone, AddsOnly, HasTurned, IsSettled, block_at, counted, one_more, LeavesOnly}
+use Rattle.blocks.specs.Disk.{Image, AddsNone, AddsOnly, IsSettled, block_at, counted, one_more, LeavesOnly}
 use Rattle.layout.specs.declared.header.Header.{Header}
 use Rattle.model.specs.Log.{homes_of, is_lawful_log, logged_count, place_among, recovered}
 use Rattle.wal.specs.declared.faults.RecoverFault.{RecoverFault}
@@ -85,6 +85,36 @@ IsCalm disk d = IsSettled (disk.image d) (disk.leaves d (disk.moment d))
 abbrev pub LeavesIfCalm : {D N : Type 0} → Ghosts D N → D → D → (Image → Type 0) → Type 0
 LeavesIfCalm disk old new P = IsCalm disk old → LeavesOnly disk.moment disk.leaves old new P
 
+-- There was a first sync, before which nothing was changed or added to what a crash may leave. From
+-- the moment of the disk behind it on, a crash leaves only what has P.
+pub record HasSynced {D N : Type 0} (disk : Ghosts D N) (old new : D) (P : Image → Type 0)
+    : Type 0 where
+  -- the disk behind that sync
+  pub at : D
+  pub name : disk.name at ≡ disk.name old
+  pub image : disk.image at ≡ disk.image old
+  pub synced : disk.sync_count at ≡ one_more (disk.sync_count old)
+  pub settled : IsCalm disk at
+  pub time : AddsNone (disk.moment old) (disk.moment at) (disk.leaves old) (disk.leaves at)
+  pub then_on : LeavesOnly disk.moment disk.leaves at new P
+
+-- What a stop leaves of a run that begins with a sync of a disk that holds writes back. The run adds
+-- only what has P to what a crash may leave, and from that sync on that is all; where nothing is held
+-- at its start, that is all from the start on.
+pub record LeavesFromSync {D N : Type 0} (disk : Ghosts D N) (old new : D) (P : Image → Type 0)
+    : Type 0 where
+  pub any_moment : LeavesIfCalm disk old new P
+  pub adds : AddsOnly disk.moment disk.leaves old new P
+  pub from_sync : Holds disk old → HasSynced disk old new P
+
+-- the same of a run that may be refused before that sync, and then syncs nothing
+pub record LeavesIfSynced {D N : Type 0} (disk : Ghosts D N) (old new : D) (P : Image → Type 0)
+    : Type 0 where
+  pub any_moment : LeavesIfCalm disk old new P
+  pub adds : AddsOnly disk.moment disk.leaves old new P
+  pub from_sync : Holds disk old → (disk.sync_count new ≡ disk.sync_count old)
+      ⊎ HasSynced disk old new P
+
 -- a disk was only read; one that holds writes back may have been synced, too
 pub record Rests {D N : Type 0} (disk : Ghosts D N) (old new : D) : Type 0 where
   pub name : disk.name new ≡ disk.name old
@@ -160,16 +190,11 @@ pub record StopsAlike {D N : Type 0} (disk : Ghosts D N) (old new : D) : Type 0 
   pub any_moment : LeavesOnly disk.moment disk.leaves old new (RecoversAs (disk.image old))
   pub plain : UnlessHolds disk old (disk.sync_count new ≡ disk.sync_count old)
 
--- What a stop leaves of a recovery. Of a disk that holds writes back it begins with a sync: the
--- recovery adds nothing else to what a crash may leave, and from that sync on that is all; where
--- nothing is held at its start, that is all from the start on.
+-- what a stop leaves of a recovery, which begins with a sync of a disk that holds writes back
 pub record MayStop {D N : Type 0} (disk : Ghosts D N) (old new : D) : Type 0 where
   pub in_order : UnlessHolds disk old
       (LeavesOnly disk.moment disk.leaves old new (IsRecoveredInPart (disk.image old)))
-  pub any_moment : LeavesIfCalm disk old new (RecoversAs (disk.image old))
-  pub adds : AddsOnly disk.moment disk.leaves old new (RecoversAs (disk.image old))
-  pub from_sync : (disk.sync_count new ≡ disk.sync_count old)
-      ⊎ HasTurned disk.moment disk.leaves old new (RecoversAs (disk.image old))
+  pub leaves : LeavesIfSynced disk old new (RecoversAs (disk.image old))
   -- a disk that holds no writes back is not synced
   pub plain : UnlessHolds disk old (disk.sync_count new ≡ disk.sync_count old)
 

@@ -6,7 +6,7 @@ ghost use Rattle.blocks.specs.Disk.{AddsNone, CountsFault, IsOldOrNew, IsSettled
 ghost use Rattle.model.specs.Format.{log_capacity, inode_start, log_start};
 ghost use Rattle.model.specs.Layout.{is_lawful_super};
 ghost use Rattle.model.specs.Log.{is_lawful_log, homes_of};
-ghost use Rattle.wal.specs.Recovery.{BringsHome, Clears, Copies, FailsLate, FailsOnce, IsCalm, MayStop, OnNoMemory, ReadsHeader, Recovers, RecoversBy, RefusesToRecover, Rests, Settles, StopsAlike, syncs_to_restore, syncs_to_settle};
+ghost use Rattle.wal.specs.Recovery.{BringsHome, Clears, Copies, FailsLate, FailsOnce, IsCalm, LeavesFromSync, MayStop, OnNoMemory, ReadsHeader, Recovers, RecoversAs, RecoversBy, RefusesToRecover, Rests, Settles, StopsAlike, syncs_to_restore, syncs_to_settle};
 
 use crate::RecoverFault;
 use blocks::{Block, Disk, DiskFault, SyncFault};
@@ -139,7 +139,8 @@ fn restore<D: Disk>(
 /// the header is cleared; where nothing is logged, the first of these alone. Another is not synced.
 ///
 /// It may be stopped at any write, and run again: whatever a crash leaves, a later recovery gives
-/// the same image. A second call answers 0.
+/// the same image. So it does of a disk that holds writes back from its first sync on, before which
+/// nothing is added to what a crash may leave. A second call answers 0.
 ///
 /// # Errors
 ///
@@ -153,6 +154,8 @@ pub fn recover<D: Disk>(alloc: Global, disk: &mut D, sup: &Super) -> Result<u32,
     ensures name { D.name disk.new ≡ D.name disk.old }
     ensures refused { RefusesToRecover D.Disk disk.old disk.new result }
     ensures stops { MayStop D.Disk disk.old disk.new }
+    ensures synced { OnOk result
+        (LeavesFromSync D.Disk disk.old disk.new (RecoversAs (D.image disk.old))) }
 {
     let mut block = Block::zeroed(alloc)?;
     let empty = Block::zeroed(alloc)?;

@@ -9,7 +9,8 @@ use Rattle.model.specs.Lemmas.Soundness.{verdict_sound}
 use Rattle.wal.specs.Recovery.{RefusesToRecover}
 use Rattle.wal.specs.declared.faults.RecoverFault.{RecoverFault}
 use Rattle.wal.specs.declared.faults.RecoverFault.TheVariants as recover
-use Rattle.kernel.specs.Lemmas.Openings.{opened_leaves, lawful_super}
+use Rattle.kernel.specs.Lemmas.Openings.{lawful_super}
+use Rattle.wal.specs.Lemmas.Stops.{from_sync_behind, if_synced_behind}
 use Rattle.opening.specs.Recoveries.{IsUnrecovered}
 use Rattle.opening.specs.declared.recovering.RecoverRefusal.TheVariants as refusal
 use Rattle.opening.proofs.recovering.recover_image.Goals as goal
@@ -31,7 +32,10 @@ returns-in-Err-clause-refused g c =
     refused_by ℕ g.D.Disk c.args.disk.now c.check.new.disk c.recover-recovered.new.disk c.in-Err.fault c.in_ok-report.ensures.ok c.check.ensures.reads c.in_ok-report.ensures.faults c.in-Err.ensures.refused
 
 pub returns-in-Err-clause-stops : goal.returns-in-Err-clause-stops
-returns-in-Err-clause-stops g c = opened_leaves g.D.Disk c.args.disk.now c.check.new.disk c.recover-recovered.new.disk c.check.ensures.reads c.recover-recovered.ensures.stops
+returns-in-Err-clause-stops g c = if_synced_behind g.D.Disk c.args.disk.now c.check.new.disk c.recover-recovered.new.disk c.check.ensures.reads c.recover-recovered.ensures.stops.leaves
 
 pub returns-in-Ok-clause-stops : goal.returns-in-Ok-clause-stops
-returns-in-Ok-clause-stops g c = opened_leaves g.D.Disk c.args.disk.now c.check.new.disk c.recover-recovered.new.disk c.check.ensures.reads c.recover-recovered.ensures.stops
+returns-in-Ok-clause-stops g c = if_synced_behind g.D.Disk c.args.disk.now c.check.new.disk c.recover-recovered.new.disk c.check.ensures.reads c.recover-recovered.ensures.stops.leaves
+
+pub returns-in-Ok-clause-synced : goal.returns-in-Ok-clause-synced
+returns-in-Ok-clause-synced g c = from_sync_behind g.D.Disk c.args.disk.now c.check.new.disk c.recover-recovered.new.disk c.check.ensures.reads c.in-Ok.ensures.synced

@@ -1,8 +1,9 @@
 use Rattle.std.proofs.Common.{◌∙◌, ap, inr, subst}
 use Rattle.blocks.specs.Disk.{counted}
 use Rattle.model.specs.Log.{logged_count}
-use Rattle.wal.specs.Recovery.{writes_to_recover}
-use Rattle.opening.specs.Lemmas.Stopping.{again_recovered, leaves_again}
+use Rattle.wal.specs.Lemmas.Stops.{if_synced}
+use Rattle.wal.specs.Recovery.{RecoversAs, writes_to_recover}
+use Rattle.opening.specs.Lemmas.Stopping.{leaves_again}
 use Rattle.opening.specs.Recoveries.{IsRecovered}
 use Rattle.player.specs.Disks.{faulty}
 use Rattle.player.proofs.Openings.{none_counted, opened_again, over_name, over_only}
@@ -24,8 +25,8 @@ returns-in-Err-open_player-clause-refused g c =
     record {
       cause = inr (mid, subst (λ n. IsRecovered g.D.Disk n c.args.disk mid) r.count r, c.in-Err-open_player.ensures.refused);
       name = over_name g.D.Disk c.args.processes c.args.stop mid e fault c.in-Err-open_player.ensures.refused ∙ c.recover_image.ensures.name;
-      leaves = again_recovered g.D.Disk c.args.disk e (leaves_again g.D.Disk c.args.disk mid r.sound r.image c.in_default.ensures.settled c.recover_image.ensures.stops e
-          (over_only g.D.Disk c.args.processes c.args.stop mid e fault c.in-Err-open_player.ensures.refused));
+      leaves = if_synced g.D.Disk c.args.disk e (RecoversAs (g.D.Disk.image c.args.disk)) (leaves_again g.D.Disk c.args.disk mid e r.sound r.image c.in_default.ensures.settled c.in_default.ensures.synced
+          (over_only g.D.Disk c.args.processes c.args.stop mid e fault c.in-Err-open_player.ensures.refused).any_moment);
     }
 
 pub returns-in-Ok-clause-ready : goal.returns-in-Ok-clause-ready
@@ -39,6 +40,5 @@ returns-in-Ok-clause-ready g c =
       writes = made.writes ∙ none_counted (g.D.Disk.write_count mid) (logged_count (g.D.Disk.image mid)) r.none ∙ r.writes ∙ ap (λ n. counted (g.D.Disk.write_count c.args.disk) (writes_to_recover n)) r.count;
       armed = made.armed r.none;
       name = made.name ∙ c.recover_image.ensures.name;
-      leaves = leaves_again g.D.Disk c.args.disk mid r.sound r.image c.in_default.ensures.settled c.recover_image.ensures.stops c.in-Ok.player.kernel.store.volume.device.inner
-          (again_recovered g.D.Disk mid c.in-Ok.player.kernel.store.volume.device.inner made.leaves);
+      leaves = leaves_again g.D.Disk c.args.disk mid c.in-Ok.player.kernel.store.volume.device.inner r.sound r.image c.in_default.ensures.settled c.in_default.ensures.synced made.leaves.any_moment;
     }

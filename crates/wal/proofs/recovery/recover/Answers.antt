@@ -2,7 +2,7 @@ use Rattle.std.proofs.Common.{refl, sym, subst}
 use Rattle.std.specs.Prelude.{length, IsTrue}
 use Rattle.wal.specs.Common.{Image}
 use Rattle.model.specs.Layout.{is_lawful_super}
-use Rattle.wal.proofs.RecoveryLemmas.{may_stop_none, may_stop_then, recovers_ok, refuses_then, rests_same}
+use Rattle.wal.proofs.RecoveryLemmas.{leaves_so, may_stop_none, may_stop_then, recovers_ok, refuses_then, rests_same}
 use Rattle.wal.proofs.recovery.recover.Goals as goal
 
 pub returns-in_err-block-clause-stops : goal.returns-in_err-block-clause-stops
@@ -24,4 +24,7 @@ pub returns-clause-refused : goal.returns-clause-refused
 returns-clause-refused g c = refuses_then g.D.Disk c.args.disk.now c.settle.new.disk c.restore.new.disk c.restore.result c.settle.ensures.rests c.in_ok-settle.ensures.faults c.restore.ensures.memory c.restore.ensures.refused
 
 pub returns-clause-stops : goal.returns-clause-stops
-returns-clause-stops g c = may_stop_then g.D.Disk c.args.disk.now c.settle.new.disk c.restore.new.disk c.settle.ensures.rests c.settle.ensures.plain c.restore.ensures.stops
+returns-clause-stops g c = may_stop_then g.D.Disk c.args.disk.now c.settle.new.disk c.restore.new.disk c.settle.ensures.rests c.in_ok-settle.ensures.ok c.restore.ensures.stops c.settle.ensures.plain
+
+pub returns-clause-synced : goal.returns-clause-synced
+returns-clause-synced g c = leaves_so g.D.Disk c.args.disk.now c.settle.new.disk c.restore.new.disk c.restore.result c.settle.ensures.rests c.in_ok-settle.ensures.ok c.restore.ensures.stops

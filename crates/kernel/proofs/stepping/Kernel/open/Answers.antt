@@ -1,14 +1,13 @@
 use Rattle.std.proofs.lemmas.Map.Keys.{le_from_is_le}
 use Rattle.std.proofs.Common.{None, rules, refl, replicate, ◌≡◌, ◌≤◌, ℕ, ◌∙◌, sym, ap, subst, length, arith}
-use Rattle.kernel.specs.Common.{ArePorts, files_of, form_of, fresh_volume, fresh_world, Image, inode_count_of, is_lawful_super, IsCalm, IsRight, IsSound, length-recovered, length-replicate, new_log, no_task, recovered, StoreState, Super, verdict_sound, VolumeState, World}
-use Rattle.kernel.specs.Opening.{LeavesRecovered}
+use Rattle.kernel.specs.Common.{ArePorts, files_of, form_of, fresh_volume, fresh_world, from_sync_behind, if_synced_behind, Image, inode_count_of, is_lawful_super, IsCalm, IsRight, IsSound, LeavesFromSync, length-recovered, length-replicate, new_log, no_task, recovered, RecoversAs, StoreState, Super, verdict_sound, VolumeState, World}
 use Rattle.inodes.specs.Store.{FitsFiles}
 use Rattle.kernel.proofs.Valid.{agreed_now}
 use Rattle.kernel.proofs.AtOpening.{right_new}
 use Rattle.kernel.proofs.Openings.{super_size, lawful_here, recover_cause, syncs_at_open, opened_form, opened_numbers, empty_left, recover_faults, recover_unwritten, store_is}
 use Rattle.kernel.proofs.Ports.{ports_new}
 use Rattle.kernel.proofs.Since.{since_new}
-use Rattle.kernel.specs.Lemmas.Openings.{opened_leaves, lawful_super}
+use Rattle.kernel.specs.Lemmas.Openings.{lawful_super}
 use Rattle.kernel.proofs.stepping.Kernel.open.Goals as goal
 
 pub take_memory-requires : goal.take_memory-requires
@@ -88,7 +87,7 @@ returns-in-Err-recover-clause-refused g c =
       unwritten = recover_unwritten ℕ g.D.Disk c.args.disk c.check.new.disk c.recover.new.disk c.in-Err-recover.fault reads cause refused.memory;
       faults = recover_faults ℕ g.D.Disk c.args.disk c.check.new.disk c.recover.new.disk c.in-Err-recover.fault c.in-Ok.ensures.faults cause refused.memory;
       name = c.recover.ensures.name ∙ reads.name;
-      leaves = opened_leaves g.D.Disk c.args.disk c.check.new.disk c.recover.new.disk reads c.recover.ensures.stops;
+      leaves = if_synced_behind g.D.Disk c.args.disk c.check.new.disk c.recover.new.disk reads c.recover.ensures.stops.leaves;
       plain = λ free. c.recover.ensures.stops.plain (ap g.D.Disk.holding reads.name ∙ free) ∙ reads.syncs;
     }
 
@@ -114,5 +113,5 @@ returns-clause-opened g c =
       faults = search rules;
       syncs = ap g.D.Disk.sync_count opening ∙ syncs_at_open g.D.Disk c.args.disk c.check.new.disk d _ c.check.ensures.reads c.in_default-recover.ensures.ok;
       settled = subst (IsCalm g.D.Disk) (sym opening) c.in_default-recover.ensures.ok.settles.settled;
-      leaves = subst (LeavesRecovered g.D.Disk c.args.disk) (sym opening) (opened_leaves g.D.Disk c.args.disk c.check.new.disk d c.check.ensures.reads c.recover.ensures.stops);
+      leaves = subst (λ (o : _). LeavesFromSync g.D.Disk c.args.disk o (RecoversAs x)) (sym opening) (from_sync_behind g.D.Disk c.args.disk c.check.new.disk d c.check.ensures.reads c.in_default-recover.ensures.synced);
     }
