@@ -125,8 +125,8 @@ IsNotFilledOut old new size count form files d d' n e Disk =
 
 -- ---- a copy
 
--- Image x has the files of image old, each with its number, as recovery would leave them. It is a
--- sound one of the second form and of that size.
+-- Image x has the files of image old, each with its number, as recovery would leave them, but that one
+-- name leads to each. It is a sound one of the second form and of that size.
 abbrev pub IsCopyOf : ℕ → Image → Image → Type 0
 IsCopyOf size old x = HoldsFiles size Two (copied_files (recovered old)) x
 

@@ -36,8 +36,8 @@ IsUnopened old d d' (Leaked i) = ⊥
 IsUnopened old d d' NoMemory = ⊤
 IsUnopened old d d' Disk = ⊥
 
--- Image x has the clean files of image old, each with its number, as recovery would leave them. It is
--- a sound one of its form and size.
+-- Image x has the clean files of image old, each with its number, as recovery would leave them, but
+-- that one name leads to each. It is a sound one of its form and size.
 abbrev pub IsRescueOf : Image → Image → Type 0
 IsRescueOf old x = HoldsFiles (length old) (form_of old) (rescued_files (recovered old)) x
 
