@@ -184,6 +184,10 @@ typedef struct {
  * the end of an operation in the log, or one write or sync of a commit. `bytes` has XVFS_BLOCK_SIZE
  * bytes.
  *
+ * A group of the log is committed when no operation of it is open. So who makes the first step of the
+ * next operation before the one under way goes on to its answer, and so on, has large groups and few
+ * writes. An answer is told then once `committed` has reached its group.
+ *
  * Where `wrote` is 0 the session's image is as it was. Where it is 1 it is the image of before with
  * these bytes as its block of that number: write them to the device, whole or not at all, before the
  * next step, before the answer is passed on, and before `committed` is told to anyone. Where `synced`

@@ -12,6 +12,10 @@
  * waits; the thread that booted the kernel makes all calls of the library. (Each could make its own
  * under that lock: a session may be called from any thread, by one at a time.)
  *
+ * Operations are made one by one, but each begins, by its first step, before the one before it goes
+ * on to its end: so the log's group stays open, and what they have in common is written once. A
+ * group is closed when nobody asks for more, or when the log has no room.
+ *
  * A system call may need two operations, and a kill may come between them. sys_creat makes the file
  * first and then names it, sys_unlink takes the name away first and then the file: so no name is ever
  * without a file, and a file without a name is removed at the next boot. Thus each call is made
@@ -22,6 +26,7 @@
 
 #include <fcntl.h>
 #include <pthread.h>
+#include <sched.h>
 #include <stdio.h>
 #include <stdlib.h>
 #include <string.h>
@@ -33,6 +38,7 @@
 #define INODES 64u
 #define ROOT 1u     /* the directory, which is the first file made */
 #define ENTRIES 64u /* of it, so that it is read by one operation */
+#define NOBODY UINT32_MAX
 
 /* An entry of the directory, as in xv6: a file's number, or 0 where it is free, and its name. */
 struct entry {
@@ -42,7 +48,7 @@ struct entry {
 
 /* What a process asks for. */
 struct ask {
-    enum { NOTHING, ASKED, STEPPING, ENDED, ANSWERED } state;
+    enum { NOTHING, ASKED, BEGUN, ENDED, ANSWERED } state;
     xvfs_op op;
     const void *from;   /* the bytes of a write */
     uint32_t from_size;
@@ -60,6 +66,7 @@ static pthread_t server;
 static pthread_mutex_t lock = PTHREAD_MUTEX_INITIALIZER; /* of all that follows */
 static pthread_cond_t asked = PTHREAD_COND_INITIALIZER, answered = PTHREAD_COND_INITIALIZER;
 static struct ask asks[PROCESSES];
+static uint32_t opener = NOBODY; /* the process whose operation has begun, and keeps the group open */
 static int directory_is_held;
 
 static void must(int is_well, const char *what) {
@@ -106,8 +113,8 @@ static void recover_image(void) {
 
 /* Operations. */
 
-/* One step of a process, and its write to the disk. */
-static void step(uint32_t process) {
+/* One step of a process, and its write to the disk. Whether it went on. */
+static int step(uint32_t process) {
     static uint8_t block[XVFS_BLOCK_SIZE];
     struct ask *ask = &asks[process];
     xvfs_stepped stepped;
@@ -115,24 +122,54 @@ static void step(uint32_t process) {
     if (stepped.wrote) device_write(stepped.block, block);
     if (stepped.synced) device_flush();
     committed = stepped.committed;
-    if (stepped.step != XVFS_ANSWERED) return;
+    if (stepped.step != XVFS_ANSWERED) return stepped.step == XVFS_MOVED;
     must(xvfs_poll(&session, process, &ask->answer, (uint8_t *)ask->into, ask->into_size) == XVFS_OK,
          "no answer");
     ask->state = ENDED;
+    return 1;
 }
 
-/* Goes on with what a process asked for: hands it in, steps it, and once it is answered waits until
- * no stop can lose it. */
-static void go_on(uint32_t process) {
+/* Steps an operation to its answer. It waits for nobody, since no other has more than begun. */
+static void finish(uint32_t process) {
+    while (asks[process].state != ENDED) must(step(process), "an operation waits");
+}
+
+/* Ends the operation that keeps the group open, and with it commits the group. */
+static void close_group(void) {
+    if (opener != NOBODY) finish(opener);
+    opener = NOBODY;
+}
+
+/* Hands in and begins what a process asked for. Then the one that had begun before goes on to its
+ * answer, and the group stays open. A question is of no group, and is answered here. Whether it
+ * joined the group. */
+static int begin(uint32_t process) {
     struct ask *ask = &asks[process];
     uint64_t number;
-    if (ask->state == ASKED) {
-        must(xvfs_submit(&session, process, &ask->op, (const uint8_t *)ask->from, ask->from_size,
-                         &number) == XVFS_OK, "an operation is refused");
-        ask->state = STEPPING;
+    must(xvfs_submit(&session, process, &ask->op, (const uint8_t *)ask->from, ask->from_size,
+                     &number) == XVFS_OK, "an operation is refused");
+    ask->state = BEGUN;
+    if (!step(process)) { /* the log has no room */
+        close_group();
+        must(step(process), "an operation can't begin");
     }
-    if (ask->state == STEPPING) step(process);
-    if (ask->state == ENDED && ask->answer.group <= committed) ask->state = ANSWERED;
+    if (ask->op.kind == XVFS_READ || ask->op.kind == XVFS_STAT) finish(process);
+    if (ask->state == ENDED) return 0;
+    if (opener != NOBODY) finish(opener);
+    opener = process;
+    return 1;
+}
+
+/* Answers those whose group no stop can lose any more. Whether there were any. */
+static int answer_kept(void) {
+    int any = 0;
+    for (uint32_t process = 0; process < PROCESSES; process++) {
+        struct ask *ask = &asks[process];
+        if (ask->state != ENDED || ask->answer.group > committed) continue;
+        ask->state = ANSWERED;
+        any = 1;
+    }
+    return any;
 }
 
 /* An operation of a process, from its beginning to its answer. */
@@ -148,7 +185,8 @@ static xvfs_answer operate(uint32_t process, xvfs_op op, const void *from, uint3
     ask->into_size = into_size;
     ask->state = ASKED;
     if (pthread_equal(pthread_self(), server)) {
-        while (ask->state != ANSWERED) go_on(process);
+        begin(process);
+        close_group();
     } else {
         pthread_cond_signal(&asked);
         while (ask->state != ANSWERED) pthread_cond_wait(&answered, &lock);
@@ -167,17 +205,14 @@ static xvfs_answer operate_on(uint32_t process, uint32_t kind, uint32_t number) 
 void kernel_serve(void) {
     pthread_mutex_lock(&lock);
     for (;;) {
-        int asking = 0, done = 0;
-        for (uint32_t process = 0; process < PROCESSES; process++) {
-            struct ask *ask = &asks[process];
-            if (ask->state == NOTHING || ask->state == ANSWERED) continue;
-            go_on(process);
-            asking += 1;
-            done += ask->state == ANSWERED;
-        }
-        if (done) pthread_cond_broadcast(&answered);
-        if (!asking) pthread_cond_wait(&asked, &lock);
+        int joined = 0;
+        for (uint32_t process = 0; process < PROCESSES; process++)
+            if (asks[process].state == ASKED) joined += begin(process);
+        if (!joined) close_group();
+        if (answer_kept()) pthread_cond_broadcast(&answered);
+        else if (!joined) pthread_cond_wait(&asked, &lock);
         pthread_mutex_unlock(&lock); /* so that others get it */
+        sched_yield();
         pthread_mutex_lock(&lock);
     }
 }

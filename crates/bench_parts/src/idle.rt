@@ -82,6 +82,7 @@ fn rest<R: Threads + Wait + Clock + Sync>(
         rt,
         kernel,
         WORKERS,
+        None,
         &NoGate,
         move |_serving| -> u32
             requires { All (WatchOf board.now) watches.items }

@@ -29,16 +29,14 @@ use std::io::Write;
 use std::rt::Clock;
 use std::sync::Wait;
 use std::thread::Threads;
-use sysring::{
-    Board, BoardHerald, Bound, Keeper, NoGate, RingIntake, Watch, serve_grouped_while, serve_while,
-};
+use sysring::{Board, BoardHerald, Bound, Keeper, NoGate, RingIntake, Watch, serve_while};
 
 /// Recovers the image of a disk, and makes the operations of a script of so many processes, each
 /// process's in order, with so many workers, from 1 to 32, on threads of their own. Prints, process
 /// by process, a line for each answer and one for what became of the operations.
 ///
 /// With `group` the workers keep groups of the log open, for so many answers at most, as
-/// `sysring::serve_grouped_while`.
+/// `sysring::serve_grouped`.
 ///
 /// What is printed is what turns, one after the other, made of the kernel that was opened.
 ///
@@ -133,29 +131,17 @@ fn call<D: Disk + Send, H: Herald + Send, R: Threads + Wait + Clock + Sync>(
     ensures before { Known D.Disk ⟦<RingIntake as Intake>⟧ H.Herald kernel }
 {
     kernel.known();
-    match group {
-        None => serve_while(
-            rt,
-            kernel,
-            workers,
-            &NoGate,
-            move |serving| -> (Vec<Client>, bool)
-                requires { All (WatchOf board.now) watches.items }
-                ensures { AreSameClients clients.items result.0.items }
-            { drive(rt, board, watches, clients, serving) },
-        ),
-        Some(answers) => serve_grouped_while(
-            rt,
-            kernel,
-            workers,
-            Bound::of(answers),
-            &NoGate,
-            move |serving| -> (Vec<Client>, bool)
-                requires { All (WatchOf board.now) watches.items }
-                ensures { AreSameClients clients.items result.0.items }
-            { drive(rt, board, watches, clients, serving) },
-        ),
-    }
+    serve_while(
+        rt,
+        kernel,
+        workers,
+        group.map(Bound::of),
+        &NoGate,
+        move |serving| -> (Vec<Client>, bool)
+            requires { All (WatchOf board.now) watches.items }
+            ensures { AreSameClients clients.items result.0.items }
+        { drive(rt, board, watches, clients, serving) },
+    )
 }
 
 // Prints what the clients of a kernel came to, and hands its disk back. There is one for each

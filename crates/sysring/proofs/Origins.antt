@@ -1,5 +1,5 @@
--- A kernel is of its origin, and stays so in each step.
-use Rattle.std.proofs.Common.{◌∙◌, ℕ, refl, Option, Some, None}
+-- A kernel stays of its origin in each step.
+use Rattle.std.proofs.Common.{◌∙◌, ℕ, Option, Some, None}
 use Rattle.blocks.specs.declared.disk.Disk as disk_trait
 use Rattle.ports.specs.History.{SameNames}
 use Rattle.ports.specs.declared.herald.Herald as herald_trait
@@ -8,17 +8,13 @@ use Rattle.rings.specs.Callers.{intake_names}
 use Rattle.rings.specs.declared.intake.RingIntake.{RingIntake}
 use Rattle.model.specs.declared.types.operations.Step.{Step}
 use Rattle.kernel.specs.Heralds.{SameBoard}
-use Rattle.kernel.specs.Known.{Known}
-use Rattle.kernel.specs.Lemmas.Turns.{runs_on_none, runs_on_step, runs_on_then}
+use Rattle.kernel.specs.Lemmas.Turns.{runs_on_step, runs_on_then}
 use Rattle.kernel.specs.Runs.{RunsOn}
 use Rattle.kernel.specs.State.{State}
 use Rattle.kernel.specs.Steps.{MakesStep}
-use Rattle.sysring.specs.Origins.{IsOfOrigin, HasOriginOf}
+use Rattle.sysring.specs.Origins.{IsOfOrigin}
 
 module _ {D N M H : Type 0} (disk : disk_trait.Ghosts D N) (intake : intake_trait.Ghosts RingIntake M) (herald : herald_trait.Ghosts H) where
-  pub of_origin_now : (k : State D RingIntake H) → Known disk intake herald k → HasOriginOf disk herald k k
-  of_origin_now k known = record { runs = runs_on_none disk intake herald k known.stop.keeps; rings = λ p. refl; board = refl }
-
   pub of_origin_behind : (o : Option (State D RingIntake H)) (k m : State D RingIntake H) → IsOfOrigin disk herald o k → RunsOn disk k m
       → SameNames (intake_names k.intake) (intake_names m.intake) → SameBoard herald k.herald m.herald → IsOfOrigin disk herald o m
   of_origin_behind None k m had runs same board = had

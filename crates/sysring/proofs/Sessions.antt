@@ -13,7 +13,7 @@ use Rattle.kernel.specs.State.{State}
 use Rattle.kernel.specs.Steps.{MakesStep}
 use Rattle.kernel.specs.declared.types.Turn.{Turn}
 use Rattle.kernel.specs.declared.types.Turn.TheVariants.{Proc, Shut}
-use Rattle.sysring.specs.Sessions.{HasTurnsOf, IsOfTurns}
+use Rattle.sysring.specs.Sessions.{IsOfTurns}
 
 module _ {D N H : Type 0} (disk : disk_trait.Ghosts D N) (herald : herald_trait.Ghosts H) where
   -- one step more
@@ -37,9 +37,6 @@ module _ {D N H : Type 0} (disk : disk_trait.Ghosts D N) (herald : herald_trait.
   pub of_turns_behind : (o : Option (State D RingIntake H)) (us : List Turn) (k m : State D RingIntake H) → IsOfTurns disk herald o k → Runs disk ghosts herald us k m → IsOfTurns disk herald o m
   of_turns_behind None us k m had run = had
   of_turns_behind (Some a) us k m had run = record { turns = had.turns ++ us; session = session_then had.turns us a k m had.session run }
-
-  pub of_turns_now : (k : State D RingIntake H) → HasTurnsOf disk herald k k
-  of_turns_now k = record { turns = []; session = (k.intake, k.herald, refl) }
 
   pub of_turns_then : (o : Option (State D RingIntake H)) (p : ℕ) (r : Step) (k m : State D RingIntake H) → IsOfTurns disk herald o k → MakesStep disk ghosts herald p r k m → IsOfTurns disk herald o m
   of_turns_then None p r k m had made = had

@@ -1,3 +1,4 @@
 pub mod Accounts
+pub mod Lemmas
 pub mod Origins
 pub mod Sessions

@@ -25,7 +25,7 @@ pub use comparing::{Comparing, compare};
 pub use grouping::Bound;
 pub use pace::Serving;
 pub use rings::{Board, BoardHerald, Caller, Finished, Keeper, RingIntake, Watch, rings};
-pub use serving::{serve_grouped_while, serve_while};
+pub use serving::{serve_beside, serve_while};
 pub use session::{Origin, Session};
 pub use settling::{Account, Settling, settle};
 pub use shared::Shared;

@@ -23,10 +23,11 @@ use std::thread::Threads;
 /// Serves a kernel with so many workers, from 1 to 32, on threads of their own, while the calling
 /// thread does what `callers` does: it hands operations in, polls answers, and at last asks for a
 /// shutdown, without which the workers go on. It may ask how they get on: above all whether they
-/// have ended, as they do after a fault of the disk, and whether they are refused memory. Hands the
-/// kernel back when both have ended: turns made it of the one that was handed in, with anything
-/// handed in and fetched between them; it has the same rings, and no group that was committed then
-/// is lost, also by a stop at any moment since.
+/// have ended, as they do after a fault of the disk, and whether they are refused memory. With a
+/// bound the workers keep groups of the log open up to it, as `serve_grouped`, else as `serve` none.
+/// Hands the kernel back when both have ended: turns made it of the one that was handed in, with
+/// anything handed in and fetched between them; it has the same rings, and no group that was committed
+/// then is lost, also by a stop at any moment since.
 ///
 /// None where no thread can be started. That nothing was done then is by the code: the kernel is
 /// behind its lock before, and of what is behind a lock only what always holds there is known.
@@ -41,6 +42,7 @@ pub fn serve_while<
     rt: &R,
     kernel: Kernel<D, RingIntake, H>,
     workers: u32,
+    bound: Option<Bound>,
     gate: &G,
     callers: F,
 ) -> (Option<T>, Kernel<D, RingIntake, H>)
@@ -52,34 +54,7 @@ pub fn serve_while<
     ensures turns { HasTurnsOf D.Disk H.Herald kernel result.1 }
 {
     kernel.known();
-    serve_under::<D, H, R, G, Brand, T, F>(kernel, callers, rt, workers, None, gate)
-}
-
-/// The same in an order for large groups of the log, up to this bound, as `serve_grouped`.
-pub fn serve_grouped_while<
-    D: Disk + Send,
-    H: Herald + Send,
-    R: Threads + Wait + Clock + Sync,
-    G: Gate + Sync,
-    T,
-    F: FnOnce(&Serving) -> T,
->(
-    rt: &R,
-    kernel: Kernel<D, RingIntake, H>,
-    workers: u32,
-    bound: Bound,
-    gate: &G,
-    callers: F,
-) -> (Option<T>, Kernel<D, RingIntake, H>)
-    requires workers { AreWorkers workers }
-    requires callers { F.IsAlwaysCallable callers }
-    ensures done { IfSome result.0 (λ gift. (at : _) × F.post callers at gift) }
-    ensures known { Known D.Disk ⟦<RingIntake as Intake>⟧ H.Herald result.1 }
-    ensures origin { HasOriginOf D.Disk H.Herald kernel result.1 }
-    ensures turns { HasTurnsOf D.Disk H.Herald kernel result.1 }
-{
-    kernel.known();
-    serve_under::<D, H, R, G, Brand, T, F>(kernel, callers, rt, workers, Some(bound), gate)
+    serve_under::<D, H, R, G, Brand, T, F>(kernel, callers, rt, workers, bound, gate)
 }
 
 // The same with an origin.
@@ -108,13 +83,15 @@ fn serve_under<
     ensures turns { IsOfTurns D.Disk H.Herald K.outset result.1 }
 {
     let shared = Shared::<D, H, K>::new(kernel);
-    shared.group_by(rt, bound);
-    let done = serve_beside(rt, &shared, workers, gate, callers);
+    let done = serve_beside(rt, &shared, workers, bound, gate, callers);
     (done, shared.into_kernel())
 }
 
-// Serves the kernel on another thread, while this one does `callers`.
-fn serve_beside<
+/// Serves a kernel that threads share as `serve_while` does, while the calling thread does `callers`,
+/// which may step it, too, or flush it. Ends when both have ended.
+///
+/// None where no thread can be started. That nothing was done then is by the code.
+pub fn serve_beside<
     T,
     F: FnOnce(&Serving) -> T,
     D: Disk + Send,
@@ -122,11 +99,19 @@ fn serve_beside<
     K: Origin<D, H> + Send,
     R: Threads + Wait + Clock + Sync,
     G: Gate + Sync,
->(rt: &R, shared: &Shared<D, H, K>, workers: u32, gate: &G, callers: F) -> Option<T>
+>(
+    rt: &R,
+    shared: &Shared<D, H, K>,
+    workers: u32,
+    bound: Option<Bound>,
+    gate: &G,
+    callers: F,
+) -> Option<T>
     requires workers { AreWorkers workers }
     requires callers { F.IsAlwaysCallable callers }
     ensures done { IfSome result (λ gift. (at : _) × F.post callers at gift) }
 {
+    shared.group_by(rt, bound);
     thread::scope(
         thread::scope_env(),
         rt,

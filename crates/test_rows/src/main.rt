@@ -12,6 +12,7 @@ mod bench;
 mod caches;
 mod calls;
 mod fault;
+mod flushes;
 mod images;
 mod kernel_rows;
 mod kernels;

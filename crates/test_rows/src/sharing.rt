@@ -5,6 +5,7 @@ ghost use Rattle.ports.specs.History.{nothing_yet};
 ghost use Rattle.rings.specs.Callers.{IntakeFits, intake_count};
 ghost use Rattle.sysring.specs.Origins.{AreWorkers};
 
+use crate::flushes::print_flushes;
 use crate::lines::new_image;
 use blocks::{Disk, MemDisk, NoMemory};
 use kernel::Kernel;
@@ -21,7 +22,7 @@ use std::thread::Threads;
 use std::time::Duration;
 use sysring::{
     Board, BoardHerald, Bound, Caller, Gate, Keeper, NoGate, RingIntake, Serving, Watch, rings,
-    serve_grouped_while, serve_while,
+    serve_while,
 };
 
 // The turns that a process makes until it sees the other one.
@@ -36,7 +37,8 @@ const WRITES: u32 = 15;
 // More seconds than a group stays open.
 const LONG: u64 = 100;
 
-type Opened<'a> = Kernel<MemDisk, RingIntake, BoardHerald<'a>>;
+/// A kernel over rings and a board.
+pub(crate) type Opened<'a> = Kernel<MemDisk, RingIntake, BoardHerald<'a>>;
 
 // A place where two processes reconcile before their steps.
 #[derive(Drop)]
@@ -172,7 +174,8 @@ fn opened<'a>(
 }
 
 /// Two workers reconcile, and step four processes each in its turn; then 1, 2 and 8 workers serve 32
-/// processes, and keep groups of the log open for others. Prints what came of it.
+/// processes, and keep groups of the log open for others; and kernels are flushed. Prints what came of
+/// it.
 pub fn print_sharing<R: Print + AllocGlobal + Threads + Wait + Clock + Sync>(
     rt: &R,
 ) -> anyhow::Result<()> {
@@ -182,7 +185,8 @@ pub fn print_sharing<R: Print + AllocGlobal + Threads + Wait + Clock + Sync>(
         let created = created_by(rt, workers)?;
         println!(rt; "{workers} workers: {created:?}")?;
     }
-    print_groups(rt)
+    print_groups(rt)?;
+    print_flushes(rt)
 }
 
 // Two workers step two processes at one time.
@@ -299,7 +303,7 @@ fn serve_by_two<R: AllocGlobal + Threads + Wait + Clock + Sync, G: Gate + Sync>(
     match opened(rt.alloc(), disk, intake, &board, keeper, processes) {
         Some(kernel) => {
             shut(&board, watches);
-            let (done, _kernel) = serve_while(rt, kernel, 2, gate, |_serving| ());
+            let (done, _kernel) = serve_while(rt, kernel, 2, None, gate, |_serving| ());
             done.is_some()
         }
         None => false,
@@ -307,7 +311,7 @@ fn serve_by_two<R: AllocGlobal + Threads + Wait + Clock + Sync, G: Gate + Sync>(
 }
 
 // Asks for a shutdown.
-fn shut(board: &Board, mut watches: Vec<Watch>)
+pub(crate) fn shut(board: &Board, mut watches: Vec<Watch>)
     requires { All (WatchOf board.now) watches.items }
 {
     if let Some(mut watch) = watches.pop() {
@@ -339,7 +343,7 @@ fn collect<R: Wait>(
 }
 
 // Polls each caller once. How many answers there were.
-fn poll_all(callers: &mut Vec<Caller>) -> u32 {
+pub(crate) fn poll_all(callers: &mut Vec<Caller>) -> u32 {
     let mut answers = 0u32;
     for caller in callers.iter_mut() {
         if caller.poll().is_some() {
@@ -433,27 +437,16 @@ fn serve_callers<R: AllocGlobal + Threads + Wait + Clock + Sync>(
     requires watches { All (WatchOf board.now) watches.items }
 {
     let before = kernel.disk().writes();
-    let (answers, kernel) = match bound {
-        None => serve_while(
-            rt,
-            kernel,
-            workers,
-            &NoGate,
-            move |serving| -> u32
-                requires { All (WatchOf board.now) watches.items }
-            { collect(rt, board, watches, callers, wanted, serving) },
-        ),
-        Some(bound) => serve_grouped_while(
-            rt,
-            kernel,
-            workers,
-            bound,
-            &NoGate,
-            move |serving| -> u32
-                requires { All (WatchOf board.now) watches.items }
-            { collect(rt, board, watches, callers, wanted, serving) },
-        ),
-    };
+    let (answers, kernel) = serve_while(
+        rt,
+        kernel,
+        workers,
+        bound,
+        &NoGate,
+        move |serving| -> u32
+            requires { All (WatchOf board.now) watches.items }
+        { collect(rt, board, watches, callers, wanted, serving) },
+    );
     let (entries, groups) = (kernel.had(), kernel.committed());
     let writes = kernel.disk().writes().wrapping_sub(before);
     let is_sound = check(rt.alloc(), &mut kernel.into_disk()).is_ok();

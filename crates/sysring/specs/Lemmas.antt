@@ -1,0 +1,2 @@
+-- What follows from the definitions, for who shares a kernel.
+pub mod Sharing
