@@ -1,18 +1,11 @@
 -- The blocks of a disk, copied one behind the other.
-use Rattle.std.proofs.Common.{◌≡◌, ◌∙◌, ℕ, zero, suc, ◌+◌, ◌*◌, ◌<◌, ◌≤◌, Bool, List, [], ◌∷◌, ◌++◌, length, take, drop, Option, Some, sym, ap, ap₂, subst, arith}
+use Rattle.std.proofs.Common.{◌≡◌, ◌∙◌, ℕ, zero, suc, ◌+◌, ◌*◌, ◌<◌, ◌≤◌, List, [], ◌∷◌, ◌++◌, length, take, drop, Option, Some, sym, ap, ap₂, arith}
 use Rattle.std.proofs.Math.Numerals.{add-one}
 use Rattle.std.proofs.lemmas.List.{drop-append-le, length-drop, take-append-le, take_all, take_more}
 use Rattle.std.proofs.lemmas.Option.{get_or_from_slice_get}
 use Rattle.std.specs.Prelude.{slice_get}
 use Rattle.std.specs.Simd.{first_chunks}
-use Rattle.blocks.specs.Calls.{OnlyReads}
 use Rattle.blocks.specs.Disk.{Image}
-use Rattle.blocks.specs.File.{IsReadFrom}
-use Rattle.blocks.specs.FileDisk.{file_of}
-use Rattle.blocks.specs.Lemmas.Held.{shadow_plain}
-use Rattle.blocks.specs.declared.file.FileDisk.{FileDisk}
-use Rattle.cmd.specs.Lemmas.Disks.{file_disk}
-use Rattle.cmd.specs.Opened.{IsOpened}
 
 -- one block more
 pub chunks_more : (k : ℕ) (bytes block : List ℕ) → length bytes ≡ k * 1024 → length block ≡ 1024 →
@@ -37,15 +30,3 @@ pub copied_all : (x : Image) (size b : ℕ) (bytes : List ℕ) → size ≡ leng
 copied_all x size b bytes whole high low before =
     let all : size ≡ b = omega (arith, high, low) in
     ap (λ (n : ℕ). first_chunks 1024 n bytes) all ∙ before ∙ take_all b x (omega (arith, whole, high))
-
--- a disk that was only read since is one that was just opened
-pub still_opened : {F : Type 0} (remaining : F → Option (List ℕ)) (holds : Bool) (d e : FileDisk F) → OnlyReads file_disk d e → file_of e ≡ file_of d →
-    IsOpened remaining file_disk holds d → IsOpened remaining file_disk holds e
-still_opened {F} remaining holds d e reads file opened = record {
-  some = subst (λ (x : Image). 1 ≤ length x) (sym reads.image) opened.some;
-  at_most = subst (λ (x : Image). length x ≤ 8191) (sym reads.image) opened.at_most;
-  bytes = subst (λ (x : Image). IsReadFrom remaining (file_of e) x) (sym reads.image)
-      (subst (λ (f : F). IsReadFrom remaining f (file_disk.image d)) (sym file) opened.bytes);
-  kind = reads.name ∙ opened.kind;
-  calm = λ plain. shadow_plain e.holds e.copy.blocks.items e.shadow e.shadowed plain;
-}

@@ -1,3 +1,3 @@
 -- What the proofs of the crates above use.
+pub mod Ended
 pub mod Ends
-pub mod Plans

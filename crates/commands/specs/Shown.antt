@@ -9,7 +9,7 @@ use Rattle.inspect.specs.Looks.{HasDrawn}
 use Rattle.inspect.specs.Refusals.{show_telling}
 use Rattle.messages.specs.Telling.{Telling}
 use Rattle.pictures.specs.Cells.{blocks_text}
-use Rattle.commands.specs.Pictures.{IsDrawn, picture_telling}
+use Rattle.commands.specs.Drawn.{IsDrawn, picture_telling}
 use Rattle.commands.specs.declared.showing.ShowPictureRefusal.{ShowPictureRefusal}
 use Rattle.commands.specs.declared.showing.ShowPictureRefusal.TheVariants.{Show, Picture}
 

@@ -18,9 +18,13 @@ impl Copied {
     ghost use Rattle.blocks.specs.Calls.{OnlyReads};
     ghost use Rattle.blocks.specs.FileDisk.{file_of};
     ghost use Rattle.cmd.specs.Lemmas.Disks.{file_disk};
-    ghost use Rattle.commands.specs.Filed.{copied_image};
+    ghost use Rattle.commands.specs.Copied.{copied_image};
 
-    // The blocks of a disk. The block is room for one: what it holds afterwards is not said.
+    /// The blocks of a disk. The block is room for one: what it holds afterwards is not said.
+    ///
+    /// # Errors
+    ///
+    /// `NoMemory` where the allocator refuses the room for them.
     pub fn of<F: Write + Seek + OpenFile + Drop>(
         alloc: Global,
         disk: &mut FileDisk<F>,
@@ -42,7 +46,11 @@ impl Copied {
         Ok(Copied { bytes, size })
     }
 
-    // A disk in memory with these blocks.
+    /// A disk in memory with these blocks.
+    ///
+    /// # Errors
+    ///
+    /// `NoMemory` where the allocator refuses it.
     pub fn disk(&self, alloc: Global) -> Result<MemDisk, NoMemory>
         ensures { IfOk result (λ disk. ⟦<MemDisk as Disk>⟧.image disk ≡ copied_image self.now) }
     {

@@ -1,7 +1,7 @@
 // A picture in the file of a path.
 ghost use Rattle.std.specs.Prelude.{IfOk, OnOk};
 ghost use Rattle.std.specs.Io.KnownBytes.{Appends};
-ghost use Rattle.commands.specs.Pictures.{IsDrawn, picture_telling};
+ghost use Rattle.commands.specs.Drawn.{IsDrawn, picture_telling};
 
 use crate::holding::Holder;
 use crate::replacing::{MakesThere, make_in_place};

@@ -106,7 +106,11 @@ fn make_new<R: Locks>(
     }
 }
 
-// Waits until no other program has the file at a path. Whether it is there then.
+/// Waits until no other program has the file at a path. Whether it is there then.
+///
+/// # Errors
+///
+/// A fault of `cmd::fault_of` where it can't be looked at, or of its lock.
 pub fn stays<R: Locks>(rt: &R, path: &str) -> Result<bool, FileFault> {
     match symlink_metadata(rt, path) {
         Ok(found) if found.is_file() => {}

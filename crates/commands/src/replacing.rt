@@ -6,7 +6,7 @@ ghost use Rattle.blocks.specs.declared.errors.FileFault.{FileFault as SomeFileFa
 
 use crate::beside::beside_of;
 use crate::holding::Holder;
-use crate::targets::{remove_refused, sync_folder};
+use crate::settling::{remove_refused, sync_folder};
 use blocks::FileFault;
 use cmd::{OnFile, fault_of};
 use std::fs::{

@@ -3,7 +3,7 @@ ghost use Rattle.std.specs.Prelude.{◌≡◌, IfErr, OnOk, false};
 ghost use Rattle.cmd.specs.Lemmas.Disks.{file_disk};
 ghost use Rattle.cmd.specs.Opened.{IsOpened};
 ghost use Rattle.pictures.specs.Cells.{blocks_text};
-ghost use Rattle.commands.specs.Pictures.{IsDrawn};
+ghost use Rattle.commands.specs.Drawn.{IsDrawn};
 ghost use Rattle.commands.specs.Shown.{IsShownInto, IsUnshown, shown_telling};
 
 use crate::drawing::{PictureFault, draw};

@@ -4,6 +4,4 @@ pub mod PlaceLemmas
 pub mod SignLemmas
 pub mod TextLemmas
 pub mod FileLemmas
-pub mod BeginningLemmas
 pub mod LogLemmas
-pub mod QuotingLemmas

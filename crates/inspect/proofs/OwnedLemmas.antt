@@ -1,22 +1,22 @@
 -- The blocks under addresses, step by step.
 use Rattle.std.proofs.Common.{◌≡◌, ◌≢◌, ◌∙◌, ℕ, zero, suc, ◌-◌, ◌+◌, ◌<◌, ◌≤◌, List, [], ◌∷◌, ◌++◌, length, get_or, map, drop, refl, ap, sym, ⊎_elim, arith}
-use Rattle.std.specs.List.{flat_map, range_with_len}
+use Rattle.std.specs.List.{flat_map}
 use Rattle.std.proofs.lemmas.Bool.{ne_eqb, cases_eq}
-use Rattle.std.proofs.lemmas.List.{append_assoc, append-nil, at_drop_more, at_drop_all, drop_more, drop_all, length-map, map-append}
+use Rattle.std.proofs.lemmas.List.{append_assoc, at_drop_more, at_drop_all, drop_more, drop_all, length-map, map-append}
 use Rattle.std.proofs.Math.Numerals.{sub-one}
 use Rattle.blocks.specs.Disk.{Image, block_at}
 use Rattle.model.specs.declared.types.image.Dinode.{Dinode}
 use Rattle.model.specs.Fields.{words_of}
-use Rattle.model.specs.Layout.{depths, form_of, inode_count_of}
-use Rattle.model.specs.Places.{addresses_in, numbers_of, pointers_in}
+use Rattle.model.specs.Layout.{depths, form_of}
+use Rattle.model.specs.Places.{addresses_in, pointers_in}
 use Rattle.model.specs.Names.{names_under, names_along, names_of}
 use Rattle.model.specs.Lemmas.Counts.{AllByRecursion-parts, flat_at}
 use Rattle.model.specs.Lemmas.Names.{pointers_named}
-use Rattle.model.specs.Lemmas.Verdict.{range_more, range_all}
 use Rattle.offline.specs.Recovered.{LiesBehindLog}
 use Rattle.inspect.specs.declared.owned.Owned.{Owned}
 use Rattle.inspect.specs.Gathering.{LieBehindLog}
 use Rattle.inspect.specs.Laws.{OwnsWhatIsPointedAt}
+use Rattle.inspect.specs.Lemmas.Gathered.{all_done}
 use Rattle.inspect.specs.Owned.{owned_block, owned_under, owned_along, owned_in}
 
 -- ---- the blocks are those that the inode names
@@ -120,14 +120,6 @@ along_all y file ds addresses k high = rw (drop_all k ds high) refl
 
 -- ---- what was gathered so far, and what is left
 
--- `done`, and what is left, are the whole
-pub next_done : {X : Type 0} (done next piece left more whole : List X) → done ++ left ≡ whole → left ≡ piece ++ more → next ≡ done ++ piece → next ++ more ≡ whole
-next_done done next piece left more whole all split add =
-    ap (λ l. l ++ more) add ∙ append_assoc done piece more ∙ ap (λ l. done ++ l) (sym split) ∙ all
-
-pub all_done : {X : Type 0} (done left whole : List X) → done ++ left ≡ whole → left ≡ [] → done ≡ whole
-all_done done left whole all none = sym (append-nil done) ∙ ap (λ l. done ++ l) (sym none) ∙ all
-
 -- one entry of a block of addresses more
 pub entry_more : (y : Image) (file depth : ℕ) (words : List ℕ) (k : ℕ) → k < length words →
     flat_map (λ a. owned_under y file depth a) (drop k words)
@@ -152,15 +144,3 @@ under_done y top words before pushed after left some deep read push all none =
 -- how many blocks an inode owns
 pub owned_count : (y : Image) (file : ℕ) (d : Dinode) → length (owned_in y file d) ≡ length (addresses_in (pointers_in y d))
 owned_count y file d = sym (length-map (owned_in y file d) (λ (o : Owned). o.block)) ∙ ap length (owned_blocks y file d ∙ sym (pointers_named y d))
-
--- what was gathered of the numbers below i, and what the others add to it, is all
-abbrev pub IsGathering : {X : Type 0} → (Image → ℕ → List X) → Image → ℕ → List X → Type 0
-IsGathering at y i so_far = so_far ++ flat_map (at y) (range_with_len i (inode_count_of y - i)) ≡ flat_map (at y) (numbers_of y)
-
--- one number of a range more
-pub range_step : {X : Type 0} (f : ℕ → List X) (i end : ℕ) → i < end →
-    flat_map f (range_with_len i (end - i)) ≡ f i ++ flat_map f (range_with_len (i + 1) (end - (i + 1)))
-range_step f i end h = rw (range_more i end h) refl
-
-pub range_end : {X : Type 0} (f : ℕ → List X) (i end : ℕ) → end ≤ i → flat_map f (range_with_len i (end - i)) ≡ []
-range_end f i end h = rw (range_all i end h) refl

@@ -11,9 +11,4 @@ pub mod Drawing
 pub mod Looks
 pub mod Laws
 pub mod Usage
-pub mod Fields
-pub mod Texts
-pub mod Beginnings
-pub mod Lines
-pub mod Quoting
-pub mod Addresses
+pub mod Lemmas

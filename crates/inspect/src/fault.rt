@@ -6,12 +6,12 @@ use blocks::{DiskFault, NoMemory};
 use layout::CheckFault;
 use std::alloc::{AllocError, AllocFailed};
 
-// Why what an image has was not gathered.
+/// Why what an image has was not gathered.
 #[derive(Clone, Copy)]
 pub enum GatherFault {
-    // A read failed.
+    /// A read failed.
     Disk,
-    // Memory was refused.
+    /// Memory was refused.
     NoMemory,
 }
 

@@ -94,7 +94,11 @@ pub fn add_owned<D: Disk>(
     Ok(())
 }
 
-// The blocks that files own, file by file.
+/// The blocks that files own, file by file.
+///
+/// # Errors
+///
+/// `Disk` where a read failed; `NoMemory` where memory was refused.
 #[tactic(auto, using(blocks::specs::Lemmas::Reads::reads_none, blocks::specs::Lemmas::Reads::reads_then))]
 pub fn owned_by_all<D: Disk>(
     alloc: Global,

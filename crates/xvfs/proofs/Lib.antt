@@ -1,3 +1,2 @@
 pub mod Dispatch
 mod Disks
-mod Drawn

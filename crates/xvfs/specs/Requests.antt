@@ -17,17 +17,17 @@ use Rattle.inspect.specs.Causes.{IsHidden, IsUncounted, IsUndrawn, IsUnlisted}
 use Rattle.inspect.specs.Looks.{HasCounted, HasListed, HasLogShown, HasShown as HasBlocksShown}
 use Rattle.player.specs.Causes.{IsNotRecovered, IsUncheckedBy}
 use Rattle.player.specs.Looks.{HasRecovered, HasReported}
-use Rattle.commands.specs.Cats.{HasCat, IsNotCat}
-use Rattle.commands.specs.Pictures.{IsReplayedInto, IsUnpictured}
-use Rattle.commands.specs.Runs.{IsNotRun, IsRun}
+use Rattle.commands_runs.specs.Cats.{HasCat, IsNotCat}
+use Rattle.commands_runs.specs.Pictures.{IsReplayedInto, IsUnpictured}
+use Rattle.commands_runs.specs.Runs.{IsNotRun, IsRun}
 use Rattle.commands.specs.Shown.{IsShownInto, IsUnshown}
-use Rattle.commands.specs.Copies.{HasCopied, OnCopyRefusal}
-use Rattle.commands.specs.Making.{IsMade, IsNotMade}
-use Rattle.commands.specs.Rescues.{HasRescued, OnRescueRefusal}
-use Rattle.commands.specs.Puts.{HasPut, OnPutRefusal}
+use Rattle.commands_changes.specs.Copies.{HasCopied, OnCopyRefusal}
+use Rattle.commands_changes.specs.Making.{IsMade, IsNotMade}
+use Rattle.commands_changes.specs.Rescues.{HasRescued, OnRescueRefusal}
+use Rattle.commands_changes.specs.Puts.{HasPut, OnPutRefusal}
 use Rattle.commands.specs.Words.{IsDoneOf, IsNotDone, IsRefusedOf}
 use Rattle.xvfs.specs.Files.{FileGhosts}
-use Rattle.xvfs.specs.StopsDrawn.{ChecksInto, IsUncheckedInto}
+use Rattle.commands_stops.specs.StopsDrawn.{ChecksInto, IsUncheckedInto}
 
 -- the form of the image that is made
 abbrev pub form_asked : Bool → Form

@@ -8,21 +8,21 @@ ghost use Rattle.cli.specs.declared.explanation.Explanation.{Explanation as Some
 
 use crate::progress::{Screen, TerminalMeter};
 use crate::sparing::Sparing;
-use crate::stopping::{end_stops, stops_into};
 use crate::telling::{given, says_more};
 use crate::topics::print_topic;
 use arrayvec::ArrayVec;
 use blocks::{Disk, FaultyDisk, FileDisk};
 use cli::{Asked, Request, Topic, parse};
 use cmd::{Access, Locking, Locks, OverFile, end, perform};
-use commands::{
-    Cat, Copy, Keeper, Making, Mkfs, Put, Replay, Rescue, ShowPicture, Target, explain,
-    replay_into, run_files,
-};
-use inspect::{Df, Line, Ls, Show, ShowLog, tell};
+use commands::{Keeper, ShowPicture, explain};
+use commands_changes::{Copy, Making, Mkfs, Put, Rescue, Target};
+use commands_runs::{Cat, Replay, replay_into, run_files};
+use commands_stops::{end_stops, stops_into};
+use inspect::{Df, Ls, Show, ShowLog};
 use messages::Detail;
 use model::types::Form;
 use player::{Check, Recover};
+use second_lines::{Line, tell};
 use std::convert::AsStr;
 use std::io::Write;
 use std::rt::Clock;
@@ -366,10 +366,20 @@ where
             held,
             picture,
         } => {
+            let mut progress = TerminalMeter::new(rt);
             let mut holder = Keeper::new(rt, at_once(locking));
             end_stops(
                 NAME,
-                stops_into(rt, script, schedule, held, picture, &mut holder, out),
+                stops_into(
+                    rt,
+                    script,
+                    schedule,
+                    held,
+                    picture,
+                    &mut progress,
+                    &mut holder,
+                    out,
+                ),
                 err,
             )
         }

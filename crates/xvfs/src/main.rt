@@ -6,8 +6,6 @@ mod batch;
 mod command;
 mod progress;
 mod sparing;
-mod stopping;
-mod stops_drawing;
 mod telling;
 mod topics;
 

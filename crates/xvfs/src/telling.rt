@@ -1,7 +1,7 @@
 // What more is said of a refusal.
 use crate::progress::Screen;
 use cli::Request;
-use inspect::Given;
+use second_lines::Given;
 use std::io::IsTerminal;
 
 /// Whether more is said of a refusal, in a second line: where that is asked for, also by the

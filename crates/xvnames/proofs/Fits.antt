@@ -2,9 +2,9 @@
 use Rattle.std.proofs.Common.{◌≡◌, ℕ, Bool, List, length, refl}
 use Rattle.std.specs.Prelude.{Err}
 use Rattle.blocks.specs.declared.disk.Disk.{Ghosts}
-use Rattle.commands.specs.Lemmas.Plans.{not_off}
-use Rattle.commands.specs.Making.{IsPlan}
-use Rattle.commands.specs.declared.making.Making.{Making}
+use Rattle.commands_changes.specs.Lemmas.Plans.{not_off}
+use Rattle.commands_changes.specs.Making.{IsPlan}
+use Rattle.commands_changes.specs.declared.making.Making.{Making}
 use Rattle.layout.specs.declared.geometry.MkfsFault.{MkfsFault}
 use Rattle.layout.specs.declared.geometry.MkfsFault.TheVariants as making
 use Rattle.model.specs.Files.{files_of}

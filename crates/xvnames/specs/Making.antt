@@ -4,7 +4,7 @@ use Rattle.std.specs.Io.KnownBytes.{Appends}
 use Rattle.blocks.specs.Block.{zero_block}
 use Rattle.blocks.specs.declared.disk.Disk.{Ghosts}
 use Rattle.blocks.specs.declared.file.FileDisk.{FileDisk}
-use Rattle.commands.specs.declared.making.Making.{Making}
+use Rattle.commands_changes.specs.declared.making.Making.{Making}
 use Rattle.messages.specs.Output.{numbers_text}
 use Rattle.model.specs.Files.{Files, files_of}
 use Rattle.model.specs.Layout.{planned_super}

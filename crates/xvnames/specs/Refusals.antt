@@ -5,7 +5,7 @@ use Rattle.cmd.specs.Opened.{OpensDisk}
 use Rattle.cmd.specs.Over.{IsRefusedOn, on_file_telling}
 use Rattle.cmd.specs.declared.files.OnFile.{OnFile}
 use Rattle.cmd.specs.declared.files.OnFile.TheVariants.{File, Of}
-use Rattle.commands.specs.Refusals.{reading_telling}
+use Rattle.commands_changes.specs.Refusals.{reading_telling}
 use Rattle.messages.specs.Telling.{Telling, mkfs_telling as planning_telling, unwritten}
 use Rattle.tree_changes.specs.Tellings.{change_telling}
 use Rattle.model.specs.Operations.{transfer_limit}

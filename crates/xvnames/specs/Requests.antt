@@ -5,7 +5,7 @@ use Rattle.cmd.specs.Lemmas.Disks.{file_disk}
 use Rattle.cmd.specs.Opened.{OpensDisk}
 use Rattle.cmd.specs.Over.{IsRefusedOn}
 use Rattle.commands.specs.Words.{IsDoneOf, IsNotDone, IsRefusedOf}
-use Rattle.commands.specs.declared.making.Making.{Making}
+use Rattle.commands_changes.specs.declared.making.Making.{Making}
 use Rattle.model.specs.Files.{Files}
 use Rattle.model.specs.declared.types.image.Form.{Form}
 use Rattle.model.specs.declared.types.image.Form.TheVariants.{One}

@@ -9,8 +9,8 @@ use Rattle.calls.specs.Opening.{IsNotOpenedPair, IsOpenedPair}
 use Rattle.calls.specs.Stepping.{Plain}
 use Rattle.cmd.specs.declared.files.OnFile.{OnFile}
 use Rattle.cmd.specs.declared.files.OnFile.TheVariants.{File, Of}
-use Rattle.commands.specs.Making.{IsPlan}
-use Rattle.commands.specs.declared.making.Making.{Making}
+use Rattle.commands_changes.specs.Making.{IsPlan}
+use Rattle.commands_changes.specs.declared.making.Making.{Making}
 use Rattle.layout.specs.declared.geometry.MkfsFault.{MkfsFault}
 use Rattle.layout.specs.declared.geometry.MkfsFault.TheVariants as making
 use Rattle.model.specs.Files.{files_of}

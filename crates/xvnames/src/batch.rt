@@ -1,13 +1,17 @@
 // Command lines from a reader.
-ghost use Rattle.std.specs.Prelude.{◌≡◌, ◌≢◌, ◌⊎◌, ◌≤◌, ◌<◌, [], length, map, IfSome};
+ghost use Rattle.std.specs.Prelude.{◌≡◌, ◌≢◌, ◌⊎◌, ◌≤◌, ◌<◌, length, IfSome};
 ghost use Rattle.cmd.specs.Lines.{lines_in, script_in};
 ghost use Rattle.cmd.specs.declared.batch.TheConstants.{LIMIT};
-ghost use Rattle.xvnames.specs.Requests.{DoesAll, StopsAt};
+ghost use Rattle.commands.specs.Words.{IsDoneOf, IsNotDone, IsRefusedOf};
+ghost use Rattle.names_words.specs.CommandLine.{xvnames_words};
+ghost use Rattle.xvnames.specs.Requests.{Answers, DoesAll, OnRefused, StopsAt};
 
 use crate::command::{NAME, command};
 use crate::telling::Screen;
-use cmd::{InputFault, Locks, read_text, script_of};
-use inspect::{Given, tell_fault};
+use cmd::{InputFault, Locks};
+use commands::{Program, do_lines};
+use second_lines::{Given, tell_fault};
+use std::convert::AsStr;
 use std::io::{Read, Write};
 
 /// Does the commands of a text: each line is one, its words have one space between them, and empty
@@ -31,9 +35,26 @@ pub fn commands<R: Locks + AllocGlobal + Screen, I: Read + Drop, O: Write, E: Wr
         out.old out.new ⊎ (out.new ≡ out.old)) }
     ensures silent { result ≡ 0 → err.new ≡ err.old }
 {
-    match read_text(rt.alloc(), input) {
-        Ok(text) => perform_text(rt, text.as_str(), out, err),
-        Err(fault) => tell_unread(rt, fault, err),
+    do_lines(rt.alloc(), &Xvnames(rt), input, out, err)
+}
+
+// The program, as one that does command lines.
+#[derive(Drop)]
+struct Xvnames<'a, R>(&'a R);
+
+impl<'a, R: Locks + AllocGlobal + Screen> Program for Xvnames<'a, R> {
+    ghost done = { λ program.
+        IsDoneOf xvnames_words (Answers R.File.remaining R.File.contents) };
+
+    ghost undone = { λ program. IsNotDone xvnames_words
+        (IsRefusedOf xvnames_words (OnRefused R.File.remaining)) };
+
+    fn command<S: AsStr, O: Write, E: Write>(&self, words: &[S], out: &mut O, err: &mut E) -> u8 {
+        command(self.0, words, out, err)
+    }
+
+    fn tell_unread<E: Write>(&self, fault: InputFault, err: &mut E) -> u8 {
+        tell_unread(self.0, fault, err)
     }
 }
 
@@ -46,47 +67,4 @@ fn tell_unread<R: Locks + AllocGlobal + Screen, E: Write>(
     ensures { result ≡ 1 }
 {
     tell_fault(NAME, rt, rt.shows_errors(), &Given::nothing(), fault, err)
-}
-
-fn perform_text<R: Locks + AllocGlobal + Screen, O: Write, E: Write>(
-    rt: &R,
-    text: &str,
-    out: &mut O,
-    err: &mut E,
-) -> u8
-    ensures status { result ≤ 2 }
-    ensures done { result ≡ 0 → DoesAll R.File.remaining R.File.contents
-        (script_in (lines_in text.now)) (O.contents out.old) (O.contents out.new) }
-    ensures stopped { result ≢ 0 → StopsAt R.File.remaining R.File.contents O.contents
-        (script_in (lines_in text.now)) out.old out.new ⊎ (out.new ≡ out.old) }
-    ensures silent { result ≡ 0 → err.new ≡ err.old }
-{
-    match script_of(rt.alloc(), text) {
-        Ok(lines) => perform_lines(rt, lines.as_slice(), out, err),
-        Err(_) => tell_unread(rt, InputFault::NoMemory, err),
-    }
-}
-
-fn perform_lines<R: Locks + AllocGlobal + Screen, O: Write, E: Write>(
-    rt: &R,
-    lines: &[Vec<&str>],
-    out: &mut O,
-    err: &mut E,
-) -> u8
-    ensures status { result ≤ 2 }
-    ensures none { lines.now ≡ [] → (result ≡ 0) × (out.new ≡ out.old) }
-    ensures done { result ≡ 0 → DoesAll R.File.remaining R.File.contents
-        (map (λ words. map (λ word. word.now) words.items) lines.now)
-        (O.contents out.old) (O.contents out.new) }
-    ensures stopped { result ≢ 0 → StopsAt R.File.remaining R.File.contents O.contents
-        (map (λ words. map (λ word. word.now) words.items) lines.now) out.old out.new }
-    ensures silent { result ≡ 0 → err.new ≡ err.old }
-{
-    for words in lines {
-        let status = command(rt, words.as_slice(), out, err);
-        if status != 0 {
-            return status;
-        }
-    }
-    0
 }

@@ -2,7 +2,7 @@
 ghost use Rattle.std.specs.Prelude.{◌≡◌, length, map, IfErr, IfOk, OnOk};
 ghost use Rattle.calls.specs.Calls.{image_on};
 ghost use Rattle.calls.specs.Stopped.{StaysOver};
-ghost use Rattle.commands.specs.Making.{IsPlan};
+ghost use Rattle.commands_changes.specs.Making.{IsPlan};
 ghost use Rattle.model.specs.Files.{files_of};
 ghost use Rattle.model.specs.Layout.{form_of, planned_super};
 ghost use Rattle.model.specs.Log.{recovered};
@@ -41,7 +41,8 @@ use crate::refused::{FillFault, MkfsRefusal};
 use blocks::{Disk, FileDisk};
 use calls::transactions::open_pair;
 use cmd::{Command, OnFile};
-use commands::{Holder, MakesThere, Making, ReadFault, bytes_from, make_in_place};
+use commands::{Holder, MakesThere, make_in_place};
+use commands_changes::{Making, ReadFault, bytes_from};
 use layout::{Super, plan};
 use messages::print_numbers;
 use names::{Tree, TreeOpenFault};

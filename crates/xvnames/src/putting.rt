@@ -9,7 +9,7 @@ ghost use Rattle.xvnames.specs.Refusals.{HasNoRoom, IsUnput};
 
 use crate::refused::PutRefusal;
 use cmd::{Access, Command, Locking, Locks, OnFile, disk_over, open_image, run_over};
-use commands::bytes_from;
+use commands_changes::bytes_from;
 use model::types::TRANSFER_LIMIT;
 use std::alloc::Global;
 use std::fs::OpenFile;

@@ -3,7 +3,7 @@ ghost use Rattle.std.specs.Prelude.{◌≡◌};
 ghost use Rattle.xvnames.specs.Refusals.{fill_telling, mkfs_telling, put_telling};
 
 use cmd::OnFile;
-use commands::ReadFault;
+use commands_changes::ReadFault;
 use layout::MkfsFault;
 use messages::{Reason, Told, Unwritten};
 use tree_changes::ChangeRefusal;

@@ -1,6 +1,6 @@
 // What more is said of a refusal.
-use inspect::{Given, asks_more};
 use names_words::Request;
+use second_lines::{Given, asks_more};
 use std::io::{IsTerminal, Stderr};
 
 /// Where it is seen whether more is said of each refusal, in a second line.

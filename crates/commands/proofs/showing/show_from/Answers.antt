@@ -1,7 +1,7 @@
 use Rattle.std.proofs.Common.{◌∙◌, List, subst}
 use Rattle.pictures.specs.Cells.{blocks_text}
 use Rattle.messages.specs.declared.drawing.Cell.{Cell}
-use Rattle.commands.specs.Pictures.{IsDrawn}
+use Rattle.commands.specs.Drawn.{IsDrawn}
 use Rattle.commands.proofs.showing.show_from.Goals as goal
 
 pub returns-in-Ok-draw_cells-clause-shown : goal.returns-in-Ok-draw_cells-clause-shown

@@ -6,7 +6,7 @@ use Rattle.model.specs.Log.{recovered}
 use Rattle.offline.specs.Checked.{IsCheckedOf}
 use Rattle.inspect.specs.Listing.{rows_at}
 use Rattle.inspect.proofs.CauseLemmas.{passed_on}
-use Rattle.inspect.proofs.OwnedLemmas.{all_done, next_done, range_end, range_step}
+use Rattle.inspect.specs.Lemmas.Gathered.{all_done, next_done, range_end, range_step}
 use Rattle.offline.specs.Lemmas.Checked.{count_recovered}
 use Rattle.inspect.proofs.listing.gather_rows.Goals as goal
 

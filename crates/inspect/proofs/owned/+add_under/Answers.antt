@@ -8,7 +8,8 @@ use Rattle.model.specs.Log.{recovered}
 use Rattle.model.specs.Lemmas.Log.{length-recovered}
 use Rattle.offline.specs.Recovered.{IsRecoveredOf}
 use Rattle.inspect.specs.Owned.{owned_under}
-use Rattle.inspect.proofs.OwnedLemmas.{under_none, names_here, names_entry, next_done, entry_more, entry_all, under_done}
+use Rattle.inspect.proofs.OwnedLemmas.{under_none, names_here, names_entry, entry_more, entry_all, under_done}
+use Rattle.inspect.specs.Lemmas.Gathered.{next_done}
 use Rattle.inspect.proofs.owned.+add_under.Goals as goal
 
 pub returns-then-top-eq0-clause-added : goal.returns-then-top-eq0-clause-added

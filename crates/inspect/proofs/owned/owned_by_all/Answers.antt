@@ -6,7 +6,7 @@ use Rattle.model.specs.Log.{recovered}
 use Rattle.model.specs.declared.types.image.Dinode.{Dinode}
 use Rattle.inspect.specs.Owned.{owned_in, owned_of}
 use Rattle.inspect.proofs.CauseLemmas.{failed_on, passed_on}
-use Rattle.inspect.proofs.OwnedLemmas.{all_done, next_done, range_end, range_step}
+use Rattle.inspect.specs.Lemmas.Gathered.{all_done, next_done, range_end, range_step}
 use Rattle.offline.specs.Lemmas.Checked.{count_recovered}
 use Rattle.inspect.proofs.PlaceLemmas.{names_at}
 use Rattle.inspect.proofs.owned.owned_by_all.Goals as goal

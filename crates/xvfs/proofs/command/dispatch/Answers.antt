@@ -1,10 +1,10 @@
 use Rattle.std.proofs.Common.{Bool, subst, sym}
 use Rattle.std.specs.Prelude.{◌≡◌, not}
 use Rattle.cmd.specs.Lemmas.Disks.{file_disk}
-use Rattle.commands.specs.Copies.{HasCopied, OnCopyRefusal}
-use Rattle.commands.specs.Making.{IsMade}
-use Rattle.commands.specs.Rescues.{HasRescued, OnRescueRefusal}
-use Rattle.commands.specs.declared.refused.CopyRefusal.{CopyRefusal}
+use Rattle.commands_changes.specs.Copies.{HasCopied, OnCopyRefusal}
+use Rattle.commands_changes.specs.Making.{IsMade}
+use Rattle.commands_changes.specs.Rescues.{HasRescued, OnRescueRefusal}
+use Rattle.commands_changes.specs.declared.refused.CopyRefusal.{CopyRefusal}
 use Rattle.xvfs.specs.Requests.{Answers, OnRefused}
 use Rattle.xvfs.proofs.Disks.{seen_by}
 use Rattle.xvfs.proofs.Dispatch.{was_done, was_refused}

@@ -1,9 +1,0 @@
-use Rattle.std.proofs.Common.{◌++◌, List, drop}
-use Rattle.pictures.specs.declared.types.FilesThen.{FilesThen}
-use Rattle.commands.specs.Filed.{AreFiled, HasFiles, copied_image}
-use Rattle.commands.proofs.anew.Anew.files.Given as goal
-
-abbrev pub invariant-loop-stop : goal.invariant-loop-stop
-invariant-loop-stop l =
-    let P = HasFiles l.self.holds (copied_image l.self.copied) l.self.tasks.items l.self.processes l.self.words.items in
-    (rest : List FilesThen) → AreFiled P (drop l.stop-index l.stop-items) rest → AreFiled P l.stop-items (l.files.items ++ rest)

@@ -1,7 +1,0 @@
-use Rattle.commands.proofs.copies.fill.Goals as goal
-
-pub returns-in-Ok-clause-filled : goal.returns-in-Ok-clause-filled
-returns-in-Ok-clause-filled g c = record { made = c.in-Ok._made; copied = c.in-Ok.ensures.copied }
-
-pub returns-in-Err-clause-refused : goal.returns-in-Err-clause-refused
-returns-in-Err-clause-refused g c = record { made = c.in-Err._made; why = c.in-Err.ensures.refused }

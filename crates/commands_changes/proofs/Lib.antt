@@ -1,0 +1,4 @@
+pub mod Copying
+pub mod Rescuing
+pub mod MakingLemmas
+pub mod Putting

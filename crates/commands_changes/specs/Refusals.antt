@@ -1,0 +1,25 @@
+-- How it is told that a command over files of the system isn't done.
+use Rattle.std.specs.Prelude.{codes}
+use Rattle.messages.specs.Telling.{Telling, file_telling, plain, unwritten}
+use Rattle.cmd.specs.Over.{on_file_telling}
+use Rattle.transfer.specs.Tellings.{copy_telling, put_telling}
+use Rattle.commands_changes.specs.declared.refused.CopyRefusal.{CopyRefusal}
+use Rattle.commands_changes.specs.declared.refused.CopyRefusal.TheVariants as copy
+use Rattle.commands_changes.specs.declared.refused.PutFileRefusal.{PutFileRefusal}
+use Rattle.commands_changes.specs.declared.refused.PutFileRefusal.TheVariants as put
+use Rattle.commands_changes.specs.declared.refused.ReadFault.{ReadFault}
+use Rattle.commands_changes.specs.declared.refused.ReadFault.TheVariants as read
+
+abbrev pub copying_telling : CopyRefusal → Telling
+copying_telling (copy.File fault) = file_telling fault
+copying_telling copy.Exists = plain (codes "copy") 7 (codes "Exists")
+copying_telling (copy.Of fault) = copy_telling fault
+copying_telling copy.Output = unwritten
+
+abbrev pub reading_telling : ReadFault → Telling
+reading_telling read.NoMemory = plain (codes "put") 5 (codes "NoMemory")
+reading_telling read.File = plain (codes "put") 6 (codes "File")
+
+abbrev pub putting_telling : PutFileRefusal → Telling
+putting_telling (put.Unread fault) = reading_telling fault
+putting_telling (put.Of refusal) = on_file_telling put_telling refusal

@@ -1,0 +1,174 @@
+// A replay made once more, over a copy in memory of its disk as it was opened: which files a stop
+// leaves.
+ghost use Rattle.std.specs.Prelude.{◌≡◌, ◌<◌, All, IfOk, IsOk, IsTrue, OnOk, Some, false, unwrap_or};
+ghost use Rattle.std.specs.List.{list_all};
+ghost use Rattle.scripts.specs.Schedule.{is_word_of};
+ghost use Rattle.model.specs.Log.{recovered};
+ghost use Rattle.commands_runs.specs.FileLines.{lines_of};
+ghost use Rattle.commands.specs.Copied.{memory};
+ghost use Rattle.commands_runs.specs.Filed.{LeavesLines, held_memory};
+
+use crate::changes::stops_of;
+use crate::file_lines::file_lines;
+use crate::mute::Mute;
+use blocks::{Block, Disk, FileDisk, MemDisk, NoMemory, SyncDisk};
+use commands::Copied;
+use messages::Silent;
+use pictures::{FileLine, FilesThen, Moment};
+use player::{LineTeller, ReplayRefusal, Scenario, copies_of, replay_with};
+use scripts::{Task, Word};
+use std::alloc::Global;
+use std::fs::OpenFile;
+use std::io::{Seek, Write, sink};
+
+/// What a replay was made of.
+#[derive(Drop)]
+pub struct Anew {
+    /// The blocks of its disk, as it was opened.
+    pub copied: Copied,
+    /// Whether the disk holds writes back.
+    pub holds: bool,
+    /// Its operations.
+    pub tasks: Vec<Task>,
+    /// Of how many processes they are.
+    pub processes: u32,
+    /// The schedule.
+    pub words: Vec<Word>,
+    ghost own: { All (λ task. task.pid < processes) tasks.items },
+    ghost known: { IsTrue (list_all (is_word_of processes) words.items) },
+}
+
+impl Anew {
+    ghost use Rattle.blocks.specs.Calls.{OnlyReads};
+    ghost use Rattle.blocks.specs.FileDisk.{file_of};
+    ghost use Rattle.cmd.specs.Lemmas.Disks.{file_disk};
+    ghost use Rattle.commands.specs.Copied.{copied_image};
+    ghost use Rattle.commands_runs.specs.Filed.{AreFiled, HasFiles, LeavesFiles, stops_of};
+    ghost use Rattle.commands_runs.specs.Pictures.{IsMadeOf};
+
+    // What a replay of this scenario is made of, over a disk that holds writes back or doesn't. The
+    // block is room for one: what it holds afterwards is not said.
+    pub fn of<F: Write + Seek + OpenFile + Drop>(
+        alloc: Global,
+        disk: &mut FileDisk<F>,
+        scenario: &Scenario,
+        holds: bool,
+        block: &mut Block,
+    ) -> Result<Anew, NoMemory>
+        requires tasks { All (λ task. task.pid < scenario.now.processes) scenario.now.tasks.items }
+        requires words { IsTrue
+            (list_all (is_word_of scenario.now.processes) scenario.now.words.items) }
+        ensures made { IfOk result (λ anew. IsMadeOf anew holds (file_disk.image disk.old)
+            scenario.now.tasks.items scenario.now.processes scenario.now.words.items) }
+        ensures reads { OnlyReads file_disk disk.old disk.new }
+        ensures file { file_of disk.new ≡ file_of disk.old }
+    {
+        Ok(Anew {
+            copied: Copied::of(alloc, disk, block)?,
+            holds,
+            tasks: copies_of(alloc, scenario.tasks.as_slice())?,
+            processes: scenario.processes,
+            words: Vec::from_slice(alloc, scenario.words.as_slice())?,
+        })
+    }
+
+    // The files at the opening, and behind each of these steps with which a group was committed.
+    pub fn files(&self, alloc: Global, moments: &[Moment]) -> Result<Vec<FilesThen>, NoMemory>
+        ensures { IfOk result (λ files. AreFiled (HasFiles self.now.holds
+            (copied_image self.now.copied) self.now.tasks.items self.now.processes
+            self.now.words.items) (stops_of moments.now) files.items) }
+    {
+        let stops = stops_of(alloc, moments)?;
+        let mut files = Vec::new(alloc);
+        for stop in stops.as_slice() {
+            let lines = self.lines(alloc, stop.write)?;
+            files.push(FilesThen {
+                column: stop.column,
+                lines,
+            })?;
+        }
+        Ok(files)
+    }
+
+    // Those that a stop before that write leaves.
+    fn lines(&self, alloc: Global, write: u64) -> Result<Vec<FileLine>, NoMemory>
+        ensures { IfOk result (λ lines. LeavesFiles self.now.holds (copied_image self.now.copied)
+            self.now.tasks.items self.now.processes self.now.words.items write lines.items) }
+    {
+        let disk = self.copied.disk(alloc)?;
+        let scenario = self.scenario(alloc, write)?;
+        if self.holds {
+            return lines_held(alloc, disk, scenario);
+        }
+        lines_left(alloc, disk, scenario)
+    }
+
+    fn scenario(&self, alloc: Global, write: u64) -> Result<Scenario, NoMemory>
+        ensures tasks { IfOk result (λ scenario. scenario.tasks.items ≡ self.now.tasks.items) }
+        ensures processes { IfOk result (λ scenario. scenario.processes ≡ self.now.processes) }
+        ensures words { IfOk result (λ scenario. scenario.words.items ≡ self.now.words.items) }
+        ensures stop { IfOk result (λ scenario. scenario.stop ≡ Some write) }
+    {
+        Ok(Scenario {
+            tasks: copies_of(alloc, self.tasks.as_slice())?,
+            processes: self.processes,
+            words: Vec::from_slice(alloc, self.words.as_slice())?,
+            stop: Some(write),
+        })
+    }
+}
+
+// As `lines_left`, over a disk with these blocks that holds writes back.
+fn lines_held(alloc: Global, disk: MemDisk, scenario: Scenario) -> Result<Vec<FileLine>, NoMemory>
+    requires tasks { All (λ task. task.pid < scenario.processes) scenario.tasks.items }
+    requires words { IsTrue (list_all (is_word_of scenario.processes) scenario.words.items) }
+    ensures { IfOk result (λ lines. LeavesLines held_memory (memory.image disk)
+        scenario.tasks.items scenario.processes scenario.words.items (unwrap_or scenario.stop 0)
+        lines.items) }
+{
+    match SyncDisk::new(alloc, disk) {
+        Ok(disk) => lines_left(alloc, disk, scenario),
+        Err(refused) => Err(refused),
+    }
+}
+
+// Replays a scenario. The files of what that left.
+fn lines_left<D: Disk + Drop>(
+    alloc: Global,
+    disk: D,
+    scenario: Scenario,
+) -> Result<Vec<FileLine>, NoMemory>
+    requires tasks { All (λ task. task.pid < scenario.processes) scenario.tasks.items }
+    requires words { IsTrue (list_all (is_word_of scenario.processes) scenario.words.items) }
+    ensures { IfOk result (λ lines. LeavesLines D.Disk (D.image disk)
+        scenario.tasks.items scenario.processes scenario.words.items (unwrap_or scenario.stop 0)
+        lines.items) }
+{
+    let mut teller = Mute {
+        lines: LineTeller,
+        refused: false,
+    };
+    let (ran, disk) = replay_with(alloc, disk, scenario, &mut teller, &mut Silent, &mut sink());
+    lines_behind(alloc, disk, ran, teller.refused)
+}
+
+// The files on a disk that a replay left, where it was made and memory refused to no operation. By its
+// code a disk in memory doesn't fail, nor the output that keeps nothing: memory alone is wanting.
+fn lines_behind<D: Disk + Drop>(
+    alloc: Global,
+    mut disk: D,
+    ran: Result<(), ReplayRefusal>,
+    refused: bool,
+) -> Result<Vec<FileLine>, NoMemory>
+    ensures ran { OnOk result (IsOk ran) }
+    ensures served { OnOk result (refused ≡ false) }
+    ensures has { IfOk result (λ lines. lines.items ≡ lines_of (recovered (D.image disk))) }
+{
+    if ran.is_err() || refused {
+        return Err(NoMemory);
+    }
+    match file_lines(alloc, &mut disk) {
+        Ok(lines) => Ok(lines),
+        Err(_) => Err(NoMemory),
+    }
+}

@@ -1,0 +1,22 @@
+//! The commands that go by a kernel over the files that they name: `replay`, which may draw its steps, `run`
+//! and `cat`. Each opens these, hands the disk and what was read to `player` or `runner`, and does nothing
+//! else.
+//!
+//! No function here reads the words of a command line. None checks a script at its stops.
+#![tactic(auto)]
+
+mod anew;
+mod cats;
+mod changes;
+mod file_lines;
+mod heard;
+mod mute;
+mod picture_teller;
+mod picturing;
+mod runs;
+mod scene;
+
+pub use cats::Cat;
+pub use picture_teller::PictureTeller;
+pub use picturing::{PicturedRefusal, replay_into, replay_pictured};
+pub use runs::{Replay, ReplayFilesRefusal, RunFilesRefusal, replay_files, run_files};

@@ -1,0 +1,215 @@
+// The command that makes a script's operations over the disk in a file, and draws its steps.
+ghost use Rattle.std.specs.Prelude.{◌≡◌, ◌≤◌, IfErr, IfOk, OnOk, unwrap_or};
+ghost use Rattle.cmd.specs.Lemmas.Disks.{file_disk};
+ghost use Rattle.cmd.specs.Opened.{OpensDisk};
+ghost use Rattle.commands.specs.Copied.{copied_image};
+ghost use Rattle.commands_runs.specs.Pictures.{
+  HasPicture,
+  IsPictured,
+  IsReplayedInto,
+  IsSceneOf,
+  IsUnbegun,
+  IsUndrawn,
+  IsUnpictured,
+  pictured_telling,
+};
+ghost use Rattle.commands_runs.specs.Recorded.{none_recorded};
+ghost use Rattle.commands_runs.specs.Runs.{IsReplayedSo};
+
+use crate::heard::replay_told;
+use crate::picture_teller::PictureTeller;
+use crate::runs::{Replay, ReplayFilesRefusal, read_replay, replay_files};
+use crate::scene::Scene;
+use blocks::{Block, NoMemory};
+use cmd::Locks;
+use commands::{Holder, PictureFault, draw};
+use messages::{Detail, MOST_COLUMNS, Meter, Reason, Told};
+use pictures::{Frame, Recorder, Timeline};
+use std::alloc::Global;
+use std::io::Write;
+use std::rt::Files;
+
+/// Why a script isn't replayed and drawn.
+#[derive(Clone, Copy, Debug)]
+pub enum PicturedRefusal {
+    /// Memory for the steps was refused, and nothing was done.
+    NoMemory,
+    /// The replay was refused, and nothing was drawn.
+    Replay(ReplayFilesRefusal),
+    /// The replay was made and printed. It has so many steps, which is more than a picture has.
+    TooLong(u32),
+    /// The replay was made and printed. Memory to make it once more, for its files, was refused.
+    Unfiled,
+    /// The replay was made and printed, and isn't drawn.
+    Picture(PictureFault),
+}
+
+impl Reason for PicturedRefusal {
+    ghost telling = { pictured_telling };
+
+    fn told(&self) -> Told {
+        match self {
+            PicturedRefusal::NoMemory | PicturedRefusal::Unfiled => Told::new(
+                "picture", 1, "NoMemory",
+            ),
+            PicturedRefusal::Replay(refusal) => refusal.told(),
+            PicturedRefusal::TooLong(steps) => Told::naming("picture", 2, "TooLong", *steps),
+            PicturedRefusal::Picture(fault) => fault.told(),
+        }
+    }
+}
+
+/// Replays a script as `replay_files`, and draws its steps as `replay_pictured` where a path is given
+/// for that.
+///
+/// # Errors
+///
+/// As those of `replay_pictured`.
+pub fn replay_into<R: Locks + AllocGlobal, P: Meter, H: Holder<R::File>, O: Write>(
+    rt: &R,
+    replay: Replay<'_>,
+    picture: Option<&str>,
+    progress: &mut P,
+    holder: &mut H,
+    out: &mut O,
+) -> Result<(), PicturedRefusal>
+    ensures done { OnOk result (OpensDisk R.File.remaining file_disk replay.entry.sync
+        (IsReplayedInto R.File.contents replay.entry.sync replay.entry.detail
+        (unwrap_or replay.entry.stop 0) (O.contents out.old) (O.contents out.new)
+        picture.entry)) }
+    ensures refused { IfErr result (IsUnpictured R.File.remaining replay.entry.sync
+        replay.entry.detail (unwrap_or replay.entry.stop 0)
+        (O.contents out.old) (O.contents out.new) (out.new ≡ out.old)) }
+    ensures unbegun { IfErr result (λ refusal. IsUnbegun refusal → holder.new ≡ holder.old) }
+{
+    if let Some(path) = picture {
+        return replay_pictured(rt, replay, path, progress, holder, out);
+    }
+    match replay_files(rt, replay, progress, out) {
+        Ok(()) => Ok(()),
+        Err(refusal) => Err(PicturedRefusal::Replay(refusal)),
+    }
+}
+
+/// Replays a script as `replay_files`, and then draws its steps into the file at the path `picture`,
+/// as `draw`, with the files that recovery gives of what a stop leaves: before the first write, and
+/// behind each step with which a group was committed. For each of these stops the replay is made once
+/// more in memory, over a copy of the disk as it was opened.
+///
+/// # Errors
+///
+/// `NoMemory`, and then nothing was done; `Replay` with a refusal of `replay_files`, and then nothing
+/// was drawn. With the others the replay was made and printed: `TooLong` where it has more steps than
+/// `MOST_COLUMNS`; `Unfiled` where memory to make it once more is refused; `Picture` with a fault of
+/// `draw`. With all but `Picture` the holder is as it was.
+pub fn replay_pictured<R: Locks + AllocGlobal, P: Meter, H: Holder<R::File>, O: Write>(
+    rt: &R,
+    replay: Replay<'_>,
+    picture: &str,
+    progress: &mut P,
+    holder: &mut H,
+    out: &mut O,
+) -> Result<(), PicturedRefusal>
+    ensures drawn { OnOk result (OpensDisk R.File.remaining file_disk replay.entry.sync
+        (IsReplayedSo replay.entry.detail (unwrap_or replay.entry.stop 0)
+        (O.contents out.old) (O.contents out.new)
+        (HasPicture R.File.contents replay.entry.sync))) }
+    ensures refused { IfErr result (IsUnpictured R.File.remaining replay.entry.sync
+        replay.entry.detail (unwrap_or replay.entry.stop 0)
+        (O.contents out.old) (O.contents out.new) (out.new ≡ out.old)) }
+    ensures unbegun { IfErr result (λ refusal. IsUnbegun refusal → holder.new ≡ holder.old) }
+{
+    let (mut teller, mut block) = match take_room(rt.alloc(), replay.detail) {
+        Ok(room) => room,
+        Err(_refused) => return Err(PicturedRefusal::NoMemory),
+    };
+    let replayed = replay_heard(rt, replay, &mut teller, &mut block, progress, out);
+    match replayed {
+        Ok(scene) => draw_run(rt, picture, &scene, teller.recorder(), holder),
+        Err(refusal) => Err(refusal),
+    }
+}
+
+// Room for the steps of a run, and for a block.
+fn take_room(alloc: Global, detail: Detail) -> Result<(PictureTeller, Block), NoMemory>
+    ensures detail { IfOk result (λ room. room.0.lines.detail ≡ detail) }
+    ensures none { IfOk result (λ room. room.0.recorder ≡ none_recorded) }
+{
+    Ok((PictureTeller::new(alloc, detail)?, Block::zeroed(alloc)?))
+}
+
+// Replays a script, whose turns the teller hears of. The block is room for a superblock.
+fn replay_heard<R: Locks + AllocGlobal, P: Meter, O: Write>(
+    rt: &R,
+    replay: Replay<'_>,
+    teller: &mut PictureTeller,
+    block: &mut Block,
+    progress: &mut P,
+    out: &mut O,
+) -> Result<Scene, PicturedRefusal>
+    ensures replayed { IfOk result (λ scene. OpensDisk R.File.remaining file_disk replay.entry.sync
+        (IsReplayedSo teller.old.lines.detail (unwrap_or replay.entry.stop 0)
+        (O.contents out.old) (O.contents out.new)
+        (IsSceneOf teller.old.recorder teller.new.recorder replay.entry.sync scene))) }
+    ensures refused { IfErr result (IsUnpictured R.File.remaining replay.entry.sync
+        teller.old.lines.detail (unwrap_or replay.entry.stop 0)
+        (O.contents out.old) (O.contents out.new) (out.new ≡ out.old)) }
+{
+    match read_replay(rt, replay) {
+        Ok((scenario, disk)) => {
+            replay_told(
+                rt,
+                disk,
+                scenario,
+                replay.sync,
+                teller,
+                block,
+                progress,
+                out,
+            )
+        }
+        Err(refusal) => Err(PicturedRefusal::Replay(refusal)),
+    }
+}
+
+// Draws the steps of a run.
+fn draw_run<R: Files + AllocGlobal, H: Holder<R::File>>(
+    rt: &R,
+    path: &str,
+    scene: &Scene,
+    recorder: &Recorder,
+    holder: &mut H,
+) -> Result<(), PicturedRefusal>
+    ensures fits { OnOk result (recorder.now.steps ≤ 2000) }
+    ensures drawn { OnOk result (IsPictured R.File.contents scene.now.anew.holds
+        (copied_image scene.now.anew.copied) scene.now.anew.tasks.items
+        scene.now.anew.processes scene.now.anew.words.items scene.now.inode_count
+        recorder.now) }
+    ensures undrawn { IfErr result (λ refusal. IsUndrawn refusal recorder.now) }
+    ensures unbegun { IfErr result (λ refusal. IsUnbegun refusal → holder.new ≡ holder.old) }
+{
+    if recorder.steps() > MOST_COLUMNS as u64 {
+        return Err(PicturedRefusal::TooLong(recorder.steps().min(4_294_967_295) as u32));
+    }
+    let files = match scene.anew.files(rt.alloc(), recorder.moments()) {
+        Ok(files) => files,
+        Err(_refused) => return Err(PicturedRefusal::Unfiled),
+    };
+    // Two columns are left free for the last files.
+    let frame = Frame {
+        columns: recorder.columns().saturating_add(2),
+        processes: scene.anew.processes,
+        inode_count: scene.inode_count,
+        holds: scene.anew.holds,
+        has_files: true,
+    };
+    let timeline = Timeline {
+        frame,
+        moments: recorder.moments(),
+        files: files.as_slice(),
+    };
+    match draw(rt, path, &timeline, holder) {
+        Ok(()) => Ok(()),
+        Err(fault) => Err(PicturedRefusal::Picture(fault)),
+    }
+}

@@ -1,0 +1,2 @@
+pub mod BeginningLemmas
+pub mod QuotingLemmas
