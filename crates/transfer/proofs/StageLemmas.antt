@@ -190,7 +190,7 @@ module _ (files : Files) where
       (cases_eq i (k + 1)))
 
   module _ (k : ℕ) (room : k + 1 < length files) (file : File) (is : file_in files (k + 1) ≡ Some file) where
-    empty_here : file_in (listed (length files) (written_at files k)) (k + 1) ≡ empty_file file.kind
+    empty_here : file_in (listed (length files) (written_at files k)) (k + 1) ≡ with_bytes file []
     empty_here = in_listed (length files) (written_at files k) (k + 1) room ∙ written_later k (k + 1) (omega arith) ∙ ap without_bytes is
 
     -- its file is empty until then
