@@ -1,20 +1,16 @@
 // Command lines from a reader.
-ghost use Rattle.std.specs.Prelude.{◌≡◌, ◌≢◌, ◌⊎◌, ◌≤◌, ◌<◌, length, IfSome};
-ghost use Rattle.cli.specs.CommandLine.{xvfs_words};
+ghost use Rattle.std.specs.Prelude.{◌≡◌, ◌≢◌, ◌⊎◌, ◌≤◌, ◌<◌, [], length, map, IfSome};
 ghost use Rattle.cmd.specs.Lines.{lines_in, script_in};
 ghost use Rattle.cmd.specs.declared.batch.TheConstants.{LIMIT};
-ghost use Rattle.commands.specs.Words.{IsNotDone};
 ghost use Rattle.xvfs.specs.Files.{ghosts_of};
-ghost use Rattle.xvfs.specs.Requests.{DoesAll, IsDone, IsRefused, StopsAt};
+ghost use Rattle.xvfs.specs.Requests.{DoesAll, StopsAt};
 
 use crate::command::{NAME, command};
 use crate::progress::Screen;
 use crate::telling::says_more;
 use blocks::{Disk, FaultyDisk, FileDisk};
-use cmd::{InputFault, Locks};
-use commands::{Program, do_lines};
+use cmd::{InputFault, Locks, read_text, script_of};
 use second_lines::{Given, tell_fault};
-use std::convert::AsStr;
 use std::io::{Read, Write};
 use std::rt::Clock;
 use std::sync::Wait;
@@ -45,30 +41,9 @@ where
         O.contents (script_in (lines_in bytes)) out.old out.new ⊎ (out.new ≡ out.old)) }
     ensures silent { result ≡ 0 → err.new ≡ err.old }
 {
-    do_lines(rt.alloc(), &Xvfs(rt), input, out, err)
-}
-
-// The program, as one that does command lines.
-#[derive(Drop)]
-struct Xvfs<'a, R>(&'a R);
-
-impl<'a, R: Locks + AllocGlobal + Threads + Wait + Clock + Screen + Sync> Program for Xvfs<'a, R>
-where
-    R::File: Send,
-{
-    ghost done = { λ program. IsDone (ghosts_of R.File.remaining R.File.contents
-        ⟦<FileDisk<R::File> as Disk>⟧ ⟦<FaultyDisk<FileDisk<R::File>> as Disk>⟧) };
-
-    ghost undone = { λ program. IsNotDone xvfs_words (IsRefused (ghosts_of
-        R.File.remaining R.File.contents
-        ⟦<FileDisk<R::File> as Disk>⟧ ⟦<FaultyDisk<FileDisk<R::File>> as Disk>⟧)) };
-
-    fn command<S: AsStr, O: Write, E: Write>(&self, words: &[S], out: &mut O, err: &mut E) -> u8 {
-        command(self.0, words, out, err)
-    }
-
-    fn tell_unread<E: Write>(&self, fault: InputFault, err: &mut E) -> u8 {
-        tell_unread(self.0, fault, err)
+    match read_text(rt.alloc(), input) {
+        Ok(text) => perform_text(rt, text.as_str(), out, err),
+        Err(fault) => tell_unread(rt, fault, err),
     }
 }
 
@@ -82,4 +57,54 @@ fn tell_unread<R: Locks + AllocGlobal + Screen, E: Write>(
 {
     let more = says_more(rt, false);
     tell_fault(NAME, rt, more, &Given::nothing(), fault, err)
+}
+
+fn perform_text<
+    R: Locks + AllocGlobal + Threads + Wait + Clock + Screen + Sync,
+    O: Write,
+    E: Write,
+>(rt: &R, text: &str, out: &mut O, err: &mut E) -> u8
+where
+    R::File: Send,
+    ensures status { result ≤ 2 }
+    ensures done { result ≡ 0 → DoesAll (ghosts_of R.File.remaining R.File.contents
+        ⟦<FileDisk<R::File> as Disk>⟧ ⟦<FaultyDisk<FileDisk<R::File>> as Disk>⟧)
+        (script_in (lines_in text.now)) (O.contents out.old) (O.contents out.new) }
+    ensures stopped { result ≢ 0 → StopsAt (ghosts_of R.File.remaining R.File.contents
+        ⟦<FileDisk<R::File> as Disk>⟧ ⟦<FaultyDisk<FileDisk<R::File>> as Disk>⟧)
+        O.contents (script_in (lines_in text.now)) out.old out.new ⊎ (out.new ≡ out.old) }
+    ensures silent { result ≡ 0 → err.new ≡ err.old }
+{
+    match script_of(rt.alloc(), text) {
+        Ok(lines) => perform_lines(rt, lines.as_slice(), out, err),
+        Err(_) => tell_unread(rt, InputFault::NoMemory, err),
+    }
+}
+
+fn perform_lines<
+    R: Locks + AllocGlobal + Threads + Wait + Clock + Screen + Sync,
+    O: Write,
+    E: Write,
+>(rt: &R, lines: &[Vec<&str>], out: &mut O, err: &mut E) -> u8
+where
+    R::File: Send,
+    ensures status { result ≤ 2 }
+    ensures none { lines.now ≡ [] → (result ≡ 0) × (out.new ≡ out.old) }
+    ensures done { result ≡ 0 → DoesAll (ghosts_of R.File.remaining R.File.contents
+        ⟦<FileDisk<R::File> as Disk>⟧ ⟦<FaultyDisk<FileDisk<R::File>> as Disk>⟧)
+        (map (λ words. map (λ word. word.now) words.items) lines.now)
+        (O.contents out.old) (O.contents out.new) }
+    ensures stopped { result ≢ 0 → StopsAt (ghosts_of R.File.remaining R.File.contents
+        ⟦<FileDisk<R::File> as Disk>⟧ ⟦<FaultyDisk<FileDisk<R::File>> as Disk>⟧)
+        O.contents (map (λ words. map (λ word. word.now) words.items) lines.now)
+        out.old out.new }
+    ensures silent { result ≡ 0 → err.new ≡ err.old }
+{
+    for words in lines {
+        let status = command(rt, words.as_slice(), out, err);
+        if status != 0 {
+            return status;
+        }
+    }
+    0
 }
