@@ -23,7 +23,7 @@ use std::rt::Files;
 
 // Replays a scenario over a disk that was just opened. The block is room for one. It is refused with
 // `NoMemory`, and then nothing was done, or with `Replay`.
-pub fn replay_told<R: Files + AllocGlobal, P: Meter, O: Write>(
+pub(crate) fn replay_told<R: Files + AllocGlobal, P: Meter, O: Write>(
     rt: &R,
     disk: FileDisk<R::File>,
     scenario: Scenario,

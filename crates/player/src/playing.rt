@@ -26,7 +26,7 @@ use std::io::Write;
 ///
 /// `Output`, and then the turns of the first words were made; else `Disk` where a step found that
 /// the disk failed, and then all was printed.
-pub fn run<D: Disk + Drop, T: Teller, P: Meter, O: Write>(
+pub(crate) fn run<D: Disk + Drop, T: Teller, P: Meter, O: Write>(
     player: &mut Player<'_, D>,
     words: &[Word],
     stop: u64,

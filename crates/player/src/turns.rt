@@ -121,7 +121,7 @@ pub fn open_player<'a, D: Disk + Drop>(
 impl<'a, D: Disk + Drop> Player<'a, D> {
     /// Makes the turn of a word, where the write of number `stop` isn't made. The process that the
     /// word names is one of the kernel's.
-    pub fn turn(&mut self, word: Word, stop: u64) -> Event
+    pub(crate) fn turn(&mut self, word: Word, stop: u64) -> Event
         requires word { IsTrue (is_word_of (length self.old.kernel.world.processes) word) }
         requires seated { IsSeated self.old }
         ensures makes { MakesTurn ⟦<FaultyDisk<D> as Disk>⟧ stop word result self.old self.new }

@@ -112,7 +112,7 @@ pub struct HeldRun {
 /// `Mismatch` where one of these images can't be recovered, or has other files: it tells which held
 /// writes that one has, and the first file that differs, and leaves it to the caller where the run
 /// was stopped. `NoMemory` where memory was refused, also that of an operation.
-pub fn try_held_run(
+pub(crate) fn try_held_run(
     alloc: Global,
     tasks: &[Task],
     processes: u32,

@@ -34,7 +34,7 @@ use std::alloc::Global;
 /// `Mismatch` at the first image that can't be recovered, or has other files than it has to have: it
 /// tells the write or the sync, which held writes that image has, and the first file that differs.
 /// `NoMemory` where memory was refused, also that of an operation.
-pub fn try_held_stops<P: Meter>(
+pub(crate) fn try_held_stops<P: Meter>(
     alloc: Global,
     tasks: &[Task],
     processes: u32,

@@ -33,7 +33,7 @@ pub fn opened<'a, D: Disk + Drop>(
 }
 
 /// Makes the turns of the words, where the write of number `stop` isn't made. What they came to.
-pub fn play<D: Disk + Drop>(
+pub(crate) fn play<D: Disk + Drop>(
     player: &mut Player<'_, D>,
     words: &[Word],
     stop: u64,

@@ -39,7 +39,7 @@ use std::alloc::Global;
 /// `Mismatch` where the image that is left can't be recovered, or has other files: it tells the first
 /// file that differs, and leaves it to the caller where the run was stopped. `NoMemory` where memory
 /// was refused, also that of an operation.
-pub fn try_run(
+pub(crate) fn try_run(
     alloc: Global,
     tasks: &[Task],
     processes: u32,

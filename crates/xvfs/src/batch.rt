@@ -20,7 +20,7 @@ use std::thread::Threads;
 /// lines are none. Ends at the first whose exit status isn't 0, and answers that, else 0. Prints as
 /// `command` does, and so nothing to `err` where the status is 0; then each line's command was
 /// done. Status 1, and no command is done, where the text can't be had.
-pub fn commands<
+pub(crate) fn commands<
     R: Locks + AllocGlobal + Threads + Wait + Clock + Screen + Sync,
     I: Read + Drop,
     O: Write,

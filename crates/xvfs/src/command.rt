@@ -43,7 +43,7 @@ pub const NAME: &str = "xvfs";
 /// check that tells all faults, of a replay whose disk failed, of a file in whose reading that or
 /// memory failed, and of an output that failed. With 2 nothing is written to `out`, with 0 nothing
 /// to `err`. What else `err` gets no contract tells, since it may fail at any byte.
-pub fn command<
+pub(crate) fn command<
     R: Locks + AllocGlobal + Threads + Wait + Clock + Screen + Sync,
     S: AsStr,
     O: Write,

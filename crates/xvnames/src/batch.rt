@@ -18,7 +18,7 @@ use std::io::{Read, Write};
 /// lines are none. Ends at the first whose exit status isn't 0, and answers that, else 0. Prints as
 /// `command` does, and so nothing to `err` where the status is 0; then each line's command was
 /// done. Status 1, and no command is done, where the text can't be had.
-pub fn commands<R: Locks + AllocGlobal + Screen, I: Read + Drop, O: Write, E: Write>(
+pub(crate) fn commands<R: Locks + AllocGlobal + Screen, I: Read + Drop, O: Write, E: Write>(
     rt: &R,
     input: I,
     out: &mut O,

@@ -42,7 +42,7 @@ pub const NAME: &str = "xvnames";
 /// opened from a file; or they ask for help or the version, whose text is clap's. With 1 they do too.
 /// Then no disk was opened, or the refusal is that disk's; and nothing was printed, unless the output
 /// failed. With 2 nothing is written to `out`, with 0 nothing to `err`.
-pub fn command<R: Locks + AllocGlobal + Screen, S: AsStr, O: Write, E: Write>(
+pub(crate) fn command<R: Locks + AllocGlobal + Screen, S: AsStr, O: Write, E: Write>(
     rt: &R,
     words: &[S],
     out: &mut O,
