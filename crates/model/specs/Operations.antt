@@ -6,7 +6,7 @@ use Rattle.blocks.specs.Block.{block_size}
 use Rattle.model.specs.declared.types.image.Form.{Form}
 use Rattle.model.specs.declared.types.image.File.{File}
 use Rattle.model.specs.declared.types.operations.Op.{Op}
-use Rattle.model.specs.declared.types.operations.Op.TheVariants.{Create, Write, Read, Trunc, Remove, Stat}
+use Rattle.model.specs.declared.types.operations.Op.TheVariants.{Create, Write, Read, Trunc, Remove, Stat, Links}
 use Rattle.model.specs.declared.types.operations.Reply.{Reply}
 use Rattle.model.specs.declared.types.operations.Reply.TheVariants.{Made, NoInode, Wrote, Bytes, Done, StatOf, NoFile, BadOffset, TooBig, TooLong, BadType}
 use Rattle.model.specs.Layout.{greatest_size}
@@ -43,6 +43,7 @@ refusal_of form files (Read i off n) =
 refusal_of form files (Trunc i) = no_file_refusal (file_in files i)
 refusal_of form files (Remove i) = no_file_refusal (file_in files i)
 refusal_of form files (Stat i) = no_file_refusal (file_in files i)
+refusal_of form files (Links i n) = no_file_refusal (file_in files i)
 
 -- a value where the test holds
 abbrev pub where_true : {A : Type 0} → Bool → A → Option A
@@ -61,6 +62,9 @@ may_have_written old off n k =
 abbrev pub with_bytes : File → List ℕ → Option File
 with_bytes file bytes = Some (record file { bytes = bytes })
 
+abbrev pub with_links : File → ℕ → Option File
+with_links file n = Some (record file { links = n })
+
 -- the files once an operation on a file is done; None where it can't answer so
 abbrev pub after_on : Files → ℕ → File → Op → Reply → Option Files
 after_on files i file (Write j off bytes) (Wrote k) =
@@ -72,6 +76,7 @@ after_on files i file (Trunc j) Done = Some (slice_set files i (with_bytes file 
 after_on files i file (Remove j) Done = Some (slice_set files i None)
 after_on files i file (Stat j) (StatOf kind size) =
     where_true ((kind == file.kind) && (size == length file.bytes)) files
+after_on files i file (Links j n) Done = Some (slice_set files i (with_links file n))
 after_on files i file op reply = None
 
 -- the same for the file of a number, where there is one
@@ -96,6 +101,7 @@ after_done files (Read i off n) reply = after_at files i (file_in files i) (Read
 after_done files (Trunc i) reply = after_at files i (file_in files i) (Trunc i) reply
 after_done files (Remove i) reply = after_at files i (file_in files i) (Remove i) reply
 after_done files (Stat i) reply = after_at files i (file_in files i) (Stat i) reply
+after_done files (Links i n) reply = after_at files i (file_in files i) (Links i n) reply
 
 -- whether two replies are the same refusal
 abbrev pub is_refusal : Reply → Reply → Bool

@@ -3,7 +3,7 @@ use Rattle.std.proofs.Common.{◌≡◌, ℕ, Bool, true, false, cond, not, ◌&
 use Rattle.std.specs.Prelude.{IsSome, is_none}
 use Rattle.model.specs.Common.{and_cases, and_parts, AtOnceIsNotChanging, AtOnceIsRefused, BadOffset, Bytes, cases_lt, CountStays, Done, File, file_in, Files, Form, get_or-set_other, get_or_past, greatest_size, is_still, le-leb, le-ltb, length-set, lt-leb, lt-ltb, ltb-false, ltb-true, Made, NoFile, NoInode, not-true, Op, RefusalsFirst, RefusalsKeep, ReplaysInParts, Reply, StatOf, TooBig, TooLong, Wrote}
 use Rattle.model.specs.declared.types.operations.Entry.{Entry}
-use Rattle.model.specs.declared.types.operations.Op.TheVariants.{Create, Write, Read, Trunc, Remove, Stat}
+use Rattle.model.specs.declared.types.operations.Op.TheVariants.{Create, Write, Read, Trunc, Remove, Stat, Links}
 use Rattle.model.specs.declared.types.operations.Reply.TheVariants.{BadType}
 use Rattle.model.specs.Operations.{after, after_refusal, after_done, after_create, after_at, after_on, refusal_of, write_refusal, no_file_refusal, is_refusal, where_true, is_kind, transfer_limit}
 use Rattle.model.specs.Journal.{replay, and_then, after_answer, is_number}
@@ -67,6 +67,7 @@ on_changes files new i file (Read j off n) (Bytes bytes) e h = changes_none file
 on_changes files new i file (Trunc j) Done e h = changes_place files new Done i _ (where_true_some true _ new h).1 refl (not_this files i file e)
 on_changes files new i file (Remove j) Done e h = changes_place files new Done i _ (where_true_some true _ new h).1 refl (not_this files i file e)
 on_changes files new i file (Stat j) (StatOf kind size) e h = changes_none files new (StatOf kind size) (where_true_some _ files new h).1
+on_changes files new i file (Links j n) Done e h = changes_place files new Done i _ (where_true_some true _ new h).1 refl (not_this files i file e)
 on_changes files new i file op reply e h = absurd (cc h)
 
 at_changes : (files new : Files) (i : ℕ) (o : Option File) (op : Op) (reply : Reply) → file_in files i ≡ o →
@@ -89,6 +90,7 @@ done_changes files new (Read i off n) reply h = at_changes files new i (file_in 
 done_changes files new (Trunc i) reply h = at_changes files new i (file_in files i) (Trunc i) reply refl h
 done_changes files new (Remove i) reply h = at_changes files new i (file_in files i) (Remove i) reply refl h
 done_changes files new (Stat i) reply h = at_changes files new i (file_in files i) (Stat i) reply refl h
+done_changes files new (Links i n) reply h = at_changes files new i (file_in files i) (Links i n) reply refl h
 
 refused_or_done : (files new : Files) (refusal : Option Reply) (op : Op) (reply : Reply) →
     after_refusal refusal files op reply ≡ Some new → Changes files new reply
@@ -175,6 +177,7 @@ refused_itself form files (Read i off n) refusal h =
 refused_itself form files (Trunc i) refusal h = refused_file (file_in files i) refusal h
 refused_itself form files (Remove i) refusal h = refused_file (file_in files i) refusal h
 refused_itself form files (Stat i) refusal h = refused_file (file_in files i) refusal h
+refused_itself form files (Links i n) refusal h = refused_file (file_in files i) refusal h
 
 pub refusals_first : RefusalsFirst
 unfolding after
@@ -206,6 +209,7 @@ at_once_is_not_changing inode_count (Read i off n) = refl
 at_once_is_not_changing inode_count (Trunc i) = not_not (is_number inode_count i)
 at_once_is_not_changing inode_count (Remove i) = not_not (is_number inode_count i)
 at_once_is_not_changing inode_count (Stat i) = refl
+at_once_is_not_changing inode_count (Links i n) = not_not (is_number inode_count i)
 
 -- no file has a number that operations may not name
 pub no_file_at : (files : Files) (i : ℕ) → file_in files 0 ≡ None → is_number (length files) i ≡ false → file_in files i ≡ None
@@ -236,6 +240,8 @@ at_once_is_refused form files (Trunc i) none h =
 at_once_is_refused form files (Remove i) none h =
     refuses_no_file (file_in files i) (no_file_at files i none (not-true (is_number (length files) i) h))
 at_once_is_refused form files (Stat i) none h =
+    refuses_no_file (file_in files i) (no_file_at files i none (not-true (is_number (length files) i) h))
+at_once_is_refused form files (Links i n) none h =
     refuses_no_file (file_in files i) (no_file_at files i none (not-true (is_number (length files) i) h))
 
 -- a creation that made a number gives it an empty file

@@ -20,6 +20,8 @@ pub enum Op {
     Remove(u32),
     /// Asks for type and length.
     Stat(u32),
+    /// Gives the file that many links, and leaves its bytes.
+    Links(u32, u16),
 }
 
 /// What an operation answers: a result, or one of the refusals behind `StatOf`.
@@ -33,7 +35,7 @@ pub enum Reply {
     Wrote(u32),
     /// The bytes read, cut at the file's end.
     Bytes(Content),
-    /// A truncation or a removal was done.
+    /// A truncation or a removal was done, or the links were set.
     Done,
     /// Type, and length in bytes.
     StatOf(u16, u32),
