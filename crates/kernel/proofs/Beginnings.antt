@@ -2,7 +2,7 @@
 use Rattle.std.proofs.Common.{◌≡◌, ◌≢◌, ℕ, ◌+◌, ◌<◌, ◌≤◌, Bool, true, false, not, cond, eqb, ltb, length, length-set, refl, sym, ◌∙◌, ap, subst, arith, ⊎_elim, Option, Some, None}
 use Rattle.std.specs.Option.{option_map}
 use Rattle.std.specs.Prelude.{IfSome}
-use Rattle.kernel.specs.Common.{alone_begun, alone_taken, at_once_journal, at_once_reply, at_same, ats_of, begin_cause, begun, CanBegin, CanLook, cases_eq, change_fits, counted_refused, counted_taken, Create, DeviceFault, first_stage, form_of, get_or-set_other, Ghosts, HasFacts, HasRoom, inode_count_of, inv_at_once, inv_begun, inv_taken, is_at_once, is_changing, is_committing_at, is_kind, is_number, is_over, IsItsRoom, IsRight, KeepsFiles, kind_of, le-leb, LogState, ltb-false, no_task, not-false, Op, or_parts, others_back, others_stay, Phase, Process, process, Read, refused, Remove, room_for, Stat, StoreState, taken, task, TaskStands, there_now, Trunc, view_of, OpClass, class_of, where_none, with_begun, with_look, with_more_room, World, Write}
+use Rattle.kernel.specs.Common.{alone_begun, alone_taken, at_once_journal, at_once_reply, at_same, ats_of, begin_cause, begun, CanBegin, CanLook, cases_eq, change_fits, counted_refused, counted_taken, Create, DeviceFault, first_stage, form_of, get_or-set_other, Ghosts, HasFacts, HasRoom, inode_count_of, inv_at_once, inv_begun, inv_taken, is_at_once, is_changing, is_committing_at, is_kind, is_number, is_over, IsItsRoom, IsRight, KeepsFiles, kind_of, le-leb, Links, LogState, ltb-false, no_task, not-false, Op, or_parts, others_back, others_stay, Phase, Process, process, Read, refused, Remove, room_for, Stat, StoreState, taken, task, TaskStands, there_now, Trunc, view_of, OpClass, class_of, where_none, with_begun, with_look, with_more_room, World, Write}
 use Rattle.kernel.specs.Lasting.{Lasts}
 use Rattle.kernel.proofs.LogCalls.{logs_begun, logs_looked}
 use Rattle.kernel.proofs.Valid.{HasAgreed, valid_joint}
@@ -24,6 +24,7 @@ change_begins n op e = by_once (is_at_once n op) refl e
     by_kind (Trunc i) out e = let is = not-false (is_number n i) out in (is, is)
     by_kind (Remove i) out e = let is = not-false (is_number n i) out in (is, is)
     by_kind (Stat i) out e = absurd (cc e)
+    by_kind (Links i m) out e = let is = not-false (is_number n i) out in (is, is)
 
     by_once : (b : Bool) → is_at_once n op ≡ b → cond b OpClass.Refused (kind_of op) ≡ OpClass.Change → CanBegin n op × (is_changing n op ≡ true)
     by_once true once e = absurd (cc e)
@@ -52,6 +53,7 @@ look_begins n op count e = by_once (is_at_once n op) refl e
     by_kind (Trunc i) out e = absurd (cc e)
     by_kind (Remove i) out e = absurd (cc e)
     by_kind (Stat i) out e = counted (Stat i) None (cc e) (record { can = not-false (is_number n i) out; read = refl; answer = tt; still = refl; later = out })
+    by_kind (Links i m) out e = absurd (cc e)
 
     by_once : (b : Bool) → is_at_once n op ≡ b → cond b OpClass.Refused (kind_of op) ≡ OpClass.Look count → IsLook n op count
     by_once true once e = absurd (cc e)
@@ -68,6 +70,7 @@ refused_at_once n op e = by_once (is_at_once n op) refl e
     never (Trunc i) e = cc e
     never (Remove i) e = cc e
     never (Stat i) e = cc e
+    never (Links i m) e = cc e
 
     by_once : (b : Bool) → is_at_once n op ≡ b → cond b OpClass.Refused (kind_of op) ≡ OpClass.Refused → is_at_once n op ≡ true
     by_once true once e = once

@@ -2,7 +2,7 @@
 use Rattle.std.proofs.Common.{◌≡◌, ⊎_elim, inl, inr, ℕ, Bool, true, false, cond, List, length, ◌∙◌, sym, refl, ap, subst, arith, Option, Some, None}
 use Rattle.std.specs.Option.{option_map}
 use Rattle.std.specs.Prelude.{IfNone, IsSome, IsTrue}
-use Rattle.kernel.specs.Common.{Agrees, AreLooking, asked, asked_by, Buffers, CanLook, CanTake, cleared, Create, current_of, false≢true, Files, files_of, Held, held_at, held_by, Image, is_late, is_number, is_over, is_unturned, IsLate, IsLogAt, IsSound, IsStore, IsValidView, IsWrite, Joint, late_apart, late_is, late_number, le-ltb, LogState, look_takes, LooksAt, number_of, Op, open_of, owes_reply, Read, Remove, Stage, Stands, Stat, StoreState, task, TaskState, Trunc, used_by, view_of, where_none, Write}
+use Rattle.kernel.specs.Common.{Agrees, AreLooking, asked, asked_by, Buffers, CanLook, CanTake, cleared, Create, current_of, false≢true, Files, files_of, Held, held_at, held_by, Image, is_late, is_number, is_over, is_unturned, IsLate, IsLogAt, IsSound, IsStore, IsValidView, IsWrite, Joint, late_apart, late_is, late_number, le-ltb, Links, LogState, look_takes, LooksAt, number_of, Op, open_of, owes_reply, Read, Remove, Stage, Stands, Stat, StoreState, task, TaskState, Trunc, used_by, view_of, where_none, Write}
 use Rattle.in_flight.specs.Lemmas.AtRest.{fits_at_rest}
 use Rattle.in_flight.specs.Lemmas.OutsideLog.{sound_cleared}
 use Rattle.inodes.specs.Holding.{claim_by, claims_of}
@@ -50,6 +50,7 @@ take_number n (Read i off count) can = ap (λ (b : Bool). cond b 0 i) (le-ltb 30
 take_number n (Trunc i) can = refl
 take_number n (Remove i) can = refl
 take_number n (Stat i) can = refl
+take_number n (Links i m) can = refl
 
 pub look_number : (n : ℕ) (op : Op) → CanLook n op → number_of op ≡ asked op
 look_number n op can = take_number n op (look_takes n op can)

@@ -71,7 +71,7 @@ pub use Rattle.model.specs.declared.types.image.Super.{Super}
 pub use Rattle.model.specs.declared.types.operations.Answer.{Answer}
 pub use Rattle.model.specs.declared.types.operations.Entry.{Entry}
 pub use Rattle.model.specs.declared.types.operations.Op.{Op}
-pub use Rattle.model.specs.declared.types.operations.Op.TheVariants.{Create, Read, Remove, Stat, Trunc, Write}
+pub use Rattle.model.specs.declared.types.operations.Op.TheVariants.{Create, Links, Read, Remove, Stat, Trunc, Write}
 pub use Rattle.model.specs.declared.types.operations.Reply.{Reply}
 pub use Rattle.model.specs.declared.types.operations.Reply.TheVariants.{BadType, Bytes, Made, NoFile, TooLong, Wrote}
 pub use Rattle.model.specs.declared.types.operations.Step.{Step}

@@ -2,7 +2,7 @@
 use Rattle.std.specs.Prelude.{ℕ, [], if◌then◌else◌, Option, Some, None}
 use Rattle.blocks.specs.declared.disk.Disk.{Ghosts}
 use Rattle.model.specs.declared.types.operations.Op.{Op}
-use Rattle.model.specs.declared.types.operations.Op.TheVariants.{Create, Write, Read, Trunc, Remove, Stat}
+use Rattle.model.specs.declared.types.operations.Op.TheVariants.{Create, Write, Read, Trunc, Remove, Stat, Links}
 use Rattle.model.specs.Gathered.{GatheredBytes}
 use Rattle.model.specs.Journal.{is_at_once}
 use Rattle.inodes.specs.Store.{StoreState}
@@ -36,6 +36,7 @@ kind_of (Read i off n) = OpClass.Look (Some n)
 kind_of (Trunc i) = OpClass.Change
 kind_of (Remove i) = OpClass.Change
 kind_of (Stat i) = OpClass.Look None
+kind_of (Links i n) = OpClass.Change
 
 -- what any operation is to it, where there are so many inode numbers
 abbrev pub class_of : ℕ → Op → OpClass
