@@ -10,7 +10,7 @@ use Rattle.bcache.specs.declared.types.Acquired.{Acquired}
 use Rattle.bcache.specs.declared.types.Acquired.TheVariants as acquired
 use Rattle.bcache.specs.declared.types.Busy.TheVariants as busy
 use Rattle.model.specs.declared.types.operations.Op.{Op}
-use Rattle.model.specs.declared.types.operations.Op.TheVariants.{Create, Write, Read, Trunc, Remove, Stat}
+use Rattle.model.specs.declared.types.operations.Op.TheVariants.{Create, Write, Read, Trunc, Remove, Stat, Links}
 use Rattle.model.specs.Journal.{is_at_once}
 use Rattle.model.specs.declared.types.operations.TaskProgress.{TaskProgress}
 use Rattle.model.specs.declared.types.operations.TaskProgress.TheVariants as progress
@@ -163,6 +163,7 @@ has_begun n (Read i off count) l cause is room out = looks_not (is_at_once n (Re
 has_begun n (Trunc i) l cause is room out = free_not (begin_cause l) cause room out
 has_begun n (Remove i) l cause is room out = free_not (begin_cause l) cause room out
 has_begun n (Stat i) l cause is room out = looks_not (is_at_once n (Stat i)) None is
+has_begun n (Links i m) l cause is room out = free_not (begin_cause l) cause room out
 
 module _ (l : LogState) (one : l.outstanding ≡ 1) (quiet : l.commit ≡ commit.Quiet) where
   full_by : (o : Option Why) → begin_cause l ≡ o → is_none o ≡ false → 10 < length l.homes
@@ -177,3 +178,4 @@ module _ (l : LogState) (one : l.outstanding ≡ 1) (quiet : l.commit ≡ commit
   log_is_full (Trunc i) room = (refl, full_by (begin_cause l) refl room)
   log_is_full (Remove i) room = (refl, full_by (begin_cause l) refl room)
   log_is_full (Stat i) room = absurd (cc room)
+  log_is_full (Links i n) room = (refl, full_by (begin_cause l) refl room)

@@ -5,7 +5,7 @@ use Rattle.model.specs.declared.types.image.Form.{Form}
 use Rattle.model.specs.declared.types.image.File.{File}
 use Rattle.model.specs.Files.{Files, file_in, files_of}
 use Rattle.model.specs.Layout.{greatest_size, is_marked}
-use Rattle.model.specs.Operations.{transfer_limit, with_bytes}
+use Rattle.model.specs.Operations.{transfer_limit, with_bytes, with_links}
 use Rattle.calls.specs.Calls.{image_on}
 use Rattle.calls.specs.Stepping.{Plain}
 
@@ -27,6 +27,11 @@ abbrev pub without_bytes : Option File → Option File
 without_bytes None = None
 without_bytes (Some file) = with_bytes file []
 
+-- the same file with so many links
+abbrev pub with_count : Option File → ℕ → Option File
+with_count None n = None
+with_count (Some file) n = with_links file n
+
 -- the same file with more bytes behind its own
 abbrev pub with_more : Option File → List ℕ → Option File
 with_more None bytes = None
@@ -35,6 +40,10 @@ with_more (Some file) bytes = with_bytes file (file.bytes ++ bytes)
 -- the files once file i was emptied
 abbrev pub emptied : Files → ℕ → Files
 emptied files i = slice_set files i (without_bytes (file_in files i))
+
+-- the files once file i was given n links
+abbrev pub relinked : Files → ℕ → ℕ → Files
+relinked files i n = slice_set files i (with_count (file_in files i) n)
 
 -- the files once these bytes were written behind those of file i
 abbrev pub appended : Files → ℕ → List ℕ → Files

@@ -8,7 +8,7 @@ use Rattle.model.specs.Soundness.{IsSound}
 use Rattle.calls.specs.Calls.{image_on}
 use Rattle.calls.specs.Stepping.{Plain}
 use Rattle.calls.specs.Unshown.{KeepsUnshown}
-use Rattle.calls.specs.Files.{appended, emptied, empty_file}
+use Rattle.calls.specs.Files.{appended, emptied, empty_file, relinked}
 
 -- an empty file of that type was made at a free number
 pub record MakesAny (kind : ℕ) (old new : Files) : Type 0 where
@@ -25,6 +25,10 @@ Removes i old new = new ≡ slice_set old i None
 -- file i was emptied
 abbrev pub Empties : ℕ → Files → Files → Type 0
 Empties i old new = new ≡ emptied old i
+
+-- file i was given n links
+abbrev pub Relinks : ℕ → ℕ → Files → Files → Type 0
+Relinks i n old new = new ≡ relinked old i n
 
 -- the first of these bytes were written behind those of file i
 pub record AppendsFirst (i : ℕ) (bytes : List ℕ) (old new : Files) : Type 0 where

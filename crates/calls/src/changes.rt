@@ -8,7 +8,7 @@ ghost use Rattle.calls.specs.Calls.{IsUncalled, Rests, call_count, image_on};
 ghost use Rattle.calls.specs.Files.{Appends, Creates, MayAppend, files_on};
 ghost use Rattle.calls.specs.Answered.{IsAnswered};
 ghost use Rattle.calls.specs.Stepping.{IsReached};
-ghost use Rattle.calls.specs.Stopped.{AppendsFirst, Empties, LeavesChange, MakesAny, Removes, StaysOver};
+ghost use Rattle.calls.specs.Stopped.{AppendsFirst, Empties, LeavesChange, MakesAny, Relinks, Removes, StaysOver};
 
 use crate::calling::{Sole, call};
 use crate::fault::CallFault;
@@ -84,6 +84,29 @@ pub fn empty<D: Disk>(kernel: &mut Sole<D>, i: u32) -> Result<(), CallFault>
     ensures reached { IsReached D.Disk kernel.old kernel.new }
 {
     let Reply::Done = call(kernel, Op::Trunc(i))? else {
+        unreachable!()
+    };
+    Ok(())
+}
+
+/// Gives a file that many links. Its bytes stay, and with no link, too, it is there.
+///
+/// # Errors
+///
+/// Those of `call`.
+pub fn set_links<D: Disk>(kernel: &mut Sole<D>, i: u32, count: u16) -> Result<(), CallFault>
+    requires rests { Rests D.fault_count kernel.old }
+    requires few { call_count kernel.old < 2 ^ 63 }
+    requires there { file_in (files_on D.image kernel.old) i ≢ None }
+    ensures relinks { OnOk result
+        (Relinks i count (files_on D.image kernel.old) (files_on D.image kernel.new)) }
+    ensures answered { OnOk result (IsAnswered D.Disk kernel.old kernel.new) }
+    ensures refused { IfErr result (IsUncalled D.Disk kernel.old kernel.new) }
+    ensures leaves { LeavesChange D.Disk (Relinks i count) kernel.old kernel.new }
+    ensures stays { StaysOver D.Disk kernel.old kernel.new }
+    ensures reached { IsReached D.Disk kernel.old kernel.new }
+{
+    let Reply::Done = call(kernel, Op::Links(i, count))? else {
         unreachable!()
     };
     Ok(())

@@ -69,7 +69,7 @@ pub fn refusal_of(form: Form, files: &[Option<File>], op: &Op) -> Option<Reply>
         Op::Write(_, _, bytes) if bytes.len() > TRANSFER_LIMIT as usize => Some(Reply::TooLong),
         Op::Write(i, off, bytes) => write_refusal(form, file_in(files, *i), *off, bytes.len()),
         Op::Read(_, _, n) if *n > TRANSFER_LIMIT => Some(Reply::TooLong),
-        Op::Read(i, _, _) | Op::Trunc(i) | Op::Remove(i) | Op::Stat(i) => {
+        Op::Read(i, _, _) | Op::Trunc(i) | Op::Remove(i) | Op::Stat(i) | Op::Links(i, _) => {
             no_file_refusal(file_in(files, *i))
         }
     }
@@ -252,6 +252,21 @@ fn allows_stat(files: &[Option<File>], i: u32, reply: &Reply) -> bool
     }
 }
 
+/// Gives a file that many links, where the operation can answer so. The files stay where it can't.
+fn apply_links(files: &mut Files, i: u32, links: u16, reply: &Reply) -> bool
+    ensures after { after_at files.old.items i (file_in files.old.items i) (Op.Links i links)
+        reply.now ≡ where_true result files.new.items }
+    ensures same { OnFalse result (files.new.items ≡ files.old.items) }
+{
+    if file_in(files.as_slice(), i).is_none() || !matches!(reply, Reply::Done) {
+        return false;
+    }
+    if let Some(file) = &mut files[i as usize] {
+        file.links = links;
+    }
+    true
+}
+
 /// Does an operation that is not refused, where it can answer so. The files stay where it can't,
 /// and where memory is refused.
 fn apply_done(alloc: Global, files: &mut Files, op: &Op, reply: &Reply) -> Result<bool, NoMemory>
@@ -267,6 +282,7 @@ fn apply_done(alloc: Global, files: &mut Files, op: &Op, reply: &Reply) -> Resul
         Op::Trunc(i) => Ok(apply_trunc(alloc, files, *i, reply)),
         Op::Remove(i) => Ok(apply_remove(files, *i, reply)),
         Op::Stat(i) => Ok(allows_stat(files.as_slice(), *i, reply)),
+        Op::Links(i, links) => Ok(apply_links(files, *i, *links, reply)),
     }
 }
 

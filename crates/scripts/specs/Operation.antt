@@ -3,7 +3,7 @@ use Rattle.std.specs.Prelude.{ℕ, List, [], ◌∷◌, Option, Some, None, ◌=
 use Rattle.std.specs.List.{slice_split}
 use Rattle.std.specs.Str.{bytes_eq}
 use Rattle.model.specs.declared.types.operations.Op.{Op}
-use Rattle.model.specs.declared.types.operations.Op.TheVariants.{Create, Write, Read, Trunc, Remove, Stat}
+use Rattle.model.specs.declared.types.operations.Op.TheVariants.{Create, Write, Read, Trunc, Remove, Stat, Links}
 use Rattle.scripts.specs.Field.{◌>>=◌, byte_of, content_of}
 use Rattle.scripts.specs.Number.{number_of, number_up_to}
 
@@ -15,6 +15,13 @@ short_of verb argument =
     else if bytes_eq verb (codes "remove") then option_map Remove (number_of argument)
     else if bytes_eq verb (codes "stat") then option_map Stat (number_of argument)
     else None
+
+-- `I N`
+unfoldable pub links_of : List ℕ → List ℕ → Option Op
+links_of inode count = do
+  i ← number_of inode
+  n ← number_up_to 65535 count
+  Some (Links i n)
 
 -- `I OFF HEX`
 unfoldable pub write_of : List ℕ → List ℕ → List ℕ → Option Op
@@ -51,6 +58,8 @@ write_or_read_of verb inode offset last =
 -- the operation of a verb and its arguments
 unfoldable pub operation_of : List (List ℕ) → Option Op
 operation_of (verb ∷ argument ∷ []) = short_of verb argument
+operation_of (verb ∷ inode ∷ count ∷ []) =
+    if bytes_eq verb (codes "links") then links_of inode count else None
 operation_of (verb ∷ inode ∷ offset ∷ last ∷ []) = write_or_read_of verb inode offset last
 operation_of (verb ∷ inode ∷ offset ∷ count ∷ digits ∷ []) =
     if bytes_eq verb (codes "fill") then fill_of inode offset count digits else None

@@ -1,7 +1,7 @@
 // The operation that a line's fields write.
 ghost use Rattle.std.specs.Prelude.{◌≡◌, ◌<◌, ◌==◌, count_by, map};
 ghost use Rattle.scripts.specs.Field.{Tells};
-ghost use Rattle.scripts.specs.Operation.{fill_of, operation_of, process_and_operation, read_of, short_of, statement_of, write_of, write_or_read_of};
+ghost use Rattle.scripts.specs.Operation.{fill_of, links_of, operation_of, process_and_operation, read_of, short_of, statement_of, write_of, write_or_read_of};
 ghost use Rattle.std.specs.List.{slice_split};
 
 use crate::field::{LineFault, byte, content};
@@ -66,6 +66,13 @@ fn operation(alloc: Global, fields: &[&[u8]]) -> Result<Op, LineFault>
 {
     match fields {
         [verb, argument] => short(verb, argument).ok_or(LineFault::Bad),
+        [verb, inode, count] => {
+            if *verb == b"links".as_slice() {
+                links(inode, count).ok_or(LineFault::Bad)
+            } else {
+                Err(LineFault::Bad)
+            }
+        }
         [verb, inode, offset, last] => write_or_read(alloc, verb, inode, offset, last),
         [verb, inode, offset, count, digits] => {
             if *verb == b"fill".as_slice() {
@@ -94,6 +101,16 @@ fn short(verb: &[u8], argument: &[u8]) -> Option<Op>
     } else {
         None
     }
+}
+
+// A new count of links of a file.
+#[tactic(auto, unfolding(crate::specs::Operation::links_of))]
+fn links(inode: &[u8], count: &[u8]) -> Option<Op>
+    ensures { result ≡ links_of inode.now count.now }
+{
+    let inode = number(inode)?;
+    let count = number_up_to(65_535, count)?;
+    Some(Op::Links(inode, count as u16))
 }
 
 // The operation of a verb with three arguments.

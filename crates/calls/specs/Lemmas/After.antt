@@ -7,15 +7,15 @@ use Rattle.blocks.specs.Block.{overwritten}
 use Rattle.model.specs.declared.types.image.Form.{Form}
 use Rattle.model.specs.declared.types.image.File.{File}
 use Rattle.model.specs.declared.types.operations.Op.{Op}
-use Rattle.model.specs.declared.types.operations.Op.TheVariants.{Create, Write, Trunc, Remove}
+use Rattle.model.specs.declared.types.operations.Op.TheVariants.{Create, Write, Trunc, Remove, Links}
 use Rattle.model.specs.declared.types.operations.Reply.{Reply}
 use Rattle.model.specs.declared.types.operations.Reply.TheVariants.{Made, NoInode, Wrote, Done, BadOffset, TooBig, TooLong, BadType}
 use Rattle.model.specs.Files.{Files, file_in}
 use Rattle.model.specs.Layout.{greatest_size}
-use Rattle.model.specs.Operations.{after, after_refusal, after_done, after_at, after_on, write_refusal, no_file_refusal, is_kind, transfer_limit, may_have_written, with_bytes}
+use Rattle.model.specs.Operations.{after, after_refusal, after_done, after_at, after_on, write_refusal, no_file_refusal, is_kind, transfer_limit, may_have_written, with_bytes, with_links}
 use Rattle.model.specs.Lemmas.Runs.{where_true_some}
 use Rattle.calls.specs.Lemmas.Creations.{HasMade, done_makes}
-use Rattle.calls.specs.Files.{without_bytes, with_more, emptied, appended, MayAppend}
+use Rattle.calls.specs.Files.{without_bytes, with_count, with_more, emptied, relinked, appended, MayAppend}
 
 -- ---- a creation
 
@@ -72,6 +72,22 @@ pub after_emptying : (form : Form) (files : Files) (i : ℕ) (reply : Reply) (ne
 unfolding after
 after_emptying form files i reply new there h =
     emptied_at files i (file_in files i) reply new (allowed files (file_in files i) (Trunc i) reply new there h)
+
+relinked_on : (files : Files) (i n : ℕ) (file : File) (reply : Reply) (new : Files) →
+    after_on files i file (Links i n) reply ≡ Some new → (reply ≡ Done) × (new ≡ set files i (with_links file n))
+relinked_on files i n file Done new h = (refl, cc h)
+relinked_on files i n file reply new h = absurd (cc h)
+
+relinked_at : (files : Files) (i n : ℕ) (o : Option File) (reply : Reply) (new : Files) →
+    after_at files i o (Links i n) reply ≡ Some new → (reply ≡ Done) × (new ≡ set files i (with_count o n))
+relinked_at files i n None reply new h = absurd (cc h)
+relinked_at files i n (Some file) reply new h = relinked_on files i n file reply new h
+
+pub after_relinking : (form : Form) (files : Files) (i n : ℕ) (reply : Reply) (new : Files) → file_in files i ≢ None →
+    after form files (Links i n) reply ≡ Some new → (reply ≡ Done) × (new ≡ relinked files i n)
+unfolding after
+after_relinking form files i n reply new there h =
+    relinked_at files i n (file_in files i) reply new (allowed files (file_in files i) (Links i n) reply new there h)
 
 -- ---- a write at a file's end
 

@@ -9,7 +9,7 @@ ghost use Rattle.calls.specs.Calls.{call_count, image_on};
 ghost use Rattle.calls.specs.Files.{Appends, Creates, MayAppend, MayAppendTwo, files_on};
 ghost use Rattle.calls.specs.Pairing.{IsUnmade};
 ghost use Rattle.calls.specs.Stepping.{IsReached};
-ghost use Rattle.calls.specs.Stopped.{AppendsFirst, Empties, LeavesChange, MakesAny, Removes, StaysOver};
+ghost use Rattle.calls.specs.Stopped.{AppendsFirst, Empties, LeavesChange, MakesAny, Relinks, Removes, StaysOver};
 ghost use Rattle.calls.specs.Transactions.{Rests};
 
 use crate::transactions::beginning::{Pair, begin};
@@ -93,6 +93,34 @@ pub fn empty<D: Disk>(alloc: Global, kernel: &mut Pair<D>, i: u32) -> Result<(),
     ensures reached { IsReached D.Disk kernel.old kernel.new }
 {
     let Reply::Done = make_one(alloc, kernel, Op::Trunc(i))? else {
+        unreachable!()
+    };
+    Ok(())
+}
+
+/// Gives a file that many links. Its bytes stay, and with no link, too, it is there.
+///
+/// # Errors
+///
+/// Those of `make_one`.
+pub fn set_links<D: Disk>(
+    alloc: Global,
+    kernel: &mut Pair<D>,
+    i: u32,
+    count: u16,
+) -> Result<(), TransactionFault>
+    requires rests { Rests D.fault_count kernel.old }
+    requires few { call_count kernel.old + 2 < 2 ^ 63 }
+    requires there { file_in (files_on D.image kernel.old) i ≢ None }
+    ensures relinks { OnOk result
+        (Relinks i count (files_on D.image kernel.old) (files_on D.image kernel.new)) }
+    ensures committed { OnOk result (IsCommitted D.Disk 2 kernel.old kernel.new) }
+    ensures refused { IfErr result (IsUnmade D.Disk kernel.old kernel.new) }
+    ensures leaves { LeavesChange D.Disk (Relinks i count) kernel.old kernel.new }
+    ensures stays { StaysOver D.Disk kernel.old kernel.new }
+    ensures reached { IsReached D.Disk kernel.old kernel.new }
+{
+    let Reply::Done = make_one(alloc, kernel, Op::Links(i, count))? else {
         unreachable!()
     };
     Ok(())

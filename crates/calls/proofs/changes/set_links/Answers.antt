@@ -1,0 +1,18 @@
+use Rattle.calls.proofs.Calls.{relinks}
+use Rattle.calls.proofs.Stopping.{leaves_relinked}
+use Rattle.calls.proofs.changes.set_links.Goals as goal
+
+pub unreachable-requires : goal.unreachable-requires
+unreachable-requires g c =
+    c.in_default.not-Done (relinks _ _ _ c.args.i c.args.count _ c.requires.there c.in_ok-call.ensures.calls).0
+
+pub returns-clause-relinks : goal.returns-clause-relinks
+returns-clause-relinks g c = (relinks _ _ _ c.args.i c.args.count _ c.requires.there c.in_ok-call.ensures.calls).1
+
+pub returns-in_err-call-clause-leaves : goal.returns-in_err-call-clause-leaves
+returns-in_err-call-clause-leaves g c =
+    leaves_relinked g.D.Disk (g.D.Disk.image c.args.kernel.now.store.volume.device) c.args.i c.args.count c.requires.there c.call.result _ _ c.call.ensures.leaves
+
+pub returns-clause-leaves : goal.returns-clause-leaves
+returns-clause-leaves g c =
+    leaves_relinked g.D.Disk (g.D.Disk.image c.args.kernel.now.store.volume.device) c.args.i c.args.count c.requires.there c.call.result _ _ c.call.ensures.leaves
