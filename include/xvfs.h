@@ -86,7 +86,7 @@ enum {
     /* 6 call */
     XVFS_NO_PROCESS      = 0x601,  /* no process has that number */
     XVFS_FULL            = 0x602,  /* XVFS_PLACES operations of the process wait */
-    XVFS_NO_OPERATION    = 0x603,  /* no operation of that kind, or a type over 65535 */
+    XVFS_NO_OPERATION    = 0x603,  /* no operation of that kind, or a type or links over 65535 */
     XVFS_NO_BLOCK        = 0x604,  /* `block` has not XVFS_BLOCK_SIZE bytes */
     XVFS_WRITES          = 0x605,  /* the session made 2^63 writes or syncs */
     XVFS_SUBMIT_MEMORY   = 0x606,
@@ -153,12 +153,12 @@ uint32_t xvfs_open(xvfs *fs, const uint8_t *image, size_t len, uint32_t processe
                    uint64_t *writes);
 
 /* Operations, by inode number. */
-enum { XVFS_CREATE, XVFS_WRITE, XVFS_READ, XVFS_TRUNC, XVFS_REMOVE, XVFS_STAT };
+enum { XVFS_CREATE, XVFS_WRITE, XVFS_READ, XVFS_TRUNC, XVFS_REMOVE, XVFS_STAT, XVFS_LINKS };
 typedef struct {
     uint32_t kind;
     uint32_t inum;     /* of XVFS_CREATE the type: 1 directory, 2 file, 3 device */
     uint32_t offset;   /* of XVFS_WRITE and XVFS_READ */
-    uint32_t len;      /* of XVFS_READ */
+    uint32_t len;      /* of XVFS_READ; of XVFS_LINKS the count of links that the file gets */
 } xvfs_op;
 
 /* Hands an operation of process `pid` in, behind those that wait. `bytes` are those of a write, and

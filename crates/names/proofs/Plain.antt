@@ -14,7 +14,7 @@ use Rattle.names.specs.Trees.{kind_of, IsDirectory, IsFile}
 use Rattle.names.specs.TreeChanges.{KeepsNames}
 use Rattle.names.specs.TreeLaws.{IsPlain, PlainKeeps}
 use Rattle.names.proofs.FileMaps.{set_others, set_there}
-use Rattle.names.proofs.Keeping.{at_cases, read_on, stat_on, trunc_on, write_on}
+use Rattle.names.proofs.Keeping.{at_cases, links_on, read_on, stat_on, trunc_on, write_on}
 use Rattle.names.proofs.Unnamed.{some_ne_none}
 
 same_files : (files new : Files) → new ≡ files → KeepsNames files new
@@ -61,6 +61,9 @@ done_keeps files new (Trunc i) reply plain h =
 done_keeps files new (Remove i) reply plain h = absurd plain
 done_keeps files new (Stat i) reply plain h =
     let on = at_cases files new i (file_in files i) (Stat i) reply h in same_files files new (stat_on files new i on.0 i reply on.2)
+done_keeps files new (Op.Links i n) reply plain h =
+    let on = at_cases files new i (file_in files i) (Op.Links i n) reply h in
+    one_file files new i on.0 (record on.0 { links = n }) on.1 plain refl (links_on files new i on.0 i n reply on.2)
 
 pub plain_keeps : PlainKeeps
 plain_keeps form files new op reply plain h =

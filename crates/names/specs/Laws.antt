@@ -21,7 +21,7 @@ pub record Leads (files : Files) (name : List ℕ) (number : ℕ) : Type 0 where
   pub is : file_in files directory_number ≡ Some directory
   pub leads : lookup directory.bytes name ≡ Some number
 
--- an operation that changes no file's bytes but those of others
+-- an operation that changes no file but others
 abbrev pub IsElsewhere : Op → Type 0
 IsElsewhere (Create kind) = Unit {0}
 IsElsewhere (Write i off bytes) = i ≢ directory_number
@@ -29,6 +29,7 @@ IsElsewhere (Read i off n) = Unit {0}
 IsElsewhere (Trunc i) = i ≢ directory_number
 IsElsewhere (Remove i) = i ≢ directory_number
 IsElsewhere (Stat i) = Unit {0}
+IsElsewhere (Op.Links i n) = i ≢ directory_number
 
 -- an operation that writes a whole entry, which has not that name, at another place
 pub record WritesOther (place : ℕ) (name : List ℕ) (op : Op) : Type 0 where

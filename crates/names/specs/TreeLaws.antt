@@ -83,7 +83,7 @@ RepointLeads = (form : Form) (files new : Files) (from number : ℕ) (name : Lis
     → after form files (operation_of from write) reply ≡ Some new
     → (reply ≡ Wrote entry_size) × LeadsTo files new from name (Some number)
 
--- an operation that makes and removes no file, and writes no directory
+-- an operation that makes and removes no file, and changes no directory
 abbrev pub IsPlain : Files → Op → Type 0
 IsPlain files (Create kind) = ⊥
 IsPlain files (Write i off bytes) = IsDirectory files i → ⊥
@@ -91,6 +91,7 @@ IsPlain files (Read i off n) = Unit {0}
 IsPlain files (Trunc i) = IsDirectory files i → ⊥
 IsPlain files (Remove i) = ⊥
 IsPlain files (Stat i) = Unit {0}
+IsPlain files (Op.Links i n) = IsDirectory files i → ⊥
 
 -- It leaves each name as it was, whatever it was answered.
 abbrev pub PlainKeeps : Type 0

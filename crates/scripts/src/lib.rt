@@ -17,6 +17,7 @@
 //! | `P fill I OFF N XX` | writes `N` bytes, at most 4096, each of the value of the two hexadecimal digits `XX` |
 //! | `P read I OFF N` | reads `N` bytes |
 //! | `P trunc I`, `P remove I`, `P stat I` | the operation of that name |
+//! | `P links I N` | gives inode `I` that many links, at most 65535 |
 //!
 //! # Schedules
 //!

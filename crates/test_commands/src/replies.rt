@@ -24,6 +24,14 @@ fn first_file(files: &[Option<File>]) -> Option<(u16, usize)> {
     }
 }
 
+// How many links file 1 has.
+fn first_links(files: &[Option<File>]) -> Option<u16> {
+    match files.get(1) {
+        Some(Some(file)) => Some(file.links),
+        _ => None,
+    }
+}
+
 /// Replies are judged. The number 1 is taken from the second row on, and free again after the removal.
 pub fn print_replies(rt: &impl Print, alloc: Global) -> anyhow::Result<()> {
     println!(rt; "\nreplies are judged")?;
@@ -50,6 +58,10 @@ fn print_others(rt: &impl Print, alloc: Global, files: &mut Files) -> anyhow::Re
     print_reply(rt, alloc, files, Op::Read(1, 0, 3073), Reply::TooLong)?;
     print_reply(rt, alloc, files, Op::Trunc(2), Reply::Done)?;
     print_reply(rt, alloc, files, Op::Trunc(1), Reply::Done)?;
+    print_reply(rt, alloc, files, Op::Links(1, 65_535), Reply::NoFile)?;
+    print_reply(rt, alloc, files, Op::Links(1, 65_535), Reply::Done)?;
+    println!(rt; "{:?} links", first_links(files.as_slice()))?;
+    print_reply(rt, alloc, files, Op::Links(32, 1), Reply::NoFile)?;
     print_reply(rt, alloc, files, Op::Remove(1), Reply::Done)?;
     print_reply(rt, alloc, files, Op::Remove(1), Reply::NoFile)
 }

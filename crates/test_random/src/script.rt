@@ -135,6 +135,7 @@ impl Script {
             65..=78 => Ok(Op::Read(number, offset, count)),
             79..=81 => Ok(Op::Trunc(number)),
             82..=84 => Ok(Op::Remove(number)),
+            93..=96 => Ok(Op::Links(number, self.links())),
             _ => Ok(Op::Stat(number)),
         }
     }
@@ -155,6 +156,15 @@ impl Script {
             return 4;
         }
         1 + self.chance.below(3) as u16
+    }
+
+    // A count of links, which is sometimes none.
+    fn links(&mut self) -> u16 {
+        match self.chance.below(8) {
+            0 => 0,
+            1 => 65_535,
+            _ => self.chance.below(65_536) as u16,
+        }
     }
 
     // An inode number, which few times no file can have.

@@ -1,4 +1,4 @@
-// Random scripts of all six operations, each by up to 32 processes in random turns. A script is run
+// Random scripts of all seven operations, each by up to 32 processes in random turns. A script is run
 // to its end, and then stopped before up to 20 of its writes; what it left is compared each time
 // with the plain program: after a recovery the image is sound, and its files are those after
 // exactly the changing operations of the committed groups.

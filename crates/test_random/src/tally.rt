@@ -16,6 +16,7 @@ pub enum Row {
     Readings,
     Truncations,
     Removals,
+    LinkCounts,
     Questions,
     Made,
     NoInode,
@@ -58,7 +59,7 @@ pub enum Row {
 }
 
 // What a table says of each, in their order.
-const TEXTS: [&str; 46] = [
+const TEXTS: [&str; 47] = [
     "scripts",
     "processes",
     "creations",
@@ -66,6 +67,7 @@ const TEXTS: [&str; 46] = [
     "readings",
     "truncations",
     "removals",
+    "counts of links",
     "questions",
     "answered made",
     "answered noinode",
@@ -132,13 +134,13 @@ pub const LOST: [(Row, Row); 3] = [
 /// A count for each row.
 #[derive(Drop)]
 pub struct Tally {
-    counts: [u64; 46],
+    counts: [u64; 47],
 }
 
 impl Tally {
     /// Nothing was counted.
     pub fn new() -> Tally {
-        Tally { counts: [0; 46] }
+        Tally { counts: [0; 47] }
     }
 
     /// Counts so many more.
@@ -225,6 +227,7 @@ fn kind(op: &Op) -> Row {
         Op::Trunc(_) => Row::Truncations,
         Op::Remove(_) => Row::Removals,
         Op::Stat(_) => Row::Questions,
+        Op::Links(..) => Row::LinkCounts,
     }
 }
 

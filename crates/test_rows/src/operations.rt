@@ -14,6 +14,7 @@ pub fn operation(alloc: Global, words: &[&str]) -> Result<Option<(u32, Op)>, Lin
         ["submit", pid, "fill", inode, offset, count, digits] => {
             handed(pid, written(alloc, [inode, offset, count], digits))
         }
+        ["submit", pid, "links", inode, count] => handed(pid, links([inode, count])),
         ["submit", pid, "read", inode, offset, count] => handed(pid, read([inode, offset, count])),
         _ => Ok(None),
     }
@@ -43,6 +44,10 @@ fn of_file(what: &str, number: &str) -> Result<Option<Op>, LineFault> {
 fn read(words: [&str; 3]) -> Result<Option<Op>, LineFault> {
     let (inode, offset, count) = numbers(words)?;
     Ok(Some(Op::Read(inode, offset, count)))
+}
+
+fn links([inode, count]: [&str; 2]) -> Result<Option<Op>, LineFault> {
+    Ok(Some(Op::Links(inode.parse()?, count.parse()?)))
 }
 
 // A write of so many bytes, each of which has these two digits.

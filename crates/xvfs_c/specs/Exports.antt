@@ -9,7 +9,7 @@ use Rattle.history.specs.Processes.{process}
 use Rattle.ports.specs.Queues.{OthersWait, answers, polled, waiting}
 use Rattle.model.specs.declared.types.operations.Answer.{Answer}
 use Rattle.model.specs.declared.types.operations.Op.{Op}
-use Rattle.model.specs.declared.types.operations.Op.TheVariants.{Create, Write, Read, Trunc, Remove, Stat}
+use Rattle.model.specs.declared.types.operations.Op.TheVariants.{Create, Write, Read, Trunc, Remove, Stat, Links}
 use Rattle.kernel.specs.Steps.{MakesStep}
 use Rattle.model.specs.declared.types.operations.Step.{Step}
 use Rattle.sessions.specs.declared.disk.HostDisk.{HostDisk}
@@ -67,6 +67,7 @@ IsOperation o bytes (Read i offset len) =
 IsOperation o bytes (Trunc i) = (o.kind ≡ 3) × (i ≡ o.inum)
 IsOperation o bytes (Remove i) = (o.kind ≡ 4) × (i ≡ o.inum)
 IsOperation o bytes (Stat i) = (o.kind ≡ 5) × (i ≡ o.inum)
+IsOperation o bytes (Links i count) = (o.kind ≡ 6) × (i ≡ o.inum) × (count ≡ o.len)
 
 -- the sessions differ in their queues at most, and there alone in those of process p
 pub record KeepsKernel (p : ℕ) (s t : Session) : Type 0 where
@@ -82,10 +83,12 @@ pub record HandsIn (p : ℕ) (o : XvfsOp) (bytes : List ℕ) (seq : ℕ) (s t : 
   pub number : seq ≡ (process s.kernel.world p).begun + length (waiting (intake_of t) p)
   pub keeps : KeepsKernel p s t
 
--- that number says why C's operation means none: there is none of that kind, or no such type, or
--- memory was refused for the bytes of a write
+-- that number says why C's operation means none: there is none of that kind, no such type or no such
+-- count of links, or memory was refused for the bytes of a write
 abbrev pub MeansNone : XvfsOp → ℕ → Type 0
-MeansNone o number = ((number ≡ 1539) × ((5 < o.kind) ⊎ ((o.kind ≡ 0) × (65535 < o.inum))))
+MeansNone o number =
+    ((number ≡ 1539) × ((6 < o.kind) ⊎ ((o.kind ≡ 0) × (65535 < o.inum))
+    ⊎ ((o.kind ≡ 6) × (65535 < o.len))))
     ⊎ ((number ≡ 1542) × (o.kind ≡ 1))
 
 -- that number says why an operation of process p isn't handed in; it is full where 16 wait, or where

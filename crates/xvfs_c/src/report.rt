@@ -33,7 +33,7 @@ pub const BLOCK: u32 = 1536 + 4;
 /// 16 operations of the process wait.
 pub const FULL: u32 = 1536 + 2;
 
-/// No operation has that number, or no file that type.
+/// No operation has that number, or no file that type or so many links.
 pub const OPERATION: u32 = 1536 + 3;
 
 /// Memory was refused.
@@ -65,7 +65,7 @@ pub struct XvfsTold {
     pub synced: u32,
 }
 
-/// An operation. The bytes of a write are passed beside it.
+/// An operation. The bytes of a write are passed beside it; `len` is also the new count of links.
 #[repr(C)]
 #[derive(Clone, Copy)]
 pub struct XvfsOp {

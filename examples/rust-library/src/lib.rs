@@ -178,6 +178,11 @@ pub enum Op<'a> {
     Stat {
         inum: u32,
     },
+    /// Gives the file that many links, and leaves its bytes.
+    Links {
+        inum: u32,
+        count: u16,
+    },
 }
 
 /// What an operation was answered.
@@ -337,6 +342,7 @@ impl Session {
             Op::Trunc { inum } => (3, inum, 0, 0, &[]),
             Op::Remove { inum } => (4, inum, 0, 0, &[]),
             Op::Stat { inum } => (5, inum, 0, 0, &[]),
+            Op::Links { inum, count } => (6, inum, 0, u32::from(count), &[]),
         };
         let op = raw::Op {
             kind,
