@@ -163,6 +163,7 @@ none_told m x i none = record {
   trunc = rw none refl;
   remove = rw none refl;
   stat = rw none refl;
+  links = λ n. rw none refl;
 }
 
 no_file : (m : Files) (x : Image) (i : ℕ) → Fits m x → IsUnused x i → file_in m i ≡ None
