@@ -79,6 +79,7 @@ task_causes c t (stage.Reading k m) cause is = get_causes c _ cause is
 task_causes c t (stage.Delivering k) cause is = absurd (cc is)
 task_causes c t (stage.Truncating k m) cause is = get_causes c _ cause is
 task_causes c t (stage.Writing k m) cause is = get_causes c _ cause is
+task_causes c t (stage.Linking k d u) cause is = get_causes c _ cause is
 task_causes c t (stage.Leaving k) cause is = absurd (cc is)
 
 pub by_causes : (a : Phase) (o : Option Why) (cause : Why) → cause_by a o ≡ Some cause → o ≡ Some cause

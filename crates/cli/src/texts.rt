@@ -12,6 +12,7 @@ pub const SCRIPT: &[&str] = &[
     "  P fill I OFF N XX  writes N times, up to 4096, the byte of these digits",
     "  P read I OFF N     asks for N bytes from OFF on, or those that there are",
     "  P trunc I          frees the file's blocks and leaves it empty",
+    "  P links I N        gives it N links, up to 65535, and leaves its bytes",
     "  P remove I         removes it",
     "  P stat I           asks for its type and length",
     "",

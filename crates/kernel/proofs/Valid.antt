@@ -30,6 +30,7 @@ over_unread (Stage.Reading k m) over = absurd (false≢true over)
 over_unread (Stage.Delivering k) over = absurd (false≢true over)
 over_unread (Stage.Truncating k m) over = refl
 over_unread (Stage.Writing k m) over = absurd (false≢true over)
+over_unread (Stage.Linking k d u) over = refl
 over_unread (Stage.Leaving k) over = refl
 
 pub unturned_unread : (a : Stage) → is_unturned a ≡ true → owes_reply a ≡ false
@@ -40,6 +41,7 @@ unturned_unread (Stage.Reading k m) is = absurd (false≢true is)
 unturned_unread (Stage.Delivering k) is = absurd (false≢true is)
 unturned_unread (Stage.Truncating k m) is = refl
 unturned_unread (Stage.Writing k m) is = absurd (false≢true is)
+unturned_unread (Stage.Linking k d u) is = refl
 unturned_unread (Stage.Leaving k) is = refl
 
 -- the number on which the answer of an operation depends that takes an inode is that which it asks for
@@ -108,6 +110,7 @@ write_logged cur t c l q u (Stage.Reading k m) looks stands late w = let no = sy
 write_logged cur t c l q u (Stage.Delivering k) looks stands late w = let no = sym looks.op.is ∙ w.is in absurd (cc no)
 write_logged cur t c l q u (Stage.Truncating k m) looks stands late w = absurd (false≢true late)
 write_logged cur t c l q u (Stage.Writing k m) looks stands late w = subst IsSome (sym stands.logged.used) refl
+write_logged cur t c l q u (Stage.Linking k d v) looks stands late w = absurd (false≢true late)
 write_logged cur t c l q u (Stage.Leaving k) looks stands late w = absurd (false≢true late)
 
 -- while no operation is open in the log, no task holds a number
@@ -123,6 +126,8 @@ claims_nothing l c n p i o (Stage.Truncating k m) log none stands = absurd (⊎_
     is_out u used = let some = (open_of l p log (subst IsSome (sym used) refl)).some in omega (arith, some, none)
 claims_nothing l c n p i o (Stage.Writing k m) log none stands =
     let some = (open_of l p log (subst IsSome (sym stands.logged.used) refl)).some in absurd (omega (arith, some, none))
+claims_nothing l c n p i o (Stage.Linking k d u) log none stands =
+    let some = (open_of l p log (subst IsSome (sym stands.used) refl)).some in absurd (omega (arith, some, none))
 claims_nothing l c n p i o (Stage.Leaving k) log none stands = refl
 
 -- so its image stands for files as one between operations, and with the log's header cleared it has them

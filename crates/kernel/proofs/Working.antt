@@ -19,6 +19,7 @@ reading_more (Stage.Reading k m) is = (refl, refl)
 reading_more (Stage.Delivering k) is = (refl, refl)
 reading_more (Stage.Truncating k m) is = absurd (false≢true is)
 reading_more (Stage.Writing k m) is = (refl, refl)
+reading_more (Stage.Linking k d u) is = absurd (false≢true is)
 reading_more (Stage.Leaving k) is = absurd (false≢true is)
 
 -- a write of a number that operations may name changes files
@@ -33,7 +34,7 @@ changes n (Read i off m) can = absurd can
 changes n (Trunc i) can = (can, refl)
 changes n (Remove i) can = (can, refl)
 changes n (Stat i) can = absurd can
-changes n (Links i m) can = (can, refl)
+changes n (Links i m) can = (can.0, refl)
 
 pub reply_there : (o : Option Reply) → is_none o ≡ false → (r : Reply) × (o ≡ Some r)
 reply_there None is = absurd (false≢true (sym is))

@@ -35,7 +35,7 @@ pub use Rattle.history.specs.Processes.{answered, at_phase, committing, committi
 pub use Rattle.history.specs.Views.{CallsLog, HasEntry, InGroup, IsValidView, KernelFacts, Leaves, LeavesRest, Opens, StandsAt, Takes, Turns, View, Writes}
 pub use Rattle.history.specs.declared.types.Phase.{Phase}
 pub use Rattle.history.specs.declared.types.Process.{Process}
-pub use Rattle.inodes.specs.Goes.{Goes, GoesFrom, stage_of_lock, stage_of_reading, stage_of_trunc, stage_of_writing, progress_of_lock, progress_of_read, progress_of_trunc, progress_of_write, shown_of, table_of_trunc, table_of_writing}
+pub use Rattle.inodes.specs.Goes.{Goes, GoesFrom, progress_of_link, stage_of_linking, stage_of_lock, stage_of_reading, stage_of_trunc, stage_of_writing, progress_of_lock, progress_of_read, progress_of_trunc, progress_of_write, shown_of, table_of_linking, table_of_trunc, table_of_writing}
 pub use Rattle.inodes.specs.Lemmas.Causes.{BeginsWriting, IsAhead, search_begins, search_sees, SearchesOn, write_sees, write_turns, WritesOn}
 pub use Rattle.inodes.specs.Lemmas.Faults.{if_none, if_some, where_none}
 pub use Rattle.inodes.specs.Lemmas.Looks.{holds_lock, IsPassedBy, late_apart, late_is, late_number, look_takes}
