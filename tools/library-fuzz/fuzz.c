@@ -122,8 +122,8 @@ static void make_op(uint32_t p) {
     struct process *process = &processes[p];
     unsigned number = process->count++;
     xvfs_op *op = &process->ops[number].op;
-    uint32_t kind = below(10), longest = below(8) ? 3072 : 4096;
-    *op = (xvfs_op){kind < 6 ? kind : kind < 8 ? XVFS_WRITE : XVFS_CREATE, 1 + below(7), 0, 0};
+    uint32_t kind = below(11), longest = below(8) ? 3072 : 4096;
+    *op = (xvfs_op){kind < 7 ? kind : kind < 9 ? XVFS_WRITE : XVFS_CREATE, 1 + below(7), 0, 0};
     process->ops[number].size = 0;
     if (number == 0 || op->kind == XVFS_CREATE) {
         *op = (xvfs_op){XVFS_CREATE, below(12) ? 1 + below(3) : 4 + below(9), 0, 0};
@@ -140,6 +140,9 @@ static void make_op(uint32_t p) {
         op->offset = below(3) ? below(4000) : below(300000);
         op->len = below(longest + 1);
         if (script) fprintf(script, "%u read %u %u %u\n", p, op->inum, op->offset, op->len);
+    } else if (op->kind == XVFS_LINKS) {
+        op->len = below(4) ? below(65536) : below(2) * 65535;
+        if (script) fprintf(script, "%u links %u %u\n", p, op->inum, op->len);
     } else if (script) {
         const char *name = op->kind == XVFS_TRUNC ? "trunc" : op->kind == XVFS_REMOVE ? "remove" : "stat";
         fprintf(script, "%u %s %u\n", p, name, op->inum);
@@ -449,7 +452,8 @@ static void see_faults(void) {
 
 static void see_calls(void) {
     xvfs fs = XVFS_CLOSED_HANDLE;
-    xvfs_op stat = {XVFS_STAT, 1, 0, 0}, none = {6, 1, 0, 0}, large = {XVFS_CREATE, 65536, 0, 0};
+    xvfs_op stat = {XVFS_STAT, 1, 0, 0}, none = {7, 1, 0, 0}, large = {XVFS_CREATE, 65536, 0, 0},
+            many = {XVFS_LINKS, 1, 0, 65536};
     xvfs_stepped stepped;
     xvfs_answer answer;
     xvfs_report report;
@@ -473,6 +477,7 @@ static void see_calls(void) {
     EXPECT(XVFS_NO_PROCESS, xvfs_submit(&fs, 1, &stat, bytes, 0, &n));
     EXPECT(XVFS_NO_OPERATION, xvfs_submit(&fs, 0, &none, bytes, 0, &n));
     EXPECT(XVFS_NO_OPERATION, xvfs_submit(&fs, 0, &large, bytes, 0, &n));
+    EXPECT(XVFS_NO_OPERATION, xvfs_submit(&fs, 0, &many, bytes, 0, &n));
     for (unsigned k = 0; k < XVFS_PLACES; k++)
         EXPECT(XVFS_OK, xvfs_try_submit(&fs, 0, &stat, bytes, 0, &n));
     EXPECT(XVFS_FULL, xvfs_submit(&fs, 0, &stat, bytes, 0, &n));

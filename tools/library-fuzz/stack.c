@@ -114,6 +114,7 @@ int main(void) {
     for (uint32_t k = 0; k < 100; k++) operate(XVFS_WRITE, 1, k * XVFS_TRANSFER, XVFS_TRANSFER);
     operate(XVFS_READ, 1, 5, 3000);
     operate(XVFS_STAT, 1, 0, 0);
+    operate(XVFS_LINKS, 1, 0, 0);
     operate(XVFS_TRUNC, 1, 0, 0);
     operate(XVFS_REMOVE, 1, 0, 0);
     measure("xvfs_shut", shut, 4096);
