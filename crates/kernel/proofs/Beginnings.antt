@@ -2,7 +2,7 @@
 use Rattle.std.proofs.Common.{◌≡◌, ◌≢◌, ℕ, ◌+◌, ◌<◌, ◌≤◌, Bool, true, false, not, cond, eqb, ltb, length, length-set, refl, sym, ◌∙◌, ap, subst, arith, ⊎_elim, Option, Some, None}
 use Rattle.std.specs.Option.{option_map}
 use Rattle.std.specs.Prelude.{IfSome}
-use Rattle.kernel.specs.Common.{alone_begun, alone_taken, at_once_journal, at_once_reply, at_same, ats_of, begin_cause, begun, CanBegin, CanLook, cases_eq, change_fits, counted_refused, counted_taken, Create, DeviceFault, first_stage, form_of, get_or-set_other, Ghosts, HasFacts, HasRoom, inode_count_of, inv_at_once, inv_begun, inv_taken, is_at_once, is_changing, is_committing_at, is_kind, is_number, is_over, IsItsRoom, IsRight, KeepsFiles, kind_of, le-leb, Links, LogState, ltb-false, no_task, not-false, Op, or_parts, others_back, others_stay, Phase, Process, process, Read, refused, Remove, room_for, Stat, StoreState, taken, task, TaskStands, there_now, Trunc, view_of, OpClass, class_of, where_none, with_begun, with_look, with_more_room, World, Write}
+use Rattle.kernel.specs.Common.{alone_begun, alone_taken, at_once_journal, at_once_reply, at_same, ats_of, begin_cause, begun, CanBegin, CanLook, cases_eq, change_fits, counted_refused, counted_taken, Create, DeviceFault, first_stage, form_of, get_or-set_other, Ghosts, HasCount, HasFacts, HasRoom, inode_count_of, inv_at_once, inv_begun, inv_taken, is_at_once, is_changing, is_committing_at, is_kind, is_number, is_over, IsItsRoom, IsRight, KeepsFiles, kind_of, le-leb, Links, LogState, ltb-false, no_task, not-false, Op, or_parts, others_back, others_stay, Phase, Process, process, Read, refused, Remove, room_for, Stat, StoreState, taken, task, TaskStands, there_now, Trunc, view_of, OpClass, class_of, where_none, with_begun, with_look, with_more_room, World, Write}
 use Rattle.kernel.specs.Lasting.{Lasts}
 use Rattle.kernel.proofs.LogCalls.{logs_begun, logs_looked}
 use Rattle.kernel.proofs.Valid.{HasAgreed, valid_joint}
@@ -10,25 +10,25 @@ use Rattle.kernel.proofs.Pairing.{paired_goes, keeps_behind, task_begun, begins_
 use Rattle.kernel.proofs.Right.{right_well}
 
 -- an operation that changes files, and is not refused at once, may begin
-pub change_begins : (n : ℕ) (op : Op) → class_of n op ≡ OpClass.Change → CanBegin n op × (is_changing n op ≡ true)
-change_begins n op e = by_once (is_at_once n op) refl e
+pub change_begins : (n : ℕ) (op : Op) → HasCount op → class_of n op ≡ OpClass.Change → CanBegin n op × (is_changing n op ≡ true)
+change_begins n op count e = by_once (is_at_once n op) refl e
   where
-    by_kind : (o : Op) → is_at_once n o ≡ false → kind_of o ≡ OpClass.Change → CanBegin n o × (is_changing n o ≡ true)
-    by_kind (Create kind) out e = let is = not-false (is_kind kind) out in (is, is)
-    by_kind (Write i off bytes) out e =
+    by_kind : (o : Op) → HasCount o → is_at_once n o ≡ false → kind_of o ≡ OpClass.Change → CanBegin n o × (is_changing n o ≡ true)
+    by_kind (Create kind) count out e = let is = not-false (is_kind kind) out in (is, is)
+    by_kind (Write i off bytes) count out e =
         let both = or_parts (ltb 3072 (length bytes)) (not (is_number n i)) out in
         let few = ltb-false 3072 (length bytes) both.0 in
         let named = not-false (is_number n i) both.1 in
         ((named, few), rw (le-leb (length bytes) 3072 few, named) refl)
-    by_kind (Read i off m) out e = absurd (cc e)
-    by_kind (Trunc i) out e = let is = not-false (is_number n i) out in (is, is)
-    by_kind (Remove i) out e = let is = not-false (is_number n i) out in (is, is)
-    by_kind (Stat i) out e = absurd (cc e)
-    by_kind (Links i m) out e = let is = not-false (is_number n i) out in (is, is)
+    by_kind (Read i off m) count out e = absurd (cc e)
+    by_kind (Trunc i) count out e = let is = not-false (is_number n i) out in (is, is)
+    by_kind (Remove i) count out e = let is = not-false (is_number n i) out in (is, is)
+    by_kind (Stat i) count out e = absurd (cc e)
+    by_kind (Links i m) count out e = let is = not-false (is_number n i) out in ((is, count), is)
 
     by_once : (b : Bool) → is_at_once n op ≡ b → cond b OpClass.Refused (kind_of op) ≡ OpClass.Change → CanBegin n op × (is_changing n op ≡ true)
     by_once true once e = absurd (cc e)
-    by_once false once e = by_kind op once e
+    by_once false once e = by_kind op count once e
 
 -- an operation that looks at a file, and has room for so many bytes: it may begin, and changes nothing
 pub record IsLook (n : ℕ) (op : Op) (count : Option ℕ) : Type 0 where
@@ -119,17 +119,17 @@ module _ {D N : Type 0} (disk : Ghosts D N) (opening : D) (s : StoreState D) (w 
       (right.faults ∙ ap (λ (o : Option _). Rattle.wal.specs.Volume.faults_after o (disk.fault_count opening)) well)
 
   -- an operation is taken, and open in the log
-  pub right_taken : (op : Op) → class_of s.table.inode_count op ≡ OpClass.Change → begin_cause s.volume.log ≡ None
+  pub right_taken : (op : Op) → HasCount op → class_of s.table.inode_count op ≡ OpClass.Change → begin_cause s.volume.log ≡ None
       → HasAgreed disk.image (with_begun s p op) → KeepsFiles disk.image s (with_begun s p op)
       → IsRight disk opening (with_begun s p op) (taken (with_more_room w) p (begun s.volume.log p).opened op None)
-  right_taken op change free agreed keeps =
+  right_taken op count change free agreed keeps =
       let n = inode_count_of (disk.image opening) in
       let t = with_begun s p op in
       let z = taken (with_more_room w) p (begun s.volume.log p).opened op None in
       let u : Process = record { begun = (process w p).begun + 1; at = Phase.BeforeTurn (begun s.volume.log p).opened op; room = None } in
       let others : (q : ℕ) → q ≢ p → ats_of z q ≡ ats_of w q = λ q apart. ap (λ (r : Process). r.at) (others_stay w z p u refl q apart) in
       let now : ats_of z p ≡ Phase.BeforeTurn (begun s.volume.log p).opened op = ap (λ (r : Process). r.at) (there_now w z p u refl lt) in
-      let begins = change_begins n op (subst (λ (k : ℕ). class_of k op ≡ OpClass.Change) right.numbers change) in
+      let begins = change_begins n op count (subst (λ (k : ℕ). class_of k op ≡ OpClass.Change) right.numbers change) in
       let inside : p < length s.volume.log.used = let few = right.paired.few in let pids = had.facts.valid.log.pids in omega (arith, lt, few, pids) in
       right_well disk opening t z well right.numbers
       (paired_goes s t w z p u right.paired lt refl (length-set s.tasks p _) (λ q apart. get_or-set_other s.tasks p q _ no_task apart) (keeps_behind w z p refl)

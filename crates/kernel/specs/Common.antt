@@ -98,7 +98,7 @@ pub use Rattle.kernel.specs.Bound.{GivesNone, left_in, left_of, step_bound, Take
 pub use Rattle.kernel.specs.Invariant.{ArePaired, ArePorts, HasFacts, HasHistory, Inv, IsBehind, IsPaired, IsRight, LeavesSince, TaskStands}
 pub use Rattle.kernel.specs.Next.{BeginsWith, Ends, Finishes, HasNoRoom, IsNotTaken, NextAt, NextIf, Same, step_behind, step_of, step_of_end, step_of_last, step_of_told, step_of_write, TakesNone, Works, world_after, world_behind, world_ended, world_of_last, world_of_told, world_written}
 pub use Rattle.kernel.specs.Runs.{is_turn_of, Makes, MakesLater, Runs, RunsOn, Session, with_ports, with_shutdown}
-pub use Rattle.kernel.specs.State.{ats_of, kind_of, room_for, State, StopsIn, class_of}
+pub use Rattle.kernel.specs.State.{ats_of, HasCount, kind_of, room_for, State, StopsIn, class_of}
 pub use Rattle.kernel.specs.Steps.{MakesStep}
 pub use Rattle.kernel.specs.View.{held_at, view_of}
 pub use Rattle.kernel.specs.declared.beginning.Rooms.{Rooms}

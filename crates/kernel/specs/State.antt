@@ -1,5 +1,5 @@
 -- What a contract sees of a kernel, and what a stop leaves of its steps.
-use Rattle.std.specs.Prelude.{ℕ, [], if◌then◌else◌, Option, Some, None}
+use Rattle.std.specs.Prelude.{◌<◌, ◌^◌, ℕ, [], if◌then◌else◌, Option, Some, None}
 use Rattle.blocks.specs.declared.disk.Disk.{Ghosts}
 use Rattle.model.specs.declared.types.operations.Op.{Op}
 use Rattle.model.specs.declared.types.operations.Op.TheVariants.{Create, Write, Read, Trunc, Remove, Stat, Links}
@@ -41,6 +41,16 @@ kind_of (Links i n) = OpClass.Change
 -- what any operation is to it, where there are so many inode numbers
 abbrev pub class_of : ℕ → Op → OpClass
 class_of inode_count op = if is_at_once inode_count op then OpClass.Refused else kind_of op
+
+-- the count of links that an operation sets, if it sets one, is a number of 16 bits
+abbrev pub HasCount : Op → Type 0
+HasCount (Create kind) = Unit {0}
+HasCount (Write i off bytes) = Unit {0}
+HasCount (Read i off n) = Unit {0}
+HasCount (Trunc i) = Unit {0}
+HasCount (Remove i) = Unit {0}
+HasCount (Stat i) = Unit {0}
+HasCount (Links i n) = n < 2 ^ 16
 
 -- room for so many bytes
 abbrev pub room_for : Option ℕ → Option GatheredBytes

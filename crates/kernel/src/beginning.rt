@@ -7,6 +7,7 @@ ghost use Rattle.kernel.specs.Begins.{Begins, TakesFirst, LeavesFirst, kept_out,
 ghost use Rattle.kernel.specs.Ports.{Asks, first_waiting};
 ghost use Rattle.kernel.specs.Acts.{Acts};
 ghost use Rattle.kernel.specs.Heralds.{SameBoard};
+ghost use Rattle.kernel.specs.State.{HasCount};
 
 use crate::Step;
 use crate::class::{OpClass, at_once_reply, class_of};
@@ -99,6 +100,7 @@ impl<D: Disk, I: Intake, H: Herald> Kernel<D, I, H> {
         match what {
             OpClass::Change => {
                 let_go(rooms);
+                count_known(&op);
                 let group = self.store.begin(pid, &op);
                 self.store.known();
                 self.processes.take(pid, group, op, None);
@@ -189,6 +191,15 @@ fn take_rooms(alloc: Global, what: OpClass) -> Result<Rooms, NoMemory>
         read: Some(Gathered::with_room(alloc, count as usize)?),
         answer: Some(Gathered::with_room(alloc, count as usize)?),
     })
+}
+
+// The count of links that an operation sets is a number of 16 bits.
+fn count_known(op: &Op)
+    ensures { HasCount op.now }
+{
+    if let Op::Links(_, count) = op {
+        let _count = *count;
+    }
 }
 
 // Lets rooms go that are not needed.

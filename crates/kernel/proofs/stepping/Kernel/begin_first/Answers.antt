@@ -3,7 +3,7 @@ use Rattle.std.specs.Option.{option_map}
 use Rattle.kernel.specs.Common.{Answer, ArePorts, at_once_reply, begin_cause, BeginsWith, begun, first_in, FitWith, gives, IsRight, KeepsFiles, LeavesSince, Op, Phase, process, refusal_answer, refused, Reply, room_for, Rooms, State, Step, StoreState, taken, OpClass, class_of, with_begun, with_look, with_more_room, World}
 use Rattle.kernel.specs.Begins.{Begins, TakesFirst, kept_out, count_of, rooms_for}
 use Rattle.kernel.specs.Ports.{KeepsOthers, first_waiting}
-use Rattle.kernel.proofs.Beginnings.{right_taken, right_looked, right_refused, first_waits}
+use Rattle.kernel.proofs.Beginnings.{change_begins, right_taken, right_looked, right_refused, first_waits}
 use Rattle.kernel.proofs.Ports.{ports_left, ports_taken, ports_refused}
 use Rattle.kernel.proofs.Since.{since_refused}
 use Rattle.kernel.proofs.Valid.{HasAgreed, agreed_now}
@@ -59,6 +59,11 @@ begin-group-requires-clause-may g c =
     let none = free g (goal.at.begin-group-requires-clause-may g c).After-known-2 c.in-Change.is in
     record { none = search rules; free = none; opened = search rules }
 
+pub begin-group-requires-clause-op : goal.begin-group-requires-clause-op
+begin-group-requires-clause-op g c =
+    let h = head g (goal.at.begin-group-requires-clause-op g c).After-known-2 in
+    (change_begins c.self.inside.store.table.inode_count c.in-Ok.taken.0 c.count_known.ensures (h.kind ∙ c.in-Change.is)).0
+
 changed : (g : Over) (c : After-take g) → c.take.new.self ≡ taken (with_more_room c.self.inside.processes) c.args.pid (begun c.self.inside.store.volume.log c.args.pid).opened c.in-Ok.taken.0 None
 changed g c = c.take.ensures ∙ ap (λ (w : World). taken w c.args.pid c.begin-group.result c.in-Ok.taken.0 None) c.in-Ok.ensures.taken.world
     ∙ ap (λ n. taken (with_more_room c.self.inside.processes) c.args.pid n c.in-Ok.taken.0 None) c.begin-group.ensures.group
@@ -76,7 +81,7 @@ invariant_of-self-in-Change g c =
     record {
       right = subst (λ (o : StoreState _). IsRight g.D.Disk k.opening.value o c.take.new.self) (sym is)
           (subst (λ (w : World). IsRight g.D.Disk k.opening.value (with_begun k.store c.args.pid op) w) (sym (changed g past))
-          (right_taken g.D.Disk k.opening.value k.store k.processes c.self.invariant.right h.well c.args.pid h.lt h.stands op (h.kind ∙ c.in-Change.is) (free g (goal.at.invariant_of-self-in-Change g c).After-known-2 c.in-Change.is) agreed keeps));
+          (right_taken g.D.Disk k.opening.value k.store k.processes c.self.invariant.right h.well c.args.pid h.lt h.stands op c.count_known.ensures (h.kind ∙ c.in-Change.is) (free g (goal.at.invariant_of-self-in-Change g c).After-known-2 c.in-Change.is) agreed keeps));
       since = subst (λ (o : StoreState _). LeavesSince g.D.Disk k.opening.value o c.take.new.self) (sym is)
           (subst (λ (w : World). LeavesSince g.D.Disk k.opening.value (with_begun k.store c.args.pid op) w) (sym (changed g past)) c.self.invariant.since);
       ports = subst (λ (o : StoreState _). ArePorts g.I.Intake g.H.Herald c.take_first.new.intake k.herald o.volume.log.committed c.take.new.self) (sym is)
