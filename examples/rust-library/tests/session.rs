@@ -84,6 +84,24 @@ fn writes_and_reads() {
 }
 
 #[test]
+fn links_are_kept() {
+    let mut device = new_device();
+    let (mut session, _) = Session::open(&device, 1).expect("a session");
+    session.submit(0, Op::Create { kind: 2 }).expect("room");
+    run(&mut session, &mut device, 0, 0).expect("an answer");
+    let links = Op::Links {
+        inum: 1,
+        count: 258,
+    };
+    session.submit(0, links).expect("room");
+    let answer = run(&mut session, &mut device, 0, 0).expect("an answer");
+    assert_eq!(answer.reply, Reply::Done);
+    // The inode of number 1 is the second of block 33, and has its links at byte 6.
+    let at = 33 * BLOCK_SIZE + 64 + 6;
+    assert_eq!(device[at..at + 2], [2, 1]);
+}
+
+#[test]
 fn each_stop_keeps_whole_operations() {
     for stop in 1..=4 {
         let mut device = new_device();
