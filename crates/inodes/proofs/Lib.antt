@@ -43,6 +43,7 @@ mod WriteBlocks
 mod WriteEntries
 mod WriteDoes
 mod WriteEnds
+mod Linking
 mod Staying
 mod TableNumbers
 mod NoneFree

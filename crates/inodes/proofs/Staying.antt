@@ -112,7 +112,7 @@ module _ {D N : Type 0} (disk : Ghosts D N) (v w : VolumeState D) (p : ℕ) wher
   -- ---- a writing
 
   -- the inode's block is got
-  updates : (u n : UpdateState) (d : Dinode) (o : Option ℕ) (r : Progress (Unit {0})) → u.slot ≡ o → Updates disk o v p u d r n w → Rests r → n ≡ u
+  pub updates : (u n : UpdateState) (d : Dinode) (o : Option ℕ) (r : Progress (Unit {0})) → u.slot ≡ o → Updates disk o v p u d r n w → Rests r → n ≡ u
   updates u n d None r at does rests = does.0 ∙ ap (λ (x : Option ℕ). record u { slot = x }) (gets does.1 rests ∙ sym at)
   updates u n d (Some i) r at does rests = absurd (subst (λ (q : Progress (Unit {0})). Rests q) does.0 rests)
 

@@ -1,13 +1,15 @@
 -- What tasks hold of a file's number behind their turn; and of those that give up its blocks, how
 -- far each has come.
-use Rattle.std.specs.Prelude.{◌≡◌, ◌≢◌, ◌<◌, ◌≤◌, ℕ, suc, ◌+◌, ◌-◌, ◌*◌, ◌==◌, if◌then◌else◌, IsTrue, List, [], ◌∷◌, ◌++◌, length, replicate, slice_index, Option, Some, None}
+use Rattle.std.specs.Prelude.{◌≡◌, ◌≢◌, ◌<◌, ◌≤◌, ◌^◌, ℕ, suc, ◌+◌, ◌-◌, ◌*◌, ◌==◌, if◌then◌else◌, IsTrue, List, [], ◌∷◌, ◌++◌, length, replicate, slice_index, Option, Some, None}
 use Rattle.blocks.specs.Disk.{Image}
 use Rattle.model.specs.Layout.{direct_count, form_of, bitmap_block}
 use Rattle.model.specs.Format.{addresses_per_block}
+use Rattle.model.specs.declared.types.image.Dinode.{Dinode}
 use Rattle.model.specs.declared.types.operations.Op.{Op}
-use Rattle.model.specs.declared.types.operations.Op.TheVariants.{Trunc, Remove}
+use Rattle.model.specs.declared.types.operations.Op.TheVariants.{Trunc, Remove, Links}
 use Rattle.model.specs.Journal.{is_number}
 use Rattle.in_flight.specs.Held.{Held, Claims, Claim, frees, grows, listed, blocks_left}
+use Rattle.in_flight.specs.LinkLaws.{unwritten}
 use Rattle.in_flight.specs.Trees.{depth_of, entry_of, led_to}
 use Rattle.inodes.specs.declared.freeing.Kept.{Kept}
 use Rattle.inodes.specs.declared.freeing.Got.{Got}
@@ -16,6 +18,7 @@ use Rattle.inodes.specs.declared.itrunc.TruncAt.{TruncAt}
 use Rattle.inodes.specs.declared.tasks.Stage.{Stage}
 use Rattle.inodes.specs.Growing.{bytes_by, growth_of}
 use Rattle.inodes.specs.declared.itrunc.Itrunc.{Itrunc}
+use Rattle.inodes.specs.Iupdate.{UpdateState}
 use Rattle.inodes.specs.Table.{or_else}
 use Rattle.inodes.specs.Tasks.{TaskState}
 
@@ -42,6 +45,8 @@ claim_by op (Stage.Truncating k m) i =
     if m.machine.number == i then Some (frees (held_of m.machine)) else None
 claim_by op (Stage.Writing k m) i =
     if m.number == i then Some (grows (growth_of m (bytes_by op))) else None
+claim_by op (Stage.Linking k d u) i =
+    if u.number == i then Some (grows (unwritten d)) else None
 claim_by op (Stage.Leaving k) i = None
 
 abbrev pub claim_of : TaskState → ℕ → Option Claim
@@ -144,6 +149,12 @@ pub record IsTruncating (cur : Image) (n : ℕ) (t : TaskState) (m : Freeing) : 
   pub slot : m.machine.slot < 13
   pub given : HasGivenUp cur m.machine m.machine.at
   pub keeps : Keeps cur m.kept m.machine m.machine.at
+
+-- a task gives a file another count of links: the inode with it is written back
+pub record IsLinking (n : ℕ) (t : TaskState) (d : Dinode) (u : UpdateState) : Type 0 where
+  pub op : t.op ≡ Some (Links u.number d.nlink)
+  pub number : IsTrue (is_number n u.number)
+  pub fits : d.nlink < 2 ^ 16
 
 -- ---- how much is left
 

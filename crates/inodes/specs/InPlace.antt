@@ -1,6 +1,7 @@
 -- What a step makes of the tasks, where it changes one of them in its place.
 use Rattle.std.specs.Prelude.{◌≡◌, ℕ, List, Option, Some, None, slice_set}
 use Rattle.blocks.specs.declared.disk.Disk.{Ghosts}
+use Rattle.model.specs.declared.types.image.Dinode.{Dinode}
 use Rattle.model.specs.Gathered.{GatheredBytes}
 use Rattle.model.specs.declared.types.progress.Progress.{Progress}
 use Rattle.wal.specs.Volume.{VolumeState}
@@ -8,6 +9,7 @@ use Rattle.inodes.specs.declared.freeing.Freeing.{Freeing}
 use Rattle.inodes.specs.declared.tasks.Stage.{Stage}
 use Rattle.inodes.specs.Freeing.{FreesOn, now_of}
 use Rattle.inodes.specs.Ialloc.{SearchState, SearchSteps}
+use Rattle.inodes.specs.Iupdate.{UpdateState, Updates}
 use Rattle.inodes.specs.Readi.{ReadState, ReadSteps}
 use Rattle.inodes.specs.Tasks.{TaskState, task}
 use Rattle.inodes.specs.Writei.{WriteState, WriteSteps}
@@ -45,6 +47,14 @@ pub record WritesInPlace {D N : Type 0} (disk : Ghosts D N) (v : VolumeState D)
   pub writes : WriteSteps disk m.at v p m bytes r now w
   pub tasks : us ≡ slice_set ts p (record (task ts p) { stage = Stage.Writing k now })
 
+-- a writing back of an inode with another count of links
+pub record LinksInPlace {D N : Type 0} (disk : Ghosts D N) (v : VolumeState D)
+    (ts : List TaskState) (p k : ℕ) (d : Dinode) (u : UpdateState) (r : Progress (Unit {0}))
+    (us : List TaskState) (w : VolumeState D) : Type 0 where
+  pub now : UpdateState
+  pub updates : Updates disk u.slot v p u d r now w
+  pub tasks : us ≡ slice_set ts p (record (task ts p) { stage = Stage.Linking k d now })
+
 -- the freeing that a task is at, if it is at one
 abbrev pub freeing_at : Stage → Option Freeing
 freeing_at Stage.Nowhere = None
@@ -54,6 +64,7 @@ freeing_at (Stage.Reading k m) = None
 freeing_at (Stage.Delivering k) = None
 freeing_at (Stage.Truncating k m) = Some m
 freeing_at (Stage.Writing k m) = None
+freeing_at (Stage.Linking k d u) = None
 freeing_at (Stage.Leaving k) = None
 
 -- the writing that a task is at, if it is at one
@@ -65,4 +76,5 @@ writing_at (Stage.Reading k m) = None
 writing_at (Stage.Delivering k) = None
 writing_at (Stage.Truncating k m) = None
 writing_at (Stage.Writing k m) = Some m
+writing_at (Stage.Linking k d u) = None
 writing_at (Stage.Leaving k) = None

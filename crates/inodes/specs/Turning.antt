@@ -4,13 +4,15 @@ use Rattle.model.specs.Layout.{greatest_size}
 use Rattle.model.specs.declared.types.image.Form.{Form}
 use Rattle.model.specs.declared.types.image.Dinode.{Dinode}
 use Rattle.model.specs.declared.types.operations.Op.{Op}
-use Rattle.model.specs.declared.types.operations.Op.TheVariants.{Create, Write, Read, Trunc, Remove, Stat}
+use Rattle.model.specs.declared.types.operations.Op.TheVariants.{Create, Write, Read, Trunc, Remove, Stat, Links}
 use Rattle.model.specs.declared.types.operations.Reply.{Reply}
 use Rattle.model.specs.declared.types.operations.Reply.TheVariants.{Done, StatOf, NoFile, BadOffset, TooBig}
+use Rattle.in_flight.specs.LinkLaws.{with_count}
 use Rattle.inodes.specs.declared.tasks.Stage.{Stage}
 use Rattle.inodes.specs.declared.writei.Extent.{Extent}
 use Rattle.inodes.specs.Freeing.{first_freeing}
 use Rattle.inodes.specs.Itrunc.{first_trunc}
+use Rattle.inodes.specs.Iupdate.{first_update}
 use Rattle.inodes.specs.Readi.{ReadState, first_read}
 use Rattle.inodes.specs.Writei.{WriteState, first_write}
 
@@ -36,6 +38,7 @@ reply_of_look form d (Read i off n) = None
 reply_of_look form d (Trunc i) = Some Done
 reply_of_look form d (Remove i) = Some Done
 reply_of_look form d (Stat i) = Some (StatOf d.kind d.size)
+reply_of_look form d (Links i n) = Some Done
 
 -- and of one that has taken its inode, which is none where it is free
 abbrev pub reply_when_taken : Form → Option Dinode → Op → Option Reply
@@ -57,7 +60,7 @@ stage_of_write k i d off n e =
     stage_by_refusal k (first_write i d off n e) (write_refusal e.form d off n)
 
 -- it is answered, or reads, or frees the blocks of its file, or writes into it, over an image that
--- takes its blocks there
+-- takes its blocks there, or sets its links
 abbrev pub stage_of_look : Extent → Dinode → ℕ → Op → Stage
 stage_of_look e d k (Create kind) = Stage.Leaving k
 stage_of_look e d k (Write i off bytes) = stage_of_write k i d off (length bytes) e
@@ -67,6 +70,7 @@ stage_of_look e d k (Trunc i) =
 stage_of_look e d k (Remove i) =
     Stage.Truncating k (first_freeing (first_trunc i d e.form true e.bitmap))
 stage_of_look e d k (Stat i) = Stage.Leaving k
+stage_of_look e d k (Links i n) = Stage.Linking k (with_count d n) (first_update i)
 
 -- where it goes, with the inode at that place of the table
 abbrev pub stage_when_taken : Extent → Option Dinode → ℕ → Op → Stage

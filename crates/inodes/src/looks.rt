@@ -15,7 +15,7 @@ ghost use Rattle.inodes.specs.Turning.{IsReadable, stage_of_read, stage_of_write
 ghost use Rattle.inodes.specs.declared.tasks.Stage.TheVariants as stands_at;
 
 use crate::store::over;
-use crate::{Extent, Freeing, Ilock, Inodes, Itrunc, Readi, Stage, Store, Writei};
+use crate::{Extent, Freeing, Ilock, Inodes, Itrunc, Iupdate, Readi, Stage, Store, Writei};
 use blocks::Disk;
 use layout::{bitmap_block, greatest_size};
 use model::gathered::Gathered;
@@ -154,6 +154,35 @@ impl<D: Disk> Store<D> {
         }
     }
 
+    // The next step of writing back an inode with another count of links.
+    pub(crate) fn link(
+        &mut self,
+        pid: u32,
+        place: usize,
+        inode: Dinode,
+        update: Snapshot<Iupdate>,
+    ) -> TaskProgress
+        requires fault { self.old.volume.fault ≡ None }
+        requires pid { pid < length self.old.tasks }
+        requires at { (task self.old.tasks pid).stage
+            ≡ stands_at.Linking place inode update.value }
+        ensures step { (op : Op) → (task self.old.tasks pid).op ≡ Some op
+            → Steps D.Disk self.old pid op result self.new }
+    {
+        self.volume.known();
+        match over(
+            self.tasks
+                .link_on(&mut self.volume, pid, place, &inode, update),
+        ) {
+            Ok(()) => {
+                self.inodes.renew(place, Some(inode));
+                self.tasks.go(pid, Stage::Leaving { place });
+                TaskProgress::Moved
+            }
+            Err(progress) => progress,
+        }
+    }
+
     // An operation that was answered gives its inode up.
     pub(crate) fn leave(&mut self, pid: u32, place: usize) -> TaskProgress
         requires fault { self.old.volume.fault ≡ None }
@@ -186,7 +215,8 @@ fn asked(op: &Op) -> u32
         | Op::Read(number, ..)
         | Op::Trunc(number)
         | Op::Remove(number)
-        | Op::Stat(number) => *number,
+        | Op::Stat(number)
+        | Op::Links(number, _) => *number,
     }
 }
 
@@ -201,7 +231,7 @@ fn reply_when_taken(form: Form, inode: &Option<Dinode>, op: &Op) -> Option<Reply
     };
     match op {
         Op::Stat(_) => Some(Reply::StatOf(inode.kind, inode.size)),
-        Op::Trunc(_) | Op::Remove(_) => Some(Reply::Done),
+        Op::Trunc(_) | Op::Remove(_) | Op::Links(..) => Some(Reply::Done),
         Op::Write(_, offset, bytes) => write_refusal(form, inode, *offset, bytes.len()),
         Op::Create(_) | Op::Read(..) => None,
     }
@@ -228,7 +258,8 @@ fn bytes_of(op: &Op) -> &[u8]
 {
     match op {
         Op::Write(_, _, bytes) => bytes.as_slice(),
-        Op::Create(_) | Op::Read(..) | Op::Trunc(_) | Op::Remove(_) | Op::Stat(_) => &[],
+        Op::Create(_) | Op::Read(..) | Op::Trunc(_) | Op::Remove(_) | Op::Stat(_) | Op::Links(..) =>
+            &[],
     }
 }
 
@@ -271,6 +302,14 @@ fn stage_when_taken(inode: &Option<Dinode>, place: usize, op: &Op, extent: Exten
         Op::Write(number, offset, bytes) => {
             stage_of_write(place, *number, inode, *offset, bytes.len(), extent)
         }
+        Op::Links(number, links) => Stage::Linking {
+            place,
+            inode: Dinode {
+                nlink: *links,
+                ..*inode
+            },
+            update: Iupdate::new(*number),
+        },
         Op::Create(_) | Op::Stat(_) => Stage::Leaving { place },
     }
 }

@@ -120,6 +120,7 @@ impl<D: Disk> Store<D> {
             | Stage::Delivering { .. }
             | Stage::Truncating { .. }
             | Stage::Writing { .. }
+            | Stage::Linking { .. }
             | Stage::Leaving { .. } => false,
         }
     }
@@ -137,6 +138,7 @@ impl<D: Disk> Store<D> {
             Stage::Delivering { .. } => Some(TaskDeed::Finish),
             Stage::Truncating { trunc, .. } => Some(trunc.deed()),
             Stage::Writing { writing, .. } => Some(writing.deed()),
+            Stage::Linking { update, .. } => Some(update.deed()),
             Stage::Leaving { .. } => Some(TaskDeed::Put),
         }
     }
@@ -233,6 +235,14 @@ impl<D: Disk> Store<D> {
                 let (place, was) = (*place, Snapshot::of(writing));
                 self.write(pid, op, place, was)
             }
+            Stage::Linking {
+                place,
+                inode,
+                update,
+            } => {
+                let (place, inode, was) = (*place, *inode, Snapshot::of(update));
+                self.link(pid, place, inode, was)
+            }
             Stage::Leaving { place } => {
                 let place = *place;
                 self.leave(pid, place)
@@ -298,7 +308,7 @@ fn first_stage(op: &Op, inode_count: u32) -> Stage
 {
     match op {
         Op::Create(kind) => Stage::Creating(Ialloc::new(*kind, inode_count)),
-        Op::Write(number, ..) | Op::Trunc(number) | Op::Remove(number) => {
+        Op::Write(number, ..) | Op::Trunc(number) | Op::Remove(number) | Op::Links(number, _) => {
             Stage::Taking(Ilock::new(*number))
         }
         Op::Read(..) | Op::Stat(_) => Stage::Nowhere,

@@ -4,13 +4,14 @@ ghost use Rattle.wal.specs.Machine.{HasRoom, used_by};
 ghost use Rattle.inodes.specs.declared.tasks.Stage.TheVariants as stage;
 ghost use Rattle.inodes.specs.Freeing.{MayFree};
 ghost use Rattle.inodes.specs.Ialloc.{MayStep};
-ghost use Rattle.inodes.specs.InPlace.{ReadsInPlace, SearchesInPlace, TruncatesInPlace, WritesInPlace, freeing_at, writing_at};
+ghost use Rattle.inodes.specs.InPlace.{LinksInPlace, ReadsInPlace, SearchesInPlace, TruncatesInPlace, WritesInPlace, freeing_at, writing_at};
 ghost use Rattle.inodes.specs.Itrunc.{inode_left};
+ghost use Rattle.inodes.specs.Iupdate.{MayUpdate};
 ghost use Rattle.inodes.specs.Readi.{HasRoomLeft, IsReading};
 ghost use Rattle.inodes.specs.Tasks.{no_task, task};
 ghost use Rattle.inodes.specs.Writei.{MayWrite};
 
-use crate::{Freeing, Ialloc, Ilock, Progress, Readi, Writei};
+use crate::{Freeing, Ialloc, Ilock, Iupdate, Progress, Readi, Writei};
 use blocks::{Disk, NoMemory};
 use model::gathered::Gathered;
 use model::types::{Dinode, Op};
@@ -29,17 +30,37 @@ pub enum Stage {
     /// An operation takes its inode.
     Taking(Ilock),
     /// The bytes of a file are read, whose inode stands at that place of the table.
-    Reading { place: usize, reading: Readi },
+    Reading {
+        place: usize,
+        reading: Readi,
+    },
     /// They all were read: next they are given out, and the inode at that place is given up.
-    Delivering { place: usize },
+    Delivering {
+        place: usize,
+    },
     /// The blocks of a file are freed and its inode written back, which stands at that place of the
     /// table; the reply is known.
-    Truncating { place: usize, trunc: Freeing },
+    Truncating {
+        place: usize,
+        trunc: Freeing,
+    },
     /// The bytes of a file are written, whose inode stands at that place of the table, and then the
     /// inode is written back. With that the reply is known.
-    Writing { place: usize, writing: Writei },
+    Writing {
+        place: usize,
+        writing: Writei,
+    },
+    /// An inode, which stands at that place of the table, is written back with another count of
+    /// links; the reply is known.
+    Linking {
+        place: usize,
+        inode: Dinode,
+        update: Iupdate,
+    },
     /// The reply is known: next the inode at that place is given up.
-    Leaving { place: usize },
+    Leaving {
+        place: usize,
+    },
 }
 
 // The task of a process. It remembers its operation, without taking bytes for it.
@@ -218,6 +239,31 @@ impl Tasks {
             unreachable!();
         };
         writing.step(volume, pid, bytes)
+    }
+
+    // Makes the next step of writing an inode back in the task.
+    pub(crate) fn link_on<D: Disk>(
+        &mut self,
+        volume: &mut Volume<D>,
+        pid: u32,
+        _place: usize,
+        inode: &Dinode,
+        _was: Snapshot<Iupdate>,
+    ) -> Progress<()>
+        requires inside { pid < length self.old }
+        requires at { (task self.old pid).stage ≡ stage.Linking _place inode.now _was.value }
+        requires fault { volume.old.fault ≡ None }
+        requires pid { pid < 32 }
+        requires room { HasRoom (used_by volume.old.log pid) }
+        requires addrs { length inode.now.addrs ≡ 13 }
+        requires ready { MayUpdate D.image volume.old pid _was.value }
+        ensures { LinksInPlace D.Disk volume.old self.old pid _place inode.now _was.value result
+            self.new volume.new }
+    {
+        let Stage::Linking { update, .. } = &mut self.tasks[pid as usize].stage else {
+            unreachable!();
+        };
+        update.step(volume, pid, inode)
     }
 
     // The inode that a process wrote, and how many bytes.

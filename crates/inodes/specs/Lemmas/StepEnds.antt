@@ -2,7 +2,7 @@
 use Rattle.std.proofs.Common.{◌≡◌, ◌≢◌, ◌⊎◌, ⊎_elim, inl, inr, ℕ, Bool, true, false, cond, eqb, List, refl, sym, ◌∙◌, ap, subst, Option, Some, None, length}
 use Rattle.model.specs.Layout.{inode_of}
 use Rattle.std.specs.Prelude.{IsSome}
-use Rattle.inodes.specs.Common.{address_at, after_address, after_behind, AllocAt, Allocs, AllocState, behind_at, block_at_stage, block_next, block_of, block_of_alloc, block_of_write, block_on_way, Branch, Bytes, bytes_of, CanBegin, CanTake, come_to, copy_at, Create, current_of, Dinode, DiskFault, EntryState, Extent, extent_of, false≢true, FindsEntry, first_read, first_write, Freeing, FreesOn, gets_fails, Ghosts, Goes, GoesFrom, Got, holder_at, inode_block, is_over, is_unturned, LockAt, Locks, LockState, LockSteps, LooksAt, LooksUp, lowest_in, MapAt, MapState, MapSteps, named_by, naming, now_of, one_more, Op, owes_reply, place_of, stage_of_lock, stage_of_reading, stage_of_trunc, stage_of_writing, Progress, progress_of_lock, progress_of_read, progress_of_trunc, progress_of_write, Read, ReadState, Remove, Reply, seen, Shown, shown_of, some_address, Stage, Stands, Stat, StoreState, TableState, TakesLowest, TakesOne, Target, task, TaskProgress, Trunc, Updates, UpdateState, used_by, VolumeState, Works, Write, WriteAt, WriteState, WriteSteps, Wrote}
+use Rattle.inodes.specs.Common.{address_at, after_address, after_behind, AllocAt, Allocs, AllocState, behind_at, block_at_stage, block_next, block_of, block_of_alloc, block_of_write, block_on_way, Branch, Bytes, bytes_of, CanBegin, CanTake, come_to, copy_at, Create, current_of, Dinode, DiskFault, EntryState, Extent, extent_of, false≢true, FindsEntry, first_read, first_write, Freeing, FreesOn, gets_fails, Ghosts, Goes, GoesFrom, Got, holder_at, inode_block, is_over, is_unturned, LockAt, Locks, LockState, LockSteps, LooksAt, LooksUp, lowest_in, MapAt, MapState, MapSteps, named_by, naming, now_of, one_more, Op, owes_reply, place_of, stage_of_lock, stage_of_reading, stage_of_trunc, stage_of_writing, Progress, progress_of_lock, progress_of_read, progress_of_trunc, progress_of_write, Read, ReadState, Remove, Reply, seen, Shown, shown_of, some_address, Stage, Stands, Stat, StoreState, TableState, TakesLowest, TakesOne, Target, task, TaskProgress, Trunc, Updates, UpdateState, used_by, VolumeState, Works, Write, WriteAt, WriteState, WriteSteps, Wrote, Links, progress_of_link, stage_of_linking}
 use Rattle.inodes.specs.Lemmas.Freeing.{IsDone, use_done}
 use Rattle.inodes.specs.Turning.{write_refusal, if_used, reply_when_taken, stage_when_taken, stage_of_read, stage_by_refusal}
 
@@ -84,6 +84,8 @@ takes_turn n e (Some d) k (Trunc i) can =
 takes_turn n e (Some d) k (Remove i) can =
     inr (can, record { unfinished = refl; turned = refl; unread = refl })
 takes_turn n e (Some d) k (Stat i) can =
+    inr (can, record { unfinished = refl; turned = refl; unread = refl })
+takes_turn n e (Some d) k (Links i m) can =
     inr (can, record { unfinished = refl; turned = refl; unread = refl })
 
 module _ {D N : Type 0} (disk : Ghosts D N) (s : StoreState D) (p : ℕ) (op : Op) (r : TaskProgress) (t : StoreState D) where
@@ -186,6 +188,14 @@ module _ {D N : Type 0} (disk : Ghosts D N) (s : StoreState D) (p : ℕ) (op : O
         ),
       )
       by_answer (Progress.Fault fault) is to = ends_with (Stage.Writing k m) (TaskProgress.Fault fault) is (on_at (Stage.Writing k m) _ next to (record { unfinished = refl; unturned = refl; reading = refl }))
+  ends_of (Stage.Linking k d u) same stands looks unfinished goes = by_answer goes.answer goes.gives goes.next
+    where
+      by_answer : (x : Progress (Unit {0})) → r ≡ progress_of_link x → next ≡ stage_of_linking k d u goes.now x →
+          StepEnds n (Stage.Linking k d u) op r next
+      by_answer Progress.Moved is to = ends_with (Stage.Linking k d u) TaskProgress.Moved is (on_at (Stage.Linking k d u) _ next to (record { unfinished = refl; unturned = refl; reading = refl }))
+      by_answer (Progress.Sleeping why) is to = ends_with (Stage.Linking k d u) (TaskProgress.Sleeping why) is (on_at (Stage.Linking k d u) _ next to (record { unfinished = refl; unturned = refl; reading = refl }))
+      by_answer (Progress.Over out) is to = ends_with (Stage.Linking k d u) TaskProgress.Moved is (on_at (Stage.Linking k d u) _ next to (record { unfinished = refl; unturned = refl; reading = refl }))
+      by_answer (Progress.Fault fault) is to = ends_with (Stage.Linking k d u) (TaskProgress.Fault fault) is (on_at (Stage.Linking k d u) _ next to (record { unfinished = refl; unturned = refl; reading = refl }))
   ends_of (Stage.Leaving k) same stands looks unfinished goes =
       ends_with (Stage.Leaving k) TaskProgress.Over goes.0 (refl, refl, ap is_over goes.1.next)
 
@@ -200,6 +210,7 @@ module _ {D N : Type 0} (disk : Ghosts D N) (s : StoreState D) (p : ℕ) (op : O
   logs_of (Stage.Truncating k m) unfinished stands goes =
       inl (⊎_elim (λ (none : used_by s.volume.log p ≡ Some 0). subst IsSome (sym none) refl) (λ one. subst IsSome (sym one.0) refl) stands.logged)
   logs_of (Stage.Writing k m) unfinished stands goes = inl (subst IsSome (sym stands.logged.used) refl)
+  logs_of (Stage.Linking k d u) unfinished stands goes = inl (subst IsSome (sym stands.used) refl)
   logs_of (Stage.Leaving k) unfinished stands goes = inr (ap (λ (v : VolumeState D). v.log) goes.1.volume)
 
 module _ {D N : Type 0} (disk : Ghosts D N) (s : StoreState D) (p : ℕ) (op : Op) (fault : DiskFault) (t : StoreState D) where
@@ -301,6 +312,10 @@ module _ {D N : Type 0} (disk : Ghosts D N) (s : StoreState D) (p : ℕ) (op : O
   freeing_fails None m n steps = gets_fails disk s.volume p (block_next m) fault steps.slot t.volume steps.gets
   freeing_fails (Some g) m n steps = absurd (subst IsDone (sym steps.answer) (use_done m.machine.at))
 
+  linking_fails : (o : Option ℕ) (u v : UpdateState) (d : Dinode) → Updates disk o s.volume p u d (Progress.Fault fault) v t.volume → fault.0 ≡ inode_block u.number
+  linking_fails None u v d updates = gets_fails disk s.volume p (inode_block u.number) fault v.slot t.volume updates.1
+  linking_fails (Some i) u v d updates = absurd (cc updates.0)
+
   -- the block at which a task's step fails is that which its stage names
   pub fails_at : (a : Stage) → Goes disk a s p op (TaskProgress.Fault fault) t → fault.0 ≡ block_at_stage a
   fails_at Stage.Nowhere goes = let no = goes.0 in absurd (cc no)
@@ -342,4 +357,12 @@ module _ {D N : Type 0} (disk : Ghosts D N) (s : StoreState D) (p : ℕ) (op : O
       by_answer (Progress.Over out) is writes = absurd (cc is)
       by_answer (Progress.Fault other) is writes = let same : fault ≡ other = cc is in
           writing_fails m.at m goes.now (bytes_of op) (subst (λ (f : DiskFault). WriteSteps disk m.at s.volume p m (bytes_of op) (Progress.Fault f) goes.now t.volume) (sym same) writes)
+  fails_at (Stage.Linking k d u) goes = by_answer goes.answer goes.gives goes.updates
+    where
+      by_answer : (x : Progress (Unit {0})) → TaskProgress.Fault fault ≡ progress_of_link x → Updates disk u.slot s.volume p u d x goes.now t.volume → fault.0 ≡ inode_block u.number
+      by_answer Progress.Moved is updates = absurd (cc is)
+      by_answer (Progress.Sleeping why) is updates = absurd (cc is)
+      by_answer (Progress.Over out) is updates = absurd (cc is)
+      by_answer (Progress.Fault other) is updates = let same : fault ≡ other = cc is in
+          linking_fails u.slot u goes.now d (subst (λ (f : DiskFault). Updates disk u.slot s.volume p u d (Progress.Fault f) goes.now t.volume) (sym same) updates)
   fails_at (Stage.Leaving k) goes = let no = goes.0 in absurd (cc no)

@@ -15,3 +15,6 @@ returns-in-Leaving g c = record { step = c.leave.ensures.step c.args.op.now c.re
 
 pub returns-in-Truncating : goal.returns-in-Truncating
 returns-in-Truncating g c = record { step = c.truncate.ensures.step c.args.op.now c.requires.op }
+
+pub returns-in-Linking : goal.returns-in-Linking
+returns-in-Linking g c = record { step = c.link.ensures.step c.args.op.now c.requires.op }
