@@ -1,0 +1,2 @@
+pub mod NamesBack
+pub mod RequestsBack

@@ -1,0 +1,5 @@
+pub mod Fields
+pub mod Requests
+pub mod Spellings
+pub mod Laws
+pub mod Answers
