@@ -53,3 +53,4 @@ pub mod RootMaking
 pub mod Renamed
 pub mod Rising
 pub mod Moved
+pub mod SeenNumbers

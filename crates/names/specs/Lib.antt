@@ -13,6 +13,8 @@ pub mod Contents
 pub mod Looks
 pub mod Putting
 pub mod Writing
+pub mod Numbered
+pub mod Replacing
 pub mod Writes
 pub mod Trees
 pub mod TreeChanges

@@ -137,7 +137,7 @@ impl<D: Disk> Tree<D> {
     }
 
     // The bytes of the file of a number.
-    fn read_of(&mut self, number: u32, offset: u32, count: u32) -> Asked<Content>
+    pub(crate) fn read_of(&mut self, number: u32, offset: u32, count: u32) -> Asked<Content>
         requires way { IsUnderWay D.Disk self.old.kernel self.old.calls_left }
         requires there { IsFile (files_seen D.image self.old.kernel) number }
         ensures goes { Proceeds D.Disk result self.old.kernel self.new.kernel self.new.calls_left }

@@ -26,7 +26,7 @@ const DIRECTORY_KIND: u16 = 1;
 
 // A directory of its two entries alone.
 #[derive(Drop)]
-struct NewDirectory;
+pub(crate) struct NewDirectory;
 
 impl New for NewDirectory {
     ghost file = { λ new number parent. directory_file number parent };

@@ -22,7 +22,7 @@ use std::alloc::Global;
 
 // Removes a file from a directory.
 #[derive(Drop)]
-struct RemoveFile;
+pub(crate) struct RemoveFile;
 
 impl ChangeIn for RemoveFile {
     type Made = ();

@@ -99,7 +99,7 @@ impl<D: Disk> Tree<D> {
     }
 
     // Gives a file another name in its directory. The old one is freed first, so there is room.
-    fn renamed(&mut self, alloc: Global, from: u32, old: &Name, name: &Name) -> Asked<()>
+    pub(crate) fn renamed(&mut self, alloc: Global, from: u32, old: &Name, name: &Name) -> Asked<()>
         requires way { IsUnderWay D.Disk self.old.kernel self.old.calls_left }
         requires tree { IsTree (files_seen D.image self.old.kernel) }
         ensures goes { Proceeds D.Disk result self.old.kernel self.new.kernel self.new.calls_left }

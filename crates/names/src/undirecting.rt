@@ -21,7 +21,7 @@ use std::alloc::Global;
 
 // Removes an empty directory from a directory.
 #[derive(Drop)]
-struct RemoveDirectory;
+pub(crate) struct RemoveDirectory;
 
 impl ChangeIn for RemoveDirectory {
     type Made = ();

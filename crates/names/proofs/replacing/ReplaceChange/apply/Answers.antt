@@ -1,0 +1,45 @@
+use Rattle.std.proofs.Common.{◌≡◌, ◌∙◌, Bool, false, Result, Ok, Err, refl, ap, subst, inl, inr, rules, arith}
+use Rattle.std.proofs.lemmas.Grind.{common_steps}
+use Rattle.model.specs.Files.{Files}
+use Rattle.names.specs.declared.refusal.Refusal.{Refusal}
+use Rattle.names.specs.Inside.{files_seen}
+use Rattle.names.specs.Replacing.{Clears, IsReplaceable, IsUncleared}
+use Rattle.names.specs.Ready.{Happens}
+use Rattle.names.specs.Renaming.{IsUnrenamed, Renames}
+use Rattle.names.proofs.replacing.ReplaceChange.apply.Goals as goal
+
+-- what was not refused was made
+happened : (change : Unit {0} → Files → Files → Type 0) (why : Files → Refusal → Type 0) (files new : Files) (r : Result (Unit {0}) Refusal) →
+    ((cause : Refusal) → r ≡ Err cause → ⊥) → Happens change why files new r → change tt files new
+happened change why files new (Ok done) not h = h
+happened change why files new (Err cause) not h = absurd (not cause refl)
+
+made_so : (change : Unit {0} → Files → Files → Type 0) (why : Files → Refusal → Type 0) (files new : Files) (r : Result (Unit {0}) Refusal) →
+    r ≡ Ok tt → Happens change why files new r → change tt files new
+made_so change why files new r is h = subst (λ (s : Result (Unit {0}) Refusal). Happens change why files new s) is h
+
+pub returns-in-Ok-clause-made : goal.returns-in-Ok-clause-made
+returns-in-Ok-clause-made g c =
+    let self = c.args.self.now in
+    let files : Files = files_seen g.D.Disk.image c.args.tree.now.kernel in
+    let no : c.in-Ok-false.field-0 ≡ false = first_of (search rules, grind (arith, common_steps)) in
+    let apart : c.in_ok-refusal.field-0 ≡ Ok false = c.in-Ok-false.is ∙ ap (λ (b : Bool). Ok b) no in
+    let cleared : Clears self.to self.name.now self.aside.now self.keeps tt (files_seen g.D.Disk.image c.replaceable.new.self.kernel) (files_seen g.D.Disk.image c.cleared.new.self.kernel) =
+    happened (Clears self.to self.name.now self.aside.now self.keeps) (IsUncleared self.to self.name.now self.aside.now self.keeps) (files_seen g.D.Disk.image c.replaceable.new.self.kernel)
+    (files_seen g.D.Disk.image c.cleared.new.self.kernel) c.in_ok-refusal-in-Ok-false.field-0 c.in_default.not-Err c.in_ok-refusal-in-Ok-false.ensures.cleared in
+    inr (record {
+      two = subst (λ (r : Result Bool Refusal). IsReplaceable self.from self.old.now self.to self.name.now files r) apart c.in_ok-refusal.ensures.told;
+      between = files_seen g.D.Disk.image c.cleared.new.self.kernel;
+      clears = subst (λ (f : Files). Clears self.to self.name.now self.aside.now self.keeps tt f (files_seen g.D.Disk.image c.cleared.new.self.kernel)) c.in_ok-refusal.ensures.same cleared;
+      renames = made_so (Renames self.from self.old.now self.to self.name.now) (λ files. IsUnrenamed files self.from self.old.now self.to self.name.now)
+          (files_seen g.D.Disk.image c.cleared.new.self.kernel) (files_seen g.D.Disk.image c.renamed_in.new.self.kernel) c.in_ok-renamed_in-in-Ok-false.field-0 c.in-Ok.is
+          c.in_ok-renamed_in-in-Ok-false.ensures.renamed;
+    })
+
+pub returns-in-Err-clause-made : goal.returns-in-Err-clause-made
+returns-in-Err-clause-made g c =
+    let self = c.args.self.now in
+    let files : Files = files_seen g.D.Disk.image c.args.tree.now.kernel in (
+      c.in_ok-refusal.ensures.same,
+      inl (subst (λ (r : Result Bool Refusal). IsReplaceable self.from self.old.now self.to self.name.now files r) c.in-Err.is c.in_ok-refusal.ensures.told),
+    )

@@ -1,0 +1,83 @@
+-- What is asked of the file of a number.
+use Rattle.std.specs.Prelude.{◌≡◌, ◌⊎◌, ℕ, ◌≤◌, List, [], length, take, slice_set, Option, None, Some, Result, Ok, Err, IsTrue}
+use Rattle.blocks.specs.Block.{overwritten}
+use Rattle.model.specs.declared.types.image.File.{File}
+use Rattle.model.specs.declared.types.image.Form.{Form}
+use Rattle.model.specs.declared.types.operations.Op.TheVariants.{Write}
+use Rattle.model.specs.declared.types.operations.Reply.{Reply}
+use Rattle.model.specs.declared.types.operations.Reply.TheVariants.{Wrote, BadOffset, TooBig, TooLong}
+use Rattle.model.specs.Files.{Files, file_in}
+use Rattle.model.specs.Operations.{may_have_written, refusal_of, with_bytes}
+use Rattle.names.specs.declared.asking.Found.{Found}
+use Rattle.names.specs.declared.refusal.Refusal.{Refusal}
+use Rattle.names.specs.declared.refusal.Refusal.TheVariants.{NotFound, NotADirectory}
+use Rattle.names.specs.declared.writing.Unwritten.{Unwritten}
+use Rattle.names.specs.declared.writing.Unwritten.TheVariants as unwritten
+use Rattle.names.specs.Contents.{HasOnly, IsNoPlain, IsPlainFile}
+use Rattle.names.specs.Looks.{IsFound}
+use Rattle.names.specs.Trees.{directory_in, IsDirectory}
+use Rattle.names.specs.Walks.{stepped}
+use Rattle.names.specs.Writing.{reply_of}
+
+-- there is no file of that number
+abbrev pub IsNoFile : ℕ → Files → Refusal → Type 0
+IsNoFile number files cause = (cause ≡ NotFound) × (file_in files number ≡ None)
+
+-- or it is a directory
+abbrev pub IsNoFileOrDirectory : ℕ → Files → Refusal → Type 0
+IsNoFileOrDirectory number files cause = IsNoFile number files cause ⊎ IsNoPlain number files cause
+
+-- it is no directory
+abbrev pub IsNoDirectory : ℕ → Files → Refusal → Type 0
+IsNoDirectory number files cause = (cause ≡ NotADirectory) × (IsDirectory files number → ⊥)
+
+-- what the file of a number is, and no file changes
+pub record LooksAt (number : ℕ) (found : Found) (files new : Files) : Type 0 where
+  pub same : new ≡ files
+  pub found_is : IsFound files number found
+
+-- a name of a directory leads to it
+pub record LooksIn (from : ℕ) (name : List ℕ) (found : Found) (files new : Files) : Type 0 where
+  pub same : new ≡ files
+  pub number : ℕ
+  pub led : stepped files from name ≡ Ok number
+  pub found_is : IsFound files number found
+
+-- or it leads nowhere
+abbrev pub IsUnseenIn : ℕ → List ℕ → Files → Refusal → Type 0
+IsUnseenIn from name files cause = (stepped files from name ≡ Err cause)
+    ⊎ ((number : ℕ) × (stepped files from name ≡ Ok number) × IsNoFile number files cause)
+
+-- the bytes of a directory, and no file changes
+pub record ListsAt (number : ℕ) (bytes : List ℕ) (files new : Files) : Type 0 where
+  pub same : new ≡ files
+  pub directory : IsDirectory files number
+  pub bytes_are : bytes ≡ directory_in files number
+
+-- the file of a number has no bytes
+abbrev pub EmptiesAt : ℕ → Unit {0} → Files → Files → Type 0
+EmptiesAt number done files new = HasOnly number [] files new
+
+-- what a reply tells of a write: how many bytes were written, or why none
+abbrev pub some_told : Reply → Option (Result ℕ Unwritten)
+some_told (Wrote count) = Some (Ok count)
+some_told TooLong = Some (Err unwritten.TooLong)
+some_told BadOffset = Some (Err unwritten.BadOffset)
+some_told TooBig = Some (Err unwritten.TooBig)
+some_told reply = None
+
+-- The first so many of the bytes stand in the file from the offset on, all of them unless no block was
+-- free; or the kernel refuses their write, and the files are as they were.
+abbrev pub WritesSomeAs : Form → ℕ → ℕ → List ℕ → File → Result ℕ Unwritten → Files → Files → Type 0
+WritesSomeAs form number offset bytes file (Ok count) files new =
+    IsTrue (may_have_written (length file.bytes) offset (length bytes) count)
+    × (new ≡ slice_set files number (with_bytes file (overwritten file.bytes offset (take count bytes))))
+WritesSomeAs form number offset bytes file (Err cause) files new = (new ≡ files)
+    × (refusal_of form files (Write number offset bytes) ≡ Some (reply_of cause))
+
+-- the same of the file of a number
+pub record WritesSomeOf (form : Form) (number offset : ℕ) (bytes : List ℕ) (done : Result ℕ Unwritten)
+    (files new : Files) : Type 0 where
+  pub file : File
+  pub plain : IsPlainFile files number file
+  pub writes : WritesSomeAs form number offset bytes file done files new
