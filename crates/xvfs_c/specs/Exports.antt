@@ -83,8 +83,8 @@ pub record HandsIn (p : ℕ) (o : XvfsOp) (bytes : List ℕ) (seq : ℕ) (s t : 
   pub number : seq ≡ (process s.kernel.world p).begun + length (waiting (intake_of t) p)
   pub keeps : KeepsKernel p s t
 
--- that number says why C's operation means none: there is none of that kind, no such type or no such
--- count of links, or memory was refused for the bytes of a write
+-- that number says why C's operation means none: there is none of that kind, no such type or count
+-- of links, or memory was refused for the bytes of a write
 abbrev pub MeansNone : XvfsOp → ℕ → Type 0
 MeansNone o number =
     ((number ≡ 1539) × ((6 < o.kind) ⊎ ((o.kind ≡ 0) × (65535 < o.inum))
