@@ -1,0 +1,232 @@
+// The entries of directories.
+ghost use Rattle.std.specs.Prelude.{◌≤◌, length};
+ghost use Rattle.names.specs.Ready.{MayGoOn};
+
+use crate::errno::Errno;
+use crate::nodes::Nodes;
+use blocks::Disk;
+use fuse::{add_entry, directory_entry, padding_of};
+use names::{ENTRY_SIZE, NAME_SIZE, Name, Tree, TreeFault, entries_in, leads_down, number_in};
+use std::alloc::Global;
+
+/// The number of the root.
+pub(crate) const ROOT: u32 = 1;
+
+// The beginning of a name that a file has aside: `.xvgone`.
+const ASIDE: &[u8] = b".xvgone";
+
+// How many bytes it has; so many digits stand behind it that a name is full.
+const ASIDE_SIZE: usize = 7;
+
+// One of the digits of a number.
+fn digit(number: u32) -> u8 {
+    48 + (number % 10) as u8
+}
+
+/// The name that the file of a number has aside in the root, when its own was removed while it was
+/// open.
+pub(crate) fn aside(number: u32) -> Result<Name, Errno> {
+    let bytes = [
+        46,
+        120,
+        118,
+        103,
+        111,
+        110,
+        101,
+        digit(number / 1_000_000),
+        digit(number / 100_000),
+        digit(number / 10_000),
+        digit(number / 1_000),
+        digit(number / 100),
+        digit(number / 10),
+        digit(number),
+    ];
+    Ok(Name::new(&bytes)?)
+}
+
+/// Whether that name is one aside.
+pub(crate) fn is_aside(name: &[u8]) -> bool {
+    name.len() == NAME_SIZE
+        && name.starts_with(ASIDE)
+        && name[ASIDE_SIZE..]
+            .iter()
+            .all(|byte| *byte >= 48 && *byte <= 57)
+}
+
+/// The name of these bytes, for a file that gets it in the directory of a number.
+///
+/// # Errors
+///
+/// `NotPermitted` for a name aside in the root, and those of a name.
+pub(crate) fn new_name(node: u32, name: &[u8]) -> Result<Name, Errno> {
+    if node == ROOT && is_aside(name) {
+        return Err(Errno::NotPermitted);
+    }
+    Ok(Name::new(name)?)
+}
+
+// How long a name is that zeroes end.
+fn name_size(name: &[u8]) -> usize
+    ensures { result ≤ length name.now }
+{
+    match name.iter().position(|byte| *byte == 0) {
+        Some(size) => size,
+        None => name.len(),
+    }
+}
+
+// The name of an entry.
+fn name_of(entry: &[u8; ENTRY_SIZE]) -> &[u8] {
+    let name = &entry[2..ENTRY_SIZE];
+    &name[..name_size(name)]
+}
+
+/// What is listed of a directory.
+#[derive(Clone, Copy)]
+pub(crate) struct Part {
+    /// From this place on.
+    pub offset: u64,
+    /// No more than so many bytes.
+    pub size: usize,
+    /// With what is told of each file.
+    pub plus: bool,
+    /// For so many seconds the system may rely on that.
+    pub valid: u64,
+}
+
+/// A part of the entries of the directory of a number, added to these bytes, of which there are
+/// none yet.
+pub(crate) fn list<D: Disk>(
+    alloc: Global,
+    tree: &mut Tree<D>,
+    nodes: &Nodes,
+    number: u32,
+    part: Part,
+    out: &mut Vec<u8>,
+) -> Result<(), Errno>
+    requires ready { MayGoOn D.Disk tree.old.kernel tree.old.calls_left }
+    ensures ready { MayGoOn D.Disk tree.new.kernel tree.new.calls_left }
+{
+    let bytes = tree.list_at(alloc, number)?;
+    let mut place = 0u64;
+    for entry in entries_in(bytes.as_slice()) {
+        place = place.saturating_add(1);
+        if place <= part.offset || is_hidden(number, entry) {
+            continue;
+        }
+        if out.len().saturating_add(whole_size(entry, part.plus)) > part.size {
+            break;
+        }
+        add(alloc, tree, nodes, entry, place, part, out)?;
+    }
+    Ok(())
+}
+
+// Whether an entry is free, or one of the names aside, which are in the root.
+fn is_hidden(number: u32, entry: &[u8; ENTRY_SIZE]) -> bool {
+    number_in(entry) == 0 || (number == ROOT && is_aside(name_of(entry)))
+}
+
+// How many bytes an entry takes.
+fn whole_size(entry: &[u8; ENTRY_SIZE], plus: bool) -> usize {
+    let size = name_of(entry).len();
+    let more = if plus { 152 } else { 24 };
+    size.saturating_add(padding_of(size)).saturating_add(more)
+}
+
+// Adds what is told of the file of an entry, where that is asked for. Its type, as entries tell it.
+fn add_told<D: Disk>(
+    alloc: Global,
+    tree: &mut Tree<D>,
+    nodes: &Nodes,
+    entry: &[u8; ENTRY_SIZE],
+    part: Part,
+    out: &mut Vec<u8>,
+) -> Result<u32, Errno>
+    requires ready { MayGoOn D.Disk tree.old.kernel tree.old.calls_left }
+    ensures ready { MayGoOn D.Disk tree.new.kernel tree.new.calls_left }
+{
+    if !part.plus {
+        return Ok(0);
+    }
+    if !leads_down(entry) {
+        out.extend_from_slice(&[0u8; 128])?;
+        return Ok(4);
+    }
+    let file = u32::from(number_in(entry));
+    let found = tree.look_at(alloc, file)?;
+    let attributes = nodes.attributes(&found)?;
+    add_entry(out, &attributes, nodes.generation(file), part.valid)?;
+    Ok(attributes.mode / 4096)
+}
+
+// Adds the name of an entry, and what stands before it.
+fn add_name(
+    entry: &[u8; ENTRY_SIZE],
+    next: u64,
+    kind: u32,
+    out: &mut Vec<u8>,
+) -> Result<(), Errno> {
+    let name = name_of(entry);
+    let Ok(size) = u32::try_from(name.len()) else {
+        return Err(Errno::InputOutput);
+    };
+    let file = u64::from(number_in(entry));
+    out.extend_from_slice(&directory_entry(file, next, size, kind))?;
+    out.extend_from_slice(name)?;
+    let zeroes = [0u8; 8];
+    out.extend_from_slice(&zeroes[..padding_of(name.len())])?;
+    Ok(())
+}
+
+// Adds an entry.
+fn add<D: Disk>(
+    alloc: Global,
+    tree: &mut Tree<D>,
+    nodes: &Nodes,
+    entry: &[u8; ENTRY_SIZE],
+    next: u64,
+    part: Part,
+    out: &mut Vec<u8>,
+) -> Result<(), Errno>
+    requires ready { MayGoOn D.Disk tree.old.kernel tree.old.calls_left }
+    ensures ready { MayGoOn D.Disk tree.new.kernel tree.new.calls_left }
+{
+    match add_told(alloc, tree, nodes, entry, part, out) {
+        Ok(kind) => add_name(entry, next, kind, out),
+        Err(errno) => Err(errno),
+    }
+}
+
+// Removes the file of an entry with a name aside.
+fn sweep_entry<D: Disk>(
+    alloc: Global,
+    tree: &mut Tree<D>,
+    entry: &[u8; ENTRY_SIZE],
+) -> Result<(), Errno>
+    requires ready { MayGoOn D.Disk tree.old.kernel tree.old.calls_left }
+    ensures ready { MayGoOn D.Disk tree.new.kernel tree.new.calls_left }
+{
+    if number_in(entry) == 0 || !is_aside(name_of(entry)) {
+        return Ok(());
+    }
+    let name = Name::new(name_of(entry))?;
+    match tree.remove_in(alloc, ROOT, &name) {
+        // A directory, or a file of another name, is none that we put aside.
+        Ok(()) | Err(TreeFault::Refused(_)) => Ok(()),
+        Err(fault) => Err(fault.into()),
+    }
+}
+
+/// Removes the files that have names aside: a stop left them.
+pub(crate) fn sweep<D: Disk>(alloc: Global, tree: &mut Tree<D>) -> Result<(), Errno>
+    requires ready { MayGoOn D.Disk tree.old.kernel tree.old.calls_left }
+    ensures ready { MayGoOn D.Disk tree.new.kernel tree.new.calls_left }
+{
+    let bytes = tree.list_at(alloc, ROOT)?;
+    for entry in entries_in(bytes.as_slice()) {
+        sweep_entry(alloc, tree, entry)?;
+    }
+    Ok(())
+}

@@ -1,0 +1,130 @@
+// Why a request isn't done.
+ghost use Rattle.std.specs.Prelude.{◌<◌, ◌≤◌};
+
+use blocks::NoMemory;
+use calls::transactions::TransactionFault;
+use names::{NameFault, PathFault, Refusal, TreeFault, Unwritten};
+use std::alloc::AllocError;
+
+/// Why a request isn't done, as the system's numbers have it.
+#[derive(Clone, Copy, Debug, PartialEq, Eq)]
+pub enum Errno {
+    /// An image has no place for it.
+    NotPermitted,
+    /// There is no such file.
+    NoEntry,
+    /// A call of the disk failed, or one before.
+    InputOutput,
+    /// Memory is refused.
+    NoMemory,
+    /// The root is neither removed nor renamed.
+    Busy,
+    /// The name is there already.
+    Exists,
+    /// The file is no directory.
+    NotADirectory,
+    /// The file is a directory.
+    IsADirectory,
+    /// The request, or a name in it, is none; or a directory would be in itself.
+    Invalid,
+    /// The file would be too large.
+    TooBig,
+    /// No block, number or entry is free.
+    NoSpace,
+    /// The file has another name.
+    TooManyLinks,
+    /// A name has more than 14 bytes.
+    NameTooLong,
+    /// We don't do that; the system does without, and asks no more.
+    NotSupported,
+    /// Something is in the directory.
+    NotEmpty,
+}
+
+impl Errno {
+    /// The system's number, from 1 to 39.
+    pub fn number(self) -> u32
+        ensures some { 0 < result }
+        ensures few { result ≤ 39 }
+    {
+        match self {
+            Errno::NotPermitted => 1,
+            Errno::NoEntry => 2,
+            Errno::InputOutput => 5,
+            Errno::NoMemory => 12,
+            Errno::Busy => 16,
+            Errno::Exists => 17,
+            Errno::NotADirectory => 20,
+            Errno::IsADirectory => 21,
+            Errno::Invalid => 22,
+            Errno::TooBig => 27,
+            Errno::NoSpace => 28,
+            Errno::TooManyLinks => 31,
+            Errno::NameTooLong => 36,
+            Errno::NotSupported => 38,
+            Errno::NotEmpty => 39,
+        }
+    }
+}
+
+impl From<AllocError> for Errno {
+    fn from(_refused: AllocError) -> Errno {
+        Errno::NoMemory
+    }
+}
+
+impl From<NoMemory> for Errno {
+    fn from(_refused: NoMemory) -> Errno {
+        Errno::NoMemory
+    }
+}
+
+impl From<NameFault> for Errno {
+    fn from(fault: NameFault) -> Errno {
+        match fault {
+            NameFault::TooLong => Errno::NameTooLong,
+            NameFault::Empty => Errno::NoEntry,
+            NameFault::ZeroByte => Errno::Invalid,
+        }
+    }
+}
+
+impl From<Unwritten> for Errno {
+    fn from(cause: Unwritten) -> Errno {
+        match cause {
+            Unwritten::TooBig => Errno::TooBig,
+            Unwritten::TooLong | Unwritten::BadOffset => Errno::InputOutput,
+        }
+    }
+}
+
+impl From<TreeFault> for Errno {
+    fn from(fault: TreeFault) -> Errno {
+        match fault {
+            TreeFault::Path(PathFault::NameTooLong) => Errno::NameTooLong,
+            TreeFault::Path(PathFault::ZeroByte) => Errno::Invalid,
+            TreeFault::Path(PathFault::NoMemory) => Errno::NoMemory,
+            TreeFault::Refused(refusal) => errno_of(refusal),
+            TreeFault::Call(TransactionFault::NoMemory) => Errno::NoMemory,
+            TreeFault::Call(TransactionFault::Disk(_)) => Errno::InputOutput,
+            TreeFault::Call(TransactionFault::NoRoom) => Errno::InputOutput,
+            TreeFault::NoSpace => Errno::NoSpace,
+            TreeFault::NoCall => Errno::InputOutput,
+        }
+    }
+}
+
+// What the files refuse.
+fn errno_of(refusal: Refusal) -> Errno {
+    match refusal {
+        Refusal::NotFound => Errno::NoEntry,
+        Refusal::NotADirectory => Errno::NotADirectory,
+        Refusal::IsRoot => Errno::Busy,
+        Refusal::Exists => Errno::Exists,
+        Refusal::Full | Refusal::NoNumber | Refusal::NoBlock => Errno::NoSpace,
+        Refusal::IsADirectory => Errno::IsADirectory,
+        Refusal::NotEmpty => Errno::NotEmpty,
+        Refusal::IsInside | Refusal::NotDown => Errno::Invalid,
+        Refusal::LinkedTwice => Errno::TooManyLinks,
+    }
+}
