@@ -13,13 +13,30 @@
 #include <time.h>
 #include <unistd.h>
 
-#include "xvfs.h"
+#include "xvfs_host.h"
 
 #define BLOCKS 200u
 #define PROCESSES 4u
 
-static uint8_t image[BLOCKS * XVFS_BLOCK_SIZE], block[XVFS_BLOCK_SIZE], bytes[XVFS_BLOCK_SIZE];
+static uint8_t disk[BLOCKS * XVFS_BLOCK_SIZE], image[sizeof disk], bytes[XVFS_BLOCK_SIZE];
 static uint64_t steps, taken, longest;
+static xvfs_host host = XVFS_CLOSED_HOST;
+
+/* The device, which keeps nothing: what it costs to keep a write isn't asked. */
+static int read_block(void *context, uint32_t block, uint8_t *into) {
+    memcpy(into, (uint8_t *)context + block * XVFS_BLOCK_SIZE, XVFS_BLOCK_SIZE);
+    return 0;
+}
+
+static int write_nothing(void *context, uint32_t block, const uint8_t *from) {
+    (void)context, (void)block, (void)from;
+    return 0;
+}
+
+static int sync_nothing(void *context) {
+    (void)context;
+    return 0;
+}
 
 static void must(int is_well, const char *what) {
     if (is_well) return;
@@ -34,21 +51,21 @@ static uint64_t now(void) {
 }
 
 /* The steps of an operation, each timed. */
-static void perform(xvfs *fs, uint32_t p, xvfs_op op, size_t size) {
+static void perform(uint32_t p, xvfs_op op, size_t size) {
     uint64_t number;
     xvfs_stepped stepped;
     xvfs_answer answer;
-    must(xvfs_submit(fs, p, &op, bytes, size, &number) == XVFS_OK, "no operation");
+    must(xvfs_host_submit(&host, p, op, bytes, size, &number) == XVFS_OK, "no operation");
     do {
         uint64_t before = now();
-        must(xvfs_step(fs, p, &stepped, block, sizeof block) == XVFS_OK, "no step");
+        must(xvfs_host_step(&host, p, &stepped) == XVFS_OK, "no step");
         uint64_t span = now() - before;
         steps += 1;
         taken += span;
         if (span > longest) longest = span;
-    } while (stepped.step == XVFS_MOVED);
-    must(xvfs_poll(fs, p, &answer, block, sizeof block) == XVFS_OK, "no answer");
-    must(answer.reply <= XVFS_DONE, "refused");
+    } while (stepped.step == XVFS_STEP_MOVED);
+    must(xvfs_host_poll(&host, p, &answer, NULL, 0) == XVFS_OK, "no answer");
+    must(answer.reply <= XVFS_REPLY_DONE, "refused");
 }
 
 static void row(unsigned long writes) {
@@ -75,26 +92,25 @@ static void row_of(const char *program, const char *word, const char *writes) {
 }
 
 int main(int argc, char **argv) {
-    xvfs fs = XVFS_CLOSED_HANDLE;
-    uint64_t opening;
+    const xvfs_device device = {disk, read_block, write_nothing, sync_nothing};
     unsigned long writes = argc > 1 ? strtoul(argv[1], NULL, 10) : 1000, next = 1000;
     if (argc == 4) {
         row_of(argv[2], argv[3], argv[1]);
         return 0;
     }
     memset(bytes, 7, sizeof bytes);
-    must(xvfs_mkfs(image, sizeof image, 32, 1) == XVFS_OK, "no image");
-    must(xvfs_open(&fs, image, sizeof image, PROCESSES, 0, &opening) == XVFS_OK, "not opened");
-    for (uint32_t p = 0; p < PROCESSES; p++) perform(&fs, p, (xvfs_op){XVFS_CREATE, 2, 0, 0}, 0);
+    must(xvfs_mkfs(disk, sizeof disk, 32, 1) == XVFS_OK, "no image");
+    must(xvfs_host_open(&host, &device, image, sizeof image, PROCESSES, 0) == XVFS_OK, "not opened");
+    for (uint32_t p = 0; p < PROCESSES; p++) perform(p, (xvfs_op){XVFS_OP_CREATE, 2, 0, 0}, 0);
     printf("| %10s | %10s | %12s | %12s |\n", "writes", "KiB", "ns a step", "longest, us");
     printf("|------------|------------|--------------|--------------|\n");
     for (unsigned long k = 0; k < writes; k++) {
         uint32_t p = (uint32_t)(k % PROCESSES);
         uint32_t offset = (uint32_t)(k / PROCESSES % 10) * XVFS_BLOCK_SIZE;
-        perform(&fs, p, (xvfs_op){XVFS_WRITE, p + 1, offset, 0}, sizeof bytes);
+        perform(p, (xvfs_op){XVFS_OP_WRITE, p + 1, offset, 0}, sizeof bytes);
         if (k + 1 == next || k + 1 == writes) row(k + 1);
         if (k + 1 == next) next *= 10;
     }
-    xvfs_close(&fs);
+    xvfs_host_close(&host);
     return 0;
 }

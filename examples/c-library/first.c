@@ -1,88 +1,95 @@
-/* Makes an image and creates a file in it, stops before the third write of the commit, recovers what
- * the device holds, and then writes and reads over it. What it prints stands in first.stdout. */
+/* Makes an image on a device and creates a file in it, is stopped before the third write of the commit,
+ * opens the device again, which recovers it, and then writes and reads. What it prints stands in
+ * first.stdout. Each step, and what is owed to the device behind it, is made by xvfs_host.h. */
 #include <stdio.h>
 #include <stdlib.h>
 #include <string.h>
-#include "xvfs.h"
+#include "xvfs_host.h"
 
 #define BLOCKS 200u
 #define BYTES (BLOCKS * XVFS_BLOCK_SIZE)
 
-static uint8_t device[BYTES]; /* the host's own disk */
+/* The host's own disk, and before which write it stops; 0 stops before none. */
+struct disk {
+    uint8_t bytes[BYTES];
+    unsigned writes, stop;
+};
+
+static struct disk disk;
+static uint8_t image[BYTES]; /* memory in which the disk is read at an opening */
+
+static int read_block(void *context, uint32_t block, uint8_t *bytes) {
+    struct disk *from = (struct disk *)context;
+    memcpy(bytes, from->bytes + block * XVFS_BLOCK_SIZE, XVFS_BLOCK_SIZE);
+    return 0;
+}
+
+static int write_block(void *context, uint32_t block, const uint8_t *bytes) {
+    struct disk *to = (struct disk *)context;
+    to->writes += 1;
+    if (to->writes == to->stop) {
+        printf("stopped before write %u, of block %u\n", to->writes, block);
+        return -1;
+    }
+    memcpy(to->bytes + block * XVFS_BLOCK_SIZE, bytes, XVFS_BLOCK_SIZE);
+    printf("write %u: block %u\n", to->writes, block);
+    return 0;
+}
+
+static int sync_disk(void *context) {
+    (void)context; /* memory holds nothing back */
+    printf("sync\n");
+    return 0;
+}
 
 /* Ends the program where a call was refused. */
-static void is_done(const char *call, uint32_t refusal) {
-    if (refusal != XVFS_OK) {
-        printf("%s: refusal %u of layer %u\n", call, XVFS_NUMBER(refusal), XVFS_LAYER(refusal));
+static void is_done(const char *call, xvfs_result result) {
+    if (result != XVFS_OK) {
+        printf("%s: %s\n", call, xvfs_strerror(result));
         exit(1);
     }
 }
 
 static void print_report(const char *what) {
     xvfs_report report;
-    is_done("check", xvfs_check(device, BYTES, &report));
+    is_done("check", xvfs_check(disk.bytes, BYTES, &report));
     printf("%s: %u blocks, logged %u, files %u\n", what, report.size, report.logged, report.files);
 }
 
-/* Steps a process until its operation is answered, and carries each told write to the device. It
- * stops before the write of that number, from 1; 0 stops before none. */
-static int run(xvfs *fs, uint32_t process, unsigned stop) {
-    static uint8_t block[XVFS_BLOCK_SIZE];
-    unsigned writes = 0;
-    for (;;) {
-        xvfs_stepped stepped;
-        is_done("step", xvfs_step(fs, process, &stepped, block, sizeof block));
-        if (stepped.wrote) {
-            writes += 1;
-            if (writes == stop) {
-                printf("stopped before write %u, of block %u\n", writes, stepped.block);
-                return 0;
-            }
-            memcpy(device + stepped.block * XVFS_BLOCK_SIZE, block, sizeof block);
-            printf("write %u: block %u\n", writes, stepped.block);
-        }
-        if (stepped.step == XVFS_ANSWERED) return 1;
-        if (stepped.step != XVFS_MOVED) {
-            printf("step %u for %u\n", stepped.step, stepped.why);
-            exit(1);
-        }
-    }
+static void open_host(xvfs_host *host, unsigned stop) {
+    xvfs_device device = {&disk, read_block, write_block, sync_disk};
+    disk.writes = 0;
+    disk.stop = stop;
+    is_done("open", xvfs_host_open(host, &device, image, BYTES, 2, XVFS_HOLD));
 }
 
 int main(void) {
+    static xvfs_host host = XVFS_CLOSED_HOST;
     static uint8_t bytes[XVFS_TRANSFER];
-    xvfs fs = XVFS_CLOSED_HANDLE;
-    uint64_t writes = 0, number = 0;
-    uint32_t recovered = 0;
     xvfs_answer answer;
 
-    is_done("mkfs", xvfs_mkfs(device, BYTES, 32, 1));
+    is_done("mkfs", xvfs_mkfs(disk.bytes, BYTES, 32, 1));
     print_report("made");
 
-    is_done("open", xvfs_open(&fs, device, BYTES, 2, 0, &writes));
-    xvfs_op create = {XVFS_CREATE, 2, 0, 0};
-    is_done("submit", xvfs_submit(&fs, 0, &create, bytes, 0, &number));
-    run(&fs, 0, 3);
-    xvfs_close(&fs);
+    open_host(&host, 3);
+    xvfs_op create = {XVFS_OP_CREATE, 2, 0, 0};
+    if (xvfs_host_call(&host, 0, create, bytes, 0, &answer, bytes, 0) != XVFS_E_DEVICE) return 1;
+    xvfs_host_close(&host);
     print_report("stopped");
-    is_done("recover", xvfs_recover(device, BYTES, &recovered));
-    printf("recovered %u\n", recovered);
-    print_report("recovered");
 
-    is_done("open", xvfs_open(&fs, device, BYTES, 2, 0, &writes));
-    xvfs_op write = {XVFS_WRITE, 1, 0, 0};
-    is_done("submit", xvfs_submit(&fs, 1, &write, (const uint8_t *)"to be", 5, &number));
-    run(&fs, 1, 0);
-    is_done("poll", xvfs_poll(&fs, 1, &answer, bytes, sizeof bytes));
+    open_host(&host, 0);
+    print_report("recovered");
+    disk.writes = 0;
+    xvfs_op write = {XVFS_OP_WRITE, 1, 0, 0};
+    is_done("write", xvfs_host_call(&host, 1, write, (const uint8_t *)"to be", 5, &answer, bytes, 0));
     printf("answer %u of number %u: reply %u, value %u, group %u\n", 1, (unsigned)answer.seq,
-           answer.reply, answer.value, (unsigned)answer.group);
-    xvfs_op read = {XVFS_READ, 1, 0, 100};
-    is_done("submit", xvfs_submit(&fs, 1, &read, bytes, 0, &number));
-    run(&fs, 1, 0);
-    is_done("poll", xvfs_poll(&fs, 1, &answer, bytes, sizeof bytes));
+           (unsigned)answer.reply, answer.value, (unsigned)answer.group);
+    xvfs_op read = {XVFS_OP_READ, 1, 0, 100};
+    is_done("read", xvfs_host_call(&host, 1, read, bytes, 0, &answer, bytes, sizeof bytes));
     printf("read %u bytes: %.*s\n", answer.len, (int)answer.len, bytes);
-    if (xvfs_poll(&fs, 1, &answer, bytes, sizeof bytes) == XVFS_NO_ANSWER) printf("no answer\n");
-    xvfs_close(&fs);
+    xvfs_result result = xvfs_host_poll(&host, 1, &answer, bytes, sizeof bytes);
+    if (result == XVFS_E_NO_ANSWER) printf("%s\n", xvfs_strerror(result));
+    xvfs_host_close(&host);
     print_report("closed");
     return 0;
 }

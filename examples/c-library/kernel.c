@@ -2,11 +2,9 @@
  * A small teaching kernel over the library. The library steps the operations of 8 processes; what is
  * left to a kernel stands here: the disk, the processes that wait, a directory, and system calls.
  *
- * The disk is a file. Each block that a step tells is written to it before the next step, so at each
- * moment the file is the session's image of before or after a step, and the program can be killed
+ * The disk is a file, and xvfs_host.h brings to it what the steps tell, so that the program can be killed
  * anywhere. (The system keeps what was written when a program is killed. Where the machine itself can
- * stop, device_flush has to call fdatasync: four times a commit, since the session is opened with
- * XVFS_HOLD.)
+ * stop, sync_disk has to call fdatasync: four times a commit, since the host is opened with XVFS_HOLD.)
  *
  * A process is a thread. It leaves its operation at its place in a table, under the one lock, and
  * waits; the thread that booted the kernel makes all calls of the library. (Each could make its own
@@ -32,7 +30,7 @@
 #include <string.h>
 #include <unistd.h>
 
-#include "xvfs.h"
+#include "xvfs_host.h"
 
 #define BLOCKS 600u
 #define INODES 64u
@@ -57,10 +55,9 @@ struct ask {
     xvfs_answer answer;
 };
 
-static int device = -1;
+static int descriptor = -1; /* of the disk */
 static uint8_t image[BLOCKS * XVFS_BLOCK_SIZE];
-static xvfs session = XVFS_CLOSED_HANDLE;
-static uint64_t committed; /* the groups that no stop loses, by what was written to the disk */
+static xvfs_host host = XVFS_CLOSED_HOST;
 
 static pthread_t server;
 static pthread_mutex_t lock = PTHREAD_MUTEX_INITIALIZER; /* of all that follows */
@@ -78,54 +75,29 @@ static void must(int is_well, const char *what) {
 
 /* The disk. */
 
-static void device_write(uint32_t block, const uint8_t *bytes) {
+static int read_block(void *context, uint32_t block, uint8_t *bytes) {
     off_t at = (off_t)block * XVFS_BLOCK_SIZE;
-    must(pwrite(device, bytes, XVFS_BLOCK_SIZE, at) == XVFS_BLOCK_SIZE, "the disk fails");
+    return pread(*(int *)context, bytes, XVFS_BLOCK_SIZE, at) != XVFS_BLOCK_SIZE;
 }
 
-static void device_flush(void) {}
-
-/* A new image: block 1, without which it is none, is written last. */
-static void make_image(void) {
-    memset(image, 0, sizeof image);
-    must(xvfs_mkfs(image, sizeof image, INODES, 1) == XVFS_OK, "no image is made");
-    for (uint32_t b = 0; b < BLOCKS; b++)
-        if (b != 1) device_write(b, image + b * XVFS_BLOCK_SIZE);
-    device_flush();
-    device_write(1, image + XVFS_BLOCK_SIZE);
-    device_flush();
+static int write_block(void *context, uint32_t block, const uint8_t *bytes) {
+    off_t at = (off_t)block * XVFS_BLOCK_SIZE;
+    return pwrite(*(int *)context, bytes, XVFS_BLOCK_SIZE, at) != XVFS_BLOCK_SIZE;
 }
 
-/* Brings the last commit to its end, on the disk and in memory. */
-static void recover_image(void) {
-    static uint8_t block[XVFS_BLOCK_SIZE];
-    uint32_t recovered;
-    xvfs_told told;
-    for (uint32_t place = 0;; place++) {
-        must(xvfs_recover_step(image, sizeof image, place, &told, block, sizeof block) == XVFS_OK,
-             "the image isn't sound");
-        if (told.wrote) device_write(told.block, block);
-        else if (told.synced) device_flush();
-        else break;
-    }
-    must(xvfs_recover(image, sizeof image, &recovered) == XVFS_OK, "the image isn't sound");
+static int sync_disk(void *context) {
+    (void)context;
+    return 0;
 }
 
 /* Operations. */
 
-/* One step of a process, and its write to the disk. Whether it went on. */
+/* One step of a process. Whether it went on. */
 static int step(uint32_t process) {
-    static uint8_t block[XVFS_BLOCK_SIZE];
-    struct ask *ask = &asks[process];
     xvfs_stepped stepped;
-    must(xvfs_step(&session, process, &stepped, block, sizeof block) == XVFS_OK, "no step");
-    if (stepped.wrote) device_write(stepped.block, block);
-    if (stepped.synced) device_flush();
-    committed = stepped.committed;
-    if (stepped.step != XVFS_ANSWERED) return stepped.step == XVFS_MOVED;
-    must(xvfs_poll(&session, process, &ask->answer, (uint8_t *)ask->into, ask->into_size) == XVFS_OK,
-         "no answer");
-    ask->state = ENDED;
+    must(xvfs_host_step(&host, process, &stepped) == XVFS_OK, "no step");
+    if (stepped.step != XVFS_STEP_ANSWERED) return stepped.step == XVFS_STEP_MOVED;
+    asks[process].state = ENDED;
     return 1;
 }
 
@@ -146,14 +118,14 @@ static void close_group(void) {
 static int begin(uint32_t process) {
     struct ask *ask = &asks[process];
     uint64_t number;
-    must(xvfs_submit(&session, process, &ask->op, (const uint8_t *)ask->from, ask->from_size,
-                     &number) == XVFS_OK, "an operation is refused");
+    must(xvfs_host_submit(&host, process, ask->op, (const uint8_t *)ask->from, ask->from_size,
+                          &number) == XVFS_OK, "an operation is refused");
     ask->state = BEGUN;
     if (!step(process)) { /* the log has no room */
         close_group();
         must(step(process), "an operation can't begin");
     }
-    if (ask->op.kind == XVFS_READ || ask->op.kind == XVFS_STAT) finish(process);
+    if (ask->op.kind == XVFS_OP_READ || ask->op.kind == XVFS_OP_STAT) finish(process);
     if (ask->state == ENDED) return 0;
     if (opener != NOBODY) finish(opener);
     opener = process;
@@ -165,7 +137,11 @@ static int answer_kept(void) {
     int any = 0;
     for (uint32_t process = 0; process < PROCESSES; process++) {
         struct ask *ask = &asks[process];
-        if (ask->state != ENDED || ask->answer.group > committed) continue;
+        if (ask->state != ENDED) continue;
+        xvfs_result result = xvfs_host_poll(&host, process, &ask->answer, (uint8_t *)ask->into,
+                                            ask->into_size);
+        if (result == XVFS_E_NOT_KEPT) continue;
+        must(result == XVFS_OK, "no answer");
         ask->state = ANSWERED;
         any = 1;
     }
@@ -187,6 +163,8 @@ static xvfs_answer operate(uint32_t process, xvfs_op op, const void *from, uint3
     if (pthread_equal(pthread_self(), server)) {
         begin(process);
         close_group();
+        answer_kept();
+        must(ask->state == ANSWERED, "an answer isn't kept");
     } else {
         pthread_cond_signal(&asked);
         while (ask->state != ANSWERED) pthread_cond_wait(&answered, &lock);
@@ -197,7 +175,7 @@ static xvfs_answer operate(uint32_t process, xvfs_op op, const void *from, uint3
     return answer;
 }
 
-static xvfs_answer operate_on(uint32_t process, uint32_t kind, uint32_t number) {
+static xvfs_answer operate_on(uint32_t process, xvfs_op_kind kind, uint32_t number) {
     xvfs_op op = {kind, number, 0, 0};
     return operate(process, op, NULL, 0, NULL, 0);
 }
@@ -234,7 +212,7 @@ static void give_directory_up(void) {
 }
 
 static void read_entries(uint32_t process, struct entry *entries) {
-    xvfs_op op = {XVFS_READ, ROOT, 0, ENTRIES * sizeof *entries};
+    xvfs_op op = {XVFS_OP_READ, ROOT, 0, ENTRIES * sizeof *entries};
     memset(entries, 0, ENTRIES * sizeof *entries);
     operate(process, op, NULL, 0, entries, ENTRIES * sizeof *entries);
 }
@@ -249,9 +227,9 @@ static int place_of(const struct entry *entries, const char *name) {
 }
 
 static int write_entry(uint32_t process, int place, const struct entry *entry) {
-    xvfs_op op = {XVFS_WRITE, ROOT, (uint32_t)place * sizeof *entry, 0};
+    xvfs_op op = {XVFS_OP_WRITE, ROOT, (uint32_t)place * sizeof *entry, 0};
     xvfs_answer answer = operate(process, op, entry, sizeof *entry, NULL, 0);
-    return answer.reply == XVFS_WROTE && answer.value == sizeof *entry;
+    return answer.reply == XVFS_REPLY_WROTE && answer.value == sizeof *entry;
 }
 
 /* Makes a file and names it in the first free place. Places are taken in order, so none begins
@@ -260,12 +238,12 @@ static int make_file(uint32_t process, const struct entry *entries, const char *
     struct entry entry = {0, ""};
     int place = place_of(entries, "");
     if (place < 0) return -1;
-    xvfs_answer made = operate_on(process, XVFS_CREATE, 2);
-    if (made.reply != XVFS_MADE) return -1;
+    xvfs_answer made = operate_on(process, XVFS_OP_CREATE, 2);
+    if (made.reply != XVFS_REPLY_MADE) return -1;
     entry.number = (uint16_t)made.value;
     memcpy(entry.name, name, strnlen(name, NAME_BYTES));
     if (write_entry(process, place, &entry)) return (int)made.value;
-    operate_on(process, XVFS_REMOVE, made.value);
+    operate_on(process, XVFS_OP_REMOVE, made.value);
     return -1;
 }
 
@@ -291,15 +269,15 @@ int sys_open(uint32_t process, const char *name) {
 }
 
 int sys_write(uint32_t process, int file, uint32_t offset, const void *bytes, uint32_t count) {
-    xvfs_op op = {XVFS_WRITE, (uint32_t)file, offset, 0};
+    xvfs_op op = {XVFS_OP_WRITE, (uint32_t)file, offset, 0};
     xvfs_answer answer = operate(process, op, bytes, count, NULL, 0);
-    return answer.reply == XVFS_WROTE ? (int)answer.value : -1;
+    return answer.reply == XVFS_REPLY_WROTE ? (int)answer.value : -1;
 }
 
 int sys_read(uint32_t process, int file, uint32_t offset, void *bytes, uint32_t count) {
-    xvfs_op op = {XVFS_READ, (uint32_t)file, offset, count};
+    xvfs_op op = {XVFS_OP_READ, (uint32_t)file, offset, count};
     xvfs_answer answer = operate(process, op, NULL, 0, bytes, count);
-    return answer.reply == XVFS_BYTES ? (int)answer.len : -1;
+    return answer.reply == XVFS_REPLY_BYTES ? (int)answer.len : -1;
 }
 
 int sys_unlink(uint32_t process, const char *name) {
@@ -309,7 +287,7 @@ int sys_unlink(uint32_t process, const char *name) {
     read_entries(process, entries);
     int place = place_of(entries, name);
     if (place >= 0 && !write_entry(process, place, &none)) place = -1;
-    if (place >= 0) operate_on(process, XVFS_REMOVE, entries[place].number);
+    if (place >= 0) operate_on(process, XVFS_OP_REMOVE, entries[place].number);
     give_directory_up();
     return place < 0 ? -1 : 0;
 }
@@ -319,36 +297,35 @@ int sys_unlink(uint32_t process, const char *name) {
 /* The directory is made once; a file without a name is of a call that a kill cut off. */
 static void tidy_up(void) {
     struct entry entries[ENTRIES];
-    if (operate_on(0, XVFS_STAT, ROOT).reply != XVFS_STAT_OF)
-        must(operate_on(0, XVFS_CREATE, 1).value == ROOT, "the directory isn't file 1");
+    if (operate_on(0, XVFS_OP_STAT, ROOT).reply != XVFS_REPLY_STAT)
+        must(operate_on(0, XVFS_OP_CREATE, 1).value == ROOT, "the directory isn't file 1");
     read_entries(0, entries);
     for (uint32_t number = ROOT + 1; number < INODES; number++) {
         int is_named = 0;
         for (unsigned k = 0; k < ENTRIES; k++) is_named |= entries[k].number == number;
-        if (!is_named && operate_on(0, XVFS_STAT, number).reply == XVFS_STAT_OF)
-            operate_on(0, XVFS_REMOVE, number);
+        if (!is_named && operate_on(0, XVFS_OP_STAT, number).reply == XVFS_REPLY_STAT)
+            operate_on(0, XVFS_OP_REMOVE, number);
     }
 }
 
 void kernel_boot(const char *disk) {
-    uint64_t writes;
-    xvfs_report report;
+    xvfs_device device = {&descriptor, read_block, write_block, sync_disk};
+    xvfs_result result;
     server = pthread_self();
-    device = open(disk, O_RDWR | O_CREAT, 0666);
-    must(device >= 0, "the disk can't be opened");
-    ssize_t size = pread(device, image, sizeof image, 0);
-    must(size >= 0, "the disk can't be read");
-    if (size < (ssize_t)sizeof image ||
-        xvfs_check(image, sizeof image, &report) == XVFS_BAD_MAGIC) make_image();
-    recover_image();
-    must(xvfs_open(&session, image, sizeof image, PROCESSES, XVFS_HOLD, &writes) == XVFS_OK,
-         "the image isn't opened");
-    must(writes == 0, "the image wasn't recovered");
-    committed = 0;
+    descriptor = open(disk, O_RDWR | O_CREAT, 0666);
+    must(descriptor >= 0, "the disk can't be opened");
+    if (lseek(descriptor, 0, SEEK_END) < (off_t)sizeof image)
+        must(ftruncate(descriptor, sizeof image) == 0, "the disk can't be made");
+    result = xvfs_host_open(&host, &device, image, sizeof image, PROCESSES, XVFS_HOLD);
+    if (result == XVFS_E_BAD_MAGIC) {
+        must(xvfs_host_mkfs(&device, image, sizeof image, INODES, 1) == XVFS_OK, "no image is made");
+        result = xvfs_host_open(&host, &device, image, sizeof image, PROCESSES, XVFS_HOLD);
+    }
+    must(result == XVFS_OK, xvfs_strerror(result));
     tidy_up();
 }
 
 void kernel_halt(void) {
-    xvfs_close(&session);
-    close(device);
+    xvfs_host_close(&host);
+    close(descriptor);
 }

@@ -1,7 +1,8 @@
 /*
  * Random operations of up to four processes over the library, each run with the script and the schedule
  * of its turns, and with what `xvfs replay` has to print for them. The device has only the writes that
- * were told, and some runs stop before one; a device that holds writes back is run beside it. Of the
+ * were told, by the host of xvfs_host.h, and some runs stop before one; a device that holds writes back
+ * is run beside it. Of the
  * library's calls for memory some are refused, and the call that says so is made again.
  *
  * fuzz FOLDER SEED RUNS   writes for each run K the files K.script, K.schedule, K.words (size, inode
@@ -19,7 +20,7 @@
 #include <stdlib.h>
 #include <string.h>
 
-#include "xvfs.h"
+#include "xvfs_host.h"
 
 #define MOST_BLOCKS 300u
 #define PROCESSES 4u
@@ -27,7 +28,9 @@
 #define MOST_TURNS 3000u
 
 static uint8_t device[MOST_BLOCKS * XVFS_BLOCK_SIZE], block[XVFS_BLOCK_SIZE], bytes[8192];
+static uint8_t room[sizeof device]; /* for an opening */
 static size_t device_size;
+static xvfs_host host = XVFS_CLOSED_HOST;
 
 /* Random numbers, the same for the same seed. */
 
@@ -75,7 +78,7 @@ static void fail(const char *what, uint32_t number) {
 
 static void must_check(xvfs_report *report) {
     uint32_t number;
-    REPEAT(number, XVFS_CHECK_MEMORY, xvfs_check(device, device_size, report));
+    REPEAT(number, XVFS_E_CHECK_MEMORY, xvfs_check(device, device_size, report));
     if (number) fail("the device isn't sound", number);
 }
 
@@ -123,12 +126,13 @@ static void make_op(uint32_t p) {
     unsigned number = process->count++;
     xvfs_op *op = &process->ops[number].op;
     uint32_t kind = below(11), longest = below(8) ? 3072 : 4096;
-    *op = (xvfs_op){kind < 7 ? kind : kind < 9 ? XVFS_WRITE : XVFS_CREATE, 1 + below(7), 0, 0};
+    *op = (xvfs_op){kind < 7 ? (xvfs_op_kind)kind : kind < 9 ? XVFS_OP_WRITE : XVFS_OP_CREATE,
+                    1 + below(7), 0, 0};
     process->ops[number].size = 0;
-    if (number == 0 || op->kind == XVFS_CREATE) {
-        *op = (xvfs_op){XVFS_CREATE, below(12) ? 1 + below(3) : 4 + below(9), 0, 0};
+    if (number == 0 || op->kind == XVFS_OP_CREATE) {
+        *op = (xvfs_op){XVFS_OP_CREATE, below(12) ? 1 + below(3) : 4 + below(9), 0, 0};
         if (script) fprintf(script, "%u create %u\n", p, op->inum);
-    } else if (op->kind == XVFS_WRITE) {
+    } else if (op->kind == XVFS_OP_WRITE) {
         uint32_t count = below(longest + 1);
         op->offset = below(3) ? 0 : below(6) ? below(15000) : 270000 + below(9000);
         process->ops[number].size = count;
@@ -136,30 +140,30 @@ static void make_op(uint32_t p) {
         if (script) fprintf(script, "%u write %u %u ", p, op->inum, op->offset);
         say_bytes(script, bytes, count);
         if (script) fputc('\n', script);
-    } else if (op->kind == XVFS_READ) {
+    } else if (op->kind == XVFS_OP_READ) {
         op->offset = below(3) ? below(4000) : below(300000);
         op->len = below(longest + 1);
         if (script) fprintf(script, "%u read %u %u %u\n", p, op->inum, op->offset, op->len);
-    } else if (op->kind == XVFS_LINKS) {
+    } else if (op->kind == XVFS_OP_LINKS) {
         op->len = below(4) ? below(65536) : below(2) * 65535;
         if (script) fprintf(script, "%u links %u %u\n", p, op->inum, op->len);
     } else if (script) {
-        const char *name = op->kind == XVFS_TRUNC ? "trunc" : op->kind == XVFS_REMOVE ? "remove" : "stat";
+        const char *name = op->kind == XVFS_OP_TRUNC ? "trunc" : op->kind == XVFS_OP_REMOVE ? "remove" : "stat";
         fprintf(script, "%u %s %u\n", p, name, op->inum);
     }
 }
 
 /* Hands operations of a process in, as long as there is room. */
-static void hand_in(xvfs *fs, uint32_t p) {
+static void hand_in(uint32_t p) {
     struct process *process = &processes[p];
     while (process->given < process->count) {
         unsigned number = process->given;
         uint32_t count = process->ops[number].size, refused;
         uint64_t seq = 0;
         fill(p, number, count);
-        REPEAT(refused, XVFS_SUBMIT_MEMORY,
-               xvfs_submit(fs, p, &process->ops[number].op, bytes, count, &seq));
-        if (refused == XVFS_FULL) return;
+        REPEAT(refused, XVFS_E_SUBMIT_MEMORY,
+               xvfs_host_submit(&host, p, process->ops[number].op, bytes, count, &seq));
+        if (refused == XVFS_E_FULL) return;
         if (refused || seq != number + 1) fail("an operation is refused", refused);
         process->given += 1;
     }
@@ -169,17 +173,17 @@ static void say_answer(uint32_t p, const xvfs_answer *a) {
     static const char *refused[] = {"1 NoFile", "2 BadOffset", "3 TooBig", "4 TooLong", "5 BadType"};
     say("%u answered %llu %llu ", p, (unsigned long long)a->seq, (unsigned long long)a->group);
     switch (a->reply) {
-    case XVFS_MADE: say("made %u\n", a->value); break;
-    case XVFS_WROTE: say("wrote %u\n", a->value); break;
-    case XVFS_BYTES:
+    case XVFS_REPLY_MADE: say("made %u\n", a->value); break;
+    case XVFS_REPLY_WROTE: say("wrote %u\n", a->value); break;
+    case XVFS_REPLY_BYTES:
         say("bytes ");
         say_bytes(printed, bytes, a->len);
         say("\n");
         break;
-    case XVFS_DONE: say("done\n"); break;
-    case XVFS_STAT_OF: say("stat %u %u\n", a->value, a->size); break;
-    case XVFS_NO_INODE: say("noinode\n"); break;
-    default: say("refused %s\n", refused[a->reply - XVFS_NO_FILE]);
+    case XVFS_REPLY_DONE: say("done\n"); break;
+    case XVFS_REPLY_STAT: say("stat %u %u\n", a->value, a->size); break;
+    case XVFS_REPLY_NO_INODE: say("noinode\n"); break;
+    default: say("refused %s\n", refused[a->reply - XVFS_REPLY_NO_FILE]);
     }
 }
 
@@ -210,7 +214,7 @@ static void leave(uint8_t *left) {
 static void must_recover(uint8_t *image) {
     uint32_t recovered, number;
     do number = xvfs_recover(image, device_size, &recovered);
-    while (number == XVFS_RECOVER_MEMORY || number == XVFS_CHECK_MEMORY);
+    while (number == XVFS_E_RECOVER_MEMORY || number == XVFS_E_CHECK_MEMORY);
     if (number) fail("what a stop leaves isn't sound", number);
 }
 
@@ -232,7 +236,7 @@ static void lose(void) {
         memcpy(synced, found, device_size);
         held_count = 0;
         for (uint32_t place = 0; place < stops_at; place++) {
-            REPEAT(number, XVFS_CHECK_MEMORY,
+            REPEAT(number, XVFS_E_CHECK_MEMORY,
                    xvfs_recover_step(found, device_size, place, &done, block, sizeof block));
             if (number) fail("a step of recovery is refused", number);
             if (done.wrote) hold_write(done.block, block);
@@ -250,47 +254,72 @@ static void lose(void) {
     losses += 1;
 }
 
+/* The device of the host. */
+
+static unsigned step_writes, step_syncs; /* of the step under way */
+
+static int read_block(void *context, uint32_t b, uint8_t *into) {
+    memcpy(into, at((uint8_t *)context, b), XVFS_BLOCK_SIZE);
+    return 0;
+}
+
+static int write_block(void *context, uint32_t b, const uint8_t *from) {
+    if (step_writes || step_syncs) fail("a step wrote behind something else", b);
+    if (writes + 1 == stop) {
+        say("stopped before write %u\n", stop);
+        return -1;
+    }
+    writes += 1;
+    step_writes += 1;
+    memcpy(at((uint8_t *)context, b), from, XVFS_BLOCK_SIZE);
+    if (flags) hold_write(b, from);
+    return 0;
+}
+
+static int sync_device(void *context) {
+    (void)context;
+    step_syncs += 1;
+    if (flags) flush_held();
+    return 0;
+}
+
+static const xvfs_device device_calls = {device, read_block, write_block, sync_device};
+
 /* One step of a process: 1 where it moved, 0 where it didn't, -1 where its write is the one to stop
  * before. With `is_word` a line is printed also where it moved. */
-static int step(xvfs *fs, uint32_t p, int is_word) {
+static int step(uint32_t p, int is_word) {
     xvfs_stepped stepped;
     uint32_t refused;
-    hand_in(fs, p);
+    hand_in(p);
     do {
-        refused = xvfs_step(fs, p, &stepped, block, sizeof block);
+        step_writes = step_syncs = 0;
+        refused = xvfs_host_step(&host, p, &stepped);
+        if (refused == XVFS_E_DEVICE) return -1;
         if (refused) fail("a step is refused", refused);
     } while (stepped.step == XVFS_STEP_MEMORY);
-    if (stepped.wrote) {
-        if (writes + 1 == stop) {
-            say("stopped before write %u\n", stop);
-            return -1;
-        }
-        writes += 1;
-        memcpy(at(device, stepped.block), block, sizeof block);
-        if (flags) hold_write(stepped.block, block);
-    }
-    if (stepped.synced) flush_held();
+    if (step_writes != stepped.wrote) fail("the device has another write", stepped.block);
+    if (step_syncs != (flags ? stepped.synced : stepped.wrote)) fail("the device has another sync", p);
     if (stepped.synced && !flags) fail("a sync is told", p);
     if (flags && below(stepped.wrote ? 8 : 200) == 0) lose();
     committed = stepped.committed;
-    if (stepped.step == XVFS_MOVED) {
+    if (stepped.step == XVFS_STEP_MOVED) {
         if (is_word) say("%u moved\n", p);
         return 1;
     }
-    if (stepped.step == XVFS_ANSWERED) {
+    if (stepped.step == XVFS_STEP_ANSWERED) {
         xvfs_answer answer;
-        refused = xvfs_poll(fs, p, &answer, bytes, sizeof bytes);
+        refused = xvfs_poll(&host.fs, p, &answer, bytes, sizeof bytes); /* kept or not */
         if (refused) fail("no answer", refused);
         say_answer(p, &answer);
         processes[p].answered += 1;
         operations += 1;
-    } else if (stepped.step == XVFS_SLEEPING) {
+    } else if (stepped.step == XVFS_STEP_SLEEPING) {
         static const char *why[] = {"Committing", "LogFull", "InodeHeld", "BufferHeld", "NoBuffer",
                                     "AnswersFull"};
         say("%u sleeping %u %s\n", p, stepped.why, why[stepped.why - 1]);
-    } else if (stepped.step == XVFS_IDLE) {
+    } else if (stepped.step == XVFS_STEP_IDLE) {
         say("%u idle\n", p);
-    } else if (stepped.step == XVFS_SHUT_DOWN) {
+    } else if (stepped.step == XVFS_STEP_SHUT_DOWN) {
         say("%u shutdown\n", p);
     } else {
         fail("a step is", stepped.step);
@@ -299,11 +328,11 @@ static int step(xvfs *fs, uint32_t p, int is_word) {
 }
 
 /* A word of the schedule: a step of a process, or its steps until one doesn't move. Whether to go on. */
-static int turn(xvfs *fs) {
+static int turn(void) {
     uint32_t p = below(process_count), is_whole = below(5) == 0;
     int went;
     if (schedule) fprintf(schedule, is_whole ? "%u!\n" : "%u\n", p);
-    do went = step(fs, p, !is_whole); while (went == 1 && is_whole);
+    do went = step(p, !is_whole); while (went == 1 && is_whole);
     return went >= 0;
 }
 
@@ -315,9 +344,7 @@ static int is_done(void) {
 
 /* A run of a seed, from a new image to the device that it leaves. */
 static void run(uint64_t seed) {
-    xvfs fs = XVFS_CLOSED_HANDLE;
     xvfs_report report;
-    uint64_t opening;
     uint32_t refused;
     state = seed * 0x9e3779b97f4a7c15u + 88172645463325252u;
     below(2);
@@ -330,31 +357,31 @@ static void run(uint64_t seed) {
     memset(processes, 0, sizeof processes);
     device_size = size * XVFS_BLOCK_SIZE;
     memset(device, 0, device_size);
-    REPEAT(refused, XVFS_MKFS_MEMORY, xvfs_mkfs(device, device_size, ninodes, form));
+    REPEAT(refused, XVFS_E_MKFS_MEMORY, xvfs_mkfs(device, device_size, ninodes, form));
     if (refused) fail("mkfs", refused);
     for (uint32_t p = 0; p < process_count; p++)
         for (unsigned k = 1 + below(MOST_OPS - 1); k > 0; k--) make_op(p);
-    do refused = xvfs_open(&fs, device, device_size, process_count, flags, &opening);
-    while (refused == XVFS_OPEN_MEMORY || refused == XVFS_CHECK_MEMORY);
-    if (refused || opening) fail("open", refused);
+    do refused = xvfs_host_open(&host, &device_calls, room, device_size, process_count, flags);
+    while (refused == XVFS_E_OPEN_MEMORY || refused == XVFS_E_CHECK_MEMORY);
+    if (refused) fail("open", refused);
     memcpy(synced, device, device_size);
     held_count = 0;
     unsigned most = MOST_TURNS, shut_at = below(4) ? MOST_TURNS : below(200), turns = 0;
     int goes_on = 1;
     for (; goes_on && turns < most && !is_done(); turns++) {
         if (turns == shut_at) {
-            xvfs_shut(&fs);
+            xvfs_host_shut(&host);
             if (schedule) fprintf(schedule, "S\n");
             say("shut\n");
             most = turns + 100;
         }
-        goes_on = turn(&fs);
+        goes_on = turn();
         if (turns % 16 == 0) must_check(&report);
     }
     say("writes %lu\ncommitted %llu\n", writes, (unsigned long long)committed);
     told += writes;
     stops += !goes_on;
-    xvfs_close(&fs);
+    xvfs_host_close(&host);
     must_check(&report);
 }
 
@@ -438,73 +465,73 @@ static void expect_fault(const char *name, uint32_t wanted, uint32_t at) {
 
 static void see_faults(void) {
     make();
-    put(1024, 7), EXPECT_FAULT(XVFS_BAD_MAGIC, 0);
-    put(1028, 7), EXPECT_FAULT(XVFS_BAD_GEOMETRY, 0);
-    put(2048, 31), EXPECT_FAULT(XVFS_BAD_LOG, 0);
-    put(INODE_1, 4), EXPECT_FAULT(XVFS_BAD_TYPE, 1);
-    put(INODE_1, 2), put(INODE_1 + 8, 274433), EXPECT_FAULT(XVFS_BAD_SIZE, 1);
-    put(INODE_1, 2), put(INODE_1 + 12, 5), EXPECT_FAULT(XVFS_BAD_ADDRESS, 1);
+    put(1024, 7), EXPECT_FAULT(XVFS_E_BAD_MAGIC, 0);
+    put(1028, 7), EXPECT_FAULT(XVFS_E_BAD_GEOMETRY, 0);
+    put(2048, 31), EXPECT_FAULT(XVFS_E_BAD_LOG, 0);
+    put(INODE_1, 4), EXPECT_FAULT(XVFS_E_BAD_TYPE, 1);
+    put(INODE_1, 2), put(INODE_1 + 8, 274433), EXPECT_FAULT(XVFS_E_BAD_SIZE, 1);
+    put(INODE_1, 2), put(INODE_1 + 12, 5), EXPECT_FAULT(XVFS_E_BAD_ADDRESS, 1);
     put(INODE_1, 2), put(INODE_1 + 12, 40), put(INODE_1 + 16, 40);
-    device[BITMAP + 5] = 1, EXPECT_FAULT(XVFS_TWICE_USED, 40);
-    put(INODE_1, 2), put(INODE_1 + 12, 41), EXPECT_FAULT(XVFS_USED_BUT_FREE, 41);
-    device[BITMAP + 5] = 4, EXPECT_FAULT(XVFS_LOST_BLOCK, 42);
+    device[BITMAP + 5] = 1, EXPECT_FAULT(XVFS_E_TWICE_USED, 40);
+    put(INODE_1, 2), put(INODE_1 + 12, 41), EXPECT_FAULT(XVFS_E_USED_BUT_FREE, 41);
+    device[BITMAP + 5] = 4, EXPECT_FAULT(XVFS_E_LOST_BLOCK, 42);
 }
 
 static void see_calls(void) {
     xvfs fs = XVFS_CLOSED_HANDLE;
-    xvfs_op stat = {XVFS_STAT, 1, 0, 0}, none = {7, 1, 0, 0}, large = {XVFS_CREATE, 65536, 0, 0},
-            many = {XVFS_LINKS, 1, 0, 65536};
+    xvfs_op stat = {XVFS_OP_STAT, 1, 0, 0}, none = {(xvfs_op_kind)7, 1, 0, 0}, large = {XVFS_OP_CREATE, 65536, 0, 0},
+            many = {XVFS_OP_LINKS, 1, 0, 65536};
     xvfs_stepped stepped;
     xvfs_answer answer;
     xvfs_report report;
     xvfs_told told_now;
     uint64_t n;
     uint32_t recovered;
-    EXPECT(XVFS_FILE_LENGTH, xvfs_check(device, 1023, &report));
-    EXPECT(XVFS_FILE_LENGTH, xvfs_mkfs(device, 0, 32, 1));
-    EXPECT(XVFS_FILE_LENGTH, xvfs_recover(device, 1025, &recovered));
-    EXPECT(XVFS_FILE_LENGTH, xvfs_open(&fs, device, 0, 1, 0, &n));
-    EXPECT(XVFS_MKFS_SIZE, xvfs_mkfs(device, 37 * XVFS_BLOCK_SIZE, 32, 1));
-    EXPECT(XVFS_MKFS_INODES, xvfs_mkfs(device, device_size, 1, 1));
-    EXPECT(XVFS_OPEN_FLAGS, xvfs_open(&fs, device, device_size, 1, 2, &n));
-    EXPECT(XVFS_FILE_LENGTH, xvfs_recover_step(device, 0, 0, &told_now, block, sizeof block));
-    EXPECT(XVFS_NO_BLOCK, xvfs_recover_step(device, device_size, 0, &told_now, block, 1));
-    EXPECT(XVFS_RECOVER_LOG, xvfs_recover_step(device, 2048, 1, &told_now, block, sizeof block));
-    EXPECT(XVFS_OPEN_PROCESSES, xvfs_open(&fs, device, device_size, 33, 0, &n));
-    EXPECT(XVFS_CLOSED, xvfs_try_step(&fs, 0, &stepped, block, sizeof block));
+    EXPECT(XVFS_E_FILE_LENGTH, xvfs_check(device, 1023, &report));
+    EXPECT(XVFS_E_FILE_LENGTH, xvfs_mkfs(device, 0, 32, 1));
+    EXPECT(XVFS_E_FILE_LENGTH, xvfs_recover(device, 1025, &recovered));
+    EXPECT(XVFS_E_FILE_LENGTH, xvfs_open(&fs, device, 0, 1, 0, &n));
+    EXPECT(XVFS_E_MKFS_SIZE, xvfs_mkfs(device, 37 * XVFS_BLOCK_SIZE, 32, 1));
+    EXPECT(XVFS_E_MKFS_INODES, xvfs_mkfs(device, device_size, 1, 1));
+    EXPECT(XVFS_E_OPEN_FLAGS, xvfs_open(&fs, device, device_size, 1, 2, &n));
+    EXPECT(XVFS_E_FILE_LENGTH, xvfs_recover_step(device, 0, 0, &told_now, block, sizeof block));
+    EXPECT(XVFS_E_NO_BLOCK, xvfs_recover_step(device, device_size, 0, &told_now, block, 1));
+    EXPECT(XVFS_E_RECOVER_LOG, xvfs_recover_step(device, 2048, 1, &told_now, block, sizeof block));
+    EXPECT(XVFS_E_OPEN_PROCESSES, xvfs_open(&fs, device, device_size, 33, 0, &n));
+    EXPECT(XVFS_E_CLOSED, xvfs_try_step(&fs, 0, &stepped, block, sizeof block));
     EXPECT(XVFS_OK, xvfs_try_open(&fs, device, device_size, 1, 0, &n));
-    EXPECT(XVFS_OPEN, xvfs_try_open(&fs, device, device_size, 1, 0, &n));
-    EXPECT(XVFS_NO_PROCESS, xvfs_submit(&fs, 1, &stat, bytes, 0, &n));
-    EXPECT(XVFS_NO_OPERATION, xvfs_submit(&fs, 0, &none, bytes, 0, &n));
-    EXPECT(XVFS_NO_OPERATION, xvfs_submit(&fs, 0, &large, bytes, 0, &n));
-    EXPECT(XVFS_NO_OPERATION, xvfs_submit(&fs, 0, &many, bytes, 0, &n));
+    EXPECT(XVFS_E_OPEN, xvfs_try_open(&fs, device, device_size, 1, 0, &n));
+    EXPECT(XVFS_E_NO_PROCESS, xvfs_submit(&fs, 1, &stat, bytes, 0, &n));
+    EXPECT(XVFS_E_NO_OPERATION, xvfs_submit(&fs, 0, &none, bytes, 0, &n));
+    EXPECT(XVFS_E_NO_OPERATION, xvfs_submit(&fs, 0, &large, bytes, 0, &n));
+    EXPECT(XVFS_E_NO_OPERATION, xvfs_submit(&fs, 0, &many, bytes, 0, &n));
     for (unsigned k = 0; k < XVFS_PLACES; k++)
         EXPECT(XVFS_OK, xvfs_try_submit(&fs, 0, &stat, bytes, 0, &n));
-    EXPECT(XVFS_FULL, xvfs_submit(&fs, 0, &stat, bytes, 0, &n));
-    EXPECT(XVFS_NO_PROCESS, xvfs_step(&fs, 1, &stepped, block, sizeof block));
-    EXPECT(XVFS_NO_BLOCK, xvfs_step(&fs, 0, &stepped, block, 1023));
-    EXPECT(XVFS_NO_PROCESS, xvfs_poll(&fs, 1, &answer, bytes, 0));
-    EXPECT(XVFS_NO_ANSWER, xvfs_try_poll(&fs, 0, &answer, bytes, 0));
+    EXPECT(XVFS_E_FULL, xvfs_submit(&fs, 0, &stat, bytes, 0, &n));
+    EXPECT(XVFS_E_NO_PROCESS, xvfs_step(&fs, 1, &stepped, block, sizeof block));
+    EXPECT(XVFS_E_NO_BLOCK, xvfs_step(&fs, 0, &stepped, block, 1023));
+    EXPECT(XVFS_E_NO_PROCESS, xvfs_poll(&fs, 1, &answer, bytes, 0));
+    EXPECT(XVFS_E_NO_ANSWER, xvfs_try_poll(&fs, 0, &answer, bytes, 0));
     xvfs_end(&fs);
     xvfs_end(&fs);
-    EXPECT(XVFS_CLOSED, xvfs_try_poll(&fs, 0, &answer, bytes, 0));
+    EXPECT(XVFS_E_CLOSED, xvfs_try_poll(&fs, 0, &answer, bytes, 0));
 }
 
 /* The first call for memory of a call is refused. */
 static void see_memory(void) {
     xvfs fs = XVFS_CLOSED_HANDLE;
-    xvfs_op write = {XVFS_WRITE, 1, 0, 0}, read = {XVFS_READ, 1, 0, 100};
+    xvfs_op write = {XVFS_OP_WRITE, 1, 0, 0}, read = {XVFS_OP_READ, 1, 0, 100};
     xvfs_stepped stepped;
     xvfs_report report;
     uint64_t n;
     uint32_t recovered;
 #define REFUSED(name, call) asked = 0, refuse_at = 1, EXPECT(name, call), refuse_at = 0
-    REFUSED(XVFS_CHECK_MEMORY, xvfs_check(device, device_size, &report));
-    REFUSED(XVFS_MKFS_MEMORY, xvfs_mkfs(device, device_size, 32, 1));
-    REFUSED(XVFS_RECOVER_MEMORY, xvfs_recover(device, device_size, &recovered));
-    REFUSED(XVFS_OPEN_MEMORY, xvfs_open(&fs, device, device_size, 1, 0, &n));
+    REFUSED(XVFS_E_CHECK_MEMORY, xvfs_check(device, device_size, &report));
+    REFUSED(XVFS_E_MKFS_MEMORY, xvfs_mkfs(device, device_size, 32, 1));
+    REFUSED(XVFS_E_RECOVER_MEMORY, xvfs_recover(device, device_size, &recovered));
+    REFUSED(XVFS_E_OPEN_MEMORY, xvfs_open(&fs, device, device_size, 1, 0, &n));
     EXPECT(XVFS_OK, xvfs_open(&fs, device, device_size, 1, 0, &n));
-    REFUSED(XVFS_SUBMIT_MEMORY, xvfs_submit(&fs, 0, &write, bytes, 100, &n));
+    REFUSED(XVFS_E_SUBMIT_MEMORY, xvfs_submit(&fs, 0, &write, bytes, 100, &n));
     /* Of the six operations a read alone takes memory at its beginning, for its bytes. */
     EXPECT(XVFS_OK, xvfs_submit(&fs, 0, &read, bytes, 0, &n));
     REFUSED(XVFS_OK, xvfs_step(&fs, 0, &stepped, block, sizeof block));

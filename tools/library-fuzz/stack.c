@@ -83,22 +83,22 @@ static void submit(void) {
 static void step(void) {
     xvfs_stepped stepped;
     do must(xvfs_step(&fs, 0, &stepped, block, sizeof block) == XVFS_OK, "step");
-    while (stepped.step == XVFS_MOVED);
-    must(stepped.step == XVFS_ANSWERED, "no answer");
+    while (stepped.step == XVFS_STEP_MOVED);
+    must(stepped.step == XVFS_STEP_ANSWERED, "no answer");
 }
 
 static void poll(void) {
     xvfs_answer answer;
     must(xvfs_poll(&fs, 0, &answer, bytes, sizeof bytes) == XVFS_OK, "poll");
-    must(answer.reply <= XVFS_STAT_OF, "refused");
+    must(answer.reply <= XVFS_REPLY_STAT, "refused");
 }
 
 static void shut(void) { xvfs_shut(&fs); }
 static void close_it(void) { xvfs_close(&fs); }
 
-static void operate(uint32_t kind, uint32_t number, uint32_t offset, uint32_t length) {
-    op = (xvfs_op){kind, number, offset, kind == XVFS_READ ? length : 0};
-    size = kind == XVFS_WRITE ? length : 0;
+static void operate(xvfs_op_kind kind, uint32_t number, uint32_t offset, uint32_t length) {
+    op = (xvfs_op){kind, number, offset, kind == XVFS_OP_READ ? length : 0};
+    size = kind == XVFS_OP_WRITE ? length : 0;
     measure("xvfs_submit", submit, 4096);
     measure("xvfs_step", step, 4096);
     measure("xvfs_poll", poll, 4096);
@@ -110,13 +110,13 @@ int main(void) {
     measure("xvfs_recover", recover, 4096);
     measure("xvfs_recover_step", recover_step, 4096);
     measure("xvfs_open", open_it, 72 * 1024);
-    operate(XVFS_CREATE, 2, 0, 0);
-    for (uint32_t k = 0; k < 100; k++) operate(XVFS_WRITE, 1, k * XVFS_TRANSFER, XVFS_TRANSFER);
-    operate(XVFS_READ, 1, 5, 3000);
-    operate(XVFS_STAT, 1, 0, 0);
-    operate(XVFS_LINKS, 1, 0, 0);
-    operate(XVFS_TRUNC, 1, 0, 0);
-    operate(XVFS_REMOVE, 1, 0, 0);
+    operate(XVFS_OP_CREATE, 2, 0, 0);
+    for (uint32_t k = 0; k < 100; k++) operate(XVFS_OP_WRITE, 1, k * XVFS_TRANSFER, XVFS_TRANSFER);
+    operate(XVFS_OP_READ, 1, 5, 3000);
+    operate(XVFS_OP_STAT, 1, 0, 0);
+    operate(XVFS_OP_LINKS, 1, 0, 0);
+    operate(XVFS_OP_TRUNC, 1, 0, 0);
+    operate(XVFS_OP_REMOVE, 1, 0, 0);
     measure("xvfs_shut", shut, 4096);
     measure("xvfs_close", close_it, 4096);
     if (is_well) printf("each call takes at most the stack that xvfs.h says\n");

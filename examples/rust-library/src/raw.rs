@@ -1,4 +1,6 @@
-//! The functions of libxvfs.a, as xvfs.h declares them.
+//! The functions of libxvfs.a, as xvfs.h declares them. `reserved` is room for later versions.
+use std::mem::{offset_of, size_of};
+
 #[repr(C)]
 pub struct Handle {
     pub session: *mut u8,
@@ -15,6 +17,7 @@ pub struct Report {
     pub ninodes: u32,
     pub logged: u32,
     pub files: u32,
+    reserved: [u32; 8],
 }
 
 #[repr(C)]
@@ -34,6 +37,7 @@ pub struct Stepped {
     pub block: u32,
     pub synced: u32,
     pub committed: u64,
+    reserved: [u64; 4],
 }
 
 #[repr(C)]
@@ -42,6 +46,7 @@ pub struct Told {
     pub wrote: u32,
     pub block: u32,
     pub synced: u32,
+    reserved: [u32; 5],
 }
 
 pub const HOLD: u32 = 1;
@@ -55,7 +60,17 @@ pub struct Answer {
     pub value: u32,
     pub size: u32,
     pub len: u32,
+    reserved: [u64; 4],
 }
+
+// As xvfs.h asserts it.
+const _: () = {
+    assert!(size_of::<Report>() == 64 && offset_of!(Report, files) == 28);
+    assert!(size_of::<Told>() == 32 && offset_of!(Told, synced) == 8);
+    assert!(size_of::<Op>() == 16 && offset_of!(Op, len) == 12);
+    assert!(size_of::<Stepped>() == 64 && offset_of!(Stepped, committed) == 24);
+    assert!(size_of::<Answer>() == 64 && offset_of!(Answer, len) == 28);
+};
 
 extern "C" {
     pub fn xvfs_check(image: *const u8, len: usize, out: *mut Report) -> u32;
