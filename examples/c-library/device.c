@@ -140,7 +140,7 @@ static int step(uint32_t p) {
     processes[p].ended += stepped.step == XVFS_STEP_ANSWERED;
     for (uint32_t other = 0; other < PROCESSES; other++)
         while (xvfs_host_poll(&host, other, &answer, NULL, 0) == XVFS_OK) {
-            must(answer.reply == XVFS_REPLY_WROTE && answer.value == RECORD_BYTES, "no record is written");
+            must(answer.reply == XVFS_REPLY_WROTE && answer.value == RECORD_BYTES, "nothing is written");
             processes[other].kept += 1;
         }
     return 1;
@@ -196,7 +196,8 @@ static void make(void) {
     start(UINT32_MAX);
     must(xvfs_host_mkfs(&device, image, sizeof image, INODES, 1) == XVFS_OK, "no image");
     must(open_host(1) == XVFS_OK, "not opened");
-    for (uint32_t p = 0; p < PROCESSES; p++) must(call(create, NULL, 0).reply == XVFS_REPLY_MADE, "no file");
+    for (uint32_t p = 0; p < PROCESSES; p++)
+        must(call(create, NULL, 0).reply == XVFS_REPLY_MADE, "no file");
     xvfs_host_close(&host);
     memset(processes, 0, sizeof processes);
     way = wanted;

@@ -148,7 +148,9 @@ static void make_op(uint32_t p) {
         op->len = below(4) ? below(65536) : below(2) * 65535;
         if (script) fprintf(script, "%u links %u %u\n", p, op->inum, op->len);
     } else if (script) {
-        const char *name = op->kind == XVFS_OP_TRUNC ? "trunc" : op->kind == XVFS_OP_REMOVE ? "remove" : "stat";
+        const char *name = op->kind == XVFS_OP_TRUNC    ? "trunc"
+                           : op->kind == XVFS_OP_REMOVE ? "remove"
+                                                        : "stat";
         fprintf(script, "%u %s %u\n", p, name, op->inum);
     }
 }
@@ -479,8 +481,8 @@ static void see_faults(void) {
 
 static void see_calls(void) {
     xvfs fs = XVFS_CLOSED_HANDLE;
-    xvfs_op stat = {XVFS_OP_STAT, 1, 0, 0}, none = {(xvfs_op_kind)7, 1, 0, 0}, large = {XVFS_OP_CREATE, 65536, 0, 0},
-            many = {XVFS_OP_LINKS, 1, 0, 65536};
+    xvfs_op stat = {XVFS_OP_STAT, 1, 0, 0}, none = {(xvfs_op_kind)7, 1, 0, 0},
+            large = {XVFS_OP_CREATE, 65536, 0, 0}, many = {XVFS_OP_LINKS, 1, 0, 65536};
     xvfs_stepped stepped;
     xvfs_answer answer;
     xvfs_report report;
@@ -522,6 +524,7 @@ static void see_memory(void) {
     xvfs fs = XVFS_CLOSED_HANDLE;
     xvfs_op write = {XVFS_OP_WRITE, 1, 0, 0}, read = {XVFS_OP_READ, 1, 0, 100};
     xvfs_stepped stepped;
+    xvfs_answer answer;
     xvfs_report report;
     uint64_t n;
     uint32_t recovered;
@@ -537,6 +540,11 @@ static void see_memory(void) {
     REFUSED(XVFS_OK, xvfs_step(&fs, 0, &stepped, block, sizeof block));
     EXPECT(XVFS_STEP_MEMORY, stepped.step);
     xvfs_close(&fs);
+    EXPECT(XVFS_OK, xvfs_host_open(&host, &device_calls, room, device_size, 1, 0));
+    EXPECT(XVFS_OK, xvfs_host_submit(&host, 0, read, bytes, 0, &n));
+    REFUSED(XVFS_E_BEGIN_MEMORY, xvfs_host_finish(&host, 0, &answer, bytes, sizeof bytes));
+    EXPECT(XVFS_OK, xvfs_host_finish(&host, 0, &answer, bytes, sizeof bytes));
+    xvfs_host_close(&host);
 }
 
 int main(int argc, char **argv) {
