@@ -95,15 +95,15 @@ static inline xvfs_result xvfs_host_recover(xvfs_host *host, const uint8_t *imag
 
 /* The calls. */
 
-/* Makes an empty image on the device, of `len` bytes: `image` is memory for it. A stop leaves the whole
- * of it, or none. XVFS_E_DEVICE, and the results of xvfs_mkfs. */
+/* Makes an empty image on the device, of `len` bytes: `image` is memory for it. A stop leaves what was
+ * there, or no image, or the whole new one. XVFS_E_DEVICE, and the results of xvfs_mkfs. */
 static inline xvfs_result xvfs_host_mkfs(const xvfs_device *device, uint8_t *image, size_t len,
                                          uint32_t ninodes, uint32_t form) {
     static const uint8_t nothing[XVFS_BLOCK_SIZE] = {0};
     uint32_t block;
     xvfs_result result = xvfs_mkfs(image, len, ninodes, form);
     if (result) return result;
-    /* Block 1, without which it is no image, goes first and comes last. */
+    /* Block 1, without which there is no image, goes first and comes last. */
     if (device->write(device->context, 1, nothing) || device->sync(device->context)) return XVFS_E_DEVICE;
     for (block = 0; block < len / XVFS_BLOCK_SIZE; block++) {
         const uint8_t *bytes = image + (size_t)block * XVFS_BLOCK_SIZE;
