@@ -95,7 +95,8 @@ static int sync_disk(void *context) {
 /* One step of a process. Whether it went on. */
 static int step(uint32_t process) {
     xvfs_stepped stepped;
-    must(xvfs_host_step(&host, process, &stepped) == XVFS_OK, "no step");
+    xvfs_result result = xvfs_host_step(&host, process, &stepped);
+    must(result == XVFS_OK, xvfs_strerror(result));
     if (stepped.step != XVFS_STEP_ANSWERED) return stepped.step == XVFS_STEP_MOVED;
     asks[process].state = ENDED;
     return 1;
