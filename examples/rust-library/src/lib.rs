@@ -3,8 +3,11 @@
 //! A `Session` holds a copy of an image. Each step tells the block that it wrote, and the caller
 //! writes it to a device before the next step; xvfs.h says what else the caller owes. A device that
 //! holds writes back is flushed behind each told write, or, by `Session::open_holding`, at the told
-//! syncs alone.
+//! syncs alone. A `Host` does all this over a `Device`.
+mod host;
 mod raw;
+
+pub use host::{Device, Fault, Host};
 
 use std::fmt;
 use std::ptr;

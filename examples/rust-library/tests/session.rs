@@ -1,8 +1,9 @@
-//! A device in memory to which each told write is carried, stopped before each of them.
+//! A host over a device in memory, which is stopped at each of its calls; and the session alone.
 use std::sync::Mutex;
 use std::thread;
 use xvfs::{
-    check, mkfs, recover, Answer, Op, Recovery, Refusal, Reply, Session, Step, Told, BLOCK_SIZE,
+    check, mkfs, recover, Answer, Device, Fault, Host, Op, Recovery, Refusal, Reply, Session, Step,
+    Told, BLOCK_SIZE,
 };
 
 const BLOCKS: usize = 200;
@@ -18,33 +19,70 @@ fn put(device: &mut [u8], block: u32, bytes: &[u8; BLOCK_SIZE]) {
     device[at..at + BLOCK_SIZE].copy_from_slice(bytes);
 }
 
-/// Steps a process up to its answer and carries each write to the device, but not the one of number
-/// `stop`, from 1. `None` where it was stopped.
-fn run(session: &mut Session, device: &mut [u8], pid: u32, stop: usize) -> Option<Answer> {
-    let mut writes = 0;
-    loop {
-        let stepped = session.step(pid).expect("a step");
-        if let Told::Write(block, bytes) = stepped.told {
-            writes += 1;
-            if writes == stop {
-                return None;
-            }
-            put(device, block, bytes);
+/// A device in memory, which tells the blocks that were written and, by `None`, the syncs. It stops
+/// before the call of number `stop`, from 1; 0 stops it before none. A deaf one makes no write.
+struct Disk {
+    bytes: Vec<u8>,
+    told: Vec<Option<u32>>,
+    stop: usize,
+    is_deaf: bool,
+}
+
+impl Disk {
+    fn of(bytes: Vec<u8>, stop: usize) -> Disk {
+        Disk {
+            bytes,
+            told: Vec::new(),
+            stop,
+            is_deaf: false,
         }
-        if stepped.step == Step::Answered {
-            return session.poll(pid);
+    }
+
+    fn tell(&mut self, told: Option<u32>) -> Result<(), &'static str> {
+        self.told.push(told);
+        if self.told.len() == self.stop {
+            return Err("power failed");
         }
-        assert_eq!(stepped.step, Step::Moved);
+        Ok(())
     }
 }
 
+impl Device for Disk {
+    type Error = &'static str;
+
+    fn blocks(&self) -> u32 {
+        (self.bytes.len() / BLOCK_SIZE) as u32
+    }
+
+    fn read(&mut self, block: u32, bytes: &mut [u8; BLOCK_SIZE]) -> Result<(), &'static str> {
+        let at = block as usize * BLOCK_SIZE;
+        bytes.copy_from_slice(&self.bytes[at..at + BLOCK_SIZE]);
+        Ok(())
+    }
+
+    fn write(&mut self, block: u32, bytes: &[u8; BLOCK_SIZE]) -> Result<(), &'static str> {
+        self.tell(Some(block))?;
+        if !self.is_deaf {
+            put(&mut self.bytes, block, bytes);
+        }
+        Ok(())
+    }
+
+    fn sync(&mut self) -> Result<(), &'static str> {
+        self.tell(None)
+    }
+}
+
+fn new_host(processes: u32, stop: usize) -> Host<Disk> {
+    Host::open(Disk::of(new_device(), stop), processes).expect("a host")
+}
+
+const CREATE: Op = Op::Create { kind: 2 };
+
 #[test]
 fn writes_and_reads() {
-    let mut device = new_device();
-    let (mut session, writes) = Session::open(&device, 2).expect("a session");
-    assert_eq!(writes, 0);
-    session.submit(0, Op::Create { kind: 2 }).expect("room");
-    let made = run(&mut session, &mut device, 0, 0).expect("an answer");
+    let mut host = new_host(2, 0);
+    let made = host.call(0, CREATE).expect("an answer");
     assert_eq!(
         made,
         Answer {
@@ -53,98 +91,124 @@ fn writes_and_reads() {
             reply: Reply::Made(1)
         }
     );
-    session
-        .submit(
-            1,
-            Op::Write {
-                inum: 1,
-                offset: 0,
-                bytes: b"to be",
-            },
-        )
-        .expect("room");
-    run(&mut session, &mut device, 1, 0).expect("an answer");
-    drop(session);
-    let (mut session, _) = Session::open(&device, 2).expect("a session");
-    session
-        .submit(
-            0,
-            Op::Read {
-                inum: 1,
-                offset: 0,
-                len: 100,
-            },
-        )
-        .expect("room");
-    let read = run(&mut session, &mut device, 0, 0).expect("an answer");
+    let write = Op::Write {
+        inum: 1,
+        offset: 0,
+        bytes: b"to be",
+    };
+    assert_eq!(host.call(1, write).expect("one").reply, Reply::Wrote(5));
+    let disk = host.close();
+    let mut host = Host::open(disk, 2).expect("a host");
+    let read = Op::Read {
+        inum: 1,
+        offset: 0,
+        len: 100,
+    };
+    let read = host.call(0, read).expect("an answer");
     assert_eq!(read.reply, Reply::Bytes(b"to be".to_vec()));
-    session.submit(0, Op::Stat { inum: 1 }).expect("room");
-    let stat = run(&mut session, &mut device, 0, 0).expect("an answer");
+    let stat = host.call(0, Op::Stat { inum: 1 }).expect("an answer");
     assert_eq!(stat.reply, Reply::Stat { kind: 2, size: 5 });
 }
 
 #[test]
 fn links_are_kept() {
-    let mut device = new_device();
-    let (mut session, _) = Session::open(&device, 1).expect("a session");
-    session.submit(0, Op::Create { kind: 2 }).expect("room");
-    run(&mut session, &mut device, 0, 0).expect("an answer");
+    let mut host = new_host(1, 0);
+    host.call(0, CREATE).expect("an answer");
     let links = Op::Links {
         inum: 1,
         count: 258,
     };
-    session.submit(0, links).expect("room");
-    let answer = run(&mut session, &mut device, 0, 0).expect("an answer");
-    assert_eq!(answer.reply, Reply::Done);
+    assert_eq!(host.call(0, links).expect("one").reply, Reply::Done);
     // The inode of number 1 is the second of block 33, and has its links at byte 6.
     let at = 33 * BLOCK_SIZE + 64 + 6;
-    assert_eq!(device[at..at + 2], [2, 1]);
+    assert_eq!(host.close().bytes[at..at + 2], [2, 1]);
 }
 
 #[test]
 fn each_stop_keeps_whole_operations() {
-    for stop in 1..=4 {
-        let mut device = new_device();
-        let (mut session, _) = Session::open(&device, 1).expect("a session");
-        session.submit(0, Op::Create { kind: 2 }).expect("room");
-        assert_eq!(run(&mut session, &mut device, 0, stop), None);
-        drop(session);
-        // The second write is the log's header, with which the group is kept.
-        let logged = u32::from(stop > 2);
-        assert_eq!(check(&device).expect("it is sound").logged, logged);
-        assert_eq!(recover(&mut device), Ok(logged));
-        assert_eq!(check(&device).expect("it is sound").files, logged);
+    for stop in 1..=8 {
+        let mut host = new_host(1, stop);
+        let failed = Fault::Device("power failed");
+        assert_eq!(host.call(0, CREATE), Err(failed));
+        // Nothing reaches the device any more.
+        assert_eq!(host.step(0), Err(Fault::Halted));
+        assert_eq!(host.submit(0, CREATE), Err(Fault::Halted));
+        assert_eq!(host.poll(0), None);
+        let mut disk = host.close();
+        assert_eq!(disk.told.len(), stop);
+        // The third call writes the log's header, with which the group is kept.
+        let (kept, logged) = (u32::from(stop > 3), u32::from(stop > 3 && stop < 8));
+        assert_eq!(check(&disk.bytes).expect("it is sound").logged, logged);
+        disk.stop = 0;
+        let disk = Host::open(disk, 1).map(Host::close).expect("a host");
+        let report = check(&disk.bytes).expect("it is sound");
+        assert_eq!((report.logged, report.files), (0, kept));
     }
 }
 
 #[test]
-fn tells_when_to_flush() {
-    let device = new_device();
-    let (mut session, _) = Session::open_holding(&device, 1).expect("a session");
-    session.submit(0, Op::Create { kind: 2 }).expect("room");
+fn an_opening_fails_with_its_device() {
+    let mut host = new_host(1, 5);
+    assert!(host.call(0, CREATE).is_err());
+    let found = host.close().bytes;
+    // The home of the logged block, a sync, the empty header, a sync.
+    for stop in 1..=4 {
+        let opened = Host::open(Disk::of(found.clone(), stop), 1);
+        assert_eq!(opened.err(), Some(Fault::Device("power failed")));
+    }
+    let mut deaf = Disk::of(found, 0);
+    deaf.is_deaf = true;
+    assert_eq!(Host::open(deaf, 1).err(), Some(Fault::Lost));
+}
+
+#[test]
+fn syncs_where_it_is_told() {
+    let mut host = new_host(1, 0);
+    host.call(0, CREATE).expect("an answer");
+    // A log block, the header, the inode's home, the empty header.
+    let (log, header, home) = (Some(3), Some(2), Some(33));
+    let wanted = [log, None, header, None, home, None, header, None];
+    assert_eq!(host.close().told, wanted);
+}
+
+#[test]
+fn a_session_tells_each_write() {
+    let (mut session, writes) = Session::open(&new_device(), 1).expect("a session");
+    assert_eq!(writes, 0);
+    session.submit(0, CREATE).expect("room");
     let mut told = Vec::new();
     loop {
         let stepped = session.step(0).expect("a step");
         match stepped.told {
             Told::Nothing => {}
-            Told::Write(block, _) => told.push(Some(block)),
-            Told::Sync => told.push(None),
+            Told::Write(block, _) => told.push(block),
+            Told::Sync => panic!("a sync is told"),
         }
         if stepped.step == Step::Answered {
             break;
         }
     }
-    // A log block, the header, the inode's home, the empty header.
-    let (log, header, home) = (Some(3), Some(2), Some(33));
-    assert_eq!(told, [log, None, header, None, home, None, header, None]);
+    assert_eq!(told, [3, 2, 33, 2]);
+}
+
+#[test]
+fn an_answer_waits_for_its_group() {
+    let mut host = new_host(2, 0);
+    host.submit(0, CREATE).expect("room");
+    assert_eq!(host.step(0), Ok(Step::Moved));
+    // The group stays open as long as process 0 goes on.
+    assert_eq!(host.call(1, CREATE), Err(Fault::Waits(Step::Answered)));
+    assert_eq!(host.poll(1), None);
+    while host.step(0) == Ok(Step::Moved) {}
+    let groups = [0, 1].map(|pid| host.poll(pid).expect("an answer").group);
+    assert_eq!(groups, [1, 1]);
 }
 
 #[test]
 fn recovers_a_device_step_by_step() {
-    let mut device = new_device();
-    let (mut session, _) = Session::open(&device, 1).expect("a session");
-    session.submit(0, Op::Create { kind: 2 }).expect("room");
-    assert_eq!(run(&mut session, &mut device, 0, 3), None);
+    let mut host = new_host(1, 5);
+    assert!(host.call(0, CREATE).is_err());
+    let mut device = host.close().bytes;
     let found = device.clone();
     let mut whole = found.clone();
     assert_eq!(recover(&mut whole), Ok(1));
@@ -167,33 +231,21 @@ fn recovers_a_device_step_by_step() {
 }
 
 #[test]
-fn threads_share_a_session() {
-    let device = Mutex::new(new_device());
-    let (session, _) = Session::open(&device.lock().expect("a device"), 4).expect("a session");
-    let session = Mutex::new(session);
+fn threads_share_a_host() {
+    let host = Mutex::new(new_host(4, 0));
     thread::scope(|scope| {
         for pid in 0..4 {
-            let (session, device) = (&session, &device);
+            let host = &host;
             scope.spawn(move || {
-                let op = Op::Create { kind: 2 };
-                session.lock().expect("one").submit(pid, op).expect("room");
-                loop {
-                    let mut session = session.lock().expect("a session");
-                    let stepped = session.step(pid).expect("a step");
-                    if let Told::Write(block, bytes) = stepped.told {
-                        put(&mut device.lock().expect("a device"), block, bytes);
-                    }
-                    if stepped.step == Step::Answered {
-                        break;
-                    }
-                }
+                host.lock().expect("one").submit(pid, CREATE).expect("room");
+                while host.lock().expect("one").step(pid).expect("a step") != Step::Answered {}
             });
         }
     });
-    drop(session);
-    let mut device = device.into_inner().expect("a device");
-    recover(&mut device).expect("it is sound");
-    assert_eq!(check(&device).expect("it is sound").files, 4);
+    let mut host = host.into_inner().expect("one");
+    assert!((0..4).all(|pid| host.poll(pid).is_some()));
+    let report = check(&host.close().bytes).expect("it is sound");
+    assert_eq!((report.logged, report.files), (0, 4));
 }
 
 #[test]
