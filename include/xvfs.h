@@ -56,8 +56,8 @@
 extern "C" {
 #endif
 
-/* The version of this header and of its library. While it begins with 0, another in its middle may ask
- * that a program is written anew; one that differs only at its end does not. */
+/* The version of this header and its library. As long as the first number is 0, a program may have to be
+ * changed for another second one, and never for another third. */
 #define XVFS_VERSION_MAJOR 0
 #define XVFS_VERSION_MINOR 2
 #define XVFS_VERSION_PATCH 0
@@ -151,8 +151,8 @@ typedef struct {
 } xvfs_told;
 
 /*
- * Recovers a device, place by place from 0: tells what to do to the device that had `image`, in this
- * order: the homes of the logged blocks, a flush, the empty header, a flush. Then it tells neither,
+ * Recovers a device, place by place from 0: tells what to do to the device that had `image`, flushed, in
+ * this order: the homes of the logged blocks, a flush, the empty header, a flush. Then it tells neither,
  * and the device has the image that xvfs_recover makes. `image` is not changed, and is the same at
  * each place; `bytes` has XVFS_BLOCK_SIZE bytes. Place 0 checks the image, and takes memory for it.
  *

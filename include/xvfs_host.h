@@ -7,10 +7,10 @@
  *     result = xvfs_host_open(&host, &device, image, sizeof image, 4, XVFS_HOLD);
  *     if (!result) result = xvfs_host_call(&host, 0, op, bytes, count, &answer, into, sizeof into);
  *
- * What it keeps, whatever calls are made: the device is recovered as told before a session is opened
- * over what it holds; each told write is handed to it before the next step; a sync follows where it is
- * due; an answer comes only once no stop can lose what it tells of. Where a write or a sync fails the
- * session ends at once, and each later call but xvfs_host_close answers XVFS_E_DEVICE.
+ * What it keeps, whatever calls are made: the device is synced, and recovered as told, before a session
+ * is opened over what it holds; each told write is handed to it before the next step; a sync follows
+ * where it is due; an answer comes only once no stop can lose what it tells of. Where a write or a sync
+ * fails the session ends at once, and each later call but xvfs_host_close answers XVFS_E_DEVICE.
  *
  * WHAT IS LEFT TO THE DEVICE. Each function answers 0, or anything else where it failed.
  *  - read fills `bytes`, of XVFS_BLOCK_SIZE bytes, with the block of that number.
@@ -130,7 +130,8 @@ static inline xvfs_result xvfs_host_open(xvfs_host *host, const xvfs_device *dev
     host->flags = flags;
     host->committed = 0;
     for (pid = 0; pid < XVFS_PROCESSES; pid++) host->early[pid].seq = 0;
-    result = xvfs_host_read(device, image, len);
+    result = xvfs_host_do(host, 0, 0, 1); /* it may still hold what a host wrote that was killed */
+    if (!result) result = xvfs_host_read(device, image, len);
     if (!result) result = xvfs_host_recover(host, image, len, &places);
     if (!result && places) result = xvfs_host_read(device, image, len);
     if (!result) result = xvfs_open(&host->fs, image, len, processes, flags, &writes);

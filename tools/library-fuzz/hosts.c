@@ -54,6 +54,7 @@ static uint8_t disk[BYTES], image[BYTES];
 static struct call calls[CALLS];
 static unsigned count, synced, fails_at; /* calls that were made, those synced, and the one that fails */
 static unsigned reads, read_fails_at, behind_failure;
+static unsigned kill_at; /* the steps behind which a host is killed; 0: none */
 static int has_failed, is_deaf;
 
 static uint8_t *at(uint8_t *of, uint32_t block) { return of + block * XVFS_BLOCK_SIZE; }
@@ -168,7 +169,7 @@ static void see_order(uint64_t seed) {
     make();
     expect(XVFS_OK, xvfs_open(&fs, disk, BYTES, PROCESSES, flags, &writes));
     expect(XVFS_OK, xvfs_host_open(&host, &device, image, BYTES, PROCESSES, flags));
-    must(count == 0 && host.committed == 0, "a write to an image without a log", count);
+    must(count == 1 && calls[0].is_sync && host.committed == 0, "another opening of no log", count);
     for (unsigned left = PROCESSES * MOST; left > 0;) {
         uint32_t p = below(PROCESSES);
         unsigned before = count;
@@ -196,14 +197,17 @@ static void see_order(uint64_t seed) {
     xvfs_host_close(&host);
 }
 
-/* A host up to a failure of the device, or to the end: whether it failed. */
+/* A host up to a failure of the device, or its own, or to the end: whether it failed. */
 static int live(void) {
     xvfs_stepped stepped;
     xvfs_answer answer;
     uint64_t number, committed = 0;
-    expect(XVFS_OK, xvfs_host_open(&host, &device, image, BYTES, PROCESSES, flags));
-    for (unsigned left = PROCESSES * MOST; left > 0;) {
+    xvfs_result opened = xvfs_host_open(&host, &device, image, BYTES, PROCESSES, flags);
+    if (opened == XVFS_E_DEVICE) return 1;
+    expect(XVFS_OK, opened);
+    for (unsigned left = PROCESSES * MOST, steps = 1; left > 0; steps++) {
         uint32_t p = below(PROCESSES);
+        if (steps == kill_at) return 1;
         if (begun[p] < MOST && begun[p] == ended[p]) {
             xvfs_op op = op_of(p);
             must(xvfs_host_submit(&host, p, op, record, RECORD, &number) == XVFS_OK, "no operation", p);
@@ -291,6 +295,43 @@ static void see_failures(uint64_t seed) {
            flags ? "with XVFS_HOLD" : "without", failures, again);
 }
 
+/* A host is killed behind each step in turn, and its device isn't: another is opened over what that holds
+ * back, and each write and sync of the opening fails in turn, and power with it. */
+static void see_kills(uint64_t seed) {
+    static uint8_t kept_disk[BYTES];
+    static struct call kept_calls[CALLS];
+    unsigned failures = 0, held = 0, kept_count, kept_synced;
+    for (kill_at = 2;; kill_at++) {
+        state = seed * 0x9e3779b97f4a7c15u + 1;
+        make();
+        if (!live()) break;
+        xvfs_host_close(&host);
+        held += synced < count;
+        memcpy(kept_disk, disk, BYTES);
+        memcpy(kept_calls, calls, sizeof calls);
+        kept_count = count;
+        kept_synced = synced;
+        for (unsigned k = 1;; k++, failures++) {
+            memcpy(disk, kept_disk, BYTES);
+            memcpy(calls, kept_calls, sizeof calls);
+            count = kept_count;
+            synced = kept_synced;
+            fails_at = count + k;
+            if (xvfs_host_open(&host, &device, image, BYTES, 1, flags) == XVFS_OK) break;
+            must_be_halted();
+            restart(0);
+            expect(XVFS_OK, xvfs_host_open(&host, &device, image, BYTES, 1, flags));
+            must_have_kept();
+            xvfs_host_close(&host);
+        }
+        must_have_kept();
+        xvfs_host_close(&host);
+    }
+    kill_at = 0;
+    xvfs_host_close(&host);
+    must(failures > 60 && (held > 60 || !flags), "few kills", failures);
+}
+
 /* Each write and sync fails in turn while an image is made, over another one. A read fails, too. */
 static void see_new_images(void) {
     static uint8_t old[BYTES];
@@ -319,7 +360,7 @@ static void see_new_images(void) {
     read_fails_at = BLOCKS;
     expect(XVFS_E_DEVICE, xvfs_host_open(&host, &device, image, BYTES, 1, flags));
     expect(XVFS_OK, xvfs_host_open(&host, &device, image, BYTES, 1, flags));
-    must(count == 0, "a write to an image without a log", count);
+    must(count == 2 && synced == 2, "another opening of no log", count);
     xvfs_host_close(&host);
 }
 
@@ -386,6 +427,7 @@ int main(int argc, char **argv) {
         see_results();
         for (unsigned seed = 1; seed <= 20 * seeds; seed++) see_order(seed);
         for (unsigned seed = 1; seed <= seeds; seed++) see_failures(seed);
+        for (unsigned seed = 1; seed <= seeds; seed++) see_kills(seed);
     }
     return 0;
 }

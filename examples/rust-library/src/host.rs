@@ -68,6 +68,8 @@ pub struct Host<D> {
 impl<D: Device> Host<D> {
     /// Recovers the device, and opens a session of 1 to 32 processes over what it holds then.
     pub fn open(mut device: D, processes: u32) -> Result<Host<D>, Fault<D::Error>> {
+        // It may still hold what a host wrote that was killed.
+        device.sync().map_err(Fault::Device)?;
         let found = image_of(&mut device)?;
         let mut recovery = Recovery::of(&found);
         loop {

@@ -126,7 +126,7 @@ fn links_are_kept() {
 
 #[test]
 fn each_stop_keeps_whole_operations() {
-    for stop in 1..=8 {
+    for stop in 2..=9 {
         let mut host = new_host(1, stop);
         let failed = Fault::Device("power failed");
         assert_eq!(host.call(0, CREATE), Err(failed));
@@ -136,8 +136,8 @@ fn each_stop_keeps_whole_operations() {
         assert_eq!(host.poll(0), None);
         let mut disk = host.close();
         assert_eq!(disk.told.len(), stop);
-        // The third call writes the log's header, with which the group is kept.
-        let (kept, logged) = (u32::from(stop > 3), u32::from(stop > 3 && stop < 8));
+        // The fourth call writes the log's header, with which the group is kept.
+        let (kept, logged) = (u32::from(stop > 4), u32::from(stop > 4 && stop < 9));
         assert_eq!(check(&disk.bytes).expect("it is sound").logged, logged);
         disk.stop = 0;
         let disk = Host::open(disk, 1).map(Host::close).expect("a host");
@@ -148,11 +148,11 @@ fn each_stop_keeps_whole_operations() {
 
 #[test]
 fn an_opening_fails_with_its_device() {
-    let mut host = new_host(1, 5);
+    let mut host = new_host(1, 6);
     assert!(host.call(0, CREATE).is_err());
     let found = host.close().bytes;
-    // The home of the logged block, a sync, the empty header, a sync.
-    for stop in 1..=4 {
+    // A sync, the home of the logged block, a sync, the empty header, a sync.
+    for stop in 1..=5 {
         let opened = Host::open(Disk::of(found.clone(), stop), 1);
         assert_eq!(opened.err(), Some(Fault::Device("power failed")));
     }
@@ -165,9 +165,9 @@ fn an_opening_fails_with_its_device() {
 fn syncs_where_it_is_told() {
     let mut host = new_host(1, 0);
     host.call(0, CREATE).expect("an answer");
-    // A log block, the header, the inode's home, the empty header.
+    // The opening's; a log block, the header, the inode's home, the empty header.
     let (log, header, home) = (Some(3), Some(2), Some(33));
-    let wanted = [log, None, header, None, home, None, header, None];
+    let wanted = [None, log, None, header, None, home, None, header, None];
     assert_eq!(host.close().told, wanted);
 }
 
@@ -206,7 +206,7 @@ fn an_answer_waits_for_its_group() {
 
 #[test]
 fn recovers_a_device_step_by_step() {
-    let mut host = new_host(1, 5);
+    let mut host = new_host(1, 6);
     assert!(host.call(0, CREATE).is_err());
     let mut device = host.close().bytes;
     let found = device.clone();
