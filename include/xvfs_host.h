@@ -20,9 +20,9 @@
  *  - After a failure the device is opened anew before the host is: read has to tell what the device
  *    holds. (Where an fsync failed, Linux may answer reads from pages that never come to the disk.)
  *
- * A host is handed to one call at a time, as a session is, and isn't copied while it is open. Its fields
- * are its own: a step that is made by xvfs_step of `fs` breaks what is said above. Bytes of length 0 may
- * be NULL here.
+ * A host is handed to one call at a time, as a session is, and isn't copied while it is open. It has
+ * some 3 KiB. Its fields are its own: a step that is made by xvfs_step of `fs` breaks what is said above.
+ * Bytes of length 0 may be NULL here.
  */
 #ifndef XVFS_HOST_H
 #define XVFS_HOST_H
