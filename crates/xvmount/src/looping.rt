@@ -2,7 +2,7 @@
 ghost use Rattle.std.specs.Prelude.{IfOk};
 ghost use Rattle.names.specs.Ready.{MayGoOn};
 
-use crate::opening::{data_blocks, open};
+use crate::images::{data_blocks, open};
 use crate::options::Options;
 use crate::refusal::MountRefusal;
 use blocks::Disk;

@@ -4,13 +4,13 @@
 //! with commas between.
 #![tactic(auto)]
 
+mod images;
 mod looping;
-mod opening;
 mod options;
 mod refusal;
 
+use crate::images::disk_in_memory;
 use crate::looping::serve_disk;
-use crate::opening::disk_in_memory;
 use crate::options::{Options, read_options};
 use blocks::FileFault;
 use cli::arguments;
