@@ -73,7 +73,11 @@ impl Anew {
     }
 
     // The files at the opening, and behind each of these steps with which a group was committed.
-    pub(crate) fn files(&self, alloc: Global, moments: &[Moment]) -> Result<Vec<FilesThen>, NoMemory>
+    pub(crate) fn files(
+        &self,
+        alloc: Global,
+        moments: &[Moment],
+    ) -> Result<Vec<FilesThen>, NoMemory>
         ensures { IfOk result (λ files. AreFiled (HasFiles self.now.holds
             (copied_image self.now.copied) self.now.tasks.items self.now.processes
             self.now.words.items) (stops_of moments.now) files.items) }
