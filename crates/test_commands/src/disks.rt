@@ -2,6 +2,7 @@
 // replies, and what is told of a mismatch.
 use crate::all_faults::print_all_faults;
 use crate::files::{print_makings, print_openings};
+use crate::linked::print_links;
 use crate::mismatches::print_mismatches;
 use crate::real_file::print_real_file;
 use crate::recovered::print_readings;
@@ -20,6 +21,7 @@ pub fn print_disks(rt: &HostRuntime) -> anyhow::Result<()> {
     print_replies(rt, alloc)?;
     print_short_writes(rt, alloc)?;
     print_journals(rt, alloc)?;
+    print_links(rt, alloc)?;
     print_mismatches(rt, alloc)
 }
 

@@ -18,6 +18,7 @@ mod faults;
 mod files;
 mod ground;
 mod holding;
+mod linked;
 mod long_script;
 mod mismatches;
 mod outputs;
