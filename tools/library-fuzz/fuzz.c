@@ -535,7 +535,7 @@ static void see_memory(void) {
     REFUSED(XVFS_E_OPEN_MEMORY, xvfs_open(&fs, device, device_size, 1, 0, &n));
     EXPECT(XVFS_OK, xvfs_open(&fs, device, device_size, 1, 0, &n));
     REFUSED(XVFS_E_SUBMIT_MEMORY, xvfs_submit(&fs, 0, &write, bytes, 100, &n));
-    /* Of the six operations a read alone takes memory at its beginning, for its bytes. */
+    /* Of all operations a read alone takes memory at its beginning, for its bytes. */
     EXPECT(XVFS_OK, xvfs_submit(&fs, 0, &read, bytes, 0, &n));
     REFUSED(XVFS_OK, xvfs_step(&fs, 0, &stepped, block, sizeof block));
     EXPECT(XVFS_STEP_MEMORY, stepped.step);
