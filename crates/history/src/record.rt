@@ -127,7 +127,7 @@ fn copy_of_reply(alloc: Global, reply: &Reply) -> Result<Reply, NoMemory>
         Reply::Wrote(count) => Reply::Wrote(*count),
         Reply::Bytes(bytes) => Reply::Bytes(Content::copy_of(alloc, bytes.as_slice())?),
         Reply::Done => Reply::Done,
-        Reply::StatOf(kind, size) => Reply::StatOf(*kind, *size),
+        Reply::StatOf(kind, links, size) => Reply::StatOf(*kind, *links, *size),
         Reply::NoFile => Reply::NoFile,
         Reply::BadOffset => Reply::BadOffset,
         Reply::TooBig => Reply::TooBig,

@@ -169,7 +169,7 @@ HeldOutsideLog = (m : Files) (x y : Image) (claims : Claims) → IsSameOutsideLo
 pub record TellsItsFile (m : Files) (x : Image) (i : ℕ) : Type 0 where
   pub its : HasItsFile m x i
   pub blocks : HasDataBlocks x (inode_of x i)
-  pub stat : after (form_of x) m (Stat i) (StatOf (inode_of x i).kind (inode_of x i).size) ≡ Some m
+  pub stat : after (form_of x) m (Stat i) (StatOf (inode_of x i).kind (inode_of x i).nlink (inode_of x i).size) ≡ Some m
   pub read : (off n : ℕ) → n ≤ transfer_limit →
       after (form_of x) m (Read i off n) (Bytes (part_of (bytes_in x (inode_of x i)) off n))
       ≡ Some m

@@ -60,7 +60,7 @@ UsedHasBlocks = (m : Files) (x : Image) (i : ℕ) → Fits m x → IsUsed x i �
 -- the question after type and length is answered by what its inode says
 abbrev pub StatTells : Type 0
 StatTells = (m : Files) (x : Image) (i : ℕ) → Fits m x → IsUsed x i →
-    after (form_of x) m (Stat i) (StatOf (inode_of x i).kind (inode_of x i).size) ≡ Some m
+    after (form_of x) m (Stat i) (StatOf (inode_of x i).kind (inode_of x i).nlink (inode_of x i).size) ≡ Some m
 
 -- a reading is answered by the bytes that its blocks hold
 abbrev pub ReadTells : Type 0

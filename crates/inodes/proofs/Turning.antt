@@ -340,7 +340,7 @@ module _ {D N : Type 0} {disk : Ghosts D N} {s : StoreState D} {p : ℕ} {op : O
         )
     used_turn (Stat i) allowed named there used files fits = (
       files,
-      subst (λ (j : ℕ). after (form_of cur) files (Stat j) (StatOf inode.kind inode.size) ≡ Some files) named
+      subst (λ (j : ℕ). after (form_of cur) files (Stat j) (StatOf inode.kind inode.nlink inode.size) ≡ Some files) named
           (resting_tells files cur (claims_of s.tasks) m.number (fits_before files fits) (may_name_now h is_op, used) none).stat,
       same (ap (λ (a : Stage). claim_by u.op a m.number) there) files fits,
     )

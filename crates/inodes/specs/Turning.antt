@@ -37,7 +37,7 @@ reply_of_look form d (Write i off bytes) = write_refusal form d off (length byte
 reply_of_look form d (Read i off n) = None
 reply_of_look form d (Trunc i) = Some Done
 reply_of_look form d (Remove i) = Some Done
-reply_of_look form d (Stat i) = Some (StatOf d.kind d.size)
+reply_of_look form d (Stat i) = Some (StatOf d.kind d.nlink d.size)
 reply_of_look form d (Links i n) = Some Done
 
 -- and of one that has taken its inode, which is none where it is free

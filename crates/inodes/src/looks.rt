@@ -230,7 +230,7 @@ fn reply_when_taken(form: Form, inode: &Option<Dinode>, op: &Op) -> Option<Reply
         return Some(Reply::NoFile);
     };
     match op {
-        Op::Stat(_) => Some(Reply::StatOf(inode.kind, inode.size)),
+        Op::Stat(_) => Some(Reply::StatOf(inode.kind, inode.nlink, inode.size)),
         Op::Trunc(_) | Op::Remove(_) | Op::Links(..) => Some(Reply::Done),
         Op::Write(_, offset, bytes) => write_refusal(form, inode, *offset, bytes.len()),
         Op::Create(_) | Op::Read(..) => None,

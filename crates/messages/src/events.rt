@@ -129,7 +129,7 @@ impl fmt::Display for ReplyText<'_> {
                 write!(f, "bytes {digits}")
             }
             Reply::Done => write!(f, "done"),
-            Reply::StatOf(kind, size) => {
+            Reply::StatOf(kind, _links, size) => {
                 let kind = buffers.0.format(*kind);
                 let size = buffers.1.format(*size);
                 write!(f, "stat {kind} {size}")

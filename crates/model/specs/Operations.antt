@@ -74,8 +74,8 @@ after_on files i file (Read j off n) (Bytes bytes) =
     where_true (bytes_eq bytes (part_of file.bytes off n)) files
 after_on files i file (Trunc j) Done = Some (slice_set files i (with_bytes file []))
 after_on files i file (Remove j) Done = Some (slice_set files i None)
-after_on files i file (Stat j) (StatOf kind size) =
-    where_true ((kind == file.kind) && (size == length file.bytes)) files
+after_on files i file (Stat j) (StatOf kind links size) =
+    where_true ((kind == file.kind) && ((links == file.links) && (size == length file.bytes))) files
 after_on files i file (Links j n) Done = Some (slice_set files i (with_links file n))
 after_on files i file op reply = None
 

@@ -37,7 +37,7 @@ pub fn gist_of(reply: &Reply) -> Gist
         Reply::Wrote(count) => Gist::Wrote(*count),
         Reply::Bytes(bytes) => Gist::Read(bytes.as_slice().len()),
         Reply::Done => Gist::Done,
-        Reply::StatOf(_, _) => Gist::Told,
+        Reply::StatOf(_, _, _) => Gist::Told,
         _ => Gist::Refused,
     }
 }

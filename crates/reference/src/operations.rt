@@ -238,7 +238,7 @@ fn apply_remove(files: &mut Files, i: u32, reply: &Reply) -> bool
     true
 }
 
-/// Whether a file's type and length can be answered so.
+/// Whether a file's type, links and length can be answered so.
 fn allows_stat(files: &[Option<File>], i: u32, reply: &Reply) -> bool
     ensures { after_at files.now i (file_in files.now i) (Op.Stat i) reply.now
         ≡ where_true result files.now }
@@ -247,7 +247,9 @@ fn allows_stat(files: &[Option<File>], i: u32, reply: &Reply) -> bool
         return false;
     };
     match reply {
-        Reply::StatOf(kind, size) => *kind == file.kind && *size as usize == file.bytes.len(),
+        Reply::StatOf(kind, links, size) => {
+            *kind == file.kind && *links == file.links && *size as usize == file.bytes.len()
+        }
         _ => false,
     }
 }

@@ -31,7 +31,7 @@ on_adds files new i file (Write j off bytes) (Wrote k) held h = set_adds_none fi
 on_adds files new i file (Read j off n) (Bytes bytes) held h = none_added files new (where_true_some _ files new h).1
 on_adds files new i file (Trunc j) Done held h = set_adds_none files new i _ held (where_true_some true _ new h).1
 on_adds files new i file (Remove j) Done held h = set_adds_none files new i _ held (where_true_some true _ new h).1
-on_adds files new i file (Stat j) (StatOf kind size) held h = none_added files new (where_true_some _ files new h).1
+on_adds files new i file (Stat j) (StatOf kind links size) held h = none_added files new (where_true_some _ files new h).1
 on_adds files new i file (Links j n) Done held h = set_adds_none files new i _ held (where_true_some true _ new h).1
 on_adds files new i file op reply held h = absurd (cc h)
 

@@ -31,7 +31,7 @@ module _ (files : Files) (i : ℕ) (x : Option File) where
   on_put j file (Read k off n) (Bytes bytes) ne = where_put _
   on_put j file (Trunc k) Done ne = λ t. Some (set_comm files i j x (with_bytes file []) (λ e. ne (sym e)) t)
   on_put j file (Remove k) Done ne = λ t. Some (set_comm files i j x None (λ e. ne (sym e)) t)
-  on_put j file (Stat k) (StatOf kind size) ne = where_put _
+  on_put j file (Stat k) (StatOf kind links size) ne = where_put _
   on_put j file (Links k n) Done ne = λ t. Some (set_comm files i j x (with_links file n) (λ e. ne (sym e)) t)
   on_put j file op reply ne = refl
 
@@ -82,7 +82,7 @@ module _ (m f : Files) where
       let w = where_true_some _ _ new h in (Some file, w.1 ∙ same m i file hm, rw w.0 (ap (λ (g : Files). Some g) (same f i file hf)))
   on_alike i file (Trunc k) Done new hm hf h = (with_bytes file [], cc h, refl)
   on_alike i file (Remove k) Done new hm hf h = (None, cc h, refl)
-  on_alike i file (Stat k) (StatOf kind size) new hm hf h =
+  on_alike i file (Stat k) (StatOf kind links size) new hm hf h =
       let w = where_true_some _ _ new h in (Some file, w.1 ∙ same m i file hm, rw w.0 (ap (λ (g : Files). Some g) (same f i file hf)))
   on_alike i file (Links k n) Done new hm hf h = (with_links file n, cc h, refl)
   on_alike i file op reply new hm hf h = absurd (cc h)

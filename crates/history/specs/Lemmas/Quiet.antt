@@ -41,7 +41,7 @@ looked_same files new i (Some file) (Trunc j) reply not h = absurd (cc not)
 looked_same files new i (Some file) (Remove j) reply not h = absurd (cc not)
 looked_same files new i (Some file) (Links j k) reply not h = absurd (cc not)
 looked_same files new i (Some file) (Read j off k) (Bytes bytes) not h = (where_true_some _ files new h).1
-looked_same files new i (Some file) (Stat j) (StatOf kind size) not h = (where_true_some _ files new h).1
+looked_same files new i (Some file) (Stat j) (StatOf kind links size) not h = (where_true_some _ files new h).1
 looked_same files new i (Some file) (Read j off k) reply not h = absurd (cc h)
 looked_same files new i (Some file) (Stat j) reply not h = absurd (cc h)
 

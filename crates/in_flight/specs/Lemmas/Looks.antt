@@ -129,11 +129,11 @@ module _ (m : Files) (x : Image) (i : ℕ) (f : RestsIn m x i) (used : IsUsed x 
   pub its_blocks : HasDataBlocks x d
   its_blocks = record { needed = needed_in_data; named = named }
 
-  pub stat_told : after (form_of x) m (Stat i) (StatOf d.kind d.size) ≡ Some m
+  pub stat_told : after (form_of x) m (Stat i) (StatOf d.kind d.nlink d.size) ≡ Some m
   unfolding after
   stat_told =
       let its = its_file in
-      rw (its.file, its.file, eq-eqb d.kind d.kind refl, eq-eqb d.size (length (bytes_in x d)) (sym its.length)) refl
+      rw (its.file, its.file, eq-eqb d.kind d.kind refl, eq-eqb d.nlink d.nlink refl, eq-eqb d.size (length (bytes_in x d)) (sym its.length)) refl
 
   pub read_told : (off n : ℕ) → n ≤ transfer_limit →
       after (form_of x) m (Read i off n) (Bytes (part_of (bytes_in x d) off n)) ≡ Some m

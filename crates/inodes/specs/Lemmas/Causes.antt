@@ -66,7 +66,7 @@ module _ {D N : Type 0} (disk : Ghosts D N) (p n j : ℕ) (op : Op)
   by_slot (Some i) (TaskProgress.Turned (Some (Wrote k))) got goes = absurd goes.1
   by_slot (Some i) (TaskProgress.Turned (Some (Bytes bytes))) got goes = absurd goes.1
   by_slot (Some i) (TaskProgress.Turned (Some Done)) got goes = absurd goes.1
-  by_slot (Some i) (TaskProgress.Turned (Some (StatOf kind size))) got goes = absurd goes.1
+  by_slot (Some i) (TaskProgress.Turned (Some (StatOf kind links size))) got goes = absurd goes.1
   by_slot (Some i) (TaskProgress.Turned (Some NoFile)) got goes = absurd goes.1
   by_slot (Some i) (TaskProgress.Turned (Some BadOffset)) got goes = absurd goes.1
   by_slot (Some i) (TaskProgress.Turned (Some TooBig)) got goes = absurd goes.1
@@ -247,7 +247,7 @@ module _ {D N : Type 0} (disk : Ghosts D N) (s : StoreState D) (p i off : ℕ) (
   by_reply (Some (Wrote j)) (Some k) m goes = absurd goes.1
   by_reply (Some (Bytes read)) (Some k) m goes = absurd goes.1
   by_reply (Some Done) (Some k) m goes = absurd goes.1
-  by_reply (Some (StatOf kind size)) (Some k) m goes = absurd goes.1
+  by_reply (Some (StatOf kind links size)) (Some k) m goes = absurd goes.1
   by_reply (Some NoFile) (Some k) m goes = absurd goes.1
   by_reply (Some BadOffset) (Some k) m goes = absurd goes.1
   by_reply (Some TooBig) (Some k) m goes = absurd goes.1

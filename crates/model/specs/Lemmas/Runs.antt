@@ -66,7 +66,7 @@ on_changes files new i file (Write j off bytes) (Wrote k) e h =
 on_changes files new i file (Read j off n) (Bytes bytes) e h = changes_none files new (Bytes bytes) (where_true_some _ files new h).1
 on_changes files new i file (Trunc j) Done e h = changes_place files new Done i _ (where_true_some true _ new h).1 refl (not_this files i file e)
 on_changes files new i file (Remove j) Done e h = changes_place files new Done i _ (where_true_some true _ new h).1 refl (not_this files i file e)
-on_changes files new i file (Stat j) (StatOf kind size) e h = changes_none files new (StatOf kind size) (where_true_some _ files new h).1
+on_changes files new i file (Stat j) (StatOf kind links size) e h = changes_none files new (StatOf kind links size) (where_true_some _ files new h).1
 on_changes files new i file (Links j n) Done e h = changes_place files new Done i _ (where_true_some true _ new h).1 refl (not_this files i file e)
 on_changes files new i file op reply e h = absurd (cc h)
 

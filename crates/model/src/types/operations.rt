@@ -18,7 +18,7 @@ pub enum Op {
     Trunc(u32),
     /// Gives up the bytes and the number.
     Remove(u32),
-    /// Asks for type and length.
+    /// Asks for type, links and length.
     Stat(u32),
     /// Gives the file that many links, and leaves its bytes.
     Links(u32, u16),
@@ -37,8 +37,8 @@ pub enum Reply {
     Bytes(Content),
     /// A truncation or a removal was done, or the links were set.
     Done,
-    /// Type, and length in bytes.
-    StatOf(u16, u32),
+    /// Type, how many links it has, and length in bytes.
+    StatOf(u16, u16, u32),
     /// There is no file of that number.
     NoFile,
     /// The offset lies behind the file's end.
