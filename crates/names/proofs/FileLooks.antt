@@ -18,7 +18,7 @@ use Rattle.names.proofs.TreeBy.{directory_is_file}
 
 -- the type that an answer tells, and 0 where it tells none
 abbrev pub kind_told : Reply → ℕ
-kind_told (StatOf kind size) = kind
+kind_told (StatOf kind links size) = kind
 kind_told reply = 0
 
 pub record Tells (files new : Files) (i : ℕ) (reply : Reply) : Type 0 where
@@ -27,9 +27,9 @@ pub record Tells (files new : Files) (i : ℕ) (reply : Reply) : Type 0 where
 
 told_on : (files new : Files) (i : ℕ) (file : File) (reply : Reply) → after_on files i file (Stat i) reply ≡ Some new →
     (new ≡ files) × (file.kind ≡ kind_told reply)
-told_on files new i file (StatOf kind size) h =
-    let both = where_true_some (eqb kind file.kind && eqb size (length file.bytes)) files new h in
-    (both.1, sym (eqb-true kind file.kind (and_parts (eqb kind file.kind) (eqb size (length file.bytes)) both.0).0))
+told_on files new i file (StatOf kind links size) h =
+    let both = where_true_some (eqb kind file.kind && (eqb links file.links && eqb size (length file.bytes))) files new h in
+    (both.1, sym (eqb-true kind file.kind (and_parts (eqb kind file.kind) (eqb links file.links && eqb size (length file.bytes)) both.0).0))
 told_on files new i file reply h = absurd (cc h)
 
 told_none : (files new : Files) (op : Op) (reply : Reply) → after_refusal (Some NoFile) files op reply ≡ Some new → (new ≡ files) × (0 ≡ kind_told reply)
@@ -52,22 +52,27 @@ tells form files new i reply h =
 pub record TellsFile (files new : Files) (file : File) (reply : Reply) : Type 0 where
   pub same : new ≡ files
   pub kind : ℕ
+  pub links : ℕ
   pub size : ℕ
-  pub is : reply ≡ StatOf kind size
+  pub is : reply ≡ StatOf kind links size
   pub kind_is : kind ≡ file.kind
+  pub links_is : links ≡ file.links
   pub size_is : size ≡ length file.bytes
 
 stat_only : (files new : Files) (i : ℕ) (file : File) (j : ℕ) (reply : Reply) → after_on files i file (Stat j) reply ≡ Some new → TellsFile files new file reply
-stat_only files new i file j (StatOf kind size) h =
-    let both = where_true_some (eqb kind file.kind && eqb size (length file.bytes)) files new h in
-    let parts = and_parts (eqb kind file.kind) (eqb size (length file.bytes)) both.0 in
+stat_only files new i file j (StatOf kind links size) h =
+    let both = where_true_some (eqb kind file.kind && (eqb links file.links && eqb size (length file.bytes))) files new h in
+    let parts = and_parts (eqb kind file.kind) (eqb links file.links && eqb size (length file.bytes)) both.0 in
+    let rest = and_parts (eqb links file.links) (eqb size (length file.bytes)) parts.1 in
     record {
       same = both.1;
       kind = kind;
+      links = links;
       size = size;
       is = refl;
       kind_is = eqb-true kind file.kind parts.0;
-      size_is = eqb-true size (length file.bytes) parts.1;
+      links_is = eqb-true links file.links rest.0;
+      size_is = eqb-true size (length file.bytes) rest.1;
     }
 stat_only files new i file j reply h = absurd (cc h)
 
@@ -104,8 +109,8 @@ tidy_in files i tree is =
     tidy_at files i reach.0 tree is reach.1
 
 -- an answer that tells no type
-pub untold : (reply : Reply) → ((kind size : ℕ) → reply ≡ StatOf kind size → ⊥) → kind_told reply ≡ 0
-untold (StatOf kind size) not = absurd (not kind size refl)
+pub untold : (reply : Reply) → ((kind links size : ℕ) → reply ≡ StatOf kind links size → ⊥) → kind_told reply ≡ 0
+untold (StatOf kind links size) not = absurd (not kind links size refl)
 untold reply not = refl
 
 pub untold_directory : (files : Files) (i : ℕ) (reply : Reply) → kind_of (file_in files i) ≡ kind_told reply → kind_told reply ≢ 1 → IsDirectory files i → ⊥

@@ -63,7 +63,7 @@ remove_on files new i file j reply h = absurd (cc h)
 
 pub stat_on : (files new : Files) (i : ℕ) (file : File) (j : ℕ) (reply : Reply) → after_on files i file (Stat j) reply ≡ Some new →
     new ≡ files
-stat_on files new i file j (StatOf kind size) h = (where_true_some _ files new h).1
+stat_on files new i file j (StatOf kind links size) h = (where_true_some _ files new h).1
 stat_on files new i file j reply h = absurd (cc h)
 
 pub links_on : (files new : Files) (i : ℕ) (file : File) (j n : ℕ) (reply : Reply) → after_on files i file (Op.Links j n) reply ≡ Some new →

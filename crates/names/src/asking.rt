@@ -151,7 +151,7 @@ impl<D: Disk> Tree<D> {
         ensures same { OnOk result (SeesSame D.image self.old.kernel self.new.kernel) }
         ensures found { IfOk result (IsFound (files_seen D.image self.old.kernel) number) }
     {
-        let Reply::StatOf(kind, size) = self.called(Op::Stat(number))? else {
+        let Reply::StatOf(kind, _links, size) = self.called(Op::Stat(number))? else {
             // A file that is there can be looked at.
             unreachable!()
         };

@@ -164,7 +164,7 @@ impl<D: Disk> Tree<D> {
         ensures told { IfOk result (λ is.
             IsTrue is ↔ IsDirectory (files_seen D.image self.old.kernel) number) }
     {
-        let Reply::StatOf(kind, _size) = self.called(Op::Stat(number))? else {
+        let Reply::StatOf(kind, _links, _size) = self.called(Op::Stat(number))? else {
             return Ok(false);
         };
         Ok(kind == DIRECTORY_KIND)

@@ -26,7 +26,7 @@ impl<D: Disk> Tree<D> {
         ensures found { IfOk result (IsDirectoryFound
             (files_seen D.image self.old.kernel) number) }
     {
-        let Reply::StatOf(kind, _size) = self.called(Op::Stat(number))? else {
+        let Reply::StatOf(kind, _links, _size) = self.called(Op::Stat(number))? else {
             return Ok(None);
         };
         if kind != DIRECTORY_KIND {

@@ -215,7 +215,7 @@ pub fn reply_number(reply: &Reply) -> (u32, u32, u32)
         Reply::Wrote(count) => (1, *count, 0),
         Reply::Bytes(_) => (2, 0, 0),
         Reply::Done => (3, 0, 0),
-        Reply::StatOf(kind, size) => (4, *kind as u32, *size),
+        Reply::StatOf(kind, _links, size) => (4, *kind as u32, *size),
         Reply::NoInode => (5, 0, 0),
         Reply::NoFile => (6, 0, 0),
         Reply::BadOffset => (7, 0, 0),

@@ -3,16 +3,16 @@ use Rattle.model.specs.declared.types.operations.Reply.TheVariants.{StatOf}
 use Rattle.names.proofs.SeenLooks.{stat_same, stat_tells}
 use Rattle.names.proofs.tree.Tree.found.Goals as goal
 
-kind_same : (a b c d : ℕ) → StatOf a b ≡ StatOf c d → a ≡ c
-kind_same a b c d e = cc
+kind_same : (a l b c m d : ℕ) → StatOf a l b ≡ StatOf c m d → a ≡ c
+kind_same a l b c m d e = cc
 
-size_same : (a b c d : ℕ) → StatOf a b ≡ StatOf c d → b ≡ d
-size_same a b c d e = cc
+size_same : (a l b c m d : ℕ) → StatOf a l b ≡ StatOf c m d → b ≡ d
+size_same a l b c m d e = cc
 
 pub unreachable-requires : goal.unreachable-requires
 unreachable-requires g c =
     let told = stat_tells g.D.Disk c.args.self.now.kernel c.called.new.self.kernel c.args.number c.in_ok-kind.field-0 c.in_ok-kind.ensures.answers c.requires.there in
-    c.in_default.not-StatOf told.2.kind told.2.size told.2.is
+    c.in_default.not-StatOf told.2.kind told.2.links told.2.size told.2.is
 
 pub returns-clause-same : goal.returns-clause-same
 returns-clause-same g c = stat_same g.D.Disk c.args.self.now.kernel c.called.new.self.kernel c.args.number c.in_ok-kind.field-0 c.in_ok-kind.ensures.answers
@@ -20,11 +20,11 @@ returns-clause-same g c = stat_same g.D.Disk c.args.self.now.kernel c.called.new
 pub returns-clause-found : goal.returns-clause-found
 returns-clause-found g c =
     let told = stat_tells g.D.Disk c.args.self.now.kernel c.called.new.self.kernel c.args.number c.in_ok-kind.field-0 c.in_ok-kind.ensures.answers c.requires.there in
-    let both : StatOf c.in-StatOf.kind c.in-StatOf.size ≡ StatOf told.2.kind told.2.size = sym c.in-StatOf.is ∙ told.2.is in
+    let both : StatOf c.in-StatOf.kind c.in-StatOf._links c.in-StatOf.size ≡ StatOf told.2.kind told.2.links told.2.size = sym c.in-StatOf.is ∙ told.2.is in
     record {
       is = refl;
       file = told.0;
       there = told.1;
-      kind = kind_same c.in-StatOf.kind c.in-StatOf.size told.2.kind told.2.size both ∙ told.2.kind_is;
-      size = size_same c.in-StatOf.kind c.in-StatOf.size told.2.kind told.2.size both ∙ told.2.size_is;
+      kind = kind_same c.in-StatOf.kind c.in-StatOf._links c.in-StatOf.size told.2.kind told.2.links told.2.size both ∙ told.2.kind_is;
+      size = size_same c.in-StatOf.kind c.in-StatOf._links c.in-StatOf.size told.2.kind told.2.links told.2.size both ∙ told.2.size_is;
     }
