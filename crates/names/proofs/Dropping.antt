@@ -14,7 +14,7 @@ pub apart_below : (files : Files) (depth : ℕ → ℕ) (from i : ℕ) (name : L
 apart_below files depth from i name tree step same =
     let deep = tree.shape.deeper from i name (subst (λ (k : ℕ). IsDirectory files k) (sym same) step.1.0) step in let e : depth i ≡ depth from = ap depth same in absurd (omega arith)
 
-no_kind : (files : Files) (i : ℕ) → file_in files i ≡ None → IsDirectory files i → ⊥
+pub no_kind : (files : Files) (i : ℕ) → file_in files i ≡ None → IsDirectory files i → ⊥
 no_kind files i free is = let none : kind_of (file_in files i) ≡ 0 = ap kind_of free in let one : kind_of (file_in files i) ≡ 1 = is in absurd (omega arith)
 
 -- a name that leads down in the new files led so before, and to another file than the one dropped

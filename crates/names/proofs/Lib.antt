@@ -14,6 +14,11 @@ pub mod Dropping
 pub mod Moving
 pub mod Moves
 pub mod Plain
+pub mod Places
+pub mod Counting
+pub mod CountedChanges
+pub mod Linked
+pub mod CountMeaning
 pub mod Staying
 pub mod NewDirectory
 pub mod TreeMeaning

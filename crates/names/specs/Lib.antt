@@ -17,8 +17,10 @@ pub mod Numbered
 pub mod Replacing
 pub mod Writes
 pub mod Trees
+pub mod Counts
 pub mod TreeChanges
 pub mod TreeLaws
+pub mod CountLaws
 pub mod TreeMeaning
 pub mod WholeChanges
 pub mod PathLaws

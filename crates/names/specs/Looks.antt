@@ -6,15 +6,16 @@ use Rattle.names.specs.declared.asking.Found.{Found}
 use Rattle.names.specs.Trees.{root}
 use Rattle.names.specs.Walks.{walked}
 
--- the type and the length of the file of a number
+-- the type, the links and the length of the file of a number
 pub record IsFound (files : Files) (number : ℕ) (found : Found) : Type 0 where
   pub is : found.number ≡ number
   pub file : File
   pub there : file_in files number ≡ Some file
   pub kind : found.kind ≡ file.kind
+  pub links : found.links ≡ file.links
   pub size : found.size ≡ length file.bytes
 
--- names lead to a file of that number, type and length, and no file changes
+-- names lead to a file of that number, type, links and length, and no file changes
 pub record Looks (names : List (List ℕ)) (found : Found) (files new : Files) : Type 0 where
   pub same : new ≡ files
   pub number : ℕ

@@ -1,7 +1,8 @@
 -- What a change of one name makes of the files, in names.
-use Rattle.std.specs.Prelude.{◌≡◌, ◌≢◌, ◌⊎◌, ℕ, ◌<◌, List, [], length, slice_set, Option, Some, None}
+use Rattle.std.specs.Prelude.{◌≡◌, ◌≢◌, ◌⊎◌, ℕ, ◌+◌, ◌<◌, List, [], length, slice_set, Option, Some, None}
 use Rattle.model.specs.declared.types.image.File.{File}
 use Rattle.model.specs.Files.{Files, file_in}
+use Rattle.model.specs.Operations.{with_links}
 use Rattle.names.specs.Trees.{directory_in, directory_kind, kind_of, new_directory, number_of, parent_name, IsDirectory, IsEmpty, IsFile, IsTidy}
 
 -- A directory is one still, and tidy; each name but one leads where it led.
@@ -26,6 +27,13 @@ pub record IsUnnamed (files new : Files) (number : ℕ) (file : File) : Type 0 w
   pub free : file_in files number ≡ None
   pub is : new ≡ slice_set files number (Some file)
   pub there : file_in new number ≡ Some file
+  pub rest : (i : ℕ) → i ≢ number → file_in new i ≡ file_in files i
+
+-- A file's count is another one, and nothing else changed.
+pub record Relinks (files new : Files) (number count : ℕ) : Type 0 where
+  pub file : File
+  pub was : file_in files number ≡ Some file
+  pub is : file_in new number ≡ with_links file count
   pub rest : (i : ℕ) → i ≢ number → file_in new i ≡ file_in files i
 
 -- ---- changes
@@ -71,6 +79,30 @@ pub record DropsDirectory (files new : Files) (from : ℕ) (name : List ℕ)
   pub drops : DropsName files new from name number
   pub was : IsDirectory files number
   pub empty : IsEmpty (directory_in files number)
+
+-- A file that is no directory has another name, its count says so, and nothing else changed.
+pub record LinksName (files new : Files) (from : ℕ) (name : List ℕ) (number : ℕ) : Type 0 where
+  pub changes : ChangesName files new from name
+  pub absent : number_of files from name ≡ None
+  pub leads : number_of new from name ≡ Some number
+  pub file : File
+  pub was : file_in files number ≡ Some file
+  pub plain : file.kind ≢ directory_kind
+  pub is : file_in new number ≡ with_links file (file.links + 1)
+  pub rest : (i : ℕ) → i ≢ from → i ≢ number → file_in new i ≡ file_in files i
+
+-- A file that is no directory lost a name, its count says so, and nothing else changed.
+pub record UnlinksName (files new : Files) (from : ℕ) (name : List ℕ) (number : ℕ) : Type 0 where
+  pub changes : ChangesName files new from name
+  pub led : number_of files from name ≡ Some number
+  pub gone : number_of new from name ≡ None
+  pub file : File
+  pub was : file_in files number ≡ Some file
+  pub plain : file.kind ≢ directory_kind
+  pub left : ℕ
+  pub less : left + 1 ≡ file.links
+  pub is : file_in new number ≡ with_links file left
+  pub rest : (i : ℕ) → i ≢ from → i ≢ number → file_in new i ≡ file_in files i
 
 -- A file has a new name of a directory in place of its old one of the same or another directory, and
 -- nothing else changed.

@@ -18,6 +18,11 @@ abbrev pub kind_of : Option File → ℕ
 kind_of None = 0
 kind_of (Some file) = file.kind
 
+-- a file's count of links, and 0 where there is none
+abbrev pub links_of : Option File → ℕ
+links_of None = 0
+links_of (Some file) = file.links
+
 -- a file's bytes; none where there is no file
 abbrev pub bytes_of : Option File → List ℕ
 bytes_of None = []

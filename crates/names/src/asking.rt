@@ -26,6 +26,9 @@ pub struct Found {
     pub number: u32,
     /// Its type: 1 for a directory, 2 for a file of bytes, 3 for a device.
     pub kind: u16,
+    /// How many names lead to it, as its count of links says: of a directory its own name, or the root's
+    /// for its parent, and one for each directory in it.
+    pub links: u16,
     /// How many bytes it has.
     pub size: u32,
 }
@@ -120,7 +123,7 @@ impl<D: Disk> Tree<D> {
         self.changed(alloc, path, &FindFile)
     }
 
-    /// What the file at a path is: its number, its type and its length.
+    /// What the file at a path is: its number, its type, its links and its length.
     ///
     /// # Errors
     ///
@@ -151,11 +154,16 @@ impl<D: Disk> Tree<D> {
         ensures same { OnOk result (SeesSame D.image self.old.kernel self.new.kernel) }
         ensures found { IfOk result (IsFound (files_seen D.image self.old.kernel) number) }
     {
-        let Reply::StatOf(kind, _links, size) = self.called(Op::Stat(number))? else {
+        let Reply::StatOf(kind, links, size) = self.called(Op::Stat(number))? else {
             // A file that is there can be looked at.
             unreachable!()
         };
-        Ok(Found { number, kind, size })
+        Ok(Found {
+            number,
+            kind,
+            links,
+            size,
+        })
     }
 
     /// The bytes of the directory at a path: entries of sixteen bytes, the number of a file with the

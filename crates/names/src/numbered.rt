@@ -240,9 +240,14 @@ impl<D: Disk> Tree<D> {
         ensures made { IfOk result (Happens (LooksAt number) (IsNoFile number)
             (files_seen D.image self.old.kernel) (files_seen D.image self.new.kernel)) }
     {
-        let Reply::StatOf(kind, _links, size) = self.called(Op::Stat(number))? else {
+        let Reply::StatOf(kind, links, size) = self.called(Op::Stat(number))? else {
             return Ok(Err(Refusal::NotFound));
         };
-        Ok(Ok(Found { number, kind, size }))
+        Ok(Ok(Found {
+            number,
+            kind,
+            links,
+            size,
+        }))
     }
 }
