@@ -160,6 +160,7 @@ impl Server {
         let found = Found {
             number: u32::from(made),
             kind: 2,
+            links: 1,
             size: 0,
         };
         self.tell_entry(&found, out)?;
