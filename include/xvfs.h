@@ -251,7 +251,9 @@ typedef struct {
     uint32_t value;    /* the new inode number, the bytes written, or the type */
     uint32_t size;     /* of XVFS_REPLY_STAT: the file's length */
     uint32_t len;      /* of XVFS_REPLY_BYTES: how many were read, of which `bytes` has as many as fit */
-    uint64_t reserved[4];
+    uint32_t links;    /* of XVFS_REPLY_STAT: the file's count of links */
+    uint32_t unused;   /* not written */
+    uint64_t reserved[3];
 } xvfs_answer;
 
 /* Takes the oldest answer of a process; bytes that don't fit are gone. On a refusal nothing is written.
@@ -362,6 +364,7 @@ XVFS_AT(xvfs_answer, reply, 16);
 XVFS_AT(xvfs_answer, value, 20);
 XVFS_AT(xvfs_answer, size, 24);
 XVFS_AT(xvfs_answer, len, 28);
+XVFS_AT(xvfs_answer, links, 32);
 XVFS_ASSERT(sizeof(xvfs_report) == 64 && sizeof(xvfs_told) == 32 && sizeof(xvfs_op) == 16);
 XVFS_ASSERT(sizeof(xvfs_stepped) == 64 && sizeof(xvfs_answer) == 64);
 #undef XVFS_AT

@@ -11,7 +11,8 @@
  *                         last flush: what is left at random moments, and amid its recovery, recovers
  *                         to one sound image
  * fuzz refuse SEED        one run, again and again, each with another call for memory refused
- * fuzz numbers            each refusal that can be had has the number that xvfs.h says
+ * fuzz numbers            each refusal that can be had has the number that xvfs.h says, and a stat
+ *                         tells the links that a file was given
  *
  * It is linked with --wrap=malloc and --wrap=realloc, so that the library's calls come here.
  */
@@ -547,6 +548,38 @@ static void see_memory(void) {
     xvfs_host_close(&host);
 }
 
+/* What a stat tells of file 1. */
+static xvfs_answer stat_1(void) {
+    xvfs_op stat = {XVFS_OP_STAT, 1, 0, 0};
+    xvfs_answer answer;
+    memset(&answer, 255, sizeof answer);
+    EXPECT(XVFS_OK, xvfs_host_call(&host, 0, stat, bytes, 0, &answer, bytes, 0));
+    return answer;
+}
+
+/* A stat tells the links of a file, whatever its type and its length. */
+static void see_links(void) {
+    static const uint32_t counts[] = {0, 258, 65535, 1};
+    xvfs_op create = {XVFS_OP_CREATE, 2, 0, 0}, write = {XVFS_OP_WRITE, 1, 0, 0};
+    xvfs_answer answer;
+    EXPECT(XVFS_OK, xvfs_mkfs(device, device_size, 32, 1));
+    EXPECT(XVFS_OK, xvfs_host_open(&host, &device_calls, room, device_size, 1, 0));
+    EXPECT(XVFS_OK, xvfs_host_call(&host, 0, create, bytes, 0, &answer, bytes, 0));
+    EXPECT(XVFS_REPLY_MADE, answer.reply);
+    if (stat_1().links != 1) fail("a new file has links", stat_1().links);
+    EXPECT(XVFS_OK, xvfs_host_call(&host, 0, write, bytes, 300, &answer, bytes, 0));
+    for (unsigned k = 0; k < sizeof counts / sizeof *counts; k++) {
+        xvfs_op links = {XVFS_OP_LINKS, 1, 0, counts[k]};
+        EXPECT(XVFS_OK, xvfs_host_call(&host, 0, links, bytes, 0, &answer, bytes, 0));
+        EXPECT(XVFS_REPLY_DONE, answer.reply);
+        answer = stat_1();
+        if (answer.reply != XVFS_REPLY_STAT || answer.links != counts[k])
+            fail("a stat tells links", answer.links);
+        if (answer.value != 2 || answer.size != 300) fail("a stat tells a size", answer.size);
+    }
+    xvfs_host_close(&host);
+}
+
 int main(int argc, char **argv) {
     if (argc == 3 && !strcmp(argv[1], "refuse")) {
         refuse_each((uint64_t)atoll(argv[2]));
@@ -564,7 +597,8 @@ int main(int argc, char **argv) {
         see_faults();
         see_calls();
         see_memory();
-        printf("each refusal has the number that xvfs.h says\n");
+        see_links();
+        printf("each refusal has the number that xvfs.h says, and a stat tells the links\n");
         return 0;
     }
     if (argc != 4) return 2;

@@ -53,7 +53,7 @@ fn print_creations(rt: &impl Print, alloc: Global, files: &mut Files) -> anyhow:
 
 fn print_others(rt: &impl Print, alloc: Global, files: &mut Files) -> anyhow::Result<()> {
     print_reply(rt, alloc, files, Op::Stat(1), Reply::NoFile)?;
-    print_reply(rt, alloc, files, Op::Stat(1), Reply::StatOf(2, 0))?;
+    print_reply(rt, alloc, files, Op::Stat(1), Reply::StatOf(2, 1, 0))?;
     print_reply(rt, alloc, files, Op::Stat(32), Reply::NoFile)?;
     print_reply(rt, alloc, files, Op::Read(1, 0, 3073), Reply::TooLong)?;
     print_reply(rt, alloc, files, Op::Trunc(2), Reply::Done)?;
@@ -119,7 +119,7 @@ pub fn print_journals(rt: &impl Print, alloc: Global) -> anyhow::Result<()> {
     let entries = [
         entry(1, Op::Create(2), Some(Reply::Made(1))),
         entry(2, Op::Write(1, 0, bytes), Some(Reply::Wrote(1))),
-        entry(3, Op::Stat(1), Some(Reply::StatOf(2, 1))),
+        entry(3, Op::Stat(1), Some(Reply::StatOf(2, 1, 1))),
         entry(4, Op::Trunc(1), None),
     ];
     print_replays(rt, alloc, &entries)

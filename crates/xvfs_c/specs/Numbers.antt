@@ -86,19 +86,19 @@ told_number told.Nothing = (0, 0, 0)
 told_number (told.Wrote b) = (1, b, 0)
 told_number told.Synced = (0, 0, 1)
 
--- of a reply, and what it carries beside bytes: a value, and a length
-abbrev pub reply_number : Reply → ℕ × ℕ × ℕ
-reply_number (reply.Made inum) = (0, inum, 0)
-reply_number (reply.Wrote count) = (1, count, 0)
-reply_number (reply.Bytes content) = (2, 0, 0)
-reply_number reply.Done = (3, 0, 0)
-reply_number (reply.StatOf kind links size) = (4, kind, size)
-reply_number reply.NoInode = (5, 0, 0)
-reply_number reply.NoFile = (6, 0, 0)
-reply_number reply.BadOffset = (7, 0, 0)
-reply_number reply.TooBig = (8, 0, 0)
-reply_number reply.TooLong = (9, 0, 0)
-reply_number reply.BadType = (10, 0, 0)
+-- of a reply, and what it carries beside bytes: a value, a count of links, and a length
+abbrev pub reply_number : Reply → ℕ × ℕ × ℕ × ℕ
+reply_number (reply.Made inum) = (0, inum, 0, 0)
+reply_number (reply.Wrote count) = (1, count, 0, 0)
+reply_number (reply.Bytes content) = (2, 0, 0, 0)
+reply_number reply.Done = (3, 0, 0, 0)
+reply_number (reply.StatOf kind links size) = (4, kind, links, size)
+reply_number reply.NoInode = (5, 0, 0, 0)
+reply_number reply.NoFile = (6, 0, 0, 0)
+reply_number reply.BadOffset = (7, 0, 0, 0)
+reply_number reply.TooBig = (8, 0, 0, 0)
+reply_number reply.TooLong = (9, 0, 0, 0)
+reply_number reply.BadType = (10, 0, 0, 0)
 
 -- the bytes of a reply are put into C's memory, as many as fit, and their count is told
 abbrev pub HandsOver : Reply → ℕ → List ℕ → List ℕ → Type 0
@@ -110,5 +110,5 @@ HandsOver other len old new = (len ≡ 0) × (new ≡ old)
 pub record TellsAnswer (answer : Answer) (out : XvfsAnswer) (old new : List ℕ) : Type 0 where
   pub seq : out.seq ≡ answer.seq
   pub group : out.group ≡ answer.group
-  pub reply : (out.reply, out.value, out.size) ≡ reply_number answer.reply
+  pub reply : (out.reply, out.value, out.links, out.size) ≡ reply_number answer.reply
   pub bytes : HandsOver answer.reply out.len old new

@@ -97,6 +97,7 @@ pub struct XvfsAnswer {
     pub value: u32,
     pub size: u32,
     pub len: u32,
+    pub links: u32,
 }
 
 /// The number of a fault, and the inode or the block that has it, or 0.
@@ -206,21 +207,21 @@ fn why_number(why: Why) -> u32
     }
 }
 
-/// The number of a reply, and what it carries.
-pub fn reply_number(reply: &Reply) -> (u32, u32, u32)
+/// The number of a reply, and what it carries: a value, a count of links and a length.
+pub fn reply_number(reply: &Reply) -> (u32, u32, u32, u32)
     ensures { result ≡ reply_number reply.now }
 {
     match reply {
-        Reply::Made(inum) => (0, *inum, 0),
-        Reply::Wrote(count) => (1, *count, 0),
-        Reply::Bytes(_) => (2, 0, 0),
-        Reply::Done => (3, 0, 0),
-        Reply::StatOf(kind, _links, size) => (4, *kind as u32, *size),
-        Reply::NoInode => (5, 0, 0),
-        Reply::NoFile => (6, 0, 0),
-        Reply::BadOffset => (7, 0, 0),
-        Reply::TooBig => (8, 0, 0),
-        Reply::TooLong => (9, 0, 0),
-        Reply::BadType => (10, 0, 0),
+        Reply::Made(inum) => (0, *inum, 0, 0),
+        Reply::Wrote(count) => (1, *count, 0, 0),
+        Reply::Bytes(_) => (2, 0, 0, 0),
+        Reply::Done => (3, 0, 0, 0),
+        Reply::StatOf(kind, links, size) => (4, *kind as u32, *links as u32, *size),
+        Reply::NoInode => (5, 0, 0, 0),
+        Reply::NoFile => (6, 0, 0, 0),
+        Reply::BadOffset => (7, 0, 0, 0),
+        Reply::TooBig => (8, 0, 0, 0),
+        Reply::TooLong => (9, 0, 0, 0),
+        Reply::BadType => (10, 0, 0, 0),
     }
 }

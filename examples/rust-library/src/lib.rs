@@ -199,6 +199,7 @@ pub enum Reply {
     Done,
     Stat {
         kind: u32,
+        links: u32,
         size: u32,
     },
     NoInode,
@@ -276,6 +277,7 @@ fn reply_of(answer: &raw::Answer, bytes: &[u8]) -> Reply {
         3 => Reply::Done,
         4 => Reply::Stat {
             kind: answer.value,
+            links: answer.links,
             size: answer.size,
         },
         5 => Reply::NoInode,

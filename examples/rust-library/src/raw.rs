@@ -60,7 +60,8 @@ pub struct Answer {
     pub value: u32,
     pub size: u32,
     pub len: u32,
-    reserved: [u64; 4],
+    pub links: u32,
+    reserved: [u64; 3],
 }
 
 // As xvfs.h asserts it.
@@ -69,7 +70,7 @@ const _: () = {
     assert!(size_of::<Told>() == 32 && offset_of!(Told, synced) == 8);
     assert!(size_of::<Op>() == 16 && offset_of!(Op, len) == 12);
     assert!(size_of::<Stepped>() == 64 && offset_of!(Stepped, committed) == 24);
-    assert!(size_of::<Answer>() == 64 && offset_of!(Answer, len) == 28);
+    assert!(size_of::<Answer>() == 64 && offset_of!(Answer, links) == 32);
 };
 
 extern "C" {

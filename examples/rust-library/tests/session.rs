@@ -107,7 +107,12 @@ fn writes_and_reads() {
     let read = host.call(0, read).expect("an answer");
     assert_eq!(read.reply, Reply::Bytes(b"to be".to_vec()));
     let stat = host.call(0, Op::Stat { inum: 1 }).expect("an answer");
-    assert_eq!(stat.reply, Reply::Stat { kind: 2, size: 5 });
+    let told = Reply::Stat {
+        kind: 2,
+        links: 1,
+        size: 5,
+    };
+    assert_eq!(stat.reply, told);
 }
 
 #[test]
@@ -119,6 +124,13 @@ fn links_are_kept() {
         count: 258,
     };
     assert_eq!(host.call(0, links).expect("one").reply, Reply::Done);
+    let stat = host.call(0, Op::Stat { inum: 1 }).expect("an answer");
+    let told = Reply::Stat {
+        kind: 2,
+        links: 258,
+        size: 0,
+    };
+    assert_eq!(stat.reply, told);
     // The inode of number 1 is the second of block 33, and has its links at byte 6.
     let at = 33 * BLOCK_SIZE + 64 + 6;
     assert_eq!(host.close().bytes[at..at + 2], [2, 1]);
