@@ -548,34 +548,37 @@ static void see_memory(void) {
     xvfs_host_close(&host);
 }
 
-/* What a stat tells of file 1. */
-static xvfs_answer stat_1(void) {
-    xvfs_op stat = {XVFS_OP_STAT, 1, 0, 0};
+/* An operation of process 0, from its beginning to its answer. */
+static xvfs_answer call(xvfs_op_kind kind, uint32_t inum, uint32_t links, size_t count) {
+    xvfs_op op = {kind, inum, 0, links};
+    xvfs_stepped stepped;
     xvfs_answer answer;
+    uint64_t n;
     memset(&answer, 255, sizeof answer);
-    EXPECT(XVFS_OK, xvfs_host_call(&host, 0, stat, bytes, 0, &answer, bytes, 0));
+    EXPECT(XVFS_OK, xvfs_host_submit(&host, 0, op, bytes, count, &n));
+    do {
+        step_writes = step_syncs = 0;
+        EXPECT(XVFS_OK, xvfs_host_step(&host, 0, &stepped));
+    } while (stepped.step == XVFS_STEP_MOVED);
+    EXPECT(XVFS_STEP_ANSWERED, stepped.step);
+    EXPECT(XVFS_OK, xvfs_poll(&host.fs, 0, &answer, bytes, 0));
     return answer;
 }
 
-/* A stat tells the links of a file, whatever its type and its length. */
+/* A stat tells of file 1 its type, its links and its length, and no other answer has links. */
 static void see_links(void) {
     static const uint32_t counts[] = {0, 258, 65535, 1};
-    xvfs_op create = {XVFS_OP_CREATE, 2, 0, 0}, write = {XVFS_OP_WRITE, 1, 0, 0};
-    xvfs_answer answer;
-    EXPECT(XVFS_OK, xvfs_mkfs(device, device_size, 32, 1));
+    make();
     EXPECT(XVFS_OK, xvfs_host_open(&host, &device_calls, room, device_size, 1, 0));
-    EXPECT(XVFS_OK, xvfs_host_call(&host, 0, create, bytes, 0, &answer, bytes, 0));
-    EXPECT(XVFS_REPLY_MADE, answer.reply);
-    if (stat_1().links != 1) fail("a new file has links", stat_1().links);
-    EXPECT(XVFS_OK, xvfs_host_call(&host, 0, write, bytes, 300, &answer, bytes, 0));
+    if (call(XVFS_OP_CREATE, 2, 0, 0).links != 0) fail("a creation tells links", 0);
+    if (call(XVFS_OP_STAT, 1, 0, 0).links != 1) fail("a new file has other links", 1);
+    if (call(XVFS_OP_WRITE, 1, 0, 300).links != 0) fail("a write tells links", 0);
     for (unsigned k = 0; k < sizeof counts / sizeof *counts; k++) {
-        xvfs_op links = {XVFS_OP_LINKS, 1, 0, counts[k]};
-        EXPECT(XVFS_OK, xvfs_host_call(&host, 0, links, bytes, 0, &answer, bytes, 0));
-        EXPECT(XVFS_REPLY_DONE, answer.reply);
-        answer = stat_1();
-        if (answer.reply != XVFS_REPLY_STAT || answer.links != counts[k])
-            fail("a stat tells links", answer.links);
-        if (answer.value != 2 || answer.size != 300) fail("a stat tells a size", answer.size);
+        EXPECT(XVFS_REPLY_DONE, call(XVFS_OP_LINKS, 1, counts[k], 0).reply);
+        xvfs_answer told_of = call(XVFS_OP_STAT, 1, 0, 0);
+        EXPECT(XVFS_REPLY_STAT, told_of.reply);
+        if (told_of.links != counts[k]) fail("a stat tells other links", told_of.links);
+        if (told_of.value != 2 || told_of.size != 300) fail("a stat tells another file", told_of.size);
     }
     xvfs_host_close(&host);
 }
