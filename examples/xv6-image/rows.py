@@ -1,0 +1,122 @@
+"""Chosen images that xvnames and the small kernel have in turn."""
+from checker import check
+from programs import Failure, shown
+from kernel import CREATE, Kernel, WRITE
+from layout import DIRECTORY, INODE_WORDS
+from mkfs import mkfs
+
+# Names of bigdir, of usertests.
+LINKS = 500
+
+
+def expect(programs, wanted, command, *words):
+    """A command ends with this status. What it told."""
+    status, told = programs.names(command, *words)
+    if status != wanted:
+        raise Failure("xvnames %s: status %d, %s" % (" ".join(map(shown, (command, *words))), status, shown(told).strip()))
+    return told
+
+
+def whole(programs, data):
+    """The files of an image, in which the checker finds no fault, and of which the programs find the same."""
+    files, faults = check(data)
+    if faults:
+        raise Failure("; ".join(faults))
+    programs.write(data)
+    programs.look(files)
+    return files
+
+
+def parent_stays(programs):
+    """The kernel takes a directory out of one that xvnames made; that one stays, now and behind a boot."""
+    programs.write(mkfs([]))
+    expect(programs, 0, "mkdir", "/a")
+    expect(programs, 0, "mkdir", "/a/b")
+    kernel = Kernel(programs.image())
+    answers = kernel.unlink(b"/a"), kernel.unlink(b"/a/b"), kernel.mkdir(b"/a/c"), kernel.unlink(b"/a/c")
+    if answers != (-1, 0, 0, 0):
+        raise Failure("the kernel answers %s" % (answers,))
+    rebooted = Kernel(kernel.image())
+    files = whole(programs, rebooted.image())
+    told = expect(programs, 0, "ls", "/")
+    if rebooted.reclaimed or list(files) != [b"/a"] or told != b"a 2 type 1 size 48\n":
+        raise Failure("a boot frees %s, and leaves %s" % (rebooted.reclaimed, shown(told).strip()))
+    print("/a of xvnames stays where the kernel takes /a/b out of it")
+
+
+def bigdir(data):
+    """What usertests' bigdir leaves: 500 names are made in the root and taken out, and its size stays."""
+    kernel = Kernel(data)
+    names = [bytes([ord("x"), ord("0") + index // 64, ord("0") + index % 64]) for index in range(LINKS)]
+    kernel.close(kernel.open(b"bd", CREATE | WRITE))
+    answers = {kernel.link(b"bd", name) for name in names} | {kernel.unlink(name) for name in [b"bd"] + names}
+    if answers != {0}:
+        raise Failure("bigdir fails")
+    return kernel.image()
+
+
+def use_large(programs, data, size):
+    """ls, tree, put, rm, mkdir and rmdir in a root of so many bytes."""
+    whole(programs, data)
+    if Kernel(data).on_disk(1)[4] != size:
+        raise Failure("the root has another size than %d" % size)
+    with open("host", "wb") as file:
+        file.write(b"to be, or not to be\n" * 200)
+    before = expect(programs, 0, "ls", "/")
+    expect(programs, 0, "put", "host", "/put")
+    expect(programs, 0, "mkdir", "/made")
+    if len(expect(programs, 0, "ls", "/").splitlines()) != len(before.splitlines()) + 2:
+        raise Failure("ls doesn't list two more")
+    whole(programs, programs.image())
+    expect(programs, 0, "rm", "/put")
+    expect(programs, 0, "rm", "/f7")
+    expect(programs, 0, "rmdir", "/made")
+    files = whole(programs, programs.image())
+    whole(programs, bigdir(programs.image()))
+    print("a root of %d bytes, with %d files: listed, put into and taken from" % (size, len(files)))
+
+
+def large_directories(programs):
+    """The root that bigdir leaves, and those of mkfs with 191 and 500 files."""
+    files = [(b"f%d" % index, b"file %d\n" % index) for index in range(500)]
+    use_large(programs, bigdir(mkfs(files[:12])), 8240)
+    use_large(programs, mkfs(files[:191], 3000, 700), 4096)
+    use_large(programs, mkfs(files, 3000, 700), 8192)
+
+
+def set_links(data, number, links):
+    """The image with another count of links in an inode."""
+    home, at = Kernel(data).place(number)
+    at += home * 1024
+    words = list(INODE_WORDS.unpack_from(data, at))
+    words[3] = links
+    return data[:at] + INODE_WORDS.pack(*words) + data[at + INODE_WORDS.size:]
+
+
+def wrong_counts(programs):
+    """An image with a wrong count is read, and no command changes it but recount, which puts the count right."""
+    kernel = Kernel(mkfs([(b"f", b"to be")]))
+    for path in (b"/a", b"/a/b", b"/a/c"):
+        kernel.mkdir(path)
+    kernel.link(b"/f", b"/a/c/g")
+    right = kernel.image()
+    wrong = set_links(set_links(set_links(right, 3, 1), 2, 1), 1, 7)
+    programs.write(wrong)
+    if sorted(expect(programs, 0, "tree").splitlines()) != [b"a/", b"a/b/", b"a/c/", b"a/c/g", b"f"]:
+        raise Failure("tree of wrong counts lists something else")
+    with open("host", "wb") as file:
+        file.write(b"not to be")
+    for words in (("mkdir", "/d"), ("rmdir", "/a/b"), ("rm", "/f"), ("mv", "/a/b", "/b"), ("put", "host", "/h"),
+                  ("ln", "/f", "/h")):
+        expect(programs, 1, *words)
+        if programs.image() != wrong:
+            raise Failure("xvnames %s changed an image with wrong counts" % words[0])
+    expect(programs, 0, "recount")
+    files = whole(programs, programs.image())
+    if files != check(right)[0]:
+        raise Failure("recount left %s" % (files,))
+    expect(programs, 0, "mkdir", "/d")
+    files = whole(programs, programs.image())
+    if files[b"/d"].kind != DIRECTORY:
+        raise Failure("mkdir behind recount made no directory")
+    print("wrong counts: the image is read, not changed, and put right")
