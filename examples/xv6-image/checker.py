@@ -11,8 +11,8 @@ import collections
 import struct
 import sys
 
-from layout import (ADDRESSES, BLOCK, DEVICE, DIRECT, DIRECTORY, ENTRY, ENTRY_WORDS, INODE_WORDS, MAGIC, MOST_BLOCKS, ROOT,
-                    SUPERBLOCK_WORDS, Superblock, name_of, superblock_for)
+from layout import (ADDRESSES, BLOCK, DEVICE, DIRECT, DIRECTORY, ENTRY, ENTRY_WORDS, INODE_WORDS, MOST_BLOCKS,
+                    ROOT, SUPERBLOCK_WORDS, Superblock, name_of, superblock_for)
 
 # A file that was found: its bytes are None for a directory.
 Found = collections.namedtuple("Found", "number kind links data")
@@ -27,7 +27,7 @@ class Checker:
         self.superblock = Superblock(*SUPERBLOCK_WORDS.unpack_from(self.blocks[1]))
         wanted = superblock_for(self.superblock.size, self.superblock.ninodes, self.superblock.nlog)
         if self.superblock != wanted or len(data) != self.superblock.size * BLOCK:
-            self.faults.append("the superblock is %s" % (self.superblock,))
+            self.tell("the superblock is %s", self.superblock)
             return
         self.first_data = self.superblock.size - self.superblock.nblocks
         self.recover()
@@ -36,15 +36,21 @@ class Checker:
         self.look_at_tree()
         self.look_at_counts()
 
+    def tell(self, text, *words):
+        """Adds a fault."""
+        words = tuple(word.decode("latin-1") if isinstance(word, bytes) else word for word in words)
+        self.faults.append(text % words)
+
     def recover(self):
         start = self.superblock.logstart
         count, = struct.unpack_from("<I", self.blocks[start])
         if count > self.superblock.nlog - 1:
-            self.faults.append("the log has %d blocks" % count)
+            self.tell("the log has %d blocks", count)
             return
         homes = struct.unpack_from("<%dI" % count, self.blocks[start], 4)
-        if len(set(homes)) != count or not all(self.superblock.inodestart <= home < self.superblock.size for home in homes):
-            self.faults.append("the log has the homes %s" % (homes,))
+        lawful = range(self.superblock.inodestart, self.superblock.size)
+        if len(set(homes)) != count or not all(home in lawful for home in homes):
+            self.tell("the log has the homes %s", homes)
             return
         for place, home in enumerate(homes):
             self.blocks[home] = self.blocks[start + 1 + place]
@@ -59,7 +65,7 @@ class Checker:
             if kind == 0:
                 continue
             if kind not in range(DIRECTORY, DEVICE + 1) or size > MOST_BLOCKS * BLOCK:
-                self.faults.append("inode %d has type %d and size %d" % (number, kind, size))
+                self.tell("inode %d has type %d and size %d", number, kind, size)
                 continue
             self.inodes[number] = Found(number, kind, links, self.bytes_of(number, size, addresses))
 
@@ -78,13 +84,13 @@ class Checker:
         """Whether an inode has a block at an address, of which it is the only owner."""
         if block == 0:
             if is_needed:
-                self.faults.append("inode %d lacks an address" % number)
+                self.tell("inode %d lacks an address", number)
             return False
         if not self.first_data <= block < self.superblock.size:
-            self.faults.append("inode %d has the address %d" % (number, block))
+            self.tell("inode %d has the address %d", number, block)
             return False
         if block in self.owners:
-            self.faults.append("block %d is owned by %d and %d" % (block, self.owners[block], number))
+            self.tell("block %d is owned by %d and %d", block, self.owners[block], number)
         self.owners[block] = number
         return True
 
@@ -93,37 +99,37 @@ class Checker:
         for block in range(self.superblock.size):
             is_marked = bool(bits[block // 8] & 1 << block % 8)
             if is_marked != (block < self.first_data or block in self.owners):
-                self.faults.append("block %d is %s" % (block, "lost" if is_marked else "used, and marked as free"))
+                self.tell("block %d is %s", block, "lost" if is_marked else "used, and marked as free")
 
     # The tree.
 
     def look_at_tree(self):
         root = self.inodes.get(ROOT)
         if not root or root.kind != DIRECTORY:
-            self.faults.append("there is no root")
+            self.tell("there is no root")
             return
         paths, left = {ROOT: b"/"}, [(ROOT, ROOT, b"")]
         while left:
             left += self.look_at_directory(*left.pop(), paths)
         for number in self.inodes.keys() - paths.keys():
-            self.faults.append("inode %d has no name" % number)
+            self.tell("inode %d has no name", number)
 
     def look_at_directory(self, number, parent, path, paths):
         """The directories in a directory: number, the number of this one, and path."""
         data, below, names = self.inodes[number].data, [], set()
         if len(data) % ENTRY or len(data) < 2 * ENTRY:
-            self.faults.append("%s/ has %d bytes" % (path.decode("latin-1"), len(data)))
+            self.tell("%s/ has %d bytes", path, len(data))
             return below
         self.names[parent] += 1
         entries = list(ENTRY_WORDS.iter_unpack(data))
         if [(to, field.rstrip(b"\0")) for to, field in entries[:2]] != [(number, b"."), (parent, b"..")]:
-            self.faults.append("%s/ begins with %s" % (path.decode("latin-1"), entries[:2]))
+            self.tell("%s/ begins with %s", path, entries[:2])
         for to, field in entries[2:]:
             if to == 0:
                 continue
             name = name_of(field)
             if name in names or name in (b"", b".", b"..") or b"/" in name or any(field[len(name):]):
-                self.faults.append("%s/ has the name %s, which is there already or is none" % (path.decode("latin-1"), field))
+                self.tell("%s/ has the name %s, which is there already or is none", path, field)
             names.add(name)
             if self.is_new_directory(to, path + b"/" + name, paths):
                 below.append((to, number, path + b"/" + name))
@@ -134,11 +140,11 @@ class Checker:
         self.names[number] += 1
         found = self.inodes.get(number)
         if not found:
-            self.faults.append("%s leads to %d, which is free" % (path.decode("latin-1"), number))
+            self.tell("%s leads to %d, which is free", path, number)
             return False
         is_directory = found.kind == DIRECTORY
         if is_directory and number in paths:
-            self.faults.append("%s and %s are one directory" % (path.decode("latin-1"), paths[number].decode("latin-1")))
+            self.tell("%s and %s are one directory", path, paths[number])
             return False
         paths.setdefault(number, path)
         self.files[path] = found._replace(data=None) if is_directory else found
@@ -147,7 +153,7 @@ class Checker:
     def look_at_counts(self):
         for number, found in self.inodes.items():
             if found.links != self.names[number]:
-                self.faults.append("inode %d has %d links, and %d entries lead to it" % (number, found.links, self.names[number]))
+                self.tell("inode %d has %d links, and %d entries lead to it", number, found.links, self.names[number])
 
 
 def check(data):

@@ -19,7 +19,7 @@ class Commands:
         self.random.choice(self.kinds)()
 
     def made(self, may, blocks, command, *words):
-        """Whether xvnames made a command; it has to where it may, unless so many blocks, or an inode, are not free."""
+        """Whether xvnames made a command. It has to where it may, unless it lacks so many blocks, or an inode."""
         status, told = self.programs.names(command, *words)
         line = "%s %s" % (command, " ".join(map(shown, words)))
         self.history.append("xvnames %s: %s" % (line, "done" if status == 0 else shown(told).strip()))

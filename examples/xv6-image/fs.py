@@ -1,7 +1,7 @@
 """Blocks, inodes, directories and paths, as kernel/fs.c of xv6-riscv has them, under its names, for one process
 whose directory is the root."""
-from layout import (ADDRESSES, BITS_IN_BLOCK, BLOCK, DIRECT, DIRECTORY, ENTRY, ENTRY_WORDS, INODE_WORDS, INODES_IN_BLOCK,
-                    MOST_BLOCKS, NAME, ROOT, name_of)
+from layout import (ADDRESSES, BITS_IN_BLOCK, BLOCK, DIRECT, DIRECTORY, ENTRY, ENTRY_WORDS, INODE_WORDS,
+                    INODES_IN_BLOCK, MOST_BLOCKS, NAME, ROOT, name_of)
 from log import Log, Panic
 
 # Inodes in memory at once.
@@ -97,7 +97,8 @@ class FileSystem(Log):
             raise Panic("no panic of xv6: the only process sleeps for a lock that it holds")
         inode.is_locked = True
         if not inode.is_valid:
-            inode.kind, inode.major, inode.minor, inode.links, inode.size, *inode.addresses = self.on_disk(inode.number)
+            words = self.on_disk(inode.number)
+            inode.kind, inode.major, inode.minor, inode.links, inode.size, *inode.addresses = words
             inode.is_valid = True
             if inode.kind == 0:
                 raise Panic("ilock: no type")

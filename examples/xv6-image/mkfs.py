@@ -1,7 +1,13 @@
 """Lays out an image as xv6's own mkfs/mkfs.c does: a root with a name for each file, and the files' blocks one
-behind the other in the order in which they were appended."""
-from layout import (ADDRESSES, BITS_IN_BLOCK, BLOCK, DIRECT, DIRECTORY, ENTRY_WORDS, FILE, INODE_WORDS, INODES_IN_BLOCK,
-                    LOG, MOST_BLOCKS, NAME, ROOT, SUPERBLOCK_WORDS, superblock_for)
+behind the other in the order in which they were appended.
+
+    mkfs.py IMAGE FILE...
+"""
+import os
+import sys
+
+from layout import (ADDRESSES, BITS_IN_BLOCK, BLOCK, DIRECT, DIRECTORY, ENTRY_WORDS, FILE, INODE_WORDS,
+                    INODES_IN_BLOCK, LOG, MOST_BLOCKS, NAME, ROOT, SUPERBLOCK_WORDS, superblock_for)
 
 
 class Maker:
@@ -87,3 +93,13 @@ def mkfs(files, size=2000, inodes=200, log=LOG):
     maker.round_root()
     maker.mark()
     return b"".join(maker.blocks)
+
+
+def read(path):
+    with open(path, "rb") as file:
+        return os.fsencode(os.path.basename(path)), file.read()
+
+
+if __name__ == "__main__":
+    with open(sys.argv[1], "wb") as IMAGE:
+        IMAGE.write(mkfs(map(read, sys.argv[2:])))

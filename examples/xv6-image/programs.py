@@ -31,9 +31,10 @@ class Programs:
 
     @staticmethod
     def run(program, *words):
-        """The status, and what was told: standard output where the command was done, or standard error."""
+        """The status, 0 or 1, and what was told: standard output where the command was done, or the refusal."""
         ran = subprocess.run([program, *words], capture_output=True, timeout=60)
-        if ran.returncode not in (0, 1):
+        refused = ran.returncode == 1 and re.match(rb"xv\w+: \w+ \d+ \w+", ran.stderr)
+        if ran.returncode != 0 and not refused:
             raise Failure("%s: status %d, %s" % (" ".join(map(shown, words)), ran.returncode, shown(ran.stderr)))
         return ran.returncode, ran.stdout if ran.returncode == 0 else ran.stderr
 

@@ -13,7 +13,8 @@ def expect(programs, wanted, command, *words):
     """A command ends with this status. What it told."""
     status, told = programs.names(command, *words)
     if status != wanted:
-        raise Failure("xvnames %s: status %d, %s" % (" ".join(map(shown, (command, *words))), status, shown(told).strip()))
+        line = " ".join(map(shown, (command, *words)))
+        raise Failure("xvnames %s: status %d, %s" % (line, status, shown(told).strip()))
     return told
 
 

@@ -1,5 +1,5 @@
-"""A tree of files as a dictionary, which knows no blocks and no inodes: what two programs that change an image in turn
-have to leave in it."""
+"""A tree of files as a dictionary, which knows no blocks and no inodes: what two programs that change an image in
+turn have to leave in it."""
 from layout import DIRECTORY, NAME
 
 NAMES = [b"bin", b"notes.txt", b"a", b"README", b"fourteen_bytes", b"x\xc3\xa9", b"lib", b"usr", b"tmp", b"new file"]

@@ -1,10 +1,11 @@
-"""Hands images to and fro between xvnames and the small kernel of xv6's rules. After each turn `xvfs check` has to say
-that the image is sound, `xvnames tree` to list the tree that both should have left, and the strict checker to find no
-fault, in the counts of links either.
+"""Hands images to and fro between xvnames and the small kernel of xv6's rules. After each turn `xvfs check` has to
+say that the image is sound, `xvnames tree` to list the tree that both should have left, and the strict checker to
+find no fault, in the counts of links either.
 
     turns.py XVFS XVNAMES [--seed SEED] [--round ROUND] [--alone ROUNDS]
 
-A failure tells seed, round and the last calls; with these words it comes again. With --alone the kernel has all turns.
+A failure tells seed, round and the last calls; with these words it comes again. Before that the kernel alone has all
+turns, in so many images as --alone says.
 """
 import argparse
 import collections
@@ -100,7 +101,12 @@ def make_rounds(programs, seed, numbers):
         except Exception as fault:
             print("seed %d, round %d; the last calls:" % (seed, number))
             print("\n".join("    " + line for line in made.history))
-            raise Failure("%s: %s" % (type(fault).__name__, fault)) from fault
+            raise Failure(told(fault)) from fault
+
+
+def told(fault):
+    """What is told of a fault: its text, and where it is no test that failed, what it is."""
+    return str(fault) if isinstance(fault, Failure) else "%s: %s" % (type(fault).__name__, fault)
 
 
 def read_words():
@@ -130,11 +136,11 @@ def main(words, programs):
 
 if __name__ == "__main__":
     WORDS = read_words()
-    PROGRAMS = Programs(os.path.realpath(WORDS.xvfs), os.path.realpath(WORDS.xvnames))
+    PROGRAMS = Programs(os.path.abspath(WORDS.xvfs), os.path.abspath(WORDS.xvnames))
     with tempfile.TemporaryDirectory() as FOLDER:
         os.chdir(FOLDER)
         try:
             main(WORDS, PROGRAMS)
         except (Failure, Panic) as fault:
-            print("xv6-image: %s: %s" % (type(fault).__name__, fault))
+            print("xv6-image: %s" % told(fault))
             sys.exit(1)
