@@ -1,5 +1,4 @@
-"""Blocks, inodes, directories and paths, as kernel/fs.c of xv6-riscv has them, under its names, for one process
-whose directory is the root."""
+"""Blocks, inodes, directories and paths, as kernel/fs.c of xv6-riscv has them, under its names, for one process."""
 from layout import (ADDRESSES, BITS_IN_BLOCK, BLOCK, DIRECT, DIRECTORY, ENTRY, ENTRY_WORDS, INODE_WORDS,
                     INODES_IN_BLOCK, MOST_BLOCKS, NAME, ROOT, name_of)
 from log import Log, Panic
@@ -27,7 +26,7 @@ class FileSystem(Log):
     def __init__(self, data):
         super().__init__(data)
         self.table, self.said, self.reclaimed = {}, [], []
-        # The first process stands in the root before the disk is read: xv6's userinit.
+        # The first process is in the root before the disk is read: xv6's userinit.
         self.directory = self.iget(ROOT)
         self.ireclaim()
 

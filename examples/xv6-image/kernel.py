@@ -153,6 +153,22 @@ class Kernel(FileSystem):
         entries = self.entries(directory, 2 * ENTRY, "isdirempty: readi")
         return all(number == 0 for _offset, number, _field in entries)
 
+    def chdir(self, path):
+        if len(path) >= MAXPATH:
+            return -1
+        with self.transaction():
+            inode = self.namei(path)
+            if not inode:
+                return -1
+            self.ilock(inode)
+            if inode.kind != DIRECTORY:
+                self.iunlockput(inode)
+                return -1
+            self.iunlock(inode)
+            self.iput(self.directory)
+        self.directory = inode
+        return 0
+
     def mkdir(self, path):
         return self.make(path, DIRECTORY)
 
