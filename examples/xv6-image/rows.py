@@ -1,12 +1,10 @@
 """Chosen images that xvnames and the small kernel have in turn."""
 from checker import check
-from programs import Failure, shown
-from kernel import CREATE, Kernel, WRITE
+from kernel import Kernel
 from layout import DIRECTORY, INODE_WORDS
 from mkfs import mkfs
-
-# Names of bigdir, of usertests.
-LINKS = 500
+from programs import Failure, shown
+from usertests import bigdir
 
 
 def expect(programs, wanted, command, *words):
@@ -45,14 +43,10 @@ def parent_stays(programs):
     print("/a of xvnames stays where the kernel takes /a/b out of it")
 
 
-def bigdir(data):
-    """What usertests' bigdir leaves: 500 names are made in the root and taken out, and its size stays."""
+def behind_bigdir(data):
+    """What bigdir of usertests leaves: a root that keeps the size of 500 names more."""
     kernel = Kernel(data)
-    names = [bytes([ord("x"), ord("0") + index // 64, ord("0") + index % 64]) for index in range(LINKS)]
-    kernel.close(kernel.open(b"bd", CREATE | WRITE))
-    answers = {kernel.link(b"bd", name) for name in names} | {kernel.unlink(name) for name in [b"bd"] + names}
-    if answers != {0}:
-        raise Failure("bigdir fails")
+    bigdir(kernel)
     return kernel.image()
 
 
@@ -73,14 +67,14 @@ def use_large(programs, data, size):
     expect(programs, 0, "rm", "/f7")
     expect(programs, 0, "rmdir", "/made")
     files = whole(programs, programs.image())
-    whole(programs, bigdir(programs.image()))
+    whole(programs, behind_bigdir(programs.image()))
     print("a root of %d bytes, with %d files: listed, put into and taken from" % (size, len(files)))
 
 
 def large_directories(programs):
     """The root that bigdir leaves, and those of mkfs with 191 and 500 files."""
     files = [(b"f%d" % index, b"file %d\n" % index) for index in range(500)]
-    use_large(programs, bigdir(mkfs(files[:12])), 8240)
+    use_large(programs, behind_bigdir(mkfs(files[:12])), 8240)
     use_large(programs, mkfs(files[:191], 3000, 700), 4096)
     use_large(programs, mkfs(files, 3000, 700), 8192)
 

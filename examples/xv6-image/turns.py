@@ -24,6 +24,7 @@ from log import Panic
 from mkfs import mkfs
 from programs import Failure, Programs
 from tree import File, Tree
+from usertests import make_usertests
 from wrong_images import look_at_wrong_images
 
 # Whether xvnames keeps counts of links, and has ln and recount; and whether it has directories of any size.
@@ -31,7 +32,7 @@ KEEPS_COUNTS = True
 LARGE_DIRECTORIES = True
 # In each image so many turns, each of so many commands of xvnames and calls of the kernel.
 ROUNDS, TURNS, COMMANDS, CALLS = 40, 3, 5, 12
-# The last calls that a failure tells.
+# The most calls, and the most faults, that a failure tells.
 TOLD = 20
 
 
@@ -70,7 +71,7 @@ class Round:
         files, faults = check(self.data)
         wrong = faults + self.tree.differences(files)
         if wrong:
-            raise Failure("; ".join(wrong))
+            raise Failure("; ".join(wrong[:TOLD]))
         if self.programs:
             self.programs.write(self.data)
             self.programs.look(files)
@@ -121,6 +122,7 @@ def read_words():
 
 def main(words, programs):
     look_at_wrong_images()
+    make_usertests()
     make_rounds(None, words.seed, range(words.alone))
     print("the kernel alone: %d calls in %d images" % (10 * TURNS * CALLS * words.alone, words.alone))
     rows.parent_stays(programs)
