@@ -10,10 +10,9 @@ SIZES = [0, 1, 700, 3072, 4000, 13000, 20000]
 
 
 class Commands:
-    def __init__(self, programs, tree, random, history, may_link=True):
+    def __init__(self, programs, tree, random, history):
         self.programs, self.tree, self.random, self.history = programs, tree, random, history
-        self.kinds = 3 * [self.mkdir, self.mv, self.mv_directory] + 2 * [self.rmdir, self.rm, self.put]
-        self.kinds += 2 * [self.ln] if may_link else []
+        self.kinds = 3 * [self.mkdir, self.mv, self.mv_directory] + 2 * [self.rmdir, self.rm, self.put, self.ln]
 
     def make_one(self):
         self.random.choice(self.kinds)()

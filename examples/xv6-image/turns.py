@@ -27,7 +27,8 @@ from tree import File, Tree
 from usertests import make_usertests
 from wrong_images import look_at_wrong_images
 
-# Whether xvnames keeps counts of links, and has ln and recount; and whether it has directories of any size.
+# Whether xvnames keeps counts of links, and has ln and recount: without that a directory that it makes is lost in the
+# kernel. And whether it has directories of any size.
 KEEPS_COUNTS = True
 LARGE_DIRECTORIES = True
 # In each image so many turns, each of so many commands of xvnames and calls of the kernel.
@@ -61,7 +62,7 @@ class Round:
 
     def commands_turn(self, count):
         self.programs.write(self.data)
-        commands = Commands(self.programs, self.tree, self.random, self.history, KEEPS_COUNTS)
+        commands = Commands(self.programs, self.tree, self.random, self.history)
         for _ in range(count):
             commands.make_one()
         self.data = self.programs.image()
@@ -125,15 +126,15 @@ def main(words, programs):
     make_usertests()
     make_rounds(None, words.seed, range(words.alone))
     print("the kernel alone: %d calls in %d images" % (10 * TURNS * CALLS * words.alone, words.alone))
-    rows.parent_stays(programs)
-    numbers = range(ROUNDS) if words.round is None else [words.round]
-    make_rounds(programs, words.seed, numbers)
-    print("%d images, each in turn with the kernel, for %d calls, and with xvnames, for %d commands"
-          % (len(numbers), TURNS * CALLS, TURNS * COMMANDS))
     if KEEPS_COUNTS:
+        rows.parent_stays(programs)
         rows.wrong_counts(programs)
+        numbers = range(ROUNDS) if words.round is None else [words.round]
+        make_rounds(programs, words.seed, numbers)
+        print("%d images, each in turn with the kernel, for %d calls, and with xvnames, for %d commands"
+              % (len(numbers), TURNS * CALLS, TURNS * COMMANDS))
     if LARGE_DIRECTORIES:
-        rows.large_directories(programs)
+        rows.large_directories(programs, KEEPS_COUNTS)
 
 
 if __name__ == "__main__":
