@@ -213,8 +213,9 @@ class FileSystem(Log):
         """The inode to which a name leads, and the offset of its entry; None for both where there is no such name."""
         if directory.kind != DIRECTORY:
             raise Panic("dirlookup not DIR")
+        wanted = name_of(name)
         for offset, number, field in self.entries(directory, 0, "dirlookup read"):
-            if number != 0 and name_of(field) == name_of(name):
+            if number != 0 and name_of(field) == wanted:
                 return self.iget(number), offset
         return None, None
 

@@ -43,10 +43,10 @@ def parent_stays(programs):
     print("/a of xvnames stays where the kernel takes /a/b out of it")
 
 
-def behind_bigdir(data):
-    """What bigdir of usertests leaves: a root that keeps the size of 500 names more."""
+def behind_bigdir(data, *count):
+    """What bigdir of usertests leaves: a root that keeps the size of 500 names more, or of so many."""
     kernel = Kernel(data)
-    bigdir(kernel)
+    bigdir(kernel, *count)
     return kernel.image()
 
 
@@ -67,7 +67,7 @@ def use_large(programs, data, size, keeps_counts):
     for words in [("rm", "/put"), ("rm", "/f7")] + keeps_counts * [("rmdir", "/made")]:
         expect(programs, 0, *words)
     files = whole(programs, programs.image())
-    whole(programs, behind_bigdir(programs.image()))
+    whole(programs, behind_bigdir(programs.image(), 20))
     print("a root of %d bytes, with %d files: listed, put into and taken from" % (size, len(files)))
 
 

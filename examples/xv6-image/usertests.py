@@ -97,9 +97,9 @@ def diskfull(kernel):
         kernel.unlink(name)
 
 
-def bigdir(kernel):
-    """500 names are made in the root and taken out: its size stays."""
-    names = [bytes([ord("x"), ord("0") + index // 64, ord("0") + index % 64]) for index in range(LINKS)]
+def bigdir(kernel, count=LINKS):
+    """So many names are made in the root and taken out: its size stays."""
+    names = [bytes([ord("x"), ord("0") + index // 64, ord("0") + index % 64]) for index in range(count)]
     put(kernel, b"bd", b"")
     answers = {kernel.link(b"bd", name) for name in names} | {kernel.unlink(name) for name in [b"bd"] + names}
     if answers != {0}:
