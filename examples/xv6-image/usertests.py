@@ -1,5 +1,5 @@
-"""What xv6's own user/usertests.c asks of a kernel's files, of the small kernel: each call has to be done or refused as
-there, and the checker finds no fault behind each test."""
+"""What xv6's own user/usertests.c asks of a kernel's files, of the small kernel: each call has to be done or refused
+as there, and the checker finds no fault behind each test."""
 from checker import check
 from fs import NINODE
 from kernel import CREATE, Kernel, READ, READ_WRITE, WRITE
@@ -20,9 +20,10 @@ LINES = {
         !mkdir 123456789012345/12345678901234; !unlink 123456789012345/12345678901234;
         unlink 12345678901234/12345678901234/12345678901234; unlink 12345678901234/123456789012345;
         unlink 12345678901234""",
-    "rmdot": """mkdir dots; chdir dots; !unlink .; !unlink ..; chdir /; !unlink dots/.; !unlink dots/..; unlink dots""",
-    "dirfile": """open dirfile create; !chdir dirfile; !open dirfile/xx read; !open dirfile/xx create; !mkdir dirfile/xx;
-        !unlink dirfile/xx; !link README dirfile/xx; unlink dirfile; !open . change; open . read""",
+    "rmdot": """mkdir dots; chdir dots; !unlink .; !unlink ..; chdir /; !unlink dots/.; !unlink dots/..;
+        unlink dots""",
+    "dirfile": """open dirfile create; !chdir dirfile; !open dirfile/xx read; !open dirfile/xx create;
+        !mkdir dirfile/xx; !unlink dirfile/xx; !link README dirfile/xx; unlink dirfile; !open . change; open . read""",
     "subdir": """mkdir dd; put dd/ff ff; !unlink dd; mkdir /dd/dd; put dd/dd/ff FF; get dd/dd/../ff ff;
         link dd/dd/ff dd/dd/ffff; unlink dd/dd/ff; !open dd/dd/ff read; chdir dd; chdir dd/../../dd;
         chdir dd/../../../dd; chdir ./..; get dd/dd/ffff FF; !open dd/dd/ff read; !open dd/ff/ff create;
@@ -30,8 +31,8 @@ LINES = {
         !link dd/xx/ff dd/dd/xx; !link dd/ff dd/dd/ffff; !mkdir dd/ff/ff; !mkdir dd/xx/ff; !mkdir dd/dd/ffff;
         !unlink dd/xx/ff; !unlink dd/ff/ff; !chdir dd/ff; !chdir dd/xx; unlink dd/dd/ffff; unlink dd/ff; !unlink dd;
         unlink dd/dd; unlink dd""",
-    "iref": "; ".join((NINODE + 1) * ["mkdir irefd; chdir irefd; !mkdir ; !link README ; !open  create; open xx create",
-                                      "unlink xx"] + (NINODE + 1) * ["chdir ..", "unlink irefd"] + ["chdir /"]),
+    "iref": (NINODE + 1) * """mkdir irefd; chdir irefd; !mkdir ; !link README ; !open  create; open xx create;
+        unlink xx; """ + (NINODE + 1) * "chdir ..; unlink irefd; " + "chdir /",
 }
 
 
