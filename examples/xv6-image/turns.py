@@ -29,8 +29,8 @@ from wrong_images import look_at_wrong_images
 
 # Whether xvnames keeps counts of links, and has ln and recount: without that a directory that it makes is lost in the
 # kernel. And whether it has directories of any size.
-KEEPS_COUNTS = True
-LARGE_DIRECTORIES = True
+KEEPS_COUNTS = False
+LARGE_DIRECTORIES = False
 # In each image so many turns, each of so many commands of xvnames and calls of the kernel.
 ROUNDS, TURNS, COMMANDS, CALLS = 40, 3, 5, 12
 # The most calls, and the most faults, that a failure tells.
