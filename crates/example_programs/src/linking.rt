@@ -8,8 +8,8 @@ use crate::trees::{Bytes, Name as Ask, ask_bytes, ask_name, new_tree};
 use anyhow::bail;
 use blocks::{Disk, MemDisk};
 use calls::{Sole, call, open_sole};
-use model::types::{Op, Reply};
-use names::{DIRECTORY, DIRECTORY_SIZE, Name, Tree, link};
+use model::types::{Op, Reply, TRANSFER_LIMIT};
+use names::{DIRECTORY, Name, Tree, link};
 use std::alloc::Global;
 
 /// Prints what comes of calls at the two names of a file.
@@ -60,7 +60,7 @@ fn link_again<D: Disk>(alloc: Global, kernel: &mut Sole<D>) -> anyhow::Result<()
     requires rests { Rests D.fault_count kernel.old }
     requires few { call_count kernel.old + 2 ≤ 2 ^ 63 }
 {
-    let root = Op::Read(DIRECTORY, 0, DIRECTORY_SIZE as u32);
+    let root = Op::Read(DIRECTORY, 0, TRANSFER_LIMIT);
     let Reply::Bytes(bytes) = call(kernel, root)? else {
         bail!("there is no root");
     };
@@ -73,7 +73,7 @@ fn link_again<D: Disk>(alloc: Global, kernel: &mut Sole<D>) -> anyhow::Result<()
 
 // The operation that links file 2 once more, in a root of these bytes.
 fn again_in(alloc: Global, bytes: &[u8]) -> anyhow::Result<Op> {
-    if bytes.len() > DIRECTORY_SIZE {
+    if bytes.len() > TRANSFER_LIMIT as usize {
         bail!("the root is too long");
     }
     let write = link(bytes, &Name::new(b"again")?, 2)?;

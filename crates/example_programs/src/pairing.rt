@@ -39,9 +39,7 @@ pub fn print_file<D: Disk + Drop>(rt: &impl Print, alloc: Global, disk: D) -> an
     let reply = call(&mut kernel, Op::Stat(1))?;
     abandon(kernel);
     match reply {
-        Reply::StatOf(kind, _links, size) => println!(rt;
-            "file 1 is of type {kind} and has {size} bytes"
-        )?,
+        Reply::StatOf(kind, _links, size) => println!(rt; "file 1 is of type {kind} and has {size} bytes")?,
         _ => println!(rt; "there is no file 1")?,
     }
     Ok(())

@@ -60,14 +60,14 @@ pub fn new_tree(alloc: Global) -> anyhow::Result<Tree<MemDisk>>
     }
 }
 
-// The root is made on a disk that has no file.
-fn rooted<D: Disk + Drop>(alloc: Global, disk: D) -> anyhow::Result<Tree<D>>
+/// The root is made on a disk that has no file.
+pub fn rooted<D: Disk + Drop>(alloc: Global, disk: D) -> anyhow::Result<Tree<D>>
     requires { HasNoFile (files_of (recovered (D.image disk))) }
     ensures { IfOk result (λ tree. IsReady D.Disk tree.kernel tree.calls_left) }
 {
     match open_pair(alloc, disk) {
         Ok(kernel) => {
-            let mut tree = Tree::over(kernel);
+            let mut tree = Tree::over(alloc, kernel);
             match tree.make_root(alloc) {
                 Ok(()) => Ok(tree),
                 Err(fault) => Err(fault.into()),

@@ -477,17 +477,12 @@ module _ (files new : Files) (from to number : ℕ) (old name : List ℕ) (tree 
   parent_new : Appears (But (Steps mid) number parent_name) (Steps new) number parent_name to
   parent_new = record {
     keeps = record {
-      on = λ i m other count other_name step. (
-        other_kinds mid new number parent_name (Some to) mid_is moves.up i ∙ step.0.0,
-        other_leads mid new number parent_name (Some to) moves.up i other other_name ∙ step.0.1,
-      );
-      back = λ i m other count other_name step. (
-        (
-          sym (other_kinds mid new number parent_name (Some to) mid_is moves.up i) ∙ step.0,
-          sym (other_leads mid new number parent_name (Some to) moves.up i other other_name) ∙ step.1,
-        ),
-        other_name,
-      );
+      on = λ i m other count other_name step.
+          (other_kinds mid new number parent_name (Some to) mid_is moves.up i ∙ step.0.0,
+          other_leads mid new number parent_name (Some to) moves.up i other other_name ∙ step.0.1);
+      back = λ i m other count other_name step.
+          ((sym (other_kinds mid new number parent_name (Some to) mid_is moves.up i) ∙ step.0,
+          sym (other_leads mid new number parent_name (Some to) moves.up i other other_name) ∙ step.1), other_name);
     };
     counts = parent_counts;
     none = λ m step. not_itself number parent_name step.1;

@@ -6,7 +6,7 @@ ghost use Rattle.model.specs.Files.{files_of};
 ghost use Rattle.names.specs.Inside.{IsUnderWay, Proceeds};
 ghost use Rattle.names.specs.Making.{HasFilledFor, IsUnmadeIn, MakesDirectoryAt};
 ghost use Rattle.names.specs.Paths.{names_of};
-ghost use Rattle.names.specs.Ready.{IsUndone, LeavesTree, MayGoOn, NamesStayOnce};
+ghost use Rattle.names.specs.Ready.{IsUndone, LeavesTree, MayGoOn};
 ghost use Rattle.names.specs.TreeChanges.{directory_file};
 ghost use Rattle.names.specs.Walks.{IsUndoneIn};
 
@@ -30,6 +30,10 @@ pub(crate) struct NewDirectory;
 
 impl New for NewDirectory {
     ghost file = { λ new number parent. directory_file number parent };
+
+    fn is_directory(&self) -> bool {
+        true
+    }
 
     fn create<D: Disk>(&self, tree: &mut Tree<D>, alloc: Global, parent: u32) -> Asked<u16> {
         let Ok(up) = u16::try_from(parent) else {
@@ -66,7 +70,6 @@ impl<D: Disk> Tree<D> {
         ensures makes { IfOk result (λ number. MakesDirectoryAt (names_of path.now) number
             (files_of (image_on D.image self.old.kernel))
             (files_of (image_on D.image self.new.kernel))) }
-        ensures once { OnOk result (NamesStayOnce D.image self.old.kernel self.new.kernel) }
         ensures refused { IfErr result (IsUndone D.Disk path.now
             (IsUndoneIn IsUnmadeIn (names_of path.now)) self.old.kernel self.new.kernel) }
         ensures leaves { 0 < self.old.calls_left → LeavesTree D.Disk

@@ -7,7 +7,7 @@ ghost use Rattle.names.specs.Contents.{IsNoPlain};
 ghost use Rattle.names.specs.Inside.{files_seen, form_seen, IsUnderWay, Proceeds};
 ghost use Rattle.names.specs.Making.{IsUnmadeIn, MakesDirectoryIn, MakesIn};
 ghost use Rattle.names.specs.Numbered.{EmptiesAt, IsNoFileOrDirectory, WritesSomeOf, some_told};
-ghost use Rattle.names.specs.Ready.{Happens, IsUnanswered, LeavesTree, MayGoOn, NamesStayOnce, TreeStays};
+ghost use Rattle.names.specs.Ready.{Happens, IsUnanswered, LeavesTree, MayGoOn, TreeStays};
 ghost use Rattle.names.specs.Removing.{IsUnremovedIn, RemovesIn};
 ghost use Rattle.names.specs.Trees.{IsFile, IsTree};
 ghost use Rattle.names.specs.Undirecting.{IsUnemptiedIn, RemovesDirectoryIn};
@@ -115,7 +115,6 @@ impl<D: Disk> Tree<D> {
         ensures empties { IfOk result (λ done. EmptiesAt number done
             (files_of (image_on D.image self.old.kernel))
             (files_of (image_on D.image self.new.kernel))) }
-        ensures once { OnOk result (NamesStayOnce D.image self.old.kernel self.new.kernel) }
         ensures refused { IfErr result (IsUnanswered D.Disk (IsNoFileOrDirectory number)
             self.old.kernel self.new.kernel) }
         ensures leaves { 0 < self.old.calls_left → LeavesTree D.Disk (EmptiesAt number)
@@ -145,7 +144,6 @@ impl<D: Disk> Tree<D> {
             number offset bytes.now done
             (files_of (image_on D.image self.old.kernel))
             (files_of (image_on D.image self.new.kernel))) }
-        ensures once { OnOk result (NamesStayOnce D.image self.old.kernel self.new.kernel) }
         ensures refused { IfErr result (IsUnanswered D.Disk (IsNoFileOrDirectory number)
             self.old.kernel self.new.kernel) }
         ensures leaves { 0 < self.old.calls_left → LeavesTree D.Disk
@@ -177,7 +175,6 @@ impl<D: Disk> Tree<D> {
         ensures makes { IfOk result (λ number. MakesIn from name.now number
             (files_of (image_on D.image self.old.kernel))
             (files_of (image_on D.image self.new.kernel))) }
-        ensures once { OnOk result (NamesStayOnce D.image self.old.kernel self.new.kernel) }
         ensures refused { IfErr result (IsUnanswered D.Disk
             (λ files. IsUnmadeIn files from name.now) self.old.kernel self.new.kernel) }
         ensures leaves { 0 < self.old.calls_left → LeavesTree D.Disk (MakesIn from name.now)
@@ -204,7 +201,6 @@ impl<D: Disk> Tree<D> {
         ensures makes { IfOk result (λ number. MakesDirectoryIn from name.now number
             (files_of (image_on D.image self.old.kernel))
             (files_of (image_on D.image self.new.kernel))) }
-        ensures once { OnOk result (NamesStayOnce D.image self.old.kernel self.new.kernel) }
         ensures refused { IfErr result (IsUnanswered D.Disk
             (λ files. IsUnmadeIn files from name.now) self.old.kernel self.new.kernel) }
         ensures leaves { 0 < self.old.calls_left → LeavesTree D.Disk
@@ -230,7 +226,6 @@ impl<D: Disk> Tree<D> {
         ensures removes { IfOk result (λ done. RemovesIn from name.now done
             (files_of (image_on D.image self.old.kernel))
             (files_of (image_on D.image self.new.kernel))) }
-        ensures once { OnOk result (NamesStayOnce D.image self.old.kernel self.new.kernel) }
         ensures refused { IfErr result (IsUnanswered D.Disk
             (λ files. IsUnremovedIn files from name.now) self.old.kernel self.new.kernel) }
         ensures leaves { 0 < self.old.calls_left → LeavesTree D.Disk (RemovesIn from name.now)
@@ -260,7 +255,6 @@ impl<D: Disk> Tree<D> {
         ensures removes { IfOk result (λ done. RemovesDirectoryIn from name.now done
             (files_of (image_on D.image self.old.kernel))
             (files_of (image_on D.image self.new.kernel))) }
-        ensures once { OnOk result (NamesStayOnce D.image self.old.kernel self.new.kernel) }
         ensures refused { IfErr result (IsUnanswered D.Disk
             (λ files. IsUnemptiedIn files from name.now) self.old.kernel self.new.kernel) }
         ensures leaves { 0 < self.old.calls_left → LeavesTree D.Disk

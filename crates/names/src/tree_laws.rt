@@ -1,16 +1,15 @@
 //! What changes of names make of a tree of directories, the contracts of functions that do nothing.
-ghost use Rattle.names.specs.CountLaws.{AddingCounts, AddingDirectoryCounts, CountsAreOne, DirectoriesCount, DroppingCounts, DroppingDirectoryCounts, KeepingCounts, LinkingKeeps, MoreCountOthers, MovingCounts, MovingDirectoryCounts, OneCountsOnce, RootCounts, UnlinkingKeeps};
 ghost use Rattle.names.specs.PathLaws.{DirectoriesAreNamedOnce, FilesAreReached, NamesAreOne, NamesLead};
-ghost use Rattle.names.specs.TreeLaws.{AddingKeeps, CreateMakes, DroppingKeeps, FilesAreNew, KeepingKeeps, LinkAdds, LinkLeads, LinkMoves, MovingDirectoryKeeps, MovingKeeps, PlainKeeps, ReadsWhole, RelinkLeads, RemoveDrops, RemoveUndoes, RepointLeads, RootIsTree, UnlinkLeads, UnlinkMoves, WriteFills};
+ghost use Rattle.names.specs.TreeLaws.{AddingKeeps, CreateMakes, DroppingKeeps, FilesAreNew, KeepingKeeps, LinkAdds, LinkLeads, LinkMoves, MovingDirectoryKeeps, MovingKeeps, PlainKeeps, ReadsPart, RelinkLeads, RemoveDrops, RemoveUndoes, RepointLeads, RootIsTree, UnlinkLeads, UnlinkMoves, WriteFills};
 ghost use Rattle.names.specs.TreeMeaning.{DirectoriesAreTidy, EntriesLead, NoHalfIsTree, NumbersStandOnce, ParentsDecide, RootIsOutside, StepsLead};
 ghost use Rattle.names.specs.WholeChanges.{MakesDirectoryWhole, MakesFileWhole, MakesRootWhole, MovesDirectoryWhole, MovesFileWhole, RemovesFileWhole, RenamesFileWhole};
 
 /// What one operation on a directory, with its reply, makes of where its names lead. A read brings
-/// the whole directory. The write of an entry is whole, unless it is behind the last entry and no
+/// the bytes from an offset on, as many as one can. The write of an entry is whole, unless it is behind the last entry and no
 /// block is free: then nothing is written. A file that was made and has no name yet is removed again
 /// without a trace. What is done to files that are no directories changes no name.
 pub fn operations_lead()
-    ensures read { ReadsWhole }
+    ensures read { ReadsPart }
     ensures linked { LinkLeads }
     ensures unlinked { UnlinkLeads }
     ensures linked_again { RelinkLeads }
@@ -57,32 +56,6 @@ pub fn changes_leave_trees()
     ensures renamed { RenamesFileWhole }
     ensures moved { MovesFileWhole }
     ensures moved_directory { MovesDirectoryWhole }
-{}
-
-/// Each file's count of links is how many names but `.` lead to it, as xv6's kernel counts (the xv6 book,
-/// the chapter "File system": "Code: Directory layer"), so a directory's is 1 and one for each directory
-/// in it. The counts stay right over each change of a tree which sets those that it says.
-pub fn counts_stay()
-    ensures root { RootCounts }
-    ensures file { AddingCounts }
-    ensures directory { AddingDirectoryCounts }
-    ensures removed { DroppingCounts }
-    ensures directory_removed { DroppingDirectoryCounts }
-    ensures moved { MovingCounts }
-    ensures moved_directory { MovingDirectoryCounts }
-    ensures kept { KeepingCounts }
-{}
-
-/// A file may have several names: one more, or one less, leaves a tree whose counts are right where its
-/// count says so. Whether a name is a file's last one is told by the count, with no other directory
-/// looked into, and no directory's count is 0.
-pub fn counts_tell_names()
-    ensures linked { LinkingKeeps }
-    ensures unlinked { UnlinkingKeeps }
-    ensures one { OneCountsOnce }
-    ensures more { MoreCountOthers }
-    ensures directories { DirectoriesCount }
-    ensures unique { CountsAreOne }
 {}
 
 /// In a tree each directory has its own two entries, each other used entry's name leads to a file, and

@@ -1,3 +1,4 @@
 mod Changing
 mod Pieces
+mod Recounting
 mod Rooms

@@ -1,18 +1,17 @@
-use Rattle.std.proofs.Common.{◌≡◌, ◌∙◌, ℕ, List, Some, None, true, sym, ap, subst, rules}
+use Rattle.std.proofs.Common.{◌≡◌, ◌∙◌, ℕ, ◌<◌, List, length, Some, None, true, sym, ap, subst, rules}
 use Rattle.model.specs.Files.{Files}
 use Rattle.names.specs.Entries.{lookup}
-use Rattle.names.specs.Inside.{files_seen}
-use Rattle.names.specs.Trees.{directory_in, self_name, IsTidy}
-use Rattle.names.proofs.FileLooks.{tidy_in}
+use Rattle.names.specs.Inside.{files_seen, form_seen}
+use Rattle.names.specs.Trees.{directory_in, self_name, IsDirectory}
 use Rattle.names.proofs.Renamed.{lookup_used}
+use Rattle.names.proofs.Sizes.{size_small}
 use Rattle.names.proofs.TreeMeaning.{directories_are_tidy}
 use Rattle.names.proofs.tree.Tree.rise.Goals as goal
 
-pub tidy_directory-requires-clause-tidy : goal.tidy_directory-requires-clause-tidy
-tidy_directory-requires-clause-tidy g c =
+pub tidy_directory-requires-clause-there : goal.tidy_directory-requires-clause-there
+tidy_directory-requires-clause-there g c =
     let is : c.in_ok-is_directory.field-0 ≡ true = search rules in
-    subst (λ (f : Files). IsTidy (directory_in f c.args.number)) (sym (c.in_ok-is_outside.ensures.same ∙ c.in_ok-is_directory.ensures.same))
-    (tidy_in (files_seen g.D.Disk.image c.args.self.now.kernel) c.args.number c.requires.tree (c.in_ok-is_directory.ensures.told.0 is))
+    subst (λ (f : Files). IsDirectory f c.args.number) (sym (c.in_ok-is_outside.ensures.same ∙ c.in_ok-is_directory.ensures.same)) (c.in_ok-is_directory.ensures.told.0 is)
 
 pub repoint-requires-clause-used : goal.repoint-requires-clause-used
 repoint-requires-clause-used g c =
@@ -21,10 +20,10 @@ repoint-requires-clause-used g c =
 
 pub repoint-requires-clause-size : goal.repoint-requires-clause-size
 repoint-requires-clause-size g c =
-    let is : c.in_ok-is_directory.field-0 ≡ true = search rules in
-    let tidy = subst (λ (f : Files). IsTidy (directory_in f c.args.number)) (sym (c.in_ok-is_outside.ensures.same ∙ c.in_ok-is_directory.ensures.same))
-    (tidy_in (files_seen g.D.Disk.image c.args.self.now.kernel) c.args.number c.requires.tree (c.in_ok-is_directory.ensures.told.0 is)) in
-    (subst (λ (l : List ℕ). IsTidy l) (sym (c.as_slice.ensures ∙ c.in_ok-bytes.ensures.bytes)) tidy).fits
+    let seen = c.is_outside.new.self.kernel in
+    subst (λ (l : List ℕ). length l < 4294967296) (sym (c.as_slice.ensures ∙ c.in_ok-bytes.ensures.bytes))
+    (size_small (form_seen g.D.Disk.image seen) (length (directory_in (files_seen g.D.Disk.image seen) c.args.number))
+    (c.in_ok-is_outside.ensures.goes.on.way.sized c.args.number))
 
 pub unreachable-requires : goal.unreachable-requires
 unreachable-requires g c =

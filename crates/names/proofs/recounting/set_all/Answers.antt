@@ -1,0 +1,77 @@
+use Rattle.std.proofs.Common.{◌≡◌, ◌≢◌, ◌∙◌, ◌+◌, ◌<◌, ℕ, [], drop, length, refl, sym, ap, subst, slice_index_or, arith}
+use Rattle.std.proofs.lemmas.List.{drop_all}
+use Rattle.calls.specs.Calls.{image_on}
+use Rattle.calls.specs.Files.{relinked}
+use Rattle.calls.specs.Stopped.{LeavesChange, Relinks}
+use Rattle.model.specs.Files.{file_in, files_of}
+use Rattle.names.specs.Recounting.{IsWrong}
+use Rattle.names.specs.Trees.{IsFile}
+use Rattle.names.specs.declared.recounting.Counted.{Counted}
+use Rattle.names.proofs.Recounts.{agree_none, agree_on, keeps_more, keeps_rested, none_left, one_less, set_agree, there_still}
+use Rattle.names.proofs.recounting.set_all.Goals as goal
+
+pub loop-counted-init : goal.loop-counted-init
+loop-counted-init g c = record {
+  rests = c.requires.rests;
+  few = omega arith;
+  sound = c.requires.sound;
+  agree = agree_none _ _ refl;
+  left = c.requires.wrong.rest;
+  leaves = keeps_rested g.D.Disk c.args.kernel.now c.rested.ensures;
+  count = refl;
+}
+
+pub set_links-requires-there : goal.set_links-requires-there
+set_links-requires-there g c =
+    let files = files_of (image_on g.D.Disk.image c.args.kernel.now) in
+    let one = subst (λ (w : Counted). IsWrong files w) (sym c.counted-item.is) (c.requires.wrong.each c.loop-counted.counted-index c.counted-item.result c.loop-counted-test.true) in
+    there_still files (files_of (image_on g.D.Disk.image c.loop-counted.kernel)) c.loop-counted.invariant.agree c.counted-item.result.number one.there
+
+pub set_links-requires-few : goal.set_links-requires-few
+set_links-requires-few g c = omega (arith, c.requires.few, c.loop-counted.invariant.few, c.loop-counted-test.true)
+
+pub loop-counted-preserved : goal.loop-counted-preserved
+loop-counted-preserved g c =
+    let k = c.args.kernel.now in
+    let m = c.loop-counted.kernel in
+    let e = c.set_links.new.kernel in
+    let first = files_of (image_on g.D.Disk.image k) in
+    let mid = files_of (image_on g.D.Disk.image m) in
+    let new = files_of (image_on g.D.Disk.image e) in
+    let so_far = c.loop-counted.invariant in
+    let at = c.loop-counted.counted-index in
+    let item = c.counted-item.result in
+    let wrong = c.requires.wrong.each at item c.loop-counted-test.true in
+    let one = subst (λ (w : Counted). IsWrong first w) (sym c.counted-item.is) wrong in
+    let there = there_still first mid so_far.agree item.number one.there in
+    let set : new ≡ relinked mid item.number item.count = c.in_ok-set_links.ensures.relinks in
+    let set_at = subst (λ (w : Counted). new ≡ relinked mid w.number w.count) c.counted-item.is set in
+    record {
+      rests = c.in_ok-set_links.ensures.committed.rests;
+      few = omega (arith, so_far.few, c.in_ok-set_links.ensures.committed.few_more);
+      sound = c.in_ok-set_links.ensures.committed.whole.sound;
+      agree = agree_on first mid new so_far.agree (set_agree mid new item.number item.count there set);
+      left = one_less mid new c.args.wrong.now at item c.loop-counted-test.true first so_far.agree wrong set_at so_far.left;
+      leaves = keeps_more g.D.Disk k m e item.number item.count there so_far.agree so_far.leaves c.set_links.ensures.leaves;
+      count = omega (arith, so_far.count);
+    }
+
+pub returns-in_err-set_links-clause-failed : goal.returns-in_err-set_links-clause-failed
+returns-in_err-set_links-clause-failed g c = record { mid = c.loop-counted.kernel; files = c.loop-counted.invariant.agree; why = c.in_err-set_links.ensures.refused }
+
+pub returns-in_err-set_links-clause-leaves : goal.returns-in_err-set_links-clause-leaves
+returns-in_err-set_links-clause-leaves g c =
+    let first = files_of (image_on g.D.Disk.image c.args.kernel.now) in
+    let item = c.counted-item.result in
+    let so_far = c.loop-counted.invariant in
+    let one = subst (λ (w : Counted). IsWrong first w) (sym c.counted-item.is) (c.requires.wrong.each c.loop-counted.counted-index item c.loop-counted-test.true) in
+    keeps_more g.D.Disk c.args.kernel.now c.loop-counted.kernel c.set_links.new.kernel item.number item.count (there_still first (files_of (image_on g.D.Disk.image c.loop-counted.kernel)) so_far.agree item.number one.there) so_far.agree so_far.leaves c.set_links.ensures.leaves
+
+pub returns-clause-set : goal.returns-clause-set
+returns-clause-set g c =
+    let so_far = c.loop-counted.invariant in
+    record {
+      sound = so_far.sound;
+      files = so_far.agree;
+      counted = none_left (files_of (image_on g.D.Disk.image c.loop-counted.kernel)) (drop c.loop-counted.counted-index c.args.wrong.now) (drop_all c.loop-counted.counted-index c.args.wrong.now (omega (arith, c.loop-counted-test.false))) so_far.left;
+    }
