@@ -59,3 +59,5 @@ pub mod Renamed
 pub mod Rising
 pub mod Moved
 pub mod SeenNumbers
+pub mod Tallies
+pub mod Takings

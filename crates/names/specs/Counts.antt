@@ -37,3 +37,7 @@ HasNames files number count = AreCount (IsNameOf files number) count
 -- parent, and those of the directories in it for their parent; and no name leads where no file is.
 abbrev pub AreCounted : Files → Type 0
 AreCounted files = (i : ℕ) → HasNames files i (links_of (file_in files i))
+
+-- the greatest count: xv6's own is a signed number of 16 bits
+abbrev pub most_links : ℕ
+most_links = 32767

@@ -26,6 +26,7 @@ pub mod WholeChanges
 pub mod PathLaws
 pub mod Checks
 pub mod Judging
+pub mod Tallying
 pub mod Opening
 pub mod Laws
 pub mod Lemmas
