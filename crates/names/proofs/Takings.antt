@@ -1,7 +1,7 @@
 -- What is left of each number, where one was taken off for each name that leads to it.
-use Rattle.std.proofs.Common.{◌≡◌, ◌≢◌, ◌⊎◌, inl, inr, ℕ, ◌+◌, ◌-◌, ◌<◌, ◌≤◌, Bool, true, false, cond, eqb, List, [], ◌∷◌, length, ◌++◌, get_or, map, drop, take, is_some, Option, Some, None, refl, sym, ap, subst, ◌∙◌, ⊎_elim, arith}
+use Rattle.std.proofs.Common.{◌≡◌, ◌≢◌, inl, ℕ, ◌+◌, ◌-◌, ◌<◌, ◌≤◌, true, false, cond, eqb, List, [], ◌∷◌, length, ◌++◌, get_or, map, drop, take, is_some, Option, Some, None, refl, sym, ap, subst, ◌∙◌, ⊎_elim, arith}
 use Rattle.std.specs.List.{sum_by}
-use Rattle.std.specs.Prelude.{count_by, IfNone, IfSome}
+use Rattle.std.specs.Prelude.{IfNone, IfSome}
 use Rattle.std.specs.Str.{bytes_eq}
 use Rattle.std.proofs.lemmas.Bool.{and_from, and_left, and_right, both_ways, cases_Bool, cases_eq, cases_lt, eq-eqb, ne_eqb}
 use Rattle.std.proofs.Math.ListN.{drop_of_length-le, get_or-append}
@@ -15,7 +15,7 @@ use Rattle.model.specs.Log.{recovered}
 use Rattle.offline.specs.Lemmas.Checked.{count_recovered}
 use Rattle.offline.specs.Recovered.{IsRecoveredOf}
 use Rattle.offline.specs.declared.recovered.Recovered.{Recovered}
-use Rattle.names.specs.Counts.{AreCount, AreCounted, HasNames, IsIn, IsNameOf, Place}
+use Rattle.names.specs.Counts.{AreCounted, HasNames, IsIn, IsNameOf, Place}
 use Rattle.names.specs.Entries.{entries_of, lookup, number_in}
 use Rattle.names.specs.Tallying.{is_counted, leads_to, names_among, names_at, names_in, names_to, AreLinks, AreNameCounts, AreTaken, HasTooMany, IsMiscounted, Takes, TakesOne}
 use Rattle.names.specs.Trees.{directory_in, links_of, parent_name, IsDirectory, IsFile, IsTree}

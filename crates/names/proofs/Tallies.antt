@@ -1,5 +1,5 @@
 -- How many names lead to a number, as the entries of each directory tell.
-use Rattle.std.proofs.Common.{◌≡◌, ◌≢◌, ◌⊎◌, inl, inr, ℕ, zero, suc, ◌+◌, ◌<◌, ◌≤◌, true, false, not, ◌||◌, eqb, cond, List, [], length, get_or, take, Some, None, refl, sym, ap, ap₂, subst, ◌∙◌, ⊎_elim, arith}
+use Rattle.std.proofs.Common.{◌≡◌, ◌≢◌, ◌⊎◌, inl, inr, ℕ, zero, suc, ◌+◌, ◌<◌, ◌≤◌, true, false, not, ◌||◌, eqb, List, [], length, get_or, take, Some, None, refl, sym, ap, ap₂, subst, ◌∙◌, ⊎_elim, arith}
 use Rattle.std.specs.List.{sum_by}
 use Rattle.std.specs.Prelude.{count_by}
 use Rattle.std.specs.Str.{bytes_eq}
@@ -11,7 +11,7 @@ use Rattle.model.specs.Files.{Files, file_in}
 use Rattle.names.specs.Counts.{AreCount, HasNames, IsNameOf, Place}
 use Rattle.names.specs.Entries.{entries_of, is_for, is_free, lookup, name_in, number_in}
 use Rattle.names.specs.Tallying.{is_counted, leads_to, names_among, names_in, names_to}
-use Rattle.names.specs.Trees.{bytes_of, directory_in, directory_kind, kind_of, self_name, IsDirectory, IsTidy, IsTree}
+use Rattle.names.specs.Trees.{directory_in, kind_of, self_name, IsDirectory, IsTidy, IsTree}
 use Rattle.names.proofs.EntryBytes.{name_of_entry}
 use Rattle.names.proofs.EntryPaths.{lookup_place}
 use Rattle.names.proofs.Places.{count_more, count_none, count_same}

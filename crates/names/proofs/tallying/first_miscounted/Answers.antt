@@ -1,4 +1,4 @@
-use Rattle.std.proofs.Common.{◌≡◌, ◌∙◌, ◌<◌, ℕ, List, Option, None, get_or, length, refl, subst, sym}
+use Rattle.std.proofs.Common.{◌≡◌, ◌∙◌, ℕ, List, Option, None, subst, sym}
 use Rattle.blocks.specs.Disk.{Image}
 use Rattle.model.specs.Files.{file_in, files_of, Files}
 use Rattle.model.specs.Log.{recovered}

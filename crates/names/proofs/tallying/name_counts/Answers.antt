@@ -1,5 +1,4 @@
-use Rattle.std.proofs.Common.{◌≡◌, ◌∙◌, ◌<◌, ◌-◌, ℕ, List, ap, false, get_or, is_some, length, map, subst, sym, true, arith}
-use Rattle.std.proofs.lemmas.List.{length-map}
+use Rattle.std.proofs.Common.{◌≡◌, ◌∙◌, ◌<◌, ◌-◌, ℕ, List, ap, false, get_or, is_some, length, map, subst, sym}
 use Rattle.blocks.specs.Disk.{Image}
 use Rattle.model.specs.Files.{files_of, Files}
 use Rattle.model.specs.Log.{recovered}

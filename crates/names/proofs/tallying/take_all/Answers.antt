@@ -1,4 +1,4 @@
-use Rattle.std.proofs.Common.{◌≡◌, ◌∙◌, ◌++◌, ℕ, List, Option, ap, drop, length, subst, sym, take, arith}
+use Rattle.std.proofs.Common.{◌≡◌, ◌∙◌, ℕ, List, ap, length, subst, sym}
 use Rattle.model.specs.Files.{files_of}
 use Rattle.model.specs.Log.{recovered}
 use Rattle.names.specs.Tallying.{names_to, Takes}

@@ -1,4 +1,4 @@
-use Rattle.std.proofs.Common.{◌≡◌, ◌∙◌, ◌<◌, ℕ, Option, get_or, length, subst, arith}
+use Rattle.std.proofs.Common.{◌∙◌, ◌<◌, ℕ, Option, length, subst, arith}
 use Rattle.blocks.specs.Disk.{Image}
 use Rattle.blocks.specs.Lemmas.Reads.{reads_then}
 use Rattle.model.specs.Files.{files_of, Files}

@@ -1,4 +1,4 @@
-use Rattle.std.proofs.Common.{◌≡◌, ◌<◌, ◌≤◌, ◌-◌, ℕ, get_or, length}
+use Rattle.std.proofs.Common.{◌≡◌, ◌<◌, ◌≤◌, ◌-◌, ℕ, get_or}
 use Rattle.names.proofs.tallying.turn_over.Given as goal
 
 abbrev pub invariant-loop-n : goal.invariant-loop-n
