@@ -4,6 +4,7 @@ ghost use Rattle.std.specs.Prelude.{◌≡◌, ◌+◌, ◌≤◌, ◌^◌};
 ghost use Rattle.calls.specs.Calls.{Rests, call_count};
 ghost use Rattle.names.specs.Ready.{MayGoOn};
 
+use crate::counting::print_counts;
 use crate::trees::{Bytes, Name as Ask, ask_bytes, ask_name, new_tree};
 use anyhow::bail;
 use blocks::{Disk, MemDisk};
@@ -12,11 +13,30 @@ use model::types::{Op, Reply};
 use names::{DIRECTORY, DIRECTORY_SIZE, Name, Tree, link};
 use std::alloc::Global;
 
-/// Prints what comes of calls at the two names of a file.
+/// Prints whether the count of links of a file with one name is right, and of one with two whose count
+/// is 1, and then what comes of calls at the two names.
 pub fn print_linked(rt: &impl Print, alloc: Global) -> anyhow::Result<()> {
-    match Tree::open(alloc, linked_disk(alloc)?) {
+    print_note_counts(rt, alloc)?;
+    match Tree::open(alloc, counted_disk(rt, alloc)?) {
         Ok(mut tree) => ask_both(rt, alloc, &mut tree),
         Err((fault, _disk)) => Err(fault.into()),
+    }
+}
+
+fn print_note_counts(rt: &impl Print, alloc: Global) -> anyhow::Result<()> {
+    match with_note(alloc) {
+        Ok(mut disk) => print_counts(rt, alloc, &mut disk),
+        Err(fault) => Err(fault),
+    }
+}
+
+fn counted_disk(rt: &impl Print, alloc: Global) -> anyhow::Result<MemDisk> {
+    match linked_disk(alloc) {
+        Ok(mut disk) => match print_counts(rt, alloc, &mut disk) {
+            Ok(()) => Ok(disk),
+            Err(fault) => Err(fault),
+        },
+        Err(fault) => Err(fault),
     }
 }
 

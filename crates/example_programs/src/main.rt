@@ -7,6 +7,7 @@
 #![tactic(auto)]
 
 mod calling;
+mod counting;
 mod filling;
 mod keeping;
 mod knowing;
