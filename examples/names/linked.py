@@ -121,7 +121,8 @@ def put_right(third):
         set_inode("a.img", number, LINKS, links)
     if sorted(run("tree", "a.img").split()) != [b"docs/", b"docs/one", b"last"]:
         fail("tree of wrong counts lists something else")
-    told = "21 Miscounted 1\na.img: file 1 has not as many links as names; xvnames recount a.img puts that right"
+    # The first file that is found has more names than links.
+    told = "21 Miscounted 2\na.img: file 2 has not as many links as names; xvnames recount a.img puts that right"
     for words in (("mkdir", "a.img", "new"), ("rm", "a.img", "last"), ("ln", "a.img", "last", "new"),
                   ("put", "a.img", "three", "new"), ("mv", "a.img", "last", "new"), ("rmdir", "a.img", "docs")):
         refuse(*words, "--explain", refused=told)
