@@ -1,18 +1,24 @@
 """A file with two names, as xv6 links one: the second entry and the count of links are written into an image by
-hand. It is read and written by both names, one is moved, and neither is removed. A directory with two names is
-refused.
+hand. It is read and written by both names, and one is moved; it goes with its last one. `ln` gives a file a second
+name, up to 32,767. Wrong counts of links are refused but by looks, and `recount` puts them right, however often it is
+stopped. A directory with two names is refused.
 
-    linked.py PROGRAM
+    linked.py PROGRAM FAULTS
 """
 import os
+import signal
 import struct
 import subprocess
 import sys
 import tempfile
 
-from reader import BLOCK, ROOT, Image, read
+from reader import BLOCK, DIRECTORY, ROOT, Image, read
 
-PROGRAM = os.path.realpath(sys.argv[1])
+PROGRAM, FAULTS = (os.path.realpath(word) for word in sys.argv[1:])
+# The most names that a count of xv6 can say, and how many a directory has of one file.
+MOST, NAMES = 32767, 190
+# The words of an inode: its type and its count of links.
+KIND, LINKS = 0, 3
 
 
 def fail(text):
@@ -21,7 +27,7 @@ def fail(text):
 
 
 def run(*words, refused=None):
-    ran = subprocess.run([PROGRAM, *words], capture_output=True, timeout=60)
+    ran = subprocess.run([PROGRAM, *words], capture_output=True, timeout=120)
     told = ran.stderr.decode().strip()
     wanted = "" if refused is None else "xvnames: names " + refused
     if (ran.returncode, told) != (0 if refused is None else 1, wanted):
@@ -64,6 +70,115 @@ def refuse(*words, refused):
             fail("%s changed the image" % " ".join(words))
 
 
+def set_inode(path, number, word, value):
+    """Writes one of the first four words of an inode, of two bytes."""
+    with open(path, "r+b") as file:
+        image = Image(file.read())
+        file.seek((image.inodestart + number // 16) * BLOCK + number % 16 * 64 + 2 * word)
+        file.write(struct.pack("<H", value))
+
+
+def give_names(third, second):
+    """ln gives names, also in other directories, and refuses what link refuses."""
+    run("ln", "a.img", "one", "docs/one")
+    run("ln", "a.img", "/docs/./one", "docs/../last")
+    found({"/one": (3, third), "/two": (1, second), "/docs/one": (3, third), "/last": (3, third)})
+    refuse("ln", "a.img", "none", "new", refused="1 NotFound")
+    refuse("ln", "a.img", "one", "none/new", refused="1 NotFound")
+    refuse("ln", "a.img", "one", "two/new", refused="2 NotADirectory")
+    refuse("ln", "a.img", "docs", "new", "--explain", refused="3 IsADirectory\ndocs: it is a directory")
+    refuse("ln", "a.img", "one", "two", refused="4 Exists")
+    refuse("ln", "a.img", "one", "/", refused="6 IsRoot")
+    refuse("ln", "a.img", "one", "docs/..", refused="4 Exists")
+    refuse("ln", "a.img", "one", "a" * 15, refused="8 NameTooLong")
+    run("rm", "a.img", "two")
+    run("rm", "a.img", "one")
+    found({"/docs/one": (2, third), "/last": (2, third)})
+    print("ln: a file with three names, in two directories, which goes with the last of them")
+
+
+def counts():
+    """Each file's count of links."""
+    with open("a.img", "rb") as file:
+        image = Image(file.read())
+    inodes = {number: image.inode(number) for number in range(1, image.ninodes)}
+    return {number: inode[1] for number, inode in inodes.items() if inode[0] != 0}
+
+
+def put_right(third):
+    """Wrong counts are refused where the image would be changed, and put right."""
+    with open("a.img", "rb") as file:
+        image = file.read()
+    if run("recount", "a.img") != b"0\n":
+        fail("recount finds wrong counts where none is")
+    with open("a.img", "rb") as file:
+        if file.read() != image:
+            fail("recount changes an image of right counts")
+    right, wrong = counts(), {1: 7, 2: 1, 4: 9}
+    if right != {1: 2, 2: 2, 4: 1}:
+        fail("the counts are %s" % right)
+    for number, links in wrong.items():
+        set_inode("a.img", number, LINKS, links)
+    if sorted(run("tree", "a.img").split()) != [b"docs/", b"docs/one", b"last"]:
+        fail("tree of wrong counts lists something else")
+    # The first file that is found has more names than links.
+    told = "21 Miscounted 2\na.img: file 2 has not as many links as names; xvnames recount a.img puts that right"
+    for words in (("mkdir", "a.img", "new"), ("rm", "a.img", "last"), ("ln", "a.img", "last", "new"),
+                  ("put", "a.img", "three", "new"), ("mv", "a.img", "last", "new"), ("rmdir", "a.img", "docs")):
+        refuse(*words, "--explain", refused=told)
+    stops = stop_recounting(right, wrong, third)
+    print("wrong counts: read, not changed, and put right, also behind each of %d stops" % stops)
+
+
+def stop_recounting(right, wrong, third):
+    """Recounts, killed before each write in turn: names and bytes stay, and a second recount puts all right. How
+    many stops."""
+    with open("a.img", "rb") as file:
+        image = file.read()
+    for at in range(1, 10**6):
+        with open("a.img", "wb") as file:
+            file.write(image)
+        env = dict(os.environ, LD_PRELOAD=FAULTS, FAULTS_FILE="a.img", FAULTS_CALL="write", FAULTS_AT=str(at),
+                   FAULTS_HOW="kill")
+        ran = subprocess.run([PROGRAM, "recount", "a.img"], capture_output=True, timeout=120, env=env)
+        left = counts()
+        if any(links not in (right[number], wrong[number]) for number, links in left.items()) or len(left) != 3:
+            fail("a stop of recount before write %d leaves the counts %s" % (at, left))
+        found({"/docs/one": (left[2], third), "/last": (left[2], third)})
+        if ran.returncode == 0:
+            if left != right or ran.stdout != b"3\n":
+                fail("recount leaves the counts %s" % left)
+            return at - 1
+        if ran.returncode != -signal.SIGKILL:
+            fail("recount: status %d before write %d" % (ran.returncode, at))
+        run("recount", "a.img")
+        if counts() != right:
+            fail("recount behind a stop leaves the counts %s" % counts())
+
+
+def have_many_names():
+    """A file has as many names as its count can say: directories are made as files, and get their type by hand."""
+    files, left = [], MOST - 1
+    while left > 0:
+        here, name = min(left, NAMES), "d%d" % len(files)
+        data = struct.pack("<H14sH14s", len(files) + 3, b".", ROOT, b"..")
+        data += b"".join(struct.pack("<H14s", 2, b"n%d" % k) for k in range(here))
+        with open(name, "wb") as file:
+            file.write(data)
+        files, left = files + [name], left - here
+    run("mkfs", "a.img", "1000", "200", "three", *files)
+    for number in range(3, 3 + len(files)):
+        set_inode("a.img", number, KIND, DIRECTORY)
+    run("recount", "a.img")
+    if counts()[2] != MOST or counts()[ROOT] != len(files) + 1:
+        fail("recount of many names leaves %s" % counts())
+    refuse("ln", "a.img", "three", "new", "--explain",
+           refused="20 TooManyLinks\nthree: as many names lead to the file as its count can say")
+    run("rm", "a.img", "d0/n0")
+    run("ln", "a.img", "d1/n0", "new")
+    print("a file with %d names gets no other" % MOST)
+
+
 def main():
     first, second, third = b"to be, or not to be", bytes(range(256)) * 20, b"that is the question"
     for name, data in (("one", first), ("two", second), ("three", third)):
@@ -72,22 +187,26 @@ def main():
     run("mkfs", "a.img", "200", "32", "one", "two")
     link("a.img", 2, b"again")
     found({"/one": (2, first), "/two": (1, second), "/again": (2, first)})
-    refuse("rm", "a.img", "one", refused="20 LinkedTwice")
-    refuse("rm", "a.img", "./again", refused="20 LinkedTwice")
-    refuse("rm", "a.img", "again", "--explain", refused="20 LinkedTwice\nagain: another name leads to the file")
     run("mkdir", "a.img", "docs")
     run("mv", "a.img", "again", "docs/again")
     run("put", "a.img", "three", "one")
     found({"/one": (2, third), "/two": (1, second), "/docs/again": (2, third)})
     if run("cat", "a.img", "docs/again") != third:
         fail("cat writes something else")
-    refuse("rm", "a.img", "docs/again", refused="20 LinkedTwice")
-    refuse("rm", "a.img", "one", refused="20 LinkedTwice")
-    run("rm", "a.img", "two")
-    found({"/one": (2, third), "/docs/again": (2, third)})
+    run("rm", "a.img", "docs/again")
+    found({"/one": (1, third), "/two": (1, second)})
+    give_names(third, second)
+    put_right(third)
+    run("rm", "a.img", "docs/one")
+    run("rm", "a.img", "last")
+    found({})
+    if run("ls", "a.img") != b"docs 4 type 1 size 48\n":
+        fail("a file is there still, or more")
     link("a.img", 4, b"more")
     refuse("ls", "a.img", refused="13 NoTree")
-    print("a file with two names: read and written by both, one moved, and neither removed")
+    refuse("recount", "a.img", refused="13 NoTree")
+    print("a file with two names: read and written by both, one moved, one removed, and the file with the last")
+    have_many_names()
 
 
 if __name__ == "__main__":

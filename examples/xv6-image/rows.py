@@ -50,33 +50,33 @@ def behind_bigdir(data, *count):
     return kernel.image()
 
 
-def use_large(programs, data, size, keeps_counts):
-    """ls, tree, put, rm, and where counts are kept mkdir and rmdir, in a root of so many bytes."""
+def use_large(programs, data, size):
+    """ls, tree, put, rm, mkdir and rmdir in a root of so many bytes."""
     whole(programs, data)
     if Kernel(data).on_disk(1)[4] != size:
         raise Failure("the root has another size than %d" % size)
     with open("host", "wb") as file:
         file.write(b"to be, or not to be\n" * 200)
     before = expect(programs, 0, "ls", "/")
-    added = [("put", "host", "/put")] + keeps_counts * [("mkdir", "/made")]
+    added = ("put", "host", "/put"), ("mkdir", "/made")
     for words in added:
         expect(programs, 0, *words)
     if len(expect(programs, 0, "ls", "/").splitlines()) != len(before.splitlines()) + len(added):
         raise Failure("ls doesn't list what was added")
     whole(programs, programs.image())
-    for words in [("rm", "/put"), ("rm", "/f7")] + keeps_counts * [("rmdir", "/made")]:
+    for words in ("rm", "/put"), ("rm", "/f7"), ("rmdir", "/made"):
         expect(programs, 0, *words)
     files = whole(programs, programs.image())
     whole(programs, behind_bigdir(programs.image(), 20))
     print("a root of %d bytes, with %d files: listed, put into and taken from" % (size, len(files)))
 
 
-def large_directories(programs, keeps_counts):
+def large_directories(programs):
     """The root that bigdir leaves, and those of mkfs with 191 and 500 files."""
     files = [(b"f%d" % index, b"file %d\n" % index) for index in range(500)]
-    use_large(programs, behind_bigdir(mkfs(files[:12])), 8240, keeps_counts)
-    use_large(programs, mkfs(files[:191], 3000, 700), 4096, keeps_counts)
-    use_large(programs, mkfs(files, 3000, 700), 8192, keeps_counts)
+    use_large(programs, behind_bigdir(mkfs(files[:12])), 8240)
+    use_large(programs, mkfs(files[:191], 3000, 700), 4096)
+    use_large(programs, mkfs(files, 3000, 700), 8192)
 
 
 def set_links(data, number, links):

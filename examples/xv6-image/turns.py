@@ -27,10 +27,6 @@ from tree import File, Tree
 from usertests import make_usertests
 from wrong_images import look_at_wrong_images
 
-# Whether xvnames keeps counts of links, and has ln and recount: without that a directory that it makes is lost in the
-# kernel. And whether it has directories of any size.
-KEEPS_COUNTS = False
-LARGE_DIRECTORIES = False
 # In each image so many turns, each of so many commands of xvnames and calls of the kernel.
 ROUNDS, TURNS, COMMANDS, CALLS = 40, 3, 5, 12
 # The most calls, and the most faults, that a failure tells.
@@ -126,15 +122,13 @@ def main(words, programs):
     make_usertests()
     make_rounds(None, words.seed, range(words.alone))
     print("the kernel alone: %d calls in %d images" % (10 * TURNS * CALLS * words.alone, words.alone))
-    if KEEPS_COUNTS:
-        rows.parent_stays(programs)
-        rows.wrong_counts(programs)
-        numbers = range(ROUNDS) if words.round is None else [words.round]
-        make_rounds(programs, words.seed, numbers)
-        print("%d images, each in turn with the kernel, for %d calls, and with xvnames, for %d commands"
-              % (len(numbers), TURNS * CALLS, TURNS * COMMANDS))
-    if LARGE_DIRECTORIES:
-        rows.large_directories(programs, KEEPS_COUNTS)
+    rows.parent_stays(programs)
+    rows.wrong_counts(programs)
+    numbers = range(ROUNDS) if words.round is None else [words.round]
+    make_rounds(programs, words.seed, numbers)
+    print("%d images, each in turn with the kernel, for %d calls, and with xvnames, for %d commands"
+          % (len(numbers), TURNS * CALLS, TURNS * COMMANDS))
+    rows.large_directories(programs)
 
 
 if __name__ == "__main__":

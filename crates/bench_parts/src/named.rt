@@ -30,7 +30,7 @@ fn new_tree<D: Disk + Drop>(alloc: Global, disk: D) -> Result<Tree<D>, Failed>
 {
     match open_pair(alloc, disk) {
         Ok(kernel) => {
-            let mut tree = Tree::over(kernel);
+            let mut tree = Tree::over(alloc, kernel);
             match tree.make_root(alloc) {
                 Ok(()) => Ok(tree),
                 Err(fault) => Err(Failed::Tree(fault)),

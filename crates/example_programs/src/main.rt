@@ -1,12 +1,15 @@
 //! Programs that stand on these crates, as examples. With the word `using` it does what docs/USING.md
 //! shows: an image is made and opened, operations are called one after the other, and two processes
 //! take turns up to a stop. With `trees` it makes directories and files by paths, finds and removes some,
-//! stops the making of one before each of its writes, and asks for a file with two names. With
+//! stops the making of one before each of its writes, asks for a file with two names, and for names
+//! in a large directory. With
 //! `transactions` one is made to its end, stopped before each of its writes, given up, and made too large
 //! for the log. With no word it does all three.
 #![tactic(auto)]
 
 mod calling;
+mod counting;
+mod crowding;
 mod filling;
 mod keeping;
 mod knowing;
@@ -21,6 +24,7 @@ mod trees;
 mod turning;
 mod using;
 
+use crate::crowding::print_crowded;
 use crate::filling::print_full;
 use crate::keeping::{print_abandoned, print_stopped};
 use crate::linking::print_linked;
@@ -38,6 +42,7 @@ fn main(rt: HostRuntime) -> anyhow::Result<()> {
             print_using(&rt, rt.alloc())?;
             print_trees(&rt, rt.alloc())?;
             print_linked(&rt, rt.alloc())?;
+            print_crowded(&rt, rt.alloc())?;
             print_transactions(&rt, rt.alloc())
         }
     }
@@ -48,7 +53,8 @@ fn print_part(rt: &impl Print, alloc: Global, part: &str) -> anyhow::Result<()> 
         "using" => print_using(rt, alloc),
         "trees" => {
             print_trees(rt, alloc)?;
-            print_linked(rt, alloc)
+            print_linked(rt, alloc)?;
+            print_crowded(rt, alloc)
         }
         "transactions" => print_transactions(rt, alloc),
         _ => bail!("the word is using, trees or transactions"),

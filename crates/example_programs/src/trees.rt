@@ -21,6 +21,7 @@ pub enum Name<'a> {
     Make,
     MakeDirectory,
     Find,
+    Link(&'a str),
     Rename(&'a str),
     Remove,
     RemoveDirectory,
@@ -60,14 +61,14 @@ pub fn new_tree(alloc: Global) -> anyhow::Result<Tree<MemDisk>>
     }
 }
 
-// The root is made on a disk that has no file.
-fn rooted<D: Disk + Drop>(alloc: Global, disk: D) -> anyhow::Result<Tree<D>>
+/// The root is made on a disk that has no file.
+pub fn rooted<D: Disk + Drop>(alloc: Global, disk: D) -> anyhow::Result<Tree<D>>
     requires { HasNoFile (files_of (recovered (D.image disk))) }
     ensures { IfOk result (λ tree. IsReady D.Disk tree.kernel tree.calls_left) }
 {
     match open_pair(alloc, disk) {
         Ok(kernel) => {
-            let mut tree = Tree::over(kernel);
+            let mut tree = Tree::over(alloc, kernel);
             match tree.make_root(alloc) {
                 Ok(()) => Ok(tree),
                 Err(fault) => Err(fault.into()),
@@ -165,6 +166,10 @@ pub fn ask_name<D: Disk>(
         Name::Find => match tree.lookup(alloc, path.as_bytes()) {
             Ok(number) => println!(rt; "{path} is file {number}")?,
             Err(fault) => println!(rt; "{path} was not found: {fault}")?,
+        },
+        Name::Link(new) => match tree.link(alloc, path.as_bytes(), new.as_bytes()) {
+            Ok(()) => println!(rt; "{path} is {new}, too")?,
+            Err(fault) => println!(rt; "{path} did not become {new}, too: {fault}")?,
         },
         Name::Rename(new) => match tree.rename(alloc, path.as_bytes(), new.as_bytes()) {
             Ok(()) => println!(rt; "{path} is {new} now")?,

@@ -9,7 +9,7 @@ use crate::serving::Server;
 use crate::terms::Moment;
 use blocks::Disk;
 use fuse::{Request, wrote_answer};
-use names::{Found, Name, Tree};
+use names::{Found, Name, Refusal, Tree, TreeFault};
 use std::alloc::Global;
 
 // The type of a file in a mode, and that of a file of bytes.
@@ -134,9 +134,43 @@ impl Server {
             Request::MakeDirectory { mode, name } => {
                 self.make_directory(alloc, tree, node, name, *mode, now, out)
             }
-            // No call makes a second name of a file.
-            _ => Err(Errno::NotPermitted),
+            Request::Link { node: file, name } => {
+                let Ok(file) = u32::try_from(*file) else {
+                    return Err(Errno::NoEntry);
+                };
+                self.link(alloc, tree, file, node, name, now, out)
+            }
+            _ => Err(Errno::NotSupported),
         }
+    }
+
+    // Gives the file of a number another name in a directory. One that has only a name aside gets none:
+    // no program sees that it is there.
+    fn link<D: Disk>(
+        &mut self,
+        alloc: Global,
+        tree: &mut Tree<D>,
+        file: u32,
+        to: u32,
+        name: &[u8],
+        now: Moment,
+        out: &mut Vec<u8>,
+    ) -> Result<(), Errno>
+        requires ready { MayGoOn D.Disk tree.old.kernel tree.old.calls_left }
+        ensures ready { MayGoOn D.Disk tree.new.kernel tree.new.calls_left }
+    {
+        let name = new_name(to, name)?;
+        if self.nodes.is_unlinked(file) {
+            return Err(Errno::NoEntry);
+        }
+        match tree.link_in(alloc, file, to, &name) {
+            Ok(()) => {}
+            Err(TreeFault::Refused(Refusal::IsADirectory)) => return Err(Errno::NotPermitted),
+            Err(fault) => return Err(fault.into()),
+        }
+        self.nodes.touched(to, now);
+        let found = tree.look_at(alloc, file)?;
+        self.tell_entry(&found, out)
     }
 
     // Makes a file of bytes. Its number.
@@ -225,7 +259,7 @@ impl Server {
         }
     }
 
-    // Removes a name. Its file goes too, or gets a name aside while it is open.
+    // Removes a name. With its last one a file goes too, or gets a name aside while it is open.
     fn unlink<D: Disk>(
         &mut self,
         alloc: Global,
@@ -243,30 +277,35 @@ impl Server {
             return Err(Errno::IsADirectory);
         }
         self.nodes.touched(from, now);
-        self.drop_name(alloc, tree, from, &name, found.number)
+        self.drop_name(alloc, tree, from, &name, &found)
     }
 
-    // The same of a file of that number.
+    // The same of a name of that file.
     fn drop_name<D: Disk>(
         &mut self,
         alloc: Global,
         tree: &mut Tree<D>,
         from: u32,
         name: &Name,
-        number: u32,
+        found: &Found,
     ) -> Result<(), Errno>
         requires ready { MayGoOn D.Disk tree.old.kernel tree.old.calls_left }
         ensures ready { MayGoOn D.Disk tree.new.kernel tree.new.calls_left }
     {
-        if self.nodes.is_open(number) {
-            let aside = aside(number)?;
+        if self.needs_aside(found) {
+            let aside = aside(found.number)?;
             tree.rename_in(alloc, from, name, ROOT, &aside)?;
-            self.nodes.unlinked(number);
+            self.nodes.unlinked(found.number);
             return Ok(());
         }
         tree.remove_in(alloc, from, name)?;
-        self.nodes.gone(number);
+        self.nodes.left(found);
         Ok(())
+    }
+
+    // Whether a file is open, and a name of it that goes is its last.
+    fn needs_aside(&self, found: &Found) -> bool {
+        found.links <= 1 && self.nodes.is_open(found.number)
     }
 
     // Removes an empty directory.
@@ -354,13 +393,13 @@ impl Server {
         if kind == DIRECTORY {
             return Err(Errno::NotADirectory);
         }
-        let keeps = self.nodes.is_open(found.number);
+        let keeps = self.needs_aside(&found);
         let aside = aside(found.number)?;
         tree.replace_in(alloc, from, old, to, name, &aside, keeps)?;
         if keeps {
             self.nodes.unlinked(found.number);
         } else {
-            self.nodes.gone(found.number);
+            self.nodes.left(&found);
         }
         Ok(())
     }

@@ -23,8 +23,8 @@ fn digit(number: u32) -> u8 {
     48 + (number % 10) as u8
 }
 
-/// The name that the file of a number has aside in the root, when its own was removed while it was
-/// open.
+/// The name that the file of a number has aside in the root, when its last one was removed while it
+/// was open.
 pub(crate) fn aside(number: u32) -> Result<Name, Errno> {
     let bytes = [
         46,
@@ -199,7 +199,7 @@ fn add<D: Disk>(
     }
 }
 
-// Removes the file of an entry with a name aside.
+// Removes a name aside, with its file.
 fn sweep_entry<D: Disk>(
     alloc: Global,
     tree: &mut Tree<D>,
@@ -213,7 +213,7 @@ fn sweep_entry<D: Disk>(
     }
     let name = Name::new(name_of(entry))?;
     match tree.remove_in(alloc, ROOT, &name) {
-        // A directory, or a file of another name, is none that we put aside.
+        // A directory is none that we put aside.
         Ok(()) | Err(TreeFault::Refused(_)) => Ok(()),
         Err(fault) => Err(fault.into()),
     }

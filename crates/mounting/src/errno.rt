@@ -9,7 +9,7 @@ use std::alloc::AllocError;
 /// Why a request isn't done, as the system's numbers have it.
 #[derive(Clone, Copy, Debug, PartialEq, Eq)]
 pub enum Errno {
-    /// An image has no place for it.
+    /// An image has no place for it, or a directory would get a second name.
     NotPermitted,
     /// There is no such file.
     NoEntry,
@@ -31,7 +31,7 @@ pub enum Errno {
     TooBig,
     /// No block, number or entry is free.
     NoSpace,
-    /// The file has another name.
+    /// 32,767 names lead to the file.
     TooManyLinks,
     /// A name has more than 14 bytes.
     NameTooLong,
@@ -125,6 +125,6 @@ fn errno_of(refusal: Refusal) -> Errno {
         Refusal::IsADirectory => Errno::IsADirectory,
         Refusal::NotEmpty => Errno::NotEmpty,
         Refusal::IsInside | Refusal::NotDown => Errno::Invalid,
-        Refusal::LinkedTwice => Errno::TooManyLinks,
+        Refusal::TooManyLinks => Errno::TooManyLinks,
     }
 }

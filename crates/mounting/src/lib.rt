@@ -2,7 +2,7 @@
 //! one answer to each that wants one. A file has as its number there that of its inode.
 //!
 //! An image has no place for times, owners and modes. What is told of them is kept while the mount
-//! lasts. A file whose name is removed while a program has it open gets a name aside in the root,
+//! lasts. A file whose last name is removed while a program has it open gets a name aside in the root,
 //! which no program sees; it goes when it is closed, or at the next mount.
 #![tactic(auto)]
 

@@ -17,7 +17,7 @@ const DEVICE_MODE: u32 = 0o020_000;
 struct Node {
     // How many times it is open.
     opens: u32,
-    // Its name was removed while it was open: it has one aside, and goes when it is closed.
+    // Its last name was removed while it was open: it has one aside, and goes when it is closed.
     unlinked: bool,
     // How many files had the number before.
     generation: u64,
@@ -86,7 +86,8 @@ impl Nodes {
         }
     }
 
-    /// What is told of a file.
+    /// What is told of a file. As its links its names are told that programs see, and of a directory
+    /// that for itself, too, as Linux has it: an image counts a directory's other names.
     ///
     /// # Errors
     ///
@@ -107,7 +108,11 @@ impl Nodes {
             seconds: node.seconds,
             nanoseconds: node.nanoseconds,
             mode: kind | (node.mode & !self.terms.mask),
-            links: 1,
+            links: match (found.kind, node.unlinked) {
+                (1, _) => u32::from(found.links).saturating_add(1),
+                (_, true) => 0,
+                _ => u32::from(found.links),
+            },
             owner: self.terms.owner,
             group: self.terms.group,
         })
@@ -121,6 +126,13 @@ impl Nodes {
             node.mode = mode & 0o7777;
             node.seconds = now.seconds;
             node.nanoseconds = now.nanoseconds;
+        }
+    }
+
+    /// A name was removed of the file that is found so, which is gone if it had no other one.
+    pub(crate) fn left(&mut self, found: &Found) {
+        if found.links <= 1 {
+            self.gone(found.number);
         }
     }
 
@@ -162,7 +174,12 @@ impl Nodes {
         matches!(self.nodes.get(number as usize), Some(node) if node.opens > 0)
     }
 
-    /// Its name was removed.
+    /// Whether it has only a name aside.
+    pub(crate) fn is_unlinked(&self, number: u32) -> bool {
+        matches!(self.nodes.get(number as usize), Some(node) if node.unlinked)
+    }
+
+    /// Its last name was removed.
     pub(crate) fn unlinked(&mut self, number: u32) {
         if let Some(node) = self.nodes.get_mut(number as usize) {
             node.unlinked = true;

@@ -1,10 +1,9 @@
 -- How the operations on a directory are answered.
-use Rattle.std.proofs.Common.{◌≡◌, ◌≢◌, ◌⊎◌, inl, inr, ℕ, ◌+◌, ◌*◌, ◌%◌, ◌<◌, ◌≤◌, true, cond, ◌&&◌, ◌||◌, eqb, ltb, leb, List, length, take, set, Option, Some, None, refl, ap, subst, ◌∙◌, ⊎_elim, arith}
+use Rattle.std.proofs.Common.{◌≡◌, ◌≢◌, ◌⊎◌, inl, inr, ℕ, ◌+◌, ◌*◌, ◌%◌, ◌≤◌, true, cond, ◌&&◌, ◌||◌, eqb, ltb, leb, List, length, take, set, Option, Some, None, refl, ap, subst, ◌∙◌, ⊎_elim, arith}
 use Rattle.std.proofs.lemmas.Bool.{le-ltb, leb-true, cond-false, and_parts, or_cases, eqb-true}
 use Rattle.blocks.specs.Block.{overwritten}
 use Rattle.model.specs.declared.types.image.File.{File}
 use Rattle.model.specs.declared.types.image.Form.{Form}
-use Rattle.model.specs.declared.types.image.Form.TheVariants.{One, Two}
 use Rattle.model.specs.declared.types.operations.Op.{Op}
 use Rattle.model.specs.declared.types.operations.Op.TheVariants.{Write, Remove}
 use Rattle.model.specs.declared.types.operations.Reply.{Reply}
@@ -18,6 +17,7 @@ use Rattle.names.specs.Writes.{operation_of}
 use Rattle.names.specs.Trees.{bytes_of, directory_in, kind_of, IsDirectory, IsFile}
 use Rattle.names.specs.Lemmas.Writes.{whole_entry}
 use Rattle.names.proofs.Keeping.{at_cases}
+use Rattle.names.proofs.Sizes.{few_fit}
 
 pub file_by : (o : Option File) → kind_of o ≡ 1 → (d : File) × (o ≡ Some d)
 file_by None h = absurd (omega arith)
@@ -32,20 +32,21 @@ pub done_where : (form : Form) (files new : Files) (op : Op) (reply : Reply) →
 unfolding after
 done_where form files new op reply allowed h = subst (λ (r : Option Reply). after_refusal r files op reply ≡ Some new) allowed h
 
-small : (form : Form) (n : ℕ) → n ≤ 3072 → n ≤ greatest_size form
-small One n h = omega arith
-small Two n h = omega arith
+-- a write that begins in the file and ends where a file may end is not refused
+within_allowed : (form : Form) (files : Files) (i : ℕ) (d : File) (off : ℕ) (bytes : List ℕ) → file_in files i ≡ Some d →
+    off ≤ length d.bytes → length bytes ≤ 3072 → off + length bytes ≤ greatest_size form → refusal_of form files (Write i off bytes) ≡ None
+within_allowed form files i d off bytes is at few most =
+    cond-false (ltb 3072 (length bytes)) (Some TooLong) (write_refusal form (file_in files i) off (length bytes)) (le-ltb 3072 (length bytes) few)
+    ∙ ap (λ (o : Option File). write_refusal form o off (length bytes)) is
+    ∙ cond-false (ltb (length d.bytes) off) (Some BadOffset) (cond (ltb (greatest_size form) (off + length bytes)) (Some TooBig) None)
+    (le-ltb (length d.bytes) off at)
+    ∙ cond-false (ltb (greatest_size form) (off + length bytes)) (Some TooBig) None (le-ltb (greatest_size form) (off + length bytes) most)
 
 -- a write within the first 3072 bytes that begins in the file is not refused
 pub write_allowed : (form : Form) (files : Files) (i : ℕ) (d : File) (off : ℕ) (bytes : List ℕ) → file_in files i ≡ Some d →
     off ≤ length d.bytes → off + length bytes ≤ 3072 → refusal_of form files (Write i off bytes) ≡ None
 write_allowed form files i d off bytes is at fits =
-    let most = small form (off + length bytes) fits in
-    cond-false (ltb 3072 (length bytes)) (Some TooLong) (write_refusal form (file_in files i) off (length bytes)) (le-ltb 3072 (length bytes) (omega arith))
-    ∙ ap (λ (o : Option File). write_refusal form o off (length bytes)) is
-    ∙ cond-false (ltb (length d.bytes) off) (Some BadOffset) (cond (ltb (greatest_size form) (off + length bytes)) (Some TooBig) None)
-    (le-ltb (length d.bytes) off at)
-    ∙ cond-false (ltb (greatest_size form) (off + length bytes)) (Some TooBig) None (le-ltb (greatest_size form) (off + length bytes) most)
+    within_allowed form files i d off bytes is at (omega arith) (few_fit form (off + length bytes) fits)
 
 -- what a write that was done says
 pub record HasWrote (files new : Files) (i : ℕ) (file : File) (off : ℕ) (bytes : List ℕ) (reply : Reply) : Type 0 where
@@ -62,12 +63,17 @@ wrote_on files new i file j off bytes (Wrote k) h =
     record { count = k; is = refl; may = both.0; made = both.1 }
 wrote_on files new i file j off bytes reply h = absurd (cc h)
 
+allowed_done : (form : Form) (files new : Files) (i : ℕ) (d : File) (off : ℕ) (bytes : List ℕ) (reply : Reply) → file_in files i ≡ Some d →
+    refusal_of form files (Write i off bytes) ≡ None → after form files (Write i off bytes) reply ≡ Some new → HasWrote files new i d off bytes reply
+allowed_done form files new i d off bytes reply is allowed h =
+    let done = done_where form files new (Write i off bytes) reply allowed h in
+    wrote_on files new i d i off bytes reply (subst (λ (o : Option File). after_at files i o (Write i off bytes) reply ≡ Some new) is done)
+
 pub write_done : (form : Form) (files new : Files) (i : ℕ) (d : File) (off : ℕ) (bytes : List ℕ) (reply : Reply) → file_in files i ≡ Some d →
     off ≤ length d.bytes → off + length bytes ≤ 3072 → after form files (Write i off bytes) reply ≡ Some new →
     HasWrote files new i d off bytes reply
 write_done form files new i d off bytes reply is at fits h =
-    let done = done_where form files new (Write i off bytes) reply (write_allowed form files i d off bytes is at fits) h in
-    wrote_on files new i d i off bytes reply (subst (λ (o : Option File). after_at files i o (Write i off bytes) reply ≡ Some new) is done)
+    allowed_done form files new i d off bytes reply is (write_allowed form files i d off bytes is at fits) h
 
 -- the write of an entry within the directory or right behind it
 pub record HasAnswered (size place : ℕ) (reply : Reply) : Type 0 where
@@ -83,14 +89,15 @@ nothing_only_behind old place n k size none h =
     (or_cases (eqb k n) (eqb ((16 * place + k) % 1024) 0 && leb old (16 * place + k)) parts.1)
 
 pub entry_answered : (form : Form) (files new : Files) (from : ℕ) (write : EntryWrite) (reply : Reply) → IsDirectory files from →
-    length write.entry ≡ 16 → 16 * write.place ≤ length (directory_in files from) → write.place < 192 →
+    length write.entry ≡ 16 → 16 * write.place ≤ length (directory_in files from) → 16 * write.place + 16 ≤ greatest_size form →
     after form files (operation_of from write) reply ≡ Some new → HasAnswered (length (directory_in files from)) write.place reply
-entry_answered form files new from write reply kind size at below h =
+entry_answered form files new from write reply kind size at fits h =
     let has = file_by (file_in files from) kind in
     let d : File = has.0 in
     let is : file_in files from ≡ Some d = has.1 in
     let long : length (directory_in files from) ≡ length d.bytes = ap (λ (o : Option File). length (bytes_of o)) is in
-    let wrote = write_done form files new from d (16 * write.place) write.entry reply is (omega arith) (omega arith) h in
+    let allowed = within_allowed form files from d (16 * write.place) write.entry is (omega arith) (omega arith) (omega (arith, size, fits)) in
+    let wrote = allowed_done form files new from d (16 * write.place) write.entry reply is allowed h in
     let either = whole_entry (length d.bytes) write.place (length write.entry) wrote.count size wrote.may in
     record {
       either = ⊎_elim (λ (none : wrote.count ≡ 0). inr (wrote.is ∙ ap (λ (k : ℕ). Wrote k) none))

@@ -1,24 +1,23 @@
 -- Each file's count is right behind a change where it was right before.
-use Rattle.std.proofs.Common.{◌≡◌, ◌≢◌, ◌⊎◌, inl, inr, ℕ, ◌+◌, ◌-◌, ◌<◌, true, false, List, [], ◌∷◌, Option, Some, None, refl, sym, ap, ap₂, subst, ◌∙◌, ⊎_elim, arith}
+use Rattle.std.proofs.Common.{◌≡◌, ◌≢◌, inl, inr, ℕ, ◌+◌, ◌-◌, ◌<◌, List, Option, Some, None, refl, sym, ap, ap₂, subst, ◌∙◌, ⊎_elim, arith}
 use Rattle.std.specs.Str.{bytes_eq}
 use Rattle.std.proofs.lemmas.Bool.{both_ways, cases_eq}
 use Rattle.std.proofs.lemmas.Slice.Eq.{bytes_eq-Decides}
 use Rattle.model.specs.declared.types.image.File.{File}
 use Rattle.model.specs.Files.{Files, file_in}
-use Rattle.model.specs.Operations.{with_links}
 use Rattle.names.specs.Counts.{AreCounted, HasNames, IsNameOf, Place}
 use Rattle.names.specs.Entries.{lookup}
-use Rattle.names.specs.Trees.{bytes_of, directory_in, kind_of, links_of, number_of, parent_name, root, self_name, IsDirectory, IsDirectoryOf, IsDown, IsEmpty, IsFile, IsTree, Steps}
-use Rattle.names.specs.TreeChanges.{directory_file, AddsDirectory, AddsName, ChangesName, DropsDirectory, DropsName, KeepsNames, LeadsTo, LinksName, MovesDirectory, MovesName, UnlinksName}
+use Rattle.names.specs.Trees.{bytes_of, directory_in, kind_of, links_of, number_of, parent_name, self_name, IsDirectory, IsDirectoryOf, IsDown, IsFile, IsTree, Steps}
+use Rattle.names.specs.TreeChanges.{directory_file, AddsDirectory, AddsName, ChangesName, DropsDirectory, DropsName, KeepsNames, LinksName, MovesDirectory, MovesName, UnlinksName}
 use Rattle.names.specs.TreeLaws.{IsNew}
 use Rattle.names.proofs.Adding.{same_name, step_same}
-use Rattle.names.proofs.Counting.{gains, gains_not, loses, loses_not, Appears, HasBy, IsNameBy, Keeps, Lead, Vanishes}
+use Rattle.names.proofs.Counting.{gains, gains_not, loses, loses_not, Appears, HasBy, Lead, Vanishes}
 use Rattle.names.proofs.Dropping.{no_kind}
 use Rattle.names.proofs.Moves.{other_kinds, other_leads}
 use Rattle.names.proofs.Moving.{same_entry, IsOther}
 use Rattle.names.proofs.NewDirectory.{new_is_empty}
 use Rattle.names.proofs.Places.{count_more, count_none, count_same, count_some}
-use Rattle.names.proofs.TreeBy.{depth_in, directory_is_file, tree_makes_steps, IsTreeBy}
+use Rattle.names.proofs.TreeBy.{depth_in, directory_is_file, tree_makes_steps}
 use Rattle.names.proofs.TreeMeaning.{directory_by, steps_lead}
 use Rattle.names.proofs.Unnamed.{apart_from}
 

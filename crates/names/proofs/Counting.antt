@@ -1,5 +1,5 @@
 -- What one name more, or one less, makes of how many names lead to a number.
-use Rattle.std.proofs.Common.{◌≡◌, ◌≢◌, ◌⊎◌, inl, inr, ℕ, ◌+◌, List, sym, ap, ap₂, subst, ◌∙◌, ⊎_elim, arith}
+use Rattle.std.proofs.Common.{◌≡◌, ◌≢◌, ◌⊎◌, inl, inr, ℕ, ◌+◌, List, sym, ap, ap₂, subst, ⊎_elim, arith}
 use Rattle.names.specs.Counts.{AreCount, Place}
 use Rattle.names.specs.Trees.{self_name}
 use Rattle.names.proofs.Moving.{same_entry, IsOther}

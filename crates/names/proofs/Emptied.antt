@@ -1,14 +1,20 @@
 -- An empty directory goes from a tree with its name.
-use Rattle.std.proofs.Common.{◌≡◌, ℕ, Bool, true, false, List, Option, Some, sym, ap, subst, ◌∙◌}
-use Rattle.model.specs.Files.{Files}
+use Rattle.std.proofs.Common.{◌≡◌, ◌≢◌, ℕ, ◌-◌, ◌<◌, Bool, true, false, List, Option, Some, sym, ap, subst, ◌∙◌, arith}
+use Rattle.model.specs.Files.{Files, file_in}
+use Rattle.names.specs.Counts.{AreCounted, StaysCounted}
 use Rattle.names.specs.Entries.{lookup}
 use Rattle.names.specs.Removing.{MayDrop}
-use Rattle.names.specs.TreeChanges.{DropsDirectory, DropsName}
-use Rattle.names.specs.Trees.{directory_in, number_of, IsDirectory, IsDown, IsEmpty, IsTree}
+use Rattle.names.specs.TreeChanges.{DropsDirectory, DropsName, Relinks}
+use Rattle.names.specs.Trees.{directory_in, links_of, number_of, IsDirectory, IsDown, IsEmpty, IsTree}
 use Rattle.names.specs.Undirecting.{IsEmptinessOf}
 use Rattle.names.specs.Walks.{IsDirectoryFound}
+use Rattle.names.proofs.CountedChanges.{counted_directory_dropped}
+use Rattle.names.proofs.Dropping.{dropping_keeps}
 use Rattle.names.proofs.Entering.{found_bytes}
+use Rattle.names.proofs.Named.{directory_counts}
+use Rattle.names.proofs.Relinking.{drops_relinked, relinked_links}
 use Rattle.names.proofs.TreeBy.{directory_named_once}
+use Rattle.names.proofs.TreeMeaning.{steps_lead}
 
 -- the file is a directory, and whether it is empty
 emptied : (files : Files) (i : ℕ) (found : Option Bool) (empty : Bool) → found ≡ Some empty → IsEmptinessOf files i found → IsEmptinessOf files i (Some empty)
@@ -56,3 +62,37 @@ module _ (files a e : Files) (from number i : ℕ) (name bytes slice again : Lis
 
   pub emptied_drops : (new : Files) → DropsName e new from name i → DropsDirectory files new from name i
   emptied_drops new drops = record { drops = subst (λ (f : Files). DropsName f new from name i) (saw ∙ looked) drops; was = was.0; empty = was.1.0 is_empty }
+
+  -- the name and the directory were dropped, which left `x`, and the other got its count, which left `y`
+  module _ (x y : Files) (links : ℕ) (dropped : DropsName e x from name i) (kept : links_of (file_in x from) ≡ links_of (file_in e from))
+      (count : links ≡ links_of (file_in e from)) (counted : AreCounted files) (relinks : Relinks x y from (links - 1)) where
+    is_directory : IsDirectory files from
+    is_directory = (led_by files from name bytes slice found (Some number) here found_is slice_is led).0
+
+    drops_before : DropsDirectory files x from name i
+    drops_before = emptied_drops x dropped
+
+    apart : from ≢ i
+    apart same_number = (steps_lead files from i name tree down (is_directory, drops_before.drops.led)).2 (sym same_number)
+
+    pub gone : DropsDirectory files y from name i
+    gone = record {
+      drops = drops_relinked files x y from i (links - 1) name apart relinks drops_before.drops;
+      was = drops_before.was;
+      empty = drops_before.empty;
+    }
+
+    count_was : links ≡ links_of (file_in files from)
+    count_was = count ∙ ap (λ (f : Files). links_of (file_in f from)) (saw ∙ looked)
+
+    pub gone_stays : StaysCounted files y
+    gone_stays =
+        let tree_new =
+        (dropping_keeps files y from i name tree is_directory down (directory_named_once files tree i gone.was) (λ it. gone.empty) gone.drops).tree in
+        let some : 0 < links_of (file_in files from) = directory_counts files from tree counted is_directory in
+        let now : links_of (file_in y from) ≡ links - 1 = relinked_links x y from (links - 1) relinks in
+        let old = count_was in
+        record {
+          tree = tree_new;
+          counted = λ right. counted_directory_dropped files y from i name tree is_directory down gone right tree_new (omega arith);
+        }

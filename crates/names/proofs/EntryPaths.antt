@@ -29,7 +29,7 @@ some_place : (f : ℕ → ℕ) (o : Option ℕ) (n : ℕ) → option_map f o ≡
 some_place f None n h = absurd (cc h)
 some_place f (Some k) n h = (k, refl, cc h)
 
-lookup_place : (bytes name : List ℕ) (n : ℕ) → lookup bytes name ≡ Some n →
+pub lookup_place : (bytes name : List ℕ) (n : ℕ) → lookup bytes name ≡ Some n →
     (k : ℕ) × (place_of bytes name ≡ Some k) × (number_in (get_or (entries_of bytes) k []) ≡ n)
 unfolding lookup
 lookup_place bytes name n h = some_place (λ (i : ℕ). number_in (get_or (entries_of bytes) i [])) (place_of bytes name) n h

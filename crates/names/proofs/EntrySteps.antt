@@ -4,7 +4,7 @@ use Rattle.std.specs.List.{position}
 use Rattle.std.specs.Option.{unwrap_or}
 use Rattle.std.specs.Str.{bytes_eq}
 use Rattle.std.proofs.lemmas.Bool.{both_ways}
-use Rattle.std.proofs.lemmas.List.{set-get_or, take_all}
+use Rattle.std.proofs.lemmas.List.{set-get_or}
 use Rattle.std.proofs.lemmas.Slice.Eq.{bytes_eq-Decides}
 use Rattle.blocks.specs.Block.{overwritten}
 use Rattle.model.specs.declared.types.image.File.{File}
@@ -13,16 +13,18 @@ use Rattle.model.specs.declared.types.operations.Op.TheVariants.{Read, Write}
 use Rattle.model.specs.declared.types.operations.Reply.{Reply}
 use Rattle.model.specs.declared.types.operations.Reply.TheVariants.{Wrote, Bytes}
 use Rattle.model.specs.Files.{Files, file_in}
+use Rattle.model.specs.Layout.{greatest_size}
 use Rattle.model.specs.Lemmas.Replies.{wrote_done}
 use Rattle.model.specs.Lemmas.Runs.{where_true_some}
 use Rattle.model.specs.Operations.{after, after_at, after_on, no_file_refusal, may_have_written, part_of, with_bytes}
 use Rattle.names.specs.declared.entries.EntryWrite.{EntryWrite}
 use Rattle.names.specs.Entries.{entries_of, is_free, lookup}
-use Rattle.names.specs.Writes.{free_place, written, operation_of, KeepsOthers, Links, Unlinks}
+use Rattle.names.specs.Sizes.{AreSized}
+use Rattle.names.specs.Writes.{free_place, written, operation_of, KeepsOthers, Links, MayHold, Unlinks}
 use Rattle.names.specs.Lemmas.Writes.{nothing_written}
 use Rattle.names.specs.Trees.{bytes_of, directory_in, IsDirectory, IsTidy}
 use Rattle.names.specs.TreeChanges.{LeadsTo}
-use Rattle.names.specs.TreeLaws.{LinkLeads, ReadsWhole, UnlinkLeads}
+use Rattle.names.specs.TreeLaws.{LinkLeads, ReadsPart, UnlinkLeads}
 use Rattle.names.proofs.Standing.{Puts, stands_at, none_stands}
 use Rattle.names.proofs.Chunks.{length-entries_of, length-written}
 use Rattle.names.proofs.EntryBytes.{length-entry_bytes, zeroes_free}
@@ -30,6 +32,7 @@ use Rattle.names.proofs.Changes.{link_room, link_leads, link_keeps, unlink_stand
 use Rattle.names.proofs.Keeping.{at_cases, read_on}
 use Rattle.names.proofs.Answered.{done_where, entry_answered, file_by}
 use Rattle.names.proofs.FileMaps.{IsWritten, writes}
+use Rattle.names.proofs.Sizes.{entry_fits}
 
 -- ---- sizes
 
@@ -51,26 +54,25 @@ unlink_at bytes name write unlinks =
 
 -- ---- one entry
 
-pub tidy_written : (bytes name : List ℕ) (write : EntryWrite) → length write.entry ≡ 16 → 16 * write.place ≤ length bytes → write.place < 192 →
+pub tidy_written : (bytes name : List ℕ) (write : EntryWrite) → length write.entry ≡ 16 → 16 * write.place ≤ length bytes →
     KeepsOthers name bytes (written bytes write) → IsTidy bytes → IsTidy (written bytes write)
-tidy_written bytes name write size at below keeps tidy =
+tidy_written bytes name write size at keeps tidy =
     let whole : length bytes % 16 ≡ 0 = tidy.whole in
-    let fits : length bytes ≤ 3072 = tidy.fits in
     let long = length-written bytes (16 * write.place) write.entry at size in
-    record { whole = omega arith; fits = omega arith; once = λ any. keeps.once any (tidy.once any) }
+    record { whole = omega arith; once = λ any. keeps.once any (tidy.once any) }
 
 -- an entry was written, by which one name leads elsewhere
 pub leads_by : (form : Form) (files new : Files) (from : ℕ) (name : List ℕ) (number : Option ℕ) (write : EntryWrite) → IsDirectory files from →
-    IsTidy (directory_in files from) → length write.entry ≡ 16 → 16 * write.place ≤ length (directory_in files from) → write.place < 192 →
+    IsTidy (directory_in files from) → length write.entry ≡ 16 → 16 * write.place ≤ length (directory_in files from) →
     KeepsOthers name (directory_in files from) (written (directory_in files from) write) →
     lookup (written (directory_in files from) write) name ≡ number → IsWritten form files from write new → LeadsTo files new from name number
-leads_by form files new from name number write is tidy size at below keeps leads h =
+leads_by form files new from name number write is tidy size at keeps leads h =
     let bytes : List ℕ = directory_in files from in
     let w = writes form files new from write size h in
     record {
       changes = record {
         directory = w.kind ∙ is;
-        tidy = subst (λ (b : List ℕ). IsTidy b) (sym w.bytes) (tidy_written bytes name write size at below keeps tidy);
+        tidy = subst (λ (b : List ℕ). IsTidy b) (sym w.bytes) (tidy_written bytes name write size at keeps tidy);
         others = λ other ne. ap (λ (b : List ℕ). lookup b other) w.bytes ∙ keeps.others other ne;
       };
       leads = ap (λ (b : List ℕ). lookup b name) w.bytes ∙ leads;
@@ -89,23 +91,31 @@ nothing_wrote form files new from write h =
     ∙ ap (λ (o : Option File). set files from o) (sym on.1) ∙ set-get_or files from None
 
 pub links_to : (form : Form) (files new : Files) (from number : ℕ) (name : List ℕ) (write : EntryWrite) → IsDirectory files from →
-    IsTidy (directory_in files from) → Links (directory_in files from) name number write → write.place < 192 →
+    IsTidy (directory_in files from) → Links (directory_in files from) name number write →
     IsWritten form files from write new → LeadsTo files new from name (Some number)
-links_to form files new from number name write is tidy links below h =
+links_to form files new from number name write is tidy links h =
     let bytes : List ℕ = directory_in files from in
-    leads_by form files new from name (Some number) write is tidy (link_size bytes name number write links) (link_at bytes name number write links) below
+    leads_by form files new from name (Some number) write is tidy (link_size bytes name number write links) (link_at bytes name number write links)
     (link_keeps bytes name number write links) (link_leads bytes name number write links) h
 
+-- what has room lies in what a file may have
+room_fits : (form : Form) (files : Files) (from place : ℕ) → AreSized form files → MayHold (directory_in files from) place → 16 * place + 16 ≤ greatest_size form
+room_fits form files from place sized room =
+    ⊎_elim (λ (below : place < 17152). entry_fits form place below)
+    (λ (inside : place < length (entries_of (directory_in files from))).
+    let count = length-entries_of (directory_in files from) in
+    let fits : length (directory_in files from) ≤ greatest_size form = sized from in omega arith) room
+
 pub link_leads_there : LinkLeads
-link_leads_there form files new from number name write reply is tidy links below h =
+link_leads_there form files new from number name write reply sized is tidy links room h =
     let bytes : List ℕ = directory_in files from in
     let answered = entry_answered form files new from write reply is (link_size bytes name number write links)
-    (link_at bytes name number write links) below h in
+    (link_at bytes name number write links) (room_fits form files from write.place sized room) h in
     ⊎_elim
     (λ (all : reply ≡ Wrote 16).
     inl (
       all,
-      links_to form files new from number name write is tidy links below
+      links_to form files new from number name write is tidy links
           (subst (λ (r : Reply). after form files (operation_of from write) r ≡ Some new) all h),
     ))
     (λ (none : reply ≡ Wrote 0).
@@ -113,14 +123,14 @@ link_leads_there form files new from number name write reply is tidy links below
     answered.either
 
 pub unlink_leads_nowhere : UnlinkLeads
-unlink_leads_nowhere form files new from name write reply is tidy unlinks h =
+unlink_leads_nowhere form files new from name write reply sized is tidy unlinks h =
     let bytes : List ℕ = directory_in files from in
-    let fits : length bytes ≤ 3072 = tidy.fits in
+    let fits : length bytes ≤ greatest_size form = sized from in
     let inside : 16 * write.place + 16 ≤ length bytes = unlink_at bytes name write unlinks in
     let size = unlink_size bytes name write unlinks in
-    let whole = (entry_answered form files new from write reply is size (omega arith) (omega arith) h).there inside in (
+    let whole = (entry_answered form files new from write reply is size (omega arith) (omega (arith, inside, fits)) h).there inside in (
       whole,
-      leads_by form files new from name None write is tidy size (omega arith) (omega arith) (unlink_keeps bytes name write unlinks)
+      leads_by form files new from name None write is tidy size (omega arith) (unlink_keeps bytes name write unlinks)
           (unlink_gone bytes name write unlinks (tidy.once name))
           (subst (λ (r : Reply). after form files (operation_of from write) r ≡ Some new) whole h),
     )
@@ -152,13 +162,14 @@ read_bytes : (files new : Files) (i : ℕ) (file : File) (j off n : ℕ) (bytes 
 read_bytes files new i file j off n bytes h =
     (bytes_eq-Decides bytes (part_of file.bytes off n)).0 (where_true_some (bytes_eq bytes (part_of file.bytes off n)) files new h).0
 
-pub reads_whole : ReadsWhole
-reads_whole form files new from bytes is tidy h =
+pub reads_part : ReadsPart
+reads_part form files new from offset bytes is h =
     let has = file_by (file_in files from) is in
     let d : File = has.0 in
     let same : directory_in files from ≡ d.bytes = ap bytes_of has.1 in
-    let fits : length d.bytes ≤ 3072 = subst (λ (b : List ℕ). length b ≤ 3072) same tidy.fits in
-    let done = done_where form files new (Read from 0 3072) (Bytes bytes) (ap no_file_refusal has.1) h in
-    let on : after_on files from d (Read from 0 3072) (Bytes bytes) ≡ Some new =
-    subst (λ (o : Option File). after_at files from o (Read from 0 3072) (Bytes bytes) ≡ Some new) has.1 done in
-    (read_bytes files new from d from 0 3072 bytes on ∙ take_all 3072 d.bytes fits ∙ sym same, read_on files new from d from 0 3072 (Bytes bytes) on)
+    let done = done_where form files new (Read from offset 3072) (Bytes bytes) (ap no_file_refusal has.1) h in
+    let on : after_on files from d (Read from offset 3072) (Bytes bytes) ≡ Some new =
+    subst (λ (o : Option File). after_at files from o (Read from offset 3072) (Bytes bytes) ≡ Some new) has.1 done in (
+      read_bytes files new from d from offset 3072 bytes on ∙ ap (λ (b : List ℕ). part_of b offset 3072) (sym same),
+      read_on files new from d from offset 3072 (Bytes bytes) on,
+    )

@@ -76,7 +76,7 @@ stat_only files new i file j (StatOf kind links size) h =
     }
 stat_only files new i file j reply h = absurd (cc h)
 
--- a look at a file that is there tells its type and its length
+-- a look at a file that is there tells its type, its links and its length
 pub tells_file : (form : Form) (files new : Files) (i : ℕ) (file : File) (reply : Reply) → file_in files i ≡ Some file →
     after form files (Stat i) reply ≡ Some new → TellsFile files new file reply
 tells_file form files new i file reply is h =

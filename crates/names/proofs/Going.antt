@@ -1,10 +1,13 @@
 -- Calls of a transaction, one after the other.
-use Rattle.std.proofs.Common.{◌≡◌, ℕ, ◌+◌, ◌≤◌, ◌^◌, List, [], length, Option, Some, refl, sym, ap, subst, ◌∙◌, inl, inr, ⊎_elim, arith}
+use Rattle.std.proofs.Common.{◌≡◌, ℕ, ◌+◌, ◌≤◌, ◌^◌, List, [], length, Option, Some, Result, refl, sym, ap, subst, ◌∙◌, inl, inr, ⊎_elim, arith}
 use Rattle.std.specs.Prelude.{⊤, unwrap_or}
+use Rattle.std.proofs.lemmas.Result.{on_ok_weaker, IfErr-weaker}
 use Rattle.blocks.specs.Disk.{Image, LeavesOnly, Rose}
 use Rattle.blocks.specs.Lemmas.Moments.{joined}
 use Rattle.blocks.specs.declared.disk.Disk.{Ghosts}
+use Rattle.model.specs.declared.types.image.Form.{Form}
 use Rattle.model.specs.Files.{Files, files_of}
+use Rattle.model.specs.Layout.{form_of}
 use Rattle.model.specs.declared.types.operations.Op.{Op}
 use Rattle.model.specs.declared.types.operations.Reply.{Reply}
 use Rattle.calls.specs.Calls.{call_count, faults_on, image_on}
@@ -19,7 +22,10 @@ use Rattle.calls.specs.declared.transactions.fault.TransactionFault.{Transaction
 use Rattle.calls.specs.declared.transactions.fault.TransactionFault.TheVariants as fault
 use Rattle.names.specs.declared.refusal.TreeFault.{TreeFault}
 use Rattle.names.specs.declared.refusal.TreeFault.TheVariants.{Path, Refused, Call, NoSpace, NoCall}
-use Rattle.names.specs.Inside.{files_seen, Answers, Ends, EndsOr, Goes, HasCause, IsBroken, IsBrokenOr, IsUnderWay, StaysOn}
+use Rattle.names.proofs.Sizes.{after_sized, sound_sized}
+use Rattle.names.specs.Sizes.{AreSized}
+use Rattle.names.specs.Inside.{files_seen, form_seen, Answers, Ends, EndsOr, Goes, HasCause, IsBroken, IsBrokenOr, IsUnderWay, Proceeds, StaysOn}
+use Rattle.names.specs.Counts.{AreCounted}
 
 module _ {D N : Type 0} (disk : Ghosts D N) where
   -- a transaction sees the files that its kernel has
@@ -29,25 +35,29 @@ module _ {D N : Type 0} (disk : Ghosts D N) where
   pub has_seen : (k : Plain D) (f : Files) → HasFiles disk.image k f → HasFiles disk.image k (files_seen disk.image k)
   has_seen k f has = subst (λ (g : Files). HasFiles disk.image k g) (sym (seen k f has)) has
 
+  pub call_answers : (op : Op) (k m : Plain D) (reply : Reply) (left : ℕ) → IsUnderWay disk k left → Adds disk.image op k m reply → Answers disk.image op k m reply
+  call_answers op k m reply left way adds =
+      let made = adds.files (files_seen disk.image k) way.files in
+      made.1 ∙ ap (λ (f : Files). Some f) (sym (seen m made.0 made.2))
+
   -- a call goes on
   pub call_goes : (op : Op) (k m : Plain D) (reply : Reply) (left less : ℕ) → less + 1 ≡ left → IsUnderWay disk k left → IsInside disk.fault_count m →
       m.opening ≡ k.opening → Adds disk.image op k m reply → Goes disk k m less
   call_goes op k m reply left less one way inside opening adds =
       let made = adds.files (files_seen disk.image k) way.files in
+      let answered = call_answers op k m reply left way adds in
+      let same_form : form_seen disk.image k ≡ form_seen disk.image m = ap (λ (o : D). form_of (disk.image o)) (sym opening) in
       record {
         way = record {
           inside = inside;
           few = omega (arith, adds.one_more, way.few);
           files = has_seen m made.0 made.2;
+          sized = subst (λ (form : Form). AreSized form (files_seen disk.image m)) same_form
+              (after_sized (form_seen disk.image k) (files_seen disk.image k) (files_seen disk.image m) op reply way.sized answered);
         };
         same = adds.same;
         opening = opening;
       }
-
-  pub call_answers : (op : Op) (k m : Plain D) (reply : Reply) (left : ℕ) → IsUnderWay disk k left → Adds disk.image op k m reply → Answers disk.image op k m reply
-  call_answers op k m reply left way adds =
-      let made = adds.files (files_seen disk.image k) way.files in
-      made.1 ∙ ap (λ (f : Files). Some f) (sym (seen m made.0 made.2))
 
   pub call_cause : (op : Op) (k m : Plain D) (reply : Reply) (left : ℕ) → IsUnderWay disk k left → Adds disk.image op k m reply → HasCause disk.image op k m reply
   call_cause op k m reply left way adds = record {
@@ -102,6 +112,15 @@ module _ {D N : Type 0} (disk : Ghosts D N) where
       Ends disk k m none cause
   ends_on k a m left less none cause way goes ends = ends_or ⊥ k a m left less none cause way goes ends
 
+  -- what a later call made of it
+  pub proceeds_on : {T : Type 0} (k a m : Plain D) (r : Result T TreeFault) (left less rest : ℕ) → IsUnderWay disk k left → Goes disk k a less →
+      StaysOn disk k a → Proceeds disk r a m rest → Proceeds disk r k m rest
+  proceeds_on k a m r left less rest way goes stays then_on = record {
+    on = on_ok_weaker r (λ (on : Goes disk a m rest). goes_on k a m less rest goes on) then_on.on;
+    stays = stays_on k a m less goes stays then_on.stays;
+    ends = IfErr-weaker r (Ends disk a m rest) (Ends disk k m rest) (λ cause ends. ends_on k a m left less rest cause way goes ends) then_on.ends;
+  }
+
   -- where the disk may be filled, it need not be
   pub broken_in : (fills : Type 0) (k m : Plain D) (cause : TreeFault) → IsBroken disk k m cause → IsBrokenOr fills disk k m cause
   broken_in fills k m (Path cause) why = why
@@ -137,7 +156,14 @@ module _ {D N : Type 0} (disk : Ghosts D N) where
       let count : call_count m ≡ call_count k = ap (λ (es : List Entry). length es) begins.list in
       record {
         goes = record {
-          way = record { inside = inside; few = omega (arith, count, few); files = has_seen m (files_of (image_on disk.image k)) begins.files };
+          way = record {
+            inside = inside;
+            few = omega (arith, count, few);
+            files = has_seen m (files_of (image_on disk.image k)) begins.files;
+            sized = subst (λ (form : Form). AreSized form (files_seen disk.image m)) (begins.form ∙ ap (λ (o : D). form_of (disk.image o)) (sym opening))
+                (subst (λ (f : Files). AreSized (form_of (image_on disk.image k)) f) (sym (seen m (files_of (image_on disk.image k)) begins.files))
+                (sound_sized (image_on disk.image k) begins.sound));
+          };
           same = begins.same;
           opening = opening;
         };
@@ -154,12 +180,12 @@ module _ {D N : Type 0} (disk : Ghosts D N) where
   commit_broken k m fault.NoMemory why = absurd why
   commit_broken k m fault.NoRoom why = absurd why
 
-  pub commit_ends : (k m : Plain D) (left less : ℕ) → less + 1 ≡ left → IsUnderWay disk k left → IsTree (files_seen disk.image k) → Rests disk.fault_count m →
+  pub commit_ends : (k m : Plain D) (left less : ℕ) → less + 1 ≡ left → IsUnderWay disk k left → IsTree (files_seen disk.image k) → AreCounted (files_seen disk.image k) → Rests disk.fault_count m →
       Commits disk.image k m → HasCommitted disk k m less
-  commit_ends k m left less one way tree rests commits =
+  commit_ends k m left less one way tree counted rests commits =
       let same : files_of (image_on disk.image m) ≡ files_seen disk.image k = commits.files (files_seen disk.image k) way.files in
       record {
-        ready = record { rests = rests; few = omega (arith, commits.one_more, way.few); sound = commits.sound; tree = subst (λ (f : Files). IsTree f) (sym same) tree };
+        ready = record { rests = rests; few = omega (arith, commits.one_more, way.few); sound = commits.sound; tree = subst (λ (f : Files). IsTree f) (sym same) tree; counted = subst (λ (f : Files). AreCounted f) (sym same) counted };
         files = same;
       }
 

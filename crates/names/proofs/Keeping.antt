@@ -112,7 +112,7 @@ done_elsewhere files new d (Op.Links i n) reply is apart h =
 
 -- ---- writes of entries
 
-not_refused : (b : Bool) (refusal : Reply) (rest : Option Reply) → cond b (Some refusal) rest ≡ None → (b ≡ false) × (rest ≡ None)
+pub not_refused : (b : Bool) (refusal : Reply) (rest : Option Reply) → cond b (Some refusal) rest ≡ None → (b ≡ false) × (rest ≡ None)
 not_refused true refusal rest h = absurd (cc h)
 not_refused false refusal rest h = (refl, h)
 

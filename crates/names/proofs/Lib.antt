@@ -4,6 +4,7 @@ pub mod EntryBytes
 pub mod Changes
 pub mod Keeping
 pub mod FileMaps
+pub mod Sizes
 pub mod Answered
 pub mod EntrySteps
 pub mod Unnamed
@@ -19,6 +20,7 @@ pub mod Counting
 pub mod CountedChanges
 pub mod Linked
 pub mod CountMeaning
+pub mod Relinking
 pub mod Staying
 pub mod NewDirectory
 pub mod TreeMeaning
@@ -33,6 +35,7 @@ pub mod Parts
 pub mod Going
 pub mod FileLooks
 pub mod SeenLooks
+pub mod ReadBehind
 pub mod PlainFiles
 pub mod PlainWrites
 pub mod PlainPuts
@@ -50,8 +53,9 @@ pub mod Transacting
 pub mod FileMakes
 pub mod Entering
 pub mod Leading
-pub mod OtherLooks
+pub mod Named
 pub mod Leaving
+pub mod NewNames
 pub mod Emptied
 pub mod Filling
 pub mod RootMaking
@@ -59,3 +63,6 @@ pub mod Renamed
 pub mod Rising
 pub mod Moved
 pub mod SeenNumbers
+pub mod Tallies
+pub mod Takings
+pub mod Recounts

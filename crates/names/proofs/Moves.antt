@@ -3,6 +3,7 @@ use Rattle.std.proofs.Common.{◌≡◌, ◌≢◌, inl, inr, ℕ, ◌+◌, ◌*
 use Rattle.std.proofs.lemmas.Bool.{cases_eq}
 use Rattle.model.specs.declared.types.image.File.{File}
 use Rattle.model.specs.Files.{Files, file_in}
+use Rattle.model.specs.Layout.{greatest_size}
 use Rattle.model.specs.Operations.{after}
 use Rattle.model.specs.declared.types.operations.Reply.{Reply}
 use Rattle.model.specs.declared.types.operations.Reply.TheVariants.{Wrote}
@@ -17,6 +18,7 @@ use Rattle.names.proofs.Chunks.{length-entries_of}
 use Rattle.names.proofs.EntrySteps.{link_inside, link_size, links_to, unlink_leads_nowhere, unlink_size}
 use Rattle.names.proofs.FileMaps.{writes}
 use Rattle.names.proofs.Moving.{IsOther}
+use Rattle.names.proofs.Sizes.{after_sized}
 
 -- ---- one change
 
@@ -96,19 +98,18 @@ unlink_moves files both new from to i old name is is_to led absent first second 
 -- ---- in one directory
 
 pub relink_leads : RelinkLeads
-relink_leads form files freed new from i old name unlink link reply is tidy unlinks freeing links h =
+relink_leads form files freed new from i old name unlink link reply sized is tidy unlinks freeing links h =
     let bytes : List ℕ = directory_in files from in
     let w = writes form files freed from unlink (unlink_size bytes old unlink unlinks) freeing in
-    let first = (unlink_leads_nowhere form files freed from old unlink (Wrote 16) is tidy unlinks freeing).1 in
-    let fits : length (directory_in freed from) ≤ 3072 = first.changes.tidy.fits in
+    let first = (unlink_leads_nowhere form files freed from old unlink (Wrote 16) sized is tidy unlinks freeing).1 in
+    let fits : length (directory_in freed from) ≤ greatest_size form = after_sized form files freed (operation_of from unlink) (Wrote 16) sized freeing from in
     let there : link.place < length (entries_of (directory_in freed from)) =
     link_inside bytes (directory_in freed from) old name i unlink link unlinks w.bytes links in
     let count = length-entries_of (directory_in freed from) in
     let inside : 16 * link.place + 16 ≤ length (directory_in freed from) = omega arith in
-    let below : link.place < 192 = omega arith in
     let size = link_size (directory_in freed from) name i link links in
-    let whole = (entry_answered form freed new from link reply first.changes.directory size (omega arith) below h).there inside in (
+    let whole = (entry_answered form freed new from link reply first.changes.directory size (omega arith) (omega (arith, inside, fits)) h).there inside in (
       whole,
-      links_to form freed new from i name link first.changes.directory first.changes.tidy links below
+      links_to form freed new from i name link first.changes.directory first.changes.tidy links
           (subst (λ (r : Reply). after form freed (operation_of from link) r ≡ Some new) whole h),
     )

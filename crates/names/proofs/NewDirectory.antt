@@ -98,7 +98,7 @@ new_is_empty number parent used fits parent_used parent_fits =
     let up : lookup (new_directory number parent) parent_name ≡ Some parent =
     link_leads (entry_bytes number self_name) parent_name parent (second parent) b in (
       record {
-        tidy = record { whole = refl; fits = omega arith; once = λ name. two.once name (one.once name (empty_once name)) };
+        tidy = record { whole = refl; once = λ name. two.once name (one.once name (empty_once name)) };
         own = two.others self_name (λ e. names_differ (sym e)) ∙ own;
         up = up;
       },

@@ -18,10 +18,11 @@ use Rattle.wal.specs.Recovery.{syncs_to_recover, writes_to_recover}
 use Rattle.wal.specs.declared.faults.RecoverFault.{RecoverFault}
 use Rattle.blocks.specs.Lemmas.Reads.{reads_then}
 use Rattle.model.specs.Files.{files_of}
+use Rattle.names.specs.Counts.{HasRightCount}
 use Rattle.names.specs.Opening.{IsUnopened}
 use Rattle.names.specs.Trees.{IsTree}
 use Rattle.names.specs.declared.opening.TreeOpenFault.{TreeOpenFault}
-use Rattle.names.specs.declared.opening.TreeOpenFault.TheVariants.{Kernel, NoTree}
+use Rattle.names.specs.declared.opening.TreeOpenFault.TheVariants.{Kernel, Miscounted, NoTree}
 
 module _ {D N : Type 0} (disk : Ghosts D N) where
   -- a kernel opened over a disk that was read is one over the disk
@@ -109,5 +110,11 @@ module _ {D N : Type 0} (disk : Ghosts D N) where
   unopened_after d m e NoTree sound reads faults why = record {
     sound = sound;
     none = λ tree. why.none (subst (λ (y : Image). IsTree (files_of (recovered y))) (sym reads.image) tree);
+    reads = reads_then disk d m e reads why.reads;
+  }
+  unopened_after d m e (Miscounted number) sound reads faults why = record {
+    sound = sound;
+    tree = subst (λ (y : Image). IsTree (files_of (recovered y))) reads.image why.tree;
+    wrong = λ right. why.wrong (subst (λ (y : Image). HasRightCount (files_of (recovered y)) number) (sym reads.image) right);
     reads = reads_then disk d m e reads why.reads;
   }

@@ -21,21 +21,20 @@ use Rattle.calls.specs.Stepping.{Plain}
 use Rattle.calls.specs.Transactions.{image_seen}
 use Rattle.names.specs.declared.refusal.Refusal.{Refusal}
 use Rattle.names.specs.Contents.{HasOnly, IsNoPlain}
+use Rattle.names.specs.Counts.{StaysCounted}
 use Rattle.names.specs.Inside.{files_seen, form_seen, Answers}
 use Rattle.names.specs.Making.{HasCreated, HasCreatedNew, Uncreates}
 use Rattle.names.specs.Putting.{file_of}
 use Rattle.names.specs.Ready.{Happens}
 use Rattle.names.specs.TreeChanges.{empty_file, IsUnnamed}
-use Rattle.names.specs.Trees.{kind_of, IsDirectory, IsFile, IsTree, StaysTree}
+use Rattle.names.specs.Trees.{kind_of, IsDirectory, IsFile, IsTree}
 use Rattle.names.specs.Writing.{reply_of, written, HasWritten, Outcome, WritesAs}
 use Rattle.names.proofs.Answered.{done_where, some_by, write_allowed, wrote_on}
-use Rattle.names.proofs.Dropping.{keeping_keeps}
 use Rattle.names.proofs.FileMaps.{set_there, unnamed_by}
 use Rattle.names.proofs.Keeping.{at_cases, trunc_on, write_on}
-use Rattle.names.proofs.Plain.{plain_keeps}
 use Rattle.names.proofs.PlainFiles.{plain_by}
 use Rattle.names.proofs.PlainWrites.{told_writes, writes_tree}
-use Rattle.names.proofs.Staying.{stays_from, stays_on}
+use Rattle.names.proofs.Staying.{stays_from, stays_on, truncs_stay}
 
 -- ---- emptied
 
@@ -189,12 +188,11 @@ module _ {D N : Type 0} (disk : Ghosts D N) where
 
   pub empties_tree : (k a b : Plain D) (i : ℕ) (reply : Reply) → files_seen disk.image a ≡ files_seen disk.image k → Answers disk.image (Trunc i) a b reply →
       IsTree (files_seen disk.image k) → (IsDirectory (files_seen disk.image k) i → ⊥) →
-      StaysTree (files_seen disk.image k) (files_seen disk.image b)
+      StaysCounted (files_seen disk.image k) (files_seen disk.image b)
   empties_tree k a b i reply same answers tree plain =
       stays_from (files_seen disk.image k) (files_seen disk.image a) (files_seen disk.image b) same
-      (keeping_keeps (files_seen disk.image a) (files_seen disk.image b) (subst (λ (f : Files). IsTree f) (sym same) tree)
-      (plain_keeps (form_seen disk.image a) (files_seen disk.image a) (files_seen disk.image b) (Trunc i) reply
-      (λ is. plain (subst (λ (f : Files). IsDirectory f i) same is)) answers))
+      (truncs_stay (form_seen disk.image a) (files_seen disk.image a) (files_seen disk.image b) i reply (subst (λ (f : Files). IsTree f) (sym same) tree)
+      (λ is. plain (subst (λ (f : Files). IsDirectory f i) same is)) answers)
 
   module _ (k b c : Plain D) (i : ℕ) (bytes : List ℕ) (told : Option Outcome) (emptied : HasOnly i [] (files_seen disk.image k) (files_seen disk.image b))
       (has : HasWritten disk.image i 0 bytes b c told) where
@@ -204,7 +202,7 @@ module _ {D N : Type 0} (disk : Ghosts D N) where
         (told_writes (form_seen disk.image b) (files_seen disk.image b) (files_seen disk.image c) i 0 bytes (record emptied.file { bytes = [] })
         (only_there (files_seen disk.image k) (files_seen disk.image b) i [] emptied) has.reply done has.answers (sym is ∙ has.is))
 
-    pub refills_tree : StaysTree (files_seen disk.image k) (files_seen disk.image b) → StaysTree (files_seen disk.image k) (files_seen disk.image c)
+    pub refills_tree : StaysCounted (files_seen disk.image k) (files_seen disk.image b) → StaysCounted (files_seen disk.image k) (files_seen disk.image c)
     refills_tree stays =
         stays_on (files_seen disk.image k) (files_seen disk.image b) (files_seen disk.image c) stays
         (writes_tree disk b b c i 0 bytes told refl has stays.tree (only_plain (files_seen disk.image k) (files_seen disk.image b) i [] emptied))

@@ -18,13 +18,12 @@ use Rattle.model.specs.Operations.{after, after_refusal, after_at, is_refusal, m
 use Rattle.calls.specs.Stepping.{Plain}
 use Rattle.names.specs.declared.writing.Unwritten.{Unwritten}
 use Rattle.names.specs.declared.writing.Unwritten.TheVariants as unwritten
+use Rattle.names.specs.Counts.{StaysCounted}
 use Rattle.names.specs.Inside.{files_seen, form_seen}
-use Rattle.names.specs.Trees.{IsDirectory, IsFile, IsTree, StaysTree}
+use Rattle.names.specs.Trees.{IsDirectory, IsFile, IsTree}
 use Rattle.names.specs.Writing.{reply_of, written, HasWritten, Outcome, WritesAs, WritesOf}
-use Rattle.names.proofs.Dropping.{keeping_keeps}
-use Rattle.names.proofs.Plain.{plain_keeps}
 use Rattle.names.proofs.PlainFiles.{plain_by}
-use Rattle.names.proofs.Staying.{stays_from}
+use Rattle.names.proofs.Staying.{stays_from, writes_stay}
 
 -- ---- one that wrote was not refused
 
@@ -121,12 +120,11 @@ module _ (form : Form) (files new : Files) (i off : ℕ) (bytes : List ℕ) (fil
 module _ {D N : Type 0} (disk : Ghosts D N) where
   pub writes_tree : (k a b : Plain D) (i off : ℕ) (bytes : List ℕ) (told : Option Outcome) → files_seen disk.image a ≡ files_seen disk.image k →
       HasWritten disk.image i off bytes a b told → IsTree (files_seen disk.image k) → (IsDirectory (files_seen disk.image k) i → ⊥) →
-      StaysTree (files_seen disk.image k) (files_seen disk.image b)
+      StaysCounted (files_seen disk.image k) (files_seen disk.image b)
   writes_tree k a b i off bytes told same has tree plain =
       stays_from (files_seen disk.image k) (files_seen disk.image a) (files_seen disk.image b) same
-      (keeping_keeps (files_seen disk.image a) (files_seen disk.image b) (subst (λ (f : Files). IsTree f) (sym same) tree)
-      (plain_keeps (form_seen disk.image a) (files_seen disk.image a) (files_seen disk.image b) (Write i off bytes) has.reply
-      (λ is. plain (subst (λ (f : Files). IsDirectory f i) same is)) has.answers))
+      (writes_stay (form_seen disk.image a) (files_seen disk.image a) (files_seen disk.image b) i off bytes has.reply (subst (λ (f : Files). IsTree f) (sym same) tree)
+      (λ is. plain (subst (λ (f : Files). IsDirectory f i) same is)) has.answers)
 
   pub writes_plain : (k a b : Plain D) (i off : ℕ) (bytes : List ℕ) (told : Option Outcome) (done : Outcome) → files_seen disk.image a ≡ files_seen disk.image k →
       a.opening ≡ k.opening → HasWritten disk.image i off bytes a b told → told ≡ Some done → IsFile (files_seen disk.image k) i →

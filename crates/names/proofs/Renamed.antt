@@ -1,12 +1,12 @@
 -- A file of a tree gets another name, by the answers of its calls.
-use Rattle.std.proofs.Common.{◌≡◌, ◌≢◌, ℕ, ◌*◌, ◌<◌, ◌≤◌, Bool, true, List, [], ◌∷◌, ◌++◌, length, get_or, Option, Some, None, Result, Ok, Err, refl, sym, ap, subst, ◌∙◌, inl, inr, ⊎_elim, arith}
+use Rattle.std.proofs.Common.{◌≡◌, ◌≢◌, ℕ, ◌<◌, Bool, true, List, [], ◌∷◌, ◌++◌, length, get_or, Option, Some, None, Result, Ok, Err, refl, sym, ap, subst, ◌∙◌, inl, inr, ⊎_elim, arith}
 use Rattle.std.specs.Prelude.{IfErr, IfOk, IsSome}
 use Rattle.std.proofs.lemmas.Result.{IfOk-weaker}
 use Rattle.std.proofs.lemmas.Bool.{both_ways, cases_eq, eq-eqb, eqb-true}
 use Rattle.blocks.specs.declared.disk.Disk.{Ghosts}
 use Rattle.model.specs.declared.types.operations.Reply.{Reply}
 use Rattle.model.specs.declared.types.operations.Reply.TheVariants.{Wrote}
-use Rattle.model.specs.Files.{Files}
+use Rattle.model.specs.Files.{Files, file_in}
 use Rattle.model.specs.Layout.{form_of}
 use Rattle.model.specs.Operations.{after}
 use Rattle.calls.specs.Stepping.{Plain}
@@ -14,6 +14,7 @@ use Rattle.names.specs.declared.entries.EntryWrite.{EntryWrite}
 use Rattle.names.specs.declared.entries.LinkFault.{LinkFault}
 use Rattle.names.specs.declared.entries.LinkFault.TheVariants.{Exists, Full}
 use Rattle.names.specs.Entries.{entries_of, is_for, lookup, number_in, place_of}
+use Rattle.names.specs.Counts.{StaysCounted}
 use Rattle.names.specs.Inside.{files_seen, form_seen}
 use Rattle.names.specs.Making.{is_entered, HasEntered}
 use Rattle.names.specs.declared.refusal.Refusal.{Refusal}
@@ -21,16 +22,19 @@ use Rattle.names.specs.declared.refusal.TreeFault.{TreeFault}
 use Rattle.names.specs.declared.refusal.TreeFault.TheVariants.{Path, Refused, Call, NoSpace, NoCall}
 use Rattle.names.specs.Ready.{Happens, IsUndone}
 use Rattle.names.specs.Renaming.{IsUndoneAt, IsUndoneAtBoth, IsUnrenamed, LeadBoth, Renames, RenamesAt}
+use Rattle.names.specs.Sizes.{AreSized}
 use Rattle.names.specs.TreeChanges.{LeadsTo, MovesName}
-use Rattle.names.specs.Trees.{directory_in, number_of, IsDirectory, IsDown, IsTidy, IsTree, StaysTree}
+use Rattle.names.specs.Trees.{directory_in, links_of, number_of, IsDirectory, IsDown, IsTidy, IsTree}
 use Rattle.names.specs.Walks.{walked, IsDirectoryFound, LeadsIn}
 use Rattle.names.specs.Writes.{free_place, operation_of, written, IsLinkCause, Links, Unlinks}
 use Rattle.names.proofs.Changes.{lookup_absent}
-use Rattle.names.proofs.Chunks.{length-entries_of}
+use Rattle.names.proofs.CountedChanges.{counted_moved}
 use Rattle.names.proofs.Entering.{down_absent, found_bytes}
 use Rattle.names.proofs.EntryBytes.{is_for-free}
 use Rattle.names.proofs.EntrySteps.{freed_room, unlink_leads_nowhere, unlink_size}
 use Rattle.names.proofs.FileMaps.{writes}
+use Rattle.names.proofs.Sizes.{after_sized, size_small}
+use Rattle.names.proofs.Relinking.{entered_links}
 use Rattle.names.proofs.Standing.{lookup_at, stands_at}
 use Rattle.names.proofs.TreeMeaning.{directories_are_tidy}
 use Rattle.names.proofs.WholeChanges.{renames_file_whole}
@@ -92,9 +96,12 @@ module _ {D N : Type 0} (disk : Ghosts D N) (k a b : Plain D) (from i : ℕ) (ol
   freeing : after (form_seen disk.image a) fs (operation_of from free) entered.reply ≡ Some (files_seen disk.image b)
   freeing = subst (λ (f : Files). after (form_seen disk.image a) f (operation_of from free) entered.reply ≡ Some (files_seen disk.image b)) looked entered.answers
 
+  sized : AreSized (form_seen disk.image a) fs
+  sized = subst (λ (f : Files). AreSized (form_seen disk.image a) f) looked entered.sized
+
   nowhere : (entered.reply ≡ Wrote 16) × LeadsTo fs (files_seen disk.image b) from old None
   nowhere =
-      unlink_leads_nowhere (form_seen disk.image a) fs (files_seen disk.image b) from old free entered.reply there.0 (tidy_in fs from tree there.0) frees freeing
+      unlink_leads_nowhere (form_seen disk.image a) fs (files_seen disk.image b) from old free entered.reply sized there.0 (tidy_in fs from tree there.0) frees freeing
 
   pub freed_directory : IsDirectory (files_seen disk.image b) from
   freed_directory = nowhere.1.changes.directory
@@ -120,16 +127,17 @@ module _ {D N : Type 0} (disk : Ghosts D N) (k a b : Plain D) (from i : ℕ) (ol
         let none : IsSome {T = ℕ} None = subst (λ (o : Option ℕ). IsSome o) (nowhere.1.changes.others name apart ∙ name_absent) some in absurd (cc none)
     no_cause Full full =
         let room = freed_room (directory_in fs from) (directory_in (files_seen disk.image b) from) old free frees freed_bytes in
-        let count = length-entries_of (directory_in (files_seen disk.image b) from) in
-        let fits : length (directory_in (files_seen disk.image b) from) ≤ 3072 = freed_tidy.fits in
-        let past : 3072 ≤ 16 * free_place (directory_in (files_seen disk.image b) from) = full.1 in
+        let past : free_place (directory_in (files_seen disk.image b) from) ≡ length (entries_of (directory_in (files_seen disk.image b) from)) = full.1.1 in
         omega arith
 
     -- it was read again, in c
     module _ (c : Plain D) (read third : List ℕ) (saw : files_seen disk.image c ≡ files_seen disk.image b) (read_is : read ≡ directory_in (files_seen disk.image b) from)
         (third_is : third ≡ read) where
-      pub freed_fits : length third ≤ 3072
-      freed_fits = subst (λ (l : List ℕ). length l ≤ 3072) (sym (third_is ∙ read_is)) freed_tidy.fits
+      pub freed_fits : length third < 4294967296
+      freed_fits =
+          subst (λ (l : List ℕ). length l < 4294967296) (sym (third_is ∙ read_is))
+          (size_small (form_seen disk.image a) (length (directory_in (files_seen disk.image b) from))
+          (after_sized (form_seen disk.image a) fs (files_seen disk.image b) (operation_of from free) entered.reply sized freeing from))
 
       pub freed_links : (r : Result EntryWrite LinkFault) → IfErr r (IsLinkCause third name) → ((write : EntryWrite) → r ≡ Ok write → ⊥) → ⊥
       freed_links r refused not =
@@ -138,17 +146,29 @@ module _ {D N : Type 0} (disk : Ghosts D N) (k a b : Plain D) (from i : ℕ) (ol
       -- and d linked the name
       module _ (d : Plain D) (down : IsDown old) (write : EntryWrite) (all : Bool) (links : Links third name i write) (linked : HasEntered disk.image from write c d all)
           (opening : c.opening ≡ a.opening) where
-        both : MovesName fs (files_seen disk.image d) from old from name i × StaysTree fs (files_seen disk.image d)
+        renamed_links : (j : ℕ) → links_of (file_in (files_seen disk.image d) j) ≡ links_of (file_in fs j)
+        renamed_links j =
+            entered_links disk c d from write all linked j ∙ ap (λ (f : Files). links_of (file_in f j)) saw ∙ entered_links disk a b from free whole entered j
+            ∙ ap (λ (f : Files). links_of (file_in f j)) looked
+
+        both : MovesName fs (files_seen disk.image d) from old from name i × StaysCounted fs (files_seen disk.image d)
         both =
             let first : after (form_seen disk.image a) (files_seen disk.image c) (operation_of from write) linked.reply ≡ Some (files_seen disk.image d) =
             subst (λ (o : D). after (form_of (disk.image o)) (files_seen disk.image c) (operation_of from write) linked.reply ≡ Some (files_seen disk.image d)) opening linked.answers in
             let whole = renames_file_whole (form_seen disk.image a) fs (files_seen disk.image b) (files_seen disk.image d) from i old name free write entered.reply linked.reply
-            tree there.0 down (down_absent fs from name tree there.0 name_absent) old_led name_absent frees freeing
+            sized tree there.0 down (down_absent fs from name tree there.0 name_absent) old_led name_absent frees freeing
             (subst (λ (l : List ℕ). Links l name i write) (third_is ∙ read_is) links)
-            (subst (λ (f : Files). after (form_seen disk.image a) f (operation_of from write) linked.reply ≡ Some (files_seen disk.image d)) saw first) in
-            (whole.2, whole.3)
+            (subst (λ (f : Files). after (form_seen disk.image a) f (operation_of from write) linked.reply ≡ Some (files_seen disk.image d)) saw first) in (
+              whole.2,
+              record {
+                tree = whole.3.tree;
+                counted = λ counted.
+                    counted_moved fs (files_seen disk.image d) from from i old name counted there.0 there.0 down.0
+                    (down_absent fs from name tree there.0 name_absent).0 renamed_links whole.2;
+              },
+            )
 
-        pub renamed_whole : Renames from old from name tt fs (files_seen disk.image d) × StaysTree fs (files_seen disk.image d)
+        pub renamed_whole : Renames from old from name tt fs (files_seen disk.image d) × StaysCounted fs (files_seen disk.image d)
         renamed_whole = ((i, inl (both.0, λ is. refl)), both.1)
 
 -- ---- at two paths
@@ -189,7 +209,7 @@ module _ {D N : Type 0} (disk : Ghosts D N) (path into : List ℕ) where
   undone_by why k m (Err cause) undone = both_by why k m cause undone
 
   -- why it was not done, where the second path has these names
-  pub undone_both : {T : Type 0} (names ends found : List (List ℕ)) (k m : Plain D) (r : Result T TreeFault) → found ≡ ends →
-      IfErr r (IsUndone disk path (IsUndoneAt names found) k m) → IfErr r (IsUndoneAtBoth disk path into (IsUndoneAt names ends) k m)
-  undone_both names ends found k m r is undone =
-      undone_by (IsUndoneAt names ends) k m r (subst (λ (e : List (List ℕ)). IfErr r (IsUndone disk path (IsUndoneAt names e) k m)) is undone)
+  pub undone_both : {T : Type 0} (why : List (List ℕ) → Files → Refusal → Type 0) (ends found : List (List ℕ)) (k m : Plain D) (r : Result T TreeFault) →
+      found ≡ ends → IfErr r (IsUndone disk path (why found) k m) → IfErr r (IsUndoneAtBoth disk path into (why ends) k m)
+  undone_both why ends found k m r is undone =
+      undone_by (why ends) k m r (subst (λ (e : List (List ℕ)). IfErr r (IsUndone disk path (why e) k m)) is undone)

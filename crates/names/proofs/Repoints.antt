@@ -2,6 +2,7 @@
 use Rattle.std.proofs.Common.{◌≡◌, ◌≢◌, ℕ, ◌+◌, ◌*◌, ◌<◌, ◌≤◌, true, false, List, [], length, get_or, Some, sym, ap, subst, ◌∙◌, ⊎_elim, arith}
 use Rattle.std.proofs.lemmas.Bool.{cases_eq}
 use Rattle.model.specs.declared.types.operations.Reply.{Reply}
+use Rattle.model.specs.Layout.{greatest_size}
 use Rattle.model.specs.Operations.{after}
 use Rattle.names.specs.declared.entries.EntryWrite.{EntryWrite}
 use Rattle.names.specs.Entries.{entries_of, number_in, is_for, lookup, HasOnce, IsFor}
@@ -97,13 +98,13 @@ repoint_keeps bytes name number write repoints =
     }
 
 pub repoint_leads_there : RepointLeads
-repoint_leads_there form files new from i name write reply is tidy repoints h =
+repoint_leads_there form files new from i name write reply sized is tidy repoints h =
     let bytes : List ℕ = directory_in files from in
-    let fits : length bytes ≤ 3072 = tidy.fits in
+    let fits : length bytes ≤ greatest_size form = sized from in
     let inside : 16 * write.place + 16 ≤ length bytes = repoint_at bytes name i write repoints in
     let size = repoint_size bytes name i write repoints in
-    let whole = (entry_answered form files new from write reply is size (omega arith) (omega arith) h).there inside in (
+    let whole = (entry_answered form files new from write reply is size (omega arith) (omega (arith, inside, fits)) h).there inside in (
       whole,
-      leads_by form files new from name (Some i) write is tidy size (omega arith) (omega arith) (repoint_keeps bytes name i write repoints)
+      leads_by form files new from name (Some i) write is tidy size (omega arith) (repoint_keeps bytes name i write repoints)
           (repoint_leads bytes name i write repoints) (subst (λ (r : Reply). after form files (operation_of from write) r ≡ Some new) whole h),
     )

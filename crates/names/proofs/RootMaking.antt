@@ -18,9 +18,11 @@ use Rattle.calls.specs.Stepping.{Plain}
 use Rattle.calls.specs.Transactions.{KeepsEither, labels_made}
 use Rattle.names.specs.declared.refusal.Refusal.{Refusal}
 use Rattle.names.specs.declared.refusal.TreeFault.{TreeFault}
+use Rattle.names.specs.Counts.{AreCounted}
 use Rattle.names.specs.Inside.{files_seen, form_seen, Answers, LeavesFiles, StaysOn}
 use Rattle.names.specs.Ready.{is_filled, EndsOn, HasBegun, HasCommitted, HasFilled, HasNoFile, IsRootAlone, KeepsRoot, LeavesEither, MakesRoot}
 use Rattle.names.specs.Trees.{new_directory, IsTree}
+use Rattle.names.proofs.CountedChanges.{root_is_counted}
 use Rattle.names.proofs.Going.{wider}
 use Rattle.names.proofs.Unnamed.{create_makes}
 use Rattle.names.proofs.WholeChanges.{filled_by, makes_root_whole}
@@ -30,11 +32,13 @@ whole_fill (Wrote count) h = ap (λ (n : ℕ). Wrote n) (eqb-true count 32 h)
 whole_fill reply h = absurd (cc h)
 
 root_of : (form : Form) (files made new : Files) → HasNoFile files → after form files (Create 1) (Made 1) ≡ Some made →
-    after form made (Write 1 0 (new_directory 1 1)) (Wrote 32) ≡ Some new → IsRootAlone new × IsTree new
+    after form made (Write 1 0 (new_directory 1 1)) (Wrote 32) ≡ Some new → IsRootAlone new × IsTree new × AreCounted new
 root_of form files made new none create fill =
-    let unnamed = filled_by form files made new 1 1 (create_makes form files made 1 1 create) fill in (
+    let unnamed = filled_by form files made new 1 1 (create_makes form files made 1 1 create) fill in
+    let tree = makes_root_whole form files made new none create fill in (
       record { there = unnamed.there; none = λ i ne. unnamed.rest i ne ∙ none i ne },
-      makes_root_whole form files made new none create fill,
+      tree,
+      root_is_counted new tree unnamed.there (λ i ne. unnamed.rest i ne ∙ none i ne),
     )
 
 -- the cause that hindered it is none
@@ -43,7 +47,7 @@ none_by None not = refl
 none_by (Some x) not = absurd (not x refl)
 
 root_by : (files seen new : Files) (o : Option Refusal) → MakesRoot seen new o → ((x : Refusal) → o ≡ Some x → ⊥) → seen ≡ files → HasNoFile files →
-    IsRootAlone new × IsTree new
+    IsRootAlone new × IsTree new × AreCounted new
 root_by files seen new o made not same none =
     let done : MakesRoot seen new None = subst (λ (p : Option Refusal). MakesRoot seen new p) (none_by o not) made in
     done (subst (λ (f : Files). HasNoFile f) (sym same) none)
@@ -51,7 +55,7 @@ root_by files seen new o made not same none =
 module _ {D N : Type 0} (disk : Ghosts D N) where
   pub root_filled : (k a b : Plain D) (i : ℕ) (reply : Reply) (whole : Bool) → a.opening ≡ k.opening → reply ≡ Made i → i ≡ 1 →
       Answers disk.image (Create 1) k a reply → HasFilled disk.image a b whole → whole ≡ true → HasNoFile (files_seen disk.image k) →
-      IsRootAlone (files_seen disk.image b) × IsTree (files_seen disk.image b)
+      IsRootAlone (files_seen disk.image b) × IsTree (files_seen disk.image b) × AreCounted (files_seen disk.image b)
   root_filled k a b i reply whole opening is one create filled all none =
       let made : Answers disk.image (Create 1) k a (Made 1) =
       subst (λ (r : Reply). Answers disk.image (Create 1) k a r) (is ∙ ap (λ (n : ℕ). Made n) one) create in
@@ -66,7 +70,7 @@ module _ {D N : Type 0} (disk : Ghosts D N) where
   -- it began in k, was a in the transaction and b behind its calls, and is over in m
   module _ (k a b m : Plain D) (less rest : ℕ) (o : Option Refusal) (begun : HasBegun disk k a less) (made : MakesRoot (files_seen disk.image a) (files_seen disk.image b) o)
       (not : (x : Refusal) → o ≡ Some x → ⊥) (none : HasNoFile (files_of (image_on disk.image k))) where
-    root : IsRootAlone (files_seen disk.image b) × IsTree (files_seen disk.image b)
+    root : IsRootAlone (files_seen disk.image b) × IsTree (files_seen disk.image b) × AreCounted (files_seen disk.image b)
     root = root_by (files_of (image_on disk.image k)) (files_seen disk.image a) (files_seen disk.image b) o made not begun.files none
 
     pub root_alone : (r : Result (Unit {0}) TreeFault) → OnOk r (HasCommitted disk b m rest) → OnOk r (IsRootAlone (files_of (image_on disk.image m)))

@@ -1,17 +1,17 @@
 -- What looks at directories tell in a transaction.
-use Rattle.std.proofs.Common.{◌≡◌, ℕ, ◌≤◌, List, length, Some, sym, ap, subst, ◌∙◌, arith}
-use Rattle.std.proofs.lemmas.List.{take_all}
+use Rattle.std.proofs.Common.{◌≡◌, ℕ, List, length, Option, Some, sym, ap, ◌∙◌, arith}
 use Rattle.blocks.specs.declared.disk.Disk.{Ghosts}
 use Rattle.model.specs.declared.types.image.File.{File}
 use Rattle.model.specs.declared.types.operations.Op.TheVariants.{Read, Stat}
 use Rattle.model.specs.declared.types.operations.Reply.{Reply}
-use Rattle.model.specs.declared.types.operations.Reply.TheVariants.{Bytes}
+use Rattle.model.specs.declared.types.operations.Reply.TheVariants.{Bytes, StatOf}
 use Rattle.model.specs.Files.{Files, file_in}
+use Rattle.model.specs.Operations.{part_of}
 use Rattle.calls.specs.Stepping.{Plain}
 use Rattle.calls.specs.Calls.{image_on}
 use Rattle.names.specs.Walks.{walked}
 use Rattle.names.specs.Inside.{files_seen, form_seen, Answers, IsUnderWay, StaysOn}
-use Rattle.names.specs.Trees.{bytes_of, directory_in, kind_of, IsDirectory, IsFile, IsTidy}
+use Rattle.names.specs.Trees.{bytes_of, directory_in, kind_of, IsDirectory, IsFile}
 use Rattle.names.proofs.Answered.{file_by, some_by}
 use Rattle.names.proofs.FileLooks.{kind_told, reads, tells, tells_file, TellsFile}
 
@@ -30,18 +30,26 @@ module _ {D N : Type 0} (disk : Ghosts D N) where
       let has = some_by (file_in (files_seen disk.image k) i) there in
       (has.0, has.1, tells_file (form_seen disk.image k) (files_seen disk.image k) (files_seen disk.image a) i has.0 reply has.1 answers)
 
-  -- one read brings a directory
-  pub read_brings : (k m : Plain D) (i : ℕ) (reply : Reply) → Answers disk.image (Read i 0 3072) k m reply → IsDirectory (files_seen disk.image k) i →
-      IsTidy (directory_in (files_seen disk.image k) i) →
-      (files_seen disk.image m ≡ files_seen disk.image k) × (reply ≡ Bytes (directory_in (files_seen disk.image k) i))
-  read_brings k m i reply answers is tidy =
+  -- the size of a directory is told
+  pub stat_size : (k a : Plain D) (i : ℕ) (reply : Reply) (kind links size : ℕ) → Answers disk.image (Stat i) k a reply → reply ≡ StatOf kind links size →
+      IsDirectory (files_seen disk.image k) i → size ≡ length (directory_in (files_seen disk.image a) i)
+  stat_size k a i reply kind links size answers is there =
+      let has = file_by (file_in (files_seen disk.image k) i) there in
+      let told = tells_file (form_seen disk.image k) (files_seen disk.image k) (files_seen disk.image a) i has.0 reply has.1 answers in
+      let same : StatOf kind links size ≡ StatOf told.kind told.links told.size = sym is ∙ told.is in
+      let one : size ≡ told.size = cc same in
+      one ∙ told.size_is ∙ ap (λ (o : Option File). length (bytes_of o)) (sym has.1) ∙ ap (λ (f : Files). length (directory_in f i)) (sym told.same)
+
+  -- one read brings as much of a directory as it can
+  pub read_brings : (k m : Plain D) (i off : ℕ) (reply : Reply) → Answers disk.image (Read i off 3072) k m reply → IsDirectory (files_seen disk.image k) i →
+      (files_seen disk.image m ≡ files_seen disk.image k) × (reply ≡ Bytes (part_of (directory_in (files_seen disk.image k) i) off 3072))
+  read_brings k m i off reply answers is =
       let fs : Files = files_seen disk.image k in
       let has = file_by (file_in fs i) is in
       let d : File = has.0 in
       let long : directory_in fs i ≡ d.bytes = ap bytes_of has.1 in
-      let fits : length d.bytes ≤ 3072 = subst (λ (b : List ℕ). length b ≤ 3072) long tidy.fits in
-      let brought = reads (form_seen disk.image k) fs (files_seen disk.image m) i 0 3072 d reply has.1 (omega arith) answers in
-      (brought.0, brought.1 ∙ ap (λ (b : List ℕ). Bytes b) (take_all 3072 d.bytes fits ∙ sym long))
+      let brought = reads (form_seen disk.image k) fs (files_seen disk.image m) i off 3072 d reply has.1 (omega arith) answers in
+      (brought.0, brought.1 ∙ ap (λ (b : List ℕ). Bytes (part_of b off 3072)) (sym long))
 
 -- names were walked up to a number, and these are left
 pub record HasWalked {D N : Type 0} (disk : Ghosts D N) (k m : Plain D) (old left : ℕ) (number : ℕ) (behind names : List (List ℕ)) : Type 0 where

@@ -1,20 +1,48 @@
--- Trees that came of trees, in which no file has several names that had one at most.
-use Rattle.std.proofs.Common.{◌≡◌, sym, subst}
+-- Trees that came of trees, and whose counts are right where those of these were.
+use Rattle.std.proofs.Common.{◌≡◌, ℕ, List, Some, sym, subst}
+use Rattle.model.specs.declared.types.image.Form.{Form}
+use Rattle.model.specs.declared.types.operations.Op.TheVariants.{Trunc, Write}
+use Rattle.model.specs.declared.types.operations.Reply.{Reply}
 use Rattle.model.specs.Files.{Files}
-use Rattle.names.specs.Lemmas.Once.{once_on}
-use Rattle.names.specs.Trees.{IsNamedOnce, IsTree, StaysTree}
+use Rattle.model.specs.Operations.{after}
+use Rattle.names.specs.Counts.{AreCounted, StaysCounted}
+use Rattle.names.specs.Trees.{IsDirectory, IsTree}
+use Rattle.names.proofs.CountedChanges.{counted_kept}
+use Rattle.names.proofs.Dropping.{keeping_keeps}
+use Rattle.names.proofs.Plain.{plain_keeps}
+use Rattle.names.proofs.Relinking.{truncs_links, writes_links}
 
 -- the files are the same
-pub stays_same : (files new : Files) → new ≡ files → IsTree files → StaysTree files new
+pub stays_same : (files new : Files) → new ≡ files → IsTree files → StaysCounted files new
 stays_same files new same tree = record {
   tree = subst (λ (f : Files). IsTree f) (sym same) tree;
-  once = λ i once. subst (λ (f : Files). IsNamedOnce f i) (sym same) once;
+  counted = λ counted. subst (λ (f : Files). AreCounted f) (sym same) counted;
 }
 
 -- the first are the same
-pub stays_from : (files seen new : Files) → seen ≡ files → StaysTree seen new → StaysTree files new
-stays_from files seen new same stays = subst (λ (f : Files). StaysTree f new) same stays
+pub stays_from : (files seen new : Files) → seen ≡ files → StaysCounted seen new → StaysCounted files new
+stays_from files seen new same stays = subst (λ (f : Files). StaysCounted f new) same stays
 
 -- one came of another
-pub stays_on : (files mid new : Files) → StaysTree files mid → StaysTree mid new → StaysTree files new
-stays_on files mid new first then_on = record { tree = then_on.tree; once = once_on first.once then_on.once }
+pub stays_on : (files mid new : Files) → StaysCounted files mid → StaysCounted mid new → StaysCounted files new
+stays_on files mid new first then_on = record { tree = then_on.tree; counted = λ counted. then_on.counted (first.counted counted) }
+
+-- a file that is no directory was written
+pub writes_stay : (form : Form) (files new : Files) (i off : ℕ) (bytes : List ℕ) (reply : Reply) → IsTree files → (IsDirectory files i → ⊥) →
+    after form files (Write i off bytes) reply ≡ Some new → StaysCounted files new
+writes_stay form files new i off bytes reply tree plain h =
+    let keeps = plain_keeps form files new (Write i off bytes) reply plain h in
+    record {
+      tree = (keeping_keeps files new tree keeps).tree;
+      counted = λ counted. counted_kept files new counted (writes_links form files new i off bytes reply h) keeps;
+    }
+
+-- or its bytes were taken from it
+pub truncs_stay : (form : Form) (files new : Files) (i : ℕ) (reply : Reply) → IsTree files → (IsDirectory files i → ⊥) →
+    after form files (Trunc i) reply ≡ Some new → StaysCounted files new
+truncs_stay form files new i reply tree plain h =
+    let keeps = plain_keeps form files new (Trunc i) reply plain h in
+    record {
+      tree = (keeping_keeps files new tree keeps).tree;
+      counted = λ counted. counted_kept files new counted (truncs_links form files new i reply h) keeps;
+    }

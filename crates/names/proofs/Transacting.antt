@@ -10,8 +10,9 @@ use Rattle.calls.specs.Stepping.{Plain}
 use Rattle.calls.specs.Transactions.{KeepsEither, KeepsFiles, labels_made}
 use Rattle.names.specs.declared.refusal.Refusal.{Refusal}
 use Rattle.names.specs.Inside.{files_seen, LeavesFiles, StaysOn}
-use Rattle.names.specs.Ready.{EndsOn, Happens, HasBegun, HasCommitted, IsReady, KeepsTree, LeavesTree}
-use Rattle.names.specs.Trees.{IsTree, KeepsOnce, StaysTree}
+use Rattle.names.specs.Ready.{EndsOn, Happens, HasBegun, IsReady, KeepsTree, LeavesTree}
+use Rattle.names.specs.Counts.{AreCounted, StaysCounted}
+use Rattle.names.specs.Trees.{IsTree}
 use Rattle.names.proofs.Going.{wider}
 
 -- The change of a transaction that began with kernel k, which is b now: what a stop left so far, and
@@ -19,9 +20,10 @@ use Rattle.names.proofs.Going.{wider}
 pub record IsWhole {D N T : Type 0} (disk : Ghosts D N) (change : T → Files → Files → Type 0) (why : Files → Refusal → Type 0) (k b : Plain D)
     (r : Result T Refusal) : Type 0 where
   pub tree : IsTree (files_of (image_on disk.image k))
+  pub counted : AreCounted (files_of (image_on disk.image k))
   pub same : image_on disk.image b ≡ image_on disk.image k
   pub leaves : LeavesFiles disk k b
-  pub seen : StaysTree (files_of (image_on disk.image k)) (files_seen disk.image b)
+  pub seen : StaysCounted (files_of (image_on disk.image k)) (files_seen disk.image b)
   pub happens : Happens change why (files_of (image_on disk.image k)) (files_seen disk.image b) r
 
 -- what is so is so where the result is one
@@ -39,40 +41,42 @@ module _ {D N : Type 0} (disk : Ghosts D N) where
     happened f g (Ok made) z happens same = inr (made, subst (λ (h : Files). change made f h) (sym same) happens)
     happened f g (Err cause) z happens same = inl (same ∙ happens.0)
 
-    keeps_either : (x z : Image) (made : Files) (told : ℕ → ℕ × ℕ) (r : Result T Refusal) → IsTree (files_of x) → StaysTree (files_of x) made → Happens change why (files_of x) made r →
+    keeps_either : (x z : Image) (made : Files) (told : ℕ → ℕ × ℕ) (r : Result T Refusal) → IsTree (files_of x) → AreCounted (files_of x) → StaysCounted (files_of x) made →
+        Happens change why (files_of x) made r →
         KeepsEither x made told z → KeepsTree change x z
-    keeps_either x z made told r tree after happens keeps = record {
+    keeps_either x z made told r tree counted after happens keeps = record {
       log = keeps.log;
       sound = keeps.sound;
       tree = ⊎_elim (λ (was : files_of (recovered z) ≡ files_of x). subst (λ (f : Files). IsTree f) (sym was) tree)
           (λ (is : files_of (recovered z) ≡ made). subst (λ (f : Files). IsTree f) (sym is) after.tree) keeps.files;
-      once = ⊎_elim (λ (was : files_of (recovered z) ≡ files_of x). subst (λ (f : Files). KeepsOnce (files_of x) f) (sym was) (λ i once. once))
-          (λ (is : files_of (recovered z) ≡ made). subst (λ (f : Files). KeepsOnce (files_of x) f) (sym is) after.once) keeps.files;
+      counted = ⊎_elim (λ (was : files_of (recovered z) ≡ files_of x). subst (λ (f : Files). AreCounted f) (sym was) counted)
+          (λ (is : files_of (recovered z) ≡ made). subst (λ (f : Files). AreCounted f) (sym is) (after.counted counted)) keeps.files;
       files = ⊎_elim (λ (was : files_of (recovered z) ≡ files_of x). inl was)
           (λ (is : files_of (recovered z) ≡ made). happened (files_of x) made r (files_of (recovered z)) happens is) keeps.files;
     }
 
     -- nothing of it is on the disk
-    pub unchanged_leaves : (k m : Plain D) → IsTree (files_of (image_on disk.image k)) → LeavesFiles disk k m → LeavesTree disk change k m
-    unchanged_leaves k m tree leaves =
+    pub unchanged_leaves : (k m : Plain D) → IsTree (files_of (image_on disk.image k)) → AreCounted (files_of (image_on disk.image k)) → LeavesFiles disk k m → LeavesTree disk change k m
+    unchanged_leaves k m tree counted leaves =
         wider disk k.store.volume.device m.store.volume.device (KeepsFiles (image_on disk.image k)) (KeepsTree change (image_on disk.image k))
         (λ z keeps. record {
           log = keeps.log;
           sound = keeps.sound;
           tree = subst (λ (f : Files). IsTree f) (sym keeps.files) tree;
-          once = subst (λ (f : Files). KeepsOnce (files_of (image_on disk.image k)) f) (sym keeps.files) (λ i once. once);
+          counted = subst (λ (f : Files). AreCounted f) (sym keeps.files) counted;
           files = inl keeps.files;
         }) leaves.leaves
 
     -- a transaction that began in k, was a in it and is b behind its calls
     pub whole_by : (k a b : Plain D) (left less : ℕ) (r : Result T Refusal) → IsReady disk k left → HasBegun disk k a less → LeavesFiles disk k a →
-        image_on disk.image b ≡ image_on disk.image a → StaysOn disk a b → StaysTree (files_seen disk.image a) (files_seen disk.image b) →
+        image_on disk.image b ≡ image_on disk.image a → StaysOn disk a b → StaysCounted (files_seen disk.image a) (files_seen disk.image b) →
         Happens change why (files_seen disk.image a) (files_seen disk.image b) r → IsWhole disk change why k b r
     whole_by k a b left less r ready begun first same stays tree happens = record {
       tree = ready.tree;
+      counted = ready.counted;
       same = same ∙ begun.goes.same;
       leaves = leaves_inside k a b less begun first stays;
-      seen = subst (λ (f : Files). StaysTree f (files_seen disk.image b)) begun.files tree;
+      seen = subst (λ (f : Files). StaysCounted f (files_seen disk.image b)) begun.files tree;
       happens = subst (λ (f : Files). Happens change why f (files_seen disk.image b) r) begun.files happens;
     }
 
@@ -80,9 +84,5 @@ module _ {D N : Type 0} (disk : Ghosts D N) where
       pub whole_leaves : EndsOn disk b m → LeavesTree disk change k m
       whole_leaves over =
           wider disk k.store.volume.device m.store.volume.device (KeepsEither (image_on disk.image k) (files_seen disk.image b) (labels_made disk.image b)) (KeepsTree change (image_on disk.image k))
-          (λ z keeps. keeps_either (image_on disk.image k) z (files_seen disk.image b) (labels_made disk.image b) r whole.tree whole.seen whole.happens keeps)
+          (λ z keeps. keeps_either (image_on disk.image k) z (files_seen disk.image b) (labels_made disk.image b) r whole.tree whole.counted whole.seen whole.happens keeps)
           (over.on k whole.same whole.leaves).leaves
-
-      -- and where it was committed, what had one name at most has one still
-      pub whole_once : (left : ℕ) → HasCommitted disk b m left → KeepsOnce (files_of (image_on disk.image k)) (files_of (image_on disk.image m))
-      whole_once left committed = subst (λ (f : Files). KeepsOnce (files_of (image_on disk.image k)) f) (sym committed.files) whole.seen.once

@@ -1,5 +1,5 @@
 -- A root with a file: the premises of the laws of whole changes are met.
-use Rattle.std.proofs.Common.{◌≡◌, ◌≢◌, ℕ, zero, suc, false, List, [], ◌∷◌, ◌++◌, replicate, Some, None, refl, ⊎_elim, arith}
+use Rattle.std.proofs.Common.{◌≡◌, ◌≢◌, ℕ, zero, suc, false, List, [], ◌∷◌, ◌++◌, replicate, Some, None, refl, inl, ⊎_elim, arith}
 use Rattle.std.specs.Str.{bytes_eq}
 use Rattle.std.proofs.lemmas.Bool.{both_ways}
 use Rattle.std.proofs.lemmas.Slice.Eq.{bytes_eq-Decides}
@@ -9,6 +9,7 @@ use Rattle.model.specs.Files.{Files, file_in}
 use Rattle.model.specs.Operations.{after}
 use Rattle.names.specs.declared.entries.EntryWrite.{EntryWrite}
 use Rattle.names.specs.Entries.{entries_of, entry_bytes, lookup, number_in, padded}
+use Rattle.names.specs.Sizes.{AreSized}
 use Rattle.names.specs.Trees.{directory_in, new_directory, parent_name, self_name, IsDown, IsNamedOnce, IsTree, StaysTree, StepsDown}
 use Rattle.names.specs.TreeChanges.{directory_file, empty_file, AddsName, DropsName}
 use Rattle.names.specs.Writes.{Links, Unlinks}
@@ -69,13 +70,25 @@ links = record {
   size = refl;
 }
 
+sized : AreSized One files
+sized zero = omega arith
+sized (suc zero) = omega arith
+sized (suc (suc zero)) = omega arith
+sized (suc (suc (suc i))) = omega arith
+
+named_sized : AreSized One named
+named_sized zero = omega arith
+named_sized (suc zero) = omega arith
+named_sized (suc (suc zero)) = omega arith
+named_sized (suc (suc (suc i))) = omega arith
+
 -- a file is made
 pub adds : AddsName files named 1 name 2 (empty_file 2) × StaysTree files named
 unfolding after
 adds =
     ⊎_elim (λ (done : (Wrote 16 ≡ Wrote 16) × AddsName files named 1 name 2 (empty_file 2) × StaysTree files named). (done.1, done.2))
     (λ (none : (Wrote 16 ≡ Wrote 0) × (named ≡ made)). absurd (cc (none.0)))
-    (makes_file_whole One files made named 1 2 2 name link (Wrote 16) root_alone refl down (λ e. absurd (omega arith)) refl links (omega arith) refl)
+    (makes_file_whole One files made named 1 2 2 name link (Wrote 16) sized root_alone refl down (λ e. absurd (omega arith)) refl links (inl (omega arith)) refl)
 
 unlinks : Unlinks (directory_in named 1) name unlink
 unfolding entries_of number_in
@@ -98,5 +111,5 @@ once = adds.1.once 2 none_named
 pub drops : DropsName named emptied 1 name 2 × StaysTree named emptied
 unfolding after
 drops =
-    let whole = removes_file_whole One named freed emptied 1 2 name unlink (Wrote 16) Done adds.1.tree refl down leads once (λ directory. absurd (omega arith)) unlinks refl refl in
+    let whole = removes_file_whole One named freed emptied 1 2 name unlink (Wrote 16) Done named_sized adds.1.tree refl down leads once (λ directory. absurd (omega arith)) unlinks refl refl in
     (whole.2, whole.3)

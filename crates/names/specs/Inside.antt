@@ -14,6 +14,7 @@ use Rattle.calls.specs.Files.{IsFull}
 use Rattle.calls.specs.Stepping.{Plain}
 use Rattle.calls.specs.Transactions.{HasFiles, IsInside, KeepsFiles, image_seen}
 use Rattle.calls.specs.declared.transactions.fault.TransactionFault.TheVariants as fault
+use Rattle.names.specs.Sizes.{AreSized}
 use Rattle.names.specs.declared.refusal.TreeFault.{TreeFault}
 use Rattle.names.specs.declared.refusal.TreeFault.TheVariants.{Path, Refused, Call, NoSpace, NoCall}
 
@@ -31,6 +32,7 @@ pub record IsUnderWay {D N : Type 0} (disk : Ghosts D N) (k : Plain D) (left : �
   pub inside : IsInside disk.fault_count k
   pub few : call_count k + left ≤ 2 ^ 63
   pub files : HasFiles disk.image k (files_seen disk.image k)
+  pub sized : AreSized (form_seen disk.image k) (files_seen disk.image k)
 
 -- The transaction of k goes on in m: nothing was written.
 pub record Goes {D N : Type 0} (disk : Ghosts D N) (k m : Plain D) (left : ℕ) : Type 0 where

@@ -5,7 +5,6 @@ pub mod Inside
 pub mod Ready
 pub mod Walks
 pub mod Making
-pub mod OtherNames
 pub mod Removing
 pub mod Undirecting
 pub mod Renaming
@@ -14,11 +13,14 @@ pub mod Looks
 pub mod Putting
 pub mod Writing
 pub mod Numbered
+pub mod Linking
+pub mod Recounting
 pub mod Replacing
 pub mod Writes
 pub mod Trees
 pub mod Counts
 pub mod TreeChanges
+pub mod Sizes
 pub mod TreeLaws
 pub mod CountLaws
 pub mod TreeMeaning
@@ -26,6 +28,7 @@ pub mod WholeChanges
 pub mod PathLaws
 pub mod Checks
 pub mod Judging
+pub mod Tallying
 pub mod Opening
 pub mod Laws
 pub mod Lemmas

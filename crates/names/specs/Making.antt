@@ -1,23 +1,25 @@
 -- A file made in a tree.
-use Rattle.std.specs.Prelude.{Bool, Err, List, None, Ok, Option, Result, Some, false, ℕ, ◌<◌, ◌==◌, ◌≡◌, ◌⊎◌}
+use Rattle.std.specs.Prelude.{⊤, Bool, Err, List, None, Ok, Option, Result, Some, false, true, ℕ, ◌+◌, ◌<◌, ◌==◌, ◌≡◌, ◌≢◌, ◌⊎◌}
 use Rattle.blocks.specs.Disk.{Image}
 use Rattle.model.specs.declared.types.image.File.{File}
 use Rattle.model.specs.declared.types.operations.Op.TheVariants.{Write}
 use Rattle.model.specs.declared.types.operations.Reply.{Reply}
 use Rattle.model.specs.declared.types.operations.Reply.TheVariants.{Wrote}
-use Rattle.model.specs.Files.{Files}
+use Rattle.model.specs.Files.{Files, file_in}
 use Rattle.calls.specs.Stepping.{Plain}
 use Rattle.names.specs.declared.entries.EntryWrite.{EntryWrite}
 use Rattle.names.specs.declared.entries.LinkFault.{LinkFault}
 use Rattle.names.specs.declared.entries.LinkFault.TheVariants as link_fault
 use Rattle.names.specs.declared.refusal.Refusal.{Refusal}
-use Rattle.names.specs.declared.refusal.Refusal.TheVariants.{NotFound, NotADirectory, IsRoot, Exists, Full, NoNumber, NoBlock, IsADirectory, NotEmpty, IsInside, NotDown, LinkedTwice}
+use Rattle.names.specs.declared.refusal.Refusal.TheVariants.{NotFound, NotADirectory, IsRoot, Exists, Full, NoNumber, NoBlock, IsADirectory, NotEmpty, IsInside, NotDown, TooManyLinks}
 use Rattle.names.specs.Entries.{entry_size}
-use Rattle.names.specs.Inside.{Answers}
+use Rattle.names.specs.Inside.{files_seen, form_seen, Answers}
 use Rattle.names.specs.Ready.{is_filled}
-use Rattle.names.specs.TreeChanges.{empty_file, AddsDirectory, AddsName, IsUnnamed}
+use Rattle.names.specs.Sizes.{AreSized}
+use Rattle.names.specs.TreeChanges.{empty_file, AddsDirectory, AddsName, IsUnnamed, directory_file, Relinks}
+use Rattle.names.specs.Counts.{HasMostLinks}
 use Rattle.names.specs.TreeLaws.{IsNew}
-use Rattle.names.specs.Trees.{directory_in, new_directory, number_of, IsDirectory}
+use Rattle.names.specs.Trees.{directory_in, directory_kind, links_of, new_directory, number_of, IsDirectory}
 use Rattle.names.specs.Walks.{AtLast}
 use Rattle.names.specs.Writes.{operation_of, IsLinkCause}
 
@@ -54,6 +56,26 @@ pub record HasEntered {D : Type 0} (image : D → Image) (from : ℕ) (write : E
   pub reply : Reply
   pub answers : Answers image (operation_of from write) k m reply
   pub told : whole ≡ is_entered reply
+  pub sized : AreSized (form_seen image k) (files_seen image k)
+
+-- what a new file is, where it is a directory, and where it is none
+abbrev pub IsNewFile : Bool → File → ℕ → ℕ → Type 0
+IsNewFile true file number parent = file ≡ directory_file number parent
+IsNewFile false file number parent = (file.kind ≢ directory_kind) × (file.links ≡ 1)
+
+-- the count of a directory with another one in it; there is none where the other is no directory, and
+-- it is refused where the directory's is the greatest
+abbrev pub HasParentCount : Bool → Files → ℕ → Result (Option ℕ) Refusal → Type 0
+HasParentCount is_directory files number (Ok None) = is_directory ≡ false
+HasParentCount is_directory files number (Ok (Some count)) =
+    (is_directory ≡ true) × (count ≡ links_of (file_in files number) + 1)
+HasParentCount is_directory files number (Err cause) =
+    (is_directory ≡ true) × (cause ≡ TooManyLinks) × HasMostLinks files number
+
+-- a directory has that count
+abbrev pub Settles : Files → Files → ℕ → Option ℕ → Type 0
+Settles files new number None = new ≡ files
+Settles files new number (Some count) = Relinks files new number count
 
 -- an empty file was made under a name of a directory
 abbrev pub MakesIn : ℕ → List ℕ → ℕ → Files → Files → Type 0
@@ -64,24 +86,32 @@ abbrev pub unlinked : LinkFault → Refusal
 unlinked link_fault.Exists = Exists
 unlinked link_fault.Full = Full
 
--- why none is
-abbrev pub IsUnmadeIn : Files → ℕ → List ℕ → Refusal → Type 0
-IsUnmadeIn files from name NotADirectory = IsDirectory files from → ⊥
-IsUnmadeIn files from name Exists =
+-- why a new file is not, which counts among its parent's links or does not
+abbrev pub IsUnmadeOr : Type 0 → Files → ℕ → List ℕ → Refusal → Type 0
+IsUnmadeOr counts files from name NotADirectory = IsDirectory files from → ⊥
+IsUnmadeOr counts files from name Exists =
     IsDirectory files from × IsLinkCause (directory_in files from) name link_fault.Exists
-IsUnmadeIn files from name Full =
+IsUnmadeOr counts files from name Full =
     IsDirectory files from × IsLinkCause (directory_in files from) name link_fault.Full
-IsUnmadeIn files from name NoNumber =
+IsUnmadeOr counts files from name NoNumber =
     IsDirectory files from × (number_of files from name ≡ None)
-IsUnmadeIn files from name NoBlock =
+IsUnmadeOr counts files from name NoBlock =
     IsDirectory files from × (number_of files from name ≡ None)
-IsUnmadeIn files from name NotFound = ⊥
-IsUnmadeIn files from name IsRoot = ⊥
-IsUnmadeIn files from name IsADirectory = ⊥
-IsUnmadeIn files from name NotEmpty = ⊥
-IsUnmadeIn files from name IsInside = ⊥
-IsUnmadeIn files from name NotDown = ⊥
-IsUnmadeIn files from name LinkedTwice = ⊥
+IsUnmadeOr counts files from name NotFound = ⊥
+IsUnmadeOr counts files from name IsRoot = ⊥
+IsUnmadeOr counts files from name IsADirectory = ⊥
+IsUnmadeOr counts files from name NotEmpty = ⊥
+IsUnmadeOr counts files from name IsInside = ⊥
+IsUnmadeOr counts files from name NotDown = ⊥
+IsUnmadeOr counts files from name TooManyLinks =
+    counts × IsDirectory files from × HasMostLinks files from
+
+-- why no file is made, and why no directory is
+abbrev pub IsUnmadeIn : Files → ℕ → List ℕ → Refusal → Type 0
+IsUnmadeIn = IsUnmadeOr ⊥
+
+abbrev pub IsUnmadeDirectoryIn : Files → ℕ → List ℕ → Refusal → Type 0
+IsUnmadeDirectoryIn = IsUnmadeOr ⊤
 
 -- an empty file was made under the last of these names, in the directory that the others lead to
 abbrev pub MakesAt : List (List ℕ) → ℕ → Files → Files → Type 0

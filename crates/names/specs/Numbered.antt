@@ -1,5 +1,5 @@
 -- What is asked of the file of a number.
-use Rattle.std.specs.Prelude.{◌≡◌, ◌⊎◌, ℕ, ◌≤◌, List, [], length, take, slice_set, Option, None, Some, Result, Ok, Err, IsTrue}
+use Rattle.std.specs.Prelude.{◌≡◌, ◌⊎◌, ℕ, List, [], length, take, slice_set, Option, None, Some, Result, Ok, Err, IsTrue}
 use Rattle.blocks.specs.Block.{overwritten}
 use Rattle.model.specs.declared.types.image.File.{File}
 use Rattle.model.specs.declared.types.image.Form.{Form}

@@ -4,7 +4,7 @@ use Rattle.model.specs.declared.types.image.File.{File}
 use Rattle.model.specs.Files.{Files}
 use Rattle.model.specs.Operations.{transfer_limit}
 use Rattle.names.specs.declared.refusal.Refusal.{Refusal}
-use Rattle.names.specs.declared.refusal.Refusal.TheVariants.{NotFound, NotADirectory, IsRoot, Exists, Full, NoNumber, NoBlock, IsADirectory, NotEmpty, IsInside, NotDown, LinkedTwice}
+use Rattle.names.specs.declared.refusal.Refusal.TheVariants.{NotFound, NotADirectory, IsRoot, Exists, Full, NoNumber, NoBlock, IsADirectory, NotEmpty, IsInside, NotDown, TooManyLinks}
 use Rattle.names.specs.declared.writing.Unwritten.{Unwritten}
 use Rattle.names.specs.declared.writing.Unwritten.TheVariants.{TooLong}
 use Rattle.names.specs.Contents.{HasOnly}
@@ -53,7 +53,7 @@ IsUnputIn files from name Exists = ⊥
 IsUnputIn files from name NotEmpty = ⊥
 IsUnputIn files from name IsInside = ⊥
 IsUnputIn files from name NotDown = ⊥
-IsUnputIn files from name LinkedTwice = ⊥
+IsUnputIn files from name TooManyLinks = ⊥
 
 -- at the last of these names, in the directory that the others lead to
 abbrev pub PutsAt : List ℕ → List (List ℕ) → Result ℕ Unwritten → Files → Files → Type 0

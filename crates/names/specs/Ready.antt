@@ -14,17 +14,20 @@ use Rattle.calls.specs.Transactions.{KeepsEither, Rests, labels_made}
 use Rattle.names.specs.declared.refusal.Refusal.{Refusal}
 use Rattle.names.specs.declared.refusal.TreeFault.{TreeFault}
 use Rattle.names.specs.declared.refusal.TreeFault.TheVariants.{Path, Refused, Call, NoSpace, NoCall}
+use Rattle.names.specs.Counts.{AreCounted, StaysCounted}
 use Rattle.names.specs.Inside.{files_seen, Answers, Goes, IsBroken, IsBrokenOr, IsSame, LeavesFiles}
 use Rattle.names.specs.Paths.{IsPathCause}
-use Rattle.names.specs.Trees.{new_directory, root, IsTree, KeepsOnce, StaysTree}
+use Rattle.names.specs.Trees.{new_directory, root, IsTree}
 use Rattle.names.specs.TreeChanges.{directory_file}
 
--- No transaction is under way, so many calls may be made yet, and the files on the disk are a tree.
+-- No transaction is under way, so many calls may be made yet, and the files on the disk are a tree
+-- whose counts are right.
 pub record IsReady {D N : Type 0} (disk : Ghosts D N) (k : Plain D) (left : ℕ) : Type 0 where
   pub rests : Rests disk.fault_count k
   pub few : call_count k + left ≤ 2 ^ 63
   pub sound : IsSound (image_on disk.image k)
   pub tree : IsTree (files_of (image_on disk.image k))
+  pub counted : AreCounted (files_of (image_on disk.image k))
 
 -- the same of files that may be no tree
 pub record IsIdle {D N : Type 0} (disk : Ghosts D N) (k : Plain D) (left : ℕ) : Type 0 where
@@ -42,7 +45,7 @@ pub record IsRootAlone (files : Files) : Type 0 where
 
 -- it was made where no file was, or a cause hindered it
 abbrev pub MakesRoot : Files → Files → Option Refusal → Type 0
-MakesRoot files new None = HasNoFile files → IsRootAlone new × IsTree new
+MakesRoot files new None = HasNoFile files → IsRootAlone new × IsTree new × AreCounted new
 MakesRoot files new (Some cause) = ⊤
 
 -- What a stop in its making leaves of image x: recovery gives a sound image with the files of x, or
@@ -112,22 +115,18 @@ abbrev pub answer_of : {T : Type 0} → Result T Refusal → Result T TreeFault
 answer_of (Ok made) = Ok made
 answer_of (Err cause) = Err (Refused cause)
 
--- From kernel k to m no file on the disk got several names that had one at most.
-abbrev pub NamesStayOnce : {D : Type 0} → (D → Image) → Plain D → Plain D → Type 0
-NamesStayOnce image k m = KeepsOnce (files_of (image_on image k)) (files_of (image_on image m))
-
 -- The files that a transaction sees in m are a tree that came of those that it saw in k.
 abbrev pub TreeStays : {D : Type 0} → (D → Image) → Plain D → Plain D → Type 0
-TreeStays image k m = StaysTree (files_seen image k) (files_seen image m)
+TreeStays image k m = StaysCounted (files_seen image k) (files_seen image m)
 
 -- ALL OR NOTHING: what a stop leaves of image x: recovery gives a sound image whose files are a tree,
--- those of x or those after a change of them, and none has several names that had one at most.
+-- those of x or those after a change of them, whose counts are right.
 pub record KeepsTree {T : Type 0} (change : T → Files → Files → Type 0) (x z : Image)
     : Type 0 where
   pub log : IsTrue (is_lawful_log z)
   pub sound : IsSound (recovered z)
   pub tree : IsTree (files_of (recovered z))
-  pub once : KeepsOnce (files_of x) (files_of (recovered z))
+  pub counted : AreCounted (files_of (recovered z))
   pub files : (files_of (recovered z) ≡ files_of x)
       ⊎ ((made : T) × change made (files_of x) (files_of (recovered z)))
 

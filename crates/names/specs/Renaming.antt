@@ -1,22 +1,23 @@
 -- A file of a tree that gets another name.
-use Rattle.std.specs.Prelude.{◌≡◌, ◌≢◌, ◌⊎◌, ℕ, ◌<◌, List, Option, Some, None, Result, Ok, Err}
+use Rattle.std.specs.Prelude.{◌≡◌, ◌≢◌, ◌⊎◌, ℕ, ◌*◌, ◌^◌, ◌<◌, List, Option, Some, None, Result, Ok, Err, ◌+◌}
 use Rattle.blocks.specs.declared.disk.Disk.{Ghosts}
-use Rattle.model.specs.Files.{Files}
+use Rattle.model.specs.Files.{Files, file_in}
 use Rattle.calls.specs.Stepping.{Plain}
-use Rattle.names.specs.declared.entries.EntryWrite.{EntryWrite}
 use Rattle.names.specs.declared.entries.LinkFault.TheVariants as link_fault
-use Rattle.names.specs.Entries.{most_entries}
+use Rattle.names.specs.Entries.{entry_size}
+use Rattle.names.specs.Counts.{HasMostLinks}
 use Rattle.names.specs.declared.refusal.Refusal.{Refusal}
-use Rattle.names.specs.declared.refusal.Refusal.TheVariants.{NotFound, NotADirectory, IsRoot, Exists, Full, NoNumber, NoBlock, IsADirectory, NotEmpty, IsInside, NotDown, LinkedTwice}
+use Rattle.names.specs.declared.refusal.Refusal.TheVariants.{NotFound, NotADirectory, IsRoot, Exists, Full, NoNumber, NoBlock, IsADirectory, NotEmpty, IsInside, NotDown, TooManyLinks}
 use Rattle.names.specs.declared.planning.Plan.{Plan}
+use Rattle.names.specs.declared.planning.Rise.{Rise}
 use Rattle.names.specs.declared.refusal.TreeFault.{TreeFault}
 use Rattle.names.specs.declared.refusal.TreeFault.TheVariants.{Path, Refused, Call, NoSpace, NoCall}
 use Rattle.names.specs.Paths.{IsPathCause}
 use Rattle.names.specs.Ready.{IsUnanswered}
 use Rattle.names.specs.TreeChanges.{MovesDirectory, MovesName}
-use Rattle.names.specs.Trees.{directory_in, number_of, parent_name, IsDirectory, IsDown, IsOutside}
+use Rattle.names.specs.Trees.{directory_in, links_of, number_of, parent_name, IsDirectory, IsDown, IsOutside}
 use Rattle.names.specs.Walks.{IsUnled, LeadsIn}
-use Rattle.names.specs.Writes.{IsLinkCause, Links, Repoints, Unlinks}
+use Rattle.names.specs.Writes.{IsLinkCause, Links, MayHold, Repoints, Unlinks}
 
 -- A file has a name of a directory in place of its name of the same or of another one. A directory that
 -- comes to another one, outside it, has this as its parent.
@@ -29,23 +30,26 @@ Moves files new from old to name number =
 abbrev pub Renames : ℕ → List ℕ → ℕ → List ℕ → Unit {0} → Files → Files → Type 0
 Renames from old to name done files new = (number : ℕ) × Moves files new from old to name number
 
--- the write that gives a directory another parent, which is outside it
-pub record IsRise (files : Files) (number to : ℕ) (up : EntryWrite) : Type 0 where
+-- the write that gives a directory another parent, which is outside it, and the counts of both then
+pub record IsRise (files : Files) (number from to : ℕ) (rise : Rise) : Type 0 where
   pub directory : IsDirectory files number
   pub outside : IsOutside files number to
-  pub repoints : Repoints (directory_in files number) parent_name to up
-  pub within : up.place < most_entries
+  pub repoints : Repoints (directory_in files number) parent_name to rise.up
+  pub within : entry_size * rise.up.place < 2 ^ 32
+  pub less : rise.left + 1 ≡ links_of (file_in files from)
+  pub more : rise.more ≡ links_of (file_in files to) + 1
 
 -- a file that is no directory has no parent
-abbrev pub IsUp : Files → ℕ → ℕ → Option EntryWrite → Type 0
-IsUp files number to None = IsDirectory files number → ⊥
-IsUp files number to (Some up) = IsRise files number to up
+abbrev pub IsUp : Files → ℕ → ℕ → ℕ → Option Rise → Type 0
+IsUp files number from to None = IsDirectory files number → ⊥
+IsUp files number from to (Some rise) = IsRise files number from to rise
 
--- or the new parent is inside the directory
-abbrev pub Rises : Files → ℕ → ℕ → Result (Option EntryWrite) Refusal → Type 0
-Rises files number to (Ok up) = IsUp files number to up
-Rises files number to (Err cause) =
-    (cause ≡ IsInside) × IsDirectory files number × (IsOutside files number to → ⊥)
+-- or the new parent is inside the directory, or has the greatest count
+abbrev pub Rises : Files → ℕ → ℕ → ℕ → Result (Option Rise) Refusal → Type 0
+Rises files number from to (Ok rise) = IsUp files number from to rise
+Rises files number from to (Err cause) = IsDirectory files number
+    × (((cause ≡ IsInside) × (IsOutside files number to → ⊥))
+    ⊎ ((cause ≡ TooManyLinks) × HasMostLinks files to))
 
 -- the writes that move a file to another directory
 pub record IsPlan (files : Files) (from : ℕ) (old : List ℕ) (to : ℕ) (name : List ℕ) (plan : Plan)
@@ -56,9 +60,10 @@ pub record IsPlan (files : Files) (from : ℕ) (old : List ℕ) (to : ℕ) (name
   pub target : IsDirectory files to
   pub links : Links (directory_in files to) name plan.file plan.link
   pub unlinks : Unlinks (directory_in files from) old plan.unlink
-  pub up : IsUp files plan.file to plan.up
-  pub link_within : plan.link.place < most_entries
-  pub unlink_within : plan.unlink.place < most_entries
+  pub up : IsUp files plan.file from to plan.rise
+  pub link_room : MayHold (directory_in files to) plan.link.place
+  pub link_within : entry_size * plan.link.place < 2 ^ 32
+  pub unlink_within : entry_size * plan.unlink.place < 2 ^ 32
 
 -- why none has
 abbrev pub IsUnrenamed : Files → ℕ → List ℕ → ℕ → List ℕ → Refusal → Type 0
@@ -80,7 +85,8 @@ IsUnrenamed files from old to name IsRoot = ⊥
 IsUnrenamed files from old to name NoNumber = ⊥
 IsUnrenamed files from old to name IsADirectory = ⊥
 IsUnrenamed files from old to name NotEmpty = ⊥
-IsUnrenamed files from old to name LinkedTwice = ⊥
+IsUnrenamed files from old to name TooManyLinks = (from ≢ to) × IsDirectory files to
+    × HasMostLinks files to
 
 -- they are found, or the move is refused
 abbrev pub IsPlanned : Files → ℕ → List ℕ → ℕ → List ℕ → Result Plan Refusal → Type 0

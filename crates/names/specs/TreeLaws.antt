@@ -7,28 +7,30 @@ use Rattle.model.specs.declared.types.operations.Op.TheVariants.{Create, Write, 
 use Rattle.model.specs.declared.types.operations.Reply.{Reply}
 use Rattle.model.specs.declared.types.operations.Reply.TheVariants.{Made, Wrote, Bytes, Done}
 use Rattle.model.specs.Files.{Files, file_in}
-use Rattle.model.specs.Operations.{after}
+use Rattle.model.specs.Operations.{after, part_of, transfer_limit}
 use Rattle.names.specs.declared.entries.EntryWrite.{EntryWrite}
-use Rattle.names.specs.Entries.{directory_size, entry_size, most_entries}
+use Rattle.names.specs.Entries.{entry_size}
+use Rattle.names.specs.Sizes.{AreSized}
 use Rattle.names.specs.Trees.{directory_in, directory_kind, new_directory, number_of, root, IsDirectory, IsDirectoryOf, IsDown, IsEmpty, IsFile, IsNamedOnce, IsOutside, IsTidy, IsTree, StaysTree}
 use Rattle.names.specs.TreeChanges.{directory_file, empty_file, AddsName, DropsName, IsUnnamed, KeepsNames, LeadsTo, MovesDirectory, MovesName}
-use Rattle.names.specs.Writes.{operation_of, Links, Repoints, Unlinks}
+use Rattle.names.specs.Writes.{operation_of, Links, MayHold, Repoints, Unlinks}
 
 -- ---- single operations
 
--- One read brings a directory.
-abbrev pub ReadsWhole : Type 0
-ReadsWhole = (form : Form) (files new : Files) (from : ℕ) (bytes : List ℕ)
-    → IsDirectory files from → IsTidy (directory_in files from)
-    → after form files (Read from 0 directory_size) (Bytes bytes) ≡ Some new
-    → (bytes ≡ directory_in files from) × (new ≡ files)
+-- A read brings a directory's bytes from an offset on, as many as one read can.
+abbrev pub ReadsPart : Type 0
+ReadsPart = (form : Form) (files new : Files) (from offset : ℕ) (bytes : List ℕ)
+    → IsDirectory files from
+    → after form files (Read from offset transfer_limit) (Bytes bytes) ≡ Some new
+    → (bytes ≡ part_of (directory_in files from) offset transfer_limit) × (new ≡ files)
 
 -- A link is written whole, or nothing of it where no block is free for one more entry.
 abbrev pub LinkLeads : Type 0
 LinkLeads = (form : Form) (files new : Files) (from number : ℕ) (name : List ℕ)
     (write : EntryWrite) (reply : Reply)
-    → IsDirectory files from → IsTidy (directory_in files from)
-    → Links (directory_in files from) name number write → write.place < most_entries
+    → AreSized form files → IsDirectory files from → IsTidy (directory_in files from)
+    → Links (directory_in files from) name number write
+    → MayHold (directory_in files from) write.place
     → after form files (operation_of from write) reply ≡ Some new
     → ((reply ≡ Wrote entry_size) × LeadsTo files new from name (Some number))
     ⊎ ((reply ≡ Wrote 0) × (new ≡ files))
@@ -37,7 +39,7 @@ LinkLeads = (form : Form) (files new : Files) (from number : ℕ) (name : List �
 abbrev pub UnlinkLeads : Type 0
 UnlinkLeads = (form : Form) (files new : Files) (from : ℕ) (name : List ℕ)
     (write : EntryWrite) (reply : Reply)
-    → IsDirectory files from → IsTidy (directory_in files from)
+    → AreSized form files → IsDirectory files from → IsTidy (directory_in files from)
     → Unlinks (directory_in files from) name write
     → after form files (operation_of from write) reply ≡ Some new
     → (reply ≡ Wrote entry_size) × LeadsTo files new from name None
@@ -67,7 +69,7 @@ RemoveUndoes = (form : Form) (files made new : Files) (number : ℕ) (file : Fil
 abbrev pub RelinkLeads : Type 0
 RelinkLeads = (form : Form) (files freed new : Files) (from number : ℕ) (old name : List ℕ)
     (unlink link : EntryWrite) (reply : Reply)
-    → IsDirectory files from → IsTidy (directory_in files from)
+    → AreSized form files → IsDirectory files from → IsTidy (directory_in files from)
     → Unlinks (directory_in files from) old unlink
     → after form files (operation_of from unlink) (Wrote entry_size) ≡ Some freed
     → Links (directory_in freed from) name number link
@@ -78,7 +80,7 @@ RelinkLeads = (form : Form) (files freed new : Files) (from number : ℕ) (old n
 abbrev pub RepointLeads : Type 0
 RepointLeads = (form : Form) (files new : Files) (from number : ℕ) (name : List ℕ)
     (write : EntryWrite) (reply : Reply)
-    → IsDirectory files from → IsTidy (directory_in files from)
+    → AreSized form files → IsDirectory files from → IsTidy (directory_in files from)
     → Repoints (directory_in files from) name number write
     → after form files (operation_of from write) reply ≡ Some new
     → (reply ≡ Wrote entry_size) × LeadsTo files new from name (Some number)

@@ -1,9 +1,9 @@
 -- Directories within directories, as names: where they lead, and when they are a tree.
-use Rattle.std.specs.Prelude.{◌≡◌, ◌≢◌, ◌⊎◌, Bool, ◌||◌, not, ℕ, ◌%◌, ◌≤◌, List, [], ◌∷◌, ◌++◌, length, Option, Some, None}
+use Rattle.std.specs.Prelude.{◌≡◌, ◌≢◌, ◌⊎◌, Bool, ◌||◌, not, ℕ, ◌%◌, List, [], ◌∷◌, ◌++◌, length, Option, Some, None}
 use Rattle.std.specs.Str.{bytes_eq}
 use Rattle.model.specs.declared.types.image.File.{File}
 use Rattle.model.specs.Files.{Files, file_in}
-use Rattle.names.specs.Entries.{directory_size, entry_bytes, entry_size, is_free, lookup, name_in, padded, HasOnce}
+use Rattle.names.specs.Entries.{entry_bytes, entry_size, is_free, lookup, name_in, padded, HasOnce}
 
 -- the number of the directory that all paths begin at
 abbrev pub root : ℕ
@@ -89,10 +89,9 @@ IsOutside files number other = (names : List (List ℕ)) → IsPath files number
 
 -- ---- directories
 
--- whole entries, which one read brings, and no name stands twice
+-- whole entries, and no name stands twice
 pub record IsTidy (bytes : List ℕ) : Type 0 where
   pub whole : length bytes % entry_size ≡ 0
-  pub fits : length bytes ≤ directory_size
   pub once : (name : List ℕ) → HasOnce bytes name
 
 -- the bytes of a directory with that number and that parent

@@ -2,7 +2,7 @@
 use Rattle.std.specs.Prelude.{◌≡◌, ◌⊎◌, ℕ, Bool, List, Option, Some, None, IsTrue, ◌↔◌}
 use Rattle.model.specs.Files.{Files}
 use Rattle.names.specs.declared.refusal.Refusal.{Refusal}
-use Rattle.names.specs.declared.refusal.Refusal.TheVariants.{NotFound, NotADirectory, IsRoot, Exists, Full, NoNumber, NoBlock, IsADirectory, NotEmpty, IsInside, NotDown, LinkedTwice}
+use Rattle.names.specs.declared.refusal.Refusal.TheVariants.{NotFound, NotADirectory, IsRoot, Exists, Full, NoNumber, NoBlock, IsADirectory, NotEmpty, IsInside, NotDown, TooManyLinks}
 use Rattle.names.specs.TreeChanges.{DropsDirectory}
 use Rattle.names.specs.Trees.{directory_in, number_of, IsDirectory, IsDown, IsEmpty}
 use Rattle.names.specs.Walks.{AtLast}
@@ -36,7 +36,7 @@ IsUnemptiedIn files from name NoNumber = ⊥
 IsUnemptiedIn files from name NoBlock = ⊥
 IsUnemptiedIn files from name IsADirectory = ⊥
 IsUnemptiedIn files from name IsInside = ⊥
-IsUnemptiedIn files from name LinkedTwice = ⊥
+IsUnemptiedIn files from name TooManyLinks = ⊥
 
 -- the last of these names is gone, and its empty directory, from the directory that the others lead to
 abbrev pub RemovesDirectoryAt : List (List ℕ) → Unit {0} → Files → Files → Type 0

@@ -7,19 +7,22 @@ use Rattle.model.specs.declared.types.operations.Reply.TheVariants.{Made, Wrote,
 use Rattle.model.specs.Files.{Files, file_in}
 use Rattle.model.specs.Operations.{after}
 use Rattle.names.specs.declared.entries.EntryWrite.{EntryWrite}
-use Rattle.names.specs.Entries.{entry_size, most_entries}
+use Rattle.names.specs.Entries.{entry_size}
+use Rattle.names.specs.Sizes.{AreSized}
 use Rattle.names.specs.Trees.{directory_in, directory_kind, new_directory, number_of, parent_name, root, IsDirectory, IsDown, IsEmpty, IsNamedOnce, IsOutside, IsTree, StaysTree}
 use Rattle.names.specs.TreeChanges.{empty_file, AddsDirectory, AddsName, DropsName, MovesDirectory, MovesName}
-use Rattle.names.specs.Writes.{operation_of, Links, Repoints, Unlinks}
+use Rattle.names.specs.Writes.{operation_of, Links, MayHold, Repoints, Unlinks}
 
 -- A file is made and then linked. Where no block is free for one more entry, nothing is written: the
 -- file is there without a name, and is removed again in the same transaction.
 abbrev pub MakesFileWhole : Type 0
 MakesFileWhole = (form : Form) (files made new : Files) (from number kind : ℕ) (name : List ℕ)
     (write : EntryWrite) (reply : Reply)
+    → AreSized form files
     → IsTree files → IsDirectory files from → IsDown name → kind ≢ directory_kind
     → after form files (Create kind) (Made number) ≡ Some made
-    → Links (directory_in files from) name number write → write.place < most_entries
+    → Links (directory_in files from) name number write
+    → MayHold (directory_in files from) write.place
     → after form made (operation_of from write) reply ≡ Some new
     → ((reply ≡ Wrote entry_size) × AddsName files new from name number (empty_file kind)
     × StaysTree files new)
@@ -29,10 +32,12 @@ MakesFileWhole = (form : Form) (files made new : Files) (from number kind : ℕ)
 abbrev pub MakesDirectoryWhole : Type 0
 MakesDirectoryWhole = (form : Form) (files made filled new : Files) (from number : ℕ)
     (name : List ℕ) (write : EntryWrite) (reply : Reply)
+    → AreSized form files
     → IsTree files → IsDirectory files from → IsDown name → 0 < from → from < 2 ^ 16
     → after form files (Create directory_kind) (Made number) ≡ Some made
     → after form made (Write number 0 (new_directory number from)) (Wrote 32) ≡ Some filled
-    → Links (directory_in files from) name number write → write.place < most_entries
+    → Links (directory_in files from) name number write
+    → MayHold (directory_in files from) write.place
     → after form filled (operation_of from write) reply ≡ Some new
     → ((reply ≡ Wrote entry_size) × AddsDirectory files new from name number × StaysTree files new)
     ⊎ ((reply ≡ Wrote 0) × (new ≡ filled))
@@ -41,6 +46,7 @@ MakesDirectoryWhole = (form : Form) (files made filled new : Files) (from number
 abbrev pub RemovesFileWhole : Type 0
 RemovesFileWhole = (form : Form) (files freed new : Files) (from number : ℕ) (name : List ℕ)
     (write : EntryWrite) (first second : Reply)
+    → AreSized form files
     → IsTree files → IsDirectory files from → IsDown name
     → number_of files from name ≡ Some number → IsNamedOnce files number
     → (IsDirectory files number → IsEmpty (directory_in files number))
@@ -55,6 +61,7 @@ RemovesFileWhole = (form : Form) (files freed new : Files) (from number : ℕ) (
 abbrev pub RenamesFileWhole : Type 0
 RenamesFileWhole = (form : Form) (files freed new : Files) (from number : ℕ) (old name : List ℕ)
     (unlink link : EntryWrite) (first second : Reply)
+    → AreSized form files
     → IsTree files → IsDirectory files from → IsDown old → IsDown name
     → number_of files from old ≡ Some number → number_of files from name ≡ None
     → Unlinks (directory_in files from) old unlink
@@ -69,10 +76,12 @@ RenamesFileWhole = (form : Form) (files freed new : Files) (from number : ℕ) (
 abbrev pub MovesFileWhole : Type 0
 MovesFileWhole = (form : Form) (files both new : Files) (from to number : ℕ) (old name : List ℕ)
     (unlink link : EntryWrite) (reply : Reply)
+    → AreSized form files
     → IsTree files → IsDirectory files from → IsDirectory files to → from ≢ to
     → IsDown old → IsDown name → (IsDirectory files number → ⊥)
     → number_of files from old ≡ Some number
-    → Links (directory_in files to) name number link → link.place < most_entries
+    → Links (directory_in files to) name number link
+    → MayHold (directory_in files to) link.place
     → after form files (operation_of to link) (Wrote entry_size) ≡ Some both
     → Unlinks (directory_in files from) old unlink
     → after form both (operation_of from unlink) reply ≡ Some new
@@ -83,10 +92,12 @@ MovesFileWhole = (form : Form) (files both new : Files) (from to number : ℕ) (
 abbrev pub MovesDirectoryWhole : Type 0
 MovesDirectoryWhole = (form : Form) (files both mid new : Files) (from to number : ℕ)
     (old name : List ℕ) (unlink link up : EntryWrite) (first second : Reply)
+    → AreSized form files
     → IsTree files → IsDirectory files from → IsDirectory files to → from ≢ to
     → IsDirectory files number → IsOutside files number to → IsDown old → IsDown name
     → number_of files from old ≡ Some number
-    → Links (directory_in files to) name number link → link.place < most_entries
+    → Links (directory_in files to) name number link
+    → MayHold (directory_in files to) link.place
     → after form files (operation_of to link) (Wrote entry_size) ≡ Some both
     → Unlinks (directory_in files from) old unlink
     → after form both (operation_of from unlink) first ≡ Some mid

@@ -1,12 +1,12 @@
 -- What a write of one entry makes of a directory's bytes.
-use Rattle.std.specs.Prelude.{◌≡◌, ◌≢◌, ℕ, ◌*◌, ◌^◌, ◌<◌, ◌≤◌, List, length, replicate, position, unwrap_or, IsSome, Some, None}
+use Rattle.std.specs.Prelude.{◌≡◌, ◌≢◌, ◌⊎◌, ℕ, ◌*◌, ◌^◌, ◌<◌, ◌≤◌, List, length, replicate, position, unwrap_or, IsSome, Some, None}
 use Rattle.blocks.specs.Block.{overwritten}
 use Rattle.model.specs.declared.types.operations.Op.{Op}
 use Rattle.model.specs.declared.types.operations.Op.TheVariants.{Write}
 use Rattle.names.specs.declared.entries.EntryWrite.{EntryWrite}
 use Rattle.names.specs.declared.entries.LinkFault.{LinkFault}
 use Rattle.names.specs.declared.entries.LinkFault.TheVariants.{Exists, Full}
-use Rattle.names.specs.Entries.{entry_size, name_size, directory_size, entries_of, entry_bytes, is_free, place_of, lookup, HasOnce}
+use Rattle.names.specs.Entries.{entry_size, most_entries, name_size, entries_of, entry_bytes, is_free, place_of, lookup, HasOnce}
 
 -- the number of the file whose bytes are the directory
 abbrev pub directory_number : ℕ
@@ -24,9 +24,13 @@ written bytes write = overwritten bytes (entry_size * write.place) write.entry
 abbrev pub free_place : List ℕ → ℕ
 free_place bytes = unwrap_or (position is_free (entries_of bytes)) (length (entries_of bytes))
 
--- no entry is free, and there is no room for one more
+-- an entry may be written there: one is there, or there are few
+abbrev pub MayHold : List ℕ → ℕ → Type 0
+MayHold bytes place = (place < most_entries) ⊎ (place < length (entries_of bytes))
+
+-- no entry is free, and there are as many as there may be
 abbrev pub IsFull : List ℕ → Type 0
-IsFull bytes = directory_size ≤ entry_size * free_place bytes
+IsFull bytes = (most_entries ≤ free_place bytes) × (free_place bytes ≡ length (entries_of bytes))
 
 -- the write links a number under a name that led nowhere
 pub record Links (bytes name : List ℕ) (number : ℕ) (write : EntryWrite) : Type 0 where

@@ -26,7 +26,8 @@ pub struct Found {
     pub number: u32,
     /// Its type: 1 for a directory, 2 for a file of bytes, 3 for a device.
     pub kind: u16,
-    /// Its count of links: 1 where nothing else set it.
+    /// How many names lead to it, as its count of links says: of a directory its own name, or the root's
+    /// for its parent, and one for each directory in it.
     pub links: u16,
     /// How many bytes it has.
     pub size: u32,

@@ -4,10 +4,11 @@ ghost use Rattle.calls.specs.Calls.{image_on};
 ghost use Rattle.calls.specs.Stopped.{StaysOver};
 ghost use Rattle.model.specs.Files.{Files, files_of};
 ghost use Rattle.model.specs.declared.types.image.Form.{Form};
+ghost use Rattle.names.specs.Counts.{AreCounted};
 ghost use Rattle.names.specs.declared.refusal.Refusal.{Refusal};
 ghost use Rattle.names.specs.Inside.{files_seen, form_seen, IsUnderWay, ProceedsOr};
 ghost use Rattle.names.specs.Paths.{names_of};
-ghost use Rattle.names.specs.Ready.{answer_of, Happens, IsUnansweredOr, IsUndoneOr, LeavesTree, MayGoOn, NamesStayOnce, TreeStays};
+ghost use Rattle.names.specs.Ready.{answer_of, Happens, IsUnansweredOr, IsUndoneOr, LeavesTree, MayGoOn, TreeStays};
 ghost use Rattle.names.specs.Trees.{IsTree};
 ghost use Rattle.names.specs.Walks.{AtLast, IsUndoneIn};
 
@@ -36,6 +37,7 @@ pub(crate) trait Change {
     fn apply<D: Disk>(&self, tree: &mut Tree<D>, alloc: Global, names: &[Name]) -> Asked<Self::Made>
         requires way { IsUnderWay D.Disk tree.old.kernel tree.old.calls_left }
         requires tree { IsTree (files_seen D.image tree.old.kernel) }
+        requires counted { AreCounted (files_seen D.image tree.old.kernel) }
         ensures goes { ProceedsOr (fills self.now) D.Disk result
             tree.old.kernel tree.new.kernel tree.new.calls_left }
         ensures tree { OnOk result (TreeStays D.image tree.old.kernel tree.new.kernel) }
@@ -69,6 +71,7 @@ pub(crate) trait ChangeIn {
     ) -> Asked<Self::Made>
         requires way { IsUnderWay D.Disk tree.old.kernel tree.old.calls_left }
         requires tree { IsTree (files_seen D.image tree.old.kernel) }
+        requires counted { AreCounted (files_seen D.image tree.old.kernel) }
         ensures goes { ProceedsOr (fills self.now) D.Disk result
             tree.old.kernel tree.new.kernel tree.new.calls_left }
         ensures tree { OnOk result (TreeStays D.image tree.old.kernel tree.new.kernel) }
@@ -118,7 +121,6 @@ impl<D: Disk> Tree<D> {
             C.makes change.now (form_seen D.image self.old.kernel) (names_of path.now) made
             (files_of (image_on D.image self.old.kernel))
             (files_of (image_on D.image self.new.kernel))) }
-        ensures once { OnOk result (NamesStayOnce D.image self.old.kernel self.new.kernel) }
         ensures refused { IfErr result (IsUndoneOr (C.fills change.now) D.Disk path.now
             (C.refuses change.now (names_of path.now)) self.old.kernel self.new.kernel) }
         ensures leaves { 0 < self.old.calls_left → LeavesTree D.Disk
@@ -148,7 +150,6 @@ impl<D: Disk> Tree<D> {
             C.makes change.now (form_seen D.image self.old.kernel) names.now made
             (files_of (image_on D.image self.old.kernel))
             (files_of (image_on D.image self.new.kernel))) }
-        ensures once { OnOk result (NamesStayOnce D.image self.old.kernel self.new.kernel) }
         ensures refused { IfErr result (IsUnansweredOr (C.fills change.now) D.Disk
             (C.refuses change.now names.now) self.old.kernel self.new.kernel) }
         ensures leaves { 0 < self.old.calls_left → LeavesTree D.Disk

@@ -1,16 +1,16 @@
 // Whether the bytes of directories are as those of a tree.
-ghost use Rattle.std.specs.Prelude.{◌≡◌, ◌↔◌, ◌%◌, ◌≤◌, length, position, Contains, EachIndex, IsTrue, OnOk};
+ghost use Rattle.std.specs.Prelude.{◌≡◌, ◌↔◌, ◌%◌, length, position, Contains, EachIndex, IsTrue, OnOk};
 ghost use Rattle.names.specs.Checks.{AddsChild, AddsChildren, AreApart, IsFirst};
-ghost use Rattle.names.specs.Entries.{directory_size, entries_of, entry_size, is_for, name_in};
+ghost use Rattle.names.specs.Entries.{entries_of, entry_size, is_for, name_in};
 ghost use Rattle.names.specs.Trees.{IsDirectoryOf, IsTidy};
 
 use crate::directory::leads_down;
-use crate::entries::{DIRECTORY_SIZE, ENTRY_SIZE, entries_in, is_free, lookup, number_in};
+use crate::entries::{ENTRY_SIZE, entries_in, is_free, lookup, number_in};
 use crate::name::Name;
 use blocks::NoMemory;
 
-/// Whether the bytes are those of a directory with that number and that parent: whole entries, as
-/// many as one read brings, no name twice, and the two entries of a directory's own.
+/// Whether the bytes are those of a directory with that number and that parent: whole entries, no
+/// name twice, and the two entries of a directory's own.
 pub fn is_directory_of(bytes: &[u8], number: u16, parent: u16) -> bool
     ensures { IsTrue result ↔ IsDirectoryOf bytes.now number parent }
 {
@@ -19,18 +19,18 @@ pub fn is_directory_of(bytes: &[u8], number: u16, parent: u16) -> bool
         && lookup(bytes, &Name::parent()) == Some(parent)
 }
 
-// Whether there are whole entries, not too many, and no name twice.
+// Whether there are whole entries, and no name twice.
 fn is_tidy(bytes: &[u8]) -> bool
     ensures { IsTrue result ↔ IsTidy bytes.now }
 {
     is_whole(bytes.len()) && names_stand_once(entries_in(bytes))
 }
 
-// Whether so many bytes are whole entries, and not too many.
+// Whether so many bytes are whole entries.
 fn is_whole(size: usize) -> bool
-    ensures { IsTrue result ↔ ((size % entry_size ≡ 0) × (size ≤ directory_size)) }
+    ensures { IsTrue result ↔ (size % entry_size ≡ 0) }
 {
-    size % ENTRY_SIZE == 0 && size <= DIRECTORY_SIZE
+    size % ENTRY_SIZE == 0
 }
 
 // Whether each used entry is the first of its name.

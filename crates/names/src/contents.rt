@@ -6,7 +6,7 @@ ghost use Rattle.model.specs.Files.{files_of};
 ghost use Rattle.names.specs.Contents.{Empties, HasOnly, IsNoPlain, LeadsToNoPlain, Reads, ReadsOf};
 ghost use Rattle.names.specs.Inside.{files_seen, IsUnderWay, Proceeds, SeesSame};
 ghost use Rattle.names.specs.Paths.{names_of};
-ghost use Rattle.names.specs.Ready.{Happens, IsUndone, LeavesTree, MayGoOn, NamesStayOnce, TreeStays};
+ghost use Rattle.names.specs.Ready.{Happens, IsUndone, LeavesTree, MayGoOn, TreeStays};
 ghost use Rattle.names.specs.Trees.{IsDirectory, IsFile, IsTree};
 
 use crate::changing::Change;
@@ -79,7 +79,6 @@ impl<D: Disk> Tree<D> {
         ensures empties { IfOk result (λ done. Empties (names_of path.now) done
             (files_of (image_on D.image self.old.kernel))
             (files_of (image_on D.image self.new.kernel))) }
-        ensures once { OnOk result (NamesStayOnce D.image self.old.kernel self.new.kernel) }
         ensures refused { IfErr result (IsUndone D.Disk path.now
             (LeadsToNoPlain (names_of path.now)) self.old.kernel self.new.kernel) }
         ensures leaves { 0 < self.old.calls_left → LeavesTree D.Disk (Empties (names_of path.now))

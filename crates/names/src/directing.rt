@@ -1,12 +1,12 @@
 // Directories made in a tree.
-ghost use Rattle.std.specs.Prelude.{◌<◌, IfErr, IfOk, OnOk};
+ghost use Rattle.std.specs.Prelude.{⊤, ◌<◌, IfErr, IfOk, OnOk};
 ghost use Rattle.calls.specs.Calls.{image_on};
 ghost use Rattle.calls.specs.Stopped.{StaysOver};
 ghost use Rattle.model.specs.Files.{files_of};
 ghost use Rattle.names.specs.Inside.{IsUnderWay, Proceeds};
-ghost use Rattle.names.specs.Making.{HasFilledFor, IsUnmadeIn, MakesDirectoryAt};
+ghost use Rattle.names.specs.Making.{HasFilledFor, IsUnmadeDirectoryIn, MakesDirectoryAt};
 ghost use Rattle.names.specs.Paths.{names_of};
-ghost use Rattle.names.specs.Ready.{IsUndone, LeavesTree, MayGoOn, NamesStayOnce};
+ghost use Rattle.names.specs.Ready.{IsUndone, LeavesTree, MayGoOn};
 ghost use Rattle.names.specs.TreeChanges.{directory_file};
 ghost use Rattle.names.specs.Walks.{IsUndoneIn};
 
@@ -30,6 +30,12 @@ pub(crate) struct NewDirectory;
 
 impl New for NewDirectory {
     ghost file = { λ new number parent. directory_file number parent };
+
+    ghost counts = { λ new. ⊤ };
+
+    fn is_directory(&self) -> bool {
+        true
+    }
 
     fn create<D: Disk>(&self, tree: &mut Tree<D>, alloc: Global, parent: u32) -> Asked<u16> {
         let Ok(up) = u16::try_from(parent) else {
@@ -57,8 +63,9 @@ impl<D: Disk> Tree<D> {
     ///
     /// - `Path`: the bytes are no path; nothing was done.
     /// - `Refused`, with the files as they were: `NotFound`, `NotADirectory` and `IsRoot` for the path;
-    ///   `Exists` where the name is there, `Full` where the directory has no room for one more;
-    ///   `NoNumber` and `NoBlock` where the disk has none.
+    ///   `Exists` where the name is there, `Full` where the directory has no room for one more, and
+    ///   `TooManyLinks` where its count is the greatest; `NoNumber` and `NoBlock` where the disk has
+    ///   none.
     /// - `Call`, `NoCall`: as every call of a tree.
     pub fn make_directory(&mut self, alloc: Global, path: &[u8]) -> Result<u16, TreeFault>
         requires ready { MayGoOn D.Disk self.old.kernel self.old.calls_left }
@@ -66,9 +73,8 @@ impl<D: Disk> Tree<D> {
         ensures makes { IfOk result (λ number. MakesDirectoryAt (names_of path.now) number
             (files_of (image_on D.image self.old.kernel))
             (files_of (image_on D.image self.new.kernel))) }
-        ensures once { OnOk result (NamesStayOnce D.image self.old.kernel self.new.kernel) }
         ensures refused { IfErr result (IsUndone D.Disk path.now
-            (IsUndoneIn IsUnmadeIn (names_of path.now)) self.old.kernel self.new.kernel) }
+            (IsUndoneIn IsUnmadeDirectoryIn (names_of path.now)) self.old.kernel self.new.kernel) }
         ensures leaves { 0 < self.old.calls_left → LeavesTree D.Disk
             (MakesDirectoryAt (names_of path.now)) self.old.kernel self.new.kernel }
         ensures stays { StaysOver D.Disk self.old.kernel self.new.kernel }

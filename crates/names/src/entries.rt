@@ -1,9 +1,9 @@
 // The entries of a directory, and the writes that change one.
-ghost use Rattle.std.specs.Prelude.{◌≡◌, ◌<◌, ◌≤◌, ◌/◌, replicate, length, position, Some, None, IfSome, IfNone, IfOk, IfErr};
+ghost use Rattle.std.specs.Prelude.{◌≡◌, ◌<◌, ◌≤◌, ◌*◌, ◌/◌, ◌^◌, replicate, length, position, Some, None, IfSome, IfNone, IfOk, IfErr};
 ghost use Rattle.std.specs.Str.{bytes_eq};
-ghost use Rattle.names.specs.Entries.{directory_size, most_entries, entry_size, entries_of, entry_bytes, is_for, is_free, lookup, name_in, number_in, place_of, HasOnce};
+ghost use Rattle.names.specs.Entries.{entry_size, entries_of, entry_bytes, is_for, is_free, lookup, name_in, number_in, place_of, HasOnce};
 ghost use Rattle.names.specs.Trees.{new_directory};
-ghost use Rattle.names.specs.Writes.{free_place, operation_of, written, IsLinkCause, KeepsOthers, Links, Repoints, Unlinks};
+ghost use Rattle.names.specs.Writes.{free_place, operation_of, written, IsLinkCause, KeepsOthers, Links, MayHold, Repoints, Unlinks};
 
 use crate::name::Name;
 use blocks::NoMemory;
@@ -19,8 +19,8 @@ pub const DIRECTORY: u32 = 1;
 /// The bytes of an entry.
 pub const ENTRY_SIZE: usize = 16;
 
-/// The most bytes of a directory: as many as one read brings, those of 192 entries.
-pub const DIRECTORY_SIZE: usize = 3072;
+/// A directory of so many entries gets no other: as many as a file of the first form has room for.
+pub const MOST_ENTRIES: usize = 17_152;
 
 /// A write of one entry, which is all that a change of a directory writes.
 #[derive(Clone, Copy)]
@@ -38,7 +38,7 @@ impl EntryWrite {
     ///
     /// `NoMemory` where memory for its 16 bytes was refused.
     pub fn operation(self, alloc: Global, directory: u32) -> Result<Op, NoMemory>
-        requires { self.place < most_entries }
+        requires { entry_size * self.place < 2 ^ 32 }
         ensures { IfOk result (λ op. op ≡ operation_of directory self) }
     {
         let bytes = Content::copy_of(alloc, &self.entry)?;
@@ -68,12 +68,13 @@ pub fn lookup(bytes: &[u8], name: &Name) -> Option<u16>
 ///
 /// # Errors
 ///
-/// `Exists` where the name leads to a file already, else `Full` where no entry is free and there is
-/// no room for one more.
+/// `Exists` where the name leads to a file already, else `Full` where no entry is free and there are
+/// 17,152 or more.
 pub fn link(bytes: &[u8], name: &Name, number: u16) -> Result<EntryWrite, LinkFault>
     requires used { 0 < number }
-    requires size { length bytes.now ≤ directory_size }
-    ensures within { IfOk result (λ write. write.place < most_entries) }
+    requires size { length bytes.now < 2 ^ 32 }
+    ensures within { IfOk result (λ write. entry_size * write.place < 2 ^ 32) }
+    ensures room { IfOk result (λ write. MayHold bytes.now write.place) }
     ensures links { IfOk result (λ write. Links bytes.now name.now number write) }
     ensures leads { IfOk result (λ write. lookup (written bytes.now write) name.now ≡ Some number) }
     ensures others { IfOk result (λ write. KeepsOthers
@@ -84,7 +85,7 @@ pub fn link(bytes: &[u8], name: &Name, number: u16) -> Result<EntryWrite, LinkFa
         return Err(LinkFault::Exists);
     }
     let place = free_place(bytes);
-    if place * ENTRY_SIZE >= DIRECTORY_SIZE {
+    if place >= MOST_ENTRIES && place == entries_in(bytes).len() {
         return Err(LinkFault::Full);
     }
     Ok(link_at(place as u32, name, number))
@@ -92,8 +93,8 @@ pub fn link(bytes: &[u8], name: &Name, number: u16) -> Result<EntryWrite, LinkFa
 
 /// The write that frees the entry of a name, or none where the name leads nowhere.
 pub fn unlink(bytes: &[u8], name: &Name) -> Option<EntryWrite>
-    requires { length bytes.now ≤ directory_size }
-    ensures within { IfSome result (λ write. write.place < most_entries) }
+    requires { length bytes.now < 2 ^ 32 }
+    ensures within { IfSome result (λ write. entry_size * write.place < 2 ^ 32) }
     ensures unlinks { IfSome result (λ write. Unlinks bytes.now name.now write) }
     ensures gone { IfSome result (λ write. HasOnce bytes.now name.now
         → lookup (written bytes.now write) name.now ≡ None) }
@@ -108,8 +109,8 @@ pub fn unlink(bytes: &[u8], name: &Name) -> Option<EntryWrite>
 /// The write that gives the entry of a name another number, or none where the name leads nowhere.
 pub fn repoint(bytes: &[u8], name: &Name, number: u16) -> Option<EntryWrite>
     requires used { 0 < number }
-    requires size { length bytes.now ≤ directory_size }
-    ensures within { IfSome result (λ write. write.place < most_entries) }
+    requires size { length bytes.now < 2 ^ 32 }
+    ensures within { IfSome result (λ write. entry_size * write.place < 2 ^ 32) }
     ensures repoints { IfSome result (λ write. Repoints bytes.now name.now number write) }
     ensures leads { IfSome result (λ write. lookup (written bytes.now write) name.now
         ≡ Some number) }

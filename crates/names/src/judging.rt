@@ -174,7 +174,7 @@ fn take_in(
 }
 
 // What there is at a number.
-fn look<D: Disk>(
+pub(crate) fn look<D: Disk>(
     alloc: Global,
     disk: &mut D,
     image: &Recovered,

@@ -23,21 +23,23 @@ mod entries;
 mod judging;
 pub mod kernel_laws;
 pub mod laws;
+mod linking;
 mod looking;
 mod making;
 mod name;
 mod numbered;
 mod numbered_changes;
 mod opening;
-mod other_names;
 mod path;
 mod planning;
 mod putting;
+mod recounting;
 mod refusal;
 mod removing;
 mod renaming;
 mod replacing;
 mod rooting;
+mod tallying;
 mod tree;
 pub mod tree_laws;
 mod undirecting;
@@ -47,13 +49,15 @@ pub use asking::Found;
 pub use checking::{add_children, is_directory_of};
 pub use directory::{is_empty, leads_down};
 pub use entries::{
-    DIRECTORY, DIRECTORY_SIZE, ENTRY_SIZE, EntryWrite, LinkFault, entries_in, link, lookup,
+    DIRECTORY, ENTRY_SIZE, EntryWrite, LinkFault, MOST_ENTRIES, entries_in, link, lookup,
     new_directory, number_in, repoint, unlink,
 };
 pub use judging::{JudgeFault, is_tree};
 pub use name::{NAME_SIZE, Name, NameFault};
 pub use opening::TreeOpenFault;
 pub use path::{PathFault, names_of};
+pub use recounting::{RecountFault, recount};
 pub use refusal::{Refusal, TreeFault};
+pub use tallying::{first_miscounted, name_counts};
 pub use tree::Tree;
 pub use writing::Unwritten;

@@ -1,7 +1,8 @@
 // Looks at the directories of a tree, in a transaction.
-ghost use Rattle.std.specs.Prelude.{◌≡◌, IfOk, OnOk};
+ghost use Rattle.std.specs.Prelude.{◌≡◌, ◌++◌, length, IfOk, OnOk};
+ghost use Rattle.model.specs.Operations.{part_of, transfer_limit};
 ghost use Rattle.names.specs.Inside.{files_seen, IsUnderWay, Proceeds, SeesSame};
-ghost use Rattle.names.specs.Trees.{directory_in, root, IsDirectory, IsTidy, IsTree};
+ghost use Rattle.names.specs.Trees.{directory_in, root, IsDirectory, IsTree};
 ghost use Rattle.names.specs.Walks.{stepped, walked, IsDirectoryFound, found_or};
 ghost use Rattle.names.specs.Entries.{lookup};
 
@@ -10,6 +11,7 @@ use crate::name::Name;
 use crate::refusal::{Asked, Refusal, TreeFault};
 use crate::tree::Tree;
 use blocks::Disk;
+use calls::transactions::TransactionFault;
 use model::content::Content;
 use model::types::{Op, Reply, TRANSFER_LIMIT};
 
@@ -26,31 +28,75 @@ impl<D: Disk> Tree<D> {
         ensures found { IfOk result (IsDirectoryFound
             (files_seen D.image self.old.kernel) number) }
     {
-        let Reply::StatOf(kind, _links, _size) = self.called(Op::Stat(number))? else {
+        let Reply::StatOf(kind, _links, size) = self.called(Op::Stat(number))? else {
             return Ok(None);
         };
         if kind != DIRECTORY_KIND {
             return Ok(None);
         }
-        let bytes = self.tidy_directory(number)?;
+        let bytes = self.whole_directory(number, size)?;
         Ok(Some(bytes))
     }
 
-    // The bytes of a tidy directory, of files that may be no tree.
+    // The bytes of a file that is a directory, of files that may be no tree.
     pub(crate) fn tidy_directory(&mut self, number: u32) -> Result<Content, TreeFault>
         requires way { IsUnderWay D.Disk self.old.kernel self.old.calls_left }
         requires there { IsDirectory (files_seen D.image self.old.kernel) number }
-        requires tidy { IsTidy (directory_in (files_seen D.image self.old.kernel) number) }
         ensures goes { Proceeds D.Disk result self.old.kernel self.new.kernel self.new.calls_left }
         ensures same { OnOk result (SeesSame D.image self.old.kernel self.new.kernel) }
         ensures bytes { IfOk result (λ bytes.
             bytes ≡ directory_in (files_seen D.image self.old.kernel) number) }
     {
-        let Reply::Bytes(bytes) = self.called(Op::Read(number, 0, TRANSFER_LIMIT))? else {
+        let Reply::StatOf(_kind, _links, size) = self.called(Op::Stat(number))? else {
+            // A file that is there can be looked at.
+            unreachable!()
+        };
+        let bytes = self.whole_directory(number, size)?;
+        Ok(bytes)
+    }
+
+    // The bytes of a directory of that size, in pieces of as many as one read brings.
+    fn whole_directory(&mut self, number: u32, size: u32) -> Result<Content, TreeFault>
+        requires way { IsUnderWay D.Disk self.old.kernel self.old.calls_left }
+        requires there { IsDirectory (files_seen D.image self.old.kernel) number }
+        requires size { size ≡ length (directory_in (files_seen D.image self.old.kernel) number) }
+        ensures goes { Proceeds D.Disk result self.old.kernel self.new.kernel self.new.calls_left }
+        ensures same { OnOk result (SeesSame D.image self.old.kernel self.new.kernel) }
+        ensures bytes { IfOk result (λ bytes.
+            bytes ≡ directory_in (files_seen D.image self.old.kernel) number) }
+    {
+        let mut bytes = Vec::new(self.alloc);
+        for piece in 0..size.div_ceil(TRANSFER_LIMIT) {
+            self.read_behind(number, piece * TRANSFER_LIMIT, &mut bytes)?;
+        }
+        Ok(Content::new(bytes))
+    }
+
+    // Puts a directory's bytes from an offset on behind others, as many as one read brings.
+    fn read_behind(
+        &mut self,
+        number: u32,
+        offset: u32,
+        bytes: &mut Vec<u8>,
+    ) -> Result<(), TreeFault>
+        requires way { IsUnderWay D.Disk self.old.kernel self.old.calls_left }
+        requires there { IsDirectory (files_seen D.image self.old.kernel) number }
+        ensures goes { Proceeds D.Disk result self.old.kernel self.new.kernel self.new.calls_left }
+        ensures same { OnOk result (SeesSame D.image self.old.kernel self.new.kernel) }
+        ensures more { OnOk result (bytes.new.items ≡ bytes.old.items ++ part_of
+            (directory_in (files_seen D.image self.old.kernel) number) offset transfer_limit) }
+    {
+        let Reply::Bytes(piece) = self.called(Op::Read(number, offset, TRANSFER_LIMIT))? else {
             // A file that is there can be read.
             unreachable!()
         };
-        Ok(bytes)
+        match bytes.extend_from_slice(piece.as_slice()) {
+            Ok(()) => Ok(()),
+            Err(_refused) => {
+                self.calls_left = 0;
+                Err(TreeFault::Call(TransactionFault::NoMemory))
+            }
+        }
     }
 
     // Where a name leads from a file.

@@ -1,15 +1,16 @@
 // Files made in a tree.
-ghost use Rattle.std.specs.Prelude.{true, ◌≡◌, ℕ, ◌<◌, IfErr, IfOk, OnOk};
+ghost use Rattle.std.specs.Prelude.{true, ◌≡◌, ℕ, ◌*◌, ◌^◌, ◌<◌, IfErr, IfOk, IsTrue, OnOk};
 ghost use Rattle.calls.specs.Calls.{image_on};
 ghost use Rattle.calls.specs.Stopped.{StaysOver};
 ghost use Rattle.model.specs.Files.{files_of};
 ghost use Rattle.model.specs.Operations.{is_kind};
-ghost use Rattle.names.specs.Entries.{most_entries};
+ghost use Rattle.names.specs.Entries.{entry_size};
 ghost use Rattle.model.specs.declared.types.image.File.{File};
-ghost use Rattle.names.specs.Inside.{files_seen, IsUnderWay, Proceeds};
-ghost use Rattle.names.specs.Making.{file_kind, HasCreated, HasCreatedNew, HasEntered, IsUnmadeIn, MakesAt, Uncreates, unlinked};
+ghost use Rattle.names.specs.Inside.{files_seen, IsUnderWay, Proceeds, SeesSame};
+ghost use Rattle.names.specs.Trees.{IsFile};
+ghost use Rattle.names.specs.Making.{file_kind, HasCreated, HasCreatedNew, HasEntered, HasParentCount, IsNewFile, IsUnmadeIn, IsUnmadeOr, MakesAt, Settles, Uncreates, unlinked};
 ghost use Rattle.names.specs.Paths.{names_of};
-ghost use Rattle.names.specs.Ready.{IsUndone, LeavesTree, MayGoOn, NamesStayOnce};
+ghost use Rattle.names.specs.Ready.{IsUndone, LeavesTree, MayGoOn};
 ghost use Rattle.names.specs.TreeChanges.{empty_file, AddsName};
 ghost use Rattle.names.specs.Walks.{IsUndoneIn};
 
@@ -31,6 +32,15 @@ pub(crate) trait New {
     // The new file of a number, in the directory of another number.
     ghost file: { Self → ℕ → ℕ → File };
 
+    // That its name for its parent counts among that one's links.
+    ghost counts: { Self → Type 0 };
+
+    // Whether it is a directory, whose name for its parent counts there.
+    fn is_directory(&self) -> bool
+        ensures new { (number parent : ℕ)
+            → IsNewFile result (file self.now number parent) number parent }
+        ensures counts { IsTrue result → counts self.now };
+
     // Makes one, which has no name yet.
     fn create<D: Disk>(&self, tree: &mut Tree<D>, alloc: Global, parent: u32) -> Asked<u16>
         requires { IsUnderWay D.Disk tree.old.kernel tree.old.calls_left }
@@ -45,6 +55,12 @@ pub(crate) struct NewFile;
 
 impl New for NewFile {
     ghost file = { λ new number parent. empty_file file_kind };
+
+    ghost counts = { λ new. ⊥ };
+
+    fn is_directory(&self) -> bool {
+        false
+    }
 
     fn create<D: Disk>(&self, tree: &mut Tree<D>, _alloc: Global, _parent: u32) -> Asked<u16> {
         match tree.created(FILE_KIND)? {
@@ -66,7 +82,7 @@ impl<N: New> ChangeIn for Make<N> {
     ghost makes = { λ make from name number files new.
         AddsName files new from name number (N.file make.kind number from) };
 
-    ghost refuses = { λ make. IsUnmadeIn };
+    ghost refuses = { λ make. IsUnmadeOr (N.counts make.kind) };
 
     ghost fills = { λ make. ⊥ };
 
@@ -84,6 +100,10 @@ impl<N: New> ChangeIn for Make<N> {
         if let Err(fault) = link(bytes.as_slice(), name, 1) {
             return Ok(Err(unlinked(fault)));
         }
+        let count = match tree.parent_count(from, self.kind.is_directory())? {
+            Ok(count) => count,
+            Err(refusal) => return Ok(Err(refusal)),
+        };
         let number = match self.kind.create(tree, alloc, from)? {
             Ok(number) => number,
             Err(refusal) => return Ok(Err(refusal)),
@@ -93,6 +113,7 @@ impl<N: New> ChangeIn for Make<N> {
             unreachable!()
         };
         if tree.entered(alloc, from, write)? {
+            tree.settled(from, count)?;
             return Ok(Ok(number));
         }
         tree.uncreated(u32::from(number))?;
@@ -117,7 +138,6 @@ impl<D: Disk> Tree<D> {
         ensures makes { IfOk result (λ number. MakesAt (names_of path.now) number
             (files_of (image_on D.image self.old.kernel))
             (files_of (image_on D.image self.new.kernel))) }
-        ensures once { OnOk result (NamesStayOnce D.image self.old.kernel self.new.kernel) }
         ensures refused { IfErr result (IsUndone D.Disk path.now
             (IsUndoneIn IsUnmadeIn (names_of path.now)) self.old.kernel self.new.kernel) }
         ensures leaves { 0 < self.old.calls_left → LeavesTree D.Disk (MakesAt (names_of path.now))
@@ -131,6 +151,38 @@ impl<D: Disk> Tree<D> {
                 change: Make { kind: NewFile },
             },
         )
+    }
+
+    // The count that a directory has with another one in it, where that is one.
+    fn parent_count(&mut self, number: u32, is_directory: bool) -> Asked<Option<u16>>
+        requires way { IsUnderWay D.Disk self.old.kernel self.old.calls_left }
+        requires there { IsFile (files_seen D.image self.old.kernel) number }
+        ensures goes { Proceeds D.Disk result self.old.kernel self.new.kernel self.new.calls_left }
+        ensures same { OnOk result (SeesSame D.image self.old.kernel self.new.kernel) }
+        ensures told { IfOk result (HasParentCount is_directory
+            (files_seen D.image self.old.kernel) number) }
+    {
+        if !is_directory {
+            return Ok(Ok(None));
+        }
+        match self.one_more(number)? {
+            Ok(count) => Ok(Ok(Some(count))),
+            Err(refusal) => Ok(Err(refusal)),
+        }
+    }
+
+    // Gives a directory that count, where it has another.
+    fn settled(&mut self, number: u32, count: Option<u16>) -> Result<(), TreeFault>
+        requires way { IsUnderWay D.Disk self.old.kernel self.old.calls_left }
+        requires there { IsFile (files_seen D.image self.old.kernel) number }
+        ensures goes { Proceeds D.Disk result self.old.kernel self.new.kernel self.new.calls_left }
+        ensures settles { OnOk result (Settles (files_seen D.image self.old.kernel)
+            (files_seen D.image self.new.kernel) number count) }
+    {
+        match count {
+            Some(count) => self.relinked(number, count),
+            None => Ok(()),
+        }
     }
 
     // Makes an empty file of a type, which has no name yet. None where no number is free that an entry
@@ -173,7 +225,7 @@ impl<D: Disk> Tree<D> {
         write: EntryWrite,
     ) -> Result<bool, TreeFault>
         requires way { IsUnderWay D.Disk self.old.kernel self.old.calls_left }
-        requires within { write.place < most_entries }
+        requires within { entry_size * write.place < 2 ^ 32 }
         ensures goes { Proceeds D.Disk result self.old.kernel self.new.kernel self.new.calls_left }
         ensures entered { IfOk result (HasEntered D.image from write
             self.old.kernel self.new.kernel) }

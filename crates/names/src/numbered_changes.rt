@@ -5,9 +5,9 @@ ghost use Rattle.calls.specs.Stopped.{StaysOver};
 ghost use Rattle.model.specs.Files.{files_of};
 ghost use Rattle.names.specs.Contents.{IsNoPlain};
 ghost use Rattle.names.specs.Inside.{files_seen, form_seen, IsUnderWay, Proceeds};
-ghost use Rattle.names.specs.Making.{IsUnmadeIn, MakesDirectoryIn, MakesIn};
+ghost use Rattle.names.specs.Making.{IsUnmadeDirectoryIn, IsUnmadeIn, MakesDirectoryIn, MakesIn};
 ghost use Rattle.names.specs.Numbered.{EmptiesAt, IsNoFileOrDirectory, WritesSomeOf, some_told};
-ghost use Rattle.names.specs.Ready.{Happens, IsUnanswered, LeavesTree, MayGoOn, NamesStayOnce, TreeStays};
+ghost use Rattle.names.specs.Ready.{Happens, IsUnanswered, LeavesTree, MayGoOn, TreeStays};
 ghost use Rattle.names.specs.Removing.{IsUnremovedIn, RemovesIn};
 ghost use Rattle.names.specs.Trees.{IsFile, IsTree};
 ghost use Rattle.names.specs.Undirecting.{IsUnemptiedIn, RemovesDirectoryIn};
@@ -115,7 +115,6 @@ impl<D: Disk> Tree<D> {
         ensures empties { IfOk result (λ done. EmptiesAt number done
             (files_of (image_on D.image self.old.kernel))
             (files_of (image_on D.image self.new.kernel))) }
-        ensures once { OnOk result (NamesStayOnce D.image self.old.kernel self.new.kernel) }
         ensures refused { IfErr result (IsUnanswered D.Disk (IsNoFileOrDirectory number)
             self.old.kernel self.new.kernel) }
         ensures leaves { 0 < self.old.calls_left → LeavesTree D.Disk (EmptiesAt number)
@@ -145,7 +144,6 @@ impl<D: Disk> Tree<D> {
             number offset bytes.now done
             (files_of (image_on D.image self.old.kernel))
             (files_of (image_on D.image self.new.kernel))) }
-        ensures once { OnOk result (NamesStayOnce D.image self.old.kernel self.new.kernel) }
         ensures refused { IfErr result (IsUnanswered D.Disk (IsNoFileOrDirectory number)
             self.old.kernel self.new.kernel) }
         ensures leaves { 0 < self.old.calls_left → LeavesTree D.Disk
@@ -177,7 +175,6 @@ impl<D: Disk> Tree<D> {
         ensures makes { IfOk result (λ number. MakesIn from name.now number
             (files_of (image_on D.image self.old.kernel))
             (files_of (image_on D.image self.new.kernel))) }
-        ensures once { OnOk result (NamesStayOnce D.image self.old.kernel self.new.kernel) }
         ensures refused { IfErr result (IsUnanswered D.Disk
             (λ files. IsUnmadeIn files from name.now) self.old.kernel self.new.kernel) }
         ensures leaves { 0 < self.old.calls_left → LeavesTree D.Disk (MakesIn from name.now)
@@ -192,7 +189,7 @@ impl<D: Disk> Tree<D> {
     ///
     /// # Errors
     ///
-    /// As those of `make_in`.
+    /// As those of `make_in`, and `TooManyLinks` where the count of the other directory is the greatest.
     pub fn make_directory_in(
         &mut self,
         alloc: Global,
@@ -204,9 +201,8 @@ impl<D: Disk> Tree<D> {
         ensures makes { IfOk result (λ number. MakesDirectoryIn from name.now number
             (files_of (image_on D.image self.old.kernel))
             (files_of (image_on D.image self.new.kernel))) }
-        ensures once { OnOk result (NamesStayOnce D.image self.old.kernel self.new.kernel) }
         ensures refused { IfErr result (IsUnanswered D.Disk
-            (λ files. IsUnmadeIn files from name.now) self.old.kernel self.new.kernel) }
+            (λ files. IsUnmadeDirectoryIn files from name.now) self.old.kernel self.new.kernel) }
         ensures leaves { 0 < self.old.calls_left → LeavesTree D.Disk
             (MakesDirectoryIn from name.now) self.old.kernel self.new.kernel }
         ensures stays { StaysOver D.Disk self.old.kernel self.new.kernel }
@@ -215,14 +211,13 @@ impl<D: Disk> Tree<D> {
         self.changed_at(alloc, &[], &At { from, name, change })
     }
 
-    /// Removes a file with its name in the directory of a number. A directory is not removed so, nor a
-    /// file with several names.
+    /// Removes a name in the directory of a number, and the file that it leads to where it is the last
+    /// one that does. A directory is not removed so.
     ///
     /// # Errors
     ///
     /// - `Refused`, with the files as they were: `NotADirectory` where the number is that of none,
-    ///   `NotFound` where the name is not there, `IsADirectory` where it leads to one, `LinkedTwice`
-    ///   where another name leads to its file.
+    ///   `NotFound` where the name is not there, `IsADirectory` where it leads to one.
     /// - `Call`, `NoCall`: as every call of a tree.
     pub fn remove_in(&mut self, alloc: Global, from: u32, name: &Name) -> Result<(), TreeFault>
         requires ready { MayGoOn D.Disk self.old.kernel self.old.calls_left }
@@ -230,7 +225,6 @@ impl<D: Disk> Tree<D> {
         ensures removes { IfOk result (λ done. RemovesIn from name.now done
             (files_of (image_on D.image self.old.kernel))
             (files_of (image_on D.image self.new.kernel))) }
-        ensures once { OnOk result (NamesStayOnce D.image self.old.kernel self.new.kernel) }
         ensures refused { IfErr result (IsUnanswered D.Disk
             (λ files. IsUnremovedIn files from name.now) self.old.kernel self.new.kernel) }
         ensures leaves { 0 < self.old.calls_left → LeavesTree D.Disk (RemovesIn from name.now)
@@ -260,7 +254,6 @@ impl<D: Disk> Tree<D> {
         ensures removes { IfOk result (λ done. RemovesDirectoryIn from name.now done
             (files_of (image_on D.image self.old.kernel))
             (files_of (image_on D.image self.new.kernel))) }
-        ensures once { OnOk result (NamesStayOnce D.image self.old.kernel self.new.kernel) }
         ensures refused { IfErr result (IsUnanswered D.Disk
             (λ files. IsUnemptiedIn files from name.now) self.old.kernel self.new.kernel) }
         ensures leaves { 0 < self.old.calls_left → LeavesTree D.Disk

@@ -1,5 +1,6 @@
 // Files of a tree that get a name in another directory.
 ghost use Rattle.std.specs.Prelude.{◌≡◌, ◌≢◌, ◌↔◌, IfErr, IfOk, IsTrue, OnOk};
+ghost use Rattle.names.specs.Counts.{AreCounted, HasLinks};
 ghost use Rattle.names.specs.Inside.{files_seen, IsUnderWay, Proceeds, SeesSame};
 ghost use Rattle.names.specs.Ready.{Happens, TreeStays};
 ghost use Rattle.names.specs.Renaming.{IsPlanned, IsUnrenamed, Renames, Rises};
@@ -22,7 +23,16 @@ pub(crate) struct Plan {
     // Its old one is unlinked.
     pub(crate) unlink: EntryWrite,
     // A directory gets its new parent.
-    pub(crate) up: Option<EntryWrite>,
+    pub(crate) rise: Option<Rise>,
+}
+
+// What gives a directory another parent, and the counts that the old and the new one have then.
+#[derive(Drop)]
+pub(crate) struct Rise {
+    // Its name for its parent leads to the new one.
+    pub(crate) up: EntryWrite,
+    pub(crate) left: u16,
+    pub(crate) more: u16,
 }
 
 impl<D: Disk> Tree<D> {
@@ -37,6 +47,7 @@ impl<D: Disk> Tree<D> {
     ) -> Asked<()>
         requires way { IsUnderWay D.Disk self.old.kernel self.old.calls_left }
         requires tree { IsTree (files_seen D.image self.old.kernel) }
+        requires counted { AreCounted (files_seen D.image self.old.kernel) }
         requires apart { from ≢ to }
         ensures goes { Proceeds D.Disk result self.old.kernel self.new.kernel self.new.calls_left }
         ensures tree { OnOk result (TreeStays D.image self.old.kernel self.new.kernel) }
@@ -52,10 +63,12 @@ impl<D: Disk> Tree<D> {
             return Ok(Err(Refusal::NoBlock));
         }
         let _freed = self.entered(alloc, from, plan.unlink)?;
-        let Some(up) = plan.up else {
+        let Some(rise) = plan.rise else {
             return Ok(Ok(()));
         };
-        let _turned = self.entered(alloc, plan.file, up)?;
+        self.relinked(from, rise.left)?;
+        self.relinked(to, rise.more)?;
+        let _turned = self.entered(alloc, plan.file, rise.up)?;
         Ok(Ok(()))
     }
 
@@ -63,6 +76,7 @@ impl<D: Disk> Tree<D> {
     fn planned(&mut self, from: u32, old: &Name, to: u32, name: &Name) -> Asked<Plan>
         requires way { IsUnderWay D.Disk self.old.kernel self.old.calls_left }
         requires tree { IsTree (files_seen D.image self.old.kernel) }
+        requires counted { AreCounted (files_seen D.image self.old.kernel) }
         requires apart { from ≢ to }
         ensures goes { Proceeds D.Disk result self.old.kernel self.new.kernel self.new.calls_left }
         ensures same { OnOk result (SeesSame D.image self.old.kernel self.new.kernel) }
@@ -94,26 +108,27 @@ impl<D: Disk> Tree<D> {
             unreachable!()
         };
         let file = u32::from(number);
-        match self.rise(file, own)? {
-            Ok(up) => Ok(Ok(Plan {
+        match self.rise(file, from, own)? {
+            Ok(rise) => Ok(Ok(Plan {
                 file,
                 link: linking,
                 unlink: freeing,
-                up,
+                rise,
             })),
             Err(refusal) => Ok(Err(refusal)),
         }
     }
 
-    // The write that gives a directory another parent; none for a file that is no directory.
-    fn rise(&mut self, number: u32, to: u16) -> Asked<Option<EntryWrite>>
+    // What gives a directory another parent; nothing for a file that is no directory.
+    fn rise(&mut self, number: u32, from: u32, to: u16) -> Asked<Option<Rise>>
         requires way { IsUnderWay D.Disk self.old.kernel self.old.calls_left }
         requires tree { IsTree (files_seen D.image self.old.kernel) }
         requires there { IsDirectory (files_seen D.image self.old.kernel) to }
         requires below { number ≢ root }
+        requires parent { HasLinks (files_seen D.image self.old.kernel) from }
         ensures goes { Proceeds D.Disk result self.old.kernel self.new.kernel self.new.calls_left }
         ensures same { OnOk result (SeesSame D.image self.old.kernel self.new.kernel) }
-        ensures rises { IfOk result (Rises (files_seen D.image self.old.kernel) number to) }
+        ensures rises { IfOk result (Rises (files_seen D.image self.old.kernel) number from to) }
     {
         if !self.is_directory(number)? {
             return Ok(Ok(None));
@@ -121,12 +136,21 @@ impl<D: Disk> Tree<D> {
         if !self.is_outside(number, u32::from(to))? {
             return Ok(Err(Refusal::IsInside));
         }
+        let links = self.links_of(from)?;
+        let more = match self.one_more(u32::from(to))? {
+            Ok(more) => more,
+            Err(refusal) => return Ok(Err(refusal)),
+        };
         let bytes = self.tidy_directory(number)?;
         let Some(up) = repoint(bytes.as_slice(), &Name::parent(), to) else {
             // A directory has a parent.
             unreachable!()
         };
-        Ok(Ok(Some(up)))
+        Ok(Ok(Some(Rise {
+            up,
+            left: links - 1,
+            more,
+        })))
     }
 
     // Whether a directory is neither another one nor below it. From parent to parent it comes to that

@@ -8,7 +8,7 @@ ghost use Rattle.names.specs.Contents.{IsNoPlain};
 ghost use Rattle.names.specs.Inside.{files_seen, IsUnderWay, ProceedsOr};
 ghost use Rattle.names.specs.Paths.{names_of};
 ghost use Rattle.names.specs.Putting.{file_of, told, IsUnputIn, PutsAt, PutsIn, Refills};
-ghost use Rattle.names.specs.Ready.{Happens, IsUnwritten, LeavesTree, MayGoOn, NamesStayOnce, TreeStays};
+ghost use Rattle.names.specs.Ready.{Happens, IsUnwritten, LeavesTree, MayGoOn, TreeStays};
 ghost use Rattle.names.specs.Trees.{IsFile, IsTree};
 ghost use Rattle.names.specs.Walks.{IsUndoneIn};
 
@@ -31,6 +31,12 @@ struct NewBytes<'a> {
 
 impl<'a> New for NewBytes<'a> {
     ghost file = { λ new number parent. file_of new.bytes.now };
+
+    ghost counts = { λ new. ⊥ };
+
+    fn is_directory(&self) -> bool {
+        false
+    }
 
     fn create<D: Disk>(&self, tree: &mut Tree<D>, alloc: Global, _parent: u32) -> Asked<u16> {
         let Some(number) = tree.created(FILE_KIND)? else {
@@ -111,7 +117,6 @@ impl<D: Disk> Tree<D> {
         ensures puts { IfOk result (λ done. PutsAt bytes.now (names_of path.now) done
             (files_of (image_on D.image self.old.kernel))
             (files_of (image_on D.image self.new.kernel))) }
-        ensures once { OnOk result (NamesStayOnce D.image self.old.kernel self.new.kernel) }
         ensures refused { IfErr result (IsUnwritten D.Disk path.now
             (IsUndoneIn IsUnputIn (names_of path.now)) self.old.kernel self.new.kernel) }
         ensures leaves { 0 < self.old.calls_left → LeavesTree D.Disk

@@ -39,9 +39,9 @@ pub enum Refusal {
     /// The last name is a directory's for itself or for its parent.
     #[error("the last name does not lead down")]
     NotDown,
-    /// Another name leads to the file, which is not removed then.
-    #[error("the file has another name")]
-    LinkedTwice,
+    /// As many names lead to the file as its count can say: 32,767, xv6's `short`.
+    #[error("too many names lead to the file")]
+    TooManyLinks,
 }
 
 /// Why a call of a tree was not answered.

@@ -5,9 +5,9 @@ ghost use Rattle.calls.specs.Stopped.{StaysOver};
 ghost use Rattle.model.specs.Files.{files_of};
 ghost use Rattle.names.specs.Inside.{files_seen, IsUnderWay, Proceeds};
 ghost use Rattle.names.specs.Paths.{names_of};
-ghost use Rattle.names.specs.Ready.{IsUndone, LeavesTree, MayGoOn, NamesStayOnce, TreeStays};
-ghost use Rattle.names.specs.Removing.{IsUnremovedIn, MayDrop, RemovesAt, RemovesIn};
-ghost use Rattle.names.specs.TreeChanges.{DropsName};
+ghost use Rattle.names.specs.Ready.{IsUndone, LeavesTree, MayGoOn, TreeStays};
+ghost use Rattle.names.specs.Removing.{IsUnremovedIn, KeepsLinks, MayDrop, MayLose, RemovesAt, RemovesIn};
+ghost use Rattle.names.specs.TreeChanges.{DropsName, UnlinksName};
 ghost use Rattle.names.specs.Trees.{IsTree};
 ghost use Rattle.names.specs.Walks.{IsUndoneIn};
 
@@ -50,8 +50,10 @@ impl ChangeIn for RemoveFile {
         if let Some(_other) = tree.directory(number)? {
             return Ok(Err(Refusal::IsADirectory));
         }
-        if tree.has_other_name(from, name, number)? {
-            return Ok(Err(Refusal::LinkedTwice));
+        let links = tree.links_of(number)?;
+        if links > 1 {
+            tree.unnamed(alloc, from, bytes.as_slice(), name, number, links - 1)?;
+            return Ok(Ok(()));
         }
         tree.dropped(alloc, from, bytes.as_slice(), name, number)?;
         Ok(Ok(()))
@@ -59,14 +61,14 @@ impl ChangeIn for RemoveFile {
 }
 
 impl<D: Disk> Tree<D> {
-    /// Removes the file at a path with its name. A directory is not removed so, nor a file with
-    /// several names: each directory is looked into for another one.
+    /// Removes the name at a path, and the file that it leads to where it is the last one that does. A
+    /// directory is not removed so.
     ///
     /// # Errors
     ///
     /// - `Path`: the bytes are no path; nothing was done.
     /// - `Refused`, with the files as they were: `NotFound`, `NotADirectory` and `IsRoot` for the path;
-    ///   `IsADirectory` where the name leads to one, `LinkedTwice` where another name leads to its file.
+    ///   `IsADirectory` where the name leads to one.
     /// - `Call`, `NoCall`: as every call of a tree.
     pub fn remove(&mut self, alloc: Global, path: &[u8]) -> Result<(), TreeFault>
         requires ready { MayGoOn D.Disk self.old.kernel self.old.calls_left }
@@ -74,7 +76,6 @@ impl<D: Disk> Tree<D> {
         ensures removes { IfOk result (λ done. RemovesAt (names_of path.now) done
             (files_of (image_on D.image self.old.kernel))
             (files_of (image_on D.image self.new.kernel))) }
-        ensures once { OnOk result (NamesStayOnce D.image self.old.kernel self.new.kernel) }
         ensures refused { IfErr result (IsUndone D.Disk path.now
             (IsUndoneIn IsUnremovedIn (names_of path.now)) self.old.kernel self.new.kernel) }
         ensures leaves { 0 < self.old.calls_left → LeavesTree D.Disk (RemovesAt (names_of path.now))
@@ -84,7 +85,37 @@ impl<D: Disk> Tree<D> {
         self.changed(alloc, path, &Last { change: RemoveFile })
     }
 
-    // Frees the entry of a file's only name in a directory of those bytes, and removes the file.
+    // Frees the entry of a name in a directory of those bytes, whose file has others and that count
+    // then.
+    fn unnamed(
+        &mut self,
+        alloc: Global,
+        from: u32,
+        bytes: &[u8],
+        name: &Name,
+        number: u32,
+        left: u16,
+    ) -> Result<(), TreeFault>
+        requires way { IsUnderWay D.Disk self.old.kernel self.old.calls_left }
+        requires tree { IsTree (files_seen D.image self.old.kernel) }
+        requires loses { MayLose (files_seen D.image self.old.kernel)
+            from bytes.now name.now number left }
+        ensures goes { Proceeds D.Disk result self.old.kernel self.new.kernel self.new.calls_left }
+        ensures tree { OnOk result (TreeStays D.image self.old.kernel self.new.kernel) }
+        ensures loses { OnOk result (UnlinksName (files_seen D.image self.old.kernel)
+            (files_seen D.image self.new.kernel) from name.now number) }
+    {
+        let Some(write) = unlink(bytes, name) else {
+            // It leads to a number.
+            unreachable!()
+        };
+        let _whole = self.entered(alloc, from, write)?;
+        self.relinked(number, left)?;
+        Ok(())
+    }
+
+    // Frees the entry of a file's only name in a directory of those bytes, and removes the file. The
+    // directory's count stays, though one that is removed counted in it.
     pub(crate) fn dropped(
         &mut self,
         alloc: Global,
@@ -98,9 +129,10 @@ impl<D: Disk> Tree<D> {
         requires drops { MayDrop (files_seen D.image self.old.kernel)
             from bytes.now name.now number }
         ensures goes { Proceeds D.Disk result self.old.kernel self.new.kernel self.new.calls_left }
-        ensures tree { OnOk result (TreeStays D.image self.old.kernel self.new.kernel) }
         ensures drops { OnOk result (DropsName (files_seen D.image self.old.kernel)
             (files_seen D.image self.new.kernel) from name.now number) }
+        ensures links { OnOk result (KeepsLinks from (files_seen D.image self.old.kernel)
+            (files_seen D.image self.new.kernel)) }
     {
         let Some(write) = unlink(bytes, name) else {
             // It leads to a number.

@@ -3,9 +3,10 @@ ghost use Rattle.std.specs.Prelude.{◌≡◌, ◌≢◌, ◌<◌, IfErr, IfOk, 
 ghost use Rattle.calls.specs.Calls.{image_on};
 ghost use Rattle.calls.specs.Stopped.{StaysOver};
 ghost use Rattle.model.specs.Files.{files_of};
+ghost use Rattle.names.specs.Counts.{AreCounted};
 ghost use Rattle.names.specs.Inside.{files_seen, IsUnderWay, Proceeds};
 ghost use Rattle.names.specs.Paths.{names_of};
-ghost use Rattle.names.specs.Ready.{Happens, LeavesTree, MayGoOn, NamesStayOnce, TreeStays};
+ghost use Rattle.names.specs.Ready.{Happens, LeavesTree, MayGoOn, TreeStays};
 ghost use Rattle.names.specs.Renaming.{IsUndoneAt, IsUndoneAtBoth, IsUnrenamed, Renames, RenamesAt};
 ghost use Rattle.names.specs.Trees.{IsTree};
 
@@ -77,7 +78,6 @@ impl<D: Disk> Tree<D> {
         ensures renames { IfOk result (λ done. RenamesAt (names_of path.now) (names_of into.now) done
             (files_of (image_on D.image self.old.kernel))
             (files_of (image_on D.image self.new.kernel))) }
-        ensures once { OnOk result (NamesStayOnce D.image self.old.kernel self.new.kernel) }
         ensures refused { IfErr result (IsUndoneAtBoth D.Disk path.now into.now
             (IsUndoneAt (names_of path.now) (names_of into.now)) self.old.kernel self.new.kernel) }
         ensures leaves { 0 < self.old.calls_left → LeavesTree D.Disk
@@ -102,6 +102,7 @@ impl<D: Disk> Tree<D> {
     pub(crate) fn renamed(&mut self, alloc: Global, from: u32, old: &Name, name: &Name) -> Asked<()>
         requires way { IsUnderWay D.Disk self.old.kernel self.old.calls_left }
         requires tree { IsTree (files_seen D.image self.old.kernel) }
+        requires counted { AreCounted (files_seen D.image self.old.kernel) }
         ensures goes { Proceeds D.Disk result self.old.kernel self.new.kernel self.new.calls_left }
         ensures tree { OnOk result (TreeStays D.image self.old.kernel self.new.kernel) }
         ensures renamed { IfOk result (Happens (Renames from old.now from name.now)

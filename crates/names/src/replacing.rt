@@ -3,9 +3,10 @@ ghost use Rattle.std.specs.Prelude.{◌≡◌, ◌<◌, IfErr, IfOk, OnOk};
 ghost use Rattle.calls.specs.Calls.{image_on};
 ghost use Rattle.calls.specs.Stopped.{StaysOver};
 ghost use Rattle.model.specs.Files.{files_of};
+ghost use Rattle.names.specs.Counts.{AreCounted};
 ghost use Rattle.names.specs.Inside.{files_seen, IsUnderWay, Proceeds, SeesSame};
 ghost use Rattle.names.specs.Replacing.{Clears, IsReplaceable, IsUncleared, IsUnreplaced, Replaces};
-ghost use Rattle.names.specs.Ready.{Happens, IsUnanswered, LeavesTree, MayGoOn, NamesStayOnce, TreeStays};
+ghost use Rattle.names.specs.Ready.{Happens, IsUnanswered, LeavesTree, MayGoOn, TreeStays};
 ghost use Rattle.names.specs.Renaming.{IsUnrenamed, Renames};
 ghost use Rattle.names.specs.Trees.{IsTree};
 
@@ -96,6 +97,7 @@ impl<D: Disk> Tree<D> {
     ) -> Asked<()>
         requires way { IsUnderWay D.Disk self.old.kernel self.old.calls_left }
         requires tree { IsTree (files_seen D.image self.old.kernel) }
+        requires counted { AreCounted (files_seen D.image self.old.kernel) }
         ensures goes { Proceeds D.Disk result self.old.kernel self.new.kernel self.new.calls_left }
         ensures tree { OnOk result (TreeStays D.image self.old.kernel self.new.kernel) }
         ensures renamed { IfOk result (Happens (Renames from old.now to name.now)
@@ -155,6 +157,7 @@ impl<D: Disk> Tree<D> {
     ) -> Asked<()>
         requires way { IsUnderWay D.Disk self.old.kernel self.old.calls_left }
         requires tree { IsTree (files_seen D.image self.old.kernel) }
+        requires counted { AreCounted (files_seen D.image self.old.kernel) }
         ensures goes { Proceeds D.Disk result self.old.kernel self.new.kernel self.new.calls_left }
         ensures tree { OnOk result (TreeStays D.image self.old.kernel self.new.kernel) }
         ensures cleared { IfOk result (Happens (Clears to name.now aside.now keeps)
@@ -191,7 +194,6 @@ impl<D: Disk> Tree<D> {
         ensures renames { IfOk result (λ done. Renames from old.now to name.now done
             (files_of (image_on D.image self.old.kernel))
             (files_of (image_on D.image self.new.kernel))) }
-        ensures once { OnOk result (NamesStayOnce D.image self.old.kernel self.new.kernel) }
         ensures refused { IfErr result (IsUnanswered D.Disk
             (λ files. IsUnrenamed files from old.now to name.now) self.old.kernel self.new.kernel) }
         ensures leaves { 0 < self.old.calls_left → LeavesTree D.Disk
@@ -233,7 +235,6 @@ impl<D: Disk> Tree<D> {
             Replaces from old.now to name.now aside.now keeps done
             (files_of (image_on D.image self.old.kernel))
             (files_of (image_on D.image self.new.kernel))) }
-        ensures once { OnOk result (NamesStayOnce D.image self.old.kernel self.new.kernel) }
         ensures refused { IfErr result (IsUnanswered D.Disk
             (IsUnreplaced from old.now to name.now aside.now keeps)
             self.old.kernel self.new.kernel) }

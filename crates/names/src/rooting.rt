@@ -24,7 +24,7 @@ const MOST_CALLS: u64 = 1 << 62;
 impl<D: Disk> Tree<D> {
     /// A tree over a kernel between two transactions. That the files on its disk are a tree, or that
     /// `make_root` is to make them one, the caller knows.
-    pub fn over(kernel: Pair<D>) -> Tree<D>
+    pub fn over(alloc: Global, kernel: Pair<D>) -> Tree<D>
         requires rests { Rests D.fault_count kernel }
         requires few { call_count kernel < 2 ^ 62 }
         ensures kernel { result.kernel ≡ kernel }
@@ -34,6 +34,7 @@ impl<D: Disk> Tree<D> {
         Tree {
             kernel,
             calls_left: MOST_CALLS,
+            alloc,
         }
     }
 

@@ -1,5 +1,6 @@
 // A kernel whose files are a tree of directories, and the calls of its transactions.
 ghost use Rattle.std.specs.Prelude.{◌≡◌, ◌↔◌, ◌<◌, IfErr, IfOk, IsTrue, OnOk};
+ghost use Rattle.names.specs.Counts.{AreCounted};
 ghost use Rattle.names.specs.Inside.{files_seen, Answers, Ends, HasCause, IsUnderWay, LeavesFiles, Proceeds};
 ghost use Rattle.names.specs.Ready.{EndsOn, HasBegun, HasCommitted, IsIdle, MayGoOn};
 ghost use Rattle.names.specs.Trees.{IsTree};
@@ -17,6 +18,8 @@ pub struct Tree<D: Disk> {
     pub(crate) kernel: Pair<D>,
     // How many calls may be made yet; none behind one that failed.
     pub(crate) calls_left: u64,
+    // For the bytes of directories, which are read in pieces.
+    pub(crate) alloc: Global,
 }
 
 impl<D: Disk> Tree<D> {
@@ -60,6 +63,7 @@ impl<D: Disk> Tree<D> {
     pub(crate) fn committed(&mut self) -> Result<(), TreeFault>
         requires way { IsUnderWay D.Disk self.old.kernel self.old.calls_left }
         requires tree { IsTree (files_seen D.image self.old.kernel) }
+        requires counted { AreCounted (files_seen D.image self.old.kernel) }
         ensures commits { OnOk result (HasCommitted D.Disk
             self.old.kernel self.new.kernel self.new.calls_left) }
         ensures leaves { EndsOn D.Disk self.old.kernel self.new.kernel }

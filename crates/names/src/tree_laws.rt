@@ -1,16 +1,16 @@
 //! What changes of names make of a tree of directories, the contracts of functions that do nothing.
 ghost use Rattle.names.specs.CountLaws.{AddingCounts, AddingDirectoryCounts, CountsAreOne, DirectoriesCount, DroppingCounts, DroppingDirectoryCounts, KeepingCounts, LinkingKeeps, MoreCountOthers, MovingCounts, MovingDirectoryCounts, OneCountsOnce, RootCounts, UnlinkingKeeps};
 ghost use Rattle.names.specs.PathLaws.{DirectoriesAreNamedOnce, FilesAreReached, NamesAreOne, NamesLead};
-ghost use Rattle.names.specs.TreeLaws.{AddingKeeps, CreateMakes, DroppingKeeps, FilesAreNew, KeepingKeeps, LinkAdds, LinkLeads, LinkMoves, MovingDirectoryKeeps, MovingKeeps, PlainKeeps, ReadsWhole, RelinkLeads, RemoveDrops, RemoveUndoes, RepointLeads, RootIsTree, UnlinkLeads, UnlinkMoves, WriteFills};
+ghost use Rattle.names.specs.TreeLaws.{AddingKeeps, CreateMakes, DroppingKeeps, FilesAreNew, KeepingKeeps, LinkAdds, LinkLeads, LinkMoves, MovingDirectoryKeeps, MovingKeeps, PlainKeeps, ReadsPart, RelinkLeads, RemoveDrops, RemoveUndoes, RepointLeads, RootIsTree, UnlinkLeads, UnlinkMoves, WriteFills};
 ghost use Rattle.names.specs.TreeMeaning.{DirectoriesAreTidy, EntriesLead, NoHalfIsTree, NumbersStandOnce, ParentsDecide, RootIsOutside, StepsLead};
 ghost use Rattle.names.specs.WholeChanges.{MakesDirectoryWhole, MakesFileWhole, MakesRootWhole, MovesDirectoryWhole, MovesFileWhole, RemovesFileWhole, RenamesFileWhole};
 
 /// What one operation on a directory, with its reply, makes of where its names lead. A read brings
-/// the whole directory. The write of an entry is whole, unless it is behind the last entry and no
+/// the bytes from an offset on, as many as one can. The write of an entry is whole, unless it is behind the last entry and no
 /// block is free: then nothing is written. A file that was made and has no name yet is removed again
 /// without a trace. What is done to files that are no directories changes no name.
 pub fn operations_lead()
-    ensures read { ReadsWhole }
+    ensures read { ReadsPart }
     ensures linked { LinkLeads }
     ensures unlinked { UnlinkLeads }
     ensures linked_again { RelinkLeads }

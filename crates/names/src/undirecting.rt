@@ -5,7 +5,7 @@ ghost use Rattle.calls.specs.Stopped.{StaysOver};
 ghost use Rattle.model.specs.Files.{files_of};
 ghost use Rattle.names.specs.Inside.{files_seen, IsUnderWay, Proceeds, SeesSame};
 ghost use Rattle.names.specs.Paths.{names_of};
-ghost use Rattle.names.specs.Ready.{IsUndone, LeavesTree, MayGoOn, NamesStayOnce};
+ghost use Rattle.names.specs.Ready.{IsUndone, LeavesTree, MayGoOn};
 ghost use Rattle.names.specs.Undirecting.{IsEmptinessOf, IsUnemptiedIn, RemovesDirectoryAt, RemovesDirectoryIn};
 ghost use Rattle.names.specs.Trees.{IsTree};
 ghost use Rattle.names.specs.Walks.{IsUndoneIn};
@@ -55,7 +55,10 @@ impl ChangeIn for RemoveDirectory {
         if !empty {
             return Ok(Err(Refusal::NotEmpty));
         }
+        let links = tree.links_of(from)?;
         tree.dropped(alloc, from, bytes.as_slice(), name, number)?;
+        // Its name for its parent is gone.
+        tree.relinked(from, links - 1)?;
         Ok(Ok(()))
     }
 }
@@ -76,7 +79,6 @@ impl<D: Disk> Tree<D> {
         ensures removes { IfOk result (λ done. RemovesDirectoryAt (names_of path.now) done
             (files_of (image_on D.image self.old.kernel))
             (files_of (image_on D.image self.new.kernel))) }
-        ensures once { OnOk result (NamesStayOnce D.image self.old.kernel self.new.kernel) }
         ensures refused { IfErr result (IsUndone D.Disk path.now
             (IsUndoneIn IsUnemptiedIn (names_of path.now)) self.old.kernel self.new.kernel) }
         ensures leaves { 0 < self.old.calls_left → LeavesTree D.Disk

@@ -5,7 +5,7 @@ use Rattle.clap.specs.declared.builder.action.ArgAction.TheVariants.{Append, Set
 use Rattle.cli.specs.Asking.{HasFlag, HasNumber, Wording}
 use Rattle.cli.specs.CommandLine.{flag_rule, image_app, named_app, number_rule, required_rule}
 use Rattle.names_words.specs.declared.words.Request.{Request}
-use Rattle.names_words.specs.declared.words.Request.TheVariants.{Ls, Tree, Cat, Get, Put, Rm, Mv, Mkdir, Rmdir, Mkfs}
+use Rattle.names_words.specs.declared.words.Request.TheVariants.{Ls, Tree, Cat, Get, Put, Rm, Mv, Ln, Mkdir, Rmdir, Recount, Mkfs}
 
 -- a look at a directory, the root where none is given
 abbrev pub look_app : List ℕ → App
@@ -32,6 +32,10 @@ abbrev pub mv_app : App
 mv_app = changing (with_rule (with_rule (image_app (codes "mv")) (required_rule (codes "FROM")))
     (required_rule (codes "TO")))
 
+abbrev pub ln_app : App
+ln_app = changing (with_rule (with_rule (image_app (codes "ln")) (required_rule (codes "OLD")))
+    (required_rule (codes "NEW")))
+
 -- any number of files behind the others
 abbrev pub mkfs_app : App
 mkfs_app = with_rule (with_rule (with_rule (with_rule (image_app (codes "mkfs"))
@@ -43,11 +47,12 @@ abbrev pub xvnames_app : App
 xvnames_app =
     with_subcommand (with_subcommand (with_subcommand (with_subcommand (with_subcommand
     (with_subcommand (with_subcommand (with_subcommand (with_subcommand (with_subcommand
+    (with_subcommand (with_subcommand
     (named_app (codes "xvnames")) (look_app (codes "ls")).top) (look_app (codes "tree")).top)
     (path_app (codes "cat")).top) get_app.top) put_app.top)
-    (changing (path_app (codes "rm"))).top) mv_app.top)
+    (changing (path_app (codes "rm"))).top) mv_app.top) ln_app.top)
     (changing (path_app (codes "mkdir"))).top) (changing (path_app (codes "rmdir"))).top)
-    mkfs_app.top
+    (changing (image_app (codes "recount"))).top) mkfs_app.top
 
 -- a word has that value
 abbrev pub HasWord : List ℕ → List Row → List ℕ → Type 0
@@ -86,10 +91,15 @@ AsksBy name rows (Rm image path sync no_sync) = (name ≡ codes "rm")
 AsksBy name rows (Mv image from to sync no_sync) = (name ≡ codes "mv")
     × Changes rows image.now sync no_sync × HasWord (codes "FROM") rows from.now
     × HasWord (codes "TO") rows to.now
+AsksBy name rows (Ln image path into sync no_sync) = (name ≡ codes "ln")
+    × Changes rows image.now sync no_sync × HasWord (codes "OLD") rows path.now
+    × HasWord (codes "NEW") rows into.now
 AsksBy name rows (Mkdir image path sync no_sync) = (name ≡ codes "mkdir")
     × Changes rows image.now sync no_sync × HasWord (codes "PATH") rows path.now
 AsksBy name rows (Rmdir image path sync no_sync) = (name ≡ codes "rmdir")
     × Changes rows image.now sync no_sync × HasWord (codes "PATH") rows path.now
+AsksBy name rows (Recount image sync no_sync) = (name ≡ codes "recount")
+    × Changes rows image.now sync no_sync
 AsksBy name rows (Mkfs image size ninodes files no_sync) = (name ≡ codes "mkfs")
     × HasWord (codes "IMAGE") rows image.now × HasNumber 32 (codes "SIZE") rows size
     × HasNumber 32 (codes "NINODES") rows ninodes

@@ -7,7 +7,7 @@ use cli::table::{
 pub const XVNAMES: Outline = Outline {
     name: "xvnames",
     version: "0.1.0",
-    about: "Lists, reads, puts, moves and removes the files of images of the xv6 file system by their paths, and makes images with files; without words, does the command lines of standard input",
+    about: "Lists, reads, puts, moves, links and removes the files of images of the xv6 file system by their paths, and makes images with files; without words, does the command lines of standard input",
     lines: LINES,
 };
 
@@ -84,7 +84,7 @@ const LINES: &[Line] = &[
     },
     Line {
         name: "rm",
-        about: "Removes a file, which is no directory",
+        about: "Removes a name of a file, which is no directory, and the file with its last name",
         example: "Example: xvnames rm fs.img /docs/notes.txt",
         words: &[IMAGE, WAIT, EXPLAIN, NO_LOCK, PATH, SYNC, NO_SYNC],
     },
@@ -112,6 +112,29 @@ const LINES: &[Line] = &[
         ],
     },
     Line {
+        name: "ln",
+        about: "Gives a file, which is no directory, a second name",
+        example: "Example: xvnames ln fs.img /README /docs/readme",
+        words: &[
+            IMAGE,
+            WAIT,
+            EXPLAIN,
+            NO_LOCK,
+            Word {
+                name: "OLD",
+                kind: Kind::Needed,
+                help: "The path in the image that it has",
+            },
+            Word {
+                name: "NEW",
+                kind: Kind::Needed,
+                help: "The path in the image that it gets besides, where nothing is",
+            },
+            SYNC,
+            NO_SYNC,
+        ],
+    },
+    Line {
         name: "mkdir",
         about: "Makes a directory",
         example: "Example: xvnames mkdir fs.img /docs",
@@ -122,6 +145,12 @@ const LINES: &[Line] = &[
         about: "Removes a directory in which nothing is",
         example: "Example: xvnames rmdir fs.img /docs",
         words: &[IMAGE, WAIT, EXPLAIN, NO_LOCK, PATH, SYNC, NO_SYNC],
+    },
+    Line {
+        name: "recount",
+        about: "Sets each file's wrong count of links to how many names lead to it, and prints how many were wrong",
+        example: "Example: xvnames recount fs.img",
+        words: &[IMAGE, WAIT, EXPLAIN, NO_LOCK, SYNC, NO_SYNC],
     },
     Line {
         name: "mkfs",

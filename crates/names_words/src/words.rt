@@ -82,6 +82,19 @@ pub enum Request<'a> {
         /// Whether the sync at the end is left out.
         no_sync: bool,
     },
+    /// A second name for a file.
+    Ln {
+        /// The path of the image's file.
+        image: &'a str,
+        /// The path that it has.
+        path: &'a str,
+        /// The path that it gets besides.
+        into: &'a str,
+        /// Whether the image's file holds writes back until it is synced.
+        sync: bool,
+        /// Whether the sync at the end is left out.
+        no_sync: bool,
+    },
     /// A new directory.
     Mkdir {
         /// The path of the image's file.
@@ -99,6 +112,15 @@ pub enum Request<'a> {
         image: &'a str,
         /// The directory's path.
         path: &'a str,
+        /// Whether the image's file holds writes back until it is synced.
+        sync: bool,
+        /// Whether the sync at the end is left out.
+        no_sync: bool,
+    },
+    /// The files' counts of links, put right.
+    Recount {
+        /// The path of the image's file.
+        image: &'a str,
         /// Whether the image's file holds writes back until it is synced.
         sync: bool,
         /// Whether the sync at the end is left out.
@@ -185,6 +207,8 @@ fn request_of<'a>(name: &str, values: &ArgMatches<'a>) -> Option<Request<'a>>
         "put" => put_request(values),
         "get" => get_request(values),
         "mv" => mv_request(values),
+        "ln" => ln_request(values),
+        "recount" => recount_request(values),
         "rm" | "mkdir" | "rmdir" => change_request(name, values),
         "cat" => cat_request(values),
         _ => look_request(name, values),
@@ -221,6 +245,28 @@ fn mv_request<'a>(values: &ArgMatches<'a>) -> Option<Request<'a>>
         image: values.get_str("IMAGE")?,
         from: values.get_str("FROM")?,
         to: values.get_str("TO")?,
+        sync: values.get_flag("sync"),
+        no_sync: values.get_flag("no-sync"),
+    })
+}
+
+fn ln_request<'a>(values: &ArgMatches<'a>) -> Option<Request<'a>>
+    ensures { IfSome result (AsksBy (codes "ln") (rows_of (found_of values.now))) }
+{
+    Some(Request::Ln {
+        image: values.get_str("IMAGE")?,
+        path: values.get_str("OLD")?,
+        into: values.get_str("NEW")?,
+        sync: values.get_flag("sync"),
+        no_sync: values.get_flag("no-sync"),
+    })
+}
+
+fn recount_request<'a>(values: &ArgMatches<'a>) -> Option<Request<'a>>
+    ensures { IfSome result (AsksBy (codes "recount") (rows_of (found_of values.now))) }
+{
+    Some(Request::Recount {
+        image: values.get_str("IMAGE")?,
         sync: values.get_flag("sync"),
         no_sync: values.get_flag("no-sync"),
     })

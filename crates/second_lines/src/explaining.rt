@@ -67,7 +67,7 @@ fn of_layer<R: Files + AllocGlobal>(
         "copy" => of_copy(rt, given, refusal.number),
         "mkfs" => of_making(rt, given, refusal.number),
         "disk" => of_disk(rt, given, refusal),
-        "names" => with_phrase(rt.alloc(), given.name?, names_phrase(refusal.number)?),
+        "names" => of_names(rt.alloc(), given, refusal),
         "recover" | "open" => of_opening(rt, given, refusal),
         "output" => of_output(rt, given),
         "run" => with_phrase(rt.alloc(), given.image?, run_phrase(refusal.number)?),
@@ -76,6 +76,22 @@ fn of_layer<R: Files + AllocGlobal>(
         "picture" => of_picture(rt, given, refusal.number),
         _ => None,
     }
+}
+
+// Of a path in an image, or of the image's files.
+fn of_names(alloc: Global, given: &Given<'_>, refusal: Refusal<'_>) -> Option<String> {
+    match refusal.number {
+        21 => miscounted(alloc, given.image?, refusal.argument?),
+        number => with_phrase(alloc, given.name.or(given.image)?, names_phrase(number)?),
+    }
+}
+
+// Of a file whose count of links is wrong.
+fn miscounted(alloc: Global, image: &str, number: u32) -> Option<String> {
+    let path = quoted(alloc, image)?;
+    format!(in alloc;
+        "{path}: file {number} has not as many links as names; xvnames recount {path} puts that right"
+    ).ok()
 }
 
 // Of memory that was refused: all that is known is for what.

@@ -56,7 +56,7 @@ pub fn names_phrase(number: u32) -> Option<&'static str> {
         6 => Some("it is the root"),
         7 => Some("its last name is . or .."),
         8 => Some("a name of it has more than 14 bytes"),
-        9 => Some("its directory has 192 entries, and has no room for one more"),
+        9 => Some("its directory has 17,152 entries or more, and none is free"),
         10 => Some("each number has a file"),
         11 => Some("no block is free"),
         12 => Some("a file of the image can't have so many bytes"),
@@ -67,7 +67,7 @@ pub fn names_phrase(number: u32) -> Option<&'static str> {
         17 => Some("the kernel takes no more calls"),
         18 => Some("the change needs more than ten blocks of the log"),
         19 => Some("a name below it can't be that of a file of the system"),
-        20 => Some("another name leads to the file"),
+        20 => Some("as many names lead to the file as its count can say"),
         _ => None,
     }
 }

@@ -1,5 +1,5 @@
 -- What a change of files over a disk comes to, from its opening to its end.
-use Rattle.std.proofs.Common.{◌≡◌, ◌∙◌, ℕ, Bool, true, false, List, Option, None, sym, ap, subst, inl, inr, ⊎_elim}
+use Rattle.std.proofs.Common.{◌≡◌, ◌∙◌, ◌≤◌, ℕ, Bool, true, false, List, Option, None, sym, ap, subst, inl, inr, ⊎_elim}
 use Rattle.std.specs.Prelude.{Result, Ok, Err, IfErr, OnOk}
 use Rattle.blocks.specs.Disk.{AddsNone, Image, LeavesOnly}
 use Rattle.blocks.specs.Lemmas.Moments.{stays}
@@ -18,7 +18,8 @@ use Rattle.model.specs.declared.types.image.Form.{Form}
 use Rattle.names.specs.Inside.{form_seen}
 use Rattle.names.specs.Opening.{IsUnopened}
 use Rattle.names.specs.Ready.{KeepsTree, LeavesTree}
-use Rattle.names.specs.Trees.{IsNamedOnce, IsTree, KeepsOnce}
+use Rattle.names.specs.Counts.{AreCounted}
+use Rattle.names.specs.Trees.{IsTree}
 use Rattle.names.specs.declared.opening.TreeOpenFault.{TreeOpenFault}
 use Rattle.names.specs.declared.opening.TreeOpenFault.TheVariants as opening
 use Rattle.transfer.specs.Ending.{SyncsIf}
@@ -41,7 +42,7 @@ leaves_any {D} {N} {T} disk change k m leaves =
       log = kept.log;
       sound = kept.sound;
       tree = kept.tree;
-      once = kept.once;
+      counted = kept.counted;
       files = ⊎_elim (λ (same : files_of (recovered z) ≡ files_of (image_on disk.image k)). inl same) (λ (made : (t : T) × change t (files_of (image_on disk.image k)) (files_of (recovered z))). inr (tt, made)) kept.files;
     }) leaves
 
@@ -49,21 +50,22 @@ module _ {D N : Type 0} (disk : Ghosts D N) (midst : Form → Files → Files �
   abbrev Keeps : Image → Type 0
   Keeps = KeepsTree (λ (made : Unit {0}). midst (form_of (recovered (disk.image d)))) (recovered (disk.image d))
 
-  keeps : verdict (disk.image d) ≡ None → IsTree (files_of (recovered (disk.image d))) → (z : Image) → RecoversAs (disk.image d) z → Keeps z
-  keeps sound tree z same =
+  keeps : verdict (disk.image d) ≡ None → IsTree (files_of (recovered (disk.image d))) → AreCounted (files_of (recovered (disk.image d))) → (z : Image) → RecoversAs (disk.image d) z → Keeps z
+  keeps sound tree counted z same =
       let is = verdict_sound (disk.image d) sound in
       record {
         log = same.lawful ∙ is.1;
         sound = subst IsSound (sym same.image) is.2;
         tree = subst (λ (y : Image). IsTree (files_of y)) (sym same.image) tree;
-        once = λ i only. subst (λ (y : Image). IsNamedOnce (files_of y) i) (sym same.image) only;
+        counted = subst (λ (y : Image). AreCounted (files_of y)) (sym same.image) counted;
         files = inl (ap files_of same.image);
       }
 
   -- no tree was opened
   pub unopened_stops : (e : D) (cause : TreeOpenFault) → IsUnopened disk d e cause → StopsChange disk midst d e
-  unopened_stops e (opening.Kernel fault) why = λ sound tree. if_synced_wider disk d e (RecoversAs (disk.image d)) Keeps (keeps sound tree) why.leaves
-  unopened_stops e opening.NoTree why = λ sound tree. absurd (why.none tree)
+  unopened_stops e (opening.Kernel fault) why = λ sound tree counted. if_synced_wider disk d e (RecoversAs (disk.image d)) Keeps (keeps sound tree counted) why.leaves
+  unopened_stops e opening.NoTree why = λ sound tree counted. absurd (why.none tree)
+  unopened_stops e (opening.Miscounted number) why = λ sound tree counted. absurd (why.wrong (counted number))
 
   module _ (k m : Plain D) (opened : IsOpenedPair disk d k) where
     opening_is : disk.image k.opening ≡ recovered (disk.image d)
@@ -79,31 +81,31 @@ module _ {D N : Type 0} (disk : Ghosts D N) (midst : Form → Files → Files �
         (λ z kept. subst (λ (x : Image). KeepsTree (λ (made : Unit {0}). midst (form_of (recovered (disk.image d)))) x z) opened.image
         (subst (λ (form : Form). KeepsTree (λ (made : Unit {0}). midst form) (image_on disk.image k) z) form_is kept)) leaves)
 
-    since : (e : D) → verdict (disk.image d) ≡ None → IsTree (files_of (recovered (disk.image d))) → LeavesOnly disk.moment disk.leaves k.opening e Keeps → (StopsChange disk midst d e)
-    since e sound tree only = λ _ _.
-        if_synced disk d e Keeps (run_leaves disk d k.opening e (RecoversAs (disk.image d)) Keeps (keeps sound tree) opened.leaves only)
+    since : (e : D) → verdict (disk.image d) ≡ None → IsTree (files_of (recovered (disk.image d))) → AreCounted (files_of (recovered (disk.image d))) → LeavesOnly disk.moment disk.leaves k.opening e Keeps → (StopsChange disk midst d e)
+    since e sound tree counted only = λ _ _ _.
+        if_synced disk d e Keeps (run_leaves disk d k.opening e (RecoversAs (disk.image d)) Keeps (keeps sound tree counted) opened.leaves only)
 
     -- a tree was opened, and the change made or not
-    pub changed_stops : LeavesMidst disk (midst (form_seen disk.image k)) k m → IsTree (files_of (recovered (disk.image d))) → (dev : D) → dev ≡ m.store.volume.device → StopsChange disk midst d dev
-    changed_stops leaves tree dev same = subst (λ (o : D). StopsChange disk midst d o) (sym same) (since m.store.volume.device opened.sound tree (run leaves))
+    pub changed_stops : LeavesMidst disk (midst (form_seen disk.image k)) k m → IsTree (files_of (recovered (disk.image d))) → AreCounted (files_of (recovered (disk.image d))) → (dev : D) → dev ≡ m.store.volume.device → StopsChange disk midst d dev
+    changed_stops leaves tree counted dev same = subst (λ (o : D). StopsChange disk midst d o) (sym same) (since m.store.volume.device opened.sound tree counted (run leaves))
 
     -- and then it was synced, or left alone
-    pub ended_stops : LeavesMidst disk (midst (form_seen disk.image k)) k m → IsTree (files_of (recovered (disk.image d))) → (dev e : D) → dev ≡ m.store.volume.device → AddsNone (disk.moment dev) (disk.moment e) (disk.leaves dev) (disk.leaves e) → StopsChange disk midst d e
-    ended_stops leaves tree dev e same time =
-        since e opened.sound tree (stays disk.moment disk.leaves k.opening dev e Keeps
+    pub ended_stops : LeavesMidst disk (midst (form_seen disk.image k)) k m → IsTree (files_of (recovered (disk.image d))) → AreCounted (files_of (recovered (disk.image d))) → (dev e : D) → dev ≡ m.store.volume.device → AddsNone (disk.moment dev) (disk.moment e) (disk.leaves dev) (disk.leaves e) → StopsChange disk midst d e
+    ended_stops leaves tree counted dev e same time =
+        since e opened.sound tree counted (stays disk.moment disk.leaves k.opening dev e Keeps
         (subst (λ (o : D). LeavesOnly disk.moment disk.leaves k.opening o Keeps) (sym same) (run leaves)) time)
 
-module _ {D N : Type 0} (disk : Ghosts D N) (makes : Form → Option ℕ → Files → Files → Type 0) (undone : Turn → ChangeRefusal → Type 0) (last : Bool) (d : D) (k m : Plain D) (opened : IsOpenedPair disk d k) (tree : IsTree (files_of (recovered (disk.image d)))) where
+module _ {D N : Type 0} (disk : Ghosts D N) (makes : Form → Option ℕ → Files → Files → Type 0) (undone : Turn → ChangeRefusal → Type 0) (last : Bool) (d : D) (k m : Plain D) (opened : IsOpenedPair disk d k) (tree : IsTree (files_of (recovered (disk.image d)))) (right : AreCounted (files_of (recovered (disk.image d)))) where
   -- it was made
-  pub made_so : (number : Option ℕ) (dev : D) → dev ≡ m.store.volume.device → makes (form_seen disk.image k) number (files_of (image_on disk.image k)) (files_of (image_on disk.image m)) → KeepsOnce (files_of (image_on disk.image k)) (files_of (image_on disk.image m)) → HasMade disk makes d dev number
-  made_so number dev same made once = record {
+  pub made_so : (number : Option ℕ) (dev : D) → dev ≡ m.store.volume.device → makes (form_seen disk.image k) number (files_of (image_on disk.image k)) (files_of (image_on disk.image m)) → AreCounted (files_of (recovered (image_on disk.image m))) → HasMade disk makes d dev number
+  made_so number dev same made counted = record {
     sound = opened.sound;
     tree = tree;
+    right = right;
     made = subst (λ (o : D). makes (form_of (recovered (disk.image d))) number (files_of (recovered (disk.image d))) (files_of (disk.image o))) (sym same)
         (subst (λ (x : Image). makes (form_of (recovered (disk.image d))) number (files_of x) (files_of (image_on disk.image m))) opened.image
         (subst (λ (form : Form). makes form number (files_of (image_on disk.image k)) (files_of (image_on disk.image m))) (form_is disk (λ form files new. Unit {0}) d k m opened) made));
-    once = subst (λ (o : D). KeepsOnce (files_of (recovered (disk.image d))) (files_of (disk.image o))) (sym same)
-        (subst (λ (x : Image). KeepsOnce (files_of x) (files_of (image_on disk.image m))) opened.image once);
+    counted = subst (λ (o : D). AreCounted (files_of (recovered (disk.image o)))) (sym same) counted;
   }
 
   -- or was not
@@ -119,8 +121,9 @@ module _ {D N : Type 0} (disk : Ghosts D N) (makes : Form → Option ℕ → Fil
     then_on syncs = record {
       sound = first.sound;
       tree = first.tree;
+      right = first.right;
       made = subst (λ (y : Image). makes (form_of (recovered (disk.image d))) number (files_of (recovered (disk.image d))) (files_of y)) (sym (left_same disk last dev e syncs)) first.made;
-      once = subst (λ (y : Image). KeepsOnce (files_of (recovered (disk.image d))) (files_of y)) (sym (left_same disk last dev e syncs)) first.once;
+      counted = subst (λ (y : Image). AreCounted (files_of (recovered y))) (sym (left_same disk last dev e syncs)) first.counted;
     }
 
     pub changed_so : (r : Result (Unit {0}) ChangeRefusal) (old new : Option (List ℕ)) → OnOk r (SyncsIf last disk dev e) → OnOk r (Tells number old new) → OnOk r (HasChanged disk makes last d e old new)
@@ -141,6 +144,19 @@ module _ {D N : Type 0} (disk : Ghosts D N) (makes : Form → Option ℕ → Fil
 -- the files are a tree, as recovery leaves them
 pub tree_was : {D N : Type 0} (disk : Ghosts D N) (d : D) (k : Plain D) → IsOpenedPair disk d k → IsTree (files_of (image_on disk.image k)) → IsTree (files_of (recovered (disk.image d)))
 tree_was disk d k opened tree = subst (λ (x : Image). IsTree (files_of x)) opened.image tree
+
+-- and their counts are right
+pub right_was : {D N : Type 0} (disk : Ghosts D N) (d : D) (k : Plain D) → IsOpenedPair disk d k → AreCounted (files_of (image_on disk.image k)) → AreCounted (files_of (recovered (disk.image d)))
+right_was disk d k opened counted = subst (λ (x : Image). AreCounted (files_of x)) opened.image counted
+
+-- What a stop leaves, now too: the counts on the disk are right.
+pub right_now : {D N : Type 0} (disk : Ghosts D N)
+    → ((e : D) (t : ℕ) (x : Image) → t ≤ disk.moment e → disk.leaves e (disk.moment e) x → disk.leaves e t x)
+    → ((e : D) → disk.leaves e (disk.moment e) (disk.image e)) → (midst : Files → Files → Type 0) (k m : Plain D)
+    → LeavesMidst disk midst k m → AreCounted (files_of (recovered (image_on disk.image m)))
+right_now disk counts_now has_now midst k m leaves =
+    let dev = m.store.volume.device in
+    (leaves.each (disk.image dev) (counts_now dev (disk.moment k.store.volume.device) (disk.image dev) leaves.later (has_now dev))).counted
 
 -- both answers of a command, of which one is asked for
 pub both_done : (r : Result (Unit {0}) ChangeRefusal) (P Q : Type 0) → OnOk r P → Q → OnOk r (P × Q)

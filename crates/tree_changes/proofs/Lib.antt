@@ -1,3 +1,4 @@
 mod Changing
 mod Pieces
+mod Recounted
 mod Rooms

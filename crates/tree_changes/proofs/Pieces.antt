@@ -15,11 +15,9 @@ use Rattle.model.specs.Files.{Files, files_of}
 use Rattle.model.specs.Log.{recovered}
 use Rattle.model.specs.declared.types.image.Form.{Form}
 use Rattle.names.specs.Inside.{form_seen}
-use Rattle.names.specs.Lemmas.Once.{once_on}
 use Rattle.names.specs.Lemmas.Over.{form_stays}
 use Rattle.names.specs.Paths.{names_of}
 use Rattle.names.specs.Ready.{KeepsTree}
-use Rattle.names.specs.Trees.{KeepsOnce}
 use Rattle.names.specs.Writing.{Outcome, Writes}
 use Rattle.tree_changes.specs.Changes.{AnyOf, LeavesMidst}
 use Rattle.tree_changes.specs.Puts.{LeavesIfDone, Puts, PutsAny, PutsFew, PutsSome, WritesPieces, WritesSome, piece_count, piece_of}
@@ -56,7 +54,7 @@ module _ {D N : Type 0} (disk : Ghosts D N) where
         log = kept.log;
         sound = kept.sound;
         tree = kept.tree;
-        once = kept.once;
+        counted = kept.counted;
         files = ⊎_elim (λ (same : files_of (recovered z) ≡ files_of (image_on disk.image k)). inl same)
             (λ (made : (t : Unit {0}) × less (files_of (image_on disk.image k)) (files_of (recovered z))). inr (tt, wider _ _ made.1)) kept.files;
       }) leaves
@@ -64,34 +62,33 @@ module _ {D N : Type 0} (disk : Ghosts D N) where
   -- What a stop in a run from m to e leaves of the files there is what it leaves of those of k, which came
   -- to them.
   pub leaves_behind : (later all : Files → Files → Type 0) (k m e : Plain D) → LeavesMidst disk later m e
-      → KeepsOnce (files_of (image_on disk.image k)) (files_of (image_on disk.image m)) → all (files_of (image_on disk.image k)) (files_of (image_on disk.image m)) → ((z : Files) → later (files_of (image_on disk.image m)) z → all (files_of (image_on disk.image k)) z)
+      → all (files_of (image_on disk.image k)) (files_of (image_on disk.image m)) → ((z : Files) → later (files_of (image_on disk.image m)) z → all (files_of (image_on disk.image k)) z)
       → LeavesOnly disk.moment disk.leaves m.store.volume.device e.store.volume.device (KeepsTree (λ (made : Unit {0}). all) (image_on disk.image k))
-  leaves_behind later all k m e behind once here on =
+  leaves_behind later all k m e behind here on =
       leaves_wider disk.moment disk.leaves m.store.volume.device e.store.volume.device (KeepsTree (λ (made : Unit {0}). later) (image_on disk.image m)) (KeepsTree (λ (made : Unit {0}). all) (image_on disk.image k))
       (λ z kept. record {
         log = kept.log;
         sound = kept.sound;
         tree = kept.tree;
-        once = once_on once kept.once;
+        counted = kept.counted;
         files = ⊎_elim (λ (same : files_of (recovered z) ≡ files_of (image_on disk.image m)). inr (tt, subst (all (files_of (image_on disk.image k))) (sym same) here))
             (λ (made : (t : Unit {0}) × later (files_of (image_on disk.image m)) (files_of (recovered z))). inr (tt, on _ made.1)) kept.files;
       }) behind
 
   -- and in a run from k to e through m
   pub leaves_on : (first later all : Files → Files → Type 0) (k m e : Plain D) → LeavesMidst disk first k m → LeavesMidst disk later m e → ((x z : Files) → first x z → all x z)
-      → KeepsOnce (files_of (image_on disk.image k)) (files_of (image_on disk.image m)) → all (files_of (image_on disk.image k)) (files_of (image_on disk.image m)) → ((z : Files) → later (files_of (image_on disk.image m)) z → all (files_of (image_on disk.image k)) z) → LeavesMidst disk all k e
-  leaves_on first later all k m e before behind wider once here on =
+      → all (files_of (image_on disk.image k)) (files_of (image_on disk.image m)) → ((z : Files) → later (files_of (image_on disk.image m)) z → all (files_of (image_on disk.image k)) z) → LeavesMidst disk all k e
+  leaves_on first later all k m e before behind wider here on =
       joined disk.moment disk.leaves k.store.volume.device m.store.volume.device e.store.volume.device (KeepsTree (λ (made : Unit {0}). all) (image_on disk.image k))
-      (leaves_more first all k m wider before) (leaves_behind later all k m e behind once here on)
+      (leaves_more first all k m wider before) (leaves_behind later all k m e behind here on)
 
 -- one piece more may have been written, or is refused
 pub piece_left : {D N : Type 0} (disk : Ghosts D N) (k m e : Plain D) (path bytes : List ℕ) (i to : ℕ) → StaysOver disk k m → to ≡ min (i * 3072 + 3072) (length bytes)
     → WritesPieces (form_seen disk.image k) path bytes i (files_of (image_on disk.image k)) (files_of (image_on disk.image m))
-    → KeepsOnce (files_of (image_on disk.image k)) (files_of (image_on disk.image m))
     → LeavesIfDone disk (WritesSome (form_seen disk.image k) path bytes i) k m
     → LeavesIfDone disk (AnyOf (Writes (form_seen disk.image m) (names_of path) (i * 3072) (take (to - i * 3072) (drop (i * 3072) bytes)))) m e
     → LeavesIfDone disk (WritesSome (form_seen disk.image k) path bytes (i + 1)) k e
-piece_left {D = D} disk k m e path bytes i to stays is before once left behind = on left behind
+piece_left {D = D} disk k m e path bytes i to stays is before left behind = on left behind
   where
     form : Form
     form = form_seen disk.image k
@@ -118,13 +115,13 @@ piece_left {D = D} disk k m e path bytes i to stays is before once left behind =
     behind_none : m ≡ k → LeavesMidst disk one m e → LeavesIfDone disk all k e
     behind_none same leaves =
         inr (subst (λ (o : Plain D). LeavesOnly disk.moment disk.leaves o.store.volume.device e.store.volume.device (KeepsTree (λ (made : Unit {0}). all) (image_on disk.image k))) same
-        (leaves_behind disk one all k m e leaves once here then_on))
+        (leaves_behind disk one all k m e leaves here then_on))
 
     on : LeavesIfDone disk (WritesSome form path bytes i) k m → LeavesIfDone disk one m e → LeavesIfDone disk all k e
     on so_far last =
         ⊎_elim
         (λ (still : e ≡ m). ⊎_elim (λ (same : m ≡ k). inl (still ∙ same)) (λ (leaves : LeavesMidst disk (WritesSome form path bytes i) k m). inr (subst (LeavesMidst disk all k) (sym still) (leaves_more disk _ all k m more leaves))) so_far)
-        (λ (leaves : LeavesMidst disk one m e). ⊎_elim (λ (same : m ≡ k). behind_none same leaves) (λ (first : LeavesMidst disk (WritesSome form path bytes i) k m). inr (leaves_on disk _ one all k m e first leaves more once here then_on)) so_far)
+        (λ (leaves : LeavesMidst disk one m e). ⊎_elim (λ (same : m ≡ k). behind_none same leaves) (λ (first : LeavesMidst disk (WritesSome form path bytes i) k m). inr (leaves_on disk _ one all k m e first leaves more here then_on)) so_far)
         last
 
 -- at most so many pieces are at most more
@@ -146,13 +143,13 @@ module _ {D N : Type 0} (disk : Ghosts D N) (k m : Plain D) (path bytes : List �
   emptied_left many leaves = leaves_more disk (PutsAny path []) (PutsSome path bytes form) k m (emptied many) leaves
 
   -- and then gets these, piece by piece
-  pub filled_left : (told : Option ℕ) (e : Plain D) → 3072 < length bytes → PutsFew path [] told (files_of (image_on disk.image k)) (files_of (image_on disk.image m)) → LeavesMidst disk (PutsAny path []) k m → KeepsOnce (files_of (image_on disk.image k)) (files_of (image_on disk.image m))
+  pub filled_left : (told : Option ℕ) (e : Plain D) → 3072 < length bytes → PutsFew path [] told (files_of (image_on disk.image k)) (files_of (image_on disk.image m)) → LeavesMidst disk (PutsAny path []) k m
       → LeavesIfDone disk (WritesSome form path bytes (piece_count bytes)) m e → LeavesMidst disk (PutsSome path bytes form) k e
-  filled_left told e many put first once left =
+  filled_left told e many put first left =
       let any : PutsAny path [] (files_of (image_on disk.image k)) (files_of (image_on disk.image m)) = (Ok put.0, put.2) in
       ⊎_elim (λ (still : e ≡ m). subst (LeavesMidst disk (PutsSome path bytes form) k) (sym still) (emptied_left many first))
       (λ (leaves : LeavesMidst disk (WritesSome form path bytes (piece_count bytes)) m e).
-      leaves_on disk (PutsAny path []) (WritesSome form path bytes (piece_count bytes)) (PutsSome path bytes form) k m e first leaves (emptied many) once (emptied many _ _ any)
+      leaves_on disk (PutsAny path []) (WritesSome form path bytes (piece_count bytes)) (PutsSome path bytes form) k m e first leaves (emptied many) (emptied many _ _ any)
       (λ z some. inr (many, (files_of (image_on disk.image m), any, some)))) left
 
 -- the same of equal paths and bytes
@@ -163,8 +160,8 @@ left_as_given disk k m form p path b bytes same_path same_bytes leaves =
 
 -- all of that, from the call on
 pub put_left : {D N : Type 0} (disk : Ghosts D N) (k m e : Plain D) (p path b bytes : List ℕ) (told : Option ℕ) → p ≡ path → b ≡ bytes → 3072 < length b → StaysOver disk k m → PutsFew p [] told (files_of (image_on disk.image k)) (files_of (image_on disk.image m))
-    → LeavesMidst disk (PutsAny p []) k m → KeepsOnce (files_of (image_on disk.image k)) (files_of (image_on disk.image m)) → LeavesIfDone disk (WritesSome (form_seen disk.image m) p b (piece_count b)) m e → LeavesMidst disk (PutsSome path bytes (form_seen disk.image k)) k e
-put_left disk k m e p path b bytes told same_path same_bytes many stays put first once left =
+    → LeavesMidst disk (PutsAny p []) k m → LeavesIfDone disk (WritesSome (form_seen disk.image m) p b (piece_count b)) m e → LeavesMidst disk (PutsSome path bytes (form_seen disk.image k)) k e
+put_left disk k m e p path b bytes told same_path same_bytes many stays put first left =
     let form = form_seen disk.image k in
     let pieces = subst (λ (f : Form). LeavesIfDone disk (WritesSome f p b (piece_count b)) m e) (form_stays disk k m stays) left in
-    left_as_given disk k e form p path b bytes same_path same_bytes (filled_left disk k m p b form told e many put first once pieces)
+    left_as_given disk k e form p path b bytes same_path same_bytes (filled_left disk k m p b form told e many put first pieces)

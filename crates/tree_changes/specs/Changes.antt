@@ -16,7 +16,8 @@ use Rattle.names.specs.Making.{MakesDirectoryAt}
 use Rattle.names.specs.Opening.{IsUnopened}
 use Rattle.names.specs.Paths.{names_of}
 use Rattle.names.specs.Ready.{KeepsTree}
-use Rattle.names.specs.Trees.{IsTree, KeepsOnce}
+use Rattle.names.specs.Counts.{AreCounted}
+use Rattle.names.specs.Trees.{IsTree}
 use Rattle.names.specs.declared.refusal.TreeFault.{TreeFault}
 use Rattle.transfer.specs.Ending.{SyncsIf}
 use Rattle.wal.specs.Recovery.{LeavesIfSynced}
@@ -77,16 +78,17 @@ abbrev pub Tells : Option ℕ → Option (List ℕ) → Option (List ℕ) → Ty
 Tells None old new = new ≡ old
 Tells (Some number) old new = Appends old new (number_text number)
 
--- The disk d, now e, had no fault, and its files, as recovery leaves them, were a tree. A change made
--- this of them, and none has several names that had one at most.
+-- The disk d, now e, had no fault, and its files, as recovery leaves them, were a tree whose counts were
+-- right. A change made this of them, and their counts are right still.
 pub record HasMade {D N : Type 0} (disk : Ghosts D N)
     (makes : Form → Option ℕ → Files → Files → Type 0) (d e : D) (number : Option ℕ)
     : Type 0 where
   pub sound : verdict (disk.image d) ≡ None
   pub tree : IsTree (files_of (recovered (disk.image d)))
+  pub right : AreCounted (files_of (recovered (disk.image d)))
   pub made : makes (form_of (recovered (disk.image d))) number
       (files_of (recovered (disk.image d))) (files_of (disk.image e))
-  pub once : KeepsOnce (files_of (recovered (disk.image d))) (files_of (disk.image e))
+  pub counted : AreCounted (files_of (recovered (disk.image e)))
 
 -- the last call to it was a sync that was done where one is asked for, and the number was printed
 pub record HasChanged {D N : Type 0} (disk : Ghosts D N)
@@ -149,12 +151,13 @@ IsUnended disk last d e none (Tree fault) = ⊥
 IsUnended disk last d e none (Unwritten fault) = ⊥
 
 -- Whatever a stop leaves of it, since the first sync of the recovery, or at any moment where nothing was
--- held back on d: recovery gives a sound image whose files are a tree, those that were there or such as
--- the change may leave.
+-- held back on d: recovery gives a sound image whose files are a tree whose counts are right, those that
+-- were there or such as the change may leave.
 abbrev pub StopsChange : {D N : Type 0} → Ghosts D N → (Form → Files → Files → Type 0) → D → D
     → Type 0
 StopsChange disk midst d e = verdict (disk.image d) ≡ None
     → IsTree (files_of (recovered (disk.image d)))
+    → AreCounted (files_of (recovered (disk.image d)))
     → LeavesIfSynced disk d e
     (KeepsTree (λ (made : Unit {0}). midst (form_of (recovered (disk.image d))))
     (recovered (disk.image d)))

@@ -2,3 +2,4 @@ pub mod Tellings
 pub mod Changes
 pub mod Puts
 pub mod Room
+pub mod Recounts

@@ -8,7 +8,7 @@ use Rattle.names.specs.declared.opening.TreeOpenFault.TheVariants as opening
 use Rattle.names.specs.declared.refusal.TreeFault.{TreeFault}
 use Rattle.names.specs.declared.refusal.TreeFault.TheVariants as tree
 use Rattle.opening.specs.Openings.{open_telling}
-use Rattle.tree_looks.specs.Tellings.{names_told, no_memory, no_tree, path_telling, refusal_telling}
+use Rattle.tree_looks.specs.Tellings.{miscounted, names_told, no_memory, no_tree, path_telling, refusal_telling}
 use Rattle.tree_changes.specs.declared.faults.ChangeRefusal.{ChangeRefusal}
 use Rattle.tree_changes.specs.declared.faults.ChangeRefusal.TheVariants as change
 
@@ -27,6 +27,7 @@ tree_telling tree.NoCall = names_told 17 (codes "NoCall")
 abbrev pub tree_open_telling : TreeOpenFault → Telling
 tree_open_telling (opening.Kernel fault) = open_telling fault
 tree_open_telling opening.NoTree = no_tree
+tree_open_telling (opening.Miscounted number) = miscounted number
 
 abbrev pub change_telling : ChangeRefusal → Telling
 change_telling (change.Unopened fault) = tree_open_telling fault

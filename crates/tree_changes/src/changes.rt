@@ -1,5 +1,6 @@
 // The changes of files by their paths that are one call of a tree.
-ghost use Rattle.names.specs.Making.{IsUnmadeIn, MakesDirectoryAt};
+ghost use Rattle.names.specs.Linking.{IsNotLinkedAt, LinksAt};
+ghost use Rattle.names.specs.Making.{IsUnmadeDirectoryIn, MakesDirectoryAt};
 ghost use Rattle.names.specs.Paths.{names_of};
 ghost use Rattle.names.specs.Ready.{IsUndone};
 ghost use Rattle.names.specs.Removing.{IsUnremovedIn, RemovesAt};
@@ -14,7 +15,7 @@ use blocks::Disk;
 use names::Tree;
 use std::alloc::Global;
 
-/// Removes the file at a path, which is no directory.
+/// Removes the name at a path, which is no directory's, and the file with its last one.
 #[derive(Clone, Copy, Drop)]
 pub struct Remove<'a> {
     /// The path, from the root.
@@ -42,6 +43,15 @@ pub struct Rename<'a> {
     pub from: &'a str,
     /// The path that it gets.
     pub to: &'a str,
+}
+
+/// Gives the file at a path, which is no directory, a second name: another path, where nothing is.
+#[derive(Clone, Copy, Drop)]
+pub struct Link<'a> {
+    /// The path that it has.
+    pub path: &'a str,
+    /// The path that it gets besides.
+    pub into: &'a str,
 }
 
 impl<'a> TreeChange for Remove<'a> {
@@ -90,7 +100,7 @@ impl<'a> TreeChange for MakeDirectory<'a> {
     ghost midst = { λ change form. AnyOf (MakesDirectoryAt (names_of change.path.now)) };
 
     ghost undone = { λ change t. OnTree (IsUndone t.disk change.path.now
-        (IsUndoneIn IsUnmadeIn (names_of change.path.now)) t.was t.now) };
+        (IsUndoneIn IsUnmadeDirectoryIn (names_of change.path.now)) t.was t.now) };
 
     fn make<D: Disk>(
         &self,
@@ -119,6 +129,28 @@ impl<'a> TreeChange for Rename<'a> {
         tree: &mut Tree<D>,
     ) -> Result<Option<u32>, ChangeRefusal> {
         match tree.rename(alloc, self.from.as_bytes(), self.to.as_bytes()) {
+            Ok(()) => Ok(None),
+            Err(fault) => Err(ChangeRefusal::Tree(fault)),
+        }
+    }
+}
+
+impl<'a> TreeChange for Link<'a> {
+    ghost makes = { λ change form.
+        Plainly (LinksAt (names_of change.path.now) (names_of change.into.now)) };
+
+    ghost midst = { λ change form.
+        AnyOf (LinksAt (names_of change.path.now) (names_of change.into.now)) };
+
+    ghost undone = { λ change t. OnTree (IsUndoneAtBoth t.disk change.path.now change.into.now
+        (IsNotLinkedAt (names_of change.path.now) (names_of change.into.now)) t.was t.now) };
+
+    fn make<D: Disk>(
+        &self,
+        alloc: Global,
+        tree: &mut Tree<D>,
+    ) -> Result<Option<u32>, ChangeRefusal> {
+        match tree.link(alloc, self.path.as_bytes(), self.into.as_bytes()) {
             Ok(()) => Ok(None),
             Err(fault) => Err(ChangeRefusal::Tree(fault)),
         }

@@ -46,6 +46,7 @@ fn tree_open_told(fault: &TreeOpenFault) -> Told
     match fault {
         TreeOpenFault::Kernel(fault) => open_told(fault),
         TreeOpenFault::NoTree => Told::new("names", 13, "NoTree"),
+        TreeOpenFault::Miscounted(number) => Told::naming("names", 21, "Miscounted", *number),
     }
 }
 

@@ -6,10 +6,12 @@ mod changes;
 mod faults;
 mod over_tree;
 mod puts;
+mod recounting;
 mod room;
 
-pub use changes::{MakeDirectory, Remove, RemoveDirectory, Rename};
+pub use changes::{Link, MakeDirectory, Remove, RemoveDirectory, Rename};
 pub use faults::ChangeRefusal;
 pub use over_tree::{OverTree, TreeChange};
 pub use puts::{Put, append_all};
+pub use recounting::Recount;
 pub use room::judge_room;

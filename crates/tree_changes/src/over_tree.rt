@@ -7,7 +7,7 @@ ghost use Rattle.calls.specs.Stopped.{StaysOver};
 ghost use Rattle.model.specs.Files.{Files, files_of};
 ghost use Rattle.model.specs.declared.types.image.Form.{Form};
 ghost use Rattle.names.specs.Inside.{form_seen};
-ghost use Rattle.names.specs.Ready.{IsReady, NamesStayOnce};
+ghost use Rattle.names.specs.Ready.{IsReady};
 ghost use Rattle.transfer.specs.Ending.{SyncsIf};
 ghost use Rattle.tree_changes.specs.Changes.{HasChanged, HasNotChanged, IsOfTree, IsUnended, LeavesMidst, StopsChange, Tells, Turn, turn};
 ghost use Rattle.tree_changes.specs.declared.faults.ChangeRefusal.{ChangeRefusal as SomeChangeRefusal};
@@ -40,7 +40,6 @@ pub trait TreeChange {
             makes self.now (form_seen D.image tree.old.kernel) number
             (files_of (image_on D.image tree.old.kernel))
             (files_of (image_on D.image tree.new.kernel))) }
-        ensures once { OnOk result (NamesStayOnce D.image tree.old.kernel tree.new.kernel) }
         ensures undone { IfErr result
             (undone self.now (turn D.Disk tree.old.kernel tree.new.kernel)) }
         ensures cause { IfErr result IsOfTree }
@@ -115,7 +114,7 @@ fn change_in<D: Disk + Drop, C: TreeChange, O: Write>(
 }
 
 // Syncs a disk where that is asked for, and prints a number, if there is one.
-fn tell<D: Disk, O: Write>(
+pub(crate) fn tell<D: Disk, O: Write>(
     disk: &mut D,
     number: Option<u32>,
     last: bool,

@@ -6,7 +6,7 @@ ghost use Rattle.model.specs.Files.{files_of};
 ghost use Rattle.model.specs.Operations.{transfer_limit};
 ghost use Rattle.names.specs.Inside.{form_seen};
 ghost use Rattle.names.specs.Paths.{names_of};
-ghost use Rattle.names.specs.Ready.{MayGoOn, NamesStayOnce};
+ghost use Rattle.names.specs.Ready.{MayGoOn};
 ghost use Rattle.names.specs.Writing.{Writes};
 ghost use Rattle.tree_changes.specs.Changes.{AnyOf, IsOfTree, LeavesMidst};
 ghost use Rattle.tree_changes.specs.Puts.{
@@ -82,7 +82,6 @@ fn put_few<D: Disk>(
     ensures puts { IfOk result (λ told. PutsFew path.now bytes.now told
         (files_of (image_on D.image tree.old.kernel))
         (files_of (image_on D.image tree.new.kernel))) }
-    ensures once { OnOk result (NamesStayOnce D.image tree.old.kernel tree.new.kernel) }
     ensures undone { IfErr result
         (IsUnputFew D.Disk path.now bytes.now tree.old.kernel tree.new.kernel) }
     ensures cause { IfErr result IsOfTree }
@@ -115,7 +114,6 @@ pub fn append_all<D: Disk>(
         path.now bytes.now (piece_count bytes.now)
         (files_of (image_on D.image tree.old.kernel))
         (files_of (image_on D.image tree.new.kernel))) }
-    ensures once { OnOk result (NamesStayOnce D.image tree.old.kernel tree.new.kernel) }
     ensures undone { IfErr result
         (StopsWriting D.Disk path.now bytes.now tree.old.kernel tree.new.kernel) }
     ensures cause { IfErr result IsOfTree }
@@ -145,7 +143,6 @@ fn append<D: Disk>(
         (names_of path.now) from bytes.now (Ok tt)
         (files_of (image_on D.image tree.old.kernel))
         (files_of (image_on D.image tree.new.kernel))) }
-    ensures once { OnOk result (NamesStayOnce D.image tree.old.kernel tree.new.kernel) }
     ensures undone { IfErr result
         (IsUnappended D.Disk path.now from bytes.now tree.old.kernel tree.new.kernel) }
     ensures cause { IfErr result IsOfTree }

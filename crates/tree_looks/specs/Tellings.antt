@@ -1,7 +1,7 @@
 -- How it is told why a look at files by their paths isn't done.
 use Rattle.std.specs.Prelude.{ℕ, List, codes}
 use Rattle.cmd.specs.Over.{on_file_telling}
-use Rattle.messages.specs.Telling.{Telling, check_telling, file_telling, plain, unwritten}
+use Rattle.messages.specs.Telling.{Telling, check_telling, file_telling, naming, plain, unwritten}
 use Rattle.names.specs.declared.path.PathFault.{PathFault}
 use Rattle.names.specs.declared.path.PathFault.TheVariants as path
 use Rattle.names.specs.declared.refusal.Refusal.{Refusal}
@@ -18,6 +18,10 @@ names_told number name = plain (codes "names") number name
 abbrev pub no_tree : Telling
 no_tree = names_told 13 (codes "NoTree")
 
+-- of the file of that number
+abbrev pub miscounted : ℕ → Telling
+miscounted number = naming (codes "names") 21 (codes "Miscounted") number
+
 abbrev pub no_memory : Telling
 no_memory = names_told 16 (codes "NoMemory")
 
@@ -33,7 +37,7 @@ refusal_telling refusal.Full = names_told 9 (codes "Full")
 refusal_telling refusal.NoNumber = names_told 10 (codes "NoNumber")
 refusal_telling refusal.NoBlock = names_told 11 (codes "NoBlock")
 refusal_telling refusal.IsInside = names_told 14 (codes "IsInside")
-refusal_telling refusal.LinkedTwice = names_told 20 (codes "LinkedTwice")
+refusal_telling refusal.TooManyLinks = names_told 20 (codes "TooManyLinks")
 
 abbrev pub path_telling : PathFault → Telling
 path_telling path.NameTooLong = names_told 8 (codes "NameTooLong")

@@ -94,6 +94,6 @@ pub fn refusal_told(refusal: &Refusal) -> Told
         Refusal::NoNumber => Told::new("names", 10, "NoNumber"),
         Refusal::NoBlock => Told::new("names", 11, "NoBlock"),
         Refusal::IsInside => Told::new("names", 14, "IsInside"),
-        Refusal::LinkedTwice => Told::new("names", 20, "LinkedTwice"),
+        Refusal::TooManyLinks => Told::new("names", 20, "TooManyLinks"),
     }
 }

@@ -9,9 +9,11 @@ use Rattle.commands_changes.specs.declared.making.Making.{Making}
 use Rattle.model.specs.Files.{Files}
 use Rattle.model.specs.declared.types.image.Form.{Form}
 use Rattle.model.specs.declared.types.image.Form.TheVariants.{One}
-use Rattle.names.specs.Making.{IsUnmadeIn, MakesDirectoryAt}
+use Rattle.names.specs.Linking.{IsNotLinkedAt, LinksAt}
+use Rattle.names.specs.Making.{IsUnmadeDirectoryIn, MakesDirectoryAt}
 use Rattle.names.specs.Paths.{names_of}
 use Rattle.names.specs.Ready.{IsUndone}
+use Rattle.names.specs.Recounting.{StopsRecount}
 use Rattle.names.specs.Removing.{IsUnremovedIn, RemovesAt}
 use Rattle.names.specs.Renaming.{IsUndoneAt, IsUndoneAtBoth, RenamesAt}
 use Rattle.names.specs.Undirecting.{IsUnemptiedIn, RemovesDirectoryAt}
@@ -19,9 +21,10 @@ use Rattle.names.specs.Walks.{IsUndoneIn}
 use Rattle.names.specs.declared.refusal.Refusal.{Refusal}
 use Rattle.names_words.specs.CommandLine.{xvnames_words}
 use Rattle.names_words.specs.declared.words.Request.{Request}
-use Rattle.names_words.specs.declared.words.Request.TheVariants.{Ls, Tree, Cat, Get, Put, Rm, Mv, Mkdir, Rmdir, Mkfs}
+use Rattle.names_words.specs.declared.words.Request.TheVariants.{Ls, Tree, Cat, Get, Put, Rm, Mv, Ln, Mkdir, Rmdir, Recount, Mkfs}
 use Rattle.tree_changes.specs.Changes.{AnyOf, HasChanged, HasNotChanged, MakesDirectory, OnTree, Plainly, StopsChange, Turn}
 use Rattle.tree_changes.specs.Puts.{HasPut}
+use Rattle.tree_changes.specs.Recounts.{HasNotRecounted, TellsRecount}
 use Rattle.tree_changes.specs.declared.faults.ChangeRefusal.{ChangeRefusal}
 use Rattle.tree_looks.specs.Gets.{HasGot, HasGotAll, IsUngot, IsUngotAll}
 use Rattle.tree_looks.specs.Looks.{HasLooked, HasNoPaths, HasNotLooked, IsUnlisted, IsUnshown, Lists, Shows, ShowsPaths}
@@ -43,6 +46,12 @@ abbrev pub Changes : {F : Type 0} → (F → Option (List ℕ))
 Changes remaining makes midst sync no_sync old new = OpensDisk remaining file_disk sync
     (λ d e. HasChanged file_disk makes (not no_sync) d e old new
     × StopsChange file_disk midst d e)
+
+-- a disk was opened from a file, and the counts of its files are right
+abbrev pub Recounts : {F : Type 0} → (F → Option (List ℕ)) → Bool → Bool → Option (List ℕ)
+    → Option (List ℕ) → Type 0
+Recounts remaining sync no_sync old new = OpensDisk remaining file_disk sync (λ d e.
+    TellsRecount file_disk (not no_sync) d e old new × StopsRecount file_disk d e)
 
 -- a file was copied out, or all below a directory
 abbrev pub Gets : {F : Type 0} → (F → Option (List ℕ)) → (F → Option (List ℕ)) → Bool → List ℕ
@@ -71,12 +80,17 @@ Answers remaining contents (Rm image path sync no_sync) old new = Changes remain
 Answers remaining contents (Mv image from to sync no_sync) old new = Changes remaining
     (λ form. Plainly (RenamesAt (names_of from.now) (names_of to.now)))
     (λ form. AnyOf (RenamesAt (names_of from.now) (names_of to.now))) sync no_sync old new
+Answers remaining contents (Ln image path into sync no_sync) old new = Changes remaining
+    (λ form. Plainly (LinksAt (names_of path.now) (names_of into.now)))
+    (λ form. AnyOf (LinksAt (names_of path.now) (names_of into.now))) sync no_sync old new
 Answers remaining contents (Mkdir image path sync no_sync) old new = Changes remaining
     (λ form. MakesDirectory path.now) (λ form. AnyOf (MakesDirectoryAt (names_of path.now)))
     sync no_sync old new
 Answers remaining contents (Rmdir image path sync no_sync) old new = Changes remaining
     (λ form. Plainly (RemovesDirectoryAt (names_of path.now)))
     (λ form. AnyOf (RemovesDirectoryAt (names_of path.now))) sync no_sync old new
+Answers remaining contents (Recount image sync no_sync) old new =
+    Recounts remaining sync no_sync old new
 Answers {F} remaining contents (Mkfs image size ninodes files no_sync) old new =
     IsMadeWith {F = F} file_disk (making_asked size ninodes no_sync) (map (λ file. file.now) files.items)
     old new
@@ -99,6 +113,11 @@ ChangesNot remaining makes midst undone sync no_sync none = Refuses
     (IsRefusedOn remaining sync none (λ d e r.
     HasNotChanged file_disk makes undone (not no_sync) d e none r
     × StopsChange file_disk midst d e))
+
+-- counts were not put right: no disk was opened, or they are wrong still
+abbrev pub RecountsNot : {F : Type 0} → (F → Option (List ℕ)) → Bool → Bool → Type 0 → Type 0
+RecountsNot remaining sync no_sync none = Refuses (IsRefusedOn remaining sync none (λ d e r.
+    HasNotRecounted file_disk (not no_sync) d e none r × StopsRecount file_disk d e))
 
 -- a file was not copied out, nor all below a directory
 abbrev pub GetsNot : {F : Type 0} → (F → Option (List ℕ)) → Bool → List ℕ → Type 0 → Type 0
@@ -127,13 +146,20 @@ OnRefused remaining (Mv image from to sync no_sync) old new none = ChangesNot re
     (λ form. AnyOf (RenamesAt (names_of from.now) (names_of to.now)))
     (λ t. OnTree (IsUndoneAtBoth t.disk from.now to.now
     (IsUndoneAt (names_of from.now) (names_of to.now)) t.was t.now)) sync no_sync none
+OnRefused remaining (Ln image path into sync no_sync) old new none = ChangesNot remaining
+    (λ form. Plainly (LinksAt (names_of path.now) (names_of into.now)))
+    (λ form. AnyOf (LinksAt (names_of path.now) (names_of into.now)))
+    (λ t. OnTree (IsUndoneAtBoth t.disk path.now into.now
+    (IsNotLinkedAt (names_of path.now) (names_of into.now)) t.was t.now)) sync no_sync none
 OnRefused remaining (Mkdir image path sync no_sync) old new none = ChangesNot remaining
     (λ form. MakesDirectory path.now) (λ form. AnyOf (MakesDirectoryAt (names_of path.now)))
-    (UndoneAt path.now IsUnmadeIn) sync no_sync none
+    (UndoneAt path.now IsUnmadeDirectoryIn) sync no_sync none
 OnRefused remaining (Rmdir image path sync no_sync) old new none = ChangesNot remaining
     (λ form. Plainly (RemovesDirectoryAt (names_of path.now)))
     (λ form. AnyOf (RemovesDirectoryAt (names_of path.now)))
     (UndoneAt path.now IsUnemptiedIn) sync no_sync none
+OnRefused remaining (Recount image sync no_sync) old new none =
+    RecountsNot remaining sync no_sync none
 OnRefused {F} remaining (Mkfs image size ninodes files no_sync) old new none =
     Refuses (IsNotMadeWith {F = F} file_disk (making_asked size ninodes no_sync)
     (map (λ file. file.now) files.items) none)

@@ -98,6 +98,7 @@ abbrev pub IsUnfilledBy : {D N : Type 0} → Ghosts D N → Bool → Form → Li
 IsUnfilledBy {D} disk sync form named d (change.Unopened (opening.Kernel cause)) =
     (e : D) × IsNotOpenedPair disk d e cause
 IsUnfilledBy disk sync form named d (change.Unopened opening.NoTree) = ⊥
+IsUnfilledBy disk sync form named d (change.Unopened (opening.Miscounted number)) = ⊥
 IsUnfilledBy disk sync form named d (change.Tree fault) =
     FailsToGrow disk named d (change.Tree fault)
 IsUnfilledBy disk sync form named d (change.Unwritten fault) =

@@ -27,7 +27,7 @@ use names_words::Request;
 use second_lines::{Line, tell};
 use std::convert::AsStr;
 use std::io::Write;
-use tree_changes::{MakeDirectory, OverTree, Remove, RemoveDirectory, Rename};
+use tree_changes::{Link, MakeDirectory, OverTree, Recount, Remove, RemoveDirectory, Rename};
 use tree_looks::{Cat, Get, GetAll, Ls, OverFiles, Paths};
 
 /// The program's name, with which the line of each refusal begins.
@@ -224,6 +224,19 @@ fn dispatch<R: Locks + AllocGlobal, O: Write, E: Write>(
             };
             change(rt, image, locking, *sync, over, out, err)
         }
+        Request::Ln {
+            image,
+            path,
+            into,
+            sync,
+            no_sync,
+        } => {
+            let over = OverTree {
+                change: Link { path, into },
+                last: !*no_sync,
+            };
+            change(rt, image, locking, *sync, over, out, err)
+        }
         Request::Mkdir {
             image,
             path,
@@ -247,6 +260,14 @@ fn dispatch<R: Locks + AllocGlobal, O: Write, E: Write>(
                 last: !*no_sync,
             };
             change(rt, image, locking, *sync, over, out, err)
+        }
+        Request::Recount {
+            image,
+            sync,
+            no_sync,
+        } => {
+            let last = !*no_sync;
+            change(rt, image, locking, *sync, Recount { last }, out, err)
         }
         Request::Mkfs {
             image,

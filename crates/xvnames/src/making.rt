@@ -248,7 +248,7 @@ fn fill_tree<D: Disk + Drop>(
         Ok(kernel) => kernel,
         Err((fault, _disk)) => return Err(ChangeRefusal::Unopened(TreeOpenFault::Kernel(fault))),
     };
-    let mut tree = Tree::over(kernel);
+    let mut tree = Tree::over(alloc, kernel);
     match grow(alloc, &mut tree, files) {
         Ok(()) => synced(tree.into_disk(), sync),
         Err(refusal) => Err(refusal),

@@ -43,8 +43,10 @@ pub fn given<'a>(request: &Request<'a>) -> Given<'a> {
         },
         Request::Rm { image, path, .. } => at(image, path, true),
         Request::Mv { image, from, .. } => at(image, from, true),
+        Request::Ln { image, path, .. } => at(image, path, true),
         Request::Mkdir { image, path, .. } => at(image, path, true),
         Request::Rmdir { image, path, .. } => at(image, path, true),
+        Request::Recount { image, .. } => Given::over(image, true),
         Request::Mkfs {
             image,
             size,

@@ -11,8 +11,7 @@ returns-then-is_whole c =
     let sizes = c.is_whole.ensures.0 c.if-is_whole.true in (
       λ all.
           record {
-            whole = sizes.0;
-            fits = sizes.1;
+            whole = sizes;
             once = once_from_first c.args.bytes.now (subst (λ (es : List (List ℕ)). AreFirst es) c.entries_in.ensures.value (c.names_stand_once.ensures.0 all));
           },
       λ tidy.

@@ -1,11 +1,11 @@
-use Rattle.names.proofs.EntrySteps.{link_leads_there, reads_whole, unlink_leads_nowhere}
+use Rattle.names.proofs.EntrySteps.{link_leads_there, reads_part, unlink_leads_nowhere}
 use Rattle.names.proofs.Moves.{relink_leads}
 use Rattle.names.proofs.Plain.{plain_keeps}
 use Rattle.names.proofs.Unnamed.{create_makes, remove_undoes, write_fills}
 use Rattle.names.proofs.tree_laws.operations_lead.Goals as goal
 
 pub returns-clause-read : goal.returns-clause-read
-returns-clause-read c = reads_whole
+returns-clause-read c = reads_part
 
 pub returns-clause-linked : goal.returns-clause-linked
 returns-clause-linked c = link_leads_there

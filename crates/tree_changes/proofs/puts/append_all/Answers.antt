@@ -3,14 +3,13 @@ use Rattle.std.specs.Int.{div_ceil}
 use Rattle.calls.specs.Calls.{image_on}
 use Rattle.model.specs.Files.{files_of}
 use Rattle.names.specs.Inside.{form_seen}
-use Rattle.names.specs.Lemmas.Once.{once_on}
 use Rattle.names.specs.Lemmas.Over.{over_on}
 use Rattle.tree_changes.specs.Puts.{IsUnappended, StopsWriting, WritesPieces, piece_count}
 use Rattle.tree_changes.proofs.Pieces.{left_by, piece_is, piece_left, piece_written}
 use Rattle.tree_changes.proofs.puts.append_all.Goals as goal
 
 pub loop-piece-init : goal.loop-piece-init
-loop-piece-init g c = record { ready = c.requires.ready; stays = record { opening = refl; name = refl }; leaves = inl refl; writes = refl; once = λ i only. only }
+loop-piece-init g c = record { ready = c.requires.ready; stays = record { opening = refl; name = refl }; leaves = inl refl; writes = refl }
 
 pub loop-piece-preserved : goal.loop-piece-preserved
 loop-piece-preserved g c =
@@ -21,9 +20,8 @@ loop-piece-preserved g c =
     record {
       ready = c.append.ensures.ready;
       stays = over_on g.D.Disk k m e so_far.stays c.append.ensures.stays;
-      leaves = piece_left g.D.Disk k m e c.args.path.now c.args.bytes.now c.loop-piece.piece c.min-to.result so_far.stays c.min-to.ensures so_far.writes so_far.once so_far.leaves c.append.ensures.leaves;
+      leaves = piece_left g.D.Disk k m e c.args.path.now c.args.bytes.now c.loop-piece.piece c.min-to.result so_far.stays c.min-to.ensures so_far.writes so_far.leaves c.append.ensures.leaves;
       writes = piece_written g.D.Disk k m c.args.path.now c.args.bytes.now c.loop-piece.piece c.min-to.result so_far.stays c.min-to.ensures _ _ so_far.writes c.in_ok-append.ensures.writes;
-      once = once_on so_far.once c.in_ok-append.ensures.once;
     }
 
 pub returns-in_err-append-clause-stays : goal.returns-in_err-append-clause-stays
@@ -49,7 +47,7 @@ returns-in_err-append-clause-leaves g c =
     let count = piece_count c.args.bytes.now in
     let low : c.loop-piece.piece + 1 ≤ count = omega (arith, c.loop-piece-test.true, c.div_ceil-piece-end.ensures) in
     left_by g.D.Disk k c.append.new.tree.kernel (form_seen g.D.Disk.image k) c.args.path.now c.args.bytes.now (c.loop-piece.piece + 1) count low
-    (piece_left g.D.Disk k c.loop-piece.tree.kernel c.append.new.tree.kernel c.args.path.now c.args.bytes.now c.loop-piece.piece c.min-to.result so_far.stays c.min-to.ensures so_far.writes so_far.once so_far.leaves c.append.ensures.leaves)
+    (piece_left g.D.Disk k c.loop-piece.tree.kernel c.append.new.tree.kernel c.args.path.now c.args.bytes.now c.loop-piece.piece c.min-to.result so_far.stays c.min-to.ensures so_far.writes so_far.leaves c.append.ensures.leaves)
 
 pub returns-clause-leaves : goal.returns-clause-leaves
 returns-clause-leaves g c =

@@ -3,7 +3,6 @@ use Rattle.calls.specs.Stopped.{StaysOver}
 use Rattle.model.specs.Files.{files_of}
 use Rattle.names.specs.Inside.{form_seen}
 use Rattle.names.specs.Ready.{MayGoOn}
-use Rattle.names.specs.Trees.{KeepsOnce}
 use Rattle.tree_changes.specs.Puts.{LeavesIfDone, WritesPieces, WritesSome}
 use Rattle.tree_changes.proofs.puts.append_all.Given as goal
 
@@ -14,5 +13,4 @@ invariant-loop-piece g l = record {
   stays : StaysOver g.D.Disk l.initial.tree.kernel l.tree.kernel;
   leaves : LeavesIfDone g.D.Disk (WritesSome (form_seen g.D.Disk.image l.initial.tree.kernel) l.path l.bytes l.piece) l.initial.tree.kernel l.tree.kernel;
   writes : WritesPieces (form_seen g.D.Disk.image l.initial.tree.kernel) l.path l.bytes l.piece (files_of (image_on g.D.Disk.image l.initial.tree.kernel)) (files_of (image_on g.D.Disk.image l.tree.kernel));
-  once : KeepsOnce (files_of (image_on g.D.Disk.image l.initial.tree.kernel)) (files_of (image_on g.D.Disk.image l.tree.kernel));
 }

@@ -62,6 +62,14 @@ pub returns-in-Mv-clause-refused : goal.returns-in-Mv-clause-refused
 returns-in-Mv-clause-refused g c =
     λ refused. subst (λ request. OnRefused g.R.File.Read.remaining request (g.O.Write.contents c.args.out.now) (g.O.Write.contents c.change-in-Mv.new.out) (c.change-in-Mv.new.out ≡ c.args.out.now)) (sym c.in-Mv.is) (c.change-in-Mv.ensures.refused refused)
 
+pub returns-in-Ln-clause-done : goal.returns-in-Ln-clause-done
+returns-in-Ln-clause-done g c =
+    λ done. subst (λ request. Answers g.R.File.Read.remaining g.R.File.Write.contents request (g.O.Write.contents c.args.out.now) (g.O.Write.contents c.change-in-Ln.new.out)) (sym c.in-Ln.is) (c.change-in-Ln.ensures.done done)
+
+pub returns-in-Ln-clause-refused : goal.returns-in-Ln-clause-refused
+returns-in-Ln-clause-refused g c =
+    λ refused. subst (λ request. OnRefused g.R.File.Read.remaining request (g.O.Write.contents c.args.out.now) (g.O.Write.contents c.change-in-Ln.new.out) (c.change-in-Ln.new.out ≡ c.args.out.now)) (sym c.in-Ln.is) (c.change-in-Ln.ensures.refused refused)
+
 pub returns-in-Mkdir-clause-done : goal.returns-in-Mkdir-clause-done
 returns-in-Mkdir-clause-done g c =
     λ done. subst (λ request. Answers g.R.File.Read.remaining g.R.File.Write.contents request (g.O.Write.contents c.args.out.now) (g.O.Write.contents c.change-in-Mkdir.new.out)) (sym c.in-Mkdir.is) (c.change-in-Mkdir.ensures.done done)
@@ -77,6 +85,14 @@ returns-in-Rmdir-clause-done g c =
 pub returns-in-Rmdir-clause-refused : goal.returns-in-Rmdir-clause-refused
 returns-in-Rmdir-clause-refused g c =
     λ refused. subst (λ request. OnRefused g.R.File.Read.remaining request (g.O.Write.contents c.args.out.now) (g.O.Write.contents c.change-in-Rmdir.new.out) (c.change-in-Rmdir.new.out ≡ c.args.out.now)) (sym c.in-Rmdir.is) (c.change-in-Rmdir.ensures.refused refused)
+
+pub returns-in-Recount-clause-done : goal.returns-in-Recount-clause-done
+returns-in-Recount-clause-done g c =
+    λ done. subst (λ request. Answers g.R.File.Read.remaining g.R.File.Write.contents request (g.O.Write.contents c.args.out.now) (g.O.Write.contents c.change-in-Recount.new.out)) (sym c.in-Recount.is) (c.change-in-Recount.ensures.done done)
+
+pub returns-in-Recount-clause-refused : goal.returns-in-Recount-clause-refused
+returns-in-Recount-clause-refused g c =
+    λ refused. subst (λ request. OnRefused g.R.File.Read.remaining request (g.O.Write.contents c.args.out.now) (g.O.Write.contents c.change-in-Recount.new.out) (c.change-in-Recount.new.out ≡ c.args.out.now)) (sym c.in-Recount.is) (c.change-in-Recount.ensures.refused refused)
 
 pub returns-in-Mkfs-clause-done : goal.returns-in-Mkfs-clause-done
 returns-in-Mkfs-clause-done g c =

@@ -1,9 +1,11 @@
 use Rattle.std.proofs.Common.{◌≡◌, ◌∙◌, Ok, sym}
+use Rattle.std.proofs.lemmas.Result.{on_ok_weaker}
 use Rattle.names.specs.Contents.{Reads, ReadsOf}
-use Rattle.names.specs.Inside.{files_seen}
+use Rattle.names.specs.Inside.{files_seen, SeesSame}
 use Rattle.names.specs.Walks.{walked}
 use Rattle.names.proofs.PathLaws.{walk_told}
 use Rattle.names.proofs.PlainFiles.{happens_plain}
+use Rattle.names.proofs.Staying.{stays_same}
 use Rattle.names.proofs.contents.ReadFileChange.apply.Goals as goal
 
 pub read_of-requires-clause-there : goal.read_of-requires-clause-there
@@ -17,3 +19,11 @@ returns-in-Ok-clause-made g c =
     happens_plain (ReadsOf c.in-Ok.number c.args.self.now.offset c.args.self.now.count) (Reads c.args.names.now c.args.self.now.offset c.args.self.now.count) c.args.names.now c.in-Ok.number (files_seen g.D.Disk.image c.args.tree.now.kernel)
     (files_seen g.D.Disk.image c.walk.new.self.kernel) (files_seen g.D.Disk.image c.read_of.new.self.kernel) led c.in_ok-number.ensures.same
     (λ bytes read. record { number = c.in-Ok.number; led = led; read = read }) c.read_of.result c.read_of.ensures.read
+
+pub returns-in-Ok-clause-tree : goal.returns-in-Ok-clause-tree
+returns-in-Ok-clause-tree g c =
+    on_ok_weaker c.read_of.result
+    (λ (same : SeesSame g.D.Disk.image c.walk.new.self.kernel c.read_of.new.self.kernel).
+    stays_same (files_seen g.D.Disk.image c.args.tree.now.kernel) (files_seen g.D.Disk.image c.read_of.new.self.kernel) (same ∙ c.in_ok-number.ensures.same)
+    c.requires.tree)
+    c.read_of.ensures.same

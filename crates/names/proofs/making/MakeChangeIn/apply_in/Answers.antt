@@ -1,57 +1,73 @@
-use Rattle.names.specs.Inside.{files_seen}
-use Rattle.std.proofs.Common.{◌≡◌}
-use Rattle.names.proofs.Entering.{created_new, found_fits, made_absent, made_adds, made_tree, made_undone}
+use Rattle.std.proofs.Common.{◌≡◌, ◌∙◌, subst}
+use Rattle.model.specs.Files.{Files}
+use Rattle.names.specs.Inside.{files_seen, form_seen}
+use Rattle.names.specs.Making.{HasParentCount}
+use Rattle.names.proofs.Entering.{created_new, found_fits, made_absent, made_there, made_undone, settled_adds, settled_stays}
 use Rattle.names.proofs.Staying.{stays_same}
 use Rattle.names.proofs.making.MakeChangeIn.apply_in.Goals as goal
 
 pub link-requires-clause-size : goal.link-requires-clause-size
 link-requires-clause-size g c =
-    found_fits (files_seen g.D.Disk.image c.args.tree.now.kernel) c.args.from c.in_ok-bytes.field-0 c.in-Some.bytes c.as_slice.result.now c.requires.tree
+    found_fits (form_seen g.D.Disk.image c.args.tree.now.kernel) (files_seen g.D.Disk.image c.args.tree.now.kernel) c.args.from c.in_ok-bytes.field-0 c.in-Some.bytes
+    c.as_slice.result.now c.requires.way.sized
     c.in-Some.is c.as_slice.ensures c.in_ok-bytes.ensures.found
 
 pub link-requires-2-clause-size : goal.link-requires-2-clause-size
 link-requires-2-clause-size g c =
-    found_fits (files_seen g.D.Disk.image c.args.tree.now.kernel) c.args.from c.in_ok-bytes.field-0 c.in-Some.bytes c.as_slice-2.result.now c.requires.tree
+    found_fits (form_seen g.D.Disk.image c.args.tree.now.kernel) (files_seen g.D.Disk.image c.args.tree.now.kernel) c.args.from c.in_ok-bytes.field-0 c.in-Some.bytes
+    c.as_slice-2.result.now c.requires.way.sized
     c.in-Some.is c.as_slice-2.ensures c.in_ok-bytes.ensures.found
 
 pub returns-then-branch-clause-tree : goal.returns-then-branch-clause-tree
 returns-then-branch-clause-tree g c =
-    made_tree g.D.Disk c.args.tree.now.kernel c.directory.new.self.kernel c.create.new.tree.kernel c.entered.new.self.kernel c.args.from c.in-Ok.number c.args.name.now
-    c.in-Some.bytes c.as_slice-2.result.now ((g.N.New.file c.args.self.now.kind) c.in-Ok.number c.args.from) c.in_ok-bytes.field-0 c.in-Ok-link.write c.in_ok-entered.field-0 c.requires.tree
-    c.in_ok-bytes.ensures.same c.in_ok-bytes.ensures.found c.in-Some.is (created_new (g.N.New.file c.args.self.now.kind) c.args.from (files_seen g.D.Disk.image c.directory.new.self.kernel) (files_seen g.D.Disk.image c.create.new.tree.kernel) c.in_ok-number.field-0 c.in-Ok.number c.in-Ok.is c.in_ok-number.ensures.made).1
-    (created_new (g.N.New.file c.args.self.now.kind) c.args.from (files_seen g.D.Disk.image c.directory.new.self.kernel) (files_seen g.D.Disk.image c.create.new.tree.kernel) c.in_ok-number.field-0 c.in-Ok.number c.in-Ok.is c.in_ok-number.ensures.made).0 c.as_slice-2.ensures
-    c.in-Ok-link.ensures.links c.in-Ok-link.ensures.within c.in_ok-entered.ensures.entered c.if-branch.true
+    settled_stays g.D.Disk c.args.tree.now.kernel c.parent_count.new.self.kernel c.create.new.tree.kernel c.entered.new.self.kernel c.args.from c.in-Ok-2.number c.args.name.now
+    c.in-Some.bytes c.as_slice-2.result.now ((g.N.New.file c.args.self.now.kind) c.in-Ok-2.number c.args.from) c.in_ok-bytes.field-0 c.in-Ok-link.write c.in_ok-entered.field-0 c.requires.tree
+    (c.in_ok-count.ensures.same ∙ c.in_ok-bytes.ensures.same) c.in_ok-bytes.ensures.found c.in-Some.is (created_new (g.N.New.file c.args.self.now.kind) c.args.from (files_seen g.D.Disk.image c.parent_count.new.self.kernel) (files_seen g.D.Disk.image c.create.new.tree.kernel) c.in_ok-number.field-0 c.in-Ok-2.number c.in-Ok-2.is c.in_ok-number.ensures.made).1
+    (created_new (g.N.New.file c.args.self.now.kind) c.args.from (files_seen g.D.Disk.image c.parent_count.new.self.kernel) (files_seen g.D.Disk.image c.create.new.tree.kernel) c.in_ok-number.field-0 c.in-Ok-2.number c.in-Ok-2.is c.in_ok-number.ensures.made).0 c.as_slice-2.ensures
+    c.in-Ok-link.ensures.links c.in-Ok-link.ensures.room c.in_ok-entered.ensures.entered
+    c.settled.new.self.kernel c.is_directory.result c.in-Ok.count c.in_ok-count.field-0 c.in-Ok.is
+    (subst (λ (f : Files). HasParentCount c.is_directory.result f c.args.from c.in_ok-count.field-0) c.in_ok-bytes.ensures.same c.in_ok-count.ensures.told) (c.is_directory.ensures.new c.in-Ok-2.number c.args.from) c.in_ok-settled.ensures.settles c.if-branch.true
 
 pub returns-then-branch-clause-made : goal.returns-then-branch-clause-made
 returns-then-branch-clause-made g c =
-    made_adds g.D.Disk c.args.tree.now.kernel c.directory.new.self.kernel c.create.new.tree.kernel c.entered.new.self.kernel c.args.from c.in-Ok.number c.args.name.now
-    c.in-Some.bytes c.as_slice-2.result.now ((g.N.New.file c.args.self.now.kind) c.in-Ok.number c.args.from) c.in_ok-bytes.field-0 c.in-Ok-link.write c.in_ok-entered.field-0 c.requires.tree
-    c.in_ok-bytes.ensures.same c.in_ok-bytes.ensures.found c.in-Some.is (created_new (g.N.New.file c.args.self.now.kind) c.args.from (files_seen g.D.Disk.image c.directory.new.self.kernel) (files_seen g.D.Disk.image c.create.new.tree.kernel) c.in_ok-number.field-0 c.in-Ok.number c.in-Ok.is c.in_ok-number.ensures.made).1
-    (created_new (g.N.New.file c.args.self.now.kind) c.args.from (files_seen g.D.Disk.image c.directory.new.self.kernel) (files_seen g.D.Disk.image c.create.new.tree.kernel) c.in_ok-number.field-0 c.in-Ok.number c.in-Ok.is c.in_ok-number.ensures.made).0 c.as_slice-2.ensures
-    c.in-Ok-link.ensures.links c.in-Ok-link.ensures.within c.in_ok-entered.ensures.entered c.if-branch.true
+    settled_adds g.D.Disk c.args.tree.now.kernel c.parent_count.new.self.kernel c.create.new.tree.kernel c.entered.new.self.kernel c.args.from c.in-Ok-2.number c.args.name.now
+    c.in-Some.bytes c.as_slice-2.result.now ((g.N.New.file c.args.self.now.kind) c.in-Ok-2.number c.args.from) c.in_ok-bytes.field-0 c.in-Ok-link.write c.in_ok-entered.field-0 c.requires.tree
+    (c.in_ok-count.ensures.same ∙ c.in_ok-bytes.ensures.same) c.in_ok-bytes.ensures.found c.in-Some.is (created_new (g.N.New.file c.args.self.now.kind) c.args.from (files_seen g.D.Disk.image c.parent_count.new.self.kernel) (files_seen g.D.Disk.image c.create.new.tree.kernel) c.in_ok-number.field-0 c.in-Ok-2.number c.in-Ok-2.is c.in_ok-number.ensures.made).1
+    (created_new (g.N.New.file c.args.self.now.kind) c.args.from (files_seen g.D.Disk.image c.parent_count.new.self.kernel) (files_seen g.D.Disk.image c.create.new.tree.kernel) c.in_ok-number.field-0 c.in-Ok-2.number c.in-Ok-2.is c.in_ok-number.ensures.made).0 c.as_slice-2.ensures
+    c.in-Ok-link.ensures.links c.in-Ok-link.ensures.room c.in_ok-entered.ensures.entered
+    c.settled.new.self.kernel c.is_directory.result c.in-Ok.count c.in_ok-count.field-0 c.in-Ok.is
+    (subst (λ (f : Files). HasParentCount c.is_directory.result f c.args.from c.in_ok-count.field-0) c.in_ok-bytes.ensures.same c.in_ok-count.ensures.told) (c.is_directory.ensures.new c.in-Ok-2.number c.args.from) c.in_ok-settled.ensures.settles c.if-branch.true
 
 pub returns-clause-tree : goal.returns-clause-tree
 returns-clause-tree g c =
     let same : files_seen g.D.Disk.image c.uncreated.new.self.kernel ≡ files_seen g.D.Disk.image c.args.tree.now.kernel =
-    made_undone g.D.Disk c.args.tree.now.kernel c.directory.new.self.kernel c.create.new.tree.kernel c.entered.new.self.kernel c.args.from c.in-Ok.number c.args.name.now
-    c.in-Some.bytes c.as_slice-2.result.now ((g.N.New.file c.args.self.now.kind) c.in-Ok.number c.args.from) c.in_ok-bytes.field-0 c.in-Ok-link.write c.in_ok-entered.field-0 c.requires.tree
-    c.in_ok-bytes.ensures.same c.in_ok-bytes.ensures.found c.in-Some.is (created_new (g.N.New.file c.args.self.now.kind) c.args.from (files_seen g.D.Disk.image c.directory.new.self.kernel) (files_seen g.D.Disk.image c.create.new.tree.kernel) c.in_ok-number.field-0 c.in-Ok.number c.in-Ok.is c.in_ok-number.ensures.made).1
-    (created_new (g.N.New.file c.args.self.now.kind) c.args.from (files_seen g.D.Disk.image c.directory.new.self.kernel) (files_seen g.D.Disk.image c.create.new.tree.kernel) c.in_ok-number.field-0 c.in-Ok.number c.in-Ok.is c.in_ok-number.ensures.made).0 c.as_slice-2.ensures
-    c.in-Ok-link.ensures.links c.in-Ok-link.ensures.within c.in_ok-entered.ensures.entered
+    made_undone g.D.Disk c.args.tree.now.kernel c.parent_count.new.self.kernel c.create.new.tree.kernel c.entered.new.self.kernel c.args.from c.in-Ok-2.number c.args.name.now
+    c.in-Some.bytes c.as_slice-2.result.now ((g.N.New.file c.args.self.now.kind) c.in-Ok-2.number c.args.from) c.in_ok-bytes.field-0 c.in-Ok-link.write c.in_ok-entered.field-0 c.requires.tree
+    (c.in_ok-count.ensures.same ∙ c.in_ok-bytes.ensures.same) c.in_ok-bytes.ensures.found c.in-Some.is (created_new (g.N.New.file c.args.self.now.kind) c.args.from (files_seen g.D.Disk.image c.parent_count.new.self.kernel) (files_seen g.D.Disk.image c.create.new.tree.kernel) c.in_ok-number.field-0 c.in-Ok-2.number c.in-Ok-2.is c.in_ok-number.ensures.made).1
+    (created_new (g.N.New.file c.args.self.now.kind) c.args.from (files_seen g.D.Disk.image c.parent_count.new.self.kernel) (files_seen g.D.Disk.image c.create.new.tree.kernel) c.in_ok-number.field-0 c.in-Ok-2.number c.in-Ok-2.is c.in_ok-number.ensures.made).0 c.as_slice-2.ensures
+    c.in-Ok-link.ensures.links c.in-Ok-link.ensures.room c.in_ok-entered.ensures.entered
     c.uncreated.new.self.kernel c.from.result c.from.ensures c.if-branch.false c.in_ok-uncreated.ensures.undoes in
     stays_same (files_seen g.D.Disk.image c.args.tree.now.kernel) (files_seen g.D.Disk.image c.uncreated.new.self.kernel) same c.requires.tree
 
 pub returns-clause-made : goal.returns-clause-made
 returns-clause-made g c = (
-  made_undone g.D.Disk c.args.tree.now.kernel c.directory.new.self.kernel c.create.new.tree.kernel c.entered.new.self.kernel c.args.from c.in-Ok.number c.args.name.now
-      c.in-Some.bytes c.as_slice-2.result.now ((g.N.New.file c.args.self.now.kind) c.in-Ok.number c.args.from) c.in_ok-bytes.field-0 c.in-Ok-link.write c.in_ok-entered.field-0 c.requires.tree
-      c.in_ok-bytes.ensures.same c.in_ok-bytes.ensures.found c.in-Some.is (created_new (g.N.New.file c.args.self.now.kind) c.args.from (files_seen g.D.Disk.image c.directory.new.self.kernel) (files_seen g.D.Disk.image c.create.new.tree.kernel) c.in_ok-number.field-0 c.in-Ok.number c.in-Ok.is c.in_ok-number.ensures.made).1
-      (created_new (g.N.New.file c.args.self.now.kind) c.args.from (files_seen g.D.Disk.image c.directory.new.self.kernel) (files_seen g.D.Disk.image c.create.new.tree.kernel) c.in_ok-number.field-0 c.in-Ok.number c.in-Ok.is c.in_ok-number.ensures.made).0 c.as_slice-2.ensures
-      c.in-Ok-link.ensures.links c.in-Ok-link.ensures.within c.in_ok-entered.ensures.entered
+  made_undone g.D.Disk c.args.tree.now.kernel c.parent_count.new.self.kernel c.create.new.tree.kernel c.entered.new.self.kernel c.args.from c.in-Ok-2.number c.args.name.now
+      c.in-Some.bytes c.as_slice-2.result.now ((g.N.New.file c.args.self.now.kind) c.in-Ok-2.number c.args.from) c.in_ok-bytes.field-0 c.in-Ok-link.write c.in_ok-entered.field-0 c.requires.tree
+      (c.in_ok-count.ensures.same ∙ c.in_ok-bytes.ensures.same) c.in_ok-bytes.ensures.found c.in-Some.is (created_new (g.N.New.file c.args.self.now.kind) c.args.from (files_seen g.D.Disk.image c.parent_count.new.self.kernel) (files_seen g.D.Disk.image c.create.new.tree.kernel) c.in_ok-number.field-0 c.in-Ok-2.number c.in-Ok-2.is c.in_ok-number.ensures.made).1
+      (created_new (g.N.New.file c.args.self.now.kind) c.args.from (files_seen g.D.Disk.image c.parent_count.new.self.kernel) (files_seen g.D.Disk.image c.create.new.tree.kernel) c.in_ok-number.field-0 c.in-Ok-2.number c.in-Ok-2.is c.in_ok-number.ensures.made).0 c.as_slice-2.ensures
+      c.in-Ok-link.ensures.links c.in-Ok-link.ensures.room c.in_ok-entered.ensures.entered
       c.uncreated.new.self.kernel c.from.result c.from.ensures c.if-branch.false c.in_ok-uncreated.ensures.undoes,
-  made_absent g.D.Disk c.args.tree.now.kernel c.directory.new.self.kernel c.create.new.tree.kernel c.entered.new.self.kernel c.args.from c.in-Ok.number c.args.name.now
-      c.in-Some.bytes c.as_slice-2.result.now ((g.N.New.file c.args.self.now.kind) c.in-Ok.number c.args.from) c.in_ok-bytes.field-0 c.in-Ok-link.write c.in_ok-entered.field-0 c.requires.tree
-      c.in_ok-bytes.ensures.same c.in_ok-bytes.ensures.found c.in-Some.is (created_new (g.N.New.file c.args.self.now.kind) c.args.from (files_seen g.D.Disk.image c.directory.new.self.kernel) (files_seen g.D.Disk.image c.create.new.tree.kernel) c.in_ok-number.field-0 c.in-Ok.number c.in-Ok.is c.in_ok-number.ensures.made).1
-      (created_new (g.N.New.file c.args.self.now.kind) c.args.from (files_seen g.D.Disk.image c.directory.new.self.kernel) (files_seen g.D.Disk.image c.create.new.tree.kernel) c.in_ok-number.field-0 c.in-Ok.number c.in-Ok.is c.in_ok-number.ensures.made).0 c.as_slice-2.ensures
-      c.in-Ok-link.ensures.links c.in-Ok-link.ensures.within c.in_ok-entered.ensures.entered,
+  made_absent g.D.Disk c.args.tree.now.kernel c.parent_count.new.self.kernel c.create.new.tree.kernel c.entered.new.self.kernel c.args.from c.in-Ok-2.number c.args.name.now
+      c.in-Some.bytes c.as_slice-2.result.now ((g.N.New.file c.args.self.now.kind) c.in-Ok-2.number c.args.from) c.in_ok-bytes.field-0 c.in-Ok-link.write c.in_ok-entered.field-0 c.requires.tree
+      (c.in_ok-count.ensures.same ∙ c.in_ok-bytes.ensures.same) c.in_ok-bytes.ensures.found c.in-Some.is (created_new (g.N.New.file c.args.self.now.kind) c.args.from (files_seen g.D.Disk.image c.parent_count.new.self.kernel) (files_seen g.D.Disk.image c.create.new.tree.kernel) c.in_ok-number.field-0 c.in-Ok-2.number c.in-Ok-2.is c.in_ok-number.ensures.made).1
+      (created_new (g.N.New.file c.args.self.now.kind) c.args.from (files_seen g.D.Disk.image c.parent_count.new.self.kernel) (files_seen g.D.Disk.image c.create.new.tree.kernel) c.in_ok-number.field-0 c.in-Ok-2.number c.in-Ok-2.is c.in_ok-number.ensures.made).0 c.as_slice-2.ensures
+      c.in-Ok-link.ensures.links c.in-Ok-link.ensures.room c.in_ok-entered.ensures.entered,
 )
+
+pub settled-requires-clause-there : goal.settled-requires-clause-there
+settled-requires-clause-there g c =
+    made_there g.D.Disk c.args.tree.now.kernel c.parent_count.new.self.kernel c.create.new.tree.kernel c.entered.new.self.kernel c.args.from c.in-Ok-2.number c.args.name.now
+    c.in-Some.bytes c.as_slice-2.result.now ((g.N.New.file c.args.self.now.kind) c.in-Ok-2.number c.args.from) c.in_ok-bytes.field-0 c.in-Ok-link.write c.in_ok-entered.field-0 c.requires.tree
+    (c.in_ok-count.ensures.same ∙ c.in_ok-bytes.ensures.same) c.in_ok-bytes.ensures.found c.in-Some.is (created_new (g.N.New.file c.args.self.now.kind) c.args.from (files_seen g.D.Disk.image c.parent_count.new.self.kernel) (files_seen g.D.Disk.image c.create.new.tree.kernel) c.in_ok-number.field-0 c.in-Ok-2.number c.in-Ok-2.is c.in_ok-number.ensures.made).1
+    (created_new (g.N.New.file c.args.self.now.kind) c.args.from (files_seen g.D.Disk.image c.parent_count.new.self.kernel) (files_seen g.D.Disk.image c.create.new.tree.kernel) c.in_ok-number.field-0 c.in-Ok-2.number c.in-Ok-2.is c.in_ok-number.ensures.made).0 c.as_slice-2.ensures
+    c.in-Ok-link.ensures.links c.in-Ok-link.ensures.room c.in_ok-entered.ensures.entered c.if-branch.true

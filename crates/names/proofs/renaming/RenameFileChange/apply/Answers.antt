@@ -3,6 +3,7 @@ use Rattle.std.proofs.lemmas.Grind.{common_steps}
 use Rattle.model.specs.Files.{Files}
 use Rattle.names.specs.Inside.{files_seen}
 use Rattle.names.specs.Walks.{walked}
+use Rattle.names.proofs.Going.{goes_on, proceeds_on, stays_on}
 use Rattle.names.proofs.Leading.{split_last, unled_by}
 use Rattle.names.proofs.Renamed.{renamed_at}
 use Rattle.names.proofs.renaming.RenameFileChange.apply.Given.{Over}
@@ -70,3 +71,13 @@ returns-else-from-to-clause-made g c =
     (split_last (names g a) (length (names g a) - 1) c.index-names-last-else-from-to.result (some g a) ∙ ap (λ (n : List ℕ). take (length (names g a) - 1) (names g a) ++ n ∷ []) (sym c.index-names-last-else-from-to.is)) (led g a)
     (split_last (into g a) (length (into g a) - 1) c.index-self-end-else-from-to.result (any g a)) led_to
     (c.in_ok-to.ensures.same ∙ c.in_ok-from.ensures.same) c.moved.result c.moved.ensures.moved
+
+pub returns-else-from-to-clause-goes : goal.returns-else-from-to-clause-goes
+returns-else-from-to-clause-goes g c =
+    let k = c.args.tree.now.kernel in
+    let a = c.walk.new.self.kernel in
+    let b = c.walk-2.new.self.kernel in
+    proceeds_on g.D.Disk k b c.moved.new.self.kernel c.moved.result c.args.tree.now.calls_left c.walk-2.new.self.calls_left c.moved.new.self.calls_left c.requires.way
+    (goes_on g.D.Disk k a b c.walk.new.self.calls_left c.walk-2.new.self.calls_left c.in_ok-from.ensures.goes.on c.in_ok-to.ensures.goes.on)
+    (stays_on g.D.Disk k a b c.walk.new.self.calls_left c.in_ok-from.ensures.goes.on c.walk.ensures.goes.stays c.walk-2.ensures.goes.stays)
+    c.moved.ensures.goes

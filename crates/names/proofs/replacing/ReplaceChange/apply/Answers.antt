@@ -1,11 +1,13 @@
-use Rattle.std.proofs.Common.{◌≡◌, ◌∙◌, Bool, false, Result, Ok, Err, refl, ap, subst, inl, inr, rules, arith}
+use Rattle.std.proofs.Common.{◌≡◌, ◌∙◌, Bool, false, Result, Ok, Err, refl, sym, ap, subst, inl, inr, rules, arith}
 use Rattle.std.proofs.lemmas.Grind.{common_steps}
 use Rattle.model.specs.Files.{Files}
 use Rattle.names.specs.declared.refusal.Refusal.{Refusal}
+use Rattle.names.specs.Counts.{AreCounted}
 use Rattle.names.specs.Inside.{files_seen}
 use Rattle.names.specs.Replacing.{Clears, IsReplaceable, IsUncleared}
 use Rattle.names.specs.Ready.{Happens}
 use Rattle.names.specs.Renaming.{IsUnrenamed, Renames}
+use Rattle.names.proofs.Staying.{stays_from, stays_on}
 use Rattle.names.proofs.replacing.ReplaceChange.apply.Goals as goal
 
 -- what was not refused was made
@@ -43,3 +45,14 @@ returns-in-Err-clause-made g c =
       c.in_ok-refusal.ensures.same,
       inl (subst (λ (r : Result Bool Refusal). IsReplaceable self.from self.old.now self.to self.name.now files r) c.in-Err.is c.in_ok-refusal.ensures.told),
     )
+
+pub renamed_in-requires-clause-counted : goal.renamed_in-requires-clause-counted
+renamed_in-requires-clause-counted g c =
+    c.in_ok-refusal-in-Ok-false.ensures.tree.counted (subst (λ (f : Files). AreCounted f) (sym c.in_ok-refusal.ensures.same) c.requires.counted)
+
+pub returns-in-Ok-clause-tree : goal.returns-in-Ok-clause-tree
+returns-in-Ok-clause-tree g c =
+    stays_from (files_seen g.D.Disk.image c.args.tree.now.kernel) (files_seen g.D.Disk.image c.replaceable.new.self.kernel)
+    (files_seen g.D.Disk.image c.renamed_in.new.self.kernel) c.in_ok-refusal.ensures.same
+    (stays_on (files_seen g.D.Disk.image c.replaceable.new.self.kernel) (files_seen g.D.Disk.image c.cleared.new.self.kernel)
+    (files_seen g.D.Disk.image c.renamed_in.new.self.kernel) c.in_ok-refusal-in-Ok-false.ensures.tree c.in_ok-renamed_in-in-Ok-false.ensures.tree)

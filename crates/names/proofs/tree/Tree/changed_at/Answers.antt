@@ -1,21 +1,18 @@
-use Rattle.std.proofs.Common.{◌<◌, ℕ, ap, rules, subst}
-use Rattle.calls.specs.Calls.{image_on}
-use Rattle.model.specs.Files.{files_of}
+use Rattle.std.proofs.Common.{◌<◌, ap, rules, subst, sym}
+use Rattle.model.specs.Files.{Files}
 use Rattle.model.specs.Layout.{form_of}
 use Rattle.model.specs.declared.types.image.Form.{Form}
 use Rattle.names.specs.Inside.{files_seen, form_seen}
-use Rattle.names.specs.Ready.{Happens, HasCommitted, LeavesTree}
-use Rattle.names.specs.Trees.{KeepsOnce}
-use Rattle.names.proofs.Transacting.{on_ok, unchanged_leaves, whole_by, whole_leaves, whole_once}
+use Rattle.names.specs.Counts.{AreCounted}
+use Rattle.names.specs.Ready.{Happens, LeavesTree}
+use Rattle.names.proofs.Transacting.{unchanged_leaves, whole_by, whole_leaves}
 use Rattle.names.proofs.tree.Tree.changed_at.Given.{Over}
 use Rattle.names.proofs.tree.Tree.changed_at.Goals.{After-committed}
 use Rattle.names.proofs.tree.Tree.changed_at.Goals as goal
 
--- what the call leaves, whether it ends well or not; and where it does, what had one name at most has one still
+-- what the call leaves, whether it ends well or not
 module _ (g : Over) (c : After-committed g) where
   whole : 0 < c.args.self.now.calls_left → LeavesTree g.D.Disk (g.C.Change.makes c.args.change.now (form_seen g.D.Disk.image c.args.self.now.kernel) c.args.names.now) c.args.self.now.kernel c.committed.new.self.kernel
-      × ((left : ℕ) → HasCommitted g.D.Disk c.apply.new.tree.kernel c.committed.new.self.kernel left →
-      KeepsOnce (files_of (image_on g.D.Disk.image c.args.self.now.kernel)) (files_of (image_on g.D.Disk.image c.committed.new.self.kernel)))
   whole some =
       let change = g.C.Change.makes c.args.change.now (form_seen g.D.Disk.image c.args.self.now.kernel) c.args.names.now in
       let why = g.C.Change.refuses c.args.change.now c.args.names.now in
@@ -25,24 +22,27 @@ module _ (g : Over) (c : After-committed g) where
       c.in_ok-made.ensures.tree
       (subst (λ (f : Form). Happens (g.C.Change.makes c.args.change.now f c.args.names.now) why
       (files_seen g.D.Disk.image c.begun.new.self.kernel) (files_seen g.D.Disk.image c.apply.new.tree.kernel) c.in_ok-made.made)
-      (ap (λ d. form_of (g.D.Disk.image d)) c.in_ok-begun.ensures.begins.goes.opening) c.in_ok-made.ensures.made) in (
-        whole_leaves g.D.Disk change why c.args.self.now.kernel c.apply.new.tree.kernel c.committed.new.self.kernel c.in_ok-made.made is c.committed.ensures.leaves,
-        λ left committed. whole_once g.D.Disk change why c.args.self.now.kernel c.apply.new.tree.kernel c.committed.new.self.kernel c.in_ok-made.made is left committed,
-      )
+      (ap (λ d. form_of (g.D.Disk.image d)) c.in_ok-begun.ensures.begins.goes.opening) c.in_ok-made.ensures.made) in
+      whole_leaves g.D.Disk change why c.args.self.now.kernel c.apply.new.tree.kernel c.committed.new.self.kernel c.in_ok-made.made is c.committed.ensures.leaves
 
 pub returns-in_err-made-clause-leaves : goal.returns-in_err-made-clause-leaves
 returns-in_err-made-clause-leaves g c = λ some.
     unchanged_leaves g.D.Disk (g.C.Change.makes c.args.change.now (form_seen g.D.Disk.image c.args.self.now.kernel) c.args.names.now)
-    (g.C.Change.refuses c.args.change.now c.args.names.now) c.args.self.now.kernel c.apply.new.tree.kernel (c.requires.ready some).tree
+    (g.C.Change.refuses c.args.change.now c.args.names.now) c.args.self.now.kernel c.apply.new.tree.kernel (c.requires.ready some).tree (c.requires.ready some).counted
     (c.apply.ensures.goes.stays.on c.args.self.now.kernel c.in_ok-begun.ensures.begins.goes.same c.begun.ensures.leaves)
 
 pub returns-in_err-committed-clause-leaves : goal.returns-in_err-committed-clause-leaves
-returns-in_err-committed-clause-leaves g c = λ some. (whole g (goal.at.returns-in_err-committed-clause-leaves g c).After-committed some).0
+returns-in_err-committed-clause-leaves g c = λ some. whole g (goal.at.returns-in_err-committed-clause-leaves g c).After-committed some
 
 pub returns-clause-leaves : goal.returns-clause-leaves
-returns-clause-leaves g c = λ some. (whole g (goal.at.returns-clause-leaves g c).After-committed some).0
+returns-clause-leaves g c = λ some. whole g (goal.at.returns-clause-leaves g c).After-committed some
 
-pub returns-clause-once : goal.returns-clause-once
-returns-clause-once g c =
+pub apply-requires-clause-counted : goal.apply-requires-clause-counted
+apply-requires-clause-counted g c =
     let some : 0 < c.args.self.now.calls_left = search rules in
-    on_ok _ _ ((whole g (goal.at.returns-clause-once g c).After-committed some).1 c.committed.new.self.calls_left c.in_ok-committed.ensures.commits)
+    subst (λ (f : Files). AreCounted f) (sym c.in_ok-begun.ensures.begins.files) (c.requires.ready some).counted
+
+pub committed-requires-clause-counted : goal.committed-requires-clause-counted
+committed-requires-clause-counted g c =
+    let some : 0 < c.args.self.now.calls_left = search rules in
+    c.in_ok-made.ensures.tree.counted (subst (λ (f : Files). AreCounted f) (sym c.in_ok-begun.ensures.begins.files) (c.requires.ready some).counted)

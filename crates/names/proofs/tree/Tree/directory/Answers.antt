@@ -1,10 +1,10 @@
 use Rattle.std.proofs.Common.{◌≡◌, ◌≢◌, ◌∙◌, Err, sym, ap, subst, rules, arith}
 use Rattle.model.specs.Files.{Files}
 use Rattle.names.specs.Inside.{files_seen, Proceeds}
-use Rattle.names.specs.Trees.{directory_in, IsDirectory, IsTidy}
-use Rattle.names.proofs.FileLooks.{kind_told, tidy_in, untold, untold_directory}
+use Rattle.names.specs.Trees.{directory_in, IsDirectory}
+use Rattle.names.proofs.FileLooks.{kind_told, untold, untold_directory}
 use Rattle.names.proofs.Going.{ends_on, stays_on}
-use Rattle.names.proofs.SeenLooks.{stat_kind, stat_same}
+use Rattle.names.proofs.SeenLooks.{stat_kind, stat_same, stat_size}
 use Rattle.names.proofs.tree.Tree.directory.Given.{Over}
 use Rattle.names.proofs.tree.Tree.directory.Goals as goal
 
@@ -33,30 +33,29 @@ returns-then-kind-ne-DIRECTORY_KIND-clause-found g c =
     (stat_kind g.D.Disk c.args.self.now.kernel c.called.new.self.kernel c.args.number c.in_ok-kind.field-0 c.in_ok-kind.ensures.answers)
     (other g c)
 
-pub tidy_directory-requires-clause-there : goal.tidy_directory-requires-clause-there
-tidy_directory-requires-clause-there g c =
+pub whole_directory-requires-clause-there : goal.whole_directory-requires-clause-there
+whole_directory-requires-clause-there g c =
     subst (λ (f : Files). IsDirectory f c.args.number)
     (sym (stat_same g.D.Disk c.args.self.now.kernel c.called.new.self.kernel c.args.number c.in_ok-kind.field-0 c.in_ok-kind.ensures.answers))
     (stat_kind g.D.Disk c.args.self.now.kernel c.called.new.self.kernel c.args.number c.in_ok-kind.field-0 c.in_ok-kind.ensures.answers
     ∙ ap kind_told c.in-StatOf.is ∙ c.if-kind-ne-DIRECTORY_KIND.false)
 
-pub tidy_directory-requires-clause-tidy : goal.tidy_directory-requires-clause-tidy
-tidy_directory-requires-clause-tidy g c =
-    subst (λ (f : Files). IsTidy (directory_in f c.args.number))
-    (sym (stat_same g.D.Disk c.args.self.now.kernel c.called.new.self.kernel c.args.number c.in_ok-kind.field-0 c.in_ok-kind.ensures.answers))
-    (tidy_in (files_seen g.D.Disk.image c.args.self.now.kernel) c.args.number c.requires.tree
+pub whole_directory-requires-clause-size : goal.whole_directory-requires-clause-size
+whole_directory-requires-clause-size g c =
+    stat_size g.D.Disk c.args.self.now.kernel c.called.new.self.kernel c.args.number c.in_ok-kind.field-0 c.in-StatOf.kind c.in-StatOf._links c.in-StatOf.size
+    c.in_ok-kind.ensures.answers c.in-StatOf.is
     (stat_kind g.D.Disk c.args.self.now.kernel c.called.new.self.kernel c.args.number c.in_ok-kind.field-0 c.in_ok-kind.ensures.answers
-    ∙ ap kind_told c.in-StatOf.is ∙ c.if-kind-ne-DIRECTORY_KIND.false))
+    ∙ ap kind_told c.in-StatOf.is ∙ c.if-kind-ne-DIRECTORY_KIND.false)
 
 pub returns-in_err-bytes-clause-goes : goal.returns-in_err-bytes-clause-goes
 returns-in_err-bytes-clause-goes g c =
     let is : c.from_residual-in_err-bytes.result ≡ Err c.in_err-bytes.field-0.0 = search rules in
-    subst (λ r. Proceeds g.D.Disk r c.args.self.now.kernel c.tidy_directory.new.self.kernel c.tidy_directory.new.self.calls_left) (sym is) (record {
+    subst (λ r. Proceeds g.D.Disk r c.args.self.now.kernel c.whole_directory.new.self.kernel c.whole_directory.new.self.calls_left) (sym is) (record {
       on = tt;
-      stays = stays_on g.D.Disk c.args.self.now.kernel c.called.new.self.kernel c.tidy_directory.new.self.kernel c.called.new.self.calls_left
-          c.in_ok-kind.ensures.goes.on c.called.ensures.goes.stays c.tidy_directory.ensures.goes.stays;
-      ends = ends_on g.D.Disk c.args.self.now.kernel c.called.new.self.kernel c.tidy_directory.new.self.kernel c.args.self.now.calls_left
-          c.called.new.self.calls_left c.tidy_directory.new.self.calls_left c.in_err-bytes.field-0.0 c.requires.way c.in_ok-kind.ensures.goes.on
+      stays = stays_on g.D.Disk c.args.self.now.kernel c.called.new.self.kernel c.whole_directory.new.self.kernel c.called.new.self.calls_left
+          c.in_ok-kind.ensures.goes.on c.called.ensures.goes.stays c.whole_directory.ensures.goes.stays;
+      ends = ends_on g.D.Disk c.args.self.now.kernel c.called.new.self.kernel c.whole_directory.new.self.kernel c.args.self.now.calls_left
+          c.called.new.self.calls_left c.whole_directory.new.self.calls_left c.in_err-bytes.field-0.0 c.requires.way c.in_ok-kind.ensures.goes.on
           c.in_err-bytes.ensures.goes.ends;
     })
 

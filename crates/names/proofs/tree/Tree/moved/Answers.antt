@@ -1,11 +1,12 @@
-use Rattle.std.proofs.Common.{◌≡◌, Result, true, sym, subst, rules}
+use Rattle.std.proofs.Common.{◌≡◌, ◌∙◌, Result, true, subst, rules}
 use Rattle.names.specs.declared.planning.Plan.{Plan}
 use Rattle.names.specs.declared.refusal.Refusal.{Refusal}
+use Rattle.names.specs.Counts.{StaysCounted}
 use Rattle.names.specs.Inside.{files_seen}
 use Rattle.names.specs.Renaming.{IsPlan, IsPlanned, Renames}
-use Rattle.names.specs.Trees.{number_of, IsDirectory, StaysTree}
+use Rattle.names.specs.Trees.{number_of, IsDirectory}
 use Rattle.std.specs.Prelude.{None}
-use Rattle.names.proofs.Moved.{moved_directory, moved_file, unlinked_absent, unlinked_same}
+use Rattle.names.proofs.Moved.{moved_directory, moved_file, source_there, target_there, unlinked_absent, unlinked_same}
 use Rattle.names.proofs.Staying.{stays_same}
 use Rattle.names.proofs.tree.Tree.moved.Given.{Over}
 use Rattle.names.proofs.tree.Tree.moved.Goals as goal
@@ -41,7 +42,7 @@ module _ (g : Over) (c : goal.In_default g) where
       c.in-Ok.is c.in_ok-plan.ensures.planned
 
   file_moved : Renames c.args.from c.args.old.now c.args.to c.args.name.now tt (files_seen g.D.Disk.image c.args.self.now.kernel)
-      (files_seen g.D.Disk.image c.entered-2.new.self.kernel) × StaysTree (files_seen g.D.Disk.image c.args.self.now.kernel) (files_seen g.D.Disk.image c.entered-2.new.self.kernel)
+      (files_seen g.D.Disk.image c.entered-2.new.self.kernel) × StaysCounted (files_seen g.D.Disk.image c.args.self.now.kernel) (files_seen g.D.Disk.image c.entered-2.new.self.kernel)
   file_moved =
       let holds : c.in_ok-entered.field-0 ≡ true = search rules in
       moved_file g.D.Disk c.args.self.now.kernel c.planned.new.self.kernel c.entered.new.self.kernel c.args.from c.args.to c.args.old.now c.args.name.now c.in-Ok.plan
@@ -61,16 +62,39 @@ module _ (g : Over) (c : goal.In_ok-_turned g) where
       c.in-Ok.is c.in_ok-plan.ensures.planned
 
   directory_moved : Renames c.args.from c.args.old.now c.args.to c.args.name.now tt (files_seen g.D.Disk.image c.args.self.now.kernel)
-      (files_seen g.D.Disk.image c.entered-3.new.self.kernel) × StaysTree (files_seen g.D.Disk.image c.args.self.now.kernel) (files_seen g.D.Disk.image c.entered-3.new.self.kernel)
+      (files_seen g.D.Disk.image c.entered-3.new.self.kernel) × StaysCounted (files_seen g.D.Disk.image c.args.self.now.kernel) (files_seen g.D.Disk.image c.entered-3.new.self.kernel)
   directory_moved =
       let holds : c.in_ok-entered.field-0 ≡ true = search rules in
       moved_directory g.D.Disk c.args.self.now.kernel c.planned.new.self.kernel c.entered.new.self.kernel c.args.from c.args.to c.args.old.now c.args.name.now c.in-Ok.plan
       c.in_ok-entered.field-0 c.requires.tree c.requires.apart c.in_ok-plan.ensures.same directory_plan c.in_ok-entered.ensures.entered
       c.entered-2.new.self.kernel c.in_ok-_freed._freed holds c.in_ok-_freed.ensures.entered c.in_ok-entered.ensures.goes.on.opening
-      c.entered-3.new.self.kernel c.in-Some.up c.in_ok-_turned._turned c.in-Some.is c.in_ok-_turned.ensures.entered c.in_ok-_freed.ensures.goes.on.opening
+      c.relinked.new.self.kernel c.relinked-2.new.self.kernel c.entered-3.new.self.kernel c.in-Some.rise c.in_ok-_turned._turned c.in-Some.is
+      c.in_ok-relinked.ensures.relinks c.in_ok-relinked-2.ensures.relinks c.in_ok-_turned.ensures.entered
+      (c.in_ok-relinked-2.ensures.goes.on.opening ∙ c.in_ok-relinked.ensures.goes.on.opening ∙ c.in_ok-_freed.ensures.goes.on.opening)
 
 pub returns-clause-tree : goal.returns-clause-tree
 returns-clause-tree g c = (directory_moved g c).1
 
 pub returns-clause-moved : goal.returns-clause-moved
 returns-clause-moved g c = (directory_moved g c).0
+
+pub relinked-requires-clause-there : goal.relinked-requires-clause-there
+relinked-requires-clause-there g c =
+    let holds : c.in_ok-entered.field-0 ≡ true = search rules in
+    let plan : IsPlan (files_seen g.D.Disk.image c.args.self.now.kernel) c.args.from c.args.old.now c.args.to c.args.name.now c.in-Ok.plan =
+    subst (λ (r : Result Plan Refusal). IsPlanned (files_seen g.D.Disk.image c.args.self.now.kernel) c.args.from c.args.old.now c.args.to c.args.name.now r)
+    c.in-Ok.is c.in_ok-plan.ensures.planned in
+    source_there g.D.Disk c.args.self.now.kernel c.planned.new.self.kernel c.entered.new.self.kernel c.args.from c.args.to c.args.old.now c.args.name.now c.in-Ok.plan
+    c.in_ok-entered.field-0 c.requires.tree c.requires.apart c.in_ok-plan.ensures.same plan c.in_ok-entered.ensures.entered
+    c.entered-2.new.self.kernel c.in_ok-_freed._freed holds c.in_ok-_freed.ensures.entered c.in_ok-entered.ensures.goes.on.opening
+
+pub relinked-requires-2-clause-there : goal.relinked-requires-2-clause-there
+relinked-requires-2-clause-there g c =
+    let holds : c.in_ok-entered.field-0 ≡ true = search rules in
+    let plan : IsPlan (files_seen g.D.Disk.image c.args.self.now.kernel) c.args.from c.args.old.now c.args.to c.args.name.now c.in-Ok.plan =
+    subst (λ (r : Result Plan Refusal). IsPlanned (files_seen g.D.Disk.image c.args.self.now.kernel) c.args.from c.args.old.now c.args.to c.args.name.now r)
+    c.in-Ok.is c.in_ok-plan.ensures.planned in
+    target_there g.D.Disk c.args.self.now.kernel c.planned.new.self.kernel c.entered.new.self.kernel c.args.from c.args.to c.args.old.now c.args.name.now c.in-Ok.plan
+    c.in_ok-entered.field-0 c.requires.tree c.requires.apart c.in_ok-plan.ensures.same plan c.in_ok-entered.ensures.entered
+    c.entered-2.new.self.kernel c.in_ok-_freed._freed holds c.in_ok-_freed.ensures.entered c.in_ok-entered.ensures.goes.on.opening c.relinked.new.self.kernel c.in-Some.rise.left
+    c.in_ok-relinked.ensures.relinks

@@ -1,9 +1,9 @@
-use Rattle.std.proofs.Common.{◌≡◌, sym, subst, rules}
+use Rattle.std.proofs.Common.{◌≡◌, sym, rules}
 use Rattle.model.specs.Files.{Files}
-use Rattle.names.specs.Inside.{files_seen}
-use Rattle.names.specs.Trees.{directory_in, IsDirectory, IsDown, IsTree}
+use Rattle.names.specs.Inside.{files_seen, form_seen}
+use Rattle.names.specs.Trees.{directory_in, IsDirectory, IsDown}
 use Rattle.names.proofs.Entering.{found_fits}
-use Rattle.names.proofs.Moved.{not_root, own_directory, own_is, own_there, plan_inside, plan_is, target_in}
+use Rattle.names.proofs.Moved.{not_root, own_directory, own_is, own_there, plan_inside, plan_is, source_counts, target_in}
 use Rattle.names.proofs.Renamed.{lookup_used}
 use Rattle.names.proofs.tree.Tree.planned.Given.{Over}
 use Rattle.names.proofs.tree.Tree.planned.Goals.{After-from-file}
@@ -11,7 +11,8 @@ use Rattle.names.proofs.tree.Tree.planned.Goals as goal
 
 pub unlink-requires : goal.unlink-requires
 unlink-requires g c =
-    found_fits (files_seen g.D.Disk.image c.args.self.now.kernel) c.args.from c.in_ok-bytes.field-0 c.in-Some.bytes c.as_slice-2.result.now c.requires.tree
+    found_fits (form_seen g.D.Disk.image c.args.self.now.kernel) (files_seen g.D.Disk.image c.args.self.now.kernel) c.args.from c.in_ok-bytes.field-0 c.in-Some.bytes
+    c.as_slice-2.result.now c.requires.way.sized
     c.in-Some.is c.as_slice-2.ensures c.in_ok-bytes.ensures.found
 
 pub link-requires-clause-used : goal.link-requires-clause-used
@@ -19,8 +20,8 @@ link-requires-clause-used g c = lookup_used c.as_slice.result.now c.args.old.now
 
 pub link-requires-clause-size : goal.link-requires-clause-size
 link-requires-clause-size g c =
-    found_fits (files_seen g.D.Disk.image c.directory.new.self.kernel) c.args.to c.in_ok-bytes-2.field-0 c.in-Some-2.bytes c.as_slice-3.result.now
-    (subst (λ (f : Files). IsTree f) (sym c.in_ok-bytes.ensures.same) c.requires.tree) c.in-Some-2.is c.as_slice-3.ensures c.in_ok-bytes-2.ensures.found
+    found_fits (form_seen g.D.Disk.image c.directory.new.self.kernel) (files_seen g.D.Disk.image c.directory.new.self.kernel) c.args.to c.in_ok-bytes-2.field-0
+    c.in-Some-2.bytes c.as_slice-3.result.now c.in_ok-bytes.ensures.goes.on.way.sized c.in-Some-2.is c.as_slice-3.ensures c.in_ok-bytes-2.ensures.found
 
 pub unreachable-requires-in_default-lookup-2 : goal.unreachable-requires-in_default-lookup-2
 unreachable-requires-in_default-lookup-2 g c =
@@ -62,6 +63,14 @@ rise-requires-clause-below g c =
     c.as_slice-3.result.now c.in_ok-bytes.field-0 c.in_ok-bytes-2.field-0 c.requires.tree c.requires.apart (down g a) c.in_ok-bytes.ensures.same c.in_ok-bytes-2.ensures.same
     c.in_ok-bytes.ensures.found c.in-Some.is c.as_slice.ensures c.as_slice-2.ensures (sym c.in-Some-lookup.ensures) c.from-file.ensures (own g a) (target g a) c.as_slice-3.ensures
 
+pub rise-requires-clause-parent : goal.rise-requires-clause-parent
+rise-requires-clause-parent g c =
+    let a = (goal.at.rise-requires-clause-parent g c).After-from-file in
+    source_counts (fs g a) (files_seen g.D.Disk.image c.directory.new.self.kernel) (files_seen g.D.Disk.image c.directory-2.new.self.kernel) c.args.from c.args.to c.in-Some-lookup.number
+    c.from-file.result c.in-Some-lookup-2.own c.args.old.now c.args.name.now c.in-Some.bytes c.as_slice.result.now c.as_slice-2.result.now c.in-Some-2.bytes
+    c.as_slice-3.result.now c.in_ok-bytes.field-0 c.in_ok-bytes-2.field-0 c.requires.tree c.requires.apart (down g a) c.in_ok-bytes.ensures.same c.in_ok-bytes-2.ensures.same
+    c.in_ok-bytes.ensures.found c.in-Some.is c.as_slice.ensures c.as_slice-2.ensures (sym c.in-Some-lookup.ensures) c.from-file.ensures (own g a) (target g a) c.as_slice-3.ensures c.requires.counted
+
 pub returns-in-Ok-2-clause-planned : goal.returns-in-Ok-2-clause-planned
 returns-in-Ok-2-clause-planned g c =
     let a = (goal.at.returns-in-Ok-2-clause-planned g c).After-from-file in
@@ -69,7 +78,7 @@ returns-in-Ok-2-clause-planned g c =
     c.from-file.result c.in-Some-lookup-2.own c.args.old.now c.args.name.now c.in-Some.bytes c.as_slice.result.now c.as_slice-2.result.now c.in-Some-2.bytes
     c.as_slice-3.result.now c.in_ok-bytes.field-0 c.in_ok-bytes-2.field-0 c.requires.tree c.requires.apart (down g a) c.in_ok-bytes.ensures.same c.in_ok-bytes-2.ensures.same
     c.in_ok-bytes.ensures.found c.in-Some.is c.as_slice.ensures c.as_slice-2.ensures (sym c.in-Some-lookup.ensures) c.from-file.ensures (own g a) (target g a) c.as_slice-3.ensures
-    c.in_ok-up.field-0 c.in_ok-up.ensures.rises c.in-Ok-2.up c.in-Ok.write c.in-Some-unlink.freeing c.in-Ok-2.is c.in-Ok.ensures.links c.in-Ok.ensures.within
+    c.in_ok-rise.field-0 c.in_ok-rise.ensures.rises c.in-Ok-2.rise c.in-Ok.write c.in-Some-unlink.freeing c.in-Ok-2.is c.in-Ok.ensures.links c.in-Ok.ensures.room c.in-Ok.ensures.within
     c.in-Some-unlink.ensures.unlinks c.in-Some-unlink.ensures.within
 
 pub returns-clause-planned : goal.returns-clause-planned
@@ -79,4 +88,4 @@ returns-clause-planned g c =
     c.from-file.result c.in-Some-lookup-2.own c.args.old.now c.args.name.now c.in-Some.bytes c.as_slice.result.now c.as_slice-2.result.now c.in-Some-2.bytes
     c.as_slice-3.result.now c.in_ok-bytes.field-0 c.in_ok-bytes-2.field-0 c.requires.tree c.requires.apart (down g a) c.in_ok-bytes.ensures.same c.in_ok-bytes-2.ensures.same
     c.in_ok-bytes.ensures.found c.in-Some.is c.as_slice.ensures c.as_slice-2.ensures (sym c.in-Some-lookup.ensures) c.from-file.ensures (own g a) (target g a) c.as_slice-3.ensures
-    c.in_ok-up.field-0 c.in_ok-up.ensures.rises c.in-Err-2.refusal c.in-Err-2.is
+    c.in_ok-rise.field-0 c.in_ok-rise.ensures.rises c.in-Err-2.refusal c.in-Err-2.is

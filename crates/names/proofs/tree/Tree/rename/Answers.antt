@@ -1,9 +1,10 @@
 use Rattle.std.proofs.Common.{◌∙◌}
 use Rattle.names.specs.Paths.{names_of}
+use Rattle.names.specs.Renaming.{IsUndoneAt}
 use Rattle.names.proofs.Renamed.{undone_both}
 use Rattle.names.proofs.tree.Tree.rename.Goals as goal
 
 pub returns-in-Ok-clause-refused : goal.returns-in-Ok-clause-refused
 returns-in-Ok-clause-refused g c =
-    undone_both g.D.Disk c.args.path.now c.args.into.now (names_of c.args.path.now) (names_of c.args.into.now) c.as_slice.result.now c.args.self.now.kernel
+    undone_both g.D.Disk c.args.path.now c.args.into.now (IsUndoneAt (names_of c.args.path.now)) (names_of c.args.into.now) c.as_slice.result.now c.args.self.now.kernel
     c.changed.new.self.kernel c.changed.result (c.as_slice.ensures.value ∙ c.in-Ok.ensures.names) c.changed.ensures.refused

@@ -1,27 +1,22 @@
 use Rattle.std.proofs.Common.{◌∙◌, sym, rules}
-use Rattle.names.specs.Inside.{files_seen}
-use Rattle.names.specs.Trees.{IsDown, StaysTree}
+use Rattle.names.specs.Counts.{StaysCounted}
+use Rattle.names.specs.Inside.{files_seen, form_seen}
+use Rattle.names.specs.Trees.{IsDown}
 use Rattle.names.proofs.Entering.{found_fits}
-use Rattle.names.proofs.Renamed.{freed_directory, freed_fits, freed_links, freed_tidy, lookup_used, renamed_whole}
+use Rattle.names.proofs.Renamed.{freed_directory, freed_fits, freed_links, lookup_used, renamed_whole}
 use Rattle.names.specs.Renaming.{Renames}
 use Rattle.names.proofs.tree.Tree.renamed.Given.{Over}
 use Rattle.names.proofs.tree.Tree.renamed.Goals as goal
 
 pub unlink-requires : goal.unlink-requires
 unlink-requires g c =
-    found_fits (files_seen g.D.Disk.image c.args.self.now.kernel) c.args.from c.in_ok-bytes.field-0 c.in-Some.bytes c.as_slice-3.result.now c.requires.tree
+    found_fits (form_seen g.D.Disk.image c.args.self.now.kernel) (files_seen g.D.Disk.image c.args.self.now.kernel) c.args.from c.in_ok-bytes.field-0 c.in-Some.bytes
+    c.as_slice-3.result.now c.requires.way.sized
     c.in-Some.is c.as_slice-3.ensures c.in_ok-bytes.ensures.found
 
 pub tidy_directory-requires-clause-there : goal.tidy_directory-requires-clause-there
 tidy_directory-requires-clause-there g c =
     freed_directory g.D.Disk c.args.self.now.kernel c.directory.new.self.kernel c.entered.new.self.kernel c.args.from c.in-Some-lookup.number c.args.old.now c.in-Some.bytes
-    c.as_slice.result.now c.as_slice-3.result.now c.in_ok-bytes.field-0 c.in-Some-unlink.free c.in_ok-_whole._whole c.requires.tree c.in_ok-bytes.ensures.same
-    c.in_ok-bytes.ensures.found c.in-Some.is c.as_slice.ensures (sym c.in-Some-lookup.ensures) c.as_slice-3.ensures c.in-Some-unlink.ensures.unlinks
-    c.in_ok-_whole.ensures.entered
-
-pub tidy_directory-requires-clause-tidy : goal.tidy_directory-requires-clause-tidy
-tidy_directory-requires-clause-tidy g c =
-    freed_tidy g.D.Disk c.args.self.now.kernel c.directory.new.self.kernel c.entered.new.self.kernel c.args.from c.in-Some-lookup.number c.args.old.now c.in-Some.bytes
     c.as_slice.result.now c.as_slice-3.result.now c.in_ok-bytes.field-0 c.in-Some-unlink.free c.in_ok-_whole._whole c.requires.tree c.in_ok-bytes.ensures.same
     c.in_ok-bytes.ensures.found c.in-Some.is c.as_slice.ensures (sym c.in-Some-lookup.ensures) c.as_slice-3.ensures c.in-Some-unlink.ensures.unlinks
     c.in_ok-_whole.ensures.entered
@@ -48,7 +43,7 @@ unreachable-requires-in_default-link g c =
 
 module _ (g : Over) (c : goal.After-drop-bytes-inside-3 g) where
   whole : Renames c.args.from c.args.old.now c.args.from c.args.name.now tt (files_seen g.D.Disk.image c.args.self.now.kernel)
-      (files_seen g.D.Disk.image c.entered-2.new.self.kernel) × StaysTree (files_seen g.D.Disk.image c.args.self.now.kernel) (files_seen g.D.Disk.image c.entered-2.new.self.kernel)
+      (files_seen g.D.Disk.image c.entered-2.new.self.kernel) × StaysCounted (files_seen g.D.Disk.image c.args.self.now.kernel) (files_seen g.D.Disk.image c.entered-2.new.self.kernel)
   whole =
       let down : IsDown c.args.old.now = search rules in
       renamed_whole g.D.Disk c.args.self.now.kernel c.directory.new.self.kernel c.entered.new.self.kernel c.args.from c.in-Some-lookup.number c.args.old.now c.in-Some.bytes

@@ -1,18 +1,17 @@
-use Rattle.std.proofs.Common.{◌≡◌, ◌∙◌, ℕ, List, Some, None, true, sym, ap, subst, rules}
+use Rattle.std.proofs.Common.{◌≡◌, ◌∙◌, ℕ, ◌<◌, List, length, Some, None, true, sym, ap, subst, rules}
 use Rattle.model.specs.Files.{Files}
 use Rattle.names.specs.Entries.{lookup}
-use Rattle.names.specs.Inside.{files_seen}
-use Rattle.names.specs.Trees.{directory_in, self_name, IsTidy}
-use Rattle.names.proofs.FileLooks.{tidy_in}
+use Rattle.names.specs.Inside.{files_seen, form_seen}
+use Rattle.names.specs.Trees.{directory_in, self_name, IsDirectory}
 use Rattle.names.proofs.Renamed.{lookup_used}
+use Rattle.names.proofs.Sizes.{size_small}
 use Rattle.names.proofs.TreeMeaning.{directories_are_tidy}
 use Rattle.names.proofs.tree.Tree.rise.Goals as goal
 
-pub tidy_directory-requires-clause-tidy : goal.tidy_directory-requires-clause-tidy
-tidy_directory-requires-clause-tidy g c =
+pub tidy_directory-requires-clause-there : goal.tidy_directory-requires-clause-there
+tidy_directory-requires-clause-there g c =
     let is : c.in_ok-is_directory.field-0 ≡ true = search rules in
-    subst (λ (f : Files). IsTidy (directory_in f c.args.number)) (sym (c.in_ok-is_outside.ensures.same ∙ c.in_ok-is_directory.ensures.same))
-    (tidy_in (files_seen g.D.Disk.image c.args.self.now.kernel) c.args.number c.requires.tree (c.in_ok-is_directory.ensures.told.0 is))
+    subst (λ (f : Files). IsDirectory f c.args.number) (sym (c.in_ok-more.ensures.same ∙ c.in_ok-links.ensures.same ∙ c.in_ok-is_outside.ensures.same ∙ c.in_ok-is_directory.ensures.same)) (c.in_ok-is_directory.ensures.told.0 is)
 
 pub repoint-requires-clause-used : goal.repoint-requires-clause-used
 repoint-requires-clause-used g c =
@@ -21,10 +20,10 @@ repoint-requires-clause-used g c =
 
 pub repoint-requires-clause-size : goal.repoint-requires-clause-size
 repoint-requires-clause-size g c =
-    let is : c.in_ok-is_directory.field-0 ≡ true = search rules in
-    let tidy = subst (λ (f : Files). IsTidy (directory_in f c.args.number)) (sym (c.in_ok-is_outside.ensures.same ∙ c.in_ok-is_directory.ensures.same))
-    (tidy_in (files_seen g.D.Disk.image c.args.self.now.kernel) c.args.number c.requires.tree (c.in_ok-is_directory.ensures.told.0 is)) in
-    (subst (λ (l : List ℕ). IsTidy l) (sym (c.as_slice.ensures ∙ c.in_ok-bytes.ensures.bytes)) tidy).fits
+    let seen = c.one_more.new.self.kernel in
+    subst (λ (l : List ℕ). length l < 4294967296) (sym (c.as_slice.ensures ∙ c.in_ok-bytes.ensures.bytes))
+    (size_small (form_seen g.D.Disk.image seen) (length (directory_in (files_seen g.D.Disk.image seen) c.args.number))
+    (c.in_ok-more.ensures.goes.on.way.sized c.args.number))
 
 pub unreachable-requires : goal.unreachable-requires
 unreachable-requires g c =
@@ -32,7 +31,8 @@ unreachable-requires g c =
     let is : c.in_ok-is_directory.field-0 ≡ true = search rules in
     let of = (directories_are_tidy fs c.args.number c.requires.tree (c.in_ok-is_directory.ensures.told.0 is)).1 in
     let same : c.as_slice.result.now ≡ directory_in fs c.args.number =
-    c.as_slice.ensures ∙ c.in_ok-bytes.ensures.bytes ∙ ap (λ (f : Files). directory_in f c.args.number) (c.in_ok-is_outside.ensures.same ∙ c.in_ok-is_directory.ensures.same) in
+    c.as_slice.ensures ∙ c.in_ok-bytes.ensures.bytes ∙ ap (λ (f : Files). directory_in f c.args.number)
+    (c.in_ok-more.ensures.same ∙ c.in_ok-links.ensures.same ∙ c.in_ok-is_outside.ensures.same ∙ c.in_ok-is_directory.ensures.same) in
     let both : None ≡ Some of.0 =
     sym c.in_default.ensures.absent ∙ ap (λ (l : List ℕ). lookup l c.parent.result) same ∙ ap (λ (n : List ℕ). lookup (directory_in fs c.args.number) n) c.parent.ensures
     ∙ of.1.up in cc both

@@ -1,7 +1,6 @@
 use Rattle.std.proofs.Common.{◌<◌, List, ℕ, length, inr, arith, subst}
 use Rattle.model.specs.Operations.{transfer_limit}
 use Rattle.names.specs.Inside.{form_seen}
-use Rattle.names.specs.Lemmas.Once.{once_on}
 use Rattle.tree_changes.specs.Puts.{IsUnputAt}
 use Rattle.tree_changes.proofs.Pieces.{emptied_left, left_as_given, put_left}
 use Rattle.tree_changes.proofs.puts.PutTreeChange.make.Goals as goal
@@ -18,18 +17,15 @@ returns-in-Err-clause-undone g c =
     subst (λ (path : List ℕ). IsUnputAt disk path c.args.self.now.bytes.items old new c.in-Err.refusal) c.as_bytes-path.ensures.value
     (subst (λ (b : List ℕ). IsUnputAt disk c.as_bytes-path.result.now b old new c.in-Err.refusal) c.as_slice-bytes.ensures.value undone)
 
-pub returns-in-Ok-clause-once : goal.returns-in-Ok-clause-once
-returns-in-Ok-clause-once g c = once_on c.in_ok-number.ensures.once c.in-Ok.ensures.once
-
 pub returns-in-Ok-clause-leaves : goal.returns-in-Ok-clause-leaves
 returns-in-Ok-clause-leaves g c =
     put_left g.D.Disk c.args.tree.now.kernel c.put_few-2.new.tree.kernel c.append_all.new.tree.kernel c.as_bytes-path.result.now _ c.as_slice-bytes.result.now _ c.in_ok-number.number c.as_bytes-path.ensures.value c.as_slice-bytes.ensures.value (omega (arith, c.if-bytes-le-PIECE.false))
-    c.put_few-2.ensures.stays c.in_ok-number.ensures.puts (c.put_few-2.ensures.leaves c.requires.some) c.in_ok-number.ensures.once c.append_all.ensures.leaves
+    c.put_few-2.ensures.stays c.in_ok-number.ensures.puts (c.put_few-2.ensures.leaves c.requires.some) c.append_all.ensures.leaves
 
 pub returns-in-Err-clause-leaves : goal.returns-in-Err-clause-leaves
 returns-in-Err-clause-leaves g c =
     put_left g.D.Disk c.args.tree.now.kernel c.put_few-2.new.tree.kernel c.append_all.new.tree.kernel c.as_bytes-path.result.now _ c.as_slice-bytes.result.now _ c.in_ok-number.number c.as_bytes-path.ensures.value c.as_slice-bytes.ensures.value (omega (arith, c.if-bytes-le-PIECE.false))
-    c.put_few-2.ensures.stays c.in_ok-number.ensures.puts (c.put_few-2.ensures.leaves c.requires.some) c.in_ok-number.ensures.once c.append_all.ensures.leaves
+    c.put_few-2.ensures.stays c.in_ok-number.ensures.puts (c.put_few-2.ensures.leaves c.requires.some) c.append_all.ensures.leaves
 
 pub returns-in_err-number-clause-leaves : goal.returns-in_err-number-clause-leaves
 returns-in_err-number-clause-leaves g c =

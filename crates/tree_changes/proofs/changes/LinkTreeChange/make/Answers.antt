@@ -1,0 +1,27 @@
+use Rattle.std.proofs.Common.{List, ℕ, rules, subst}
+use Rattle.model.specs.Files.{files_of}
+use Rattle.calls.specs.Calls.{image_on}
+use Rattle.names.specs.Linking.{LinksAt}
+use Rattle.names.specs.Paths.{names_of}
+use Rattle.tree_changes.specs.Changes.{AnyOf, LeavesMidst}
+use Rattle.tree_changes.proofs.Changing.{leaves_any}
+use Rattle.tree_changes.proofs.changes.LinkTreeChange.make.Goals as goal
+
+pub returns-in-Ok-clause-leaves : goal.returns-in-Ok-clause-leaves
+returns-in-Ok-clause-leaves g c =
+    subst (λ (from : List ℕ). LeavesMidst g.D.Disk (AnyOf (LinksAt (names_of from) (names_of c.args.self.now.into.now))) c.args.tree.now.kernel c.link.new.self.kernel) c.as_bytes.ensures.value
+    (subst (λ (to : List ℕ). LeavesMidst g.D.Disk (AnyOf (LinksAt (names_of c.as_bytes.result.now) (names_of to))) c.args.tree.now.kernel c.link.new.self.kernel) c.as_bytes-2.ensures.value
+    (leaves_any g.D.Disk (LinksAt (names_of c.as_bytes.result.now) (names_of c.as_bytes-2.result.now)) c.args.tree.now.kernel c.link.new.self.kernel (c.link.ensures.leaves c.requires.some)))
+
+pub returns-in-Err-clause-leaves : goal.returns-in-Err-clause-leaves
+returns-in-Err-clause-leaves g c =
+    subst (λ (from : List ℕ). LeavesMidst g.D.Disk (AnyOf (LinksAt (names_of from) (names_of c.args.self.now.into.now))) c.args.tree.now.kernel c.link.new.self.kernel) c.as_bytes.ensures.value
+    (subst (λ (to : List ℕ). LeavesMidst g.D.Disk (AnyOf (LinksAt (names_of c.as_bytes.result.now) (names_of to))) c.args.tree.now.kernel c.link.new.self.kernel) c.as_bytes-2.ensures.value
+    (leaves_any g.D.Disk (LinksAt (names_of c.as_bytes.result.now) (names_of c.as_bytes-2.result.now)) c.args.tree.now.kernel c.link.new.self.kernel (c.link.ensures.leaves c.requires.some)))
+
+pub returns-in-Ok-clause-makes : goal.returns-in-Ok-clause-makes
+returns-in-Ok-clause-makes g c =
+    let old = files_of (image_on g.D.Disk.image c.args.tree.now.kernel) in
+    let new = files_of (image_on g.D.Disk.image c.link.new.self.kernel) in
+    let there = subst (λ (to : List ℕ). LinksAt (names_of c.as_bytes.result.now) (names_of to) tt old new) c.as_bytes-2.ensures.value c.in-Ok.ensures.links in
+    (search rules, subst (λ (from : List ℕ). LinksAt (names_of from) (names_of c.args.self.now.into.now) tt old new) c.as_bytes.ensures.value there)
