@@ -1,4 +1,5 @@
 pub mod Standing
+pub mod Cutting
 pub mod Chunks
 pub mod EntryBytes
 pub mod Changes

@@ -149,6 +149,15 @@ truncs_links form files new i reply h j =
     set_links files new i on.0 [] on.1 (trunc_on files new i on.0 i reply on.2) j)
     (after_cases form files new (Trunc i) reply h)
 
+pub cuts_links : (form : Form) (files new : Files) (i n : ℕ) (reply : Reply) → after form files (Op.SetAttribute i (Attribute.Size n)) reply ≡ Some new →
+    (j : ℕ) → links_of (file_in new j) ≡ links_of (file_in files j)
+cuts_links form files new i n reply h j =
+    ⊎_elim (λ (same : new ≡ files). same_links files new same j)
+    (λ (done : (refusal_of form files (Op.SetAttribute i (Attribute.Size n)) ≡ None) × (after_done files (Op.SetAttribute i (Attribute.Size n)) reply ≡ Some new)).
+    let on = at_cases files new i (file_in files i) (Op.SetAttribute i (Attribute.Size n)) reply done.1 in
+    set_links files new i on.0 (take n on.0.bytes) on.1 (set_on files new i on.0 i (Attribute.Size n) reply on.2) j)
+    (after_cases form files new (Op.SetAttribute i (Attribute.Size n)) reply h)
+
 -- another file was removed
 pub remove_keeps : (form : Form) (files new : Files) (i : ℕ) (reply : Reply) (j : ℕ) → j ≢ i → after form files (Remove i) reply ≡ Some new →
     links_of (file_in new j) ≡ links_of (file_in files j)
