@@ -46,14 +46,13 @@ is_at_once inode_count (SetAttribute i attribute) = not (is_number inode_count i
 
 -- operations that may change a file and are not answered at once
 abbrev pub is_changing : ℕ → Op → Bool
-is_changing inode_count (Create kind) = is_kind kind
-is_changing inode_count (Write i off bytes) =
-    nat_le (length bytes) transfer_limit && is_number inode_count i
-is_changing inode_count (Read i off n) = false
-is_changing inode_count (Trunc i) = is_number inode_count i
-is_changing inode_count (Remove i) = is_number inode_count i
-is_changing inode_count (Stat i) = false
-is_changing inode_count (SetAttribute i attribute) = is_number inode_count i
+is_changing count (Create kind) = is_kind kind
+is_changing count (Write i off bytes) = nat_le (length bytes) transfer_limit && is_number count i
+is_changing count (Read i off n) = false
+is_changing count (Trunc i) = is_number count i
+is_changing count (Remove i) = is_number count i
+is_changing count (Stat i) = false
+is_changing count (SetAttribute i a) = is_number count i
 
 -- the entries of a process
 abbrev pub own : ℕ → List Entry → List Entry

@@ -27,8 +27,7 @@ abbrev pub write_refusal : Form → Option File → ℕ → ℕ → Option Reply
 write_refusal form None off n = Some NoFile
 write_refusal form (Some file) off n =
     if nat_lt (length file.bytes) off then Some BadOffset
-    else if nat_lt (greatest_size form) (off + n) then Some TooBig
-    else None
+    else if nat_lt (greatest_size form) (off + n) then Some TooBig else None
 
 abbrev pub no_file_refusal : Option File → Option Reply
 no_file_refusal None = Some NoFile
@@ -61,8 +60,7 @@ where_true b a = if b then Some a else None
 abbrev pub part_of : List ℕ → ℕ → ℕ → List ℕ
 part_of bytes at n = take n (drop at bytes)
 
--- a write may have written k of n bytes: a short one ends at a whole block, at the file's end or
--- behind it
+-- a write may have written k of n bytes; a short one ends at a whole block, from the file's end on
 abbrev pub may_have_written : ℕ → ℕ → ℕ → ℕ → Bool
 may_have_written old off n k =
     nat_le k n && ((k == n) || (((off + k) % block_size == 0) && nat_le old (off + k)))

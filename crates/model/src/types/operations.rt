@@ -24,13 +24,12 @@ pub enum Op {
     SetAttribute(u32, Attribute),
 }
 
-/// An attribute of a file, with the value that it gets.
+/// An attribute of a file, with its new value.
 #[derive(Clone, Copy, Debug, PartialEq, Eq)]
 pub enum Attribute {
-    /// How many links the file has. Its bytes stay.
+    /// So many links. Its bytes stay.
     Links(u16),
-    /// Its length in bytes, at most what it is: the bytes from there on are given up. Their blocks
-    /// stay the file's until it is truncated or removed.
+    /// Its first so many bytes. Blocks behind them stay its own until it is truncated or removed.
     Size(u32),
 }
 
