@@ -1,5 +1,5 @@
 pub mod Standing
-pub mod Cutting
+pub mod Cuts
 pub mod Chunks
 pub mod EntryBytes
 pub mod Changes
