@@ -136,7 +136,6 @@ impl Script {
             79..=81 => Ok(Op::Trunc(number)),
             82..=84 => Ok(Op::Remove(number)),
             93..=96 => Ok(Op::SetAttribute(number, Attribute::Links(self.links()))),
-            97..=98 => Ok(Op::SetAttribute(number, Attribute::Size(offset))),
             _ => Ok(Op::Stat(number)),
         }
     }

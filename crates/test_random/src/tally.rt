@@ -2,7 +2,7 @@
 use crate::lengths::Lengths;
 use crate::setting::Setting;
 use kernel::Step;
-use model::types::{Attribute, Entry, Op, Reply, Why};
+use model::types::{Entry, Op, Reply, Why};
 use std::io;
 
 /// What is counted: of whole runs the operations that had their turn, their answers, and the steps
@@ -17,7 +17,6 @@ pub enum Row {
     Truncations,
     Removals,
     LinkCounts,
-    Cuts,
     Questions,
     Made,
     NoInode,
@@ -60,7 +59,7 @@ pub enum Row {
 }
 
 // What a table says of each, in their order.
-const TEXTS: [&str; 48] = [
+const TEXTS: [&str; 47] = [
     "scripts",
     "processes",
     "creations",
@@ -69,7 +68,6 @@ const TEXTS: [&str; 48] = [
     "truncations",
     "removals",
     "counts of links",
-    "lengths",
     "questions",
     "answered made",
     "answered noinode",
@@ -136,13 +134,13 @@ pub const LOST: [(Row, Row); 3] = [
 /// A count for each row.
 #[derive(Drop)]
 pub struct Tally {
-    counts: [u64; 48],
+    counts: [u64; 47],
 }
 
 impl Tally {
     /// Nothing was counted.
     pub fn new() -> Tally {
-        Tally { counts: [0; 48] }
+        Tally { counts: [0; 47] }
     }
 
     /// Counts so many more.
@@ -229,8 +227,7 @@ fn kind(op: &Op) -> Row {
         Op::Trunc(_) => Row::Truncations,
         Op::Remove(_) => Row::Removals,
         Op::Stat(_) => Row::Questions,
-        Op::SetAttribute(_, Attribute::Links(_)) => Row::LinkCounts,
-        Op::SetAttribute(_, Attribute::Size(_)) => Row::Cuts,
+        Op::SetAttribute(..) => Row::LinkCounts,
     }
 }
 
