@@ -1,5 +1,5 @@
 -- What a file is that was cut to a length.
-use Rattle.std.proofs.Common.{◌≡◌, ◌×◌, ℕ, Bool, true, false, cond, ltb, length, take, set, Option, Some, None, refl, sym, ap, subst}
+use Rattle.std.proofs.Common.{◌≡◌, ℕ, Bool, true, false, cond, ltb, length, take, set, Option, Some, None, refl, sym, ap, subst}
 use Rattle.std.proofs.lemmas.Bool.{ltb-false, ltb-true}
 use Rattle.blocks.specs.declared.disk.Disk.{Ghosts}
 use Rattle.model.specs.declared.types.image.File.{File}
@@ -9,7 +9,7 @@ use Rattle.model.specs.declared.types.operations.Op.TheVariants.{SetAttribute}
 use Rattle.model.specs.declared.types.operations.Reply.{Reply}
 use Rattle.model.specs.declared.types.operations.Reply.TheVariants.{Done, BadOffset}
 use Rattle.model.specs.Files.{Files, file_in}
-use Rattle.model.specs.Lemmas.Runs.{refusal_same, where_true_some}
+use Rattle.model.specs.Lemmas.Runs.{where_true_some}
 use Rattle.model.specs.Operations.{after, after_at, after_on, after_refusal, attribute_refusal, is_refusal, with_bytes}
 use Rattle.calls.specs.Stepping.{Plain}
 use Rattle.names.specs.Counts.{StaysCounted}
@@ -18,6 +18,11 @@ use Rattle.names.specs.Numbered.{is_done, CutsAs, CutsAt}
 use Rattle.names.specs.Trees.{IsDirectory, IsFile, IsTree}
 use Rattle.names.proofs.PlainFiles.{plain_by}
 use Rattle.names.proofs.Staying.{cuts_stay, stays_from}
+
+-- only one reply is this refusal
+offset_only : (reply : Reply) → is_refusal BadOffset reply ≡ true → BadOffset ≡ reply
+offset_only BadOffset h = refl
+offset_only reply h = absurd (cc h)
 
 module _ (form : Form) (files new : Files) (i n : ℕ) (file : File) (there : file_in files i ≡ Some file) where
   cut_on : (reply : Reply) → after_on files i file (SetAttribute i (Size n)) reply ≡ Some new →
@@ -29,7 +34,7 @@ module _ (form : Form) (files new : Files) (i n : ℕ) (file : File) (there : fi
       after_refusal (cond b (Some BadOffset) None) files (SetAttribute i (Size n)) reply ≡ Some new → CutsAs i n file (is_done reply) files new
   cuts_by true less reply h =
       let is = where_true_some (is_refusal BadOffset reply) files new h in
-      subst (λ (r : Reply). CutsAs i n file (is_done r) files new) (sym (refusal_same BadOffset reply is.0)) (ltb-true (length file.bytes) n less, is.1)
+      subst (λ (r : Reply). CutsAs i n file (is_done r) files new) (offset_only reply is.0) (ltb-true (length file.bytes) n less, is.1)
   cuts_by false within reply h =
       let on = cut_on reply (subst (λ (o : Option File). after_at files i o (SetAttribute i (Size n)) reply ≡ Some new) there h) in
       subst (λ (b : Bool). CutsAs i n file b files new) (sym on.0) (ltb-false (length file.bytes) n within, on.1)
