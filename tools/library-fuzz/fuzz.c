@@ -126,8 +126,8 @@ static void make_op(uint32_t p) {
     struct process *process = &processes[p];
     unsigned number = process->count++;
     xvfs_op *op = &process->ops[number].op;
-    uint32_t kind = below(11), longest = below(8) ? 3072 : 4096;
-    *op = (xvfs_op){kind < 7 ? (xvfs_op_kind)kind : kind < 9 ? XVFS_OP_WRITE : XVFS_OP_CREATE,
+    uint32_t kind = below(12), longest = below(8) ? 3072 : 4096;
+    *op = (xvfs_op){kind < 8 ? (xvfs_op_kind)kind : kind < 10 ? XVFS_OP_WRITE : XVFS_OP_CREATE,
                     1 + below(7), 0, 0};
     process->ops[number].size = 0;
     if (number == 0 || op->kind == XVFS_OP_CREATE) {
@@ -148,6 +148,9 @@ static void make_op(uint32_t p) {
     } else if (op->kind == XVFS_OP_LINKS) {
         op->len = below(4) ? below(65536) : below(2) * 65535;
         if (script) fprintf(script, "%u links %u %u\n", p, op->inum, op->len);
+    } else if (op->kind == XVFS_OP_RESIZE) {
+        op->len = below(4) ? below(4000) : below(300000);
+        if (script) fprintf(script, "%u resize %u %u\n", p, op->inum, op->len);
     } else if (script) {
         const char *name = op->kind == XVFS_OP_TRUNC    ? "trunc"
                            : op->kind == XVFS_OP_REMOVE ? "remove"
@@ -482,7 +485,7 @@ static void see_faults(void) {
 
 static void see_calls(void) {
     xvfs fs = XVFS_CLOSED_HANDLE;
-    xvfs_op stat = {XVFS_OP_STAT, 1, 0, 0}, none = {(xvfs_op_kind)7, 1, 0, 0},
+    xvfs_op stat = {XVFS_OP_STAT, 1, 0, 0}, none = {(xvfs_op_kind)8, 1, 0, 0},
             large = {XVFS_OP_CREATE, 65536, 0, 0}, many = {XVFS_OP_LINKS, 1, 0, 65536};
     xvfs_stepped stepped;
     xvfs_answer answer;
@@ -549,8 +552,8 @@ static void see_memory(void) {
 }
 
 /* An operation of process 0, from its beginning to its answer. */
-static xvfs_answer call(xvfs_op_kind kind, uint32_t inum, uint32_t links, size_t count) {
-    xvfs_op op = {kind, inum, 0, links};
+static xvfs_answer call(xvfs_op_kind kind, uint32_t inum, uint32_t len, size_t count) {
+    xvfs_op op = {kind, inum, 0, len};
     xvfs_stepped stepped;
     xvfs_answer answer;
     uint64_t n;
@@ -583,6 +586,23 @@ static void see_links(void) {
     xvfs_host_close(&host);
 }
 
+/* A file is cut to a length, keeps the bytes before it, and gets none behind its end. */
+static void see_resize(void) {
+    make();
+    EXPECT(XVFS_OK, xvfs_host_open(&host, &device_calls, room, device_size, 1, 0));
+    call(XVFS_OP_CREATE, 2, 0, 0);
+    memset(bytes, 7, 1500);
+    call(XVFS_OP_WRITE, 1, 0, 1500);
+    EXPECT(XVFS_REPLY_BAD_OFFSET, call(XVFS_OP_RESIZE, 1, 1501, 0).reply);
+    EXPECT(XVFS_REPLY_DONE, call(XVFS_OP_RESIZE, 1, 1100, 0).reply);
+    EXPECT(XVFS_REPLY_BAD_OFFSET, call(XVFS_OP_RESIZE, 1, 1101, 0).reply);
+    EXPECT(XVFS_REPLY_DONE, call(XVFS_OP_RESIZE, 1, 100, 0).reply);
+    if (call(XVFS_OP_STAT, 1, 0, 0).size != 100) fail("a file that was cut has another length", 100);
+    if (call(XVFS_OP_READ, 1, 3000, 0).len != 100) fail("a file that was cut has other bytes", 100);
+    EXPECT(XVFS_REPLY_NO_FILE, call(XVFS_OP_RESIZE, 2, 0, 0).reply);
+    xvfs_host_close(&host);
+}
+
 int main(int argc, char **argv) {
     if (argc == 3 && !strcmp(argv[1], "refuse")) {
         refuse_each((uint64_t)atoll(argv[2]));
@@ -601,6 +621,7 @@ int main(int argc, char **argv) {
         see_calls();
         see_memory();
         see_links();
+        see_resize();
         printf("each refusal has the number that xvfs.h says, and a stat tells the links\n");
         return 0;
     }

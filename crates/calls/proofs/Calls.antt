@@ -3,7 +3,8 @@ use Rattle.std.proofs.Common.{◌≡◌, ◌≢◌, ℕ, ◌<◌, ◌≤◌, tru
 use Rattle.std.proofs.lemmas.Bool.{cases_eq, eq-eqb, ne_eqb}
 use Rattle.std.proofs.lemmas.List.{take_all}
 use Rattle.blocks.specs.Disk.{Image}
-use Rattle.model.specs.declared.types.operations.Op.TheVariants.{Create, Write, Trunc, Remove, Links}
+use Rattle.model.specs.declared.types.operations.Attribute.{Attribute}
+use Rattle.model.specs.declared.types.operations.Op.TheVariants.{Create, Write, Trunc, Remove, SetAttribute}
 use Rattle.model.specs.declared.types.operations.Reply.{Reply}
 use Rattle.model.specs.declared.types.operations.Reply.TheVariants.{Made, NoInode, Wrote, Done}
 use Rattle.model.specs.Files.{file_in}
@@ -12,8 +13,8 @@ use Rattle.model.specs.Lemmas.FileNumbers.{length-files_of}
 use Rattle.model.specs.Operations.{is_kind}
 use Rattle.calls.specs.Calls.{Makes, image_on}
 use Rattle.calls.specs.Stepping.{Plain}
-use Rattle.calls.specs.Files.{Appends, MakesFile, MakesNone, MayAppend, appended, emptied, empty_file, files_on, relinked}
-use Rattle.calls.specs.Lemmas.After.{after_creation, after_emptying, after_relinking, after_removal, after_write, HasWritten}
+use Rattle.calls.specs.Files.{Appends, CanSet, MakesFile, MakesNone, MayAppend, appended, emptied, empty_file, files_on, files_set}
+use Rattle.calls.specs.Lemmas.After.{after_creation, after_emptying, after_setting, after_removal, after_write, HasWritten}
 
 -- ---- a creation
 
@@ -49,7 +50,7 @@ made_or_none image k m kind reply is calls not_made not_none =
     ⊎_elim (λ (i, made, has). not_made i made) (λ (none, same). not_none none)
     (after_creation (form_of (image_on image k)) (files_on image k) kind reply (files_on image m) is calls.files)
 
--- ---- a removal, a truncation and a new count of links
+-- ---- a removal, a truncation and a new attribute
 
 pub removes : {D : Type 0} {more : ℕ} (image : D → Image) (k m : Plain D) (i : ℕ) (reply : Reply) → file_in (files_on image k) i ≢ None →
     Makes more image (Remove i) k m reply → (reply ≡ Done) × (files_on image m ≡ set (files_on image k) i None)
@@ -61,10 +62,10 @@ pub empties : {D : Type 0} {more : ℕ} (image : D → Image) (k m : Plain D) (i
 empties image k m i reply there calls =
     after_emptying (form_of (image_on image k)) (files_on image k) i reply (files_on image m) there calls.files
 
-pub relinks : {D : Type 0} {more : ℕ} (image : D → Image) (k m : Plain D) (i n : ℕ) (reply : Reply) → file_in (files_on image k) i ≢ None →
-    Makes more image (Links i n) k m reply → (reply ≡ Done) × (files_on image m ≡ relinked (files_on image k) i n)
-relinks image k m i n reply there calls =
-    after_relinking (form_of (image_on image k)) (files_on image k) i n reply (files_on image m) there calls.files
+pub sets : {D : Type 0} {more : ℕ} (image : D → Image) (k m : Plain D) (i : ℕ) (a : Attribute) (reply : Reply) → CanSet (file_in (files_on image k) i) a →
+    Makes more image (SetAttribute i a) k m reply → (reply ≡ Done) × (files_on image m ≡ files_set (files_on image k) i a)
+sets image k m i a reply can calls =
+    after_setting (form_of (image_on image k)) (files_on image k) i a reply (files_on image m) can calls.files
 
 -- ---- a write at the end
 

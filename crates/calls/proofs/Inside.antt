@@ -12,7 +12,7 @@ use Rattle.model.specs.declared.types.progress.Progress.{Progress}
 use Rattle.model.specs.declared.types.progress.Progress.TheVariants as machine
 use Rattle.model.specs.declared.types.image.Dinode.{Dinode}
 use Rattle.model.specs.declared.types.operations.Op.{Op}
-use Rattle.model.specs.declared.types.operations.Op.TheVariants.{Create, Write, Read, Trunc, Remove, Stat, Links}
+use Rattle.model.specs.declared.types.operations.Op.TheVariants.{Create, Write, Read, Trunc, Remove, Stat, SetAttribute}
 use Rattle.model.specs.declared.types.operations.Reply.{Reply}
 use Rattle.model.specs.declared.types.operations.TaskProgress.{TaskProgress}
 use Rattle.model.specs.declared.types.operations.TaskProgress.TheVariants as progress
@@ -66,7 +66,7 @@ changes_only (Read i off m) count change is = cc change
 changes_only (Trunc i) count change is = cc is
 changes_only (Remove i) count change is = cc is
 changes_only (Stat i) count change is = cc change
-changes_only (Links i n) count change is = cc is
+changes_only (SetAttribute i a) count change is = cc is
 
 -- where two operations are open, the end of one leaves the group open
 two_left : (c o : ℕ) (l : LogState) → LogIs 2 c o l → end_answer l ≡ ended_as.Left
@@ -109,7 +109,7 @@ goes_on e (Some d) k (Read i off n) look = read_on k (first_read e.form d off n)
 goes_on e (Some d) k (Trunc i) look = absurd (cc look)
 goes_on e (Some d) k (Remove i) look = absurd (cc look)
 goes_on e (Some d) k (Stat i) look = refl
-goes_on e (Some d) k (Links i n) look = absurd (cc look)
+goes_on e (Some d) k (SetAttribute i a) look = absurd (cc look)
 
 taking_first : (m : LockState) (u : TaskState) → u.stage ≡ stage.Taking m → (p : ℕ) (tasks : List TaskState) → IsTaking (task (set tasks p u) p).stage
 taking_first m u takes p tasks = ⊎_elim

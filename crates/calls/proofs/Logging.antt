@@ -4,7 +4,7 @@ use Rattle.std.proofs.lemmas.Bool.{cases_lt}
 use Rattle.std.proofs.lemmas.List.{get_or_past, length-append, length-set}
 use Rattle.model.specs.declared.types.image.Form.{Form}
 use Rattle.model.specs.declared.types.operations.Op.{Op}
-use Rattle.model.specs.declared.types.operations.Op.TheVariants.{Create, Write, Read, Trunc, Remove, Stat, Links}
+use Rattle.model.specs.declared.types.operations.Op.TheVariants.{Create, Write, Read, Trunc, Remove, Stat, SetAttribute}
 use Rattle.wal.specs.Lemmas.Rooms.{homes_ended, noted_home, noted_new, used_first, used_noted_new}
 use Rattle.wal.specs.Machine.{LogState, added_by, begun, ended, is_among, noted, used_by}
 use Rattle.inodes.specs.Steps.{LogsAtMost, LogsBlock}
@@ -61,7 +61,7 @@ look_logs_none form (Read i off n) look = refl
 look_logs_none form (Trunc i) look = absurd (cc look)
 look_logs_none form (Remove i) look = absurd (cc look)
 look_logs_none form (Stat i) look = refl
-look_logs_none form (Links i n) look = absurd (cc look)
+look_logs_none form (SetAttribute i a) look = absurd (cc look)
 
 pub look_leaves : (form : Form) (op : Op) (h p : ℕ) (l m : LogState) → is_look op ≡ true → LogsAtMost (most_logged form op) l p m → length l.homes ≤ h → length m.homes ≤ h
 look_leaves form op h p l m look (inl same) few = let homes = ap (λ (n : LogState). length n.homes) same in omega (arith, homes, few)

@@ -59,7 +59,7 @@ none_over op (stage.Reading k m) over i = refl
 none_over op (stage.Delivering k) over i = refl
 none_over op (stage.Truncating k m) over i = absurd (cc over)
 none_over op (stage.Writing k m) over i = absurd (cc over)
-none_over op (stage.Linking k d u) over i = absurd (cc over)
+none_over op (stage.Setting k d u) over i = absurd (cc over)
 none_over op (stage.Leaving k) over i = refl
 
 module _ {D N : Type 0} (disk : Ghosts D N) (p : ℕ) (op : Op) (s t : StoreState D) where
@@ -102,7 +102,7 @@ module _ {D N : Type 0} (disk : Ghosts D N) (p : ℕ) (op : Op) (s t : StoreStat
     holds_none (stage.Delivering k) is goes = at_stage stage.Nowhere goes.up.next (λ i. refl)
     holds_none (stage.Truncating k m) is goes = absurd (by_machine _ (λ out. moves) goes.answer goes.gives)
     holds_none (stage.Writing k m) is goes = by_write k m goes.now goes.answer goes.gives goes.next
-    holds_none (stage.Linking k d u) is goes = absurd (by_machine _ (λ out. moves) goes.answer goes.gives)
+    holds_none (stage.Setting k d u) is goes = absurd (by_machine _ (λ out. moves) goes.answer goes.gives)
     holds_none (stage.Leaving k) is goes = at_stage stage.Nowhere goes.1.next (λ i. refl)
 
   over_none : Steps disk s p op progress.Over t → Held

@@ -13,7 +13,7 @@ use Rattle.wal.specs.Volume.{VolumeState}
 use Rattle.wal.specs.declared.types.Ended.TheVariants as ended_as
 use Rattle.model.specs.declared.types.operations.Entry.{Entry}
 use Rattle.model.specs.declared.types.operations.Op.{Op}
-use Rattle.model.specs.declared.types.operations.Op.TheVariants.{Create, Write, Read, Trunc, Remove, Stat, Links}
+use Rattle.model.specs.declared.types.operations.Op.TheVariants.{Create, Write, Read, Trunc, Remove, Stat, SetAttribute}
 use Rattle.model.specs.declared.types.operations.TaskProgress.{TaskProgress}
 use Rattle.model.specs.declared.types.operations.TaskProgress.TheVariants as progress
 use Rattle.model.specs.declared.types.operations.Why.{Why}
@@ -87,7 +87,7 @@ looks_only (Read i off count) look is = cc is
 looks_only (Trunc i) look is = cc look
 looks_only (Remove i) look is = cc look
 looks_only (Stat i) look is = cc is
-looks_only (Links i n) look is = cc look
+looks_only (SetAttribute i a) look is = cc look
 
 module _ {D N : Type 0} (disk : Ghosts D N) (op : Op) (old : StoreState D) where
   -- a look begins while none is open

@@ -3,17 +3,18 @@ use Rattle.std.proofs.Common.{◌≡◌, ◌≢◌, ℕ, true, List, length, Som
 use Rattle.std.specs.Prelude.{◌⊎◌, Result}
 use Rattle.blocks.specs.Disk.{Image, LeavesOnly}
 use Rattle.blocks.specs.declared.disk.Disk.{Ghosts}
+use Rattle.model.specs.declared.types.operations.Attribute.{Attribute}
 use Rattle.model.specs.declared.types.operations.Op.{Op}
-use Rattle.model.specs.declared.types.operations.Op.TheVariants.{Create, Write, Trunc, Remove, Links}
+use Rattle.model.specs.declared.types.operations.Op.TheVariants.{Create, Write, Trunc, Remove, SetAttribute}
 use Rattle.model.specs.declared.types.operations.Reply.{Reply}
 use Rattle.model.specs.Files.{Files, file_in, files_of}
 use Rattle.model.specs.Layout.{form_of}
 use Rattle.model.specs.Log.{recovered}
 use Rattle.model.specs.Operations.{after, is_kind}
 use Rattle.calls.specs.Calls.{KeepsCall}
-use Rattle.calls.specs.Files.{MayAppend}
-use Rattle.calls.specs.Stopped.{AppendsFirst, Empties, KeepsChange, MakesAny, Relinks, Removes}
-use Rattle.calls.specs.Lemmas.After.{after_creation, after_emptying, after_relinking, after_removal, after_write}
+use Rattle.calls.specs.Files.{CanSet, MayAppend}
+use Rattle.calls.specs.Stopped.{AppendsFirst, Empties, KeepsChange, MakesAny, Removes, Sets}
+use Rattle.calls.specs.Lemmas.After.{after_creation, after_emptying, after_setting, after_removal, after_write}
 
 -- the files after an operation with a reply are those before it, or those after the change
 abbrev Leads : Image → Op → (Files → Files → Type 0) → Type 0
@@ -56,10 +57,10 @@ module _ {D N : Type 0} (disk : Ghosts D N) (x : Image) where
   leaves_emptied i there =
       leaves_called (Trunc i) (Empties i) (λ r new made. inr (after_emptying (form_of x) (files_of x) i r new there made).1)
 
-  pub leaves_relinked : {E : Type 0} (i n : ℕ) → file_in (files_of x) i ≢ None → (result : Result Reply E) (d e : D) → LeavesOnly disk.moment disk.leaves d e (KeepsCall x (Links i n) result)
-      → LeavesOnly disk.moment disk.leaves d e (KeepsChange (Relinks i n) x)
-  leaves_relinked i n there =
-      leaves_called (Links i n) (Relinks i n) (λ r new made. inr (after_relinking (form_of x) (files_of x) i n r new there made).1)
+  pub leaves_set : {E : Type 0} (i : ℕ) (a : Attribute) → CanSet (file_in (files_of x) i) a → (result : Result Reply E) (d e : D) → LeavesOnly disk.moment disk.leaves d e (KeepsCall x (SetAttribute i a) result)
+      → LeavesOnly disk.moment disk.leaves d e (KeepsChange (Sets i a) x)
+  leaves_set i a can =
+      leaves_called (SetAttribute i a) (Sets i a) (λ r new made. inr (after_setting (form_of x) (files_of x) i a r new can made).1)
 
   pub leaves_appended : {E : Type 0} (i off : ℕ) (copy bytes : List ℕ) → copy ≡ bytes → MayAppend (form_of x) (file_in (files_of x) i) off (length bytes) → (result : Result Reply E) (d e : D)
       → LeavesOnly disk.moment disk.leaves d e (KeepsCall x (Write i off copy) result) → LeavesOnly disk.moment disk.leaves d e (KeepsChange (AppendsFirst i bytes) x)

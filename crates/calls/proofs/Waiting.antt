@@ -10,7 +10,7 @@ use Rattle.bcache.specs.declared.types.Acquired.{Acquired}
 use Rattle.bcache.specs.declared.types.Acquired.TheVariants as acquired
 use Rattle.bcache.specs.declared.types.Busy.TheVariants as busy
 use Rattle.model.specs.declared.types.operations.Op.{Op}
-use Rattle.model.specs.declared.types.operations.Op.TheVariants.{Create, Write, Read, Trunc, Remove, Stat, Links}
+use Rattle.model.specs.declared.types.operations.Op.TheVariants.{Create, Write, Read, Trunc, Remove, Stat, SetAttribute}
 use Rattle.model.specs.Journal.{is_at_once}
 use Rattle.model.specs.declared.types.operations.TaskProgress.{TaskProgress}
 use Rattle.model.specs.declared.types.operations.TaskProgress.TheVariants as progress
@@ -79,7 +79,7 @@ task_causes c t (stage.Reading k m) cause is = get_causes c _ cause is
 task_causes c t (stage.Delivering k) cause is = absurd (cc is)
 task_causes c t (stage.Truncating k m) cause is = get_causes c _ cause is
 task_causes c t (stage.Writing k m) cause is = get_causes c _ cause is
-task_causes c t (stage.Linking k d u) cause is = get_causes c _ cause is
+task_causes c t (stage.Setting k d u) cause is = get_causes c _ cause is
 task_causes c t (stage.Leaving k) cause is = absurd (cc is)
 
 pub by_causes : (a : Phase) (o : Option Why) (cause : Why) → cause_by a o ≡ Some cause → o ≡ Some cause
@@ -164,7 +164,7 @@ has_begun n (Read i off count) l cause is room out = looks_not (is_at_once n (Re
 has_begun n (Trunc i) l cause is room out = free_not (begin_cause l) cause room out
 has_begun n (Remove i) l cause is room out = free_not (begin_cause l) cause room out
 has_begun n (Stat i) l cause is room out = looks_not (is_at_once n (Stat i)) None is
-has_begun n (Links i m) l cause is room out = free_not (begin_cause l) cause room out
+has_begun n (SetAttribute i a) l cause is room out = free_not (begin_cause l) cause room out
 
 module _ (l : LogState) (one : l.outstanding ≡ 1) (quiet : l.commit ≡ commit.Quiet) where
   full_by : (o : Option Why) → begin_cause l ≡ o → is_none o ≡ false → 10 < length l.homes
@@ -179,4 +179,4 @@ module _ (l : LogState) (one : l.outstanding ≡ 1) (quiet : l.commit ≡ commit
   log_is_full (Trunc i) room = (refl, full_by (begin_cause l) refl room)
   log_is_full (Remove i) room = (refl, full_by (begin_cause l) refl room)
   log_is_full (Stat i) room = absurd (cc room)
-  log_is_full (Links i n) room = (refl, full_by (begin_cause l) refl room)
+  log_is_full (SetAttribute i a) room = (refl, full_by (begin_cause l) refl room)

@@ -12,7 +12,7 @@ use Rattle.model.specs.Operations.{after}
 use Rattle.model.specs.Soundness.{IsSound}
 use Rattle.model.specs.declared.types.operations.Entry.{Entry}
 use Rattle.model.specs.declared.types.operations.Op.{Op}
-use Rattle.model.specs.declared.types.operations.Op.TheVariants.{Create, Write, Read, Trunc, Remove, Stat, Links}
+use Rattle.model.specs.declared.types.operations.Op.TheVariants.{Create, Write, Read, Trunc, Remove, Stat, SetAttribute}
 use Rattle.model.specs.declared.types.operations.Reply.{Reply}
 use Rattle.model.specs.declared.types.operations.Reply.TheVariants.{Made, NoInode, Wrote}
 use Rattle.ports.specs.Queues.{polled, waiting}
@@ -32,7 +32,7 @@ is_look (Read i off n) = true
 is_look (Trunc i) = false
 is_look (Remove i) = false
 is_look (Stat i) = true
-is_look (Links i n) = false
+is_look (SetAttribute i a) = false
 
 -- an entry of the first process
 abbrev pub is_own : Entry → Bool

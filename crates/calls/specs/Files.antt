@@ -1,11 +1,13 @@
 -- What changes make of the files on a disk.
-use Rattle.std.specs.Prelude.{◌≡◌, ◌≢◌, ℕ, ◌+◌, ◌*◌, ◌<◌, ◌≤◌, Bool, true, false, List, [], ◌++◌, length, take, Option, Some, None, slice_set}
+use Rattle.std.specs.Prelude.{◌≡◌, ◌≢◌, ⊤, ℕ, ◌+◌, ◌*◌, ◌<◌, ◌≤◌, Bool, true, false, List, [], ◌++◌, length, take, Option, Some, None, slice_set}
 use Rattle.blocks.specs.Disk.{Image}
 use Rattle.model.specs.declared.types.image.Form.{Form}
 use Rattle.model.specs.declared.types.image.File.{File}
+use Rattle.model.specs.declared.types.operations.Attribute.{Attribute}
+use Rattle.model.specs.declared.types.operations.Attribute.TheVariants.{Links, Size}
 use Rattle.model.specs.Files.{Files, file_in, files_of}
 use Rattle.model.specs.Layout.{greatest_size, is_marked}
-use Rattle.model.specs.Operations.{transfer_limit, with_bytes, with_links}
+use Rattle.model.specs.Operations.{transfer_limit, with_attribute, with_bytes}
 use Rattle.calls.specs.Calls.{image_on}
 use Rattle.calls.specs.Stepping.{Plain}
 
@@ -27,10 +29,16 @@ abbrev pub without_bytes : Option File → Option File
 without_bytes None = None
 without_bytes (Some file) = with_bytes file []
 
--- the same file with so many links
-abbrev pub with_count : Option File → ℕ → Option File
-with_count None n = None
-with_count (Some file) n = with_links file n
+-- the same file with an attribute set
+abbrev pub with_value : Option File → Attribute → Option File
+with_value None a = None
+with_value (Some file) a = Some (with_attribute file a)
+
+-- there is a file, and a length is no greater than its own
+abbrev pub CanSet : Option File → Attribute → Type 0
+CanSet None a = ⊥
+CanSet (Some file) (Links n) = ⊤
+CanSet (Some file) (Size n) = n ≤ length file.bytes
 
 -- the same file with more bytes behind its own
 abbrev pub with_more : Option File → List ℕ → Option File
@@ -41,9 +49,25 @@ with_more (Some file) bytes = with_bytes file (file.bytes ++ bytes)
 abbrev pub emptied : Files → ℕ → Files
 emptied files i = slice_set files i (without_bytes (file_in files i))
 
+-- the same file with so many links
+abbrev pub with_count : Option File → ℕ → Option File
+with_count o n = with_value o (Links n)
+
+-- there is a file of n bytes at least
+abbrev pub HasBytes : Option File → ℕ → Type 0
+HasBytes o n = CanSet o (Size n)
+
+-- the files once an attribute of file i was set
+abbrev pub files_set : Files → ℕ → Attribute → Files
+files_set files i a = slice_set files i (with_value (file_in files i) a)
+
 -- the files once file i was given n links
 abbrev pub relinked : Files → ℕ → ℕ → Files
-relinked files i n = slice_set files i (with_count (file_in files i) n)
+relinked files i n = files_set files i (Links n)
+
+-- the files once file i was cut to its first n bytes
+abbrev pub resized : Files → ℕ → ℕ → Files
+resized files i n = files_set files i (Size n)
 
 -- the files once these bytes were written behind those of file i
 abbrev pub appended : Files → ℕ → List ℕ → Files

@@ -2,13 +2,14 @@
 use Rattle.std.specs.Prelude.{◌≡◌, ◌⊎◌, ◌<◌, ◌≤◌, ℕ, IsTrue, List, length, take, None, slice_set}
 use Rattle.blocks.specs.Disk.{Image, LeavesOnly}
 use Rattle.blocks.specs.declared.disk.Disk.{Ghosts}
+use Rattle.model.specs.declared.types.operations.Attribute.{Attribute}
 use Rattle.model.specs.Files.{Files, file_in, files_of}
 use Rattle.model.specs.Log.{is_lawful_log, recovered}
 use Rattle.model.specs.Soundness.{IsSound}
 use Rattle.calls.specs.Calls.{image_on}
 use Rattle.calls.specs.Stepping.{Plain}
 use Rattle.calls.specs.Unshown.{KeepsUnshown}
-use Rattle.calls.specs.Files.{appended, emptied, empty_file, relinked}
+use Rattle.calls.specs.Files.{appended, emptied, empty_file, files_set, relinked, resized}
 
 -- an empty file of that type was made at a free number
 pub record MakesAny (kind : ℕ) (old new : Files) : Type 0 where
@@ -26,9 +27,17 @@ Removes i old new = new ≡ slice_set old i None
 abbrev pub Empties : ℕ → Files → Files → Type 0
 Empties i old new = new ≡ emptied old i
 
+-- an attribute of file i was set
+abbrev pub Sets : ℕ → Attribute → Files → Files → Type 0
+Sets i a old new = new ≡ files_set old i a
+
 -- file i was given n links
 abbrev pub Relinks : ℕ → ℕ → Files → Files → Type 0
 Relinks i n old new = new ≡ relinked old i n
+
+-- file i was cut to its first n bytes
+abbrev pub Resizes : ℕ → ℕ → Files → Files → Type 0
+Resizes i n old new = new ≡ resized old i n
 
 -- the first of these bytes were written behind those of file i
 pub record AppendsFirst (i : ℕ) (bytes : List ℕ) (old new : Files) : Type 0 where

@@ -12,7 +12,7 @@ use Rattle.model.specs.Log.{is_lawful_log, recovered}
 use Rattle.model.specs.Operations.{after}
 use Rattle.model.specs.Soundness.{IsSound}
 use Rattle.model.specs.declared.types.operations.Op.{Op}
-use Rattle.model.specs.declared.types.operations.Op.TheVariants.{Create, Write, Read, Trunc, Remove, Stat, Links}
+use Rattle.model.specs.declared.types.operations.Op.TheVariants.{Create, Write, Read, Trunc, Remove, Stat, SetAttribute}
 use Rattle.model.specs.declared.types.operations.Reply.{Reply}
 use Rattle.ports.specs.Queues.{polled, waiting}
 use Rattle.inodes.specs.Holding.{claim_of}
@@ -153,7 +153,7 @@ has_room (Read i off n) l = true
 has_room (Trunc i) l = is_none (begin_cause l)
 has_room (Remove i) l = is_none (begin_cause l)
 has_room (Stat i) l = true
-has_room (Links i n) l = is_none (begin_cause l)
+has_room (SetAttribute i a) l = is_none (begin_cause l)
 
 -- The transaction of k logged more than ten blocks, and no operation that changes files may begin
 -- behind them. Nothing was done, and the transaction goes on.

@@ -5,17 +5,17 @@ ghost use Rattle.model.specs.Files.{file_in};
 ghost use Rattle.model.specs.Layout.{form_of};
 ghost use Rattle.model.specs.Operations.{is_kind};
 ghost use Rattle.calls.specs.Calls.{IsUncalled, Rests, call_count, image_on};
-ghost use Rattle.calls.specs.Files.{Appends, Creates, MayAppend, files_on};
+ghost use Rattle.calls.specs.Files.{Appends, Creates, HasBytes, MayAppend, files_on};
 ghost use Rattle.calls.specs.Answered.{IsAnswered};
 ghost use Rattle.calls.specs.Stepping.{IsReached};
-ghost use Rattle.calls.specs.Stopped.{AppendsFirst, Empties, LeavesChange, MakesAny, Relinks, Removes, StaysOver};
+ghost use Rattle.calls.specs.Stopped.{AppendsFirst, Empties, LeavesChange, MakesAny, Relinks, Removes, Resizes, StaysOver};
 
 use crate::calling::{Sole, call};
 use crate::fault::CallFault;
 use crate::resting::rested;
 use blocks::Disk;
 use model::content::Content;
-use model::types::{Op, Reply};
+use model::types::{Attribute, Op, Reply};
 use std::alloc::Global;
 
 /// Makes an empty file of this type at the lowest free number, which it answers; none where each
@@ -106,7 +106,31 @@ pub fn set_links<D: Disk>(kernel: &mut Sole<D>, i: u32, count: u16) -> Result<()
     ensures stays { StaysOver D.Disk kernel.old kernel.new }
     ensures reached { IsReached D.Disk kernel.old kernel.new }
 {
-    let Reply::Done = call(kernel, Op::Links(i, count))? else {
+    let Reply::Done = call(kernel, Op::SetAttribute(i, Attribute::Links(count)))? else {
+        unreachable!()
+    };
+    Ok(())
+}
+
+/// Cuts a file to its first `size` bytes, which are no more than it has. The blocks behind them stay
+/// its own until it is emptied or removed.
+///
+/// # Errors
+///
+/// Those of `call`.
+pub fn resize<D: Disk>(kernel: &mut Sole<D>, i: u32, size: u32) -> Result<(), CallFault>
+    requires rests { Rests D.fault_count kernel.old }
+    requires few { call_count kernel.old < 2 ^ 63 }
+    requires within { HasBytes (file_in (files_on D.image kernel.old) i) size }
+    ensures resizes { OnOk result
+        (Resizes i size (files_on D.image kernel.old) (files_on D.image kernel.new)) }
+    ensures answered { OnOk result (IsAnswered D.Disk kernel.old kernel.new) }
+    ensures refused { IfErr result (IsUncalled D.Disk kernel.old kernel.new) }
+    ensures leaves { LeavesChange D.Disk (Resizes i size) kernel.old kernel.new }
+    ensures stays { StaysOver D.Disk kernel.old kernel.new }
+    ensures reached { IsReached D.Disk kernel.old kernel.new }
+{
+    let Reply::Done = call(kernel, Op::SetAttribute(i, Attribute::Size(size)))? else {
         unreachable!()
     };
     Ok(())

@@ -20,7 +20,7 @@ mod stepping;
 pub mod transactions;
 
 pub use calling::{Sole, call};
-pub use changes::{append, create, empty, remove, set_links};
+pub use changes::{append, create, empty, remove, resize, set_links};
 pub use fault::CallFault;
 pub use opening::open_sole;
 pub use resting::rested;

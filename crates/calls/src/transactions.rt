@@ -18,7 +18,7 @@ mod resting;
 
 pub use beginning::{Pair, begin};
 pub use calling::call;
-pub use changing::{append, create, empty, remove, set_links};
+pub use changing::{append, create, empty, remove, resize, set_links};
 pub use committing::commit;
 pub use fault::TransactionFault;
 pub use making::make_one;

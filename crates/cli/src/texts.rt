@@ -13,6 +13,7 @@ pub const SCRIPT: &[&str] = &[
     "  P read I OFF N     asks for N bytes from OFF on, or those that there are",
     "  P trunc I          frees the file's blocks and leaves it empty",
     "  P links I N        gives it N links, up to 65535, and leaves its bytes",
+    "  P resize I N       cuts it to its first N bytes",
     "  P remove I         removes it",
     "  P stat I           asks for its type and length",
     "",
@@ -44,14 +45,14 @@ pub const SCHEDULE: &[&str] = &[
     "  stopped before write N      its step would have made write N",
     "",
     "With --writes, below a turn's line stands each write, write N block B WHAT,",
-    "counted as by --stop: log K of H, header n K group G, home B and inodes, bitmap",
-    "or data, or clear; and sync N. With --steps each: step, its deed (get B, use B,",
-    "look ..), why it waits, and by P, who holds that.",
+    "counted as by --stop. WHAT is log K of H, header n K group G, home B and",
+    "inodes, bitmap or data, or clear. A sync is sync N. With --steps each: step,",
+    "its deed (get B, use B, look ..), why it waits, and by P, who holds that.",
     "",
     "Replies are made I, noinode, wrote K (so many bytes), done, stat T S (type,",
     "length), bytes HEX (- for none), and refused with 1 NoFile, 2 BadOffset (a",
-    "write begins after the file's end), 3 TooBig (it would end after the largest",
-    "file), 4 TooLong or 5 BadType.",
+    "write begins after the file's end, or a length lies there), 3 TooBig (it would",
+    "end after the largest file), 4 TooLong or 5 BadType.",
 ];
 
 pub const REFUSALS: &[&str] = &[

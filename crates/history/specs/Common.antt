@@ -18,7 +18,7 @@ pub use Rattle.model.specs.Lemmas.Recovery.{logged_count-left, recovers_once}
 pub use Rattle.model.specs.Lemmas.Runs.{and_then_some, at_once_is_not_changing, at_once_is_refused, count_stays, length-after, no_file_at, refusals_first, replay_more, where_true_some, zero_stays}
 pub use Rattle.model.specs.Lemmas.Soundness.{facts_of, long_geometry, verdict_sound}
 pub use Rattle.model.specs.Log.{cleared, is_lawful_log, logged_count, recovered}
-pub use Rattle.model.specs.Operations.{after_at, after_create, after_done, after_on, after_refusal, is_kind, is_refusal, no_file_refusal, part_of, refusal_of, where_true, with_bytes, with_links, write_refusal}
+pub use Rattle.model.specs.Operations.{after_at, after_create, after_done, after_on, after_refusal, is_kind, is_refusal, attribute_refusal, no_file_refusal, part_of, refusal_of, where_true, with_attribute, with_bytes, write_refusal}
 pub use Rattle.model.specs.Soundness.{IsSound}
 pub use Rattle.model.specs.Tasks.{Marks}
 pub use Rattle.model.specs.declared.types.image.File.{File}
@@ -26,7 +26,7 @@ pub use Rattle.model.specs.declared.types.image.Form.{Form}
 pub use Rattle.model.specs.declared.types.operations.Answer.{Answer}
 pub use Rattle.model.specs.declared.types.operations.Entry.{Entry}
 pub use Rattle.model.specs.declared.types.operations.Op.{Op}
-pub use Rattle.model.specs.declared.types.operations.Op.TheVariants.{Create, Links, Read, Remove, Stat, Trunc, Write}
+pub use Rattle.model.specs.declared.types.operations.Op.TheVariants.{Create, SetAttribute, Read, Remove, Stat, Trunc, Write}
 pub use Rattle.model.specs.declared.types.operations.Reply.{Reply}
 pub use Rattle.model.specs.declared.types.operations.Reply.TheVariants.{BadOffset, BadType, Bytes, Done, Made, NoFile, NoInode, StatOf, TooBig, TooLong, Wrote}
 pub use Rattle.model.specs.declared.types.operations.TaskProgress.{TaskProgress}

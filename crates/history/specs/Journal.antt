@@ -4,7 +4,7 @@ use Rattle.std.specs.Prelude.{◌≡◌, ◌≤◌, ℕ, ◌+◌, ◌-◌, ◌++
 use Rattle.model.specs.declared.types.operations.Answer.{Answer}
 use Rattle.model.specs.declared.types.operations.Entry.{Entry}
 use Rattle.model.specs.declared.types.operations.Op.{Op}
-use Rattle.model.specs.declared.types.operations.Op.TheVariants.{Create, Write, Read, Trunc, Remove, Stat, Links}
+use Rattle.model.specs.declared.types.operations.Op.TheVariants.{Create, Write, Read, Trunc, Remove, Stat, SetAttribute}
 use Rattle.model.specs.declared.types.operations.Reply.{Reply}
 use Rattle.model.specs.Gathered.{GatheredBytes}
 use Rattle.history.specs.Open.{told}
@@ -83,4 +83,4 @@ IsItsRoom (Some (Read i off n)) room = room ≡ Some (record { bytes = []; room 
 IsItsRoom (Some (Trunc i)) room = Unit {0}
 IsItsRoom (Some (Remove i)) room = Unit {0}
 IsItsRoom (Some (Stat i)) room = Unit {0}
-IsItsRoom (Some (Links i n)) room = Unit {0}
+IsItsRoom (Some (SetAttribute i attribute)) room = Unit {0}

@@ -2,7 +2,7 @@
 use Rattle.std.specs.Prelude.{◌≡◌, ◌≢◌, ℕ, List, Option, Some, None}
 use Rattle.model.specs.declared.types.operations.Entry.{Entry}
 use Rattle.model.specs.declared.types.operations.Op.{Op}
-use Rattle.model.specs.declared.types.operations.Op.TheVariants.{Create, Write, Read, Trunc, Remove, Stat, Links}
+use Rattle.model.specs.declared.types.operations.Op.TheVariants.{Create, Write, Read, Trunc, Remove, Stat, SetAttribute}
 use Rattle.history.specs.declared.types.Phase.{Phase}
 use Rattle.history.specs.Open.{IsEntry}
 
@@ -14,7 +14,7 @@ locks (Read i off n) = Some i
 locks (Trunc i) = Some i
 locks (Remove i) = Some i
 locks (Stat i) = Some i
-locks (Links i n) = Some i
+locks (SetAttribute i attribute) = Some i
 
 -- the process has the lock, if the operation takes one
 abbrev pub HasInodeLock : (ℕ → Option ℕ) → ℕ → Option ℕ → Type 0

@@ -114,7 +114,7 @@ fn copy_of_op(alloc: Global, op: &Op) -> Result<Op, NoMemory>
         Op::Trunc(i) => Op::Trunc(*i),
         Op::Remove(i) => Op::Remove(*i),
         Op::Stat(i) => Op::Stat(*i),
-        Op::Links(i, count) => Op::Links(*i, *count),
+        Op::SetAttribute(i, attribute) => Op::SetAttribute(*i, *attribute),
     })
 }
 

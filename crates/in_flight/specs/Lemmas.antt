@@ -33,4 +33,4 @@ pub mod Placing
 pub mod GrowthBlocks
 pub mod BytesWritten
 pub mod GrowthEnds
-pub mod Linking
+pub mod Attributes

@@ -6,6 +6,6 @@ pub mod Laws
 pub mod Looks
 pub mod HeldLaws
 pub mod GrowthLaws
-pub mod LinkLaws
+pub mod AttributeLaws
 pub mod Lemmas
 pub mod Common

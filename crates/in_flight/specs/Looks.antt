@@ -4,7 +4,8 @@ use Rattle.blocks.specs.Disk.{Image}
 use Rattle.blocks.specs.Block.{block_size}
 use Rattle.model.specs.declared.types.image.Dinode.{Dinode}
 use Rattle.model.specs.declared.types.image.Form.{Form}
-use Rattle.model.specs.declared.types.operations.Op.TheVariants.{Write, Read, Trunc, Remove, Stat, Links}
+use Rattle.model.specs.declared.types.operations.Attribute.{Attribute}
+use Rattle.model.specs.declared.types.operations.Op.TheVariants.{Write, Read, Trunc, Remove, Stat, SetAttribute}
 use Rattle.model.specs.declared.types.operations.Reply.TheVariants.{Bytes, StatOf, NoFile}
 use Rattle.model.specs.Files.{Files, file_in, bytes_in}
 use Rattle.model.specs.Journal.{is_number}
@@ -40,7 +41,7 @@ pub record AnswersNoFile (form : Form) (m : Files) (i : ℕ) : Type 0 where
   pub trunc : after form m (Trunc i) NoFile ≡ Some m
   pub remove : after form m (Remove i) NoFile ≡ Some m
   pub stat : after form m (Stat i) NoFile ≡ Some m
-  pub links : (n : ℕ) → after form m (Links i n) NoFile ≡ Some m
+  pub attribute : (a : Attribute) → after form m (SetAttribute i a) NoFile ≡ Some m
 
 -- what leads to an inode's bytes are data blocks: those that its size needs, and those that its
 -- addresses name

@@ -2,7 +2,7 @@
 ghost use Rattle.in_flight.specs.Laws.{SoundFits, FitsSoundly, FitsWhenCleared, FitsOutsideLog, ClaimsOne, ClaimMakesFile, MadeFits};
 ghost use Rattle.in_flight.specs.HeldLaws.{FitsAtRest, RestsSoundly, DirectGivenUp, BlockGivenUp, EntryPassed, LeavesAsMany, TreeGivenUp, TurnHolds, TurnAnswers, WriteBackRests, ClaimFits, HeldOutsideLog, RestingTells, FreeTells, HeldHasBlocks, FewLeft, ClearedBitKeeps, WriteBackKeeps};
 ghost use Rattle.in_flight.specs.GrowthLaws.{TurnGrows, RestingRefuses, BlockTaken, TakenZeroed, AddressPlaced, EntryPlaced, BytesWritten, GrowthRests, GrowthAnswers, GrowthHasBlocks, SetBitKeeps, DataKeeps, GrowthKeeps};
-ghost use Rattle.in_flight.specs.LinkLaws.{LinkAnswers, LinkRests, TurnLinks};
+ghost use Rattle.in_flight.specs.AttributeLaws.{SetAnswers, SetRefuses, SetRests, TurnSets};
 ghost use Rattle.in_flight.specs.Looks.{UsedIsFit, UsedHasBlocks, StatTells, ReadTells, NoFileTells};
 
 /// A sound image of whole blocks stands for its own files.
@@ -201,19 +201,24 @@ pub fn growth_answers()
     ensures { GrowthAnswers }
 {}
 
-/// At the turn of a task that gives a file another count of links it holds the number.
-pub fn turn_links()
-    ensures { TurnLinks }
+/// At the turn of a task that sets an attribute of a file it holds the number.
+pub fn turn_sets()
+    ensures { TurnSets }
 {}
 
 /// The files are then those after that operation.
-pub fn link_answers()
-    ensures { LinkAnswers }
+pub fn set_answers()
+    ensures { SetAnswers }
+{}
+
+/// A file that is at rest gets no length behind its end.
+pub fn set_refuses()
+    ensures { SetRefuses }
 {}
 
 /// In the end it writes its copy back, and the number is at rest.
-pub fn link_rests()
-    ensures { LinkRests }
+pub fn set_rests()
+    ensures { SetRests }
 {}
 
 /// A task that writes leads to data blocks, and has the size that it reached.

@@ -1,6 +1,6 @@
 -- One task goes on, and all of them agree with buffers and log as before.
 use Rattle.std.proofs.Common.{eqb, cond, Bool, false, ◌≡◌, ◌≤◌, ◌≢◌, ℕ, ◌<◌, inl, inr, true, List, length, set, refl, sym, ◌∙◌, subst, ⊎_elim, Option, Some, None, arith, Bool, cond, eqb}
-use Rattle.inodes.specs.Common.{Agrees, block_of, block_of_write, Buffers, cases_eq, counted, Create, get_or-set_other, get_or-set_same, HasLock, HasLogged, HasOpen, HasSlot, HoldsAt, HoldsBlock, inode_block, is_among, IsOpenFor, kept_by_write, LogState, no_task, node_of_write, now_of, Op, Read, Remove, slot_in, slot_of, Stage, Stands, Stat, StaysForOthers, task, TaskState, Trunc, used_by, used_by_write, Write, Links}
+use Rattle.inodes.specs.Common.{Agrees, block_of, block_of_write, Buffers, cases_eq, counted, Create, get_or-set_other, get_or-set_same, HasLock, HasLogged, HasOpen, HasSlot, HoldsAt, HoldsBlock, inode_block, is_among, IsOpenFor, kept_by_write, LogState, no_task, node_of_write, now_of, Op, Read, Remove, slot_in, slot_of, Stage, Stands, Stat, StaysForOthers, task, TaskState, Trunc, used_by, used_by_write, Write, SetAttribute}
 use Rattle.inodes.proofs.TruncGot.{holds_still}
 
 -- process p's task is t now
@@ -24,7 +24,7 @@ open_still l m q (Some (Read i off n)) used is = tt
 open_still l m q (Some (Trunc i)) used is = used ∙ is
 open_still l m q (Some (Remove i)) used is = used ∙ is
 open_still l m q (Some (Stat i)) used is = tt
-open_still l m q (Some (Links i n)) used is = used ∙ is
+open_still l m q (Some (SetAttribute i a)) used is = used ∙ is
 
 pub logged_still : (l m : LogState) (q b : ℕ) → used_by m q ≡ used_by l q → (used_by l q ≡ Some 1 → is_among b l.homes ≡ true → is_among b m.homes ≡ true) → HasLogged l q b → HasLogged m q b
 logged_still l m q b used among has = ⊎_elim (λ (none : used_by l q ≡ Some 0). inl (used ∙ none)) (λ one. inr (used ∙ one.0, among one.0 one.1)) has
@@ -67,7 +67,7 @@ stands_other c d l m n p q t (Stage.Writing k w) stays apart s = record {
   kept = holds_other c d l m p q (node_of_write w.at) (kept_by_write w.at) stays apart s.kept;
   used = holds_other c d l m p q (block_of_write w.at) (used_by_write w.at) stays apart s.used;
 }
-stands_other c d l m n p q t (Stage.Linking k e u) stays apart s = record {
+stands_other c d l m n p q t (Stage.Setting k e u) stays apart s = record {
   used = stays.used q apart ∙ s.used;
   holds = holds_other c d l m p q (inode_block u.number) u.slot stays apart s.holds;
 }
@@ -118,5 +118,5 @@ agrees_still c d l m n ts holds locks used among are = record {
       kept = by_slot q (node_of_write w.at) (kept_by_write w.at) s.kept;
       used = by_slot q (block_of_write w.at) (used_by_write w.at) s.used;
     }
-    by_place q t (Stage.Linking k e u) s = record { used = used q ∙ s.used; holds = by_slot q (inode_block u.number) u.slot s.holds }
+    by_place q t (Stage.Setting k e u) s = record { used = used q ∙ s.used; holds = by_slot q (inode_block u.number) u.slot s.holds }
     by_place q t (Stage.Leaving k) s = tt

@@ -31,7 +31,7 @@ is_free (Stage.Reading k m) = is_some (slot_in m.target)
 is_free (Stage.Delivering k) = true
 is_free (Stage.Truncating k m) = is_some (slot_kept (now_of m))
 is_free (Stage.Writing k m) = writes_freely m.at
-is_free (Stage.Linking k d u) = is_some u.slot
+is_free (Stage.Setting k d u) = is_some u.slot
 is_free (Stage.Leaving k) = true
 
 got_some : (c : Buffers) (o : Option ℕ) (b : ℕ) → is_some o ≡ true → cause_to_get c (unless_got o b) ≡ None
@@ -63,7 +63,7 @@ free_goes c t (Stage.Reading k m) e = got_some c (slot_in m.target) _ e
 free_goes c t (Stage.Delivering k) e = refl
 free_goes c t (Stage.Truncating k m) e = got_some c (slot_kept (now_of m)) _ e
 free_goes c t (Stage.Writing k m) e = free_write c m.at e
-free_goes c t (Stage.Linking k d u) e = got_some c u.slot _ e
+free_goes c t (Stage.Setting k d u) e = got_some c u.slot _ e
 free_goes c t (Stage.Leaving k) e = refl
 
 -- ---- what is kept while another block is got
@@ -89,7 +89,7 @@ kept_by (Stage.Reading k m) = []
 kept_by (Stage.Delivering k) = []
 kept_by (Stage.Truncating k m) = gots_kept m.kept
 kept_by (Stage.Writing k m) = got_at (node_of_write m.at) (kept_by_write m.at)
-kept_by (Stage.Linking k d u) = []
+kept_by (Stage.Setting k d u) = []
 kept_by (Stage.Leaving k) = []
 
 -- one of them
@@ -127,7 +127,7 @@ few_by (Stage.Reading k m) = omega arith
 few_by (Stage.Delivering k) = omega arith
 few_by (Stage.Truncating k m) = few_kept m.kept.inner m.kept.outer
 few_by (Stage.Writing k m) = few_at (node_of_write m.at) (kept_by_write m.at)
-few_by (Stage.Linking k d u) = omega arith
+few_by (Stage.Setting k d u) = omega arith
 few_by (Stage.Leaving k) = omega arith
 
 not_got : (o : Option ℕ) (i : ℕ) → is_some o ≡ false → o ≡ Some i → ⊥
@@ -181,7 +181,7 @@ has_kept (Stage.Reading k m) i e has = absurd (not_got (slot_in m.target) i e ha
 has_kept (Stage.Delivering k) i e has = absurd (cc has)
 has_kept (Stage.Truncating k m) i e has = kept_in m.kept.inner m.kept.outer i (either has (not_got (slot_kept (now_of m)) i e))
 has_kept (Stage.Writing k m) i e has = kept_one (node_of_write m.at) (kept_by_write m.at) i (either has (used_write m.at i e))
-has_kept (Stage.Linking k d u) i e has = absurd (not_got u.slot i e has)
+has_kept (Stage.Setting k d u) i e has = absurd (not_got u.slot i e has)
 has_kept (Stage.Leaving k) i e has = absurd (cc has)
 
 -- ---- who waits for an inode's lock
@@ -200,7 +200,7 @@ is_getting (Stage.Reading k m) = true
 is_getting (Stage.Delivering k) = true
 is_getting (Stage.Truncating k m) = true
 is_getting (Stage.Writing k m) = true
-is_getting (Stage.Linking k d u) = true
+is_getting (Stage.Setting k d u) = true
 is_getting (Stage.Leaving k) = true
 
 -- what a task waits for that waits for no lock
@@ -236,5 +236,5 @@ getting_waits c t (Stage.Reading k m) e is = (_, some_got c (slot_in m.target) _
 getting_waits c t (Stage.Delivering k) e is = absurd (cc e)
 getting_waits c t (Stage.Truncating k m) e is = (_, some_got c (slot_kept (now_of m)) _ e)
 getting_waits c t (Stage.Writing k m) e is = write_waits c m.at e
-getting_waits c t (Stage.Linking k d u) e is = (_, some_got c u.slot _ e)
+getting_waits c t (Stage.Setting k d u) e is = (_, some_got c u.slot _ e)
 getting_waits c t (Stage.Leaving k) e is = absurd (cc e)

@@ -32,7 +32,7 @@ locked_gets (Stage.Reading l m) j k i has = refl
 locked_gets (Stage.Delivering l) j k i has = refl
 locked_gets (Stage.Truncating l m) j k i has = refl
 locked_gets (Stage.Writing l m) j k i has = refl
-locked_gets (Stage.Linking l d u) j k i has = refl
+locked_gets (Stage.Setting l d u) j k i has = refl
 locked_gets (Stage.Leaving l) j k i has = refl
 
 -- a task that neither is over nor gets a block waits for a lock at that stage, if anybody has it
@@ -52,7 +52,7 @@ only_lock c t (Stage.Reading k m) busy is = absurd (cc is)
 only_lock c t (Stage.Delivering k) busy is = absurd (cc is)
 only_lock c t (Stage.Truncating k m) busy is = absurd (cc is)
 only_lock c t (Stage.Writing k m) busy is = absurd (cc is)
-only_lock c t (Stage.Linking k d u) busy is = absurd (cc is)
+only_lock c t (Stage.Setting k d u) busy is = absurd (cc is)
 only_lock c t (Stage.Leaving k) busy is = absurd (cc is)
 
 abbrev has_some : List Got → Bool
@@ -72,7 +72,7 @@ over_goes c t (Stage.Reading k m) over e = cc over
 over_goes c t (Stage.Delivering k) over e = cc over
 over_goes c t (Stage.Truncating k m) over e = cc over
 over_goes c t (Stage.Writing k m) over e = cc over
-over_goes c t (Stage.Linking k d u) over e = cc over
+over_goes c t (Stage.Setting k d u) over e = cc over
 over_goes c t (Stage.Leaving k) over e = cc over
 
 -- who finds no buffer for a block finds all of them in use

@@ -62,7 +62,7 @@ keeps_open c l n p g o (Stage.Writing k m) has stands = record {
   used = stands.logged.homes;
   has = stands.logged.used;
 }
-keeps_open c l n p g o (Stage.Linking k d u) has stands = absurd has
+keeps_open c l n p g o (Stage.Setting k d u) has stands = absurd has
 keeps_open c l n p g o (Stage.Leaving k) has stands = absurd has
 
 module _ (cur : Image) (t : TableState) (ts : List TaskState) (are : AreLooking cur t ts) (numbers : t.inode_count ≡ inode_count_of cur) where
@@ -202,7 +202,7 @@ module _ (cur : Image) (t : TableState) (ts : List TaskState) (are : AreLooking 
       by_place (Stage.Writing k m) at looks has waits =
           let is = slot_is g (node_of_write m.at) (kept_by_write m.at) has in
           subst (IsOwn p) (sym is.1) (write_own p k (node_of_write m.at) m at looks.number (write_kept p k m at looks g.slot m.at is.0 waits looks.come))
-      by_place (Stage.Linking k d u) at looks has waits = absurd has
+      by_place (Stage.Setting k d u) at looks has waits = absurd has
       by_place (Stage.Leaving k) at looks has waits = absurd has
 
   -- ---- what is waited for
@@ -319,7 +319,7 @@ module _ (cur : Image) (t : TableState) (ts : List TaskState) (are : AreLooking 
       by_place (Stage.Delivering k) at looks has waits = absurd has
       by_place (Stage.Truncating k m) at looks has waits = trunc_behind c p k m g at looks has m.machine.at refl looks.given looks.keeps waits
       by_place (Stage.Writing k m) at looks has waits = write_behind c p k g.slot m m.at at refl looks looks.come (slot_is g (node_of_write m.at) (kept_by_write m.at) has).0 waits
-      by_place (Stage.Linking k d u) at looks has waits = absurd has
+      by_place (Stage.Setting k d u) at looks has waits = absurd has
       by_place (Stage.Leaving k) at looks has waits = absurd has
 
   -- what is waited for so, nobody keeps

@@ -43,7 +43,7 @@ mod WriteBlocks
 mod WriteEntries
 mod WriteDoes
 mod WriteEnds
-mod Linking
+mod Setting
 mod Staying
 mod TableNumbers
 mod NoneFree

@@ -2,7 +2,7 @@
 use Rattle.std.proofs.Common.{◌≡◌, ◌≢◌, ℕ, ◌<◌, true, false, List, length, length-set, set, refl, sym, ◌∙◌, ap, subst, arith, ⊎_elim, Option, Some, None, inl}
 use Rattle.inodes.specs.Store.{FitsFiles}
 use Rattle.std.specs.Prelude.{IfNone}
-use Rattle.inodes.specs.Common.{Agrees, AreLooking, asked_by, cases_eq, claim_of, claims_of, copy_at, current_of, DeviceFault, Dinode, fault_of_task, Files, FilesThen, FitsHeld, Form, form_of, form_same, get_or-set_other, get_or-set_same, Ghosts, Goes, Grip, grip_by, grip_of, grips_of, groups_same, HasAllRead, HasFiles, HasLock, HasSlot, HaveLogged, held_alike, Image, inode_count_of, is_made, is_making, is_over, IsAtRead, IsStore, IsTaking, IsTruncating, IsWriting, KeepsTable, LeavesLate, locked_grip, LoggedAt, LogState, LooksAt, Marks, no_task, Op, Reads, reply_at_turn, SameGroups, Shown, ShowsSame, Stage, Stands, StaysForOthers, Steps, steps_left, StoreState, TableIs, task, TaskProgress, TaskState, Waits, WasAnswered, with_grip, LogsAtMost, most_logged, IsLinking}
+use Rattle.inodes.specs.Common.{Agrees, AreLooking, asked_by, cases_eq, claim_of, claims_of, copy_at, current_of, DeviceFault, Dinode, fault_of_task, Files, FilesThen, FitsHeld, Form, form_of, form_same, get_or-set_other, get_or-set_same, Ghosts, Goes, Grip, grip_by, grip_of, grips_of, groups_same, HasAllRead, HasFiles, HasLock, HasSlot, HaveLogged, held_alike, Image, inode_count_of, is_made, is_making, is_over, IsAtRead, IsStore, IsTaking, IsTruncating, IsWriting, KeepsTable, LeavesLate, locked_grip, LoggedAt, LogState, LooksAt, Marks, no_task, Op, Reads, reply_at_turn, SameGroups, Shown, ShowsSame, Stage, Stands, StaysForOthers, Steps, steps_left, StoreState, TableIs, task, TaskProgress, TaskState, Waits, WasAnswered, with_grip, LogsAtMost, most_logged, IsSetting}
 use Rattle.inodes.specs.Lemmas.Holding.{claim_stays}
 use Rattle.inodes.specs.Lemmas.Faults.{where_none, if_none, if_some}
 use Rattle.inodes.proofs.Agreeing.{agrees_now}
@@ -114,7 +114,7 @@ module _ {D N : Type 0} (disk : Ghosts D N) (s : StoreState D) (p i : ℕ) (op :
       (subst (λ (c : Option Dinode). HasAllRead new s.table.inode_count c v) (sym (copy_stays now q k (asked_by v.op) apart has)) looks)
   looks_other now count q v (Stage.Truncating k m) apart is_task at looks = subst (λ (n : ℕ). IsTruncating new n v m) (sym count) looks
   looks_other now count q v (Stage.Writing k m) apart is_task at looks = subst (λ (n : ℕ). IsWriting new n v m) (sym count) looks
-  looks_other now count q v (Stage.Linking k d m) apart is_task at looks = subst (λ (n : ℕ). IsLinking n v d m) (sym count) looks
+  looks_other now count q v (Stage.Setting k d m) apart is_task at looks = subst (λ (n : ℕ). IsSetting n v m) (sym count) looks
   looks_other now count q v (Stage.Leaving k) apart is_task at looks = subst (λ (n : ℕ). WasAnswered n v) (sym count) looks
 
   module _ (stepped : Stepped disk s p i op r t u) where
@@ -139,7 +139,7 @@ module _ {D N : Type 0} (disk : Ghosts D N) (s : StoreState D) (p i : ℕ) (op :
     logged_other now q (Stage.Writing k m) apart at looks had =
         logged_still cur new s.table s.tasks i were is.numbers stepped.keeps q k m (λ j. stepped.alone q j apart) at looks
         s.volume.log t.volume.log now.others.among (now.others.used q apart) had
-    logged_other now q (Stage.Linking k d m) apart at looks had = tt
+    logged_other now q (Stage.Setting k d m) apart at looks had = tt
     logged_other now q (Stage.Leaving k) apart at looks had = tt
 
     logged_then : IsNow disk.image s t p u → HaveLogged new t.volume.log (set s.tasks p u)

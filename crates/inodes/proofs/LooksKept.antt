@@ -2,7 +2,7 @@
 use Rattle.std.proofs.Common.{◌≡◌, ◌≢◌, ℕ, zero, suc, ◌-◌, ◌*◌, ◌/◌, ◌≤◌, ◌<◌, true, ltb, List, [], ◌∷◌, length, set, replicate, refl, sym, ◌∙◌, ap, subst, ⊎_elim, arith, Option, Some, None}
 use Rattle.std.specs.Prelude.{IsTrue, slice_index}
 use Rattle.std.proofs.lemmas.List.{length-set}
-use Rattle.inodes.specs.Common.{address_in, ahead_of, ahead_root, AreLooking, asked_by, at_hand, between, block_at, both_of, branch_of, bytes_by, bytes_in, CanBegin, cases_eq, Claim, claim_by, claim_fits, claim_of, Claims, claims_of, copy_at, count_of, Create, depths, Dinode, Extent, extent_of, file_in, Files, first_left, first_stage, Fits, FitsHeld, FitsThen, Form, form_of, form_same, free_tells, Freeing, frees, get_or-set_other, get_or-set_same, Grip, grip, grip_by, grip_of, grips_of, grows, Growth, growth_of, hand_in, HasClaimed, HasFiles, HasGivenUp, HasLoggedWrite, HasSameFile, Held, held_alike, held_of, held_outside, Image, inode_block, inode_count_of, inode_of-with_inode_other, inode_same, is_among, is_kind, is_number, IsApart, IsClaimedNow, IsDinode, IsHeldIn, IsInHand, IsMapped, IsPlaced, IsSameOutsideLog, IsWriting, Keeps, KeepsUsedInodes, last_fields, last_inode, leads_still, locked_grip, LogState, LooksAt, ltb-true, mapped, MayRead, named_held, names_claimed, names_left, needed_within, new_inode, new_table, no_task, Op, part_of, Read, Remove, resting_may_be_read, root_of, SameInside, Stage, Stat, StaysHeld, super_of, TableIs, TableState, taken_by, taken_owned, task, TaskState, Trunc, TruncAt, unmarked, used_by, way_of, whole_names, with_inode, with_inode_bytes, without_bit, Write, write_back_rests, WriteState, Links}
+use Rattle.inodes.specs.Common.{address_in, ahead_of, ahead_root, AreLooking, asked_by, at_hand, between, block_at, both_of, branch_of, bytes_by, bytes_in, CanBegin, cases_eq, Claim, claim_by, claim_fits, claim_of, Claims, claims_of, copy_at, count_of, Create, depths, Dinode, Extent, extent_of, file_in, Files, first_left, first_stage, Fits, FitsHeld, FitsThen, Form, form_of, form_same, free_tells, Freeing, frees, get_or-set_other, get_or-set_same, Grip, grip, grip_by, grip_of, grips_of, grows, Growth, growth_of, hand_in, HasClaimed, HasFiles, HasGivenUp, HasLoggedWrite, HasSameFile, Held, held_alike, held_of, held_outside, Image, inode_block, inode_count_of, inode_of-with_inode_other, inode_same, is_among, is_kind, is_number, IsApart, IsClaimedNow, IsDinode, IsHeldIn, IsInHand, IsMapped, IsPlaced, IsSameOutsideLog, IsWriting, Keeps, KeepsUsedInodes, last_fields, last_inode, leads_still, locked_grip, LogState, LooksAt, ltb-true, mapped, MayRead, named_held, names_claimed, names_left, needed_within, new_inode, new_table, no_task, Op, part_of, Read, Remove, resting_may_be_read, root_of, SameInside, Stage, Stat, StaysHeld, super_of, TableIs, TableState, taken_by, taken_owned, task, TaskState, Trunc, TruncAt, unmarked, used_by, way_of, whole_names, with_inode, with_inode_bytes, without_bit, Write, write_back_rests, WriteState, SetAttribute}
 use Rattle.model.specs.Layout.{inode_of}
 use Rattle.in_flight.specs.Lemmas.GivenUp.{held_of as is_held}
 use Rattle.in_flight.specs.Lemmas.HeldFrames.{stays_same}
@@ -269,7 +269,7 @@ module _ (old new : Image) (t : TableState) (ts : List TaskState) (i : ℕ) (are
     extent = stands.extent ∙ ap (extent_of (form_of old) t.inode_count) (sym keeps.size) ∙ ap (λ (f : Form). extent_of f t.inode_count (length new)) (sym form_still);
     come = come_still old new m (ways_same p k m free at stands) (its p k m free at stands).grown.0 m.at (taken_same p k m free at stands) stands.come;
   }
-  stands_still p (Stage.Linking k d u) free at stands = stands
+  stands_still p (Stage.Setting k d u) free at stands = stands
   stands_still p (Stage.Leaving k) free at stands = stands
 
 -- where all used inodes stay
@@ -326,8 +326,8 @@ module _ (cur : Image) (t : TableState) (ts : List TaskState) (p : ℕ) (are : A
   looks_begun (Remove i) can =
       begun (record { op = Some (Remove i); stage = first_stage (Remove i) t.inode_count; gathered = None }) refl (record { op = Remove i; is = refl; can = can; number = refl; room = refl }) (λ j. refl)
   looks_begun (Stat i) can = absurd can
-  looks_begun (Links i m) can =
-      begun (record { op = Some (Links i m); stage = first_stage (Links i m) t.inode_count; gathered = None }) refl (record { op = Links i m; is = refl; can = can; number = refl; room = refl }) (λ j. refl)
+  looks_begun (SetAttribute i a) can =
+      begun (record { op = Some (SetAttribute i a); stage = first_stage (SetAttribute i a) t.inode_count; gathered = None }) refl (record { op = SetAttribute i a; is = refl; can = can; number = refl; room = refl }) (λ j. refl)
 
 -- ---- no task is under way at the opening
 

@@ -1,7 +1,7 @@
 -- A step whose task has a cause to wait does wait: what it asks for are a buffer or an inode's lock,
 -- and these answer by the cause alone.
 use Rattle.std.proofs.Common.{◌≡◌, ℕ, Bool, List, sym, ◌∙◌, ap, subst, Option, Some, None}
-use Rattle.inodes.specs.Common.{AllocAt, Allocs, AllocState, block_next, block_of, block_of_alloc, Buffers, BuffersAfter, bytes_of, cause_of_get, cause_to_get, copy_at, current_of, Dinode, DiskFault, EntryState, FailsToFill, Freeing, FreesOn, Get, get_answer, get_answer_by, GetsFor, Ghosts, Goes, GoesFrom, Got, holder_at, inode_block, LockAt, Locks, LockState, LockSteps, LooksUp, MapAt, MapState, MapSteps, now_of, one_more, OnFault, Progress, progress_of, progress_of_lock, progress_of_read, progress_of_search, progress_of_trunc, progress_of_write, ReadState, SearchState, Shown, shown_of, slot_in, slot_kept, slot_of_alloc, Stage, TableState, TakesOne, Target, task, TaskProgress, UnlessFault, Updates, UpdateState, VolumeState, Why, Works, WriteAt, WriteState, WriteSteps, progress_of_link}
+use Rattle.inodes.specs.Common.{AllocAt, Allocs, AllocState, block_next, block_of, block_of_alloc, Buffers, BuffersAfter, bytes_of, cause_of_get, cause_to_get, copy_at, current_of, Dinode, DiskFault, EntryState, FailsToFill, Freeing, FreesOn, Get, get_answer, get_answer_by, GetsFor, Ghosts, Goes, GoesFrom, Got, holder_at, inode_block, LockAt, Locks, LockState, LockSteps, LooksUp, MapAt, MapState, MapSteps, now_of, one_more, OnFault, Progress, progress_of, progress_of_lock, progress_of_read, progress_of_search, progress_of_trunc, progress_of_write, ReadState, SearchState, Shown, shown_of, slot_in, slot_kept, slot_of_alloc, Stage, TableState, TakesOne, Target, task, TaskProgress, UnlessFault, Updates, UpdateState, VolumeState, Why, Works, WriteAt, WriteState, WriteSteps, progress_of_setting}
 use Rattle.model.specs.Layout.{inode_of}
 use Rattle.bcache.specs.declared.types.Acquired.{Acquired}
 use Rattle.wal.specs.Get as get
@@ -123,5 +123,5 @@ waits_with_cause {D} {N} disk s t p op r cause waits steps = by (task s.tasks p)
     by (Stage.Delivering k) e goes = absurd (cc e)
     by (Stage.Truncating k m) e goes = goes.gives ∙ ap progress_of_trunc (frees disk s.volume t.volume p cause m goes.now (now_of m) goes.answer e goes.steps)
     by (Stage.Writing k m) e goes = goes.gives ∙ ap (progress_of_write m.done) (writes disk s.volume t.volume p cause m goes.now m.at (bytes_of op) goes.answer e goes.writes)
-    by (Stage.Linking k d u) e goes = goes.gives ∙ ap progress_of_link (updates disk s.volume t.volume p cause u goes.now d u.slot goes.answer e goes.updates)
+    by (Stage.Setting k d u) e goes = goes.gives ∙ ap progress_of_setting (updates disk s.volume t.volume p cause u goes.now d u.slot goes.answer e goes.updates)
     by (Stage.Leaving k) e goes = absurd (cc e)

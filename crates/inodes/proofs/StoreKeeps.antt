@@ -1,7 +1,7 @@
 -- Each call of a store keeps what is true of every store.
 use Rattle.std.proofs.Common.{◌≡◌, ◌≢◌, ◌⊎◌, inl, inr, ℕ, ◌<◌, ◌≤◌, Bool, true, false, List, length, set, replicate, refl, sym, ◌∙◌, ap, subst, arith, ⊎_elim, Option, Some, None}
 use Rattle.std.specs.Prelude.{IsTrue}
-use Rattle.inodes.specs.Common.{Agrees, at_slot, begun, begun_grows, block_at, Buffers, CanBegin, cases_eq, cases_lt, claim_by, claims, claims_of, Create, current_after, current_of, ended_grows, fault_in, first_stage, fresh_buffers, get_or_past, Ghosts, GrowsHomes, HasSlot, HaveLogged, Image, inode_block, inode_count_of, is_among, is_known_magic, is_lawful_super, is_number, is_quiet, IsFree, IsImage, IsLawfulGeometry, IsLogAt, LeavesLocks, log_after, LoggedAt, LogState, new_inode, no_task, none_locked, noted_grows, Op, Progress, Read, Remove, SearchGoes, SearchLocks, SearchState, SearchSteps, Stage, Stands, Stat, stepped_at, super_in, super_of, task, TaskState, Trunc, u32_at, used_begun, used_by, used_ended, used_first, used_noted, VolumeState, Why, with_inode, Write, Links}
+use Rattle.inodes.specs.Common.{Agrees, at_slot, begun, begun_grows, block_at, Buffers, CanBegin, cases_eq, cases_lt, claim_by, claims, claims_of, Create, current_after, current_of, ended_grows, fault_in, first_stage, fresh_buffers, get_or_past, Ghosts, GrowsHomes, HasSlot, HaveLogged, Image, inode_block, inode_count_of, is_among, is_known_magic, is_lawful_super, is_number, is_quiet, IsFree, IsImage, IsLawfulGeometry, IsLogAt, LeavesLocks, log_after, LoggedAt, LogState, new_inode, no_task, none_locked, noted_grows, Op, Progress, Read, Remove, SearchGoes, SearchLocks, SearchState, SearchSteps, Stage, Stands, Stat, stepped_at, super_in, super_of, task, TaskState, Trunc, u32_at, used_begun, used_by, used_ended, used_first, used_noted, VolumeState, Why, with_inode, Write, SetAttribute}
 use Rattle.wal.specs.Machine.{ended}
 use Rattle.wal.specs.declared.types.Commit.{Commit}
 use Rattle.wal.specs.declared.types.Part.{Part}
@@ -74,7 +74,7 @@ agrees_begun c l n p op ts agrees lt pid stood can = agrees_now c c l (begun l p
     begins (Trunc i) can = (tt, used_first l p pid)
     begins (Remove i) can = (tt, used_first l p pid)
     begins (Stat i) can = absurd can
-    begins (Links i m) can = (tt, used_first l p pid)
+    begins (SetAttribute i a) can = (tt, used_first l p pid)
 
 -- which holds nothing yet
 pub begun_claims : (ts : List TaskState) (p : ℕ) (op : Op) (n : ℕ) → (task ts p).stage ≡ Stage.Nowhere → (j : ℕ) → claims_of (set ts p (record { op = Some op; stage = first_stage op n; gathered = None })) j ≡ claims_of ts j
@@ -87,7 +87,7 @@ begun_claims ts p op n stood j = claim_stays ts p j (record { op = Some op; stag
     by_op (Trunc i) = refl
     by_op (Remove i) = refl
     by_op (Stat i) = refl
-    by_op (Links i m) = refl
+    by_op (SetAttribute i a) = refl
 
 -- an operation ends whose task is over
 pub agrees_ended : (c : Buffers) (l : LogState) (n p : ℕ) (ts : List TaskState) → Agrees c l n ts → (task ts p).stage ≡ Stage.Nowhere → Agrees c (ended l p) n ts
@@ -107,7 +107,7 @@ agrees_ended c l n p ts agrees stood = record {
     by_place q apart t (Stage.Delivering k) s = s
     by_place q apart t (Stage.Truncating k m) s = record { logged = logged_still l (ended l p) q m.machine.bitmap (used_ended l p q apart) (λ one has. ended_grows l p m.machine.bitmap has) s.logged; holds = s.holds }
     by_place q apart t (Stage.Writing k m) s = record { logged = open_write_still l (ended l p) q (used_ended l p q apart) s.logged; kept = s.kept; used = s.used }
-    by_place q apart t (Stage.Linking k d u) s = record { used = used_ended l p q apart ∙ s.used; holds = s.holds }
+    by_place q apart t (Stage.Setting k d u) s = record { used = used_ended l p q apart ∙ s.used; holds = s.holds }
     by_place q apart t (Stage.Leaving k) s = s
 
 -- a step of a commit
@@ -151,7 +151,7 @@ logged_begun cur l n p op ts inside had =
     by_op (Trunc i) = tt
     by_op (Remove i) = tt
     by_op (Stat i) = tt
-    by_op (Links i m) = tt
+    by_op (SetAttribute i a) = tt
 
 pub logged_ended : (cur : Image) (l : LogState) (p : ℕ) (ts : List TaskState) → (task ts p).stage ≡ Stage.Nowhere → HaveLogged cur l ts → HaveLogged cur (ended l p) ts
 logged_ended cur l p ts stood had q =
@@ -171,7 +171,7 @@ logged_committed h now l m ts made log busy q = by_place (task ts q).stage
     by_place (Stage.Delivering k) = tt
     by_place (Stage.Truncating k w) = tt
     by_place (Stage.Writing k w) = λ homes used. absurd (none_open l q homes log busy (sym (used_committed h l m made q) ∙ used))
-    by_place (Stage.Linking k d u) = tt
+    by_place (Stage.Setting k d u) = tt
     by_place (Stage.Leaving k) = tt
 
 pub logged_opened : (cur : Image) (l : LogState) (k : ℕ) → HaveLogged cur l (replicate k no_task)

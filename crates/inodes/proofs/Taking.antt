@@ -1,7 +1,7 @@
 -- An operation takes its inode.
 use Rattle.std.proofs.Common.{◌≤◌, ◌≡◌, ℕ, ◌<◌, true, false, ltb, length, length-set, List, set, refl, sym, ◌∙◌, ap, subst, arith, Option, Some, None}
 use Rattle.std.specs.Prelude.{IsTrue}
-use Rattle.inodes.specs.Common.{Agrees, AreLooking, asked, asked_by, both_of, bytes_of, CanLook, CanTake, claim_by, claim_of, claims_of, Create, current_of, false≢true, Files, GatheredBytes, Ghosts, Grip, grip, grip_at, grip_by, grip_of, grips_of, HasRoom, HasSlot, held_alike, HoldsAt, HoldsWhereGot, Image, inode_block, inode_count_of, is_number, IsOpenFor, IsStore, IsTaking, length-current, LockAt, locked_grip, LockState, LogState, LooksAt, MayLock, MayLockAt, Op, Read, Remove, slot_of, Stage, Stands, Stat, stays_same, StoreState, TableState, task, TaskState, Trunc, unlocked_grip, Write, Links}
+use Rattle.inodes.specs.Common.{Agrees, AreLooking, asked, asked_by, both_of, bytes_of, CanLook, CanTake, claim_by, claim_of, claims_of, Create, current_of, false≢true, Files, GatheredBytes, Ghosts, Grip, grip, grip_at, grip_by, grip_of, grips_of, HasRoom, HasSlot, held_alike, HoldsAt, HoldsWhereGot, Image, inode_block, inode_count_of, is_number, IsOpenFor, IsStore, IsTaking, length-current, LockAt, locked_grip, LockState, LogState, LooksAt, MayLock, MayLockAt, Op, Read, Remove, slot_of, Stage, Stands, Stat, stays_same, StoreState, TableState, task, TaskState, Trunc, unlocked_grip, Write, SetAttribute}
 use Rattle.inodes.specs.Store.{FitsFiles}
 use Rattle.inodes.specs.Lemmas.Faults.{where_none, if_none}
 use Rattle.inodes.specs.Lemmas.Grips.{has_place_for_each}
@@ -23,7 +23,7 @@ number_of_take n (Read i off count) can = can.0
 number_of_take n (Trunc i) can = can
 number_of_take n (Remove i) can = can
 number_of_take n (Stat i) can = can
-number_of_take n (Links i m) can = can.0
+number_of_take n (SetAttribute i a) can = can.0
 
 -- and it writes no more bytes than there may be at once
 pub few_bytes : (n : ℕ) (op : Op) → CanTake n op → length (bytes_of op) ≤ 3072
@@ -33,7 +33,7 @@ few_bytes n (Read i off count) can = omega arith
 few_bytes n (Trunc i) can = omega arith
 few_bytes n (Remove i) can = omega arith
 few_bytes n (Stat i) can = omega arith
-few_bytes n (Links i m) can = omega arith
+few_bytes n (SetAttribute i a) can = omega arith
 
 -- and it needs nothing open in the log
 look_open : (l : LogState) (p n : ℕ) (op : Op) → CanLook n op → IsOpenFor l p (Some op)
@@ -43,7 +43,7 @@ look_open l p n (Read i off count) can = tt
 look_open l p n (Trunc i) can = absurd can
 look_open l p n (Remove i) can = absurd can
 look_open l p n (Stat i) can = tt
-look_open l p n (Links i m) can = absurd can
+look_open l p n (SetAttribute i a) can = absurd can
 
 -- nobody has locked number 0
 pub none_of_zero : (cur : Image) (t : TableState) (ts : List TaskState) → AreLooking cur t ts → (q k : ℕ) → grip_of (task ts q) ≡ Some (locked_grip k 0) → ⊥

@@ -1,13 +1,17 @@
 -- The turn of an operation that takes its inode.
 use Rattle.std.proofs.Common.{◌-◌, ◌+◌, ◌≡◌, ◌≢◌, ◌⊎◌, inl, inr, ℕ, ◌≤◌, ◌<◌, ◌/◌, ◌^◌, Bool, true, false, cond, eqb, List, [], ◌∷◌, length, set, refl, sym, ◌∙◌, ap, subst, ⊎_elim, arith, Option, Some, None, ltb}
 use Rattle.std.specs.Prelude.{IsTrue}
-use Rattle.inodes.specs.Common.{after, asked, BadOffset, begun_left, bitmap_block, block_of, block_of_write, blocks_behind, branch_shallow, Buffers, bytes_by, CanLook, CanTake, cases_eq, Claim, claim_by, claim_of, claims_of, copy_at, Create, current_of, Dinode, Done, eq-eqb, Extent, extent_of, few_left, file_left, Files, first_freeing, first_read, first_slot, first_trunc, first_write, FitsHeld, Form, form_of, free_tells, frees, Ghosts, greatest_size, grip_by, grip_of, grows, Growth, growth_of, HasComeTo, HasRoom, Held, held_of, HoldsAt, Image, is_making, is_number, IsClaimedNow, IsOpenFor, IsRead, IsTruncating, Itrunc, length-current, locked_grip, LockState, LoggedAt, LogState, LooksAt, ltb-false, ltb-true, MayRead, most_behind, most_left, ne_eqb, next_place, no_block_kept, node_of_write, NoFile, Op, Read, ReadState, Remove, Reply, resting_may_be_read, resting_refuses, resting_tells, slot_in, Stage, Stands, Stat, StatOf, steps_left, StoreState, TableState, task, TaskState, TooBig, transfer_limit, Trunc, trunc_op, turn_answers, turn_grows, turn_holds, TurnsTo, unbegun, used_by, WasAnswered, Write, WriteState, files_linked, first_update, IsLinking, link_answers, Links, turn_links, unwritten, with_count}
+use Rattle.inodes.specs.Common.{after, asked, BadOffset, begun_left, bitmap_block, block_of, block_of_write, blocks_behind, branch_shallow, Buffers, bytes_by, CanLook, CanTake, cases_eq, Claim, claim_by, claim_of, claims_of, copy_at, Create, current_of, Dinode, Done, eq-eqb, Extent, extent_of, few_left, file_left, Files, first_freeing, first_read, first_slot, first_trunc, first_write, FitsHeld, Form, form_of, free_tells, frees, Ghosts, greatest_size, grip_by, grip_of, grows, Growth, growth_of, HasComeTo, HasRoom, Held, held_of, HoldsAt, Image, is_making, is_number, IsClaimedNow, IsOpenFor, IsRead, IsTruncating, Itrunc, length-current, locked_grip, LockState, LoggedAt, LogState, LooksAt, ltb-false, ltb-true, MayRead, most_behind, most_left, ne_eqb, next_place, no_block_kept, node_of_write, NoFile, Op, Read, ReadState, Remove, Reply, resting_may_be_read, resting_refuses, resting_tells, slot_in, Stage, Stands, Stat, StatOf, steps_left, StoreState, TableState, task, TaskState, TooBig, transfer_limit, Trunc, trunc_op, turn_answers, turn_grows, turn_holds, TurnsTo, unbegun, used_by, WasAnswered, Write, WriteState, files_set, first_update, IsSetting, set_answers, set_refuses, SetAttribute, turn_sets, unwritten, with_value}
+use Rattle.model.specs.declared.types.operations.Attribute.{Attribute}
+use Rattle.model.specs.declared.types.operations.Attribute.TheVariants.{Links, Size}
 use Rattle.model.specs.Layout.{inode_of}
+use Rattle.in_flight.specs.AttributeLaws.{IsAllowed}
 use Rattle.in_flight.specs.Held.{blocks_left}
+use Rattle.inodes.specs.Holding.{FitsField}
 use Rattle.inodes.specs.Store.{FitsFiles}
-use Rattle.inodes.specs.Lemmas.Holding.{HoldsAlone, claimed_now, none_held, own_grows, own_links}
+use Rattle.inodes.specs.Lemmas.Holding.{HoldsAlone, claimed_now, none_held, own_grows, own_setting}
 use Rattle.inodes.specs.Lemmas.ReadRuns.{begins}
-use Rattle.inodes.specs.Turning.{IsReadable, if_used, reply_of_look, reply_when_taken, stage_of_look, stage_when_taken, stage_of_read, write_refusal, stage_by_refusal}
+use Rattle.inodes.specs.Turning.{IsReadable, attribute_refusal, if_used, or_done, stage_by_attribute, stage_of_attribute, reply_of_look, reply_when_taken, stage_of_look, stage_when_taken, stage_of_read, write_refusal, stage_by_refusal}
 use Rattle.in_flight.specs.Looks.{AnswersNoFile}
 use Rattle.inodes.proofs.Standing.{StandsAt}
 use Rattle.inodes.proofs.Starting.{has_begun, has_none, few_reads}
@@ -33,7 +37,15 @@ makes_none form d (Read j off n) true i makes = absurd (cc makes)
 makes_none form d (Trunc j) true i makes = absurd (cc makes)
 makes_none form d (Remove j) true i makes = absurd (cc makes)
 makes_none form d (Stat j) true i makes = absurd (cc makes)
-makes_none form d (Links j n) true i makes = absurd (cc makes)
+makes_none form d (SetAttribute j a) true i makes = by_attribute a makes
+  where
+    by_size : (b : Bool) → is_making i (Some (or_done (cond b (Some BadOffset) None))) ≡ true → ⊥
+    by_size true makes = absurd (cc makes)
+    by_size false makes = absurd (cc makes)
+
+    by_attribute : (b : Attribute) → is_making i (Some (or_done (attribute_refusal d b))) ≡ true → ⊥
+    by_attribute (Links n) makes = absurd (cc makes)
+    by_attribute (Size n) makes = by_size (ltb d.size n) makes
 
 -- what a truncation holds of its own at its turn
 abbrev pub held_at_turn : Dinode → Bool → Held
@@ -49,6 +61,11 @@ grip_of_write : (k i : ℕ) (m : WriteState) (o : Option Reply) → grip_by (sta
 grip_of_write k i m None = refl
 grip_of_write k i m (Some reply) = refl
 
+-- and so has what sets an attribute
+grip_of_attribute : (k i j : ℕ) (d : Dinode) (o : Option Reply) → grip_by (stage_by_attribute k j d o) i ≡ Some (locked_grip k i)
+grip_of_attribute k i j d None = refl
+grip_of_attribute k i j d (Some reply) = refl
+
 -- and so where any operation goes at its turn
 pub grip_at_turn : (c : Extent) (d : Dinode) (k i : ℕ) (op : Op) (used : Bool) → grip_by (stage_when_taken c (if_used used d) k op) i ≡ Some (locked_grip k i)
 grip_at_turn c d k i op false = refl
@@ -58,7 +75,7 @@ grip_at_turn c d k i (Read j off n) true = grip_of_read k i (first_read c.form d
 grip_at_turn c d k i (Trunc j) true = refl
 grip_at_turn c d k i (Remove j) true = refl
 grip_at_turn c d k i (Stat j) true = refl
-grip_at_turn c d k i (Links j n) true = refl
+grip_at_turn c d k i (SetAttribute j a) true = grip_of_attribute k i j (with_value d a) (attribute_refusal d a)
 
 slot_of_read : (form : Form) (d : Dinode) (k off n : ℕ) (o : Option ReadState) → first_read form d off n ≡ o → (m : ReadState) → o ≡ Some m → slot_in m.target ≡ None
 slot_of_read form d k off n o first m is = ap slot_in (begins form d off n m (first ∙ is)).target ∙ first_slot form d (off / 1024)
@@ -81,6 +98,10 @@ left_of_write x c k i d off n e None few =
     omega (arith, ((fresh_next m i d off n e).steps), (branch_shallow e.form (off / 1024)), (writes_most e.form (blocks_behind m)), few)
 left_of_write x c k i d off n e (Some reply) few = omega arith
 
+left_of_attribute : (x : Image) (c k i : ℕ) (d : Dinode) (o : Option Reply) → steps_left x (stage_by_attribute k i d o) c ≤ 3
+left_of_attribute x c k i d None = omega arith
+left_of_attribute x c k i d (Some reply) = omega arith
+
 pub left_at_turn : (x : Image) (d : Dinode) (k n c : ℕ) (e : Extent) (op : Op) (used : Bool) → CanTake n op → (used ≡ true → HasFewAtTurn x d) → steps_left x (stage_when_taken e (if_used used d) k op) c ≤ most_behind (form_of x) + 1
 left_at_turn x d k n c e op false can few = omega arith
 left_at_turn x d k n c e (Create kind) true can few = omega arith
@@ -91,7 +112,8 @@ left_at_turn x d k n c e (Read j off count) true can few =
 left_at_turn x d k n c e (Trunc j) true can few = left_of_trunc x e.form e.bitmap c d k j false (few refl)
 left_at_turn x d k n c e (Remove j) true can few = left_of_trunc x e.form e.bitmap c d k j true (few refl)
 left_at_turn x d k n c e (Stat j) true can few = omega arith
-left_at_turn x d k n c e (Links j m) true can few = omega arith
+left_at_turn x d k n c e (SetAttribute j a) true can few =
+    omega (arith, (left_of_attribute x c k j (with_value d a) (attribute_refusal d a)), (most_elsewhere (form_of x)))
 
 -- it holds no other number
 none_of_read : (k j : ℕ) (op : Option Op) (o : Option ReadState) → claim_by op (stage_of_read k o) j ≡ None
@@ -105,6 +127,10 @@ none_of_write k i j op d off n e (Some reply) other = refl
 none_of_trunc : (i j : ℕ) (form : Form) (d : Dinode) (removes : Bool) (b : ℕ) → j ≢ i → (let m = first_trunc i d form removes b in let none : Option Claim = cond (eqb m.number j) (Some (frees (held_of m))) None in none) ≡ None
 none_of_trunc i j form d removes b other = rw (ne_eqb (first_trunc i d form removes b).number j (λ same. other (sym same ∙ first_number i d form removes b))) refl
 
+none_of_attribute : (k i j : ℕ) (op : Option Op) (d : Dinode) (o : Option Reply) → j ≢ i → claim_by op (stage_by_attribute k i d o) j ≡ None
+none_of_attribute k i j op d None other = rw (ne_eqb i j (λ same. other (sym same))) refl
+none_of_attribute k i j op d (Some reply) other = refl
+
 pub claims_at_turn : (o : Option Op) (c : Extent) (d : Dinode) (k : ℕ) (op : Op) (used : Bool) (j : ℕ) → j ≢ asked op → claim_by o (stage_when_taken c (if_used used d) k op) j ≡ None
 claims_at_turn o c d k op false j other = refl
 claims_at_turn o c d k (Create kind) true j other = refl
@@ -113,7 +139,7 @@ claims_at_turn o c d k (Read i off n) true j other = none_of_read k j o (first_r
 claims_at_turn o c d k (Trunc i) true j other = none_of_trunc i j c.form d false c.bitmap other
 claims_at_turn o c d k (Remove i) true j other = none_of_trunc i j c.form d true c.bitmap other
 claims_at_turn o c d k (Stat i) true j other = refl
-claims_at_turn o c d k (Links i n) true j other = rw (ne_eqb i j (λ same. other (sym same))) refl
+claims_at_turn o c d k (SetAttribute i a) true j other = none_of_attribute k i j o (with_value d a) (attribute_refusal d a) other
 
 claim_at_turn : (form : Form) (b : ℕ) (d : Dinode) (k i : ℕ) (removes : Bool) → claim_by None (Stage.Truncating k (first_freeing (first_trunc i d form removes b))) i ≡ Some (frees (held_at_turn d removes))
 claim_at_turn form b d k i removes =
@@ -137,6 +163,10 @@ stands_of_write b l n p t k i d off count e None few used =
     }
 stands_of_write b l n p t k i d off count e (Some reply) few used = tt
 
+stands_of_attribute : (b : Buffers) (l : LogState) (n p : ℕ) (t : Option Op) (k i : ℕ) (d : Dinode) (o : Option Reply) → used_by l p ≡ Some 0 → Stands b l n p t (stage_by_attribute k i d o)
+stands_of_attribute b l n p t k i d None used = record { used = used; holds = tt }
+stands_of_attribute b l n p t k i d (Some reply) used = tt
+
 pub stands_at_turn : (b : Buffers) (l : LogState) (n p : ℕ) (t : Option Op) (c : Extent) (d : Dinode) (k : ℕ) (op : Op) (used : Bool) → CanTake n op → IsOpenFor l p (Some op) → Stands b l n p t (stage_when_taken c (if_used used d) k op)
 stands_at_turn b l n p t c d k op false can open_for = tt
 stands_at_turn b l n p t c d k (Create kind) true can open_for = tt
@@ -145,7 +175,7 @@ stands_at_turn b l n p t c d k (Read i off count) true can open_for = stands_of_
 stands_at_turn b l n p t c d k (Trunc i) true can open_for = record { logged = inl open_for; holds = holds_kept b p (first_freeing (first_trunc i d c.form false c.bitmap)) refl tt tt }
 stands_at_turn b l n p t c d k (Remove i) true can open_for = record { logged = inl open_for; holds = holds_kept b p (first_freeing (first_trunc i d c.form true c.bitmap)) refl tt tt }
 stands_at_turn b l n p t c d k (Stat i) true can open_for = tt
-stands_at_turn b l n p t c d k (Links i m) true can open_for = record { used = open_for; holds = tt }
+stands_at_turn b l n p t c d k (SetAttribute i a) true can open_for = stands_of_attribute b l n p t k i (with_value d a) (attribute_refusal d a) open_for
 
 -- and so it has room in the log
 logged_of_write : (x : Image) (l : LogState) (p k i : ℕ) (d : Dinode) (off count : ℕ) (e : Extent) (o : Option Reply) → count ≤ 3072 → used_by l p ≡ Some 0
@@ -161,6 +191,10 @@ logged_of_read : (x : Image) (l : LogState) (p k : ℕ) (o : Option ReadState) �
 logged_of_read x l p k None = tt
 logged_of_read x l p k (Some m) = tt
 
+logged_of_attribute : (x : Image) (l : LogState) (p k i : ℕ) (d : Dinode) (o : Option Reply) → LoggedAt x l p (stage_by_attribute k i d o)
+logged_of_attribute x l p k i d None = tt
+logged_of_attribute x l p k i d (Some reply) = tt
+
 pub logged_at_turn : (x : Image) (l : LogState) (n p : ℕ) (c : Extent) (d : Dinode) (k : ℕ) (op : Op) (used : Bool) → CanTake n op → IsOpenFor l p (Some op) → LoggedAt x l p (stage_when_taken c (if_used used d) k op)
 logged_at_turn x l n p c d k op false can open_for = tt
 logged_at_turn x l n p c d k (Create kind) true can open_for = tt
@@ -169,7 +203,7 @@ logged_at_turn x l n p c d k (Read i off count) true can open_for = logged_of_re
 logged_at_turn x l n p c d k (Trunc i) true can open_for = tt
 logged_at_turn x l n p c d k (Remove i) true can open_for = tt
 logged_at_turn x l n p c d k (Stat i) true can open_for = tt
-logged_at_turn x l n p c d k (Links i m) true can open_for = tt
+logged_at_turn x l n p c d k (SetAttribute i a) true can open_for = logged_of_attribute x l p k i (with_value d a) (attribute_refusal d a)
 
 -- in a store whose process p takes its inode, which the image has as d
 module _ {D N : Type 0} {disk : Ghosts D N} {s : StoreState D} {p : ℕ} {op : Op} {m : LockState} (h : StandsAt disk s p (Stage.Taking m)) (is_op : (task s.tasks p).op ≡ Some op)
@@ -276,19 +310,48 @@ module _ {D N : Type 0} {disk : Ghosts D N} {s : StoreState D} {p : ℕ} {op : O
         fits_then files
         (turn_grows files cur (claims_of s.tasks) (claims_of (set s.tasks p u)) m.number off (fits_before files fits) (may_name_now h is_op, used) none within now).fits
 
-    -- and by the writing back of its inode with n links
-    begins_linking : (i n : ℕ) → n < 2 ^ 16 → i ≡ m.number → u.stage ≡ Stage.Linking k (with_count inode n) (first_update i) → inode.kind ≢ 0 → (files : Files) → FitsHeld files cur (claims_of s.tasks)
-        → FitsFiles disk.image t (files_linked files cur m.number n)
-    begins_linking i n few same_number there used files fits =
-        let d : Dinode = with_count inode n in
+    -- and by the writing back of its inode with an attribute
+    begins_setting : (i : ℕ) (v : Attribute) → IsAllowed inode v → i ≡ m.number → u.stage ≡ Stage.Setting k (with_value inode v) (first_update i) → inode.kind ≢ 0 → (files : Files) → FitsHeld files cur (claims_of s.tasks)
+        → FitsFiles disk.image t (files_set files cur m.number v)
+    begins_setting i v allowed same_number there used files fits =
+        let d : Dinode = with_value inode v in
         let own : claim_of u m.number ≡ Some (grows (unwritten d)) =
-        ap (λ (a : Stage). claim_by u.op a m.number) there ∙ ap (λ (j : ℕ). claim_by u.op (Stage.Linking k d (first_update i)) j) (sym same_number) ∙ own_links u.op k d (first_update i) in
+        ap (λ (a : Stage). claim_by u.op a m.number) there ∙ ap (λ (j : ℕ). claim_by u.op (Stage.Setting k d (first_update i)) j) (sym same_number) ∙ own_setting u.op k d (first_update i) in
         let others : (j : ℕ) → j ≢ m.number → claim_of u j ≡ claim_of (task s.tasks p) j =
         λ j other. ap (λ (a : Stage). claim_by u.op a j) there ∙ rw (ne_eqb i j (λ e. other (sym e ∙ same_number))) refl ∙ sym (holds_nothing j) in
         let now : IsClaimedNow (claims_of s.tasks) m.number (Some (grows (unwritten d))) (claims_of (set s.tasks p u)) =
         subst (λ (o : Option Claim). IsClaimedNow (claims_of s.tasks) m.number o (claims_of (set s.tasks p u))) own (claimed_now s.tasks p m.number u h.inside holds_alone others) in
-        fits_then (files_linked files cur m.number n)
-        (turn_links files cur (claims_of s.tasks) (claims_of (set s.tasks p u)) m.number n fits (may_name_now h is_op, used) none few now).fits
+        fits_then (files_set files cur m.number v)
+        (turn_sets files cur (claims_of s.tasks) (claims_of (set s.tasks p u)) m.number v fits (may_name_now h is_op, used) none allowed now).fits
+
+    -- an attribute that the inode can get is set
+    sets_turn : (i : ℕ) (v : Attribute) → IsAllowed inode v → i ≡ m.number → u.stage ≡ Stage.Setting k (with_value inode v) (first_update i) → inode.kind ≢ 0 → (files : Files) → FitsFiles disk.image s files
+        → TurnsTo (form_of cur) (SetAttribute i v) (Some Done) files (FitsFiles disk.image t)
+    sets_turn i v allowed same_number there used files fits =
+        let before = fits_before files fits in (
+          files_set files cur m.number v,
+          subst (λ (j : ℕ). after (form_of cur) files (SetAttribute j v) Done ≡ Some (files_set files cur m.number v)) (sym same_number)
+              (set_answers files cur (claims_of s.tasks) m.number v before (may_name_now h is_op, used) none allowed),
+          begins_setting i v allowed same_number there used files before,
+        )
+
+    -- a length behind the file's end is refused
+    size_turn : (i n : ℕ) → i ≡ m.number → inode.kind ≢ 0 → (files : Files) → FitsFiles disk.image s files → (b : Bool) → ltb inode.size n ≡ b
+        → u.stage ≡ stage_by_attribute k i (with_value inode (Size n)) (cond b (Some BadOffset) None)
+        → TurnsTo (form_of cur) (SetAttribute i (Size n)) (Some (or_done (cond b (Some BadOffset) None))) files (FitsFiles disk.image t)
+    size_turn i n same_number used files fits true behind there = (
+      files,
+      subst (λ (j : ℕ). after (form_of cur) files (SetAttribute j (Size n)) BadOffset ≡ Some files) (sym same_number)
+          (set_refuses files cur (claims_of s.tasks) m.number n (fits_before files fits) (may_name_now h is_op, used) none (ltb-true inode.size n behind)),
+      same (ap (λ (a : Stage). claim_by u.op a m.number) there) files fits,
+    )
+    size_turn i n same_number used files fits false within there =
+        sets_turn i (Size n) (ltb-false inode.size n within) same_number there used files fits
+
+    attribute_turn : (i : ℕ) (v : Attribute) → FitsField v → i ≡ m.number → inode.kind ≢ 0 → (files : Files) → FitsFiles disk.image s files → u.stage ≡ stage_of_attribute k i inode v
+        → TurnsTo (form_of cur) (SetAttribute i v) (Some (or_done (attribute_refusal inode v))) files (FitsFiles disk.image t)
+    attribute_turn i (Links n) few same_number used files fits there = sets_turn i (Links n) few same_number there used files fits
+    attribute_turn i (Size n) few same_number used files fits there = size_turn i n same_number used files fits (ltb inode.size n) refl there
 
     -- a write is refused, or begins
     write_turn : (i off : ℕ) (bytes : List ℕ) → length bytes ≤ transfer_limit → i ≡ m.number → inode.kind ≢ 0 → (files : Files) → FitsFiles disk.image s files
@@ -344,13 +407,7 @@ module _ {D N : Type 0} {disk : Ghosts D N} {s : StoreState D} {p : ℕ} {op : O
           (resting_tells files cur (claims_of s.tasks) m.number (fits_before files fits) (may_name_now h is_op, used) none).stat,
       same (ap (λ (a : Stage). claim_by u.op a m.number) there) files fits,
     )
-    used_turn (Links i n) allowed named there used files fits =
-        let before = fits_before files fits in (
-          files_linked files cur m.number n,
-          subst (λ (j : ℕ). after (form_of cur) files (Links j n) Done ≡ Some (files_linked files cur m.number n)) named
-              (link_answers files cur (claims_of s.tasks) m.number n before (may_name_now h is_op, used) none),
-          begins_linking i n allowed.1 (sym named) there used files before,
-        )
+    used_turn (SetAttribute i v) allowed named there used files fits = attribute_turn i v allowed.1 (sym named) used files fits there
 
     free_turn : (q : Op) → CanTake s.table.inode_count q → m.number ≡ asked q → u.stage ≡ Stage.Leaving k → inode.kind ≡ 0 → (files : Files) → FitsFiles disk.image s files
         → TurnsTo (form_of cur) q (Some NoFile) files (FitsFiles disk.image t)
@@ -370,7 +427,7 @@ module _ {D N : Type 0} {disk : Ghosts D N} {s : StoreState D} {p : ℕ} {op : O
         by_op (Trunc i) can_it named_it = subst (λ (j : ℕ). after (form_of cur) files (Trunc j) NoFile ≡ Some files) named_it tells.trunc
         by_op (Remove i) can_it named_it = subst (λ (j : ℕ). after (form_of cur) files (Remove j) NoFile ≡ Some files) named_it tells.remove
         by_op (Stat i) can_it named_it = subst (λ (j : ℕ). after (form_of cur) files (Stat j) NoFile ≡ Some files) named_it tells.stat
-        by_op (Links i n) can_it named_it = subst (λ (j : ℕ). after (form_of cur) files (Links j n) NoFile ≡ Some files) named_it (tells.links n)
+        by_op (SetAttribute i a) can_it named_it = subst (λ (j : ℕ). after (form_of cur) files (SetAttribute j a) NoFile ≡ Some files) named_it (tells.attribute a)
 
     pub files_at_turn : (used : Bool) → (used ≡ true → inode.kind ≢ 0) → (used ≡ false → inode.kind ≡ 0) → u.stage ≡ stage_when_taken extent (if_used used inode) k op → (files : Files) → FitsFiles disk.image s files
         → TurnsTo (form_of cur) op (reply_when_taken s.table.form (if_used used inode) op) files (FitsFiles disk.image t)
@@ -447,10 +504,11 @@ module _ {D N : Type 0} {disk : Ghosts D N} {s : StoreState D} {p : ℕ} {op : O
               (subst (λ (n : ℕ). HasComeTo cur w (next_place i inode (off + 0) n extent)) all (comes_next cur w (sym h.is.form) (may used).fit.fields.count (omega arith) (λ left. next_low w left fits)));
         }
 
-    links : (i n : ℕ) → op ≡ Links i n → (u : TaskState) → u.op ≡ Some op → IsLinking tab.inode_count u (with_count inode n) (first_update i)
-    links i n same u has =
-        let may_take : CanTake tab.inode_count (Links i n) = subst (λ (c : ℕ). CanTake c (Links i n)) (sym count) (subst (CanTake s.table.inode_count) same can) in
-        record { op = has ∙ ap Some same; number = may_take.0; fits = may_take.1 }
+    sets : (i : ℕ) (v : Attribute) → op ≡ SetAttribute i v → (u : TaskState) → u.op ≡ Some op → (o : Option Reply) → LooksAt cur tab u (stage_by_attribute k i (with_value inode v) o)
+    sets i v same u has None =
+        let may_take : CanTake tab.inode_count (SetAttribute i v) = subst (λ (c : ℕ). CanTake c (SetAttribute i v)) (sym count) (subst (CanTake s.table.inode_count) same can) in
+        record { attribute = v; op = has ∙ ap Some same; number = may_take.0; fits = may_take.1 }
+    sets i v same u has (Some refusal) = answered u has
 
     looks_used : (q : Op) → op ≡ q → inode.kind ≢ 0 → copy_at tab.places k ≡ Some inode → (u : TaskState) → u.op ≡ Some op → u.gathered ≡ (task s.tasks p).gathered → LooksAt cur tab u (stage_of_look extent inode k q)
     looks_used (Create kind) same used copy u has gathered = answered u has
@@ -459,7 +517,7 @@ module _ {D N : Type 0} {disk : Ghosts D N} {s : StoreState D} {p : ℕ} {op : O
     looks_used (Trunc i) same used copy u has gathered = truncates false i same (sym (ap asked same)) used u has
     looks_used (Remove i) same used copy u has gathered = truncates true i same (sym (ap asked same)) used u has
     looks_used (Stat i) same used copy u has gathered = answered u has
-    looks_used (Links i n) same used copy u has gathered = links i n same u has
+    looks_used (SetAttribute i v) same used copy u has gathered = sets i v same u has (attribute_refusal inode v)
 
     pub looks_at_turn : (used : Bool) → (used ≡ true → inode.kind ≢ 0) → (used ≡ true → copy_at tab.places k ≡ Some inode) → (u : TaskState) → u.op ≡ Some op → u.gathered ≡ (task s.tasks p).gathered
         → LooksAt cur tab u (stage_when_taken extent (if_used used inode) k op)

@@ -180,7 +180,7 @@ logged_alike cur l m q (Stage.Truncating k w) among same had = tt
 logged_alike cur l m q (Stage.Writing k w) among same had = λ homes used.
     let on : CountsOn l m = λ b. counts_more l m b (among homes b (sym same ∙ used)) in
     omega (arith, (had homes (sym same ∙ used)), (counted_more l m on (homes_beside cur w)), (on (at_hand w.at)))
-logged_alike cur l m q (Stage.Linking k d u) among same had = tt
+logged_alike cur l m q (Stage.Setting k d u) among same had = tt
 logged_alike cur l m q (Stage.Leaving k) among same had = tt
 
 -- one task is another

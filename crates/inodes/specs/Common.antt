@@ -47,7 +47,7 @@ pub use Rattle.in_flight.specs.Lemmas.HeldOutsideLog.{held_outside}
 pub use Rattle.in_flight.specs.Lemmas.KeptTrees.{SameInside}
 pub use Rattle.in_flight.specs.Lemmas.LeftInTrees.{alone, begun_left}
 pub use Rattle.in_flight.specs.Lemmas.LeftOnWays.{ahead_at, ahead_of, begun_alike, gives_on_way, passed_alike}
-pub use Rattle.in_flight.specs.Lemmas.Linking.{link_answers, link_rests, turn_links}
+pub use Rattle.in_flight.specs.Lemmas.Attributes.{set_answers, set_refuses, set_rests, turn_sets}
 pub use Rattle.in_flight.specs.Lemmas.Looks.{between}
 pub use Rattle.in_flight.specs.Lemmas.Placing.{address_placed, entry_placed, taken_lies}
 pub use Rattle.in_flight.specs.Lemmas.Remapped.{inode_same, IsMapped, mapped, test}
@@ -55,7 +55,7 @@ pub use Rattle.in_flight.specs.Lemmas.Turns.{entry_passed, turn_answers, turn_ho
 pub use Rattle.in_flight.specs.Lemmas.Ways.{ahead_root, entries_way_to, led_further, led_none, led_step, length-way_to}
 pub use Rattle.in_flight.specs.Lemmas.Wholes.{direct_depth, tree_depth}
 pub use Rattle.in_flight.specs.Lemmas.WriteBacks.{claim_fits, last_fields, write_back_rests}
-pub use Rattle.in_flight.specs.LinkLaws.{files_linked, unwritten, with_count}
+pub use Rattle.in_flight.specs.AttributeLaws.{files_set, unwritten, with_value}
 pub use Rattle.in_flight.specs.Loose.{Fits, LiesInData}
 pub use Rattle.in_flight.specs.Trees.{depth_of, entry_of, Gives, IsFirstTree, LeavesAlike, led_to, left_under, names_left, way_to}
 pub use Rattle.model.specs.Agreement.{IsSameOutsideLog}
@@ -80,7 +80,7 @@ pub use Rattle.model.specs.declared.types.image.File.{File}
 pub use Rattle.model.specs.declared.types.image.Form.{Form}
 pub use Rattle.model.specs.declared.types.image.Form.TheVariants.{One, Two}
 pub use Rattle.model.specs.declared.types.operations.Op.{Op}
-pub use Rattle.model.specs.declared.types.operations.Op.TheVariants.{Create, Links, Read, Remove, Stat, Trunc, Write}
+pub use Rattle.model.specs.declared.types.operations.Op.TheVariants.{Create, SetAttribute, Read, Remove, Stat, Trunc, Write}
 pub use Rattle.model.specs.declared.types.operations.Reply.{Reply}
 pub use Rattle.model.specs.declared.types.operations.Reply.TheVariants.{BadOffset, BadType, Bytes, Done, Made, NoFile, NoInode, StatOf, TooBig, TooLong, Wrote}
 pub use Rattle.model.specs.declared.types.operations.TaskProgress.{TaskProgress}
@@ -96,10 +96,10 @@ pub use Rattle.wal.specs.Volume.{cause_of_get, cause_to_get, FailsToFill, fault_
 pub use Rattle.wal.specs.declared.types.DeviceFault.{DeviceFault}
 pub use Rattle.inodes.specs.Creation.{AreUsed, is_free_in, lowest_free}
 pub use Rattle.inodes.specs.Freeing.{after_use, answer_by, block_by, block_next, Changes, entries_kept, first_freeing, FreesOn, GetsNext, got_in, got_or, HasBit, HasOne, HoldsBlocks, HoldsGot, image_by, IsGot, IsKept, kept_then, MayFree, MayGet, no_block_kept, now_by, now_of, slot_kept, taken, UsesBlock, when_got}
-pub use Rattle.inodes.specs.Goes.{FindsNone, free_at, GetsBlock, GivesUp, Goes, GoesFrom, IsTurn, LooksAtBlock, over, stage_by, stage_of_lock, stage_of_reading, stage_of_trunc, stage_of_writing, progress_by, progress_of_lock, progress_of_read, progress_of_search, progress_of_trunc, progress_of_write, Shown, shown_of, ShowsSame, table_by, table_of_trunc, table_of_writing, Truncates, WritesOn, LinksOn, progress_of_link, stage_of_linking, table_of_linking}
+pub use Rattle.inodes.specs.Goes.{FindsNone, free_at, GetsBlock, GivesUp, Goes, GoesFrom, IsTurn, LooksAtBlock, over, stage_by, stage_of_lock, stage_of_reading, stage_of_trunc, stage_of_writing, progress_by, progress_of_lock, progress_of_read, progress_of_search, progress_of_trunc, progress_of_write, Shown, shown_of, ShowsSame, table_by, table_of_trunc, table_of_writing, Truncates, WritesOn, SetsOn, progress_of_setting, stage_of_setting, table_of_setting}
 pub use Rattle.inodes.specs.Grips.{Grip, grip, HasNumber, HasPlaceForEach, HolderIsAnother, IsCopy, IsTable, IsTableAtOpening, KeepsTable, KeepsUsedInodes, KeptByImage, KeptByLeave, KeptByLock, KeptByRefer, KeptByRenew, locked_grip, LocksExclude, named, Stays, TableIs, unlocked_grip, with_grip}
 pub use Rattle.inodes.specs.Growing.{bytes_by, bytes_of, growth_of, HasComeTo, HasNoEntry, IsMapping, IsOnWay, next_block, taken_at, taken_by, taken_on_way, TakesIn}
-pub use Rattle.inodes.specs.Holding.{above_by, above_hand, AreGivenUp, block_of_got, claim_by, claim_of, claims_of, first_kept, hand_in, HasGivenUp, held_of, IsAtDirect, IsAtEntry, IsInHand, IsTruncating, Keeps, last_kept, made_so_far, one_for, root_of, stage_left, trunc_op, truncs_left, uses_left, way_of, IsLinking}
+pub use Rattle.inodes.specs.Holding.{above_by, above_hand, AreGivenUp, block_of_got, claim_by, claim_of, claims_of, first_kept, hand_in, HasGivenUp, held_of, IsAtDirect, IsAtEntry, IsInHand, IsTruncating, Keeps, last_kept, made_so_far, one_for, root_of, stage_left, trunc_op, truncs_left, uses_left, way_of, IsSetting}
 pub use Rattle.inodes.specs.Ialloc.{at_next_block, at_slot, BuffersAfter, current_after, fault_in, finds, is_last_block, IsFree, IsReady, log_after, MayStep, OnMore, SearchGoes, SearchLocks, SearchState, SearchSteps, SeesNoneFree, with_new_inode, with_released}
 pub use Rattle.inodes.specs.Ilock.{at_lock, Locks, LockSteps, MayLock, MayLockAt, ReadsInode, Refers}
 pub use Rattle.inodes.specs.Itrunc.{address_left, address_or_on, after_trunc, at_address, at_block, at_branches, at_entries, branch_or_on, entry_or_on, first_trunc, FitsAt, freed_by, hand_by, inode_left, inode_without, IsBelow, last_inode_of, leads_to_data, left_by, present_from, unbegun}
@@ -109,7 +109,7 @@ pub use Rattle.inodes.specs.Looks.{AreLooking, CanLook, CanTake, HasAllRead, Has
 pub use Rattle.inodes.specs.Stages.{asked, asked_by, block_at_stage, grip_at, grip_by, grip_of, grips_of, HasSlot, is_over, is_unturned, looks_left, most_behind, owes_reply, steps_left}
 pub use Rattle.inodes.specs.Readi.{first_read, Gathers, HasRoomLeft, is_done, IsMade, IsReading, reads_left, ReadState, ReadSteps, Works}
 pub use Rattle.inodes.specs.Steps.{Commits, is_made, IsHeldByAnother, LeavesLate, LeavesNumber, LeavesShares, Reads, SameShare, Steps, Waits, LogsBlock, LogsAtMost}
-pub use Rattle.inodes.specs.Store.{Agrees, CanBegin, current_of, first_stage, first_taking, HasLogged, HaveLogged, HoldsAt, HoldsForFreeing, HoldsForWriting, IsOpenFor, IsSearching, IsStore, LoggedAt, reply_of, Stands, StoreState, with_begun, HoldsForLinking}
+pub use Rattle.inodes.specs.Store.{Agrees, CanBegin, current_of, first_stage, first_taking, HasLogged, HaveLogged, HoldsAt, HoldsForFreeing, HoldsForWriting, IsOpenFor, IsSearching, IsStore, LoggedAt, reply_of, Stands, StoreState, with_begun, HoldsForSetting}
 pub use Rattle.inodes.specs.Table.{AreCounted, copy_at, copy_in, entry_at, HasNot, HasPlace, HasPlaceFor, holder_at, holder_in, is_of, IsNumbered, kept, left, locked, new_table, or_else, place_for, references_at, references_in, referred, renewed, TableState, with_copy, with_holder, with_reference, without_reference}
 pub use Rattle.inodes.specs.Tasks.{no_task, task, TaskState}
 pub use Rattle.inodes.specs.Writei.{first_write, MapsOn, MayWrite, MayWriteAt, next_byte, next_place, piece, piece_of, place_of_mapped, with_piece, with_written, write_mapped, WritesNext, WriteState, WriteSteps}

@@ -54,7 +54,7 @@ deed_at_stage (Stage.Reading k m) = Some (deed_of_target m.target)
 deed_at_stage (Stage.Delivering k) = Some TaskDeed.Finish
 deed_at_stage (Stage.Truncating k m) = Some (deed_of_freeing m)
 deed_at_stage (Stage.Writing k m) = Some (deed_of_write m.at)
-deed_at_stage (Stage.Linking k d u) = Some (deed_of_update u)
+deed_at_stage (Stage.Setting k d u) = Some (deed_of_update u)
 deed_at_stage (Stage.Leaving k) = Some TaskDeed.Put
 
 -- what the next step of process p's task does; none where the process has no task

@@ -248,27 +248,27 @@ pub record WritesOn {D N : Type 0} (disk : Ghosts D N) (s : StoreState D) (p k :
   pub bytes : (task t.tasks p).gathered ≡ (task s.tasks p).gathered
 
 -- what a step of writing an inode back is to the task, which has its reply
-abbrev pub progress_of_link : Progress (Unit {0}) → TaskProgress
-progress_of_link r = progress_by (λ out. TaskProgress.Moved) r
+abbrev pub progress_of_setting : Progress (Unit {0}) → TaskProgress
+progress_of_setting r = progress_by (λ out. TaskProgress.Moved) r
 
 -- where the task stands then
-abbrev pub stage_of_linking : ℕ → Dinode → UpdateState → UpdateState → Progress (Unit {0}) → Stage
-stage_of_linking k d u v r =
-    stage_by (Stage.Linking k d u) (Stage.Linking k d v) (λ out. Stage.Leaving k) r
+abbrev pub stage_of_setting : ℕ → Dinode → UpdateState → UpdateState → Progress (Unit {0}) → Stage
+stage_of_setting k d u v r =
+    stage_by (Stage.Setting k d u) (Stage.Setting k d v) (λ out. Stage.Leaving k) r
 
 -- and the table: with the last step it has the inode that was written
-abbrev pub table_of_linking : TableState → ℕ → Dinode → Progress (Unit {0}) → TableState
-table_of_linking t k d r = table_by t (λ out. renewed t k (Some d)) r
+abbrev pub table_of_setting : TableState → ℕ → Dinode → Progress (Unit {0}) → TableState
+table_of_setting t k d r = table_by t (λ out. renewed t k (Some d)) r
 
--- a step of writing back an inode with another count of links, which stands at place k of the table
-pub record LinksOn {D N : Type 0} (disk : Ghosts D N) (s : StoreState D) (p k : ℕ) (d : Dinode)
+-- a step of writing back an inode with an attribute set, which stands at place k of the table
+pub record SetsOn {D N : Type 0} (disk : Ghosts D N) (s : StoreState D) (p k : ℕ) (d : Dinode)
     (u : UpdateState) (r : TaskProgress) (t : StoreState D) : Type 0 where
   pub answer : Progress (Unit {0})
   pub now : UpdateState
   pub updates : Updates disk u.slot s.volume p u d answer now t.volume
-  pub gives : r ≡ progress_of_link answer
-  pub next : (task t.tasks p).stage ≡ stage_of_linking k d u now answer
-  pub table : t.table ≡ table_of_linking s.table k d answer
+  pub gives : r ≡ progress_of_setting answer
+  pub next : (task t.tasks p).stage ≡ stage_of_setting k d u now answer
+  pub table : t.table ≡ table_of_setting s.table k d answer
   pub bytes : (task t.tasks p).gathered ≡ (task s.tasks p).gathered
 
 -- the task gives up the inode at place k, and is over, without bytes
@@ -305,5 +305,5 @@ Goes disk (Stage.Reading k m) s p op r t = ReadsOn disk s p k m r t × ShowsSame
 Goes disk (Stage.Delivering k) s p op r t = Delivers s p k r t
 Goes disk (Stage.Truncating k m) s p op r t = Truncates disk s p k m r t
 Goes disk (Stage.Writing k m) s p op r t = WritesOn disk s p k op m r t
-Goes disk (Stage.Linking k d u) s p op r t = LinksOn disk s p k d u r t
+Goes disk (Stage.Setting k d u) s p op r t = SetsOn disk s p k d u r t
 Goes disk (Stage.Leaving k) s p op r t = (r ≡ TaskProgress.Over) × GivesUp s p k t

@@ -4,7 +4,7 @@ use Rattle.blocks.specs.Disk.{Image, block_at}
 use Rattle.blocks.specs.Block.{block_size, zero_block}
 use Rattle.model.specs.declared.types.image.Dinode.{Dinode}
 use Rattle.model.specs.declared.types.operations.Op.{Op}
-use Rattle.model.specs.declared.types.operations.Op.TheVariants.{Create, Write, Read, Trunc, Remove, Stat, Links}
+use Rattle.model.specs.declared.types.operations.Op.TheVariants.{Create, Write, Read, Trunc, Remove, Stat, SetAttribute}
 use Rattle.model.specs.Places.{address_in}
 use Rattle.in_flight.specs.Held.{Growth}
 use Rattle.blockmap.specs.Balloc.{AllocState}
@@ -26,7 +26,7 @@ bytes_of (Read i off n) = []
 bytes_of (Trunc i) = []
 bytes_of (Remove i) = []
 bytes_of (Stat i) = []
-bytes_of (Links i n) = []
+bytes_of (SetAttribute i a) = []
 
 abbrev pub bytes_by : Option Op → List ℕ
 bytes_by None = []

@@ -5,11 +5,13 @@ use Rattle.blocks.specs.Disk.{Image}
 use Rattle.model.specs.Layout.{direct_count, form_of, bitmap_block}
 use Rattle.model.specs.Format.{addresses_per_block}
 use Rattle.model.specs.declared.types.image.Dinode.{Dinode}
+use Rattle.model.specs.declared.types.operations.Attribute.{Attribute}
+use Rattle.model.specs.declared.types.operations.Attribute.TheVariants.{Links, Size}
 use Rattle.model.specs.declared.types.operations.Op.{Op}
-use Rattle.model.specs.declared.types.operations.Op.TheVariants.{Trunc, Remove, Links}
+use Rattle.model.specs.declared.types.operations.Op.TheVariants.{Trunc, Remove, SetAttribute}
 use Rattle.model.specs.Journal.{is_number}
 use Rattle.in_flight.specs.Held.{Held, Claims, Claim, frees, grows, listed, blocks_left}
-use Rattle.in_flight.specs.LinkLaws.{unwritten}
+use Rattle.in_flight.specs.AttributeLaws.{unwritten}
 use Rattle.in_flight.specs.Trees.{depth_of, entry_of, led_to}
 use Rattle.inodes.specs.declared.freeing.Kept.{Kept}
 use Rattle.inodes.specs.declared.freeing.Got.{Got}
@@ -45,7 +47,7 @@ claim_by op (Stage.Truncating k m) i =
     if m.machine.number == i then Some (frees (held_of m.machine)) else None
 claim_by op (Stage.Writing k m) i =
     if m.number == i then Some (grows (growth_of m (bytes_by op))) else None
-claim_by op (Stage.Linking k d u) i =
+claim_by op (Stage.Setting k d u) i =
     if u.number == i then Some (grows (unwritten d)) else None
 claim_by op (Stage.Leaving k) i = None
 
@@ -150,11 +152,17 @@ pub record IsTruncating (cur : Image) (n : ℕ) (t : TaskState) (m : Freeing) : 
   pub given : HasGivenUp cur m.machine m.machine.at
   pub keeps : Keeps cur m.kept m.machine m.machine.at
 
--- a task gives a file another count of links: the inode with it is written back
-pub record IsLinking (n : ℕ) (t : TaskState) (d : Dinode) (u : UpdateState) : Type 0 where
-  pub op : t.op ≡ Some (Links u.number d.nlink)
+-- a value that its field of an inode has room for
+abbrev pub FitsField : Attribute → Type 0
+FitsField (Links n) = n < 2 ^ 16
+FitsField (Size n) = Unit {0}
+
+-- a task sets an attribute of a file: the inode with it is written back
+pub record IsSetting (n : ℕ) (t : TaskState) (u : UpdateState) : Type 0 where
+  pub attribute : Attribute
+  pub op : t.op ≡ Some (SetAttribute u.number attribute)
   pub number : IsTrue (is_number n u.number)
-  pub fits : d.nlink < 2 ^ 16
+  pub fits : FitsField attribute
 
 -- ---- how much is left
 

@@ -47,13 +47,13 @@ pub record WritesInPlace {D N : Type 0} (disk : Ghosts D N) (v : VolumeState D)
   pub writes : WriteSteps disk m.at v p m bytes r now w
   pub tasks : us ≡ slice_set ts p (record (task ts p) { stage = Stage.Writing k now })
 
--- a writing back of an inode with another count of links
-pub record LinksInPlace {D N : Type 0} (disk : Ghosts D N) (v : VolumeState D)
+-- a writing back of an inode with an attribute set
+pub record SetsInPlace {D N : Type 0} (disk : Ghosts D N) (v : VolumeState D)
     (ts : List TaskState) (p k : ℕ) (d : Dinode) (u : UpdateState) (r : Progress (Unit {0}))
     (us : List TaskState) (w : VolumeState D) : Type 0 where
   pub now : UpdateState
   pub updates : Updates disk u.slot v p u d r now w
-  pub tasks : us ≡ slice_set ts p (record (task ts p) { stage = Stage.Linking k d now })
+  pub tasks : us ≡ slice_set ts p (record (task ts p) { stage = Stage.Setting k d now })
 
 -- the freeing that a task is at, if it is at one
 abbrev pub freeing_at : Stage → Option Freeing
@@ -64,7 +64,7 @@ freeing_at (Stage.Reading k m) = None
 freeing_at (Stage.Delivering k) = None
 freeing_at (Stage.Truncating k m) = Some m
 freeing_at (Stage.Writing k m) = None
-freeing_at (Stage.Linking k d u) = None
+freeing_at (Stage.Setting k d u) = None
 freeing_at (Stage.Leaving k) = None
 
 -- the writing that a task is at, if it is at one
@@ -76,5 +76,5 @@ writing_at (Stage.Reading k m) = None
 writing_at (Stage.Delivering k) = None
 writing_at (Stage.Truncating k m) = None
 writing_at (Stage.Writing k m) = Some m
-writing_at (Stage.Linking k d u) = None
+writing_at (Stage.Setting k d u) = None
 writing_at (Stage.Leaving k) = None

@@ -5,7 +5,7 @@ use Rattle.blocks.specs.Disk.{Image}
 use Rattle.blocks.specs.Block.{block_size}
 use Rattle.model.specs.declared.types.image.Dinode.{Dinode}
 use Rattle.model.specs.declared.types.operations.Op.{Op}
-use Rattle.model.specs.declared.types.operations.Op.TheVariants.{Create, Write, Read, Trunc, Remove, Stat, Links}
+use Rattle.model.specs.declared.types.operations.Op.TheVariants.{Create, Write, Read, Trunc, Remove, Stat, SetAttribute}
 use Rattle.model.specs.Files.{Files, bytes_in}
 use Rattle.model.specs.Gathered.{GatheredBytes}
 use Rattle.model.specs.Journal.{is_number}
@@ -15,7 +15,7 @@ use Rattle.in_flight.specs.Held.{Claims, FitsHeld}
 use Rattle.blockmap.specs.Target.{LeadsToBlock}
 use Rattle.inodes.specs.declared.tasks.Stage.{Stage}
 use Rattle.inodes.specs.Grips.{HasNumber, TableIs}
-use Rattle.inodes.specs.Holding.{IsLinking, IsTruncating, claims_of}
+use Rattle.inodes.specs.Holding.{FitsField, IsSetting, IsTruncating, claims_of}
 use Rattle.inodes.specs.LockState.{LockState}
 use Rattle.inodes.specs.Stages.{asked, grips_of}
 use Rattle.inodes.specs.Readi.{ReadState}
@@ -32,10 +32,10 @@ CanLook n (Read i off count) = IsTrue (is_number n i) × (count ≤ transfer_lim
 CanLook n (Trunc i) = ⊥
 CanLook n (Remove i) = ⊥
 CanLook n (Stat i) = IsTrue (is_number n i)
-CanLook n (Links i m) = ⊥
+CanLook n (SetAttribute i a) = ⊥
 
 -- an operation that takes the inode of a number that operations may name: one that looks at its
--- file, or frees its blocks, or writes no more bytes than there may be at once, or sets its links
+-- file, or frees its blocks, or writes no more bytes than there may be at once, or sets an attribute
 abbrev pub CanTake : ℕ → Op → Type 0
 CanTake n (Create kind) = ⊥
 CanTake n (Write i off bytes) = IsTrue (is_number n i) × (length bytes ≤ transfer_limit)
@@ -43,7 +43,7 @@ CanTake n (Read i off count) = IsTrue (is_number n i) × (count ≤ transfer_lim
 CanTake n (Trunc i) = IsTrue (is_number n i)
 CanTake n (Remove i) = IsTrue (is_number n i)
 CanTake n (Stat i) = IsTrue (is_number n i)
-CanTake n (Links i m) = IsTrue (is_number n i) × (m < 2 ^ 16)
+CanTake n (SetAttribute i a) = IsTrue (is_number n i) × FitsField a
 
 -- a reading has room for as many bytes as it asks for, and none so far
 abbrev pub HasRoom : Op → Option GatheredBytes → Type 0
@@ -53,7 +53,7 @@ HasRoom (Read i off count) g = g ≡ Some (record { bytes = []; room = count })
 HasRoom (Trunc i) g = g ≡ None
 HasRoom (Remove i) g = g ≡ None
 HasRoom (Stat i) g = g ≡ None
-HasRoom (Links i m) g = g ≡ None
+HasRoom (SetAttribute i a) g = g ≡ None
 
 -- an operation takes its inode
 pub record IsTaking (n : ℕ) (t : TaskState) (m : LockState) : Type 0 where
@@ -125,7 +125,7 @@ LooksAt cur i t (Stage.Reading k m) = IsAtRead cur i.inode_count (copy_at i.plac
 LooksAt cur i t (Stage.Delivering k) = HasAllRead cur i.inode_count (copy_at i.places k) t
 LooksAt cur i t (Stage.Truncating k m) = IsTruncating cur i.inode_count t m
 LooksAt cur i t (Stage.Writing k m) = IsWriting cur i.inode_count t m
-LooksAt cur i t (Stage.Linking k d u) = IsLinking i.inode_count t d u
+LooksAt cur i t (Stage.Setting k d u) = IsSetting i.inode_count t u
 LooksAt cur i t (Stage.Leaving k) = WasAnswered i.inode_count t
 
 -- the image stands for some files, where tasks hold numbers so

@@ -3,7 +3,7 @@ use Rattle.std.specs.Prelude.{◌≡◌, ◌⊎◌, ℕ, ◌+◌, ◌-◌, ◌*�
 use Rattle.blocks.specs.Disk.{Image}
 use Rattle.model.specs.declared.types.image.Form.{Form}
 use Rattle.model.specs.declared.types.operations.Op.{Op}
-use Rattle.model.specs.declared.types.operations.Op.TheVariants.{Create, Write, Read, Trunc, Remove, Stat, Links}
+use Rattle.model.specs.declared.types.operations.Op.TheVariants.{Create, Write, Read, Trunc, Remove, Stat, SetAttribute}
 use Rattle.model.specs.Layout.{form_of, inode_block}
 use Rattle.in_flight.specs.Held.{most_left}
 use Rattle.blockmap.specs.Target.{block_of, slot_in}
@@ -25,7 +25,7 @@ asked (Read i off n) = i
 asked (Trunc i) = i
 asked (Remove i) = i
 asked (Stat i) = i
-asked (Links i n) = i
+asked (SetAttribute i a) = i
 
 abbrev pub asked_by : Option Op → ℕ
 asked_by None = 0
@@ -40,7 +40,7 @@ is_over (Stage.Reading k m) = false
 is_over (Stage.Delivering k) = false
 is_over (Stage.Truncating k m) = false
 is_over (Stage.Writing k m) = false
-is_over (Stage.Linking k d u) = false
+is_over (Stage.Setting k d u) = false
 is_over (Stage.Leaving k) = false
 
 -- a task that stands there has not had its turn
@@ -52,7 +52,7 @@ is_unturned (Stage.Reading k m) = false
 is_unturned (Stage.Delivering k) = false
 is_unturned (Stage.Truncating k m) = false
 is_unturned (Stage.Writing k m) = false
-is_unturned (Stage.Linking k d u) = false
+is_unturned (Stage.Setting k d u) = false
 is_unturned (Stage.Leaving k) = false
 
 -- a task that stands there has got slot i
@@ -65,7 +65,7 @@ HasSlot (Stage.Delivering k) i = None ≡ Some i
 HasSlot (Stage.Truncating k m) i = IsGot m.kept (now_of m) i
 HasSlot (Stage.Writing k m) i =
     (kept_by_write m.at ≡ Some i) ⊎ (used_by_write m.at ≡ Some i)
-HasSlot (Stage.Linking k d u) i = u.slot ≡ Some i
+HasSlot (Stage.Setting k d u) i = u.slot ≡ Some i
 HasSlot (Stage.Leaving k) i = None ≡ Some i
 
 -- the block that a task gets or uses next
@@ -77,7 +77,7 @@ block_at_stage (Stage.Reading k m) = block_of m.target
 block_at_stage (Stage.Delivering k) = 0
 block_at_stage (Stage.Truncating k m) = block_next m
 block_at_stage (Stage.Writing k m) = block_of_write m.at
-block_at_stage (Stage.Linking k d u) = inode_block u.number
+block_at_stage (Stage.Setting k d u) = inode_block u.number
 block_at_stage (Stage.Leaving k) = 0
 
 -- what a process has of an inode that it takes
@@ -95,7 +95,7 @@ grip_by (Stage.Reading k m) i = Some (locked_grip k i)
 grip_by (Stage.Delivering k) i = Some (locked_grip k i)
 grip_by (Stage.Truncating k m) i = Some (locked_grip k i)
 grip_by (Stage.Writing k m) i = Some (locked_grip k i)
-grip_by (Stage.Linking k d u) i = Some (locked_grip k i)
+grip_by (Stage.Setting k d u) i = Some (locked_grip k i)
 grip_by (Stage.Leaving k) i = Some (locked_grip k i)
 
 abbrev pub grip_of : TaskState → Option Grip
@@ -113,7 +113,7 @@ owes_reply (Stage.Reading k m) = true
 owes_reply (Stage.Delivering k) = true
 owes_reply (Stage.Truncating k m) = false
 owes_reply (Stage.Writing k m) = true
-owes_reply (Stage.Linking k d u) = false
+owes_reply (Stage.Setting k d u) = false
 owes_reply (Stage.Leaving k) = false
 
 -- the steps of a search at the block that it looks at: it has to be got, and looked at
@@ -135,5 +135,5 @@ steps_left x (Stage.Reading k m) n = reads_left m + 1
 steps_left x (Stage.Delivering k) n = 1
 steps_left x (Stage.Truncating k m) n = truncs_left x m + 1
 steps_left x (Stage.Writing k m) n = writes_left m + 1
-steps_left x (Stage.Linking k d u) n = uses_left u.slot + 1
+steps_left x (Stage.Setting k d u) n = uses_left u.slot + 1
 steps_left x (Stage.Leaving k) n = 1

@@ -3,7 +3,7 @@ use Rattle.std.specs.Prelude.{◌≡◌, ◌⊎◌, true, ◌<◌, ◌≤◌, �
 use Rattle.blocks.specs.Disk.{Image}
 use Rattle.model.specs.Format.{inode_start}
 use Rattle.model.specs.declared.types.operations.Op.{Op}
-use Rattle.model.specs.declared.types.operations.Op.TheVariants.{Create, Write, Read, Trunc, Remove, Stat, Links}
+use Rattle.model.specs.declared.types.operations.Op.TheVariants.{Create, Write, Read, Trunc, Remove, Stat, SetAttribute}
 use Rattle.model.specs.declared.types.operations.Reply.{Reply}
 use Rattle.model.specs.declared.types.operations.Reply.TheVariants.{Made, NoInode}
 use Rattle.model.specs.Files.{Files}
@@ -25,7 +25,7 @@ use Rattle.inodes.specs.Ialloc.{SearchState}
 use Rattle.inodes.specs.Iupdate.{UpdateState}
 use Rattle.inodes.specs.declared.ilock.LockAt.{LockAt}
 use Rattle.inodes.specs.declared.tasks.Stage.{Stage}
-use Rattle.inodes.specs.Holding.{claims_of}
+use Rattle.inodes.specs.Holding.{FitsField, claims_of}
 use Rattle.inodes.specs.LockState.{slot_of}
 use Rattle.inodes.specs.Looks.{AreLooking}
 use Rattle.inodes.specs.Stages.{asked, HasSlot}
@@ -81,7 +81,7 @@ CanBegin n (Read i off count) = ⊥
 CanBegin n (Trunc i) = IsTrue (is_number n i)
 CanBegin n (Remove i) = IsTrue (is_number n i)
 CanBegin n (Stat i) = ⊥
-CanBegin n (Links i m) = IsTrue (is_number n i) × (m < 2 ^ 16)
+CanBegin n (SetAttribute i a) = IsTrue (is_number n i) × FitsField a
 
 -- the stage of an operation that takes the inode of a number
 abbrev pub first_taking : ℕ → Stage
@@ -100,7 +100,7 @@ first_stage (Read i off m) n = Stage.Nowhere
 first_stage (Trunc i) n = first_taking i
 first_stage (Remove i) n = first_taking i
 first_stage (Stat i) n = Stage.Nowhere
-first_stage (Links i m) n = first_taking i
+first_stage (SetAttribute i a) n = first_taking i
 
 -- what a creation answers whose search came to a number, or to none
 abbrev pub reply_of : Option ℕ → Reply
@@ -158,7 +158,7 @@ IsOpenFor l p (Some (Read i off n)) = Unit {0}
 IsOpenFor l p (Some (Trunc i)) = used_by l p ≡ Some 0
 IsOpenFor l p (Some (Remove i)) = used_by l p ≡ Some 0
 IsOpenFor l p (Some (Stat i)) = Unit {0}
-IsOpenFor l p (Some (Links i m)) = used_by l p ≡ Some 0
+IsOpenFor l p (Some (SetAttribute i a)) = used_by l p ≡ Some 0
 
 -- an operation that frees blocks added the bitmap's block at most
 abbrev pub HasLogged : LogState → ℕ → ℕ → Type 0
@@ -177,8 +177,8 @@ pub record HoldsForWriting (c : Buffers) (l : LogState) (p : ℕ) (m : WriteStat
   pub kept : HoldsAt c p (node_of_write m.at) (kept_by_write m.at)
   pub used : HoldsAt c p (block_of_write m.at) (used_by_write m.at)
 
--- and one that gives a file another count of links has added nothing yet
-pub record HoldsForLinking (c : Buffers) (l : LogState) (p : ℕ) (u : UpdateState) : Type 0 where
+-- and one that sets an attribute has added nothing yet
+pub record HoldsForSetting (c : Buffers) (l : LogState) (p : ℕ) (u : UpdateState) : Type 0 where
   pub used : used_by l p ≡ Some 0
   pub holds : HoldsAt c p (inode_block u.number) u.slot
 
@@ -192,7 +192,7 @@ Stands c l n p o (Stage.Reading k m) = HoldsAt c p (block_of m.target) (slot_in 
 Stands c l n p o (Stage.Delivering k) = Unit {0}
 Stands c l n p o (Stage.Truncating k m) = HoldsForFreeing c l p m
 Stands c l n p o (Stage.Writing k m) = HoldsForWriting c l p m
-Stands c l n p o (Stage.Linking k d u) = HoldsForLinking c l p u
+Stands c l n p o (Stage.Setting k d u) = HoldsForSetting c l p u
 Stands c l n p o (Stage.Leaving k) = Unit {0}
 
 -- what a process's task has logged, by where it stands
@@ -204,7 +204,7 @@ LoggedAt cur l p (Stage.Reading k m) = Unit {0}
 LoggedAt cur l p (Stage.Delivering k) = Unit {0}
 LoggedAt cur l p (Stage.Truncating k m) = Unit {0}
 LoggedAt cur l p (Stage.Writing k m) = HasLoggedWrite cur l p m
-LoggedAt cur l p (Stage.Linking k d u) = Unit {0}
+LoggedAt cur l p (Stage.Setting k d u) = Unit {0}
 LoggedAt cur l p (Stage.Leaving k) = Unit {0}
 
 abbrev pub HaveLogged : Image → LogState → List TaskState → Type 0

@@ -3,11 +3,13 @@ use Rattle.std.specs.Prelude.{◌≡◌, ◌≤◌, ℕ, ◌+◌, nat_lt, if◌t
 use Rattle.model.specs.Layout.{greatest_size}
 use Rattle.model.specs.declared.types.image.Form.{Form}
 use Rattle.model.specs.declared.types.image.Dinode.{Dinode}
+use Rattle.model.specs.declared.types.operations.Attribute.{Attribute}
+use Rattle.model.specs.declared.types.operations.Attribute.TheVariants.{Links, Size}
 use Rattle.model.specs.declared.types.operations.Op.{Op}
-use Rattle.model.specs.declared.types.operations.Op.TheVariants.{Create, Write, Read, Trunc, Remove, Stat, Links}
+use Rattle.model.specs.declared.types.operations.Op.TheVariants.{Create, Write, Read, Trunc, Remove, Stat, SetAttribute}
 use Rattle.model.specs.declared.types.operations.Reply.{Reply}
 use Rattle.model.specs.declared.types.operations.Reply.TheVariants.{Done, StatOf, NoFile, BadOffset, TooBig}
-use Rattle.in_flight.specs.LinkLaws.{with_count}
+use Rattle.in_flight.specs.AttributeLaws.{with_value}
 use Rattle.inodes.specs.declared.tasks.Stage.{Stage}
 use Rattle.inodes.specs.declared.writei.Extent.{Extent}
 use Rattle.inodes.specs.Freeing.{first_freeing}
@@ -29,6 +31,15 @@ write_refusal form d off n =
     else if nat_lt (greatest_size form) (off + n) then Some TooBig
     else None
 
+-- the refusal of a length behind the file's end
+abbrev pub attribute_refusal : Dinode → Attribute → Option Reply
+attribute_refusal d (Links n) = None
+attribute_refusal d (Size n) = if nat_lt d.size n then Some BadOffset else None
+
+abbrev pub or_done : Option Reply → Reply
+or_done None = Done
+or_done (Some refusal) = refusal
+
 -- the reply of an operation that has taken a used inode of an image of that form; a reading's comes
 -- later, and that of a write that is not refused
 abbrev pub reply_of_look : Form → Dinode → Op → Option Reply
@@ -38,7 +49,7 @@ reply_of_look form d (Read i off n) = None
 reply_of_look form d (Trunc i) = Some Done
 reply_of_look form d (Remove i) = Some Done
 reply_of_look form d (Stat i) = Some (StatOf d.kind d.nlink d.size)
-reply_of_look form d (Links i n) = Some Done
+reply_of_look form d (SetAttribute i a) = Some (or_done (attribute_refusal d a))
 
 -- and of one that has taken its inode, which is none where it is free
 abbrev pub reply_when_taken : Form → Option Dinode → Op → Option Reply
@@ -59,8 +70,16 @@ abbrev pub stage_of_write : ℕ → ℕ → Dinode → ℕ → ℕ → Extent �
 stage_of_write k i d off n e =
     stage_by_refusal k (first_write i d off n e) (write_refusal e.form d off n)
 
+-- an attribute is refused, or the inode with it is written back
+abbrev pub stage_by_attribute : ℕ → ℕ → Dinode → Option Reply → Stage
+stage_by_attribute k i d None = Stage.Setting k d (first_update i)
+stage_by_attribute k i d (Some refusal) = Stage.Leaving k
+
+abbrev pub stage_of_attribute : ℕ → ℕ → Dinode → Attribute → Stage
+stage_of_attribute k i d a = stage_by_attribute k i (with_value d a) (attribute_refusal d a)
+
 -- it is answered, or reads, or frees the blocks of its file, or writes into it, over an image that
--- takes its blocks there, or sets its links
+-- takes its blocks there, or sets an attribute
 abbrev pub stage_of_look : Extent → Dinode → ℕ → Op → Stage
 stage_of_look e d k (Create kind) = Stage.Leaving k
 stage_of_look e d k (Write i off bytes) = stage_of_write k i d off (length bytes) e
@@ -70,7 +89,7 @@ stage_of_look e d k (Trunc i) =
 stage_of_look e d k (Remove i) =
     Stage.Truncating k (first_freeing (first_trunc i d e.form true e.bitmap))
 stage_of_look e d k (Stat i) = Stage.Leaving k
-stage_of_look e d k (Links i n) = Stage.Linking k (with_count d n) (first_update i)
+stage_of_look e d k (SetAttribute i a) = stage_of_attribute k i d a
 
 -- where it goes, with the inode at that place of the table
 abbrev pub stage_when_taken : Extent → Option Dinode → ℕ → Op → Stage

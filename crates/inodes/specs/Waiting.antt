@@ -63,7 +63,7 @@ cause_at c t (Stage.Reading k m) =
 cause_at c t (Stage.Delivering k) = None
 cause_at c t (Stage.Truncating k m) = cause_to_get c (unless_got (slot_kept (now_of m)) (block_next m))
 cause_at c t (Stage.Writing k m) = cause_to_get c (wanted_by_write m.at)
-cause_at c t (Stage.Linking k d u) =
+cause_at c t (Stage.Setting k d u) =
     cause_to_get c (unless_got u.slot (inode_block u.number))
 cause_at c t (Stage.Leaving k) = None
 

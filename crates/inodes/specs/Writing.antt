@@ -6,7 +6,7 @@ use Rattle.blocks.specs.Block.{block_size}
 use Rattle.model.specs.declared.types.image.Form.{Form}
 use Rattle.model.specs.declared.types.image.Form.TheVariants.{One, Two}
 use Rattle.model.specs.declared.types.operations.Op.{Op}
-use Rattle.model.specs.declared.types.operations.Op.TheVariants.{Create, Write, Read, Trunc, Remove, Stat, Links}
+use Rattle.model.specs.declared.types.operations.Op.TheVariants.{Create, Write, Read, Trunc, Remove, Stat, SetAttribute}
 use Rattle.model.specs.Journal.{is_number}
 use Rattle.model.specs.Layout.{form_of, inode_block, greatest_size, bitmap_block}
 use Rattle.model.specs.Operations.{transfer_limit}
@@ -170,7 +170,7 @@ most_beside One = 2
 most_beside Two = 4
 
 -- THE MOST BLOCKS that an operation logs: a creation that of its inode, a write four of its file, those
--- beside and that of its inode, what frees blocks the bitmap's and that of its inode, and what sets links
+-- beside and that of its inode, what frees blocks the bitmap's and that of its inode, and what sets an attribute
 -- that of the inode
 abbrev pub most_logged : Form → Op → ℕ
 most_logged form (Create kind) = 1
@@ -179,7 +179,7 @@ most_logged form (Read i off n) = 0
 most_logged form (Trunc i) = 2
 most_logged form (Remove i) = 2
 most_logged form (Stat i) = 0
-most_logged form (Links i n) = 1
+most_logged form (SetAttribute i a) = 1
 
 -- the block that was taken and that no block of addresses names yet, or the data block at hand; 0
 -- for none

@@ -3,6 +3,7 @@ ghost use Rattle.std.specs.Prelude.{◌≡◌, ◌<◌, ◌≤◌, length, Some,
 ghost use Rattle.model.specs.Format.{most_inodes};
 ghost use Rattle.model.specs.declared.types.operations.Op.{Op};
 ghost use Rattle.model.specs.Operations.{transfer_limit};
+ghost use Rattle.in_flight.specs.AttributeLaws.{with_value};
 ghost use Rattle.inodes.specs.Looks.{CanLook, HasRoom};
 ghost use Rattle.inodes.specs.Stages.{asked};
 ghost use Rattle.inodes.specs.Growing.{bytes_of};
@@ -11,7 +12,7 @@ ghost use Rattle.inodes.specs.Store.{KeepsFiles, with_look};
 ghost use Rattle.inodes.specs.Steps.{Steps};
 ghost use Rattle.inodes.specs.Table.{copy_at};
 ghost use Rattle.inodes.specs.Tasks.{task};
-ghost use Rattle.inodes.specs.Turning.{IsReadable, stage_of_read, stage_of_write, stage_when_taken, reply_when_taken, write_refusal};
+ghost use Rattle.inodes.specs.Turning.{IsReadable, attribute_refusal, stage_of_attribute, stage_of_read, stage_of_write, stage_when_taken, reply_when_taken, write_refusal};
 ghost use Rattle.inodes.specs.declared.tasks.Stage.TheVariants as stands_at;
 
 use crate::store::over;
@@ -19,7 +20,7 @@ use crate::{Extent, Freeing, Ilock, Inodes, Itrunc, Iupdate, Readi, Stage, Store
 use blocks::Disk;
 use layout::{bitmap_block, greatest_size};
 use model::gathered::Gathered;
-use model::types::{Dinode, Form, Op, Reply, TaskProgress};
+use model::types::{Attribute, Dinode, Form, Op, Reply, TaskProgress};
 use std::snapshot::Snapshot;
 
 impl<D: Disk> Store<D> {
@@ -154,8 +155,8 @@ impl<D: Disk> Store<D> {
         }
     }
 
-    // The next step of writing back an inode with another count of links.
-    pub(crate) fn link(
+    // The next step of writing back an inode with an attribute set.
+    pub(crate) fn set_attribute(
         &mut self,
         pid: u32,
         place: usize,
@@ -165,14 +166,14 @@ impl<D: Disk> Store<D> {
         requires fault { self.old.volume.fault ≡ None }
         requires pid { pid < length self.old.tasks }
         requires at { (task self.old.tasks pid).stage
-            ≡ stands_at.Linking place inode update.value }
+            ≡ stands_at.Setting place inode update.value }
         ensures step { (op : Op) → (task self.old.tasks pid).op ≡ Some op
             → Steps D.Disk self.old pid op result self.new }
     {
         self.volume.known();
         match over(
             self.tasks
-                .link_on(&mut self.volume, pid, place, &inode, update),
+                .set_on(&mut self.volume, pid, place, &inode, update),
         ) {
             Ok(()) => {
                 self.inodes.renew(place, Some(inode));
@@ -216,7 +217,7 @@ fn asked(op: &Op) -> u32
         | Op::Trunc(number)
         | Op::Remove(number)
         | Op::Stat(number)
-        | Op::Links(number, _) => *number,
+        | Op::SetAttribute(number, _) => *number,
     }
 }
 
@@ -231,7 +232,11 @@ fn reply_when_taken(form: Form, inode: &Option<Dinode>, op: &Op) -> Option<Reply
     };
     match op {
         Op::Stat(_) => Some(Reply::StatOf(inode.kind, inode.nlink, inode.size)),
-        Op::Trunc(_) | Op::Remove(_) | Op::Links(..) => Some(Reply::Done),
+        Op::Trunc(_) | Op::Remove(_) => Some(Reply::Done),
+        Op::SetAttribute(_, attribute) => Some(match attribute_refusal(inode, *attribute) {
+            Some(refusal) => refusal,
+            None => Reply::Done,
+        }),
         Op::Write(_, offset, bytes) => write_refusal(form, inode, *offset, bytes.len()),
         Op::Create(_) | Op::Read(..) => None,
     }
@@ -252,14 +257,38 @@ fn write_refusal(form: Form, inode: &Dinode, offset: u32, count: usize) -> Optio
     None
 }
 
+// The refusal of a length behind the file's end.
+fn attribute_refusal(inode: &Dinode, attribute: Attribute) -> Option<Reply>
+    ensures { result ≡ attribute_refusal inode.now attribute }
+{
+    match attribute {
+        Attribute::Size(size) if size > inode.size => Some(Reply::BadOffset),
+        Attribute::Size(_) | Attribute::Links(_) => None,
+    }
+}
+
+// The inode with an attribute set; it keeps its addresses.
+fn with_value(inode: &Dinode, attribute: Attribute) -> Dinode
+    ensures { result ≡ with_value inode.now attribute }
+{
+    match attribute {
+        Attribute::Links(nlink) => Dinode { nlink, ..*inode },
+        Attribute::Size(size) => Dinode { size, ..*inode },
+    }
+}
+
 // The bytes that an operation writes; those of any other are none.
 fn bytes_of(op: &Op) -> &[u8]
     ensures { result.now ≡ bytes_of op.now }
 {
     match op {
         Op::Write(_, _, bytes) => bytes.as_slice(),
-        Op::Create(_) | Op::Read(..) | Op::Trunc(_) | Op::Remove(_) | Op::Stat(_) | Op::Links(..) =>
-            &[],
+        Op::Create(_)
+        | Op::Read(..)
+        | Op::Trunc(_)
+        | Op::Remove(_)
+        | Op::Stat(_)
+        | Op::SetAttribute(..) => &[],
     }
 }
 
@@ -302,14 +331,9 @@ fn stage_when_taken(inode: &Option<Dinode>, place: usize, op: &Op, extent: Exten
         Op::Write(number, offset, bytes) => {
             stage_of_write(place, *number, inode, *offset, bytes.len(), extent)
         }
-        Op::Links(number, links) => Stage::Linking {
-            place,
-            inode: Dinode {
-                nlink: *links,
-                ..*inode
-            },
-            update: Iupdate::new(*number),
-        },
+        Op::SetAttribute(number, attribute) => {
+            stage_of_attribute(place, *number, inode, *attribute)
+        }
         Op::Create(_) | Op::Stat(_) => Stage::Leaving { place },
     }
 }
@@ -332,6 +356,20 @@ fn stage_of_write(
     }
     let writing = Writei::new(number, inode, offset, count as u32, extent);
     Stage::Writing { place, writing }
+}
+
+// An attribute is refused, or its inode written back.
+fn stage_of_attribute(place: usize, number: u32, inode: &Dinode, attribute: Attribute) -> Stage
+    ensures { result ≡ stage_of_attribute place number inode.now attribute }
+{
+    if attribute_refusal(inode, attribute).is_some() {
+        return Stage::Leaving { place };
+    }
+    Stage::Setting {
+        place,
+        inode: with_value(inode, attribute),
+        update: Iupdate::new(number),
+    }
 }
 
 // A reading begins with its bytes, or has all of them.

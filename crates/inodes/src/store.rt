@@ -120,7 +120,7 @@ impl<D: Disk> Store<D> {
             | Stage::Delivering { .. }
             | Stage::Truncating { .. }
             | Stage::Writing { .. }
-            | Stage::Linking { .. }
+            | Stage::Setting { .. }
             | Stage::Leaving { .. } => false,
         }
     }
@@ -138,7 +138,7 @@ impl<D: Disk> Store<D> {
             Stage::Delivering { .. } => Some(TaskDeed::Finish),
             Stage::Truncating { trunc, .. } => Some(trunc.deed()),
             Stage::Writing { writing, .. } => Some(writing.deed()),
-            Stage::Linking { update, .. } => Some(update.deed()),
+            Stage::Setting { update, .. } => Some(update.deed()),
             Stage::Leaving { .. } => Some(TaskDeed::Put),
         }
     }
@@ -235,13 +235,13 @@ impl<D: Disk> Store<D> {
                 let (place, was) = (*place, Snapshot::of(writing));
                 self.write(pid, op, place, was)
             }
-            Stage::Linking {
+            Stage::Setting {
                 place,
                 inode,
                 update,
             } => {
                 let (place, inode, was) = (*place, *inode, Snapshot::of(update));
-                self.link(pid, place, inode, was)
+                self.set_attribute(pid, place, inode, was)
             }
             Stage::Leaving { place } => {
                 let place = *place;
@@ -308,9 +308,10 @@ fn first_stage(op: &Op, inode_count: u32) -> Stage
 {
     match op {
         Op::Create(kind) => Stage::Creating(Ialloc::new(*kind, inode_count)),
-        Op::Write(number, ..) | Op::Trunc(number) | Op::Remove(number) | Op::Links(number, _) => {
-            Stage::Taking(Ilock::new(*number))
-        }
+        Op::Write(number, ..)
+        | Op::Trunc(number)
+        | Op::Remove(number)
+        | Op::SetAttribute(number, _) => Stage::Taking(Ilock::new(*number)),
         Op::Read(..) | Op::Stat(_) => Stage::Nowhere,
     }
 }

@@ -4,7 +4,7 @@ ghost use Rattle.wal.specs.Machine.{HasRoom, used_by};
 ghost use Rattle.inodes.specs.declared.tasks.Stage.TheVariants as stage;
 ghost use Rattle.inodes.specs.Freeing.{MayFree};
 ghost use Rattle.inodes.specs.Ialloc.{MayStep};
-ghost use Rattle.inodes.specs.InPlace.{LinksInPlace, ReadsInPlace, SearchesInPlace, TruncatesInPlace, WritesInPlace, freeing_at, writing_at};
+ghost use Rattle.inodes.specs.InPlace.{SetsInPlace, ReadsInPlace, SearchesInPlace, TruncatesInPlace, WritesInPlace, freeing_at, writing_at};
 ghost use Rattle.inodes.specs.Itrunc.{inode_left};
 ghost use Rattle.inodes.specs.Iupdate.{MayUpdate};
 ghost use Rattle.inodes.specs.Readi.{HasRoomLeft, IsReading};
@@ -50,9 +50,9 @@ pub enum Stage {
         place: usize,
         writing: Writei,
     },
-    /// An inode, which stands at that place of the table, is written back with another count of
-    /// links; the reply is known.
-    Linking {
+    /// An inode, which stands at that place of the table, is written back with an attribute
+    /// set; the reply is known.
+    Setting {
         place: usize,
         inode: Dinode,
         update: Iupdate,
@@ -242,7 +242,7 @@ impl Tasks {
     }
 
     // Makes the next step of writing an inode back in the task.
-    pub(crate) fn link_on<D: Disk>(
+    pub(crate) fn set_on<D: Disk>(
         &mut self,
         volume: &mut Volume<D>,
         pid: u32,
@@ -251,16 +251,16 @@ impl Tasks {
         _was: Snapshot<Iupdate>,
     ) -> Progress<()>
         requires inside { pid < length self.old }
-        requires at { (task self.old pid).stage ≡ stage.Linking _place inode.now _was.value }
+        requires at { (task self.old pid).stage ≡ stage.Setting _place inode.now _was.value }
         requires fault { volume.old.fault ≡ None }
         requires pid { pid < 32 }
         requires room { HasRoom (used_by volume.old.log pid) }
         requires addrs { length inode.now.addrs ≡ 13 }
         requires ready { MayUpdate D.image volume.old pid _was.value }
-        ensures { LinksInPlace D.Disk volume.old self.old pid _place inode.now _was.value result
+        ensures { SetsInPlace D.Disk volume.old self.old pid _place inode.now _was.value result
             self.new volume.new }
     {
-        let Stage::Linking { update, .. } = &mut self.tasks[pid as usize].stage else {
+        let Stage::Setting { update, .. } = &mut self.tasks[pid as usize].stage else {
             unreachable!();
         };
         update.step(volume, pid, inode)

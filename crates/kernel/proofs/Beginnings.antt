@@ -2,7 +2,7 @@
 use Rattle.std.proofs.Common.{◌≡◌, ◌≢◌, ℕ, ◌+◌, ◌<◌, ◌≤◌, Bool, true, false, not, cond, eqb, ltb, length, length-set, refl, sym, ◌∙◌, ap, subst, arith, ⊎_elim, Option, Some, None}
 use Rattle.std.specs.Option.{option_map}
 use Rattle.std.specs.Prelude.{IfSome}
-use Rattle.kernel.specs.Common.{alone_begun, alone_taken, at_once_journal, at_once_reply, at_same, ats_of, begin_cause, begun, CanBegin, CanLook, cases_eq, change_fits, counted_refused, counted_taken, Create, DeviceFault, first_stage, form_of, get_or-set_other, Ghosts, HasCount, HasFacts, HasRoom, inode_count_of, inv_at_once, inv_begun, inv_taken, is_at_once, is_changing, is_committing_at, is_kind, is_number, is_over, IsItsRoom, IsRight, KeepsFiles, kind_of, le-leb, Links, LogState, ltb-false, no_task, not-false, Op, or_parts, others_back, others_stay, Phase, Process, process, Read, refused, Remove, room_for, Stat, StoreState, taken, task, TaskStands, there_now, Trunc, view_of, OpClass, class_of, where_none, with_begun, with_look, with_more_room, World, Write}
+use Rattle.kernel.specs.Common.{alone_begun, alone_taken, at_once_journal, at_once_reply, at_same, ats_of, begin_cause, begun, CanBegin, CanLook, cases_eq, change_fits, counted_refused, counted_taken, Create, DeviceFault, first_stage, form_of, get_or-set_other, Ghosts, HasValue, HasFacts, HasRoom, inode_count_of, inv_at_once, inv_begun, inv_taken, is_at_once, is_changing, is_committing_at, is_kind, is_number, is_over, IsItsRoom, IsRight, KeepsFiles, kind_of, le-leb, SetAttribute, LogState, ltb-false, no_task, not-false, Op, or_parts, others_back, others_stay, Phase, Process, process, Read, refused, Remove, room_for, Stat, StoreState, taken, task, TaskStands, there_now, Trunc, view_of, OpClass, class_of, where_none, with_begun, with_look, with_more_room, World, Write}
 use Rattle.kernel.specs.Lasting.{Lasts}
 use Rattle.kernel.proofs.LogCalls.{logs_begun, logs_looked}
 use Rattle.kernel.proofs.Valid.{HasAgreed, valid_joint}
@@ -10,10 +10,10 @@ use Rattle.kernel.proofs.Pairing.{paired_goes, keeps_behind, task_begun, begins_
 use Rattle.kernel.proofs.Right.{right_well}
 
 -- an operation that changes files, and is not refused at once, may begin
-pub change_begins : (n : ℕ) (op : Op) → HasCount op → class_of n op ≡ OpClass.Change → CanBegin n op × (is_changing n op ≡ true)
+pub change_begins : (n : ℕ) (op : Op) → HasValue op → class_of n op ≡ OpClass.Change → CanBegin n op × (is_changing n op ≡ true)
 change_begins n op count e = by_once (is_at_once n op) refl e
   where
-    by_kind : (o : Op) → HasCount o → is_at_once n o ≡ false → kind_of o ≡ OpClass.Change → CanBegin n o × (is_changing n o ≡ true)
+    by_kind : (o : Op) → HasValue o → is_at_once n o ≡ false → kind_of o ≡ OpClass.Change → CanBegin n o × (is_changing n o ≡ true)
     by_kind (Create kind) count out e = let is = not-false (is_kind kind) out in (is, is)
     by_kind (Write i off bytes) count out e =
         let both = or_parts (ltb 3072 (length bytes)) (not (is_number n i)) out in
@@ -24,7 +24,7 @@ change_begins n op count e = by_once (is_at_once n op) refl e
     by_kind (Trunc i) count out e = let is = not-false (is_number n i) out in (is, is)
     by_kind (Remove i) count out e = let is = not-false (is_number n i) out in (is, is)
     by_kind (Stat i) count out e = absurd (cc e)
-    by_kind (Links i m) count out e = let is = not-false (is_number n i) out in ((is, count), is)
+    by_kind (SetAttribute i a) count out e = let is = not-false (is_number n i) out in ((is, count), is)
 
     by_once : (b : Bool) → is_at_once n op ≡ b → cond b OpClass.Refused (kind_of op) ≡ OpClass.Change → CanBegin n op × (is_changing n op ≡ true)
     by_once true once e = absurd (cc e)
@@ -53,7 +53,7 @@ look_begins n op count e = by_once (is_at_once n op) refl e
     by_kind (Trunc i) out e = absurd (cc e)
     by_kind (Remove i) out e = absurd (cc e)
     by_kind (Stat i) out e = counted (Stat i) None (cc e) (record { can = not-false (is_number n i) out; read = refl; answer = tt; still = refl; later = out })
-    by_kind (Links i m) out e = absurd (cc e)
+    by_kind (SetAttribute i a) out e = absurd (cc e)
 
     by_once : (b : Bool) → is_at_once n op ≡ b → cond b OpClass.Refused (kind_of op) ≡ OpClass.Look count → IsLook n op count
     by_once true once e = absurd (cc e)
@@ -70,7 +70,7 @@ refused_at_once n op e = by_once (is_at_once n op) refl e
     never (Trunc i) e = cc e
     never (Remove i) e = cc e
     never (Stat i) e = cc e
-    never (Links i m) e = cc e
+    never (SetAttribute i a) e = cc e
 
     by_once : (b : Bool) → is_at_once n op ≡ b → cond b OpClass.Refused (kind_of op) ≡ OpClass.Refused → is_at_once n op ≡ true
     by_once true once e = once
@@ -119,7 +119,7 @@ module _ {D N : Type 0} (disk : Ghosts D N) (opening : D) (s : StoreState D) (w 
       (right.faults ∙ ap (λ (o : Option _). Rattle.wal.specs.Volume.faults_after o (disk.fault_count opening)) well)
 
   -- an operation is taken, and open in the log
-  pub right_taken : (op : Op) → HasCount op → class_of s.table.inode_count op ≡ OpClass.Change → begin_cause s.volume.log ≡ None
+  pub right_taken : (op : Op) → HasValue op → class_of s.table.inode_count op ≡ OpClass.Change → begin_cause s.volume.log ≡ None
       → HasAgreed disk.image (with_begun s p op) → KeepsFiles disk.image s (with_begun s p op)
       → IsRight disk opening (with_begun s p op) (taken (with_more_room w) p (begun s.volume.log p).opened op None)
   right_taken op count change free agreed keeps =

@@ -7,7 +7,7 @@ use Rattle.inodes.specs.Runs.{SeesTaken}
 use Rattle.ports.specs.declared.herald.Herald as herald_trait
 use Rattle.ports.specs.declared.intake.Intake as intake_trait
 use Rattle.std.specs.Option.{option_map}
-use Rattle.kernel.specs.Common.{at_once_reply, ats_of, BadType, Becomes, BeginsWith, cases_eq, cases_lt, Create, DeviceFault, Entry, entry_new, entry_next, entry_of, entry_same, Extends, extends_same, extends_then, first_in, get_or_past, Goes, idle, is_at_once, is_number, is_over, IsAhead, IsEntry, IsPassedBy, length-append, Links, Made, MakesStep, NextAt, NextIf, no_entry, Op, others_stay, Phase, phase_behind, Proc, Process, process, Read, Remove, Reply, reply_of, search_begins, search_sees, SearchesOn, Session, Shut, Side, Stage, Stat, State, Step, Steps, StoreState, task, TaskProgress, TaskState, there_now, Trunc, Turn, turned_from, OpClass, class_of, with_begun, with_ports, with_shutdown, Works, World, world_after, Write}
+use Rattle.kernel.specs.Common.{at_once_reply, ats_of, BadType, Becomes, BeginsWith, cases_eq, cases_lt, Create, DeviceFault, Entry, entry_new, entry_next, entry_of, entry_same, Extends, extends_same, extends_then, first_in, get_or_past, Goes, idle, is_at_once, is_number, is_over, IsAhead, IsEntry, IsPassedBy, length-append, SetAttribute, Made, MakesStep, NextAt, NextIf, no_entry, Op, others_stay, Phase, phase_behind, Proc, Process, process, Read, Remove, Reply, reply_of, search_begins, search_sees, SearchesOn, Session, Shut, Side, Stage, Stat, State, Step, Steps, StoreState, task, TaskProgress, TaskState, there_now, Trunc, Turn, turned_from, OpClass, class_of, with_begun, with_ports, with_shutdown, Works, World, world_after, Write}
 use Rattle.kernel.specs.Causes.{IsAnswered, MadeHasCause, NoInodeHasCause, SomeTurnMakes, TurnMakes}
 use Rattle.kernel.proofs.Turned.{AddsEntry, JournalBy, Turned, turned_by}
 
@@ -251,7 +251,7 @@ module _ {D N I M H : Type 0} (disk : disk_trait.Ghosts D N) (intake : intake_tr
       own_works group (Trunc i) r stands turn made = own_other group (Trunc i) r stands (λ kind is. cc is) turn made
       own_works group (Remove i) r stands turn made = own_other group (Remove i) r stands (λ kind is. cc is) turn made
       own_works group (Stat i) r stands turn made = own_other group (Stat i) r stands (λ kind is. cc is) turn made
-      own_works group (Links i n) r stands turn made = own_other group (Links i n) r stands (λ kind is. cc is) turn made
+      own_works group (SetAttribute i a) r stands turn made = own_other group (SetAttribute i a) r stands (λ kind is. cc is) turn made
 
       -- behind its turn
       own_behind : (a : Phase) → (process w p).at ≡ a → (a ≢ Phase.Idle) → ((group : ℕ) (op : Op) → a ≢ Phase.BeforeTurn group op) → Turned p (process w p).at s w t z → Own s t w z

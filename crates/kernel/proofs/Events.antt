@@ -2,7 +2,7 @@
 use Rattle.std.proofs.Common.{set, ◌≡◌, ◌≢◌, ◌⊎◌, ⊎_elim, inl, inr, ℕ, zero, suc, ◌+◌, ◌-◌, ◌<◌, ◌≤◌, Bool, true, false, cond, List, length, refl, sym, ◌∙◌, ap, subst, arith, Option, Some, None}
 use Rattle.std.specs.Option.{option_map}
 use Rattle.std.specs.Prelude.{IsSome}
-use Rattle.kernel.specs.Common.{all_steps_left, answered, asked, at_once_reply, at_once_still, at_phase, ats_of, BeginsWith, begun, commit_fails, commit_log, commit_makes, CommitMakes, Commits, Committed, committing, committing_at, Create, current_of, decided, DeviceFault, end_answer, Ended, ended, Ends, ends_of, Entry, entry_in, entry_inside, entry_of, entry_index, false≢true, fault_of_step, Finishes, first_in, first_stage, Form, form_of, GatheredBytes, get_or-set_other, get_or-set_same, Ghosts, goes_on, Grows, grows_goes, grows_none, HasEntry, idle, Image, in_reads, inode_count_of, is_at_once, is_busy_at, is_committing_at, is_made, is_over, is_quiet, IsBehind, IsNotTaken, IsTold, JournalGoes, left_outside, Links, LockAt, logs_of, LogState, most_behind, NextAt, NextIf, no_task, none_commits, Op, open_of, others_left, over_at, owes_reply, Phase, phase_behind, Process, process, quiet_if_open, Read, refusal, Remove, Reply, room_for, set-get_or, Side, some_write, Stage, Stat, Step, step_behind, step_bound, step_of, step_of_end, step_of_last, step_of_told, step_of_write, StepEnds, stepped_at, Steps, steps_left, StoreState, TableState, task, task_left, TaskProgress, TaskState, told_at, Trunc, turned, turned_from, used_by, OpClass, class_of, Why, with_begun, with_look, Works, World, world_after, world_behind, world_ended, world_of_last, world_of_told, world_written, Write, writes_fall, writes_left}
+use Rattle.kernel.specs.Common.{all_steps_left, answered, asked, at_once_reply, at_once_still, at_phase, ats_of, BeginsWith, begun, commit_fails, commit_log, commit_makes, CommitMakes, Commits, Committed, committing, committing_at, Create, current_of, decided, DeviceFault, end_answer, Ended, ended, Ends, ends_of, Entry, entry_in, entry_inside, entry_of, entry_index, false≢true, fault_of_step, Finishes, first_in, first_stage, Form, form_of, GatheredBytes, get_or-set_other, get_or-set_same, Ghosts, goes_on, Grows, grows_goes, grows_none, HasEntry, idle, Image, in_reads, inode_count_of, is_at_once, is_busy_at, is_committing_at, is_made, is_over, is_quiet, IsBehind, IsNotTaken, IsTold, JournalGoes, left_outside, SetAttribute, LockAt, logs_of, LogState, most_behind, NextAt, NextIf, no_task, none_commits, Op, open_of, others_left, over_at, owes_reply, Phase, phase_behind, Process, process, quiet_if_open, Read, refusal, Remove, Reply, room_for, set-get_or, Side, some_write, Stage, Stat, Step, step_behind, step_bound, step_of, step_of_end, step_of_last, step_of_told, step_of_write, StepEnds, stepped_at, Steps, steps_left, StoreState, TableState, task, task_left, TaskProgress, TaskState, told_at, Trunc, turned, turned_from, used_by, OpClass, class_of, Why, with_begun, with_look, Works, World, world_after, world_behind, world_ended, world_of_last, world_of_told, world_written, Write, writes_fall, writes_left}
 use Rattle.history.specs.Lemmas.Commits.{reads_up, reads_written, stepped_count}
 use Rattle.wal.specs.Lemmas.Log.{few_homes, let_in}
 use Rattle.history.specs.Processes.{over as goes_to_end}
@@ -171,7 +171,7 @@ module _ {D N : Type 0} (disk : Ghosts D N) (opening : Image) (p : ℕ) (s t : S
         by_op (Trunc i) = let few = takes_few in omega (arith, few)
         by_op (Remove i) = let few = takes_few in omega (arith, few)
         by_op (Stat i) = let few = takes_few in omega (arith, few)
-        by_op (Links i m) = let few = takes_few in omega (arith, few)
+        by_op (SetAttribute i a) = let few = takes_few in omega (arith, few)
 
     begins : (what : Option OpClass) (ahead : List Op) (r : Step) → (process w p).at ≡ Phase.Idle → w.is_shut ≡ false → BeginsWith what s w p ahead side r t z → Made r
     begins what ahead r stands free (inl made) =

@@ -1,7 +1,7 @@
 -- What stays true of store and processes after a fault of the disk.
 use Rattle.std.proofs.Common.{◌≡◌, ◌≢◌, ⊎_elim, ℕ, Bool, true, false, length, refl, sym, ◌∙◌, ap, subst, arith, Option, Some, None}
 use Rattle.std.specs.Prelude.{IfSome}
-use Rattle.kernel.specs.Common.{ats_of, cases_eq, copy_at, current_of, DeviceFault, DiskFault, extent_of, failed_left, false≢true, Form, form_of, Ghosts, Goes, GoesFrom, HasFacts, holder_at, Image, inode_of, is_committing_at, is_over, IsRight, IsStore, left_outside, left_same, LockAt, logs_of, LogState, none_commits, Op, others_left, progress_of_link, stage_of_linking, stage_of_lock, stage_of_reading, stage_of_trunc, stage_of_writing, process, progress_of_lock, progress_of_read, progress_of_trunc, progress_of_write, quiet_if_open, shown_of, Stage, Steps, steps_left, StoreState, table_of_linking, table_of_trunc, table_of_writing, TableState, task, task_left, TaskProgress, where_none, World}
+use Rattle.kernel.specs.Common.{ats_of, cases_eq, copy_at, current_of, DeviceFault, DiskFault, extent_of, failed_left, false≢true, Form, form_of, Ghosts, Goes, GoesFrom, HasFacts, holder_at, Image, inode_of, is_committing_at, is_over, IsRight, IsStore, left_outside, left_same, LockAt, logs_of, LogState, none_commits, Op, others_left, progress_of_setting, stage_of_setting, stage_of_lock, stage_of_reading, stage_of_trunc, stage_of_writing, process, progress_of_lock, progress_of_read, progress_of_trunc, progress_of_write, quiet_if_open, shown_of, Stage, Steps, steps_left, StoreState, table_of_setting, table_of_trunc, table_of_writing, TableState, task, task_left, TaskProgress, where_none, World}
 use Rattle.model.specs.declared.types.image.Dinode.{Dinode}
 use Rattle.model.specs.Agreement.{IsSameOutsideLog}
 use Rattle.model.specs.declared.types.progress.Progress.{Progress}
@@ -67,9 +67,9 @@ module _ {D N : Type 0} (disk : Ghosts D N) (s : StoreState D) (p : ℕ) (op : O
       by_answer (Progress.Sleeping why) is next table = absurd (cc is)
       by_answer (Progress.Over out) is next table = absurd (cc is)
       by_answer (Progress.Fault other) is next table = record { unfinished = refl; stage_stays = next; table = table }
-  stays (Stage.Linking k d u) goes = by_answer goes.answer goes.gives goes.next goes.table
+  stays (Stage.Setting k d u) goes = by_answer goes.answer goes.gives goes.next goes.table
     where
-      by_answer : (x : Progress (Unit {0})) → TaskProgress.Fault fault ≡ progress_of_link x → (task t.tasks p).stage ≡ stage_of_linking k d u goes.now x → t.table ≡ table_of_linking s.table k d x → Stays (Stage.Linking k d u) s p t
+      by_answer : (x : Progress (Unit {0})) → TaskProgress.Fault fault ≡ progress_of_setting x → (task t.tasks p).stage ≡ stage_of_setting k d u goes.now x → t.table ≡ table_of_setting s.table k d x → Stays (Stage.Setting k d u) s p t
       by_answer Progress.Moved is next table = absurd (cc is)
       by_answer (Progress.Sleeping why) is next table = absurd (cc is)
       by_answer (Progress.Over out) is next table = absurd (cc is)

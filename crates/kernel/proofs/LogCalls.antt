@@ -1,6 +1,6 @@
 -- The calls of a store that begin and end an operation, as a journal sees them.
 use Rattle.std.proofs.Common.{◌≡◌, ◌≢◌, ℕ, ◌<◌, true, false, List, length, set, refl, ◌∙◌, sym, ap, ⊎_elim, Option}
-use Rattle.kernel.specs.Common.{begun, CallsLog, cases_eq, Create, current_of, ended, first_stage, GatheredBytes, get_or-set_other, get_or-set_same, held_at, Image, is_over, KeepsFiles, Links, LogState, no_task, Op, owes_reply, Read, Remove, Stat, StoreState, task, TaskState, Trunc, view_of, VolumeState, with_begun, with_log, with_look, Write}
+use Rattle.kernel.specs.Common.{begun, CallsLog, cases_eq, Create, current_of, ended, first_stage, GatheredBytes, get_or-set_other, get_or-set_same, held_at, Image, is_over, KeepsFiles, SetAttribute, LogState, no_task, Op, owes_reply, Read, Remove, Stat, StoreState, task, TaskState, Trunc, view_of, VolumeState, with_begun, with_log, with_look, Write}
 use Rattle.kernel.proofs.Valid.{over_unread, unread_holds}
 
 -- a task that begins reads nothing yet
@@ -11,7 +11,7 @@ first_unread (Read i off m) n = refl
 first_unread (Trunc i) n = refl
 first_unread (Remove i) n = refl
 first_unread (Stat i) n = refl
-first_unread (Links i m) n = refl
+first_unread (SetAttribute i a) n = refl
 
 module _ {D : Type 0} (image : D → Image) (old new : StoreState D) (p : ℕ) (files : KeepsFiles image old new) where
   -- whatever the log is then

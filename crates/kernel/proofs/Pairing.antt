@@ -1,6 +1,6 @@
 -- Each process has its task, also after an event.
 use Rattle.std.proofs.Common.{◌≡◌, ◌≢◌, ℕ, ◌<◌, true, List, length, length-set, set, refl, sym, ◌∙◌, ap, subst, arith, ⊎_elim, Option, Some}
-use Rattle.kernel.specs.Common.{ArePaired, CanBegin, cases_eq, Create, Entry, first_stage, GatheredBytes, get_or-set_same, is_unturned, IsEntry, IsItsRoom, IsPaired, Links, no_task, Op, others_stay, Phase, Process, process, Read, Remove, Stage, Stat, StoreState, task, TaskStands, TaskState, there_now, Trunc, World, Write}
+use Rattle.kernel.specs.Common.{ArePaired, CanBegin, cases_eq, Create, Entry, first_stage, GatheredBytes, get_or-set_same, is_unturned, IsEntry, IsItsRoom, IsPaired, SetAttribute, no_task, Op, others_stay, Phase, Process, process, Read, Remove, Stage, Stat, StoreState, task, TaskStands, TaskState, there_now, Trunc, World, Write}
 
 -- a process goes on with its task where its own entry stays
 stands_back : (es fs : List Entry) (v : TaskState) (a : Phase) → ((g k : ℕ) (e : Entry) → a ≡ Phase.AfterTurn g k → IsEntry fs k e → IsEntry es k e) → TaskStands es v a → TaskStands fs v a
@@ -45,7 +45,7 @@ begins_unturned (Read i off m) n can = absurd can
 begins_unturned (Trunc i) n can = refl
 begins_unturned (Remove i) n can = refl
 begins_unturned (Stat i) n can = absurd can
-begins_unturned (Links i m) n can = refl
+begins_unturned (SetAttribute i a) n can = refl
 
 -- the task of an operation that begins
 pub task_begun : {D : Type 0} (s : StoreState D) (es : List Entry) (p group : ℕ) (op : Op) (a : Stage) (bytes room : Option GatheredBytes) → p < length s.tasks → is_unturned a ≡ true → IsItsRoom (Some op) room

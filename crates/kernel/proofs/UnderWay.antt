@@ -28,7 +28,7 @@ module _ {D : Type 0} (image : D → Image) (s : StoreState D) (w : World) (pair
   not_over (Stage.Delivering k) reads over = absurd (cc over)
   not_over (Stage.Truncating k m) reads over = absurd (cc reads)
   not_over (Stage.Writing k m) reads over = absurd (cc over)
-  not_over (Stage.Linking k d u) reads over = absurd (cc reads)
+  not_over (Stage.Setting k d u) reads over = absurd (cc reads)
   not_over (Stage.Leaving k) reads over = absurd (cc reads)
 
   not_before : (a : Stage) → owes_reply a ≡ true → is_unturned a ≡ true → ⊥
@@ -39,7 +39,7 @@ module _ {D : Type 0} (image : D → Image) (s : StoreState D) (w : World) (pair
   not_before (Stage.Delivering k) reads before = absurd (cc before)
   not_before (Stage.Truncating k m) reads before = absurd (cc reads)
   not_before (Stage.Writing k m) reads before = absurd (cc before)
-  not_before (Stage.Linking k d u) reads before = absurd (cc reads)
+  not_before (Stage.Setting k d u) reads before = absurd (cc reads)
   not_before (Stage.Leaving k) reads before = absurd (cc reads)
 
   -- an entry without a reply is under way

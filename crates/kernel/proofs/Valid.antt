@@ -2,7 +2,7 @@
 use Rattle.std.proofs.Common.{◌≡◌, ⊎_elim, inl, inr, ℕ, Bool, true, false, cond, List, length, ◌∙◌, sym, refl, ap, subst, arith, Option, Some, None}
 use Rattle.std.specs.Option.{option_map}
 use Rattle.std.specs.Prelude.{IfNone, IsSome, IsTrue}
-use Rattle.kernel.specs.Common.{Agrees, AreLooking, asked, asked_by, Buffers, CanLook, CanTake, cleared, Create, current_of, false≢true, Files, files_of, Held, held_at, held_by, Image, is_late, is_number, is_over, is_unturned, IsLate, IsLogAt, IsSound, IsStore, IsValidView, IsWrite, Joint, late_apart, late_is, late_number, le-ltb, Links, LogState, look_takes, LooksAt, number_of, Op, open_of, owes_reply, Read, Remove, Stage, Stands, Stat, StoreState, task, TaskState, Trunc, used_by, view_of, where_none, Write}
+use Rattle.kernel.specs.Common.{Agrees, AreLooking, asked, asked_by, Buffers, CanLook, CanTake, cleared, Create, current_of, false≢true, Files, files_of, Held, held_at, held_by, Image, is_late, is_number, is_over, is_unturned, IsLate, IsLogAt, IsSound, IsStore, IsValidView, IsWrite, Joint, late_apart, late_is, late_number, le-ltb, SetAttribute, LogState, look_takes, LooksAt, number_of, Op, open_of, owes_reply, Read, Remove, Stage, Stands, Stat, StoreState, task, TaskState, Trunc, used_by, view_of, where_none, Write}
 use Rattle.in_flight.specs.Lemmas.AtRest.{fits_at_rest}
 use Rattle.in_flight.specs.Lemmas.OutsideLog.{sound_cleared}
 use Rattle.inodes.specs.Holding.{claim_by, claims_of}
@@ -30,7 +30,7 @@ over_unread (Stage.Reading k m) over = absurd (false≢true over)
 over_unread (Stage.Delivering k) over = absurd (false≢true over)
 over_unread (Stage.Truncating k m) over = refl
 over_unread (Stage.Writing k m) over = absurd (false≢true over)
-over_unread (Stage.Linking k d u) over = refl
+over_unread (Stage.Setting k d u) over = refl
 over_unread (Stage.Leaving k) over = refl
 
 pub unturned_unread : (a : Stage) → is_unturned a ≡ true → owes_reply a ≡ false
@@ -41,7 +41,7 @@ unturned_unread (Stage.Reading k m) is = absurd (false≢true is)
 unturned_unread (Stage.Delivering k) is = absurd (false≢true is)
 unturned_unread (Stage.Truncating k m) is = refl
 unturned_unread (Stage.Writing k m) is = absurd (false≢true is)
-unturned_unread (Stage.Linking k d u) is = refl
+unturned_unread (Stage.Setting k d u) is = refl
 unturned_unread (Stage.Leaving k) is = refl
 
 -- the number on which the answer of an operation depends that takes an inode is that which it asks for
@@ -52,7 +52,7 @@ take_number n (Read i off count) can = ap (λ (b : Bool). cond b 0 i) (le-ltb 30
 take_number n (Trunc i) can = refl
 take_number n (Remove i) can = refl
 take_number n (Stat i) can = refl
-take_number n (Links i m) can = refl
+take_number n (SetAttribute i a) can = refl
 
 pub look_number : (n : ℕ) (op : Op) → CanLook n op → number_of op ≡ asked op
 look_number n op can = take_number n op (look_takes n op can)
@@ -110,7 +110,7 @@ write_logged cur t c l q u (Stage.Reading k m) looks stands late w = let no = sy
 write_logged cur t c l q u (Stage.Delivering k) looks stands late w = let no = sym looks.op.is ∙ w.is in absurd (cc no)
 write_logged cur t c l q u (Stage.Truncating k m) looks stands late w = absurd (false≢true late)
 write_logged cur t c l q u (Stage.Writing k m) looks stands late w = subst IsSome (sym stands.logged.used) refl
-write_logged cur t c l q u (Stage.Linking k d v) looks stands late w = absurd (false≢true late)
+write_logged cur t c l q u (Stage.Setting k d v) looks stands late w = absurd (false≢true late)
 write_logged cur t c l q u (Stage.Leaving k) looks stands late w = absurd (false≢true late)
 
 -- while no operation is open in the log, no task holds a number
@@ -126,7 +126,7 @@ claims_nothing l c n p i o (Stage.Truncating k m) log none stands = absurd (⊎_
     is_out u used = let some = (open_of l p log (subst IsSome (sym used) refl)).some in omega (arith, some, none)
 claims_nothing l c n p i o (Stage.Writing k m) log none stands =
     let some = (open_of l p log (subst IsSome (sym stands.logged.used) refl)).some in absurd (omega (arith, some, none))
-claims_nothing l c n p i o (Stage.Linking k d u) log none stands =
+claims_nothing l c n p i o (Stage.Setting k d u) log none stands =
     let some = (open_of l p log (subst IsSome (sym stands.used) refl)).some in absurd (omega (arith, some, none))
 claims_nothing l c n p i o (Stage.Leaving k) log none stands = refl
 

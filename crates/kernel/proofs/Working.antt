@@ -2,7 +2,7 @@
 use Rattle.std.proofs.Common.{◌≡◌, ◌≢◌, ℕ, ◌<◌, ◌≤◌, Bool, true, false, cond, List, [], ◌∷◌, ◌++◌, length, set, length-set, ltb, refl, sym, ◌∙◌, ap, subst, inl, inr, Option, Some, None}
 use Rattle.wal.specs.Floats.{Survives as SurvivesAt}
 use Rattle.std.specs.Prelude.{IsTrue, is_none}
-use Rattle.kernel.specs.Common.{alone_stepped, answered, AreLooking, ArePaired, asked, at_phase, ats_of, Block, Bytes, CanBegin, changing_in_group, counted_same, counted_turned, Create, current_of, decided, DecisionEnds, DeviceFault, DiskFault, ends_of, Entry, entry_in, entry_inside, entry_new, entry_of, entry_index, entry_same, entry_set, false≢true, fault_of_task, faults_after, form_of, Ghosts, GoesOn, GoesOnTurned, group_tells, HasEntry, HasFacts, idle, Image, in_reads, inode_count_of, is_busy_at, is_changing, is_committing_at, is_making, is_number, is_over, is_unturned, IsBehind, IsCounted, IsEntry, IsItsRoom, IsLate, IsRight, IsStore, IsValidView, JournalGoes, known_keeps, late_is, le-leb, le-ltb, Links, number_of, Op, others_back, others_stay, over, over_at, owes_reply, passes_busy, Phase, phase_behind, Process, process, Read, Remove, Reply, set-get_or, Stage, StandsAt, Stat, StepEnds, Steps, StoreState, Takes, task, task_journal, task_next, TaskProgress, TaskStands, there_now, told, told_at, transfer_limit, Trunc, turned, turned_from, TurnEnds, View, view_of, where_none, World, Write, Wrote}
+use Rattle.kernel.specs.Common.{alone_stepped, answered, AreLooking, ArePaired, asked, at_phase, ats_of, Block, Bytes, CanBegin, changing_in_group, counted_same, counted_turned, Create, current_of, decided, DecisionEnds, DeviceFault, DiskFault, ends_of, Entry, entry_in, entry_inside, entry_new, entry_of, entry_index, entry_same, entry_set, false≢true, fault_of_task, faults_after, form_of, Ghosts, GoesOn, GoesOnTurned, group_tells, HasEntry, HasFacts, idle, Image, in_reads, inode_count_of, is_busy_at, is_changing, is_committing_at, is_making, is_number, is_over, is_unturned, IsBehind, IsCounted, IsEntry, IsItsRoom, IsLate, IsRight, IsStore, IsValidView, JournalGoes, known_keeps, late_is, le-leb, le-ltb, SetAttribute, number_of, Op, others_back, others_stay, over, over_at, owes_reply, passes_busy, Phase, phase_behind, Process, process, Read, Remove, Reply, set-get_or, Stage, StandsAt, Stat, StepEnds, Steps, StoreState, Takes, task, task_journal, task_next, TaskProgress, TaskStands, there_now, told, told_at, transfer_limit, Trunc, turned, turned_from, TurnEnds, View, view_of, where_none, World, Write, Wrote}
 use Rattle.history.specs.Next.{TaskNext}
 use Rattle.kernel.proofs.TaskSteps.{form_untouched, moves_of, turns_of, opens_of, takes_of, reads_rest, leaves_of, free_then}
 use Rattle.kernel.proofs.Valid.{HasAgreed, valid_joint, over_unread, take_number, unturned_unread}
@@ -19,7 +19,7 @@ reading_more (Stage.Reading k m) is = (refl, refl)
 reading_more (Stage.Delivering k) is = (refl, refl)
 reading_more (Stage.Truncating k m) is = absurd (false≢true is)
 reading_more (Stage.Writing k m) is = (refl, refl)
-reading_more (Stage.Linking k d u) is = absurd (false≢true is)
+reading_more (Stage.Setting k d u) is = absurd (false≢true is)
 reading_more (Stage.Leaving k) is = absurd (false≢true is)
 
 -- a write of a number that operations may name changes files
@@ -34,7 +34,7 @@ changes n (Read i off m) can = absurd can
 changes n (Trunc i) can = (can, refl)
 changes n (Remove i) can = (can, refl)
 changes n (Stat i) can = absurd can
-changes n (Links i m) can = (can.0, refl)
+changes n (SetAttribute i a) can = (can.0, refl)
 
 pub reply_there : (o : Option Reply) → is_none o ≡ false → (r : Reply) × (o ≡ Some r)
 reply_there None is = absurd (false≢true (sym is))

@@ -35,7 +35,7 @@ pub use Rattle.history.specs.Processes.{answered, at_phase, committing, committi
 pub use Rattle.history.specs.Views.{CallsLog, HasEntry, InGroup, IsValidView, KernelFacts, Leaves, LeavesRest, Opens, StandsAt, Takes, Turns, View, Writes}
 pub use Rattle.history.specs.declared.types.Phase.{Phase}
 pub use Rattle.history.specs.declared.types.Process.{Process}
-pub use Rattle.inodes.specs.Goes.{Goes, GoesFrom, progress_of_link, stage_of_linking, stage_of_lock, stage_of_reading, stage_of_trunc, stage_of_writing, progress_of_lock, progress_of_read, progress_of_trunc, progress_of_write, shown_of, table_of_linking, table_of_trunc, table_of_writing}
+pub use Rattle.inodes.specs.Goes.{Goes, GoesFrom, progress_of_setting, stage_of_setting, stage_of_lock, stage_of_reading, stage_of_trunc, stage_of_writing, progress_of_lock, progress_of_read, progress_of_trunc, progress_of_write, shown_of, table_of_setting, table_of_trunc, table_of_writing}
 pub use Rattle.inodes.specs.Lemmas.Causes.{BeginsWriting, IsAhead, search_begins, search_sees, SearchesOn, write_sees, write_turns, WritesOn}
 pub use Rattle.inodes.specs.Lemmas.Faults.{if_none, if_some, where_none}
 pub use Rattle.inodes.specs.Lemmas.Looks.{holds_lock, IsPassedBy, late_apart, late_is, late_number, look_takes}
@@ -71,7 +71,7 @@ pub use Rattle.model.specs.declared.types.image.Super.{Super}
 pub use Rattle.model.specs.declared.types.operations.Answer.{Answer}
 pub use Rattle.model.specs.declared.types.operations.Entry.{Entry}
 pub use Rattle.model.specs.declared.types.operations.Op.{Op}
-pub use Rattle.model.specs.declared.types.operations.Op.TheVariants.{Create, Links, Read, Remove, Stat, Trunc, Write}
+pub use Rattle.model.specs.declared.types.operations.Op.TheVariants.{Create, SetAttribute, Read, Remove, Stat, Trunc, Write}
 pub use Rattle.model.specs.declared.types.operations.Reply.{Reply}
 pub use Rattle.model.specs.declared.types.operations.Reply.TheVariants.{BadType, Bytes, Made, NoFile, TooLong, Wrote}
 pub use Rattle.model.specs.declared.types.operations.Step.{Step}
@@ -98,7 +98,7 @@ pub use Rattle.kernel.specs.Bound.{GivesNone, left_in, left_of, step_bound, Take
 pub use Rattle.kernel.specs.Invariant.{ArePaired, ArePorts, HasFacts, HasHistory, Inv, IsBehind, IsPaired, IsRight, LeavesSince, TaskStands}
 pub use Rattle.kernel.specs.Next.{BeginsWith, Ends, Finishes, HasNoRoom, IsNotTaken, NextAt, NextIf, Same, step_behind, step_of, step_of_end, step_of_last, step_of_told, step_of_write, TakesNone, Works, world_after, world_behind, world_ended, world_of_last, world_of_told, world_written}
 pub use Rattle.kernel.specs.Runs.{is_turn_of, Makes, MakesLater, Runs, RunsOn, Session, with_ports, with_shutdown}
-pub use Rattle.kernel.specs.State.{ats_of, HasCount, kind_of, room_for, State, StopsIn, class_of}
+pub use Rattle.kernel.specs.State.{ats_of, HasValue, kind_of, room_for, State, StopsIn, class_of}
 pub use Rattle.kernel.specs.Steps.{MakesStep}
 pub use Rattle.kernel.specs.View.{held_at, view_of}
 pub use Rattle.kernel.specs.declared.beginning.Rooms.{Rooms}

@@ -1,10 +1,11 @@
 -- What a contract sees of a kernel, and what a stop leaves of its steps.
-use Rattle.std.specs.Prelude.{◌<◌, ◌^◌, ℕ, [], if◌then◌else◌, Option, Some, None}
+use Rattle.std.specs.Prelude.{ℕ, [], if◌then◌else◌, Option, Some, None}
 use Rattle.blocks.specs.declared.disk.Disk.{Ghosts}
 use Rattle.model.specs.declared.types.operations.Op.{Op}
-use Rattle.model.specs.declared.types.operations.Op.TheVariants.{Create, Write, Read, Trunc, Remove, Stat, Links}
+use Rattle.model.specs.declared.types.operations.Op.TheVariants.{Create, Write, Read, Trunc, Remove, Stat, SetAttribute}
 use Rattle.model.specs.Gathered.{GatheredBytes}
 use Rattle.model.specs.Journal.{is_at_once}
+use Rattle.inodes.specs.Holding.{FitsField}
 use Rattle.inodes.specs.Store.{StoreState}
 use Rattle.history.specs.declared.types.Phase.{Phase}
 use Rattle.history.specs.Most.{most_of}
@@ -36,21 +37,21 @@ kind_of (Read i off n) = OpClass.Look (Some n)
 kind_of (Trunc i) = OpClass.Change
 kind_of (Remove i) = OpClass.Change
 kind_of (Stat i) = OpClass.Look None
-kind_of (Links i n) = OpClass.Change
+kind_of (SetAttribute i a) = OpClass.Change
 
 -- what any operation is to it, where there are so many inode numbers
 abbrev pub class_of : ℕ → Op → OpClass
 class_of inode_count op = if is_at_once inode_count op then OpClass.Refused else kind_of op
 
--- the count of links that an operation sets, if it sets one, is a number of 16 bits
-abbrev pub HasCount : Op → Type 0
-HasCount (Create kind) = Unit {0}
-HasCount (Write i off bytes) = Unit {0}
-HasCount (Read i off n) = Unit {0}
-HasCount (Trunc i) = Unit {0}
-HasCount (Remove i) = Unit {0}
-HasCount (Stat i) = Unit {0}
-HasCount (Links i n) = n < 2 ^ 16
+-- the attribute that an operation sets, if it sets one, fits its field of an inode
+abbrev pub HasValue : Op → Type 0
+HasValue (Create kind) = Unit {0}
+HasValue (Write i off bytes) = Unit {0}
+HasValue (Read i off n) = Unit {0}
+HasValue (Trunc i) = Unit {0}
+HasValue (Remove i) = Unit {0}
+HasValue (Stat i) = Unit {0}
+HasValue (SetAttribute i a) = FitsField a
 
 -- room for so many bytes
 abbrev pub room_for : Option ℕ → Option GatheredBytes

@@ -7,7 +7,7 @@ ghost use Rattle.kernel.specs.Begins.{Begins, TakesFirst, LeavesFirst, kept_out,
 ghost use Rattle.kernel.specs.Ports.{Asks, first_waiting};
 ghost use Rattle.kernel.specs.Acts.{Acts};
 ghost use Rattle.kernel.specs.Heralds.{SameBoard};
-ghost use Rattle.kernel.specs.State.{HasCount};
+ghost use Rattle.kernel.specs.State.{HasValue};
 
 use crate::Step;
 use crate::class::{OpClass, at_once_reply, class_of};
@@ -16,7 +16,7 @@ use blocks::{Disk, NoMemory};
 use history::Processes;
 use inodes::Store;
 use model::gathered::Gathered;
-use model::types::{Op, Why};
+use model::types::{Attribute, Op, Why};
 use ports::{Herald, Intake};
 use std::alloc::Global;
 use wal::Log;
@@ -100,7 +100,7 @@ impl<D: Disk, I: Intake, H: Herald> Kernel<D, I, H> {
         match what {
             OpClass::Change => {
                 let_go(rooms);
-                count_known(&op);
+                value_known(&op);
                 let group = self.store.begin(pid, &op);
                 self.store.known();
                 self.processes.take(pid, group, op, None);
@@ -193,11 +193,11 @@ fn take_rooms(alloc: Global, what: OpClass) -> Result<Rooms, NoMemory>
     })
 }
 
-// The count of links that an operation sets is a number of 16 bits.
-fn count_known(op: &Op)
-    ensures { HasCount op.now }
+// The attribute that an operation sets fits its field of an inode.
+fn value_known(op: &Op)
+    ensures { HasValue op.now }
 {
-    if let Op::Links(_, count) = op {
+    if let Op::SetAttribute(_, Attribute::Links(count)) = op {
         let _count = *count;
     }
 }

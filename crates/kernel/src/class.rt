@@ -12,7 +12,7 @@ use model::types::{Op, Reply, TRANSFER_LIMIT};
 #[derive(Clone, Copy)]
 pub enum OpClass {
     // What changes files, in a group of the log: a creation of a file of a type that there is, a
-    // write, a new count of links, or an operation that frees a file's blocks.
+    // write, a new attribute, or an operation that frees a file's blocks.
     Change,
     // A read of so many bytes of a file, or a question for its type and length.
     Look(Option<u32>),
@@ -29,7 +29,7 @@ pub fn class_of(op: &Op, inode_count: u32) -> OpClass
         return OpClass::Refused;
     }
     match op {
-        Op::Create(_) | Op::Write(..) | Op::Trunc(_) | Op::Remove(_) | Op::Links(..) => {
+        Op::Create(_) | Op::Write(..) | Op::Trunc(_) | Op::Remove(_) | Op::SetAttribute(..) => {
             OpClass::Change
         }
         Op::Read(_, _, count) => OpClass::Look(Some(*count)),
@@ -46,8 +46,12 @@ pub fn at_once_reply(op: &Op) -> Reply
         Op::Create(_) => Reply::BadType,
         Op::Write(_, _, bytes) if bytes.len() > TRANSFER_LIMIT as usize => Reply::TooLong,
         Op::Read(_, _, count) if *count > TRANSFER_LIMIT => Reply::TooLong,
-        Op::Write(..) | Op::Read(..) | Op::Trunc(_) | Op::Remove(_) | Op::Stat(_) | Op::Links(..) =>
-            Reply::NoFile,
+        Op::Write(..)
+        | Op::Read(..)
+        | Op::Trunc(_)
+        | Op::Remove(_)
+        | Op::Stat(_)
+        | Op::SetAttribute(..) => Reply::NoFile,
     }
 }
 
@@ -61,7 +65,7 @@ fn is_at_once(op: &Op, inode_count: u32) -> bool
             bytes.len() > TRANSFER_LIMIT as usize || !is_number(*i, inode_count)
         }
         Op::Read(i, _, count) => *count > TRANSFER_LIMIT || !is_number(*i, inode_count),
-        Op::Trunc(i) | Op::Remove(i) | Op::Stat(i) | Op::Links(i, _) => {
+        Op::Trunc(i) | Op::Remove(i) | Op::Stat(i) | Op::SetAttribute(i, _) => {
             !is_number(*i, inode_count)
         }
     }

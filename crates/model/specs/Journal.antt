@@ -3,7 +3,7 @@ use Rattle.std.specs.Prelude.{ℕ, ◌==◌, ◌&&◌, ◌||◌, not, nat_lt, na
 use Rattle.std.specs.List.{filter}
 use Rattle.model.specs.declared.types.image.Form.{Form}
 use Rattle.model.specs.declared.types.operations.Op.{Op}
-use Rattle.model.specs.declared.types.operations.Op.TheVariants.{Create, Write, Read, Trunc, Remove, Stat, Links}
+use Rattle.model.specs.declared.types.operations.Op.TheVariants.{Create, Write, Read, Trunc, Remove, Stat, SetAttribute}
 use Rattle.model.specs.declared.types.operations.Reply.{Reply}
 use Rattle.model.specs.declared.types.operations.Reply.TheVariants.{Made}
 use Rattle.model.specs.declared.types.operations.Entry.{Entry}
@@ -42,18 +42,17 @@ is_at_once inode_count (Read i off n) = nat_lt transfer_limit n || not (is_numbe
 is_at_once inode_count (Trunc i) = not (is_number inode_count i)
 is_at_once inode_count (Remove i) = not (is_number inode_count i)
 is_at_once inode_count (Stat i) = not (is_number inode_count i)
-is_at_once inode_count (Links i n) = not (is_number inode_count i)
+is_at_once inode_count (SetAttribute i attribute) = not (is_number inode_count i)
 
 -- operations that may change a file and are not answered at once
 abbrev pub is_changing : ℕ → Op → Bool
-is_changing inode_count (Create kind) = is_kind kind
-is_changing inode_count (Write i off bytes) =
-    nat_le (length bytes) transfer_limit && is_number inode_count i
-is_changing inode_count (Read i off n) = false
-is_changing inode_count (Trunc i) = is_number inode_count i
-is_changing inode_count (Remove i) = is_number inode_count i
-is_changing inode_count (Stat i) = false
-is_changing inode_count (Links i n) = is_number inode_count i
+is_changing count (Create kind) = is_kind kind
+is_changing count (Write i off bytes) = nat_le (length bytes) transfer_limit && is_number count i
+is_changing count (Read i off n) = false
+is_changing count (Trunc i) = is_number count i
+is_changing count (Remove i) = is_number count i
+is_changing count (Stat i) = false
+is_changing count (SetAttribute i a) = is_number count i
 
 -- the entries of a process
 abbrev pub own : ℕ → List Entry → List Entry

@@ -8,7 +8,7 @@ use Rattle.model.specs.declared.types.image.Dinode.{Dinode}
 use Rattle.model.specs.declared.types.operations.Entry.{Entry}
 use Rattle.model.specs.declared.types.image.Form.{Form}
 use Rattle.model.specs.declared.types.operations.Op.{Op}
-use Rattle.model.specs.declared.types.operations.Op.TheVariants.{Create, Write, Read, Trunc, Remove, Stat, Links}
+use Rattle.model.specs.declared.types.operations.Op.TheVariants.{Create, Write, Read, Trunc, Remove, Stat, SetAttribute}
 use Rattle.model.specs.declared.types.operations.Reply.{Reply}
 use Rattle.model.specs.declared.types.operations.Reply.TheVariants.{Made, NoInode, Wrote, Bytes, Done, StatOf, NoFile, BadOffset, TooBig, TooLong, BadType}
 use Rattle.model.specs.Fields.{has_bit}
@@ -72,7 +72,7 @@ is_writing (Read i off n) = false
 is_writing (Trunc i) = true
 is_writing (Remove i) = true
 is_writing (Stat i) = false
-is_writing (Links i n) = true
+is_writing (SetAttribute i attribute) = true
 
 -- the changing operations are those that may change a file and are not answered at once
 abbrev pub AtOnceIsNotChanging : Type 0

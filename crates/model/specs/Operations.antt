@@ -5,8 +5,10 @@ use Rattle.blocks.specs.Block.{overwritten}
 use Rattle.blocks.specs.Block.{block_size}
 use Rattle.model.specs.declared.types.image.Form.{Form}
 use Rattle.model.specs.declared.types.image.File.{File}
+use Rattle.model.specs.declared.types.operations.Attribute.{Attribute}
+use Rattle.model.specs.declared.types.operations.Attribute.TheVariants.{Links, Size}
 use Rattle.model.specs.declared.types.operations.Op.{Op}
-use Rattle.model.specs.declared.types.operations.Op.TheVariants.{Create, Write, Read, Trunc, Remove, Stat, Links}
+use Rattle.model.specs.declared.types.operations.Op.TheVariants.{Create, Write, Read, Trunc, Remove, Stat, SetAttribute}
 use Rattle.model.specs.declared.types.operations.Reply.{Reply}
 use Rattle.model.specs.declared.types.operations.Reply.TheVariants.{Made, NoInode, Wrote, Bytes, Done, StatOf, NoFile, BadOffset, TooBig, TooLong, BadType}
 use Rattle.model.specs.Layout.{greatest_size}
@@ -25,12 +27,17 @@ abbrev pub write_refusal : Form → Option File → ℕ → ℕ → Option Reply
 write_refusal form None off n = Some NoFile
 write_refusal form (Some file) off n =
     if nat_lt (length file.bytes) off then Some BadOffset
-    else if nat_lt (greatest_size form) (off + n) then Some TooBig
-    else None
+    else if nat_lt (greatest_size form) (off + n) then Some TooBig else None
 
 abbrev pub no_file_refusal : Option File → Option Reply
 no_file_refusal None = Some NoFile
 no_file_refusal (Some file) = None
+
+-- a file gets no length behind its end
+abbrev pub attribute_refusal : Option File → Attribute → Option Reply
+attribute_refusal None attribute = Some NoFile
+attribute_refusal (Some file) (Links n) = None
+attribute_refusal (Some file) (Size n) = if nat_lt (length file.bytes) n then Some BadOffset else None
 
 -- the first refusal that an operation on these files has
 abbrev pub refusal_of : Form → Files → Op → Option Reply
@@ -43,7 +50,7 @@ refusal_of form files (Read i off n) =
 refusal_of form files (Trunc i) = no_file_refusal (file_in files i)
 refusal_of form files (Remove i) = no_file_refusal (file_in files i)
 refusal_of form files (Stat i) = no_file_refusal (file_in files i)
-refusal_of form files (Links i n) = no_file_refusal (file_in files i)
+refusal_of form files (SetAttribute i attribute) = attribute_refusal (file_in files i) attribute
 
 -- a value where the test holds
 abbrev pub where_true : {A : Type 0} → Bool → A → Option A
@@ -53,8 +60,7 @@ where_true b a = if b then Some a else None
 abbrev pub part_of : List ℕ → ℕ → ℕ → List ℕ
 part_of bytes at n = take n (drop at bytes)
 
--- a write may have written k of n bytes: a short one ends at a whole block, at the file's end or
--- behind it
+-- a write may have written k of n bytes; a short one ends at a whole block, from the file's end on
 abbrev pub may_have_written : ℕ → ℕ → ℕ → ℕ → Bool
 may_have_written old off n k =
     nat_le k n && ((k == n) || (((off + k) % block_size == 0) && nat_le old (off + k)))
@@ -64,6 +70,11 @@ with_bytes file bytes = Some (record file { bytes = bytes })
 
 abbrev pub with_links : File → ℕ → Option File
 with_links file n = Some (record file { links = n })
+
+-- the file with an attribute set: its links, or the bytes up to a length
+abbrev pub with_attribute : File → Attribute → File
+with_attribute file (Links n) = record file { links = n }
+with_attribute file (Size n) = record file { bytes = take n file.bytes }
 
 -- the files once an operation on a file is done; None where it can't answer so
 abbrev pub after_on : Files → ℕ → File → Op → Reply → Option Files
@@ -76,7 +87,8 @@ after_on files i file (Trunc j) Done = Some (slice_set files i (with_bytes file 
 after_on files i file (Remove j) Done = Some (slice_set files i None)
 after_on files i file (Stat j) (StatOf kind links size) =
     where_true ((kind == file.kind) && ((links == file.links) && (size == length file.bytes))) files
-after_on files i file (Links j n) Done = Some (slice_set files i (with_links file n))
+after_on files i file (SetAttribute j attribute) Done =
+    Some (slice_set files i (Some (with_attribute file attribute)))
 after_on files i file op reply = None
 
 -- the same for the file of a number, where there is one
@@ -101,7 +113,8 @@ after_done files (Read i off n) reply = after_at files i (file_in files i) (Read
 after_done files (Trunc i) reply = after_at files i (file_in files i) (Trunc i) reply
 after_done files (Remove i) reply = after_at files i (file_in files i) (Remove i) reply
 after_done files (Stat i) reply = after_at files i (file_in files i) (Stat i) reply
-after_done files (Links i n) reply = after_at files i (file_in files i) (Links i n) reply
+after_done files (SetAttribute i attribute) reply =
+    after_at files i (file_in files i) (SetAttribute i attribute) reply
 
 -- whether two replies are the same refusal
 abbrev pub is_refusal : Reply → Reply → Bool

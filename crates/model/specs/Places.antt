@@ -9,8 +9,7 @@ use Rattle.model.specs.declared.types.image.Pointer.{Pointer}
 use Rattle.model.specs.Fields.{words_of}
 use Rattle.model.specs.Layout.{depths, reach, form_of, inode_of, inode_count_of}
 
--- the pointers behind each address of a list. The first of them leads to the file's block `first`,
--- and each to `step` blocks
+-- the pointers behind addresses of `step` blocks each, the first from the file's block `first` on
 abbrev pub pointers_behind : (ℕ → ℕ → List Pointer) → ℕ → ℕ → List ℕ → List Pointer
 pointers_behind pointers first step [] = []
 pointers_behind pointers first step (address ∷ addresses) =
@@ -21,8 +20,7 @@ abbrev pub pointer_of : ℕ → ℕ → ℕ → Pointer
 pointer_of size first address =
     record { address = address; needed = nat_lt (first * block_size) size }
 
--- the pointers from an address on, itself first, and then those in the block of addresses that it
--- names
+-- the pointers from an address on: itself, then those in the block of addresses that it names
 abbrev pub pointers_under : Image → ℕ → ℕ → ℕ → ℕ → List Pointer
 pointers_under x size zero first address = pointer_of size first address ∷ []
 pointers_under x size (suc depth) first address =

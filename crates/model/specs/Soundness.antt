@@ -4,13 +4,13 @@ use Rattle.blocks.specs.Disk.{Image}
 use Rattle.model.specs.declared.types.image.Dinode.{Dinode}
 use Rattle.model.specs.declared.types.image.Form.{Form}
 use Rattle.model.specs.declared.types.image.Pointer.{Pointer}
-use Rattle.model.specs.Layout.{form_of, has_known_magic, super_of, is_lawful_super, first_data_block, inode_of, greatest_size, is_marked}
+use Rattle.model.specs.Layout.{form_of, is_known_magic, magic_at, super_of, is_lawful_super, first_data_block, inode_of, greatest_size, is_marked}
 use Rattle.model.specs.Log.{logged_count}
 use Rattle.model.specs.Places.{pointers_of, numbers_of, places_of}
 
 -- the superblock is that of an image of this size
 pub record IsLawfulGeometry (x : Image) : Type 0 where
-  pub magic : IsTrue (has_known_magic x)
+  pub magic : IsTrue (is_known_magic (magic_at x))
   pub fields : IsTrue (is_lawful_super (super_of x) (length x))
 
 -- a type that there is, and a size that a file can have
@@ -31,8 +31,7 @@ count_of b (a ∷ rest) = (if a == b then 1 else 0) + count_of b rest
 abbrev pub place_count : Image → ℕ → ℕ
 place_count x b = count_of b (places_of x)
 
--- an empty log, inodes as the format has them, each block at one place at most, and a bitmap that
--- says so
+-- an empty log, inodes as the format has them, each block at one place at most, and a true bitmap
 pub record IsSound (x : Image) : Type 0 where
   pub geometry : IsLawfulGeometry x
   pub empty_log : logged_count x ≡ 0

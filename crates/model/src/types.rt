@@ -6,5 +6,7 @@ mod progress;
 
 pub use fault::CheckFault;
 pub use image::{Dinode, File, Form, Pointer, Super};
-pub use operations::{Answer, Entry, Op, Reply, Step, TRANSFER_LIMIT, TaskProgress, Why};
+pub use operations::{
+    Answer, Attribute, Entry, Op, Reply, Step, TRANSFER_LIMIT, TaskProgress, Why,
+};
 pub use progress::Progress;

@@ -136,8 +136,8 @@ fn fill<D: Disk>(
     Ok(())
 }
 
-/// Gives a file another length. What is new of it are zeroes. Where it keeps a part of its
-/// bytes, a stop may leave a beginning of that part: the kernel only takes all bytes from a file.
+/// Gives a file another length. A shorter one it has whole over a stop. What is new of a longer one
+/// are zeroes, of which a stop may leave fewer.
 pub(crate) fn resize<D: Disk>(
     alloc: Global,
     tree: &mut Tree<D>,
@@ -157,20 +157,7 @@ pub(crate) fn resize<D: Disk>(
     if size == found.size {
         return Ok(());
     }
-    shrink(alloc, tree, number, size)
-}
-
-// Takes the bytes behind a length from a file that has more.
-fn shrink<D: Disk>(alloc: Global, tree: &mut Tree<D>, number: u32, size: u32) -> Result<(), Errno>
-    requires ready { MayGoOn D.Disk tree.old.kernel tree.old.calls_left }
-    ensures ready { MayGoOn D.Disk tree.new.kernel tree.new.calls_left }
-{
-    let mut kept = Vec::new(alloc);
-    read(alloc, tree, number, 0, size, &mut kept)?;
-    tree.empty_at(alloc, number)?;
-    let left = write_pieces(alloc, tree, number, 0, kept.as_slice())?;
-    if left > 0 {
-        return Err(Errno::NoSpace);
-    }
+    // It has so many bytes, so it is cut.
+    let _cut = tree.cut_at(alloc, number, size)?;
     Ok(())
 }

@@ -7,6 +7,7 @@ use Rattle.blocks.specs.Block.{overwritten}
 use Rattle.model.specs.declared.types.image.File.{File}
 use Rattle.model.specs.declared.types.image.Form.{Form}
 use Rattle.model.specs.declared.types.operations.Entry.{Entry}
+use Rattle.model.specs.declared.types.operations.Attribute.{Attribute}
 use Rattle.model.specs.declared.types.operations.Op.{Op}
 use Rattle.model.specs.declared.types.operations.Op.TheVariants.{Create, Write, Read, Trunc, Remove, Stat}
 use Rattle.model.specs.declared.types.operations.Reply.{Reply}
@@ -18,7 +19,7 @@ use Rattle.model.specs.Lemmas.Runs.{where_true_some, and_then_some, replays_in_p
 use Rattle.model.specs.Lemmas.Replies.{after_cases, wrote_done}
 use Rattle.model.specs.Lemmas.FileNumbers.{below_file}
 use Rattle.model.specs.Log.{recovered}
-use Rattle.model.specs.Operations.{after, after_done, after_create, after_at, after_on, refusal_of, write_refusal, may_have_written, with_bytes, with_links}
+use Rattle.model.specs.Operations.{after, after_done, after_create, after_at, after_on, refusal_of, write_refusal, may_have_written, with_attribute, with_bytes}
 use Rattle.names.specs.declared.entries.EntryWrite.{EntryWrite}
 use Rattle.names.specs.Entries.{entries_of, number_in, is_for}
 use Rattle.names.specs.Writes.{written, Links}
@@ -66,10 +67,10 @@ pub stat_on : (files new : Files) (i : ℕ) (file : File) (j : ℕ) (reply : Rep
 stat_on files new i file j (StatOf kind links size) h = (where_true_some _ files new h).1
 stat_on files new i file j reply h = absurd (cc h)
 
-pub links_on : (files new : Files) (i : ℕ) (file : File) (j n : ℕ) (reply : Reply) → after_on files i file (Op.Links j n) reply ≡ Some new →
-    new ≡ set files i (with_links file n)
-links_on files new i file j n Done h = (where_true_some true (set files i (with_links file n)) new h).1
-links_on files new i file j n reply h = absurd (cc h)
+pub set_on : (files new : Files) (i : ℕ) (file : File) (j : ℕ) (a : Attribute) (reply : Reply) → after_on files i file (Op.SetAttribute j a) reply ≡ Some new →
+    new ≡ set files i (Some (with_attribute file a))
+set_on files new i file j a Done h = (where_true_some true (set files i (Some (with_attribute file a))) new h).1
+set_on files new i file j a reply h = absurd (cc h)
 
 -- ---- operations elsewhere leave the directory
 
@@ -106,9 +107,9 @@ done_elsewhere files new d (Remove i) reply is apart h =
 done_elsewhere files new d (Stat i) reply is apart h =
     let on = at_cases files new i (file_in files i) (Stat i) reply h in
     ap (λ (l : Files). file_in l 1) (stat_on files new i on.0 i reply on.2)
-done_elsewhere files new d (Op.Links i n) reply is apart h =
-    let on = at_cases files new i (file_in files i) (Op.Links i n) reply h in
-    elsewhere files new i _ apart (links_on files new i on.0 i n reply on.2)
+done_elsewhere files new d (Op.SetAttribute i a) reply is apart h =
+    let on = at_cases files new i (file_in files i) (Op.SetAttribute i a) reply h in
+    elsewhere files new i _ apart (set_on files new i on.0 i a reply on.2)
 
 -- ---- writes of entries
 

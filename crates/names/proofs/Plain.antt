@@ -3,6 +3,7 @@ use Rattle.std.proofs.Common.{◌≡◌, ◌≢◌, ℕ, [], take, set, Some, No
 use Rattle.std.proofs.lemmas.Bool.{cases_eq}
 use Rattle.blocks.specs.Block.{overwritten}
 use Rattle.model.specs.declared.types.image.File.{File}
+use Rattle.model.specs.declared.types.operations.Attribute.{Attribute}
 use Rattle.model.specs.declared.types.operations.Op.{Op}
 use Rattle.model.specs.declared.types.operations.Op.TheVariants.{Create, Write, Read, Trunc, Remove, Stat}
 use Rattle.model.specs.declared.types.operations.Reply.{Reply}
@@ -14,7 +15,7 @@ use Rattle.names.specs.Trees.{kind_of, IsDirectory, IsFile}
 use Rattle.names.specs.TreeChanges.{KeepsNames}
 use Rattle.names.specs.TreeLaws.{IsPlain, PlainKeeps}
 use Rattle.names.proofs.FileMaps.{set_others, set_there}
-use Rattle.names.proofs.Keeping.{at_cases, links_on, read_on, stat_on, trunc_on, write_on}
+use Rattle.names.proofs.Keeping.{at_cases, read_on, set_on, stat_on, trunc_on, write_on}
 use Rattle.names.proofs.Unnamed.{some_ne_none}
 
 same_files : (files new : Files) → new ≡ files → KeepsNames files new
@@ -61,9 +62,12 @@ done_keeps files new (Trunc i) reply plain h =
 done_keeps files new (Remove i) reply plain h = absurd plain
 done_keeps files new (Stat i) reply plain h =
     let on = at_cases files new i (file_in files i) (Stat i) reply h in same_files files new (stat_on files new i on.0 i reply on.2)
-done_keeps files new (Op.Links i n) reply plain h =
-    let on = at_cases files new i (file_in files i) (Op.Links i n) reply h in
-    one_file files new i on.0 (record on.0 { links = n }) on.1 plain refl (links_on files new i on.0 i n reply on.2)
+done_keeps files new (Op.SetAttribute i (Attribute.Links n)) reply plain h =
+    let on = at_cases files new i (file_in files i) (Op.SetAttribute i (Attribute.Links n)) reply h in
+    one_file files new i on.0 (record on.0 { links = n }) on.1 plain refl (set_on files new i on.0 i (Attribute.Links n) reply on.2)
+done_keeps files new (Op.SetAttribute i (Attribute.Size n)) reply plain h =
+    let on = at_cases files new i (file_in files i) (Op.SetAttribute i (Attribute.Size n)) reply h in
+    one_file files new i on.0 (record on.0 { bytes = take n on.0.bytes }) on.1 plain refl (set_on files new i on.0 i (Attribute.Size n) reply on.2)
 
 pub plain_keeps : PlainKeeps
 plain_keeps form files new op reply plain h =

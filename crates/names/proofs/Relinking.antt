@@ -1,17 +1,18 @@
 -- A file's count is changed, which changes no name; and operations that leave each count as it was.
-use Rattle.std.proofs.Common.{◌≡◌, ◌≢◌, ◌⊎◌, ℕ, ◌*◌, Bool, List, [], take, set, Some, None, sym, ap, subst, ◌∙◌, ⊎_elim}
+use Rattle.std.proofs.Common.{◌≡◌, ◌≢◌, ◌⊎◌, ℕ, ◌*◌, Bool, List, [], take, set, Option, Some, None, sym, ap, subst, ◌∙◌, ⊎_elim}
 use Rattle.std.proofs.lemmas.Bool.{cases_eq}
 use Rattle.blocks.specs.Block.{overwritten}
 use Rattle.blocks.specs.declared.disk.Disk.{Ghosts}
 use Rattle.model.specs.declared.types.image.File.{File}
 use Rattle.model.specs.declared.types.image.Form.{Form}
+use Rattle.model.specs.declared.types.operations.Attribute.{Attribute}
 use Rattle.model.specs.declared.types.operations.Op.{Op}
 use Rattle.model.specs.declared.types.operations.Op.TheVariants.{Remove, Trunc, Write}
 use Rattle.model.specs.declared.types.operations.Reply.{Reply}
 use Rattle.model.specs.Files.{Files, file_in}
 use Rattle.model.specs.Lemmas.FileNumbers.{below_file}
 use Rattle.model.specs.Lemmas.Replies.{after_cases}
-use Rattle.model.specs.Operations.{after, after_done, no_file_refusal, refusal_of, with_bytes, with_links}
+use Rattle.model.specs.Operations.{after, after_done, attribute_refusal, no_file_refusal, refusal_of, with_bytes, with_links}
 use Rattle.calls.specs.Stepping.{Plain}
 use Rattle.names.specs.declared.entries.EntryWrite.{EntryWrite}
 use Rattle.names.specs.Entries.{lookup}
@@ -21,17 +22,17 @@ use Rattle.names.specs.TreeChanges.{AddsName, ChangesName, DropsName, MovesName,
 use Rattle.names.specs.Trees.{bytes_of, directory_in, kind_of, links_of, number_of, IsFile, IsTidy}
 use Rattle.names.proofs.Answered.{done_where, some_by}
 use Rattle.names.proofs.FileMaps.{set_others, set_there}
-use Rattle.names.proofs.Keeping.{at_cases, links_on, remove_on, trunc_on, write_on}
+use Rattle.names.proofs.Keeping.{at_cases, set_on, remove_on, trunc_on, write_on}
 
 -- ---- a count changed
 
-pub relinks_by : (form : Form) (files new : Files) (i n : ℕ) (reply : Reply) → IsFile files i → after form files (Op.Links i n) reply ≡ Some new →
+pub relinks_by : (form : Form) (files new : Files) (i n : ℕ) (reply : Reply) → IsFile files i → after form files (Op.SetAttribute i (Attribute.Links n)) reply ≡ Some new →
     Relinks files new i n
 relinks_by form files new i n reply there h =
     let has = some_by (file_in files i) there in
-    let done = done_where form files new (Op.Links i n) reply (ap no_file_refusal has.1) h in
-    let on = at_cases files new i (file_in files i) (Op.Links i n) reply done in
-    let e : new ≡ set files i (with_links on.0 n) = links_on files new i on.0 i n reply on.2 in
+    let done = done_where form files new (Op.SetAttribute i (Attribute.Links n)) reply (ap (λ (o : Option File). attribute_refusal o (Attribute.Links n)) has.1) h in
+    let on = at_cases files new i (file_in files i) (Op.SetAttribute i (Attribute.Links n)) reply done in
+    let e : new ≡ set files i (with_links on.0 n) = set_on files new i on.0 i (Attribute.Links n) reply on.2 in
     record {
       file = on.0;
       was = on.1;
@@ -147,6 +148,15 @@ truncs_links form files new i reply h j =
     let on = at_cases files new i (file_in files i) (Trunc i) reply done.1 in
     set_links files new i on.0 [] on.1 (trunc_on files new i on.0 i reply on.2) j)
     (after_cases form files new (Trunc i) reply h)
+
+pub cuts_links : (form : Form) (files new : Files) (i n : ℕ) (reply : Reply) → after form files (Op.SetAttribute i (Attribute.Size n)) reply ≡ Some new →
+    (j : ℕ) → links_of (file_in new j) ≡ links_of (file_in files j)
+cuts_links form files new i n reply h j =
+    ⊎_elim (λ (same : new ≡ files). same_links files new same j)
+    (λ (done : (refusal_of form files (Op.SetAttribute i (Attribute.Size n)) ≡ None) × (after_done files (Op.SetAttribute i (Attribute.Size n)) reply ≡ Some new)).
+    let on = at_cases files new i (file_in files i) (Op.SetAttribute i (Attribute.Size n)) reply done.1 in
+    set_links files new i on.0 (take n on.0.bytes) on.1 (set_on files new i on.0 i (Attribute.Size n) reply on.2) j)
+    (after_cases form files new (Op.SetAttribute i (Attribute.Size n)) reply h)
 
 -- another file was removed
 pub remove_keeps : (form : Form) (files new : Files) (i : ℕ) (reply : Reply) (j : ℕ) → j ≢ i → after form files (Remove i) reply ≡ Some new →

@@ -9,6 +9,7 @@ use Rattle.model.specs.declared.types.image.Dinode.{Dinode}
 use Rattle.model.specs.declared.types.image.File.{File}
 use Rattle.model.specs.declared.types.image.Form.{Form}
 use Rattle.model.specs.declared.types.image.Form.TheVariants.{One, Two}
+use Rattle.model.specs.declared.types.operations.Attribute.{Attribute}
 use Rattle.model.specs.declared.types.operations.Op.{Op}
 use Rattle.model.specs.declared.types.operations.Op.TheVariants.{Create, Write, Read, Trunc, Remove, Stat}
 use Rattle.model.specs.declared.types.operations.Reply.{Reply}
@@ -19,11 +20,11 @@ use Rattle.model.specs.Lemmas.Counts.{All-range_at}
 use Rattle.model.specs.Lemmas.FileNumbers.{file_in-files_of, file_in-files_of_past}
 use Rattle.model.specs.Lemmas.Replies.{after_cases}
 use Rattle.model.specs.Lemmas.Runs.{where_true_some}
-use Rattle.model.specs.Operations.{after, after_create, after_done, refusal_of, write_refusal, with_bytes, with_links}
+use Rattle.model.specs.Operations.{after, after_create, after_done, refusal_of, write_refusal, with_bytes}
 use Rattle.model.specs.Soundness.{IsLawfulInode, IsSound}
 use Rattle.names.specs.Sizes.{AreSized}
 use Rattle.names.specs.Trees.{bytes_of}
-use Rattle.names.proofs.Keeping.{at_cases, links_on, not_refused, read_on, remove_on, stat_on, trunc_on, write_on}
+use Rattle.names.proofs.Keeping.{at_cases, not_refused, read_on, remove_on, set_on, stat_on, trunc_on, write_on}
 
 -- ---- what any form has room for
 
@@ -124,9 +125,13 @@ done_sized form files new (Remove i) reply sized allowed h =
 done_sized form files new (Stat i) reply sized allowed h =
     let on = at_cases files new i (file_in files i) (Stat i) reply h in
     same_sized form files new sized (stat_on files new i on.0 i reply on.2)
-done_sized form files new (Op.Links i n) reply sized allowed h =
-    let on = at_cases files new i (file_in files i) (Op.Links i n) reply h in
-    put_sized form files new i (with_links on.0 n) sized (bytes_at form files i on.0 sized on.1) (links_on files new i on.0 i n reply on.2)
+done_sized form files new (Op.SetAttribute i (Attribute.Links n)) reply sized allowed h =
+    let on = at_cases files new i (file_in files i) (Op.SetAttribute i (Attribute.Links n)) reply h in
+    put_sized form files new i _ sized (bytes_at form files i on.0 sized on.1) (set_on files new i on.0 i (Attribute.Links n) reply on.2)
+done_sized form files new (Op.SetAttribute i (Attribute.Size n)) reply sized allowed h =
+    let on = at_cases files new i (file_in files i) (Op.SetAttribute i (Attribute.Size n)) reply h in
+    let most = bytes_at form files i on.0 sized on.1 in
+    put_sized form files new i _ sized (omega (arith, most, (length-take n on.0.bytes))) (set_on files new i on.0 i (Attribute.Size n) reply on.2)
 
 pub after_sized : (form : Form) (files new : Files) (op : Op) (reply : Reply) → AreSized form files → after form files op reply ≡ Some new → AreSized form new
 after_sized form files new op reply sized h =

@@ -1,7 +1,8 @@
 -- Trees that came of trees, and whose counts are right where those of these were.
 use Rattle.std.proofs.Common.{◌≡◌, ℕ, List, Some, sym, subst}
 use Rattle.model.specs.declared.types.image.Form.{Form}
-use Rattle.model.specs.declared.types.operations.Op.TheVariants.{Trunc, Write}
+use Rattle.model.specs.declared.types.operations.Attribute.TheVariants.{Size}
+use Rattle.model.specs.declared.types.operations.Op.TheVariants.{SetAttribute, Trunc, Write}
 use Rattle.model.specs.declared.types.operations.Reply.{Reply}
 use Rattle.model.specs.Files.{Files}
 use Rattle.model.specs.Operations.{after}
@@ -10,7 +11,7 @@ use Rattle.names.specs.Trees.{IsDirectory, IsTree}
 use Rattle.names.proofs.CountedChanges.{counted_kept}
 use Rattle.names.proofs.Dropping.{keeping_keeps}
 use Rattle.names.proofs.Plain.{plain_keeps}
-use Rattle.names.proofs.Relinking.{truncs_links, writes_links}
+use Rattle.names.proofs.Relinking.{cuts_links, truncs_links, writes_links}
 
 -- the files are the same
 pub stays_same : (files new : Files) → new ≡ files → IsTree files → StaysCounted files new
@@ -45,4 +46,14 @@ truncs_stay form files new i reply tree plain h =
     record {
       tree = (keeping_keeps files new tree keeps).tree;
       counted = λ counted. counted_kept files new counted (truncs_links form files new i reply h) keeps;
+    }
+
+-- or it was cut to a length
+pub cuts_stay : (form : Form) (files new : Files) (i n : ℕ) (reply : Reply) → IsTree files → (IsDirectory files i → ⊥) →
+    after form files (SetAttribute i (Size n)) reply ≡ Some new → StaysCounted files new
+cuts_stay form files new i n reply tree plain h =
+    let keeps = plain_keeps form files new (SetAttribute i (Size n)) reply plain h in
+    record {
+      tree = (keeping_keeps files new tree keeps).tree;
+      counted = λ counted. counted_kept files new counted (cuts_links form files new i n reply h) keeps;
     }

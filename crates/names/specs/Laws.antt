@@ -29,7 +29,7 @@ IsElsewhere (Read i off n) = Unit {0}
 IsElsewhere (Trunc i) = i ≢ directory_number
 IsElsewhere (Remove i) = i ≢ directory_number
 IsElsewhere (Stat i) = Unit {0}
-IsElsewhere (Op.Links i n) = i ≢ directory_number
+IsElsewhere (Op.SetAttribute i a) = i ≢ directory_number
 
 -- an operation that writes a whole entry, which has not that name, at another place
 pub record WritesOther (place : ℕ) (name : List ℕ) (op : Op) : Type 0 where

@@ -1,11 +1,11 @@
 -- What is asked of the file of a number.
-use Rattle.std.specs.Prelude.{◌≡◌, ◌⊎◌, ℕ, List, [], length, take, slice_set, Option, None, Some, Result, Ok, Err, IsTrue}
+use Rattle.std.specs.Prelude.{◌≡◌, ◌≤◌, ◌<◌, ◌⊎◌, ℕ, Bool, true, false, List, [], length, take, slice_set, Option, None, Some, Result, Ok, Err, IsTrue}
 use Rattle.blocks.specs.Block.{overwritten}
 use Rattle.model.specs.declared.types.image.File.{File}
 use Rattle.model.specs.declared.types.image.Form.{Form}
 use Rattle.model.specs.declared.types.operations.Op.TheVariants.{Write}
 use Rattle.model.specs.declared.types.operations.Reply.{Reply}
-use Rattle.model.specs.declared.types.operations.Reply.TheVariants.{Wrote, BadOffset, TooBig, TooLong}
+use Rattle.model.specs.declared.types.operations.Reply.TheVariants.{Wrote, Done, BadOffset, TooBig, TooLong}
 use Rattle.model.specs.Files.{Files, file_in}
 use Rattle.model.specs.Operations.{may_have_written, refusal_of, with_bytes}
 use Rattle.names.specs.declared.asking.Found.{Found}
@@ -81,3 +81,20 @@ pub record WritesSomeOf (form : Form) (number offset : ℕ) (bytes : List ℕ) (
   pub file : File
   pub plain : IsPlainFile files number file
   pub writes : WritesSomeAs form number offset bytes file done files new
+
+-- an operation was done
+abbrev pub is_done : Reply → Bool
+is_done Done = true
+is_done reply = false
+
+-- the file has its first bytes alone, or it has fewer than these, and no file changes
+abbrev pub CutsAs : ℕ → ℕ → File → Bool → Files → Files → Type 0
+CutsAs number size file true files new = (size ≤ length file.bytes)
+    × (new ≡ slice_set files number (with_bytes file (take size file.bytes)))
+CutsAs number size file false files new = (length file.bytes < size) × (new ≡ files)
+
+-- the same of the file of a number
+pub record CutsAt (number size : ℕ) (done : Bool) (files new : Files) : Type 0 where
+  pub file : File
+  pub plain : IsPlainFile files number file
+  pub cuts : CutsAs number size file done files new

@@ -93,7 +93,7 @@ IsPlain files (Read i off n) = Unit {0}
 IsPlain files (Trunc i) = IsDirectory files i → ⊥
 IsPlain files (Remove i) = ⊥
 IsPlain files (Stat i) = Unit {0}
-IsPlain files (Op.Links i n) = IsDirectory files i → ⊥
+IsPlain files (Op.SetAttribute i a) = IsDirectory files i → ⊥
 
 -- It leaves each name as it was, whatever it was answered.
 abbrev pub PlainKeeps : Type 0

@@ -17,6 +17,7 @@ mod asking;
 mod changing;
 mod checking;
 mod contents;
+mod cutting;
 mod directing;
 mod directory;
 mod entries;

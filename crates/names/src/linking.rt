@@ -20,7 +20,7 @@ use crate::path::names_of;
 use crate::refusal::{Asked, Refusal, TreeFault};
 use crate::tree::Tree;
 use blocks::Disk;
-use model::types::{Op, Reply};
+use model::types::{Attribute, Op, Reply};
 use std::alloc::Global;
 
 // The greatest count of links: xv6's own is a signed number of 16 bits.
@@ -190,7 +190,7 @@ impl<D: Disk> Tree<D> {
         ensures relinks { OnOk result (Relinks (files_seen D.image self.old.kernel)
             (files_seen D.image self.new.kernel) number count) }
     {
-        let _done = self.called(Op::Links(number, count))?;
+        let _done = self.called(Op::SetAttribute(number, Attribute::Links(count)))?;
         Ok(())
     }
 

@@ -39,6 +39,6 @@ fn copy_of(alloc: Global, op: &Op) -> Result<Op, NoMemory>
         Op::Trunc(inode) => Ok(Op::Trunc(*inode)),
         Op::Remove(inode) => Ok(Op::Remove(*inode)),
         Op::Stat(inode) => Ok(Op::Stat(*inode)),
-        Op::Links(inode, count) => Ok(Op::Links(*inode, *count)),
+        Op::SetAttribute(inode, attribute) => Ok(Op::SetAttribute(*inode, *attribute)),
     }
 }

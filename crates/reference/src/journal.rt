@@ -28,7 +28,7 @@ pub fn is_changing(inode_count: u32, op: &Op) -> bool
             bytes.len() <= TRANSFER_LIMIT as usize && is_number(inode_count, *i)
         }
         Op::Read(..) | Op::Stat(_) => false,
-        Op::Trunc(i) | Op::Remove(i) | Op::Links(i, _) => is_number(inode_count, *i),
+        Op::Trunc(i) | Op::Remove(i) | Op::SetAttribute(i, _) => is_number(inode_count, *i),
     }
 }
 

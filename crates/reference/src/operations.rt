@@ -4,13 +4,13 @@ ghost use Rattle.std.specs.Bool.{OnFalse};
 ghost use Rattle.std.specs.Option.{option_copied};
 ghost use Rattle.blocks.specs.Block.{overwritten};
 ghost use Rattle.model.specs.Files.{file_in};
-ghost use Rattle.model.specs.Operations.{transfer_limit, is_kind, write_refusal, no_file_refusal, refusal_of, where_true, part_of, may_have_written, after_create, after_at, after_done, is_refusal, after};
+ghost use Rattle.model.specs.Operations.{transfer_limit, is_kind, write_refusal, attribute_refusal, no_file_refusal, refusal_of, where_true, part_of, may_have_written, after_create, after_at, after_done, is_refusal, after};
 
 use crate::files::Files;
 use blocks::{BLOCK_SIZE, NoMemory};
 use layout::greatest_size;
 use model::content::Content;
-use model::types::{File, Form, Op, Reply, TRANSFER_LIMIT};
+use model::types::{Attribute, File, Form, Op, Reply, TRANSFER_LIMIT};
 use std::alloc::Global;
 
 /// Whether a file can have this type.
@@ -59,6 +59,19 @@ fn no_file_refusal(file: Option<&File>) -> Option<Reply>
     }
 }
 
+/// Why a file doesn't get an attribute: there is none, or the length lies behind its end.
+fn attribute_refusal(file: Option<&File>, attribute: Attribute) -> Option<Reply>
+    ensures { result ≡ attribute_refusal (option_copied file.entry) attribute }
+{
+    let Some(file) = file else {
+        return Some(Reply::NoFile);
+    };
+    match attribute {
+        Attribute::Size(size) if size as usize > file.bytes.len() => Some(Reply::BadOffset),
+        Attribute::Size(_) | Attribute::Links(_) => None,
+    }
+}
+
 /// The first refusal that an operation on these files has; none where it is carried out.
 pub fn refusal_of(form: Form, files: &[Option<File>], op: &Op) -> Option<Reply>
     ensures { result ≡ refusal_of form files.now op.now }
@@ -69,9 +82,10 @@ pub fn refusal_of(form: Form, files: &[Option<File>], op: &Op) -> Option<Reply>
         Op::Write(_, _, bytes) if bytes.len() > TRANSFER_LIMIT as usize => Some(Reply::TooLong),
         Op::Write(i, off, bytes) => write_refusal(form, file_in(files, *i), *off, bytes.len()),
         Op::Read(_, _, n) if *n > TRANSFER_LIMIT => Some(Reply::TooLong),
-        Op::Read(i, _, _) | Op::Trunc(i) | Op::Remove(i) | Op::Stat(i) | Op::Links(i, _) => {
+        Op::Read(i, _, _) | Op::Trunc(i) | Op::Remove(i) | Op::Stat(i) => {
             no_file_refusal(file_in(files, *i))
         }
+        Op::SetAttribute(i, attribute) => attribute_refusal(file_in(files, *i), *attribute),
     }
 }
 
@@ -256,8 +270,8 @@ fn allows_stat(files: &[Option<File>], i: u32, reply: &Reply) -> bool
 
 /// Gives a file that many links, where the operation can answer so. The files stay where it can't.
 fn apply_links(files: &mut Files, i: u32, links: u16, reply: &Reply) -> bool
-    ensures after { after_at files.old.items i (file_in files.old.items i) (Op.Links i links)
-        reply.now ≡ where_true result files.new.items }
+    ensures after { after_at files.old.items i (file_in files.old.items i) (Op.SetAttribute i
+        (Attribute.Links links)) reply.now ≡ where_true result files.new.items }
     ensures same { OnFalse result (files.new.items ≡ files.old.items) }
 {
     if file_in(files.as_slice(), i).is_none() || !matches!(reply, Reply::Done) {
@@ -267,6 +281,32 @@ fn apply_links(files: &mut Files, i: u32, links: u16, reply: &Reply) -> bool
         file.links = links;
     }
     true
+}
+
+/// Cuts a file to its first `size` bytes, where the operation can answer so. The files stay where it
+/// can't, and where memory is refused.
+fn apply_size(
+    alloc: Global,
+    files: &mut Files,
+    i: u32,
+    size: u32,
+    reply: &Reply,
+) -> Result<bool, NoMemory>
+    ensures after { IfOk result (λ yes. after_at files.old.items i (file_in files.old.items i)
+        (Op.SetAttribute i (Attribute.Size size)) reply.now ≡ where_true yes files.new.items) }
+    ensures same { IfOk result (λ yes. OnFalse yes (files.new.items ≡ files.old.items)) }
+    ensures err { OnErr result (files.new.items ≡ files.old.items) }
+{
+    let Some(file) = file_in(files.as_slice(), i) else {
+        return Ok(false);
+    };
+    if !matches!(reply, Reply::Done) {
+        return Ok(false);
+    }
+    let (kind, links) = (file.kind, file.links);
+    let bytes = Content::copy_of(alloc, part_of(file.bytes.as_slice(), 0, size))?;
+    files[i as usize] = Some(File { kind, links, bytes });
+    Ok(true)
 }
 
 /// Does an operation that is not refused, where it can answer so. The files stay where it can't,
@@ -284,7 +324,8 @@ fn apply_done(alloc: Global, files: &mut Files, op: &Op, reply: &Reply) -> Resul
         Op::Trunc(i) => Ok(apply_trunc(alloc, files, *i, reply)),
         Op::Remove(i) => Ok(apply_remove(files, *i, reply)),
         Op::Stat(i) => Ok(allows_stat(files.as_slice(), *i, reply)),
-        Op::Links(i, links) => Ok(apply_links(files, *i, *links, reply)),
+        Op::SetAttribute(i, Attribute::Links(links)) => Ok(apply_links(files, *i, *links, reply)),
+        Op::SetAttribute(i, Attribute::Size(size)) => apply_size(alloc, files, *i, *size, reply),
     }
 }
 

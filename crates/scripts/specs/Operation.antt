@@ -2,8 +2,9 @@
 use Rattle.std.specs.Prelude.{ℕ, List, [], ◌∷◌, Option, Some, None, ◌==◌, codes, option_map, replicate, if◌then◌else◌}
 use Rattle.std.specs.List.{slice_split}
 use Rattle.std.specs.Str.{bytes_eq}
+use Rattle.model.specs.declared.types.operations.Attribute.TheVariants.{Links, Size}
 use Rattle.model.specs.declared.types.operations.Op.{Op}
-use Rattle.model.specs.declared.types.operations.Op.TheVariants.{Create, Write, Read, Trunc, Remove, Stat, Links}
+use Rattle.model.specs.declared.types.operations.Op.TheVariants.{Create, Write, Read, Trunc, Remove, Stat, SetAttribute}
 use Rattle.scripts.specs.Field.{◌>>=◌, byte_of, content_of}
 use Rattle.scripts.specs.Number.{number_of, number_up_to}
 
@@ -21,7 +22,21 @@ unfoldable pub links_of : List ℕ → List ℕ → Option Op
 links_of inode count = do
   i ← number_of inode
   n ← number_up_to 65535 count
-  Some (Links i n)
+  Some (SetAttribute i (Links n))
+
+-- `I N`
+unfoldable pub resize_of : List ℕ → List ℕ → Option Op
+resize_of inode size = do
+  i ← number_of inode
+  n ← number_of size
+  Some (SetAttribute i (Size n))
+
+-- the operation of a verb with two arguments
+unfoldable pub attribute_of : List ℕ → List ℕ → List ℕ → Option Op
+attribute_of verb inode value =
+    if bytes_eq verb (codes "links") then links_of inode value
+    else if bytes_eq verb (codes "resize") then resize_of inode value
+    else None
 
 -- `I OFF HEX`
 unfoldable pub write_of : List ℕ → List ℕ → List ℕ → Option Op
@@ -58,8 +73,7 @@ write_or_read_of verb inode offset last =
 -- the operation of a verb and its arguments
 unfoldable pub operation_of : List (List ℕ) → Option Op
 operation_of (verb ∷ argument ∷ []) = short_of verb argument
-operation_of (verb ∷ inode ∷ count ∷ []) =
-    if bytes_eq verb (codes "links") then links_of inode count else None
+operation_of (verb ∷ inode ∷ value ∷ []) = attribute_of verb inode value
 operation_of (verb ∷ inode ∷ offset ∷ last ∷ []) = write_or_read_of verb inode offset last
 operation_of (verb ∷ inode ∷ offset ∷ count ∷ digits ∷ []) =
     if bytes_eq verb (codes "fill") then fill_of inode offset count digits else None

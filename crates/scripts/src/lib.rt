@@ -18,6 +18,7 @@
 //! | `P read I OFF N` | reads `N` bytes |
 //! | `P trunc I`, `P remove I`, `P stat I` | the operation of that name |
 //! | `P links I N` | gives inode `I` that many links, at most 65535 |
+//! | `P resize I N` | cuts inode `I` to its first `N` bytes |
 //!
 //! # Schedules
 //!

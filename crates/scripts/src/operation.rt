@@ -1,14 +1,14 @@
 // The operation that a line's fields write.
 ghost use Rattle.std.specs.Prelude.{◌≡◌, ◌<◌, ◌==◌, count_by, map};
 ghost use Rattle.scripts.specs.Field.{Tells};
-ghost use Rattle.scripts.specs.Operation.{fill_of, links_of, operation_of, process_and_operation, read_of, short_of, statement_of, write_of, write_or_read_of};
+ghost use Rattle.scripts.specs.Operation.{attribute_of, fill_of, links_of, operation_of, process_and_operation, read_of, resize_of, short_of, statement_of, write_of, write_or_read_of};
 ghost use Rattle.std.specs.List.{slice_split};
 
 use crate::field::{LineFault, byte, content};
 use crate::number::{number, number_up_to};
 use arrayvec::ArrayVec;
 use model::content::Content;
-use model::types::Op;
+use model::types::{Attribute, Op};
 use std::alloc::Global;
 
 // The most fields of a row of the table.
@@ -66,13 +66,7 @@ fn operation(alloc: Global, fields: &[&[u8]]) -> Result<Op, LineFault>
 {
     match fields {
         [verb, argument] => short(verb, argument).ok_or(LineFault::Bad),
-        [verb, inode, count] => {
-            if *verb == b"links".as_slice() {
-                links(inode, count).ok_or(LineFault::Bad)
-            } else {
-                Err(LineFault::Bad)
-            }
-        }
+        [verb, inode, value] => attribute(verb, inode, value).ok_or(LineFault::Bad),
         [verb, inode, offset, last] => write_or_read(alloc, verb, inode, offset, last),
         [verb, inode, offset, count, digits] => {
             if *verb == b"fill".as_slice() {
@@ -103,6 +97,29 @@ fn short(verb: &[u8], argument: &[u8]) -> Option<Op>
     }
 }
 
+// The operation of a verb with two arguments, which sets an attribute of a file.
+#[tactic(auto, unfolding(crate::specs::Operation::attribute_of))]
+fn attribute(verb: &[u8], inode: &[u8], value: &[u8]) -> Option<Op>
+    ensures { result ≡ attribute_of verb.now inode.now value.now }
+{
+    if verb == b"links".as_slice() {
+        links(inode, value)
+    } else if verb == b"resize".as_slice() {
+        resize(inode, value)
+    } else {
+        None
+    }
+}
+
+// A new length of a file.
+#[tactic(auto, unfolding(crate::specs::Operation::resize_of))]
+fn resize(inode: &[u8], size: &[u8]) -> Option<Op>
+    ensures { result ≡ resize_of inode.now size.now }
+{
+    let inode = number(inode)?;
+    Some(Op::SetAttribute(inode, Attribute::Size(number(size)?)))
+}
+
 // A new count of links of a file.
 #[tactic(auto, unfolding(crate::specs::Operation::links_of))]
 fn links(inode: &[u8], count: &[u8]) -> Option<Op>
@@ -110,7 +127,7 @@ fn links(inode: &[u8], count: &[u8]) -> Option<Op>
 {
     let inode = number(inode)?;
     let count = number_up_to(65_535, count)?;
-    Some(Op::Links(inode, count as u16))
+    Some(Op::SetAttribute(inode, Attribute::Links(count as u16)))
 }
 
 // The operation of a verb with three arguments.

@@ -16,7 +16,7 @@ const MOST_TOLD: usize = 60;
 
 // What a line of a script has to be.
 const LINE_FORMS: &str =
-    "P create T, P write I OFF HEX, P fill I OFF N XX, P read I OFF N, P trunc I, P links I N, P remove I or P stat I";
+    "P create T, P write I OFF HEX, P fill I OFF N XX, P read I OFF N, P trunc I, P links I N, P resize I N, P remove I or P stat I";
 
 // The line of this number, from 1, of the script at a path, and what a line has to be.
 pub fn bad_line<R: Files + AllocGlobal>(rt: &R, path: &str, number: u32) -> Option<String> {

@@ -1,7 +1,7 @@
 // What the plain program says of replies, and of journals.
 use blocks::NoMemory;
 use model::content::Content;
-use model::types::{Entry, File, Form, Op, Reply};
+use model::types::{Attribute, Entry, File, Form, Op, Reply};
 use reference::files::Files;
 use reference::journal::{replay_answered, replay_kept};
 use reference::operations::apply;
@@ -58,10 +58,12 @@ fn print_others(rt: &impl Print, alloc: Global, files: &mut Files) -> anyhow::Re
     print_reply(rt, alloc, files, Op::Read(1, 0, 3073), Reply::TooLong)?;
     print_reply(rt, alloc, files, Op::Trunc(2), Reply::Done)?;
     print_reply(rt, alloc, files, Op::Trunc(1), Reply::Done)?;
-    print_reply(rt, alloc, files, Op::Links(1, 65_535), Reply::NoFile)?;
-    print_reply(rt, alloc, files, Op::Links(1, 65_535), Reply::Done)?;
+    let most = Attribute::Links(65_535);
+    print_reply(rt, alloc, files, Op::SetAttribute(1, most), Reply::NoFile)?;
+    print_reply(rt, alloc, files, Op::SetAttribute(1, most), Reply::Done)?;
     println!(rt; "{:?} links", first_links(files.as_slice()))?;
-    print_reply(rt, alloc, files, Op::Links(32, 1), Reply::NoFile)?;
+    let one = Attribute::Links(1);
+    print_reply(rt, alloc, files, Op::SetAttribute(32, one), Reply::NoFile)?;
     print_reply(rt, alloc, files, Op::Remove(1), Reply::Done)?;
     print_reply(rt, alloc, files, Op::Remove(1), Reply::NoFile)
 }

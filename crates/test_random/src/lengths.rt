@@ -1,6 +1,6 @@
 // How long the files are that a script names most.
 use crate::setting::Setting;
-use model::types::{Entry, Op, Reply};
+use model::types::{Attribute, Entry, Op, Reply};
 
 /// The lengths of the files of the first eight numbers.
 #[derive(Clone, Copy)]
@@ -41,6 +41,9 @@ impl Lengths {
             }
             (Op::Trunc(number) | Op::Remove(number), Reply::Done) => {
                 self.lengths[(*number % 8) as usize] = 0;
+            }
+            (Op::SetAttribute(number, Attribute::Size(size)), Reply::Done) => {
+                self.lengths[(*number % 8) as usize] = *size;
             }
             _ => {}
         }

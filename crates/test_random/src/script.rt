@@ -5,7 +5,7 @@ use crate::chance::Chance;
 use crate::lengths::Lengths;
 use crate::setting::Setting;
 use model::content::Content;
-use model::types::{Entry, Form, Op};
+use model::types::{Attribute, Entry, Form, Op};
 use std::alloc::{AllocError, Global};
 
 // How many bytes the blocks hold that an inode of the first form itself names.
@@ -135,7 +135,7 @@ impl Script {
             65..=78 => Ok(Op::Read(number, offset, count)),
             79..=81 => Ok(Op::Trunc(number)),
             82..=84 => Ok(Op::Remove(number)),
-            93..=96 => Ok(Op::Links(number, self.links())),
+            93..=96 => Ok(Op::SetAttribute(number, Attribute::Links(self.links()))),
             _ => Ok(Op::Stat(number)),
         }
     }

@@ -227,7 +227,7 @@ fn kind(op: &Op) -> Row {
         Op::Trunc(_) => Row::Truncations,
         Op::Remove(_) => Row::Removals,
         Op::Stat(_) => Row::Questions,
-        Op::Links(..) => Row::LinkCounts,
+        Op::SetAttribute(..) => Row::LinkCounts,
     }
 }
 

@@ -1,7 +1,7 @@
 // The operations that lines hand in, and the answers that they get.
 use crate::fault::LineFault;
 use model::content::Content;
-use model::types::{Answer, Op, Reply};
+use model::types::{Answer, Attribute, Op, Reply};
 use std::alloc::{AllocError, Global};
 
 /// What a line hands in, and for which process.
@@ -15,6 +15,7 @@ pub fn operation(alloc: Global, words: &[&str]) -> Result<Option<(u32, Op)>, Lin
             handed(pid, written(alloc, [inode, offset, count], digits))
         }
         ["submit", pid, "links", inode, count] => handed(pid, links([inode, count])),
+        ["submit", pid, "resize", inode, size] => handed(pid, resize([inode, size])),
         ["submit", pid, "read", inode, offset, count] => handed(pid, read([inode, offset, count])),
         _ => Ok(None),
     }
@@ -47,7 +48,13 @@ fn read(words: [&str; 3]) -> Result<Option<Op>, LineFault> {
 }
 
 fn links([inode, count]: [&str; 2]) -> Result<Option<Op>, LineFault> {
-    Ok(Some(Op::Links(inode.parse()?, count.parse()?)))
+    let links = Attribute::Links(count.parse()?);
+    Ok(Some(Op::SetAttribute(inode.parse()?, links)))
+}
+
+fn resize([inode, size]: [&str; 2]) -> Result<Option<Op>, LineFault> {
+    let size = Attribute::Size(size.parse()?);
+    Ok(Some(Op::SetAttribute(inode.parse()?, size)))
 }
 
 // A write of so many bytes, each of which has these two digits.

@@ -9,7 +9,8 @@ use Rattle.history.specs.Processes.{process}
 use Rattle.ports.specs.Queues.{OthersWait, answers, polled, waiting}
 use Rattle.model.specs.declared.types.operations.Answer.{Answer}
 use Rattle.model.specs.declared.types.operations.Op.{Op}
-use Rattle.model.specs.declared.types.operations.Op.TheVariants.{Create, Write, Read, Trunc, Remove, Stat, Links}
+use Rattle.model.specs.declared.types.operations.Attribute.TheVariants.{Links, Size}
+use Rattle.model.specs.declared.types.operations.Op.TheVariants.{Create, Write, Read, Trunc, Remove, Stat, SetAttribute}
 use Rattle.kernel.specs.Steps.{MakesStep}
 use Rattle.model.specs.declared.types.operations.Step.{Step}
 use Rattle.sessions.specs.declared.disk.HostDisk.{HostDisk}
@@ -67,7 +68,9 @@ IsOperation o bytes (Read i offset len) =
 IsOperation o bytes (Trunc i) = (o.kind ≡ 3) × (i ≡ o.inum)
 IsOperation o bytes (Remove i) = (o.kind ≡ 4) × (i ≡ o.inum)
 IsOperation o bytes (Stat i) = (o.kind ≡ 5) × (i ≡ o.inum)
-IsOperation o bytes (Links i count) = (o.kind ≡ 6) × (i ≡ o.inum) × (count ≡ o.len)
+IsOperation o bytes (SetAttribute i (Links count)) =
+    (o.kind ≡ 6) × (i ≡ o.inum) × (count ≡ o.len)
+IsOperation o bytes (SetAttribute i (Size len)) = (o.kind ≡ 7) × (i ≡ o.inum) × (len ≡ o.len)
 
 -- the sessions differ in their queues at most, and there alone in those of process p
 pub record KeepsKernel (p : ℕ) (s t : Session) : Type 0 where
@@ -87,7 +90,7 @@ pub record HandsIn (p : ℕ) (o : XvfsOp) (bytes : List ℕ) (seq : ℕ) (s t : 
 -- of links, or memory was refused for the bytes of a write
 abbrev pub MeansNone : XvfsOp → ℕ → Type 0
 MeansNone o number =
-    ((number ≡ 1539) × ((6 < o.kind) ⊎ ((o.kind ≡ 0) × (65535 < o.inum))
+    ((number ≡ 1539) × ((7 < o.kind) ⊎ ((o.kind ≡ 0) × (65535 < o.inum))
     ⊎ ((o.kind ≡ 6) × (65535 < o.len))))
     ⊎ ((number ≡ 1542) × (o.kind ≡ 1))
 

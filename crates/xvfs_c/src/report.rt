@@ -65,7 +65,8 @@ pub struct XvfsTold {
     pub synced: u32,
 }
 
-/// An operation. The bytes of a write are passed beside it; `len` is also the new count of links.
+/// An operation. The bytes of a write are passed beside it; `len` is also the new count of links,
+/// or the new length.
 #[repr(C)]
 #[derive(Clone, Copy)]
 pub struct XvfsOp {

@@ -186,6 +186,11 @@ pub enum Op<'a> {
         inum: u32,
         count: u16,
     },
+    /// Cuts the file to its first `len` bytes; one that has fewer is refused by `BadOffset`.
+    Resize {
+        inum: u32,
+        len: u32,
+    },
 }
 
 /// What an operation was answered.
@@ -348,6 +353,7 @@ impl Session {
             Op::Remove { inum } => (4, inum, 0, 0, &[]),
             Op::Stat { inum } => (5, inum, 0, 0, &[]),
             Op::Links { inum, count } => (6, inum, 0, u32::from(count), &[]),
+            Op::Resize { inum, len } => (7, inum, 0, len, &[]),
         };
         let op = raw::Op {
             kind,

@@ -137,6 +137,29 @@ fn links_are_kept() {
 }
 
 #[test]
+fn a_file_is_cut() {
+    let mut host = new_host(1, 0);
+    host.call(0, CREATE).expect("an answer");
+    let write = Op::Write {
+        inum: 1,
+        offset: 0,
+        bytes: b"hello",
+    };
+    host.call(0, write).expect("an answer");
+    let longer = Op::Resize { inum: 1, len: 6 };
+    assert_eq!(host.call(0, longer).expect("one").reply, Reply::BadOffset);
+    let shorter = Op::Resize { inum: 1, len: 2 };
+    assert_eq!(host.call(0, shorter).expect("one").reply, Reply::Done);
+    let read = Op::Read {
+        inum: 1,
+        offset: 0,
+        len: 9,
+    };
+    let told = Reply::Bytes(b"he".to_vec());
+    assert_eq!(host.call(0, read).expect("an answer").reply, told);
+}
+
+#[test]
 fn each_stop_keeps_whole_operations() {
     for stop in 2..=9 {
         let mut host = new_host(1, stop);

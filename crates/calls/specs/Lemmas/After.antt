@@ -6,16 +6,18 @@ use Rattle.std.proofs.Math.ListN.{drop_of_length-le}
 use Rattle.blocks.specs.Block.{overwritten}
 use Rattle.model.specs.declared.types.image.Form.{Form}
 use Rattle.model.specs.declared.types.image.File.{File}
+use Rattle.model.specs.declared.types.operations.Attribute.{Attribute}
+use Rattle.model.specs.declared.types.operations.Attribute.TheVariants.{Links, Size}
 use Rattle.model.specs.declared.types.operations.Op.{Op}
-use Rattle.model.specs.declared.types.operations.Op.TheVariants.{Create, Write, Trunc, Remove, Links}
+use Rattle.model.specs.declared.types.operations.Op.TheVariants.{Create, Write, Trunc, Remove, SetAttribute}
 use Rattle.model.specs.declared.types.operations.Reply.{Reply}
 use Rattle.model.specs.declared.types.operations.Reply.TheVariants.{Made, NoInode, Wrote, Done, BadOffset, TooBig, TooLong, BadType}
 use Rattle.model.specs.Files.{Files, file_in}
 use Rattle.model.specs.Layout.{greatest_size}
-use Rattle.model.specs.Operations.{after, after_refusal, after_done, after_at, after_on, write_refusal, no_file_refusal, is_kind, transfer_limit, may_have_written, with_bytes, with_links}
+use Rattle.model.specs.Operations.{after, after_refusal, after_done, after_at, after_on, attribute_refusal, write_refusal, no_file_refusal, is_kind, transfer_limit, may_have_written, with_attribute, with_bytes}
 use Rattle.model.specs.Lemmas.Runs.{where_true_some}
 use Rattle.calls.specs.Lemmas.Creations.{HasMade, done_makes}
-use Rattle.calls.specs.Files.{without_bytes, with_count, with_more, emptied, relinked, appended, MayAppend}
+use Rattle.calls.specs.Files.{without_bytes, with_value, with_more, emptied, files_set, appended, CanSet, MayAppend}
 
 -- ---- a creation
 
@@ -73,21 +75,35 @@ unfolding after
 after_emptying form files i reply new there h =
     emptied_at files i (file_in files i) reply new (allowed files (file_in files i) (Trunc i) reply new there h)
 
-relinked_on : (files : Files) (i n : ℕ) (file : File) (reply : Reply) (new : Files) →
-    after_on files i file (Links i n) reply ≡ Some new → (reply ≡ Done) × (new ≡ set files i (with_links file n))
-relinked_on files i n file Done new h = (refl, cc h)
-relinked_on files i n file reply new h = absurd (cc h)
+set_on : (files : Files) (i : ℕ) (a : Attribute) (file : File) (reply : Reply) (new : Files) →
+    after_on files i file (SetAttribute i a) reply ≡ Some new → (reply ≡ Done) × (new ≡ set files i (Some (with_attribute file a)))
+set_on files i a file Done new h = (refl, cc h)
+set_on files i a file reply new h = absurd (cc h)
 
-relinked_at : (files : Files) (i n : ℕ) (o : Option File) (reply : Reply) (new : Files) →
-    after_at files i o (Links i n) reply ≡ Some new → (reply ≡ Done) × (new ≡ set files i (with_count o n))
-relinked_at files i n None reply new h = absurd (cc h)
-relinked_at files i n (Some file) reply new h = relinked_on files i n file reply new h
+set_at : (files : Files) (i : ℕ) (a : Attribute) (o : Option File) (reply : Reply) (new : Files) →
+    after_at files i o (SetAttribute i a) reply ≡ Some new → (reply ≡ Done) × (new ≡ set files i (with_value o a))
+set_at files i a None reply new h = absurd (cc h)
+set_at files i a (Some file) reply new h = set_on files i a file reply new h
 
-pub after_relinking : (form : Form) (files : Files) (i n : ℕ) (reply : Reply) (new : Files) → file_in files i ≢ None →
-    after form files (Links i n) reply ≡ Some new → (reply ≡ Done) × (new ≡ relinked files i n)
+-- a value that can be set isn't refused
+not_refused : (files : Files) (i : ℕ) (o : Option File) (a : Attribute) (reply : Reply) (new : Files) → CanSet o a →
+    after_refusal (attribute_refusal o a) files (SetAttribute i a) reply ≡ Some new → after_done files (SetAttribute i a) reply ≡ Some new
+not_refused files i None a reply new can h = absurd can
+not_refused files i (Some file) (Links n) reply new can h = h
+not_refused files i (Some file) (Size n) reply new can h =
+    subst (λ (b : Bool). after_refusal (cond b (Some BadOffset) None) files (SetAttribute i (Size n)) reply ≡ Some new)
+    (le-ltb (length file.bytes) n can) h
+
+-- links can be set of any file
+pub can_links : (o : Option File) (n : ℕ) → o ≢ None → CanSet o (Links n)
+can_links None n there = absurd (there refl)
+can_links (Some file) n there = tt
+
+pub after_setting : (form : Form) (files : Files) (i : ℕ) (a : Attribute) (reply : Reply) (new : Files) → CanSet (file_in files i) a →
+    after form files (SetAttribute i a) reply ≡ Some new → (reply ≡ Done) × (new ≡ files_set files i a)
 unfolding after
-after_relinking form files i n reply new there h =
-    relinked_at files i n (file_in files i) reply new (allowed files (file_in files i) (Links i n) reply new there h)
+after_setting form files i a reply new can h =
+    set_at files i a (file_in files i) reply new (not_refused files i (file_in files i) a reply new can h)
 
 -- ---- a write at a file's end
 

@@ -6,7 +6,7 @@ use Rattle.std.proofs.lemmas.List.{get_or-set_other}
 use Rattle.model.specs.declared.types.image.File.{File}
 use Rattle.model.specs.declared.types.image.Form.{Form}
 use Rattle.model.specs.declared.types.operations.Op.{Op}
-use Rattle.model.specs.declared.types.operations.Op.TheVariants.{Create, Write, Read, Trunc, Remove, Stat, Links}
+use Rattle.model.specs.declared.types.operations.Op.TheVariants.{Create, Write, Read, Trunc, Remove, Stat, SetAttribute}
 use Rattle.model.specs.declared.types.operations.Reply.{Reply}
 use Rattle.model.specs.declared.types.operations.Reply.TheVariants.{Made, NoInode, Wrote, Bytes, Done, StatOf, NoFile}
 use Rattle.model.specs.Files.{Files, file_in}
@@ -32,7 +32,7 @@ on_adds files new i file (Read j off n) (Bytes bytes) held h = none_added files 
 on_adds files new i file (Trunc j) Done held h = set_adds_none files new i _ held (where_true_some true _ new h).1
 on_adds files new i file (Remove j) Done held h = set_adds_none files new i _ held (where_true_some true _ new h).1
 on_adds files new i file (Stat j) (StatOf kind links size) held h = none_added files new (where_true_some _ files new h).1
-on_adds files new i file (Links j n) Done held h = set_adds_none files new i _ held (where_true_some true _ new h).1
+on_adds files new i file (SetAttribute j a) Done held h = set_adds_none files new i _ held (where_true_some true _ new h).1
 on_adds files new i file op reply held h = absurd (cc h)
 
 at_adds : (files new : Files) (i : ℕ) (o : Option File) (op : Op) (reply : Reply) → file_in files i ≡ o → after_at files i o op reply ≡ Some new → AddsNone files new
@@ -47,7 +47,7 @@ never_on files new i j file (Read k off n) h = cc h
 never_on files new i j file (Trunc k) h = cc h
 never_on files new i j file (Remove k) h = cc h
 never_on files new i j file (Stat k) h = cc h
-never_on files new i j file (Links k n) h = cc h
+never_on files new i j file (SetAttribute k a) h = cc h
 
 never_at : (files new : Files) (i j : ℕ) (o : Option File) (op : Op) → after_at files i o op (Made j) ≡ Some new → ⊥
 never_at files new i j None op h = cc h
@@ -99,7 +99,7 @@ done_tells files new (Read i off n) reply h = file_tells files new i (Read i off
 done_tells files new (Trunc i) reply h = file_tells files new i (Trunc i) reply h
 done_tells files new (Remove i) reply h = file_tells files new i (Remove i) reply h
 done_tells files new (Stat i) reply h = file_tells files new i (Stat i) reply h
-done_tells files new (Links i n) reply h = file_tells files new i (Links i n) reply h
+done_tells files new (SetAttribute i a) reply h = file_tells files new i (SetAttribute i a) reply h
 
 tells_so : (files new : Files) (refusal : Option Reply) (op : Op) (reply : Reply) → after_refusal refusal files op reply ≡ Some new → Tells files new reply
 tells_so files new None op reply h = done_tells files new op reply h

@@ -4,7 +4,7 @@ use Rattle.blocks.specs.declared.disk.Disk.{Ghosts}
 use Rattle.model.specs.declared.types.image.Form.{Form}
 use Rattle.model.specs.declared.types.image.Form.TheVariants.{One, Two}
 use Rattle.model.specs.declared.types.operations.Op.{Op}
-use Rattle.model.specs.declared.types.operations.Op.TheVariants.{Create, Write, Read, Trunc, Remove, Stat, Links}
+use Rattle.model.specs.declared.types.operations.Op.TheVariants.{Create, Write, Read, Trunc, Remove, Stat, SetAttribute}
 use Rattle.model.specs.declared.types.operations.Reply.{Reply}
 use Rattle.inodes.specs.Writing.{most_beside, most_logged}
 use Rattle.calls.specs.Stepping.{Plain}
@@ -22,7 +22,7 @@ logs_nine form (Read i off n) = omega arith
 logs_nine form (Trunc i) = omega arith
 logs_nine form (Remove i) = omega arith
 logs_nine form (Stat i) = omega arith
-logs_nine form (Links i n) = omega arith
+logs_nine form (SetAttribute i a) = omega arith
 
 module _ {D N : Type 0} (disk : Ghosts D N) (k a : Plain D) (begins : Begins disk.image k a) where
   -- the first call of a transaction

@@ -75,7 +75,7 @@ fn has_room<D: Disk>(kernel: &Pair<D>, op: &Op) -> bool
 {
     match op {
         Op::Read(..) | Op::Stat(_) => true,
-        Op::Create(_) | Op::Write(..) | Op::Trunc(_) | Op::Remove(_) | Op::Links(..) => {
+        Op::Create(_) | Op::Write(..) | Op::Trunc(_) | Op::Remove(_) | Op::SetAttribute(..) => {
             kernel.may_begin().is_none()
         }
     }

@@ -6,10 +6,10 @@ ghost use Rattle.model.specs.Layout.{form_of};
 ghost use Rattle.model.specs.Operations.{is_kind, transfer_limit};
 ghost use Rattle.calls.specs.Answered.{IsCommitted};
 ghost use Rattle.calls.specs.Calls.{call_count, image_on};
-ghost use Rattle.calls.specs.Files.{Appends, Creates, MayAppend, MayAppendTwo, files_on};
+ghost use Rattle.calls.specs.Files.{Appends, Creates, HasBytes, MayAppend, MayAppendTwo, files_on};
 ghost use Rattle.calls.specs.Pairing.{IsUnmade};
 ghost use Rattle.calls.specs.Stepping.{IsReached};
-ghost use Rattle.calls.specs.Stopped.{AppendsFirst, Empties, LeavesChange, MakesAny, Relinks, Removes, StaysOver};
+ghost use Rattle.calls.specs.Stopped.{AppendsFirst, Empties, LeavesChange, MakesAny, Relinks, Removes, Resizes, StaysOver};
 ghost use Rattle.calls.specs.Transactions.{Rests};
 
 use crate::transactions::beginning::{Pair, begin};
@@ -20,7 +20,7 @@ use crate::transactions::making::make_one;
 use crate::transactions::resting::rested;
 use blocks::Disk;
 use model::content::Content;
-use model::types::{Op, Reply, TRANSFER_LIMIT};
+use model::types::{Attribute, Op, Reply, TRANSFER_LIMIT};
 use std::alloc::Global;
 
 /// Makes an empty file of this type at the lowest free number, which it answers; none where each
@@ -120,7 +120,36 @@ pub fn set_links<D: Disk>(
     ensures stays { StaysOver D.Disk kernel.old kernel.new }
     ensures reached { IsReached D.Disk kernel.old kernel.new }
 {
-    let Reply::Done = make_one(alloc, kernel, Op::Links(i, count))? else {
+    let Reply::Done = make_one(alloc, kernel, Op::SetAttribute(i, Attribute::Links(count)))? else {
+        unreachable!()
+    };
+    Ok(())
+}
+
+/// Cuts a file to its first `size` bytes, which are no more than it has. The blocks behind them stay
+/// its own until it is emptied or removed.
+///
+/// # Errors
+///
+/// Those of `make_one`.
+pub fn resize<D: Disk>(
+    alloc: Global,
+    kernel: &mut Pair<D>,
+    i: u32,
+    size: u32,
+) -> Result<(), TransactionFault>
+    requires rests { Rests D.fault_count kernel.old }
+    requires few { call_count kernel.old + 2 < 2 ^ 63 }
+    requires within { HasBytes (file_in (files_on D.image kernel.old) i) size }
+    ensures resizes { OnOk result
+        (Resizes i size (files_on D.image kernel.old) (files_on D.image kernel.new)) }
+    ensures committed { OnOk result (IsCommitted D.Disk 2 kernel.old kernel.new) }
+    ensures refused { IfErr result (IsUnmade D.Disk kernel.old kernel.new) }
+    ensures leaves { LeavesChange D.Disk (Resizes i size) kernel.old kernel.new }
+    ensures stays { StaysOver D.Disk kernel.old kernel.new }
+    ensures reached { IsReached D.Disk kernel.old kernel.new }
+{
+    let Reply::Done = make_one(alloc, kernel, Op::SetAttribute(i, Attribute::Size(size)))? else {
         unreachable!()
     };
     Ok(())

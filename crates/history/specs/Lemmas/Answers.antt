@@ -5,7 +5,7 @@ use Rattle.std.specs.Prelude.{All, IsSome, IfSome, is_some}
 use Rattle.std.specs.Str.{bytes_eq}
 use Rattle.std.proofs.Math.Nat.{min-le_left}
 use Rattle.std.proofs.lemmas.Slice.Eq.{bytes_eq-Decides}
-use Rattle.history.specs.Common.{after_answer, after_at, after_done, after_refusal, All-get_or, and_then_some, Answer, answered, BadOffset, BadType, Bytes, Create, Done, Entry, false≢true, File, file_in, Files, Form, GatheredBytes, gives, HasEntry, HasItsGroup, History, is_changing, is_refusal, IsEntry, IsLogAt, length-take, Links, lt-ltb, Made, NoFile, NoInode, Op, part_of, Phase, Read, refusal_of, Remove, replay, Reply, StandsAt, Stat, StatOf, TooBig, TooLong, Trunc, View, where_true, where_true_some, Write, Wrote}
+use Rattle.history.specs.Common.{after_answer, after_at, after_done, after_refusal, All-get_or, and_then_some, Answer, answered, BadOffset, BadType, Bytes, Create, Done, Entry, false≢true, File, file_in, Files, Form, GatheredBytes, gives, HasEntry, HasItsGroup, History, is_changing, is_refusal, IsEntry, IsLogAt, length-take, SetAttribute, lt-ltb, Made, NoFile, NoInode, Op, part_of, Phase, Read, refusal_of, Remove, replay, Reply, StandsAt, Stat, StatOf, TooBig, TooLong, Trunc, View, where_true, where_true_some, Write, Wrote}
 use Rattle.model.specs.Operations.{after}
 use Rattle.history.specs.Histories.{pending_at, Owes, Owed, IsHistory}
 use Rattle.history.specs.Journal.{entry_in, plain_reply, answer_with, answer_of, HasRoom, FitsRoom, IsItsRoom}
@@ -48,7 +48,7 @@ is_read (Read i off n) = true
 is_read (Trunc i) = false
 is_read (Remove i) = false
 is_read (Stat i) = false
-is_read (Links i n) = false
+is_read (SetAttribute i attribute) = false
 
 -- no refusal is one with bytes
 no_bytes_refused : (refusal : Reply) (bytes : List ℕ) → is_refusal refusal (Bytes bytes) ≡ false
@@ -73,7 +73,7 @@ no_bytes_on m i (Some file) (Read j off n) bytes not = absurd (false≢true (sym
 no_bytes_on m i (Some file) (Trunc j) bytes not = refl
 no_bytes_on m i (Some file) (Remove j) bytes not = refl
 no_bytes_on m i (Some file) (Stat j) bytes not = refl
-no_bytes_on m i (Some file) (Links j n) bytes not = refl
+no_bytes_on m i (Some file) (SetAttribute j attribute) bytes not = refl
 
 -- nor is one that isn't refused
 no_bytes_done : (m : Files) (op : Op) (bytes : List ℕ) → is_read op ≡ false → after_done m op (Bytes bytes) ≡ None
@@ -83,7 +83,7 @@ no_bytes_done m (Read i off n) bytes not = no_bytes_on m i (file_in m i) (Read i
 no_bytes_done m (Trunc i) bytes not = no_bytes_on m i (file_in m i) (Trunc i) bytes not
 no_bytes_done m (Remove i) bytes not = no_bytes_on m i (file_in m i) (Remove i) bytes not
 no_bytes_done m (Stat i) bytes not = no_bytes_on m i (file_in m i) (Stat i) bytes not
-no_bytes_done m (Links i n) bytes not = no_bytes_on m i (file_in m i) (Links i n) bytes not
+no_bytes_done m (SetAttribute i attribute) bytes not = no_bytes_on m i (file_in m i) (SetAttribute i attribute) bytes not
 
 -- nor any
 no_bytes : (form : Form) (m : Files) (op : Op) (bytes : List ℕ) → is_read op ≡ false → after form m op (Bytes bytes) ≡ None
@@ -132,7 +132,7 @@ bytes_fit form m new (Read i off n) bytes room its h = subst (λ (o : Option Gat
 bytes_fit form m new (Trunc i) bytes room its h = let no = sym (no_bytes form m (Trunc i) bytes refl) ∙ h in absurd (cc no)
 bytes_fit form m new (Remove i) bytes room its h = let no = sym (no_bytes form m (Remove i) bytes refl) ∙ h in absurd (cc no)
 bytes_fit form m new (Stat i) bytes room its h = let no = sym (no_bytes form m (Stat i) bytes refl) ∙ h in absurd (cc no)
-bytes_fit form m new (Links i n) bytes room its h = let no = sym (no_bytes form m (Links i n) bytes refl) ∙ h in absurd (cc no)
+bytes_fit form m new (SetAttribute i attribute) bytes room its h = let no = sym (no_bytes form m (SetAttribute i attribute) bytes refl) ∙ h in absurd (cc no)
 
 -- so does its reply
 pub fits_after : (form : Form) (m new : Files) (op : Op) (r : Reply) (room : Option GatheredBytes) → IsItsRoom (Some op) room → after form m op r ≡ Some new → FitsRoom room r
@@ -186,7 +186,7 @@ change_fits n (Read i off k) room is = absurd (false≢true is)
 change_fits n (Trunc i) room is = tt
 change_fits n (Remove i) room is = tt
 change_fits n (Stat i) room is = tt
-change_fits n (Links i k) room is = tt
+change_fits n (SetAttribute i attribute) room is = tt
 
 -- an entry's group tells whether its operation changes files
 pub group_tells : (n group k : ℕ) (es : List Entry) (e : Entry) → All (HasItsGroup n) es → IsEntry es k e → e.group ≡ group → is_changing n e.op ≡ ltb 0 group

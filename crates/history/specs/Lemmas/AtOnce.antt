@@ -1,6 +1,6 @@
 -- What is answered at once changes nothing, and depends on nobody's file.
 use Rattle.std.proofs.Common.{◌≡◌, ℕ, Bool, true, false, not, cond, ◌||◌, eqb, ltb, List, length, Option, Some, None, refl, sym, ap, ◌∙◌, arith}
-use Rattle.history.specs.Common.{after_refusal, answered, both_of, count_stays, Create, Entry, file_in, Files, Follows, Form, Held, is_at_once, is_making, is_number, Links, ltb-true, ne_eqb, no_file_at, no_file_refusal, NoFile, not-true, number_of, Op, Read, Remove, Stat, TooLong, touches, Trunc, Write, write_refusal, zero_stays}
+use Rattle.history.specs.Common.{after_refusal, answered, both_of, count_stays, Create, Entry, file_in, Files, Follows, Form, Held, is_at_once, is_making, is_number, SetAttribute, ltb-true, ne_eqb, no_file_at, no_file_refusal, NoFile, not-true, number_of, Op, Read, Remove, Stat, TooLong, touches, Trunc, Write, write_refusal, zero_stays}
 use Rattle.model.specs.Operations.{after}
 use Rattle.history.specs.AtOnce.{at_once_reply}
 
@@ -21,7 +21,7 @@ at_once_after form m (Read i off n) zero h = by_length (ltb 3072 n) h
 at_once_after form m (Trunc i) zero h = rw (no_file_at m i zero (not-true _ h)) refl
 at_once_after form m (Remove i) zero h = rw (no_file_at m i zero (not-true _ h)) refl
 at_once_after form m (Stat i) zero h = rw (no_file_at m i zero (not-true _ h)) refl
-at_once_after form m (Links i n) zero h = rw (no_file_at m i zero (not-true _ h)) refl
+at_once_after form m (SetAttribute i attribute) zero h = rw (no_file_at m i zero (not-true _ h)) refl
 
 not_that : (n i j : ℕ) → not (is_number n j) ≡ true → is_number n i ≡ true → eqb j i ≡ false
 not_that n i j out is = ne_eqb j i (λ same. let t : false ≡ true = sym (not-true (is_number n j) out) ∙ ap (is_number n) same ∙ is in cc t)
@@ -44,7 +44,7 @@ number_apart n i (Read j off k) h is = by_length (ltb 3072 k) h
 number_apart n i (Trunc j) h is = not_that n i j h is
 number_apart n i (Remove j) h is = not_that n i j h is
 number_apart n i (Stat j) h is = not_that n i j h is
-number_apart n i (Links j k) h is = not_that n i j h is
+number_apart n i (SetAttribute j attribute) h is = not_that n i j h is
 
 -- and makes no number
 pub unmade : (i : ℕ) (op : Op) → is_making i (Some (at_once_reply op)) ≡ false
@@ -62,7 +62,7 @@ unmade i (Read j off k) = by_length (ltb 3072 k)
 unmade i (Trunc j) = refl
 unmade i (Remove j) = refl
 unmade i (Stat j) = refl
-unmade i (Links j n) = refl
+unmade i (SetAttribute j attribute) = refl
 
 -- it has nothing to do with any number that is held
 pub at_once_apart : (n i : ℕ) (e : Entry) → is_at_once n e.op ≡ true → e.reply ≡ Some (at_once_reply e.op) → is_number n i ≡ true → touches i e ≡ false

@@ -2,7 +2,7 @@
 use Rattle.std.proofs.Common.{◌≡◌, ℕ, zero, suc, Bool, true, false, not, cond, ◌&&◌, ◌||◌, leb, List, [], ◌∷◌, ◌++◌, set, Option, Some, None, refl, sym, ap, ◌∙◌}
 use Rattle.std.specs.Prelude.{is_some}
 use Rattle.std.specs.List.{list_all, list_any}
-use Rattle.history.specs.Common.{after_answer, after_at, after_refusal, and_then_some, answered, AreUpTo, BadOffset, BadType, both_of, Bytes, Create, Done, due_labels, Entry, File, file_in, Files, files_of, Form, form_of, Image, inode_count_of, is_changing, is_kind, is_making, is_refusal, IsEntry, kept, labels_of, Links, list_any-append, Made, NoFile, NoInode, Op, Read, refusal_of, Remove, replay, Reply, Stat, StatOf, told, TooBig, TooLong, Trunc, where_true, Write, Wrote}
+use Rattle.history.specs.Common.{after_answer, after_at, after_refusal, and_then_some, answered, AreUpTo, BadOffset, BadType, both_of, Bytes, Create, Done, due_labels, Entry, File, file_in, Files, files_of, Form, form_of, Image, inode_count_of, is_changing, is_kind, is_making, is_refusal, IsEntry, kept, labels_of, SetAttribute, list_any-append, Made, NoFile, NoInode, Op, Read, refusal_of, Remove, replay, Reply, Stat, StatOf, told, TooBig, TooLong, Trunc, where_true, Write, Wrote}
 use Rattle.model.specs.Operations.{after}
 use Rattle.history.specs.Lemmas.Lists.{entry_next}
 
@@ -32,7 +32,7 @@ at_none files i j (Some file) (Read k off n) = refl
 at_none files i j (Some file) (Trunc k) = refl
 at_none files i j (Some file) (Remove k) = refl
 at_none files i j (Some file) (Stat k) = refl
-at_none files i j (Some file) (Links k n) = refl
+at_none files i j (Some file) (SetAttribute k attribute) = refl
 
 not_made : (files new : Files) (i j : ℕ) (op : Op) (o : Option Reply) → after_refusal o files op (Made j) ≡ Some new → after_refusal None files op (Made j) ≡ after_at files i (file_in files i) op (Made j) → ⊥
 not_made files new i j op (Some s) h done = let t = sym (ap (λ (b : Bool). where_true b files) (no_number j s)) ∙ h in cc t
@@ -46,7 +46,7 @@ made_changing form files new n j (Read i off k) h = absurd (not_made files new i
 made_changing form files new n j (Trunc i) h = absurd (not_made files new i j (Trunc i) (refusal_of form files (Trunc i)) h refl)
 made_changing form files new n j (Remove i) h = absurd (not_made files new i j (Remove i) (refusal_of form files (Remove i)) h refl)
 made_changing form files new n j (Stat i) h = absurd (not_made files new i j (Stat i) (refusal_of form files (Stat i)) h refl)
-made_changing form files new n j (Links i k) h = absurd (not_made files new i j (Links i k) (refusal_of form files (Links i k)) h refl)
+made_changing form files new n j (SetAttribute i attribute) h = absurd (not_made files new i j (SetAttribute i attribute) (refusal_of form files (SetAttribute i attribute)) h refl)
 
 making_changing : (form : Form) (files new : Files) (n i : ℕ) (op : Op) (r : Reply) → is_making i (Some r) ≡ true → after form files op r ≡ Some new → is_changing n op ≡ true
 making_changing form files new n i op (Made j) is h = made_changing form files new n j op h

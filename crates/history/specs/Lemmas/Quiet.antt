@@ -2,7 +2,7 @@
 use Rattle.std.proofs.Common.{◌≡◌, ℕ, Bool, true, false, not, cond, ◌&&◌, leb, List, [], ◌∷◌, length, Option, Some, None, refl, sym, ap, subst, ◌∙◌}
 use Rattle.std.specs.Prelude.{is_some}
 use Rattle.std.specs.List.{list_all}
-use Rattle.history.specs.Common.{after_answer, after_at, after_refusal, and_then, and_then_some, answered, AreOpen, AreUpTo, at_once_is_not_changing, at_once_is_refused, both_of, Bytes, Create, Entry, File, file_in, Files, Follows, Form, Held, held_by, is_at_once, is_changing, is_late, is_write_op, is_writing, IsOpen, kept, Links, Op, Read, refusal_of, refusals_first, Remove, replay, Reply, Stat, StatOf, Trunc, where_true_some, Write, zero_stays}
+use Rattle.history.specs.Common.{after_answer, after_at, after_refusal, and_then, and_then_some, answered, AreOpen, AreUpTo, at_once_is_not_changing, at_once_is_refused, both_of, Bytes, Create, Entry, File, file_in, Files, Follows, Form, Held, held_by, is_at_once, is_changing, is_late, is_write_op, is_writing, IsOpen, kept, SetAttribute, Op, Read, refusal_of, refusals_first, Remove, replay, Reply, Stat, StatOf, Trunc, where_true_some, Write, zero_stays}
 use Rattle.model.specs.Operations.{after}
 use Rattle.history.specs.Lemmas.Opens.{first_open}
 use Rattle.history.specs.Lemmas.Told.{answer_length}
@@ -23,7 +23,7 @@ kept_answered n m c holds (d ∷ es) are none = by_reply d.reply refl (kept_answ
     not_write (Trunc i) late w = absurd (cc late)
     not_write (Remove i) late w = absurd (cc late)
     not_write (Stat i) late w = absurd (cc late)
-    not_write (Links i k) late w = absurd (cc late)
+    not_write (SetAttribute i attribute) late w = absurd (cc late)
 
     by_reply : (o : Option Reply) → d.reply ≡ o → kept n (answered es) c ≡ kept n es c → kept n (cond (is_some o) (d ∷ answered es) (answered es)) c ≡ kept n (d ∷ es) c
     by_reply (Some r) is rest = ap (λ (l : List Entry). cond (is_changing n d.op && leb d.group c) (d ∷ l) l) rest
@@ -39,7 +39,7 @@ looked_same files new i (Some file) (Create kind) reply not h = absurd (cc not)
 looked_same files new i (Some file) (Write j off bytes) reply not h = absurd (cc not)
 looked_same files new i (Some file) (Trunc j) reply not h = absurd (cc not)
 looked_same files new i (Some file) (Remove j) reply not h = absurd (cc not)
-looked_same files new i (Some file) (Links j k) reply not h = absurd (cc not)
+looked_same files new i (Some file) (SetAttribute j attribute) reply not h = absurd (cc not)
 looked_same files new i (Some file) (Read j off k) (Bytes bytes) not h = (where_true_some _ files new h).1
 looked_same files new i (Some file) (Stat j) (StatOf kind links size) not h = (where_true_some _ files new h).1
 looked_same files new i (Some file) (Read j off k) reply not h = absurd (cc h)
@@ -55,7 +55,7 @@ looked_at form files new (Create kind) reply None is not h = absurd (cc not)
 looked_at form files new (Write i off bytes) reply None is not h = absurd (cc not)
 looked_at form files new (Trunc i) reply None is not h = absurd (cc not)
 looked_at form files new (Remove i) reply None is not h = absurd (cc not)
-looked_at form files new (Links i k) reply None is not h = absurd (cc not)
+looked_at form files new (SetAttribute i attribute) reply None is not h = absurd (cc not)
 looked_at form files new (Read i off k) reply None is not h = looked_same files new i (file_in files i) (Read i off k) reply refl h
 looked_at form files new (Stat i) reply None is not h = looked_same files new i (file_in files i) (Stat i) reply refl h
 

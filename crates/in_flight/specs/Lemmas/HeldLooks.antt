@@ -9,7 +9,7 @@ use Rattle.in_flight.specs.Lemmas.Looks.{between, RestsIn, its_file, its_blocks,
 
 -- ---- numbers at rest
 
-resting : (m : Files) (x : Image) (claims : Claims) (i : ℕ) → FitsHeld m x claims → IsUsed x i → claims i ≡ None → RestsIn m x i
+pub resting : (m : Files) (x : Image) (claims : Claims) (i : ℕ) → FitsHeld m x claims → IsUsed x i → claims i ≡ None → RestsIn m x i
 resting m x claims i f used none =
     let at = between x i used.0 in
     record {

@@ -107,7 +107,7 @@ module _ (m : Files) (x : Image) (i : ℕ) (f : RestsIn m x i) (used : IsUsed x 
       lies x (get_or d.addrs e 0)
       (along_head (is_in_data x) x d.size 0 (depths (form_of x)) d.addrs e all_in_data (omega arith) some)
 
-  full_blocks : (k : ℕ) → k * 1024 < d.size → IsFullAt x (address_in x d k)
+  pub full_blocks : (k : ℕ) → k * 1024 < d.size → IsFullAt x (address_in x d k)
   full_blocks k low =
       let there = needed_in_data k low in
       let behind = there.0 in
@@ -163,7 +163,7 @@ none_told m x i none = record {
   trunc = rw none refl;
   remove = rw none refl;
   stat = rw none refl;
-  links = λ n. rw none refl;
+  attribute = λ a. rw none refl;
 }
 
 no_file : (m : Files) (x : Image) (i : ℕ) → Fits m x → IsUnused x i → file_in m i ≡ None

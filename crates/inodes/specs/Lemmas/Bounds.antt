@@ -111,7 +111,7 @@ few_steps cur table t (Stage.Truncating k m) few looks blocks =
     omega (arith, (few_frees cur m (blocks k m refl)))
 few_steps cur table t (Stage.Writing k m) few looks blocks =
     omega (arith, (few_writes cur m m.at (omega (arith, looks.all, looks.few)) looks.fits looks.come), (writes_most m.extent.form 4), (most_elsewhere (form_of cur)))
-few_steps cur table t (Stage.Linking k d u) few looks blocks = let most = few_uses u.slot in omega (arith, most)
+few_steps cur table t (Stage.Setting k d u) few looks blocks = let most = few_uses u.slot in omega (arith, most)
 few_steps cur table t (Stage.Leaving k) few looks blocks = omega arith
 
 -- a task that is not over has a step left at least
@@ -123,5 +123,5 @@ some_step x (Stage.Reading k m) n unfinished = omega arith
 some_step x (Stage.Delivering k) n unfinished = omega arith
 some_step x (Stage.Truncating k m) n unfinished = omega arith
 some_step x (Stage.Writing k m) n unfinished = omega arith
-some_step x (Stage.Linking k d u) n unfinished = omega arith
+some_step x (Stage.Setting k d u) n unfinished = omega arith
 some_step x (Stage.Leaving k) n unfinished = omega arith

@@ -1,7 +1,7 @@
 -- What one step of a creation or of a write saw, or leaves to be seen.
 use Rattle.std.proofs.Common.{◌≡◌, ◌≢◌, ◌⊎◌, ◌<◌, ◌≤◌, ◌+◌, ℕ, Bool, true, false, ltb, inl, inr, List, length, set, Option, Some, None, refl, sym, ap, ◌∙◌, subst, ⊎_elim, arith, length-set}
 use Rattle.std.specs.Prelude.{IsTrue, if◌then◌else◌}
-use Rattle.inodes.specs.Common.{at_next_block, BadOffset, BadType, Buffers, Bytes, cases_eq, cases_lt, Create, current_of, Dinode, Done, Extent, extent_of, first_stage, first_write, get_or-set_same, get_or_past, Ghosts, Goes, GoesFrom, greatest_size, inode_block, is_number, Made, no_task, NoFile, NoInode, Op, place_of, stage_of_lock, stage_of_writing, Progress, progress_of_lock, progress_of_read, progress_of_trunc, progress_of_write, Reply, SearchState, Shown, shown_of, Stage, StatOf, Steps, StoreState, task, TaskProgress, TaskState, TooBig, TooLong, with_begun, Write, WriteState, Wrote, progress_of_link}
+use Rattle.inodes.specs.Common.{at_next_block, BadOffset, BadType, Buffers, Bytes, cases_eq, cases_lt, Create, current_of, Dinode, Done, Extent, extent_of, first_stage, first_write, get_or-set_same, get_or_past, Ghosts, Goes, GoesFrom, greatest_size, inode_block, is_number, Made, no_task, NoFile, NoInode, Op, place_of, stage_of_lock, stage_of_writing, Progress, progress_of_lock, progress_of_read, progress_of_trunc, progress_of_write, Reply, SearchState, Shown, shown_of, Stage, StatOf, Steps, StoreState, task, TaskProgress, TaskState, TooBig, TooLong, with_begun, Write, WriteState, Wrote, progress_of_setting}
 use Rattle.model.specs.Layout.{inode_of}
 use Rattle.inodes.specs.Lemmas.Runs.{IsAt, goes_from, sees, seen_at_turn}
 use Rattle.inodes.specs.Lemmas.WriteRuns.{IsGoingOn, comes_next, not_over, sees_or_on}
@@ -291,9 +291,9 @@ module _ {D N : Type 0} (disk : Ghosts D N) (s : StoreState D) (p i off : ℕ) (
       none (Progress.Sleeping why) is = cc is
       none (Progress.Over out) is = cc is
       none (Progress.Fault fault) is = cc is
-  by_place r (Stage.Linking k d u) goes = absurd (none goes.answer goes.gives)
+  by_place r (Stage.Setting k d u) goes = absurd (none goes.answer goes.gives)
     where
-      none : (q : Progress (Unit {0})) → TaskProgress.Turned r ≡ progress_of_link q → ⊥
+      none : (q : Progress (Unit {0})) → TaskProgress.Turned r ≡ progress_of_setting q → ⊥
       none Progress.Moved is = cc is
       none (Progress.Sleeping why) is = cc is
       none (Progress.Over out) is = cc is

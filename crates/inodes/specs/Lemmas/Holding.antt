@@ -1,6 +1,6 @@
 -- What tasks hold of numbers: the claims of all of them, by the claim of each.
 use Rattle.std.proofs.Common.{◌≡◌, ◌≢◌, ℕ, zero, suc, ◌<◌, Bool, true, false, cond, eqb, List, [], ◌∷◌, length, set, refl, ◌∙◌, ap, arith, Option, Some, None, inl, inr, ◌⊎◌}
-use Rattle.in_flight.specs.LinkLaws.{unwritten}
+use Rattle.in_flight.specs.AttributeLaws.{unwritten}
 use Rattle.inodes.specs.Iupdate.{UpdateState}
 use Rattle.inodes.specs.Common.{bytes_by, Claim, claim_by, claim_of, claims_of, Dinode, eq-eqb, eqb-true, Freeing, frees, get_or-set_other, get_or-set_same, grows, growth_of, held_of, IsClaimedNow, no_task, Op, or_else, Stage, task, TaskState, WriteState}
 
@@ -10,13 +10,13 @@ HoldsAlone ts p i = (q : ℕ) → q ≢ p → claim_of (task ts q) i ≡ None
 
 -- ---- what one task holds
 
--- a task that stands there frees the blocks of number i's file, or writes into it, or sets its links,
+-- a task that stands there frees the blocks of number i's file, or writes into it, or sets an attribute of it,
 -- with its inode at that entry of the table
 abbrev pub IsHolding : Stage → ℕ → ℕ → Type 0
 IsHolding a entry i =
     ((m : Freeing) × (a ≡ Stage.Truncating entry m) × (m.machine.number ≡ i))
     ⊎ ((m : WriteState) × (a ≡ Stage.Writing entry m) × (m.number ≡ i))
-    ⊎ ((d : Dinode) × (u : UpdateState) × (a ≡ Stage.Linking entry d u) × (u.number ≡ i))
+    ⊎ ((d : Dinode) × (u : UpdateState) × (a ≡ Stage.Setting entry d u) × (u.number ≡ i))
 
 -- so does who holds a number
 claims_own : (n i : ℕ) (own : Claim) (h : Claim) → cond (eqb n i) (Some own) None ≡ Some h → n ≡ i
@@ -37,7 +37,7 @@ holding_is op (Stage.Truncating k m) i h claimed =
     (k, inl (m, refl, claims_own m.machine.number i (frees (held_of m.machine)) h claimed))
 holding_is op (Stage.Writing k m) i h claimed =
     (k, inr (inl (m, refl, claims_own m.number i (grows (growth_of m (bytes_by op))) h claimed)))
-holding_is op (Stage.Linking k d u) i h claimed =
+holding_is op (Stage.Setting k d u) i h claimed =
     (k, inr (inr (d, u, refl, claims_own u.number i (grows (unwritten d)) h claimed)))
 holding_is op (Stage.Leaving k) i h claimed = absurd (cc claimed)
 
@@ -52,9 +52,9 @@ pub own_grows : (op : Option Op) (k : ℕ) (m : WriteState) →
 own_grows op k m = rw (eq-eqb m.number m.number refl) refl
 
 -- and the writing back of its inode
-pub own_links : (op : Option Op) (k : ℕ) (d : Dinode) (u : UpdateState) →
-    claim_by op (Stage.Linking k d u) u.number ≡ Some (grows (unwritten d))
-own_links op k d u = rw (eq-eqb u.number u.number refl) refl
+pub own_setting : (op : Option Op) (k : ℕ) (d : Dinode) (u : UpdateState) →
+    claim_by op (Stage.Setting k d u) u.number ≡ Some (grows (unwritten d))
+own_setting op k d u = rw (eq-eqb u.number u.number refl) refl
 
 -- ---- what all of them hold
 

@@ -3,9 +3,9 @@
 use Rattle.std.proofs.Common.{◌≡◌, ◌≢◌, ℕ, zero, suc, ◌+◌, ◌-◌, ◌*◌, ◌<◌, ◌≤◌, Bool, true, false, cond, eqb, List, Option, Some, None, refl, sym, ◌∙◌, ap, subst, ⊎_elim, arith, inl, inr}
 use Rattle.std.specs.List.{find, range_with_len}
 use Rattle.std.specs.Prelude.{IsTrue, [], ◌∷◌}
-use Rattle.inodes.specs.Common.{AreLooking, asked, asked_by, block_at, both_of, both_ways, CanLook, CanTake, cases_eq, copy_at, Create, Dinode, eqb-true, Freeing, grip, grip_by, grip_of, grips_of, HoldsInode, Image, inode_block, inode_bytes_in, inode_in, is_free_in, is_number, is_over, is_unturned, IsLate, IsRead, IsTruncating, IsWrite, IsWriting, Itrunc, locked_grip, LooksAt, lowest_free, Op, owes_reply, Read, Remove, Stage, Stat, TableState, task, TaskState, Trunc, trunc_op, Write, WriteState, Links}
+use Rattle.inodes.specs.Common.{AreLooking, asked, asked_by, block_at, both_of, both_ways, CanLook, CanTake, cases_eq, copy_at, Create, Dinode, eqb-true, Freeing, grip, grip_by, grip_of, grips_of, HoldsInode, Image, inode_block, inode_bytes_in, inode_in, is_free_in, is_number, is_over, is_unturned, IsLate, IsRead, IsTruncating, IsWrite, IsWriting, Itrunc, locked_grip, LooksAt, lowest_free, Op, owes_reply, Read, Remove, Stage, Stat, TableState, task, TaskState, Trunc, trunc_op, Write, WriteState, SetAttribute}
 use Rattle.model.specs.Layout.{inode_of}
-use Rattle.inodes.specs.Holding.{IsLinking}
+use Rattle.inodes.specs.Holding.{IsSetting}
 use Rattle.inodes.specs.Iupdate.{UpdateState}
 use Rattle.inodes.specs.Lemmas.Grips.{locks_exclude}
 
@@ -95,7 +95,7 @@ look_takes n (Read i off count) can = can
 look_takes n (Trunc i) can = absurd can
 look_takes n (Remove i) can = absurd can
 look_takes n (Stat i) can = can
-look_takes n (Links i m) can = absurd can
+look_takes n (SetAttribute i a) can = absurd can
 
 -- ---- tasks that had their turn, and whose reply is to come
 
@@ -115,7 +115,7 @@ locks_own (Stage.Reading k m) i is = (k, refl)
 locks_own (Stage.Delivering k) i is = (k, refl)
 locks_own (Stage.Truncating k m) i unlike = absurd (cc unlike)
 locks_own (Stage.Writing k m) i is = (k, refl)
-locks_own (Stage.Linking k d u) i unlike = absurd (cc unlike)
+locks_own (Stage.Setting k d u) i unlike = absurd (cc unlike)
 locks_own (Stage.Leaving k) i unlike = absurd (cc unlike)
 
 -- the operation that frees a file's blocks asks for its number
@@ -146,7 +146,7 @@ module _ (cur : Image) (t : TableState) (ts : List TaskState) (are : AreLooking 
         is = stands.op;
         may = (stands.number, stands.few);
       })
-      by_place (Stage.Linking k d u) stands unlike = absurd (cc unlike)
+      by_place (Stage.Setting k d u) stands unlike = absurd (cc unlike)
       by_place (Stage.Leaving k) stands unlike = absurd (cc unlike)
 
   -- of a number that operations may name
@@ -205,7 +205,7 @@ module _ (cur : Image) (t : TableState) (ts : List TaskState) (are : AreLooking 
       by_place (Stage.Delivering k) has on turned = held k has
       by_place (Stage.Truncating k m) has on turned = held k has
       by_place (Stage.Writing k m) has on turned = held k has
-      by_place (Stage.Linking k d u) has on turned = held k has
+      by_place (Stage.Setting k d u) has on turned = held k has
       by_place (Stage.Leaving k) has on turned = held k has
 
   -- ---- the freeing of a file's blocks
@@ -243,14 +243,14 @@ module _ (cur : Image) (t : TableState) (ts : List TaskState) (are : AreLooking 
       ap (λ (a : Stage). grip_by a (asked_by (task ts p).op)) at
       ∙ ap (λ (o : Option Op). Some (locked_grip k (asked_by o))) (writing_is p k m at).op
 
-  -- ---- the writing back of an inode with another count of links
+  -- ---- the writing back of an inode with an attribute set
 
-  pub linking_is : (p k : ℕ) (d : Dinode) (u : UpdateState) →
-      (task ts p).stage ≡ Stage.Linking k d u → IsLinking t.inode_count (task ts p) d u
-  linking_is p k d u at = subst (λ (a : Stage). LooksAt cur t (task ts p) a) at (are.stand p)
+  pub setting_is : (p k : ℕ) (d : Dinode) (u : UpdateState) →
+      (task ts p).stage ≡ Stage.Setting k d u → IsSetting t.inode_count (task ts p) u
+  setting_is p k d u at = subst (λ (a : Stage). LooksAt cur t (task ts p) a) at (are.stand p)
 
-  pub link_locks : (p k : ℕ) (d : Dinode) (u : UpdateState) →
-      (task ts p).stage ≡ Stage.Linking k d u → grip_of (task ts p) ≡ Some (locked_grip k u.number)
-  link_locks p k d u at =
+  pub set_locks : (p k : ℕ) (d : Dinode) (u : UpdateState) →
+      (task ts p).stage ≡ Stage.Setting k d u → grip_of (task ts p) ≡ Some (locked_grip k u.number)
+  set_locks p k d u at =
       ap (λ (a : Stage). grip_by a (asked_by (task ts p).op)) at
-      ∙ ap (λ (o : Option Op). Some (locked_grip k (asked_by o))) (linking_is p k d u at).op
+      ∙ ap (λ (o : Option Op). Some (locked_grip k (asked_by o))) (setting_is p k d u at).op

@@ -33,5 +33,5 @@ passes_busy test fails (Stage.Reading k m) is = refl
 passes_busy test fails (Stage.Delivering k) is = refl
 passes_busy test fails (Stage.Truncating k m) is = refl
 passes_busy test fails (Stage.Writing k m) is = refl
-passes_busy test fails (Stage.Linking k d u) is = refl
+passes_busy test fails (Stage.Setting k d u) is = refl
 passes_busy test fails (Stage.Leaving k) is = refl

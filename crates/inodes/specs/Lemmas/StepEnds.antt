@@ -2,9 +2,10 @@
 use Rattle.std.proofs.Common.{◌≡◌, ◌≢◌, ◌⊎◌, ⊎_elim, inl, inr, ℕ, Bool, true, false, cond, eqb, List, refl, sym, ◌∙◌, ap, subst, Option, Some, None, length}
 use Rattle.model.specs.Layout.{inode_of}
 use Rattle.std.specs.Prelude.{IsSome}
-use Rattle.inodes.specs.Common.{address_at, after_address, after_behind, AllocAt, Allocs, AllocState, behind_at, block_at_stage, block_next, block_of, block_of_alloc, block_of_write, block_on_way, Branch, Bytes, bytes_of, CanBegin, CanTake, come_to, copy_at, Create, current_of, Dinode, DiskFault, EntryState, Extent, extent_of, false≢true, FindsEntry, first_read, first_write, Freeing, FreesOn, gets_fails, Ghosts, Goes, GoesFrom, Got, holder_at, inode_block, is_over, is_unturned, LockAt, Locks, LockState, LockSteps, LooksAt, LooksUp, lowest_in, MapAt, MapState, MapSteps, named_by, naming, now_of, one_more, Op, owes_reply, place_of, stage_of_lock, stage_of_reading, stage_of_trunc, stage_of_writing, Progress, progress_of_lock, progress_of_read, progress_of_trunc, progress_of_write, Read, ReadState, Remove, Reply, seen, Shown, shown_of, some_address, Stage, Stands, Stat, StoreState, TableState, TakesLowest, TakesOne, Target, task, TaskProgress, Trunc, Updates, UpdateState, used_by, VolumeState, Works, Write, WriteAt, WriteState, WriteSteps, Wrote, Links, progress_of_link, stage_of_linking}
+use Rattle.inodes.specs.Common.{address_at, after_address, after_behind, AllocAt, Allocs, AllocState, behind_at, block_at_stage, block_next, block_of, block_of_alloc, block_of_write, block_on_way, Branch, Bytes, bytes_of, CanBegin, CanTake, come_to, copy_at, Create, current_of, Dinode, DiskFault, EntryState, Extent, extent_of, false≢true, FindsEntry, first_read, first_write, Freeing, FreesOn, gets_fails, Ghosts, Goes, GoesFrom, Got, holder_at, inode_block, is_over, is_unturned, LockAt, Locks, LockState, LockSteps, LooksAt, LooksUp, lowest_in, MapAt, MapState, MapSteps, named_by, naming, now_of, one_more, Op, owes_reply, place_of, stage_of_lock, stage_of_reading, stage_of_trunc, stage_of_writing, Progress, progress_of_lock, progress_of_read, progress_of_trunc, progress_of_write, Read, ReadState, Remove, Reply, seen, Shown, shown_of, some_address, Stage, Stands, Stat, StoreState, TableState, TakesLowest, TakesOne, Target, task, TaskProgress, Trunc, Updates, UpdateState, used_by, VolumeState, Works, Write, WriteAt, WriteState, WriteSteps, Wrote, SetAttribute, progress_of_setting, stage_of_setting}
+use Rattle.in_flight.specs.AttributeLaws.{with_value}
 use Rattle.inodes.specs.Lemmas.Freeing.{IsDone, use_done}
-use Rattle.inodes.specs.Turning.{write_refusal, if_used, reply_when_taken, stage_when_taken, stage_of_read, stage_by_refusal}
+use Rattle.inodes.specs.Turning.{attribute_refusal, write_refusal, if_used, reply_when_taken, stage_when_taken, stage_of_read, stage_by_attribute, stage_by_refusal}
 
 -- the task goes on, and has had its turn or not as before
 pub record GoesOn (a next : Stage) : Type 0 where
@@ -85,8 +86,12 @@ takes_turn n e (Some d) k (Remove i) can =
     inr (can, record { unfinished = refl; turned = refl; unread = refl })
 takes_turn n e (Some d) k (Stat i) can =
     inr (can, record { unfinished = refl; turned = refl; unread = refl })
-takes_turn n e (Some d) k (Links i m) can =
-    inr (can, record { unfinished = refl; turned = refl; unread = refl })
+takes_turn n e (Some d) k (SetAttribute i a) can = inr (can, by_refusal (attribute_refusal d a))
+  where
+    by_refusal : (o : Option Reply) →
+        GoesOnTurned (stage_by_attribute k i (with_value d a) o)
+    by_refusal None = record { unfinished = refl; turned = refl; unread = refl }
+    by_refusal (Some reply) = record { unfinished = refl; turned = refl; unread = refl }
 
 module _ {D N : Type 0} (disk : Ghosts D N) (s : StoreState D) (p : ℕ) (op : Op) (r : TaskProgress) (t : StoreState D) where
   abbrev n : ℕ
@@ -188,14 +193,14 @@ module _ {D N : Type 0} (disk : Ghosts D N) (s : StoreState D) (p : ℕ) (op : O
         ),
       )
       by_answer (Progress.Fault fault) is to = ends_with (Stage.Writing k m) (TaskProgress.Fault fault) is (on_at (Stage.Writing k m) _ next to (record { unfinished = refl; unturned = refl; reading = refl }))
-  ends_of (Stage.Linking k d u) same stands looks unfinished goes = by_answer goes.answer goes.gives goes.next
+  ends_of (Stage.Setting k d u) same stands looks unfinished goes = by_answer goes.answer goes.gives goes.next
     where
-      by_answer : (x : Progress (Unit {0})) → r ≡ progress_of_link x → next ≡ stage_of_linking k d u goes.now x →
-          StepEnds n (Stage.Linking k d u) op r next
-      by_answer Progress.Moved is to = ends_with (Stage.Linking k d u) TaskProgress.Moved is (on_at (Stage.Linking k d u) _ next to (record { unfinished = refl; unturned = refl; reading = refl }))
-      by_answer (Progress.Sleeping why) is to = ends_with (Stage.Linking k d u) (TaskProgress.Sleeping why) is (on_at (Stage.Linking k d u) _ next to (record { unfinished = refl; unturned = refl; reading = refl }))
-      by_answer (Progress.Over out) is to = ends_with (Stage.Linking k d u) TaskProgress.Moved is (on_at (Stage.Linking k d u) _ next to (record { unfinished = refl; unturned = refl; reading = refl }))
-      by_answer (Progress.Fault fault) is to = ends_with (Stage.Linking k d u) (TaskProgress.Fault fault) is (on_at (Stage.Linking k d u) _ next to (record { unfinished = refl; unturned = refl; reading = refl }))
+      by_answer : (x : Progress (Unit {0})) → r ≡ progress_of_setting x → next ≡ stage_of_setting k d u goes.now x →
+          StepEnds n (Stage.Setting k d u) op r next
+      by_answer Progress.Moved is to = ends_with (Stage.Setting k d u) TaskProgress.Moved is (on_at (Stage.Setting k d u) _ next to (record { unfinished = refl; unturned = refl; reading = refl }))
+      by_answer (Progress.Sleeping why) is to = ends_with (Stage.Setting k d u) (TaskProgress.Sleeping why) is (on_at (Stage.Setting k d u) _ next to (record { unfinished = refl; unturned = refl; reading = refl }))
+      by_answer (Progress.Over out) is to = ends_with (Stage.Setting k d u) TaskProgress.Moved is (on_at (Stage.Setting k d u) _ next to (record { unfinished = refl; unturned = refl; reading = refl }))
+      by_answer (Progress.Fault fault) is to = ends_with (Stage.Setting k d u) (TaskProgress.Fault fault) is (on_at (Stage.Setting k d u) _ next to (record { unfinished = refl; unturned = refl; reading = refl }))
   ends_of (Stage.Leaving k) same stands looks unfinished goes =
       ends_with (Stage.Leaving k) TaskProgress.Over goes.0 (refl, refl, ap is_over goes.1.next)
 
@@ -210,7 +215,7 @@ module _ {D N : Type 0} (disk : Ghosts D N) (s : StoreState D) (p : ℕ) (op : O
   logs_of (Stage.Truncating k m) unfinished stands goes =
       inl (⊎_elim (λ (none : used_by s.volume.log p ≡ Some 0). subst IsSome (sym none) refl) (λ one. subst IsSome (sym one.0) refl) stands.logged)
   logs_of (Stage.Writing k m) unfinished stands goes = inl (subst IsSome (sym stands.logged.used) refl)
-  logs_of (Stage.Linking k d u) unfinished stands goes = inl (subst IsSome (sym stands.used) refl)
+  logs_of (Stage.Setting k d u) unfinished stands goes = inl (subst IsSome (sym stands.used) refl)
   logs_of (Stage.Leaving k) unfinished stands goes = inr (ap (λ (v : VolumeState D). v.log) goes.1.volume)
 
 module _ {D N : Type 0} (disk : Ghosts D N) (s : StoreState D) (p : ℕ) (op : Op) (fault : DiskFault) (t : StoreState D) where
@@ -357,9 +362,9 @@ module _ {D N : Type 0} (disk : Ghosts D N) (s : StoreState D) (p : ℕ) (op : O
       by_answer (Progress.Over out) is writes = absurd (cc is)
       by_answer (Progress.Fault other) is writes = let same : fault ≡ other = cc is in
           writing_fails m.at m goes.now (bytes_of op) (subst (λ (f : DiskFault). WriteSteps disk m.at s.volume p m (bytes_of op) (Progress.Fault f) goes.now t.volume) (sym same) writes)
-  fails_at (Stage.Linking k d u) goes = by_answer goes.answer goes.gives goes.updates
+  fails_at (Stage.Setting k d u) goes = by_answer goes.answer goes.gives goes.updates
     where
-      by_answer : (x : Progress (Unit {0})) → TaskProgress.Fault fault ≡ progress_of_link x → Updates disk u.slot s.volume p u d x goes.now t.volume → fault.0 ≡ inode_block u.number
+      by_answer : (x : Progress (Unit {0})) → TaskProgress.Fault fault ≡ progress_of_setting x → Updates disk u.slot s.volume p u d x goes.now t.volume → fault.0 ≡ inode_block u.number
       by_answer Progress.Moved is updates = absurd (cc is)
       by_answer (Progress.Sleeping why) is updates = absurd (cc is)
       by_answer (Progress.Over out) is updates = absurd (cc is)

@@ -27,7 +27,7 @@ steps_same x y (Stage.Delivering k) n same blocks = refl
 steps_same x y (Stage.Truncating k m) n same blocks =
     omega (arith, (blocks k m refl))
 steps_same x y (Stage.Writing k m) n same blocks = refl
-steps_same x y (Stage.Linking k d u) n same blocks = refl
+steps_same x y (Stage.Setting k d u) n same blocks = refl
 steps_same x y (Stage.Leaving k) n same blocks = refl
 
 -- in a store that agrees with its image

@@ -1,11 +1,11 @@
 -- Who has locked a number knows what tasks hold of it.
 use Rattle.std.proofs.Common.{◌≡◌, ◌≢◌, ℕ, List, refl, sym, ◌∙◌, ap, subst, Option, Some, None, ⊎_elim, true}
 use Rattle.inodes.specs.Lemmas.Grips.{locks_exclude}
-use Rattle.inodes.specs.Lemmas.Holding.{HoldsAlone, claim_of_one, holding_is, own_holds, own_grows, own_links}
-use Rattle.inodes.specs.Lemmas.Looks.{trunc_locks, write_locks, link_locks, copy_is, grip_of_task}
+use Rattle.inodes.specs.Lemmas.Holding.{HoldsAlone, claim_of_one, holding_is, own_holds, own_grows, own_setting}
+use Rattle.inodes.specs.Lemmas.Looks.{trunc_locks, write_locks, set_locks, copy_is, grip_of_task}
 use Rattle.model.specs.Layout.{inode_of}
 use Rattle.std.specs.Prelude.{IsTrue}
-use Rattle.in_flight.specs.LinkLaws.{unwritten}
+use Rattle.in_flight.specs.AttributeLaws.{unwritten}
 use Rattle.inodes.specs.Iupdate.{UpdateState}
 use Rattle.inodes.specs.Common.{AreLooking, asked_by, bytes_by, Claim, claim_by, claim_of, claims_of, copy_at, Dinode, Freeing, frees, grip, grip_by, grip_of, grips_of, growing_of, grows, growth_of, held_of, Image, inode_count_of, is_number, IsWriting, locked_grip, LooksAt, owes_reply, Stage, TableState, task, TaskState, WriteState}
 
@@ -25,8 +25,8 @@ module _ (cur : Image) (t : TableState) (ts : List TaskState) (are : AreLooking 
             (λ others. ⊎_elim
             (λ (writes : (m : WriteState) × ((task ts q).stage ≡ Stage.Writing is.0 m) × (m.number ≡ i)).
             subst (λ (j : ℕ). grip_of (task ts q) ≡ Some (locked_grip is.0 j)) writes.2 (write_locks cur t ts are q is.0 writes.0 writes.1))
-            (λ (links : (d : Dinode) × (u : UpdateState) × ((task ts q).stage ≡ Stage.Linking is.0 d u) × (u.number ≡ i)).
-            subst (λ (j : ℕ). grip_of (task ts q) ≡ Some (locked_grip is.0 j)) links.3 (link_locks cur t ts are q is.0 links.0 links.1 links.2))
+            (λ (sets : (d : Dinode) × (u : UpdateState) × ((task ts q).stage ≡ Stage.Setting is.0 d u) × (u.number ≡ i)).
+            subst (λ (j : ℕ). grip_of (task ts q) ≡ Some (locked_grip is.0 j)) sets.3 (set_locks cur t ts are q is.0 sets.0 sets.1 sets.2))
             others)
             is.1,
       )
@@ -65,9 +65,9 @@ module _ (cur : Image) (t : TableState) (ts : List TaskState) (are : AreLooking 
   pub own_growth : (p k : ℕ) (m : WriteState) → (task ts p).stage ≡ Stage.Writing k m → claims_of ts m.number ≡ Some (grows (growth_of m (bytes_by (task ts p).op)))
   own_growth p k m at = claim_of_locked p k m.number (write_locks cur t ts are p k m at) ∙ ap (λ (a : Stage). claim_by (task ts p).op a m.number) at ∙ own_grows (task ts p).op k m
 
-  -- and so is an inode that is written back with another count of links
-  pub own_link : (p k : ℕ) (d : Dinode) (u : UpdateState) → (task ts p).stage ≡ Stage.Linking k d u → claims_of ts u.number ≡ Some (grows (unwritten d))
-  own_link p k d u at = claim_of_locked p k u.number (link_locks cur t ts are p k d u at) ∙ ap (λ (a : Stage). claim_by (task ts p).op a u.number) at ∙ own_links (task ts p).op k d u
+  -- and so is an inode that is written back with an attribute set
+  pub own_set : (p k : ℕ) (d : Dinode) (u : UpdateState) → (task ts p).stage ≡ Stage.Setting k d u → claims_of ts u.number ≡ Some (grows (unwritten d))
+  own_set p k d u at = claim_of_locked p k u.number (set_locks cur t ts are p k d u at) ∙ ap (λ (a : Stage). claim_by (task ts p).op a u.number) at ∙ own_setting (task ts p).op k d u
 
   -- a task whose reply is to come has a used inode
   pub late_used : t.inode_count ≡ inode_count_of cur → (p : ℕ) → owes_reply (task ts p).stage ≡ true → (inode_of cur (asked_by (task ts p).op)).kind ≢ 0
@@ -92,5 +92,5 @@ module _ (cur : Image) (t : TableState) (ts : List TaskState) (are : AreLooking 
       by_place (Stage.Delivering k) at stands has is = used k stands.dinode has stands.copy
       by_place (Stage.Truncating k m) at stands has unlike = absurd (cc unlike)
       by_place (Stage.Writing k m) at stands has is = writes k m at stands
-      by_place (Stage.Linking k d u) at stands has unlike = absurd (cc unlike)
+      by_place (Stage.Setting k d u) at stands has unlike = absurd (cc unlike)
       by_place (Stage.Leaving k) at stands has unlike = absurd (cc unlike)

@@ -3,9 +3,11 @@ use Rattle.std.proofs.Common.{◌≡◌, ℕ, Bool, true, false, cond, not, ◌&
 use Rattle.std.specs.Prelude.{IsSome, is_none}
 use Rattle.model.specs.Common.{and_cases, and_parts, AtOnceIsNotChanging, AtOnceIsRefused, BadOffset, Bytes, cases_lt, CountStays, Done, File, file_in, Files, Form, get_or-set_other, get_or_past, greatest_size, is_still, le-leb, le-ltb, length-set, lt-leb, lt-ltb, ltb-false, ltb-true, Made, NoFile, NoInode, not-true, Op, RefusalsFirst, RefusalsKeep, ReplaysInParts, Reply, StatOf, TooBig, TooLong, Wrote}
 use Rattle.model.specs.declared.types.operations.Entry.{Entry}
-use Rattle.model.specs.declared.types.operations.Op.TheVariants.{Create, Write, Read, Trunc, Remove, Stat, Links}
+use Rattle.model.specs.declared.types.operations.Attribute.{Attribute}
+use Rattle.model.specs.declared.types.operations.Attribute.TheVariants.{Links, Size}
+use Rattle.model.specs.declared.types.operations.Op.TheVariants.{Create, Write, Read, Trunc, Remove, Stat, SetAttribute}
 use Rattle.model.specs.declared.types.operations.Reply.TheVariants.{BadType}
-use Rattle.model.specs.Operations.{after, after_refusal, after_done, after_create, after_at, after_on, refusal_of, write_refusal, no_file_refusal, is_refusal, where_true, is_kind, transfer_limit}
+use Rattle.model.specs.Operations.{after, after_refusal, after_done, after_create, after_at, after_on, refusal_of, write_refusal, attribute_refusal, no_file_refusal, is_refusal, where_true, is_kind, transfer_limit}
 use Rattle.model.specs.Journal.{replay, and_then, after_answer, is_number}
 
 and_then-and_then : {A B C : Type 0} (o : Option A) (f : A → Option B) (g : B → Option C) →
@@ -67,7 +69,7 @@ on_changes files new i file (Read j off n) (Bytes bytes) e h = changes_none file
 on_changes files new i file (Trunc j) Done e h = changes_place files new Done i _ (where_true_some true _ new h).1 refl (not_this files i file e)
 on_changes files new i file (Remove j) Done e h = changes_place files new Done i _ (where_true_some true _ new h).1 refl (not_this files i file e)
 on_changes files new i file (Stat j) (StatOf kind links size) e h = changes_none files new (StatOf kind links size) (where_true_some _ files new h).1
-on_changes files new i file (Links j n) Done e h = changes_place files new Done i _ (where_true_some true _ new h).1 refl (not_this files i file e)
+on_changes files new i file (SetAttribute j attribute) Done e h = changes_place files new Done i _ (where_true_some true _ new h).1 refl (not_this files i file e)
 on_changes files new i file op reply e h = absurd (cc h)
 
 at_changes : (files new : Files) (i : ℕ) (o : Option File) (op : Op) (reply : Reply) → file_in files i ≡ o →
@@ -90,7 +92,7 @@ done_changes files new (Read i off n) reply h = at_changes files new i (file_in 
 done_changes files new (Trunc i) reply h = at_changes files new i (file_in files i) (Trunc i) reply refl h
 done_changes files new (Remove i) reply h = at_changes files new i (file_in files i) (Remove i) reply refl h
 done_changes files new (Stat i) reply h = at_changes files new i (file_in files i) (Stat i) reply refl h
-done_changes files new (Links i n) reply h = at_changes files new i (file_in files i) (Links i n) reply refl h
+done_changes files new (SetAttribute i attribute) reply h = at_changes files new i (file_in files i) (SetAttribute i attribute) reply refl h
 
 refused_or_done : (files new : Files) (refusal : Option Reply) (op : Op) (reply : Reply) →
     after_refusal refusal files op reply ≡ Some new → Changes files new reply
@@ -167,6 +169,13 @@ refused_write form (Some file) off n refusal h =
     refused_first (ltb (length file.bytes) off) BadOffset refusal _ refl
     (λ later. refused_first (ltb (greatest_size form) _) TooBig refusal None refl (λ none. absurd (cc none)) later) h
 
+refused_attribute : (o : Option File) (attribute : Attribute) (refusal : Reply) → attribute_refusal o attribute ≡ Some refusal →
+    is_refusal refusal refusal ≡ true
+refused_attribute None attribute refusal h = let e : NoFile ≡ refusal = cc h in subst (λ (r : Reply). is_refusal r r ≡ true) e refl
+refused_attribute (Some file) (Links n) refusal h = absurd (cc h)
+refused_attribute (Some file) (Size n) refusal h =
+    refused_first (ltb (length file.bytes) n) BadOffset refusal None refl (λ none. absurd (cc none)) h
+
 -- what an operation is refused by is a refusal
 refused_itself : (form : Form) (files : Files) (op : Op) (refusal : Reply) → refusal_of form files op ≡ Some refusal → is_refusal refusal refusal ≡ true
 refused_itself form files (Create kind) refusal h = refused_kind (is_kind kind) refusal h
@@ -177,7 +186,7 @@ refused_itself form files (Read i off n) refusal h =
 refused_itself form files (Trunc i) refusal h = refused_file (file_in files i) refusal h
 refused_itself form files (Remove i) refusal h = refused_file (file_in files i) refusal h
 refused_itself form files (Stat i) refusal h = refused_file (file_in files i) refusal h
-refused_itself form files (Links i n) refusal h = refused_file (file_in files i) refusal h
+refused_itself form files (SetAttribute i attribute) refusal h = refused_attribute (file_in files i) attribute refusal h
 
 pub refusals_first : RefusalsFirst
 unfolding after
@@ -209,7 +218,7 @@ at_once_is_not_changing inode_count (Read i off n) = refl
 at_once_is_not_changing inode_count (Trunc i) = not_not (is_number inode_count i)
 at_once_is_not_changing inode_count (Remove i) = not_not (is_number inode_count i)
 at_once_is_not_changing inode_count (Stat i) = refl
-at_once_is_not_changing inode_count (Links i n) = not_not (is_number inode_count i)
+at_once_is_not_changing inode_count (SetAttribute i attribute) = not_not (is_number inode_count i)
 
 -- no file has a number that operations may not name
 pub no_file_at : (files : Files) (i : ℕ) → file_in files 0 ≡ None → is_number (length files) i ≡ false → file_in files i ≡ None
@@ -241,8 +250,8 @@ at_once_is_refused form files (Remove i) none h =
     refuses_no_file (file_in files i) (no_file_at files i none (not-true (is_number (length files) i) h))
 at_once_is_refused form files (Stat i) none h =
     refuses_no_file (file_in files i) (no_file_at files i none (not-true (is_number (length files) i) h))
-at_once_is_refused form files (Links i n) none h =
-    refuses_no_file (file_in files i) (no_file_at files i none (not-true (is_number (length files) i) h))
+at_once_is_refused form files (SetAttribute i attribute) none h =
+    rw (no_file_at files i none (not-true (is_number (length files) i) h)) refl
 
 -- a creation that made a number gives it an empty file
 pub after-made : (form : Form) (files : Files) (kind i : ℕ) → is_kind kind ≡ true → 0 < i → i < length files → file_in files i ≡ None →

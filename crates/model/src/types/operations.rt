@@ -20,8 +20,17 @@ pub enum Op {
     Remove(u32),
     /// Asks for type, links and length.
     Stat(u32),
-    /// Gives the file that many links, and leaves its bytes.
-    Links(u32, u16),
+    /// Sets an attribute of the file.
+    SetAttribute(u32, Attribute),
+}
+
+/// An attribute of a file, with its new value.
+#[derive(Clone, Copy, Debug, PartialEq, Eq)]
+pub enum Attribute {
+    /// So many links. Its bytes stay.
+    Links(u16),
+    /// Its first so many bytes. Blocks behind them stay its own until it is truncated or removed.
+    Size(u32),
 }
 
 /// What an operation answers: a result, or one of the refusals behind `StatOf`.
@@ -35,13 +44,13 @@ pub enum Reply {
     Wrote(u32),
     /// The bytes read, cut at the file's end.
     Bytes(Content),
-    /// A truncation or a removal was done, or the links were set.
+    /// A truncation or a removal was done, or an attribute was set.
     Done,
     /// Type, how many links it has, and length in bytes.
     StatOf(u16, u16, u32),
     /// There is no file of that number.
     NoFile,
-    /// The offset lies behind the file's end.
+    /// The offset, or the length asked for, lies behind the file's end.
     BadOffset,
     /// The write would end behind the greatest size.
     TooBig,

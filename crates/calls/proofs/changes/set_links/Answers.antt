@@ -1,18 +1,20 @@
-use Rattle.calls.proofs.Calls.{relinks}
-use Rattle.calls.proofs.Stopping.{leaves_relinked}
+use Rattle.model.specs.declared.types.operations.Attribute.TheVariants.{Links}
+use Rattle.calls.proofs.Calls.{sets}
+use Rattle.calls.proofs.Stopping.{leaves_set}
+use Rattle.calls.specs.Lemmas.After.{can_links}
 use Rattle.calls.proofs.changes.set_links.Goals as goal
 
 pub unreachable-requires : goal.unreachable-requires
 unreachable-requires g c =
-    c.in_default.not-Done (relinks _ _ _ c.args.i c.args.count _ c.requires.there c.in_ok-call.ensures.calls).0
+    c.in_default.not-Done (sets _ _ _ c.args.i (Links c.args.count) _ (can_links _ _ c.requires.there) c.in_ok-call.ensures.calls).0
 
 pub returns-clause-relinks : goal.returns-clause-relinks
-returns-clause-relinks g c = (relinks _ _ _ c.args.i c.args.count _ c.requires.there c.in_ok-call.ensures.calls).1
+returns-clause-relinks g c = (sets _ _ _ c.args.i (Links c.args.count) _ (can_links _ _ c.requires.there) c.in_ok-call.ensures.calls).1
 
 pub returns-in_err-call-clause-leaves : goal.returns-in_err-call-clause-leaves
 returns-in_err-call-clause-leaves g c =
-    leaves_relinked g.D.Disk (g.D.Disk.image c.args.kernel.now.store.volume.device) c.args.i c.args.count c.requires.there c.call.result _ _ c.call.ensures.leaves
+    leaves_set g.D.Disk (g.D.Disk.image c.args.kernel.now.store.volume.device) c.args.i (Links c.args.count) (can_links _ _ c.requires.there) c.call.result _ _ c.call.ensures.leaves
 
 pub returns-clause-leaves : goal.returns-clause-leaves
 returns-clause-leaves g c =
-    leaves_relinked g.D.Disk (g.D.Disk.image c.args.kernel.now.store.volume.device) c.args.i c.args.count c.requires.there c.call.result _ _ c.call.ensures.leaves
+    leaves_set g.D.Disk (g.D.Disk.image c.args.kernel.now.store.volume.device) c.args.i (Links c.args.count) (can_links _ _ c.requires.there) c.call.result _ _ c.call.ensures.leaves

@@ -16,5 +16,5 @@ returns-in-Leaving g c = record { step = c.leave.ensures.step c.args.op.now c.re
 pub returns-in-Truncating : goal.returns-in-Truncating
 returns-in-Truncating g c = record { step = c.truncate.ensures.step c.args.op.now c.requires.op }
 
-pub returns-in-Linking : goal.returns-in-Linking
-returns-in-Linking g c = record { step = c.link.ensures.step c.args.op.now c.requires.op }
+pub returns-in-Setting : goal.returns-in-Setting
+returns-in-Setting g c = record { step = c.set_attribute.ensures.step c.args.op.now c.requires.op }

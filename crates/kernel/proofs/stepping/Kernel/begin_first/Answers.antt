@@ -62,7 +62,7 @@ begin-group-requires-clause-may g c =
 pub begin-group-requires-clause-op : goal.begin-group-requires-clause-op
 begin-group-requires-clause-op g c =
     let h = head g (goal.at.begin-group-requires-clause-op g c).After-known-2 in
-    (change_begins c.self.inside.store.table.inode_count c.in-Ok.taken.0 c.count_known.ensures (h.kind ∙ c.in-Change.is)).0
+    (change_begins c.self.inside.store.table.inode_count c.in-Ok.taken.0 c.value_known.ensures (h.kind ∙ c.in-Change.is)).0
 
 changed : (g : Over) (c : After-take g) → c.take.new.self ≡ taken (with_more_room c.self.inside.processes) c.args.pid (begun c.self.inside.store.volume.log c.args.pid).opened c.in-Ok.taken.0 None
 changed g c = c.take.ensures ∙ ap (λ (w : World). taken w c.args.pid c.begin-group.result c.in-Ok.taken.0 None) c.in-Ok.ensures.taken.world
@@ -81,7 +81,7 @@ invariant_of-self-in-Change g c =
     record {
       right = subst (λ (o : StoreState _). IsRight g.D.Disk k.opening.value o c.take.new.self) (sym is)
           (subst (λ (w : World). IsRight g.D.Disk k.opening.value (with_begun k.store c.args.pid op) w) (sym (changed g past))
-          (right_taken g.D.Disk k.opening.value k.store k.processes c.self.invariant.right h.well c.args.pid h.lt h.stands op c.count_known.ensures (h.kind ∙ c.in-Change.is) (free g (goal.at.invariant_of-self-in-Change g c).After-known-2 c.in-Change.is) agreed keeps));
+          (right_taken g.D.Disk k.opening.value k.store k.processes c.self.invariant.right h.well c.args.pid h.lt h.stands op c.value_known.ensures (h.kind ∙ c.in-Change.is) (free g (goal.at.invariant_of-self-in-Change g c).After-known-2 c.in-Change.is) agreed keeps));
       since = subst (λ (o : StoreState _). LeavesSince g.D.Disk k.opening.value o c.take.new.self) (sym is)
           (subst (λ (w : World). LeavesSince g.D.Disk k.opening.value (with_begun k.store c.args.pid op) w) (sym (changed g past)) c.self.invariant.since);
       ports = subst (λ (o : StoreState _). ArePorts g.I.Intake g.H.Herald c.take_first.new.intake k.herald o.volume.log.committed c.take.new.self) (sym is)

@@ -1,15 +1,15 @@
--- A process that writes back an inode with another count of links: what it holds, and what its steps do.
+-- A process that writes back an inode with an attribute set: what it holds, and what its steps do.
 use Rattle.std.proofs.Common.{◌≡◌, ◌≢◌, ◌<◌, ⊎_elim, inl, inr, ℕ, length, set, get_or-set_same, refl, sym, ◌∙◌, ap, subst, arith, List, Option, Some, None}
 use Rattle.std.proofs.lemmas.List.{length-set}
 use Rattle.std.specs.Prelude.{IsTrue, IsSome}
-use Rattle.inodes.specs.Common.{Agrees, apart, AreLooking, asked_by, between, block_at, Claim, claim_by, Claims, claims_of, current_of, Dinode, DiskFault, entry_at, false≢true, file_in, Files, FilesThen, FitsHeld, FitsThen, form_of, GetsFor, Ghosts, Grip, grip, grip_of, grips_of, groups_noted, groups_same, growing_of, growth_keeps, grows, HasLock, HasSlot, held_alike, HoldsForLinking, Image, inode_block, inode_count_of, inode_of-with_inode, inode_of-with_inode_other, is_number, IsApart, IsClaimedNow, IsCopy, IsDinode, IsGrowing, IsHeldIn, IsLinking, IsPlaced, IsStore, KeepsTable, kept_by_write, length-current, Links, link_rests, locked_grip, LogsAtMost, LogsBlock, Marks, most_logged, ne_eqb, no_task, noted, Op, Progress, progress_of_link, Reads, renewed, SameGroups, Stage, stage_of_linking, Stands, stays_got, stays_noted, stays_same, StaysForOthers, Steps, StoreState, table_of_linking, task, TaskProgress, TaskState, unwritten, Updates, UpdateState, used_by, uses_left, VolumeState, Why, with_inode, with_inode_bytes, WritesBlock}
+use Rattle.inodes.specs.Common.{Agrees, apart, AreLooking, asked_by, between, block_at, Claim, claim_by, Claims, claims_of, current_of, Dinode, DiskFault, entry_at, false≢true, file_in, Files, FilesThen, FitsHeld, FitsThen, form_of, GetsFor, Ghosts, Grip, grip, grip_of, grips_of, groups_noted, groups_same, growing_of, growth_keeps, grows, HasLock, HasSlot, held_alike, HoldsForSetting, Image, inode_block, inode_count_of, inode_of-with_inode, inode_of-with_inode_other, is_number, IsApart, IsClaimedNow, IsCopy, IsDinode, IsGrowing, IsHeldIn, IsSetting, IsPlaced, IsStore, KeepsTable, kept_by_write, length-current, SetAttribute, set_rests, locked_grip, LogsAtMost, LogsBlock, Marks, most_logged, ne_eqb, no_task, noted, Op, Progress, progress_of_setting, Reads, renewed, SameGroups, Stage, stage_of_setting, Stands, stays_got, stays_noted, stays_same, StaysForOthers, Steps, StoreState, table_of_setting, task, TaskProgress, TaskState, unwritten, Updates, UpdateState, used_by, uses_left, VolumeState, Why, with_inode, with_inode_bytes, WritesBlock}
 use Rattle.wal.specs.Machine.{HasRoom}
 use Rattle.inodes.specs.Iupdate.{MayUpdate}
 use Rattle.inodes.specs.Lemmas.Faults.{where_none}
 use Rattle.inodes.specs.Lemmas.Grips.{kept_by_renew}
-use Rattle.inodes.specs.Lemmas.Holding.{own_links}
-use Rattle.inodes.specs.Lemmas.Looks.{link_locks, linking_is}
-use Rattle.inodes.specs.Lemmas.Unclaimed.{LocksAlone, locks_alone, own_link}
+use Rattle.inodes.specs.Lemmas.Holding.{own_setting}
+use Rattle.inodes.specs.Lemmas.Looks.{set_locks, setting_is}
+use Rattle.inodes.specs.Lemmas.Unclaimed.{LocksAlone, locks_alone, own_set}
 use Rattle.inodes.proofs.AtWork.{Does, steps_worked, store_then, store_worked, Works}
 use Rattle.inodes.proofs.Frames.{marks_same}
 use Rattle.inodes.proofs.Getting.{fault_of, reads_none}
@@ -22,7 +22,7 @@ use Rattle.inodes.proofs.TruncSlots.{gains, Gains, held_for, never_inode, never_
 use Rattle.inodes.proofs.Truncating.{has_inode}
 
 -- in a store whose process p does so
-module _ {D N : Type 0} {disk : Ghosts D N} {s : StoreState D} {p k : ℕ} {d : Dinode} {u : UpdateState} (h : StandsAt disk s p (Stage.Linking k d u)) where
+module _ {D N : Type 0} {disk : Ghosts D N} {s : StoreState D} {p k : ℕ} {d : Dinode} {u : UpdateState} (h : StandsAt disk s p (Stage.Setting k d u)) where
   abbrev cur : Image
   cur = current_of disk.image s.volume
 
@@ -36,11 +36,7 @@ module _ {D N : Type 0} {disk : Ghosts D N} {s : StoreState D} {p k : ℕ} {d : 
   op = (task s.tasks p).op
 
   abbrev here : Stage
-  here = Stage.Linking k d u
-
-  -- the operation
-  abbrev its : Op
-  its = Links u.number d.nlink
+  here = Stage.Setting k d u
 
   agrees : Agrees s.volume.buffers s.volume.log s.table.inode_count s.tasks
   agrees = where_none s.volume.fault h.well h.is.agrees
@@ -48,11 +44,15 @@ module _ {D N : Type 0} {disk : Ghosts D N} {s : StoreState D} {p k : ℕ} {d : 
   looking : AreLooking cur s.table s.tasks
   looking = where_none s.volume.fault h.well h.is.looks
 
-  work : IsLinking s.table.inode_count (task s.tasks p) d u
-  work = linking_is cur s.table s.tasks looking p k d u h.stood
+  work : IsSetting s.table.inode_count (task s.tasks p) u
+  work = setting_is cur s.table s.tasks looking p k d u h.stood
+
+  -- the operation
+  abbrev its : Op
+  its = SetAttribute u.number work.attribute
 
   gripped : grip_of (task s.tasks p) ≡ Some (locked_grip k u.number)
-  gripped = link_locks cur s.table s.tasks looking p k d u h.stood
+  gripped = set_locks cur s.table s.tasks looking p k d u h.stood
 
   has : grip (grips_of s.tasks) p ≡ Some (locked_grip k u.number)
   has = grip_is s.tasks p ∙ gripped
@@ -62,9 +62,9 @@ module _ {D N : Type 0} {disk : Ghosts D N} {s : StoreState D} {p k : ℕ} {d : 
   alone = locks_alone cur s.table s.tasks looking p k u.number gripped
 
   claimed : claims_of s.tasks u.number ≡ Some (grows (unwritten d))
-  claimed = own_link cur s.table s.tasks looking p k d u h.stood
+  claimed = own_set cur s.table s.tasks looking p k d u h.stood
 
-  holds : HoldsForLinking s.volume.buffers s.volume.log p u
+  holds : HoldsForSetting s.volume.buffers s.volume.log p u
   holds = subst (λ (a : Stage). Stands s.volume.buffers s.volume.log s.table.inode_count p (task s.tasks p).op a) h.stood (agrees.stands p)
 
   slots : Slots s.volume.buffers p 0 None (inode_block u.number) u.slot
@@ -151,8 +151,8 @@ module _ {D N : Type 0} {disk : Ghosts D N} {s : StoreState D} {p k : ℕ} {d : 
   fits_still : (new : Claims) → IsClaimedNow claims u.number (Some (grows (unwritten d))) new → (files : Files) → FitsHeld files cur claims → FitsHeld files cur new
   fits_still new now files fits = held_alike files cur claims new (same_claims claims new u.number (Some (grows (unwritten d))) claimed now) fits
 
-  own : (v : UpdateState) → v.number ≡ u.number → claim_by op (Stage.Linking k d v) u.number ≡ Some (grows (unwritten d))
-  own v same = subst (λ (i : ℕ). claim_by op (Stage.Linking k d v) i ≡ Some (grows (unwritten d))) same (own_links op k d v)
+  own : (v : UpdateState) → v.number ≡ u.number → claim_by op (Stage.Setting k d v) u.number ≡ Some (grows (unwritten d))
+  own v same = subst (λ (i : ℕ). claim_by op (Stage.Setting k d v) i ≡ Some (grows (unwritten d))) same (own_setting op k d v)
 
   grip_here : Some (locked_grip k (asked_by op)) ≡ Some (locked_grip k u.number)
   grip_here = ap (λ (o : Option Op). Some (locked_grip k (asked_by o))) work.op
@@ -166,10 +166,10 @@ module _ {D N : Type 0} {disk : Ghosts D N} {s : StoreState D} {p k : ℕ} {d : 
 
     -- what a step does, by the machine's answer
     abbrev DoesSo : Progress (Unit {0}) → Type 0
-    DoesSo q = Does disk s p k u.number here (progress_of_link q) (stage_of_linking k d u v q) w (table_of_linking s.table k d q) ts its
+    DoesSo q = Does disk s p k u.number here (progress_of_setting q) (stage_of_setting k d u v q) w (table_of_setting s.table k d q) ts its
 
     abbrev then_at : Progress (Unit {0}) → StoreState D
-    then_at q = store_then disk s p k u.number here (progress_of_link q) (stage_of_linking k d u v q) w (table_of_linking s.table k d q) ts
+    then_at q = store_then disk s p k u.number here (progress_of_setting q) (stage_of_setting k d u v q) w (table_of_setting s.table k d q) ts
 
     -- ---- the inode's block is got
 
@@ -209,7 +209,8 @@ module _ {D N : Type 0} {disk : Ghosts D N} {s : StoreState D} {p k : ℕ} {d : 
                 holds = slots_now.holds_used;
               };
               looks = record {
-                op = work.op ∙ ap (λ (i : ℕ). Some (Links i d.nlink)) (sym same_number);
+                attribute = work.attribute;
+                op = work.op ∙ ap (λ (i : ℕ). Some (SetAttribute i work.attribute)) (sym same_number);
                 number = subst (λ (i : ℕ). IsTrue (is_number s.table.inode_count i)) (sym same_number) work.number;
                 fits = work.fits;
               };
@@ -243,8 +244,8 @@ module _ {D N : Type 0} {disk : Ghosts D N} {s : StoreState D} {p k : ℕ} {d : 
             stands = λ fine. record {
               others = subst (λ (x : VolumeState D). StaysForOthers s.volume.buffers x.buffers s.volume.log x.log p) (sym same) (stays_same s.volume.buffers s.volume.log p);
               locks = λ b i lock. ⊎_elim (λ (no : None ≡ Some i). absurd (cc no)) (λ is. is) (slots.locks b i (subst (λ (x : VolumeState D). HasLock x.buffers p b i) same lock));
-              stands = subst (λ (x : VolumeState D). HoldsForLinking x.buffers x.log p u) (sym same) holds;
-              looks = record { op = work.op; number = work.number; fits = work.fits };
+              stands = subst (λ (x : VolumeState D). HoldsForSetting x.buffers x.log p u) (sym same) holds;
+              looks = record { attribute = work.attribute; op = work.op; number = work.number; fits = work.fits };
               logged = tt;
             };
             late = refl;
@@ -292,7 +293,7 @@ module _ {D N : Type 0} {disk : Ghosts D N} {s : StoreState D} {p k : ℕ} {d : 
 
     module _ (i : ℕ) (got : u.slot ≡ Some i) (writes : WritesBlock disk s.volume p i (inode_block u.number) written w) where
       rests : (files : Files) → FitsHeld files cur claims → (new : Claims) → IsClaimedNow claims u.number None new → FitsThen files cur claims u.number written new
-      rests files fits new free = link_rests files cur claims new u.number d (held_in files fits) free
+      rests files fits new free = set_rests files cur claims new u.number d (held_in files fits) free
 
       keeps : KeepsUsed s.table.inode_count u.number claims cur written
       keeps = keeps_then s.table.inode_count u.number _ cur written claims _ h.is.numbers
@@ -350,22 +351,22 @@ module _ {D N : Type 0} {disk : Ghosts D N} {s : StoreState D} {p k : ℕ} {d : 
     does_by q (Some i) got updates = subst DoesSo (sym updates.0) (does_write i got updates.2)
 
     -- WHAT A STEP DOES
-    module _ (q : Progress (Unit {0})) (updates : Updates disk u.slot s.volume p u d q v w) (tasks : ts ≡ set s.tasks p (record (task s.tasks p) { stage = stage_of_linking k d u v q })) where
+    module _ (q : Progress (Unit {0})) (updates : Updates disk u.slot s.volume p u d q v w) (tasks : ts ≡ set s.tasks p (record (task s.tasks p) { stage = stage_of_setting k d u v q })) where
       does : DoesSo q
       does = does_by q u.slot refl updates
 
       abbrev store_now : StoreState D
-      store_now = record { volume = w; tasks = ts; table = table_of_linking s.table k d q }
+      store_now = record { volume = w; tasks = ts; table = table_of_setting s.table k d q }
 
-      pub store_linked : IsStore disk.image store_now
-      store_linked = store_worked disk s p k u.number here (progress_of_link q) (stage_of_linking k d u v q) w (table_of_linking s.table k d q) ts its works does tasks
+      pub store_set : IsStore disk.image store_now
+      store_set = store_worked disk s p k u.number here (progress_of_setting q) (stage_of_setting k d u v q) w (table_of_setting s.table k d q) ts its works does tasks
 
-      now_is : task ts p ≡ record (task s.tasks p) { stage = stage_of_linking k d u v q }
-      now_is = ap (λ (l : List TaskState). task l p) tasks ∙ get_or-set_same s.tasks p (record (task s.tasks p) { stage = stage_of_linking k d u v q }) no_task h.inside
+      now_is : task ts p ≡ record (task s.tasks p) { stage = stage_of_setting k d u v q }
+      now_is = ap (λ (l : List TaskState). task l p) tasks ∙ get_or-set_same s.tasks p (record (task s.tasks p) { stage = stage_of_setting k d u v q }) no_task h.inside
 
-      pub steps_linked : (o : Op) → (task s.tasks p).op ≡ Some o → Steps disk s p o (progress_of_link q) store_now
-      steps_linked o is = subst (λ (x : Op). Steps disk s p x (progress_of_link q) store_now) (let both : Some its ≡ Some o = sym work.op ∙ is in cc both)
-          (steps_worked disk s p k u.number here (progress_of_link q) (stage_of_linking k d u v q) w (table_of_linking s.table k d q) ts its works does tasks
+      pub steps_set : (o : Op) → (task s.tasks p).op ≡ Some o → Steps disk s p o (progress_of_setting q) store_now
+      steps_set o is = subst (λ (x : Op). Steps disk s p x (progress_of_setting q) store_now) (let both : Some its ≡ Some o = sym work.op ∙ is in cc both)
+          (steps_worked disk s p k u.number here (progress_of_setting q) (stage_of_setting k d u v q) w (table_of_setting s.table k d q) ts its works does tasks
           (record {
             answer = q;
             now = v;
