@@ -50,9 +50,9 @@ pub const SCHEDULE: &[&str] = &[
     "its deed (get B, use B, look ..), why it waits, and by P, who holds that.",
     "",
     "Replies are made I, noinode, wrote K (so many bytes), done, stat T S (type,",
-    "length), bytes HEX (- for none), and refused with 1 NoFile, 2 BadOffset (a",
-    "write begins after the file's end, or a length lies there), 3 TooBig (it would",
-    "end after the largest file), 4 TooLong or 5 BadType.",
+    "length) and bytes HEX (- for none). A refusal is refused with 1 NoFile, 2",
+    "BadOffset (a write begins after the file's end, or a length lies there), 3",
+    "TooBig (it would end after the largest file), 4 TooLong or 5 BadType.",
 ];
 
 pub const REFUSALS: &[&str] = &[
