@@ -5,6 +5,7 @@ from layout import DIRECTORY, INODE_WORDS
 from mkfs import mkfs
 from programs import Failure, shown
 from usertests import bigdir
+from wrong_images import Wrong, good_image
 
 
 def expect(programs, wanted, command, *words):
@@ -115,3 +116,28 @@ def wrong_counts(programs):
     if files[b"/d"].kind != DIRECTORY:
         raise Failure("mkdir behind recount made no directory")
     print("wrong counts: the image is read, not changed, and put right")
+
+
+def names_end_at_a_zero(programs):
+    """A name is what stands before its first zero; where that is nothing, has a slash or is there already, there is no
+    tree."""
+    image = Wrong(good_image())
+    image.set_entry(1, 4, 5, b"long\0er")
+    image.set_entry(3, 1, 1, b"..\0b")
+    programs.write(image.data)
+    if b"long 5 type 2 size 14000" not in expect(programs, 0, "ls", "/").splitlines():
+        raise Failure("ls doesn't list a name up to its first zero")
+    expect(programs, 0, "rm", "/long")
+    expect(programs, 0, "mv", "/a", "/e/a")
+    files = whole(programs, programs.image())
+    if sorted(files) != [b"/e", b"/e/a", b"/e/a/b", b"/e/a/g", b"/f"]:
+        raise Failure("rm and mv leave %s" % sorted(files))
+    for name in b"", b"\0f", b"a/b", b"/", b"f\0b", b"..\0b", b".":
+        image = Wrong(good_image())
+        image.set_entry(1, 4, 5, name)
+        programs.write(image.data)
+        for words in ("tree",), ("rm", "/f"):
+            told = expect(programs, 1, *words)
+            if b"names 13 NoTree" not in told or programs.image() != image.data:
+                raise Failure("a name %s: %s: %s" % (name, words[0], shown(told).strip()))
+    print("names: up to their first zero, and none that is empty, has a slash or is there twice")

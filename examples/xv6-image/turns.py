@@ -124,6 +124,7 @@ def main(words, programs):
     print("the kernel alone: %d calls in %d images" % (10 * TURNS * CALLS * words.alone, words.alone))
     rows.parent_stays(programs)
     rows.wrong_counts(programs)
+    rows.names_end_at_a_zero(programs)
     numbers = range(ROUNDS) if words.round is None else [words.round]
     make_rounds(programs, words.seed, numbers)
     print("%d images, each in turn with the kernel, for %d calls, and with xvnames, for %d commands"

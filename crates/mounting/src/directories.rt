@@ -6,7 +6,9 @@ use crate::errno::Errno;
 use crate::nodes::Nodes;
 use blocks::Disk;
 use fuse::{add_entry, directory_entry, padding_of};
-use names::{ENTRY_SIZE, NAME_SIZE, Name, Tree, TreeFault, entries_in, leads_down, number_in};
+use names::{
+    ENTRY_SIZE, NAME_SIZE, Name, Tree, TreeFault, entries_in, leads_down, number_in, text_in,
+};
 use std::alloc::Global;
 
 /// The number of the root.
@@ -66,22 +68,6 @@ pub(crate) fn new_name(node: u32, name: &[u8]) -> Result<Name, Errno> {
     Ok(Name::new(name)?)
 }
 
-// How long a name is that zeroes end.
-fn name_size(name: &[u8]) -> usize
-    ensures { result ≤ length name.now }
-{
-    match name.iter().position(|byte| *byte == 0) {
-        Some(size) => size,
-        None => name.len(),
-    }
-}
-
-// The name of an entry.
-fn name_of(entry: &[u8; ENTRY_SIZE]) -> &[u8] {
-    let name = &entry[2..ENTRY_SIZE];
-    &name[..name_size(name)]
-}
-
 /// What is listed of a directory.
 #[derive(Clone, Copy)]
 pub(crate) struct Part {
@@ -125,12 +111,12 @@ pub(crate) fn list<D: Disk>(
 
 // Whether an entry is free, or one of the names aside, which are in the root.
 fn is_hidden(number: u32, entry: &[u8; ENTRY_SIZE]) -> bool {
-    number_in(entry) == 0 || (number == ROOT && is_aside(name_of(entry)))
+    number_in(entry) == 0 || (number == ROOT && is_aside(text_in(entry)))
 }
 
 // How many bytes an entry takes.
 fn whole_size(entry: &[u8; ENTRY_SIZE], plus: bool) -> usize {
-    let size = name_of(entry).len();
+    let size = text_in(entry).len();
     let more = if plus { 152 } else { 24 };
     size.saturating_add(padding_of(size)).saturating_add(more)
 }
@@ -168,7 +154,7 @@ fn add_name(
     kind: u32,
     out: &mut Vec<u8>,
 ) -> Result<(), Errno> {
-    let name = name_of(entry);
+    let name = text_in(entry);
     let Ok(size) = u32::try_from(name.len()) else {
         return Err(Errno::InputOutput);
     };
@@ -208,10 +194,10 @@ fn sweep_entry<D: Disk>(
     requires ready { MayGoOn D.Disk tree.old.kernel tree.old.calls_left }
     ensures ready { MayGoOn D.Disk tree.new.kernel tree.new.calls_left }
 {
-    if number_in(entry) == 0 || !is_aside(name_of(entry)) {
+    if number_in(entry) == 0 || !is_aside(text_in(entry)) {
         return Ok(());
     }
-    let name = Name::new(name_of(entry))?;
+    let name = Name::new(text_in(entry))?;
     match tree.remove_in(alloc, ROOT, &name) {
         // A directory is none that we put aside.
         Ok(()) | Err(TreeFault::Refused(_)) => Ok(()),

@@ -84,7 +84,7 @@ impl From<NameFault> for Errno {
         match fault {
             NameFault::TooLong => Errno::NameTooLong,
             NameFault::Empty => Errno::NoEntry,
-            NameFault::ZeroByte => Errno::Invalid,
+            NameFault::ZeroByte | NameFault::Slash => Errno::Invalid,
         }
     }
 }

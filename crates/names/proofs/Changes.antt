@@ -7,11 +7,11 @@ use Rattle.std.specs.Str.{bytes_eq}
 use Rattle.std.proofs.lemmas.Bool.{cases_Bool, both_ways}
 use Rattle.std.proofs.lemmas.Slice.Eq.{bytes_eq-Decides}
 use Rattle.names.specs.declared.entries.EntryWrite.{EntryWrite}
-use Rattle.names.specs.Entries.{entries_of, number_in, is_free, is_for, place_of, lookup, HasOnce}
+use Rattle.names.specs.Entries.{entries_of, name_in, number_in, is_free, is_for, place_of, lookup, HasOnce, IsProper}
 use Rattle.names.specs.Writes.{written, Links, Unlinks, KeepsOthers}
-use Rattle.names.proofs.Standing.{StandsAt, Puts, stands_at, puts_first, lookup_at, lookup_none, none_from_lookup, lookup_same, once_keeps, once_first, once_gone}
+use Rattle.names.proofs.Standing.{StandsAt, Puts, stands_at, puts_first, lookup_at, lookup_none, none_from_lookup, lookup_same, named_keeps, once_keeps, once_first, once_gone}
 use Rattle.names.proofs.Chunks.{length-entries_of, puts_entry}
-use Rattle.names.proofs.EntryBytes.{length-entry_bytes, name_in-entry_bytes, number_in-entry_bytes, is_for-entry_bytes, is_for-other, name_of_entry, is_for-free, zeroes_free}
+use Rattle.names.proofs.EntryBytes.{length-entry_bytes, name_in-entry_bytes, proper-entry_bytes, number_in-entry_bytes, is_for-entry_bytes, is_for-other, name_of_entry, is_for-free, zeroes_free}
 
 -- a place for a new entry: it is free, or behind the last
 pub record HasRoom (es : List (List ℕ)) (place : ℕ) : Type 0 where
@@ -34,15 +34,19 @@ pub link_puts : (bytes name : List ℕ) (number : ℕ) (write : EntryWrite) → 
 link_puts bytes name number write links =
     let low : write.place ≤ length (entries_of bytes) = (link_room bytes name number write links).low in
     let count = length-entries_of bytes in
-    puts_entry bytes write.place write.entry (omega arith) (ap length links.entry ∙ length-entry_bytes number name links.size)
+    puts_entry bytes write.place write.entry (omega arith) (ap length links.entry ∙ length-entry_bytes number name links.stored)
 
 link_for : (bytes name : List ℕ) (number : ℕ) (write : EntryWrite) → Links bytes name number write → is_for name write.entry ≡ true
-link_for bytes name number write links = ap (is_for name) links.entry ∙ is_for-entry_bytes number name links.size links.used links.fits
+link_for bytes name number write links = ap (is_for name) links.entry ∙ is_for-entry_bytes number name links.stored links.used links.fits
 
 link_not_for : (bytes name : List ℕ) (number : ℕ) (write : EntryWrite) → Links bytes name number write →
     (other : List ℕ) → other ≢ name → is_for other write.entry ≡ false
 link_not_for bytes name number write links other differs =
-    ap (is_for other) links.entry ∙ is_for-other other name _ differs (name_in-entry_bytes number name links.size)
+    ap (is_for other) links.entry ∙ is_for-other other name _ differs (name_in-entry_bytes number name links.stored)
+
+link_proper : (bytes name : List ℕ) (number : ℕ) (write : EntryWrite) → Links bytes name number write → IsProper (name_in write.entry)
+link_proper bytes name number write links =
+    subst (λ (l : List ℕ). IsProper (name_in l)) (sym links.entry) (proper-entry_bytes number name links.stored)
 
 pub link_stands : (bytes name : List ℕ) (number : ℕ) (write : EntryWrite) → Links bytes name number write →
     StandsAt (is_for name) (entries_of (written bytes write)) write.place
@@ -79,6 +83,7 @@ link_keeps bytes name number write links =
           once_keeps bytes (written bytes write) any write.place write.entry puts
           (link_not_for bytes name number write links any (λ e. both_ways (bytes_eq any name) differ ((bytes_eq-Decides any name).1 e))) once)
           (cases_Bool (bytes_eq any name));
+      named = named_keeps (entries_of bytes) (entries_of (written bytes write)) write.place write.entry puts (λ used. link_proper bytes name number write links);
     }
 
 -- ---- unlinks
@@ -120,4 +125,6 @@ unlink_keeps bytes name write unlinks =
           lookup_same bytes (written bytes write) other write.place write.entry puts (unlink_for bytes name write unlinks other)
           (λ h. is_for-other other name (get_or (entries_of bytes) write.place []) differs old);
       once = λ any once. once_keeps bytes (written bytes write) any write.place write.entry puts (unlink_for bytes name write unlinks any) once;
+      named = named_keeps (entries_of bytes) (entries_of (written bytes write)) write.place write.entry puts
+          (λ used. absurd (both_ways (is_free write.entry) used (ap is_free unlinks.entry ∙ zeroes_free)));
     }

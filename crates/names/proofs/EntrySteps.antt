@@ -37,7 +37,7 @@ use Rattle.names.proofs.Sizes.{entry_fits}
 -- ---- sizes
 
 pub link_size : (bytes name : List ℕ) (number : ℕ) (write : EntryWrite) → Links bytes name number write → length write.entry ≡ 16
-link_size bytes name number write links = ap length links.entry ∙ length-entry_bytes number name links.size
+link_size bytes name number write links = ap length links.entry ∙ length-entry_bytes number name links.stored
 
 pub unlink_size : (bytes name : List ℕ) (write : EntryWrite) → Unlinks bytes name write → length write.entry ≡ 16
 unlink_size bytes name write unlinks = ap length unlinks.entry
@@ -59,7 +59,7 @@ pub tidy_written : (bytes name : List ℕ) (write : EntryWrite) → length write
 tidy_written bytes name write size at keeps tidy =
     let whole : length bytes % 16 ≡ 0 = tidy.whole in
     let long = length-written bytes (16 * write.place) write.entry at size in
-    record { whole = omega arith; once = λ any. keeps.once any (tidy.once any) }
+    record { whole = omega arith; named = keeps.named tidy.named; once = λ any. keeps.once any (tidy.once any) }
 
 -- an entry was written, by which one name leads elsewhere
 pub leads_by : (form : Form) (files new : Files) (from : ℕ) (name : List ℕ) (number : Option ℕ) (write : EntryWrite) → IsDirectory files from →

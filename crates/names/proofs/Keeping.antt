@@ -231,7 +231,7 @@ holds_linked form files new name number d write is links h =
     let there = where_true_some (may_have_written (length d.bytes) (16 * write.place) (length write.entry) 16)
     (set files 1 (with_bytes d (overwritten d.bytes (16 * write.place) (take 16 write.entry)))) new
     (subst (λ (o : Option File). after_at files 1 o (Write 1 (16 * write.place) write.entry) (Wrote 16) ≡ Some new) is done) in
-    let size : length write.entry ≡ 16 = ap length links.entry ∙ length-entry_bytes number name links.size in
+    let size : length write.entry ≡ 16 = ap length links.entry ∙ length-entry_bytes number name links.stored in
     holds_bytes files new name number write.place d (written d.bytes write) (below_file files 1 d is)
     (there.1 ∙ ap (λ (b : List ℕ). set files 1 (with_bytes d b)) (all_written d.bytes (16 * write.place) 16 write.entry size refl))
     (link_stands d.bytes name number write links) (link_number d.bytes name number write links)

@@ -1,4 +1,5 @@
 pub mod Standing
+pub mod Stored
 pub mod Cuts
 pub mod Chunks
 pub mod EntryBytes

@@ -17,6 +17,7 @@ use Rattle.names.proofs.Standing.{lookup_none, position_none}
 use Rattle.names.proofs.EntryBytes.{number_in-entry_bytes}
 use Rattle.names.proofs.Changes.{link_leads, link_keeps}
 use Rattle.names.proofs.Chunks.{length-entries_of}
+use Rattle.names.proofs.Stored.{parent_is_stored, self_is_stored}
 use Rattle.names.proofs.TreeBy.{directory_is_file, steps_make_tree, IsTreeBy}
 
 -- ---- no entry
@@ -43,7 +44,7 @@ names_differ e = both_ways (bytes_eq parent_name self_name) refl ((bytes_eq-Deci
 
 first_links : (number : ℕ) → 0 < number → number < 2 ^ 16 → Links [] self_name number (first number)
 unfolding entries_of
-first_links number used fits = record { absent = empty_leads self_name; place = refl; entry = refl; used = used; fits = fits; size = refl }
+first_links number used fits = record { absent = empty_leads self_name; place = refl; entry = refl; used = used; fits = fits; stored = self_is_stored }
 
 first_written : (number : ℕ) → written [] (first number) ≡ entry_bytes number self_name
 first_written number = refl
@@ -79,7 +80,7 @@ second_links number parent used fits parent_used parent_fits =
       entry = refl;
       used = parent_used;
       fits = parent_fits;
-      size = refl;
+      stored = parent_is_stored;
     }
 
 second_written : (number parent : ℕ) → written (entry_bytes number self_name) (second parent) ≡ new_directory number parent
@@ -98,7 +99,11 @@ new_is_empty number parent used fits parent_used parent_fits =
     let up : lookup (new_directory number parent) parent_name ≡ Some parent =
     link_leads (entry_bytes number self_name) parent_name parent (second parent) b in (
       record {
-        tidy = record { whole = refl; once = λ name. two.once name (one.once name (empty_once name)) };
+        tidy = record {
+          whole = refl;
+          named = two.named (one.named (λ j below. absurd (none_in [] j below)));
+          once = λ name. two.once name (one.once name (empty_once name));
+        };
         own = two.others self_name (λ e. names_differ (sym e)) ∙ own;
         up = up;
       },

@@ -1,10 +1,10 @@
 -- The parts of a path, found from its beginning on.
-use Rattle.std.proofs.Common.{◌≡◌, ◌≢◌, ℕ, ◌+◌, ◌<◌, ◌≤◌, Bool, eqb, cond, List, [], ◌∷◌, ◌++◌, length, get_or, drop, map, append_assoc, refl, sym, ap, subst, ◌∙◌, lit<, arith}
+use Rattle.std.proofs.Common.{◌≡◌, ◌≢◌, ℕ, ◌+◌, ◌<◌, ◌≤◌, Bool, eqb, cond, List, [], ◌∷◌, ◌++◌, length, get_or, drop, map, append_assoc, refl, sym, ap, subst, ◌∙◌, ⊎_elim, lit<, arith}
 use Rattle.std.specs.List.{Contains, slice_range}
 use Rattle.std.proofs.lemmas.Bool.{ne_eqb}
 use Rattle.std.proofs.lemmas.List.{drop_all, drop_more, map-append}
 use Rattle.std.proofs.lemmas.List.Edits.{between_none, between_more}
-use Rattle.std.proofs.lemmas.List.Elements.{Contains-append_left, Contains-append_right}
+use Rattle.std.proofs.lemmas.List.Elements.{Contains-append_left, Contains-append_right, Contains-push_cases}
 use Rattle.names.specs.declared.path.PathFault.{PathFault}
 use Rattle.names.specs.declared.path.PathFault.TheVariants.{NameTooLong, ZeroByte, NoMemory}
 use Rattle.names.specs.Entries.{padded}
@@ -16,9 +16,24 @@ pub record Parted (path : List ℕ) (names : List (List ℕ)) (start i : ℕ) : 
   pub names_are : names ≡ map padded done
   pub whole : parts_of path ≡ done ++ parts_behind (slice_range path start i) (drop i path)
   pub low : start ≤ i
+  pub bare : Contains (slice_range path start i) 47 → ⊥
+
+none_there : Contains {X = ℕ} [] 47 → ⊥
+none_there has = let inside : has.0 < 0 = has.1 in omega arith
+
+none_bare : (path : List ℕ) (i : ℕ) → Contains (slice_range path i i) 47 → ⊥
+none_bare path i has = none_there (subst (λ (l : List ℕ). Contains l 47) (between_none path i) has)
+
+-- a byte that is no slash adds none
+before_another : (path : List ℕ) (start i : ℕ) → start ≤ i → i < length path → get_or path i 0 ≢ 47 →
+    Contains (slice_range path start (i + 1)) 47 → Contains (slice_range path start i) 47
+before_another path start i low inside other has =
+    ⊎_elim (λ (old : Contains (slice_range path start i) 47). old) (λ (is : get_or path i 0 ≡ 47). absurd (other is))
+    (Contains-push_cases (slice_range path start i) (get_or path i 0) 47
+    (subst (λ (l : List ℕ). Contains l 47) (between_more path start i 0 low inside) has))
 
 pub parted_none : (path : List ℕ) → Parted path [] 0 0
-parted_none path = record { done = []; names_are = refl; whole = refl; low = omega arith }
+parted_none path = record { done = []; names_are = refl; whole = refl; low = omega arith; bare = λ has. none_bare path 0 has }
 
 unslashed : (path part : List ℕ) (i : ℕ) → i < length path → get_or path i 0 ≢ 47 →
     parts_behind part (drop i path) ≡ parts_behind (part ++ get_or path i 0 ∷ []) (drop (i + 1) path)
@@ -43,6 +58,7 @@ parted_on path names start i inside other parted = record {
       ∙ ap (λ (l : List (List ℕ)). parted.done ++ l) (unslashed path (slice_range path start i) i inside other
       ∙ ap (λ (p : List ℕ). parts_behind p (drop (i + 1) path)) (sym (between_more path start i 0 parted.low inside)));
   low = omega (arith, parted.low);
+  bare = λ has. parted.bare (before_another path start i parted.low inside other has);
 }
 
 -- the part ends
@@ -58,6 +74,7 @@ parted_at path names more start i inside is adds parted =
           ∙ sym (append_assoc parted.done (one_part part) (parts_behind [] (drop (i + 1) path)))
           ∙ ap (λ (p : List ℕ). (parted.done ++ one_part part) ++ parts_behind p (drop (i + 1) path)) (sym (between_none path (i + 1)));
       low = omega arith;
+      bare = λ has. none_bare path (i + 1) has;
     }
 
 -- the last part ends

@@ -12,7 +12,7 @@ use Rattle.model.specs.declared.types.operations.Reply.{Reply}
 use Rattle.model.specs.Files.{Files, file_in}
 use Rattle.model.specs.Lemmas.FileNumbers.{below_file}
 use Rattle.model.specs.Lemmas.Replies.{after_cases}
-use Rattle.model.specs.Operations.{after, after_done, attribute_refusal, no_file_refusal, refusal_of, with_bytes, with_links}
+use Rattle.model.specs.Operations.{after, after_done, attribute_refusal, refusal_of, with_bytes, with_links}
 use Rattle.calls.specs.Stepping.{Plain}
 use Rattle.names.specs.declared.entries.EntryWrite.{EntryWrite}
 use Rattle.names.specs.Entries.{lookup}

@@ -5,16 +5,16 @@ use Rattle.model.specs.declared.types.operations.Reply.{Reply}
 use Rattle.model.specs.Layout.{greatest_size}
 use Rattle.model.specs.Operations.{after}
 use Rattle.names.specs.declared.entries.EntryWrite.{EntryWrite}
-use Rattle.names.specs.Entries.{entries_of, number_in, is_for, lookup, HasOnce, IsFor}
+use Rattle.names.specs.Entries.{entries_of, name_in, number_in, is_for, lookup, HasOnce, IsFor, IsProper}
 use Rattle.names.specs.Trees.{directory_in}
 use Rattle.names.specs.TreeLaws.{RepointLeads}
 use Rattle.names.specs.Writes.{operation_of, written, KeepsOthers, Repoints}
 use Rattle.names.proofs.Adding.{same_name}
 use Rattle.names.proofs.Answered.{entry_answered}
 use Rattle.names.proofs.Chunks.{length-entries_of, puts_entry}
-use Rattle.names.proofs.EntryBytes.{is_for-entry_bytes, is_for-other, length-entry_bytes, name_in-entry_bytes, name_of_entry, number_in-entry_bytes}
+use Rattle.names.proofs.EntryBytes.{is_for-entry_bytes, is_for-other, length-entry_bytes, name_in-entry_bytes, name_of_entry, number_in-entry_bytes, proper-entry_bytes}
 use Rattle.names.proofs.EntrySteps.{leads_by}
-use Rattle.names.proofs.Standing.{lookup_at, lookup_same, once_keeps, stands_at, Puts, StandsAt}
+use Rattle.names.proofs.Standing.{lookup_at, lookup_same, named_keeps, once_keeps, stands_at, Puts, StandsAt}
 
 -- the entry of a name is replaced by another of that name
 again_first : (bytes new name : List ℕ) (place : ℕ) (entry : List ℕ) → Puts (entries_of bytes) (entries_of new) place entry →
@@ -45,7 +45,7 @@ repoint_stands : (bytes name : List ℕ) (number : ℕ) (write : EntryWrite) →
 repoint_stands bytes name number write repoints = stands_at (is_for name) (entries_of bytes) write.place repoints.place
 
 repoint_size : (bytes name : List ℕ) (number : ℕ) (write : EntryWrite) → Repoints bytes name number write → length write.entry ≡ 16
-repoint_size bytes name number write repoints = ap length repoints.entry ∙ length-entry_bytes number name repoints.size
+repoint_size bytes name number write repoints = ap length repoints.entry ∙ length-entry_bytes number name repoints.stored
 
 repoint_at : (bytes name : List ℕ) (number : ℕ) (write : EntryWrite) → Repoints bytes name number write → 16 * write.place + 16 ≤ length bytes
 repoint_at bytes name number write repoints =
@@ -60,12 +60,16 @@ repoint_puts bytes name number write repoints =
 
 repoint_for : (bytes name : List ℕ) (number : ℕ) (write : EntryWrite) → Repoints bytes name number write → is_for name write.entry ≡ true
 repoint_for bytes name number write repoints =
-    ap (is_for name) repoints.entry ∙ is_for-entry_bytes number name repoints.size repoints.used repoints.fits
+    ap (is_for name) repoints.entry ∙ is_for-entry_bytes number name repoints.stored repoints.used repoints.fits
 
 repoint_not_for : (bytes name : List ℕ) (number : ℕ) (write : EntryWrite) → Repoints bytes name number write →
     (other : List ℕ) → other ≢ name → is_for other write.entry ≡ false
 repoint_not_for bytes name number write repoints other differs =
-    ap (is_for other) repoints.entry ∙ is_for-other other name _ differs (name_in-entry_bytes number name repoints.size)
+    ap (is_for other) repoints.entry ∙ is_for-other other name _ differs (name_in-entry_bytes number name repoints.stored)
+
+repoint_proper : (bytes name : List ℕ) (number : ℕ) (write : EntryWrite) → Repoints bytes name number write → IsProper (name_in write.entry)
+repoint_proper bytes name number write repoints =
+    subst (λ (l : List ℕ). IsProper (name_in l)) (sym repoints.entry) (proper-entry_bytes number name repoints.stored)
 
 pub repoint_leads : (bytes name : List ℕ) (number : ℕ) (write : EntryWrite) → Repoints bytes name number write →
     lookup (written bytes write) name ≡ Some number
@@ -95,6 +99,7 @@ repoint_keeps bytes name number write repoints =
           (λ (differ : any ≢ name).
           once_keeps bytes (written bytes write) any write.place write.entry puts (repoint_not_for bytes name number write repoints any differ) once)
           (same_name any name);
+      named = named_keeps (entries_of bytes) (entries_of (written bytes write)) write.place write.entry puts (λ used. repoint_proper bytes name number write repoints);
     }
 
 pub repoint_leads_there : RepointLeads

@@ -1,11 +1,11 @@
 -- Where the first entry that passes a test stands, and what the write of one entry makes of that.
-use Rattle.std.proofs.Common.{◌≡◌, ◌≢◌, ℕ, ◌<◌, ◌≤◌, Bool, true, false, cond, ltb, List, [], length, get_or, Option, Some, None, refl, sym, ap, ◌∙◌, ⊎_elim, arith}
+use Rattle.std.proofs.Common.{◌≡◌, ◌≢◌, ℕ, ◌<◌, ◌≤◌, Bool, true, false, cond, ltb, List, [], length, get_or, Option, Some, None, refl, sym, ap, subst, ◌∙◌, ⊎_elim, arith}
 use Rattle.std.specs.List.{position, position_or_len}
 use Rattle.std.specs.Option.{option_map}
 use Rattle.std.proofs.lemmas.Bool.{lt-ltb, le-ltb, cond-true, cond-false, cases_lt, cases_eq, both_ways, false_from_ne_true}
 use Rattle.std.proofs.lemmas.List.Sums.{position_or_len_is, fails_before_first}
 use Rattle.std.proofs.lemmas.List.Quantifiers.{position-Some}
-use Rattle.names.specs.Entries.{entries_of, number_in, is_for, lookup, HasOnce, IsFor}
+use Rattle.names.specs.Entries.{entries_of, name_in, number_in, is_for, is_free, lookup, AreNamed, HasOnce, IsFor, IsProper}
 
 -- place k has the first entry that passes
 pub record StandsAt (p : List ℕ → Bool) (es : List (List ℕ)) (k : ℕ) : Type 0 where
@@ -23,7 +23,7 @@ place_is n k m e h = cond-true (ltb n m) (Some n) None (lt-ltb n m (omega arith)
 place_is_none : (n m : ℕ) → n ≡ m → cond (ltb n m) (Some n) None ≡ None
 place_is_none n m e = cond-false (ltb n m) (Some n) None (le-ltb n m (omega arith))
 
-none_is_past : (n m : ℕ) → cond (ltb n m) (Some n) None ≡ None → m ≤ n
+pub none_is_past : (n m : ℕ) → cond (ltb n m) (Some n) None ≡ None → m ≤ n
 none_is_past n m e =
     ⊎_elim (λ (lt : n < m). let both : Some n ≡ None = sym (cond-true (ltb n m) (Some n) None (lt-ltb n m lt)) ∙ e in absurd (cc both))
     (λ (le : m ≤ n). le) (cases_lt n m)
@@ -184,3 +184,16 @@ once_gone bytes new name place entry puts fails once at j inside =
     false_from_ne_true (is_for name (get_or (entries_of new) j []))
     (λ good. let ne = not_there bytes new name place entry puts fails j (inside, good) in
     ne (once.same j place (for_before bytes new name place entry puts j ne (inside, good)) (at.within, at.passes)))
+
+-- ---- names of entries
+
+pub named_keeps : (es new : List (List ℕ)) (place : ℕ) (entry : List ℕ) → Puts es new place entry →
+    (is_free entry ≡ false → IsProper (name_in entry)) → AreNamed es → AreNamed new
+named_keeps es new place entry puts here named j inside =
+    ⊎_elim
+    (λ (e : j ≡ place).
+    subst (λ (l : List ℕ). is_free l ≡ false → IsProper (name_in l)) (sym (ap (λ (i : ℕ). get_or new i []) e ∙ puts.there)) here)
+    (λ (ne : j ≢ place).
+    let old = puts.more j inside ne in
+    subst (λ (l : List ℕ). is_free l ≡ false → IsProper (name_in l)) (sym (puts.others j old ne)) (named j old))
+    (cases_eq j place)

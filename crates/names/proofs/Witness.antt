@@ -1,5 +1,6 @@
 -- A root with a file: the premises of the laws of whole changes are met.
 use Rattle.std.proofs.Common.{◌≡◌, ◌≢◌, ℕ, zero, suc, false, List, [], ◌∷◌, ◌++◌, replicate, Some, None, refl, inl, ⊎_elim, arith}
+use Rattle.std.specs.List.{Contains}
 use Rattle.std.specs.Str.{bytes_eq}
 use Rattle.std.proofs.lemmas.Bool.{both_ways}
 use Rattle.std.proofs.lemmas.Slice.Eq.{bytes_eq-Decides}
@@ -8,12 +9,13 @@ use Rattle.model.specs.declared.types.operations.Reply.TheVariants.{Done, Wrote}
 use Rattle.model.specs.Files.{Files, file_in}
 use Rattle.model.specs.Operations.{after}
 use Rattle.names.specs.declared.entries.EntryWrite.{EntryWrite}
-use Rattle.names.specs.Entries.{entries_of, entry_bytes, lookup, number_in, padded}
+use Rattle.names.specs.Entries.{entries_of, entry_bytes, lookup, name_in, number_in, padded}
 use Rattle.names.specs.Sizes.{AreSized}
 use Rattle.names.specs.Trees.{directory_in, new_directory, parent_name, self_name, IsDown, IsNamedOnce, IsTree, StaysTree, StepsDown}
 use Rattle.names.specs.TreeChanges.{directory_file, empty_file, AddsName, DropsName}
 use Rattle.names.specs.Writes.{Links, Unlinks}
 use Rattle.names.proofs.NewDirectory.{root_is_tree}
+use Rattle.names.proofs.Stored.{stored_padded}
 use Rattle.names.proofs.TreeMeaning.{steps_lead}
 use Rattle.names.proofs.WholeChanges.{makes_file_whole, removes_file_whole}
 
@@ -59,15 +61,19 @@ differ a b h e = both_ways (bytes_eq a b) h ((bytes_eq-Decides a b).1 e)
 down : IsDown name
 down = (differ name self_name refl, differ name parent_name refl)
 
+one_byte : (c : ℕ) → 97 ≢ c → Contains (97 ∷ []) c → ⊥
+one_byte c ne (zero, inside, is) = ne is
+one_byte c ne (suc k, inside, is) = absurd (omega (arith, inside))
+
 links : Links (directory_in files 1) name 2 link
-unfolding entries_of number_in lookup
+unfolding entries_of number_in lookup name_in
 links = record {
   absent = refl;
   place = refl;
   entry = refl;
   used = omega arith;
   fits = omega arith;
-  size = refl;
+  stored = stored_padded (97 ∷ []) (record { some = λ e. absurd (cc e); few = omega arith; whole = λ has. one_byte 0 (λ e. absurd (cc e)) has; no_slash = λ has. one_byte 47 (λ e. absurd (cc e)) has });
 }
 
 sized : AreSized One files
@@ -91,11 +97,11 @@ adds =
     (makes_file_whole One files made named 1 2 2 name link (Wrote 16) sized root_alone refl down (λ e. absurd (omega arith)) refl links (inl (omega arith)) refl)
 
 unlinks : Unlinks (directory_in named 1) name unlink
-unfolding entries_of number_in
+unfolding entries_of number_in name_in
 unlinks = record { place = refl; entry = refl }
 
 leads : lookup (directory_in named 1) name ≡ Some 2
-unfolding entries_of number_in lookup
+unfolding entries_of number_in lookup name_in
 leads = refl
 
 -- which has one name

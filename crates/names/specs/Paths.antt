@@ -2,11 +2,7 @@
 use Rattle.std.specs.Prelude.{◌≢◌, ℕ, ◌<◌, ◌==◌, if◌then◌else◌, List, [], ◌∷◌, ◌++◌, length, map, Contains}
 use Rattle.names.specs.declared.path.PathFault.{PathFault}
 use Rattle.names.specs.declared.path.PathFault.TheVariants.{NameTooLong, ZeroByte, NoMemory}
-use Rattle.names.specs.Entries.{name_size, padded}
-
--- the byte between the parts of a path
-abbrev pub slash : ℕ
-slash = 47
+use Rattle.names.specs.Entries.{name_size, padded, slash}
 
 -- a part of a path; none where it has no bytes
 abbrev pub one_part : List ℕ → List (List ℕ)

@@ -3,7 +3,7 @@ use Rattle.std.specs.Prelude.{◌≡◌, ◌≢◌, ◌⊎◌, Bool, ◌||◌, n
 use Rattle.std.specs.Str.{bytes_eq}
 use Rattle.model.specs.declared.types.image.File.{File}
 use Rattle.model.specs.Files.{Files, file_in}
-use Rattle.names.specs.Entries.{entry_bytes, entry_size, is_free, lookup, name_in, padded, HasOnce}
+use Rattle.names.specs.Entries.{entries_of, entry_bytes, entry_size, is_free, lookup, name_in, padded, AreNamed, HasOnce}
 
 -- the number of the directory that all paths begin at
 abbrev pub root : ℕ
@@ -89,9 +89,10 @@ IsOutside files number other = (names : List (List ℕ)) → IsPath files number
 
 -- ---- directories
 
--- whole entries, and no name stands twice
+-- whole entries, each used one has a name, and no name stands twice
 pub record IsTidy (bytes : List ℕ) : Type 0 where
   pub whole : length bytes % entry_size ≡ 0
+  pub named : AreNamed (entries_of bytes)
   pub once : (name : List ℕ) → HasOnce bytes name
 
 -- the bytes of a directory with that number and that parent

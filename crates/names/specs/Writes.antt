@@ -6,7 +6,7 @@ use Rattle.model.specs.declared.types.operations.Op.TheVariants.{Write}
 use Rattle.names.specs.declared.entries.EntryWrite.{EntryWrite}
 use Rattle.names.specs.declared.entries.LinkFault.{LinkFault}
 use Rattle.names.specs.declared.entries.LinkFault.TheVariants.{Exists, Full}
-use Rattle.names.specs.Entries.{entry_size, most_entries, name_size, entries_of, entry_bytes, is_free, place_of, lookup, HasOnce}
+use Rattle.names.specs.Entries.{entry_size, most_entries, entries_of, entry_bytes, is_free, place_of, lookup, AreNamed, HasOnce, IsStored}
 
 -- the number of the file whose bytes are the directory
 abbrev pub directory_number : ℕ
@@ -39,7 +39,7 @@ pub record Links (bytes name : List ℕ) (number : ℕ) (write : EntryWrite) : T
   pub entry : write.entry ≡ entry_bytes number name
   pub used : 0 < number
   pub fits : number < 2 ^ 16
-  pub size : length name ≡ name_size
+  pub stored : IsStored name
 
 -- the write frees the first entry of a name
 pub record Unlinks (bytes name : List ℕ) (write : EntryWrite) : Type 0 where
@@ -52,12 +52,14 @@ pub record Repoints (bytes name : List ℕ) (number : ℕ) (write : EntryWrite) 
   pub entry : write.entry ≡ entry_bytes number name
   pub used : 0 < number
   pub fits : number < 2 ^ 16
-  pub size : length name ≡ name_size
+  pub stored : IsStored name
 
--- Every other name leads where it led before, and no name that stood once at most stands twice.
+-- Every other name leads where it led before, no name that stood once at most stands twice, and no
+-- entry has lost its name.
 pub record KeepsOthers (name old new : List ℕ) : Type 0 where
   pub others : (other : List ℕ) → other ≢ name → lookup new other ≡ lookup old other
   pub once : (any : List ℕ) → HasOnce old any → HasOnce new any
+  pub named : AreNamed (entries_of old) → AreNamed (entries_of new)
 
 -- why a name can't be linked
 abbrev pub IsLinkCause : List ℕ → List ℕ → LinkFault → Type 0

@@ -2,7 +2,7 @@
 ghost use Rattle.std.specs.Prelude.{◌≡◌, ◌↔◌, position, IsTrue};
 ghost use Rattle.names.specs.Trees.{is_none_down, leads_down, IsEmpty};
 
-use crate::entries::{ENTRY_SIZE, entries_in, is_free};
+use crate::entries::{ENTRY_SIZE, entries_in, has_name, is_free};
 use crate::name::Name;
 
 /// Whether nothing is in a directory of these bytes but its own two entries.
@@ -30,7 +30,5 @@ pub fn leads_down(entry: &[u8; ENTRY_SIZE]) -> bool
 fn is_none_down(entry: &[u8; ENTRY_SIZE]) -> bool
     ensures { result ≡ is_none_down entry.now }
 {
-    is_free(entry)
-        || &entry[2..ENTRY_SIZE] == Name::own().as_slice()
-        || &entry[2..ENTRY_SIZE] == Name::parent().as_slice()
+    is_free(entry) || has_name(entry, &Name::own()) || has_name(entry, &Name::parent())
 }

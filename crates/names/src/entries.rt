@@ -1,11 +1,11 @@
 // The entries of a directory, and the writes that change one.
 ghost use Rattle.std.specs.Prelude.{◌≡◌, ◌<◌, ◌≤◌, ◌*◌, ◌/◌, ◌^◌, replicate, length, position, Some, None, IfSome, IfNone, IfOk, IfErr};
 ghost use Rattle.std.specs.Str.{bytes_eq};
-ghost use Rattle.names.specs.Entries.{entry_size, entries_of, entry_bytes, is_for, is_free, lookup, name_in, number_in, place_of, HasOnce};
+ghost use Rattle.names.specs.Entries.{entry_size, entries_of, entry_bytes, is_for, is_free, lookup, name_in, number_in, place_of, HasOnce, IsStored};
 ghost use Rattle.names.specs.Trees.{new_directory};
 ghost use Rattle.names.specs.Writes.{free_place, operation_of, written, IsLinkCause, KeepsOthers, Links, MayHold, Repoints, Unlinks};
 
-use crate::name::Name;
+use crate::name::{Name, name_in};
 use blocks::NoMemory;
 use byteorder::{ByteOrder, LittleEndian};
 use model::content::Content;
@@ -146,10 +146,12 @@ pub(crate) fn is_free(entry: &[u8; ENTRY_SIZE]) -> bool
     number_in(entry) == 0
 }
 
-fn has_name(entry: &[u8; ENTRY_SIZE], name: &Name) -> bool
+// Whether an entry, used or free, has that name.
+pub(crate) fn has_name(entry: &[u8; ENTRY_SIZE], name: &Name) -> bool
     ensures { result ≡ bytes_eq (name_in entry.now) name.now }
 {
-    &entry[2..ENTRY_SIZE] == name.as_slice()
+    let own = name_in(entry);
+    &own[..] == name.as_slice()
 }
 
 // Whether an entry is used, and has that name.
@@ -192,7 +194,7 @@ fn first_free(entries: &[[u8; ENTRY_SIZE]]) -> Option<usize>
 fn link_at(place: u32, name: &Name, number: u16) -> EntryWrite
     ensures place { result.place ≡ place }
     ensures entry { result.entry ≡ entry_bytes number name.now }
-    ensures size { length name.now ≡ 14 }
+    ensures name { IsStored name.now }
     ensures fits { number < 65536 }
 {
     let mut entry = [0; ENTRY_SIZE];

@@ -54,7 +54,7 @@ pub use entries::{
     new_directory, number_in, repoint, unlink,
 };
 pub use judging::{JudgeFault, is_tree};
-pub use name::{NAME_SIZE, Name, NameFault};
+pub use name::{NAME_SIZE, Name, NameFault, text_in};
 pub use opening::TreeOpenFault;
 pub use path::{PathFault, names_of};
 pub use recounting::{RecountFault, recount};

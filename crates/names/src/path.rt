@@ -1,14 +1,11 @@
 // The names of a path.
-ghost use Rattle.std.specs.Prelude.{◌≡◌, ◌++◌, map, IfOk, IfErr, OnOk};
-ghost use Rattle.names.specs.Entries.{padded};
+ghost use Rattle.std.specs.Prelude.{◌≡◌, ◌++◌, map, Contains, IfOk, IfErr, OnOk};
+ghost use Rattle.names.specs.Entries.{padded, slash};
 ghost use Rattle.names.specs.Paths.{IsPartCause, IsPathCause, names_of, one_part};
 
-use crate::name::{Name, NameFault};
+use crate::name::{Name, NameFault, SLASH};
 use std::alloc::Global;
 use thiserror::Error;
-
-// The byte between the names of a path.
-const SLASH: u8 = 47;
 
 /// Why bytes are no path.
 #[derive(Clone, Copy, Debug, PartialEq, Eq, Error)]
@@ -47,6 +44,7 @@ pub fn names_of(alloc: Global, path: &[u8]) -> Result<Vec<Name>, PathFault>
 
 // One more part of a path; none where it has no bytes.
 fn push_part(names: &mut Vec<Name>, part: &[u8]) -> Result<(), PathFault>
+    requires { Contains part.now slash → ⊥ }
     ensures adds { OnOk result (names.new.items ≡ names.old.items ++ map padded (one_part part.now)) }
     ensures refused { IfErr result (IsPartCause part.now) }
 {
@@ -55,7 +53,8 @@ fn push_part(names: &mut Vec<Name>, part: &[u8]) -> Result<(), PathFault>
             Ok(()) => Ok(()),
             Err(_refused) => Err(PathFault::NoMemory),
         },
-        Err(NameFault::Empty) => Ok(()),
+        // No part has a slash.
+        Err(NameFault::Empty | NameFault::Slash) => Ok(()),
         Err(NameFault::TooLong) => Err(PathFault::NameTooLong),
         Err(NameFault::ZeroByte) => Err(PathFault::ZeroByte),
     }

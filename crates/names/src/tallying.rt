@@ -11,7 +11,7 @@ ghost use Rattle.names.specs.Judging.{KeepsCount};
 ghost use Rattle.names.specs.Tallying.{is_counted, names_among, names_at, names_to, AreLinks, AreNameCounts, HasTooMany, IsMiscounted, Takes, TakesOne};
 ghost use Rattle.names.specs.Trees.{links_of, IsTree};
 
-use crate::entries::{ENTRY_SIZE, entries_in, is_free, number_in};
+use crate::entries::{ENTRY_SIZE, entries_in, has_name, is_free, number_in};
 use crate::judging::{JudgeFault, Seen, look};
 use crate::name::Name;
 use blocks::{Block, Disk, NoMemory};
@@ -242,7 +242,7 @@ fn is_counted(entry: &[u8; ENTRY_SIZE]) -> bool
 fn is_none_counted(entry: &[u8; ENTRY_SIZE]) -> bool
     ensures { not result ≡ is_counted entry.now }
 {
-    is_free(entry) || &entry[2..ENTRY_SIZE] == Name::own().as_slice()
+    is_free(entry) || has_name(entry, &Name::own())
 }
 
 // The lowest of so many numbers that something is left of.

@@ -1,18 +1,9 @@
 -- What is printed of the files of directories.
-use Rattle.std.specs.Prelude.{ℕ, zero, suc, ◌-◌, ◌==◌, if◌then◌else◌, List, [], ◌++◌, length, take, position, slice_index_or, Option, None, Some, codes, decimal}
+use Rattle.std.specs.Prelude.{ℕ, zero, suc, ◌-◌, ◌==◌, if◌then◌else◌, List, [], ◌++◌, length, slice_index_or, codes, decimal}
 use Rattle.std.specs.List.{flat_map}
 use Rattle.model.specs.Files.{Files, file_in}
-use Rattle.names.specs.Entries.{entries_of, name_in, number_in}
+use Rattle.names.specs.Entries.{entries_of, number_in, text_in, text_of}
 use Rattle.names.specs.Trees.{bytes_of, directory_in, directory_kind, kind_of, leads_down}
-
--- the bytes before a place; all where there is none
-abbrev pub cut_at : Option ℕ → List ℕ → List ℕ
-cut_at None name = name
-cut_at (Some end) name = take end name
-
--- the bytes of a name, without the zeroes behind it
-abbrev pub text_of : List ℕ → List ℕ
-text_of name = cut_at (position (λ byte. byte == 0) name) name
 
 -- the line of a file with that name and number: its type, and how many bytes it has
 abbrev pub line_of : Files → List ℕ → ℕ → List ℕ
@@ -23,7 +14,7 @@ line_of files name number =
 -- that of an entry which leads down; a free one has none, nor have a directory's own two
 abbrev pub entry_line : Files → List ℕ → List ℕ
 entry_line files entry =
-    if leads_down entry then line_of files (text_of (name_in entry)) (number_in entry) else []
+    if leads_down entry then line_of files (text_in entry) (number_in entry) else []
 
 -- the lines of a directory, in the order of its entries
 abbrev pub listing_of : Files → ℕ → List ℕ
@@ -43,7 +34,7 @@ listed files names number =
 abbrev pub path_of : Files → List ℕ → List ℕ → List ℕ
 path_of files front entry =
     if kind_of (file_in files (number_in entry)) == directory_kind
-    then front ++ text_of (name_in entry) ++ codes "/" else front ++ text_of (name_in entry)
+    then front ++ text_in entry ++ codes "/" else front ++ text_in entry
 
 -- Paths below a file, each behind `front`, a line each, down to a depth: those below a directory
 -- stand behind its own.

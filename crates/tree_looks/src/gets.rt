@@ -21,7 +21,6 @@ ghost use Rattle.tree_looks.specs.Gets.{
 ghost use Rattle.tree_looks.specs.Looks.{HasNoPaths};
 ghost use Rattle.tree_looks.specs.declared.faults.GetRefusal.TheVariants as get;
 
-use crate::entries::text_of;
 use crate::faults::{GetRefusal, LookRefusal};
 use crate::finding::{bytes_at, find, is_directory};
 use crate::loading::load;
@@ -31,7 +30,7 @@ use blocks::FileFault;
 use cmd::{Access, Command, Locking, Locks, OnFile, OverFile, open_for};
 use messages::{Unwritten, pass_on, write_bytes};
 use model::types::File as Stored;
-use names::{ENTRY_SIZE, Refusal, entries_in, leads_down, number_in};
+use names::{ENTRY_SIZE, Refusal, entries_in, leads_down, number_in, text_in};
 use std::alloc::Global;
 use std::fs::{File, create_dir, exists, remove_dir_all, remove_file};
 use std::io;
@@ -250,7 +249,7 @@ fn copy_entry<R: Files + AllocGlobal>(
         return Ok(());
     }
     let number = u32::from(number_in(entry));
-    let path = path_in(rt.alloc(), folder, text_of(&entry[2..ENTRY_SIZE]))?;
+    let path = path_in(rt.alloc(), folder, text_in(entry))?;
     if is_directory(files, number) {
         make_folder(rt, path.as_str())?;
         fill_folder(rt, files, number, path.as_str(), depth)

@@ -2,7 +2,6 @@
 //! recovery would leave them, and nothing is written to the disk.
 #![tactic(auto)]
 
-mod entries;
 mod faults;
 mod finding;
 mod gets;

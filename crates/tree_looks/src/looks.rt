@@ -1,9 +1,9 @@
 // The looks at files by their paths.
 ghost use Rattle.std.specs.Prelude.{◌≡◌, [], length, IfErr, IfOk, Ok};
-ghost use Rattle.tree_looks.specs.Listing.{last_of, listed, paths_below, text_of};
+ghost use Rattle.names.specs.Entries.{text_of};
+ghost use Rattle.tree_looks.specs.Listing.{last_of, listed, paths_below};
 ghost use Rattle.tree_looks.specs.Looks.{HasNoPaths, IsUnlisted, IsUnshown, Lists, Shows, ShowsPaths};
 
-use crate::entries::text_of;
 use crate::faults::LookRefusal;
 use crate::finding::{bytes_at, find, is_directory};
 use crate::over_files::Look;
@@ -121,7 +121,7 @@ fn last_of(names: &[Name]) -> &[u8]
     ensures { result.now ≡ text_of (last_of names.now) }
 {
     match names.last() {
-        Some(name) => text_of(name.as_slice()),
+        Some(name) => name.text(),
         None => &[],
     }
 }

@@ -2,12 +2,11 @@
 ghost use Rattle.std.specs.Prelude.{◌≡◌, ◌++◌, IfOk, OnOk, decimal};
 ghost use Rattle.tree_looks.specs.Listing.{entry_line, entry_paths, line_of, listing_of, path_of, paths_below};
 
-use crate::entries::text_of;
 use crate::finding::{bytes_at, is_directory, kind_at};
 use blocks::NoMemory;
 use itoa::Buffer;
 use model::types::File;
-use names::{ENTRY_SIZE, entries_in, leads_down, number_in};
+use names::{ENTRY_SIZE, entries_in, leads_down, number_in, text_in};
 use std::alloc::Global;
 
 // Adds the line of a file with that name and number: its type and its bytes.
@@ -73,7 +72,7 @@ fn add_entry_line(
 {
     if leads_down(entry) {
         let number = u32::from(number_in(entry));
-        add_line(text, files, text_of(&entry[2..ENTRY_SIZE]), number)?;
+        add_line(text, files, text_in(entry), number)?;
     }
     Ok(())
 }
@@ -137,7 +136,7 @@ fn path_of(
     ensures { IfOk result (λ path. path.items ≡ path_of files.now front.now entry.now) }
 {
     let mut path = Vec::from_slice(*text.allocator(), front)?;
-    path.extend_from_slice(text_of(&entry[2..ENTRY_SIZE]))?;
+    path.extend_from_slice(text_in(entry))?;
     if is_directory(files, u32::from(number_in(entry))) {
         path.extend_from_slice(b"/")?;
     }

@@ -1,5 +1,6 @@
 use Rattle.std.proofs.Common.{ℕ, ◌<◌, List, length, sym, subst}
 use Rattle.names.specs.Checks.{IsFirst}
+use Rattle.names.specs.Entries.{AreNamed}
 use Rattle.names.proofs.FirstNames.{first_from_once, once_from_first}
 use Rattle.names.proofs.checking.is_tidy.Goals as goal
 
@@ -10,11 +11,15 @@ pub returns-then-is_whole : goal.returns-then-is_whole
 returns-then-is_whole c =
     let sizes = c.is_whole.ensures.0 c.if-is_whole.true in (
       λ all.
+          let both = c.are_tidy.ensures.0 all in
           record {
             whole = sizes;
-            once = once_from_first c.args.bytes.now (subst (λ (es : List (List ℕ)). AreFirst es) c.entries_in.ensures.value (c.names_stand_once.ensures.0 all));
+            named = subst (λ (es : List (List ℕ)). AreNamed es) c.entries_in.ensures.value both.0;
+            once = once_from_first c.args.bytes.now (subst (λ (es : List (List ℕ)). AreFirst es) c.entries_in.ensures.value both.1);
           },
       λ tidy.
-          c.names_stand_once.ensures.1
-          (subst (λ (es : List (List ℕ)). AreFirst es) (sym c.entries_in.ensures.value) (first_from_once c.args.bytes.now tidy.once)),
+          c.are_tidy.ensures.1 (
+            subst (λ (es : List (List ℕ)). AreNamed es) (sym c.entries_in.ensures.value) tidy.named,
+            subst (λ (es : List (List ℕ)). AreFirst es) (sym c.entries_in.ensures.value) (first_from_once c.args.bytes.now tidy.once),
+          ),
     )

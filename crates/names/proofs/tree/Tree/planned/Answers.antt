@@ -1,8 +1,9 @@
-use Rattle.std.proofs.Common.{◌≡◌, sym, rules}
+use Rattle.std.proofs.Common.{◌≡◌, Err, subst, sym, rules}
 use Rattle.model.specs.Files.{Files}
-use Rattle.names.specs.Inside.{files_seen, form_seen}
+use Rattle.names.specs.Inside.{files_seen, form_seen, Goes, Proceeds, StaysOn}
 use Rattle.names.specs.Trees.{directory_in, IsDirectory, IsDown}
 use Rattle.names.proofs.Entering.{found_fits}
+use Rattle.names.proofs.Going.{ends_on, goes_on, stays_on}
 use Rattle.names.proofs.Moved.{not_root, own_directory, own_is, own_there, plan_inside, plan_is, source_counts, target_in}
 use Rattle.names.proofs.Renamed.{lookup_used}
 use Rattle.names.proofs.tree.Tree.planned.Given.{Over}
@@ -46,6 +47,42 @@ module _ (g : Over) (c : After-from-file g) where
   own : c.in-Some-lookup-2.own ≡ c.args.to
   own = own_is fs c.args.to c.as_slice-4.result.now c.in-Some-2.bytes c.own.result c.lookup-2.result c.requires.tree target.0 target.1 c.as_slice-4.ensures c.own.ensures
       c.lookup-2.ensures c.in-Some-lookup-2.own c.in-Some-lookup-2.is
+
+-- the transaction goes on behind both directories
+module _ (g : Over) (c : After-from-file g) where
+  both_go : Goes g.D.Disk c.args.self.now.kernel c.directory-2.new.self.kernel c.directory-2.new.self.calls_left
+  both_go = goes_on g.D.Disk c.args.self.now.kernel c.directory.new.self.kernel c.directory-2.new.self.kernel c.directory.new.self.calls_left c.directory-2.new.self.calls_left c.in_ok-bytes.ensures.goes.on c.in_ok-bytes-2.ensures.goes.on
+
+  both_stay : StaysOn g.D.Disk c.args.self.now.kernel c.directory-2.new.self.kernel
+  both_stay = stays_on g.D.Disk c.args.self.now.kernel c.directory.new.self.kernel c.directory-2.new.self.kernel c.directory.new.self.calls_left c.in_ok-bytes.ensures.goes.on c.directory.ensures.goes.stays c.directory-2.ensures.goes.stays
+
+pub returns-in_err-rise-clause-goes : goal.returns-in_err-rise-clause-goes
+returns-in_err-rise-clause-goes g c =
+    let a = (goal.at.returns-in_err-rise-clause-goes g c).After-from-file in
+    let is : c.from_residual-in_err-rise.result ≡ Err c.in_err-rise.field-0.0 = search rules in
+    subst (λ r. Proceeds g.D.Disk r c.args.self.now.kernel c.rise.new.self.kernel c.rise.new.self.calls_left) (sym is) (record {
+      on = tt;
+      stays = stays_on g.D.Disk c.args.self.now.kernel c.directory-2.new.self.kernel c.rise.new.self.kernel c.directory-2.new.self.calls_left (both_go g a) (both_stay g a) c.rise.ensures.goes.stays;
+      ends = ends_on g.D.Disk c.args.self.now.kernel c.directory-2.new.self.kernel c.rise.new.self.kernel c.args.self.now.calls_left c.directory-2.new.self.calls_left c.rise.new.self.calls_left c.in_err-rise.field-0.0 c.requires.way (both_go g a) c.in_err-rise.ensures.goes.ends;
+    })
+
+pub returns-in-Ok-2-clause-goes : goal.returns-in-Ok-2-clause-goes
+returns-in-Ok-2-clause-goes g c =
+    let a = (goal.at.returns-in-Ok-2-clause-goes g c).After-from-file in
+    record {
+      on = goes_on g.D.Disk c.args.self.now.kernel c.directory-2.new.self.kernel c.rise.new.self.kernel c.directory-2.new.self.calls_left c.rise.new.self.calls_left (both_go g a) c.in_ok-rise.ensures.goes.on;
+      stays = stays_on g.D.Disk c.args.self.now.kernel c.directory-2.new.self.kernel c.rise.new.self.kernel c.directory-2.new.self.calls_left (both_go g a) (both_stay g a) c.rise.ensures.goes.stays;
+      ends = tt;
+    }
+
+pub returns-clause-goes : goal.returns-clause-goes
+returns-clause-goes g c =
+    let a = (goal.at.returns-clause-goes g c).After-from-file in
+    record {
+      on = goes_on g.D.Disk c.args.self.now.kernel c.directory-2.new.self.kernel c.rise.new.self.kernel c.directory-2.new.self.calls_left c.rise.new.self.calls_left (both_go g a) c.in_ok-rise.ensures.goes.on;
+      stays = stays_on g.D.Disk c.args.self.now.kernel c.directory-2.new.self.kernel c.rise.new.self.kernel c.directory-2.new.self.calls_left (both_go g a) (both_stay g a) c.rise.ensures.goes.stays;
+      ends = tt;
+    }
 
 pub rise-requires-clause-there : goal.rise-requires-clause-there
 rise-requires-clause-there g c =
