@@ -176,7 +176,7 @@ xvfs_result xvfs_recover_step(const uint8_t *image, size_t len, uint32_t place, 
 xvfs_result xvfs_open(xvfs *fs, const uint8_t *image, size_t len, uint32_t processes, uint32_t flags,
                       uint64_t *writes);
 
-/* Operations, by inode number. */
+/* Operations, by inode number. XVFS_OP_RESIZE cuts a file to a length of at most what it has. */
 typedef enum xvfs_op_kind {
     XVFS_OP_CREATE, XVFS_OP_WRITE, XVFS_OP_READ, XVFS_OP_TRUNC, XVFS_OP_REMOVE, XVFS_OP_STAT,
     XVFS_OP_LINKS, XVFS_OP_RESIZE
@@ -185,8 +185,7 @@ typedef struct {
     xvfs_op_kind kind;
     uint32_t inum;     /* of XVFS_OP_CREATE the type: 1 directory, 2 file, 3 device */
     uint32_t offset;   /* of XVFS_OP_WRITE and XVFS_OP_READ */
-    uint32_t len;      /* of XVFS_OP_READ; of XVFS_OP_LINKS the count of links that the file gets;
-                        * of XVFS_OP_RESIZE its length, which is at most what it was */
+    uint32_t len;      /* of XVFS_OP_READ; of XVFS_OP_LINKS the new count of links, of _RESIZE the length */
 } xvfs_op;
 
 /* Hands an operation of process `pid` in, behind those that wait. `bytes` are those of a write, and
