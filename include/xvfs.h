@@ -39,9 +39,9 @@
  *    Only xvfs_mkfs, _check, _recover, _recover_step, _open, _submit, and a step that begins an
  *    operation take memory. (That no other step does is by test.)
  *  - Stack: 72 KiB for xvfs_open, 4 KiB for each other call, which a test measures.
- *  - The code is for x86-64-v2: it uses SSE registers, and the red zone of the System V ABI. A
- *    kernel that calls it has SSE enabled, saves its registers where it switches tasks, and takes
- *    interrupts on another stack (or calls it with interrupts off).
+ *  - The code is for any x86-64 processor: it uses the registers and instructions of SSE and SSE2, and
+ *    the red zone of the System V ABI. A kernel that calls it has SSE enabled, saves its registers where
+ *    it switches tasks, and takes interrupts on another stack (or calls it with interrupts off).
  *
  * Link: cc main.c libxvfs.a. It needs memcpy, memmove, memset, malloc, realloc and free, and defines the
  * ten functions below and no other name.

@@ -10,7 +10,7 @@ import subprocess
 import sys
 import time
 
-EMULATOR = ['qemu-system-x86_64', '-accel', 'tcg', '-cpu', 'Nehalem', '-m', '64', '-display', 'none',
+EMULATOR = ['qemu-system-x86_64', '-accel', 'tcg', '-cpu', 'qemu64', '-m', '64', '-display', 'none',
             '-monitor', 'none', '-no-reboot', '-serial', 'stdio']
 PROCESSES = 4
 PATIENCE = 60  # seconds until the kernel runs
