@@ -23,7 +23,7 @@ static uint8_t device[ALL], bytes[LONGEST];
 static size_t len;
 static uint32_t processes;
 static xvfs fs = XVFS_CLOSED_HANDLE;
-static struct guarded given_op, given, whole, out, number, into;
+static struct guarded given_op, given, opened, whole, out, number, into;
 static int is_shut;
 static struct {
     uint64_t submitted, answered, polled;
@@ -172,6 +172,21 @@ static void make_any(void) {
     if (result == XVFS_OK) MUST(memcmp(made, wanted, count) == 0);
 }
 
+/* The device, at any moment, is sound as the second implementation says, or memory is refused. */
+static void look(void) {
+    const uint8_t *from = lay(&opened, device, len);
+    xvfs_report wanted, *report = blank(&out, sizeof *report);
+    xvfs_result result = note(xvfs_check(from, len, report));
+    size_t written = offsetof(xvfs_report, reserved);
+    MUST(second_check(device, len, &wanted) == XVFS_OK);
+    if (result == XVFS_E_CHECK_MEMORY) {
+        MUST(report->fault == result && is_blank(&out, sizeof *report, offsetof(xvfs_report, form)));
+        return;
+    }
+    MUST(result == XVFS_OK && memcmp(report, &wanted, written) == 0);
+    MUST(is_blank(&out, sizeof *report, written));
+}
+
 /* No image of such a length. */
 static void look_wrongly(void) {
     size_t count = XVFS_BLOCK_SIZE * (size_t)(one_in(2) ? 0 : below(90)) + 1 + below(XVFS_BLOCK_SIZE - 1);
@@ -213,8 +228,9 @@ static void call_any(void) {
     else if (kind == 56) open_wrongly();
     else if (kind == 57) make_any();
     else if (kind == 58) look_wrongly();
-    else if (one_in(20)) end();
-    else if (one_in(20)) xvfs_shut(&fs), is_shut = 1;
+    else if (one_in(2)) look();
+    else if (one_in(10)) end();
+    else if (one_in(10)) xvfs_shut(&fs), is_shut = 1;
 }
 
 static void run(uint64_t seed) {
@@ -242,6 +258,7 @@ int main(int argc, char **argv) {
     unsigned runs = (unsigned)atoi(argv[2]);
     guard(&given_op, sizeof(xvfs_op));
     guard(&given, LONGEST);
+    guard(&opened, ALL);
     guard(&whole, ALL);
     guard(&out, sizeof(xvfs_report));
     guard(&number, sizeof(uint64_t));
