@@ -1,7 +1,8 @@
 -- What the calls over an image in C's memory promise.
-use Rattle.std.specs.Prelude.{◌≡◌, ◌⊎◌, ◌<◌, ◌≤◌, ℕ, List, false, IsTrue, Some, None}
+use Rattle.std.specs.Prelude.{◌≡◌, ◌≢◌, ◌⊎◌, ◌<◌, ◌≤◌, ◌==◌, ℕ, Bool, List, false, IsTrue, Some, None}
 use Rattle.std.specs.Simd.{first_chunks}
 use Rattle.blocks.specs.Disk.{Image}
+use Rattle.blocks.specs.declared.disk.Disk.{Ghosts}
 use Rattle.model.specs.Codec.{made_image}
 use Rattle.model.specs.Files.{file_count, files_of}
 use Rattle.model.specs.Layout.{form_of, is_inode_count, is_size, super_of}
@@ -12,7 +13,10 @@ use Rattle.model.specs.declared.types.fault.CheckFault.TheVariants as check
 use Rattle.layout.specs.declared.geometry.MkfsFault.{MkfsFault}
 use Rattle.layout.specs.declared.geometry.MkfsFault.TheVariants as making
 use Rattle.sessions.specs.Refusal.{HasBlocks, IsRefusal}
+use Rattle.sessions.specs.Session.{OpensOver, writes_of}
+use Rattle.sessions.specs.declared.disk.HostDisk.{HostDisk}
 use Rattle.sessions.specs.declared.refusal.OpenRefusal.{OpenRefusal}
+use Rattle.sessions.specs.declared.session.Session.{Session}
 use Rattle.xvfs_c.specs.Numbers.{check_number, form_meant, form_number, mkfs_number, open_number}
 use Rattle.xvfs_c.specs.declared.report.XvfsReport.{XvfsReport}
 
@@ -85,18 +89,25 @@ pub record Recovers (old : List ℕ) (n : ℕ) (new : List ℕ) : Type 0 where
   pub count : n ≡ logged_count image
   pub recovered : HasImage new (recovered image)
 
--- the number of a fault of the image, or that of memory
+-- the number of a fault of the image or of memory for the check, or that of memory behind it
 abbrev pub IsUnrecovered : Image → ℕ → Type 0
 IsUnrecovered x number =
-    ((fault : CheckFault) × IsFaultOf x fault × (number ≡ (check_number fault).0)) ⊎ (number ≡ 1027)
+    ((fault : CheckFault) × IsFaultOf x fault × (number ≡ (check_number fault).0))
+    ⊎ ((number ≡ 1027) × (verdict x ≡ None))
 
 -- that number says why these bytes are not recovered
 abbrev pub RefusesToRecover : List ℕ → ℕ → Type 0
 RefusesToRecover bytes number = (x : Image) × HasImage bytes x × IsUnrecovered x number
 
--- that number says why no session is opened over these bytes; 1285 is that of an unknown flag, and
--- 1283 that of memory
-abbrev pub RefusesToOpen : List ℕ → ℕ → ℕ → ℕ → Type 0
-RefusesToOpen bytes processes flags number = ((number ≡ 1285) × (1 < flags))
+-- A session over these bytes would begin with writes of its recovery, which nobody was told.
+abbrev pub IsLogged : {N : Type 0} → Ghosts HostDisk N → List ℕ → ℕ → Bool → Type 0
+IsLogged disk bytes processes holds =
+    (s : Session) × OpensOver disk bytes processes holds s × (writes_of s ≢ 0)
+
+-- that number says why no session is opened over these bytes; 1285 is that of an unknown flag, 1286 that
+-- of a log that isn't empty, and 1283 that of memory
+abbrev pub RefusesToOpen : {N : Type 0} → Ghosts HostDisk N → List ℕ → ℕ → ℕ → ℕ → Type 0
+RefusesToOpen disk bytes processes flags number = ((number ≡ 1285) × (1 < flags))
     ⊎ ((flags ≤ 1) × ((number ≡ 1283)
+    ⊎ ((number ≡ 1286) × IsLogged disk bytes processes (flags == 1))
     ⊎ ((refusal : OpenRefusal) × IsRefusal bytes processes refusal × (number ≡ open_number refusal))))

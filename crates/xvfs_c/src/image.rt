@@ -10,7 +10,8 @@ ghost use Rattle.sessions.specs.Refusal.{HasBlocks};
 ghost use Rattle.xvfs_c.specs.Images.{IsFaultOf, IsNoImage, IsUnrecovered, Makes, Recovers, RefusesToMake, RefusesToRecover, TellsFault, TellsReport};
 
 use crate::report::{
-    LENGTH, XvfsReport, check_number, form_meant, form_number, mkfs_number, recover_number,
+    CHECK_MEMORY, LENGTH, XvfsReport, check_number, form_meant, form_number, mkfs_number,
+    recover_number,
 };
 use blocks::{BLOCK_SIZE, Disk, MemDisk};
 use model::types::CheckFault;
@@ -146,7 +147,7 @@ pub extern "C" fn xvfs_recover(alloc: Global, image: &mut [u8], recovered: &mut 
         return LENGTH;
     };
     let Ok(mut disk) = MemDisk::over(alloc, image, count) else {
-        return 1027;
+        return CHECK_MEMORY;
     };
     match recover_disk(alloc, &mut disk) {
         Ok(count) => {

@@ -15,8 +15,14 @@ pub const LENGTH: u32 = 258;
 /// The flag of an opening: the session's disk holds writes back.
 pub const HOLD: u32 = 1;
 
+/// Memory for a check was refused.
+pub const CHECK_MEMORY: u32 = 768 + 11;
+
 /// There is no such flag.
 pub const FLAGS: u32 = 1280 + 5;
+
+/// The log of the image isn't empty.
+pub const LOGGED: u32 = 1280 + 6;
 
 /// The session made 2 to the power of 63 writes or syncs.
 pub const WRITES: u32 = 1536 + 5;

@@ -12,4 +12,7 @@ recover-requires c =
 
 pub returns-in-Err-recover-clause-refused : goal.returns-in-Err-recover-clause-refused
 returns-in-Err-recover-clause-refused c =
-    inr (c.recover_number.ensures ∙ late c.check.new.disk c.recover.new.disk c.in-Err-recover.fault (ap (λ (x : Image). verdict x) c.check.ensures.reads.image ∙ c.in-Ok.ensures.ok) c.in-Err-recover.ensures.refused)
+    inr (
+      c.recover_number.ensures ∙ late c.check.new.disk c.recover.new.disk c.in-Err-recover.fault (ap (λ (x : Image). verdict x) c.check.ensures.reads.image ∙ c.in-Ok.ensures.ok) c.in-Err-recover.ensures.refused,
+      c.in-Ok.ensures.ok,
+    )
