@@ -10,8 +10,8 @@
  *
  * THE HOST'S FOUR DUTIES, from which that follows. xvfs_host.h keeps them, over a device of three
  * functions:
- *  1. At xvfs_open the device holds the bytes that are passed, flushed, and their log is empty, so
- *     that `*writes` is 0: recover them first, as xvfs_recover_step tells.
+ *  1. At xvfs_open the device holds the bytes that are passed, flushed. A log that isn't empty is refused
+ *     there: recover the device first, as xvfs_recover_step tells.
  *  2. Each block that a step tells is written to the device, whole or not at all, before the next
  *     step, in the order of the steps.
  *  3. A device that holds writes back is flushed behind each of these writes; where the session was
@@ -99,6 +99,7 @@ typedef enum xvfs_result {
     /* 5 open */
     XVFS_E_OPEN_MEMORY    = 0x503, XVFS_E_OPEN_PROCESSES = 0x504, /* not 1 to XVFS_PROCESSES */
     XVFS_E_OPEN_FLAGS     = 0x505, /* another flag than XVFS_HOLD */
+    XVFS_E_LOGGED         = 0x506, /* the log isn't empty: the device is to be recovered first */
     /* 6 call */
     XVFS_E_NO_PROCESS     = 0x601, /* no process has that number */
     XVFS_E_FULL           = 0x602, /* XVFS_PLACES operations of the process wait */
@@ -168,13 +169,12 @@ xvfs_result xvfs_recover_step(const uint8_t *image, size_t len, uint32_t place, 
 /* A flag of xvfs_open: steps tell syncs, and the device is flushed there alone. */
 #define XVFS_HOLD 1u
 
-/* Opens a kernel of 1 to XVFS_PROCESSES processes over a copy of the image, which it checks and
- * recovers. The host's device must hold these bytes; recover them first, so that `*writes`, the writes
- * of that recovery, is 0. `flags` is 0 or XVFS_HOLD. On a refusal the handle stays closed, and `*writes`
- * is as it was. The memory is the image's and about 50 to 100 KiB, however many operations there are.
- * XVFS_E_FILE_LENGTH, XVFS_E_BAD_IMAGE, XVFS_E_CHECK_MEMORY, XVFS_E_OPEN_MEMORY, _PROCESSES, _FLAGS. */
-xvfs_result xvfs_open(xvfs *fs, const uint8_t *image, size_t len, uint32_t processes, uint32_t flags,
-                      uint64_t *writes);
+/* Opens a kernel of 1 to XVFS_PROCESSES processes over a copy of the image, which it checks. The host's
+ * device must hold these bytes. Recover them first: a log that isn't empty is refused. `flags` is 0 or
+ * XVFS_HOLD. On a refusal the handle stays closed. The memory is the image's and about 50 to 100 KiB,
+ * however many operations there are. XVFS_E_FILE_LENGTH, XVFS_E_BAD_IMAGE, XVFS_E_CHECK_MEMORY,
+ * XVFS_E_OPEN_MEMORY, _PROCESSES, _FLAGS, XVFS_E_LOGGED. */
+xvfs_result xvfs_open(xvfs *fs, const uint8_t *image, size_t len, uint32_t processes, uint32_t flags);
 
 /* Operations, by inode number. XVFS_OP_RESIZE cuts a file to a length of at most what it has. */
 typedef enum xvfs_op_kind {
@@ -268,9 +268,9 @@ void xvfs_close(xvfs *fs);
 
 /* The same calls for who cannot be sure of the handle. */
 static inline xvfs_result xvfs_try_open(xvfs *fs, const uint8_t *image, size_t len,
-                                        uint32_t processes, uint32_t flags, uint64_t *writes) {
+                                        uint32_t processes, uint32_t flags) {
     if (fs->session) return XVFS_E_OPEN;
-    return xvfs_open(fs, image, len, processes, flags, writes);
+    return xvfs_open(fs, image, len, processes, flags);
 }
 static inline xvfs_result xvfs_try_submit(xvfs *fs, uint32_t pid, const xvfs_op *op,
                                           const uint8_t *bytes, size_t len, uint64_t *seq) {
@@ -309,6 +309,7 @@ static inline const char *xvfs_strerror(xvfs_result result) {
     case XVFS_E_OPEN_MEMORY: case XVFS_E_SUBMIT_MEMORY: return "memory was refused";
     case XVFS_E_OPEN_PROCESSES: return "a kernel has 1 to 32 processes";
     case XVFS_E_OPEN_FLAGS: return "there is no such flag";
+    case XVFS_E_LOGGED: return "the log is not empty: the device is to be recovered first";
     case XVFS_E_NO_PROCESS: return "no process has that number";
     case XVFS_E_FULL: return "16 operations of the process wait";
     case XVFS_E_NO_OPERATION: return "no operation is of that kind, or has such a type or count of links";

@@ -121,7 +121,6 @@ static inline xvfs_result xvfs_host_mkfs(const xvfs_device *device, uint8_t *ima
  * an open host, XVFS_E_DEVICE, and the results of xvfs_recover_step and xvfs_open. */
 static inline xvfs_result xvfs_host_open(xvfs_host *host, const xvfs_device *device, uint8_t *image,
                                          size_t len, uint32_t processes, uint32_t flags) {
-    uint64_t writes = 0;
     uint32_t pid, places = 0;
     xvfs_result result;
     if (host->has_failed) return XVFS_E_DEVICE;
@@ -134,10 +133,8 @@ static inline xvfs_result xvfs_host_open(xvfs_host *host, const xvfs_device *dev
     if (!result) result = xvfs_host_read(device, image, len);
     if (!result) result = xvfs_host_recover(host, image, len, &places);
     if (!result && places) result = xvfs_host_read(device, image, len);
-    if (!result) result = xvfs_open(&host->fs, image, len, processes, flags, &writes);
-    if (result || writes == 0) return result;
-    xvfs_end(&host->fs); /* the device hasn't what it was told */
-    return XVFS_E_DEVICE;
+    if (!result) result = xvfs_open(&host->fs, image, len, processes, flags);
+    return result == XVFS_E_LOGGED ? XVFS_E_DEVICE : result; /* the device hasn't what it was told */
 }
 
 /* Hands an operation in. XVFS_E_CLOSED, XVFS_E_DEVICE, and the results of xvfs_submit. */

@@ -50,13 +50,12 @@ static size_t any_length(void) {
 }
 
 static void open_session(void) {
-    uint64_t writes = 1;
     uint32_t recovered;
     xvfs_result result;
     REPEAT(result, note(xvfs_recover(device, len, &recovered)));
     MUST(result == XVFS_OK);
-    REPEAT(result, note(xvfs_try_open(&fs, device, len, processes, below(2), &writes)));
-    MUST(result == XVFS_OK && writes == 0);
+    REPEAT(result, note(xvfs_try_open(&fs, device, len, processes, below(2))));
+    MUST(result == XVFS_OK);
     is_shut = 0;
     memset(counts, 0, sizeof counts);
 }
@@ -138,22 +137,21 @@ static void poll(void) {
 static void open_wrongly(void) {
     static const size_t lengths[] = {0, 1, XVFS_BLOCK_SIZE - 1, XVFS_BLOCK_SIZE + 1};
     xvfs other = XVFS_CLOSED_HANDLE;
-    uint64_t writes = 77;
     uint32_t flag = one_in(4) ? UINT32_MAX : 2 + below(100);
     uint32_t count = one_in(2) ? 0 : XVFS_PROCESSES + 1 + any_number(100) / 2;
     switch (below(4)) {
-    case 0: MUST(note(xvfs_open(&other, device, len, 1, flag, &writes)) == XVFS_E_OPEN_FLAGS); break;
+    case 0: MUST(note(xvfs_open(&other, device, len, 1, flag)) == XVFS_E_OPEN_FLAGS); break;
     case 1: {
-        xvfs_result result = note(xvfs_open(&other, device, len, count, below(2), &writes));
+        xvfs_result result = note(xvfs_open(&other, device, len, count, below(2)));
         MUST(result == XVFS_E_OPEN_PROCESSES || is_of_memory(result));
         break;
     }
     case 2:
-        MUST(note(xvfs_open(&other, device, lengths[below(4)], 1, 0, &writes)) == XVFS_E_FILE_LENGTH);
+        MUST(note(xvfs_open(&other, device, lengths[below(4)], 1, 0)) == XVFS_E_FILE_LENGTH);
         break;
-    default: MUST(note(xvfs_try_open(&fs, device, len, 1, 0, &writes)) == XVFS_E_OPEN);
+    default: MUST(note(xvfs_try_open(&fs, device, len, 1, 0)) == XVFS_E_OPEN);
     }
-    MUST(!other.session && writes == 77);
+    MUST(!other.session);
 }
 
 /* A new image of any numbers: made as the second implementation makes it, or refused as there. */

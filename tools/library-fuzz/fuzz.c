@@ -457,14 +457,13 @@ static void expect_fault(const char *name, uint32_t wanted, uint32_t at) {
     xvfs_report report;
     xvfs fs = XVFS_CLOSED_HANDLE;
     uint32_t recovered;
-    uint64_t opening;
     expect(name, wanted, xvfs_check(device, device_size, &report));
     expect(name, wanted, report.fault);
     if (report.at != at) fail("a fault is at", report.at);
     expect(name, wanted, xvfs_recover(device, device_size, &recovered));
     xvfs_told done;
     expect(name, wanted, xvfs_recover_step(device, device_size, 0, &done, block, sizeof block));
-    expect(name, wanted, xvfs_open(&fs, device, device_size, 1, 0, &opening));
+    expect(name, wanted, xvfs_open(&fs, device, device_size, 1, 0));
     make();
 }
 #define EXPECT_FAULT(name, at) expect_fault(#name, name, at)
@@ -496,17 +495,20 @@ static void see_calls(void) {
     EXPECT(XVFS_E_FILE_LENGTH, xvfs_check(device, 1023, &report));
     EXPECT(XVFS_E_FILE_LENGTH, xvfs_mkfs(device, 0, 32, 1));
     EXPECT(XVFS_E_FILE_LENGTH, xvfs_recover(device, 1025, &recovered));
-    EXPECT(XVFS_E_FILE_LENGTH, xvfs_open(&fs, device, 0, 1, 0, &n));
+    EXPECT(XVFS_E_FILE_LENGTH, xvfs_open(&fs, device, 0, 1, 0));
     EXPECT(XVFS_E_MKFS_SIZE, xvfs_mkfs(device, 37 * XVFS_BLOCK_SIZE, 32, 1));
     EXPECT(XVFS_E_MKFS_INODES, xvfs_mkfs(device, device_size, 1, 1));
-    EXPECT(XVFS_E_OPEN_FLAGS, xvfs_open(&fs, device, device_size, 1, 2, &n));
+    EXPECT(XVFS_E_OPEN_FLAGS, xvfs_open(&fs, device, device_size, 1, 2));
     EXPECT(XVFS_E_FILE_LENGTH, xvfs_recover_step(device, 0, 0, &told_now, block, sizeof block));
     EXPECT(XVFS_E_NO_BLOCK, xvfs_recover_step(device, device_size, 0, &told_now, block, 1));
     EXPECT(XVFS_E_RECOVER_LOG, xvfs_recover_step(device, 2048, 1, &told_now, block, sizeof block));
-    EXPECT(XVFS_E_OPEN_PROCESSES, xvfs_open(&fs, device, device_size, 33, 0, &n));
+    EXPECT(XVFS_E_OPEN_PROCESSES, xvfs_open(&fs, device, device_size, 33, 0));
+    put(2048, 1), put(2052, INODE_1 / XVFS_BLOCK_SIZE);
+    EXPECT(XVFS_E_LOGGED, xvfs_open(&fs, device, device_size, 1, 0));
+    make();
     EXPECT(XVFS_E_CLOSED, xvfs_try_step(&fs, 0, &stepped, block, sizeof block));
-    EXPECT(XVFS_OK, xvfs_try_open(&fs, device, device_size, 1, 0, &n));
-    EXPECT(XVFS_E_OPEN, xvfs_try_open(&fs, device, device_size, 1, 0, &n));
+    EXPECT(XVFS_OK, xvfs_try_open(&fs, device, device_size, 1, 0));
+    EXPECT(XVFS_E_OPEN, xvfs_try_open(&fs, device, device_size, 1, 0));
     EXPECT(XVFS_E_NO_PROCESS, xvfs_submit(&fs, 1, &stat, bytes, 0, &n));
     EXPECT(XVFS_E_NO_OPERATION, xvfs_submit(&fs, 0, &none, bytes, 0, &n));
     EXPECT(XVFS_E_NO_OPERATION, xvfs_submit(&fs, 0, &large, bytes, 0, &n));
@@ -535,9 +537,9 @@ static void see_memory(void) {
 #define REFUSED(name, call) asked = 0, refuse_at = 1, EXPECT(name, call), refuse_at = 0
     REFUSED(XVFS_E_CHECK_MEMORY, xvfs_check(device, device_size, &report));
     REFUSED(XVFS_E_MKFS_MEMORY, xvfs_mkfs(device, device_size, 32, 1));
-    REFUSED(XVFS_E_RECOVER_MEMORY, xvfs_recover(device, device_size, &recovered));
-    REFUSED(XVFS_E_OPEN_MEMORY, xvfs_open(&fs, device, device_size, 1, 0, &n));
-    EXPECT(XVFS_OK, xvfs_open(&fs, device, device_size, 1, 0, &n));
+    REFUSED(XVFS_E_CHECK_MEMORY, xvfs_recover(device, device_size, &recovered));
+    REFUSED(XVFS_E_OPEN_MEMORY, xvfs_open(&fs, device, device_size, 1, 0));
+    EXPECT(XVFS_OK, xvfs_open(&fs, device, device_size, 1, 0));
     REFUSED(XVFS_E_SUBMIT_MEMORY, xvfs_submit(&fs, 0, &write, bytes, 100, &n));
     /* Of all operations a read alone takes memory at its beginning, for its bytes. */
     EXPECT(XVFS_OK, xvfs_submit(&fs, 0, &read, bytes, 0, &n));

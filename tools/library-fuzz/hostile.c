@@ -160,11 +160,10 @@ static int step_on(uint32_t pid) {
 /* A session, from its opening over the device. */
 
 static void open_session(void) {
-    uint64_t writes = 1;
     xvfs_result result;
     const uint8_t *from = lay(&opened, device, len);
-    REPEAT(result, xvfs_open(&fs, from, len, FILES_PROCESSES, flags, &writes));
-    MUST(result == XVFS_OK && writes == 0);
+    REPEAT(result, xvfs_open(&fs, from, len, FILES_PROCESSES, flags));
+    MUST(result == XVFS_OK);
     memcpy(synced, device, len);
     held_count = 0;
     committed = 0;

@@ -163,11 +163,11 @@ static void see_order(uint64_t seed) {
     xvfs fs = XVFS_CLOSED_HANDLE;
     xvfs_stepped ours, theirs;
     xvfs_answer answer;
-    uint64_t groups[PROCESSES][MOST], number, writes;
+    uint64_t groups[PROCESSES][MOST], number;
     int is_kept;
     state = seed * 0x9e3779b97f4a7c15u + 1;
     make();
-    expect(XVFS_OK, xvfs_open(&fs, disk, BYTES, PROCESSES, flags, &writes));
+    expect(XVFS_OK, xvfs_open(&fs, disk, BYTES, PROCESSES, flags));
     expect(XVFS_OK, xvfs_host_open(&host, &device, image, BYTES, PROCESSES, flags));
     must(count == 1 && calls[0].is_sync && host.committed == 0, "another opening of no log", count);
     for (unsigned left = PROCESSES * MOST; left > 0;) {

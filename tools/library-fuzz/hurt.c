@@ -124,10 +124,9 @@ static xvfs_result check(const uint8_t *from, const xvfs_report *wanted) {
 
 static void open_over(const uint8_t *from, uint32_t logged) {
     xvfs fs = XVFS_CLOSED_HANDLE;
-    uint64_t writes = 77;
-    MUST(xvfs_open(&fs, from, len, 1 + below(XVFS_PROCESSES), below(2), &writes) == fault);
-    MUST((fs.session != NULL) == (fault == XVFS_OK));
-    MUST(writes == (fault ? 77 : logged ? logged + 1 : 0));
+    xvfs_result wanted = fault == XVFS_OK && logged ? XVFS_E_LOGGED : fault;
+    MUST(xvfs_open(&fs, from, len, 1 + below(XVFS_PROCESSES), below(2)) == wanted);
+    MUST((fs.session != NULL) == (wanted == XVFS_OK));
     xvfs_end(&fs);
 }
 

@@ -31,7 +31,7 @@ static xvfs_result recover_step(void) {
                              XVFS_BLOCK_SIZE);
 }
 static xvfs_result open_session(void) {
-    return xvfs_open(&fs, sound, ALL, XVFS_PROCESSES, XVFS_HOLD, blank(&number, sizeof(uint64_t)));
+    return xvfs_open(&fs, sound, ALL, XVFS_PROCESSES, XVFS_HOLD);
 }
 static xvfs_result submit(void) {
     return xvfs_submit(&fs, 0, &write_op, bytes, sizeof bytes, blank(&number, sizeof(uint64_t)));
@@ -102,12 +102,12 @@ static void finish(uint32_t pid) {
 
 /* Makes the script over the sound image: a sum of its answers. */
 static uint64_t run(void) {
-    uint64_t told, writes, sum = 1;
+    uint64_t told, sum = 1;
     xvfs_answer answer;
     xvfs_result result;
     memset(&answer, 0, sizeof answer);
     memcpy(image, sound, ALL);
-    REPEAT(result, xvfs_open(&fs, image, ALL, PROCESSES, 0, &writes));
+    REPEAT(result, xvfs_open(&fs, image, ALL, PROCESSES, 0));
     MUST(result == XVFS_OK);
     for (unsigned k = 0; k < SCRIPT; k++) {
         xvfs_op op = operation(k);

@@ -71,8 +71,7 @@ static void recover_step(void) {
 }
 
 static void open_it(void) {
-    uint64_t writes;
-    must(xvfs_open(&fs, image, sizeof image, 32, XVFS_HOLD, &writes) == XVFS_OK, "open");
+    must(xvfs_open(&fs, image, sizeof image, 32, XVFS_HOLD) == XVFS_OK, "open");
 }
 
 static void submit(void) {

@@ -79,10 +79,15 @@ impl<D: Device> Host<D> {
             }
         }
         let image = image_of(&mut device)?;
-        let (session, writes) = Session::open_holding(&image, processes)?;
-        if writes > 0 {
-            return Err(Fault::Lost);
-        }
+        let session = match Session::open_holding(&image, processes) {
+            // Its log isn't empty still.
+            Err(Refusal {
+                layer: 5,
+                number: 6,
+                ..
+            }) => return Err(Fault::Lost),
+            opened => opened?,
+        };
         Ok(Host {
             session: Some(session),
             device,

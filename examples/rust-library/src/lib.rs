@@ -306,37 +306,29 @@ pub struct Session {
 unsafe impl Send for Session {}
 
 impl Session {
-    /// Opens 1 to 32 processes over a copy of an image, which is checked and recovered. Answers the
-    /// writes of that recovery, too: 0 where the log of these bytes is empty.
-    pub fn open(image: &[u8], processes: u32) -> Result<(Session, u64), Refusal> {
+    /// Opens 1 to 32 processes over a copy of an image, which is checked. A log that isn't empty is
+    /// refused: recover the image first.
+    pub fn open(image: &[u8], processes: u32) -> Result<Session, Refusal> {
         Session::open_with(image, processes, 0)
     }
 
     /// As `open`, for a device that holds writes back: steps tell when it is to be flushed, four
     /// times a commit, and it need not be flushed behind each write.
-    pub fn open_holding(image: &[u8], processes: u32) -> Result<(Session, u64), Refusal> {
+    pub fn open_holding(image: &[u8], processes: u32) -> Result<Session, Refusal> {
         Session::open_with(image, processes, raw::HOLD)
     }
 
-    fn open_with(image: &[u8], processes: u32, flags: u32) -> Result<(Session, u64), Refusal> {
+    fn open_with(image: &[u8], processes: u32, flags: u32) -> Result<Session, Refusal> {
         let mut raw = raw::Handle {
             session: ptr::null_mut(),
         };
-        let mut writes = 0;
         // SAFETY: a handle of null is closed; pointer and length are of one slice.
         let number = unsafe {
-            raw::xvfs_open(
-                &mut raw,
-                image.as_ptr(),
-                image.len(),
-                processes,
-                flags,
-                &mut writes,
-            )
+            raw::xvfs_open(&mut raw, image.as_ptr(), image.len(), processes, flags)
         };
         outcome(number, 0)?;
         let block = Box::new([0; BLOCK_SIZE]);
-        Ok((Session { raw, block }, writes))
+        Ok(Session { raw, block })
     }
 
     /// Hands an operation of a process in, behind those that wait. Its number among the process's.

@@ -91,7 +91,6 @@ extern "C" {
         len: usize,
         processes: u32,
         flags: u32,
-        writes: *mut u64,
     ) -> u32;
     pub fn xvfs_submit(
         fs: *mut Handle,

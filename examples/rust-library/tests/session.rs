@@ -208,8 +208,7 @@ fn syncs_where_it_is_told() {
 
 #[test]
 fn a_session_tells_each_write() {
-    let (mut session, writes) = Session::open(&new_device(), 1).expect("a session");
-    assert_eq!(writes, 0);
+    let mut session = Session::open(&new_device(), 1).expect("a session");
     session.submit(0, CREATE).expect("room");
     let mut told = Vec::new();
     loop {
@@ -286,7 +285,7 @@ fn threads_share_a_host() {
 #[test]
 fn answers_come_in_order() {
     let mut device = new_device();
-    let (mut session, _) = Session::open(&device, 1).expect("a session");
+    let mut session = Session::open(&device, 1).expect("a session");
     for number in 1..=16 {
         assert_eq!(session.submit(0, Op::Stat { inum: 1 }), Ok(number));
     }
@@ -324,7 +323,7 @@ fn refuses_what_it_cannot_do() {
     assert_eq!(refused(&device, 0), (5, 4));
     assert_eq!(refused(&device, 33), (5, 4));
     assert_eq!(refused(&[0; 2 * BLOCK_SIZE], 1), (3, 1));
-    let (mut session, _) = Session::open(&device, 1).expect("a session");
+    let mut session = Session::open(&device, 1).expect("a session");
     assert_eq!(
         session.step(1).err().map(|it| (it.layer, it.number)),
         Some((6, 1))
