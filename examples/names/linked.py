@@ -114,6 +114,8 @@ def put_right(third):
     with open("a.img", "rb") as file:
         if file.read() != image:
             fail("recount changes an image of right counts")
+    if run("check", "a.img") != b"":
+        fail("check tells a wrong count where none is")
     right, wrong = counts(), {1: 7, 2: 1, 4: 9}
     if right != {1: 2, 2: 2, 4: 1}:
         fail("the counts are %s" % right)
@@ -121,6 +123,9 @@ def put_right(third):
         set_inode("a.img", number, LINKS, links)
     if sorted(run("tree", "a.img").split()) != [b"docs/", b"docs/one", b"last"]:
         fail("tree of wrong counts lists something else")
+    told = [b"/ 1 links 7 names 2", b"/docs/ 4 links 9 names 1", b"/docs/one 2 links 1 names 2", b"/last 2 links 1 names 2"]
+    if sorted(run("check", "a.img").splitlines()) != told:
+        fail("check tells other counts")
     # The first file that is found has more names than links.
     told = "21 Miscounted 2\na.img: file 2 has not as many links as names; xvnames recount a.img puts that right"
     for words in (("mkdir", "a.img", "new"), ("rm", "a.img", "last"), ("ln", "a.img", "last", "new"),

@@ -1,5 +1,5 @@
 -- How the operations on a directory are answered.
-use Rattle.std.proofs.Common.{◌≡◌, ◌≢◌, ◌⊎◌, inl, inr, ℕ, ◌+◌, ◌*◌, ◌%◌, ◌≤◌, true, cond, ◌&&◌, ◌||◌, eqb, ltb, leb, List, length, take, set, Option, Some, None, refl, ap, subst, ◌∙◌, ⊎_elim, arith}
+use Rattle.std.proofs.Common.{◌≡◌, ◌≢◌, ◌⊎◌, inl, inr, ℕ, ◌+◌, ◌*◌, ◌%◌, ◌≤◌, true, cond, ◌&&◌, ◌||◌, eqb, ltb, leb, List, length, take, set, Option, Some, None, refl, sym, ap, subst, ◌∙◌, ⊎_elim, arith}
 use Rattle.std.proofs.lemmas.Bool.{le-ltb, leb-true, cond-false, and_parts, or_cases, eqb-true}
 use Rattle.blocks.specs.Block.{overwritten}
 use Rattle.model.specs.declared.types.image.File.{File}
@@ -79,13 +79,19 @@ write_done form files new i d off bytes reply is at fits h =
 pub record HasAnswered (size place : ℕ) (reply : Reply) : Type 0 where
   pub either : (reply ≡ Wrote 16) ⊎ (reply ≡ Wrote 0)
   pub there : 16 * place + 16 ≤ size → reply ≡ Wrote 16
+  pub none : reply ≡ Wrote 0 → ((16 * place) % 1024 ≡ 0) × (size ≤ 16 * place)
 
-nothing_only_behind : (old place n k : ℕ) → n ≡ 16 → k ≡ 0 → may_have_written old (16 * place) n k ≡ true → old ≤ 16 * place
+-- where nothing is written, the entry would begin a block, at the directory's end or behind it
+nothing_only_behind : (old place n k : ℕ) → n ≡ 16 → k ≡ 0 → may_have_written old (16 * place) n k ≡ true → ((16 * place) % 1024 ≡ 0) × (old ≤ 16 * place)
 nothing_only_behind old place n k size none h =
     let parts = and_parts (leb k n) (eqb k n || (eqb ((16 * place + k) % 1024) 0 && leb old (16 * place + k))) h in
+    let more : 16 * place + k ≡ 16 * place = omega (arith, none) in
     ⊎_elim (λ (all : eqb k n ≡ true). let same = eqb-true k n all in absurd (omega arith))
     (λ (short : (eqb ((16 * place + k) % 1024) 0 && leb old (16 * place + k)) ≡ true).
-    let past = leb-true old (16 * place + k) (and_parts (eqb ((16 * place + k) % 1024) 0) (leb old (16 * place + k)) short).1 in omega arith)
+    let both = and_parts (eqb ((16 * place + k) % 1024) 0) (leb old (16 * place + k)) short in (
+      subst (λ (at : ℕ). at % 1024 ≡ 0) more (eqb-true ((16 * place + k) % 1024) 0 both.0),
+      subst (λ (at : ℕ). old ≤ at) more (leb-true old (16 * place + k) both.1),
+    ))
     (or_cases (eqb k n) (eqb ((16 * place + k) % 1024) 0 && leb old (16 * place + k)) parts.1)
 
 pub entry_answered : (form : Form) (files new : Files) (from : ℕ) (write : EntryWrite) (reply : Reply) → IsDirectory files from →
@@ -104,8 +110,12 @@ entry_answered form files new from write reply kind size at fits h =
           (λ (all : wrote.count ≡ 16). inl (wrote.is ∙ ap (λ (k : ℕ). Wrote k) all)) either;
       there = λ inside.
           ⊎_elim (λ (none : wrote.count ≡ 0).
-          let past = nothing_only_behind (length d.bytes) write.place (length write.entry) wrote.count size none wrote.may in absurd (omega arith))
+          let past = (nothing_only_behind (length d.bytes) write.place (length write.entry) wrote.count size none wrote.may).1 in absurd (omega arith))
           (λ (all : wrote.count ≡ 16). wrote.is ∙ ap (λ (k : ℕ). Wrote k) all) either;
+      none = λ is.
+          let both : Wrote wrote.count ≡ Wrote 0 = sym wrote.is ∙ is in
+          let past = nothing_only_behind (length d.bytes) write.place (length write.entry) wrote.count size (cc both) wrote.may in
+          (past.0, subst (λ (n : ℕ). n ≤ 16 * write.place) (sym long) past.1);
     }
 
 removed_on : (files new : Files) (i : ℕ) (file : File) (j : ℕ) (reply : Reply) → after_on files i file (Remove j) reply ≡ Some new → reply ≡ Done

@@ -1,5 +1,5 @@
 -- A file that was made gets its name, or none where no block is free.
-use Rattle.std.proofs.Common.{◌≡◌, ◌⊎◌, ℕ, ◌<◌, Bool, true, false, List, length, Option, Some, None, Result, Ok, sym, ap, subst, ◌∙◌, ⊎_elim, arith, ◌≢◌}
+use Rattle.std.proofs.Common.{◌≡◌, ◌⊎◌, inr, ℕ, ◌<◌, Bool, true, false, List, length, Option, Some, None, Result, Ok, sym, ap, subst, ◌∙◌, ⊎_elim, arith, ◌≢◌}
 use Rattle.model.specs.declared.types.image.Form.{Form}
 use Rattle.model.specs.declared.types.operations.Reply.{Reply}
 use Rattle.model.specs.declared.types.operations.Reply.TheVariants.{Wrote}
@@ -14,13 +14,14 @@ use Rattle.names.specs.Making.{is_entered, HasCreatedNew, HasEntered, HasParentC
 use Rattle.names.specs.declared.refusal.Refusal.{Refusal}
 use Rattle.names.specs.Walks.{IsDirectoryFound}
 use Rattle.names.specs.TreeChanges.{empty_file, AddsName, IsUnnamed}
-use Rattle.names.specs.Trees.{directory_in, number_of, IsDirectory, IsDown, IsFile, IsTree, links_of}
+use Rattle.names.specs.Trees.{bytes_of, directory_in, kind_of, number_of, IsDirectory, IsDown, IsFile, IsTree, links_of}
 use Rattle.names.specs.Sizes.{AreSized}
-use Rattle.names.specs.Writes.{operation_of, Links, MayHold}
+use Rattle.names.specs.Writes.{operation_of, Links, MayHold, NeedsBlock}
 use Rattle.model.specs.declared.types.image.File.{File}
 use Rattle.names.specs.TreeLaws.{IsNew}
 use Rattle.names.proofs.Adding.{adding_keeps}
 use Rattle.names.proofs.CountedChanges.{counted_added, counted_directory_added}
+use Rattle.names.proofs.EntrySteps.{link_needs}
 use Rattle.names.proofs.NewDirectory.{files_are_new}
 use Rattle.names.proofs.Sizes.{size_small}
 use Rattle.names.proofs.Relinking.{adds_relinked, entered_links, relinked_links}
@@ -56,6 +57,18 @@ module _ (form : Form) (files made new : Files) (from number : ℕ) (name : List
       let both : false ≡ true = sym fails ∙ told ∙ ap is_entered done.0 in absurd (cc both))
       (λ (none : (reply ≡ Wrote 0) × (new ≡ made)). none.1) either
 
+  pub entered_needs : whole ≡ false → NeedsBlock (directory_in files from)
+  entered_needs fails =
+      let stays : file_in made from ≡ file_in files from = unnamed.rest from (apart_from files number from unnamed.free is) in
+      let none : reply ≡ Wrote 0 =
+      ⊎_elim (λ (done : (reply ≡ Wrote 16) × AddsName files new from name number file).
+      let both : false ≡ true = sym fails ∙ told ∙ ap is_entered done.0 in absurd (cc both))
+      (λ (nothing : (reply ≡ Wrote 0) × (new ≡ made)). nothing.0) either in
+      subst (λ (o : Option File). NeedsBlock (bytes_of o)) stays
+      (link_needs form made new from number name write reply sized (ap kind_of stays ∙ is)
+      (subst (λ (o : Option File). Links (bytes_of o) name number write) (sym stays) links)
+      (subst (λ (o : Option File). MayHold (bytes_of o) write.place) (sym stays) room) h none)
+
 -- the bytes that were found are the directory's
 pub found_bytes : (files : Files) (from : ℕ) (found : Option (List ℕ)) (bytes : List ℕ) → found ≡ Some bytes → IsDirectoryFound files from found →
     IsDirectory files from × (bytes ≡ directory_in files from)
@@ -68,9 +81,12 @@ found_fits form files from found bytes slice sized is same here =
     subst (λ (b : List ℕ). length b < 4294967296) (sym (same ∙ at.1)) (size_small form (length (directory_in files from)) (sized from))
 
 -- the file that was made
-pub created_new : (file : ℕ → ℕ → File) (parent : ℕ) (files new : Files) (made : Result ℕ Refusal) (number : ℕ) → made ≡ Ok number →
-    HasCreatedNew file parent files new made → IsUnnamed files new number (file number parent) × IsNew (file number parent) number parent × (0 < number)
-created_new file parent files new made number is created = subst (λ (r : Result ℕ Refusal). HasCreatedNew file parent files new r) is created
+pub created_new : (blocks : Type 0) (file : ℕ → ℕ → File) (own parent : ℕ) (files new : Files) (made : Result ℕ Refusal) (number : ℕ) → own ≡ parent →
+    made ≡ Ok number → HasCreatedNew blocks file own files new made →
+    IsUnnamed files new number (file number parent) × IsNew (file number parent) number parent × (0 < number)
+created_new blocks file own parent files new made number same is created =
+    subst (λ (p : ℕ). HasCreatedNew blocks file p files new (Ok number)) same
+    (subst (λ (r : Result ℕ Refusal). HasCreatedNew blocks file own files new r) is created)
 
 -- an empty file that is no directory is new
 pub empty_is_new : (number from : ℕ) → IsNew (empty_file 2) number from
@@ -163,5 +179,12 @@ module _ {D N : Type 0} (disk : Ghosts D N) (k a b d : Plain D) (from number : �
       (subst (λ (j : ℕ). IsUnnamed fs (files_seen disk.image d) j file) (sym same)
       (subst (λ (f : Files). IsUnnamed fs f number file) (sym none) made_unnamed))
 
-  pub made_absent : IsDirectory fs from × (number_of fs from name ≡ None)
-  made_absent = (there.0, named.absent)
+  -- the entry would have begun another block
+  pub made_needs : (blocks : Type 0) → whole ≡ false →
+      IsDirectory fs from × (number_of fs from name ≡ None) × (blocks ⊎ NeedsBlock (directory_in fs from))
+  made_needs blocks fails = (
+    there.0,
+    named.absent,
+    inr (entered_needs (form_seen disk.image b) fs (files_seen disk.image b) (files_seen disk.image d) from number name file write entered.reply whole tree
+        there.0 fresh made_unnamed named named_room entered.sized entered.answers entered.told fails),
+  )

@@ -20,7 +20,7 @@ use Rattle.model.specs.Operations.{after, after_at, after_on, no_file_refusal, m
 use Rattle.names.specs.declared.entries.EntryWrite.{EntryWrite}
 use Rattle.names.specs.Entries.{entries_of, is_free, lookup}
 use Rattle.names.specs.Sizes.{AreSized}
-use Rattle.names.specs.Writes.{free_place, written, operation_of, KeepsOthers, Links, MayHold, Unlinks}
+use Rattle.names.specs.Writes.{free_place, written, operation_of, KeepsOthers, Links, MayHold, NeedsBlock, Unlinks}
 use Rattle.names.specs.Lemmas.Writes.{nothing_written}
 use Rattle.names.specs.Trees.{bytes_of, directory_in, IsDirectory, IsTidy}
 use Rattle.names.specs.TreeChanges.{LeadsTo}
@@ -121,6 +121,19 @@ link_leads_there form files new from number name write reply sized is tidy links
     (λ (none : reply ≡ Wrote 0).
     inr (none, nothing_wrote form files new from write (subst (λ (r : Reply). after form files (operation_of from write) r ≡ Some new) none h)))
     answered.either
+
+-- where nothing was written, the entry would have begun another block
+pub link_needs : (form : Form) (files new : Files) (from number : ℕ) (name : List ℕ) (write : EntryWrite) (reply : Reply) → AreSized form files →
+    IsDirectory files from → Links (directory_in files from) name number write → MayHold (directory_in files from) write.place →
+    after form files (operation_of from write) reply ≡ Some new → reply ≡ Wrote 0 → NeedsBlock (directory_in files from)
+link_needs form files new from number name write reply sized is links room h none =
+    let bytes : List ℕ = directory_in files from in
+    let past = (entry_answered form files new from write reply is (link_size bytes name number write links)
+    (link_at bytes name number write links) (room_fits form files from write.place sized room) h).none none in
+    record {
+      begins = subst (λ (place : ℕ). (16 * place) % 1024 ≡ 0) links.place past.0;
+      behind = subst (λ (place : ℕ). length bytes ≤ 16 * place) links.place past.1;
+    }
 
 pub unlink_leads_nowhere : UnlinkLeads
 unlink_leads_nowhere form files new from name write reply sized is tidy unlinks h =

@@ -1,5 +1,5 @@
 -- What a creation comes to.
-use Rattle.std.proofs.Common.{◌≡◌, ℕ, ◌<◌, Bool, true, cond, ◌&&◌, ltb, length, set, refl, Some, None, sym, ap}
+use Rattle.std.proofs.Common.{◌≡◌, ℕ, ◌<◌, ◌≤◌, ◌^◌, Bool, true, cond, ◌&&◌, ltb, length, set, refl, Some, None, sym, ap, arith}
 use Rattle.std.specs.Prelude.{is_none}
 use Rattle.std.proofs.lemmas.Bool.{and_parts, ltb-true}
 use Rattle.model.specs.declared.types.image.Form.{Form}
@@ -9,14 +9,16 @@ use Rattle.model.specs.declared.types.operations.Reply.TheVariants.{Made, NoInod
 use Rattle.model.specs.Files.{Files, file_in}
 use Rattle.model.specs.Lemmas.Runs.{where_true_some}
 use Rattle.model.specs.Operations.{after, after_create, is_kind}
-use Rattle.names.specs.Making.{HasCreated}
+use Rattle.calls.specs.Calls.{MakesLowestOf, MakesNoneOf}
+use Rattle.names.specs.Making.{AreNumbersTaken, HasCreated}
 use Rattle.names.specs.TreeChanges.{empty_file}
 use Rattle.names.proofs.Answered.{done_where}
 use Rattle.names.proofs.Unnamed.{create_makes}
 
-none_by : (files new : Files) (kind : ℕ) (reply : Reply) → after_create files kind reply ≡ Some new → ((i : ℕ) → reply ≡ Made i → ⊥) → new ≡ files
+none_by : (files new : Files) (kind : ℕ) (reply : Reply) → after_create files kind reply ≡ Some new → ((i : ℕ) → reply ≡ Made i → ⊥) →
+    (new ≡ files) × (reply ≡ NoInode)
 none_by files new kind (Made i) h not = absurd (not i refl)
-none_by files new kind NoInode h not = let e : files ≡ new = cc h in sym e
+none_by files new kind NoInode h not = let e : files ≡ new = cc h in (sym e, refl)
 none_by files new kind reply h not = absurd (cc h)
 
 allowed : (form : Form) (files new : Files) (kind : ℕ) (reply : Reply) → is_kind kind ≡ true → after form files (Create kind) reply ≡ Some new →
@@ -24,10 +26,18 @@ allowed : (form : Form) (files new : Files) (kind : ℕ) (reply : Reply) → is_
 allowed form files new kind reply is h =
     done_where form files new (Create kind) reply (ap (λ (b : Bool). cond b None (Some BadType)) is) h
 
--- none was made
+-- none was made, since each number is taken
 pub create_none : (form : Form) (files new : Files) (kind : ℕ) (reply : Reply) → is_kind kind ≡ true → after form files (Create kind) reply ≡ Some new →
-    ((i : ℕ) → reply ≡ Made i → ⊥) → new ≡ files
-create_none form files new kind reply is h not = none_by files new kind reply (allowed form files new kind reply is h) not
+    MakesNoneOf files (Create kind) reply → ((i : ℕ) → reply ≡ Made i → ⊥) → HasCreated kind files new None
+create_none form files new kind reply is h none not =
+    let why = none_by files new kind reply (allowed form files new kind reply is h) not in (
+      why.0,
+      λ i used inside fits. none kind i refl why.1 used inside,
+    )
+
+-- a number was made that no entry can hold, so all below it are taken
+pub create_past : (files : Files) (kind i : ℕ) → MakesLowestOf files (Create kind) (Made i) → 2 ^ 16 ≤ i → AreNumbersTaken files
+create_past files kind i lowest past = λ j used inside fits. lowest kind i j refl refl used (omega (arith, past, fits))
 
 some_by : (files new : Files) (kind i : ℕ) → after_create files kind (Made i) ≡ Some new → 0 < i
 some_by files new kind i h =

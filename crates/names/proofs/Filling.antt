@@ -1,5 +1,6 @@
 -- A directory is made, and its two entries are written, or none where no block is free.
 use Rattle.std.proofs.Common.{◌≡◌, ◌⊎◌, ℕ, ◌<◌, ◌^◌, Bool, true, false, Option, Some, Ok, sym, ap, subst, ◌∙◌, ⊎_elim}
+use Rattle.std.specs.Prelude.{⊤}
 use Rattle.blocks.specs.declared.disk.Disk.{Ghosts}
 use Rattle.model.specs.declared.types.operations.Reply.TheVariants.{Wrote}
 use Rattle.model.specs.Files.{Files}
@@ -23,13 +24,13 @@ module _ {D N : Type 0} (disk : Ghosts D N) (k a b : Plain D) (parent number up 
       write_fills (form_seen disk.image a) (files_seen disk.image k) (files_seen disk.image a) (files_seen disk.image b) number up filled.reply some.0 filled.answers
 
   pub filled_made : whole ≡ true → 0 < up → number < 2 ^ 16 → up < 2 ^ 16 →
-      HasCreatedNew directory_file parent (files_seen disk.image k) (files_seen disk.image b) (Ok number)
+      HasCreatedNew ⊤ directory_file parent (files_seen disk.image k) (files_seen disk.image b) (Ok number)
   filled_made holds positive fits up_fits =
       let unnamed : IsUnnamed (files_seen disk.image k) (files_seen disk.image b) number (directory_file number up) =
       ⊎_elim (λ (done : (filled.reply ≡ Wrote 32) × IsUnnamed (files_seen disk.image k) (files_seen disk.image b) number (directory_file number up)). done.1)
       (λ (none : (filled.reply ≡ Wrote 0) × (files_seen disk.image b ≡ files_seen disk.image a)).
       let both : true ≡ false = sym holds ∙ filled.told ∙ ap is_filled none.0 in absurd (cc both)) either in
-      subst (λ (p : ℕ). HasCreatedNew directory_file p (files_seen disk.image k) (files_seen disk.image b) (Ok number)) up_is
+      subst (λ (p : ℕ). HasCreatedNew ⊤ directory_file p (files_seen disk.image k) (files_seen disk.image b) (Ok number)) up_is
       (unnamed, files_are_new.1 number up some.1 fits positive up_fits, some.1)
 
   pub filled_undone : (u : Plain D) (i : ℕ) → i ≡ number → whole ≡ false → Uncreates i (files_seen disk.image b) (files_seen disk.image u) →

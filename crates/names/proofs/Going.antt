@@ -24,7 +24,7 @@ use Rattle.names.specs.declared.refusal.TreeFault.{TreeFault}
 use Rattle.names.specs.declared.refusal.TreeFault.TheVariants.{Path, Refused, Call, NoSpace, NoCall}
 use Rattle.names.proofs.Sizes.{after_sized, sound_sized}
 use Rattle.names.specs.Sizes.{AreSized}
-use Rattle.names.specs.Inside.{files_seen, form_seen, Answers, Ends, EndsOr, Goes, HasCause, IsBroken, IsBrokenOr, IsUnderWay, Proceeds, StaysOn}
+use Rattle.names.specs.Inside.{files_seen, form_seen, Answers, Ends, EndsOr, Goes, HasCause, IsBroken, IsBrokenOr, IsCrowded, IsUnderWay, Proceeds, StaysOn}
 use Rattle.names.specs.Counts.{AreCounted}
 
 module _ {D N : Type 0} (disk : Ghosts D N) where
@@ -97,7 +97,7 @@ module _ {D N : Type 0} (disk : Ghosts D N) where
   broken_on fills k a m (Refused cause) same faults why = why
   broken_on fills k a m (Call (fault.Disk cause)) same faults why = record { is = why.is; rose = subst (λ (n : ℕ). Rose n (faults_on disk.fault_count m)) faults why.rose }
   broken_on fills k a m (Call fault.NoMemory) same faults why = record { image = why.image ∙ same; faults = why.faults ∙ faults }
-  broken_on fills k a m (Call fault.NoRoom) same faults why = record { image = why.image ∙ same; faults = why.faults ∙ faults }
+  broken_on fills k a m (Call fault.NoRoom) same faults why = (record { image = why.0.image ∙ same; faults = why.0.faults ∙ faults }, why.1)
   broken_on fills k a m NoSpace same faults why = (why.0, record { image = why.1.image ∙ same; faults = why.1.faults ∙ faults }, why.2)
   broken_on fills k a m NoCall same faults why = record { image = why.image ∙ same; faults = why.faults ∙ faults }
 
@@ -146,7 +146,10 @@ module _ {D N : Type 0} (disk : Ghosts D N) where
   pub call_broken : (op : Op) (k m : Plain D) (cause : TransactionFault) → IsUncalled disk op k m cause → IsBroken disk k m (Call cause)
   call_broken op k m (fault.Disk cause) why = why
   call_broken op k m fault.NoMemory why = record { image = why.0.image; faults = why.1 }
-  call_broken op k m fault.NoRoom why = record { image = ap (image_on disk.image) why.same; faults = ap (faults_on disk.fault_count) why.same }
+  call_broken op k m fault.NoRoom why = (
+    record { image = ap (image_on disk.image) why.same; faults = ap (faults_on disk.fault_count) why.same },
+    subst (λ (n : Plain D). IsCrowded n) (sym why.same) why.full,
+  )
 
   -- ---- the beginning and the end
 

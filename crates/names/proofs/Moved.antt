@@ -22,10 +22,10 @@ use Rattle.names.specs.Sizes.{AreSized}
 use Rattle.names.specs.TreeChanges.{LeadsTo, MovesDirectory, MovesName, Relinks}
 use Rattle.names.specs.Trees.{directory_in, number_of, self_name, IsDirectory, IsDown, IsFile, IsTree, bytes_of, kind_of, links_of, parent_name, IsOutside, IsTidy}
 use Rattle.names.specs.Walks.{IsDirectoryFound}
-use Rattle.names.specs.Writes.{operation_of, Links, MayHold, Unlinks, Repoints}
+use Rattle.names.specs.Writes.{operation_of, Links, MayHold, NeedsBlock, Unlinks, Repoints}
 use Rattle.names.proofs.CountedChanges.{counted_directory_moved, counted_moved}
 use Rattle.names.proofs.Entering.{down_absent, found_bytes}
-use Rattle.names.proofs.EntrySteps.{link_leads_there}
+use Rattle.names.proofs.EntrySteps.{link_leads_there, link_needs}
 use Rattle.names.proofs.MovingDirectory.{moving_directory_keeps}
 use Rattle.names.proofs.Named.{directory_counts}
 use Rattle.names.proofs.Relinking.{entered_links, moves_relinked, relinked_links, relinked_there}
@@ -132,8 +132,18 @@ module _ {D N : Type 0} (disk : Ghosts D N) (k a b : Plain D) (from to : ℕ) (o
       (link_leads_there (form_seen disk.image a) all (files_seen disk.image b) to plan.file name plan.link linked.reply sized is.target
       (directories_are_tidy all to tree is.target).0 is.links is.link_room linking)
 
-  pub unlinked_absent : IsDirectory all to × (number_of all to name ≡ None)
-  unlinked_absent = (is.target, is.links.absent)
+  -- the entry would have begun another block
+  pub unlinked_needs : whole ≡ false → IsDirectory all to × (number_of all to name ≡ None) × NeedsBlock (directory_in all to)
+  unlinked_needs fails = (
+    is.target,
+    is.links.absent,
+    link_needs (form_seen disk.image a) all (files_seen disk.image b) to plan.file name plan.link linked.reply sized is.target is.links is.link_room linking
+        (⊎_elim (λ (done : (linked.reply ≡ Wrote 16) × LeadsTo all (files_seen disk.image b) to name (Some plan.file)).
+        let both : false ≡ true = sym fails ∙ linked.told ∙ ap is_entered done.0 in absurd (cc both))
+        (λ (none : (linked.reply ≡ Wrote 0) × (files_seen disk.image b ≡ all)). none.0)
+        (link_leads_there (form_seen disk.image a) all (files_seen disk.image b) to plan.file name plan.link linked.reply sized is.target
+        (directories_are_tidy all to tree is.target).0 is.links is.link_room linking)),
+  )
 
   -- c freed the old one
   module _ (c : Plain D) (done : Bool) (holds : whole ≡ true) (freed : HasEntered disk.image from plan.unlink b c done) (opening : b.opening ≡ a.opening) where

@@ -20,11 +20,11 @@ use Rattle.names.specs.TreeChanges.{LeadsTo, LinksName, Relinks}
 use Rattle.names.specs.Trees.{directory_in, kind_of, links_of, number_of, IsDirectory, IsFile, IsTree}
 use Rattle.names.specs.Walks.{walked, IsDirectoryFound, LeadsIn}
 use Rattle.names.specs.Sizes.{AreSized}
-use Rattle.names.specs.Writes.{operation_of, Links, MayHold}
+use Rattle.names.specs.Writes.{operation_of, Links, MayHold, NeedsBlock}
 use Rattle.names.proofs.Answered.{some_by}
 use Rattle.names.proofs.CountedChanges.{counted_linked}
 use Rattle.names.proofs.Entering.{down_absent, found_bytes}
-use Rattle.names.proofs.EntrySteps.{link_leads_there}
+use Rattle.names.proofs.EntrySteps.{link_leads_there, link_needs}
 use Rattle.names.proofs.Linked.{linked_tree}
 use Rattle.names.proofs.Relinking.{changed_relinked, entered_links, relinked_numbers}
 use Rattle.names.proofs.TreeMeaning.{directories_are_tidy}
@@ -64,8 +64,17 @@ module _ {D N : Type 0} (disk : Ghosts D N) (k a b : Plain D) (to number short :
       let both : false ≡ true = sym fails ∙ entered.told ∙ ap is_entered done.0 in absurd (cc both))
       (λ (none : (entered.reply ≡ Wrote 0) × (files_seen disk.image b ≡ fs)). none.1) either
 
-  pub named_absent : IsDirectory fs to × (number_of fs to name ≡ None)
-  named_absent = (there.0, linking.absent)
+  -- the entry would have begun another block
+  pub named_needs : whole ≡ false → IsDirectory fs to × (number_of fs to name ≡ None) × NeedsBlock (directory_in fs to)
+  named_needs fails = (
+    there.0,
+    linking.absent,
+    link_needs (form_seen disk.image a) fs (files_seen disk.image b) to number name write entered.reply sized there.0 linking may_hold
+        (subst (λ (f : Files). after (form_seen disk.image a) f (operation_of to write) entered.reply ≡ Some (files_seen disk.image b)) looked entered.answers)
+        (⊎_elim (λ (done : (entered.reply ≡ Wrote 16) × LeadsTo fs (files_seen disk.image b) to name (Some number)).
+        let both : false ≡ true = sym fails ∙ entered.told ∙ ap is_entered done.0 in absurd (cc both))
+        (λ (none : (entered.reply ≡ Wrote 0) × (files_seen disk.image b ≡ fs)). none.0) either),
+  )
 
   -- the entry was written, of a file that is no directory
   module _ (holds : whole ≡ true) (is_there : IsFile fs number) (plain : IsDirectory fs number → ⊥) where

@@ -1,5 +1,6 @@
 -- What an emptying, and then the write of a file's first bytes, make of the files.
 use Rattle.std.proofs.Common.{◌≡◌, ◌≢◌, ◌⊎◌, ℕ, ◌+◌, ◌<◌, ◌≤◌, Bool, true, false, cond, eqb, leb, ltb, ◌&&◌, ◌||◌, ◌%◌, List, [], ◌++◌, length, take, set, Option, Some, None, Result, Ok, Err, refl, sym, ap, subst, ◌∙◌, inl, inr, ⊎_elim, arith}
+use Rattle.std.specs.Prelude.{⊤, IsSome}
 use Rattle.std.proofs.lemmas.Bool.{and_parts, eq-eqb, leb-true, both_ways}
 use Rattle.std.proofs.lemmas.List.{append-nil, drop_all, set-set}
 use Rattle.blocks.specs.Block.{overwritten}
@@ -20,14 +21,15 @@ use Rattle.calls.specs.Files.{IsFull}
 use Rattle.calls.specs.Stepping.{Plain}
 use Rattle.calls.specs.Transactions.{image_seen}
 use Rattle.names.specs.declared.refusal.Refusal.{Refusal}
+use Rattle.names.specs.declared.refusal.Refusal.TheVariants.{NotFound, NotADirectory, IsRoot, Exists, Full, NoNumber, NoBlock, IsADirectory, NotEmpty, IsInside, NotDown, TooManyLinks}
 use Rattle.names.specs.Contents.{HasOnly, IsNoPlain}
 use Rattle.names.specs.Counts.{StaysCounted}
 use Rattle.names.specs.Inside.{files_seen, form_seen, Answers}
-use Rattle.names.specs.Making.{HasCreated, HasCreatedNew, Uncreates}
-use Rattle.names.specs.Putting.{file_of}
+use Rattle.names.specs.Making.{HasCreated, HasCreatedNew, IsUnmadeOr, Uncreates}
+use Rattle.names.specs.Putting.{file_of, told, IsUnputIn, PutsIn}
 use Rattle.names.specs.Ready.{Happens}
-use Rattle.names.specs.TreeChanges.{empty_file, IsUnnamed}
-use Rattle.names.specs.Trees.{kind_of, IsDirectory, IsFile, IsTree}
+use Rattle.names.specs.TreeChanges.{empty_file, AddsName, IsUnnamed}
+use Rattle.names.specs.Trees.{kind_of, number_of, IsDirectory, IsFile, IsTree}
 use Rattle.names.specs.Writing.{reply_of, written, HasWritten, Outcome, WritesAs}
 use Rattle.names.proofs.Answered.{done_where, some_by, write_allowed, wrote_on}
 use Rattle.names.proofs.FileMaps.{set_there, unnamed_by}
@@ -75,9 +77,9 @@ module _ (form : Form) (files between new : Files) (i : ℕ) (bytes : List ℕ) 
 -- ---- short
 
 -- where it told nothing, there was nothing to tell
-pub none_by : (o : Option Outcome) → ((done : Outcome) → o ≡ Some done → ⊥) → o ≡ None
+pub none_by : {T : Type 0} (o : Option T) → ((t : T) → o ≡ Some t → ⊥) → o ≡ None
 none_by None not = refl
-none_by (Some done) not = absurd (not done refl)
+none_by (Some t) not = absurd (not t refl)
 
 refusal_same : (refusal reply : Reply) → is_refusal refusal reply ≡ true → refusal ≡ reply
 refusal_same NoFile NoFile h = refl
@@ -239,7 +241,7 @@ module _ {D N : Type 0} (disk : Ghosts D N) where
     writing = subst (λ (n : ℕ). HasWritten disk.image n 0 bytes a b told) same has
 
     pub new_made : (one : Unit {0}) → told ≡ Some (Ok one) →
-        HasCreatedNew (λ number parent. file_of bytes) parent (files_seen disk.image k) (files_seen disk.image b) (Ok number)
+        HasCreatedNew ⊤ (λ number parent. file_of bytes) parent (files_seen disk.image k) (files_seen disk.image b) (Ok number)
     new_made one is = (
       filled_new (form_seen disk.image a) (files_seen disk.image k) (files_seen disk.image a) (files_seen disk.image b) number bytes writing.reply some.0 writing.answers
           one (sym is ∙ writing.is),
@@ -253,6 +255,29 @@ module _ {D N : Type 0} (disk : Ghosts D N) where
     new_undone u i at undoes =
         let kept = kept_new (form_seen disk.image a) (files_seen disk.image k) (files_seen disk.image a) (files_seen disk.image b) number bytes writing.reply some.0 writing.answers in
         undoes (files_seen disk.image k) kept.0 (subst (λ (n : ℕ). IsUnnamed (files_seen disk.image k) (files_seen disk.image b) n kept.0) (sym at) kept.1)
+
+-- why a file of bytes was not made under a new name, as a put tells it
+unput_by : (files : Files) (from : ℕ) (name : List ℕ) (cause : Refusal) → number_of files from name ≡ None → IsUnmadeOr ⊥ ⊤ files from name cause →
+    IsUnputIn files from name cause
+unput_by files from name Exists absent why = let some = subst (λ (o : Option ℕ). IsSome o) absent why.1 in absurd (cc some)
+unput_by files from name TooManyLinks absent why = absurd why.0
+unput_by files from name NotADirectory absent why = why
+unput_by files from name Full absent why = why
+unput_by files from name NoNumber absent why = why
+unput_by files from name NoBlock absent why = why
+unput_by files from name NotFound absent why = absurd why
+unput_by files from name IsRoot absent why = absurd why
+unput_by files from name IsADirectory absent why = absurd why
+unput_by files from name NotEmpty absent why = absurd why
+unput_by files from name IsInside absent why = absurd why
+unput_by files from name NotDown absent why = absurd why
+
+-- so what became of it is what became of the put
+pub put_new : (bytes name : List ℕ) (from : ℕ) (files new : Files) (made : Result ℕ Refusal) → length bytes ≤ 3072 → number_of files from name ≡ None →
+    Happens (λ number f g. AddsName f g from name number (file_of bytes)) (λ f. IsUnmadeOr ⊥ ⊤ f from name) files new made →
+    Happens (PutsIn bytes from name) (λ f. IsUnputIn f from name) files new (told made)
+put_new bytes name from files new (Ok number) few absent happens = (few, inl happens)
+put_new bytes name from files new (Err cause) few absent happens = (happens.0, unput_by files from name cause absent happens.1)
 
 -- what was emptied has no bytes
 pub emptied_only : (files new : Files) (j number : ℕ) (r : Result (Unit {0}) Refusal) (one : Unit {0}) → j ≡ number → r ≡ Ok one →

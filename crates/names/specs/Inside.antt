@@ -1,5 +1,5 @@
 -- Calls of a transaction, and the files that it sees.
-use Rattle.std.specs.Prelude.{◌≡◌, ℕ, ◌+◌, ◌^◌, ◌≤◌, [], Some, unwrap_or, Result, OnOk, IfErr}
+use Rattle.std.specs.Prelude.{◌≡◌, ℕ, ◌+◌, ◌^◌, ◌<◌, ◌≤◌, [], length, Some, unwrap_or, Result, OnOk, IfErr}
 use Rattle.blocks.specs.Disk.{Image, LeavesOnly}
 use Rattle.blocks.specs.declared.disk.Disk.{Ghosts}
 use Rattle.model.specs.Files.{Files, files_of}
@@ -76,6 +76,10 @@ pub record IsSame {D N : Type 0} (disk : Ghosts D N) (k m : Plain D) : Type 0 wh
   pub image : image_on disk.image m ≡ image_on disk.image k
   pub faults : faults_on disk.fault_count m ≡ faults_on disk.fault_count k
 
+-- the transaction of a kernel logged more than ten blocks, and none may be changed behind them
+abbrev pub IsCrowded : {D : Type 0} → Plain D → Type 0
+IsCrowded k = 10 < length k.store.volume.log.homes
+
 -- Why a transaction of kernel k, which is m now, doesn't go on. It may fill the disk where that is
 -- said.
 abbrev pub IsBrokenOr : {D N : Type 0} → Type 0 → Ghosts D N → Plain D → Plain D → TreeFault → Type 0
@@ -83,7 +87,7 @@ IsBrokenOr fills disk k m (Path cause) = ⊥
 IsBrokenOr fills disk k m (Refused cause) = ⊥
 IsBrokenOr fills disk k m (Call (fault.Disk cause)) = HasFailed disk k m cause
 IsBrokenOr fills disk k m (Call fault.NoMemory) = IsSame disk k m
-IsBrokenOr fills disk k m (Call fault.NoRoom) = IsSame disk k m
+IsBrokenOr fills disk k m (Call fault.NoRoom) = IsSame disk k m × IsCrowded m
 IsBrokenOr fills disk k m NoSpace = fills × IsSame disk k m × IsFull (image_seen disk.image m)
 IsBrokenOr fills disk k m NoCall = IsSame disk k m
 

@@ -9,7 +9,7 @@ use Rattle.names.specs.Numbered.{IsNoFile}
 use Rattle.names.specs.TreeChanges.{LinksName}
 use Rattle.names.specs.Trees.{directory_in, links_of, number_of, root, IsDirectory}
 use Rattle.names.specs.Walks.{walked, LeadsIn, IsUnled}
-use Rattle.names.specs.Writes.{IsLinkCause}
+use Rattle.names.specs.Writes.{IsLinkCause, NeedsBlock}
 
 -- a file's count with one name more, unless it has the greatest
 abbrev pub HasMore : Files → ℕ → Result ℕ Refusal → Type 0
@@ -28,8 +28,8 @@ IsNotLinkedIn files number to name Exists =
     IsDirectory files to × IsLinkCause (directory_in files to) name link_fault.Exists
 IsNotLinkedIn files number to name Full =
     IsDirectory files to × IsLinkCause (directory_in files to) name link_fault.Full
-IsNotLinkedIn files number to name NoBlock =
-    IsDirectory files to × (number_of files to name ≡ None)
+IsNotLinkedIn files number to name NoBlock = IsDirectory files to
+    × (number_of files to name ≡ None) × NeedsBlock (directory_in files to)
 IsNotLinkedIn files number to name NoNumber = 2 ^ 16 ≤ number
 IsNotLinkedIn files number to name TooManyLinks = HasMostLinks files number
 IsNotLinkedIn files number to name NotFound = ⊥

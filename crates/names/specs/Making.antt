@@ -1,5 +1,5 @@
 -- A file made in a tree.
-use Rattle.std.specs.Prelude.{⊤, Bool, Err, List, None, Ok, Option, Result, Some, false, true, ℕ, ◌+◌, ◌<◌, ◌==◌, ◌≡◌, ◌≢◌, ◌⊎◌}
+use Rattle.std.specs.Prelude.{⊤, Bool, Err, List, None, Ok, Option, Result, Some, false, length, true, ℕ, ◌+◌, ◌^◌, ◌<◌, ◌==◌, ◌≡◌, ◌≢◌, ◌⊎◌}
 use Rattle.blocks.specs.Disk.{Image}
 use Rattle.model.specs.declared.types.image.File.{File}
 use Rattle.model.specs.declared.types.operations.Op.TheVariants.{Write}
@@ -19,26 +19,32 @@ use Rattle.names.specs.Sizes.{AreSized}
 use Rattle.names.specs.TreeChanges.{empty_file, AddsDirectory, AddsName, IsUnnamed, directory_file, Relinks}
 use Rattle.names.specs.Counts.{HasMostLinks}
 use Rattle.names.specs.TreeLaws.{IsNew}
-use Rattle.names.specs.Trees.{directory_in, directory_kind, links_of, new_directory, number_of, IsDirectory}
+use Rattle.names.specs.Trees.{directory_in, directory_kind, links_of, new_directory, number_of, IsDirectory, IsFile}
 use Rattle.names.specs.Walks.{AtLast}
-use Rattle.names.specs.Writes.{operation_of, IsLinkCause}
+use Rattle.names.specs.Writes.{operation_of, IsLinkCause, NeedsBlock}
 
 -- the type of a file that is no directory
 abbrev pub file_kind : ℕ
 file_kind = 2
 
--- an empty file of a type was made, which has no name yet, or none was
+-- each number that an entry can hold is that of a file
+abbrev pub AreNumbersTaken : Files → Type 0
+AreNumbersTaken files = (i : ℕ) → 0 < i → i < length files → i < 2 ^ 16 → IsFile files i
+
+-- an empty file of a type was made, which has no name yet, or none was, since each number is taken
 abbrev pub HasCreated : ℕ → Files → Files → Option ℕ → Type 0
-HasCreated kind files new None = new ≡ files
+HasCreated kind files new None = (new ≡ files) × AreNumbersTaken files
 HasCreated kind files new (Some number) =
     IsUnnamed files new number (empty_file kind) × (0 < number)
 
--- a new file was made, which has no name yet; or it was not, for want of a number or of a block
-abbrev pub HasCreatedNew : (ℕ → ℕ → File) → ℕ → Files → Files → Result ℕ Refusal → Type 0
-HasCreatedNew file parent files new (Ok number) = IsUnnamed files new number (file number parent)
+-- A new file was made, which has no name yet; or it was not, since each number is taken or, where it
+-- needs blocks, for want of one.
+abbrev pub HasCreatedNew : Type 0 → (ℕ → ℕ → File) → ℕ → Files → Files → Result ℕ Refusal → Type 0
+HasCreatedNew blocks file parent files new (Ok number) =
+    IsUnnamed files new number (file number parent)
     × IsNew (file number parent) number parent × (0 < number)
-HasCreatedNew file parent files new (Err cause) =
-    (new ≡ files) × ((cause ≡ NoNumber) ⊎ (cause ≡ NoBlock))
+HasCreatedNew blocks file parent files new (Err cause) = (new ≡ files)
+    × (((cause ≡ NoNumber) × AreNumbersTaken files) ⊎ ((cause ≡ NoBlock) × blocks))
 
 -- a file that was made and not named is gone again, and the files are as before it
 abbrev pub Uncreates : ℕ → Files → Files → Type 0
@@ -86,32 +92,33 @@ abbrev pub unlinked : LinkFault → Refusal
 unlinked link_fault.Exists = Exists
 unlinked link_fault.Full = Full
 
--- why a new file is not, which counts among its parent's links or does not
-abbrev pub IsUnmadeOr : Type 0 → Files → ℕ → List ℕ → Refusal → Type 0
-IsUnmadeOr counts files from name NotADirectory = IsDirectory files from → ⊥
-IsUnmadeOr counts files from name Exists =
+-- Why a new file is not, which counts among its parent's links or does not, and needs blocks of its own
+-- or none.
+abbrev pub IsUnmadeOr : Type 0 → Type 0 → Files → ℕ → List ℕ → Refusal → Type 0
+IsUnmadeOr counts blocks files from name NotADirectory = IsDirectory files from → ⊥
+IsUnmadeOr counts blocks files from name Exists =
     IsDirectory files from × IsLinkCause (directory_in files from) name link_fault.Exists
-IsUnmadeOr counts files from name Full =
+IsUnmadeOr counts blocks files from name Full =
     IsDirectory files from × IsLinkCause (directory_in files from) name link_fault.Full
-IsUnmadeOr counts files from name NoNumber =
-    IsDirectory files from × (number_of files from name ≡ None)
-IsUnmadeOr counts files from name NoBlock =
-    IsDirectory files from × (number_of files from name ≡ None)
-IsUnmadeOr counts files from name NotFound = ⊥
-IsUnmadeOr counts files from name IsRoot = ⊥
-IsUnmadeOr counts files from name IsADirectory = ⊥
-IsUnmadeOr counts files from name NotEmpty = ⊥
-IsUnmadeOr counts files from name IsInside = ⊥
-IsUnmadeOr counts files from name NotDown = ⊥
-IsUnmadeOr counts files from name TooManyLinks =
+IsUnmadeOr counts blocks files from name NoNumber =
+    IsDirectory files from × (number_of files from name ≡ None) × AreNumbersTaken files
+IsUnmadeOr counts blocks files from name NoBlock = IsDirectory files from
+    × (number_of files from name ≡ None) × (blocks ⊎ NeedsBlock (directory_in files from))
+IsUnmadeOr counts blocks files from name NotFound = ⊥
+IsUnmadeOr counts blocks files from name IsRoot = ⊥
+IsUnmadeOr counts blocks files from name IsADirectory = ⊥
+IsUnmadeOr counts blocks files from name NotEmpty = ⊥
+IsUnmadeOr counts blocks files from name IsInside = ⊥
+IsUnmadeOr counts blocks files from name NotDown = ⊥
+IsUnmadeOr counts blocks files from name TooManyLinks =
     counts × IsDirectory files from × HasMostLinks files from
 
 -- why no file is made, and why no directory is
 abbrev pub IsUnmadeIn : Files → ℕ → List ℕ → Refusal → Type 0
-IsUnmadeIn = IsUnmadeOr ⊥
+IsUnmadeIn = IsUnmadeOr ⊥ ⊥
 
 abbrev pub IsUnmadeDirectoryIn : Files → ℕ → List ℕ → Refusal → Type 0
-IsUnmadeDirectoryIn = IsUnmadeOr ⊤
+IsUnmadeDirectoryIn = IsUnmadeOr ⊤ ⊤
 
 -- an empty file was made under the last of these names, in the directory that the others lead to
 abbrev pub MakesAt : List (List ℕ) → ℕ → Files → Files → Type 0

@@ -1,5 +1,5 @@
 -- Bytes put into a file of a tree, which is made where it isn't there.
-use Rattle.std.specs.Prelude.{◌≡◌, ◌⊎◌, ℕ, ◌<◌, ◌≤◌, List, length, Result, Some, Ok, Err}
+use Rattle.std.specs.Prelude.{⊤, ◌≡◌, ◌⊎◌, ℕ, ◌<◌, ◌≤◌, List, length, Result, Some, Ok, Err}
 use Rattle.model.specs.declared.types.image.File.{File}
 use Rattle.model.specs.Files.{Files}
 use Rattle.model.specs.Operations.{transfer_limit}
@@ -8,7 +8,7 @@ use Rattle.names.specs.declared.refusal.Refusal.TheVariants.{NotFound, NotADirec
 use Rattle.names.specs.declared.writing.Unwritten.{Unwritten}
 use Rattle.names.specs.declared.writing.Unwritten.TheVariants.{TooLong}
 use Rattle.names.specs.Contents.{HasOnly}
-use Rattle.names.specs.Making.{file_kind, IsUnmadeIn}
+use Rattle.names.specs.Making.{file_kind, IsUnmadeIn, IsUnmadeOr}
 use Rattle.names.specs.TreeChanges.{AddsName}
 use Rattle.names.specs.Trees.{number_of, IsDirectory, Steps}
 use Rattle.names.specs.Walks.{AtLast}
@@ -44,7 +44,7 @@ abbrev pub IsUnputIn : Files → ℕ → List ℕ → Refusal → Type 0
 IsUnputIn files from name NotADirectory = IsUnmadeIn files from name NotADirectory
 IsUnputIn files from name Full = IsUnmadeIn files from name Full
 IsUnputIn files from name NoNumber = IsUnmadeIn files from name NoNumber
-IsUnputIn files from name NoBlock = IsUnmadeIn files from name NoBlock
+IsUnputIn files from name NoBlock = IsUnmadeOr ⊥ ⊤ files from name NoBlock
 IsUnputIn files from name IsADirectory = IsDirectory files from
     × ((number : ℕ) × (number_of files from name ≡ Some number) × IsDirectory files number)
 IsUnputIn files from name NotFound = ⊥

@@ -17,7 +17,7 @@ use Rattle.names.specs.Ready.{IsUnanswered}
 use Rattle.names.specs.TreeChanges.{MovesDirectory, MovesName}
 use Rattle.names.specs.Trees.{directory_in, links_of, number_of, parent_name, IsDirectory, IsDown, IsOutside}
 use Rattle.names.specs.Walks.{IsUnled, LeadsIn}
-use Rattle.names.specs.Writes.{IsLinkCause, Links, MayHold, Repoints, Unlinks}
+use Rattle.names.specs.Writes.{IsLinkCause, Links, MayHold, NeedsBlock, Repoints, Unlinks}
 
 -- A file has a name of a directory in place of its name of the same or of another one. A directory that
 -- comes to another one, outside it, has this as its parent.
@@ -80,7 +80,7 @@ IsUnrenamed files from old to name Exists = IsDirectory files to
 IsUnrenamed files from old to name Full = (from ≢ to) × IsDirectory files to
     × IsLinkCause (directory_in files to) name link_fault.Full
 IsUnrenamed files from old to name NoBlock = (from ≢ to) × IsDirectory files to
-    × (number_of files to name ≡ None)
+    × (number_of files to name ≡ None) × NeedsBlock (directory_in files to)
 IsUnrenamed files from old to name IsRoot = ⊥
 IsUnrenamed files from old to name NoNumber = ⊥
 IsUnrenamed files from old to name IsADirectory = ⊥

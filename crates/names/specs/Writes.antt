@@ -1,6 +1,6 @@
 -- What a write of one entry makes of a directory's bytes.
-use Rattle.std.specs.Prelude.{◌≡◌, ◌≢◌, ◌⊎◌, ℕ, ◌*◌, ◌^◌, ◌<◌, ◌≤◌, List, length, replicate, position, unwrap_or, IsSome, Some, None}
-use Rattle.blocks.specs.Block.{overwritten}
+use Rattle.std.specs.Prelude.{◌≡◌, ◌≢◌, ◌⊎◌, ℕ, ◌*◌, ◌^◌, ◌%◌, ◌<◌, ◌≤◌, List, length, replicate, position, unwrap_or, IsSome, Some, None}
+use Rattle.blocks.specs.Block.{block_size, overwritten}
 use Rattle.model.specs.declared.types.operations.Op.{Op}
 use Rattle.model.specs.declared.types.operations.Op.TheVariants.{Write}
 use Rattle.names.specs.declared.entries.EntryWrite.{EntryWrite}
@@ -31,6 +31,11 @@ MayHold bytes place = (place < most_entries) ⊎ (place < length (entries_of byt
 -- no entry is free, and there are as many as there may be
 abbrev pub IsFull : List ℕ → Type 0
 IsFull bytes = (most_entries ≤ free_place bytes) × (free_place bytes ≡ length (entries_of bytes))
+
+-- another entry begins another block: none is free, and those that are there fill their blocks
+pub record NeedsBlock (bytes : List ℕ) : Type 0 where
+  pub begins : (entry_size * free_place bytes) % block_size ≡ 0
+  pub behind : length bytes ≤ entry_size * free_place bytes
 
 -- the write links a number under a name that led nowhere
 pub record Links (bytes name : List ℕ) (number : ℕ) (write : EntryWrite) : Type 0 where

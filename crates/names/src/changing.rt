@@ -8,7 +8,7 @@ ghost use Rattle.names.specs.Counts.{AreCounted};
 ghost use Rattle.names.specs.declared.refusal.Refusal.{Refusal};
 ghost use Rattle.names.specs.Inside.{files_seen, form_seen, IsUnderWay, ProceedsOr};
 ghost use Rattle.names.specs.Paths.{names_of};
-ghost use Rattle.names.specs.Ready.{answer_of, Happens, IsUnansweredOr, IsUndoneOr, LeavesTree, MayGoOn, TreeStays};
+ghost use Rattle.names.specs.Ready.{answer_of, Happens, IsReady, IsUnansweredOr, IsUndoneOr, LeavesTree, MayGoOn, TreeStays};
 ghost use Rattle.names.specs.Trees.{IsTree};
 ghost use Rattle.names.specs.Walks.{AtLast, IsUndoneIn};
 
@@ -117,6 +117,7 @@ impl<D: Disk> Tree<D> {
     ) -> Result<C::Made, TreeFault>
         requires ready { MayGoOn D.Disk self.old.kernel self.old.calls_left }
         ensures ready { MayGoOn D.Disk self.new.kernel self.new.calls_left }
+        ensures done { OnOk result (IsReady D.Disk self.new.kernel self.new.calls_left) }
         ensures makes { IfOk result (λ made.
             C.makes change.now (form_seen D.image self.old.kernel) (names_of path.now) made
             (files_of (image_on D.image self.old.kernel))
@@ -146,6 +147,7 @@ impl<D: Disk> Tree<D> {
     ) -> Result<C::Made, TreeFault>
         requires ready { MayGoOn D.Disk self.old.kernel self.old.calls_left }
         ensures ready { MayGoOn D.Disk self.new.kernel self.new.calls_left }
+        ensures done { OnOk result (IsReady D.Disk self.new.kernel self.new.calls_left) }
         ensures makes { IfOk result (λ made.
             C.makes change.now (form_seen D.image self.old.kernel) names.now made
             (files_of (image_on D.image self.old.kernel))

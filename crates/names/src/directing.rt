@@ -6,7 +6,7 @@ ghost use Rattle.model.specs.Files.{files_of};
 ghost use Rattle.names.specs.Inside.{IsUnderWay, Proceeds};
 ghost use Rattle.names.specs.Making.{HasFilledFor, IsUnmadeDirectoryIn, MakesDirectoryAt};
 ghost use Rattle.names.specs.Paths.{names_of};
-ghost use Rattle.names.specs.Ready.{IsUndone, LeavesTree, MayGoOn};
+ghost use Rattle.names.specs.Ready.{IsReady, IsUndone, LeavesTree, MayGoOn};
 ghost use Rattle.names.specs.TreeChanges.{directory_file};
 ghost use Rattle.names.specs.Walks.{IsUndoneIn};
 
@@ -33,21 +33,17 @@ impl New for NewDirectory {
 
     ghost counts = { λ new. ⊤ };
 
+    ghost blocks = { λ new. ⊤ };
+
     fn is_directory(&self) -> bool {
         true
     }
 
-    fn create<D: Disk>(&self, tree: &mut Tree<D>, alloc: Global, parent: u32) -> Asked<u16> {
-        let Ok(up) = u16::try_from(parent) else {
-            return Ok(Err(Refusal::NoNumber));
-        };
-        if up == 0 {
-            return Ok(Err(Refusal::NoNumber));
-        }
+    fn create<D: Disk>(&self, tree: &mut Tree<D>, alloc: Global, parent: u16) -> Asked<u16> {
         let Some(number) = tree.created(DIRECTORY_KIND)? else {
             return Ok(Err(Refusal::NoNumber));
         };
-        if tree.filled_for(alloc, number, up)? {
+        if tree.filled_for(alloc, number, parent)? {
             return Ok(Ok(number));
         }
         tree.uncreated(u32::from(number))?;
@@ -64,12 +60,13 @@ impl<D: Disk> Tree<D> {
     /// - `Path`: the bytes are no path; nothing was done.
     /// - `Refused`, with the files as they were: `NotFound`, `NotADirectory` and `IsRoot` for the path;
     ///   `Exists` where the name is there, `Full` where the directory has no room for one more, and
-    ///   `TooManyLinks` where its count is the greatest; `NoNumber` and `NoBlock` where the disk has
-    ///   none.
+    ///   `TooManyLinks` where its count is the greatest; `NoNumber` where each number is a file's, and
+    ///   `NoBlock` where no block is free.
     /// - `Call`, `NoCall`: as every call of a tree.
     pub fn make_directory(&mut self, alloc: Global, path: &[u8]) -> Result<u16, TreeFault>
         requires ready { MayGoOn D.Disk self.old.kernel self.old.calls_left }
         ensures ready { MayGoOn D.Disk self.new.kernel self.new.calls_left }
+        ensures done { OnOk result (IsReady D.Disk self.new.kernel self.new.calls_left) }
         ensures makes { IfOk result (λ number. MakesDirectoryAt (names_of path.now) number
             (files_of (image_on D.image self.old.kernel))
             (files_of (image_on D.image self.new.kernel))) }

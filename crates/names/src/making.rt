@@ -10,12 +10,12 @@ ghost use Rattle.names.specs.Inside.{files_seen, IsUnderWay, Proceeds, SeesSame}
 ghost use Rattle.names.specs.Trees.{IsFile};
 ghost use Rattle.names.specs.Making.{file_kind, HasCreated, HasCreatedNew, HasEntered, HasParentCount, IsNewFile, IsUnmadeIn, IsUnmadeOr, MakesAt, Settles, Uncreates, unlinked};
 ghost use Rattle.names.specs.Paths.{names_of};
-ghost use Rattle.names.specs.Ready.{IsUndone, LeavesTree, MayGoOn};
+ghost use Rattle.names.specs.Ready.{IsReady, IsUndone, LeavesTree, MayGoOn};
 ghost use Rattle.names.specs.TreeChanges.{empty_file, AddsName};
 ghost use Rattle.names.specs.Walks.{IsUndoneIn};
 
 use crate::changing::{ChangeIn, Last};
-use crate::entries::{ENTRY_SIZE, EntryWrite, LinkFault, link};
+use crate::entries::{ENTRY_SIZE, EntryWrite, LinkFault, link, lookup};
 use crate::name::Name;
 use crate::refusal::{Asked, Refusal, TreeFault};
 use crate::tree::Tree;
@@ -35,17 +35,21 @@ pub(crate) trait New {
     // That its name for its parent counts among that one's links.
     ghost counts: { Self → Type 0 };
 
+    // That it needs blocks of its own.
+    ghost blocks: { Self → Type 0 };
+
     // Whether it is a directory, whose name for its parent counts there.
     fn is_directory(&self) -> bool
         ensures new { (number parent : ℕ)
             → IsNewFile result (file self.now number parent) number parent }
         ensures counts { IsTrue result → counts self.now };
 
-    // Makes one, which has no name yet.
-    fn create<D: Disk>(&self, tree: &mut Tree<D>, alloc: Global, parent: u32) -> Asked<u16>
-        requires { IsUnderWay D.Disk tree.old.kernel tree.old.calls_left }
+    // Makes one in a directory, which has no name yet.
+    fn create<D: Disk>(&self, tree: &mut Tree<D>, alloc: Global, parent: u16) -> Asked<u16>
+        requires way { IsUnderWay D.Disk tree.old.kernel tree.old.calls_left }
+        requires used { 0 < parent }
         ensures goes { Proceeds D.Disk result tree.old.kernel tree.new.kernel tree.new.calls_left }
-        ensures made { IfOk result (HasCreatedNew (file self.now) parent
+        ensures made { IfOk result (HasCreatedNew (blocks self.now) (file self.now) parent
             (files_seen D.image tree.old.kernel) (files_seen D.image tree.new.kernel)) };
 }
 
@@ -58,11 +62,13 @@ impl New for NewFile {
 
     ghost counts = { λ new. ⊥ };
 
+    ghost blocks = { λ new. ⊥ };
+
     fn is_directory(&self) -> bool {
         false
     }
 
-    fn create<D: Disk>(&self, tree: &mut Tree<D>, _alloc: Global, _parent: u32) -> Asked<u16> {
+    fn create<D: Disk>(&self, tree: &mut Tree<D>, _alloc: Global, _parent: u16) -> Asked<u16> {
         match tree.created(FILE_KIND)? {
             Some(number) => Ok(Ok(number)),
             None => Ok(Err(Refusal::NoNumber)),
@@ -82,7 +88,7 @@ impl<N: New> ChangeIn for Make<N> {
     ghost makes = { λ make from name number files new.
         AddsName files new from name number (N.file make.kind number from) };
 
-    ghost refuses = { λ make. IsUnmadeOr (N.counts make.kind) };
+    ghost refuses = { λ make. IsUnmadeOr (N.counts make.kind) (N.blocks make.kind) };
 
     ghost fills = { λ make. ⊥ };
 
@@ -104,7 +110,11 @@ impl<N: New> ChangeIn for Make<N> {
             Ok(count) => count,
             Err(refusal) => return Ok(Err(refusal)),
         };
-        let number = match self.kind.create(tree, alloc, from)? {
+        let Some(own) = lookup(bytes.as_slice(), &Name::own()) else {
+            // A directory has itself.
+            unreachable!()
+        };
+        let number = match self.kind.create(tree, alloc, own)? {
             Ok(number) => number,
             Err(refusal) => return Ok(Err(refusal)),
         };
@@ -130,11 +140,13 @@ impl<D: Disk> Tree<D> {
     /// - `Path`: the bytes are no path; nothing was done.
     /// - `Refused`, with the files as they were: `NotFound`, `NotADirectory` and `IsRoot` for the path;
     ///   `Exists` where the name is there, `Full` where the directory has no room for one more;
-    ///   `NoNumber` and `NoBlock` where the disk has none.
+    ///   `NoNumber` where each number is a file's, `NoBlock` where the entry begins another block of the
+    ///   directory and none is free.
     /// - `Call`, `NoCall`: as every call of a tree.
     pub fn make(&mut self, alloc: Global, path: &[u8]) -> Result<u16, TreeFault>
         requires ready { MayGoOn D.Disk self.old.kernel self.old.calls_left }
         ensures ready { MayGoOn D.Disk self.new.kernel self.new.calls_left }
+        ensures done { OnOk result (IsReady D.Disk self.new.kernel self.new.calls_left) }
         ensures makes { IfOk result (λ number. MakesAt (names_of path.now) number
             (files_of (image_on D.image self.old.kernel))
             (files_of (image_on D.image self.new.kernel))) }

@@ -8,7 +8,7 @@ ghost use Rattle.names.specs.Contents.{IsNoPlain};
 ghost use Rattle.names.specs.Inside.{files_seen, IsUnderWay, ProceedsOr};
 ghost use Rattle.names.specs.Paths.{names_of};
 ghost use Rattle.names.specs.Putting.{file_of, told, IsUnputIn, PutsAt, PutsIn, Refills};
-ghost use Rattle.names.specs.Ready.{Happens, IsUnwritten, LeavesTree, MayGoOn, TreeStays};
+ghost use Rattle.names.specs.Ready.{Happens, IsReady, IsUnwritten, LeavesTree, MayGoOn, TreeStays};
 ghost use Rattle.names.specs.Trees.{IsFile, IsTree};
 ghost use Rattle.names.specs.Walks.{IsUndoneIn};
 
@@ -34,11 +34,13 @@ impl<'a> New for NewBytes<'a> {
 
     ghost counts = { λ new. ⊥ };
 
+    ghost blocks = { λ new. ⊤ };
+
     fn is_directory(&self) -> bool {
         false
     }
 
-    fn create<D: Disk>(&self, tree: &mut Tree<D>, alloc: Global, _parent: u32) -> Asked<u16> {
+    fn create<D: Disk>(&self, tree: &mut Tree<D>, alloc: Global, _parent: u16) -> Asked<u16> {
         let Some(number) = tree.created(FILE_KIND)? else {
             return Ok(Err(Refusal::NoNumber));
         };
@@ -114,6 +116,7 @@ impl<D: Disk> Tree<D> {
     ) -> Result<Result<u16, Unwritten>, TreeFault>
         requires ready { MayGoOn D.Disk self.old.kernel self.old.calls_left }
         ensures ready { MayGoOn D.Disk self.new.kernel self.new.calls_left }
+        ensures done { OnOk result (IsReady D.Disk self.new.kernel self.new.calls_left) }
         ensures puts { IfOk result (λ done. PutsAt bytes.now (names_of path.now) done
             (files_of (image_on D.image self.old.kernel))
             (files_of (image_on D.image self.new.kernel))) }

@@ -5,7 +5,7 @@ use Rattle.clap.specs.declared.builder.action.ArgAction.TheVariants.{Append, Set
 use Rattle.cli.specs.Asking.{HasFlag, HasNumber, Wording}
 use Rattle.cli.specs.CommandLine.{flag_rule, image_app, named_app, number_rule, required_rule}
 use Rattle.names_words.specs.declared.words.Request.{Request}
-use Rattle.names_words.specs.declared.words.Request.TheVariants.{Ls, Tree, Cat, Get, Put, Rm, Mv, Ln, Mkdir, Rmdir, Recount, Mkfs}
+use Rattle.names_words.specs.declared.words.Request.TheVariants.{Ls, Tree, Cat, Get, Put, Rm, Mv, Ln, Mkdir, Rmdir, Check, Recount, Mkfs}
 
 -- a look at a directory, the root where none is given
 abbrev pub look_app : List ℕ → App
@@ -47,12 +47,12 @@ abbrev pub xvnames_app : App
 xvnames_app =
     with_subcommand (with_subcommand (with_subcommand (with_subcommand (with_subcommand
     (with_subcommand (with_subcommand (with_subcommand (with_subcommand (with_subcommand
-    (with_subcommand (with_subcommand
+    (with_subcommand (with_subcommand (with_subcommand
     (named_app (codes "xvnames")) (look_app (codes "ls")).top) (look_app (codes "tree")).top)
     (path_app (codes "cat")).top) get_app.top) put_app.top)
     (changing (path_app (codes "rm"))).top) mv_app.top) ln_app.top)
     (changing (path_app (codes "mkdir"))).top) (changing (path_app (codes "rmdir"))).top)
-    (changing (image_app (codes "recount"))).top) mkfs_app.top
+    (image_app (codes "check")).top) (changing (image_app (codes "recount"))).top) mkfs_app.top
 
 -- a word has that value
 abbrev pub HasWord : List ℕ → List Row → List ℕ → Type 0
@@ -98,6 +98,7 @@ AsksBy name rows (Mkdir image path sync no_sync) = (name ≡ codes "mkdir")
     × Changes rows image.now sync no_sync × HasWord (codes "PATH") rows path.now
 AsksBy name rows (Rmdir image path sync no_sync) = (name ≡ codes "rmdir")
     × Changes rows image.now sync no_sync × HasWord (codes "PATH") rows path.now
+AsksBy name rows (Check image) = (name ≡ codes "check") × HasWord (codes "IMAGE") rows image.now
 AsksBy name rows (Recount image sync no_sync) = (name ≡ codes "recount")
     × Changes rows image.now sync no_sync
 AsksBy name rows (Mkfs image size ninodes files no_sync) = (name ≡ codes "mkfs")

@@ -147,6 +147,12 @@ const LINES: &[Line] = &[
         words: &[IMAGE, WAIT, EXPLAIN, NO_LOCK, PATH, SYNC, NO_SYNC],
     },
     Line {
+        name: "check",
+        about: "Says whether an image is sound and its files a tree, and lists each path of a file whose count of links is not how many names lead to it: number, links and names",
+        example: "Example: xvnames check fs.img",
+        words: &[IMAGE_KEPT, WAIT, EXPLAIN, NO_LOCK],
+    },
+    Line {
         name: "recount",
         about: "Sets each file's wrong count of links to how many names lead to it, and prints how many were wrong",
         example: "Example: xvnames recount fs.img",

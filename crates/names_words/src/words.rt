@@ -117,6 +117,11 @@ pub enum Request<'a> {
         /// Whether the sync at the end is left out.
         no_sync: bool,
     },
+    /// The files' wrong counts of links.
+    Check {
+        /// The path of the image's file.
+        image: &'a str,
+    },
     /// The files' counts of links, put right.
     Recount {
         /// The path of the image's file.
@@ -208,6 +213,7 @@ fn request_of<'a>(name: &str, values: &ArgMatches<'a>) -> Option<Request<'a>>
         "get" => get_request(values),
         "mv" => mv_request(values),
         "ln" => ln_request(values),
+        "check" => check_request(values),
         "recount" => recount_request(values),
         "rm" | "mkdir" | "rmdir" => change_request(name, values),
         "cat" => cat_request(values),
@@ -259,6 +265,14 @@ fn ln_request<'a>(values: &ArgMatches<'a>) -> Option<Request<'a>>
         into: values.get_str("NEW")?,
         sync: values.get_flag("sync"),
         no_sync: values.get_flag("no-sync"),
+    })
+}
+
+fn check_request<'a>(values: &ArgMatches<'a>) -> Option<Request<'a>>
+    ensures { IfSome result (AsksBy (codes "check") (rows_of (found_of values.now))) }
+{
+    Some(Request::Check {
+        image: values.get_str("IMAGE")?,
     })
 }
 

@@ -6,7 +6,7 @@ ghost use Rattle.model.specs.Files.{files_of};
 ghost use Rattle.model.specs.Operations.{transfer_limit};
 ghost use Rattle.names.specs.Inside.{form_seen};
 ghost use Rattle.names.specs.Paths.{names_of};
-ghost use Rattle.names.specs.Ready.{MayGoOn};
+ghost use Rattle.names.specs.Ready.{IsReady, MayGoOn};
 ghost use Rattle.names.specs.Writing.{Writes};
 ghost use Rattle.tree_changes.specs.Changes.{AnyOf, IsOfTree, LeavesMidst};
 ghost use Rattle.tree_changes.specs.Puts.{
@@ -110,6 +110,8 @@ pub fn append_all<D: Disk>(
 ) -> Result<(), ChangeRefusal>
     requires ready { MayGoOn D.Disk tree.old.kernel tree.old.calls_left }
     ensures ready { MayGoOn D.Disk tree.new.kernel tree.new.calls_left }
+    ensures done { IsReady D.Disk tree.old.kernel tree.old.calls_left
+        → OnOk result (IsReady D.Disk tree.new.kernel tree.new.calls_left) }
     ensures writes { OnOk result (WritesPieces (form_seen D.image tree.old.kernel)
         path.now bytes.now (piece_count bytes.now)
         (files_of (image_on D.image tree.old.kernel))
@@ -139,6 +141,7 @@ fn append<D: Disk>(
 ) -> Result<(), ChangeRefusal>
     requires ready { MayGoOn D.Disk tree.old.kernel tree.old.calls_left }
     ensures ready { MayGoOn D.Disk tree.new.kernel tree.new.calls_left }
+    ensures done { OnOk result (IsReady D.Disk tree.new.kernel tree.new.calls_left) }
     ensures writes { OnOk result (Writes (form_seen D.image tree.old.kernel)
         (names_of path.now) from bytes.now (Ok tt)
         (files_of (image_on D.image tree.old.kernel))

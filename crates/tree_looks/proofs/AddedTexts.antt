@@ -7,7 +7,7 @@ use Rattle.std.proofs.lemmas.List.Concat.{flat_map-append}
 use Rattle.model.specs.Files.{Files, file_in}
 use Rattle.names.specs.Entries.{entries_of}
 use Rattle.names.specs.Trees.{IsDirectory, directory_in, directory_kind, kind_of}
-use Rattle.tree_looks.specs.Listing.{entry_paths, paths_below}
+use Rattle.tree_looks.specs.Listing.{told_below, told_entry}
 
 module _ {X : Type 0} (text : X → List ℕ) (xs : List X) (old : List ℕ) where
   -- one element's text more
@@ -24,15 +24,15 @@ module _ {X : Type 0} (text : X → List ℕ) (xs : List X) (old : List ℕ) whe
   pub added_all : (k : ℕ) (new : List ℕ) → length xs ≤ k → new ≡ old ++ flat_map text (take k xs) → new ≡ old ++ flat_map text xs
   added_all k new past is = is ∙ ap (λ l. old ++ flat_map text l) (take_all k xs past)
 
--- three texts more
-pub three_more : (old a b c one two new : List ℕ) → one ≡ old ++ a → two ≡ one ++ b → new ≡ two ++ c → new ≡ old ++ ((a ++ b) ++ c)
-three_more old a b c one two new first second third =
-    third ∙ ap (λ l. l ++ c) (second ∙ ap (λ l. l ++ b) first ∙ append_assoc old a b) ∙ append_assoc old (a ++ b) c
+-- two texts more
+pub two_more : (old a b one new : List ℕ) → one ≡ old ++ a → new ≡ one ++ b → new ≡ old ++ (a ++ b)
+two_more old a b one new first second = second ∙ ap (λ l. l ++ b) first ∙ append_assoc old a b
 
--- the paths below a directory
-pub below_is : (depth : ℕ) (files : Files) (front : List ℕ) (number : ℕ) → depth ≢ 0 → IsDirectory files number → paths_below depth files front number ≡ flat_map (entry_paths (depth - 1) files front) (entries_of (directory_in files number))
-below_is zero files front number some is = absurd (some refl)
-below_is (suc depth) files front number some is =
+-- what is told below a directory
+pub below_is : (tell : List ℕ → ℕ → List ℕ) (depth : ℕ) (files : Files) (front : List ℕ) (number : ℕ) → depth ≢ 0 → IsDirectory files number →
+    told_below tell depth files front number ≡ flat_map (told_entry tell (depth - 1) files front) (entries_of (directory_in files number))
+below_is tell zero files front number some is = absurd (some refl)
+below_is tell (suc depth) files front number some is =
     let less : depth ≡ suc depth - 1 = omega arith in
-    cond-true (eqb (kind_of (file_in files number)) directory_kind) (flat_map (entry_paths depth files front) (entries_of (directory_in files number))) [] (eq-eqb (kind_of (file_in files number)) directory_kind is)
-    ∙ ap (λ (k : ℕ). flat_map (entry_paths k files front) (entries_of (directory_in files number))) less
+    cond-true (eqb (kind_of (file_in files number)) directory_kind) (flat_map (told_entry tell depth files front) (entries_of (directory_in files number))) [] (eq-eqb (kind_of (file_in files number)) directory_kind is)
+    ∙ ap (λ (k : ℕ). flat_map (told_entry tell k files front) (entries_of (directory_in files number))) less

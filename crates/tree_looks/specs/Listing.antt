@@ -3,7 +3,7 @@ use Rattle.std.specs.Prelude.{ℕ, zero, suc, ◌-◌, ◌==◌, if◌then◌els
 use Rattle.std.specs.List.{flat_map}
 use Rattle.model.specs.Files.{Files, file_in}
 use Rattle.names.specs.Entries.{entries_of, number_in, text_in, text_of}
-use Rattle.names.specs.Trees.{bytes_of, directory_in, directory_kind, kind_of, leads_down}
+use Rattle.names.specs.Trees.{bytes_of, directory_in, directory_kind, kind_of, leads_down, links_of, root}
 
 -- the line of a file with that name and number: its type, and how many bytes it has
 abbrev pub line_of : Files → List ℕ → ℕ → List ℕ
@@ -36,19 +36,43 @@ path_of files front entry =
     if kind_of (file_in files (number_in entry)) == directory_kind
     then front ++ text_in entry ++ codes "/" else front ++ text_in entry
 
--- Paths below a file, each behind `front`, a line each, down to a depth: those below a directory
--- stand behind its own.
-abbrev pub paths_below : ℕ → Files → List ℕ → ℕ → List ℕ
-paths_below zero files front number = []
-paths_below (suc depth) files front number =
+-- What is told of the files below a file, of each by its path, which stands behind `front`, and its
+-- number, down to a depth: of those below a directory behind the directory itself.
+abbrev pub told_below : (List ℕ → ℕ → List ℕ) → ℕ → Files → List ℕ → ℕ → List ℕ
+told_below tell zero files front number = []
+told_below tell (suc depth) files front number =
     if kind_of (file_in files number) == directory_kind
     then flat_map (λ entry. if leads_down entry
-    then path_of files front entry ++ codes "\n"
-    ++ paths_below depth files (path_of files front entry) (number_in entry) else [])
+    then tell (path_of files front entry) (number_in entry)
+    ++ told_below tell depth files (path_of files front entry) (number_in entry) else [])
     (entries_of (directory_in files number)) else []
 
--- the path of an entry that leads down, and those below it
-abbrev pub entry_paths : ℕ → Files → List ℕ → List ℕ → List ℕ
-entry_paths depth files front entry = if leads_down entry
-    then path_of files front entry ++ codes "\n"
-    ++ paths_below depth files (path_of files front entry) (number_in entry) else []
+-- of an entry that leads down, and of those below it
+abbrev pub told_entry : (List ℕ → ℕ → List ℕ) → ℕ → Files → List ℕ → List ℕ → List ℕ
+told_entry tell depth files front entry = if leads_down entry
+    then tell (path_of files front entry) (number_in entry)
+    ++ told_below tell depth files (path_of files front entry) (number_in entry) else []
+
+-- a path as a line
+abbrev pub path_line : List ℕ → ℕ → List ℕ
+path_line path number = path ++ codes "\n"
+
+-- the paths below a file, a line each
+abbrev pub paths_below : ℕ → Files → List ℕ → ℕ → List ℕ
+paths_below = told_below path_line
+
+-- the line of a file of that number: its count of links, and how many names lead to it
+abbrev pub count_line : List ℕ → ℕ → ℕ → ℕ → List ℕ
+count_line path number links names = path ++ codes " " ++ decimal number ++ codes " links "
+    ++ decimal links ++ codes " names " ++ decimal names ++ codes "\n"
+
+-- that of one whose count is not that of its number in the list
+abbrev pub wrong_line : Files → List ℕ → List ℕ → ℕ → List ℕ
+wrong_line files counts path number =
+    if links_of (file_in files number) == slice_index_or counts number 0 then []
+    else count_line path number (links_of (file_in files number)) (slice_index_or counts number 0)
+
+-- those of the root and of all files below it, by their paths from it
+abbrev pub wrong_lines : Files → List ℕ → List ℕ
+wrong_lines files counts = wrong_line files counts (codes "/") root
+    ++ told_below (wrong_line files counts) (length files) files (codes "/") root

@@ -8,13 +8,14 @@ use Rattle.model.specs.Log.{recovered}
 use Rattle.model.specs.Verdict.{verdict}
 use Rattle.model.specs.declared.types.fault.CheckFault.TheVariants as check
 use Rattle.names.specs.Paths.{IsPathCause, names_of}
+use Rattle.names.specs.Tallying.{AreNameCounts, HasTooMany}
 use Rattle.names.specs.Trees.{bytes_of, root, IsDirectory, IsTree}
 use Rattle.names.specs.Walks.{walked}
 use Rattle.names.specs.declared.judging.JudgeFault.{JudgeFault}
 use Rattle.names.specs.declared.judging.JudgeFault.TheVariants as judge
-use Rattle.names.specs.declared.refusal.Refusal.TheVariants.{IsADirectory, NotADirectory}
+use Rattle.names.specs.declared.refusal.Refusal.TheVariants.{IsADirectory, NotADirectory, TooManyLinks}
 use Rattle.offline.specs.Cause.{IsCause}
-use Rattle.tree_looks.specs.Listing.{listed, paths_below}
+use Rattle.tree_looks.specs.Listing.{listed, paths_below, wrong_lines}
 use Rattle.tree_looks.specs.declared.faults.LookRefusal.{LookRefusal}
 use Rattle.tree_looks.specs.declared.faults.LookRefusal.TheVariants.{Check, NoTree, Path, Refused, NoMemory, Output}
 
@@ -77,6 +78,20 @@ HasNoPaths path files r = IsNotFound files path r
     ⊎ ((r ≡ Refused NotADirectory) × ((number : ℕ) × (walked files root (names_of path) ≡ Ok number)
     × (IsDirectory files number → ⊥)))
     ⊎ (r ≡ NoMemory)
+
+-- the files whose counts of links are not how many names lead to them, by their paths
+pub record TellsCounts (files : Files) (text : List ℕ) : Type 0 where
+  pub counts : List ℕ
+  pub names : AreNameCounts files counts
+  pub lines : text ≡ wrong_lines files counts
+
+-- or more names lead to one than a count may say
+abbrev pub IsUntold : Files → LookRefusal → Type 0
+IsUntold files r = ((r ≡ Refused TooManyLinks) × HasTooMany files) ⊎ (r ≡ NoMemory)
+
+-- why they are not told of the disk d, now e
+abbrev pub IsNotTold : {D N : Type 0} → Ghosts D N → D → D → LookRefusal → Type 0
+IsNotTold disk d e r = IsUnloaded disk d e r ⊎ IsUntold (files_of (recovered (disk.image d))) r
 
 -- The disk d, now e, was only read; its image had no fault, and its files, as recovery would leave
 -- them, were a tree, of which this was told and printed.

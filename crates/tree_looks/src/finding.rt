@@ -4,7 +4,7 @@ ghost use Rattle.std.specs.Option.{option_copied};
 ghost use Rattle.model.specs.Files.{file_in};
 ghost use Rattle.names.specs.Entries.{lookup};
 ghost use Rattle.names.specs.Paths.{names_of};
-ghost use Rattle.names.specs.Trees.{bytes_of, kind_of, root, IsDirectory};
+ghost use Rattle.names.specs.Trees.{bytes_of, kind_of, links_of, root, IsDirectory};
 ghost use Rattle.names.specs.Walks.{found_or, stepped, walked};
 ghost use Rattle.tree_looks.specs.Looks.{IsNotFound};
 
@@ -94,6 +94,16 @@ fn kind_of(file: Option<&File>) -> u16
     }
 }
 
+// A file's count of links, and 0 where there is none.
+fn links_of(file: Option<&File>) -> u16
+    ensures { result ≡ links_of (option_copied file.entry) }
+{
+    match file {
+        Some(file) => file.links,
+        None => 0,
+    }
+}
+
 // The bytes of a file; none where there is no file.
 fn bytes_of<'a>(file: Option<&'a File>) -> &'a [u8]
     ensures { result.now ≡ bytes_of (option_copied file.entry) }
@@ -109,6 +119,13 @@ pub fn kind_at(files: &[Option<File>], number: u32) -> u16
     ensures { result ≡ kind_of (file_in files.now number) }
 {
     kind_of(file_in(files, number))
+}
+
+// The count of links of a number's file, and 0 where there is none.
+pub fn links_at(files: &[Option<File>], number: u32) -> u16
+    ensures { result ≡ links_of (file_in files.now number) }
+{
+    links_of(file_in(files, number))
 }
 
 // The bytes of a number's file; none where there is no file.

@@ -2,6 +2,7 @@
 //! recovery would leave them, and nothing is written to the disk.
 #![tactic(auto)]
 
+mod counts;
 mod faults;
 mod finding;
 mod gets;
@@ -10,6 +11,7 @@ mod looks;
 mod over_files;
 mod texts;
 
+pub use counts::Counts;
 pub use faults::{GetRefusal, LookRefusal, path_told, refusal_told};
 pub use gets::{Get, GetAll};
 pub use looks::{Cat, Ls, Paths};

@@ -32,6 +32,7 @@ pub fn load<D: Disk>(alloc: Global, disk: &mut D) -> Result<Vec<Option<File>>, L
     ensures files { IfOk result
         (λ files. files.items ≡ files_of (recovered (D.image disk.old))) }
     ensures reads { OnlyReads D.Disk disk.old disk.new }
+    ensures faults { OnOk result (D.fault_count disk.new ≡ D.fault_count disk.old) }
     ensures refused { IfErr result (IsUnloaded D.Disk disk.old disk.new) }
 {
     if let Err(fault) = check(alloc, disk) {
@@ -50,6 +51,7 @@ fn load_checked<D: Disk>(alloc: Global, disk: &mut D) -> Result<Vec<Option<File>
     ensures files { IfOk result
         (λ files. files.items ≡ files_of (recovered (D.image disk.old))) }
     ensures reads { OnlyReads D.Disk disk.old disk.new }
+    ensures faults { OnOk result (D.fault_count disk.new ≡ D.fault_count disk.old) }
     ensures refused { IfErr result (IsUnloaded D.Disk disk.old disk.new) }
 {
     match read_files(alloc, disk) {
@@ -59,7 +61,7 @@ fn load_checked<D: Disk>(alloc: Global, disk: &mut D) -> Result<Vec<Option<File>
 }
 
 // How a fault behind the check is told.
-fn refusal_of(fault: JudgeFault) -> LookRefusal
+pub fn refusal_of(fault: JudgeFault) -> LookRefusal
     ensures { result ≡ refusal_of fault }
 {
     match fault {

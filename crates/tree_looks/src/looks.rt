@@ -7,7 +7,7 @@ ghost use Rattle.tree_looks.specs.Looks.{HasNoPaths, IsUnlisted, IsUnshown, List
 use crate::faults::LookRefusal;
 use crate::finding::{bytes_at, find, is_directory};
 use crate::over_files::Look;
-use crate::texts::{add_below, add_line, add_listing};
+use crate::texts::{PathLine, add_below, add_line, add_listing};
 use blocks::NoMemory;
 use model::types::File;
 use names::{Name, Refusal};
@@ -88,7 +88,7 @@ impl<'a> Look for Paths<'a> {
 }
 
 // The text that was made, or that memory for it was refused.
-fn told(made: Result<Vec<u8>, NoMemory>) -> Result<Vec<u8>, LookRefusal>
+pub fn told(made: Result<Vec<u8>, NoMemory>) -> Result<Vec<u8>, LookRefusal>
     ensures text { IfOk result (λ text. made ≡ Ok text) }
     ensures refused { IfErr result (λ r. r ≡ LookRefusal.NoMemory) }
 {
@@ -138,6 +138,6 @@ fn text_below(alloc: Global, files: &[Option<File>], number: u32) -> Result<Vec<
     ensures { IfOk result (λ text. text.items ≡ paths_below (length files.now) files.now [] number) }
 {
     let mut text = Vec::new(alloc);
-    add_below(&mut text, files, &[], number, files.len())?;
+    add_below(&mut text, &PathLine, files, &[], number, files.len())?;
     Ok(text)
 }

@@ -74,7 +74,7 @@ fn look_at<D: Disk, L: Look, O: Write>(
 }
 
 // Writes a text, and passes it on.
-fn print_text<O: Write>(out: &mut O, text: &[u8]) -> Result<(), LookRefusal>
+pub fn print_text<O: Write>(out: &mut O, text: &[u8]) -> Result<(), LookRefusal>
     ensures printed { OnOk result
         (Appends (O.contents out.old) (O.contents out.new) text.now) }
     ensures refused { IfErr result (λ r. r ≡ LookRefusal.Output) }

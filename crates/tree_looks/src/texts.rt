@@ -1,6 +1,6 @@
 // What is printed of the files of directories.
-ghost use Rattle.std.specs.Prelude.{◌≡◌, ◌++◌, IfOk, OnOk, decimal};
-ghost use Rattle.tree_looks.specs.Listing.{entry_line, entry_paths, line_of, listing_of, path_of, paths_below};
+ghost use Rattle.std.specs.Prelude.{◌≡◌, ◌++◌, ℕ, List, IfOk, OnOk, decimal};
+ghost use Rattle.tree_looks.specs.Listing.{entry_line, line_of, listing_of, path_line, path_of, told_below, told_entry};
 
 use crate::finding::{bytes_at, is_directory, kind_at};
 use blocks::NoMemory;
@@ -44,7 +44,7 @@ fn line_of(
 }
 
 // Adds a number in digits.
-fn add_number(text: &mut Vec<u8>, number: u64) -> Result<(), NoMemory>
+pub fn add_number(text: &mut Vec<u8>, number: u64) -> Result<(), NoMemory>
     ensures { OnOk result (text.new.items ≡ text.old.items ++ decimal number) }
 {
     let mut digits = Buffer::new();
@@ -77,53 +77,74 @@ fn add_entry_line(
     Ok(())
 }
 
-// Adds a line for each file below a directory, down to a depth: its path behind `front`.
+// What is told of a file by its path.
+pub trait ByPath {
+    // That is told of a path and the number that it leads to.
+    ghost tells: { Self → List ℕ → ℕ → List ℕ };
+
+    // Adds it to a text.
+    fn add(&self, text: &mut Vec<u8>, path: &[u8], number: u32) -> Result<(), NoMemory>
+        ensures { OnOk result
+            (text.new.items ≡ text.old.items ++ tells self.now path.now number) };
+}
+
+// The path as a line.
+#[derive(Clone, Copy, Drop)]
+pub struct PathLine;
+
+impl ByPath for PathLine {
+    ghost tells = { λ line. path_line };
+
+    fn add(&self, text: &mut Vec<u8>, path: &[u8], _number: u32) -> Result<(), NoMemory> {
+        text.extend_from_slice(path)?;
+        text.extend_from_slice(b"\n")?;
+        Ok(())
+    }
+}
+
+// Adds what is told of each file below a directory, down to a depth, by its path behind `front`.
 #[cycle(below)]
-pub fn add_below(
+pub fn add_below<T: ByPath>(
     text: &mut Vec<u8>,
+    tell: &T,
     files: &[Option<File>],
     front: &[u8],
     number: u32,
     depth: usize,
 ) -> Result<(), NoMemory>
     ensures { OnOk result (text.new.items
-        ≡ text.old.items ++ paths_below depth files.now front.now number) }
+        ≡ text.old.items ++ told_below (T.tells tell.now) depth files.now front.now number) }
 {
     if depth == 0 || !is_directory(files, number) {
         return Ok(());
     }
     for entry in entries_in(bytes_at(files, number)) {
-        add_entry(text, files, front, entry, depth - 1)?;
+        add_entry(text, tell, files, front, entry, depth - 1)?;
     }
     Ok(())
 }
 
-// Adds the line of an entry that leads down, and those below it, to a depth.
+// Adds what is told of an entry that leads down, and of those below it, to a depth.
 #[cycle(below)]
-#[tactic(auto, using(crate::proofs::AddedTexts::three_more))]
-fn add_entry(
+#[tactic(auto, using(crate::proofs::AddedTexts::two_more))]
+fn add_entry<T: ByPath>(
     text: &mut Vec<u8>,
+    tell: &T,
     files: &[Option<File>],
     front: &[u8],
     entry: &[u8; ENTRY_SIZE],
     depth: usize,
 ) -> Result<(), NoMemory>
     ensures { OnOk result (text.new.items
-        ≡ text.old.items ++ entry_paths depth files.now front.now entry.now) }
+        ≡ text.old.items ++ told_entry (T.tells tell.now) depth files.now front.now entry.now) }
 {
     if !leads_down(entry) {
         return Ok(());
     }
     let path = path_of(text, files, front, entry)?;
-    text.extend_from_slice(path.as_slice())?;
-    text.extend_from_slice(b"\n")?;
-    add_below(
-        text,
-        files,
-        path.as_slice(),
-        u32::from(number_in(entry)),
-        depth,
-    )
+    let number = u32::from(number_in(entry));
+    tell.add(text, path.as_slice(), number)?;
+    add_below(text, tell, files, path.as_slice(), number, depth)
 }
 
 // The path of an entry behind `front`; that of a directory ends with a slash.

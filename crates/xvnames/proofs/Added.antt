@@ -1,5 +1,5 @@
 -- Files that are added to a tree one after the other.
-use Rattle.std.proofs.Common.{◌≡◌, true, if◌then◌else◌, ◌==◌, arith, List, [], ◌∷◌, ◌++◌, ℕ, ◌+◌, ◌<◌, Bor, length, map, slice_index_or, take, drop, refl, subst, sym, ap, ◌∙◌}
+use Rattle.std.proofs.Common.{◌≡◌, Bool, true, false, if◌then◌else◌, ◌==◌, arith, List, [], ◌∷◌, ◌++◌, ℕ, ◌+◌, ◌<◌, Bor, length, map, slice_index_or, take, drop, refl, subst, sym, ap, ◌∙◌}
 use Rattle.std.proofs.lemmas.List.{drop_more, map-append, map_more, map_push, take-append-drop}
 use Rattle.blocks.specs.Disk.{Image}
 use Rattle.blocks.specs.declared.disk.Disk.{Ghosts}
@@ -15,6 +15,7 @@ use Rattle.model.specs.Log.{recovered}
 use Rattle.model.specs.declared.types.image.Form.{Form}
 use Rattle.model.specs.declared.types.image.Form.TheVariants.{One, Two}
 use Rattle.names.specs.Inside.{form_seen}
+use Rattle.transfer.specs.Ending.{SyncsIf}
 use Rattle.xvnames.specs.Making.{AddsAll, AddsFile, AreNamed, HasGrown, IsNameOf, files_named}
 use Rattle.xvnames.specs.declared.making.Named.{Named}
 
@@ -52,6 +53,11 @@ path_more_named paths i d files file lt so_far one =
     (one_more_named (map text (take i paths)) (text (slice_index_or paths i d)) (files_named files) (pair_of file) so_far one))
 
 module _ {D N : Type 0} (disk : Ghosts D N) where
+  -- a sync leaves the image
+  pub synced_image : (sync : Bool) (d e : D) → SyncsIf sync disk d e → disk.image e ≡ disk.image d
+  synced_image true d e syncs = syncs.image
+  synced_image false d e same = ap disk.image same
+
   -- a tree that grew over a disk has the form of the image there
   pub form_opened : (named : List (List ℕ × List ℕ)) (d : D) (k first last : Plain D) (e : D) → IsOpenedPair disk d k → first ≡ k → e ≡ last.store.volume.device
       → HasGrown (form_seen disk.image first) named (files_of (image_on disk.image last)) → HasGrown (form_of (recovered (disk.image d))) named (files_of (disk.image e))

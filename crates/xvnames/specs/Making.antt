@@ -8,11 +8,14 @@ use Rattle.commands_changes.specs.declared.making.Making.{Making}
 use Rattle.messages.specs.Output.{numbers_text}
 use Rattle.model.specs.Files.{Files, files_of}
 use Rattle.model.specs.Layout.{planned_super}
+use Rattle.model.specs.Soundness.{IsSound}
 use Rattle.model.specs.declared.types.image.Form.{Form}
 use Rattle.model.specs.declared.types.image.Super.{Super}
+use Rattle.names.specs.Counts.{AreCounted}
 use Rattle.names.specs.Making.{MakesAt}
 use Rattle.names.specs.Paths.{names_of}
 use Rattle.names.specs.Ready.{IsRootAlone}
+use Rattle.names.specs.Trees.{IsTree}
 use Rattle.transfer.specs.Ending.{SyncsIf}
 use Rattle.tree_changes.specs.Puts.{WritesPieces, piece_count}
 use Rattle.xvnames.specs.declared.making.Named.{Named}
@@ -64,12 +67,16 @@ pub record HasGrown (form : Form) (named : List (List ℕ × List ℕ)) (files :
   pub alone : IsRootAlone root
   pub added : AddsAll form named root files
 
--- the disk e has these, and the last call to it was a sync that was done where one is asked for
+-- The disk e has these, and the last call to it was a sync that was done where one is asked for. Its
+-- image is sound, and its files are a tree whose counts are right.
 pub record HasAddedTo {D N : Type 0} (disk : Ghosts D N) (sync : Bool) (form : Form)
     (named : List (List ℕ × List ℕ)) (e : D) : Type 0 where
   pub unsynced : D
   pub grown : HasGrown form named (files_of (disk.image unsynced))
   pub syncs : SyncsIf sync disk unsynced e
+  pub sound : IsSound (disk.image e)
+  pub tree : IsTree (files_of (disk.image e))
+  pub counted : AreCounted (files_of (disk.image e))
 
 -- an image was made so on the disk d, whose fields are told
 pub record IsFilledWith {D N : Type 0} (disk : Ghosts D N) (made : Making)

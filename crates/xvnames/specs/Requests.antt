@@ -21,13 +21,13 @@ use Rattle.names.specs.Walks.{IsUndoneIn}
 use Rattle.names.specs.declared.refusal.Refusal.{Refusal}
 use Rattle.names_words.specs.CommandLine.{xvnames_words}
 use Rattle.names_words.specs.declared.words.Request.{Request}
-use Rattle.names_words.specs.declared.words.Request.TheVariants.{Ls, Tree, Cat, Get, Put, Rm, Mv, Ln, Mkdir, Rmdir, Recount, Mkfs}
+use Rattle.names_words.specs.declared.words.Request.TheVariants.{Ls, Tree, Cat, Get, Put, Rm, Mv, Ln, Mkdir, Rmdir, Check, Recount, Mkfs}
 use Rattle.tree_changes.specs.Changes.{AnyOf, HasChanged, HasNotChanged, MakesDirectory, OnTree, Plainly, StopsChange, Turn}
 use Rattle.tree_changes.specs.Puts.{HasPut}
 use Rattle.tree_changes.specs.Recounts.{HasNotRecounted, TellsRecount}
 use Rattle.tree_changes.specs.declared.faults.ChangeRefusal.{ChangeRefusal}
 use Rattle.tree_looks.specs.Gets.{HasGot, HasGotAll, IsUngot, IsUngotAll}
-use Rattle.tree_looks.specs.Looks.{HasLooked, HasNoPaths, HasNotLooked, IsUnlisted, IsUnshown, Lists, Shows, ShowsPaths}
+use Rattle.tree_looks.specs.Looks.{HasLooked, HasNoPaths, HasNotLooked, IsUnlisted, IsUnshown, IsUntold, Lists, Shows, ShowsPaths, TellsCounts}
 use Rattle.tree_looks.specs.declared.faults.LookRefusal.{LookRefusal}
 use Rattle.xvnames.specs.Making.{IsMadeWith}
 use Rattle.xvnames.specs.Refusals.{IsUnput}
@@ -89,6 +89,7 @@ Answers remaining contents (Mkdir image path sync no_sync) old new = Changes rem
 Answers remaining contents (Rmdir image path sync no_sync) old new = Changes remaining
     (λ form. Plainly (RemovesDirectoryAt (names_of path.now)))
     (λ form. AnyOf (RemovesDirectoryAt (names_of path.now))) sync no_sync old new
+Answers remaining contents (Check image) old new = Looks remaining TellsCounts old new
 Answers remaining contents (Recount image sync no_sync) old new =
     Recounts remaining sync no_sync old new
 Answers {F} remaining contents (Mkfs image size ninodes files no_sync) old new =
@@ -158,6 +159,7 @@ OnRefused remaining (Rmdir image path sync no_sync) old new none = ChangesNot re
     (λ form. Plainly (RemovesDirectoryAt (names_of path.now)))
     (λ form. AnyOf (RemovesDirectoryAt (names_of path.now)))
     (UndoneAt path.now IsUnemptiedIn) sync no_sync none
+OnRefused remaining (Check image) old new none = LooksNot remaining IsUntold none
 OnRefused remaining (Recount image sync no_sync) old new none =
     RecountsNot remaining sync no_sync none
 OnRefused {F} remaining (Mkfs image size ninodes files no_sync) old new none =

@@ -28,7 +28,7 @@ use second_lines::{Line, tell};
 use std::convert::AsStr;
 use std::io::Write;
 use tree_changes::{Link, MakeDirectory, OverTree, Recount, Remove, RemoveDirectory, Rename};
-use tree_looks::{Cat, Get, GetAll, Ls, OverFiles, Paths};
+use tree_looks::{Cat, Counts, Get, GetAll, Ls, OverFiles, Paths};
 
 /// The program's name, with which the line of each refusal begins.
 pub const NAME: &str = "xvnames";
@@ -261,6 +261,7 @@ fn dispatch<R: Locks + AllocGlobal, O: Write, E: Write>(
             };
             change(rt, image, locking, *sync, over, out, err)
         }
+        Request::Check { image } => look(rt, image, locking, Counts, out, err),
         Request::Recount {
             image,
             sync,

@@ -7,7 +7,7 @@ ghost use Rattle.model.specs.Files.{files_of};
 ghost use Rattle.model.specs.Layout.{form_of, planned_super};
 ghost use Rattle.model.specs.Log.{recovered};
 ghost use Rattle.names.specs.Inside.{form_seen};
-ghost use Rattle.names.specs.Ready.{HasNoFile, IsIdle, MayGoOn};
+ghost use Rattle.names.specs.Ready.{HasNoFile, IsIdle, IsReady, MayGoOn};
 ghost use Rattle.offline.specs.Making.{MakesAs};
 ghost use Rattle.transfer.specs.Ending.{SyncsIf};
 ghost use Rattle.tree_changes.specs.Changes.{IsOfTree};
@@ -277,6 +277,7 @@ fn grow<D: Disk>(
 ) -> Result<(), ChangeRefusal>
     requires idle { IsIdle D.Disk tree.old.kernel tree.old.calls_left }
     requires none { HasNoFile (files_of (image_on D.image tree.old.kernel)) }
+    ensures done { OnOk result (IsReady D.Disk tree.new.kernel tree.new.calls_left) }
     ensures grown { OnOk result (HasGrown (form_seen D.image tree.old.kernel)
         (files_named files.now) (files_of (image_on D.image tree.new.kernel))) }
     ensures refused { IfErr result
@@ -297,6 +298,8 @@ fn add_all<D: Disk>(
 ) -> Result<(), ChangeRefusal>
     requires { MayGoOn D.Disk tree.old.kernel tree.old.calls_left }
     ensures ready { MayGoOn D.Disk tree.new.kernel tree.new.calls_left }
+    ensures done { IsReady D.Disk tree.old.kernel tree.old.calls_left
+        → OnOk result (IsReady D.Disk tree.new.kernel tree.new.calls_left) }
     ensures added { OnOk result (AddsAll (form_seen D.image tree.old.kernel)
         (files_named files.now) (files_of (image_on D.image tree.old.kernel))
         (files_of (image_on D.image tree.new.kernel))) }
@@ -315,6 +318,7 @@ fn add_all<D: Disk>(
 fn add<D: Disk>(alloc: Global, tree: &mut Tree<D>, file: &Named<'_>) -> Result<(), ChangeRefusal>
     requires { MayGoOn D.Disk tree.old.kernel tree.old.calls_left }
     ensures ready { MayGoOn D.Disk tree.new.kernel tree.new.calls_left }
+    ensures done { OnOk result (IsReady D.Disk tree.new.kernel tree.new.calls_left) }
     ensures added { OnOk result (AddsFile (form_seen D.image tree.old.kernel)
         file.now.name.now file.now.bytes.items
         (files_of (image_on D.image tree.old.kernel))

@@ -46,6 +46,7 @@ pub fn given<'a>(request: &Request<'a>) -> Given<'a> {
         Request::Ln { image, path, .. } => at(image, path, true),
         Request::Mkdir { image, path, .. } => at(image, path, true),
         Request::Rmdir { image, path, .. } => at(image, path, true),
+        Request::Check { image } => Given::over(image, false),
         Request::Recount { image, .. } => Given::over(image, true),
         Request::Mkfs {
             image,

@@ -9,7 +9,7 @@ use Rattle.tree_changes.proofs.Pieces.{left_by, piece_is, piece_left, piece_writ
 use Rattle.tree_changes.proofs.puts.append_all.Goals as goal
 
 pub loop-piece-init : goal.loop-piece-init
-loop-piece-init g c = record { ready = c.requires.ready; stays = record { opening = refl; name = refl }; leaves = inl refl; writes = refl }
+loop-piece-init g c = record { ready = c.requires.ready; kept = λ is. is; stays = record { opening = refl; name = refl }; leaves = inl refl; writes = refl }
 
 pub loop-piece-preserved : goal.loop-piece-preserved
 loop-piece-preserved g c =
@@ -19,6 +19,7 @@ loop-piece-preserved g c =
     let so_far = c.loop-piece.invariant in
     record {
       ready = c.append.ensures.ready;
+      kept = λ is. c.in_ok-append.ensures.done;
       stays = over_on g.D.Disk k m e so_far.stays c.append.ensures.stays;
       leaves = piece_left g.D.Disk k m e c.args.path.now c.args.bytes.now c.loop-piece.piece c.min-to.result so_far.stays c.min-to.ensures so_far.writes so_far.leaves c.append.ensures.leaves;
       writes = piece_written g.D.Disk k m c.args.path.now c.args.bytes.now c.loop-piece.piece c.min-to.result so_far.stays c.min-to.ensures _ _ so_far.writes c.in_ok-append.ensures.writes;

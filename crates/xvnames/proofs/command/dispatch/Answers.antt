@@ -86,6 +86,14 @@ pub returns-in-Rmdir-clause-refused : goal.returns-in-Rmdir-clause-refused
 returns-in-Rmdir-clause-refused g c =
     λ refused. subst (λ request. OnRefused g.R.File.Read.remaining request (g.O.Write.contents c.args.out.now) (g.O.Write.contents c.change-in-Rmdir.new.out) (c.change-in-Rmdir.new.out ≡ c.args.out.now)) (sym c.in-Rmdir.is) (c.change-in-Rmdir.ensures.refused refused)
 
+pub returns-in-Check-clause-done : goal.returns-in-Check-clause-done
+returns-in-Check-clause-done g c =
+    λ done. subst (λ request. Answers g.R.File.Read.remaining g.R.File.Write.contents request (g.O.Write.contents c.args.out.now) (g.O.Write.contents c.look-in-Check.new.out)) (sym c.in-Check.is) (c.look-in-Check.ensures.done done)
+
+pub returns-in-Check-clause-refused : goal.returns-in-Check-clause-refused
+returns-in-Check-clause-refused g c =
+    λ refused. subst (λ request. OnRefused g.R.File.Read.remaining request (g.O.Write.contents c.args.out.now) (g.O.Write.contents c.look-in-Check.new.out) (c.look-in-Check.new.out ≡ c.args.out.now)) (sym c.in-Check.is) (c.look-in-Check.ensures.refused refused)
+
 pub returns-in-Recount-clause-done : goal.returns-in-Recount-clause-done
 returns-in-Recount-clause-done g c =
     λ done. subst (λ request. Answers g.R.File.Read.remaining g.R.File.Write.contents request (g.O.Write.contents c.args.out.now) (g.O.Write.contents c.change-in-Recount.new.out)) (sym c.in-Recount.is) (c.change-in-Recount.ensures.done done)

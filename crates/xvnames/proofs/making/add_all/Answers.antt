@@ -25,6 +25,7 @@ loop-file-preserved g c =
     let in_form = subst (λ (f : Form). AddsFile f file.name.now file.bytes.items mid new) one_form one in
     record {
       ready = c.add.ensures.ready;
+      kept = λ is. c.in_ok-add.ensures.done;
       stays = over_on g.D.Disk k m e c.loop-file.invariant.stays c.add.ensures.stays;
       added = file_more_added form c.args.files.now c.loop-file.file-index c.file-item.result old mid new c.loop-file-test.true c.loop-file.invariant.added in_form;
     }

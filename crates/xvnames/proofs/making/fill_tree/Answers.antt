@@ -1,14 +1,17 @@
-use Rattle.std.proofs.Common.{sym, subst}
+use Rattle.std.proofs.Common.{◌∙◌, ap, sym, subst}
 use Rattle.std.proofs.lemmas.Result.{IfErr-weaker, IfOk-weaker}
 use Rattle.blocks.specs.Disk.{Image}
 use Rattle.model.specs.Files.{files_of}
 use Rattle.model.specs.Layout.{form_of}
 use Rattle.model.specs.Log.{recovered}
+use Rattle.model.specs.Soundness.{IsSound}
+use Rattle.names.specs.Counts.{AreCounted}
 use Rattle.names.specs.Ready.{HasNoFile}
+use Rattle.names.specs.Trees.{IsTree}
 use Rattle.xvnames.specs.Making.{HasAddedTo, files_named}
 use Rattle.xvnames.specs.Unmade.{IsUngrown, IsUnfilledBy, IsUnsynced}
 use Rattle.xvnames.proofs.Fits.{of_sync, of_tree}
-use Rattle.xvnames.proofs.Added.{form_opened}
+use Rattle.xvnames.proofs.Added.{form_opened, synced_image}
 use Rattle.xvnames.proofs.making.fill_tree.Goals as goal
 
 pub grow-requires-clause-none : goal.grow-requires-clause-none
@@ -21,7 +24,17 @@ returns-in-Ok-grow-clause-filled g c =
     let named = files_named c.args.files.now in
     let form = form_of (recovered (g.D.Disk.image c.args.disk)) in
     let grown = form_opened g.D.Disk named c.args.disk c.in-Ok.kernel c.over-tree.result.kernel c.grow.new.tree.kernel c.into_disk.result c.in-Ok.ensures.opened c.over-tree.ensures.kernel c.into_disk.ensures.disk c.in-Ok-grow.ensures.grown in
-    IfOk-weaker c.synced.result _ (HasAddedTo g.D.Disk c.args.sync form named) (λ e syncs. record { unsynced = c.into_disk.result; grown = grown; syncs = syncs }) c.synced.ensures.syncs
+    IfOk-weaker c.synced.result _ (HasAddedTo g.D.Disk c.args.sync form named) (λ e syncs.
+    let ready = c.in-Ok-grow.ensures.done in
+    let same = sym (synced_image g.D.Disk c.args.sync c.into_disk.result e syncs ∙ ap (λ (d : _). g.D.Disk.image d) c.into_disk.ensures.disk) in
+    record {
+      unsynced = c.into_disk.result;
+      grown = grown;
+      syncs = syncs;
+      sound = subst (λ (x : Image). IsSound x) same ready.sound;
+      tree = subst (λ (x : Image). IsTree (files_of x)) same ready.tree;
+      counted = subst (λ (x : Image). AreCounted (files_of x)) same ready.counted;
+    }) c.synced.ensures.syncs
 
 pub returns-in-Ok-grow-clause-refused : goal.returns-in-Ok-grow-clause-refused
 returns-in-Ok-grow-clause-refused g c =

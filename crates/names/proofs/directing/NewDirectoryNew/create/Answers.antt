@@ -6,15 +6,14 @@ use Rattle.names.proofs.directing.NewDirectoryNew.create.Goals as goal
 pub returns-then-branch-clause-made : goal.returns-then-branch-clause-made
 returns-then-branch-clause-made g c =
     let fits : c.in-Some.number < 2 ^ 16 = first_of (search rules, grind (arith, common_steps)) in
-    let up_fits : c.in-Ok.up < 2 ^ 16 = first_of (omega arith, search rules, grind (arith, common_steps)) in
-    let positive : 0 < c.in-Ok.up = first_of (omega arith, search rules, grind (arith, common_steps)) in
-    filled_made g.D.Disk c.args.tree.now.kernel c.created.new.self.kernel c.filled_for.new.self.kernel c.args.parent c.in-Some.number c.in-Ok.up c.in_ok-number.field-0
-    c.in_ok-filled_for.field-0 c.in-Ok.ensures.1 c.in-Some.is c.in_ok-number.ensures.made c.in_ok-filled_for.ensures.filled c.if-branch.true positive fits up_fits
+    let up_fits : c.args.parent < 2 ^ 16 = first_of (search rules, grind (arith, common_steps)) in
+    filled_made g.D.Disk c.args.tree.now.kernel c.created.new.self.kernel c.filled_for.new.self.kernel c.args.parent c.in-Some.number c.args.parent c.in_ok-number.field-0
+    c.in_ok-filled_for.field-0 refl c.in-Some.is c.in_ok-number.ensures.made c.in_ok-filled_for.ensures.filled c.if-branch.true c.requires.used fits up_fits
 
 pub returns-clause-made : goal.returns-clause-made
 returns-clause-made g c = (
-  filled_undone g.D.Disk c.args.tree.now.kernel c.created.new.self.kernel c.filled_for.new.self.kernel c.args.parent c.in-Some.number c.in-Ok.up c.in_ok-number.field-0
-      c.in_ok-filled_for.field-0 c.in-Ok.ensures.1 c.in-Some.is c.in_ok-number.ensures.made c.in_ok-filled_for.ensures.filled c.uncreated.new.self.kernel c.from.result
+  filled_undone g.D.Disk c.args.tree.now.kernel c.created.new.self.kernel c.filled_for.new.self.kernel c.args.parent c.in-Some.number c.args.parent c.in_ok-number.field-0
+      c.in_ok-filled_for.field-0 refl c.in-Some.is c.in_ok-number.ensures.made c.in_ok-filled_for.ensures.filled c.uncreated.new.self.kernel c.from.result
       c.from.ensures c.if-branch.false c.in_ok-uncreated.ensures.undoes,
-  inr refl,
+  inr (refl, tt),
 )

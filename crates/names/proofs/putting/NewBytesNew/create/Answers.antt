@@ -14,5 +14,5 @@ returns-in_ok-uncreated-in_default-2-clause-made g c = (
   new_undone g.D.Disk c.args.tree.now.kernel c.created.new.self.kernel c.write_called.new.self.kernel c.in-Some.number c.from.result c.args._parent c.args.self.now.bytes.now
       c.in_ok-number.field-0 c.in_ok-write_called.field-0 c.in-Some.is c.from.ensures c.in_ok-number.ensures.made c.in_ok-write_called.ensures.written c.uncreated.new.self.kernel
       c.from-in_default-2.result c.from-in_default-2.ensures c.in_ok-uncreated-in_default-2.ensures.undoes,
-  inr refl,
+  inr (refl, tt),
 )

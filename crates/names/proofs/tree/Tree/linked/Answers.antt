@@ -3,9 +3,10 @@ use Rattle.model.specs.Files.{Files, file_in}
 use Rattle.names.specs.declared.refusal.Refusal.{Refusal}
 use Rattle.names.specs.Inside.{files_seen}
 use Rattle.names.specs.Linking.{HasMore}
-use Rattle.names.specs.Trees.{links_of, number_of, IsDirectory, IsFile}
+use Rattle.names.specs.Trees.{directory_in, links_of, number_of, IsDirectory, IsFile}
+use Rattle.names.specs.Writes.{NeedsBlock}
 use Rattle.names.proofs.Named.{file_is_used}
-use Rattle.names.proofs.NewNames.{named_absent, named_links, named_not, named_stays, named_there}
+use Rattle.names.proofs.NewNames.{named_links, named_needs, named_not, named_stays, named_there}
 use Rattle.names.proofs.Staying.{stays_same}
 use Rattle.names.proofs.tree.Tree.linked.Given.{Over}
 use Rattle.names.proofs.tree.Tree.linked.Goals.{In_ok-entered}
@@ -34,12 +35,13 @@ module _ (g : Over) (c : In_ok-entered g) where
       c.requires.tree looked c.in_ok-is_directory.ensures.same c.in_ok-bytes.ensures.found c.in-Some.is c.as_slice.ensures c.in-Ok.ensures.1 c.in-Ok-link.ensures.links
       c.in-Ok-link.ensures.room c.in_ok-entered.ensures.entered fails
 
-  is_new : IsDirectory fs c.args.to × (number_of fs c.args.to c.args.name.now ≡ None)
-  is_new =
-      named_absent g.D.Disk c.args.self.now.kernel c.one_more.new.self.kernel c.entered.new.self.kernel c.args.to c.args.number c.in-Ok.short c.args.name.now
+  needs : c.in_ok-entered.field-0 ≡ false →
+      IsDirectory fs c.args.to × (number_of fs c.args.to c.args.name.now ≡ None) × NeedsBlock (directory_in fs c.args.to)
+  needs fails =
+      named_needs g.D.Disk c.args.self.now.kernel c.one_more.new.self.kernel c.entered.new.self.kernel c.args.to c.args.number c.in-Ok.short c.args.name.now
       c.in-Some.bytes c.as_slice.result.now c.in_ok-bytes.field-0 (files_seen g.D.Disk.image c.is_directory.new.self.kernel) c.in-Ok-link.write c.in_ok-entered.field-0
       c.requires.tree looked c.in_ok-is_directory.ensures.same c.in_ok-bytes.ensures.found c.in-Some.is c.as_slice.ensures c.in-Ok.ensures.1 c.in-Ok-link.ensures.links
-      c.in-Ok-link.ensures.room c.in_ok-entered.ensures.entered
+      c.in-Ok-link.ensures.room c.in_ok-entered.ensures.entered fails
 
   plain : IsDirectory fs c.args.number → ⊥
   plain is =
@@ -67,7 +69,7 @@ returns-then-not-branch-clause-tree g c =
 pub returns-then-not-branch-clause-linked : goal.returns-then-not-branch-clause-linked
 returns-then-not-branch-clause-linked g c =
     let fails : c.in_ok-entered.field-0 ≡ false = search rules in
-    let a = (goal.at.returns-then-not-branch-clause-linked g c).In_ok-entered in (not_written g a fails, is_new g a)
+    let a = (goal.at.returns-then-not-branch-clause-linked g c).In_ok-entered in (not_written g a fails, needs g a fails)
 
 pub relinked-requires-clause-there : goal.relinked-requires-clause-there
 relinked-requires-clause-there g c =

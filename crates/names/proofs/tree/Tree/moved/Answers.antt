@@ -4,9 +4,10 @@ use Rattle.names.specs.declared.refusal.Refusal.{Refusal}
 use Rattle.names.specs.Counts.{StaysCounted}
 use Rattle.names.specs.Inside.{files_seen}
 use Rattle.names.specs.Renaming.{IsPlan, IsPlanned, Renames}
-use Rattle.names.specs.Trees.{number_of, IsDirectory}
+use Rattle.names.specs.Trees.{directory_in, number_of, IsDirectory}
+use Rattle.names.specs.Writes.{NeedsBlock}
 use Rattle.std.specs.Prelude.{None}
-use Rattle.names.proofs.Moved.{moved_directory, moved_file, source_there, target_there, unlinked_absent, unlinked_same}
+use Rattle.names.proofs.Moved.{moved_directory, moved_file, source_there, target_there, unlinked_needs, unlinked_same}
 use Rattle.names.proofs.Staying.{stays_same}
 use Rattle.names.proofs.tree.Tree.moved.Given.{Over}
 use Rattle.names.proofs.tree.Tree.moved.Goals as goal
@@ -23,17 +24,19 @@ module _ (g : Over) (c : goal.Then-not-branch g) where
       c.in_ok-entered.field-0 c.requires.tree c.requires.apart c.in_ok-plan.ensures.same plan_of c.in_ok-entered.ensures.entered
       c.if-not-branch.true
 
-  absent_there : IsDirectory (files_seen g.D.Disk.image c.args.self.now.kernel) c.args.to
+  needs_there : IsDirectory (files_seen g.D.Disk.image c.args.self.now.kernel) c.args.to
       × (number_of (files_seen g.D.Disk.image c.args.self.now.kernel) c.args.to c.args.name.now ≡ None)
-  absent_there =
-      unlinked_absent g.D.Disk c.args.self.now.kernel c.planned.new.self.kernel c.entered.new.self.kernel c.args.from c.args.to c.args.old.now c.args.name.now c.in-Ok.plan
+      × NeedsBlock (directory_in (files_seen g.D.Disk.image c.args.self.now.kernel) c.args.to)
+  needs_there =
+      unlinked_needs g.D.Disk c.args.self.now.kernel c.planned.new.self.kernel c.entered.new.self.kernel c.args.from c.args.to c.args.old.now c.args.name.now c.in-Ok.plan
       c.in_ok-entered.field-0 c.requires.tree c.requires.apart c.in_ok-plan.ensures.same plan_of c.in_ok-entered.ensures.entered
+      c.if-not-branch.true
 
 pub returns-then-not-branch-clause-tree : goal.returns-then-not-branch-clause-tree
 returns-then-not-branch-clause-tree g c = stays_same (files_seen g.D.Disk.image c.args.self.now.kernel) (files_seen g.D.Disk.image c.entered.new.self.kernel) (same_files g c) c.requires.tree
 
 pub returns-then-not-branch-clause-moved : goal.returns-then-not-branch-clause-moved
-returns-then-not-branch-clause-moved g c = (same_files g c, (c.requires.apart, (absent_there g c).0, (absent_there g c).1))
+returns-then-not-branch-clause-moved g c = let needs = needs_there g c in (same_files g c, (c.requires.apart, needs.0, needs.1, needs.2))
 
 module _ (g : Over) (c : goal.In_default g) where
   file_plan : IsPlan (files_seen g.D.Disk.image c.args.self.now.kernel) c.args.from c.args.old.now c.args.to c.args.name.now c.in-Ok.plan

@@ -1,0 +1,7 @@
+use Rattle.std.proofs.Common.{codes, refl}
+use Rattle.clap.specs.Words.{found_of}
+use Rattle.cli.specs.Lemmas.Parses.{value_read}
+use Rattle.names_words.proofs.words.check_request.Goals as goal
+
+pub returns : goal.returns
+returns c = (refl, value_read (found_of c.args.values.now) (codes "IMAGE") _ c.in_ok-get_str.ensures)
