@@ -1,20 +1,20 @@
 -- What a device may hold amid its recovery, and has behind it.
-use Rattle.std.proofs.Common.{◌≡◌, ◌≢◌, ◌⊎◌, ◌∙◌, ℕ, zero, suc, ◌+◌, ◌-◌, ◌<◌, ◌≤◌, Bool, true, false, not, eqb, List, [], ◌∷◌, ◌++◌, length, get_or, set, Some, None, inl, inr, ⊎_elim, refl, sym, ap, subst, arith, length-set}
+use Rattle.std.proofs.Common.{◌≡◌, ◌≢◌, ◌∙◌, ℕ, zero, suc, ◌+◌, ◌-◌, ◌<◌, ◌≤◌, true, false, not, eqb, List, [], ◌∷◌, length, get_or, set, Some, None, inl, inr, ⊎_elim, refl, sym, ap, subst, arith, length-set}
 use Rattle.std.proofs.lemmas.Bool.{eq-eqb, true≢false}
 use Rattle.std.proofs.lemmas.List.{ext_get_or, get_or-set_other, get_or-set_same}
 use Rattle.std.specs.List.{list_any, position_from}
 use Rattle.blocks.specs.Block.{zero_block}
-use Rattle.blocks.specs.Common.{applied, HeldImages, Image, IsOldOrNew, Write}
+use Rattle.blocks.specs.Common.{applied, Image}
 use Rattle.blocks.specs.Disk.{block_at}
 use Rattle.blocks.specs.Lemmas.Held.{held_all}
-use Rattle.model.specs.Common.{are_distinct, both_ways, cases_Bool, cases_eq, cases_lt, homes_of, is_home, is_lawful_log, le-ltb, list_any_at, logged_count, lt-ltb, ne_eqb, not-true, place_among}
+use Rattle.model.specs.Common.{are_distinct, both_ways, cases_Bool, cases_eq, cases_lt, homes_of, is_home, is_lawful_log, le-ltb, list_any_at, logged_count, lt-ltb, ne_eqb, not-true}
 use Rattle.model.specs.Lemmas.Log.{both_of, length-recovered, recovered_at, recovered_block-header, recovered_empty}
 use Rattle.model.specs.Lemmas.Recovery.{AgreesBesides, home_of_log, homes_are_rewritten, is_lawful_log-besides, logged_count-left, recovers_once}
 use Rattle.model.specs.Log.{recovered, recovered_block}
 use Rattle.sessions.specs.Lemmas.Ledgers.{applied_push, held_push}
 use Rattle.sessions.specs.Telling.{Ledger, MayHold, after_told, told_bytes}
 use Rattle.sessions.specs.declared.session.Told.{Told}
-use Rattle.sessions.specs.declared.session.Told.TheVariants.{Nothing, Wrote, Synced}
+use Rattle.sessions.specs.declared.session.Told.TheVariants.{Nothing, Wrote}
 use Rattle.wal.specs.Lemmas.Commits.{empty_lawful}
 use Rattle.wal.specs.Recovery.{RecoversAs}
 use Rattle.xvfs_c.specs.Numbers.{told_number}

@@ -1,5 +1,5 @@
 -- The recovery of a host's own device, one write or sync after the other.
-use Rattle.std.specs.Prelude.{◌≡◌, ◌⊎◌, ◌<◌, ◌+◌, ◌-◌, ◌==◌, ℕ, zero, suc, true, false, if◌then◌else◌, nat_lt, IsTrue, List, [], length, slice_index, None}
+use Rattle.std.specs.Prelude.{◌≡◌, ◌⊎◌, ◌<◌, ◌-◌, ◌==◌, ℕ, zero, suc, false, if◌then◌else◌, nat_lt, IsTrue, List, [], length, slice_index, None}
 use Rattle.blocks.specs.Disk.{Image, block_at}
 use Rattle.model.specs.Format.{inode_start, log_start}
 use Rattle.model.specs.Log.{homes_of, is_lawful_log, logged_count, recovered}

@@ -1,4 +1,4 @@
-use Rattle.std.proofs.Common.{◌≡◌, ◌∙◌, ◌<◌, ◌*◌, ◌/◌, ℕ, List, length, inl, inr, refl, sym, ap, subst, arith}
+use Rattle.std.proofs.Common.{◌≡◌, ◌∙◌, ◌<◌, ◌*◌, ◌/◌, ℕ, List, length, inl, refl, sym, ap, subst, arith}
 use Rattle.std.specs.Simd.{first_chunks}
 use Rattle.blocks.specs.Disk.{Image, block_at}
 use Rattle.model.specs.Log.{recovered}
