@@ -46,7 +46,7 @@ static int recover_stays(void) { return image_stays() && is_blank(&number, sizeo
 static int step_stays(void) {
     return is_blank(&out, sizeof(xvfs_told), 0) && is_blank(&block, XVFS_BLOCK_SIZE, 0);
 }
-static int open_stays(void) { return !fs.session && is_blank(&number, sizeof(uint64_t), 0); }
+static int open_stays(void) { return !fs.session; }
 static int submit_stays(void) { return is_blank(&number, sizeof(uint64_t), 0); }
 
 /* Refuses each call for memory of one call in turn: how many they were. */
