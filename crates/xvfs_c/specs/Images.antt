@@ -13,7 +13,8 @@ use Rattle.model.specs.declared.types.fault.CheckFault.TheVariants as check
 use Rattle.layout.specs.declared.geometry.MkfsFault.{MkfsFault}
 use Rattle.layout.specs.declared.geometry.MkfsFault.TheVariants as making
 use Rattle.sessions.specs.Refusal.{HasBlocks, IsRefusal}
-use Rattle.sessions.specs.Session.{OpensOver, writes_of}
+use Rattle.sessions.specs.Session.{OpensOver, image_of, writes_of}
+use Rattle.sessions.specs.Telling.{Covers, fresh_ledger}
 use Rattle.sessions.specs.declared.disk.HostDisk.{HostDisk}
 use Rattle.sessions.specs.declared.refusal.OpenRefusal.{OpenRefusal}
 use Rattle.sessions.specs.declared.session.Session.{Session}
@@ -98,6 +99,16 @@ IsUnrecovered x number =
 -- that number says why these bytes are not recovered
 abbrev pub RefusesToRecover : List ℕ → ℕ → Type 0
 RefusesToRecover bytes number = (x : Image) × HasImage bytes x × IsUnrecovered x number
+
+-- A session was opened over these bytes, with nothing to recover: its disk has them. A device that has
+-- them, and holds nothing back, holds what a stop of that disk may leave; from then on each step says how
+-- that goes on.
+pub record OpensUnlogged {N : Type 0} (disk : Ghosts HostDisk N) (bytes : List ℕ) (processes : ℕ)
+    (holds : Bool) (s : Session) : Type 0 where
+  pub opens : OpensOver disk bytes processes holds s
+  pub unwritten : writes_of s ≡ 0
+  pub shows : image_of s ≡ first_chunks 1024 opens.count bytes
+  pub covers : Covers disk s (fresh_ledger s)
 
 -- A session over these bytes would begin with writes of its recovery, which nobody was told.
 abbrev pub IsLogged : {N : Type 0} → Ghosts HostDisk N → List ℕ → ℕ → Bool → Type 0
