@@ -44,7 +44,7 @@
  *    it switches tasks, and takes interrupts on another stack (or calls it with interrupts off).
  *
  * Link: cc main.c libxvfs.a. It needs memcpy, memmove, memset, malloc, realloc and free, and defines the
- * ten functions below and no other name.
+ * eleven functions below and no other name.
  */
 #ifndef XVFS_H
 #define XVFS_H
@@ -62,6 +62,10 @@ extern "C" {
 #define XVFS_VERSION_MINOR 2
 #define XVFS_VERSION_PATCH 0
 #define XVFS_VERSION "0.2.0"
+#define XVFS_VERSION_NUMBER (65536u * XVFS_VERSION_MAJOR + 256u * XVFS_VERSION_MINOR + XVFS_VERSION_PATCH)
+
+/* The XVFS_VERSION_NUMBER of the library, which may be built of another version than this header. */
+uint32_t xvfs_version(void);
 
 /* A session. XVFS_CLOSED_HANDLE before the first use and after xvfs_close. */
 typedef struct { void *session; } xvfs;

@@ -492,6 +492,7 @@ static void see_calls(void) {
     xvfs_told told_now;
     uint64_t n;
     uint32_t recovered;
+    EXPECT(XVFS_VERSION_NUMBER, xvfs_version());
     EXPECT(XVFS_E_FILE_LENGTH, xvfs_check(device, 1023, &report));
     EXPECT(XVFS_E_FILE_LENGTH, xvfs_mkfs(device, 0, 32, 1));
     EXPECT(XVFS_E_FILE_LENGTH, xvfs_recover(device, 1025, &recovered));

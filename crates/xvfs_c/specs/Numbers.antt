@@ -22,6 +22,10 @@ use Rattle.sessions.specs.declared.session.Told.{Told}
 use Rattle.sessions.specs.declared.session.Told.TheVariants as told
 use Rattle.xvfs_c.specs.declared.report.XvfsAnswer.{XvfsAnswer}
 
+-- of the library, 0.2.0: 65,536 times its first number, 256 times its second one, and its third
+abbrev pub library_version : ℕ
+library_version = 512
+
 -- of an image's fault, and the inode or the block that has it
 abbrev pub check_number : CheckFault → ℕ × ℕ
 check_number check.BadMagic = (769, 0)

@@ -15,6 +15,9 @@ pub const LENGTH: u32 = 258;
 /// The flag of an opening: the session's disk holds writes back.
 pub const HOLD: u32 = 1;
 
+/// The version of the library: 65,536 times its first number, 256 times its second one and its third.
+pub const VERSION: u32 = 256 * 2;
+
 /// Memory for a check was refused.
 pub const CHECK_MEMORY: u32 = 768 + 11;
 

@@ -78,6 +78,12 @@ pub fn check(image: &[u8]) -> Result<Report, Refusal> {
     })
 }
 
+/// The version of the library: 65,536 times its first number, 256 times its second one, and its third.
+pub fn version() -> u32 {
+    // SAFETY: it takes nothing.
+    unsafe { raw::xvfs_version() }
+}
+
 /// Makes an empty image with 2 to 1024 inode numbers, of form 2 if it is `large`.
 pub fn mkfs(image: &mut [u8], ninodes: u32, large: bool) -> Result<(), Refusal> {
     let form = if large { 2 } else { 1 };

@@ -85,6 +85,7 @@ extern "C" {
         bytes: *mut u8,
         bytes_len: usize,
     ) -> u32;
+    pub fn xvfs_version() -> u32;
     pub fn xvfs_open(
         fs: *mut Handle,
         image: *const u8,

@@ -2,8 +2,8 @@
 use std::sync::Mutex;
 use std::thread;
 use xvfs::{
-    check, mkfs, recover, Answer, Device, Fault, Host, Op, Recovery, Refusal, Reply, Session, Step,
-    Told, BLOCK_SIZE,
+    check, mkfs, recover, version, Answer, Device, Fault, Host, Op, Recovery, Refusal, Reply,
+    Session, Step, Told, BLOCK_SIZE,
 };
 
 const BLOCKS: usize = 200;
@@ -319,6 +319,7 @@ fn refuses_what_it_cannot_do() {
         Ok(_) => panic!("it was opened"),
         Err(refusal) => (refusal.layer, refusal.number),
     };
+    assert_eq!(version(), 0x0200);
     assert_eq!(refused(&device[1..], 1), (1, 2));
     assert_eq!(refused(&device, 0), (5, 4));
     assert_eq!(refused(&device, 33), (5, 4));
