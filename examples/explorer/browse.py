@@ -1,0 +1,46 @@
+"""Opens the page in a browser without a window: each run, the questions' places, and what stands there.
+
+    browse.py BROWSER PAGE
+"""
+import re
+import subprocess
+import sys
+import tempfile
+
+BROWSER, PAGE = sys.argv[1:]
+# Where the page is opened: the run, the order, the disk and the step; what has to stand there, and whether it is bad.
+PLACES = [
+    ("run=0&step=1", "✓ sound"),
+    ("run=2&order=homes&disk=no&step=38", "LostBlock"),
+    ("run=2&order=header&disk=no&step=35", "✗"),
+    ("run=2&order=log&disk=synced&step=38", "choices recover"),
+    ("run=2&order=log&disk=never&step=38", "show a choice that breaks it"),
+    ("run=3&order=none&disk=no&step=187", "LostBlock"),
+    ("run=4&order=none&disk=no&step=108", "UsedButFree"),
+    ("run=5&step=20", "process 2"),
+]
+
+
+def opened(place):
+    """The page as its scripts leave it."""
+    with tempfile.TemporaryDirectory() as folder:
+        ran = subprocess.run([BROWSER, "--headless", "--no-sandbox", "--disable-gpu", "--user-data-dir=" + folder,
+                              "--virtual-time-budget=20000", "--dump-dom", "file://%s#%s" % (PAGE, place)],
+                             capture_output=True, timeout=120)
+    return ran.stdout.decode("utf-8", "replace")
+
+
+def main():
+    bad = 0
+    for place, text in PLACES:
+        page = opened(place)
+        shown = re.sub(r'<script.*?</script>', "", page, flags=re.DOTALL)
+        differing = re.search(r'<body[^>]* data-differing="(\d+)"', page)
+        if text not in shown or not differing or differing[1] != "0":
+            bad += 1
+            print("explorer: at %s the browser doesn't show %s" % (place, text))
+    print("explorer: %d places opened in a browser, %d not as they should be" % (len(PLACES), bad))
+    return bad > 0
+
+
+sys.exit(main())

@@ -1,0 +1,314 @@
+// The disk of a run, and what a stop leaves of it. Nothing here knows of a page: page.js draws, and check.js holds
+// all of this against the program.
+"use strict";
+
+const BLOCK = 1024;
+const LOG = 2; // the block of the log's header; its blocks follow, and then the inodes
+const MOST_LOGGED = 30;
+const INODES = 33;
+const ADDRESSES = 12; // direct ones; a block with 256 more follows
+const MOST_BYTES = 268 * BLOCK;
+
+// In which order the parts of a commit are written.
+const ORDERS = {
+    log: ["log", "header", "home", "clear"],
+    homes: ["log", "home", "header", "clear"],
+    header: ["header", "log", "home", "clear"],
+    none: ["home"],
+};
+
+const number16 = (bytes, at) => bytes[at] | (bytes[at + 1] << 8);
+const number32 = (bytes, at) => (number16(bytes, at) | (number16(bytes, at + 2) << 16)) >>> 0;
+
+function bytesOf(hex) {
+    const bytes = new Uint8Array(hex.length / 2);
+    for (let at = 0; at < bytes.length; at++) bytes[at] = parseInt(hex.substr(2 * at, 2), 16);
+    return bytes;
+}
+
+function blockOf(hex) {
+    const block = new Uint8Array(BLOCK);
+    block.set(bytesOf(hex));
+    return block;
+}
+
+const ZEROES = new Uint8Array(BLOCK);
+
+class Run {
+    // `told` is what make.py has of a run: the image at its opening, each step, and each write with the bytes
+    // that it changed.
+    constructor(told) {
+        this.told = told;
+        this.size = told.size;
+        this.bitmap = INODES + Math.floor(told.ninodes / 16) + 1;
+        this.data = this.bitmap + 1;
+        this.opening = Array.from({ length: told.size }, (_, block) => (told.opening[block] ? blockOf(told.opening[block]) : ZEROES));
+        this.writes = this.readWrites();
+        this.commits = this.readCommits();
+        this.order = "log";
+        this.holding = "no";
+        this.arrange();
+        this.after = this.filesAfterGroups();
+    }
+
+    // Each write with its part of a commit and all bytes of its block.
+    readWrites() {
+        const now = this.opening.slice();
+        return this.told.writes.map((write, index) => {
+            const bytes = now[write.block].slice();
+            for (const [at, hex] of write.changes) bytes.set(bytesOf(hex), at);
+            now[write.block] = bytes;
+            return { ...write, index, bytes };
+        });
+    }
+
+    // The writes of each commit by their parts, and the steps that made them.
+    readCommits() {
+        const commits = [];
+        let commit = null;
+        for (const write of this.writes) {
+            if (!commit || (write.part === "log" && commit.clear.length)) {
+                commit = { log: [], header: [], home: [], clear: [], steps: [], group: 0 };
+                commits.push(commit);
+            }
+            commit[write.part].push(write);
+            commit.steps.push(write.step);
+            if (write.group) commit.group = write.group;
+        }
+        return commits;
+    }
+
+    // Sets the order of a commit's writes, and whether the disk holds writes back: "no", "synced" after each
+    // part, or "never" synced.
+    choose(order, holding) {
+        this.order = order;
+        this.holding = holding;
+        this.arrange();
+    }
+
+    // Which write each step makes in this order, if any.
+    arrange() {
+        this.plan = this.told.steps.map(() => null);
+        for (const commit of this.commits) {
+            const ordered = ORDERS[this.order].flatMap((part) => commit[part]);
+            commit.steps.forEach((step, place) => {
+                if (place < ordered.length) this.plan[step] = { write: ordered[place], commit };
+            });
+        }
+    }
+
+    // What was written when the run stops behind that step; behind none of them it is -1.
+    writtenBy(step) {
+        return this.plan.slice(0, step + 1).filter((made) => made !== null);
+    }
+
+    // Those of them that the disk may still hold: of a disk that is never synced the last eight.
+    heldAmong(written) {
+        if (this.holding === "no") return [];
+        if (this.holding === "never") return written.slice(-8);
+        const last = written[written.length - 1];
+        if (!last) return [];
+        let from = written.length;
+        while (from > 0 && written[from - 1].commit === last.commit && written[from - 1].write.part === last.write.part) from--;
+        return written.slice(from);
+    }
+
+    // The image with these writes, but for lost ones.
+    imageWith(written, lost) {
+        const image = this.opening.slice();
+        for (const { write } of written) if (!lost || !lost.has(write.index)) image[write.block] = write.bytes;
+        return image;
+    }
+
+    // The homes that the log's header names, or null where it is unlawful.
+    homesIn(image) {
+        const count = number32(image[LOG], 0);
+        if (count > MOST_LOGGED) return null;
+        const homes = [];
+        for (let place = 0; place < count; place++) {
+            const home = number32(image[LOG], 4 + 4 * place);
+            if (home < INODES || home >= this.size || homes.includes(home)) return null;
+            homes.push(home);
+        }
+        return homes;
+    }
+
+    // What recovery makes of an image; null where it refuses it.
+    recovered(image) {
+        const homes = this.homesIn(image);
+        if (!homes) return null;
+        const after = image.slice();
+        homes.forEach((home, place) => (after[home] = image[LOG + 1 + place]));
+        after[LOG] = ZEROES;
+        return after;
+    }
+
+    inode(image, number) {
+        const at = (number % 16) * 64;
+        return image[INODES + Math.floor(number / 16)].subarray(at, at + 64);
+    }
+
+    // An inode's addresses in the order of a check: the place of each among its file's blocks, -1 for the block
+    // of addresses, and whether the file needs it.
+    addressesOf(image, inode) {
+        const length = number32(inode, 8);
+        const found = [];
+        for (let place = 0; place < ADDRESSES; place++) {
+            found.push({ address: number32(inode, 12 + 4 * place), place, isNeeded: place * BLOCK < length });
+        }
+        const more = number32(inode, 60);
+        found.push({ address: more, place: -1, isNeeded: length > ADDRESSES * BLOCK });
+        if (more >= this.data && more < this.size) {
+            for (let place = 0; place < 256; place++) {
+                const address = number32(image[more], 4 * place);
+                found.push({ address, place: ADDRESSES + place, isNeeded: (ADDRESSES + place) * BLOCK < length });
+            }
+        }
+        return found;
+    }
+
+    isMarked(image, block) {
+        return ((image[this.bitmap][block >> 3] >> (block % 8)) & 1) === 1;
+    }
+
+    // The first fault that a check of a recovered image finds, or "".
+    faultIn(image) {
+        const used = new Set();
+        for (let number = 1; number < this.told.ninodes; number++) {
+            const fault = this.inodeFault(image, number, used);
+            if (fault) return fault;
+        }
+        for (let block = 0; block < this.size; block++) {
+            if (block < this.data || used.has(block)) {
+                if (!this.isMarked(image, block)) return `UsedButFree ${block}`;
+            } else if (this.isMarked(image, block)) {
+                return `LostBlock ${block}`;
+            }
+        }
+        return "";
+    }
+
+    inodeFault(image, number, used) {
+        const inode = this.inode(image, number);
+        const kind = number16(inode, 0);
+        if (kind === 0) return "";
+        if (kind > 3) return `BadType ${number}`;
+        if (number32(inode, 8) > MOST_BYTES) return `BadSize ${number}`;
+        for (const { address, isNeeded } of this.addressesOf(image, inode)) {
+            if (address === 0) {
+                if (isNeeded) return `BadAddress ${number}`;
+                continue;
+            }
+            if (address < this.data || address >= this.size) return `BadAddress ${number}`;
+            if (used.has(address)) return `TwiceUsed ${address}`;
+            if (!this.isMarked(image, address)) return `UsedButFree ${address}`;
+            used.add(address);
+        }
+        return "";
+    }
+
+    // The files of an image: number, type and bytes.
+    filesIn(image) {
+        const files = [];
+        for (let number = 1; number < this.told.ninodes; number++) {
+            const inode = this.inode(image, number);
+            const kind = number16(inode, 0);
+            if (kind === 0) continue;
+            const length = Math.min(number32(inode, 8), MOST_BYTES);
+            const bytes = [];
+            for (const { address, place, isNeeded } of this.addressesOf(image, inode)) {
+                if (isNeeded && place >= 0 && address < this.size) {
+                    bytes.push(...image[address].subarray(0, Math.min(BLOCK, length - place * BLOCK)));
+                }
+            }
+            files.push({ number, kind, bytes });
+        }
+        return files;
+    }
+
+    // Whose block each is.
+    ownersIn(image) {
+        const owners = new Map();
+        for (let number = 1; number < this.told.ninodes; number++) {
+            const inode = this.inode(image, number);
+            if (number16(inode, 0) === 0) continue;
+            for (const { address, place } of this.addressesOf(image, inode)) {
+                if (address >= this.data && address < this.size) owners.set(address, { number, isAddresses: place < 0 });
+            }
+        }
+        return owners;
+    }
+
+    // The files after each number of groups, by the order that the program has.
+    filesAfterGroups() {
+        const written = [];
+        const after = [textOf(this.filesIn(this.recovered(this.imageWith(written))))];
+        for (const made of this.plan) {
+            if (!made) continue;
+            written.push(made);
+            if (made.write.part === "header") after.push(textOf(this.filesIn(this.recovered(this.imageWith(written)))));
+        }
+        return after;
+    }
+
+    // Whether that write makes its group one that a stop keeps.
+    isCommit({ write, commit }) {
+        if (this.order !== "none") return write.part === "header";
+        return write.part === "home" && write === commit.home[commit.home.length - 1];
+    }
+
+    // What a stop behind these writes comes to, where some of them are lost: the image, what recovery makes of it,
+    // its files, and either how many groups it keeps, or what is wrong.
+    judge(written, lost) {
+        const held = new Set(this.heldAmong(written).map(({ write }) => write.index));
+        const least = written.filter((made) => this.isCommit(made) && !held.has(made.write.index)).length;
+        let most = written.filter((made) => this.isCommit(made)).length;
+        // Without a log a group is under way from its first home on.
+        if (this.order === "none" && written.length && !this.isCommit(written[written.length - 1])) most++;
+        const image = this.imageWith(written, lost);
+        const after = this.recovered(image);
+        if (!after) return { image, wrong: "the log's header is unlawful (BadLog)" };
+        const files = this.filesIn(after);
+        const fault = this.faultIn(after);
+        if (fault) return { image, after, files, fault, wrong: `recovered, the image is not sound: ${fault}` };
+        const text = textOf(files);
+        for (let kept = least; kept <= most; kept++) {
+            if (this.after[kept] === text) return { image, after, files, kept };
+        }
+        const groups = least === most ? `${least}` : `${least} to ${most}`;
+        return { image, after, files, wrong: `recovered, the files are not those after ${groups} groups` };
+    }
+
+    // The first choice of lost writes that a stop there doesn't survive, if there is one, and how many were tried.
+    worst(written) {
+        const held = this.heldAmong(written);
+        const choices = 1 << held.length;
+        for (let choice = 0; choice < choices; choice++) {
+            const lost = new Set(held.filter((_, place) => (choice >> place) & 1).map(({ write }) => write.index));
+            const { wrong } = this.judge(written, lost);
+            if (wrong) return { lost, wrong, tried: choice + 1 };
+        }
+        return { tried: choices };
+    }
+
+    // What a stop behind each step comes to.
+    survey() {
+        let written = [];
+        let found = null;
+        return this.plan.map((made) => {
+            if (made) {
+                written = written.concat([made]);
+                found = null;
+            }
+            found = found || { ...this.worst(written), kept: this.judge(written).kept };
+            return found;
+        });
+    }
+}
+
+// Files as one text, so that they can be compared.
+function textOf(files) {
+    return files.map(({ number, kind, bytes }) => `${number}:${kind}:${bytes.join()}`).join(";");
+}
+
+if (typeof module !== "undefined") module.exports = { Run, ORDERS, BLOCK, LOG, INODES, number16, number32 };

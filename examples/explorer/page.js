@@ -1,0 +1,489 @@
+// The page of a run: a line is moved over its steps, and beside it stands what a stop there leaves.
+"use strict";
+
+const RUNS = JSON.parse(document.getElementById("data").textContent);
+const asked = new URLSearchParams(location.hash.slice(1));
+const chosen = Math.min(RUNS.length - 1, Math.max(0, Number(asked.get("run")) || 0));
+const run = new Run(RUNS[chosen]);
+const steps = run.told.steps;
+const processes = 1 + Math.max(...run.told.turns.map((turn) => turn.process));
+
+const ORDER_WORDS = {
+    log: "log, header, homes, clear: as xvfs does it",
+    homes: "homes before the header",
+    header: "header before the log blocks",
+    none: "no log: homes at once",
+};
+const HOLDING_WORDS = {
+    no: "writes in order",
+    synced: "holds writes back, synced after each part",
+    never: "holds writes back, never synced",
+};
+const PART_WORDS = { log: "log", header: "HEADER", home: "home", clear: "clear" };
+const PART_LETTERS = { log: "L", header: "H", home: "h", clear: "c" };
+const KINDS = ["free", "directory", "file", "device"];
+
+let order = ORDER_WORDS[asked.get("order")] ? asked.get("order") : "log";
+let holding = HOLDING_WORDS[asked.get("disk")] ? asked.get("disk") : "no";
+let at = asked.has("step") ? Number(asked.get("step")) - 1 : 0;
+let lost = new Set();
+let survey = [];
+let width = 0;
+
+const element = (id) => document.getElementById(id);
+const escaped = (text) => String(text).replace(/[&<>"]/g, (sign) => ({ "&": "&amp;", "<": "&lt;", ">": "&gt;", '"': "&quot;" })[sign]);
+const printable = (bytes) => Array.from(bytes, (byte) => (byte > 31 && byte < 127 ? String.fromCharCode(byte) : "·")).join("");
+const counted = (count, word) => `${count} ${word}${count === 1 ? "" : "s"}`;
+
+// The letter of a block, and what it is.
+function roleOf(block) {
+    if (block === 0) return "b";
+    if (block === 1) return "s";
+    if (block < INODES) return "l";
+    if (block < run.bitmap) return "i";
+    return block === run.bitmap ? "m" : null;
+}
+
+function nameOf(block) {
+    return { b: "boot", s: "superblock", l: "log", i: "inodes", m: "bitmap" }[roleOf(block)] || "data";
+}
+
+// ---- the steps, a lane a process, and below them what a stop comes to
+
+function kindOf(step) {
+    if (run.plan[step]) return run.plan[step].write.part;
+    const deed = steps[step].deed;
+    if (/sleep|idle/.test(deed)) return "waits";
+    if (/^(log|header|home|clear)/.test(deed)) return "nothing";
+    return /^(begin|end)/.test(deed) ? "begins" : "moves";
+}
+
+function wordOf(step) {
+    if (run.plan[step]) return PART_WORDS[run.plan[step].write.part];
+    return kindOf(step) === "nothing" ? "–" : steps[step].deed.replace(/ by .*/, "");
+}
+
+function drawStep(step, lane) {
+    const kind = kindOf(step);
+    const left = step * width;
+    const top = 10 + steps[step].process * lane;
+    const isLine = kind === "waits" || kind === "nothing";
+    const fill = isLine ? "none" : `var(--${kind})`;
+    const light = /header|home/.test(kind) ? " light" : "";
+    let drawn = `<rect x="${left + 0.5}" y="${top}" width="${Math.max(width - 1, 1)}" height="${lane - 9}" fill="${fill}"`
+        + ` stroke="var(--quiet)" stroke-width="${width > 6 ? 0.6 : 0}"${isLine ? ' stroke-dasharray="3 2"' : ""}>`
+        + `<title>step ${step + 1}, process ${steps[step].process}: ${escaped(wordOf(step))}</title></rect>`;
+    const text = width > 34 ? escaped(wordOf(step)) : width > 14 ? PART_LETTERS[kind] : "";
+    if (text) drawn += `<text class="middle${light}" x="${left + width / 2}" y="${top + 12}">${text}</text>`;
+    return drawn;
+}
+
+// One stretch of the band: the stops that come to the same.
+function drawStretch(from, to, top) {
+    const { wrong, kept } = survey[from];
+    const left = from * width;
+    const wide = (to - from) * width;
+    const groups = counted(kept, "group");
+    const said = wide > 190 ? `✓ a stop here keeps ${groups}` : wide > 90 ? `✓ keeps ${kept}` : wide > 30 ? `✓ ${kept}` : wide > 12 ? "✓" : "";
+    const text = wrong ? (wide > 60 ? "✗ broken" : wide > 10 ? "✗" : "") : said;
+    return `<rect x="${left}" y="${top}" width="${wide}" height="20" fill="var(--${wrong ? "bad" : "good"}-back)"`
+        + ` stroke="var(--${wrong ? "bad" : "good"})"/><text class="middle" x="${left + wide / 2}" y="${top + 14}">${text}</text>`;
+}
+
+function drawBand(top) {
+    let drawn = "";
+    let from = 0;
+    for (let step = 1; step <= survey.length; step++) {
+        const here = survey[step];
+        if (here && !here.wrong === !survey[from].wrong && here.kept === survey[from].kept) continue;
+        drawn += drawStretch(from, step, top);
+        from = step;
+    }
+    return drawn;
+}
+
+function draw() {
+    const lane = 26;
+    const room = Math.max(document.body.clientWidth - 104, 240);
+    width = Math.max(room / steps.length, steps.length > 400 ? 1.5 : steps.length > 60 ? 8 : 22);
+    const band = 14 + processes * lane;
+    const wide = width * steps.length;
+    let drawn = `<svg width="${wide + 64}" height="${band + 44}" role="img" aria-label="${counted(steps.length, "step")}, from`
+        + ` left to right, a lane a process; below, what recovery makes of a stop behind each step">`;
+    for (let process = 0; process < processes; process++) {
+        drawn += `<text x="${wide + 4}" y="${22 + process * lane}">process ${process}</text>`;
+    }
+    for (let step = 0; step < steps.length; step++) drawn += drawStep(step, lane);
+    drawn += drawBand(band) + `<path id="line" d="M0 0V${band + 24}" stroke="var(--text)" stroke-width="2.5"/>`
+        + `<text id="line-text" class="middle" y="${band + 38}"></text></svg>`;
+    element("steps").innerHTML = drawn;
+    element("steps").firstChild.onclick = (event) => {
+        const left = event.currentTarget.getBoundingClientRect().left;
+        go(Math.floor((event.clientX - left) / width));
+    };
+}
+
+function showLine() {
+    const left = (at + 1) * width;
+    const line = element("line");
+    line.setAttribute("d", line.getAttribute("d").replace(/^M[\d.]+/, "M" + left));
+    const text = element("line-text");
+    text.setAttribute("x", Math.min(Math.max(left, 40), width * steps.length - 40));
+    text.textContent = at < 0 ? "stop at once" : "stop here";
+    const drawn = element("steps");
+    if (width * steps.length > drawn.clientWidth) drawn.scrollLeft = left - drawn.clientWidth / 2;
+}
+
+// ---- what stands beside it
+
+function sayStep(made) {
+    if (at < 0) return "Nothing was done yet.";
+    const who = `Step ${at + 1}: process ${steps[at].process}`;
+    if (!made) return `${who}: ${escaped(steps[at].deed)}. Nothing is written.`;
+    const what = {
+        log: "a changed block, into the log",
+        header: `the header: this one write commits group ${made.commit.group}`,
+        home: "a block, to its home",
+        clear: "the empty header",
+    }[made.write.part];
+    return `${who} writes block ${made.write.block}: ${what}.`;
+}
+
+function showHeld(written) {
+    const held = run.heldAmong(written);
+    for (const index of [...lost]) if (!held.some(({ write }) => write.index === index)) lost.delete(index);
+    const box = element("held");
+    box.innerHTML = "";
+    if (!held.length) return;
+    const chips = held.map(({ write }) => `<label class="chip"><input type="checkbox" value="${write.index}"`
+        + `${lost.has(write.index) ? "" : " checked"}> ${write.part} → block ${write.block}</label>`);
+    const { wrong, tried } = survey[Math.max(at, 0)];
+    box.innerHTML = `<b>May be lost</b> (untick those that didn't get through): ${chips.join("")} `
+        + (wrong ? '<button id="find">show a choice that breaks it</button>' : `<span class="good">✓ all ${tried} choices recover</span>`);
+    for (const input of box.querySelectorAll("input")) {
+        input.onchange = () => {
+            if (input.checked) lost.delete(Number(input.value));
+            else lost.add(Number(input.value));
+            show();
+        };
+    }
+    if (wrong) element("find").onclick = () => loseWorst();
+}
+
+function loseWorst() {
+    lost = new Set(survey[at].lost);
+    show();
+}
+
+// An operation of the script in words.
+function operationWords(line) {
+    const [, verb, file, offset, value, byte] = line.split(" ");
+    if (verb === "create") return `create a ${KINDS[Number(file)] || file}`;
+    if (verb === "write") {
+        const text = value === "-" ? "" : printable(bytesOf(value));
+        return `write file ${file} at ${offset}: “${text.length > 14 ? text.slice(0, 14) + "…" : text}”`;
+    }
+    if (verb === "fill") return `write file ${file} at ${offset}: ${value} times “${printable(bytesOf(byte))}”`;
+    return `${verb} file ${file}`;
+}
+
+// The answers of the run: of which process, which of its operations, its group, and behind which step.
+const answers = run.told.turns.filter((turn) => turn.came === "answered").map((turn) => {
+    const [place, group] = turn.more.split(" ").map(Number);
+    return { process: turn.process, place, group, step: turn.to - 1 };
+});
+
+function underWay() {
+    const found = [];
+    for (let process = 0; process < processes; process++) {
+        const begun = steps.slice(0, at + 1).filter((step) => step.process === process && step.deed === "begin").length;
+        const answered = answers.filter((answer) => answer.process === process && answer.step <= at).length;
+        const line = run.told.script.filter((text) => Number(text.split(" ")[0]) === process)[answered];
+        if (line && begun > answered) found.push(`process ${process}: ${escaped(operationWords(line))}`);
+    }
+    return found;
+}
+
+// The blocks that memory has newer than the disk, at their homes.
+function newerBlocks(written) {
+    const ended = run.commits.filter((commit) => commit.steps[commit.steps.length - 1] <= at);
+    const from = ended.length ? Math.max(...ended.map((commit) => commit.steps[commit.steps.length - 1])) + 1 : 0;
+    const next = run.commits.find((commit) => commit.steps[commit.steps.length - 1] > at && commit.steps[0] >= from);
+    if (!next) return [];
+    const used = new Set();
+    for (let step = from; step <= at; step++) {
+        const found = /^use (\d+)/.exec(steps[step].deed);
+        if (found) used.add(Number(found[1]));
+    }
+    const homeAlready = new Set(written.filter(({ write, commit }) => commit === next && write.part === "home").map(({ write }) => write.block));
+    return next.home.map((write) => write.block).filter((block) => used.has(block) && !homeAlready.has(block)).sort((a, b) => a - b);
+}
+
+function showMemory(newer) {
+    const chips = newer.map((block) => `<span class="chip">${block} ${nameOf(block)}</span>`).join("");
+    element("memory").innerHTML = `<p>Under way: ${underWay().map((line) => "<br>" + line).join("") || "nothing"}</p>`
+        + `<p>Changed blocks that the disk hasn't at home yet: ${chips ? "<br>" + chips : "none"}</p>`;
+}
+
+function showBlocks(image, made, newer) {
+    const owners = run.ownersIn(image);
+    element("blocks").innerHTML = image.map((_, block) => {
+        const owner = owners.get(block);
+        const letter = roleOf(block) || (owner ? (owner.isAddresses ? "a" : String(owner.number % 10)) : ".");
+        const of = roleOf(block) === "l" ? "of-log" : owner ? "of-file" : letter === "." ? "of-none" : "";
+        const just = made && made.write.block === block ? " just" : "";
+        const name = owner ? `data of file ${owner.number}` : letter === "." ? "free" : nameOf(block);
+        return `<b class="${of}${just}${newer.includes(block) ? " newer" : ""}" title="block ${block}: ${name}">${letter}</b>`;
+    }).join("");
+}
+
+function showLog(image) {
+    const count = number32(image[LOG], 0);
+    const homes = run.homesIn(image) || [];
+    const rows = homes.map((home, place) => {
+        const block = LOG + 1 + place;
+        const isSame = image[block].every((byte, at) => byte === image[home][at]);
+        return `<tr><td>${block}</td><td>→ ${home} ${nameOf(home)}</td><td>${isSame ? "same" : "<b>differs</b>"}</td></tr>`;
+    });
+    element("log").innerHTML = `<p>Header, block ${LOG}: <b>n ${count}</b>${count ? "" : ", so recovery does nothing"}</p>`
+        + (count ? `<table><tr><th>log block</th><th>home</th><th></th></tr>${rows.join("")}</table>`
+            + '<p class="quiet">Recovery copies each home and empties the header.</p>'
+            : '<p class="quiet">What stands in the blocks behind it is read by nobody.</p>');
+}
+
+function showRecovered({ wrong, kept, files }) {
+    const verdict = wrong ? `<div class="verdict is-bad"><span class="bad">✗ ${escaped(wrong)}</span></div>`
+        : `<div class="verdict is-good"><span class="good">✓ sound</span>, with exactly the first ${counted(kept, "group")}</div>`;
+    const listed = (files || []).slice(0, 8).map(({ number, kind, bytes }) => `<tr><td>${number}</td><td>${KINDS[kind] || kind}</td>`
+        + `<td>${bytes.length}</td><td class="bytes">${escaped(printable(bytes.slice(0, 18)))}${bytes.length > 18 ? "…" : ""}</td></tr>`);
+    const table = listed.length ? `<table><tr><th>file</th><th>type</th><th>bytes</th><th>content</th></tr>${listed.join("")}</table>` : "<p>No file.</p>";
+    const rows = run.told.script.slice(0, 10).map((line, index) => {
+        const process = Number(line.split(" ")[0]);
+        const place = run.told.script.slice(0, index + 1).filter((text) => Number(text.split(" ")[0]) === process).length;
+        const answer = answers.find((one) => one.process === process && one.place === place);
+        const group = answer ? answer.group : 0;
+        const state = wrong ? "?" : group && group <= kept ? '<span class="good">✓ kept</span>' : group ? '<span class="quiet">lost</span>' : "";
+        const told = !answer ? "" : answer.step <= at ? "yes" : '<span class="quiet">not yet</span>';
+        return `<tr><td>${state}</td><td>${process}</td><td>${escaped(operationWords(line))}</td><td>${group || ""}</td><td>${told}</td></tr>`;
+    });
+    element("recovered").innerHTML = verdict + table
+        + `<table><tr><th></th><th>process</th><th>operation</th><th>group</th><th>answered</th></tr>${rows.join("")}</table>`;
+}
+
+// ---- what a write changed
+
+function inodeChanges(number, old, now) {
+    const found = [];
+    const kinds = [old, now].map((inode) => KINDS[number16(inode, 0)] || number16(inode, 0));
+    if (kinds[0] !== kinds[1]) found.push(`type ${kinds[0]} → ${kinds[1]}`);
+    if (number16(old, 6) !== number16(now, 6)) found.push(`links ${number16(old, 6)} → ${number16(now, 6)}`);
+    if (number32(old, 8) !== number32(now, 8)) found.push(`size ${number32(old, 8)} → ${number32(now, 8)}`);
+    for (let place = 0; place < 13; place++) {
+        const [before, after] = [old, now].map((inode) => number32(inode, 12 + 4 * place));
+        if (before !== after) found.push(`address ${place}: ${before} → ${after}`);
+    }
+    return found.length ? [`inode ${number}: ${found.join(", ")}`] : [];
+}
+
+function bitChanges(old, now) {
+    const set = [];
+    const cleared = [];
+    for (let bit = 0; bit < run.size; bit++) {
+        const [was, is] = [old, now].map((block) => (block[bit >> 3] >> (bit % 8)) & 1);
+        if (is && !was) set.push(bit);
+        if (was && !is) cleared.push(bit);
+    }
+    return [...(set.length ? [`bits set: ${set.join(", ")}`] : []), ...(cleared.length ? [`bits cleared: ${cleared.join(", ")}`] : [])];
+}
+
+// What differs between two contents of a block, in words.
+function changeWords(block, old, now) {
+    if (block === LOG) return [`header: n ${number32(old, 0)} → ${number32(now, 0)}`];
+    if (block === run.bitmap) return bitChanges(old, now);
+    if (block < INODES || block > run.bitmap) return [];
+    const found = [];
+    for (let place = 0; place < 16; place++) {
+        const [before, after] = [old, now].map((bytes) => bytes.subarray(64 * place, 64 * place + 64));
+        found.push(...inodeChanges((block - INODES) * 16 + place, before, after));
+    }
+    return found;
+}
+
+function changedRows(old, now) {
+    const rows = [];
+    for (let row = 0; row < BLOCK && rows.length < 6; row += 16) {
+        const bytes = Array.from(now.subarray(row, row + 16));
+        if (!bytes.some((byte, place) => byte !== old[row + place])) continue;
+        const hex = bytes.map((byte, place) => {
+            const text = byte.toString(16).padStart(2, "0");
+            return byte === old[row + place] ? text : `<u>${text}</u>`;
+        });
+        rows.push(`${row.toString(16).padStart(3, "0")}  ${hex.join(" ")}  ${escaped(printable(bytes))}\n`);
+    }
+    return rows.join("") || "no byte differs from what was there\n";
+}
+
+function showChange(written, made) {
+    if (!made) {
+        element("changed").textContent = "This step writes nothing";
+        element("bytes").innerHTML = '<p class="quiet">The disk is as after the write before.</p>';
+        return;
+    }
+    const { write } = made;
+    const before = run.imageWith(written.slice(0, -1));
+    const words = changeWords(write.block, before[write.block], write.bytes);
+    let home = "";
+    if (write.part === "log") {
+        const block = Number(/of (\d+)/.exec(write.what)[1]);
+        home = `, a log block for the home ${block}`;
+        words.push(...changeWords(block, before[block], write.bytes).map((text) => `${text} (against the home)`));
+    }
+    element("changed").textContent = `What this write changed in block ${write.block}${home}`;
+    element("bytes").innerHTML = (words.length ? `<ul>${words.map((text) => `<li>${escaped(text)}</li>`).join("")}</ul>` : "")
+        + `<div class="bytes">${changedRows(before[write.block], write.bytes)}</div>`;
+}
+
+// ---- the page
+
+function show() {
+    at = Math.min(steps.length - 1, Math.max(-1, at));
+    const written = run.writtenBy(at);
+    const made = at >= 0 ? run.plan[at] : null;
+    const newer = newerBlocks(written);
+    showHeld(written);
+    const found = run.judge(written, lost);
+    element("at").value = at + 1;
+    element("place").textContent = `step ${at + 1} of ${steps.length}, ${counted(written.length, "write")} made`;
+    element("said").textContent = sayStep(made);
+    showLine();
+    showMemory(newer);
+    showBlocks(found.image, made, newer);
+    showLog(found.image);
+    showRecovered(found);
+    showChange(written, made);
+}
+
+function refresh() {
+    run.choose(order, holding);
+    survey = run.survey();
+    draw();
+    show();
+}
+
+function go(to) {
+    at = to;
+    lost.clear();
+    show();
+}
+
+// To the next write, or to the one before.
+function goToWrite(isOn) {
+    const places = [-1, ...steps.map((_, step) => step).filter((step) => run.plan[step])];
+    const found = isOn ? places.find((step) => step > at) : places.filter((step) => step < at).pop();
+    go(found === undefined ? (isOn ? steps.length - 1 : -1) : found);
+}
+
+function addChoices(box, words, now, choose) {
+    for (const [key, text] of Object.entries(words)) {
+        const label = document.createElement("label");
+        label.innerHTML = `<input type="radio" name="${box}" value="${key}"${now === key ? " checked" : ""}> ${escaped(text)}`;
+        label.firstChild.onchange = () => {
+            choose(key);
+            lost.clear();
+            refresh();
+        };
+        element(box).append(label);
+    }
+}
+
+function addQuestion(asking) {
+    const details = document.createElement("details");
+    details.innerHTML = `<summary>${escaped(asking.question)}</summary><p class="quiet">${escaped(asking.answer)} <button>show</button></p>`;
+    details.querySelector("button").onclick = () => {
+        order = asking.order || "log";
+        holding = asking.holding || "no";
+        for (const [box, value] of [["orders", order], ["holdings", holding]]) {
+            for (const input of element(box).querySelectorAll("input")) input.checked = input.value === value;
+        }
+        at = asking.step - 1;
+        lost.clear();
+        refresh();
+        if (asking.loses && survey[at].wrong) loseWorst();
+    };
+    element("questions").append(details);
+}
+
+function addRuns() {
+    RUNS.forEach(({ title }, index) => {
+        const option = document.createElement("option");
+        option.value = index;
+        option.textContent = `${index + 1}. ${title}`;
+        option.selected = index === chosen;
+        element("runs").append(option);
+    });
+    element("runs").hidden = RUNS.length < 2;
+    element("runs").onchange = () => {
+        location.hash = "run=" + element("runs").value;
+        location.reload();
+    };
+}
+
+let timer = 0;
+function play() {
+    if (timer) {
+        clearInterval(timer);
+        timer = 0;
+        element("play").textContent = "▶ play";
+        return;
+    }
+    if (at >= steps.length - 1) at = -1;
+    element("play").textContent = "❚❚ pause";
+    timer = setInterval(() => (at >= steps.length - 1 ? play() : go(at + 1)), matchMedia("(prefers-reduced-motion: reduce)").matches ? 1500 : 600);
+}
+
+function onKey(event) {
+    const isAtChoice = event.target.matches("input[type=radio], input[type=checkbox], select");
+    const moves = {
+        ArrowRight: () => go(at + 1), ArrowLeft: () => go(at - 1), Home: () => go(-1), End: () => go(steps.length - 1),
+        PageDown: () => goToWrite(true), PageUp: () => goToWrite(false),
+    };
+    if (isAtChoice || !moves[event.key] || (event.target.id === "at" && /Arrow|Home|End/.test(event.key))) return;
+    moves[event.key]();
+    event.preventDefault();
+}
+
+// At how many stops the page's recovery has other files than the program's, in its own order.
+function differingStops() {
+    const own = new Run(run.told);
+    return own.told.stops.filter(({ committed, files }, count) => {
+        const written = own.plan.filter((made) => made !== null).slice(0, count);
+        const found = own.filesIn(own.recovered(own.imageWith(written)));
+        const told = found.map(({ number, kind, bytes }) => [number, kind, bytes.length,
+            bytes.slice(0, 64).map((byte) => byte.toString(16).padStart(2, "0")).join("")]);
+        const groups = written.filter((made) => made.write.part === "header").length;
+        return JSON.stringify(told) !== JSON.stringify(files) || groups !== committed;
+    }).length;
+}
+
+addRuns();
+addChoices("orders", ORDER_WORDS, order, (key) => (order = key));
+addChoices("holdings", HOLDING_WORDS, holding, (key) => (holding = key));
+(run.told.questions || []).forEach(addQuestion);
+element("title").textContent = run.told.title;
+element("about").textContent = `${counted(run.writes.length, "write")}, ${counted(steps.length, "step")}, ${run.size} blocks. Move the line: ← → a step, Page Up, Page Down a write.`;
+element("at").max = steps.length;
+element("at").oninput = () => go(Number(element("at").value) - 1);
+element("back").onclick = () => goToWrite(false);
+element("on").onclick = () => goToWrite(true);
+element("play").onclick = play;
+addEventListener("keydown", onKey);
+addEventListener("resize", () => {
+    draw();
+    show();
+});
+refresh();
+const differing = differingStops();
+element("foot").textContent = `${run.told.version}. Schedule: ${run.told.schedule}. ` + (differing
+    ? `The page's recovery differs from the program's at ${counted(differing, "stop")}!`
+    : `At all ${run.told.stops.length} stops the page's recovery gives the files that xvfs recover, ls and cat tell.`);
+document.body.dataset.differing = differing;
