@@ -135,7 +135,8 @@ impl Script {
             65..=78 => Ok(Op::Read(number, offset, count)),
             79..=81 => Ok(Op::Trunc(number)),
             82..=84 => Ok(Op::Remove(number)),
-            93..=96 => Ok(Op::SetAttribute(number, Attribute::Links(self.links()))),
+            93..=94 => Ok(Op::SetAttribute(number, Attribute::Links(self.links()))),
+            95..=96 => Ok(Op::SetAttribute(number, Attribute::Size(offset))),
             _ => Ok(Op::Stat(number)),
         }
     }

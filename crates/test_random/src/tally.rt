@@ -2,7 +2,7 @@
 use crate::lengths::Lengths;
 use crate::setting::Setting;
 use kernel::Step;
-use model::types::{Entry, Op, Reply, Why};
+use model::types::{Attribute, Entry, Op, Reply, Why};
 use std::io;
 
 /// What is counted: of whole runs the operations that had their turn, their answers, and the steps
@@ -17,6 +17,7 @@ pub enum Row {
     Truncations,
     Removals,
     LinkCounts,
+    Cuts,
     Questions,
     Made,
     NoInode,
@@ -59,7 +60,7 @@ pub enum Row {
 }
 
 // What a table says of each, in their order.
-const TEXTS: [&str; 47] = [
+const TEXTS: [&str; 48] = [
     "scripts",
     "processes",
     "creations",
@@ -68,6 +69,7 @@ const TEXTS: [&str; 47] = [
     "truncations",
     "removals",
     "counts of links",
+    "cuts",
     "questions",
     "answered made",
     "answered noinode",
@@ -134,13 +136,13 @@ pub const LOST: [(Row, Row); 3] = [
 /// A count for each row.
 #[derive(Drop)]
 pub struct Tally {
-    counts: [u64; 47],
+    counts: [u64; 48],
 }
 
 impl Tally {
     /// Nothing was counted.
     pub fn new() -> Tally {
-        Tally { counts: [0; 47] }
+        Tally { counts: [0; 48] }
     }
 
     /// Counts so many more.
@@ -227,7 +229,8 @@ fn kind(op: &Op) -> Row {
         Op::Trunc(_) => Row::Truncations,
         Op::Remove(_) => Row::Removals,
         Op::Stat(_) => Row::Questions,
-        Op::SetAttribute(..) => Row::LinkCounts,
+        Op::SetAttribute(_, Attribute::Links(_)) => Row::LinkCounts,
+        Op::SetAttribute(_, Attribute::Size(_)) => Row::Cuts,
     }
 }
 
