@@ -16,6 +16,7 @@ mod targets;
 pub use copies::Copy;
 pub use making::{Making, Mkfs, make_file};
 pub use puts::{Put, bytes_from};
+pub use puts_anew::{copied_from, write_new};
 pub use refused::{CopyRefusal, PutFileRefusal, ReadFault};
 pub use rescues::Rescue;
 pub use targets::Target;

@@ -110,8 +110,12 @@ fn put_opened<'a, R: Locks + AllocGlobal>(
     }
 }
 
-// A disk in memory with the blocks of the one in a file.
-fn copied_from<F: Write + Seek + OpenFile + Drop>(
+/// A disk in memory with the blocks of the one in a file.
+///
+/// # Errors
+///
+/// `NoMemory` where memory for them is refused.
+pub fn copied_from<F: Write + Seek + OpenFile + Drop>(
     alloc: Global,
     disk: &mut FileDisk<F>,
 ) -> Result<MemDisk, NoMemory>
@@ -139,8 +143,13 @@ fn put_in(
     }
 }
 
-// Writes an image to a new file, the superblock last, and syncs it.
-fn write_new<F: Read + Write + Seek + OpenFile + Drop>(
+/// Writes an image to a new file, the superblock last, and syncs it.
+///
+/// # Errors
+///
+/// `File` where the file can't be made as large; `Of` with `NoMemory`, or with `Disk` where a write or a
+/// sync failed.
+pub fn write_new<F: Read + Write + Seek + OpenFile + Drop>(
     alloc: Global,
     image: &mut MemDisk,
     file: F,

@@ -5,7 +5,7 @@ use Rattle.clap.specs.declared.builder.action.ArgAction.TheVariants.{Append, Set
 use Rattle.cli.specs.Asking.{HasFlag, HasNumber, Wording}
 use Rattle.cli.specs.CommandLine.{flag_rule, image_app, named_app, number_rule, required_rule}
 use Rattle.names_words.specs.declared.words.Request.{Request}
-use Rattle.names_words.specs.declared.words.Request.TheVariants.{Ls, Tree, Cat, Get, Put, Rm, Mv, Ln, Mkdir, Rmdir, Check, Recount, Mkfs}
+use Rattle.names_words.specs.declared.words.Request.TheVariants.{Ls, Stat, Tree, Cat, Get, Put, Rm, Mv, Ln, Mkdir, Rmdir, Check, Recount, Mkfs}
 
 -- a look at a directory, the root where none is given
 abbrev pub look_app : List ℕ → App
@@ -47,9 +47,9 @@ abbrev pub xvnames_app : App
 xvnames_app =
     with_subcommand (with_subcommand (with_subcommand (with_subcommand (with_subcommand
     (with_subcommand (with_subcommand (with_subcommand (with_subcommand (with_subcommand
-    (with_subcommand (with_subcommand (with_subcommand
-    (named_app (codes "xvnames")) (look_app (codes "ls")).top) (look_app (codes "tree")).top)
-    (path_app (codes "cat")).top) get_app.top) put_app.top)
+    (with_subcommand (with_subcommand (with_subcommand (with_subcommand
+    (named_app (codes "xvnames")) (look_app (codes "ls")).top) (path_app (codes "stat")).top)
+    (look_app (codes "tree")).top) (path_app (codes "cat")).top) get_app.top) put_app.top)
     (changing (path_app (codes "rm"))).top) mv_app.top) ln_app.top)
     (changing (path_app (codes "mkdir"))).top) (changing (path_app (codes "rmdir"))).top)
     (image_app (codes "check")).top) (changing (image_app (codes "recount"))).top) mkfs_app.top
@@ -76,6 +76,8 @@ files_in rows = unwrap_or (all_of (codes "FILE") rows) []
 abbrev pub AsksBy : List ℕ → List Row → Request → Type 0
 AsksBy name rows (Ls image path) = (name ≡ codes "ls") × HasWord (codes "IMAGE") rows image.now
     × HasPath rows path.now
+AsksBy name rows (Stat image path) = (name ≡ codes "stat")
+    × HasWord (codes "IMAGE") rows image.now × HasWord (codes "PATH") rows path.now
 AsksBy name rows (Tree image path) = (name ≡ codes "tree")
     × HasWord (codes "IMAGE") rows image.now × HasPath rows path.now
 AsksBy name rows (Cat image path) = (name ≡ codes "cat") × HasWord (codes "IMAGE") rows image.now

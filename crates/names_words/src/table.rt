@@ -26,7 +26,7 @@ const FOLDER: Word = Word {
 const FILE_PUT: Word = Word {
     name: "FILE",
     kind: Kind::Needed,
-    help: "The path of the file whose bytes are put; a stop leaves the old bytes or the new, and of more than 3072 maybe a beginning of the new",
+    help: "The path of the file whose bytes are put; a stop leaves the old bytes or the new; of more than 3072, where the image is no plain file with one name, maybe a beginning of the new",
 };
 
 const FILES: Word = Word {
@@ -41,6 +41,12 @@ const LINES: &[Line] = &[
         about: "Lists a directory but for . and .., a line an entry: name, number, type and bytes",
         example: "Examples: xvnames ls fs.img, xvnames ls fs.img /docs",
         words: &[IMAGE_KEPT, WAIT, EXPLAIN, NO_LOCK, FOLDER],
+    },
+    Line {
+        name: "stat",
+        about: "Prints a file's number, type, bytes and count of links",
+        example: "Example: xvnames stat fs.img /README",
+        words: &[IMAGE_KEPT, WAIT, EXPLAIN, NO_LOCK, PATH],
     },
     Line {
         name: "tree",
@@ -148,7 +154,7 @@ const LINES: &[Line] = &[
     },
     Line {
         name: "check",
-        about: "Says whether an image is sound and its files a tree, and lists each path of a file whose count of links is not how many names lead to it: number, links and names",
+        about: "Says whether an image is sound and its files a tree, and lists each path of a file whose count of links is not how many names lead to it: number, links and names; where they are no tree, the files without a name",
         example: "Example: xvnames check fs.img",
         words: &[IMAGE_KEPT, WAIT, EXPLAIN, NO_LOCK],
     },

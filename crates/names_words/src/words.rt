@@ -20,6 +20,13 @@ pub enum Request<'a> {
         /// The directory's path.
         path: &'a str,
     },
+    /// A file's number, type, bytes and count of links.
+    Stat {
+        /// The path of the image's file.
+        image: &'a str,
+        /// The file's path.
+        path: &'a str,
+    },
     /// The paths below a directory.
     Tree {
         /// The path of the image's file.
@@ -217,6 +224,7 @@ fn request_of<'a>(name: &str, values: &ArgMatches<'a>) -> Option<Request<'a>>
         "recount" => recount_request(values),
         "rm" | "mkdir" | "rmdir" => change_request(name, values),
         "cat" => cat_request(values),
+        "stat" => stat_request(values),
         _ => look_request(name, values),
     }
 }
@@ -320,6 +328,15 @@ fn cat_request<'a>(values: &ArgMatches<'a>) -> Option<Request<'a>>
     ensures { IfSome result (AsksBy (codes "cat") (rows_of (found_of values.now))) }
 {
     Some(Request::Cat {
+        image: values.get_str("IMAGE")?,
+        path: values.get_str("PATH")?,
+    })
+}
+
+fn stat_request<'a>(values: &ArgMatches<'a>) -> Option<Request<'a>>
+    ensures { IfSome result (AsksBy (codes "stat") (rows_of (found_of values.now))) }
+{
+    Some(Request::Stat {
         image: values.get_str("IMAGE")?,
         path: values.get_str("PATH")?,
     })

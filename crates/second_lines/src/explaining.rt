@@ -82,7 +82,25 @@ fn of_layer<R: Files + AllocGlobal>(
 fn of_names(alloc: Global, given: &Given<'_>, refusal: Refusal<'_>) -> Option<String> {
     match refusal.number {
         21 => miscounted(alloc, given.image?, refusal.argument?),
-        number => with_phrase(alloc, given.name.or(given.image)?, names_phrase(number)?),
+        13 => with_phrase(alloc, given.image?, names_phrase(13)?),
+        number => match given.into {
+            Some(into) => of_two(alloc, given.name?, into, number),
+            None => with_phrase(alloc, given.name.or(given.image)?, names_phrase(number)?),
+        },
+    }
+}
+
+// Of a file and a path that it was to get: some are refusals of one of them alone.
+fn of_two(alloc: Global, name: &str, into: &str, number: u32) -> Option<String> {
+    let phrase = names_phrase(number)?;
+    match number {
+        3 | 20 => with_phrase(alloc, name, phrase),
+        4 | 9 => with_phrase(alloc, into, phrase),
+        _ => {
+            let name = quoted(alloc, name)?;
+            let into = quoted(alloc, into)?;
+            format!(in alloc; "{name} to {into}: {phrase}").ok()
+        }
     }
 }
 

@@ -23,6 +23,8 @@ pub struct Given<'a> {
     pub inum: Option<u32>,
     /// The path of a file of the image.
     pub name: Option<&'a str>,
+    /// The path in the image that this file gets.
+    pub into: Option<&'a str>,
     /// The path of the file that it makes of one of the image.
     pub got: Option<&'a str>,
     /// Where a check of its script met a mismatch, in words.
@@ -62,6 +64,7 @@ impl<'a> Given<'a> {
             file: None,
             inum: None,
             name: None,
+            into: None,
             got: None,
             mismatch: None,
         }

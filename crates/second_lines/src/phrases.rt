@@ -60,7 +60,7 @@ pub fn names_phrase(number: u32) -> Option<&'static str> {
         10 => Some("each number has a file"),
         11 => Some("no block is free"),
         12 => Some("a file of the image can't have so many bytes"),
-        13 => Some("the files of the image are no tree of directories"),
+        13 => Some("its files are no tree of directories"),
         14 => Some("the directory would be moved into itself"),
         15 => Some("a name of it has a zero byte"),
         16 => Some("memory was refused"),

@@ -29,6 +29,12 @@ use Rattle.tree_changes.specs.Changes.{AnyOf, HasChanged, HasMade, HasNotChanged
 use Rattle.tree_changes.specs.declared.faults.ChangeRefusal.{ChangeRefusal}
 use Rattle.tree_changes.specs.declared.faults.ChangeRefusal.TheVariants.{Unopened, Tree, Unwritten, Disk, Output}
 
+-- recovery leaves a sound image, and its files are a tree whose counts are right
+pub record IsWhole (x : Image) : Type 0 where
+  pub sound : IsSound (recovered x)
+  pub tree : IsTree (files_of (recovered x))
+  pub counted : AreCounted (files_of (recovered x))
+
 -- a disk has the same image, whether it was synced or left alone
 left_same : {D N : Type 0} (disk : Ghosts D N) (last : Bool) (d e : D) → SyncsIf last disk d e → disk.image e ≡ disk.image d
 left_same disk true d e syncs = syncs.image
@@ -97,15 +103,17 @@ module _ {D N : Type 0} (disk : Ghosts D N) (midst : Form → Files → Files �
 
 module _ {D N : Type 0} (disk : Ghosts D N) (makes : Form → Option ℕ → Files → Files → Type 0) (undone : Turn → ChangeRefusal → Type 0) (last : Bool) (d : D) (k m : Plain D) (opened : IsOpenedPair disk d k) (tree : IsTree (files_of (recovered (disk.image d)))) (right : AreCounted (files_of (recovered (disk.image d)))) where
   -- it was made
-  pub made_so : (number : Option ℕ) (dev : D) → dev ≡ m.store.volume.device → makes (form_seen disk.image k) number (files_of (image_on disk.image k)) (files_of (image_on disk.image m)) → AreCounted (files_of (recovered (image_on disk.image m))) → HasMade disk makes d dev number
-  made_so number dev same made counted = record {
+  pub made_so : (number : Option ℕ) (dev : D) → dev ≡ m.store.volume.device → makes (form_seen disk.image k) number (files_of (image_on disk.image k)) (files_of (image_on disk.image m)) → IsWhole (image_on disk.image m) → HasMade disk makes d dev number
+  made_so number dev same made whole = record {
     sound = opened.sound;
     tree = tree;
     right = right;
     made = subst (λ (o : D). makes (form_of (recovered (disk.image d))) number (files_of (recovered (disk.image d))) (files_of (disk.image o))) (sym same)
         (subst (λ (x : Image). makes (form_of (recovered (disk.image d))) number (files_of x) (files_of (image_on disk.image m))) opened.image
         (subst (λ (form : Form). makes form number (files_of (image_on disk.image k)) (files_of (image_on disk.image m))) (form_is disk (λ form files new. Unit {0}) d k m opened) made));
-    counted = subst (λ (o : D). AreCounted (files_of (recovered (disk.image o)))) (sym same) counted;
+    left_sound = subst (λ (o : D). IsSound (recovered (disk.image o))) (sym same) whole.sound;
+    left_tree = subst (λ (o : D). IsTree (files_of (recovered (disk.image o)))) (sym same) whole.tree;
+    counted = subst (λ (o : D). AreCounted (files_of (recovered (disk.image o)))) (sym same) whole.counted;
   }
 
   -- or was not
@@ -123,6 +131,8 @@ module _ {D N : Type 0} (disk : Ghosts D N) (makes : Form → Option ℕ → Fil
       tree = first.tree;
       right = first.right;
       made = subst (λ (y : Image). makes (form_of (recovered (disk.image d))) number (files_of (recovered (disk.image d))) (files_of y)) (sym (left_same disk last dev e syncs)) first.made;
+      left_sound = subst (λ (y : Image). IsSound (recovered y)) (sym (left_same disk last dev e syncs)) first.left_sound;
+      left_tree = subst (λ (y : Image). IsTree (files_of (recovered y))) (sym (left_same disk last dev e syncs)) first.left_tree;
       counted = subst (λ (y : Image). AreCounted (files_of (recovered y))) (sym (left_same disk last dev e syncs)) first.counted;
     }
 
@@ -149,14 +159,15 @@ tree_was disk d k opened tree = subst (λ (x : Image). IsTree (files_of x)) open
 pub right_was : {D N : Type 0} (disk : Ghosts D N) (d : D) (k : Plain D) → IsOpenedPair disk d k → AreCounted (files_of (image_on disk.image k)) → AreCounted (files_of (recovered (disk.image d)))
 right_was disk d k opened counted = subst (λ (x : Image). AreCounted (files_of x)) opened.image counted
 
--- What a stop leaves, now too: the counts on the disk are right.
-pub right_now : {D N : Type 0} (disk : Ghosts D N)
+-- What a stop leaves, now too: a sound image on the disk, a tree whose counts are right.
+pub whole_now : {D N : Type 0} (disk : Ghosts D N)
     → ((e : D) (t : ℕ) (x : Image) → t ≤ disk.moment e → disk.leaves e (disk.moment e) x → disk.leaves e t x)
     → ((e : D) → disk.leaves e (disk.moment e) (disk.image e)) → (midst : Files → Files → Type 0) (k m : Plain D)
-    → LeavesMidst disk midst k m → AreCounted (files_of (recovered (image_on disk.image m)))
-right_now disk counts_now has_now midst k m leaves =
+    → LeavesMidst disk midst k m → IsWhole (image_on disk.image m)
+whole_now disk counts_now has_now midst k m leaves =
     let dev = m.store.volume.device in
-    (leaves.each (disk.image dev) (counts_now dev (disk.moment k.store.volume.device) (disk.image dev) leaves.later (has_now dev))).counted
+    let kept = leaves.each (disk.image dev) (counts_now dev (disk.moment k.store.volume.device) (disk.image dev) leaves.later (has_now dev)) in
+    record { sound = kept.sound; tree = kept.tree; counted = kept.counted }
 
 -- both answers of a command, of which one is asked for
 pub both_done : (r : Result (Unit {0}) ChangeRefusal) (P Q : Type 0) → OnOk r P → Q → OnOk r (P × Q)

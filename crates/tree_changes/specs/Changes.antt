@@ -10,6 +10,7 @@ use Rattle.messages.specs.Output.{number_text}
 use Rattle.model.specs.Files.{Files, files_of}
 use Rattle.model.specs.Layout.{form_of}
 use Rattle.model.specs.Log.{recovered}
+use Rattle.model.specs.Soundness.{IsSound}
 use Rattle.model.specs.Verdict.{verdict}
 use Rattle.model.specs.declared.types.image.Form.{Form}
 use Rattle.names.specs.Making.{MakesDirectoryAt}
@@ -79,7 +80,7 @@ Tells None old new = new ≡ old
 Tells (Some number) old new = Appends old new (number_text number)
 
 -- The disk d, now e, had no fault, and its files, as recovery leaves them, were a tree whose counts were
--- right. A change made this of them, and their counts are right still.
+-- right. A change made this of them, and recovery leaves a sound image, a tree and right counts still.
 pub record HasMade {D N : Type 0} (disk : Ghosts D N)
     (makes : Form → Option ℕ → Files → Files → Type 0) (d e : D) (number : Option ℕ)
     : Type 0 where
@@ -88,6 +89,8 @@ pub record HasMade {D N : Type 0} (disk : Ghosts D N)
   pub right : AreCounted (files_of (recovered (disk.image d)))
   pub made : makes (form_of (recovered (disk.image d))) number
       (files_of (recovered (disk.image d))) (files_of (disk.image e))
+  pub left_sound : IsSound (recovered (disk.image e))
+  pub left_tree : IsTree (files_of (recovered (disk.image e)))
   pub counted : AreCounted (files_of (recovered (disk.image e)))
 
 -- the last call to it was a sync that was done where one is asked for, and the number was printed

@@ -1,11 +1,9 @@
 -- Bytes put under a path.
-use Rattle.std.specs.Prelude.{◌≡◌, ◌⊎◌, ℕ, zero, suc, ◌*◌, ◌^◌, ◌<◌, ◌≤◌, Bool, false, List, [], length, take, drop, Option, Some, Ok, Err}
+use Rattle.std.specs.Prelude.{◌≡◌, ◌⊎◌, ℕ, zero, suc, ◌*◌, ◌^◌, ◌<◌, ◌≤◌, List, [], length, take, drop, Option, Some, Ok, Err}
 use Rattle.std.specs.Int.{div_ceil}
 use Rattle.blocks.specs.declared.disk.Disk.{Ghosts}
 use Rattle.calls.specs.Calls.{image_on}
 use Rattle.calls.specs.Stepping.{Plain}
-use Rattle.cmd.specs.Lemmas.Disks.{file_disk}
-use Rattle.cmd.specs.Opened.{OpensDisk}
 use Rattle.model.specs.Files.{Files, files_of}
 use Rattle.model.specs.Operations.{transfer_limit}
 use Rattle.model.specs.declared.types.image.Form.{Form}
@@ -18,8 +16,7 @@ use Rattle.names.specs.Contents.{LeadsToNoPlain}
 use Rattle.names.specs.Writing.{Writes}
 use Rattle.tree_changes.specs.declared.faults.ChangeRefusal.{ChangeRefusal}
 use Rattle.tree_changes.specs.declared.faults.ChangeRefusal.TheVariants as change
-use Rattle.tree_changes.specs.Changes.{AnyOf, HasChanged, LeavesMidst, StopsChange}
-use Rattle.tree_changes.specs.Room.{HasRoomFor}
+use Rattle.tree_changes.specs.Changes.{AnyOf, LeavesMidst}
 
 -- the bytes were put in one transaction
 abbrev pub PutsFew : List ℕ → List ℕ → Option ℕ → Files → Files → Type 0
@@ -113,14 +110,3 @@ PutsSome path bytes form files new = ((length bytes ≤ transfer_limit) × PutsA
 abbrev pub LeavesIfDone : {D N : Type 0} → Ghosts D N → (Files → Files → Type 0) → Plain D → Plain D
     → Type 0
 LeavesIfDone disk midst k m = (m ≡ k) ⊎ LeavesMidst disk midst k m
-
--- Some bytes were put on the disk of a file, which holds writes back where `sync` says so. Where one
--- call does not write them, there was room for them before.
-pub record HasPut {F : Type 0} (remaining : F → Option (List ℕ)) (path : List ℕ)
-    (sync last : Bool) (old new : Option (List ℕ)) : Type 0 where
-  pub bytes : List ℕ
-  pub put : OpensDisk remaining file_disk sync (λ d e.
-      HasChanged file_disk (Puts path bytes) last d e old new
-      × StopsChange file_disk (PutsSome path bytes) d e)
-  pub room : transfer_limit < length bytes
-      → OpensDisk remaining file_disk false (HasRoomFor file_disk (length bytes))

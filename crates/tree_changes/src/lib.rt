@@ -11,7 +11,7 @@ mod room;
 
 pub use changes::{Link, MakeDirectory, Remove, RemoveDirectory, Rename};
 pub use faults::ChangeRefusal;
-pub use over_tree::{OverTree, TreeChange};
+pub use over_tree::{OverTree, TreeChange, change_disk};
 pub use puts::{Put, append_all};
 pub use recounting::Recount;
 pub use room::judge_room;

@@ -76,10 +76,28 @@ impl<C: TreeChange + Drop> DiskCommand for OverTree<C> {
         disk: D,
         out: &mut O,
     ) -> (Result<(), ChangeRefusal>, D) {
-        match Tree::open(alloc, disk) {
-            Ok(tree) => change_in(alloc, tree, &self.change, self.last, out),
-            Err((fault, disk)) => (Err(ChangeRefusal::Unopened(fault)), disk),
-        }
+        change_disk(alloc, disk, &self.change, self.last, out)
+    }
+}
+
+/// Opens the tree on a disk and makes a change of its files, as `OverTree`, and hands the disk back.
+pub fn change_disk<D: Disk + Drop, C: TreeChange, O: Write>(
+    alloc: Global,
+    disk: D,
+    change: &C,
+    last: bool,
+    out: &mut O,
+) -> (Result<(), ChangeRefusal>, D)
+    ensures done { OnOk result.0 (HasChanged D.Disk (C.makes change.now) last disk result.1
+        (O.contents out.old) (O.contents out.new)
+        × StopsChange D.Disk (C.midst change.now) disk result.1) }
+    ensures refused { IfErr result.0 (λ r. HasNotChanged D.Disk (C.makes change.now)
+        (C.undone change.now) last disk result.1 (out.new ≡ out.old) r
+        × StopsChange D.Disk (C.midst change.now) disk result.1) }
+{
+    match Tree::open(alloc, disk) {
+        Ok(tree) => change_in(alloc, tree, change, last, out),
+        Err((fault, disk)) => (Err(ChangeRefusal::Unopened(fault)), disk),
     }
 }
 

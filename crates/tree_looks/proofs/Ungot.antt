@@ -1,6 +1,6 @@
 -- Why files were not copied out of an image.
 use Rattle.std.proofs.Common.{◌≡◌, ℕ, List, Option, subst, inl, inr, ⊎_elim}
-use Rattle.std.specs.Prelude.{false}
+use Rattle.std.specs.Prelude.{None, false}
 use Rattle.blocks.specs.Calls.{OnlyReads}
 use Rattle.blocks.specs.declared.file.FileDisk.{FileDisk}
 use Rattle.cmd.specs.Lemmas.Disks.{file_disk}
@@ -11,7 +11,8 @@ use Rattle.cmd.specs.declared.files.OnFile.TheVariants as on
 use Rattle.model.specs.Files.{Files, files_of}
 use Rattle.model.specs.Log.{recovered}
 use Rattle.tree_looks.specs.Gets.{IsOfFolder, IsOfNew, IsUncopied, IsUngot, IsUngotAll}
-use Rattle.tree_looks.specs.Looks.{HasNoPaths, HasNotLooked, IsUnloaded, IsUnshown}
+use Rattle.model.specs.Verdict.{verdict}
+use Rattle.tree_looks.specs.Looks.{HasNoPaths, HasNotLooked, IsNoTree, IsUnseen, IsUnshown}
 use Rattle.tree_looks.specs.declared.faults.GetRefusal.{GetRefusal}
 use Rattle.tree_looks.specs.declared.faults.GetRefusal.TheVariants.{Made, Of, BadName, Output}
 use Rattle.tree_looks.specs.declared.faults.LookRefusal.{LookRefusal}
@@ -30,7 +31,7 @@ module _ {F : Type 0} (remaining : F → Option (List ℕ)) (path : List ℕ) (n
   not_read seen (on.File fault) why = (silent, tt)
   not_read seen (on.Of r) why =
       let not : HasNotLooked file_disk (IsUnshown path) why.0 why.1.0 seen r = why.1.2 in
-      (silent, (why.0, (why.1.0, why.1.1, (not.reads, ⊎_elim (λ unloaded. inl unloaded.0) (λ rest. inr (⊎_elim (λ unshown. inl unshown.0) (λ output. inr output) rest)) not.why))))
+      (silent, (why.0, (why.1.0, why.1.1, (not.reads, ⊎_elim (λ unseen. ⊎_elim (λ unloaded. inl unloaded) (λ unshown. inr (unshown.0, inl unshown.1)) unseen.0) (λ output. inr (output.0, inr output.1)) not.why))))
 
   -- the new file was
   pub not_made : (r : GetRefusal) → IsOfNew r → IsUngot remaining path none r
@@ -40,13 +41,13 @@ module _ {F : Type 0} (remaining : F → Option (List ℕ)) (path : List ℕ) (n
   not_made Output of = silent
 
   -- the files of the disk were not had
-  pub not_loaded : (d e : FileDisk F) (r : LookRefusal) → IsOpened remaining file_disk false d → OnlyReads file_disk d e → IsUnloaded file_disk d e r → IsUngotAll remaining path none (Of (on.Of r))
-  not_loaded d e r opened reads why = (silent, (d, (e, opened, (reads, inl why))))
+  pub not_loaded : (d e : FileDisk F) (r : LookRefusal) → IsOpened remaining file_disk false d → OnlyReads file_disk d e → IsUnseen file_disk IsNoTree d e r → IsUngotAll remaining path none (Of (on.Of r))
+  not_loaded d e r opened reads why = (silent, (d, (e, opened, (reads, ⊎_elim (λ unloaded. inl unloaded) (λ no_tree. inr (no_tree.0, inl no_tree.1)) why))))
 
   -- what is below the directory was not copied
-  pub not_copied : (d e : FileDisk F) (files : Files) → IsOpened remaining file_disk false d → OnlyReads file_disk d e → files ≡ files_of (recovered (file_disk.image d)) → (r : GetRefusal) → IsUncopied path files r → IsUngotAll remaining path none r
-  not_copied d e files opened reads same (Made fault) why = silent
-  not_copied d e files opened reads same (Of (on.File fault)) why = absurd why
-  not_copied d e files opened reads same (Of (on.Of r)) why = (silent, (d, (e, opened, (reads, inr (subst (λ (f : Files). HasNoPaths path f r) same why)))))
-  not_copied d e files opened reads same BadName why = silent
-  not_copied d e files opened reads same Output why = silent
+  pub not_copied : (d e : FileDisk F) (files : Files) → IsOpened remaining file_disk false d → OnlyReads file_disk d e → verdict (file_disk.image d) ≡ None → files ≡ files_of (recovered (file_disk.image d)) → (r : GetRefusal) → IsUncopied path files r → IsUngotAll remaining path none r
+  not_copied d e files opened reads sound same (Made fault) why = silent
+  not_copied d e files opened reads sound same (Of (on.File fault)) why = absurd why
+  not_copied d e files opened reads sound same (Of (on.Of r)) why = (silent, (d, (e, opened, (reads, inr (sound, inr (subst (λ (f : Files). HasNoPaths path f r) same why))))))
+  not_copied d e files opened reads sound same BadName why = silent
+  not_copied d e files opened reads sound same Output why = silent

@@ -13,7 +13,7 @@ use Rattle.names.specs.Entries.{entries_of, number_in}
 use Rattle.names.specs.Paths.{names_of}
 use Rattle.names.specs.Trees.{bytes_of, directory_in, root, leads_down, IsDirectory, IsTree}
 use Rattle.names.specs.Walks.{walked}
-use Rattle.tree_looks.specs.Looks.{HasLooked, HasNoPaths, IsUnloaded, IsUnshown, Shows}
+use Rattle.tree_looks.specs.Looks.{HasLooked, HasNoPaths, IsUnseen, IsUnshown, NotOfTree, Shows}
 use Rattle.tree_looks.specs.declared.faults.GetRefusal.{GetRefusal}
 use Rattle.tree_looks.specs.declared.faults.GetRefusal.TheVariants.{Made, Of, BadName, Output}
 use Rattle.tree_looks.specs.declared.faults.LookRefusal.{LookRefusal}
@@ -106,9 +106,8 @@ IsUncopied path files Output = ⊤
 abbrev pub IsUnread : {F : Type 0} → (F → Option (List ℕ)) → (Files → LookRefusal → Type 0)
     → OnFile LookRefusal → Type 0
 IsUnread remaining refuses (on.File fault) = ⊤
-IsUnread remaining refuses (on.Of r) = OpensDisk remaining file_disk false (λ d e.
-    OnlyReads file_disk d e × (IsUnloaded file_disk d e r
-    ⊎ refuses (files_of (recovered (file_disk.image d))) r))
+IsUnread remaining refuses (on.Of r) = OpensDisk remaining file_disk false
+    (λ d e. OnlyReads file_disk d e × IsUnseen file_disk refuses d e r)
 
 -- Why the file at a path was not copied: the new one was not made or written, or its bytes were not
 -- read, or memory for them was refused; `none` says that nothing was printed, here and below.
@@ -123,6 +122,6 @@ IsUngot remaining path none Output = none
 abbrev pub IsUngotAll : {F : Type 0} → (F → Option (List ℕ)) → List ℕ → Type 0 → GetRefusal
     → Type 0
 IsUngotAll remaining path none (Made fault) = none
-IsUngotAll remaining path none (Of r) = none × IsUnread remaining (HasNoPaths path) r
+IsUngotAll remaining path none (Of r) = none × IsUnread remaining (NotOfTree (HasNoPaths path)) r
 IsUngotAll remaining path none BadName = none
 IsUngotAll remaining path none Output = none

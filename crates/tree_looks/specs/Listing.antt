@@ -1,7 +1,8 @@
 -- What is printed of the files of directories.
-use Rattle.std.specs.Prelude.{ℕ, zero, suc, ◌-◌, ◌==◌, if◌then◌else◌, List, [], ◌++◌, length, slice_index_or, codes, decimal}
-use Rattle.std.specs.List.{flat_map}
+use Rattle.std.specs.Prelude.{ℕ, zero, suc, ◌-◌, ◌==◌, ◌&&◌, not, if◌then◌else◌, Bool, List, [], ◌++◌, length, slice_index_or, codes, decimal, is_none, Option}
+use Rattle.std.specs.List.{flat_map, list_any, range_with_len}
 use Rattle.model.specs.Files.{Files, file_in}
+use Rattle.model.specs.declared.types.image.File.{File}
 use Rattle.names.specs.Entries.{entries_of, number_in, text_in, text_of}
 use Rattle.names.specs.Trees.{bytes_of, directory_in, directory_kind, kind_of, leads_down, links_of, root}
 
@@ -29,6 +30,15 @@ abbrev pub listed : Files → List (List ℕ) → ℕ → List ℕ
 listed files names number =
     if kind_of (file_in files number) == directory_kind then listing_of files number
     else line_of files (text_of (last_of names)) number
+
+-- the line of a file itself: its number, its type, how many bytes it has, and its count of links
+abbrev pub stat_text : Option File → ℕ → List ℕ
+stat_text file number =
+    decimal number ++ codes " type " ++ decimal (kind_of file) ++ codes " size "
+    ++ decimal (length (bytes_of file)) ++ codes " links " ++ decimal (links_of file) ++ codes "\n"
+
+abbrev pub stat_line : Files → ℕ → List ℕ
+stat_line files number = stat_text (file_in files number) number
 
 -- the path of an entry behind that of its directory; one of a directory ends with a slash
 abbrev pub path_of : Files → List ℕ → List ℕ → List ℕ
@@ -76,3 +86,26 @@ wrong_line files counts path number =
 abbrev pub wrong_lines : Files → List ℕ → List ℕ
 wrong_lines files counts = wrong_line files counts (codes "/") root
     ++ told_below (wrong_line files counts) (length files) files (codes "/") root
+
+-- an entry leads down to a number
+abbrev pub leads_down_to : ℕ → List ℕ → Bool
+leads_down_to number entry = leads_down entry && (number_in entry == number)
+
+-- an entry of a directory does
+abbrev pub has_name_of : ℕ → Option File → Bool
+has_name_of number file = (kind_of file == directory_kind)
+    && list_any (leads_down_to number) (entries_of (bytes_of file))
+
+-- a file but the root, to which no entry of any directory leads down
+abbrev pub is_nameless : Files → ℕ → Bool
+is_nameless files number = not (number == root) && not (is_none (file_in files number))
+    && not (list_any (has_name_of number) files)
+
+-- its line
+abbrev pub nameless_line : Files → ℕ → List ℕ
+nameless_line files number =
+    if is_nameless files number then codes "no name " ++ stat_line files number else []
+
+-- those of all numbers, the lowest first
+abbrev pub nameless_lines : Files → List ℕ
+nameless_lines files = flat_map (nameless_line files) (range_with_len 0 (length files))

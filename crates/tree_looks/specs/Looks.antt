@@ -15,7 +15,9 @@ use Rattle.names.specs.declared.judging.JudgeFault.{JudgeFault}
 use Rattle.names.specs.declared.judging.JudgeFault.TheVariants as judge
 use Rattle.names.specs.declared.refusal.Refusal.TheVariants.{IsADirectory, NotADirectory, TooManyLinks}
 use Rattle.offline.specs.Cause.{IsCause}
-use Rattle.tree_looks.specs.Listing.{listed, paths_below, wrong_lines}
+use Rattle.tree_looks.specs.Listing.{listed, nameless_lines, paths_below, stat_line, wrong_lines}
+use Rattle.tree_looks.specs.declared.counts.Text.{Text}
+use Rattle.tree_looks.specs.declared.counts.Text.TheVariants.{Counts, Nameless}
 use Rattle.tree_looks.specs.declared.faults.LookRefusal.{LookRefusal}
 use Rattle.tree_looks.specs.declared.faults.LookRefusal.TheVariants.{Check, NoTree, Path, Refused, NoMemory, Output}
 
@@ -28,12 +30,29 @@ refusal_of judge.NoMemory = NoMemory
 abbrev pub IsUnloaded : {D N : Type 0} → Ghosts D N → D → D → LookRefusal → Type 0
 IsUnloaded disk d e (Check fault) =
     IsCause (verdict (disk.image d)) (disk.fault_count d) (disk.fault_count e) fault
-IsUnloaded disk d e NoTree = (verdict (disk.image d) ≡ None)
-    × (IsTree (files_of (recovered (disk.image d))) → ⊥)
 IsUnloaded disk d e NoMemory = verdict (disk.image d) ≡ None
+IsUnloaded disk d e NoTree = ⊥
 IsUnloaded disk d e (Path cause) = ⊥
 IsUnloaded disk d e (Refused cause) = ⊥
 IsUnloaded disk d e Output = ⊥
+
+-- they were not read, or refuse a look, for this reason
+abbrev pub IsUnseen : {D N : Type 0} → Ghosts D N → (Files → LookRefusal → Type 0) → D → D
+    → LookRefusal → Type 0
+IsUnseen disk refuses d e r = IsUnloaded disk d e r
+    ⊎ ((verdict (disk.image d) ≡ None) × refuses (files_of (recovered (disk.image d))) r)
+
+-- files are no tree
+abbrev pub IsNoTree : Files → LookRefusal → Type 0
+IsNoTree files r = (r ≡ NoTree) × (IsTree files → ⊥)
+
+-- they are a tree, of which this is told
+abbrev pub OfTree : (Files → List ℕ → Type 0) → Files → List ℕ → Type 0
+OfTree tells files text = IsTree files × tells files text
+
+-- they are none, or refuse for another reason
+abbrev pub NotOfTree : (Files → LookRefusal → Type 0) → Files → LookRefusal → Type 0
+NotOfTree refuses files r = IsNoTree files r ⊎ refuses files r
 
 -- why a path leads to no file
 abbrev pub IsNotFound : Files → List ℕ → LookRefusal → Type 0
@@ -68,6 +87,10 @@ IsUnshown path files r = IsNotFound files path r
     × IsDirectory files number))
     ⊎ (r ≡ NoMemory)
 
+-- what is told of the file at a path itself
+abbrev pub ShowsStat : List ℕ → Files → List ℕ → Type 0
+ShowsStat path files text = TellsOf files path (stat_line files) text
+
 -- the paths of all files below the directory at a path
 abbrev pub ShowsPaths : List ℕ → Files → List ℕ → Type 0
 ShowsPaths path files text = (number : ℕ) × (walked files root (names_of path) ≡ Ok number)
@@ -89,17 +112,17 @@ pub record TellsCounts (files : Files) (text : List ℕ) : Type 0 where
 abbrev pub IsUntold : Files → LookRefusal → Type 0
 IsUntold files r = ((r ≡ Refused TooManyLinks) × HasTooMany files) ⊎ (r ≡ NoMemory)
 
--- why they are not told of the disk d, now e
-abbrev pub IsNotTold : {D N : Type 0} → Ghosts D N → D → D → LookRefusal → Type 0
-IsNotTold disk d e r = IsUnloaded disk d e r ⊎ IsUntold (files_of (recovered (disk.image d))) r
+-- what is told of files that are a tree, or are none
+abbrev pub IsTextOf : Files → Text → Type 0
+IsTextOf files (Counts text) = IsTree files × TellsCounts files text.items
+IsTextOf files (Nameless text) = (IsTree files → ⊥) × (text.items ≡ nameless_lines files)
 
--- The disk d, now e, was only read; its image had no fault, and its files, as recovery would leave
--- them, were a tree, of which this was told and printed.
+-- The disk d, now e, was only read; its image had no fault, and of its files, as recovery would leave
+-- them, this was told and printed.
 pub record HasLooked {D N : Type 0} (disk : Ghosts D N) (tells : Files → List ℕ → Type 0) (d e : D)
     (old new : Option (List ℕ)) : Type 0 where
   pub reads : OnlyReads disk d e
   pub sound : verdict (disk.image d) ≡ None
-  pub tree : IsTree (files_of (recovered (disk.image d)))
   pub text : List ℕ
   pub told : tells (files_of (recovered (disk.image d))) text
   pub printed : Appends old new text
@@ -108,6 +131,15 @@ pub record HasLooked {D N : Type 0} (disk : Ghosts D N) (tells : Files → List 
 pub record HasNotLooked {D N : Type 0} (disk : Ghosts D N) (refuses : Files → LookRefusal → Type 0)
     (d e : D) (none : Type 0) (r : LookRefusal) : Type 0 where
   pub reads : OnlyReads disk d e
-  pub why : (IsUnloaded disk d e r × none)
-      ⊎ (refuses (files_of (recovered (disk.image d))) r × none)
-      ⊎ (r ≡ Output)
+  pub why : (IsUnseen disk refuses d e r × none)
+      ⊎ ((verdict (disk.image d) ≡ None) × (r ≡ Output))
+
+-- It was only read, and its counts were not told, for this reason; of files that are no tree those
+-- without a name were printed.
+pub record HasNotCounted {D N : Type 0} (disk : Ghosts D N) (d e : D) (old new : Option (List ℕ))
+    (none : Type 0) (r : LookRefusal) : Type 0 where
+  pub reads : OnlyReads disk d e
+  pub why : (IsUnseen disk IsUntold d e r × none)
+      ⊎ ((verdict (disk.image d) ≡ None) × IsNoTree (files_of (recovered (disk.image d))) r
+      × Appends old new (nameless_lines (files_of (recovered (disk.image d)))))
+      ⊎ ((verdict (disk.image d) ≡ None) × (r ≡ Output))

@@ -1,4 +1,4 @@
-// The counts of links of files that are not how many names lead to them.
+// The counts of links of files that are not how many names lead to them, and files without a name.
 ghost use Rattle.std.specs.Prelude.{◌≡◌, None, IfErr, IfOk, OnOk};
 ghost use Rattle.blocks.specs.Calls.{OnlyReads};
 ghost use Rattle.model.specs.Files.{files_of};
@@ -6,33 +6,34 @@ ghost use Rattle.model.specs.Log.{recovered};
 ghost use Rattle.model.specs.Verdict.{verdict};
 ghost use Rattle.names.specs.Trees.{IsTree};
 ghost use Rattle.tree_looks.specs.Listing.{count_line, wrong_line, wrong_lines};
-ghost use Rattle.tree_looks.specs.Looks.{HasLooked, HasNotLooked, IsNotTold, IsUntold, TellsCounts};
+ghost use Rattle.tree_looks.specs.Looks.{HasLooked, HasNotCounted, IsTextOf, IsUnseen, IsUntold, OfTree, TellsCounts};
 
 use crate::faults::LookRefusal;
 use crate::finding::links_at;
 use crate::loading::{load, refusal_of};
-use crate::looks::told;
+use crate::nameless::nameless_lines;
 use crate::over_files::print_text;
 use crate::texts::{ByPath, add_below, add_number};
 use blocks::{Disk, NoMemory};
 use cmd::DiskCommand;
 use model::types::File;
-use names::{DIRECTORY, Refusal, name_counts};
+use names::{DIRECTORY, Refusal, is_tree, name_counts};
 use std::alloc::Global;
 use std::io::Write;
 
 /// Tells which files of a disk, as recovery would leave them, have a count of links that is not how
 /// many names lead to them: a line for each path of such a file, from the root on. Of a directory its
-/// own name for itself is not counted, as in xv6. It writes no block.
+/// own name for itself is not counted, as in xv6. Of files that are no tree it tells those to which no
+/// name leads, by their numbers, and then refuses them as no tree. It writes no block.
 #[derive(Clone, Copy, Drop)]
 pub struct Counts;
 
 impl DiskCommand for Counts {
     type Refusal = LookRefusal;
 
-    ghost done = { λ counts c. HasLooked c.disk TellsCounts c.was c.now };
+    ghost done = { λ counts c. HasLooked c.disk (OfTree TellsCounts) c.was c.now };
 
-    ghost refused = { λ counts c old new. HasNotLooked c.disk IsUntold c.was c.now };
+    ghost refused = { λ counts c. HasNotCounted c.disk c.was c.now };
 
     fn run_on<D: Disk + Drop, O: Write>(
         self,
@@ -46,31 +47,42 @@ impl DiskCommand for Counts {
     }
 }
 
+// What is told of files.
+#[derive(Drop)]
+pub enum Text {
+    // Of a tree its wrong counts.
+    Counts(Vec<u8>),
+    // Of others the files without a name.
+    Nameless(Vec<u8>),
+}
+
 // Prints the lines of a disk.
 fn tell_counts<D: Disk, O: Write>(
     alloc: Global,
     disk: &mut D,
     out: &mut O,
 ) -> Result<(), LookRefusal>
-    ensures looked { OnOk result (HasLooked D.Disk TellsCounts disk.old disk.new
+    ensures looked { OnOk result (HasLooked D.Disk (OfTree TellsCounts) disk.old disk.new
         (O.contents out.old) (O.contents out.new)) }
-    ensures refused { IfErr result (HasNotLooked D.Disk IsUntold disk.old disk.new
-        (out.new ≡ out.old)) }
+    ensures refused { IfErr result (HasNotCounted D.Disk disk.old disk.new
+        (O.contents out.old) (O.contents out.new) (out.new ≡ out.old)) }
 {
     match text_of(alloc, disk) {
-        Ok(text) => print_text(out, text.as_slice()),
+        Ok(Text::Counts(text)) => print_text(out, text.as_slice()),
+        Ok(Text::Nameless(text)) => match print_text(out, text.as_slice()) {
+            Ok(()) => Err(LookRefusal::NoTree),
+            Err(refusal) => Err(refusal),
+        },
         Err(refusal) => Err(refusal),
     }
 }
 
-// The lines of a disk.
-fn text_of<D: Disk>(alloc: Global, disk: &mut D) -> Result<Vec<u8>, LookRefusal>
+// What is told of the files of a disk.
+fn text_of<D: Disk>(alloc: Global, disk: &mut D) -> Result<Text, LookRefusal>
     ensures sound { OnOk result (verdict (D.image disk.old) ≡ None) }
-    ensures tree { OnOk result (IsTree (files_of (recovered (D.image disk.old)))) }
-    ensures tells { IfOk result
-        (λ text. TellsCounts (files_of (recovered (D.image disk.old))) text.items) }
+    ensures tells { IfOk result (IsTextOf (files_of (recovered (D.image disk.old)))) }
     ensures reads { OnlyReads D.Disk disk.old disk.new }
-    ensures refused { IfErr result (IsNotTold D.Disk disk.old disk.new) }
+    ensures refused { IfErr result (IsUnseen D.Disk IsUntold disk.old disk.new) }
 {
     match load(alloc, disk) {
         Ok(files) => text_with(alloc, disk, files.as_slice()),
@@ -78,22 +90,46 @@ fn text_of<D: Disk>(alloc: Global, disk: &mut D) -> Result<Vec<u8>, LookRefusal>
     }
 }
 
-// The lines of a disk with these files.
+// What is told of a disk with these files.
 fn text_with<D: Disk>(
     alloc: Global,
     disk: &mut D,
     files: &[Option<File>],
-) -> Result<Vec<u8>, LookRefusal>
+) -> Result<Text, LookRefusal>
+    requires sound { verdict (D.image disk.old) ≡ None }
+    requires files { files.now ≡ files_of (recovered (D.image disk.old)) }
+    ensures tells { IfOk result (IsTextOf (files_of (recovered (D.image disk.old)))) }
+    ensures reads { OnlyReads D.Disk disk.old disk.new }
+    ensures refused { IfErr result (IsUnseen D.Disk IsUntold disk.old disk.new) }
+{
+    match is_tree(alloc, disk) {
+        Ok(true) => counts_with(alloc, disk, files),
+        Ok(false) => match nameless_lines(alloc, files) {
+            Ok(text) => Ok(Text::Nameless(text)),
+            Err(_refused) => Err(LookRefusal::NoMemory),
+        },
+        Err(fault) => Err(refusal_of(fault)),
+    }
+}
+
+// The wrong counts of a disk with these files, which are a tree.
+fn counts_with<D: Disk>(
+    alloc: Global,
+    disk: &mut D,
+    files: &[Option<File>],
+) -> Result<Text, LookRefusal>
     requires sound { verdict (D.image disk.old) ≡ None }
     requires tree { IsTree (files_of (recovered (D.image disk.old))) }
     requires files { files.now ≡ files_of (recovered (D.image disk.old)) }
-    ensures tells { IfOk result
-        (λ text. TellsCounts (files_of (recovered (D.image disk.old))) text.items) }
+    ensures tells { IfOk result (IsTextOf (files_of (recovered (D.image disk.old)))) }
     ensures reads { OnlyReads D.Disk disk.old disk.new }
-    ensures refused { IfErr result (IsNotTold D.Disk disk.old disk.new) }
+    ensures refused { IfErr result (IsUnseen D.Disk IsUntold disk.old disk.new) }
 {
     match name_counts(alloc, disk) {
-        Ok(Some(counts)) => told(lines_of(alloc, files, counts.as_slice())),
+        Ok(Some(counts)) => match lines_of(alloc, files, counts.as_slice()) {
+            Ok(text) => Ok(Text::Counts(text)),
+            Err(_refused) => Err(LookRefusal::NoMemory),
+        },
         Ok(None) => Err(LookRefusal::Refused(Refusal::TooManyLinks)),
         Err(fault) => Err(refusal_of(fault)),
     }

@@ -14,7 +14,7 @@ use names::{DIRECTORY, Name, Refusal, lookup, names_of};
 use std::alloc::Global;
 
 // The type of a directory.
-const DIRECTORY_KIND: u16 = 1;
+pub const DIRECTORY_KIND: u16 = 1;
 
 // The names of a path, and the number of the file that they lead to.
 #[derive(Drop)]
@@ -75,17 +75,17 @@ fn led_by(bytes: &[u8], name: &Name) -> Result<u32, Refusal>
 }
 
 // The file of a number, if there is one.
-fn file_in(files: &[Option<File>], number: u32) -> Option<&File>
+pub fn file_in(files: &[Option<File>], number: usize) -> Option<&File>
     ensures { option_copied result ≡ file_in files.now number }
 {
-    match files.get(number as usize) {
+    match files.get(number) {
         Some(Some(file)) => Some(file),
         _ => None,
     }
 }
 
 // The type of a file, and 0 where there is none.
-fn kind_of(file: Option<&File>) -> u16
+pub fn kind_of(file: Option<&File>) -> u16
     ensures { result ≡ kind_of (option_copied file.entry) }
 {
     match file {
@@ -95,7 +95,7 @@ fn kind_of(file: Option<&File>) -> u16
 }
 
 // A file's count of links, and 0 where there is none.
-fn links_of(file: Option<&File>) -> u16
+pub fn links_of(file: Option<&File>) -> u16
     ensures { result ≡ links_of (option_copied file.entry) }
 {
     match file {
@@ -105,7 +105,7 @@ fn links_of(file: Option<&File>) -> u16
 }
 
 // The bytes of a file; none where there is no file.
-fn bytes_of<'a>(file: Option<&'a File>) -> &'a [u8]
+pub fn bytes_of<'a>(file: Option<&'a File>) -> &'a [u8]
     ensures { result.now ≡ bytes_of (option_copied file.entry) }
 {
     match file {
@@ -118,21 +118,21 @@ fn bytes_of<'a>(file: Option<&'a File>) -> &'a [u8]
 pub fn kind_at(files: &[Option<File>], number: u32) -> u16
     ensures { result ≡ kind_of (file_in files.now number) }
 {
-    kind_of(file_in(files, number))
+    kind_of(file_in(files, number as usize))
 }
 
 // The count of links of a number's file, and 0 where there is none.
 pub fn links_at(files: &[Option<File>], number: u32) -> u16
     ensures { result ≡ links_of (file_in files.now number) }
 {
-    links_of(file_in(files, number))
+    links_of(file_in(files, number as usize))
 }
 
 // The bytes of a number's file; none where there is no file.
 pub fn bytes_at(files: &[Option<File>], number: u32) -> &[u8]
     ensures { result.now ≡ bytes_of (file_in files.now number) }
 {
-    bytes_of(file_in(files, number))
+    bytes_of(file_in(files, number as usize))
 }
 
 // Whether a number's file is a directory.

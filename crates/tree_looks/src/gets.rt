@@ -23,7 +23,7 @@ ghost use Rattle.tree_looks.specs.declared.faults.GetRefusal.TheVariants as get;
 
 use crate::faults::{GetRefusal, LookRefusal};
 use crate::finding::{bytes_at, find, is_directory};
-use crate::loading::load;
+use crate::loading::load_tree;
 use crate::looks::Cat;
 use crate::over_files::OverFiles;
 use blocks::FileFault;
@@ -105,7 +105,7 @@ fn fault_of(error: io::Error) -> FileFault {
 }
 
 /// Copies the directory at a path of the image in the file at the path `image`, with all below it, into a
-/// new folder at the path `folder`. Where that can't be done to its end, the folder is taken away again.
+/// new folder at the path `folder`, where the files are a tree. Where that can't be done to its end, the folder is taken away again.
 #[derive(Clone, Copy, Drop)]
 pub struct GetAll<'a> {
     /// The path of the image's file.
@@ -133,7 +133,7 @@ impl<'a, R: Locks + AllocGlobal> Command<R> for GetAll<'a> {
             Ok(disk) => disk,
             Err(fault) => return Err(GetRefusal::Of(OnFile::File(fault))),
         };
-        let files = match load(rt.alloc(), &mut disk) {
+        let files = match load_tree(rt.alloc(), &mut disk) {
             Ok(files) => files,
             Err(refusal) => return Err(of(refusal)),
         };

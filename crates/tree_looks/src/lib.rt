@@ -8,11 +8,12 @@ mod finding;
 mod gets;
 mod loading;
 mod looks;
+mod nameless;
 mod over_files;
 mod texts;
 
 pub use counts::Counts;
 pub use faults::{GetRefusal, LookRefusal, path_told, refusal_told};
 pub use gets::{Get, GetAll};
-pub use looks::{Cat, Ls, Paths};
-pub use over_files::{Look, OverFiles};
+pub use looks::{Cat, Ls, Paths, Stat};
+pub use over_files::{InTree, Look, OverFiles};

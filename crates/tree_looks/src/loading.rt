@@ -7,7 +7,7 @@ ghost use Rattle.model.specs.Verdict.{verdict};
 ghost use Rattle.names.specs.Judging.{KeepsCount};
 ghost use Rattle.names.specs.Trees.{IsTree};
 ghost use Rattle.offline.specs.Checked.{IsCheckedOf};
-ghost use Rattle.tree_looks.specs.Looks.{IsUnloaded, refusal_of};
+ghost use Rattle.tree_looks.specs.Looks.{refusal_of, IsNoTree, IsUnloaded, IsUnseen};
 
 use crate::faults::LookRefusal;
 use blocks::{Block, Disk};
@@ -18,22 +18,40 @@ use names::{JudgeFault, is_tree};
 use offline::{Recovered, check};
 use std::alloc::Global;
 
-/// Checks the image of a disk, and reads its files, as recovery would leave them, where they are a tree:
-/// a place for each number, number 0 included. It writes no block.
+/// Checks the image of a disk, and reads its files, as recovery would leave them: a place for each
+/// number, number 0 included. It writes no block.
 ///
 /// # Errors
 ///
 /// `Check` with a fault of the image or of its check, or with `Disk` where a read behind the check
-/// failed; `NoTree` where the files of an image without a fault are no tree; `NoMemory` where memory
-/// behind the check was refused.
+/// failed; `NoMemory` where memory behind the check was refused.
 pub fn load<D: Disk>(alloc: Global, disk: &mut D) -> Result<Vec<Option<File>>, LookRefusal>
+    ensures sound { OnOk result (verdict (D.image disk.old) ≡ None) }
+    ensures files { IfOk result
+        (λ files. files.items ≡ files_of (recovered (D.image disk.old))) }
+    ensures reads { OnlyReads D.Disk disk.old disk.new }
+    ensures faults { OnOk result (D.fault_count disk.new ≡ D.fault_count disk.old) }
+    ensures refused { IfErr result (IsUnloaded D.Disk disk.old disk.new) }
+{
+    if let Err(fault) = check(alloc, disk) {
+        return Err(LookRefusal::Check(fault));
+    }
+    load_checked(alloc, disk)
+}
+
+/// Loads the files of a disk as `load`, where they are a tree.
+///
+/// # Errors
+///
+/// Those of `load`; `NoTree` where the files of an image without a fault are no tree.
+pub fn load_tree<D: Disk>(alloc: Global, disk: &mut D) -> Result<Vec<Option<File>>, LookRefusal>
     ensures sound { OnOk result (verdict (D.image disk.old) ≡ None) }
     ensures tree { OnOk result (IsTree (files_of (recovered (D.image disk.old)))) }
     ensures files { IfOk result
         (λ files. files.items ≡ files_of (recovered (D.image disk.old))) }
     ensures reads { OnlyReads D.Disk disk.old disk.new }
     ensures faults { OnOk result (D.fault_count disk.new ≡ D.fault_count disk.old) }
-    ensures refused { IfErr result (IsUnloaded D.Disk disk.old disk.new) }
+    ensures refused { IfErr result (IsUnseen D.Disk IsNoTree disk.old disk.new) }
 {
     if let Err(fault) = check(alloc, disk) {
         return Err(LookRefusal::Check(fault));

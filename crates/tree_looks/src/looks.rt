@@ -1,20 +1,20 @@
 // The looks at files by their paths.
 ghost use Rattle.std.specs.Prelude.{◌≡◌, [], length, IfErr, IfOk, Ok};
 ghost use Rattle.names.specs.Entries.{text_of};
-ghost use Rattle.tree_looks.specs.Listing.{last_of, listed, paths_below};
-ghost use Rattle.tree_looks.specs.Looks.{HasNoPaths, IsUnlisted, IsUnshown, Lists, Shows, ShowsPaths};
+ghost use Rattle.tree_looks.specs.Listing.{last_of, listed, paths_below, stat_line};
+ghost use Rattle.tree_looks.specs.Looks.{HasNoPaths, IsUnlisted, IsUnshown, Lists, Shows, ShowsPaths, ShowsStat};
 
 use crate::faults::LookRefusal;
-use crate::finding::{bytes_at, find, is_directory};
+use crate::finding::{bytes_at, file_in, find, is_directory};
 use crate::over_files::Look;
-use crate::texts::{PathLine, add_below, add_line, add_listing};
+use crate::texts::{PathLine, add_below, add_line, add_listing, stat_text};
 use blocks::NoMemory;
 use model::types::File;
 use names::{Name, Refusal};
 use std::alloc::Global;
 
 /// Lists the directory at a path, a line for each entry in its order, but none for its own two; of
-/// another file its line.
+/// another file its line. Of a number that no file has the type and the bytes are 0.
 #[derive(Clone, Copy, Drop)]
 pub struct Ls<'a> {
     /// The path, from the root.
@@ -24,6 +24,13 @@ pub struct Ls<'a> {
 /// The bytes of the file at a path.
 #[derive(Clone, Copy, Drop)]
 pub struct Cat<'a> {
+    /// The path, from the root.
+    pub path: &'a str,
+}
+
+/// Tells of the file at a path itself: its number, its type, its bytes and its count of links.
+#[derive(Clone, Copy, Drop)]
+pub struct Stat<'a> {
     /// The path, from the root.
     pub path: &'a str,
 }
@@ -63,6 +70,19 @@ impl<'a> Look for Cat<'a> {
                 }
                 told(copy(alloc, bytes_at(files, number)))
             }
+            Err(refusal) => Err(refusal),
+        }
+    }
+}
+
+impl<'a> Look for Stat<'a> {
+    ghost tells = { λ look. ShowsStat look.path.now };
+
+    ghost refuses = { λ look. IsUnlisted look.path.now };
+
+    fn text(&self, alloc: Global, files: &[Option<File>]) -> Result<Vec<u8>, LookRefusal> {
+        match find(alloc, files, self.path.as_bytes()) {
+            Ok(found) => told(line_of(alloc, files, found.number)),
             Err(refusal) => Err(refusal),
         }
     }
@@ -124,6 +144,13 @@ fn last_of(names: &[Name]) -> &[u8]
         Some(name) => name.text(),
         None => &[],
     }
+}
+
+// What is told of a file itself.
+fn line_of(alloc: Global, files: &[Option<File>], number: u32) -> Result<Vec<u8>, NoMemory>
+    ensures { IfOk result (λ text. text.items ≡ stat_line files.now number) }
+{
+    stat_text(alloc, file_in(files, number as usize), u64::from(number))
 }
 
 // The same bytes.

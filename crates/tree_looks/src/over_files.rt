@@ -2,11 +2,11 @@
 ghost use Rattle.std.specs.Prelude.{◌≡◌, ℕ, List, IfErr, IfOk, OnOk};
 ghost use Rattle.std.specs.Io.KnownBytes.{Appends};
 ghost use Rattle.model.specs.Files.{Files};
-ghost use Rattle.tree_looks.specs.Looks.{HasLooked, HasNotLooked};
+ghost use Rattle.tree_looks.specs.Looks.{HasLooked, HasNotLooked, NotOfTree, OfTree};
 ghost use Rattle.tree_looks.specs.declared.faults.LookRefusal.{LookRefusal as SomeLookRefusal};
 
 use crate::faults::LookRefusal;
-use crate::loading::load;
+use crate::loading::{load, load_tree};
 use blocks::Disk;
 use cmd::DiskCommand;
 use messages::{pass_on, write_bytes};
@@ -28,8 +28,8 @@ pub trait Look {
         ensures refused { IfErr result (refuses self.now files.now) };
 }
 
-/// Prints what a look tells of the files of a disk, as recovery would leave them, where they are a
-/// tree. It writes no block.
+/// Prints what a look tells of the files of a disk, as recovery would leave them. They need be no tree.
+/// It writes no block.
 #[derive(Clone, Copy, Drop)]
 pub struct OverFiles<L>(pub L);
 
@@ -65,6 +65,51 @@ fn look_at<D: Disk, L: Look, O: Write>(
         (out.new ≡ out.old)) }
 {
     match load(alloc, disk) {
+        Ok(files) => match look.text(alloc, files.as_slice()) {
+            Ok(text) => print_text(out, text.as_slice()),
+            Err(refusal) => Err(refusal),
+        },
+        Err(refusal) => Err(refusal),
+    }
+}
+
+/// Prints what a look tells of the files of a disk, as recovery would leave them, where they are a
+/// tree. It writes no block.
+#[derive(Clone, Copy, Drop)]
+pub struct InTree<L>(pub L);
+
+impl<L: Look + Drop> DiskCommand for InTree<L> {
+    type Refusal = LookRefusal;
+
+    ghost done = { λ tree c. HasLooked c.disk (OfTree (L.tells tree.0)) c.was c.now };
+
+    ghost refused = { λ tree c old new. HasNotLooked c.disk (NotOfTree (L.refuses tree.0)) c.was c.now };
+
+    fn run_on<D: Disk + Drop, O: Write>(
+        self,
+        alloc: Global,
+        disk: D,
+        out: &mut O,
+    ) -> (Result<(), LookRefusal>, D) {
+        let mut disk = disk;
+        let ended = look_in_tree(alloc, &mut disk, &self.0, out);
+        (ended, disk)
+    }
+}
+
+// Prints what a look tells of the files of a disk, which are a tree.
+fn look_in_tree<D: Disk, L: Look, O: Write>(
+    alloc: Global,
+    disk: &mut D,
+    look: &L,
+    out: &mut O,
+) -> Result<(), LookRefusal>
+    ensures looked { OnOk result (HasLooked D.Disk (OfTree (L.tells look.now)) disk.old disk.new
+        (O.contents out.old) (O.contents out.new)) }
+    ensures refused { IfErr result (HasNotLooked D.Disk (NotOfTree (L.refuses look.now))
+        disk.old disk.new (out.new ≡ out.old)) }
+{
+    match load_tree(alloc, disk) {
         Ok(files) => match look.text(alloc, files.as_slice()) {
             Ok(text) => print_text(out, text.as_slice()),
             Err(refusal) => Err(refusal),

@@ -1,8 +1,9 @@
 // What is printed of the files of directories.
 ghost use Rattle.std.specs.Prelude.{◌≡◌, ◌++◌, ℕ, List, IfOk, OnOk, decimal};
-ghost use Rattle.tree_looks.specs.Listing.{entry_line, line_of, listing_of, path_line, path_of, told_below, told_entry};
+ghost use Rattle.std.specs.Option.{option_copied};
+ghost use Rattle.tree_looks.specs.Listing.{entry_line, line_of, listing_of, path_line, path_of, stat_text, told_below, told_entry};
 
-use crate::finding::{bytes_at, is_directory, kind_at};
+use crate::finding::{bytes_at, bytes_of, is_directory, kind_at, kind_of, links_of};
 use blocks::NoMemory;
 use itoa::Buffer;
 use model::types::File;
@@ -39,6 +40,32 @@ fn line_of(
     add_number(&mut line, u64::from(kind_at(files, number)))?;
     line.extend_from_slice(b" size ")?;
     add_number(&mut line, bytes_at(files, number).len() as u64)?;
+    line.extend_from_slice(b"\n")?;
+    Ok(line)
+}
+
+// Adds the line of a file itself: its number, its type, how many bytes it has, and its count of links.
+pub fn add_stat(text: &mut Vec<u8>, file: Option<&File>, number: u64) -> Result<(), NoMemory>
+    ensures { OnOk result
+        (text.new.items ≡ text.old.items ++ stat_text (option_copied file.entry) number) }
+{
+    let line = stat_text(*text.allocator(), file, number)?;
+    text.extend_from_slice(line.as_slice())?;
+    Ok(())
+}
+
+// That line.
+pub fn stat_text(alloc: Global, file: Option<&File>, number: u64) -> Result<Vec<u8>, NoMemory>
+    ensures { IfOk result (λ line. line.items ≡ stat_text (option_copied file.entry) number) }
+{
+    let mut line = Vec::new(alloc);
+    add_number(&mut line, number)?;
+    line.extend_from_slice(b" type ")?;
+    add_number(&mut line, u64::from(kind_of(file)))?;
+    line.extend_from_slice(b" size ")?;
+    add_number(&mut line, bytes_of(file).len() as u64)?;
+    line.extend_from_slice(b" links ")?;
+    add_number(&mut line, u64::from(links_of(file)))?;
     line.extend_from_slice(b"\n")?;
     Ok(line)
 }

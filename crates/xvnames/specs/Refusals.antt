@@ -20,11 +20,6 @@ use Rattle.xvnames.specs.declared.refused.MkfsRefusal.TheVariants as mkfs
 use Rattle.xvnames.specs.declared.refused.PutRefusal.{PutRefusal}
 use Rattle.xvnames.specs.declared.refused.PutRefusal.TheVariants as put
 
-abbrev pub put_telling : PutRefusal → Telling
-put_telling (put.Unread fault) = reading_telling fault
-put_telling (put.NoRoom refused) = on_file_telling change_telling refused
-put_telling (put.Of refused) = on_file_telling change_telling refused
-
 abbrev pub fill_telling : FillFault → Telling
 fill_telling (fill.Mkfs fault) = planning_telling fault
 fill_telling (fill.Change refused) = change_telling refused
@@ -34,30 +29,3 @@ mkfs_telling (mkfs.Unplanned fault) = planning_telling fault
 mkfs_telling (mkfs.Unread fault) = reading_telling fault
 mkfs_telling (mkfs.Of refused) = on_file_telling fill_telling refused
 mkfs_telling mkfs.Output = unwritten
-
--- Some bytes were not put on the disk of a file, for this reason, and what a stop leaves of that. Where
--- one call does not write them, there was room for them before. `none` says that nothing was printed.
-pub record HasNotPut {F : Type 0} (remaining : F → Option (List ℕ)) (path : List ℕ)
-    (sync last : Bool) (none : Type 0) (r : OnFile ChangeRefusal) : Type 0 where
-  pub bytes : List ℕ
-  pub refused : IsRefusedOn remaining sync none (λ d e why.
-      HasNotChanged file_disk (Puts path bytes)
-      (λ t. IsUnputAt t.disk path bytes t.was t.now) last d e none why
-      × StopsChange file_disk (PutsSome path bytes) d e) r
-  pub room : transfer_limit < length bytes
-      → OpensDisk remaining file_disk false (HasRoomFor file_disk (length bytes))
-
--- so many bytes have no room on the disk of a file, which was only read; or that can't be used as one
-abbrev pub HasNoRoom : {F : Type 0} → (F → Option (List ℕ)) → ℕ → OnFile ChangeRefusal → Type 0
-HasNoRoom remaining count (File fault) = ⊤
-HasNoRoom remaining count (Of r) =
-    OpensDisk remaining file_disk false (λ d e. LacksRoom file_disk count d e r)
-
--- why bytes were not put: they can't be had, or are more than one call writes and have no room, or the
--- change was not made
-abbrev pub IsUnput : {F : Type 0} → (F → Option (List ℕ)) → List ℕ → Bool → Bool → Type 0
-    → PutRefusal → Type 0
-IsUnput remaining path sync last none (put.Unread fault) = none
-IsUnput remaining path sync last none (put.NoRoom r) = none
-    × ((bytes : List ℕ) × (transfer_limit < length bytes) × HasNoRoom remaining (length bytes) r)
-IsUnput remaining path sync last none (put.Of r) = HasNotPut remaining path sync last none r

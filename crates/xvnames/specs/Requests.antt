@@ -21,16 +21,16 @@ use Rattle.names.specs.Walks.{IsUndoneIn}
 use Rattle.names.specs.declared.refusal.Refusal.{Refusal}
 use Rattle.names_words.specs.CommandLine.{xvnames_words}
 use Rattle.names_words.specs.declared.words.Request.{Request}
-use Rattle.names_words.specs.declared.words.Request.TheVariants.{Ls, Tree, Cat, Get, Put, Rm, Mv, Ln, Mkdir, Rmdir, Check, Recount, Mkfs}
+use Rattle.names_words.specs.declared.words.Request.TheVariants.{Ls, Stat, Tree, Cat, Get, Put, Rm, Mv, Ln, Mkdir, Rmdir, Check, Recount, Mkfs}
 use Rattle.tree_changes.specs.Changes.{AnyOf, HasChanged, HasNotChanged, MakesDirectory, OnTree, Plainly, StopsChange, Turn}
-use Rattle.tree_changes.specs.Puts.{HasPut}
 use Rattle.tree_changes.specs.Recounts.{HasNotRecounted, TellsRecount}
 use Rattle.tree_changes.specs.declared.faults.ChangeRefusal.{ChangeRefusal}
 use Rattle.tree_looks.specs.Gets.{HasGot, HasGotAll, IsUngot, IsUngotAll}
-use Rattle.tree_looks.specs.Looks.{HasLooked, HasNoPaths, HasNotLooked, IsUnlisted, IsUnshown, IsUntold, Lists, Shows, ShowsPaths, TellsCounts}
+use Rattle.tree_looks.specs.Looks.{HasLooked, HasNoPaths, HasNotCounted, HasNotLooked, IsUnlisted, IsUnshown, Lists, NotOfTree, OfTree, Shows, ShowsPaths, ShowsStat, TellsCounts}
 use Rattle.tree_looks.specs.declared.faults.LookRefusal.{LookRefusal}
+use Rattle.tree_puts.specs.Puts.{HasPut}
+use Rattle.tree_puts.specs.Refusals.{IsUnput}
 use Rattle.xvnames.specs.Making.{IsMadeWith}
-use Rattle.xvnames.specs.Refusals.{IsUnput}
 use Rattle.xvnames.specs.Unmade.{IsNotMadeWith}
 
 -- a disk was opened from a file, and this told of its files
@@ -68,7 +68,9 @@ making_asked size ninodes no_sync =
 abbrev pub Answers : {F : Type 0} → (F → Option (List ℕ)) → (F → Option (List ℕ)) → Request
     → Option (List ℕ) → Option (List ℕ) → Type 0
 Answers remaining contents (Ls image path) old new = Looks remaining (Lists path.now) old new
-Answers remaining contents (Tree image path) old new = Looks remaining (ShowsPaths path.now) old new
+Answers remaining contents (Stat image path) old new = Looks remaining (ShowsStat path.now) old new
+Answers remaining contents (Tree image path) old new =
+    Looks remaining (OfTree (ShowsPaths path.now)) old new
 Answers remaining contents (Cat image path) old new = Looks remaining (Shows path.now) old new
 Answers remaining contents (Get image path file all) old new =
     Gets remaining contents all path.now old new
@@ -89,7 +91,7 @@ Answers remaining contents (Mkdir image path sync no_sync) old new = Changes rem
 Answers remaining contents (Rmdir image path sync no_sync) old new = Changes remaining
     (λ form. Plainly (RemovesDirectoryAt (names_of path.now)))
     (λ form. AnyOf (RemovesDirectoryAt (names_of path.now))) sync no_sync old new
-Answers remaining contents (Check image) old new = Looks remaining TellsCounts old new
+Answers remaining contents (Check image) old new = Looks remaining (OfTree TellsCounts) old new
 Answers remaining contents (Recount image sync no_sync) old new =
     Recounts remaining sync no_sync old new
 Answers {F} remaining contents (Mkfs image size ninodes files no_sync) old new =
@@ -105,6 +107,12 @@ abbrev pub LooksNot : {F : Type 0} → (F → Option (List ℕ)) → (Files → 
     → Type 0 → Type 0
 LooksNot remaining refuses none = Refuses
     (IsRefusedOn remaining false none (λ d e. HasNotLooked file_disk refuses d e none))
+
+-- counts were not told: no disk was opened, or of its files no more than those without a name
+abbrev pub CountsNot : {F : Type 0} → (F → Option (List ℕ)) → Option (List ℕ) → Option (List ℕ)
+    → Type 0 → Type 0
+CountsNot remaining old new none = Refuses
+    (IsRefusedOn remaining false none (λ d e. HasNotCounted file_disk d e old new none))
 
 -- a change was refused: no disk was opened, or its files were not changed so
 abbrev pub ChangesNot : {F : Type 0} → (F → Option (List ℕ))
@@ -134,7 +142,9 @@ UndoneAt path why t = OnTree (IsUndone t.disk path (IsUndoneIn why (names_of pat
 abbrev pub OnRefused : {F : Type 0} → (F → Option (List ℕ)) → Request → Option (List ℕ)
     → Option (List ℕ) → Type 0 → Type 0
 OnRefused remaining (Ls image path) old new none = LooksNot remaining (IsUnlisted path.now) none
-OnRefused remaining (Tree image path) old new none = LooksNot remaining (HasNoPaths path.now) none
+OnRefused remaining (Stat image path) old new none = LooksNot remaining (IsUnlisted path.now) none
+OnRefused remaining (Tree image path) old new none =
+    LooksNot remaining (NotOfTree (HasNoPaths path.now)) none
 OnRefused remaining (Cat image path) old new none = LooksNot remaining (IsUnshown path.now) none
 OnRefused remaining (Get image path file all) old new none = GetsNot remaining all path.now none
 OnRefused remaining (Put image file path sync no_sync) old new none =
@@ -159,7 +169,7 @@ OnRefused remaining (Rmdir image path sync no_sync) old new none = ChangesNot re
     (λ form. Plainly (RemovesDirectoryAt (names_of path.now)))
     (λ form. AnyOf (RemovesDirectoryAt (names_of path.now)))
     (UndoneAt path.now IsUnemptiedIn) sync no_sync none
-OnRefused remaining (Check image) old new none = LooksNot remaining IsUntold none
+OnRefused remaining (Check image) old new none = CountsNot remaining old new none
 OnRefused remaining (Recount image sync no_sync) old new none =
     RecountsNot remaining sync no_sync none
 OnRefused {F} remaining (Mkfs image size ninodes files no_sync) old new none =

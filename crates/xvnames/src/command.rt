@@ -14,7 +14,6 @@ ghost use Rattle.cmd.specs.declared.files.OnFile.{OnFile as SomeOnFile};
 ghost use Rattle.xvnames.specs.declared.refused.MkfsRefusal.{MkfsRefusal as SomeMkfsRefusal};
 
 use crate::making::Mkfs;
-use crate::putting::PutFile;
 use crate::telling::{Screen, given};
 use arrayvec::ArrayVec;
 use blocks::{Disk, FileDisk};
@@ -28,7 +27,8 @@ use second_lines::{Line, tell};
 use std::convert::AsStr;
 use std::io::Write;
 use tree_changes::{Link, MakeDirectory, OverTree, Recount, Remove, RemoveDirectory, Rename};
-use tree_looks::{Cat, Counts, Get, GetAll, Ls, OverFiles, Paths};
+use tree_puts::PutFile;
+use tree_looks::{Cat, Counts, Get, GetAll, InTree, Ls, OverFiles, Paths, Stat};
 
 /// The program's name, with which the line of each refusal begins.
 pub const NAME: &str = "xvnames";
@@ -41,7 +41,7 @@ pub const NAME: &str = "xvnames";
 /// With 0 the words make a command, and `out` has its answer, which is that of the disk that was
 /// opened from a file; or they ask for help or the version, whose text is clap's. With 1 they do too.
 /// Then no disk was opened, or the refusal is that disk's; and nothing was printed, unless the output
-/// failed. With 2 nothing is written to `out`, with 0 nothing to `err`.
+/// failed, but for what `check` tells of files that are no tree. With 2 nothing is written to `out`, with 0 nothing to `err`.
 pub(crate) fn command<R: Locks + AllocGlobal + Screen, S: AsStr, O: Write, E: Write>(
     rt: &R,
     words: &[S],
@@ -164,14 +164,15 @@ fn dispatch<R: Locks + AllocGlobal, O: Write, E: Write>(
 {
     match &asked.request {
         Request::Ls { image, path } => look(rt, image, locking, OverFiles(Ls { path }), out, err),
-        Request::Tree { image, path } => look(
+        Request::Stat { image, path } => look(
             rt,
             image,
             locking,
-            OverFiles(Paths { path }),
+            OverFiles(Stat { path }),
             out,
             err,
         ),
+        Request::Tree { image, path } => look(rt, image, locking, InTree(Paths { path }), out, err),
         Request::Cat { image, path } => look(rt, image, locking, OverFiles(Cat { path }), out, err),
         Request::Get {
             image,
@@ -195,6 +196,7 @@ fn dispatch<R: Locks + AllocGlobal, O: Write, E: Write>(
                 sync: *sync,
                 last: !*no_sync,
                 locking,
+                holder: Keeper::new(rt, locking),
             },
             out,
             err,

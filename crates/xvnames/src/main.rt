@@ -4,7 +4,6 @@
 mod batch;
 mod command;
 mod making;
-mod putting;
 mod refused;
 mod telling;
 

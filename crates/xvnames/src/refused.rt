@@ -1,35 +1,12 @@
 // Why a command over files of the system isn't done.
 ghost use Rattle.std.specs.Prelude.{◌≡◌};
-ghost use Rattle.xvnames.specs.Refusals.{fill_telling, mkfs_telling, put_telling};
+ghost use Rattle.xvnames.specs.Refusals.{fill_telling, mkfs_telling};
 
 use cmd::OnFile;
 use commands_changes::ReadFault;
 use layout::MkfsFault;
 use messages::{Reason, Told, Unwritten};
 use tree_changes::ChangeRefusal;
-
-/// Why a file of the system isn't put into an image.
-#[derive(Clone, Copy, Debug)]
-pub enum PutRefusal {
-    /// Its bytes can't be had.
-    Unread(ReadFault),
-    /// The image's file can't be used as a disk, or they have no room in the image; it is as it was.
-    NoRoom(OnFile<ChangeRefusal>),
-    /// The image's file can't be used as a disk, or they aren't put into the image.
-    Of(OnFile<ChangeRefusal>),
-}
-
-impl Reason for PutRefusal {
-    ghost telling = { put_telling };
-
-    fn told(&self) -> Told {
-        match self {
-            PutRefusal::Unread(fault) => fault.told(),
-            PutRefusal::NoRoom(refusal) => refusal.told(),
-            PutRefusal::Of(refusal) => refusal.told(),
-        }
-    }
-}
 
 /// Why an image isn't made with files on a disk.
 #[derive(Clone, Copy, Debug)]

@@ -20,6 +20,7 @@ impl Screen for HostRuntime {
 pub fn given<'a>(request: &Request<'a>) -> Given<'a> {
     match *request {
         Request::Ls { image, path } => at(image, path, false),
+        Request::Stat { image, path } => at(image, path, false),
         Request::Tree { image, path } => at(image, path, false),
         Request::Cat { image, path } => at(image, path, false),
         Request::Get {
@@ -42,8 +43,18 @@ pub fn given<'a>(request: &Request<'a>) -> Given<'a> {
             ..at(image, path, true)
         },
         Request::Rm { image, path, .. } => at(image, path, true),
-        Request::Mv { image, from, .. } => at(image, from, true),
-        Request::Ln { image, path, .. } => at(image, path, true),
+        Request::Mv {
+            image,
+            from,
+            to,
+            ..
+        } => between(image, from, to),
+        Request::Ln {
+            image,
+            path,
+            into,
+            ..
+        } => between(image, path, into),
         Request::Mkdir { image, path, .. } => at(image, path, true),
         Request::Rmdir { image, path, .. } => at(image, path, true),
         Request::Check { image } => Given::over(image, false),
@@ -57,6 +68,14 @@ pub fn given<'a>(request: &Request<'a>) -> Given<'a> {
             name: Some(image),
             ..Given::making(image, size, ninodes)
         },
+    }
+}
+
+// What a command was given that gives a file of the image another path.
+fn between<'a>(image: &'a str, path: &'a str, into: &'a str) -> Given<'a> {
+    Given {
+        into: Some(into),
+        ..at(image, path, true)
     }
 }
 

@@ -1,4 +1,4 @@
-use Rattle.xvnames.proofs.putting.judge.Goals as goal
+use Rattle.tree_puts.proofs.putting.judge.Goals as goal
 
 pub returns-in-Ok-judge_room-clause-room : goal.returns-in-Ok-judge_room-clause-room
 returns-in-Ok-judge_room-clause-room g c = λ many. (c.in-Ok.disk, (c.judge_room.new.disk, c.in-Ok.ensures, c.in-Ok-judge_room.ensures.room))

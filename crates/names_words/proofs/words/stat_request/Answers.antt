@@ -1,0 +1,11 @@
+use Rattle.std.proofs.Common.{codes, refl}
+use Rattle.clap.specs.Words.{found_of}
+use Rattle.cli.specs.Lemmas.Parses.{value_read}
+use Rattle.names_words.proofs.words.stat_request.Goals as goal
+
+pub returns : goal.returns
+returns c = (
+  refl,
+  value_read (found_of c.args.values.now) (codes "IMAGE") _ c.in_ok-get_str.ensures,
+  value_read (found_of c.args.values.now) (codes "PATH") _ c.in_ok-get_str-2.ensures,
+)

@@ -1,0 +1,86 @@
+// Files to which no name leads.
+ghost use Rattle.std.specs.Prelude.{◌≡◌, ◌++◌, codes, IfOk, OnOk, not, is_none};
+ghost use Rattle.std.specs.List.{list_any};
+ghost use Rattle.model.specs.Files.{file_in};
+ghost use Rattle.names.specs.Entries.{entries_of};
+ghost use Rattle.tree_looks.specs.Listing.{has_name_of, is_nameless, leads_down_to, nameless_line, nameless_lines, stat_line};
+
+use crate::finding::{DIRECTORY_KIND, file_in};
+use crate::texts::add_stat;
+use blocks::NoMemory;
+use model::types::File;
+use names::{ENTRY_SIZE, entries_in, leads_down, number_in};
+use std::alloc::Global;
+
+// The root's number.
+const ROOT: usize = 1;
+
+// The lines of files to which no name leads, the lowest number first.
+pub fn nameless_lines(alloc: Global, files: &[Option<File>]) -> Result<Vec<u8>, NoMemory>
+    ensures { IfOk result (λ text. text.items ≡ nameless_lines files.now) }
+{
+    let mut text = Vec::new(alloc);
+    for number in 0..files.len() {
+        add_nameless(&mut text, files, number)?;
+    }
+    Ok(text)
+}
+
+// Adds the line of a file, if no name leads to it.
+fn add_nameless(text: &mut Vec<u8>, files: &[Option<File>], number: usize) -> Result<(), NoMemory>
+    ensures { OnOk result (text.new.items ≡ text.old.items ++ nameless_line files.now number) }
+{
+    if is_nameless(files, number) {
+        let line = line_of(*text.allocator(), files, number)?;
+        text.extend_from_slice(line.as_slice())?;
+    }
+    Ok(())
+}
+
+// That line.
+fn line_of(alloc: Global, files: &[Option<File>], number: usize) -> Result<Vec<u8>, NoMemory>
+    ensures { IfOk result (λ line. line.items ≡ codes "no name " ++ stat_line files.now number) }
+{
+    let mut line = Vec::from_slice(alloc, b"no name ")?;
+    add_stat(&mut line, file_in(files, number), number as u64)?;
+    Ok(line)
+}
+
+// Whether a number is that of a file but the root, and no name leads to it.
+fn is_nameless(files: &[Option<File>], number: usize) -> bool
+    ensures { result ≡ is_nameless files.now number }
+{
+    number != ROOT && file_in(files, number).is_some() && !is_named(files, number)
+}
+
+// Whether an entry of a directory among these files leads down to a number.
+fn is_named(files: &[Option<File>], number: usize) -> bool
+    ensures { result ≡ list_any (has_name_of number) files.now }
+{
+    files.iter().any(|file| has_name_of(file, number))
+}
+
+// Whether one of this file does.
+fn has_name_of(file: &Option<File>, number: usize) -> bool
+    ensures { result ≡ has_name_of number file.now }
+{
+    match file {
+        Some(file) => file.kind == DIRECTORY_KIND && leads_to(file.bytes.as_slice(), number),
+        None => false,
+    }
+}
+
+// Whether an entry among these bytes does.
+fn leads_to(bytes: &[u8], number: usize) -> bool
+    ensures { result ≡ list_any (leads_down_to number) (entries_of bytes.now) }
+{
+    entries_in(bytes)
+        .iter()
+        .any(|entry| leads_down_to(entry, number))
+}
+
+fn leads_down_to(entry: &[u8; ENTRY_SIZE], number: usize) -> bool
+    ensures { result ≡ leads_down_to number entry.now }
+{
+    leads_down(entry) && usize::from(number_in(entry)) == number
+}

@@ -1,0 +1,2 @@
+mod Anyhow
+mod Long

@@ -1,0 +1,3 @@
+pub mod Anew
+pub mod Puts
+pub mod Refusals
