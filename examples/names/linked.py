@@ -1,7 +1,8 @@
 """A file with two names, as xv6 links one: the second entry and the count of links are written into an image by
 hand. It is read and written by both names, and one is moved; it goes with its last one. `ln` gives a file a second
 name, up to 32,767. Wrong counts of links are refused but by looks, and `recount` puts them right, however often it is
-stopped. A directory with two names is refused.
+stopped. A directory with two names is refused but by looks at one path, and so is a file without a name, which
+`check` tells.
 
     linked.py PROGRAM FAULTS
 """
@@ -61,13 +62,24 @@ def found(names):
         fail("%s in place of %s; %s" % (sorted(told), sorted(names), "; ".join(wrong)))
 
 
-def refuse(*words, refused):
+def refuse(*words, refused, printed=b""):
     with open("a.img", "rb") as file:
         before = file.read()
-    run(*words, refused=refused)
+    if run(*words, refused=refused) != printed:
+        fail("%s printed something else" % " ".join(words))
     with open("a.img", "rb") as file:
         if file.read() != before:
             fail("%s changed the image" % " ".join(words))
+
+
+def set_entry(path, directory, name, number):
+    """Lets the entry of a name in a directory lead to another number."""
+    with open(path, "r+b") as file:
+        image = Image(file.read())
+        block = image.inode(directory)[3][0]
+        at = image.blocks[block].index(name.ljust(14, b"\0")) - 2
+        file.seek(block * BLOCK + at)
+        file.write(struct.pack("<H", number))
 
 
 def set_inode(path, number, word, value):
@@ -84,10 +96,12 @@ def give_names(third, second):
     run("ln", "a.img", "/docs/./one", "docs/../last")
     found({"/one": (3, third), "/two": (1, second), "/docs/one": (3, third), "/last": (3, third)})
     refuse("ln", "a.img", "none", "new", refused="1 NotFound")
-    refuse("ln", "a.img", "one", "none/new", refused="1 NotFound")
+    refuse("ln", "a.img", "one", "none/new", "--explain",
+           refused="1 NotFound\none to none/new: a name of it is not there")
     refuse("ln", "a.img", "one", "two/new", refused="2 NotADirectory")
     refuse("ln", "a.img", "docs", "new", "--explain", refused="3 IsADirectory\ndocs: it is a directory")
-    refuse("ln", "a.img", "one", "two", refused="4 Exists")
+    refuse("ln", "a.img", "one", "two", "--explain", refused="4 Exists\ntwo: it is there already")
+    refuse("mv", "a.img", "one", "two", "--explain", refused="4 Exists\ntwo: it is there already")
     refuse("ln", "a.img", "one", "/", refused="6 IsRoot")
     refuse("ln", "a.img", "one", "docs/..", refused="4 Exists")
     refuse("ln", "a.img", "one", "a" * 15, refused="8 NameTooLong")
@@ -161,6 +175,63 @@ def stop_recounting(right, wrong, third):
             fail("recount behind a stop leaves the counts %s" % counts())
 
 
+def look_without_a_tree():
+    """In files that are no tree, a path is followed as far as it leads; what needs a tree is refused."""
+    if run("ls", "a.img") != b"docs 4 type 1 size 48\nmore 4 type 1 size 48\n":
+        fail("ls of a directory with two names lists something else")
+    for words in ("tree", "a.img"), ("get", "-r", "a.img", "docs", "folder"), ("recount", "a.img"), ("rm", "a.img", "more"):
+        refuse(*words, refused="13 NoTree")
+    refuse("check", "a.img", "--explain", refused="13 NoTree\na.img: its files are no tree of directories")
+
+
+def lose_a_name():
+    """The only name of a file is wiped out: the other files are read, and check tells which one lacks a name."""
+    run("mkfs", "a.img", "200", "32", "one", "two")
+    run("mkdir", "a.img", "docs")
+    run("put", "a.img", "three", "docs/three")
+    with open("a.img", "rb") as file:
+        image = file.read()
+    if run("stat", "a.img", "docs/three") != b"5 type 2 size 20 links 1\n":
+        fail("stat tells something else")
+    if run("stat", "a.img", "/") != b"1 type 1 size 80 links 2\n":
+        fail("stat of the root tells something else")
+    set_entry("a.img", 4, b"three", 0)
+    set_entry("a.img", ROOT, b"two", 0)
+    with open("a.img", "rb") as file:
+        lost = file.read()
+    refuse("check", "a.img", refused="13 NoTree",
+           printed=b"no name 3 type 2 size 5120 links 1\nno name 5 type 2 size 20 links 1\n")
+    refuse("tree", "a.img", refused="13 NoTree")
+    if run("ls", "a.img") != b"one 2 type 2 size 19\ndocs 4 type 1 size 48\n":
+        fail("ls lists something else where a file has no name")
+    with open("one", "rb") as file:
+        if run("cat", "a.img", "one") != file.read():
+            fail("cat writes something else where a file has no name")
+    run("get", "a.img", "one", "got")
+    refuse("cat", "a.img", "two", refused="1 NotFound")
+    with open("a.img", "rb") as file:
+        if file.read() != lost or lost == image:
+            fail("a look changed an image")
+    print("files without a name: told by check, and the others are read")
+
+
+def put_where_all_is_used():
+    """A file gets others of the same size where no block is free, since the image is made anew; in an image with two
+    names it is refused before anything is written."""
+    run("mkfs", "a.img", "200", "32", "two")
+    run("put", "a.img", "long", "rest")
+    with open("same", "wb") as file:
+        file.write(b"s" * os.path.getsize("long"))
+    refuse("put", "a.img", "same", "new", refused="11 NoBlock")
+    run("put", "a.img", "same", "rest")
+    if run("cat", "a.img", "rest") != b"s" * os.path.getsize("long"):
+        fail("put over a file where all is used leaves something else")
+    os.link("a.img", "two-names.img")
+    refuse("put", "a.img", "long", "rest", refused="11 NoBlock")
+    os.remove("two-names.img")
+    print("a file gets others of the same size where no block is free")
+
+
 def have_many_names():
     """A file has as many names as its count can say: directories are made as files, and get their type by hand."""
     files, left = [], MOST - 1
@@ -186,7 +257,7 @@ def have_many_names():
 
 def main():
     first, second, third = b"to be, or not to be", bytes(range(256)) * 20, b"that is the question"
-    for name, data in (("one", first), ("two", second), ("three", third)):
+    for name, data in (("one", first), ("two", second), ("three", third), ("long", b"long" * 38400)):
         with open(name, "wb") as file:
             file.write(data)
     run("mkfs", "a.img", "200", "32", "one", "two")
@@ -208,9 +279,10 @@ def main():
     if run("ls", "a.img") != b"docs 4 type 1 size 48\n":
         fail("a file is there still, or more")
     link("a.img", 4, b"more")
-    refuse("ls", "a.img", refused="13 NoTree")
-    refuse("recount", "a.img", refused="13 NoTree")
+    look_without_a_tree()
     print("a file with two names: read and written by both, one moved, one removed, and the file with the last")
+    lose_a_name()
+    put_where_all_is_used()
     have_many_names()
 
 

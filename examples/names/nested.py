@@ -97,28 +97,17 @@ class Model:
         return "mv", "a.img", path[:-1], new[:-1]
 
 
-def is_between(left, before, after):
-    """Whether a stop left the tree of before or of after a change, or a file with a beginning of its bytes."""
-    if left in (before, after):
-        return True
-    changed = [path for path in after if after[path] is not None and before.get(path) != after[path]]
-    if len(changed) != 1 or len(after[changed[0]]) <= PIECE:
-        return False
-    path = changed[0]
-    begun = dict(before)
-    begun[path] = left.get(path)
-    return left == begun and left[path] is not None and after[path].startswith(left[path])
-
-
 def stopped(words, before, after):
-    """Runs a change, killed before each of its writes in turn, each time from the same image. How many stops."""
+    """Runs a change, killed before each of its writes in turn, each time from the same image. How many stops. A
+    put of more bytes than one call writes is written into a new image, which takes the old one's name."""
     with open("a.img", "rb") as file:
         image = file.read()
+    is_anew = words[0] == "put" and os.path.getsize("host") > PIECE
     for at in range(1, 10**6):
         with open("a.img", "wb") as file:
             file.write(image)
-        ran = run(*words, status=None, LD_PRELOAD=FAULTS, FAULTS_FILE="a.img", FAULTS_CALL="write",
-                  FAULTS_AT=str(at), FAULTS_HOW="kill")
+        ran = run(*words, status=None, LD_PRELOAD=FAULTS, FAULTS_FILE="a.img.xvfs-new" if is_anew else "a.img",
+                  FAULTS_CALL="write", FAULTS_AT=str(at), FAULTS_HOW="kill")
         left = found("a.img")
         if ran.returncode == 0:
             if left != after:
@@ -126,8 +115,8 @@ def stopped(words, before, after):
             return at - 1
         if ran.returncode != -signal.SIGKILL:
             fail("%s: status %d before write %d" % (" ".join(words), ran.returncode, at))
-        if not is_between(left, before, after):
-            fail("%s: stopped before write %d it left neither tree" % (" ".join(words), at))
+        if left != before and (is_anew or left != after):
+            fail("%s: stopped before write %d it left another tree" % (" ".join(words), at))
 
 
 def main():
@@ -153,7 +142,7 @@ def main():
     chosen = [model.mkdir, model.move, model.move_directory, model.remove, model.remove_directory,
               lambda: model.put(model.new_path(), 0), lambda: model.put(model.new_path(), PIECE),
               lambda: model.put(random.choice(model.plain()), 700), lambda: model.put(random.choice(model.plain()), PIECE),
-              lambda: model.put(model.new_path(), 10000)]
+              lambda: model.put(model.new_path(), 10000), lambda: model.put(random.choice(model.plain()), 10000)]
     for change in chosen:
         before = dict(model.files)
         stops += stopped(change(), before, model.files)

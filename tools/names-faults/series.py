@@ -29,6 +29,8 @@ COMMANDS = {
     "put of a small file": ["put", "a.img", "small", "/new"],
     "put over a file": ["put", "a.img", "small", "/docs/long"],
     "put of a long file": ["put", "a.img", "long", "/new"],
+    "put of a long file over another": ["put", "a.img", "long", "/docs/long"],
+    "put of a long file into an image with two names": ["put", "two.img", "long", "/new"],
     "put with --sync": ["put", "a.img", "small", "/new", "--sync"],
 }
 MKFS = ["mkfs", "b.img", "400", "64", "small"]
@@ -51,7 +53,10 @@ class Trial:
 
     def __init__(self, image, words, closed=(), **env):
         self.folder = tempfile.TemporaryDirectory(dir=WORK)
+        self.words = words
         self.put("a.img", image)
+        if words[1] == "two.img":
+            os.link(self.path("a.img"), self.path("two.img"))
         self.put("small", SMALL)
         self.put("long", LONG)
         ran = subprocess.run([*closing(closed), PROGRAM, *words], cwd=self.folder.name, env=dict(os.environ, **env),
@@ -95,7 +100,8 @@ BASE = made()
 
 
 def begun(left, before, after):
-    """Whether a long file has a beginning of its bytes, and all else is as before."""
+    """Whether a long file has a beginning of its bytes, and all else is as before. So it may be only where the image
+    stands in a file with two names."""
     changed = [path for path in after if after[path] is not None and before.get(path) != after[path]]
     if len(changed) != 1 or len(after[changed[0]]) <= PIECE:
         return False
@@ -110,7 +116,7 @@ def judge(trial, usual, has_failed):
     left, wrong = trial.tree()
     if wrong:
         return "; ".join(wrong)
-    if left not in (before, after) and not begun(left, before, after):
+    if left not in (before, after) and not (trial.words[1] == "two.img" and begun(left, before, after)):
         return "the tree is neither that of before nor that of the change"
     if trial.status == 0:
         if has_failed:
@@ -146,7 +152,7 @@ def places(count):
 def count_calls(words, call):
     """How many calls of that kind a run makes."""
     low, high = 0, 1
-    shows = lambda n: Trial(BASE, words, **fault(call, n, "kill")).status == -signal.SIGKILL
+    shows = lambda n: Trial(BASE, words, **fault(words, call, n, "kill")).status == -signal.SIGKILL
     while shows(high):
         low, high = high, high * 2
     while high - low > 1:
@@ -155,14 +161,16 @@ def count_calls(words, call):
     return low
 
 
-def fault(call, at, how):
-    return {"LD_PRELOAD": WORK + "/faults.so", "FAULTS_FILE": "a.img", "FAULTS_CALL": call, "FAULTS_AT": str(at),
-            "FAULTS_HOW": how}
+def fault(words, call, at, how):
+    """The fault of a call for the image that is written, which of a long put is a new one beside the old."""
+    is_anew = words[:3] == ["put", "a.img", "long"] and call != "read"
+    return {"LD_PRELOAD": WORK + "/faults.so", "FAULTS_FILE": words[1] + ".xvfs-new" * is_anew, "FAULTS_CALL": call,
+            "FAULTS_AT": str(at), "FAULTS_HOW": how}
 
 
 def calls(words, call, how, usual, is_look):
     for at in places(count_calls(words, call)):
-        trial = Trial(BASE, words, **fault(call, at, how))
+        trial = Trial(BASE, words, **fault(words, call, at, how))
         if is_look:
             yield at, judge_look(trial, usual)
         else:
