@@ -22,6 +22,14 @@ pub returns-in-Tree-clause-refused : goal.returns-in-Tree-clause-refused
 returns-in-Tree-clause-refused g c =
     λ refused. subst (λ request. OnRefused g.R.File.Read.remaining request (g.O.Write.contents c.args.out.now) (g.O.Write.contents c.look-in-Tree.new.out) (c.look-in-Tree.new.out ≡ c.args.out.now)) (sym c.in-Tree.is) (c.look-in-Tree.ensures.refused refused)
 
+pub returns-in-Stat-clause-done : goal.returns-in-Stat-clause-done
+returns-in-Stat-clause-done g c =
+    λ done. subst (λ request. Answers g.R.File.Read.remaining g.R.File.Write.contents request (g.O.Write.contents c.args.out.now) (g.O.Write.contents c.look-in-Stat.new.out)) (sym c.in-Stat.is) (c.look-in-Stat.ensures.done done)
+
+pub returns-in-Stat-clause-refused : goal.returns-in-Stat-clause-refused
+returns-in-Stat-clause-refused g c =
+    λ refused. subst (λ request. OnRefused g.R.File.Read.remaining request (g.O.Write.contents c.args.out.now) (g.O.Write.contents c.look-in-Stat.new.out) (c.look-in-Stat.new.out ≡ c.args.out.now)) (sym c.in-Stat.is) (c.look-in-Stat.ensures.refused refused)
+
 pub returns-in-Cat-clause-done : goal.returns-in-Cat-clause-done
 returns-in-Cat-clause-done g c =
     λ done. subst (λ request. Answers g.R.File.Read.remaining g.R.File.Write.contents request (g.O.Write.contents c.args.out.now) (g.O.Write.contents c.look-in-Cat.new.out)) (sym c.in-Cat.is) (c.look-in-Cat.ensures.done done)
