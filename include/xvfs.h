@@ -33,7 +33,8 @@
  *  - xvfs_open takes a closed handle; xvfs_submit, _step, _poll, _shut and _close an open one. The
  *    inline functions below test that, and answer XVFS_E_CLOSED or XVFS_E_OPEN.
  *  - Each pointer is valid for the call and not null, even where its length is 0, and is aligned as
- *    its type. Memory behind a pointer that is not `const` overlaps nothing else that is passed.
+ *    its type; but `bytes` of xvfs_submit and xvfs_poll may be NULL there. Memory behind a pointer that
+ *    is not `const` overlaps nothing else that is passed.
  *  - `malloc`, `realloc` and `free` of the program are one allocator's, and align a block to each
  *    power of two up to 16 that divides its size. They may answer NULL: the call then refuses.
  *    Only xvfs_mkfs, _check, _recover, _recover_step, _open, _submit, and a step that begins an
@@ -193,7 +194,7 @@ typedef struct {
 } xvfs_op;
 
 /* Hands an operation of process `pid` in, behind those that wait. `bytes` are those of a write, and
- * are copied. `*seq` is its number among the process's, from 1.
+ * are copied; NULL will do where `len` is 0. `*seq` is its number among the process's, from 1.
  * XVFS_E_NO_PROCESS, XVFS_E_FULL, XVFS_E_NO_OPERATION, XVFS_E_SUBMIT_MEMORY. */
 xvfs_result xvfs_submit(xvfs *fs, uint32_t pid, const xvfs_op *op, const uint8_t *bytes, size_t len,
                         uint64_t *seq);
@@ -260,7 +261,8 @@ typedef struct {
     uint64_t reserved[3];
 } xvfs_answer;
 
-/* Takes the oldest answer of a process; bytes that don't fit are gone. On a refusal nothing is written.
+/* Takes the oldest answer of a process; bytes that don't fit are gone, and NULL will do where `len` is 0.
+ * On a refusal nothing is written.
  * XVFS_E_NO_PROCESS, XVFS_E_NO_ANSWER. */
 xvfs_result xvfs_poll(xvfs *fs, uint32_t pid, xvfs_answer *out, uint8_t *bytes, size_t len);
 
@@ -269,6 +271,21 @@ void xvfs_shut(xvfs *fs);
 
 /* Ends the session and frees its memory. What was not committed is lost, as by a stop. */
 void xvfs_close(xvfs *fs);
+
+/* The archive's functions take no null pointer. Where `len` is 0 these two pass the address of a byte, as
+ * who calls the archive from another language has to. */
+static inline xvfs_result xvfs_submit_bytes(xvfs *fs, uint32_t pid, const xvfs_op *op,
+                                            const uint8_t *bytes, size_t len, uint64_t *seq) {
+    uint8_t none = 0;
+    return xvfs_submit(fs, pid, op, len ? bytes : &none, len, seq);
+}
+static inline xvfs_result xvfs_poll_bytes(xvfs *fs, uint32_t pid, xvfs_answer *out, uint8_t *bytes,
+                                          size_t len) {
+    uint8_t none = 0;
+    return xvfs_poll(fs, pid, out, len ? bytes : &none, len);
+}
+#define xvfs_submit xvfs_submit_bytes
+#define xvfs_poll   xvfs_poll_bytes
 
 /* The same calls for who cannot be sure of the handle. */
 static inline xvfs_result xvfs_try_open(xvfs *fs, const uint8_t *image, size_t len,

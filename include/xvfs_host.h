@@ -22,7 +22,7 @@
  *
  * A host is handed to one call at a time, as a session is, and isn't copied while it is open. It has
  * some 3 KiB. Its fields are its own: a step that is made by xvfs_step of `fs` breaks what is said above.
- * Bytes of length 0 may be NULL here.
+ * Bytes of length 0 may be NULL.
  */
 #ifndef XVFS_HOST_H
 #define XVFS_HOST_H
@@ -141,7 +141,7 @@ static inline xvfs_result xvfs_host_open(xvfs_host *host, const xvfs_device *dev
 static inline xvfs_result xvfs_host_submit(xvfs_host *host, uint32_t pid, xvfs_op op,
                                            const uint8_t *bytes, size_t len, uint64_t *seq) {
     xvfs_result result = xvfs_host_ready(host);
-    return result ? result : xvfs_submit(&host->fs, pid, &op, len ? bytes : host->block, len, seq);
+    return result ? result : xvfs_submit(&host->fs, pid, &op, bytes, len, seq);
 }
 
 /* Makes a step of a process, and does what it tells. XVFS_E_CLOSED, XVFS_E_DEVICE, and the results of
@@ -168,7 +168,7 @@ static inline xvfs_result xvfs_host_poll(xvfs_host *host, uint32_t pid, xvfs_ans
     if (pid >= XVFS_PROCESSES) return XVFS_E_NO_PROCESS;
     early = &host->early[pid];
     /* One with bytes is a question's, of group 0, and is handed on at once. */
-    if (early->seq == 0) result = xvfs_poll(&host->fs, pid, early, len ? bytes : host->block, len);
+    if (early->seq == 0) result = xvfs_poll(&host->fs, pid, early, bytes, len);
     if (result) return result;
     if (early->group > host->committed) return XVFS_E_NOT_KEPT;
     *out = *early;

@@ -73,7 +73,7 @@ static void submit(void) {
     size_t count = any_length();
     uint64_t *told = blank(&number, sizeof *told);
     const xvfs_op *from = lay(&given_op, &op, sizeof op);
-    const uint8_t *written = lay(&given, bytes, count);
+    const uint8_t *written = count || one_in(2) ? lay(&given, bytes, count) : NULL;
     xvfs_result result = note(xvfs_submit(&fs, pid, from, written, count, told));
     MUST(is_blank(&number, sizeof *told, result ? 0 : sizeof *told));
     if (result == XVFS_E_SUBMIT_MEMORY) return;
@@ -121,6 +121,7 @@ static void poll(void) {
     uint32_t pid = any_process();
     xvfs_answer *answer = blank(&out, sizeof *answer);
     uint8_t *answered = blank(&into, count);
+    if (count == 0 && one_in(2)) answered = NULL;
     xvfs_result result = note(xvfs_poll(&fs, pid, answer, answered, count)), wanted = XVFS_OK;
     if (pid >= processes) wanted = XVFS_E_NO_PROCESS;
     else if (counts[pid].answered == counts[pid].polled) wanted = XVFS_E_NO_ANSWER;
