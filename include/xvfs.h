@@ -77,6 +77,7 @@ typedef struct { void *session; } xvfs;
 #define XVFS_TRANSFER   3072u     /* most bytes of one read or write */
 #define XVFS_PLACES     16u       /* operations, and answers, that may wait for a process */
 #define XVFS_PROCESSES  32u       /* most processes of a session */
+#define XVFS_NOBODY     UINT32_MAX /* no process */
 
 /*
  * Results: 0, or 256 times the layer plus the refusal's number in it. The layers and the numbers of
@@ -214,7 +215,7 @@ typedef struct {
     uint32_t wrote;      /* 1: `block` was written, and `bytes` has what it holds now; else 0 */
     uint32_t block;      /* its number; else 0 */
     uint32_t synced;     /* 1: the disk was synced, by XVFS_HOLD, and nothing was written; else 0 */
-    uint32_t unused;     /* not written */
+    uint32_t by;         /* of XVFS_STEP_SLEEPING: who holds what it waits for; else XVFS_NOBODY */
     uint64_t committed;  /* groups that a stop keeps, once this is done to the device */
     uint64_t reserved[4];
 } xvfs_stepped;
@@ -227,6 +228,9 @@ typedef struct {
  * A group of the log is committed when no operation of it is open. So who makes the first step of the
  * next operation before the one under way goes on to its answer, and so on, has large groups and few
  * writes. An answer is told then once `committed` has reached its group.
+ *
+ * Where it sleeps for an inode or a buffer, `by` is the process that holds that. For the log, for any
+ * buffer, or for room for answers it waits for no one process, and `by` is XVFS_NOBODY.
  *
  * Where `wrote` is 0 the session's image is as it was. Where it is 1 it is the image of before with
  * these bytes as its block of that number: write them to the device, whole or not at all, before the
@@ -379,6 +383,7 @@ XVFS_AT(xvfs_stepped, why, 4);
 XVFS_AT(xvfs_stepped, wrote, 8);
 XVFS_AT(xvfs_stepped, block, 12);
 XVFS_AT(xvfs_stepped, synced, 16);
+XVFS_AT(xvfs_stepped, by, 20);
 XVFS_AT(xvfs_stepped, committed, 24);
 XVFS_AT(xvfs_answer, seq, 0);
 XVFS_AT(xvfs_answer, group, 8);

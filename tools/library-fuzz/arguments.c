@@ -93,6 +93,9 @@ static void see_step(uint32_t pid, const xvfs_stepped *stepped, const uint8_t *b
     MUST(stepped->step < XVFS_STEP_HALTED && stepped->wrote + stepped->synced <= 1);
     MUST((stepped->step == XVFS_STEP_SLEEPING) == (stepped->why != XVFS_WHY_NONE));
     MUST(stepped->why <= XVFS_WHY_ANSWERS_FULL);
+    if (stepped->why == XVFS_WHY_INODE_HELD || stepped->why == XVFS_WHY_BUFFER_HELD)
+        MUST(stepped->by < processes && stepped->by != pid);
+    else MUST(stepped->by == XVFS_NOBODY);
     MUST(stepped->wrote ? stepped->block < len / XVFS_BLOCK_SIZE : stepped->block == 0);
     if (stepped->why == XVFS_WHY_ANSWERS_FULL) MUST(waiting == XVFS_PLACES);
     if (stepped->step == XVFS_STEP_IDLE) MUST(counts[pid].submitted == counts[pid].answered);

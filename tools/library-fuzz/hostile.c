@@ -112,6 +112,9 @@ static xvfs_stepped step(uint32_t pid) {
     MUST(is_blank(&block, XVFS_BLOCK_SIZE, stepped->wrote ? XVFS_BLOCK_SIZE : 0));
     MUST(stepped->wrote + stepped->synced <= 1 && stepped->step < XVFS_STEP_HALTED);
     MUST((stepped->step == XVFS_STEP_SLEEPING) == (stepped->why != XVFS_WHY_NONE));
+    if (stepped->why == XVFS_WHY_INODE_HELD || stepped->why == XVFS_WHY_BUFFER_HELD)
+        MUST(stepped->by < FILES_PROCESSES && stepped->by != pid);
+    else MUST(stepped->by == XVFS_NOBODY);
     MUST(stepped->committed == committed || stepped->committed == committed + 1);
     steps += 1;
     committed = stepped->committed;

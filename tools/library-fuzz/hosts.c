@@ -143,7 +143,7 @@ static void make(void) {
 
 static int is_same(const xvfs_stepped *a, const xvfs_stepped *b) {
     return a->step == b->step && a->why == b->why && a->wrote == b->wrote && a->block == b->block &&
-           a->synced == b->synced && a->committed == b->committed;
+           a->synced == b->synced && a->by == b->by && a->committed == b->committed;
 }
 
 /* The host's calls of the device since `before` are what this step told. */
@@ -383,6 +383,26 @@ static void see_deaf(void) {
     xvfs_host_close(&host);
 }
 
+/* Who waits for an inode is told which process holds it. */
+static void see_holder(void) {
+    xvfs_op write = {XVFS_OP_WRITE, 1, 0, 0};
+    xvfs_stepped stepped;
+    uint64_t number;
+    make();
+    expect(XVFS_OK, xvfs_host_open(&host, &device, image, BYTES, 3, flags));
+    for (uint32_t p = 1; p <= 2; p++)
+        expect(XVFS_OK, xvfs_host_submit(&host, p, write, record, 1, &number));
+    /* Its beginning, the reference, the lock. */
+    for (int k = 0; k < 3; k++) expect(XVFS_OK, xvfs_host_step(&host, 2, &stepped));
+    must(stepped.step == XVFS_STEP_MOVED && stepped.by == XVFS_NOBODY, "a holder without a wait", stepped.by);
+    do expect(XVFS_OK, xvfs_host_step(&host, 1, &stepped)); while (stepped.step == XVFS_STEP_MOVED);
+    must(stepped.why == XVFS_WHY_INODE_HELD && stepped.by == 2, "another holder", stepped.by);
+    do expect(XVFS_OK, xvfs_host_step(&host, 2, &stepped)); while (stepped.step == XVFS_STEP_MOVED);
+    expect(XVFS_OK, xvfs_host_step(&host, 1, &stepped));
+    must(stepped.step == XVFS_STEP_MOVED && stepped.by == XVFS_NOBODY, "it waits still", stepped.by);
+    xvfs_host_close(&host);
+}
+
 /* The results that a host's calls have and the library's haven't. */
 static void see_results(void) {
     xvfs_op write = {XVFS_OP_WRITE, 1, 0, 0}, stat = {XVFS_OP_STAT, 1, 0, 0};
@@ -425,6 +445,7 @@ int main(int argc, char **argv) {
         see_new_images();
         see_deaf();
         see_results();
+        see_holder();
         for (unsigned seed = 1; seed <= 20 * seeds; seed++) see_order(seed);
         for (unsigned seed = 1; seed <= seeds; seed++) see_failures(seed);
         for (unsigned seed = 1; seed <= seeds; seed++) see_kills(seed);

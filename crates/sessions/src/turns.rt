@@ -2,6 +2,7 @@
 ghost use Rattle.std.specs.Prelude.{◌≡◌, ◌≢◌, ◌⊎◌, ◌<◌, ◌≤◌, ◌+◌, ◌^◌, ◌∷◌, ◌++◌, [], length, true, IfOk, IfErr, OnErr, None, option_to_list};
 ghost use Rattle.blocks.specs.Disk.{block_at};
 ghost use Rattle.history.specs.Processes.{process};
+ghost use Rattle.inodes.specs.Deeds.{wanted_holder};
 ghost use Rattle.kernel.specs.Steps.{MakesStep};
 ghost use Rattle.model.specs.declared.types.operations.Step.TheVariants as step;
 ghost use Rattle.ports.specs.History.{first_in};
@@ -183,6 +184,15 @@ impl Session {
             Told::Nothing
         };
         Stepped { step, told }
+    }
+
+    /// Who holds what the next step of a process gets or takes: the buffer of a block, or an inode's
+    /// lock; None where nobody does.
+    pub fn holder(&self, pid: u32) -> Option<u32>
+        requires { pid < processes_of self.now }
+        ensures { result ≡ wanted_holder self.now.kernel.store pid }
+    {
+        self.kernel.holder(pid)
     }
 
     /// The 1024 bytes of the block with this number, counted from 0.

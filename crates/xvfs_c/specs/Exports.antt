@@ -11,6 +11,7 @@ use Rattle.model.specs.declared.types.operations.Answer.{Answer}
 use Rattle.model.specs.declared.types.operations.Op.{Op}
 use Rattle.model.specs.declared.types.operations.Attribute.TheVariants.{Links, Size}
 use Rattle.model.specs.declared.types.operations.Op.TheVariants.{Create, Write, Read, Trunc, Remove, Stat, SetAttribute}
+use Rattle.inodes.specs.Deeds.{wanted_holder}
 use Rattle.kernel.specs.Steps.{MakesStep}
 use Rattle.model.specs.declared.types.operations.Step.{Step}
 use Rattle.sessions.specs.declared.disk.HostDisk.{HostDisk}
@@ -18,7 +19,7 @@ use Rattle.sessions.specs.declared.session.Session.{Session}
 use Rattle.sessions.specs.declared.session.Told.{Told}
 use Rattle.sessions.specs.Session.{holds_of, image_of, intake_of, processes_of, syncs_of, writes_of}
 use Rattle.sessions.specs.Telling.{CarriesOn, TellsUse}
-use Rattle.xvfs_c.specs.Numbers.{TellsAnswer, step_number, told_number}
+use Rattle.xvfs_c.specs.Numbers.{TellsAnswer, by_number, step_number, told_number}
 use Rattle.xvfs_c.specs.declared.report.XvfsAnswer.{XvfsAnswer}
 use Rattle.xvfs_c.specs.declared.report.XvfsOp.{XvfsOp}
 use Rattle.xvfs_c.specs.declared.report.XvfsStep.{XvfsStep}
@@ -42,6 +43,8 @@ pub record TellsStep {N M : Type 0} (disk : disk_trait.Ghosts HostDisk N)
   pub step : Step
   pub makes : MakesStep disk intake herald pid step s.kernel t.kernel
   pub told : (out.step, out.why) ≡ step_number step
+  -- who held what it waits for, as the step began
+  pub by : out.by ≡ by_number step (wanted_holder s.kernel.store pid)
   pub did : Told
   pub does : TellsUse did s t
   pub tells : (out.wrote, out.block, out.synced) ≡ told_number did

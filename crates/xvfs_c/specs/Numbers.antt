@@ -1,5 +1,5 @@
 -- The numbers that C is told.
-use Rattle.std.specs.Prelude.{◌≡◌, ◌-◌, ◌^◌, ◌==◌, if◌then◌else◌, min, ℕ, List, length, take}
+use Rattle.std.specs.Prelude.{◌≡◌, ◌-◌, ◌^◌, ◌==◌, if◌then◌else◌, min, ℕ, List, length, take, Option, Some}
 use Rattle.blocks.specs.Block.{overwritten}
 use Rattle.model.specs.declared.types.operations.Answer.{Answer}
 use Rattle.model.specs.declared.types.operations.Reply.{Reply}
@@ -83,6 +83,15 @@ step_number step.Idle = (3, 0)
 step_number step.NoMemory = (4, 0)
 step_number step.ShutDown = (5, 0)
 step_number step.Halted = (6, 0)
+
+-- no process
+abbrev pub nobody : ℕ
+nobody = 2 ^ 32 - 1
+
+-- of who holds what a step waits for that sleeps, by who holds what it was to get or to take
+abbrev pub by_number : Step → Option ℕ → ℕ
+by_number (step.Sleeping cause) (Some p) = p
+by_number other holder = nobody
 
 -- of what a step did to the disk: whether it wrote, the block's number, and whether it synced
 abbrev pub told_number : Told → ℕ × ℕ × ℕ

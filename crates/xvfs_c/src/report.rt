@@ -1,7 +1,7 @@
 // The structs and the numbers that C sees: of a refusal, 256 times its layer and its number there,
 // as the program prints them.
 ghost use Rattle.std.specs.Prelude.{◌≡◌};
-ghost use Rattle.xvfs_c.specs.Numbers.{check_number, form_meant, form_number, mkfs_number, open_number, recover_number, reply_number, step_number, told_number, why_number};
+ghost use Rattle.xvfs_c.specs.Numbers.{by_number, check_number, form_meant, form_number, mkfs_number, open_number, recover_number, reply_number, step_number, told_number, why_number};
 
 use kernel::Step;
 use layout::MkfsFault;
@@ -51,6 +51,9 @@ pub const MEMORY: u32 = 1536 + 6;
 /// No answer waits.
 pub const NONE: u32 = 1536 + 7;
 
+/// No process.
+pub const NOBODY: u32 = u32::MAX;
+
 /// What a check found.
 #[repr(C)]
 #[derive(Clone, Copy)]
@@ -94,6 +97,7 @@ pub struct XvfsStep {
     pub wrote: u32,
     pub block: u32,
     pub synced: u32,
+    pub by: u32,
     pub committed: u64,
 }
 
@@ -190,6 +194,16 @@ pub fn step_number(step: Step) -> (u32, u32)
         Step::NoMemory => (4, 0),
         Step::ShutDown => (5, 0),
         Step::Halted => (6, 0),
+    }
+}
+
+/// Who holds what a step waits for that sleeps, by who holds what it was to get or to take.
+pub fn by_number(step: Step, holder: Option<u32>) -> u32
+    ensures { result ≡ by_number step holder }
+{
+    match (step, holder) {
+        (Step::Sleeping(_), Some(process)) => process,
+        _ => NOBODY,
     }
 }
 

@@ -259,6 +259,8 @@ pub enum Step {
 pub struct Stepped<'a> {
     pub step: Step,
     pub told: Told<'a>,
+    /// Who holds the inode or the buffer that a process waits for which sleeps.
+    pub by: Option<u32>,
     /// The groups that a stop keeps, once that is done.
     pub committed: u64,
 }
@@ -386,6 +388,7 @@ impl Session {
         Ok(Stepped {
             step: step_of(out.step, out.why),
             told: Told::of(out.wrote, out.block, out.synced, &self.block),
+            by: (out.by != raw::NOBODY).then_some(out.by),
             committed: out.committed,
         })
     }

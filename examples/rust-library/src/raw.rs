@@ -36,6 +36,7 @@ pub struct Stepped {
     pub wrote: u32,
     pub block: u32,
     pub synced: u32,
+    pub by: u32,
     pub committed: u64,
     reserved: [u64; 4],
 }
@@ -50,6 +51,9 @@ pub struct Told {
 }
 
 pub const HOLD: u32 = 1;
+
+/// No process.
+pub const NOBODY: u32 = u32::MAX;
 
 #[repr(C)]
 #[derive(Default)]
@@ -69,7 +73,8 @@ const _: () = {
     assert!(size_of::<Report>() == 64 && offset_of!(Report, files) == 28);
     assert!(size_of::<Told>() == 32 && offset_of!(Told, synced) == 8);
     assert!(size_of::<Op>() == 16 && offset_of!(Op, len) == 12);
-    assert!(size_of::<Stepped>() == 64 && offset_of!(Stepped, committed) == 24);
+    assert!(size_of::<Stepped>() == 64 && offset_of!(Stepped, by) == 20);
+    assert!(offset_of!(Stepped, committed) == 24);
     assert!(size_of::<Answer>() == 64 && offset_of!(Answer, links) == 32);
 };
 

@@ -3,7 +3,7 @@ use std::sync::Mutex;
 use std::thread;
 use xvfs::{
     check, mkfs, recover, version, Answer, Device, Fault, Host, Op, Recovery, Refusal, Reply,
-    Session, Step, Told, BLOCK_SIZE,
+    Session, Step, Told, Why, BLOCK_SIZE,
 };
 
 const BLOCKS: usize = 200;
@@ -223,6 +223,28 @@ fn a_session_tells_each_write() {
         }
     }
     assert_eq!(told, [3, 2, 33, 2]);
+}
+
+#[test]
+fn a_step_that_sleeps_tells_who_holds_the_inode() {
+    let mut session = Session::open(&new_device(), 2).expect("a session");
+    session.submit(0, CREATE).expect("room");
+    while session.step(0).expect("a step").step != Step::Answered {}
+    for pid in 0..2 {
+        session.submit(pid, Op::Trunc { inum: 1 }).expect("room");
+    }
+    // Its beginning, the reference, the lock.
+    for _ in 0..3 {
+        let stepped = session.step(1).expect("a step");
+        assert_eq!((stepped.step, stepped.by), (Step::Moved, None));
+    }
+    let (step, by) = loop {
+        let stepped = session.step(0).expect("a step");
+        if stepped.step != Step::Moved {
+            break (stepped.step, stepped.by);
+        }
+    };
+    assert_eq!((step, by), (Step::Sleeping(Why::InodeHeld), Some(1)));
 }
 
 #[test]
