@@ -39,7 +39,7 @@
  *    power of two up to 16 that divides its size. They may answer NULL: the call then refuses.
  *    Only xvfs_mkfs, _check, _recover, _recover_step, _open, _submit, and a step that begins an
  *    operation take memory. (That no other step does is by test.)
- *  - Stack: 72 KiB for xvfs_open, 4 KiB for each other call, which a test measures.
+ *  - Stack: 76 KiB for xvfs_open, 4 KiB for each other call, which a test measures.
  *  - The code is for any x86-64 processor: it uses the registers and instructions of SSE and SSE2, and
  *    the red zone of the System V ABI. A kernel that calls it has SSE enabled, saves its registers where
  *    it switches tasks, and takes interrupts on another stack (or calls it with interrupts off).
@@ -115,6 +115,7 @@ typedef enum xvfs_result {
     XVFS_E_SUBMIT_MEMORY  = 0x606,
     XVFS_E_NO_ANSWER      = 0x607, /* no answer waits */
     XVFS_E_CLOSED         = 0x608, XVFS_E_OPEN = 0x609, /* of the inline functions alone */
+    XVFS_E_SHORT          = 0x60a, /* the oldest answer has more bytes than there is room for */
     /* 7 host: of xvfs_host.h alone */
     XVFS_E_DEVICE         = 0x701, /* the device failed */
     XVFS_E_NOT_KEPT       = 0x702, /* a stop may still lose the oldest answer: others are to go on */
@@ -259,15 +260,16 @@ typedef struct {
     xvfs_reply reply;
     uint32_t value;    /* the new inode number, the bytes written, or the type */
     uint32_t size;     /* of XVFS_REPLY_STAT: the file's length */
-    uint32_t len;      /* of XVFS_REPLY_BYTES: how many were read, of which `bytes` has as many as fit */
+    uint32_t len;      /* of XVFS_REPLY_BYTES: how many were read, which `bytes` has */
     uint32_t links;    /* of XVFS_REPLY_STAT: the file's count of links */
     uint32_t unused;   /* not written */
     uint64_t reserved[3];
 } xvfs_answer;
 
-/* Takes the oldest answer of a process; bytes that don't fit are gone, and NULL will do where `len` is 0.
- * On a refusal nothing is written.
- * XVFS_E_NO_PROCESS, XVFS_E_NO_ANSWER. */
+/* Takes the oldest answer of a process, with all its bytes. Where they are more than `len`, it stays the
+ * oldest, and takes none of the XVFS_PLACES any more: XVFS_TRANSFER bytes always suffice. NULL will do
+ * where `len` is 0. On a refusal nothing is written.
+ * XVFS_E_NO_PROCESS, XVFS_E_NO_ANSWER, XVFS_E_SHORT. */
 xvfs_result xvfs_poll(xvfs *fs, uint32_t pid, xvfs_answer *out, uint8_t *bytes, size_t len);
 
 /* No operation begins from now on. Those that began go on to their ends. */
@@ -343,6 +345,7 @@ static inline const char *xvfs_strerror(xvfs_result result) {
     case XVFS_E_NO_ANSWER: return "no answer waits";
     case XVFS_E_CLOSED: return "the handle is closed";
     case XVFS_E_OPEN: return "the handle is open";
+    case XVFS_E_SHORT: return "the answer has more bytes than there is room for";
     case XVFS_E_DEVICE: case XVFS_E_MKFS_DISK: case XVFS_E_CHECK_DISK: case XVFS_E_RECOVER_DISK:
     case XVFS_E_RECOVER_SYNC: return "the device failed";
     case XVFS_E_NOT_KEPT: return "a stop may still lose the oldest answer";

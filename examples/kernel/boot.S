@@ -15,7 +15,7 @@ page_map:       .skip 4096
 page_pointers:  .skip 4096
 page_directory: .skip 4096
     .align 16
-stack:          .skip 131072    /* xvfs_open takes 72 KiB of it */
+stack:          .skip 131072    /* xvfs_open takes 76 KiB of it */
 stack_top:
 
     .data

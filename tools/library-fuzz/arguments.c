@@ -26,7 +26,7 @@ static xvfs fs = XVFS_CLOSED_HANDLE;
 static struct guarded given_op, given, opened, whole, out, number, into;
 static int is_shut;
 static struct {
-    uint64_t submitted, answered, polled;
+    uint64_t submitted, answered, polled, kept; /* the last: 1 where the oldest was too long */
 } counts[XVFS_PROCESSES];
 static unsigned long refusals[RESULTS], calls;
 
@@ -67,8 +67,10 @@ static int may_begin(const xvfs_op *op) {
 }
 
 static void submit(void) {
+    static const xvfs_op_kind likely[] = {XVFS_OP_CREATE, XVFS_OP_WRITE, XVFS_OP_READ};
     xvfs_op op = {one_in(20) ? (xvfs_op_kind)(8 + below(100)) : (xvfs_op_kind)below(8), any_number(8),
                   any_number(4000), any_number(4000)};
+    if (one_in(2)) op = (xvfs_op){likely[below(3)], 1, 0, below(XVFS_TRANSFER)};
     uint32_t pid = any_process();
     size_t count = any_length();
     uint64_t *told = blank(&number, sizeof *told);
@@ -89,7 +91,7 @@ static void submit(void) {
 }
 
 static void see_step(uint32_t pid, const xvfs_stepped *stepped, const uint8_t *block) {
-    uint64_t waiting = counts[pid].answered - counts[pid].polled;
+    uint64_t waiting = counts[pid].answered - counts[pid].polled - counts[pid].kept;
     MUST(stepped->step < XVFS_STEP_HALTED && stepped->wrote + stepped->synced <= 1);
     MUST((stepped->step == XVFS_STEP_SLEEPING) == (stepped->why != XVFS_WHY_NONE));
     MUST(stepped->why <= XVFS_WHY_ANSWERS_FULL);
@@ -128,11 +130,13 @@ static void poll(void) {
     xvfs_result result = note(xvfs_poll(&fs, pid, answer, answered, count)), wanted = XVFS_OK;
     if (pid >= processes) wanted = XVFS_E_NO_PROCESS;
     else if (counts[pid].answered == counts[pid].polled) wanted = XVFS_E_NO_ANSWER;
-    MUST(result == wanted);
+    MUST(result == wanted || (result == XVFS_E_SHORT && wanted == XVFS_OK && count < XVFS_TRANSFER));
     MUST(is_blank(&out, sizeof *answer, result ? 0 : offsetof(xvfs_answer, reserved)));
     if (result == XVFS_OK && answer->reply == XVFS_REPLY_BYTES) written = answer->len;
-    MUST(is_blank(&into, count, written < count ? written : count));
+    MUST(written <= count && is_blank(&into, count, written));
+    if (result == XVFS_E_SHORT) counts[pid].kept = 1;
     if (result) return;
+    counts[pid].kept = 0;
     MUST(answer->reply <= XVFS_REPLY_BAD_TYPE && answer->seq == ++counts[pid].polled);
     MUST(answer->len == written && written <= XVFS_TRANSFER);
 }
@@ -254,7 +258,8 @@ int main(int argc, char **argv) {
         XVFS_E_FILE_LENGTH,  XVFS_E_MKFS_SIZE,   XVFS_E_MKFS_INODES,    XVFS_E_MKFS_MEMORY,
         XVFS_E_CHECK_MEMORY, XVFS_E_OPEN_MEMORY, XVFS_E_OPEN_PROCESSES, XVFS_E_OPEN_FLAGS,
         XVFS_E_NO_PROCESS,   XVFS_E_FULL,        XVFS_E_NO_OPERATION,   XVFS_E_NO_BLOCK,
-        XVFS_E_SUBMIT_MEMORY, XVFS_E_NO_ANSWER,  XVFS_E_CLOSED,         XVFS_E_OPEN};
+        XVFS_E_SUBMIT_MEMORY, XVFS_E_NO_ANSWER,  XVFS_E_CLOSED,         XVFS_E_OPEN,
+        XVFS_E_SHORT};
     if (argc != 3) return 2;
     uint64_t seed = strtoull(argv[1], NULL, 10);
     unsigned runs = (unsigned)atoi(argv[2]);

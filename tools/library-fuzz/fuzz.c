@@ -567,7 +567,7 @@ static xvfs_answer call(xvfs_op_kind kind, uint32_t inum, uint32_t len, size_t c
         EXPECT(XVFS_OK, xvfs_host_step(&host, 0, &stepped));
     } while (stepped.step == XVFS_STEP_MOVED);
     EXPECT(XVFS_STEP_ANSWERED, stepped.step);
-    EXPECT(XVFS_OK, xvfs_poll(&host.fs, 0, &answer, bytes, 0));
+    EXPECT(XVFS_OK, xvfs_poll(&host.fs, 0, &answer, bytes, sizeof bytes));
     return answer;
 }
 
@@ -606,6 +606,47 @@ static void see_resize(void) {
     xvfs_host_close(&host);
 }
 
+/* Too little room leaves an answer the oldest, however often, and the queue behind it in its order. */
+static void see_short(void) {
+    static const size_t rooms[] = {0, 1, 1499};
+    xvfs_op read = {XVFS_OP_READ, 1, 0, 1500}, stat = {XVFS_OP_STAT, 1, 0, 0};
+    xvfs_stepped stepped;
+    xvfs_answer answer, blank;
+    uint64_t n;
+    make();
+    EXPECT(XVFS_OK, xvfs_host_open(&host, &device_calls, room, device_size, 1, 0));
+    call(XVFS_OP_CREATE, 2, 0, 0);
+    memset(bytes, 7, 1500);
+    call(XVFS_OP_WRITE, 1, 0, 1500);
+    EXPECT(XVFS_OK, xvfs_submit(&host.fs, 0, &read, NULL, 0, &n));
+    for (unsigned k = 1; k < XVFS_PLACES; k++) EXPECT(XVFS_OK, xvfs_submit(&host.fs, 0, &stat, NULL, 0, &n));
+    do EXPECT(XVFS_OK, xvfs_host_step(&host, 0, &stepped)); while (stepped.step <= XVFS_STEP_ANSWERED);
+    EXPECT(XVFS_STEP_IDLE, stepped.step);
+    EXPECT(XVFS_OK, xvfs_submit(&host.fs, 0, &stat, NULL, 0, &n));
+    EXPECT(XVFS_OK, xvfs_host_step(&host, 0, &stepped));
+    EXPECT(XVFS_WHY_ANSWERS_FULL, stepped.why);
+    memset(bytes, 9, sizeof bytes);
+    memset(&blank, 255, sizeof blank);
+    answer = blank;
+    for (unsigned k = 0; k < sizeof rooms / sizeof *rooms; k++) {
+        EXPECT(XVFS_E_SHORT, xvfs_poll(&host.fs, 0, &answer, rooms[k] ? bytes : NULL, rooms[k]));
+        if (memcmp(&answer, &blank, sizeof answer) || bytes[0] != 9) fail("a refusal writes", k);
+    }
+    /* The answer that was looked at has no place of the queue any more. */
+    do EXPECT(XVFS_OK, xvfs_host_step(&host, 0, &stepped)); while (stepped.step <= XVFS_STEP_ANSWERED);
+    EXPECT(XVFS_STEP_IDLE, stepped.step);
+    EXPECT(XVFS_OK, xvfs_poll(&host.fs, 0, &answer, bytes, 1500));
+    if (answer.seq + XVFS_PLACES != n || answer.len != 1500) fail("another answer", answer.len);
+    for (unsigned k = 0; k < 1500; k++) if (bytes[k] != 7) fail("another byte", k);
+    if (bytes[1500] != 9) fail("one byte too many", bytes[1500]);
+    for (unsigned k = 1; k <= XVFS_PLACES; k++) {
+        EXPECT(XVFS_OK, xvfs_poll(&host.fs, 0, &answer, NULL, 0));
+        if (answer.seq + XVFS_PLACES != n + k) fail("another order", k);
+    }
+    EXPECT(XVFS_E_NO_ANSWER, xvfs_poll(&host.fs, 0, &answer, NULL, 0));
+    xvfs_host_close(&host);
+}
+
 int main(int argc, char **argv) {
     if (argc == 3 && !strcmp(argv[1], "refuse")) {
         refuse_each((uint64_t)atoll(argv[2]));
@@ -625,6 +666,7 @@ int main(int argc, char **argv) {
         see_memory();
         see_links();
         see_resize();
+        see_short();
         printf("each refusal has the number that xvfs.h says, and a stat tells the links\n");
         return 0;
     }

@@ -1,4 +1,4 @@
-/* How much stack each call takes, on a stack that is painted first: at most what xvfs.h says, 72 KiB
+/* How much stack each call takes, on a stack that is painted first: at most what xvfs.h says, 76 KiB
  * for xvfs_open and 4 KiB for each other call. The image is of the greatest size, and a file in it is
  * long enough to need blocks of addresses. */
 #define _XOPEN_SOURCE 700
@@ -108,7 +108,7 @@ int main(void) {
     measure("xvfs_check", check, 4096);
     measure("xvfs_recover", recover, 4096);
     measure("xvfs_recover_step", recover_step, 4096);
-    measure("xvfs_open", open_it, 72 * 1024);
+    measure("xvfs_open", open_it, 76 * 1024);
     operate(XVFS_OP_CREATE, 2, 0, 0);
     for (uint32_t k = 0; k < 100; k++) operate(XVFS_OP_WRITE, 1, k * XVFS_TRANSFER, XVFS_TRANSFER);
     operate(XVFS_OP_READ, 1, 5, 3000);

@@ -13,6 +13,7 @@
 #![tactic(auto)]
 
 mod disk;
+mod kept;
 mod refusal;
 mod session;
 mod track;

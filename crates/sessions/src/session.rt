@@ -1,7 +1,8 @@
 // The types of a session.
-ghost use Rattle.std.specs.Prelude.{◌≡◌, None};
+ghost use Rattle.std.specs.Prelude.{◌≡◌, None, length};
 
 use crate::HostDisk;
+use crate::kept::Kept;
 use kernel::{Kernel, Step};
 use ports::{PlainHerald, QueueIntake};
 
@@ -24,9 +25,11 @@ pub struct Stepped {
 }
 
 /// A kernel over a copy of an image, with plain queues in memory. Its disk never fails, so no step is
-/// `Halted`.
+/// `Halted`. The oldest answer of a process is kept beside its queue, once it was looked at.
 #[derive(Drop)]
 pub struct Session {
     pub(crate) kernel: Kernel<HostDisk, QueueIntake, PlainHerald>,
+    pub(crate) kept: Kept,
     ghost faultless: { kernel.store.volume.fault ≡ None },
+    ghost one_each: { length kept ≡ length kernel.world.processes },
 }

@@ -1,19 +1,21 @@
 // The calls of a session.
-ghost use Rattle.std.specs.Prelude.{◌≡◌, ◌≢◌, ◌⊎◌, ◌<◌, ◌≤◌, ◌+◌, ◌^◌, ◌∷◌, ◌++◌, [], length, true, IfOk, IfErr, OnErr, None, option_to_list};
+ghost use Rattle.std.specs.Prelude.{◌≡◌, ◌≢◌, ◌⊎◌, ◌<◌, ◌≤◌, ◌+◌, ◌^◌, ◌∷◌, ◌++◌, [], ℕ, length, true, IfOk, IfErr, OnErr, None, option_to_list};
+ghost use Rattle.std.specs.Option.{option_map};
 ghost use Rattle.blocks.specs.Disk.{block_at};
 ghost use Rattle.history.specs.Processes.{process};
 ghost use Rattle.inodes.specs.Deeds.{wanted_holder};
 ghost use Rattle.kernel.specs.Steps.{MakesStep};
 ghost use Rattle.model.specs.declared.types.operations.Step.TheVariants as step;
 ghost use Rattle.ports.specs.History.{first_in};
-ghost use Rattle.ports.specs.Lanes.{polled_after};
 ghost use Rattle.ports.specs.Queues.{OthersWait, answers, polled, waiting};
+ghost use Rattle.sessions.specs.Kept.{OthersKept, byte_count};
 ghost use Rattle.sessions.specs.Refusal.{IsRefusal};
-ghost use Rattle.sessions.specs.Session.{OpensOver, disk_of, holds_of, image_of, intake_of, processes_of, syncs_of, writes_of};
+ghost use Rattle.sessions.specs.Session.{HasTaken, OpensOver, answers_of, disk_of, holds_of, image_of, intake_of, processes_of, syncs_of, writes_of};
 ghost use Rattle.sessions.specs.Telling.{CarriesOn, Covers, TellsUse, fresh_ledger};
 ghost use Rattle.wal.specs.Joint.{place_at};
 
 use crate::HostDisk;
+use crate::kept::Kept;
 use crate::refusal::{OpenRefusal, refusal_of};
 use crate::session::{Session, Stepped, Told};
 use blocks::{BLOCK_SIZE, Disk};
@@ -71,8 +73,11 @@ impl Session {
         let Ok(intake) = QueueIntake::new(alloc, processes) else {
             return Err(OpenRefusal::NoMemory);
         };
+        let Ok(kept) = Kept::new(alloc, processes) else {
+            return Err(OpenRefusal::NoMemory);
+        };
         match Kernel::open(alloc, disk, intake, PlainHerald::new(), processes) {
-            Ok(kernel) => Ok(Session { kernel }),
+            Ok(kernel) => Ok(Session { kernel, kept }),
             Err((fault, _disk)) => Err(refusal_of(fault)),
         }
     }
@@ -121,7 +126,8 @@ impl Session {
         ensures back { IfErr result (λ other. (other ≡ op)
             × (waiting (intake_of self.new) pid ≡ waiting (intake_of self.old) pid)) }
         ensures answers { (answers (intake_of self.new) pid ≡ answers (intake_of self.old) pid)
-            × (polled (intake_of self.new) pid ≡ polled (intake_of self.old) pid) }
+            × (polled (intake_of self.new) pid ≡ polled (intake_of self.old) pid)
+            × (self.new.kept ≡ self.old.kept) }
         ensures others { OthersWait (intake_of self.old) (intake_of self.new) pid }
         ensures same { self.new.kernel
             ≡ record self.old.kernel { intake = intake_of self.new } }
@@ -129,27 +135,53 @@ impl Session {
         self.kernel.submit(pid, op)
     }
 
-    /// Takes the oldest answer of a process.
-    pub fn poll(&mut self, pid: u32) -> Option<Answer>
+    /// How many bytes the oldest answer of a process carries; None where none waits. It stays the oldest,
+    /// but takes no place of its queue any more.
+    pub fn oldest_bytes(&mut self, pid: u32) -> Option<usize>
         requires { pid < processes_of self.old }
-        ensures oldest { result ≡ first_in (answers (intake_of self.old) pid) }
-        ensures answers { answers (intake_of self.old) pid
-            ≡ option_to_list result ++ answers (intake_of self.new) pid }
-        ensures polled { polled (intake_of self.new) pid
-            ≡ polled_after result (polled (intake_of self.old) pid) }
+        ensures bytes { result ≡ option_map byte_count (first_in (answers_of self.old pid)) }
+        ensures answers { answers_of self.new pid ≡ answers_of self.old pid }
+        ensures taken { (n : ℕ) → HasTaken self.old pid n → HasTaken self.new pid n }
         ensures waiting { waiting (intake_of self.new) pid ≡ waiting (intake_of self.old) pid }
         ensures others { OthersWait (intake_of self.old) (intake_of self.new) pid }
+        ensures kept { OthersKept self.old.kept self.new.kept pid }
         ensures same { self.new.kernel
             ≡ record self.old.kernel { intake = intake_of self.new } }
     {
-        self.kernel.poll(pid)
+        if self.kept.has(pid) {
+            return self.kept.bytes(pid);
+        }
+        let answer = self.kernel.poll(pid)?;
+        self.kept.keep(pid, answer);
+        self.kept.bytes(pid)
+    }
+
+    /// Takes the oldest answer of a process.
+    pub fn poll(&mut self, pid: u32) -> Option<Answer>
+        requires { pid < processes_of self.old }
+        ensures answers { answers_of self.old pid
+            ≡ option_to_list result ++ answers_of self.new pid }
+        ensures oldest { result ≡ first_in (answers_of self.old pid) }
+        ensures taken { (n : ℕ) → HasTaken self.old pid n
+            → HasTaken self.new pid (n + length (option_to_list result)) }
+        ensures waiting { waiting (intake_of self.new) pid ≡ waiting (intake_of self.old) pid }
+        ensures others { OthersWait (intake_of self.old) (intake_of self.new) pid }
+        ensures kept { OthersKept self.old.kept self.new.kept pid }
+        ensures same { self.new.kernel
+            ≡ record self.old.kernel { intake = intake_of self.new } }
+    {
+        match self.kept.take(pid) {
+            Some(answer) => Some(answer),
+            None => self.kernel.poll(pid),
+        }
     }
 
     /// No operation begins from now on. Those that began go on to their end.
     pub fn shut(&mut self)
-        ensures { self.new.kernel ≡ record self.old.kernel {
+        ensures kernel { self.new.kernel ≡ record self.old.kernel {
           world = record self.old.kernel.world { is_shut = true };
         } }
+        ensures kept { self.new.kept ≡ self.old.kept }
     {
         self.kernel.shut();
     }
@@ -172,6 +204,7 @@ impl Session {
         ensures carries { holds_of self.old ≡ true
             → CarriesOn ⟦<HostDisk as Disk>⟧ result.told self.old self.new }
         ensures goes_on { result.step ≢ step.Halted }
+        ensures kept { self.new.kept ≡ self.old.kept }
     {
         let place = next_place(self.kernel.log());
         let (writes, syncs) = (self.writes(), self.syncs());
@@ -209,7 +242,11 @@ impl Session {
     pub fn close(self) -> HostDisk
         ensures { result ≡ disk_of self }
     {
-        let Session { kernel, .. } = self;
+        let Session {
+            kernel,
+            kept: _kept,
+            ..
+        } = self;
         kernel.into_disk()
     }
 }

@@ -24,6 +24,7 @@ use Rattle.model.proofs.types.operations.Entry.TheSendSync as entry
 use Rattle.ports.proofs.queues.QueueIntake.TheSendSync as queues
 use Rattle.ports.specs.declared.herald.Herald as herald
 use Rattle.ports.specs.declared.intake.Intake as intake
+use Rattle.sessions.proofs.kept.Kept.TheSendSync as kept_answers
 use Rattle.sessions.proofs.track.Track.TheLaws.TheKnot.{send-Track}
 use Rattle.sessions.specs.contracts.disk.HostDisk as HostDisk
 use Rattle.sessions.specs.contracts.track.Track as Track
@@ -65,4 +66,4 @@ module _ (D I H N M : RattleType) (g : disk.Ghosts D.Denot N.Denot) (i : intake.
   Kernel-send d n e = let a = Store-send D N g d in search (sendable, parts, Processes-send) depth 20
 
 pub Session-send : IsSend Session.the_row
-Session-send = search (sendable, crosses, HostDisk-send, Kernel-send, queues.the_send) depth 20
+Session-send = search (sendable, crosses, HostDisk-send, Kernel-send, queues.the_send, kept_answers.the_send) depth 20

@@ -17,7 +17,8 @@ use Rattle.model.specs.declared.types.operations.Step.{Step}
 use Rattle.sessions.specs.declared.disk.HostDisk.{HostDisk}
 use Rattle.sessions.specs.declared.session.Session.{Session}
 use Rattle.sessions.specs.declared.session.Told.{Told}
-use Rattle.sessions.specs.Session.{holds_of, image_of, intake_of, processes_of, syncs_of, writes_of}
+use Rattle.sessions.specs.Kept.{OthersKept, byte_count}
+use Rattle.sessions.specs.Session.{HasTaken, answers_of, holds_of, image_of, intake_of, processes_of, syncs_of, writes_of}
 use Rattle.sessions.specs.Telling.{CarriesOn, TellsUse}
 use Rattle.xvfs_c.specs.Numbers.{TellsAnswer, by_number, step_number, told_number}
 use Rattle.xvfs_c.specs.declared.report.XvfsAnswer.{XvfsAnswer}
@@ -53,6 +54,8 @@ pub record TellsStep {N M : Type 0} (disk : disk_trait.Ghosts HostDisk N)
   pub inside : out.wrote ≡ 1 → out.block < length (image_of t)
   pub written : out.wrote ≡ 1 → image_of t ≡ slice_set (image_of s) out.block block
   pub committed : out.committed ≡ t.kernel.store.volume.log.committed
+  -- no answer that is kept is taken
+  pub kept : t.kept ≡ s.kept
 
 -- that number says why process p makes no step
 abbrev pub RefusesStep : ℕ → List ℕ → ℕ → Session → Type 0
@@ -75,7 +78,7 @@ IsOperation o bytes (SetAttribute i (Links count)) =
     (o.kind ≡ 6) × (i ≡ o.inum) × (count ≡ o.len)
 IsOperation o bytes (SetAttribute i (Size len)) = (o.kind ≡ 7) × (i ≡ o.inum) × (len ≡ o.len)
 
--- the sessions differ in their queues at most, and there alone in those of process p
+-- the sessions differ in queues and in kept answers at most, and of the queues in those of process p
 pub record KeepsKernel (p : ℕ) (s t : Session) : Type 0 where
   pub others : OthersWait (intake_of s) (intake_of t) p
   pub kernel : t.kernel ≡ record s.kernel { intake = intake_of t }
@@ -86,6 +89,7 @@ pub record HandsIn (p : ℕ) (o : XvfsOp) (bytes : List ℕ) (seq : ℕ) (s t : 
   pub is : IsOperation o bytes op
   pub waits : waiting (intake_of t) p ≡ waiting (intake_of s) p ++ op ∷ []
   pub answers : answers (intake_of t) p ≡ answers (intake_of s) p
+  pub kept : t.kept ≡ s.kept
   pub number : seq ≡ (process s.kernel.world p).begun + length (waiting (intake_of t) p)
   pub keeps : KeepsKernel p s t
 
@@ -104,27 +108,50 @@ RefusesOperation p number s = ((number ≡ 1537) × (processes_of s ≤ p))
     ⊎ ((number ≡ 1538) × (p < processes_of s) × ((16 ≤ length (waiting (intake_of s) p))
     ⊎ ((process s.kernel.world p).begun + length (waiting (intake_of s) p) + 1 ≡ 2 ^ 64)))
 
--- that number says why process p is given no answer
-abbrev pub RefusesAnswer : ℕ → ℕ → Session → Type 0
-RefusesAnswer p number s = ((number ≡ 1537) × (processes_of s ≤ p))
-    ⊎ ((number ≡ 1543) × (p < processes_of s) × (answers (intake_of s) p ≡ []))
+-- there is an answer, and the bytes of the first one are at most so many
+abbrev pub FirstFits : List Answer → ℕ → Type 0
+FirstFits [] room = ⊥
+FirstFits (answer ∷ rest) room = byte_count answer ≤ room
+
+-- or they are more
+abbrev pub FirstIsLonger : List Answer → ℕ → Type 0
+FirstIsLonger [] room = ⊥
+FirstIsLonger (answer ∷ rest) room = room < byte_count answer
+
+-- that number says why process p is given no answer, for whose bytes there is that memory
+abbrev pub RefusesAnswer : ℕ → List ℕ → ℕ → Session → Type 0
+RefusesAnswer p memory number s = ((number ≡ 1537) × (processes_of s ≤ p))
+    ⊎ ((number ≡ 1543) × (p < processes_of s) × (answers_of s p ≡ []))
+    ⊎ ((number ≡ 1546) × (p < processes_of s) × FirstIsLonger (answers_of s p) (length memory))
 
 -- process p's queues are as they were
 pub record KeepsQueues (p : ℕ) (s t : Session) : Type 0 where
   pub waits : waiting (intake_of t) p ≡ waiting (intake_of s) p
   pub answers : answers (intake_of t) p ≡ answers (intake_of s) p
   pub polled : polled (intake_of t) p ≡ polled (intake_of s) p
+  pub kept : t.kept ≡ s.kept
+  pub keeps : KeepsKernel p s t
+
+-- process p has the operations and the answers that it had, and took none
+pub record KeepsAnswers (p : ℕ) (s t : Session) : Type 0 where
+  pub waits : waiting (intake_of t) p ≡ waiting (intake_of s) p
+  pub answers : answers_of t p ≡ answers_of s p
+  pub taken : (n : ℕ) → HasTaken s p n → HasTaken t p n
+  pub others : OthersKept s.kept t.kept p
   pub keeps : KeepsKernel p s t
 
 -- the session was told that no operation begins any more
 abbrev pub Shuts : Session → Session → Type 0
-Shuts s t = t.kernel ≡ record s.kernel { world = record s.kernel.world { is_shut = true } }
+Shuts s t = (t.kernel ≡ record s.kernel { world = record s.kernel.world { is_shut = true } })
+    × (t.kept ≡ s.kept)
 
 -- process p's oldest answer was taken, and told to C
 pub record GivesAnswer (p : ℕ) (out : XvfsAnswer) (old new : List ℕ) (s t : Session)
     : Type 0 where
   pub answer : Answer
-  pub oldest : answers (intake_of s) p ≡ answer ∷ answers (intake_of t) p
+  pub oldest : answers_of s p ≡ answer ∷ answers_of t p
+  pub taken : (n : ℕ) → HasTaken s p n → HasTaken t p (n + 1)
+  pub others : OthersKept s.kept t.kept p
   pub told : TellsAnswer answer out old new
   pub waits : waiting (intake_of t) p ≡ waiting (intake_of s) p
   pub keeps : KeepsKernel p s t

@@ -1,5 +1,5 @@
 -- The numbers that C is told.
-use Rattle.std.specs.Prelude.{◌≡◌, ◌-◌, ◌^◌, ◌==◌, if◌then◌else◌, min, ℕ, List, length, take, Option, Some}
+use Rattle.std.specs.Prelude.{◌≡◌, ◌≤◌, ◌-◌, ◌^◌, ◌==◌, if◌then◌else◌, min, ℕ, List, length, Option, Some}
 use Rattle.blocks.specs.Block.{overwritten}
 use Rattle.model.specs.declared.types.operations.Answer.{Answer}
 use Rattle.model.specs.declared.types.operations.Reply.{Reply}
@@ -113,10 +113,10 @@ reply_number reply.TooBig = (8, 0, 0, 0)
 reply_number reply.TooLong = (9, 0, 0, 0)
 reply_number reply.BadType = (10, 0, 0, 0)
 
--- the bytes of a reply are put into C's memory, as many as fit, and their count is told
+-- the bytes of a reply are put into C's memory, which has room for all, and their count is told
 abbrev pub HandsOver : Reply → ℕ → List ℕ → List ℕ → Type 0
 HandsOver (reply.Bytes content) len old new = (len ≡ min (length content) (2 ^ 32 - 1))
-    × (new ≡ overwritten old 0 (take (min (length content) (length old)) content))
+    × (length content ≤ length old) × (new ≡ overwritten old 0 content)
 HandsOver other len old new = (len ≡ 0) × (new ≡ old)
 
 -- C is told that answer, in `out` and in its memory for bytes

@@ -51,6 +51,9 @@ pub const MEMORY: u32 = 1536 + 6;
 /// No answer waits.
 pub const NONE: u32 = 1536 + 7;
 
+/// The oldest answer has more bytes than there is room for.
+pub const SHORT: u32 = 1536 + 10;
+
 /// No process.
 pub const NOBODY: u32 = u32::MAX;
 

@@ -36,11 +36,18 @@ returns-in_default-new-clause-refused c = (
   (search rules, search rules),
 )
 
+pub returns-in_default-new-2-clause-refused : goal.returns-in_default-new-2-clause-refused
+returns-in_default-new-2-clause-refused c = (
+  length c.args.image.now / 1024,
+  record { some = search rules; few = search rules; whole = search rules },
+  (search rules, search rules),
+)
+
 pub returns-in-Ok-open-clause-opened : goal.returns-in-Ok-open-clause-opened
 returns-in-Ok-open-clause-opened c = record {
   device = c.in-Ok.disk;
   intake = c.in-Ok-new.intake;
-  herald = c.new-2.result;
+  herald = c.new-3.result;
   count = length c.args.image.now / 1024;
   whole = search rules;
   blocks = c.in-Ok.ensures.image;
@@ -48,6 +55,7 @@ returns-in-Ok-open-clause-opened c = record {
   unsynced = c.in-Ok.ensures.syncs;
   kind = c.in-Ok.ensures.holds;
   holds_is = ap (λ (st : StoreState HostDisk). st.volume.device.holds) c.in-Ok-open.ensures.opened.store ∙ c.in-Ok-open.ensures.opened.name ∙ c.in-Ok.ensures.holds;
+  kept = c.in-Ok-new-2.ensures;
   opened = c.in-Ok-open.ensures.opened;
 }
 
