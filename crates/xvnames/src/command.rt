@@ -27,8 +27,8 @@ use second_lines::{Line, tell};
 use std::convert::AsStr;
 use std::io::Write;
 use tree_changes::{Link, MakeDirectory, OverTree, Recount, Remove, RemoveDirectory, Rename};
-use tree_puts::PutFile;
 use tree_looks::{Cat, Counts, Get, GetAll, InTree, Ls, OverFiles, Paths, Stat};
+use tree_puts::PutFile;
 
 /// The program's name, with which the line of each refusal begins.
 pub const NAME: &str = "xvnames";
