@@ -177,8 +177,8 @@ static inline xvfs_result xvfs_host_poll(xvfs_host *host, uint32_t pid, xvfs_ans
 }
 
 /* Makes steps of a process until its operation is answered, and takes its oldest answer. Behind
- * XVFS_E_NOT_KEPT, _SLEEPS, _BEGIN_MEMORY and _SHORT it may be called again, once others went on or there is
- * memory or room. These, XVFS_E_SHUT, and the results of xvfs_host_step and xvfs_host_poll. */
+ * XVFS_E_NOT_KEPT, _SLEEPS, _BEGIN_MEMORY and _SHORT it may be called again, once others went on or there
+ * is memory or room. These, XVFS_E_SHUT, and the results of xvfs_host_step and xvfs_host_poll. */
 static inline xvfs_result xvfs_host_finish(xvfs_host *host, uint32_t pid, xvfs_answer *out,
                                            uint8_t *bytes, size_t len) {
     xvfs_stepped stepped;
