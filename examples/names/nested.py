@@ -3,6 +3,7 @@ that is a dictionary; and chosen changes killed before each of their writes.
 
     nested.py PROGRAM FAULTS.SO
 """
+import itertools
 import os
 import random
 import signal
@@ -99,24 +100,40 @@ class Model:
 
 def stopped(words, before, after):
     """Runs a change, killed before each of its writes in turn, each time from the same image. How many stops. A
-    put of more bytes than one call writes is written into a new image, which takes the old one's name."""
+    put of more bytes than one call writes is written into a new image, which takes the old one's name: of its
+    writes, a block each, some are chosen, and the last."""
     with open("a.img", "rb") as file:
         image = file.read()
     is_anew = words[0] == "put" and os.path.getsize("host") > PIECE
-    for at in range(1, 10**6):
+
+    def stops_at(at):
         with open("a.img", "wb") as file:
             file.write(image)
         ran = run(*words, status=None, LD_PRELOAD=FAULTS, FAULTS_FILE="a.img.xvfs-new" if is_anew else "a.img",
                   FAULTS_CALL="write", FAULTS_AT=str(at), FAULTS_HOW="kill")
         left = found("a.img")
-        if ran.returncode == 0:
-            if left != after:
-                fail("%s made something else" % " ".join(words))
-            return at - 1
-        if ran.returncode != -signal.SIGKILL:
+        if ran.returncode not in (0, -signal.SIGKILL):
             fail("%s: status %d before write %d" % (" ".join(words), ran.returncode, at))
-        if left != before and (is_anew or left != after):
+        if ran.returncode == 0 and left != after:
+            fail("%s made something else" % " ".join(words))
+        if ran.returncode != 0 and left != before and (is_anew or left != after):
             fail("%s: stopped before write %d it left another tree" % (" ".join(words), at))
+        return ran.returncode != 0
+
+    if not is_anew:
+        return next(at for at in itertools.count(1) if not stops_at(at)) - 1
+    last, behind, stops = 0, 1, 0
+    while stops_at(behind):
+        last, behind, stops = behind, 2 * behind, stops + 1
+    while behind - last > 1:
+        middle = (last + behind) // 2
+        if stops_at(middle):
+            last, stops = middle, stops + 1
+        else:
+            behind = middle
+    # As who goes on behind a stop: the change is made.
+    stops_at(behind)
+    return stops
 
 
 def main():
