@@ -1,0 +1,2 @@
+mod Objects
+mod Pieces

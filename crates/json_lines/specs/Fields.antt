@@ -1,0 +1,10 @@
+-- The fields of an object. A name or a word is one of this crate's own, and has no sign that JSON wants
+-- escaped; digits have none.
+use Rattle.std.specs.Prelude.{ℕ, List, ◌++◌, codes, decimal}
+
+-- a field behind another: a number, and a word
+unfoldable pub number_field : List ℕ → ℕ → List ℕ
+number_field name n = codes ",\"" ++ name ++ codes "\":" ++ decimal n
+
+unfoldable pub word_field : List ℕ → List ℕ → List ℕ
+word_field name word = codes ",\"" ++ name ++ codes "\":\"" ++ word ++ codes "\""

@@ -1,0 +1,4 @@
+pub mod Fields
+pub mod Steps
+pub mod Events
+pub mod Counts

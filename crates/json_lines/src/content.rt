@@ -1,0 +1,47 @@
+// The bytes that were read, as hexadecimal digits.
+ghost use Rattle.std.specs.Prelude.{◌≡◌, ◌≤◌, ◌*◌, OnOk, length};
+ghost use Rattle.std.specs.Io.KnownBytes.{Appends};
+ghost use Rattle.hex.specs.Hex.{encode_lower};
+ghost use Rattle.json_lines.specs.Events.{bytes_field};
+
+use hex::encode_to_slice;
+use messages::{Unwritten, print, write_bytes};
+use std::io::Write;
+
+// The most bytes whose digits are made at once.
+const PIECE: usize = 256;
+
+// Writes the bytes that were read.
+#[tactic(auto, unfolding(crate::specs::Events::bytes_field))]
+pub fn print_bytes<O: Write>(out: &mut O, bytes: &[u8]) -> Result<(), Unwritten>
+    ensures ok { OnOk result (Appends (O.contents out.old) (O.contents out.new)
+        (bytes_field bytes.now)) }
+{
+    print(out, ",\"bytes\":\"")?;
+    print_digits(out, bytes)?;
+    print(out, "\"")
+}
+
+// Writes the hexadecimal digits of bytes, piece by piece.
+fn print_digits<O: Write>(out: &mut O, bytes: &[u8]) -> Result<(), Unwritten>
+    ensures ok { OnOk result (Appends (O.contents out.old) (O.contents out.new)
+        (encode_lower bytes.now)) }
+{
+    let mut place = [0u8; 2 * PIECE];
+    for piece in bytes.chunks(PIECE) {
+        write_bytes(out, digits_of(piece, &mut place))?;
+    }
+    Ok(())
+}
+
+// The digits of these bytes, which are made in a place that has room for them.
+fn digits_of<'a>(bytes: &[u8], place: &'a mut [u8]) -> &'a [u8]
+    requires { 2 * length bytes.now ≤ length place.old }
+    ensures { result.now ≡ encode_lower bytes.now }
+{
+    let digits = &mut place[..2 * bytes.len()];
+    if encode_to_slice(bytes, digits).is_err() {
+        unreachable!();
+    }
+    digits
+}
