@@ -3,11 +3,11 @@ ghost use Rattle.std.specs.Prelude.{◌≡◌, None};
 ghost use Rattle.model.specs.Files.{files_of};
 ghost use Rattle.model.specs.Log.{recovered};
 ghost use Rattle.model.specs.Verdict.{verdict};
-ghost use Rattle.names.specs.Trees.{IsTree};
+ghost use Rattle.directories.specs.Trees.{IsTree};
 
 use anyhow::bail;
 use blocks::Disk;
-use names::{first_miscounted, is_tree};
+use directories::{first_miscounted, is_tree};
 use offline::check;
 use std::alloc::Global;
 

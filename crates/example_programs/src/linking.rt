@@ -9,8 +9,9 @@ use crate::trees::{Bytes, Name as Ask, ask_bytes, ask_name, new_tree};
 use anyhow::bail;
 use blocks::{Disk, MemDisk};
 use calls::{Sole, call, open_sole};
+use directories::{DIRECTORY, Name, link};
 use model::types::{Op, Reply, TRANSFER_LIMIT};
-use names::{DIRECTORY, Name, Tree, TreeOpenFault, link, recount};
+use names::{Tree, TreeOpenFault, recount};
 use std::alloc::Global;
 
 /// Gives a file a second name, and prints what comes of calls at both. Then it opens an image with a

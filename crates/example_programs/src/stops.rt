@@ -4,8 +4,9 @@ ghost use Rattle.model.specs.Codec.{made_image};
 ghost use Rattle.model.specs.declared.types.image.Form.TheVariants.{One};
 
 use blocks::{Disk, FaultyDisk, Kind, MemDisk};
+use directories::Refusal;
 use layout::MkfsFault;
-use names::{Refusal, Tree, TreeFault};
+use names::{Tree, TreeFault};
 use offline::mkfs;
 use std::alloc::Global;
 

@@ -9,7 +9,8 @@ use crate::stops::{new_disk, where_it_leads};
 use anyhow::bail;
 use blocks::{Disk, MemDisk};
 use calls::transactions::open_pair;
-use names::{ENTRY_SIZE, Tree};
+use directories::ENTRY_SIZE;
+use names::Tree;
 use std::alloc::Global;
 
 // More writes than the making of a file makes.

@@ -8,8 +8,9 @@ use crate::looks::tell_opened;
 use crate::serving::Server;
 use crate::terms::Moment;
 use blocks::Disk;
+use directories::{Name, Refusal};
 use fuse::{Request, wrote_answer};
-use names::{Found, Name, Refusal, Tree, TreeFault};
+use names::{Found, Tree, TreeFault};
 use std::alloc::Global;
 
 // The type of a file in a mode, and that of a file of bytes.

@@ -5,10 +5,9 @@ ghost use Rattle.names.specs.Ready.{MayGoOn};
 use crate::errno::Errno;
 use crate::nodes::Nodes;
 use blocks::Disk;
+use directories::{ENTRY_SIZE, NAME_SIZE, Name, entries_in, leads_down, number_in, text_in};
 use fuse::{add_entry, directory_entry, padding_of};
-use names::{
-    ENTRY_SIZE, NAME_SIZE, Name, Tree, TreeFault, entries_in, leads_down, number_in, text_in,
-};
+use names::{Tree, TreeFault};
 use std::alloc::Global;
 
 /// The number of the root.

@@ -3,7 +3,8 @@ ghost use Rattle.std.specs.Prelude.{◌<◌, ◌≤◌};
 
 use blocks::NoMemory;
 use calls::transactions::TransactionFault;
-use names::{NameFault, PathFault, Refusal, TreeFault, Unwritten};
+use directories::{NameFault, PathFault, Refusal};
+use names::{TreeFault, Unwritten};
 use std::alloc::AllocError;
 
 /// Why a request isn't done, as the system's numbers have it.

@@ -6,11 +6,12 @@ use crate::errno::Errno;
 use crate::files::read;
 use crate::serving::{MOST, Server};
 use blocks::Disk;
+use directories::Name;
 use fuse::{
     FileSystem, Opened, Request, add_attributes, add_entry, init_answer, opened_answer,
     statfs_answer,
 };
-use names::{Found, Name, Tree};
+use names::{Found, Tree};
 use std::alloc::Global;
 
 // What we want of the system, as far as it can do it: reads side by side, writes of many pages, and

@@ -12,10 +12,10 @@ use Rattle.model.specs.Files.{Files, file_in}
 use Rattle.model.specs.Lemmas.Runs.{where_true_some}
 use Rattle.model.specs.Operations.{after, after_at, after_on, after_refusal, attribute_refusal, is_refusal, with_bytes}
 use Rattle.calls.specs.Stepping.{Plain}
-use Rattle.names.specs.Counts.{StaysCounted}
+use Rattle.directories.specs.Counts.{StaysCounted}
 use Rattle.names.specs.Inside.{files_seen, form_seen, Answers}
 use Rattle.names.specs.Numbered.{is_done, CutsAs, CutsAt}
-use Rattle.names.specs.Trees.{IsDirectory, IsFile, IsTree}
+use Rattle.directories.specs.Trees.{IsDirectory, IsFile, IsTree}
 use Rattle.names.proofs.PlainFiles.{plain_by}
 use Rattle.names.proofs.Staying.{cuts_stay, stays_from}
 

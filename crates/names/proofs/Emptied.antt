@@ -1,20 +1,20 @@
 -- An empty directory goes from a tree with its name.
 use Rattle.std.proofs.Common.{◌≡◌, ◌≢◌, ℕ, ◌-◌, ◌<◌, Bool, true, false, List, Option, Some, sym, ap, subst, ◌∙◌, arith}
 use Rattle.model.specs.Files.{Files, file_in}
-use Rattle.names.specs.Counts.{AreCounted, StaysCounted}
-use Rattle.names.specs.Entries.{lookup}
+use Rattle.directories.specs.Counts.{AreCounted, StaysCounted}
+use Rattle.directories.specs.Entries.{lookup}
 use Rattle.names.specs.Removing.{MayDrop}
-use Rattle.names.specs.TreeChanges.{DropsDirectory, DropsName, Relinks}
-use Rattle.names.specs.Trees.{directory_in, links_of, number_of, IsDirectory, IsDown, IsEmpty, IsTree}
+use Rattle.directories.specs.TreeChanges.{DropsDirectory, DropsName, Relinks}
+use Rattle.directories.specs.Trees.{directory_in, links_of, number_of, IsDirectory, IsDown, IsEmpty, IsTree}
 use Rattle.names.specs.Undirecting.{IsEmptinessOf}
-use Rattle.names.specs.Walks.{IsDirectoryFound}
-use Rattle.names.proofs.CountedChanges.{counted_directory_dropped}
-use Rattle.names.proofs.Dropping.{dropping_keeps}
+use Rattle.directories.specs.Walks.{IsDirectoryFound}
+use Rattle.directories.specs.Lemmas.CountedChanges.{counted_directory_dropped}
+use Rattle.directories.specs.Lemmas.Dropping.{dropping_keeps}
 use Rattle.names.proofs.Entering.{found_bytes}
 use Rattle.names.proofs.Named.{directory_counts}
 use Rattle.names.proofs.Relinking.{drops_relinked, relinked_links}
-use Rattle.names.proofs.TreeBy.{directory_named_once}
-use Rattle.names.proofs.TreeMeaning.{steps_lead}
+use Rattle.directories.specs.Lemmas.TreeBy.{directory_named_once}
+use Rattle.directories.specs.Lemmas.TreeMeaning.{steps_lead}
 
 -- the file is a directory, and whether it is empty
 emptied : (files : Files) (i : ℕ) (found : Option Bool) (empty : Bool) → found ≡ Some empty → IsEmptinessOf files i found → IsEmptinessOf files i (Some empty)

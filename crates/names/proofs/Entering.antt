@@ -5,30 +5,30 @@ use Rattle.model.specs.declared.types.operations.Reply.{Reply}
 use Rattle.model.specs.declared.types.operations.Reply.TheVariants.{Wrote}
 use Rattle.model.specs.Files.{Files, file_in}
 use Rattle.model.specs.Operations.{after}
-use Rattle.names.specs.declared.entries.EntryWrite.{EntryWrite}
+use Rattle.directories.specs.declared.entries.EntryWrite.{EntryWrite}
 use Rattle.blocks.specs.declared.disk.Disk.{Ghosts}
 use Rattle.calls.specs.Stepping.{Plain}
-use Rattle.names.specs.Counts.{AreCounted, StaysCounted}
+use Rattle.directories.specs.Counts.{AreCounted, StaysCounted}
 use Rattle.names.specs.Inside.{files_seen, form_seen}
 use Rattle.names.specs.Making.{is_entered, HasCreatedNew, HasEntered, HasParentCount, IsNewFile, Settles, Uncreates}
-use Rattle.names.specs.declared.refusal.Refusal.{Refusal}
-use Rattle.names.specs.Walks.{IsDirectoryFound}
-use Rattle.names.specs.TreeChanges.{empty_file, AddsName, IsUnnamed}
-use Rattle.names.specs.Trees.{bytes_of, directory_in, kind_of, number_of, IsDirectory, IsDown, IsFile, IsTree, links_of}
-use Rattle.names.specs.Sizes.{AreSized}
-use Rattle.names.specs.Writes.{operation_of, Links, MayHold, NeedsBlock}
+use Rattle.directories.specs.declared.refusal.Refusal.{Refusal}
+use Rattle.directories.specs.Walks.{IsDirectoryFound}
+use Rattle.directories.specs.TreeChanges.{empty_file, AddsName, IsUnnamed}
+use Rattle.directories.specs.Trees.{bytes_of, directory_in, kind_of, number_of, IsDirectory, IsDown, IsFile, IsTree, links_of}
+use Rattle.directories.specs.Sizes.{AreSized}
+use Rattle.directories.specs.Writes.{operation_of, Links, MayHold, NeedsBlock}
 use Rattle.model.specs.declared.types.image.File.{File}
-use Rattle.names.specs.TreeLaws.{IsNew}
-use Rattle.names.proofs.Adding.{adding_keeps}
-use Rattle.names.proofs.CountedChanges.{counted_added, counted_directory_added}
-use Rattle.names.proofs.EntrySteps.{link_needs}
-use Rattle.names.proofs.NewDirectory.{files_are_new}
-use Rattle.names.proofs.Sizes.{size_small}
+use Rattle.directories.specs.TreeLaws.{IsNew}
+use Rattle.directories.specs.Lemmas.Adding.{adding_keeps}
+use Rattle.directories.specs.Lemmas.CountedChanges.{counted_added, counted_directory_added}
+use Rattle.directories.specs.Lemmas.EntrySteps.{link_needs}
+use Rattle.directories.specs.Lemmas.NewDirectory.{files_are_new}
+use Rattle.directories.specs.Lemmas.Sizes.{size_small}
 use Rattle.names.proofs.Relinking.{adds_relinked, entered_links, relinked_links}
-use Rattle.names.proofs.TreeBy.{directory_is_file}
-use Rattle.names.proofs.TreeMeaning.{directories_are_tidy}
-use Rattle.names.proofs.Unnamed.{apart_from}
-use Rattle.names.proofs.WholeChanges.{linked_new}
+use Rattle.directories.specs.Lemmas.TreeBy.{directory_is_file}
+use Rattle.directories.specs.Lemmas.TreeMeaning.{directories_are_tidy}
+use Rattle.directories.specs.Lemmas.Unnamed.{apart_from}
+use Rattle.directories.specs.Lemmas.WholeChanges.{linked_new}
 
 -- a name that leads nowhere leads down
 pub down_absent : (files : Files) (from : ℕ) (name : List ℕ) → IsTree files → IsDirectory files from → number_of files from name ≡ None → IsDown name

@@ -12,9 +12,9 @@ use Rattle.model.specs.declared.types.operations.Reply.TheVariants.{Bytes, StatO
 use Rattle.model.specs.Files.{Files, file_in}
 use Rattle.model.specs.Lemmas.Runs.{where_true_some}
 use Rattle.model.specs.Operations.{after, after_refusal, after_at, after_on, no_file_refusal, part_of}
-use Rattle.names.specs.Trees.{directory_in, kind_of, IsDirectory, IsPath, IsTidy, IsTree}
-use Rattle.names.proofs.Answered.{done_where}
-use Rattle.names.proofs.TreeBy.{directory_is_file}
+use Rattle.directories.specs.Trees.{directory_in, kind_of, IsDirectory, IsPath, IsTidy, IsTree}
+use Rattle.directories.specs.Lemmas.Answered.{done_where}
+use Rattle.directories.specs.Lemmas.TreeBy.{directory_is_file}
 
 -- the type that an answer tells, and 0 where it tells none
 abbrev pub kind_told : Reply → ℕ

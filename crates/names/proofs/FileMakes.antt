@@ -11,9 +11,9 @@ use Rattle.model.specs.Lemmas.Runs.{where_true_some}
 use Rattle.model.specs.Operations.{after, after_create, is_kind}
 use Rattle.calls.specs.Calls.{MakesLowestOf, MakesNoneOf}
 use Rattle.names.specs.Making.{AreNumbersTaken, HasCreated}
-use Rattle.names.specs.TreeChanges.{empty_file}
-use Rattle.names.proofs.Answered.{done_where}
-use Rattle.names.proofs.Unnamed.{create_makes}
+use Rattle.directories.specs.TreeChanges.{empty_file}
+use Rattle.directories.specs.Lemmas.Answered.{done_where}
+use Rattle.directories.specs.Lemmas.Unnamed.{create_makes}
 
 none_by : (files new : Files) (kind : ℕ) (reply : Reply) → after_create files kind reply ≡ Some new → ((i : ℕ) → reply ≡ Made i → ⊥) →
     (new ≡ files) × (reply ≡ NoInode)

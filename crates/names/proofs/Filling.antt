@@ -8,9 +8,9 @@ use Rattle.calls.specs.Stepping.{Plain}
 use Rattle.names.specs.Inside.{files_seen, form_seen}
 use Rattle.names.specs.Making.{HasCreated, HasCreatedNew, HasFilledFor, Uncreates}
 use Rattle.names.specs.Ready.{is_filled}
-use Rattle.names.specs.TreeChanges.{directory_file, empty_file, IsUnnamed}
-use Rattle.names.proofs.NewDirectory.{files_are_new}
-use Rattle.names.proofs.Unnamed.{write_fills}
+use Rattle.directories.specs.TreeChanges.{directory_file, empty_file, IsUnnamed}
+use Rattle.directories.specs.Lemmas.NewDirectory.{files_are_new}
+use Rattle.directories.specs.Lemmas.Unnamed.{write_fills}
 
 module _ {D N : Type 0} (disk : Ghosts D N) (k a b : Plain D) (parent number up : ℕ) (made : Option ℕ) (whole : Bool) (up_is : up ≡ parent)
     (made_is : made ≡ Some number) (created : HasCreated 1 (files_seen disk.image k) (files_seen disk.image a) made)

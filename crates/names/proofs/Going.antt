@@ -16,16 +16,16 @@ use Rattle.calls.specs.Lemmas.Both.{keeps_nothing}
 use Rattle.calls.specs.Stepping.{Plain}
 use Rattle.calls.specs.Transactions.{Adds, Begins, Commits, HasFiles, IsInside, IsUnbegun, IsUncalled, IsUncommitted, KeepsEither, KeepsFiles, Rests, image_seen, labels_made}
 use Rattle.names.specs.Ready.{EndsOn, HasBegun, HasCommitted}
-use Rattle.names.specs.Trees.{IsTree}
+use Rattle.directories.specs.Trees.{IsTree}
 use Rattle.model.specs.declared.types.operations.Entry.{Entry}
 use Rattle.calls.specs.declared.transactions.fault.TransactionFault.{TransactionFault}
 use Rattle.calls.specs.declared.transactions.fault.TransactionFault.TheVariants as fault
 use Rattle.names.specs.declared.refusal.TreeFault.{TreeFault}
 use Rattle.names.specs.declared.refusal.TreeFault.TheVariants.{Path, Refused, Call, NoSpace, NoCall}
-use Rattle.names.proofs.Sizes.{after_sized, sound_sized}
-use Rattle.names.specs.Sizes.{AreSized}
+use Rattle.directories.specs.Lemmas.Sizes.{after_sized, sound_sized}
+use Rattle.directories.specs.Sizes.{AreSized}
 use Rattle.names.specs.Inside.{files_seen, form_seen, Answers, Ends, EndsOr, Goes, HasCause, IsBroken, IsBrokenOr, IsCrowded, IsUnderWay, Proceeds, StaysOn}
-use Rattle.names.specs.Counts.{AreCounted}
+use Rattle.directories.specs.Counts.{AreCounted}
 
 module _ {D N : Type 0} (disk : Ghosts D N) where
   -- a transaction sees the files that its kernel has

@@ -4,10 +4,10 @@ use Rattle.std.specs.Prelude.{IfOk}
 use Rattle.std.proofs.lemmas.List.{take_all, take_more}
 use Rattle.std.proofs.lemmas.Result.{IfOk-weaker}
 use Rattle.model.specs.Files.{Files}
-use Rattle.names.specs.declared.refusal.Refusal.{Refusal}
+use Rattle.directories.specs.declared.refusal.Refusal.{Refusal}
 use Rattle.names.specs.declared.refusal.TreeFault.{TreeFault}
 use Rattle.names.specs.Ready.{Happens}
-use Rattle.names.specs.Walks.{walked, AtLast, IsUndoneIn, IsUnled, LeadsIn}
+use Rattle.directories.specs.Walks.{walked, AtLast, IsUndoneIn, IsUnled, LeadsIn}
 
 -- the last of some names is behind the others
 pub split_last : (names : List (List ℕ)) (last : ℕ) (d : List ℕ) → last + 1 ≡ length names → names ≡ take last names ++ get_or names last d ∷ []

@@ -10,31 +10,31 @@ use Rattle.model.specs.Files.{Files, file_in}
 use Rattle.model.specs.Layout.{form_of}
 use Rattle.model.specs.Operations.{after, with_links}
 use Rattle.calls.specs.Stepping.{Plain}
-use Rattle.names.specs.declared.entries.EntryWrite.{EntryWrite}
-use Rattle.names.specs.Counts.{AreCounted, IsNameOf, StaysCounted}
-use Rattle.names.specs.Entries.{lookup}
+use Rattle.directories.specs.declared.entries.EntryWrite.{EntryWrite}
+use Rattle.directories.specs.Counts.{AreCounted, IsNameOf, StaysCounted}
+use Rattle.directories.specs.Entries.{lookup}
 use Rattle.names.specs.Inside.{files_seen, form_seen, Answers}
 use Rattle.names.specs.Making.{HasEntered}
 use Rattle.names.specs.Removing.{MayDrop, MayLose}
-use Rattle.names.specs.TreeChanges.{DropsName, LeadsTo, Relinks, UnlinksName}
-use Rattle.names.specs.Sizes.{AreSized}
-use Rattle.names.specs.Trees.{directory_in, number_of, parent_name, HasOtherName, IsDirectory, IsDown, IsFile, IsTree, kind_of, links_of, IsNamedOnce, StepsDown}
-use Rattle.names.specs.Walks.{IsDirectoryFound}
-use Rattle.names.specs.Writes.{Unlinks}
-use Rattle.names.proofs.Answered.{some_by}
-use Rattle.names.proofs.Below.{parents_decide}
-use Rattle.names.proofs.CountedChanges.{counted_dropped, counted_unlinked}
-use Rattle.names.proofs.Dropping.{dropping_keeps}
+use Rattle.directories.specs.TreeChanges.{DropsName, LeadsTo, Relinks, UnlinksName}
+use Rattle.directories.specs.Sizes.{AreSized}
+use Rattle.directories.specs.Trees.{directory_in, number_of, parent_name, HasOtherName, IsDirectory, IsDown, IsFile, IsTree, kind_of, links_of, IsNamedOnce, StepsDown}
+use Rattle.directories.specs.Walks.{IsDirectoryFound}
+use Rattle.directories.specs.Writes.{Unlinks}
+use Rattle.directories.specs.Lemmas.Answered.{some_by}
+use Rattle.directories.specs.Lemmas.Below.{parents_decide}
+use Rattle.directories.specs.Lemmas.CountedChanges.{counted_dropped, counted_unlinked}
+use Rattle.directories.specs.Lemmas.Dropping.{dropping_keeps}
 use Rattle.names.proofs.Entering.{found_bytes}
-use Rattle.names.proofs.Sizes.{size_small}
-use Rattle.names.proofs.TreeMeaning.{directories_are_tidy, steps_lead}
-use Rattle.names.proofs.EntrySteps.{unlink_leads_nowhere}
-use Rattle.names.proofs.Linked.{unlinked_tree}
+use Rattle.directories.specs.Lemmas.Sizes.{size_small}
+use Rattle.directories.specs.Lemmas.TreeMeaning.{directories_are_tidy, steps_lead}
+use Rattle.directories.specs.Lemmas.EntrySteps.{unlink_leads_nowhere}
+use Rattle.directories.specs.Lemmas.Linked.{unlinked_tree}
 use Rattle.names.proofs.Named.{once_counted, other_counted}
-use Rattle.names.proofs.Places.{count_some}
+use Rattle.directories.specs.Lemmas.Places.{count_some}
 use Rattle.names.proofs.Relinking.{changed_relinked, entered_links, relinked_numbers, remove_keeps}
-use Rattle.names.proofs.Unnamed.{some_ne_none}
-use Rattle.names.proofs.WholeChanges.{removes_file_whole}
+use Rattle.directories.specs.Lemmas.Unnamed.{some_ne_none}
+use Rattle.directories.specs.Lemmas.WholeChanges.{removes_file_whole}
 
 -- the file is no directory
 pub none_found : (files : Files) (i : ℕ) (found : Option (List ℕ)) → ((bytes : List ℕ) → found ≡ Some bytes → ⊥) → IsDirectoryFound files i found →

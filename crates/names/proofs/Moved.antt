@@ -8,32 +8,32 @@ use Rattle.model.specs.Files.{Files, file_in}
 use Rattle.model.specs.Layout.{form_of}
 use Rattle.model.specs.Operations.{after}
 use Rattle.calls.specs.Stepping.{Plain}
-use Rattle.names.specs.declared.entries.EntryWrite.{EntryWrite}
+use Rattle.directories.specs.declared.entries.EntryWrite.{EntryWrite}
 use Rattle.names.specs.declared.planning.Plan.{Plan}
 use Rattle.names.specs.declared.planning.Rise.{Rise}
-use Rattle.names.specs.declared.refusal.Refusal.{Refusal}
-use Rattle.names.specs.declared.refusal.Refusal.TheVariants.{IsInside, TooManyLinks}
-use Rattle.names.specs.Counts.{AreCounted, HasLinks, HasMostLinks, StaysCounted}
-use Rattle.names.specs.Entries.{lookup}
+use Rattle.directories.specs.declared.refusal.Refusal.{Refusal}
+use Rattle.directories.specs.declared.refusal.Refusal.TheVariants.{IsInside, TooManyLinks}
+use Rattle.directories.specs.Counts.{AreCounted, HasLinks, HasMostLinks, StaysCounted}
+use Rattle.directories.specs.Entries.{lookup}
 use Rattle.names.specs.Inside.{files_seen, form_seen}
 use Rattle.names.specs.Making.{is_entered, HasEntered}
 use Rattle.names.specs.Renaming.{IsPlan, IsRise, IsUnrenamed, IsUp, Renames, Rises}
-use Rattle.names.specs.Sizes.{AreSized}
-use Rattle.names.specs.TreeChanges.{LeadsTo, MovesDirectory, MovesName, Relinks}
-use Rattle.names.specs.Trees.{directory_in, number_of, self_name, IsDirectory, IsDown, IsFile, IsTree, bytes_of, kind_of, links_of, parent_name, IsOutside, IsTidy}
-use Rattle.names.specs.Walks.{IsDirectoryFound}
-use Rattle.names.specs.Writes.{operation_of, Links, MayHold, NeedsBlock, Unlinks, Repoints}
-use Rattle.names.proofs.CountedChanges.{counted_directory_moved, counted_moved}
+use Rattle.directories.specs.Sizes.{AreSized}
+use Rattle.directories.specs.TreeChanges.{LeadsTo, MovesDirectory, MovesName, Relinks}
+use Rattle.directories.specs.Trees.{directory_in, number_of, self_name, IsDirectory, IsDown, IsFile, IsTree, bytes_of, kind_of, links_of, parent_name, IsOutside, IsTidy}
+use Rattle.directories.specs.Walks.{IsDirectoryFound}
+use Rattle.directories.specs.Writes.{operation_of, Links, MayHold, NeedsBlock, Unlinks, Repoints}
+use Rattle.directories.specs.Lemmas.CountedChanges.{counted_directory_moved, counted_moved}
 use Rattle.names.proofs.Entering.{down_absent, found_bytes}
-use Rattle.names.proofs.EntrySteps.{link_leads_there, link_needs}
-use Rattle.names.proofs.MovingDirectory.{moving_directory_keeps}
+use Rattle.directories.specs.Lemmas.EntrySteps.{link_leads_there, link_needs}
+use Rattle.directories.specs.Lemmas.MovingDirectory.{moving_directory_keeps}
 use Rattle.names.proofs.Named.{directory_counts}
 use Rattle.names.proofs.Relinking.{entered_links, moves_relinked, relinked_links, relinked_there}
 use Rattle.names.proofs.Renamed.{whole_entry}
-use Rattle.names.proofs.Repoints.{repoint_leads_there}
-use Rattle.names.proofs.TreeBy.{directory_is_file}
-use Rattle.names.proofs.TreeMeaning.{directories_are_tidy, steps_lead}
-use Rattle.names.proofs.WholeChanges.{moved_name, moves_file_whole}
+use Rattle.directories.specs.Lemmas.Repoints.{repoint_leads_there}
+use Rattle.directories.specs.Lemmas.TreeBy.{directory_is_file}
+use Rattle.directories.specs.Lemmas.TreeMeaning.{directories_are_tidy, steps_lead}
+use Rattle.directories.specs.Lemmas.WholeChanges.{moved_name, moves_file_whole}
 
 -- ---- planned
 

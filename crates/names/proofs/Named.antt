@@ -2,14 +2,14 @@
 use Rattle.std.proofs.Common.{◌≡◌, ◌≢◌, ℕ, ◌<◌, ◌≤◌, List, Some, sym, ap, ap₂, subst, ◌∙◌, ⊎_elim, arith}
 use Rattle.std.proofs.lemmas.Bool.{cases_eq}
 use Rattle.model.specs.Files.{Files, file_in}
-use Rattle.names.specs.Counts.{AreCounted, HasLinks, HasNames, IsNameOf, Place}
-use Rattle.names.specs.Trees.{directory_in, links_of, number_of, parent_name, HasOtherName, IsDirectory, IsFile, IsNamedOnce, IsTree, Steps, StepsDown}
-use Rattle.names.proofs.CountedChanges.{parent_counts}
-use Rattle.names.proofs.Moving.{same_entry, IsOther}
-use Rattle.names.proofs.Places.{count_one, count_other, count_some}
+use Rattle.directories.specs.Counts.{AreCounted, HasLinks, HasNames, IsNameOf, Place}
+use Rattle.directories.specs.Trees.{directory_in, links_of, number_of, parent_name, HasOtherName, IsDirectory, IsFile, IsNamedOnce, IsTree, Steps, StepsDown}
+use Rattle.directories.specs.Lemmas.CountedChanges.{parent_counts}
+use Rattle.directories.specs.Lemmas.Moving.{same_entry, IsOther}
+use Rattle.directories.specs.Lemmas.Places.{count_one, count_other, count_some}
 use Rattle.names.proofs.Renamed.{lookup_used}
-use Rattle.names.proofs.TreeBy.{depth_in, directory_is_file, tree_makes_steps}
-use Rattle.names.proofs.TreeMeaning.{directory_by}
+use Rattle.directories.specs.Lemmas.TreeBy.{depth_in, directory_is_file, tree_makes_steps}
+use Rattle.directories.specs.Lemmas.TreeMeaning.{directory_by}
 
 same_place : (p : Place) (from : ℕ) (name : List ℕ) → p.0 ≡ from → p.1 ≡ name → p ≡ (from, name)
 same_place p from name same named = ap₂ (λ (a : ℕ) (n : List ℕ). (a, n)) same named

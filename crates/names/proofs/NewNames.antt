@@ -8,26 +8,26 @@ use Rattle.model.specs.declared.types.operations.Reply.TheVariants.{Wrote}
 use Rattle.model.specs.Files.{Files, file_in}
 use Rattle.model.specs.Operations.{after, with_links}
 use Rattle.calls.specs.Stepping.{Plain}
-use Rattle.names.specs.declared.entries.EntryWrite.{EntryWrite}
-use Rattle.names.specs.Counts.{StaysCounted}
+use Rattle.directories.specs.declared.entries.EntryWrite.{EntryWrite}
+use Rattle.directories.specs.Counts.{StaysCounted}
 use Rattle.names.specs.Inside.{files_seen, form_seen}
-use Rattle.names.specs.declared.refusal.Refusal.{Refusal}
+use Rattle.directories.specs.declared.refusal.Refusal.{Refusal}
 use Rattle.names.specs.declared.refusal.TreeFault.{TreeFault}
 use Rattle.names.specs.Linking.{IsNotLinkedAt, IsNotLinkedIn, LeadToBoth, LinksAt, LinksIn}
 use Rattle.names.specs.Making.{is_entered, HasEntered}
 use Rattle.names.specs.Ready.{Happens}
-use Rattle.names.specs.TreeChanges.{LeadsTo, LinksName, Relinks}
-use Rattle.names.specs.Trees.{directory_in, kind_of, links_of, number_of, IsDirectory, IsFile, IsTree}
-use Rattle.names.specs.Walks.{walked, IsDirectoryFound, LeadsIn}
-use Rattle.names.specs.Sizes.{AreSized}
-use Rattle.names.specs.Writes.{operation_of, Links, MayHold, NeedsBlock}
-use Rattle.names.proofs.Answered.{some_by}
-use Rattle.names.proofs.CountedChanges.{counted_linked}
+use Rattle.directories.specs.TreeChanges.{LeadsTo, LinksName, Relinks}
+use Rattle.directories.specs.Trees.{directory_in, kind_of, links_of, number_of, IsDirectory, IsFile, IsTree}
+use Rattle.directories.specs.Walks.{walked, IsDirectoryFound, LeadsIn}
+use Rattle.directories.specs.Sizes.{AreSized}
+use Rattle.directories.specs.Writes.{operation_of, Links, MayHold, NeedsBlock}
+use Rattle.directories.specs.Lemmas.Answered.{some_by}
+use Rattle.directories.specs.Lemmas.CountedChanges.{counted_linked}
 use Rattle.names.proofs.Entering.{down_absent, found_bytes}
-use Rattle.names.proofs.EntrySteps.{link_leads_there, link_needs}
-use Rattle.names.proofs.Linked.{linked_tree}
+use Rattle.directories.specs.Lemmas.EntrySteps.{link_leads_there, link_needs}
+use Rattle.directories.specs.Lemmas.Linked.{linked_tree}
 use Rattle.names.proofs.Relinking.{changed_relinked, entered_links, relinked_numbers}
-use Rattle.names.proofs.TreeMeaning.{directories_are_tidy}
+use Rattle.directories.specs.Lemmas.TreeMeaning.{directories_are_tidy}
 
 -- In a transaction: kernel k looked at the directory and at the file, which is a then; b wrote the entry.
 module _ {D N : Type 0} (disk : Ghosts D N) (k a b : Plain D) (to number short : ℕ) (name bytes slice : List ℕ) (found : Option (List ℕ)) (seen : Files)

@@ -18,9 +18,9 @@ use Rattle.wal.specs.Recovery.{syncs_to_recover, writes_to_recover}
 use Rattle.wal.specs.declared.faults.RecoverFault.{RecoverFault}
 use Rattle.blocks.specs.Lemmas.Reads.{reads_then}
 use Rattle.model.specs.Files.{files_of}
-use Rattle.names.specs.Counts.{HasRightCount}
+use Rattle.directories.specs.Counts.{HasRightCount}
 use Rattle.names.specs.Opening.{IsUnopened}
-use Rattle.names.specs.Trees.{IsTree}
+use Rattle.directories.specs.Trees.{IsTree}
 use Rattle.names.specs.declared.opening.TreeOpenFault.{TreeOpenFault}
 use Rattle.names.specs.declared.opening.TreeOpenFault.TheVariants.{Kernel, Miscounted, NoTree}
 

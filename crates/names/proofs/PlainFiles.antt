@@ -11,14 +11,14 @@ use Rattle.model.specs.declared.types.operations.Reply.TheVariants.{Bytes}
 use Rattle.model.specs.Files.{Files, file_in}
 use Rattle.model.specs.Operations.{part_of}
 use Rattle.calls.specs.Stepping.{Plain}
-use Rattle.names.specs.declared.refusal.Refusal.{Refusal}
+use Rattle.directories.specs.declared.refusal.Refusal.{Refusal}
 use Rattle.names.specs.declared.refusal.TreeFault.{TreeFault}
 use Rattle.names.specs.Contents.{IsNoPlain, IsPlainFile, LeadsToNoPlain}
 use Rattle.names.specs.Inside.{files_seen, form_seen, Answers}
 use Rattle.names.specs.Ready.{Happens}
-use Rattle.names.specs.Trees.{kind_of, IsDirectory, IsFile}
-use Rattle.names.specs.Walks.{walked}
-use Rattle.names.proofs.Answered.{some_by}
+use Rattle.directories.specs.Trees.{kind_of, IsDirectory, IsFile}
+use Rattle.directories.specs.Walks.{walked}
+use Rattle.directories.specs.Lemmas.Answered.{some_by}
 use Rattle.names.proofs.FileLooks.{reads}
 
 pub not_told : (b : Bool) (P : Type 0) → b ≡ false → IsTrue b ↔ P → P → ⊥

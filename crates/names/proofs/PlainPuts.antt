@@ -20,20 +20,20 @@ use Rattle.calls.specs.Calls.{ShortIsFull}
 use Rattle.calls.specs.Files.{IsFull}
 use Rattle.calls.specs.Stepping.{Plain}
 use Rattle.calls.specs.Transactions.{image_seen}
-use Rattle.names.specs.declared.refusal.Refusal.{Refusal}
-use Rattle.names.specs.declared.refusal.Refusal.TheVariants.{NotFound, NotADirectory, IsRoot, Exists, Full, NoNumber, NoBlock, IsADirectory, NotEmpty, IsInside, NotDown, TooManyLinks}
+use Rattle.directories.specs.declared.refusal.Refusal.{Refusal}
+use Rattle.directories.specs.declared.refusal.Refusal.TheVariants.{NotFound, NotADirectory, IsRoot, Exists, Full, NoNumber, NoBlock, IsADirectory, NotEmpty, IsInside, NotDown, TooManyLinks}
 use Rattle.names.specs.Contents.{HasOnly, IsNoPlain}
-use Rattle.names.specs.Counts.{StaysCounted}
+use Rattle.directories.specs.Counts.{StaysCounted}
 use Rattle.names.specs.Inside.{files_seen, form_seen, Answers}
 use Rattle.names.specs.Making.{HasCreated, HasCreatedNew, IsUnmadeOr, Uncreates}
 use Rattle.names.specs.Putting.{file_of, told, IsUnputIn, PutsIn}
 use Rattle.names.specs.Ready.{Happens}
-use Rattle.names.specs.TreeChanges.{empty_file, AddsName, IsUnnamed}
-use Rattle.names.specs.Trees.{kind_of, number_of, IsDirectory, IsFile, IsTree}
+use Rattle.directories.specs.TreeChanges.{empty_file, AddsName, IsUnnamed}
+use Rattle.directories.specs.Trees.{kind_of, number_of, IsDirectory, IsFile, IsTree}
 use Rattle.names.specs.Writing.{reply_of, written, HasWritten, Outcome, WritesAs}
-use Rattle.names.proofs.Answered.{done_where, some_by, write_allowed, wrote_on}
-use Rattle.names.proofs.FileMaps.{set_there, unnamed_by}
-use Rattle.names.proofs.Keeping.{at_cases, trunc_on, write_on}
+use Rattle.directories.specs.Lemmas.Answered.{done_where, some_by, write_allowed, wrote_on}
+use Rattle.directories.specs.Lemmas.FileMaps.{set_there, unnamed_by}
+use Rattle.directories.specs.Lemmas.Keeping.{at_cases, trunc_on, write_on}
 use Rattle.names.proofs.PlainFiles.{plain_by}
 use Rattle.names.proofs.PlainWrites.{told_writes, writes_tree}
 use Rattle.names.proofs.Staying.{stays_from, stays_on, truncs_stay}

@@ -18,9 +18,9 @@ use Rattle.model.specs.Operations.{after, after_refusal, after_at, is_refusal, m
 use Rattle.calls.specs.Stepping.{Plain}
 use Rattle.names.specs.declared.writing.Unwritten.{Unwritten}
 use Rattle.names.specs.declared.writing.Unwritten.TheVariants as unwritten
-use Rattle.names.specs.Counts.{StaysCounted}
+use Rattle.directories.specs.Counts.{StaysCounted}
 use Rattle.names.specs.Inside.{files_seen, form_seen}
-use Rattle.names.specs.Trees.{IsDirectory, IsFile, IsTree}
+use Rattle.directories.specs.Trees.{IsDirectory, IsFile, IsTree}
 use Rattle.names.specs.Writing.{reply_of, written, HasWritten, Outcome, WritesAs, WritesOf}
 use Rattle.names.proofs.PlainFiles.{plain_by}
 use Rattle.names.proofs.Staying.{stays_from, writes_stay}

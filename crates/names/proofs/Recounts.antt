@@ -25,19 +25,19 @@ use Rattle.model.specs.Soundness.{IsSound}
 use Rattle.model.specs.Verdict.{verdict}
 use Rattle.wal.specs.Lemmas.Stops.{if_synced, if_synced_wider, read_if_synced, run_leaves}
 use Rattle.wal.specs.Recovery.{LeavesIfSynced, RecoversAs}
-use Rattle.names.specs.Counts.{AreCounted, HasNames, HasRightCount, IsIn, IsNameOf, Place}
-use Rattle.names.specs.Entries.{lookup}
+use Rattle.directories.specs.Counts.{AreCounted, HasNames, HasRightCount, IsIn, IsNameOf, Place}
+use Rattle.directories.specs.Entries.{lookup}
 use Rattle.names.specs.Recounting.{AddsIf, AgreeButCounts, AreDiffering, AreSet, AreWrong, Differs, IsOnce, IsOneOf, IsRecounted, IsUnrecounted, IsWrong, KeepsButCounts, StopsRecount}
-use Rattle.names.specs.Tallying.{AreLinks, AreNameCounts, HasTooMany}
-use Rattle.names.specs.Trees.{bytes_of, directory_in, kind_of, links_of, number_of, IsFile, IsTree}
+use Rattle.directories.specs.Tallying.{AreLinks, AreNameCounts, HasTooMany}
+use Rattle.directories.specs.Trees.{bytes_of, directory_in, kind_of, links_of, number_of, IsFile, IsTree}
 use Rattle.names.specs.declared.recounting.Counted.{Counted}
 use Rattle.names.specs.declared.recounting.RecountFault.{RecountFault}
 use Rattle.names.specs.declared.recounting.RecountFault.TheVariants.{Unopened, TooMany, Call}
-use Rattle.names.proofs.Answered.{some_by}
-use Rattle.names.proofs.FileMaps.{set_others, set_there}
-use Rattle.names.proofs.FoundNext.{at_last}
+use Rattle.directories.specs.Lemmas.Answered.{some_by}
+use Rattle.directories.specs.Lemmas.FileMaps.{set_others, set_there}
+use Rattle.directories.specs.Lemmas.FoundNext.{at_last}
 use Rattle.names.proofs.Openings.{opened_behind, unopened_after}
-use Rattle.names.proofs.PathLaws.{step_leads}
+use Rattle.directories.specs.Lemmas.PathLaws.{step_leads}
 
 -- ---- files that agree but for their counts
 

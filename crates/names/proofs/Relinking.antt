@@ -14,15 +14,15 @@ use Rattle.model.specs.Lemmas.FileNumbers.{below_file}
 use Rattle.model.specs.Lemmas.Replies.{after_cases}
 use Rattle.model.specs.Operations.{after, after_done, attribute_refusal, refusal_of, with_bytes, with_links}
 use Rattle.calls.specs.Stepping.{Plain}
-use Rattle.names.specs.declared.entries.EntryWrite.{EntryWrite}
-use Rattle.names.specs.Entries.{lookup}
+use Rattle.directories.specs.declared.entries.EntryWrite.{EntryWrite}
+use Rattle.directories.specs.Entries.{lookup}
 use Rattle.names.specs.Inside.{files_seen, form_seen}
 use Rattle.names.specs.Making.{HasEntered}
-use Rattle.names.specs.TreeChanges.{AddsName, ChangesName, DropsName, MovesName, Relinks}
-use Rattle.names.specs.Trees.{bytes_of, directory_in, kind_of, links_of, number_of, IsFile, IsTidy}
-use Rattle.names.proofs.Answered.{done_where, some_by}
-use Rattle.names.proofs.FileMaps.{set_others, set_there}
-use Rattle.names.proofs.Keeping.{at_cases, set_on, remove_on, trunc_on, write_on}
+use Rattle.directories.specs.TreeChanges.{AddsName, ChangesName, DropsName, MovesName, Relinks}
+use Rattle.directories.specs.Trees.{bytes_of, directory_in, kind_of, links_of, number_of, IsFile, IsTidy}
+use Rattle.directories.specs.Lemmas.Answered.{done_where, some_by}
+use Rattle.directories.specs.Lemmas.FileMaps.{set_others, set_there}
+use Rattle.directories.specs.Lemmas.Keeping.{at_cases, set_on, remove_on, trunc_on, write_on}
 
 -- ---- a count changed
 

@@ -10,34 +10,34 @@ use Rattle.model.specs.Files.{Files, file_in}
 use Rattle.model.specs.Layout.{form_of}
 use Rattle.model.specs.Operations.{after}
 use Rattle.calls.specs.Stepping.{Plain}
-use Rattle.names.specs.declared.entries.EntryWrite.{EntryWrite}
-use Rattle.names.specs.declared.entries.LinkFault.{LinkFault}
-use Rattle.names.specs.declared.entries.LinkFault.TheVariants.{Exists, Full}
-use Rattle.names.specs.Entries.{entries_of, is_for, lookup, number_in, place_of}
-use Rattle.names.specs.Counts.{StaysCounted}
+use Rattle.directories.specs.declared.entries.EntryWrite.{EntryWrite}
+use Rattle.directories.specs.declared.entries.LinkFault.{LinkFault}
+use Rattle.directories.specs.declared.entries.LinkFault.TheVariants.{Exists, Full}
+use Rattle.directories.specs.Entries.{entries_of, is_for, lookup, number_in, place_of}
+use Rattle.directories.specs.Counts.{StaysCounted}
 use Rattle.names.specs.Inside.{files_seen, form_seen}
 use Rattle.names.specs.Making.{is_entered, HasEntered}
-use Rattle.names.specs.declared.refusal.Refusal.{Refusal}
+use Rattle.directories.specs.declared.refusal.Refusal.{Refusal}
 use Rattle.names.specs.declared.refusal.TreeFault.{TreeFault}
 use Rattle.names.specs.declared.refusal.TreeFault.TheVariants.{Path, Refused, Call, NoSpace, NoCall}
 use Rattle.names.specs.Ready.{Happens, IsUndone}
 use Rattle.names.specs.Renaming.{IsUndoneAt, IsUndoneAtBoth, IsUnrenamed, LeadBoth, Renames, RenamesAt}
-use Rattle.names.specs.Sizes.{AreSized}
-use Rattle.names.specs.TreeChanges.{LeadsTo, MovesName}
-use Rattle.names.specs.Trees.{directory_in, links_of, number_of, IsDirectory, IsDown, IsTidy, IsTree}
-use Rattle.names.specs.Walks.{walked, IsDirectoryFound, LeadsIn}
-use Rattle.names.specs.Writes.{free_place, operation_of, written, IsLinkCause, Links, Unlinks}
-use Rattle.names.proofs.Changes.{lookup_absent}
-use Rattle.names.proofs.CountedChanges.{counted_moved}
+use Rattle.directories.specs.Sizes.{AreSized}
+use Rattle.directories.specs.TreeChanges.{LeadsTo, MovesName}
+use Rattle.directories.specs.Trees.{directory_in, links_of, number_of, IsDirectory, IsDown, IsTidy, IsTree}
+use Rattle.directories.specs.Walks.{walked, IsDirectoryFound, LeadsIn}
+use Rattle.directories.specs.Writes.{free_place, operation_of, written, IsLinkCause, Links, Unlinks}
+use Rattle.directories.specs.Lemmas.Changes.{lookup_absent}
+use Rattle.directories.specs.Lemmas.CountedChanges.{counted_moved}
 use Rattle.names.proofs.Entering.{down_absent, found_bytes}
-use Rattle.names.proofs.EntryBytes.{is_for-free}
-use Rattle.names.proofs.EntrySteps.{freed_room, unlink_leads_nowhere, unlink_size}
-use Rattle.names.proofs.FileMaps.{writes}
-use Rattle.names.proofs.Sizes.{after_sized, size_small}
+use Rattle.directories.specs.Lemmas.EntryBytes.{is_for-free}
+use Rattle.directories.specs.Lemmas.EntrySteps.{freed_room, unlink_leads_nowhere, unlink_size}
+use Rattle.directories.specs.Lemmas.FileMaps.{writes}
+use Rattle.directories.specs.Lemmas.Sizes.{after_sized, size_small}
 use Rattle.names.proofs.Relinking.{entered_links}
-use Rattle.names.proofs.Standing.{lookup_at, stands_at}
-use Rattle.names.proofs.TreeMeaning.{directories_are_tidy}
-use Rattle.names.proofs.WholeChanges.{renames_file_whole}
+use Rattle.directories.specs.Lemmas.Standing.{lookup_at, stands_at}
+use Rattle.directories.specs.Lemmas.TreeMeaning.{directories_are_tidy}
+use Rattle.directories.specs.Lemmas.WholeChanges.{renames_file_whole}
 
 -- ---- numbers
 

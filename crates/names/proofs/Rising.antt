@@ -4,13 +4,13 @@ use Rattle.blocks.specs.declared.disk.Disk.{Ghosts}
 use Rattle.calls.specs.Calls.{image_on}
 use Rattle.calls.specs.Stepping.{Plain}
 use Rattle.model.specs.Files.{Files}
-use Rattle.names.specs.declared.refusal.Refusal.{Refusal}
+use Rattle.directories.specs.declared.refusal.Refusal.{Refusal}
 use Rattle.names.specs.Inside.{files_seen, IsUnderWay, StaysOn}
-use Rattle.names.specs.Trees.{number_of, parent_name, IsDirectory, IsOutside, IsTree}
-use Rattle.names.specs.Walks.{stepped}
-use Rattle.names.proofs.Below.{parents_decide, root_is_outside}
-use Rattle.names.proofs.PathLaws.{step_from, step_to}
-use Rattle.names.proofs.TreeMeaning.{directories_are_tidy}
+use Rattle.directories.specs.Trees.{number_of, parent_name, IsDirectory, IsOutside, IsTree}
+use Rattle.directories.specs.Walks.{stepped}
+use Rattle.directories.specs.Lemmas.Below.{parents_decide, root_is_outside}
+use Rattle.directories.specs.Lemmas.PathLaws.{step_from, step_to}
+use Rattle.directories.specs.Lemmas.TreeMeaning.{directories_are_tidy}
 
 -- a directory has a parent
 pub has_parent : (files : Files) (at : ℕ) (led : Result ℕ Refusal) → IsTree files → IsDirectory files at → led ≡ stepped files at parent_name →

@@ -1,5 +1,5 @@
 -- The root is made on a disk without files.
-use Rattle.std.proofs.Common.{◌≡◌, ℕ, Bool, true, Option, Some, None, Result, refl, sym, ap, subst, ◌∙◌, inl, inr, ⊎_elim}
+use Rattle.std.proofs.Common.{◌≡◌, ◌≢◌, ℕ, ◌<◌, Bool, false, true, Option, Some, None, Result, refl, sym, ap, subst, ◌∙◌, inl, inr, ◌⊎◌, ⊎_elim, arith}
 use Rattle.std.specs.Prelude.{OnOk}
 use Rattle.std.proofs.lemmas.Bool.{eqb-true}
 use Rattle.std.proofs.lemmas.Result.{on_ok_weaker}
@@ -13,19 +13,21 @@ use Rattle.model.specs.Files.{Files, files_of}
 use Rattle.model.specs.Layout.{form_of}
 use Rattle.model.specs.Log.{recovered}
 use Rattle.model.specs.Operations.{after}
-use Rattle.calls.specs.Calls.{image_on}
+use Rattle.calls.specs.Calls.{MakesLowestOf, image_on}
+use Rattle.calls.specs.Files.{IsFull}
 use Rattle.calls.specs.Stepping.{Plain}
-use Rattle.calls.specs.Transactions.{KeepsEither, labels_made}
-use Rattle.names.specs.declared.refusal.Refusal.{Refusal}
+use Rattle.calls.specs.Transactions.{KeepsEither, image_seen, labels_made}
+use Rattle.directories.specs.declared.refusal.Refusal.{Refusal}
 use Rattle.names.specs.declared.refusal.TreeFault.{TreeFault}
-use Rattle.names.specs.Counts.{AreCounted}
+use Rattle.directories.specs.Counts.{AreCounted}
 use Rattle.names.specs.Inside.{files_seen, form_seen, Answers, LeavesFiles, StaysOn}
 use Rattle.names.specs.Ready.{is_filled, EndsOn, HasBegun, HasCommitted, HasFilled, HasNoFile, IsRootAlone, KeepsRoot, LeavesEither, MakesRoot}
-use Rattle.names.specs.Trees.{new_directory, IsTree}
-use Rattle.names.proofs.CountedChanges.{root_is_counted}
+use Rattle.directories.specs.TreeChanges.{directory_file, empty_file, IsUnnamed}
+use Rattle.directories.specs.Trees.{new_directory, IsFile, IsTree}
+use Rattle.directories.specs.Lemmas.CountedChanges.{root_is_counted}
 use Rattle.names.proofs.Going.{wider}
-use Rattle.names.proofs.Unnamed.{create_makes}
-use Rattle.names.proofs.WholeChanges.{filled_by, makes_root_whole}
+use Rattle.directories.specs.Lemmas.Unnamed.{create_makes, write_fills}
+use Rattle.directories.specs.Lemmas.WholeChanges.{filled_by, makes_root_whole}
 
 whole_fill : (reply : Reply) → is_filled reply ≡ true → reply ≡ Wrote 32
 whole_fill (Wrote count) h = ap (λ (n : ℕ). Wrote n) (eqb-true count 32 h)
@@ -46,12 +48,6 @@ none_by : (o : Option Refusal) → ((x : Refusal) → o ≡ Some x → ⊥) → 
 none_by None not = refl
 none_by (Some x) not = absurd (not x refl)
 
-root_by : (files seen new : Files) (o : Option Refusal) → MakesRoot seen new o → ((x : Refusal) → o ≡ Some x → ⊥) → seen ≡ files → HasNoFile files →
-    IsRootAlone new × IsTree new × AreCounted new
-root_by files seen new o made not same none =
-    let done : MakesRoot seen new None = subst (λ (p : Option Refusal). MakesRoot seen new p) (none_by o not) made in
-    done (subst (λ (f : Files). HasNoFile f) (sym same) none)
-
 module _ {D N : Type 0} (disk : Ghosts D N) where
   pub root_filled : (k a b : Plain D) (i : ℕ) (reply : Reply) (whole : Bool) → a.opening ≡ k.opening → reply ≡ Made i → i ≡ 1 →
       Answers disk.image (Create 1) k a reply → HasFilled disk.image a b whole → whole ≡ true → HasNoFile (files_seen disk.image k) →
@@ -67,11 +63,32 @@ module _ {D N : Type 0} (disk : Ghosts D N) where
       (subst (λ (r : Reply). after form (files_seen disk.image a) (Write 1 0 (new_directory 1 1)) r ≡ Some (files_seen disk.image b))
       (whole_fill filled.reply (sym filled.told ∙ all)) fill)
 
+  -- its number was another file's
+  pub root_past : (k : Plain D) (i : ℕ) (reply : Reply) → MakesLowestOf (files_seen disk.image k) (Create 1) reply → reply ≡ Made i → 0 < i → i ≢ 1 →
+      IsFile (files_seen disk.image k) 1
+  root_past k i reply lowest is positive other = lowest 1 i 1 refl is (omega arith) (omega (arith, positive, other))
+
+  -- its entries were not written
+  pub root_full : (k a b : Plain D) (i : ℕ) (reply : Reply) (whole : Bool) → reply ≡ Made i → i ≡ 1 → Answers disk.image (Create 1) k a reply →
+      HasFilled disk.image a b whole → whole ≡ false → IsFull (image_seen disk.image b)
+  root_full k a b i reply whole is one create filled fails =
+      let made : Answers disk.image (Create 1) k a (Made 1) =
+      subst (λ (r : Reply). Answers disk.image (Create 1) k a r) (is ∙ ap (λ (n : ℕ). Made n) one) create in
+      let unnamed : IsUnnamed (files_seen disk.image k) (files_seen disk.image a) 1 (empty_file 1) =
+      create_makes (form_seen disk.image k) (files_seen disk.image k) (files_seen disk.image a) 1 1 made in
+      ⊎_elim (λ (done : (filled.reply ≡ Wrote 32) × IsUnnamed (files_seen disk.image k) (files_seen disk.image b) 1 (directory_file 1 1)).
+      let both : false ≡ true = sym fails ∙ filled.told ∙ ap is_filled done.0 in absurd (cc both))
+      (λ (none : (filled.reply ≡ Wrote 0) × (files_seen disk.image b ≡ files_seen disk.image a)).
+      filled.short 1 0 0 (new_directory 1 1) refl none.0 (omega arith))
+      (write_fills (form_seen disk.image a) (files_seen disk.image k) (files_seen disk.image a) (files_seen disk.image b) 1 1 filled.reply unnamed filled.answers)
+
   -- it began in k, was a in the transaction and b behind its calls, and is over in m
-  module _ (k a b m : Plain D) (less rest : ℕ) (o : Option Refusal) (begun : HasBegun disk k a less) (made : MakesRoot (files_seen disk.image a) (files_seen disk.image b) o)
+  module _ (k a b m : Plain D) (less rest : ℕ) (o : Option Refusal) (begun : HasBegun disk k a less) (made : MakesRoot disk.image a b o)
       (not : (x : Refusal) → o ≡ Some x → ⊥) (none : HasNoFile (files_of (image_on disk.image k))) where
     root : IsRootAlone (files_seen disk.image b) × IsTree (files_seen disk.image b) × AreCounted (files_seen disk.image b)
-    root = root_by (files_of (image_on disk.image k)) (files_seen disk.image a) (files_seen disk.image b) o made not begun.files none
+    root =
+        let done : MakesRoot disk.image a b None = subst (λ (p : Option Refusal). MakesRoot disk.image a b p) (none_by o not) made in
+        done (subst (λ (f : Files). HasNoFile f) (sym begun.files) none)
 
     pub root_alone : (r : Result (Unit {0}) TreeFault) → OnOk r (HasCommitted disk b m rest) → OnOk r (IsRootAlone (files_of (image_on disk.image m)))
     root_alone r all = on_ok_weaker r (λ (done : HasCommitted disk b m rest). subst (λ (f : Files). IsRootAlone f) (sym done.files) root.0) all

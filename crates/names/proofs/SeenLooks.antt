@@ -9,10 +9,10 @@ use Rattle.model.specs.Files.{Files, file_in}
 use Rattle.model.specs.Operations.{part_of}
 use Rattle.calls.specs.Stepping.{Plain}
 use Rattle.calls.specs.Calls.{image_on}
-use Rattle.names.specs.Walks.{walked}
+use Rattle.directories.specs.Walks.{walked}
 use Rattle.names.specs.Inside.{files_seen, form_seen, Answers, IsUnderWay, StaysOn}
-use Rattle.names.specs.Trees.{bytes_of, directory_in, kind_of, IsDirectory, IsFile}
-use Rattle.names.proofs.Answered.{file_by, some_by}
+use Rattle.directories.specs.Trees.{bytes_of, directory_in, kind_of, IsDirectory, IsFile}
+use Rattle.directories.specs.Lemmas.Answered.{file_by, some_by}
 use Rattle.names.proofs.FileLooks.{kind_told, reads, tells, tells_file, TellsFile}
 
 module _ {D N : Type 0} (disk : Ghosts D N) where

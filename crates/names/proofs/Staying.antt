@@ -6,11 +6,11 @@ use Rattle.model.specs.declared.types.operations.Op.TheVariants.{SetAttribute, T
 use Rattle.model.specs.declared.types.operations.Reply.{Reply}
 use Rattle.model.specs.Files.{Files}
 use Rattle.model.specs.Operations.{after}
-use Rattle.names.specs.Counts.{AreCounted, StaysCounted}
-use Rattle.names.specs.Trees.{IsDirectory, IsTree}
-use Rattle.names.proofs.CountedChanges.{counted_kept}
-use Rattle.names.proofs.Dropping.{keeping_keeps}
-use Rattle.names.proofs.Plain.{plain_keeps}
+use Rattle.directories.specs.Counts.{AreCounted, StaysCounted}
+use Rattle.directories.specs.Trees.{IsDirectory, IsTree}
+use Rattle.directories.specs.Lemmas.CountedChanges.{counted_kept}
+use Rattle.directories.specs.Lemmas.Dropping.{keeping_keeps}
+use Rattle.directories.specs.Lemmas.Plain.{plain_keeps}
 use Rattle.names.proofs.Relinking.{cuts_links, truncs_links, writes_links}
 
 -- the files are the same

@@ -8,11 +8,11 @@ use Rattle.model.specs.Log.{recovered}
 use Rattle.calls.specs.Calls.{image_on}
 use Rattle.calls.specs.Stepping.{Plain}
 use Rattle.calls.specs.Transactions.{KeepsEither, KeepsFiles, labels_made}
-use Rattle.names.specs.declared.refusal.Refusal.{Refusal}
+use Rattle.directories.specs.declared.refusal.Refusal.{Refusal}
 use Rattle.names.specs.Inside.{files_seen, LeavesFiles, StaysOn}
 use Rattle.names.specs.Ready.{EndsOn, Happens, HasBegun, IsReady, KeepsTree, LeavesTree}
-use Rattle.names.specs.Counts.{AreCounted, StaysCounted}
-use Rattle.names.specs.Trees.{IsTree}
+use Rattle.directories.specs.Counts.{AreCounted, StaysCounted}
+use Rattle.directories.specs.Trees.{IsTree}
 use Rattle.names.proofs.Going.{wider}
 
 -- The change of a transaction that began with kernel k, which is b now: what a stop left so far, and

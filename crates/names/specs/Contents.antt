@@ -3,10 +3,10 @@ use Rattle.std.specs.Prelude.{◌≡◌, ◌≢◌, ◌⊎◌, ℕ, min, List, [
 use Rattle.model.specs.declared.types.image.File.{File}
 use Rattle.model.specs.Files.{Files, file_in}
 use Rattle.model.specs.Operations.{part_of, transfer_limit, with_bytes}
-use Rattle.names.specs.declared.refusal.Refusal.{Refusal}
-use Rattle.names.specs.declared.refusal.Refusal.TheVariants.{IsADirectory}
-use Rattle.names.specs.Trees.{directory_kind, root, IsDirectory}
-use Rattle.names.specs.Walks.{walked}
+use Rattle.directories.specs.declared.refusal.Refusal.{Refusal}
+use Rattle.directories.specs.declared.refusal.Refusal.TheVariants.{IsADirectory}
+use Rattle.directories.specs.Trees.{directory_kind, root, IsDirectory}
+use Rattle.directories.specs.Walks.{walked}
 
 -- a file of bytes: it is there, and is no directory
 pub record IsPlainFile (files : Files) (number : ℕ) (file : File) : Type 0 where

@@ -14,7 +14,7 @@ use Rattle.calls.specs.Files.{IsFull}
 use Rattle.calls.specs.Stepping.{Plain}
 use Rattle.calls.specs.Transactions.{HasFiles, IsInside, KeepsFiles, image_seen}
 use Rattle.calls.specs.declared.transactions.fault.TransactionFault.TheVariants as fault
-use Rattle.names.specs.Sizes.{AreSized}
+use Rattle.directories.specs.Sizes.{AreSized}
 use Rattle.names.specs.declared.refusal.TreeFault.{TreeFault}
 use Rattle.names.specs.declared.refusal.TreeFault.TheVariants.{Path, Refused, Call, NoSpace, NoCall}
 
@@ -76,7 +76,8 @@ pub record IsSame {D N : Type 0} (disk : Ghosts D N) (k m : Plain D) : Type 0 wh
   pub image : image_on disk.image m ≡ image_on disk.image k
   pub faults : faults_on disk.fault_count m ≡ faults_on disk.fault_count k
 
--- the transaction of a kernel logged more than ten blocks, and none may be changed behind them
+-- the transaction of a kernel logged more than ten blocks, and no operation that changes files begins
+-- behind them
 abbrev pub IsCrowded : {D : Type 0} → Plain D → Type 0
 IsCrowded k = 10 < length k.store.volume.log.homes
 

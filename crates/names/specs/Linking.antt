@@ -1,15 +1,15 @@
 -- A file that gets another name.
 use Rattle.std.specs.Prelude.{◌≡◌, ◌⊎◌, ℕ, ◌+◌, ◌^◌, ◌≤◌, List, Result, Ok, Err, None}
 use Rattle.model.specs.Files.{Files, file_in}
-use Rattle.names.specs.declared.entries.LinkFault.TheVariants as link_fault
-use Rattle.names.specs.declared.refusal.Refusal.{Refusal}
-use Rattle.names.specs.declared.refusal.Refusal.TheVariants.{NotFound, NotADirectory, IsRoot, Exists, Full, NoNumber, NoBlock, IsADirectory, NotEmpty, IsInside, NotDown, TooManyLinks}
-use Rattle.names.specs.Counts.{HasMostLinks}
+use Rattle.directories.specs.declared.entries.LinkFault.TheVariants as link_fault
+use Rattle.directories.specs.declared.refusal.Refusal.{Refusal}
+use Rattle.directories.specs.declared.refusal.Refusal.TheVariants.{NotFound, NotADirectory, IsRoot, Exists, Full, NoNumber, NoBlock, IsADirectory, NotEmpty, IsInside, NotDown, TooManyLinks}
+use Rattle.directories.specs.Counts.{HasMostLinks}
 use Rattle.names.specs.Numbered.{IsNoFile}
-use Rattle.names.specs.TreeChanges.{LinksName}
-use Rattle.names.specs.Trees.{directory_in, links_of, number_of, root, IsDirectory}
-use Rattle.names.specs.Walks.{walked, LeadsIn, IsUnled}
-use Rattle.names.specs.Writes.{IsLinkCause, NeedsBlock}
+use Rattle.directories.specs.TreeChanges.{LinksName}
+use Rattle.directories.specs.Trees.{directory_in, links_of, number_of, root, IsDirectory}
+use Rattle.directories.specs.Walks.{walked, LeadsIn, IsUnled}
+use Rattle.directories.specs.Writes.{IsLinkCause, NeedsBlock}
 
 -- a file's count with one name more, unless it has the greatest
 abbrev pub HasMore : Files → ℕ → Result ℕ Refusal → Type 0

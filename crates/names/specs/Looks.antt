@@ -3,8 +3,8 @@ use Rattle.std.specs.Prelude.{◌≡◌, ℕ, List, length, Some, Ok}
 use Rattle.model.specs.declared.types.image.File.{File}
 use Rattle.model.specs.Files.{Files, file_in}
 use Rattle.names.specs.declared.asking.Found.{Found}
-use Rattle.names.specs.Trees.{root}
-use Rattle.names.specs.Walks.{walked}
+use Rattle.directories.specs.Trees.{root}
+use Rattle.directories.specs.Walks.{walked}
 
 -- the type, the links and the length of the file of a number
 pub record IsFound (files : Files) (number : ℕ) (found : Found) : Type 0 where

@@ -7,21 +7,21 @@ use Rattle.model.specs.declared.types.operations.Reply.{Reply}
 use Rattle.model.specs.declared.types.operations.Reply.TheVariants.{Wrote}
 use Rattle.model.specs.Files.{Files, file_in}
 use Rattle.calls.specs.Stepping.{Plain}
-use Rattle.names.specs.declared.entries.EntryWrite.{EntryWrite}
-use Rattle.names.specs.declared.entries.LinkFault.{LinkFault}
-use Rattle.names.specs.declared.entries.LinkFault.TheVariants as link_fault
-use Rattle.names.specs.declared.refusal.Refusal.{Refusal}
-use Rattle.names.specs.declared.refusal.Refusal.TheVariants.{NotFound, NotADirectory, IsRoot, Exists, Full, NoNumber, NoBlock, IsADirectory, NotEmpty, IsInside, NotDown, TooManyLinks}
-use Rattle.names.specs.Entries.{entry_size}
+use Rattle.directories.specs.declared.entries.EntryWrite.{EntryWrite}
+use Rattle.directories.specs.declared.entries.LinkFault.{LinkFault}
+use Rattle.directories.specs.declared.entries.LinkFault.TheVariants as link_fault
+use Rattle.directories.specs.declared.refusal.Refusal.{Refusal}
+use Rattle.directories.specs.declared.refusal.Refusal.TheVariants.{NotFound, NotADirectory, IsRoot, Exists, Full, NoNumber, NoBlock, IsADirectory, NotEmpty, IsInside, NotDown, TooManyLinks}
+use Rattle.directories.specs.Entries.{entry_size}
 use Rattle.names.specs.Inside.{files_seen, form_seen, Answers}
 use Rattle.names.specs.Ready.{is_filled}
-use Rattle.names.specs.Sizes.{AreSized}
-use Rattle.names.specs.TreeChanges.{empty_file, AddsDirectory, AddsName, IsUnnamed, directory_file, Relinks}
-use Rattle.names.specs.Counts.{HasMostLinks}
-use Rattle.names.specs.TreeLaws.{IsNew}
-use Rattle.names.specs.Trees.{directory_in, directory_kind, links_of, new_directory, number_of, IsDirectory, IsFile}
-use Rattle.names.specs.Walks.{AtLast}
-use Rattle.names.specs.Writes.{operation_of, IsLinkCause, NeedsBlock}
+use Rattle.directories.specs.Sizes.{AreSized}
+use Rattle.directories.specs.TreeChanges.{empty_file, AddsDirectory, AddsName, IsUnnamed, directory_file, Relinks}
+use Rattle.directories.specs.Counts.{HasMostLinks}
+use Rattle.directories.specs.TreeLaws.{IsNew}
+use Rattle.directories.specs.Trees.{directory_in, directory_kind, links_of, new_directory, number_of, IsDirectory, IsFile}
+use Rattle.directories.specs.Walks.{AtLast}
+use Rattle.directories.specs.Writes.{operation_of, IsLinkCause, NeedsBlock}
 
 -- the type of a file that is no directory
 abbrev pub file_kind : ℕ

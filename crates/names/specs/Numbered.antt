@@ -9,14 +9,14 @@ use Rattle.model.specs.declared.types.operations.Reply.TheVariants.{Wrote, Done,
 use Rattle.model.specs.Files.{Files, file_in}
 use Rattle.model.specs.Operations.{may_have_written, refusal_of, with_bytes}
 use Rattle.names.specs.declared.asking.Found.{Found}
-use Rattle.names.specs.declared.refusal.Refusal.{Refusal}
-use Rattle.names.specs.declared.refusal.Refusal.TheVariants.{NotFound, NotADirectory}
+use Rattle.directories.specs.declared.refusal.Refusal.{Refusal}
+use Rattle.directories.specs.declared.refusal.Refusal.TheVariants.{NotFound, NotADirectory}
 use Rattle.names.specs.declared.writing.Unwritten.{Unwritten}
 use Rattle.names.specs.declared.writing.Unwritten.TheVariants as unwritten
 use Rattle.names.specs.Contents.{HasOnly, IsNoPlain, IsPlainFile}
 use Rattle.names.specs.Looks.{IsFound}
-use Rattle.names.specs.Trees.{directory_in, IsDirectory}
-use Rattle.names.specs.Walks.{stepped}
+use Rattle.directories.specs.Trees.{directory_in, IsDirectory}
+use Rattle.directories.specs.Walks.{stepped}
 use Rattle.names.specs.Writing.{reply_of}
 
 -- there is no file of that number

@@ -10,9 +10,9 @@ use Rattle.names.specs.declared.opening.TreeOpenFault.{TreeOpenFault}
 use Rattle.names.specs.declared.opening.TreeOpenFault.TheVariants.{Kernel, Miscounted, NoTree}
 use Rattle.model.specs.declared.types.fault.CheckFault.TheVariants as check
 use Rattle.kernel.specs.declared.types.OpenFault.TheVariants.{Check, NoMemory}
-use Rattle.names.specs.declared.judging.JudgeFault.{JudgeFault}
-use Rattle.names.specs.Counts.{HasRightCount}
-use Rattle.names.specs.Trees.{IsTree}
+use Rattle.directories.specs.declared.judging.JudgeFault.{JudgeFault}
+use Rattle.directories.specs.Counts.{HasRightCount}
+use Rattle.directories.specs.Trees.{IsTree}
 
 -- the image of a disk has no fault, its files are no tree, and it was only read
 pub record HasNoTree {D N : Type 0} (disk : Ghosts D N) (d e : D) : Type 0 where

@@ -3,15 +3,15 @@ use Rattle.std.specs.Prelude.{⊤, ◌≡◌, ◌⊎◌, ℕ, ◌<◌, ◌≤◌
 use Rattle.model.specs.declared.types.image.File.{File}
 use Rattle.model.specs.Files.{Files}
 use Rattle.model.specs.Operations.{transfer_limit}
-use Rattle.names.specs.declared.refusal.Refusal.{Refusal}
-use Rattle.names.specs.declared.refusal.Refusal.TheVariants.{NotFound, NotADirectory, IsRoot, Exists, Full, NoNumber, NoBlock, IsADirectory, NotEmpty, IsInside, NotDown, TooManyLinks}
+use Rattle.directories.specs.declared.refusal.Refusal.{Refusal}
+use Rattle.directories.specs.declared.refusal.Refusal.TheVariants.{NotFound, NotADirectory, IsRoot, Exists, Full, NoNumber, NoBlock, IsADirectory, NotEmpty, IsInside, NotDown, TooManyLinks}
 use Rattle.names.specs.declared.writing.Unwritten.{Unwritten}
 use Rattle.names.specs.declared.writing.Unwritten.TheVariants.{TooLong}
 use Rattle.names.specs.Contents.{HasOnly}
 use Rattle.names.specs.Making.{file_kind, IsUnmadeIn, IsUnmadeOr}
-use Rattle.names.specs.TreeChanges.{AddsName}
-use Rattle.names.specs.Trees.{number_of, IsDirectory, Steps}
-use Rattle.names.specs.Walks.{AtLast}
+use Rattle.directories.specs.TreeChanges.{AddsName}
+use Rattle.directories.specs.Trees.{number_of, IsDirectory, Steps}
+use Rattle.directories.specs.Walks.{AtLast}
 
 -- a file of these bytes that is no directory
 abbrev pub file_of : List ℕ → File

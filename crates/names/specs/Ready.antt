@@ -1,5 +1,5 @@
 -- A tree of directories on a kernel's disk, and what a transaction makes of it.
-use Rattle.std.specs.Prelude.{◌≡◌, ◌≢◌, ◌⊎◌, ⊤, ℕ, ◌+◌, ◌^◌, ◌<◌, ◌≤◌, ◌==◌, Bool, false, IsTrue, List, Option, Some, None, Result, Ok, Err}
+use Rattle.std.specs.Prelude.{◌≡◌, ◌≢◌, ◌⊎◌, ⊤, ℕ, ◌+◌, ◌^◌, ◌<◌, ◌≤◌, ◌==◌, Bool, false, IsTrue, List, length, Option, Some, None, Result, Ok, Err}
 use Rattle.blocks.specs.Disk.{Image, LeavesOnly}
 use Rattle.blocks.specs.declared.disk.Disk.{Ghosts}
 use Rattle.model.specs.Files.{Files, file_in, files_of}
@@ -8,17 +8,19 @@ use Rattle.model.specs.declared.types.operations.Reply.{Reply}
 use Rattle.model.specs.declared.types.operations.Reply.TheVariants.{Wrote}
 use Rattle.model.specs.Log.{is_lawful_log, recovered}
 use Rattle.model.specs.Soundness.{IsSound}
-use Rattle.calls.specs.Calls.{call_count, image_on}
+use Rattle.calls.specs.Calls.{ShortIsFull, call_count, image_on}
+use Rattle.calls.specs.Files.{IsFull}
 use Rattle.calls.specs.Stepping.{Plain}
-use Rattle.calls.specs.Transactions.{KeepsEither, Rests, labels_made}
-use Rattle.names.specs.declared.refusal.Refusal.{Refusal}
+use Rattle.calls.specs.Transactions.{KeepsEither, Rests, image_seen, labels_made}
+use Rattle.directories.specs.declared.refusal.Refusal.{Refusal}
+use Rattle.directories.specs.declared.refusal.Refusal.TheVariants.{NoNumber, NoBlock}
 use Rattle.names.specs.declared.refusal.TreeFault.{TreeFault}
 use Rattle.names.specs.declared.refusal.TreeFault.TheVariants.{Path, Refused, Call, NoSpace, NoCall}
-use Rattle.names.specs.Counts.{AreCounted, StaysCounted}
+use Rattle.directories.specs.Counts.{AreCounted, StaysCounted}
 use Rattle.names.specs.Inside.{files_seen, Answers, Goes, IsBroken, IsBrokenOr, IsSame, LeavesFiles}
-use Rattle.names.specs.Paths.{IsPathCause}
-use Rattle.names.specs.Trees.{new_directory, root, IsTree}
-use Rattle.names.specs.TreeChanges.{directory_file}
+use Rattle.directories.specs.Paths.{IsPathCause}
+use Rattle.directories.specs.Trees.{new_directory, root, IsFile, IsTree}
+use Rattle.directories.specs.TreeChanges.{directory_file}
 
 -- No transaction is under way, so many calls may be made yet, and the files on the disk are a tree
 -- whose counts are right.
@@ -43,10 +45,17 @@ pub record IsRootAlone (files : Files) : Type 0 where
   pub there : file_in files root ≡ Some (directory_file root root)
   pub none : HasNoFile files
 
--- it was made where no file was, or a cause hindered it
-abbrev pub MakesRoot : Files → Files → Option Refusal → Type 0
-MakesRoot files new None = HasNoFile files → IsRootAlone new × IsTree new × AreCounted new
-MakesRoot files new (Some cause) = ⊤
+-- Why it was not: its number is a file's, or no inode has that number; or no block of an image is free.
+abbrev pub IsRootHindered : Files → Image → Refusal → Type 0
+IsRootHindered files x NoNumber = root < length files → IsFile files root
+IsRootHindered files x NoBlock = IsFull x
+IsRootHindered files x cause = ⊥
+
+-- It was made from kernel k to m, where no file was, or a cause hindered it.
+abbrev pub MakesRoot : {D : Type 0} → (D → Image) → Plain D → Plain D → Option Refusal → Type 0
+MakesRoot image k m None = HasNoFile (files_seen image k)
+    → IsRootAlone (files_seen image m) × IsTree (files_seen image m) × AreCounted (files_seen image m)
+MakesRoot image k m (Some cause) = IsRootHindered (files_seen image k) (image_seen image m) cause
 
 -- What a stop in its making leaves of image x: recovery gives a sound image with the files of x, or
 -- with the root alone.
@@ -65,11 +74,13 @@ pub record HasFilled {D : Type 0} (image : D → Image) (k m : Plain D) (whole :
   pub reply : Reply
   pub answers : Answers image (Write root 0 (new_directory root root)) k m reply
   pub told : whole ≡ is_filled reply
+  pub short : ShortIsFull (image_seen image m) (Write root 0 (new_directory root root)) reply
 
 -- why it was not made: nothing of it is kept, and no other call may be made
 abbrev pub IsRootless : {D N : Type 0} → Ghosts D N → Plain D → Plain D → TreeFault → Type 0
 IsRootless disk k m (Path cause) = ⊥
 IsRootless disk k m (Refused cause) = IsSame disk k m
+    × IsRootHindered (files_of (image_on disk.image k)) (image_seen disk.image m) cause
 IsRootless disk k m (Call cause) = IsBroken disk k m (Call cause)
 IsRootless disk k m NoSpace = IsBroken disk k m NoSpace
 IsRootless disk k m NoCall = IsBroken disk k m NoCall

@@ -14,10 +14,10 @@ use Rattle.model.specs.Log.{is_lawful_log, recovered}
 use Rattle.model.specs.Soundness.{IsSound}
 use Rattle.model.specs.Verdict.{verdict}
 use Rattle.wal.specs.Recovery.{LeavesIfSynced}
-use Rattle.names.specs.Counts.{AreCounted, HasNames, HasRightCount}
+use Rattle.directories.specs.Counts.{AreCounted, HasNames, HasRightCount}
 use Rattle.names.specs.Opening.{IsUnopened}
-use Rattle.names.specs.Tallying.{HasTooMany}
-use Rattle.names.specs.Trees.{links_of, IsFile, IsTree}
+use Rattle.directories.specs.Tallying.{HasTooMany}
+use Rattle.directories.specs.Trees.{links_of, IsFile, IsTree}
 use Rattle.names.specs.declared.recounting.Counted.{Counted}
 use Rattle.names.specs.declared.recounting.RecountFault.{RecountFault}
 use Rattle.names.specs.declared.recounting.RecountFault.TheVariants.{Unopened, Call, TooMany}

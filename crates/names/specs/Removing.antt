@@ -1,11 +1,11 @@
 -- A file removed from a tree.
 use Rattle.std.specs.Prelude.{◌≡◌, ◌⊎◌, ℕ, ◌+◌, List, Some, None}
 use Rattle.model.specs.Files.{Files, file_in}
-use Rattle.names.specs.declared.refusal.Refusal.{Refusal}
-use Rattle.names.specs.declared.refusal.Refusal.TheVariants.{NotFound, NotADirectory, IsRoot, Exists, Full, NoNumber, NoBlock, IsADirectory, NotEmpty, IsInside, NotDown, TooManyLinks}
-use Rattle.names.specs.TreeChanges.{DropsName, UnlinksName}
-use Rattle.names.specs.Trees.{directory_in, links_of, number_of, HasOtherName, IsDirectory, IsDown, IsEmpty, IsNamedOnce}
-use Rattle.names.specs.Walks.{AtLast}
+use Rattle.directories.specs.declared.refusal.Refusal.{Refusal}
+use Rattle.directories.specs.declared.refusal.Refusal.TheVariants.{NotFound, NotADirectory, IsRoot, Exists, Full, NoNumber, NoBlock, IsADirectory, NotEmpty, IsInside, NotDown, TooManyLinks}
+use Rattle.directories.specs.TreeChanges.{DropsName, UnlinksName}
+use Rattle.directories.specs.Trees.{directory_in, links_of, number_of, HasOtherName, IsDirectory, IsDown, IsEmpty, IsNamedOnce}
+use Rattle.directories.specs.Walks.{AtLast}
 
 -- a name of a directory is gone, and its file, which had no other name; or the file has others, and a
 -- count that says so

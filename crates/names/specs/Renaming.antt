@@ -3,21 +3,21 @@ use Rattle.std.specs.Prelude.{◌≡◌, ◌≢◌, ◌⊎◌, ℕ, ◌*◌, ◌
 use Rattle.blocks.specs.declared.disk.Disk.{Ghosts}
 use Rattle.model.specs.Files.{Files, file_in}
 use Rattle.calls.specs.Stepping.{Plain}
-use Rattle.names.specs.declared.entries.LinkFault.TheVariants as link_fault
-use Rattle.names.specs.Entries.{entry_size}
-use Rattle.names.specs.Counts.{HasMostLinks}
-use Rattle.names.specs.declared.refusal.Refusal.{Refusal}
-use Rattle.names.specs.declared.refusal.Refusal.TheVariants.{NotFound, NotADirectory, IsRoot, Exists, Full, NoNumber, NoBlock, IsADirectory, NotEmpty, IsInside, NotDown, TooManyLinks}
+use Rattle.directories.specs.declared.entries.LinkFault.TheVariants as link_fault
+use Rattle.directories.specs.Entries.{entry_size}
+use Rattle.directories.specs.Counts.{HasMostLinks}
+use Rattle.directories.specs.declared.refusal.Refusal.{Refusal}
+use Rattle.directories.specs.declared.refusal.Refusal.TheVariants.{NotFound, NotADirectory, IsRoot, Exists, Full, NoNumber, NoBlock, IsADirectory, NotEmpty, IsInside, NotDown, TooManyLinks}
 use Rattle.names.specs.declared.planning.Plan.{Plan}
 use Rattle.names.specs.declared.planning.Rise.{Rise}
 use Rattle.names.specs.declared.refusal.TreeFault.{TreeFault}
 use Rattle.names.specs.declared.refusal.TreeFault.TheVariants.{Path, Refused, Call, NoSpace, NoCall}
-use Rattle.names.specs.Paths.{IsPathCause}
+use Rattle.directories.specs.Paths.{IsPathCause}
 use Rattle.names.specs.Ready.{IsUnanswered}
-use Rattle.names.specs.TreeChanges.{MovesDirectory, MovesName}
-use Rattle.names.specs.Trees.{directory_in, links_of, number_of, parent_name, IsDirectory, IsDown, IsOutside}
-use Rattle.names.specs.Walks.{IsUnled, LeadsIn}
-use Rattle.names.specs.Writes.{IsLinkCause, Links, MayHold, NeedsBlock, Repoints, Unlinks}
+use Rattle.directories.specs.TreeChanges.{MovesDirectory, MovesName}
+use Rattle.directories.specs.Trees.{directory_in, links_of, number_of, parent_name, IsDirectory, IsDown, IsOutside}
+use Rattle.directories.specs.Walks.{IsUnled, LeadsIn}
+use Rattle.directories.specs.Writes.{IsLinkCause, Links, MayHold, NeedsBlock, Repoints, Unlinks}
 
 -- A file has a name of a directory in place of its name of the same or of another one. A directory that
 -- comes to another one, outside it, has this as its parent.

@@ -1,12 +1,12 @@
 -- A file of a tree that gets the name of another one.
 use Rattle.std.specs.Prelude.{◌≡◌, ◌≢◌, ◌⊎◌, Bool, true, false, ℕ, List, Result, Ok, Err}
 use Rattle.model.specs.Files.{Files}
-use Rattle.names.specs.declared.refusal.Refusal.{Refusal}
-use Rattle.names.specs.declared.refusal.Refusal.TheVariants.{IsADirectory, NotDown}
+use Rattle.directories.specs.declared.refusal.Refusal.{Refusal}
+use Rattle.directories.specs.declared.refusal.Refusal.TheVariants.{IsADirectory, NotDown}
 use Rattle.names.specs.Removing.{IsUnremovedIn, RemovesIn}
 use Rattle.names.specs.Renaming.{IsUnrenamed, Renames}
-use Rattle.names.specs.Trees.{root, IsDirectory, IsDown}
-use Rattle.names.specs.Walks.{stepped}
+use Rattle.directories.specs.Trees.{root, IsDirectory, IsDown}
+use Rattle.directories.specs.Walks.{stepped}
 
 -- a name of a directory is taken from its file, which is removed, or gets a name aside in the root
 abbrev pub Clears : ℕ → List ℕ → List ℕ → Bool → Unit {0} → Files → Files → Type 0

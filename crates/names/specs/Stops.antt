@@ -6,7 +6,7 @@ use Rattle.model.specs.declared.types.operations.Entry.{Entry}
 use Rattle.model.specs.Files.{files_of}
 use Rattle.model.specs.Log.{recovered}
 use Rattle.history.specs.Most.{most_of}
-use Rattle.names.specs.Laws.{HasLinked, Leads}
+use Rattle.directories.specs.Laws.{HasLinked, Leads}
 use Rattle.kernel.specs.State.{State}
 
 -- recovery of x keeps some count of groups between those, and each name whose link is among them

@@ -1,11 +1,11 @@
 -- A directory removed from a tree.
 use Rattle.std.specs.Prelude.{◌≡◌, ◌⊎◌, ℕ, Bool, List, Option, Some, None, IsTrue, ◌↔◌}
 use Rattle.model.specs.Files.{Files}
-use Rattle.names.specs.declared.refusal.Refusal.{Refusal}
-use Rattle.names.specs.declared.refusal.Refusal.TheVariants.{NotFound, NotADirectory, IsRoot, Exists, Full, NoNumber, NoBlock, IsADirectory, NotEmpty, IsInside, NotDown, TooManyLinks}
-use Rattle.names.specs.TreeChanges.{DropsDirectory}
-use Rattle.names.specs.Trees.{directory_in, number_of, IsDirectory, IsDown, IsEmpty}
-use Rattle.names.specs.Walks.{AtLast}
+use Rattle.directories.specs.declared.refusal.Refusal.{Refusal}
+use Rattle.directories.specs.declared.refusal.Refusal.TheVariants.{NotFound, NotADirectory, IsRoot, Exists, Full, NoNumber, NoBlock, IsADirectory, NotEmpty, IsInside, NotDown, TooManyLinks}
+use Rattle.directories.specs.TreeChanges.{DropsDirectory}
+use Rattle.directories.specs.Trees.{directory_in, number_of, IsDirectory, IsDown, IsEmpty}
+use Rattle.directories.specs.Walks.{AtLast}
 
 -- whether nothing is in a directory, or that a file is none
 abbrev pub IsEmptinessOf : Files → ℕ → Option Bool → Type 0

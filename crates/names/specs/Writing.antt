@@ -16,8 +16,8 @@ use Rattle.names.specs.declared.writing.Unwritten.{Unwritten}
 use Rattle.names.specs.declared.writing.Unwritten.TheVariants as unwritten
 use Rattle.names.specs.Contents.{IsPlainFile}
 use Rattle.names.specs.Inside.{Answers}
-use Rattle.names.specs.Trees.{root}
-use Rattle.names.specs.Walks.{walked}
+use Rattle.directories.specs.Trees.{root}
+use Rattle.directories.specs.Walks.{walked}
 
 -- what became of a write: all bytes were written, or none for a cause
 abbrev pub Outcome : Type 0

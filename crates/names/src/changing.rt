@@ -4,19 +4,18 @@ ghost use Rattle.calls.specs.Calls.{image_on};
 ghost use Rattle.calls.specs.Stopped.{StaysOver};
 ghost use Rattle.model.specs.Files.{Files, files_of};
 ghost use Rattle.model.specs.declared.types.image.Form.{Form};
-ghost use Rattle.names.specs.Counts.{AreCounted};
-ghost use Rattle.names.specs.declared.refusal.Refusal.{Refusal};
+ghost use Rattle.directories.specs.Counts.{AreCounted};
+ghost use Rattle.directories.specs.declared.refusal.Refusal.{Refusal};
 ghost use Rattle.names.specs.Inside.{files_seen, form_seen, IsUnderWay, ProceedsOr};
-ghost use Rattle.names.specs.Paths.{names_of};
+ghost use Rattle.directories.specs.Paths.{names_of};
 ghost use Rattle.names.specs.Ready.{answer_of, Happens, IsReady, IsUnansweredOr, IsUndoneOr, LeavesTree, MayGoOn, TreeStays};
-ghost use Rattle.names.specs.Trees.{IsTree};
-ghost use Rattle.names.specs.Walks.{AtLast, IsUndoneIn};
+ghost use Rattle.directories.specs.Trees.{IsTree};
+ghost use Rattle.directories.specs.Walks.{AtLast, IsUndoneIn};
 
-use crate::name::Name;
-use crate::path::names_of;
-use crate::refusal::{Asked, Refusal, TreeFault};
+use crate::refusal::{Asked, TreeFault};
 use crate::tree::Tree;
 use blocks::Disk;
+use directories::{Name, Refusal, names_of};
 use std::alloc::Global;
 
 // A change of the files of a tree where names lead from the root, or a look at them.

@@ -7,13 +7,13 @@ ghost use Rattle.names.specs.Contents.{IsNoPlain};
 ghost use Rattle.names.specs.Inside.{files_seen, IsUnderWay, Proceeds};
 ghost use Rattle.names.specs.Numbered.{CutsAt, IsNoFileOrDirectory, is_done};
 ghost use Rattle.names.specs.Ready.{Happens, IsUnanswered, LeavesTree, MayGoOn, TreeStays};
-ghost use Rattle.names.specs.Trees.{IsFile, IsTree};
+ghost use Rattle.directories.specs.Trees.{IsFile, IsTree};
 
 use crate::changing::Change;
-use crate::name::Name;
-use crate::refusal::{Asked, Refusal, TreeFault};
+use crate::refusal::{Asked, TreeFault};
 use crate::tree::Tree;
 use blocks::Disk;
+use directories::{Name, Refusal};
 use model::types::{Attribute, Op, Reply};
 use std::alloc::Global;
 

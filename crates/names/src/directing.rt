@@ -5,19 +5,19 @@ ghost use Rattle.calls.specs.Stopped.{StaysOver};
 ghost use Rattle.model.specs.Files.{files_of};
 ghost use Rattle.names.specs.Inside.{IsUnderWay, Proceeds};
 ghost use Rattle.names.specs.Making.{HasFilledFor, IsUnmadeDirectoryIn, MakesDirectoryAt};
-ghost use Rattle.names.specs.Paths.{names_of};
+ghost use Rattle.directories.specs.Paths.{names_of};
 ghost use Rattle.names.specs.Ready.{IsReady, IsUndone, LeavesTree, MayGoOn};
-ghost use Rattle.names.specs.TreeChanges.{directory_file};
-ghost use Rattle.names.specs.Walks.{IsUndoneIn};
+ghost use Rattle.directories.specs.TreeChanges.{directory_file};
+ghost use Rattle.directories.specs.Walks.{IsUndoneIn};
 
 use crate::changing::Last;
-use crate::entries::new_directory;
 use crate::making::{Make, New};
-use crate::refusal::{Asked, Refusal, TreeFault};
+use crate::refusal::{Asked, TreeFault};
 use crate::rooting::is_filled;
 use crate::tree::Tree;
 use blocks::Disk;
 use calls::transactions::TransactionFault;
+use directories::{Refusal, new_directory};
 use model::types::Op;
 use std::alloc::Global;
 

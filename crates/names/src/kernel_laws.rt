@@ -1,8 +1,8 @@
 //! What a stop leaves of the directory of a kernel, the contract of a function that does nothing.
 ghost use Rattle.names.specs.Stops.{LinksLast};
 
-use crate::laws::committed_names_lead;
 use blocks::Disk;
+use directories::laws::committed_names_lead;
 use kernel::Kernel;
 use ports::{Herald, Intake};
 

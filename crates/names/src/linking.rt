@@ -3,23 +3,21 @@ ghost use Rattle.std.specs.Prelude.{◌≡◌, ◌+◌, ◌<◌, ◌≤◌, ◌^
 ghost use Rattle.calls.specs.Calls.{image_on};
 ghost use Rattle.calls.specs.Stopped.{StaysOver};
 ghost use Rattle.model.specs.Files.{file_in, files_of};
-ghost use Rattle.names.specs.Counts.{AreCounted};
+ghost use Rattle.directories.specs.Counts.{AreCounted};
 ghost use Rattle.names.specs.Inside.{files_seen, IsUnderWay, Proceeds, SeesSame};
 ghost use Rattle.names.specs.Linking.{HasMore, IsNotLinkedAs, IsNotLinkedAt, IsNotLinkedIn, LinksAt, LinksIn};
-ghost use Rattle.names.specs.Paths.{names_of};
+ghost use Rattle.directories.specs.Paths.{names_of};
 ghost use Rattle.names.specs.Ready.{Happens, IsUnanswered, LeavesTree, MayGoOn, TreeStays};
 ghost use Rattle.names.specs.Renaming.{IsUndoneAtBoth};
-ghost use Rattle.names.specs.TreeChanges.{Relinks};
-ghost use Rattle.names.specs.Trees.{links_of, IsFile, IsTree};
+ghost use Rattle.directories.specs.TreeChanges.{Relinks};
+ghost use Rattle.directories.specs.Trees.{links_of, IsFile, IsTree};
 
 use crate::changing::Change;
-use crate::entries::link;
 use crate::making::unlinked;
-use crate::name::Name;
-use crate::path::names_of;
-use crate::refusal::{Asked, Refusal, TreeFault};
+use crate::refusal::{Asked, TreeFault};
 use crate::tree::Tree;
 use blocks::Disk;
+use directories::{Name, Refusal, link, names_of};
 use model::types::{Attribute, Op, Reply};
 use std::alloc::Global;
 

@@ -2,21 +2,17 @@
 ghost use Rattle.std.specs.Prelude.{◌≡◌, ◌++◌, length, IfOk, OnOk};
 ghost use Rattle.model.specs.Operations.{part_of, transfer_limit};
 ghost use Rattle.names.specs.Inside.{files_seen, IsUnderWay, Proceeds, SeesSame};
-ghost use Rattle.names.specs.Trees.{directory_in, root, IsDirectory, IsTree};
-ghost use Rattle.names.specs.Walks.{stepped, walked, IsDirectoryFound, found_or};
-ghost use Rattle.names.specs.Entries.{lookup};
+ghost use Rattle.directories.specs.Trees.{directory_in, root, IsDirectory, IsTree};
+ghost use Rattle.directories.specs.Walks.{stepped, walked, IsDirectoryFound, found_or};
+ghost use Rattle.directories.specs.Entries.{lookup};
 
-use crate::entries::{DIRECTORY, lookup};
-use crate::name::Name;
-use crate::refusal::{Asked, Refusal, TreeFault};
+use crate::refusal::{Asked, TreeFault};
 use crate::tree::Tree;
 use blocks::Disk;
 use calls::transactions::TransactionFault;
+use directories::{DIRECTORY, DIRECTORY_KIND, Name, Refusal, lookup};
 use model::content::Content;
 use model::types::{Op, Reply, TRANSFER_LIMIT};
-
-// The type of a directory.
-pub(crate) const DIRECTORY_KIND: u16 = 1;
 
 impl<D: Disk> Tree<D> {
     // The bytes of a directory, or none where the file is no directory.

@@ -8,14 +8,14 @@ ghost use Rattle.names.specs.Contents.{ReadsOf};
 ghost use Rattle.names.specs.Inside.{files_seen, IsUnderWay, Proceeds, SeesSame};
 ghost use Rattle.names.specs.Numbered.{IsNoDirectory, IsNoFile, IsNoFileOrDirectory, IsUnseenIn, ListsAt, LooksAt, LooksIn};
 ghost use Rattle.names.specs.Ready.{Happens, IsUnanswered, LeavesTree, MayGoOn, TreeStays};
-ghost use Rattle.names.specs.Trees.{IsTree};
+ghost use Rattle.directories.specs.Trees.{IsTree};
 
 use crate::asking::Found;
 use crate::changing::Change;
-use crate::name::Name;
-use crate::refusal::{Asked, Refusal, TreeFault};
+use crate::refusal::{Asked, TreeFault};
 use crate::tree::Tree;
 use blocks::Disk;
+use directories::{Name, Refusal};
 use model::content::Content;
 use model::types::{Op, Reply};
 use std::alloc::Global;

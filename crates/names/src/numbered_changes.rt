@@ -9,20 +9,20 @@ ghost use Rattle.names.specs.Making.{IsUnmadeDirectoryIn, IsUnmadeIn, MakesDirec
 ghost use Rattle.names.specs.Numbered.{EmptiesAt, IsNoFileOrDirectory, WritesSomeOf, some_told};
 ghost use Rattle.names.specs.Ready.{Happens, IsUnanswered, LeavesTree, MayGoOn, TreeStays};
 ghost use Rattle.names.specs.Removing.{IsUnremovedIn, RemovesIn};
-ghost use Rattle.names.specs.Trees.{IsFile, IsTree};
+ghost use Rattle.directories.specs.Trees.{IsFile, IsTree};
 ghost use Rattle.names.specs.Undirecting.{IsUnemptiedIn, RemovesDirectoryIn};
 
 use crate::changing::{Change, ChangeIn};
 use crate::directing::NewDirectory;
 use crate::making::{Make, NewFile};
-use crate::name::Name;
-use crate::refusal::{Asked, Refusal, TreeFault};
+use crate::refusal::{Asked, TreeFault};
 use crate::removing::RemoveFile;
 use crate::tree::Tree;
 use crate::undirecting::RemoveDirectory;
 use crate::writing::Unwritten;
 use blocks::Disk;
 use calls::transactions::TransactionFault;
+use directories::{Name, Refusal};
 use model::content::Content;
 use model::types::{Op, Reply};
 use std::alloc::Global;

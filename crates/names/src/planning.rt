@@ -1,17 +1,16 @@
 // Files of a tree that get a name in another directory.
 ghost use Rattle.std.specs.Prelude.{◌≡◌, ◌≢◌, ◌↔◌, IfErr, IfOk, IsTrue, OnOk};
-ghost use Rattle.names.specs.Counts.{AreCounted, HasLinks};
+ghost use Rattle.directories.specs.Counts.{AreCounted, HasLinks};
 ghost use Rattle.names.specs.Inside.{files_seen, IsUnderWay, Proceeds, SeesSame};
 ghost use Rattle.names.specs.Ready.{Happens, TreeStays};
 ghost use Rattle.names.specs.Renaming.{IsPlanned, IsUnrenamed, Renames, Rises};
-ghost use Rattle.names.specs.Trees.{root, IsDirectory, IsOutside, IsTree};
+ghost use Rattle.directories.specs.Trees.{root, IsDirectory, IsOutside, IsTree};
 
-use crate::entries::{DIRECTORY, EntryWrite, link, lookup, repoint, unlink};
 use crate::making::unlinked;
-use crate::name::Name;
-use crate::refusal::{Asked, Refusal, TreeFault};
+use crate::refusal::{Asked, TreeFault};
 use crate::tree::Tree;
 use blocks::Disk;
+use directories::{DIRECTORY, EntryWrite, Name, Refusal, link, lookup, repoint, unlink};
 use std::alloc::Global;
 
 // The writes that move a file to another directory.

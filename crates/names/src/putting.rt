@@ -6,20 +6,19 @@ ghost use Rattle.model.specs.Files.{files_of};
 ghost use Rattle.model.specs.Operations.{transfer_limit};
 ghost use Rattle.names.specs.Contents.{IsNoPlain};
 ghost use Rattle.names.specs.Inside.{files_seen, IsUnderWay, ProceedsOr};
-ghost use Rattle.names.specs.Paths.{names_of};
+ghost use Rattle.directories.specs.Paths.{names_of};
 ghost use Rattle.names.specs.Putting.{file_of, told, IsUnputIn, PutsAt, PutsIn, Refills};
 ghost use Rattle.names.specs.Ready.{Happens, IsReady, IsUnwritten, LeavesTree, MayGoOn, TreeStays};
-ghost use Rattle.names.specs.Trees.{IsFile, IsTree};
-ghost use Rattle.names.specs.Walks.{IsUndoneIn};
+ghost use Rattle.directories.specs.Trees.{IsFile, IsTree};
+ghost use Rattle.directories.specs.Walks.{IsUndoneIn};
 
 use crate::changing::{ChangeIn, Last};
-use crate::entries::lookup;
 use crate::making::{FILE_KIND, Make, New};
-use crate::name::Name;
-use crate::refusal::{Asked, Refusal, TreeFault};
+use crate::refusal::{Asked, TreeFault};
 use crate::tree::Tree;
 use crate::writing::Unwritten;
 use blocks::Disk;
+use directories::{Name, Refusal, lookup};
 use model::types::TRANSFER_LIMIT;
 use std::alloc::Global;
 

@@ -4,19 +4,18 @@ ghost use Rattle.calls.specs.Calls.{image_on};
 ghost use Rattle.calls.specs.Stopped.{StaysOver};
 ghost use Rattle.model.specs.Files.{files_of};
 ghost use Rattle.names.specs.Inside.{files_seen, IsUnderWay, Proceeds};
-ghost use Rattle.names.specs.Paths.{names_of};
+ghost use Rattle.directories.specs.Paths.{names_of};
 ghost use Rattle.names.specs.Ready.{IsUndone, LeavesTree, MayGoOn, TreeStays};
 ghost use Rattle.names.specs.Removing.{IsUnremovedIn, KeepsLinks, MayDrop, MayLose, RemovesAt, RemovesIn};
-ghost use Rattle.names.specs.TreeChanges.{DropsName, UnlinksName};
-ghost use Rattle.names.specs.Trees.{IsTree};
-ghost use Rattle.names.specs.Walks.{IsUndoneIn};
+ghost use Rattle.directories.specs.TreeChanges.{DropsName, UnlinksName};
+ghost use Rattle.directories.specs.Trees.{IsTree};
+ghost use Rattle.directories.specs.Walks.{IsUndoneIn};
 
 use crate::changing::{ChangeIn, Last};
-use crate::entries::{lookup, unlink};
-use crate::name::Name;
-use crate::refusal::{Asked, Refusal, TreeFault};
+use crate::refusal::{Asked, TreeFault};
 use crate::tree::Tree;
 use blocks::Disk;
+use directories::{Name, Refusal, lookup, unlink};
 use model::types::Op;
 use std::alloc::Global;
 

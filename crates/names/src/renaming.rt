@@ -3,20 +3,18 @@ ghost use Rattle.std.specs.Prelude.{◌≡◌, ◌≢◌, ◌<◌, IfErr, IfOk, 
 ghost use Rattle.calls.specs.Calls.{image_on};
 ghost use Rattle.calls.specs.Stopped.{StaysOver};
 ghost use Rattle.model.specs.Files.{files_of};
-ghost use Rattle.names.specs.Counts.{AreCounted};
+ghost use Rattle.directories.specs.Counts.{AreCounted};
 ghost use Rattle.names.specs.Inside.{files_seen, IsUnderWay, Proceeds};
-ghost use Rattle.names.specs.Paths.{names_of};
+ghost use Rattle.directories.specs.Paths.{names_of};
 ghost use Rattle.names.specs.Ready.{Happens, LeavesTree, MayGoOn, TreeStays};
 ghost use Rattle.names.specs.Renaming.{IsUndoneAt, IsUndoneAtBoth, IsUnrenamed, Renames, RenamesAt};
-ghost use Rattle.names.specs.Trees.{IsTree};
+ghost use Rattle.directories.specs.Trees.{IsTree};
 
 use crate::changing::Change;
-use crate::entries::{link, lookup, unlink};
-use crate::name::Name;
-use crate::path::names_of;
-use crate::refusal::{Asked, Refusal, TreeFault};
+use crate::refusal::{Asked, TreeFault};
 use crate::tree::Tree;
 use blocks::Disk;
+use directories::{Name, Refusal, link, lookup, names_of, unlink};
 use std::alloc::Global;
 
 // Gives the file at a path another name, the last of these, in the directory that the others lead to.

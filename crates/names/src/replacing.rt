@@ -3,20 +3,19 @@ ghost use Rattle.std.specs.Prelude.{◌≡◌, ◌<◌, IfErr, IfOk, OnOk};
 ghost use Rattle.calls.specs.Calls.{image_on};
 ghost use Rattle.calls.specs.Stopped.{StaysOver};
 ghost use Rattle.model.specs.Files.{files_of};
-ghost use Rattle.names.specs.Counts.{AreCounted};
+ghost use Rattle.directories.specs.Counts.{AreCounted};
 ghost use Rattle.names.specs.Inside.{files_seen, IsUnderWay, Proceeds, SeesSame};
 ghost use Rattle.names.specs.Replacing.{Clears, IsReplaceable, IsUncleared, IsUnreplaced, Replaces};
 ghost use Rattle.names.specs.Ready.{Happens, IsUnanswered, LeavesTree, MayGoOn, TreeStays};
 ghost use Rattle.names.specs.Renaming.{IsUnrenamed, Renames};
-ghost use Rattle.names.specs.Trees.{IsTree};
+ghost use Rattle.directories.specs.Trees.{IsTree};
 
 use crate::changing::{Change, ChangeIn};
-use crate::entries::DIRECTORY;
-use crate::name::Name;
-use crate::refusal::{Asked, Refusal, TreeFault};
+use crate::refusal::{Asked, TreeFault};
 use crate::removing::RemoveFile;
 use crate::tree::Tree;
 use blocks::Disk;
+use directories::{DIRECTORY, Name, Refusal};
 use std::alloc::Global;
 
 // Gives a file of a directory a name in another one, which is new there.

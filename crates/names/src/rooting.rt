@@ -7,14 +7,14 @@ ghost use Rattle.model.specs.Files.{files_of};
 ghost use Rattle.model.specs.Log.{recovered};
 ghost use Rattle.names.specs.Inside.{files_seen, IsUnderWay, Proceeds};
 ghost use Rattle.names.specs.Ready.{HasFilled, HasNoFile, IsIdle, IsReady, IsRootAlone, IsRootless, KeepsRoot, MakesRoot, is_filled};
-ghost use Rattle.names.specs.Trees.{IsTree};
+ghost use Rattle.directories.specs.Trees.{IsTree};
 ghost use Rattle.calls.specs.Transactions.{Rests};
 
-use crate::entries::{DIRECTORY, new_directory};
-use crate::refusal::{Refusal, TreeFault};
+use crate::refusal::TreeFault;
 use crate::tree::Tree;
 use blocks::Disk;
 use calls::transactions::{Pair, TransactionFault};
+use directories::{DIRECTORY, Refusal, new_directory};
 use model::types::{Op, Reply};
 use std::alloc::Global;
 
@@ -66,8 +66,7 @@ impl<D: Disk> Tree<D> {
     fn root_made(&mut self, alloc: Global) -> Result<Option<Refusal>, TreeFault>
         requires { IsUnderWay D.Disk self.old.kernel self.old.calls_left }
         ensures goes { Proceeds D.Disk result self.old.kernel self.new.kernel self.new.calls_left }
-        ensures made { IfOk result (MakesRoot
-            (files_seen D.image self.old.kernel) (files_seen D.image self.new.kernel)) }
+        ensures made { IfOk result (MakesRoot D.image self.old.kernel self.new.kernel) }
     {
         let Reply::Made(number) = self.called(Op::Create(1))? else {
             return Ok(Some(Refusal::NoNumber));
@@ -87,7 +86,8 @@ impl<D: Disk> Tree<D> {
     ///
     /// # Errors
     ///
-    /// - `Refused`: `NoNumber` where number 1 was not given, `NoBlock` where no block is free.
+    /// - `Refused`: `NoNumber` where number 1 is a file's or the image has no such number, `NoBlock`
+    ///   where no block is free for its two entries.
     /// - `Call`, `NoCall`: as every call of a tree.
     pub fn make_root(&mut self, alloc: Global) -> Result<(), TreeFault>
         requires idle { IsIdle D.Disk self.old.kernel self.old.calls_left }

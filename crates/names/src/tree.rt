@@ -1,9 +1,9 @@
 // A kernel whose files are a tree of directories, and the calls of its transactions.
 ghost use Rattle.std.specs.Prelude.{◌≡◌, ◌↔◌, ◌<◌, IfErr, IfOk, IsTrue, OnOk};
-ghost use Rattle.names.specs.Counts.{AreCounted};
+ghost use Rattle.directories.specs.Counts.{AreCounted};
 ghost use Rattle.names.specs.Inside.{files_seen, Answers, Ends, HasCause, IsUnderWay, LeavesFiles, Proceeds};
 ghost use Rattle.names.specs.Ready.{EndsOn, HasBegun, HasCommitted, IsIdle, MayGoOn};
-ghost use Rattle.names.specs.Trees.{IsTree};
+ghost use Rattle.directories.specs.Trees.{IsTree};
 
 use crate::refusal::TreeFault;
 use blocks::Disk;

@@ -4,19 +4,17 @@ ghost use Rattle.calls.specs.Calls.{image_on};
 ghost use Rattle.calls.specs.Stopped.{StaysOver};
 ghost use Rattle.model.specs.Files.{files_of};
 ghost use Rattle.names.specs.Inside.{files_seen, IsUnderWay, Proceeds, SeesSame};
-ghost use Rattle.names.specs.Paths.{names_of};
+ghost use Rattle.directories.specs.Paths.{names_of};
 ghost use Rattle.names.specs.Ready.{IsUndone, LeavesTree, MayGoOn};
 ghost use Rattle.names.specs.Undirecting.{IsEmptinessOf, IsUnemptiedIn, RemovesDirectoryAt, RemovesDirectoryIn};
-ghost use Rattle.names.specs.Trees.{IsTree};
-ghost use Rattle.names.specs.Walks.{IsUndoneIn};
+ghost use Rattle.directories.specs.Trees.{IsTree};
+ghost use Rattle.directories.specs.Walks.{IsUndoneIn};
 
 use crate::changing::{ChangeIn, Last};
-use crate::directory::is_empty;
-use crate::entries::lookup;
-use crate::name::Name;
-use crate::refusal::{Asked, Refusal, TreeFault};
+use crate::refusal::{Asked, TreeFault};
 use crate::tree::Tree;
 use blocks::Disk;
+use directories::{Name, Refusal, is_empty, lookup};
 use std::alloc::Global;
 
 // Removes an empty directory from a directory.

@@ -18,8 +18,8 @@ use Rattle.model.specs.declared.types.image.Form.{Form}
 use Rattle.names.specs.Inside.{form_seen}
 use Rattle.names.specs.Opening.{IsUnopened}
 use Rattle.names.specs.Ready.{KeepsTree, LeavesTree}
-use Rattle.names.specs.Counts.{AreCounted}
-use Rattle.names.specs.Trees.{IsTree}
+use Rattle.directories.specs.Counts.{AreCounted}
+use Rattle.directories.specs.Trees.{IsTree}
 use Rattle.names.specs.declared.opening.TreeOpenFault.{TreeOpenFault}
 use Rattle.names.specs.declared.opening.TreeOpenFault.TheVariants as opening
 use Rattle.transfer.specs.Ending.{SyncsIf}

@@ -16,7 +16,7 @@ use Rattle.model.specs.Log.{recovered}
 use Rattle.model.specs.declared.types.image.Form.{Form}
 use Rattle.names.specs.Inside.{form_seen}
 use Rattle.names.specs.Lemmas.Over.{form_stays}
-use Rattle.names.specs.Paths.{names_of}
+use Rattle.directories.specs.Paths.{names_of}
 use Rattle.names.specs.Ready.{KeepsTree}
 use Rattle.names.specs.Writing.{Outcome, Writes}
 use Rattle.tree_changes.specs.Changes.{AnyOf, LeavesMidst}

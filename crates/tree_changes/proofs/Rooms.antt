@@ -3,7 +3,7 @@ use Rattle.std.proofs.Common.{◌≡◌, ◌≢◌, ℕ, ◌+◌, None, sym, sub
 use Rattle.blocks.specs.declared.disk.Disk.{Ghosts}
 use Rattle.model.specs.Layout.{form_of}
 use Rattle.model.specs.Log.{recovered}
-use Rattle.names.specs.declared.refusal.Refusal.TheVariants as refusal
+use Rattle.directories.specs.declared.refusal.Refusal.TheVariants as refusal
 use Rattle.names.specs.declared.refusal.TreeFault.TheVariants as tree
 use Rattle.transfer.specs.Judging.{IsFit, IsTold}
 use Rattle.transfer.specs.Needs.{free_count, needed_blocks}

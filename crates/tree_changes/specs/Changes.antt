@@ -15,10 +15,10 @@ use Rattle.model.specs.Verdict.{verdict}
 use Rattle.model.specs.declared.types.image.Form.{Form}
 use Rattle.names.specs.Making.{MakesDirectoryAt}
 use Rattle.names.specs.Opening.{IsUnopened}
-use Rattle.names.specs.Paths.{names_of}
+use Rattle.directories.specs.Paths.{names_of}
 use Rattle.names.specs.Ready.{KeepsTree}
-use Rattle.names.specs.Counts.{AreCounted}
-use Rattle.names.specs.Trees.{IsTree}
+use Rattle.directories.specs.Counts.{AreCounted}
+use Rattle.directories.specs.Trees.{IsTree}
 use Rattle.names.specs.declared.refusal.TreeFault.{TreeFault}
 use Rattle.transfer.specs.Ending.{SyncsIf}
 use Rattle.wal.specs.Recovery.{LeavesIfSynced}

@@ -8,10 +8,10 @@ use Rattle.model.specs.Files.{Files, files_of}
 use Rattle.model.specs.Operations.{transfer_limit}
 use Rattle.model.specs.declared.types.image.Form.{Form}
 use Rattle.names.specs.Inside.{form_seen}
-use Rattle.names.specs.Paths.{names_of}
+use Rattle.directories.specs.Paths.{names_of}
 use Rattle.names.specs.Putting.{IsUnputIn, PutsAt}
 use Rattle.names.specs.Ready.{IsUnwritten}
-use Rattle.names.specs.Walks.{IsUndoneIn}
+use Rattle.directories.specs.Walks.{IsUndoneIn}
 use Rattle.names.specs.Contents.{LeadsToNoPlain}
 use Rattle.names.specs.Writing.{Writes}
 use Rattle.tree_changes.specs.declared.faults.ChangeRefusal.{ChangeRefusal}

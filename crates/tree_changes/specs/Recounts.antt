@@ -8,7 +8,7 @@ use Rattle.names.specs.Opening.{IsUnopened}
 use Rattle.names.specs.Recounting.{FailsToRecount, IsRecounted, IsTooMany}
 use Rattle.names.specs.declared.recounting.RecountFault.{RecountFault}
 use Rattle.names.specs.declared.recounting.RecountFault.TheVariants as recount
-use Rattle.names.specs.declared.refusal.Refusal.TheVariants as refusal
+use Rattle.directories.specs.declared.refusal.Refusal.TheVariants as refusal
 use Rattle.names.specs.declared.refusal.TreeFault.{TreeFault}
 use Rattle.names.specs.declared.refusal.TreeFault.TheVariants as tree
 use Rattle.transfer.specs.Ending.{SyncsIf}

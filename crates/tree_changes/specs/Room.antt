@@ -8,7 +8,7 @@ use Rattle.model.specs.Layout.{form_of, greatest_size}
 use Rattle.model.specs.Log.{recovered}
 use Rattle.model.specs.Verdict.{verdict}
 use Rattle.names.specs.declared.opening.TreeOpenFault.TheVariants as opening
-use Rattle.names.specs.declared.refusal.Refusal.TheVariants as refusal
+use Rattle.directories.specs.declared.refusal.Refusal.TheVariants as refusal
 use Rattle.names.specs.declared.refusal.TreeFault.TheVariants as tree
 use Rattle.names.specs.declared.writing.Unwritten.TheVariants as unwritten
 use Rattle.offline.specs.Cause.{IsCause}

@@ -1,12 +1,12 @@
 // The changes of files by their paths that are one call of a tree.
 ghost use Rattle.names.specs.Linking.{IsNotLinkedAt, LinksAt};
 ghost use Rattle.names.specs.Making.{IsUnmadeDirectoryIn, MakesDirectoryAt};
-ghost use Rattle.names.specs.Paths.{names_of};
+ghost use Rattle.directories.specs.Paths.{names_of};
 ghost use Rattle.names.specs.Ready.{IsUndone};
 ghost use Rattle.names.specs.Removing.{IsUnremovedIn, RemovesAt};
 ghost use Rattle.names.specs.Renaming.{IsUndoneAt, IsUndoneAtBoth, RenamesAt};
 ghost use Rattle.names.specs.Undirecting.{IsUnemptiedIn, RemovesDirectoryAt};
-ghost use Rattle.names.specs.Walks.{IsUndoneIn};
+ghost use Rattle.directories.specs.Walks.{IsUndoneIn};
 ghost use Rattle.tree_changes.specs.Changes.{AnyOf, MakesDirectory, OnTree, Plainly};
 
 use crate::faults::ChangeRefusal;

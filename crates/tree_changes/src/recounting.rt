@@ -7,7 +7,8 @@ use crate::faults::ChangeRefusal;
 use crate::over_tree::tell;
 use blocks::Disk;
 use cmd::DiskCommand;
-use names::{RecountFault, Refusal, TreeFault, recount};
+use directories::Refusal;
+use names::{RecountFault, TreeFault, recount};
 use std::alloc::Global;
 use std::io::Write;
 

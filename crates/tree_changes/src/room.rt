@@ -4,8 +4,9 @@ ghost use Rattle.tree_changes.specs.Room.{HasRoomFor, IsUnfit, LacksRoom};
 
 use crate::faults::ChangeRefusal;
 use blocks::Disk;
+use directories::Refusal;
 use kernel::OpenFault;
-use names::{Refusal, TreeFault, TreeOpenFault, Unwritten};
+use names::{TreeFault, TreeOpenFault, Unwritten};
 use std::alloc::Global;
 use transfer::{PutRefusal, judge_new};
 

@@ -5,8 +5,8 @@ use Rattle.std.proofs.lemmas.List.{append-nil, take_all, take_more}
 use Rattle.std.proofs.lemmas.Bool.{cond-true, eq-eqb}
 use Rattle.std.proofs.lemmas.List.Concat.{flat_map-append}
 use Rattle.model.specs.Files.{Files, file_in}
-use Rattle.names.specs.Entries.{entries_of}
-use Rattle.names.specs.Trees.{IsDirectory, directory_in, directory_kind, kind_of}
+use Rattle.directories.specs.Entries.{entries_of}
+use Rattle.directories.specs.Trees.{IsDirectory, directory_in, directory_kind, kind_of}
 use Rattle.tree_looks.specs.Listing.{told_below, told_entry}
 
 module _ {X : Type 0} (text : X → List ℕ) (xs : List X) (old : List ℕ) where

@@ -1,8 +1,8 @@
 -- What is below a directory, copied entry for entry.
 use Rattle.std.proofs.Common.{◌≡◌, ◌≢◌, ℕ, zero, suc, ◌-◌, ◌<◌, List, [], Option, length, slice_index_or, refl, subst, arith}
 use Rattle.model.specs.Files.{Files}
-use Rattle.names.specs.Entries.{entries_of}
-use Rattle.names.specs.Trees.{directory_in}
+use Rattle.directories.specs.Entries.{entries_of}
+use Rattle.directories.specs.Trees.{directory_in}
 use Rattle.tree_looks.specs.Gets.{CopiesBelow, CopiesEntry}
 
 pub copies_below : {F : Type 0} (contents : F → Option (List ℕ)) (depth : ℕ) (files : Files) (number : ℕ) (items : List (List ℕ)) → depth ≢ 0 → items ≡ entries_of (directory_in files number)

@@ -2,9 +2,9 @@
 use Rattle.std.proofs.Common.{◌≡◌, ◌∙◌, ℕ, suc, ◌+◌, ◌<◌, ◌≤◌, List, length, get_or, drop, drop-cons, add-one, Ok, Err, ap, sym}
 use Rattle.std.proofs.Math.ListN.{drop_of_length-le}
 use Rattle.model.specs.Files.{Files}
-use Rattle.names.specs.Trees.{root}
-use Rattle.names.specs.Walks.{and_on, stepped, walked}
-use Rattle.names.specs.declared.refusal.Refusal.{Refusal}
+use Rattle.directories.specs.Trees.{root}
+use Rattle.directories.specs.Walks.{and_on, stepped, walked}
+use Rattle.directories.specs.declared.refusal.Refusal.{Refusal}
 
 module _ (files : Files) (number : ℕ) (names : List (List ℕ)) (i : ℕ) where
   next_is : (d : List ℕ) → i < length names → walked files number (drop i names) ≡ and_on (stepped files number (get_or names i d)) (λ n. walked files n (drop (suc i) names))

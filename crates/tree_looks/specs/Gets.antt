@@ -9,10 +9,10 @@ use Rattle.cmd.specs.declared.files.OnFile.TheVariants as on
 use Rattle.model.specs.Files.{Files, file_in, files_of}
 use Rattle.model.specs.Log.{recovered}
 use Rattle.model.specs.Verdict.{verdict}
-use Rattle.names.specs.Entries.{entries_of, number_in}
-use Rattle.names.specs.Paths.{names_of}
-use Rattle.names.specs.Trees.{bytes_of, directory_in, root, leads_down, IsDirectory, IsTree}
-use Rattle.names.specs.Walks.{walked}
+use Rattle.directories.specs.Entries.{entries_of, number_in}
+use Rattle.directories.specs.Paths.{names_of}
+use Rattle.directories.specs.Trees.{bytes_of, directory_in, root, leads_down, IsDirectory, IsTree}
+use Rattle.directories.specs.Walks.{walked}
 use Rattle.tree_looks.specs.Looks.{HasLooked, HasNoPaths, IsUnseen, IsUnshown, NotOfTree, Shows}
 use Rattle.tree_looks.specs.declared.faults.GetRefusal.{GetRefusal}
 use Rattle.tree_looks.specs.declared.faults.GetRefusal.TheVariants.{Made, Of, BadName, Output}

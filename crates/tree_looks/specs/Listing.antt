@@ -3,8 +3,8 @@ use Rattle.std.specs.Prelude.{ℕ, zero, suc, ◌-◌, ◌==◌, ◌&&◌, not, 
 use Rattle.std.specs.List.{flat_map, list_any, range_with_len}
 use Rattle.model.specs.Files.{Files, file_in}
 use Rattle.model.specs.declared.types.image.File.{File}
-use Rattle.names.specs.Entries.{entries_of, number_in, text_in, text_of}
-use Rattle.names.specs.Trees.{bytes_of, directory_in, directory_kind, kind_of, leads_down, links_of, root}
+use Rattle.directories.specs.Entries.{entries_of, number_in, text_in, text_of}
+use Rattle.directories.specs.Trees.{bytes_of, directory_in, directory_kind, kind_of, leads_down, links_of, root}
 
 -- the line of a file with that name and number: its type, and how many bytes it has
 abbrev pub line_of : Files → List ℕ → ℕ → List ℕ

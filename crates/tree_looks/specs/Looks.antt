@@ -7,13 +7,13 @@ use Rattle.model.specs.Files.{Files, file_in, files_of}
 use Rattle.model.specs.Log.{recovered}
 use Rattle.model.specs.Verdict.{verdict}
 use Rattle.model.specs.declared.types.fault.CheckFault.TheVariants as check
-use Rattle.names.specs.Paths.{IsPathCause, names_of}
-use Rattle.names.specs.Tallying.{AreNameCounts, HasTooMany}
-use Rattle.names.specs.Trees.{bytes_of, root, IsDirectory, IsTree}
-use Rattle.names.specs.Walks.{walked}
-use Rattle.names.specs.declared.judging.JudgeFault.{JudgeFault}
-use Rattle.names.specs.declared.judging.JudgeFault.TheVariants as judge
-use Rattle.names.specs.declared.refusal.Refusal.TheVariants.{IsADirectory, NotADirectory, TooManyLinks}
+use Rattle.directories.specs.Paths.{IsPathCause, names_of}
+use Rattle.directories.specs.Tallying.{AreNameCounts, HasTooMany}
+use Rattle.directories.specs.Trees.{bytes_of, root, IsDirectory, IsTree}
+use Rattle.directories.specs.Walks.{walked}
+use Rattle.directories.specs.declared.judging.JudgeFault.{JudgeFault}
+use Rattle.directories.specs.declared.judging.JudgeFault.TheVariants as judge
+use Rattle.directories.specs.declared.refusal.Refusal.TheVariants.{IsADirectory, NotADirectory, TooManyLinks}
 use Rattle.offline.specs.Cause.{IsCause}
 use Rattle.tree_looks.specs.Listing.{listed, nameless_lines, paths_below, stat_line, wrong_lines}
 use Rattle.tree_looks.specs.declared.counts.Text.{Text}

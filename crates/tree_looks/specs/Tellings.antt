@@ -2,10 +2,10 @@
 use Rattle.std.specs.Prelude.{ℕ, List, codes}
 use Rattle.cmd.specs.Over.{on_file_telling}
 use Rattle.messages.specs.Telling.{Telling, check_telling, file_telling, naming, plain, unwritten}
-use Rattle.names.specs.declared.path.PathFault.{PathFault}
-use Rattle.names.specs.declared.path.PathFault.TheVariants as path
-use Rattle.names.specs.declared.refusal.Refusal.{Refusal}
-use Rattle.names.specs.declared.refusal.Refusal.TheVariants as refusal
+use Rattle.directories.specs.declared.path.PathFault.{PathFault}
+use Rattle.directories.specs.declared.path.PathFault.TheVariants as path
+use Rattle.directories.specs.declared.refusal.Refusal.{Refusal}
+use Rattle.directories.specs.declared.refusal.Refusal.TheVariants as refusal
 use Rattle.tree_looks.specs.declared.faults.GetRefusal.{GetRefusal}
 use Rattle.tree_looks.specs.declared.faults.GetRefusal.TheVariants as get
 use Rattle.tree_looks.specs.declared.faults.LookRefusal.{LookRefusal}

@@ -4,7 +4,7 @@ ghost use Rattle.blocks.specs.Calls.{OnlyReads};
 ghost use Rattle.model.specs.Files.{files_of};
 ghost use Rattle.model.specs.Log.{recovered};
 ghost use Rattle.model.specs.Verdict.{verdict};
-ghost use Rattle.names.specs.Trees.{IsTree};
+ghost use Rattle.directories.specs.Trees.{IsTree};
 ghost use Rattle.tree_looks.specs.Listing.{count_line, wrong_line, wrong_lines};
 ghost use Rattle.tree_looks.specs.Looks.{HasLooked, HasNotCounted, IsTextOf, IsUnseen, IsUntold, OfTree, TellsCounts};
 
@@ -16,8 +16,8 @@ use crate::over_files::print_text;
 use crate::texts::{ByPath, add_below, add_number};
 use blocks::{Disk, NoMemory};
 use cmd::DiskCommand;
+use directories::{DIRECTORY, Refusal, is_tree, name_counts};
 use model::types::File;
-use names::{DIRECTORY, Refusal, is_tree, name_counts};
 use std::alloc::Global;
 use std::io::Write;
 

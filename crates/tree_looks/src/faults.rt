@@ -5,9 +5,9 @@ ghost use Rattle.tree_looks.specs.Tellings.{get_telling, look_telling, path_tell
 
 use blocks::FileFault;
 use cmd::OnFile;
+use directories::{PathFault, Refusal};
 use layout::CheckFault;
 use messages::{Reason, Told, Unwritten};
-use names::{PathFault, Refusal};
 
 /// Why a look at files isn't done.
 #[derive(Clone, Copy, Debug)]

@@ -2,15 +2,15 @@
 ghost use Rattle.std.specs.Prelude.{◌≡◌, ◌↔◌, IfErr, IfOk, IsTrue, Ok};
 ghost use Rattle.std.specs.Option.{option_copied};
 ghost use Rattle.model.specs.Files.{file_in};
-ghost use Rattle.names.specs.Entries.{lookup};
-ghost use Rattle.names.specs.Paths.{names_of};
-ghost use Rattle.names.specs.Trees.{bytes_of, kind_of, links_of, root, IsDirectory};
-ghost use Rattle.names.specs.Walks.{found_or, stepped, walked};
+ghost use Rattle.directories.specs.Entries.{lookup};
+ghost use Rattle.directories.specs.Paths.{names_of};
+ghost use Rattle.directories.specs.Trees.{bytes_of, kind_of, links_of, root, IsDirectory};
+ghost use Rattle.directories.specs.Walks.{found_or, stepped, walked};
 ghost use Rattle.tree_looks.specs.Looks.{IsNotFound};
 
 use crate::faults::LookRefusal;
+use directories::{DIRECTORY, Name, Refusal, lookup, names_of};
 use model::types::File;
-use names::{DIRECTORY, Name, Refusal, lookup, names_of};
 use std::alloc::Global;
 
 // The type of a directory.

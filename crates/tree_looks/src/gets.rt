@@ -1,9 +1,9 @@
 // Files of an image, copied into new files of the system.
 ghost use Rattle.std.specs.Prelude.{◌≡◌, length, IfErr, IfOk, Ok, OnOk};
 ghost use Rattle.cmd.specs.declared.files.OnFile.TheVariants as on;
-ghost use Rattle.names.specs.Paths.{names_of};
-ghost use Rattle.names.specs.Trees.{root, IsDirectory};
-ghost use Rattle.names.specs.Walks.{walked};
+ghost use Rattle.directories.specs.Paths.{names_of};
+ghost use Rattle.directories.specs.Trees.{root, IsDirectory};
+ghost use Rattle.directories.specs.Walks.{walked};
 ghost use Rattle.tree_looks.specs.Gets.{
   CopiesBelow,
   CopiesEntry,
@@ -28,9 +28,9 @@ use crate::looks::Cat;
 use crate::over_files::OverFiles;
 use blocks::FileFault;
 use cmd::{Access, Command, Locking, Locks, OnFile, OverFile, open_for};
+use directories::{ENTRY_SIZE, Refusal, entries_in, leads_down, number_in, text_in};
 use messages::{Unwritten, pass_on, write_bytes};
 use model::types::File as Stored;
-use names::{ENTRY_SIZE, Refusal, entries_in, leads_down, number_in, text_in};
 use std::alloc::Global;
 use std::fs::{File, create_dir, exists, remove_dir_all, remove_file};
 use std::io;

@@ -4,17 +4,17 @@ ghost use Rattle.blocks.specs.Calls.{OnlyReads};
 ghost use Rattle.model.specs.Files.{file_at, files_of};
 ghost use Rattle.model.specs.Log.{recovered};
 ghost use Rattle.model.specs.Verdict.{verdict};
-ghost use Rattle.names.specs.Judging.{KeepsCount};
-ghost use Rattle.names.specs.Trees.{IsTree};
+ghost use Rattle.directories.specs.Judging.{KeepsCount};
+ghost use Rattle.directories.specs.Trees.{IsTree};
 ghost use Rattle.offline.specs.Checked.{IsCheckedOf};
 ghost use Rattle.tree_looks.specs.Looks.{refusal_of, IsNoTree, IsUnloaded, IsUnseen};
 
 use crate::faults::LookRefusal;
 use blocks::{Block, Disk};
+use directories::{JudgeFault, is_tree};
 use layout::CheckFault;
 use model::content::Content;
 use model::types::File;
-use names::{JudgeFault, is_tree};
 use offline::{Recovered, check};
 use std::alloc::Global;
 

@@ -1,6 +1,6 @@
 // The looks at files by their paths.
 ghost use Rattle.std.specs.Prelude.{◌≡◌, [], length, IfErr, IfOk, Ok};
-ghost use Rattle.names.specs.Entries.{text_of};
+ghost use Rattle.directories.specs.Entries.{text_of};
 ghost use Rattle.tree_looks.specs.Listing.{last_of, listed, paths_below, stat_line};
 ghost use Rattle.tree_looks.specs.Looks.{HasNoPaths, IsUnlisted, IsUnshown, Lists, Shows, ShowsPaths, ShowsStat};
 
@@ -9,8 +9,8 @@ use crate::finding::{bytes_at, file_in, find, is_directory};
 use crate::over_files::Look;
 use crate::texts::{PathLine, add_below, add_line, add_listing, stat_text};
 use blocks::NoMemory;
+use directories::{Name, Refusal};
 use model::types::File;
-use names::{Name, Refusal};
 use std::alloc::Global;
 
 /// Lists the directory at a path, a line for each entry in its order, but none for its own two; of

@@ -2,14 +2,14 @@
 ghost use Rattle.std.specs.Prelude.{◌≡◌, ◌++◌, codes, IfOk, OnOk, not, is_none};
 ghost use Rattle.std.specs.List.{list_any};
 ghost use Rattle.model.specs.Files.{file_in};
-ghost use Rattle.names.specs.Entries.{entries_of};
+ghost use Rattle.directories.specs.Entries.{entries_of};
 ghost use Rattle.tree_looks.specs.Listing.{has_name_of, is_nameless, leads_down_to, nameless_line, nameless_lines, stat_line};
 
 use crate::finding::{DIRECTORY_KIND, file_in};
 use crate::texts::add_stat;
 use blocks::NoMemory;
+use directories::{ENTRY_SIZE, entries_in, leads_down, number_in};
 use model::types::File;
-use names::{ENTRY_SIZE, entries_in, leads_down, number_in};
 use std::alloc::Global;
 
 // The root's number.

@@ -5,9 +5,9 @@ ghost use Rattle.tree_looks.specs.Listing.{entry_line, line_of, listing_of, path
 
 use crate::finding::{bytes_at, bytes_of, is_directory, kind_at, kind_of, links_of};
 use blocks::NoMemory;
+use directories::{ENTRY_SIZE, entries_in, leads_down, number_in, text_in};
 use itoa::Buffer;
 use model::types::File;
-use names::{ENTRY_SIZE, entries_in, leads_down, number_in, text_in};
 use std::alloc::Global;
 
 // Adds the line of a file with that name and number: its type and its bytes.

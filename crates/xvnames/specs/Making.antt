@@ -11,11 +11,11 @@ use Rattle.model.specs.Layout.{planned_super}
 use Rattle.model.specs.Soundness.{IsSound}
 use Rattle.model.specs.declared.types.image.Form.{Form}
 use Rattle.model.specs.declared.types.image.Super.{Super}
-use Rattle.names.specs.Counts.{AreCounted}
+use Rattle.directories.specs.Counts.{AreCounted}
 use Rattle.names.specs.Making.{MakesAt}
-use Rattle.names.specs.Paths.{names_of}
+use Rattle.directories.specs.Paths.{names_of}
 use Rattle.names.specs.Ready.{IsRootAlone}
-use Rattle.names.specs.Trees.{IsTree}
+use Rattle.directories.specs.Trees.{IsTree}
 use Rattle.transfer.specs.Ending.{SyncsIf}
 use Rattle.tree_changes.specs.Puts.{WritesPieces, piece_count}
 use Rattle.xvnames.specs.declared.making.Named.{Named}

@@ -11,14 +11,14 @@ use Rattle.model.specs.declared.types.image.Form.{Form}
 use Rattle.model.specs.declared.types.image.Form.TheVariants.{One}
 use Rattle.names.specs.Linking.{IsNotLinkedAt, LinksAt}
 use Rattle.names.specs.Making.{IsUnmadeDirectoryIn, MakesDirectoryAt}
-use Rattle.names.specs.Paths.{names_of}
+use Rattle.directories.specs.Paths.{names_of}
 use Rattle.names.specs.Ready.{IsUndone}
 use Rattle.names.specs.Recounting.{StopsRecount}
 use Rattle.names.specs.Removing.{IsUnremovedIn, RemovesAt}
 use Rattle.names.specs.Renaming.{IsUndoneAt, IsUndoneAtBoth, RenamesAt}
 use Rattle.names.specs.Undirecting.{IsUnemptiedIn, RemovesDirectoryAt}
-use Rattle.names.specs.Walks.{IsUndoneIn}
-use Rattle.names.specs.declared.refusal.Refusal.{Refusal}
+use Rattle.directories.specs.Walks.{IsUndoneIn}
+use Rattle.directories.specs.declared.refusal.Refusal.{Refusal}
 use Rattle.names_words.specs.CommandLine.{xvnames_words}
 use Rattle.names_words.specs.declared.words.Request.{Request}
 use Rattle.names_words.specs.declared.words.Request.TheVariants.{Ls, Stat, Tree, Cat, Get, Put, Rm, Mv, Ln, Mkdir, Rmdir, Check, Recount, Mkfs}

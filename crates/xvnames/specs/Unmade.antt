@@ -18,9 +18,9 @@ use Rattle.model.specs.Layout.{is_inode_count, is_size}
 use Rattle.model.specs.declared.types.image.Form.{Form}
 use Rattle.names.specs.Inside.{form_seen}
 use Rattle.names.specs.Making.{IsUnmadeIn, MakesAt}
-use Rattle.names.specs.Paths.{names_of}
+use Rattle.directories.specs.Paths.{names_of}
 use Rattle.names.specs.Ready.{IsRootAlone, IsRootless, IsUndone}
-use Rattle.names.specs.Walks.{IsUndoneIn}
+use Rattle.directories.specs.Walks.{IsUndoneIn}
 use Rattle.names.specs.declared.opening.TreeOpenFault.TheVariants as opening
 use Rattle.offline.specs.Making.{MakesAs}
 use Rattle.tree_changes.specs.Changes.{OnTree}

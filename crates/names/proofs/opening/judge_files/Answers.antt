@@ -3,7 +3,7 @@ use Rattle.std.proofs.lemmas.Result.{on_ok_weaker, IfErr-weaker}
 use Rattle.blocks.specs.Disk.{Image}
 use Rattle.model.specs.Files.{files_of}
 use Rattle.model.specs.Log.{recovered}
-use Rattle.names.specs.Counts.{AreCounted}
+use Rattle.directories.specs.Counts.{AreCounted}
 use Rattle.names.specs.Opening.{IsUnopened}
 use Rattle.names.proofs.Openings.{unopened_after}
 use Rattle.names.proofs.opening.judge_files.Goals as goal

@@ -4,8 +4,8 @@ use Rattle.calls.specs.Calls.{image_on}
 use Rattle.model.specs.Files.{files_of}
 use Rattle.model.specs.Log.{recovered}
 use Rattle.model.specs.Soundness.{IsSound}
-use Rattle.names.specs.Counts.{AreCounted}
-use Rattle.names.specs.Trees.{IsTree}
+use Rattle.directories.specs.Counts.{AreCounted}
+use Rattle.directories.specs.Trees.{IsTree}
 use Rattle.blocks.specs.Lemmas.Reads.{reads_none}
 use Rattle.names.proofs.Openings.{unopened_behind}
 use Rattle.names.proofs.opening.open_judged.Goals as goal

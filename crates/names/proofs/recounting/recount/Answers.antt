@@ -1,7 +1,7 @@
 use Rattle.std.proofs.Common.{sym, subst}
 use Rattle.blocks.specs.Disk.{Image}
 use Rattle.model.specs.Files.{files_of}
-use Rattle.names.specs.Trees.{IsTree}
+use Rattle.directories.specs.Trees.{IsTree}
 use Rattle.names.proofs.Openings.{opened_behind, unopened_behind}
 use Rattle.names.proofs.Recounts.{stops_read, stops_recovered}
 use Rattle.names.proofs.recounting.recount.Goals as goal

@@ -3,7 +3,7 @@ use Rattle.blocks.specs.Disk.{Image}
 use Rattle.model.specs.Files.{files_of}
 use Rattle.model.specs.Log.{recovered}
 use Rattle.names.specs.Recounting.{AreDiffering}
-use Rattle.names.specs.Tallying.{AreLinks, AreNameCounts}
+use Rattle.directories.specs.Tallying.{AreLinks, AreNameCounts}
 use Rattle.names.proofs.Recounts.{differing_wrong}
 use Rattle.names.proofs.recounting.wrong_counts.Goals as goal
 

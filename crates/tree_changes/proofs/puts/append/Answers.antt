@@ -1,6 +1,6 @@
 use Rattle.std.proofs.Common.{ℕ, inr, refl, subst}
 use Rattle.names.specs.Inside.{form_seen}
-use Rattle.names.specs.Paths.{names_of}
+use Rattle.directories.specs.Paths.{names_of}
 use Rattle.names.specs.Writing.{Writes}
 use Rattle.tree_changes.specs.Changes.{AnyOf, LeavesMidst}
 use Rattle.tree_changes.proofs.Changing.{leaves_any}

@@ -1,4 +1,4 @@
-use Rattle.names.specs.Paths.{names_of}
+use Rattle.directories.specs.Paths.{names_of}
 use Rattle.names.specs.Putting.{PutsAt}
 use Rattle.tree_changes.proofs.Changing.{leaves_any}
 use Rattle.tree_changes.proofs.puts.put_few.Goals as goal

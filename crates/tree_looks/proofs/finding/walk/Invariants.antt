@@ -1,6 +1,6 @@
 use Rattle.std.proofs.Common.{◌≡◌, drop}
-use Rattle.names.specs.Trees.{root}
-use Rattle.names.specs.Walks.{walked}
+use Rattle.directories.specs.Trees.{root}
+use Rattle.directories.specs.Walks.{walked}
 use Rattle.tree_looks.proofs.finding.walk.Given as goal
 
 -- the names that are left lead on from where the others led

@@ -1,5 +1,5 @@
 use Rattle.std.proofs.Common.{◌≤◌, ◌∙◌, ℕ, ◌-◌, [], length, slice_index_or, below_more, ap, arith}
-use Rattle.names.specs.Entries.{entries_of}
+use Rattle.directories.specs.Entries.{entries_of}
 use Rattle.tree_looks.specs.Gets.{CopiesEntry}
 use Rattle.tree_looks.proofs.Copied.{copies_below}
 use Rattle.tree_looks.proofs.gets.+folders.Goals as goal

@@ -1,6 +1,6 @@
 use Rattle.std.proofs.Common.{◌∙◌, ◌++◌, ◌-◌, List, ℕ, sym, ap, arith}
 use Rattle.std.specs.List.{flat_map}
-use Rattle.names.specs.Entries.{entries_of}
+use Rattle.directories.specs.Entries.{entries_of}
 use Rattle.tree_looks.specs.Listing.{told_entry}
 use Rattle.tree_looks.proofs.AddedTexts.{added_all, below_is}
 use Rattle.tree_looks.proofs.texts.+below.Goals as goal

@@ -5,9 +5,9 @@ use Rattle.model.specs.Files.{files_of}
 use Rattle.model.specs.Layout.{form_of}
 use Rattle.model.specs.Log.{recovered}
 use Rattle.model.specs.Soundness.{IsSound}
-use Rattle.names.specs.Counts.{AreCounted}
+use Rattle.directories.specs.Counts.{AreCounted}
 use Rattle.names.specs.Ready.{HasNoFile}
-use Rattle.names.specs.Trees.{IsTree}
+use Rattle.directories.specs.Trees.{IsTree}
 use Rattle.xvnames.specs.Making.{HasAddedTo, files_named}
 use Rattle.xvnames.specs.Unmade.{IsUngrown, IsUnfilledBy, IsUnsynced}
 use Rattle.xvnames.proofs.Fits.{of_sync, of_tree}

@@ -1,5 +1,5 @@
 use Rattle.names.specs.Inside.{files_seen}
-use Rattle.names.proofs.PathLaws.{walk_told}
+use Rattle.directories.specs.Lemmas.PathLaws.{walk_told}
 use Rattle.names.proofs.asking.LookAtFileChange.apply.Goals as goal
 
 pub found-requires-clause-there : goal.found-requires-clause-there

@@ -1,7 +1,7 @@
 use Rattle.std.proofs.Common.{◌≡◌, ◌∙◌, ◌-◌, ◌+◌, ℕ, List, [], ◌∷◌, ◌++◌, length, take, get_or, Ok, Err, sym, ap, rules, arith}
 use Rattle.std.proofs.lemmas.Grind.{common_steps}
 use Rattle.names.specs.Inside.{files_seen}
-use Rattle.names.specs.Walks.{walked}
+use Rattle.directories.specs.Walks.{walked}
 use Rattle.names.proofs.Leading.{happens_at, split_last, unled_at}
 use Rattle.names.proofs.changing.LastChange.apply.Goals as goal
 

@@ -2,9 +2,9 @@ use Rattle.std.proofs.Common.{[], ◌≡◌, ◌∙◌, Ok, sym, subst}
 use Rattle.model.specs.Files.{Files}
 use Rattle.names.specs.Contents.{Empties, HasOnly}
 use Rattle.names.specs.Inside.{files_seen}
-use Rattle.names.specs.Trees.{IsTree}
-use Rattle.names.specs.Walks.{walked}
-use Rattle.names.proofs.PathLaws.{walk_told}
+use Rattle.directories.specs.Trees.{IsTree}
+use Rattle.directories.specs.Walks.{walked}
+use Rattle.directories.specs.Lemmas.PathLaws.{walk_told}
 use Rattle.names.proofs.PlainFiles.{happens_plain}
 use Rattle.names.proofs.contents.EmptyFileChange.apply.Goals as goal
 

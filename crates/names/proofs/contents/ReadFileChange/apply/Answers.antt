@@ -2,8 +2,8 @@ use Rattle.std.proofs.Common.{◌≡◌, ◌∙◌, Ok, sym}
 use Rattle.std.proofs.lemmas.Result.{on_ok_weaker}
 use Rattle.names.specs.Contents.{Reads, ReadsOf}
 use Rattle.names.specs.Inside.{files_seen, SeesSame}
-use Rattle.names.specs.Walks.{walked}
-use Rattle.names.proofs.PathLaws.{walk_told}
+use Rattle.directories.specs.Walks.{walked}
+use Rattle.directories.specs.Lemmas.PathLaws.{walk_told}
 use Rattle.names.proofs.PlainFiles.{happens_plain}
 use Rattle.names.proofs.Staying.{stays_same}
 use Rattle.names.proofs.contents.ReadFileChange.apply.Goals as goal

@@ -2,10 +2,10 @@ use Rattle.std.proofs.Common.{◌≡◌, ◌∙◌, ◌-◌, ◌+◌, ℕ, List,
 use Rattle.std.proofs.lemmas.Grind.{common_steps}
 use Rattle.model.specs.Files.{Files}
 use Rattle.names.specs.Inside.{files_seen}
-use Rattle.names.specs.Walks.{walked}
+use Rattle.directories.specs.Walks.{walked}
 use Rattle.names.proofs.Leading.{split_last, unled_by}
 use Rattle.names.proofs.NewNames.{linked_at}
-use Rattle.names.proofs.PathLaws.{walk_told}
+use Rattle.directories.specs.Lemmas.PathLaws.{walk_told}
 use Rattle.names.proofs.linking.LinkFileChange.apply.Goals as goal
 
 pub returns-in-Err-clause-made : goal.returns-in-Err-clause-made

@@ -2,9 +2,9 @@ use Rattle.std.proofs.Common.{◌≡◌, ◌∙◌, ℕ, ◌<◌, sym, subst}
 use Rattle.model.specs.Files.{Files}
 use Rattle.names.specs.Inside.{files_seen, form_seen}
 use Rattle.names.specs.Making.{HasParentCount}
-use Rattle.names.specs.TreeChanges.{IsUnnamed}
-use Rattle.names.specs.TreeLaws.{IsNew}
-use Rattle.names.specs.Trees.{directory_in, IsDirectory}
+use Rattle.directories.specs.TreeChanges.{IsUnnamed}
+use Rattle.directories.specs.TreeLaws.{IsNew}
+use Rattle.directories.specs.Trees.{directory_in, IsDirectory}
 use Rattle.names.proofs.Entering.{created_new, found_bytes, found_fits, made_needs, made_there, made_undone, settled_adds, settled_stays}
 use Rattle.names.proofs.Moved.{own_is, own_there}
 use Rattle.names.proofs.Renamed.{lookup_used}

@@ -2,17 +2,17 @@ use Rattle.std.proofs.Common.{◌≡◌, ◌≤◌, List, length, None, Result, 
 use Rattle.std.specs.Prelude.{⊤}
 use Rattle.std.proofs.lemmas.Grind.{common_steps}
 use Rattle.model.specs.Files.{Files}
-use Rattle.names.specs.Entries.{lookup}
+use Rattle.directories.specs.Entries.{lookup}
 use Rattle.names.specs.Inside.{files_seen}
 use Rattle.names.specs.Making.{IsUnmadeOr}
 use Rattle.names.specs.Putting.{file_of, IsUnputIn, PutsIn}
 use Rattle.names.specs.Ready.{Happens}
-use Rattle.names.specs.TreeChanges.{AddsName}
-use Rattle.names.specs.declared.refusal.Refusal.{Refusal}
+use Rattle.directories.specs.TreeChanges.{AddsName}
+use Rattle.directories.specs.declared.refusal.Refusal.{Refusal}
 use Rattle.names.specs.declared.writing.Unwritten.{Unwritten}
-use Rattle.names.specs.Trees.{number_of, IsFile}
+use Rattle.directories.specs.Trees.{number_of, IsFile}
 use Rattle.names.proofs.Entering.{found_bytes}
-use Rattle.names.proofs.PathLaws.{step_leads}
+use Rattle.directories.specs.Lemmas.PathLaws.{step_leads}
 use Rattle.names.proofs.PlainPuts.{none_by, put_new}
 use Rattle.names.proofs.putting.PutFileChangeIn.apply_in.Goals as goal
 

@@ -1,10 +1,10 @@
 use Rattle.std.proofs.Common.{◌∙◌, ◌-◌, ◌≤◌, sym, subst, inl, inr, arith}
 use Rattle.model.specs.Files.{Files}
 use Rattle.names.specs.Inside.{files_seen}
-use Rattle.names.specs.Counts.{StaysCounted}
+use Rattle.directories.specs.Counts.{StaysCounted}
 use Rattle.names.specs.Removing.{KeepsLinks}
-use Rattle.names.specs.TreeChanges.{DropsName, UnlinksName}
-use Rattle.names.specs.Trees.{IsTree}
+use Rattle.directories.specs.TreeChanges.{DropsName, UnlinksName}
+use Rattle.directories.specs.Trees.{IsTree}
 use Rattle.names.proofs.Leaving.{down_there, dropped_stays, file_led, is_there, may_drop, may_lose, once_there, other_there, plain_there}
 use Rattle.names.proofs.removing.RemoveFileChangeIn.apply_in.Goals as goal
 

@@ -2,7 +2,7 @@ use Rattle.std.proofs.Common.{◌≡◌, ◌∙◌, ◌-◌, ◌+◌, ℕ, List,
 use Rattle.std.proofs.lemmas.Grind.{common_steps}
 use Rattle.model.specs.Files.{Files}
 use Rattle.names.specs.Inside.{files_seen}
-use Rattle.names.specs.Walks.{walked}
+use Rattle.directories.specs.Walks.{walked}
 use Rattle.names.proofs.Going.{goes_on, proceeds_on, stays_on}
 use Rattle.names.proofs.Leading.{split_last, unled_by}
 use Rattle.names.proofs.Renamed.{renamed_at}

@@ -1,8 +1,8 @@
 use Rattle.std.proofs.Common.{◌≡◌, ◌∙◌, Bool, false, Result, Ok, Err, refl, sym, ap, subst, inl, inr, rules, arith}
 use Rattle.std.proofs.lemmas.Grind.{common_steps}
 use Rattle.model.specs.Files.{Files}
-use Rattle.names.specs.declared.refusal.Refusal.{Refusal}
-use Rattle.names.specs.Counts.{AreCounted}
+use Rattle.directories.specs.declared.refusal.Refusal.{Refusal}
+use Rattle.directories.specs.Counts.{AreCounted}
 use Rattle.names.specs.Inside.{files_seen}
 use Rattle.names.specs.Replacing.{Clears, IsReplaceable, IsUncleared}
 use Rattle.names.specs.Ready.{Happens}

@@ -3,7 +3,7 @@ use Rattle.model.specs.Files.{Files}
 use Rattle.model.specs.Layout.{form_of}
 use Rattle.model.specs.declared.types.image.Form.{Form}
 use Rattle.names.specs.Inside.{files_seen, form_seen}
-use Rattle.names.specs.Counts.{AreCounted}
+use Rattle.directories.specs.Counts.{AreCounted}
 use Rattle.names.specs.Ready.{Happens, LeavesTree}
 use Rattle.names.proofs.Transacting.{unchanged_leaves, whole_by, whole_leaves}
 use Rattle.names.proofs.tree.Tree.changed_at.Given.{Over}

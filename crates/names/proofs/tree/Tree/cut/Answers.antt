@@ -1,7 +1,7 @@
 use Rattle.std.proofs.Common.{sym, subst}
 use Rattle.names.specs.Inside.{files_seen}
 use Rattle.names.specs.Numbered.{CutsAt}
-use Rattle.names.specs.Trees.{IsDirectory}
+use Rattle.directories.specs.Trees.{IsDirectory}
 use Rattle.names.proofs.Cuts.{cuts_plain, cuts_tree}
 use Rattle.names.proofs.PlainFiles.{not_told}
 use Rattle.names.proofs.tree.Tree.cut.Goals as goal

@@ -1,7 +1,7 @@
 use Rattle.std.proofs.Common.{◌≡◌, ◌≢◌, ◌∙◌, Err, sym, ap, subst, rules, arith}
 use Rattle.model.specs.Files.{Files}
 use Rattle.names.specs.Inside.{files_seen, Proceeds}
-use Rattle.names.specs.Trees.{directory_in, IsDirectory}
+use Rattle.directories.specs.Trees.{directory_in, IsDirectory}
 use Rattle.names.proofs.FileLooks.{kind_told, untold, untold_directory}
 use Rattle.names.proofs.Going.{ends_on, stays_on}
 use Rattle.names.proofs.SeenLooks.{stat_kind, stat_same, stat_size}

@@ -1,5 +1,5 @@
 use Rattle.names.specs.Inside.{files_seen}
-use Rattle.names.specs.Trees.{IsDirectory}
+use Rattle.directories.specs.Trees.{IsDirectory}
 use Rattle.names.proofs.PlainFiles.{not_told}
 use Rattle.names.proofs.PlainPuts.{empties_plain, empties_tree}
 use Rattle.names.proofs.tree.Tree.emptied.Goals as goal

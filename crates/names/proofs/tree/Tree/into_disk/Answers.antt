@@ -3,7 +3,7 @@ use Rattle.blocks.specs.Disk.{Image}
 use Rattle.model.specs.Files.{files_of}
 use Rattle.model.specs.Lemmas.Log.{recovered_empty}
 use Rattle.model.specs.Log.{recovered}
-use Rattle.names.specs.Trees.{IsTree}
+use Rattle.directories.specs.Trees.{IsTree}
 use Rattle.names.proofs.tree.Tree.into_disk.Goals as goal
 
 pub returns-clause-tree : goal.returns-clause-tree

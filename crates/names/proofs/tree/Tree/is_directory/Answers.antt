@@ -2,7 +2,7 @@ use Rattle.std.proofs.Common.{◌≡◌, ◌∙◌, sym, ap, arith}
 use Rattle.std.proofs.lemmas.Bool.{eq-eqb, eqb-true}
 use Rattle.model.specs.Files.{file_in}
 use Rattle.names.specs.Inside.{files_seen}
-use Rattle.names.specs.Trees.{kind_of}
+use Rattle.directories.specs.Trees.{kind_of}
 use Rattle.names.proofs.FileLooks.{kind_told, untold, untold_directory}
 use Rattle.names.proofs.SeenLooks.{stat_kind, stat_same}
 use Rattle.names.proofs.tree.Tree.is_directory.Given.{Over}

@@ -1,10 +1,10 @@
 use Rattle.std.proofs.Common.{◌≡◌, ◌∙◌, ℕ, ◌+◌, Bool, true, false, None, Result, sym, subst, rules, arith}
 use Rattle.model.specs.Files.{Files, file_in}
-use Rattle.names.specs.declared.refusal.Refusal.{Refusal}
+use Rattle.directories.specs.declared.refusal.Refusal.{Refusal}
 use Rattle.names.specs.Inside.{files_seen}
 use Rattle.names.specs.Linking.{HasMore}
-use Rattle.names.specs.Trees.{directory_in, links_of, number_of, IsDirectory, IsFile}
-use Rattle.names.specs.Writes.{NeedsBlock}
+use Rattle.directories.specs.Trees.{directory_in, links_of, number_of, IsDirectory, IsFile}
+use Rattle.directories.specs.Writes.{NeedsBlock}
 use Rattle.names.proofs.Named.{file_is_used}
 use Rattle.names.proofs.NewNames.{named_links, named_needs, named_not, named_stays, named_there}
 use Rattle.names.proofs.Staying.{stays_same}

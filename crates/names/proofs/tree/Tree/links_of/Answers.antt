@@ -1,6 +1,6 @@
 use Rattle.std.proofs.Common.{◌≡◌, ◌∙◌, ℕ, sym, ap}
 use Rattle.model.specs.declared.types.operations.Reply.TheVariants.{StatOf}
-use Rattle.names.specs.Trees.{links_of}
+use Rattle.directories.specs.Trees.{links_of}
 use Rattle.names.proofs.SeenLooks.{stat_same, stat_tells}
 use Rattle.names.proofs.tree.Tree.links_of.Goals as goal
 

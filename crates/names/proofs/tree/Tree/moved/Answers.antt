@@ -1,11 +1,11 @@
 use Rattle.std.proofs.Common.{◌≡◌, ◌∙◌, Result, true, subst, rules}
 use Rattle.names.specs.declared.planning.Plan.{Plan}
-use Rattle.names.specs.declared.refusal.Refusal.{Refusal}
-use Rattle.names.specs.Counts.{StaysCounted}
+use Rattle.directories.specs.declared.refusal.Refusal.{Refusal}
+use Rattle.directories.specs.Counts.{StaysCounted}
 use Rattle.names.specs.Inside.{files_seen}
 use Rattle.names.specs.Renaming.{IsPlan, IsPlanned, Renames}
-use Rattle.names.specs.Trees.{directory_in, number_of, IsDirectory}
-use Rattle.names.specs.Writes.{NeedsBlock}
+use Rattle.directories.specs.Trees.{directory_in, number_of, IsDirectory}
+use Rattle.directories.specs.Writes.{NeedsBlock}
 use Rattle.std.specs.Prelude.{None}
 use Rattle.names.proofs.Moved.{moved_directory, moved_file, source_there, target_there, unlinked_needs, unlinked_same}
 use Rattle.names.proofs.Staying.{stays_same}

@@ -1,7 +1,7 @@
 use Rattle.std.proofs.Common.{◌≡◌, Err, subst, sym, rules}
 use Rattle.model.specs.Files.{Files}
 use Rattle.names.specs.Inside.{files_seen, form_seen, Goes, Proceeds, StaysOn}
-use Rattle.names.specs.Trees.{directory_in, IsDirectory, IsDown}
+use Rattle.directories.specs.Trees.{directory_in, IsDirectory, IsDown}
 use Rattle.names.proofs.Entering.{found_fits}
 use Rattle.names.proofs.Going.{ends_on, goes_on, stays_on}
 use Rattle.names.proofs.Moved.{not_root, own_directory, own_is, own_there, plan_inside, plan_is, source_counts, target_in}

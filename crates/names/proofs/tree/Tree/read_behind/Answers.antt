@@ -2,7 +2,7 @@ use Rattle.std.proofs.Common.{◌≡◌, ◌∙◌, ◌++◌, List, ℕ, refl, s
 use Rattle.model.specs.declared.types.operations.Reply.TheVariants.{Bytes}
 use Rattle.model.specs.Operations.{part_of}
 use Rattle.names.specs.Inside.{files_seen}
-use Rattle.names.specs.Trees.{directory_in}
+use Rattle.directories.specs.Trees.{directory_in}
 use Rattle.names.proofs.Going.{ends_on}
 use Rattle.names.proofs.SeenLooks.{read_brings}
 use Rattle.names.proofs.tree.Tree.read_behind.Given.{Over}

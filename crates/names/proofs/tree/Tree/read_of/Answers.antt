@@ -3,7 +3,7 @@ use Rattle.model.specs.declared.types.operations.Op.TheVariants.{Read}
 use Rattle.model.specs.declared.types.operations.Reply.TheVariants.{Bytes}
 use Rattle.model.specs.Operations.{part_of}
 use Rattle.names.specs.Inside.{files_seen, Answers}
-use Rattle.names.specs.Trees.{IsDirectory}
+use Rattle.directories.specs.Trees.{IsDirectory}
 use Rattle.names.proofs.PlainFiles.{not_told, read_plain, HasRead}
 use Rattle.names.proofs.tree.Tree.read_of.Given.{Over}
 use Rattle.names.proofs.tree.Tree.read_of.Goals.{In_ok-bytes}

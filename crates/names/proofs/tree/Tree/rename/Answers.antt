@@ -1,5 +1,5 @@
 use Rattle.std.proofs.Common.{◌∙◌}
-use Rattle.names.specs.Paths.{names_of}
+use Rattle.directories.specs.Paths.{names_of}
 use Rattle.names.specs.Renaming.{IsUndoneAt}
 use Rattle.names.proofs.Renamed.{undone_both}
 use Rattle.names.proofs.tree.Tree.rename.Goals as goal

@@ -1,7 +1,7 @@
 use Rattle.std.proofs.Common.{◌∙◌, sym, rules}
-use Rattle.names.specs.Counts.{StaysCounted}
+use Rattle.directories.specs.Counts.{StaysCounted}
 use Rattle.names.specs.Inside.{files_seen, form_seen}
-use Rattle.names.specs.Trees.{IsDown}
+use Rattle.directories.specs.Trees.{IsDown}
 use Rattle.names.proofs.Entering.{found_fits}
 use Rattle.names.proofs.Renamed.{freed_directory, freed_fits, freed_links, lookup_used, renamed_whole}
 use Rattle.names.specs.Renaming.{Renames}

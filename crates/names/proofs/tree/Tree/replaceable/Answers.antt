@@ -1,6 +1,6 @@
 use Rattle.std.proofs.Common.{◌≡◌, false, refl, inl, inr, rules, arith}
 use Rattle.std.proofs.lemmas.Grind.{common_steps}
-use Rattle.names.specs.Trees.{IsDown}
+use Rattle.directories.specs.Trees.{IsDown}
 use Rattle.names.proofs.PlainFiles.{not_told}
 use Rattle.names.proofs.tree.Tree.replaceable.Goals as goal
 

@@ -1,11 +1,11 @@
 use Rattle.std.proofs.Common.{◌≡◌, ◌∙◌, ℕ, ◌<◌, List, length, Some, None, true, sym, ap, subst, rules}
 use Rattle.model.specs.Files.{Files}
-use Rattle.names.specs.Entries.{lookup}
+use Rattle.directories.specs.Entries.{lookup}
 use Rattle.names.specs.Inside.{files_seen, form_seen}
-use Rattle.names.specs.Trees.{directory_in, self_name, IsDirectory}
+use Rattle.directories.specs.Trees.{directory_in, self_name, IsDirectory}
 use Rattle.names.proofs.Renamed.{lookup_used}
-use Rattle.names.proofs.Sizes.{size_small}
-use Rattle.names.proofs.TreeMeaning.{directories_are_tidy}
+use Rattle.directories.specs.Lemmas.Sizes.{size_small}
+use Rattle.directories.specs.Lemmas.TreeMeaning.{directories_are_tidy}
 use Rattle.names.proofs.tree.Tree.rise.Goals as goal
 
 pub tidy_directory-requires-clause-there : goal.tidy_directory-requires-clause-there

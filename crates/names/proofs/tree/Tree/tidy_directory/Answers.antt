@@ -1,10 +1,10 @@
 use Rattle.std.proofs.Common.{◌≡◌, ◌∙◌, Err, sym, ap, subst, rules}
 use Rattle.model.specs.Files.{Files}
 use Rattle.names.specs.Inside.{files_seen, Proceeds}
-use Rattle.names.specs.Trees.{directory_in, IsDirectory}
+use Rattle.directories.specs.Trees.{directory_in, IsDirectory}
 use Rattle.names.proofs.Going.{ends_on, stays_on}
 use Rattle.names.proofs.SeenLooks.{stat_same, stat_size, stat_tells}
-use Rattle.names.proofs.TreeBy.{directory_is_file}
+use Rattle.directories.specs.Lemmas.TreeBy.{directory_is_file}
 use Rattle.names.proofs.tree.Tree.tidy_directory.Goals as goal
 
 pub unreachable-requires : goal.unreachable-requires

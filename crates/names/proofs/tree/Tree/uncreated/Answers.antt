@@ -1,5 +1,5 @@
 use Rattle.names.specs.Inside.{files_seen, form_seen}
-use Rattle.names.proofs.Unnamed.{remove_undoes}
+use Rattle.directories.specs.Lemmas.Unnamed.{remove_undoes}
 use Rattle.names.proofs.tree.Tree.uncreated.Goals as goal
 
 pub returns-clause-undoes : goal.returns-clause-undoes

@@ -2,7 +2,7 @@ use Rattle.std.proofs.Common.{◌≡◌, ◌∙◌, ◌≤◌, ◌*◌, ◌++◌
 use Rattle.model.specs.Files.{Files}
 use Rattle.model.specs.Operations.{part_of}
 use Rattle.names.specs.Inside.{files_seen}
-use Rattle.names.specs.Trees.{directory_in, IsDirectory}
+use Rattle.directories.specs.Trees.{directory_in, IsDirectory}
 use Rattle.names.proofs.Going.{stays_here}
 use Rattle.names.proofs.ReadBehind.{all_read, one_more}
 use Rattle.names.proofs.tree.Tree.whole_directory.Goals as goal

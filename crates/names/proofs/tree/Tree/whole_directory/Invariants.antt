@@ -1,5 +1,5 @@
 use Rattle.names.specs.Inside.{files_seen}
-use Rattle.names.specs.Trees.{directory_in}
+use Rattle.directories.specs.Trees.{directory_in}
 use Rattle.names.proofs.ReadBehind.{HasRead}
 use Rattle.names.proofs.tree.Tree.whole_directory.Given as goal
 

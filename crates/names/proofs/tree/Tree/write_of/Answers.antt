@@ -1,7 +1,7 @@
 use Rattle.std.proofs.Common.{sym, subst}
 use Rattle.model.specs.Files.{Files}
 use Rattle.names.specs.Inside.{files_seen}
-use Rattle.names.specs.Trees.{IsDirectory, IsFile}
+use Rattle.directories.specs.Trees.{IsDirectory, IsFile}
 use Rattle.names.proofs.Going.{full_ends, goes_on, stays_on}
 use Rattle.names.proofs.PlainFiles.{not_told}
 use Rattle.names.proofs.PlainPuts.{none_by, short_full}

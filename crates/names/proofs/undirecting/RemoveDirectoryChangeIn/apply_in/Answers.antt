@@ -1,7 +1,7 @@
 use Rattle.std.proofs.Common.{◌≡◌, ◌∙◌, ◌<◌, true, false, sym, ap, subst, rules, arith}
 use Rattle.model.specs.Files.{Files, file_in}
 use Rattle.names.specs.Inside.{files_seen}
-use Rattle.names.specs.Trees.{links_of, IsDown, IsTree}
+use Rattle.directories.specs.Trees.{links_of, IsDown, IsTree}
 use Rattle.names.proofs.Emptied.{gone, gone_stays, led_full, may_empty}
 use Rattle.names.proofs.Entering.{found_bytes}
 use Rattle.names.proofs.Named.{directory_counts}

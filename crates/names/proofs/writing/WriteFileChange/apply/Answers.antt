@@ -7,9 +7,9 @@ use Rattle.names.specs.Contents.{IsNoPlain}
 use Rattle.names.specs.Inside.{files_seen, form_seen}
 use Rattle.names.specs.Ready.{Happens}
 use Rattle.names.specs.Writing.{Writes, WritesOf}
-use Rattle.names.specs.Trees.{IsTree}
-use Rattle.names.specs.Walks.{walked}
-use Rattle.names.proofs.PathLaws.{walk_told}
+use Rattle.directories.specs.Trees.{IsTree}
+use Rattle.directories.specs.Walks.{walked}
+use Rattle.directories.specs.Lemmas.PathLaws.{walk_told}
 use Rattle.names.proofs.PlainFiles.{happens_plain}
 use Rattle.names.proofs.writing.WriteFileChange.apply.Goals as goal
 

@@ -2,7 +2,7 @@ use Rattle.std.proofs.Common.{List, ℕ, rules, subst}
 use Rattle.model.specs.Files.{files_of}
 use Rattle.calls.specs.Calls.{image_on}
 use Rattle.names.specs.Linking.{LinksAt}
-use Rattle.names.specs.Paths.{names_of}
+use Rattle.directories.specs.Paths.{names_of}
 use Rattle.tree_changes.specs.Changes.{AnyOf, LeavesMidst}
 use Rattle.tree_changes.proofs.Changing.{leaves_any}
 use Rattle.tree_changes.proofs.changes.LinkTreeChange.make.Goals as goal

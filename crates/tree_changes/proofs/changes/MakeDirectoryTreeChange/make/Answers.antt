@@ -1,5 +1,5 @@
 use Rattle.std.proofs.Common.{List, ℕ, subst}
-use Rattle.names.specs.Paths.{names_of}
+use Rattle.directories.specs.Paths.{names_of}
 use Rattle.names.specs.Making.{MakesDirectoryAt}
 use Rattle.tree_changes.specs.Changes.{AnyOf, LeavesMidst}
 use Rattle.tree_changes.proofs.Changing.{leaves_any}

@@ -1,7 +1,7 @@
 use Rattle.std.proofs.Common.{List, ℕ, rules, subst}
 use Rattle.model.specs.Files.{files_of}
 use Rattle.calls.specs.Calls.{image_on}
-use Rattle.names.specs.Paths.{names_of}
+use Rattle.directories.specs.Paths.{names_of}
 use Rattle.names.specs.Renaming.{RenamesAt}
 use Rattle.tree_changes.specs.Changes.{AnyOf, LeavesMidst}
 use Rattle.tree_changes.proofs.Changing.{leaves_any}

@@ -1,9 +1,9 @@
 use Rattle.std.proofs.Common.{◌≡◌, ◌∙◌, List, ℕ, ap, subst}
 use Rattle.std.specs.Prelude.{Ok}
 use Rattle.std.proofs.lemmas.Result.{IfOk-weaker}
-use Rattle.names.specs.Paths.{names_of}
-use Rattle.names.specs.Trees.{root}
-use Rattle.names.specs.Walks.{walked}
+use Rattle.directories.specs.Paths.{names_of}
+use Rattle.directories.specs.Trees.{root}
+use Rattle.directories.specs.Walks.{walked}
 use Rattle.tree_looks.specs.Listing.{listed}
 use Rattle.tree_looks.proofs.Looking.{kept_told}
 use Rattle.tree_looks.proofs.looks.LsLook.text.Goals as goal

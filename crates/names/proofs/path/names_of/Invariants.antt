@@ -1,5 +1,0 @@
-use Rattle.names.proofs.Parts.{Parted}
-use Rattle.names.proofs.path.names_of.Given as goal
-
-abbrev pub invariant-loop-i : goal.invariant-loop-i
-invariant-loop-i l = Parted l.path l.names.items l.start l.i
