@@ -24,7 +24,7 @@ use Rattle.names.specs.declared.refusal.TreeFault.{TreeFault}
 use Rattle.names.specs.declared.refusal.TreeFault.TheVariants.{Path, Refused, Call, NoSpace, NoCall}
 use Rattle.directories.specs.Lemmas.Sizes.{after_sized, sound_sized}
 use Rattle.directories.specs.Sizes.{AreSized}
-use Rattle.names.specs.Inside.{files_seen, form_seen, Answers, Ends, EndsOr, Goes, HasCause, IsBroken, IsBrokenOr, IsCrowded, IsUnderWay, Proceeds, StaysOn}
+use Rattle.names.specs.Inside.{files_seen, form_seen, Answers, Ends, EndsOr, Fills, Goes, HasCause, IsBroken, IsBrokenOr, IsCrowded, IsSpent, IsUnderWay, Never, Proceeds, StaysOn}
 use Rattle.directories.specs.Counts.{AreCounted}
 
 module _ {D N : Type 0} (disk : Ghosts D N) where
@@ -51,12 +51,14 @@ module _ {D N : Type 0} (disk : Ghosts D N) where
         way = record {
           inside = inside;
           few = omega (arith, adds.one_more, way.few);
+          many = omega (arith, adds.one_more, one, way.many);
           files = has_seen m made.0 made.2;
           sized = subst (λ (form : Form). AreSized form (files_seen disk.image m)) same_form
               (after_sized (form_seen disk.image k) (files_seen disk.image k) (files_seen disk.image m) op reply way.sized answered);
         };
         same = adds.same;
         opening = opening;
+        later = omega (arith, adds.one_more);
       }
 
   pub call_cause : (op : Op) (k m : Plain D) (reply : Reply) (left : ℕ) → IsUnderWay disk k left → Adds disk.image op k m reply → HasCause disk.image op k m reply
@@ -64,7 +66,12 @@ module _ {D N : Type 0} (disk : Ghosts D N) where
     lowest = adds.lowest (files_seen disk.image k) way.files;
     none = adds.none (files_seen disk.image k) way.files;
     short = adds.short;
+    answered = adds.one_more;
   }
+
+  -- no call is left, since as many were answered as a tree makes
+  pub none_left : (k : Plain D) (left : ℕ) → IsUnderWay disk k left → left ≡ 0 → Ends disk k k left NoCall
+  none_left k left way none = record { none = none; broken = (record { image = refl; faults = refl }, inr (omega (arith, way.many, none))) }
 
   -- what a stop leaves
   pub stays_here : (k : Plain D) → StaysOn disk k k
@@ -85,32 +92,32 @@ module _ {D N : Type 0} (disk : Ghosts D N) where
   stays_on k a m left goes first then_on = record { on = λ o same so_far. then_on.on o (goes.same ∙ same) (first.on o same so_far) }
 
   pub goes_on : (k a m : Plain D) (left less : ℕ) → Goes disk k a left → Goes disk a m less → Goes disk k m less
-  goes_on k a m left less first then_on = record { way = then_on.way; same = then_on.same ∙ first.same; opening = then_on.opening ∙ first.opening }
+  goes_on k a m left less first then_on = record { way = then_on.way; same = then_on.same ∙ first.same; opening = then_on.opening ∙ first.opening; later = omega (arith, first.later, then_on.later) }
 
   -- why a later call ended the transaction
   pub same_faults : (k a : Plain D) (left less : ℕ) → IsUnderWay disk k left → Goes disk k a less → faults_on disk.fault_count a ≡ faults_on disk.fault_count k
   same_faults k a left less way goes = goes.way.inside.pair.faultless ∙ ap disk.fault_count goes.opening ∙ sym way.inside.pair.faultless
 
-  pub broken_on : (fills : Type 0) (k a m : Plain D) (cause : TreeFault) → image_on disk.image a ≡ image_on disk.image k →
-      faults_on disk.fault_count a ≡ faults_on disk.fault_count k → IsBrokenOr fills disk a m cause → IsBrokenOr fills disk k m cause
-  broken_on fills k a m (Path cause) same faults why = why
-  broken_on fills k a m (Refused cause) same faults why = why
-  broken_on fills k a m (Call (fault.Disk cause)) same faults why = record { is = why.is; rose = subst (λ (n : ℕ). Rose n (faults_on disk.fault_count m)) faults why.rose }
-  broken_on fills k a m (Call fault.NoMemory) same faults why = record { image = why.image ∙ same; faults = why.faults ∙ faults }
-  broken_on fills k a m (Call fault.NoRoom) same faults why = (record { image = why.0.image ∙ same; faults = why.0.faults ∙ faults }, why.1)
-  broken_on fills k a m NoSpace same faults why = (why.0, record { image = why.1.image ∙ same; faults = why.1.faults ∙ faults }, why.2)
-  broken_on fills k a m NoCall same faults why = record { image = why.image ∙ same; faults = why.faults ∙ faults }
+  pub broken_on : (hinders : TreeFault → Type 0) (k a m : Plain D) (cause : TreeFault) → image_on disk.image a ≡ image_on disk.image k →
+      faults_on disk.fault_count a ≡ faults_on disk.fault_count k → IsBrokenOr hinders disk a m cause → IsBrokenOr hinders disk k m cause
+  broken_on hinders k a m (Path cause) same faults why = why
+  broken_on hinders k a m (Refused cause) same faults why = why
+  broken_on hinders k a m (Call (fault.Disk cause)) same faults why = record { is = why.is; rose = subst (λ (n : ℕ). Rose n (faults_on disk.fault_count m)) faults why.rose }
+  broken_on hinders k a m (Call fault.NoMemory) same faults why = record { image = why.image ∙ same; faults = why.faults ∙ faults }
+  broken_on hinders k a m (Call fault.NoRoom) same faults why = (record { image = why.0.image ∙ same; faults = why.0.faults ∙ faults }, why.1)
+  broken_on hinders k a m NoSpace same faults why = (why.0, record { image = why.1.image ∙ same; faults = why.1.faults ∙ faults }, why.2)
+  broken_on hinders k a m NoCall same faults why = (record { image = why.0.image ∙ same; faults = why.0.faults ∙ faults }, why.1)
 
-  pub ends_or : (fills : Type 0) (k a m : Plain D) (left less none : ℕ) (cause : TreeFault) → IsUnderWay disk k left → Goes disk k a less →
-      EndsOr fills disk a m none cause → EndsOr fills disk k m none cause
-  ends_or fills k a m left less none cause way goes ends = record {
+  pub ends_or : (hinders : TreeFault → Type 0) (k a m : Plain D) (left less none : ℕ) (cause : TreeFault) → IsUnderWay disk k left → Goes disk k a less →
+      EndsOr hinders disk a m none cause → EndsOr hinders disk k m none cause
+  ends_or hinders k a m left less none cause way goes ends = record {
     none = ends.none;
-    broken = broken_on fills k a m cause goes.same (same_faults k a left less way goes) ends.broken;
+    broken = broken_on hinders k a m cause goes.same (same_faults k a left less way goes) ends.broken;
   }
 
   pub ends_on : (k a m : Plain D) (left less none : ℕ) (cause : TreeFault) → IsUnderWay disk k left → Goes disk k a less → Ends disk a m none cause →
       Ends disk k m none cause
-  ends_on k a m left less none cause way goes ends = ends_or ⊥ k a m left less none cause way goes ends
+  ends_on k a m left less none cause way goes ends = ends_or Never k a m left less none cause way goes ends
 
   -- what a later call made of it
   pub proceeds_on : {T : Type 0} (k a m : Plain D) (r : Result T TreeFault) (left less rest : ℕ) → IsUnderWay disk k left → Goes disk k a less →
@@ -122,21 +129,21 @@ module _ {D N : Type 0} (disk : Ghosts D N) where
   }
 
   -- where the disk may be filled, it need not be
-  pub broken_in : (fills : Type 0) (k m : Plain D) (cause : TreeFault) → IsBroken disk k m cause → IsBrokenOr fills disk k m cause
-  broken_in fills k m (Path cause) why = why
-  broken_in fills k m (Refused cause) why = why
-  broken_in fills k m (Call (fault.Disk cause)) why = why
-  broken_in fills k m (Call fault.NoMemory) why = why
-  broken_in fills k m (Call fault.NoRoom) why = why
-  broken_in fills k m NoSpace why = absurd why.0
-  broken_in fills k m NoCall why = why
+  pub broken_in : (hinders : TreeFault → Type 0) (k m : Plain D) (cause : TreeFault) → IsBroken disk k m cause → IsBrokenOr hinders disk k m cause
+  broken_in hinders k m (Path cause) why = why
+  broken_in hinders k m (Refused cause) why = why
+  broken_in hinders k m (Call (fault.Disk cause)) why = why
+  broken_in hinders k m (Call fault.NoMemory) why = why
+  broken_in hinders k m (Call fault.NoRoom) why = why
+  broken_in hinders k m NoSpace why = absurd why.0
+  broken_in hinders k m NoCall why = (why.0, ⊎_elim (λ (none : ⊥). absurd none) (λ (spent : IsSpent m). inr spent) why.1)
 
-  pub ends_in : (fills : Type 0) (k m : Plain D) (none : ℕ) (cause : TreeFault) → Ends disk k m none cause → EndsOr fills disk k m none cause
-  ends_in fills k m none cause ends = record { none = ends.none; broken = broken_in fills k m cause ends.broken }
+  pub ends_in : (hinders : TreeFault → Type 0) (k m : Plain D) (none : ℕ) (cause : TreeFault) → Ends disk k m none cause → EndsOr hinders disk k m none cause
+  ends_in hinders k m none cause ends = record { none = ends.none; broken = broken_in hinders k m cause ends.broken }
 
   -- the disk was filled
   pub full_ends : (k m : Plain D) (left less : ℕ) → IsUnderWay disk k left → Goes disk k m less → IsFull (image_seen disk.image m) →
-      EndsOr ⊤ disk k m 0 NoSpace
+      EndsOr Fills disk k m 0 NoSpace
   full_ends k m left less way goes full = record {
     none = refl;
     broken = (tt, record { image = goes.same; faults = same_faults k m left less way goes }, full);
@@ -153,15 +160,16 @@ module _ {D N : Type 0} (disk : Ghosts D N) where
 
   -- ---- the beginning and the end
 
-  pub begin_goes : (k m : Plain D) (left : ℕ) → call_count k + left ≤ 2 ^ 63 → IsInside disk.fault_count m → m.opening ≡ k.opening → Begins disk.image k m →
+  pub begin_goes : (k m : Plain D) (left : ℕ) → call_count k + left ≤ 2 ^ 63 → 2 ^ 62 ≤ call_count k + left → IsInside disk.fault_count m → m.opening ≡ k.opening → Begins disk.image k m →
       HasBegun disk k m left
-  begin_goes k m left few inside opening begins =
+  begin_goes k m left few many inside opening begins =
       let count : call_count m ≡ call_count k = ap (λ (es : List Entry). length es) begins.list in
       record {
         goes = record {
           way = record {
             inside = inside;
             few = omega (arith, count, few);
+            many = omega (arith, count, many);
             files = has_seen m (files_of (image_on disk.image k)) begins.files;
             sized = subst (λ (form : Form). AreSized form (files_seen disk.image m)) (begins.form ∙ ap (λ (o : D). form_of (disk.image o)) (sym opening))
                 (subst (λ (f : Files). AreSized (form_of (image_on disk.image k)) f) (sym (seen m (files_of (image_on disk.image k)) begins.files))
@@ -169,6 +177,7 @@ module _ {D N : Type 0} (disk : Ghosts D N) where
           };
           same = begins.same;
           opening = opening;
+          later = omega (arith, count);
         };
         files = seen m (files_of (image_on disk.image k)) begins.files;
       }
@@ -188,7 +197,7 @@ module _ {D N : Type 0} (disk : Ghosts D N) where
   commit_ends k m left less one way tree counted rests commits =
       let same : files_of (image_on disk.image m) ≡ files_seen disk.image k = commits.files (files_seen disk.image k) way.files in
       record {
-        ready = record { rests = rests; few = omega (arith, commits.one_more, way.few); sound = commits.sound; tree = subst (λ (f : Files). IsTree f) (sym same) tree; counted = subst (λ (f : Files). AreCounted f) (sym same) counted };
+        ready = record { rests = rests; few = omega (arith, commits.one_more, way.few); many = omega (arith, commits.one_more, one, way.many); sound = commits.sound; tree = subst (λ (f : Files). IsTree f) (sym same) tree; counted = subst (λ (f : Files). AreCounted f) (sym same) counted };
         files = same;
       }
 

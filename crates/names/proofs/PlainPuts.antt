@@ -144,7 +144,7 @@ module _ (form : Form) (files new : Files) (i off : ℕ) (bytes : List ℕ) (fil
   short_by None is by = done_short by
   short_by (Some refusal) is by = refused_short refusal is (refusal_same refusal reply (where_true_some (is_refusal refusal reply) files new by).0)
 
-  short : IsShort bytes reply
+  pub short : IsShort bytes reply
   unfolding after
   short = short_by (refusal_of form files (Write i off bytes)) refl h
 

@@ -1,7 +1,7 @@
 -- The way up from a directory of a tree, from parent to parent.
-use Rattle.std.proofs.Common.{◌≡◌, ◌≢◌, ◌↔◌, ℕ, List, [], Some, Ok, Result, sym, ap, subst, ◌∙◌}
+use Rattle.std.proofs.Common.{◌≡◌, ◌≢◌, ◌↔◌, ℕ, ◌+◌, ◌≤◌, List, [], Some, Ok, Result, sym, ap, subst, ◌∙◌}
 use Rattle.blocks.specs.declared.disk.Disk.{Ghosts}
-use Rattle.calls.specs.Calls.{image_on}
+use Rattle.calls.specs.Calls.{call_count, image_on}
 use Rattle.calls.specs.Stepping.{Plain}
 use Rattle.model.specs.Files.{Files}
 use Rattle.directories.specs.declared.refusal.Refusal.{Refusal}
@@ -44,13 +44,14 @@ root_decides files number from at tree below decides same =
     decides.1 (subst (λ (i : ℕ). IsOutside files number i) (sym same) (root_is_outside files number tree below))
 
 -- directories were gone through from one up to another
-pub record HasRisen {D N : Type 0} (disk : Ghosts D N) (k m : Plain D) (left number from at : ℕ) : Type 0 where
+pub record HasRisen {D N : Type 0} (disk : Ghosts D N) (k m : Plain D) (left steps number from at : ℕ) : Type 0 where
   pub way : IsUnderWay disk m left
   pub same : image_on disk.image m ≡ image_on disk.image k
   pub opening : m.opening ≡ k.opening
   pub files : files_seen disk.image m ≡ files_seen disk.image k
   pub stays : StaysOn disk k m
   pub is : IsDirectory (files_seen disk.image k) at
+  pub answered : call_count k + steps ≤ call_count m
   pub decides : IsOutside (files_seen disk.image k) number from ↔ IsOutside (files_seen disk.image k) number at
 
 -- the name that was looked up is that of the parent

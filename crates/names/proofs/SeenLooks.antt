@@ -1,5 +1,6 @@
 -- What looks at directories tell in a transaction.
-use Rattle.std.proofs.Common.{◌≡◌, ℕ, List, length, Option, Some, sym, ap, ◌∙◌, arith}
+use Rattle.std.proofs.Common.{◌≡◌, ℕ, ◌+◌, ◌<◌, ◌≤◌, List, ◌∷◌, drop, get_or, length, Option, Some, Result, Ok, sym, ap, ◌∙◌, arith}
+use Rattle.std.proofs.lemmas.List.{drop_more}
 use Rattle.blocks.specs.declared.disk.Disk.{Ghosts}
 use Rattle.model.specs.declared.types.image.File.{File}
 use Rattle.model.specs.declared.types.operations.Op.TheVariants.{Read, Stat}
@@ -8,8 +9,9 @@ use Rattle.model.specs.declared.types.operations.Reply.TheVariants.{Bytes, StatO
 use Rattle.model.specs.Files.{Files, file_in}
 use Rattle.model.specs.Operations.{part_of}
 use Rattle.calls.specs.Stepping.{Plain}
-use Rattle.calls.specs.Calls.{image_on}
-use Rattle.directories.specs.Walks.{walked}
+use Rattle.calls.specs.Calls.{call_count, image_on}
+use Rattle.directories.specs.Walks.{and_on, stepped, walked}
+use Rattle.directories.specs.declared.refusal.Refusal.{Refusal}
 use Rattle.names.specs.Inside.{files_seen, form_seen, Answers, IsUnderWay, StaysOn}
 use Rattle.directories.specs.Trees.{bytes_of, directory_in, kind_of, IsDirectory, IsFile}
 use Rattle.directories.specs.Lemmas.Answered.{file_by, some_by}
@@ -51,6 +53,17 @@ module _ {D N : Type 0} (disk : Ghosts D N) where
       let brought = reads (form_seen disk.image k) fs (files_seen disk.image m) i off 3072 d reply has.1 (omega arith) answers in
       (brought.0, brought.1 ∙ ap (λ (b : List ℕ). Bytes (part_of b off 3072)) (sym long))
 
+-- one more name was walked
+pub walked_on : (seen files : Files) (number next i : ℕ) (names : List (List ℕ)) (name : List ℕ) (led : Result ℕ Refusal) → i < length names →
+    name ≡ get_or names i name → led ≡ stepped seen number name → led ≡ Ok next → seen ≡ files →
+    walked files 1 names ≡ walked files number (drop i names) → walked files 1 names ≡ walked files next (drop (i + 1) names)
+walked_on seen files number next i names name led low is leads ok same so_far =
+    let rest : List (List ℕ) = drop (i + 1) names in
+    let on : stepped files number name ≡ Ok next = ap (λ (f : Files). stepped f number name) (sym same) ∙ sym leads ∙ ok in
+    so_far
+    ∙ ap (λ (l : List (List ℕ)). walked files number l) (drop_more names i name low ∙ ap (λ (n : List ℕ). n ∷ rest) (sym is))
+    ∙ ap (λ (r : Result ℕ Refusal). and_on r (λ m. walked files m rest)) on
+
 -- names were walked up to a number, and these are left
 pub record HasWalked {D N : Type 0} (disk : Ghosts D N) (k m : Plain D) (old left : ℕ) (number : ℕ) (behind names : List (List ℕ)) : Type 0 where
   pub way : IsUnderWay disk m left
@@ -58,4 +71,5 @@ pub record HasWalked {D N : Type 0} (disk : Ghosts D N) (k m : Plain D) (old lef
   pub opening : m.opening ≡ k.opening
   pub files : files_seen disk.image m ≡ files_seen disk.image k
   pub stays : StaysOn disk k m
+  pub later : call_count k ≤ call_count m
   pub on : walked (files_seen disk.image k) 1 names ≡ walked (files_seen disk.image k) number behind

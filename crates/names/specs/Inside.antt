@@ -1,5 +1,5 @@
 -- Calls of a transaction, and the files that it sees.
-use Rattle.std.specs.Prelude.{◌≡◌, ℕ, ◌+◌, ◌^◌, ◌<◌, ◌≤◌, [], length, Some, unwrap_or, Result, OnOk, IfErr}
+use Rattle.std.specs.Prelude.{◌≡◌, ◌⊎◌, ⊤, ℕ, ◌+◌, ◌^◌, ◌<◌, ◌≤◌, [], length, Some, unwrap_or, Result, OnOk, IfErr}
 use Rattle.blocks.specs.Disk.{Image, LeavesOnly}
 use Rattle.blocks.specs.declared.disk.Disk.{Ghosts}
 use Rattle.model.specs.Files.{Files, files_of}
@@ -31,6 +31,7 @@ form_seen image k = form_of (image k.opening)
 pub record IsUnderWay {D N : Type 0} (disk : Ghosts D N) (k : Plain D) (left : ℕ) : Type 0 where
   pub inside : IsInside disk.fault_count k
   pub few : call_count k + left ≤ 2 ^ 63
+  pub many : 2 ^ 62 ≤ call_count k + left
   pub files : HasFiles disk.image k (files_seen disk.image k)
   pub sized : AreSized (form_seen disk.image k) (files_seen disk.image k)
 
@@ -39,6 +40,7 @@ pub record Goes {D N : Type 0} (disk : Ghosts D N) (k m : Plain D) (left : ℕ) 
   pub way : IsUnderWay disk m left
   pub same : image_on disk.image m ≡ image_on disk.image k
   pub opening : m.opening ≡ k.opening
+  pub later : call_count k ≤ call_count m
 
 -- and it sees the same files in m
 abbrev pub SeesSame : {D : Type 0} → (D → Image) → Plain D → Plain D → Type 0
@@ -56,6 +58,7 @@ pub record HasCause {D : Type 0} (image : D → Image) (op : Op) (k m : Plain D)
   pub lowest : MakesLowestOf (files_seen image k) op reply
   pub none : MakesNoneOf (files_seen image k) op reply
   pub short : ShortIsFull (image_seen image m) op reply
+  pub answered : call_count m ≡ call_count k + 1
 
 -- From kernel k to m a stop leaves the files on the disk as they were, and m is over the same disk, as
 -- it was opened.
@@ -81,37 +84,51 @@ pub record IsSame {D N : Type 0} (disk : Ghosts D N) (k m : Plain D) : Type 0 wh
 abbrev pub IsCrowded : {D : Type 0} → Plain D → Type 0
 IsCrowded k = 10 < length k.store.volume.log.homes
 
--- Why a transaction of kernel k, which is m now, doesn't go on. It may fill the disk where that is
--- said.
-abbrev pub IsBrokenOr : {D N : Type 0} → Type 0 → Ghosts D N → Plain D → Plain D → TreeFault → Type 0
-IsBrokenOr fills disk k m (Path cause) = ⊥
-IsBrokenOr fills disk k m (Refused cause) = ⊥
-IsBrokenOr fills disk k m (Call (fault.Disk cause)) = HasFailed disk k m cause
-IsBrokenOr fills disk k m (Call fault.NoMemory) = IsSame disk k m
-IsBrokenOr fills disk k m (Call fault.NoRoom) = IsSame disk k m × IsCrowded m
-IsBrokenOr fills disk k m NoSpace = fills × IsSame disk k m × IsFull (image_seen disk.image m)
-IsBrokenOr fills disk k m NoCall = IsSame disk k m
+-- as many calls of a kernel were answered as a tree makes
+abbrev pub IsSpent : {D : Type 0} → Plain D → Type 0
+IsSpent k = 2 ^ 62 ≤ call_count k
+
+-- nothing but what hinders each call
+abbrev pub Never : TreeFault → Type 0
+Never cause = ⊥
+
+-- that no block is free for bytes, too
+abbrev pub Fills : TreeFault → Type 0
+Fills NoSpace = ⊤
+Fills cause = ⊥
+
+-- Why a transaction of kernel k, which is m now, doesn't go on, besides what else is said to hinder it.
+abbrev pub IsBrokenOr : {D N : Type 0} → (TreeFault → Type 0) → Ghosts D N → Plain D → Plain D
+    → TreeFault → Type 0
+IsBrokenOr hinders disk k m (Path cause) = ⊥
+IsBrokenOr hinders disk k m (Refused cause) = ⊥
+IsBrokenOr hinders disk k m (Call (fault.Disk cause)) = HasFailed disk k m cause
+IsBrokenOr hinders disk k m (Call fault.NoMemory) = IsSame disk k m
+IsBrokenOr hinders disk k m (Call fault.NoRoom) = IsSame disk k m × IsCrowded m
+IsBrokenOr hinders disk k m NoSpace =
+    hinders NoSpace × IsSame disk k m × IsFull (image_seen disk.image m)
+IsBrokenOr hinders disk k m NoCall = IsSame disk k m × (hinders NoCall ⊎ IsSpent m)
 
 abbrev pub IsBroken : {D N : Type 0} → Ghosts D N → Plain D → Plain D → TreeFault → Type 0
-IsBroken disk k m cause = IsBrokenOr ⊥ disk k m cause
+IsBroken disk k m cause = IsBrokenOr Never disk k m cause
 
 -- behind it no other call is made
-pub record EndsOr {D N : Type 0} (fills : Type 0) (disk : Ghosts D N) (k m : Plain D) (left : ℕ)
-    (cause : TreeFault) : Type 0 where
+pub record EndsOr {D N : Type 0} (hinders : TreeFault → Type 0) (disk : Ghosts D N) (k m : Plain D)
+    (left : ℕ) (cause : TreeFault) : Type 0 where
   pub none : left ≡ 0
-  pub broken : IsBrokenOr fills disk k m cause
+  pub broken : IsBrokenOr hinders disk k m cause
 
 abbrev pub Ends : {D N : Type 0} → Ghosts D N → Plain D → Plain D → ℕ → TreeFault → Type 0
-Ends disk k m left cause = EndsOr ⊥ disk k m left cause
+Ends disk k m left cause = EndsOr Never disk k m left cause
 
 -- What became of a transaction of kernel k, which is m now, behind calls in it: it goes on, or no other
 -- call is made, and what a stop left it leaves.
-pub record ProceedsOr {D N T : Type 0} (fills : Type 0) (disk : Ghosts D N)
+pub record ProceedsOr {D N T : Type 0} (hinders : TreeFault → Type 0) (disk : Ghosts D N)
     (result : Result T TreeFault) (k m : Plain D) (left : ℕ) : Type 0 where
   pub on : OnOk result (Goes disk k m left)
   pub stays : StaysOn disk k m
-  pub ends : IfErr result (EndsOr fills disk k m left)
+  pub ends : IfErr result (EndsOr hinders disk k m left)
 
 abbrev pub Proceeds : {D N T : Type 0} → Ghosts D N → Result T TreeFault → Plain D → Plain D → ℕ
     → Type 0
-Proceeds disk result k m left = ProceedsOr ⊥ disk result k m left
+Proceeds disk result k m left = ProceedsOr Never disk result k m left

@@ -1,5 +1,5 @@
 -- A tree of directories on a kernel's disk, and what a transaction makes of it.
-use Rattle.std.specs.Prelude.{◌≡◌, ◌≢◌, ◌⊎◌, ⊤, ℕ, ◌+◌, ◌^◌, ◌<◌, ◌≤◌, ◌==◌, Bool, false, IsTrue, List, length, Option, Some, None, Result, Ok, Err}
+use Rattle.std.specs.Prelude.{◌≡◌, ◌≢◌, ◌⊎◌, ℕ, ◌+◌, ◌^◌, ◌<◌, ◌≤◌, ◌==◌, Bool, false, IsTrue, List, length, Option, Some, None, Result, Ok, Err}
 use Rattle.blocks.specs.Disk.{Image, LeavesOnly}
 use Rattle.blocks.specs.declared.disk.Disk.{Ghosts}
 use Rattle.model.specs.Files.{Files, file_in, files_of}
@@ -17,7 +17,7 @@ use Rattle.directories.specs.declared.refusal.Refusal.TheVariants.{NoNumber, NoB
 use Rattle.names.specs.declared.refusal.TreeFault.{TreeFault}
 use Rattle.names.specs.declared.refusal.TreeFault.TheVariants.{Path, Refused, Call, NoSpace, NoCall}
 use Rattle.directories.specs.Counts.{AreCounted, StaysCounted}
-use Rattle.names.specs.Inside.{files_seen, Answers, Goes, IsBroken, IsBrokenOr, IsSame, LeavesFiles}
+use Rattle.names.specs.Inside.{files_seen, Answers, Fills, Goes, IsBroken, IsBrokenOr, IsSame, LeavesFiles, Never}
 use Rattle.directories.specs.Paths.{IsPathCause}
 use Rattle.directories.specs.Trees.{new_directory, root, IsFile, IsTree}
 use Rattle.directories.specs.TreeChanges.{directory_file}
@@ -27,6 +27,7 @@ use Rattle.directories.specs.TreeChanges.{directory_file}
 pub record IsReady {D N : Type 0} (disk : Ghosts D N) (k : Plain D) (left : ℕ) : Type 0 where
   pub rests : Rests disk.fault_count k
   pub few : call_count k + left ≤ 2 ^ 63
+  pub many : 2 ^ 62 ≤ call_count k + left
   pub sound : IsSound (image_on disk.image k)
   pub tree : IsTree (files_of (image_on disk.image k))
   pub counted : AreCounted (files_of (image_on disk.image k))
@@ -35,6 +36,7 @@ pub record IsReady {D N : Type 0} (disk : Ghosts D N) (k : Plain D) (left : ℕ)
 pub record IsIdle {D N : Type 0} (disk : Ghosts D N) (k : Plain D) (left : ℕ) : Type 0 where
   pub rests : Rests disk.fault_count k
   pub few : call_count k + left ≤ 2 ^ 63
+  pub many : 2 ^ 62 ≤ call_count k + left
 
 -- there is no file, but for one that may be the root
 abbrev pub HasNoFile : Files → Type 0
@@ -82,8 +84,14 @@ IsRootless disk k m (Path cause) = ⊥
 IsRootless disk k m (Refused cause) = IsSame disk k m
     × IsRootHindered (files_of (image_on disk.image k)) (image_seen disk.image m) cause
 IsRootless disk k m (Call cause) = IsBroken disk k m (Call cause)
-IsRootless disk k m NoSpace = IsBroken disk k m NoSpace
+IsRootless disk k m NoSpace = ⊥
 IsRootless disk k m NoCall = IsBroken disk k m NoCall
+
+-- No call was left in kernel k, which is m now: nothing was done.
+abbrev pub HasNoCall : {D T : Type 0} → Plain D → Plain D → Result T TreeFault → Type 0
+HasNoCall k m (Err (Path cause)) = m ≡ k
+HasNoCall k m (Err NoCall) = m ≡ k
+HasNoCall k m result = ⊥
 
 -- the same as being ready, unless no call is left
 abbrev pub MayGoOn : {D N : Type 0} → Ghosts D N → Plain D → ℕ → Type 0
@@ -149,36 +157,37 @@ LeavesTree disk change k m =
     (KeepsTree change (image_on disk.image k))
 
 -- Why a call is not answered, in kernel k, which is m now: the files refuse, which are as they were, or
--- a call of the kernel failed. It may fill the disk where that is said.
-abbrev pub IsUnansweredOr : {D N : Type 0} → Type 0 → Ghosts D N → (Files → Refusal → Type 0)
-    → Plain D → Plain D → TreeFault → Type 0
-IsUnansweredOr fills disk why k m (Path cause) = ⊥
-IsUnansweredOr fills disk why k m (Refused cause) =
+-- a call of the kernel failed, or as many were answered as a tree makes, besides what else is said to
+-- hinder it.
+abbrev pub IsUnansweredOr : {D N : Type 0} → (TreeFault → Type 0) → Ghosts D N
+    → (Files → Refusal → Type 0) → Plain D → Plain D → TreeFault → Type 0
+IsUnansweredOr hinders disk why k m (Path cause) = ⊥
+IsUnansweredOr hinders disk why k m (Refused cause) =
     (files_of (image_on disk.image m) ≡ files_of (image_on disk.image k))
     × why (files_of (image_on disk.image k)) cause
-IsUnansweredOr fills disk why k m (Call cause) = IsBroken disk k m (Call cause)
-IsUnansweredOr fills disk why k m NoSpace = IsBrokenOr fills disk k m NoSpace
-IsUnansweredOr fills disk why k m NoCall = IsBroken disk k m NoCall
+IsUnansweredOr hinders disk why k m (Call cause) = IsBroken disk k m (Call cause)
+IsUnansweredOr hinders disk why k m NoSpace = IsBrokenOr hinders disk k m NoSpace
+IsUnansweredOr hinders disk why k m NoCall = IsBrokenOr hinders disk k m NoCall
 
 abbrev pub IsUnanswered : {D N : Type 0} → Ghosts D N → (Files → Refusal → Type 0) → Plain D
     → Plain D → TreeFault → Type 0
-IsUnanswered disk why k m cause = IsUnansweredOr ⊥ disk why k m cause
+IsUnanswered disk why k m cause = IsUnansweredOr Never disk why k m cause
 
 -- why a call at a path is not: the path is none, and nothing was done; or as above
-abbrev pub IsUndoneOr : {D N : Type 0} → Type 0 → Ghosts D N → List ℕ → (Files → Refusal → Type 0)
-    → Plain D → Plain D → TreeFault → Type 0
-IsUndoneOr fills disk path why k m (Path cause) = (m ≡ k) × IsPathCause path cause
-IsUndoneOr fills disk path why k m (Refused cause) = IsUnanswered disk why k m (Refused cause)
-IsUndoneOr fills disk path why k m (Call cause) = IsUnanswered disk why k m (Call cause)
-IsUndoneOr fills disk path why k m NoSpace = IsUnansweredOr fills disk why k m NoSpace
-IsUndoneOr fills disk path why k m NoCall = IsUnanswered disk why k m NoCall
+abbrev pub IsUndoneOr : {D N : Type 0} → (TreeFault → Type 0) → Ghosts D N → List ℕ
+    → (Files → Refusal → Type 0) → Plain D → Plain D → TreeFault → Type 0
+IsUndoneOr hinders disk path why k m (Path cause) = (m ≡ k) × IsPathCause path cause
+IsUndoneOr hinders disk path why k m (Refused cause) = IsUnanswered disk why k m (Refused cause)
+IsUndoneOr hinders disk path why k m (Call cause) = IsUnanswered disk why k m (Call cause)
+IsUndoneOr hinders disk path why k m NoSpace = IsUnansweredOr hinders disk why k m NoSpace
+IsUndoneOr hinders disk path why k m NoCall = IsUnansweredOr hinders disk why k m NoCall
 
 abbrev pub IsUndone : {D N : Type 0} → Ghosts D N → List ℕ → (Files → Refusal → Type 0)
     → Plain D → Plain D → TreeFault → Type 0
-IsUndone disk path why k m cause = IsUndoneOr ⊥ disk path why k m cause
+IsUndone disk path why k m cause = IsUndoneOr Never disk path why k m cause
 
 -- Why one that writes bytes is not: also since no block is free for all of them. The files on the disk
 -- are as they were then.
 abbrev pub IsUnwritten : {D N : Type 0} → Ghosts D N → List ℕ → (Files → Refusal → Type 0)
     → Plain D → Plain D → TreeFault → Type 0
-IsUnwritten disk path why k m cause = IsUndoneOr ⊤ disk path why k m cause
+IsUnwritten disk path why k m cause = IsUndoneOr Fills disk path why k m cause

@@ -5,6 +5,8 @@ use Rattle.directories.specs.declared.refusal.Refusal.{Refusal}
 use Rattle.directories.specs.declared.refusal.Refusal.TheVariants.{IsADirectory, NotDown}
 use Rattle.names.specs.Removing.{IsUnremovedIn, RemovesIn}
 use Rattle.names.specs.Renaming.{IsUnrenamed, Renames}
+use Rattle.names.specs.declared.refusal.TreeFault.{TreeFault}
+use Rattle.names.specs.declared.refusal.TreeFault.TheVariants.{NoCall}
 use Rattle.directories.specs.Trees.{root, IsDirectory, IsDown}
 use Rattle.directories.specs.Walks.{stepped}
 
@@ -17,6 +19,20 @@ Clears to name aside false done files new = RemovesIn to name done files new
 abbrev pub IsUncleared : ℕ → List ℕ → List ℕ → Bool → Files → Refusal → Type 0
 IsUncleared to name aside true files cause = IsUnrenamed files to name root aside cause
 IsUncleared to name aside false files cause = IsUnremovedIn files to name cause
+
+-- The name was taken from its file, but the other file is not to get it, for this reason: what was done
+-- is never committed.
+pub record IsHalfDone (from : ℕ) (old : List ℕ) (to : ℕ) (name aside : List ℕ) (keeps : Bool)
+    (files : Files) : Type 0 where
+  pub between : Files
+  pub clears : Clears to name aside keeps tt files between
+  pub cause : Refusal
+  pub why : IsUnrenamed between from old to name cause
+
+abbrev pub HindersHalf : ℕ → List ℕ → ℕ → List ℕ → List ℕ → Bool → Files → TreeFault → Type 0
+HindersHalf from old to name aside keeps files NoCall =
+    IsHalfDone from old to name aside keeps files
+HindersHalf from old to name aside keeps files cause = ⊥
 
 -- two names lead to one file
 pub record LeadToOne (from : ℕ) (old : List ℕ) (to : ℕ) (name : List ℕ) (files : Files)

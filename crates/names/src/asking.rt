@@ -1,12 +1,12 @@
 // Questions to a tree, each in a transaction of its own that changes nothing.
-ghost use Rattle.std.specs.Prelude.{◌<◌, IfErr, IfOk, OnOk};
+ghost use Rattle.std.specs.Prelude.{◌≡◌, ◌<◌, IfErr, IfOk, OnOk};
 ghost use Rattle.calls.specs.Calls.{image_on};
 ghost use Rattle.calls.specs.Stopped.{StaysOver};
 ghost use Rattle.model.specs.Files.{files_of};
-ghost use Rattle.names.specs.Inside.{files_seen, IsUnderWay, Proceeds, SeesSame};
+ghost use Rattle.names.specs.Inside.{files_seen, IsUnderWay, Proceeds, SeesSame, Never};
 ghost use Rattle.names.specs.Looks.{IsFound, Looks};
 ghost use Rattle.directories.specs.Paths.{names_of};
-ghost use Rattle.names.specs.Ready.{IsUndone, LeavesTree, MayGoOn};
+ghost use Rattle.names.specs.Ready.{HasNoCall, IsReady, IsUndone, LeavesTree, MayGoOn};
 ghost use Rattle.directories.specs.Trees.{IsFile};
 ghost use Rattle.directories.specs.Walks.{Finds, IsUnfound, IsUnlisted, Lists};
 
@@ -44,7 +44,7 @@ impl Change for FindFile {
 
     ghost refuses = { λ find. IsUnfound };
 
-    ghost fills = { λ find. ⊥ };
+    ghost hinders = { λ find files. Never };
 
     fn apply<D: Disk>(&self, tree: &mut Tree<D>, _alloc: Global, names: &[Name]) -> Asked<u32> {
         tree.walk(names)
@@ -62,7 +62,7 @@ impl Change for LookAtFile {
 
     ghost refuses = { λ look. IsUnfound };
 
-    ghost fills = { λ look. ⊥ };
+    ghost hinders = { λ look files. Never };
 
     fn apply<D: Disk>(&self, tree: &mut Tree<D>, _alloc: Global, names: &[Name]) -> Asked<Found> {
         match tree.walk(names)? {
@@ -86,7 +86,7 @@ impl Change for ListDirectory {
 
     ghost refuses = { λ list. IsUnlisted };
 
-    ghost fills = { λ list. ⊥ };
+    ghost hinders = { λ list files. Never };
 
     fn apply<D: Disk>(&self, tree: &mut Tree<D>, _alloc: Global, names: &[Name]) -> Asked<Content> {
         match tree.walk(names)? {
@@ -111,11 +111,15 @@ impl<D: Disk> Tree<D> {
     pub fn lookup(&mut self, alloc: Global, path: &[u8]) -> Result<u32, TreeFault>
         requires ready { MayGoOn D.Disk self.old.kernel self.old.calls_left }
         ensures ready { MayGoOn D.Disk self.new.kernel self.new.calls_left }
+        ensures done { OnOk result (IsReady D.Disk self.new.kernel self.new.calls_left) }
         ensures finds { IfOk result (λ number. Finds (names_of path.now) number
             (files_of (image_on D.image self.old.kernel))
             (files_of (image_on D.image self.new.kernel))) }
-        ensures refused { IfErr result (IsUndone D.Disk path.now (IsUnfound (names_of path.now))
+        ensures refused { IsReady D.Disk self.old.kernel self.old.calls_left → IfErr result
+            (IsUndone D.Disk path.now (IsUnfound (names_of path.now))
             self.old.kernel self.new.kernel) }
+        ensures none { self.old.calls_left ≡ 0
+            → HasNoCall self.old.kernel self.new.kernel result }
         ensures leaves { 0 < self.old.calls_left → LeavesTree D.Disk (Finds (names_of path.now))
             self.old.kernel self.new.kernel }
         ensures stays { StaysOver D.Disk self.old.kernel self.new.kernel }
@@ -134,11 +138,15 @@ impl<D: Disk> Tree<D> {
     pub fn look(&mut self, alloc: Global, path: &[u8]) -> Result<Found, TreeFault>
         requires ready { MayGoOn D.Disk self.old.kernel self.old.calls_left }
         ensures ready { MayGoOn D.Disk self.new.kernel self.new.calls_left }
+        ensures done { OnOk result (IsReady D.Disk self.new.kernel self.new.calls_left) }
         ensures looks { IfOk result (λ found. Looks (names_of path.now) found
             (files_of (image_on D.image self.old.kernel))
             (files_of (image_on D.image self.new.kernel))) }
-        ensures refused { IfErr result (IsUndone D.Disk path.now (IsUnfound (names_of path.now))
+        ensures refused { IsReady D.Disk self.old.kernel self.old.calls_left → IfErr result
+            (IsUndone D.Disk path.now (IsUnfound (names_of path.now))
             self.old.kernel self.new.kernel) }
+        ensures none { self.old.calls_left ≡ 0
+            → HasNoCall self.old.kernel self.new.kernel result }
         ensures leaves { 0 < self.old.calls_left → LeavesTree D.Disk (Looks (names_of path.now))
             self.old.kernel self.new.kernel }
         ensures stays { StaysOver D.Disk self.old.kernel self.new.kernel }
@@ -178,11 +186,15 @@ impl<D: Disk> Tree<D> {
     pub fn list(&mut self, alloc: Global, path: &[u8]) -> Result<Content, TreeFault>
         requires ready { MayGoOn D.Disk self.old.kernel self.old.calls_left }
         ensures ready { MayGoOn D.Disk self.new.kernel self.new.calls_left }
+        ensures done { OnOk result (IsReady D.Disk self.new.kernel self.new.calls_left) }
         ensures lists { IfOk result (λ bytes. Lists (names_of path.now) bytes
             (files_of (image_on D.image self.old.kernel))
             (files_of (image_on D.image self.new.kernel))) }
-        ensures refused { IfErr result (IsUndone D.Disk path.now (IsUnlisted (names_of path.now))
+        ensures refused { IsReady D.Disk self.old.kernel self.old.calls_left → IfErr result
+            (IsUndone D.Disk path.now (IsUnlisted (names_of path.now))
             self.old.kernel self.new.kernel) }
+        ensures none { self.old.calls_left ≡ 0
+            → HasNoCall self.old.kernel self.new.kernel result }
         ensures leaves { 0 < self.old.calls_left → LeavesTree D.Disk (Lists (names_of path.now))
             self.old.kernel self.new.kernel }
         ensures stays { StaysOver D.Disk self.old.kernel self.new.kernel }

@@ -6,9 +6,10 @@ ghost use Rattle.model.specs.Files.{Files, files_of};
 ghost use Rattle.model.specs.declared.types.image.Form.{Form};
 ghost use Rattle.directories.specs.Counts.{AreCounted};
 ghost use Rattle.directories.specs.declared.refusal.Refusal.{Refusal};
+ghost use Rattle.names.specs.declared.refusal.TreeFault.{TreeFault as SomeTreeFault};
 ghost use Rattle.names.specs.Inside.{files_seen, form_seen, IsUnderWay, ProceedsOr};
 ghost use Rattle.directories.specs.Paths.{names_of};
-ghost use Rattle.names.specs.Ready.{answer_of, Happens, IsReady, IsUnansweredOr, IsUndoneOr, LeavesTree, MayGoOn, TreeStays};
+ghost use Rattle.names.specs.Ready.{answer_of, Happens, HasNoCall, IsReady, IsUnansweredOr, IsUndoneOr, LeavesTree, MayGoOn, TreeStays};
 ghost use Rattle.directories.specs.Trees.{IsTree};
 ghost use Rattle.directories.specs.Walks.{AtLast, IsUndoneIn};
 
@@ -29,16 +30,16 @@ pub(crate) trait Change {
     // Why it is refused.
     ghost refuses: { Self → List (List ℕ) → Files → Refusal → Type 0 };
 
-    // That it writes bytes into files which were there, for which no block may be free.
-    ghost fills: { Self → Type 0 };
+    // What else may hinder it, over those files.
+    ghost hinders: { Self → Files → SomeTreeFault → Type 0 };
 
     // Makes it in the transaction under way.
     fn apply<D: Disk>(&self, tree: &mut Tree<D>, alloc: Global, names: &[Name]) -> Asked<Self::Made>
         requires way { IsUnderWay D.Disk tree.old.kernel tree.old.calls_left }
         requires tree { IsTree (files_seen D.image tree.old.kernel) }
         requires counted { AreCounted (files_seen D.image tree.old.kernel) }
-        ensures goes { ProceedsOr (fills self.now) D.Disk result
-            tree.old.kernel tree.new.kernel tree.new.calls_left }
+        ensures goes { ProceedsOr (hinders self.now (files_seen D.image tree.old.kernel)) D.Disk
+            result tree.old.kernel tree.new.kernel tree.new.calls_left }
         ensures tree { OnOk result (TreeStays D.image tree.old.kernel tree.new.kernel) }
         ensures made { IfOk result (Happens
             (makes self.now (form_seen D.image tree.old.kernel) names.now)
@@ -57,8 +58,8 @@ pub(crate) trait ChangeIn {
     // Why it is refused.
     ghost refuses: { Self → Files → ℕ → List ℕ → Refusal → Type 0 };
 
-    // That it writes bytes into files which were there, for which no block may be free.
-    ghost fills: { Self → Type 0 };
+    // What else may hinder it.
+    ghost hinders: { Self → SomeTreeFault → Type 0 };
 
     // Makes it in the transaction under way.
     fn apply_in<D: Disk>(
@@ -71,7 +72,7 @@ pub(crate) trait ChangeIn {
         requires way { IsUnderWay D.Disk tree.old.kernel tree.old.calls_left }
         requires tree { IsTree (files_seen D.image tree.old.kernel) }
         requires counted { AreCounted (files_seen D.image tree.old.kernel) }
-        ensures goes { ProceedsOr (fills self.now) D.Disk result
+        ensures goes { ProceedsOr (hinders self.now) D.Disk result
             tree.old.kernel tree.new.kernel tree.new.calls_left }
         ensures tree { OnOk result (TreeStays D.image tree.old.kernel tree.new.kernel) }
         ensures made { IfOk result (Happens (makes self.now from name.now)
@@ -92,7 +93,7 @@ impl<C: ChangeIn> Change for Last<C> {
 
     ghost refuses = { λ last names. IsUndoneIn (C.refuses last.change) names };
 
-    ghost fills = { λ last. C.fills last.change };
+    ghost hinders = { λ last files. C.hinders last.change };
 
     fn apply<D: Disk>(&self, tree: &mut Tree<D>, alloc: Global, names: &[Name]) -> Asked<C::Made> {
         if names.is_empty() {
@@ -121,8 +122,12 @@ impl<D: Disk> Tree<D> {
             C.makes change.now (form_seen D.image self.old.kernel) (names_of path.now) made
             (files_of (image_on D.image self.old.kernel))
             (files_of (image_on D.image self.new.kernel))) }
-        ensures refused { IfErr result (IsUndoneOr (C.fills change.now) D.Disk path.now
+        ensures refused { IsReady D.Disk self.old.kernel self.old.calls_left → IfErr result
+            (IsUndoneOr (C.hinders change.now
+            (files_of (image_on D.image self.old.kernel))) D.Disk path.now
             (C.refuses change.now (names_of path.now)) self.old.kernel self.new.kernel) }
+        ensures none { self.old.calls_left ≡ 0
+            → HasNoCall self.old.kernel self.new.kernel result }
         ensures leaves { 0 < self.old.calls_left → LeavesTree D.Disk
             (C.makes change.now (form_seen D.image self.old.kernel) (names_of path.now))
             self.old.kernel self.new.kernel }
@@ -151,8 +156,12 @@ impl<D: Disk> Tree<D> {
             C.makes change.now (form_seen D.image self.old.kernel) names.now made
             (files_of (image_on D.image self.old.kernel))
             (files_of (image_on D.image self.new.kernel))) }
-        ensures refused { IfErr result (IsUnansweredOr (C.fills change.now) D.Disk
+        ensures refused { IsReady D.Disk self.old.kernel self.old.calls_left → IfErr result
+            (IsUnansweredOr (C.hinders change.now
+            (files_of (image_on D.image self.old.kernel))) D.Disk
             (C.refuses change.now names.now) self.old.kernel self.new.kernel) }
+        ensures none { self.old.calls_left ≡ 0
+            → HasNoCall self.old.kernel self.new.kernel result }
         ensures leaves { 0 < self.old.calls_left → LeavesTree D.Disk
             (C.makes change.now (form_seen D.image self.old.kernel) names.now)
             self.old.kernel self.new.kernel }

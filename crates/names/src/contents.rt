@@ -4,9 +4,9 @@ ghost use Rattle.calls.specs.Calls.{image_on};
 ghost use Rattle.calls.specs.Stopped.{StaysOver};
 ghost use Rattle.model.specs.Files.{files_of};
 ghost use Rattle.names.specs.Contents.{Empties, HasOnly, IsNoPlain, LeadsToNoPlain, Reads, ReadsOf};
-ghost use Rattle.names.specs.Inside.{files_seen, IsUnderWay, Proceeds, SeesSame};
+ghost use Rattle.names.specs.Inside.{files_seen, IsUnderWay, Proceeds, SeesSame, Never};
 ghost use Rattle.directories.specs.Paths.{names_of};
-ghost use Rattle.names.specs.Ready.{Happens, IsUndone, LeavesTree, MayGoOn, TreeStays};
+ghost use Rattle.names.specs.Ready.{Happens, HasNoCall, IsReady, IsUndone, LeavesTree, MayGoOn, TreeStays};
 ghost use Rattle.directories.specs.Trees.{IsDirectory, IsFile, IsTree};
 
 use crate::changing::Change;
@@ -32,7 +32,7 @@ impl Change for ReadFile {
 
     ghost refuses = { λ read. LeadsToNoPlain };
 
-    ghost fills = { λ read. ⊥ };
+    ghost hinders = { λ read files. Never };
 
     fn apply<D: Disk>(&self, tree: &mut Tree<D>, _alloc: Global, names: &[Name]) -> Asked<Content> {
         match tree.walk(names)? {
@@ -53,7 +53,7 @@ impl Change for EmptyFile {
 
     ghost refuses = { λ empty. LeadsToNoPlain };
 
-    ghost fills = { λ empty. ⊥ };
+    ghost hinders = { λ empty files. Never };
 
     fn apply<D: Disk>(&self, tree: &mut Tree<D>, _alloc: Global, names: &[Name]) -> Asked<()> {
         match tree.walk(names)? {
@@ -75,11 +75,15 @@ impl<D: Disk> Tree<D> {
     pub fn empty(&mut self, alloc: Global, path: &[u8]) -> Result<(), TreeFault>
         requires ready { MayGoOn D.Disk self.old.kernel self.old.calls_left }
         ensures ready { MayGoOn D.Disk self.new.kernel self.new.calls_left }
+        ensures done { OnOk result (IsReady D.Disk self.new.kernel self.new.calls_left) }
         ensures empties { IfOk result (λ done. Empties (names_of path.now) done
             (files_of (image_on D.image self.old.kernel))
             (files_of (image_on D.image self.new.kernel))) }
-        ensures refused { IfErr result (IsUndone D.Disk path.now
+        ensures refused { IsReady D.Disk self.old.kernel self.old.calls_left → IfErr result
+            (IsUndone D.Disk path.now
             (LeadsToNoPlain (names_of path.now)) self.old.kernel self.new.kernel) }
+        ensures none { self.old.calls_left ≡ 0
+            → HasNoCall self.old.kernel self.new.kernel result }
         ensures leaves { 0 < self.old.calls_left → LeavesTree D.Disk (Empties (names_of path.now))
             self.old.kernel self.new.kernel }
         ensures stays { StaysOver D.Disk self.old.kernel self.new.kernel }
@@ -122,11 +126,15 @@ impl<D: Disk> Tree<D> {
     ) -> Result<Content, TreeFault>
         requires ready { MayGoOn D.Disk self.old.kernel self.old.calls_left }
         ensures ready { MayGoOn D.Disk self.new.kernel self.new.calls_left }
+        ensures done { OnOk result (IsReady D.Disk self.new.kernel self.new.calls_left) }
         ensures reads { IfOk result (λ bytes. Reads (names_of path.now) offset count bytes
             (files_of (image_on D.image self.old.kernel))
             (files_of (image_on D.image self.new.kernel))) }
-        ensures refused { IfErr result (IsUndone D.Disk path.now
+        ensures refused { IsReady D.Disk self.old.kernel self.old.calls_left → IfErr result
+            (IsUndone D.Disk path.now
             (LeadsToNoPlain (names_of path.now)) self.old.kernel self.new.kernel) }
+        ensures none { self.old.calls_left ≡ 0
+            → HasNoCall self.old.kernel self.new.kernel result }
         ensures leaves { 0 < self.old.calls_left → LeavesTree D.Disk
             (Reads (names_of path.now) offset count) self.old.kernel self.new.kernel }
         ensures stays { StaysOver D.Disk self.old.kernel self.new.kernel }

@@ -4,10 +4,10 @@ ghost use Rattle.calls.specs.Calls.{image_on};
 ghost use Rattle.calls.specs.Stopped.{StaysOver};
 ghost use Rattle.model.specs.Files.{file_in, files_of};
 ghost use Rattle.directories.specs.Counts.{AreCounted};
-ghost use Rattle.names.specs.Inside.{files_seen, IsUnderWay, Proceeds, SeesSame};
+ghost use Rattle.names.specs.Inside.{files_seen, IsUnderWay, Proceeds, SeesSame, Never};
 ghost use Rattle.names.specs.Linking.{HasMore, IsNotLinkedAs, IsNotLinkedAt, IsNotLinkedIn, LinksAt, LinksIn};
 ghost use Rattle.directories.specs.Paths.{names_of};
-ghost use Rattle.names.specs.Ready.{Happens, IsUnanswered, LeavesTree, MayGoOn, TreeStays};
+ghost use Rattle.names.specs.Ready.{Happens, HasNoCall, IsReady, IsUnanswered, LeavesTree, MayGoOn, TreeStays};
 ghost use Rattle.names.specs.Renaming.{IsUndoneAtBoth};
 ghost use Rattle.directories.specs.TreeChanges.{Relinks};
 ghost use Rattle.directories.specs.Trees.{links_of, IsFile, IsTree};
@@ -37,7 +37,7 @@ impl<'a> Change for LinkFile<'a> {
 
     ghost refuses = { λ link names. IsNotLinkedAt names link.into.now };
 
-    ghost fills = { λ link. ⊥ };
+    ghost hinders = { λ link files. Never };
 
     fn apply<D: Disk>(&self, tree: &mut Tree<D>, alloc: Global, names: &[Name]) -> Asked<()> {
         if self.into.is_empty() {
@@ -71,7 +71,7 @@ impl<'a> Change for LinkIn<'a> {
 
     ghost refuses = { λ link names. IsNotLinkedAs link.number link.to link.name.now };
 
-    ghost fills = { λ link. ⊥ };
+    ghost hinders = { λ link files. Never };
 
     fn apply<D: Disk>(&self, tree: &mut Tree<D>, alloc: Global, _names: &[Name]) -> Asked<()> {
         match tree.seen(self.number)? {
@@ -96,11 +96,15 @@ impl<D: Disk> Tree<D> {
     pub fn link(&mut self, alloc: Global, path: &[u8], into: &[u8]) -> Result<(), TreeFault>
         requires ready { MayGoOn D.Disk self.old.kernel self.old.calls_left }
         ensures ready { MayGoOn D.Disk self.new.kernel self.new.calls_left }
+        ensures done { OnOk result (IsReady D.Disk self.new.kernel self.new.calls_left) }
         ensures links { IfOk result (λ done. LinksAt (names_of path.now) (names_of into.now) done
             (files_of (image_on D.image self.old.kernel))
             (files_of (image_on D.image self.new.kernel))) }
-        ensures refused { IfErr result (IsUndoneAtBoth D.Disk path.now into.now
+        ensures refused { IsReady D.Disk self.old.kernel self.old.calls_left → IfErr result
+            (IsUndoneAtBoth D.Disk path.now into.now
             (IsNotLinkedAt (names_of path.now) (names_of into.now)) self.old.kernel self.new.kernel) }
+        ensures none { self.old.calls_left ≡ 0
+            → HasNoCall self.old.kernel self.new.kernel result }
         ensures leaves { 0 < self.old.calls_left → LeavesTree D.Disk
             (LinksAt (names_of path.now) (names_of into.now)) self.old.kernel self.new.kernel }
         ensures stays { StaysOver D.Disk self.old.kernel self.new.kernel }
@@ -136,11 +140,15 @@ impl<D: Disk> Tree<D> {
     ) -> Result<(), TreeFault>
         requires ready { MayGoOn D.Disk self.old.kernel self.old.calls_left }
         ensures ready { MayGoOn D.Disk self.new.kernel self.new.calls_left }
+        ensures done { OnOk result (IsReady D.Disk self.new.kernel self.new.calls_left) }
         ensures links { IfOk result (λ done. LinksIn number to name.now done
             (files_of (image_on D.image self.old.kernel))
             (files_of (image_on D.image self.new.kernel))) }
-        ensures refused { IfErr result (IsUnanswered D.Disk (IsNotLinkedAs number to name.now)
+        ensures refused { IsReady D.Disk self.old.kernel self.old.calls_left → IfErr result
+            (IsUnanswered D.Disk (IsNotLinkedAs number to name.now)
             self.old.kernel self.new.kernel) }
+        ensures none { self.old.calls_left ≡ 0
+            → HasNoCall self.old.kernel self.new.kernel result }
         ensures leaves { 0 < self.old.calls_left → LeavesTree D.Disk (LinksIn number to name.now)
             self.old.kernel self.new.kernel }
         ensures stays { StaysOver D.Disk self.old.kernel self.new.kernel }

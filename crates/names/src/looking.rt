@@ -1,5 +1,6 @@
 // Looks at the directories of a tree, in a transaction.
-ghost use Rattle.std.specs.Prelude.{◌≡◌, ◌++◌, length, IfOk, OnOk};
+ghost use Rattle.std.specs.Prelude.{◌≡◌, ◌<◌, ◌++◌, length, IfOk, OnOk};
+ghost use Rattle.calls.specs.Calls.{call_count};
 ghost use Rattle.model.specs.Operations.{part_of, transfer_limit};
 ghost use Rattle.names.specs.Inside.{files_seen, IsUnderWay, Proceeds, SeesSame};
 ghost use Rattle.directories.specs.Trees.{directory_in, root, IsDirectory, IsTree};
@@ -23,6 +24,7 @@ impl<D: Disk> Tree<D> {
         ensures same { OnOk result (SeesSame D.image self.old.kernel self.new.kernel) }
         ensures found { IfOk result (IsDirectoryFound
             (files_seen D.image self.old.kernel) number) }
+        ensures answered { OnOk result (call_count self.old.kernel < call_count self.new.kernel) }
     {
         let Reply::StatOf(kind, _links, size) = self.called(Op::Stat(number))? else {
             return Ok(None);
@@ -103,6 +105,7 @@ impl<D: Disk> Tree<D> {
         ensures same { OnOk result (SeesSame D.image self.old.kernel self.new.kernel) }
         ensures led { IfOk result (λ led.
             led ≡ stepped (files_seen D.image self.old.kernel) from name.now) }
+        ensures answered { OnOk result (call_count self.old.kernel < call_count self.new.kernel) }
     {
         let Some(bytes) = self.directory(from)? else {
             return Ok(Err(Refusal::NotADirectory));

@@ -6,11 +6,11 @@ ghost use Rattle.model.specs.Files.{files_of};
 ghost use Rattle.model.specs.Operations.{is_kind};
 ghost use Rattle.directories.specs.Entries.{entry_size};
 ghost use Rattle.model.specs.declared.types.image.File.{File};
-ghost use Rattle.names.specs.Inside.{files_seen, IsUnderWay, Proceeds, SeesSame};
+ghost use Rattle.names.specs.Inside.{files_seen, IsUnderWay, Proceeds, SeesSame, Never};
 ghost use Rattle.directories.specs.Trees.{IsFile};
 ghost use Rattle.names.specs.Making.{file_kind, HasCreated, HasCreatedNew, HasEntered, HasParentCount, IsNewFile, IsUnmadeIn, IsUnmadeOr, MakesAt, Settles, Uncreates, unlinked};
 ghost use Rattle.directories.specs.Paths.{names_of};
-ghost use Rattle.names.specs.Ready.{IsReady, IsUndone, LeavesTree, MayGoOn};
+ghost use Rattle.names.specs.Ready.{HasNoCall, IsReady, IsUndone, LeavesTree, MayGoOn};
 ghost use Rattle.directories.specs.TreeChanges.{empty_file, AddsName};
 ghost use Rattle.directories.specs.Walks.{IsUndoneIn};
 
@@ -89,7 +89,7 @@ impl<N: New> ChangeIn for Make<N> {
 
     ghost refuses = { λ make. IsUnmadeOr (N.counts make.kind) (N.blocks make.kind) };
 
-    ghost fills = { λ make. ⊥ };
+    ghost hinders = { λ make. Never };
 
     fn apply_in<D: Disk>(
         &self,
@@ -149,8 +149,11 @@ impl<D: Disk> Tree<D> {
         ensures makes { IfOk result (λ number. MakesAt (names_of path.now) number
             (files_of (image_on D.image self.old.kernel))
             (files_of (image_on D.image self.new.kernel))) }
-        ensures refused { IfErr result (IsUndone D.Disk path.now
+        ensures refused { IsReady D.Disk self.old.kernel self.old.calls_left → IfErr result
+            (IsUndone D.Disk path.now
             (IsUndoneIn IsUnmadeIn (names_of path.now)) self.old.kernel self.new.kernel) }
+        ensures none { self.old.calls_left ≡ 0
+            → HasNoCall self.old.kernel self.new.kernel result }
         ensures leaves { 0 < self.old.calls_left → LeavesTree D.Disk (MakesAt (names_of path.now))
             self.old.kernel self.new.kernel }
         ensures stays { StaysOver D.Disk self.old.kernel self.new.kernel }

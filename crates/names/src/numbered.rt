@@ -5,9 +5,9 @@ ghost use Rattle.calls.specs.Calls.{image_on};
 ghost use Rattle.calls.specs.Stopped.{StaysOver};
 ghost use Rattle.model.specs.Files.{files_of};
 ghost use Rattle.names.specs.Contents.{ReadsOf};
-ghost use Rattle.names.specs.Inside.{files_seen, IsUnderWay, Proceeds, SeesSame};
+ghost use Rattle.names.specs.Inside.{files_seen, IsUnderWay, Proceeds, SeesSame, Never};
 ghost use Rattle.names.specs.Numbered.{IsNoDirectory, IsNoFile, IsNoFileOrDirectory, IsUnseenIn, ListsAt, LooksAt, LooksIn};
-ghost use Rattle.names.specs.Ready.{Happens, IsUnanswered, LeavesTree, MayGoOn, TreeStays};
+ghost use Rattle.names.specs.Ready.{Happens, HasNoCall, IsReady, IsUnanswered, LeavesTree, MayGoOn, TreeStays};
 ghost use Rattle.directories.specs.Trees.{IsTree};
 
 use crate::asking::Found;
@@ -33,7 +33,7 @@ impl Change for LookAt {
 
     ghost refuses = { λ look names. IsNoFile look.number };
 
-    ghost fills = { λ look. ⊥ };
+    ghost hinders = { λ look files. Never };
 
     fn apply<D: Disk>(&self, tree: &mut Tree<D>, _alloc: Global, _names: &[Name]) -> Asked<Found> {
         tree.seen(self.number)
@@ -54,7 +54,7 @@ impl<'a> Change for LookIn<'a> {
 
     ghost refuses = { λ look names. IsUnseenIn look.from look.name.now };
 
-    ghost fills = { λ look. ⊥ };
+    ghost hinders = { λ look files. Never };
 
     fn apply<D: Disk>(&self, tree: &mut Tree<D>, _alloc: Global, _names: &[Name]) -> Asked<Found> {
         match tree.step(self.from, self.name)? {
@@ -77,7 +77,7 @@ impl Change for ListAt {
 
     ghost refuses = { λ list names. IsNoDirectory list.number };
 
-    ghost fills = { λ list. ⊥ };
+    ghost hinders = { λ list files. Never };
 
     fn apply<D: Disk>(
         &self,
@@ -107,7 +107,7 @@ impl Change for ReadAt {
 
     ghost refuses = { λ read names. IsNoFileOrDirectory read.number };
 
-    ghost fills = { λ read. ⊥ };
+    ghost hinders = { λ read files. Never };
 
     fn apply<D: Disk>(
         &self,
@@ -139,11 +139,15 @@ impl<D: Disk> Tree<D> {
     pub fn look_at(&mut self, alloc: Global, number: u32) -> Result<Found, TreeFault>
         requires ready { MayGoOn D.Disk self.old.kernel self.old.calls_left }
         ensures ready { MayGoOn D.Disk self.new.kernel self.new.calls_left }
+        ensures done { OnOk result (IsReady D.Disk self.new.kernel self.new.calls_left) }
         ensures looks { IfOk result (λ found. LooksAt number found
             (files_of (image_on D.image self.old.kernel))
             (files_of (image_on D.image self.new.kernel))) }
-        ensures refused { IfErr result (IsUnanswered D.Disk (IsNoFile number)
+        ensures refused { IsReady D.Disk self.old.kernel self.old.calls_left → IfErr result
+            (IsUnanswered D.Disk (IsNoFile number)
             self.old.kernel self.new.kernel) }
+        ensures none { self.old.calls_left ≡ 0
+            → HasNoCall self.old.kernel self.new.kernel result }
         ensures leaves { 0 < self.old.calls_left → LeavesTree D.Disk (LooksAt number)
             self.old.kernel self.new.kernel }
         ensures stays { StaysOver D.Disk self.old.kernel self.new.kernel }
@@ -161,11 +165,15 @@ impl<D: Disk> Tree<D> {
     pub fn look_in(&mut self, alloc: Global, from: u32, name: &Name) -> Result<Found, TreeFault>
         requires ready { MayGoOn D.Disk self.old.kernel self.old.calls_left }
         ensures ready { MayGoOn D.Disk self.new.kernel self.new.calls_left }
+        ensures done { OnOk result (IsReady D.Disk self.new.kernel self.new.calls_left) }
         ensures looks { IfOk result (λ found. LooksIn from name.now found
             (files_of (image_on D.image self.old.kernel))
             (files_of (image_on D.image self.new.kernel))) }
-        ensures refused { IfErr result (IsUnanswered D.Disk (IsUnseenIn from name.now)
+        ensures refused { IsReady D.Disk self.old.kernel self.old.calls_left → IfErr result
+            (IsUnanswered D.Disk (IsUnseenIn from name.now)
             self.old.kernel self.new.kernel) }
+        ensures none { self.old.calls_left ≡ 0
+            → HasNoCall self.old.kernel self.new.kernel result }
         ensures leaves { 0 < self.old.calls_left → LeavesTree D.Disk (LooksIn from name.now)
             self.old.kernel self.new.kernel }
         ensures stays { StaysOver D.Disk self.old.kernel self.new.kernel }
@@ -182,11 +190,15 @@ impl<D: Disk> Tree<D> {
     pub fn list_at(&mut self, alloc: Global, number: u32) -> Result<Content, TreeFault>
         requires ready { MayGoOn D.Disk self.old.kernel self.old.calls_left }
         ensures ready { MayGoOn D.Disk self.new.kernel self.new.calls_left }
+        ensures done { OnOk result (IsReady D.Disk self.new.kernel self.new.calls_left) }
         ensures lists { IfOk result (λ bytes. ListsAt number bytes
             (files_of (image_on D.image self.old.kernel))
             (files_of (image_on D.image self.new.kernel))) }
-        ensures refused { IfErr result (IsUnanswered D.Disk (IsNoDirectory number)
+        ensures refused { IsReady D.Disk self.old.kernel self.old.calls_left → IfErr result
+            (IsUnanswered D.Disk (IsNoDirectory number)
             self.old.kernel self.new.kernel) }
+        ensures none { self.old.calls_left ≡ 0
+            → HasNoCall self.old.kernel self.new.kernel result }
         ensures leaves { 0 < self.old.calls_left → LeavesTree D.Disk (ListsAt number)
             self.old.kernel self.new.kernel }
         ensures stays { StaysOver D.Disk self.old.kernel self.new.kernel }
@@ -210,11 +222,15 @@ impl<D: Disk> Tree<D> {
     ) -> Result<Content, TreeFault>
         requires ready { MayGoOn D.Disk self.old.kernel self.old.calls_left }
         ensures ready { MayGoOn D.Disk self.new.kernel self.new.calls_left }
+        ensures done { OnOk result (IsReady D.Disk self.new.kernel self.new.calls_left) }
         ensures reads { IfOk result (λ bytes. ReadsOf number offset count bytes
             (files_of (image_on D.image self.old.kernel))
             (files_of (image_on D.image self.new.kernel))) }
-        ensures refused { IfErr result (IsUnanswered D.Disk (IsNoFileOrDirectory number)
+        ensures refused { IsReady D.Disk self.old.kernel self.old.calls_left → IfErr result
+            (IsUnanswered D.Disk (IsNoFileOrDirectory number)
             self.old.kernel self.new.kernel) }
+        ensures none { self.old.calls_left ≡ 0
+            → HasNoCall self.old.kernel self.new.kernel result }
         ensures leaves { 0 < self.old.calls_left → LeavesTree D.Disk (ReadsOf number offset count)
             self.old.kernel self.new.kernel }
         ensures stays { StaysOver D.Disk self.old.kernel self.new.kernel }

@@ -4,10 +4,10 @@ ghost use Rattle.calls.specs.Calls.{image_on};
 ghost use Rattle.calls.specs.Stopped.{StaysOver};
 ghost use Rattle.model.specs.Files.{files_of};
 ghost use Rattle.names.specs.Contents.{IsNoPlain};
-ghost use Rattle.names.specs.Inside.{files_seen, form_seen, IsUnderWay, Proceeds};
+ghost use Rattle.names.specs.Inside.{files_seen, form_seen, IsUnderWay, Proceeds, Never};
 ghost use Rattle.names.specs.Making.{IsUnmadeDirectoryIn, IsUnmadeIn, MakesDirectoryIn, MakesIn};
 ghost use Rattle.names.specs.Numbered.{EmptiesAt, IsNoFileOrDirectory, WritesSomeOf, some_told};
-ghost use Rattle.names.specs.Ready.{Happens, IsUnanswered, LeavesTree, MayGoOn, TreeStays};
+ghost use Rattle.names.specs.Ready.{Happens, HasNoCall, IsReady, IsUnanswered, LeavesTree, MayGoOn, TreeStays};
 ghost use Rattle.names.specs.Removing.{IsUnremovedIn, RemovesIn};
 ghost use Rattle.directories.specs.Trees.{IsFile, IsTree};
 ghost use Rattle.names.specs.Undirecting.{IsUnemptiedIn, RemovesDirectoryIn};
@@ -42,7 +42,7 @@ impl<'a, C: ChangeIn> Change for At<'a, C> {
 
     ghost refuses = { λ at names files. C.refuses at.change files at.from at.name.now };
 
-    ghost fills = { λ at. C.fills at.change };
+    ghost hinders = { λ at files. C.hinders at.change };
 
     fn apply<D: Disk>(&self, tree: &mut Tree<D>, alloc: Global, _names: &[Name]) -> Asked<C::Made> {
         self.change.apply_in(tree, alloc, self.from, self.name)
@@ -62,7 +62,7 @@ impl Change for EmptyAt {
 
     ghost refuses = { λ empty names. IsNoFileOrDirectory empty.number };
 
-    ghost fills = { λ empty. ⊥ };
+    ghost hinders = { λ empty files. Never };
 
     fn apply<D: Disk>(&self, tree: &mut Tree<D>, _alloc: Global, _names: &[Name]) -> Asked<()> {
         match tree.seen(self.number)? {
@@ -87,7 +87,7 @@ impl<'a> Change for WriteAt<'a> {
 
     ghost refuses = { λ write names. IsNoFileOrDirectory write.number };
 
-    ghost fills = { λ write. ⊥ };
+    ghost hinders = { λ write files. Never };
 
     fn apply<D: Disk>(
         &self,
@@ -112,11 +112,15 @@ impl<D: Disk> Tree<D> {
     pub fn empty_at(&mut self, alloc: Global, number: u32) -> Result<(), TreeFault>
         requires ready { MayGoOn D.Disk self.old.kernel self.old.calls_left }
         ensures ready { MayGoOn D.Disk self.new.kernel self.new.calls_left }
+        ensures done { OnOk result (IsReady D.Disk self.new.kernel self.new.calls_left) }
         ensures empties { IfOk result (λ done. EmptiesAt number done
             (files_of (image_on D.image self.old.kernel))
             (files_of (image_on D.image self.new.kernel))) }
-        ensures refused { IfErr result (IsUnanswered D.Disk (IsNoFileOrDirectory number)
+        ensures refused { IsReady D.Disk self.old.kernel self.old.calls_left → IfErr result
+            (IsUnanswered D.Disk (IsNoFileOrDirectory number)
             self.old.kernel self.new.kernel) }
+        ensures none { self.old.calls_left ≡ 0
+            → HasNoCall self.old.kernel self.new.kernel result }
         ensures leaves { 0 < self.old.calls_left → LeavesTree D.Disk (EmptiesAt number)
             self.old.kernel self.new.kernel }
         ensures stays { StaysOver D.Disk self.old.kernel self.new.kernel }
@@ -140,12 +144,16 @@ impl<D: Disk> Tree<D> {
     ) -> Result<Result<u32, Unwritten>, TreeFault>
         requires ready { MayGoOn D.Disk self.old.kernel self.old.calls_left }
         ensures ready { MayGoOn D.Disk self.new.kernel self.new.calls_left }
+        ensures done { OnOk result (IsReady D.Disk self.new.kernel self.new.calls_left) }
         ensures writes { IfOk result (λ done. WritesSomeOf (form_seen D.image self.old.kernel)
             number offset bytes.now done
             (files_of (image_on D.image self.old.kernel))
             (files_of (image_on D.image self.new.kernel))) }
-        ensures refused { IfErr result (IsUnanswered D.Disk (IsNoFileOrDirectory number)
+        ensures refused { IsReady D.Disk self.old.kernel self.old.calls_left → IfErr result
+            (IsUnanswered D.Disk (IsNoFileOrDirectory number)
             self.old.kernel self.new.kernel) }
+        ensures none { self.old.calls_left ≡ 0
+            → HasNoCall self.old.kernel self.new.kernel result }
         ensures leaves { 0 < self.old.calls_left → LeavesTree D.Disk
             (WritesSomeOf (form_seen D.image self.old.kernel) number offset bytes.now)
             self.old.kernel self.new.kernel }
@@ -172,11 +180,15 @@ impl<D: Disk> Tree<D> {
     pub fn make_in(&mut self, alloc: Global, from: u32, name: &Name) -> Result<u16, TreeFault>
         requires ready { MayGoOn D.Disk self.old.kernel self.old.calls_left }
         ensures ready { MayGoOn D.Disk self.new.kernel self.new.calls_left }
+        ensures done { OnOk result (IsReady D.Disk self.new.kernel self.new.calls_left) }
         ensures makes { IfOk result (λ number. MakesIn from name.now number
             (files_of (image_on D.image self.old.kernel))
             (files_of (image_on D.image self.new.kernel))) }
-        ensures refused { IfErr result (IsUnanswered D.Disk
+        ensures refused { IsReady D.Disk self.old.kernel self.old.calls_left → IfErr result
+            (IsUnanswered D.Disk
             (λ files. IsUnmadeIn files from name.now) self.old.kernel self.new.kernel) }
+        ensures none { self.old.calls_left ≡ 0
+            → HasNoCall self.old.kernel self.new.kernel result }
         ensures leaves { 0 < self.old.calls_left → LeavesTree D.Disk (MakesIn from name.now)
             self.old.kernel self.new.kernel }
         ensures stays { StaysOver D.Disk self.old.kernel self.new.kernel }
@@ -198,11 +210,15 @@ impl<D: Disk> Tree<D> {
     ) -> Result<u16, TreeFault>
         requires ready { MayGoOn D.Disk self.old.kernel self.old.calls_left }
         ensures ready { MayGoOn D.Disk self.new.kernel self.new.calls_left }
+        ensures done { OnOk result (IsReady D.Disk self.new.kernel self.new.calls_left) }
         ensures makes { IfOk result (λ number. MakesDirectoryIn from name.now number
             (files_of (image_on D.image self.old.kernel))
             (files_of (image_on D.image self.new.kernel))) }
-        ensures refused { IfErr result (IsUnanswered D.Disk
+        ensures refused { IsReady D.Disk self.old.kernel self.old.calls_left → IfErr result
+            (IsUnanswered D.Disk
             (λ files. IsUnmadeDirectoryIn files from name.now) self.old.kernel self.new.kernel) }
+        ensures none { self.old.calls_left ≡ 0
+            → HasNoCall self.old.kernel self.new.kernel result }
         ensures leaves { 0 < self.old.calls_left → LeavesTree D.Disk
             (MakesDirectoryIn from name.now) self.old.kernel self.new.kernel }
         ensures stays { StaysOver D.Disk self.old.kernel self.new.kernel }
@@ -222,11 +238,15 @@ impl<D: Disk> Tree<D> {
     pub fn remove_in(&mut self, alloc: Global, from: u32, name: &Name) -> Result<(), TreeFault>
         requires ready { MayGoOn D.Disk self.old.kernel self.old.calls_left }
         ensures ready { MayGoOn D.Disk self.new.kernel self.new.calls_left }
+        ensures done { OnOk result (IsReady D.Disk self.new.kernel self.new.calls_left) }
         ensures removes { IfOk result (λ done. RemovesIn from name.now done
             (files_of (image_on D.image self.old.kernel))
             (files_of (image_on D.image self.new.kernel))) }
-        ensures refused { IfErr result (IsUnanswered D.Disk
+        ensures refused { IsReady D.Disk self.old.kernel self.old.calls_left → IfErr result
+            (IsUnanswered D.Disk
             (λ files. IsUnremovedIn files from name.now) self.old.kernel self.new.kernel) }
+        ensures none { self.old.calls_left ≡ 0
+            → HasNoCall self.old.kernel self.new.kernel result }
         ensures leaves { 0 < self.old.calls_left → LeavesTree D.Disk (RemovesIn from name.now)
             self.old.kernel self.new.kernel }
         ensures stays { StaysOver D.Disk self.old.kernel self.new.kernel }
@@ -251,11 +271,15 @@ impl<D: Disk> Tree<D> {
     ) -> Result<(), TreeFault>
         requires ready { MayGoOn D.Disk self.old.kernel self.old.calls_left }
         ensures ready { MayGoOn D.Disk self.new.kernel self.new.calls_left }
+        ensures done { OnOk result (IsReady D.Disk self.new.kernel self.new.calls_left) }
         ensures removes { IfOk result (λ done. RemovesDirectoryIn from name.now done
             (files_of (image_on D.image self.old.kernel))
             (files_of (image_on D.image self.new.kernel))) }
-        ensures refused { IfErr result (IsUnanswered D.Disk
+        ensures refused { IsReady D.Disk self.old.kernel self.old.calls_left → IfErr result
+            (IsUnanswered D.Disk
             (λ files. IsUnemptiedIn files from name.now) self.old.kernel self.new.kernel) }
+        ensures none { self.old.calls_left ≡ 0
+            → HasNoCall self.old.kernel self.new.kernel result }
         ensures leaves { 0 < self.old.calls_left → LeavesTree D.Disk
             (RemovesDirectoryIn from name.now) self.old.kernel self.new.kernel }
         ensures stays { StaysOver D.Disk self.old.kernel self.new.kernel }
@@ -290,14 +314,11 @@ impl<D: Disk> Tree<D> {
             return Err(TreeFault::Call(TransactionFault::NoMemory));
         };
         let reply = self.called(Op::Write(number, offset, content))?;
-        match some_told(&reply) {
-            Some(done) => Ok(Ok(done)),
-            None => {
-                // A file that is there is written into, so it never comes to that.
-                self.calls_left = 0;
-                Err(TreeFault::NoCall)
-            }
-        }
+        let Some(done) = some_told(&reply) else {
+            // A file that is there is written into, or the reply says why not.
+            unreachable!()
+        };
+        Ok(Ok(done))
     }
 }
 

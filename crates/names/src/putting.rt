@@ -5,10 +5,10 @@ ghost use Rattle.calls.specs.Stopped.{StaysOver};
 ghost use Rattle.model.specs.Files.{files_of};
 ghost use Rattle.model.specs.Operations.{transfer_limit};
 ghost use Rattle.names.specs.Contents.{IsNoPlain};
-ghost use Rattle.names.specs.Inside.{files_seen, IsUnderWay, ProceedsOr};
+ghost use Rattle.names.specs.Inside.{files_seen, IsUnderWay, ProceedsOr, Fills};
 ghost use Rattle.directories.specs.Paths.{names_of};
 ghost use Rattle.names.specs.Putting.{file_of, told, IsUnputIn, PutsAt, PutsIn, Refills};
-ghost use Rattle.names.specs.Ready.{Happens, IsReady, IsUnwritten, LeavesTree, MayGoOn, TreeStays};
+ghost use Rattle.names.specs.Ready.{Happens, HasNoCall, IsReady, IsUnwritten, LeavesTree, MayGoOn, TreeStays};
 ghost use Rattle.directories.specs.Trees.{IsFile, IsTree};
 ghost use Rattle.directories.specs.Walks.{IsUndoneIn};
 
@@ -66,7 +66,7 @@ impl<'a> ChangeIn for PutFile<'a> {
 
     ghost refuses = { λ put. IsUnputIn };
 
-    ghost fills = { λ put. ⊤ };
+    ghost hinders = { λ put. Fills };
 
     fn apply_in<D: Disk>(
         &self,
@@ -119,8 +119,11 @@ impl<D: Disk> Tree<D> {
         ensures puts { IfOk result (λ done. PutsAt bytes.now (names_of path.now) done
             (files_of (image_on D.image self.old.kernel))
             (files_of (image_on D.image self.new.kernel))) }
-        ensures refused { IfErr result (IsUnwritten D.Disk path.now
+        ensures refused { IsReady D.Disk self.old.kernel self.old.calls_left → IfErr result
+            (IsUnwritten D.Disk path.now
             (IsUndoneIn IsUnputIn (names_of path.now)) self.old.kernel self.new.kernel) }
+        ensures none { self.old.calls_left ≡ 0
+            → HasNoCall self.old.kernel self.new.kernel result }
         ensures leaves { 0 < self.old.calls_left → LeavesTree D.Disk
             (PutsAt bytes.now (names_of path.now)) self.old.kernel self.new.kernel }
         ensures stays { StaysOver D.Disk self.old.kernel self.new.kernel }
@@ -137,7 +140,7 @@ impl<D: Disk> Tree<D> {
         requires tree { IsTree (files_seen D.image self.old.kernel) }
         requires there { IsFile (files_seen D.image self.old.kernel) number }
         requires few { length bytes.now ≤ transfer_limit }
-        ensures goes { ProceedsOr ⊤ D.Disk result
+        ensures goes { ProceedsOr Fills D.Disk result
             self.old.kernel self.new.kernel self.new.calls_left }
         ensures tree { OnOk result (TreeStays D.image self.old.kernel self.new.kernel) }
         ensures filled { IfOk result (Happens (Refills number bytes.now) (IsNoPlain number)

@@ -21,7 +21,7 @@ pub enum TreeFault {
     /// them is kept, and behind it no other call is made.
     #[error("no block is free for the bytes")]
     NoSpace,
-    /// A call failed before, or as many were made as a kernel answers.
+    /// A call failed before, or 2^62 were answered, which is as many as a tree makes.
     #[error("no other call may be made")]
     NoCall,
 }

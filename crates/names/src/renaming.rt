@@ -4,9 +4,9 @@ ghost use Rattle.calls.specs.Calls.{image_on};
 ghost use Rattle.calls.specs.Stopped.{StaysOver};
 ghost use Rattle.model.specs.Files.{files_of};
 ghost use Rattle.directories.specs.Counts.{AreCounted};
-ghost use Rattle.names.specs.Inside.{files_seen, IsUnderWay, Proceeds};
+ghost use Rattle.names.specs.Inside.{files_seen, IsUnderWay, Proceeds, Never};
 ghost use Rattle.directories.specs.Paths.{names_of};
-ghost use Rattle.names.specs.Ready.{Happens, LeavesTree, MayGoOn, TreeStays};
+ghost use Rattle.names.specs.Ready.{Happens, HasNoCall, IsReady, LeavesTree, MayGoOn, TreeStays};
 ghost use Rattle.names.specs.Renaming.{IsUndoneAt, IsUndoneAtBoth, IsUnrenamed, Renames, RenamesAt};
 ghost use Rattle.directories.specs.Trees.{IsTree};
 
@@ -30,7 +30,7 @@ impl<'a> Change for RenameFile<'a> {
 
     ghost refuses = { λ rename names. IsUndoneAt names rename.into.now };
 
-    ghost fills = { λ rename. ⊥ };
+    ghost hinders = { λ rename files. Never };
 
     fn apply<D: Disk>(&self, tree: &mut Tree<D>, alloc: Global, names: &[Name]) -> Asked<()> {
         if names.is_empty() {
@@ -73,11 +73,15 @@ impl<D: Disk> Tree<D> {
     pub fn rename(&mut self, alloc: Global, path: &[u8], into: &[u8]) -> Result<(), TreeFault>
         requires ready { MayGoOn D.Disk self.old.kernel self.old.calls_left }
         ensures ready { MayGoOn D.Disk self.new.kernel self.new.calls_left }
+        ensures done { OnOk result (IsReady D.Disk self.new.kernel self.new.calls_left) }
         ensures renames { IfOk result (λ done. RenamesAt (names_of path.now) (names_of into.now) done
             (files_of (image_on D.image self.old.kernel))
             (files_of (image_on D.image self.new.kernel))) }
-        ensures refused { IfErr result (IsUndoneAtBoth D.Disk path.now into.now
+        ensures refused { IsReady D.Disk self.old.kernel self.old.calls_left → IfErr result
+            (IsUndoneAtBoth D.Disk path.now into.now
             (IsUndoneAt (names_of path.now) (names_of into.now)) self.old.kernel self.new.kernel) }
+        ensures none { self.old.calls_left ≡ 0
+            → HasNoCall self.old.kernel self.new.kernel result }
         ensures leaves { 0 < self.old.calls_left → LeavesTree D.Disk
             (RenamesAt (names_of path.now) (names_of into.now)) self.old.kernel self.new.kernel }
         ensures stays { StaysOver D.Disk self.old.kernel self.new.kernel }

@@ -4,9 +4,9 @@ ghost use Rattle.calls.specs.Calls.{image_on};
 ghost use Rattle.calls.specs.Stopped.{StaysOver};
 ghost use Rattle.model.specs.Files.{files_of};
 ghost use Rattle.directories.specs.Counts.{AreCounted};
-ghost use Rattle.names.specs.Inside.{files_seen, IsUnderWay, Proceeds, SeesSame};
-ghost use Rattle.names.specs.Replacing.{Clears, IsReplaceable, IsUncleared, IsUnreplaced, Replaces};
-ghost use Rattle.names.specs.Ready.{Happens, IsUnanswered, LeavesTree, MayGoOn, TreeStays};
+ghost use Rattle.names.specs.Inside.{files_seen, IsUnderWay, Proceeds, SeesSame, Never};
+ghost use Rattle.names.specs.Replacing.{Clears, HindersHalf, IsReplaceable, IsUncleared, IsUnreplaced, Replaces};
+ghost use Rattle.names.specs.Ready.{Happens, HasNoCall, IsReady, IsUnanswered, IsUnansweredOr, LeavesTree, MayGoOn, TreeStays};
 ghost use Rattle.names.specs.Renaming.{IsUnrenamed, Renames};
 ghost use Rattle.directories.specs.Trees.{IsTree};
 
@@ -35,7 +35,7 @@ impl<'a> Change for RenameIn<'a> {
     ghost refuses = { λ rename names files.
         IsUnrenamed files rename.from rename.old.now rename.to rename.name.now };
 
-    ghost fills = { λ rename. ⊥ };
+    ghost hinders = { λ rename files. Never };
 
     fn apply<D: Disk>(&self, tree: &mut Tree<D>, alloc: Global, _names: &[Name]) -> Asked<()> {
         tree.renamed_in(alloc, self.from, self.old, self.to, self.name)
@@ -61,7 +61,7 @@ impl<'a> Change for Replace<'a> {
 
     ghost refuses = { λ r names. IsUnreplaced r.from r.old.now r.to r.name.now r.aside.now r.keeps };
 
-    ghost fills = { λ r. ⊥ };
+    ghost hinders = { λ r. HindersHalf r.from r.old.now r.to r.name.now r.aside.now r.keeps };
 
     fn apply<D: Disk>(&self, tree: &mut Tree<D>, alloc: Global, _names: &[Name]) -> Asked<()> {
         match tree.replaceable(self.from, self.old, self.to, self.name)? {
@@ -190,11 +190,15 @@ impl<D: Disk> Tree<D> {
     ) -> Result<(), TreeFault>
         requires ready { MayGoOn D.Disk self.old.kernel self.old.calls_left }
         ensures ready { MayGoOn D.Disk self.new.kernel self.new.calls_left }
+        ensures done { OnOk result (IsReady D.Disk self.new.kernel self.new.calls_left) }
         ensures renames { IfOk result (λ done. Renames from old.now to name.now done
             (files_of (image_on D.image self.old.kernel))
             (files_of (image_on D.image self.new.kernel))) }
-        ensures refused { IfErr result (IsUnanswered D.Disk
+        ensures refused { IsReady D.Disk self.old.kernel self.old.calls_left → IfErr result
+            (IsUnanswered D.Disk
             (λ files. IsUnrenamed files from old.now to name.now) self.old.kernel self.new.kernel) }
+        ensures none { self.old.calls_left ≡ 0
+            → HasNoCall self.old.kernel self.new.kernel result }
         ensures leaves { 0 < self.old.calls_left → LeavesTree D.Disk
             (Renames from old.now to name.now) self.old.kernel self.new.kernel }
         ensures stays { StaysOver D.Disk self.old.kernel self.new.kernel }
@@ -217,7 +221,8 @@ impl<D: Disk> Tree<D> {
     /// - `Refused`, with the files as they were: `NotDown` where a name is a directory's for itself or for
     ///   its parent, `NotADirectory` and `NotFound` where one leads nowhere, `IsADirectory` where one of
     ///   the files is one; and what hinders that the other file is removed or renamed.
-    /// - `Call`, `NoCall`: as every call of a tree.
+    /// - `Call`, `NoCall`: as every call of a tree. `NoCall` also where the other file lost its name and
+    ///   this one may not get it: nothing of that is kept.
     pub fn replace_in(
         &mut self,
         alloc: Global,
@@ -230,13 +235,18 @@ impl<D: Disk> Tree<D> {
     ) -> Result<(), TreeFault>
         requires ready { MayGoOn D.Disk self.old.kernel self.old.calls_left }
         ensures ready { MayGoOn D.Disk self.new.kernel self.new.calls_left }
+        ensures done { OnOk result (IsReady D.Disk self.new.kernel self.new.calls_left) }
         ensures replaces { IfOk result (λ done.
             Replaces from old.now to name.now aside.now keeps done
             (files_of (image_on D.image self.old.kernel))
             (files_of (image_on D.image self.new.kernel))) }
-        ensures refused { IfErr result (IsUnanswered D.Disk
+        ensures refused { IsReady D.Disk self.old.kernel self.old.calls_left → IfErr result
+            (IsUnansweredOr (HindersHalf from old.now to name.now aside.now keeps
+            (files_of (image_on D.image self.old.kernel))) D.Disk
             (IsUnreplaced from old.now to name.now aside.now keeps)
             self.old.kernel self.new.kernel) }
+        ensures none { self.old.calls_left ≡ 0
+            → HasNoCall self.old.kernel self.new.kernel result }
         ensures leaves { 0 < self.old.calls_left → LeavesTree D.Disk
             (Replaces from old.now to name.now aside.now keeps) self.old.kernel self.new.kernel }
         ensures stays { StaysOver D.Disk self.old.kernel self.new.kernel }

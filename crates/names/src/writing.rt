@@ -5,9 +5,9 @@ ghost use Rattle.calls.specs.Stopped.{StaysOver};
 ghost use Rattle.model.specs.Files.{files_of};
 ghost use Rattle.model.specs.Operations.{where_true};
 ghost use Rattle.names.specs.Contents.{IsNoPlain, LeadsToNoPlain};
-ghost use Rattle.names.specs.Inside.{files_seen, form_seen, IsUnderWay, Proceeds, ProceedsOr};
+ghost use Rattle.names.specs.Inside.{files_seen, form_seen, IsUnderWay, Proceeds, ProceedsOr, Fills};
 ghost use Rattle.directories.specs.Paths.{names_of};
-ghost use Rattle.names.specs.Ready.{Happens, IsReady, IsUnwritten, LeavesTree, MayGoOn, TreeStays};
+ghost use Rattle.names.specs.Ready.{Happens, HasNoCall, IsReady, IsUnwritten, LeavesTree, MayGoOn, TreeStays};
 ghost use Rattle.directories.specs.Trees.{IsFile, IsTree};
 ghost use Rattle.names.specs.Writing.{written, HasWritten, Writes, WritesOf};
 
@@ -50,7 +50,7 @@ impl<'a> Change for WriteFile<'a> {
 
     ghost refuses = { λ write. LeadsToNoPlain };
 
-    ghost fills = { λ write. ⊤ };
+    ghost hinders = { λ write files. Fills };
 
     fn apply<D: Disk>(
         &self,
@@ -91,8 +91,11 @@ impl<D: Disk> Tree<D> {
             (names_of path.now) offset bytes.now done
             (files_of (image_on D.image self.old.kernel))
             (files_of (image_on D.image self.new.kernel))) }
-        ensures refused { IfErr result (IsUnwritten D.Disk path.now
+        ensures refused { IsReady D.Disk self.old.kernel self.old.calls_left → IfErr result
+            (IsUnwritten D.Disk path.now
             (LeadsToNoPlain (names_of path.now)) self.old.kernel self.new.kernel) }
+        ensures none { self.old.calls_left ≡ 0
+            → HasNoCall self.old.kernel self.new.kernel result }
         ensures leaves { 0 < self.old.calls_left → LeavesTree D.Disk
             (Writes (form_seen D.image self.old.kernel) (names_of path.now) offset bytes.now)
             self.old.kernel self.new.kernel }
@@ -112,7 +115,7 @@ impl<D: Disk> Tree<D> {
         requires way { IsUnderWay D.Disk self.old.kernel self.old.calls_left }
         requires tree { IsTree (files_seen D.image self.old.kernel) }
         requires there { IsFile (files_seen D.image self.old.kernel) number }
-        ensures goes { ProceedsOr ⊤ D.Disk result
+        ensures goes { ProceedsOr Fills D.Disk result
             self.old.kernel self.new.kernel self.new.calls_left }
         ensures tree { OnOk result (TreeStays D.image self.old.kernel self.new.kernel) }
         ensures wrote { IfOk result (Happens

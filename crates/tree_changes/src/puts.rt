@@ -1,5 +1,5 @@
 // Bytes put under a path.
-ghost use Rattle.std.specs.Prelude.{◌<◌, ◌≤◌, length, IfErr, IfOk, Ok, OnOk};
+ghost use Rattle.std.specs.Prelude.{◌≡◌, ◌<◌, ◌≤◌, length, IfErr, IfOk, Ok, OnOk};
 ghost use Rattle.calls.specs.Calls.{image_on};
 ghost use Rattle.calls.specs.Stopped.{StaysOver};
 ghost use Rattle.model.specs.Files.{files_of};
@@ -79,10 +79,11 @@ fn put_few<D: Disk>(
 ) -> Result<Option<u32>, ChangeRefusal>
     requires ready { MayGoOn D.Disk tree.old.kernel tree.old.calls_left }
     ensures ready { MayGoOn D.Disk tree.new.kernel tree.new.calls_left }
+    ensures done { OnOk result (IsReady D.Disk tree.new.kernel tree.new.calls_left) }
     ensures puts { IfOk result (λ told. PutsFew path.now bytes.now told
         (files_of (image_on D.image tree.old.kernel))
         (files_of (image_on D.image tree.new.kernel))) }
-    ensures undone { IfErr result
+    ensures undone { IsReady D.Disk tree.old.kernel tree.old.calls_left → IfErr result
         (IsUnputFew D.Disk path.now bytes.now tree.old.kernel tree.new.kernel) }
     ensures cause { IfErr result IsOfTree }
     ensures leaves { 0 < tree.old.calls_left → LeavesMidst D.Disk (PutsAny path.now bytes.now)
@@ -116,8 +117,9 @@ pub fn append_all<D: Disk>(
         path.now bytes.now (piece_count bytes.now)
         (files_of (image_on D.image tree.old.kernel))
         (files_of (image_on D.image tree.new.kernel))) }
-    ensures undone { IfErr result
+    ensures undone { IsReady D.Disk tree.old.kernel tree.old.calls_left → IfErr result
         (StopsWriting D.Disk path.now bytes.now tree.old.kernel tree.new.kernel) }
+    ensures none { tree.old.calls_left ≡ 0 → tree.new.kernel ≡ tree.old.kernel }
     ensures cause { IfErr result IsOfTree }
     ensures leaves { LeavesIfDone D.Disk (WritesSome (form_seen D.image tree.old.kernel)
         path.now bytes.now (piece_count bytes.now)) tree.old.kernel tree.new.kernel }
@@ -146,8 +148,9 @@ fn append<D: Disk>(
         (names_of path.now) from bytes.now (Ok tt)
         (files_of (image_on D.image tree.old.kernel))
         (files_of (image_on D.image tree.new.kernel))) }
-    ensures undone { IfErr result
+    ensures undone { IsReady D.Disk tree.old.kernel tree.old.calls_left → IfErr result
         (IsUnappended D.Disk path.now from bytes.now tree.old.kernel tree.new.kernel) }
+    ensures none { tree.old.calls_left ≡ 0 → tree.new ≡ tree.old }
     ensures cause { IfErr result IsOfTree }
     ensures leaves { LeavesIfDone D.Disk (AnyOf (Writes (form_seen D.image tree.old.kernel)
         (names_of path.now) from bytes.now)) tree.old.kernel tree.new.kernel }

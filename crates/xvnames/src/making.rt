@@ -303,7 +303,7 @@ fn add_all<D: Disk>(
     ensures added { OnOk result (AddsAll (form_seen D.image tree.old.kernel)
         (files_named files.now) (files_of (image_on D.image tree.old.kernel))
         (files_of (image_on D.image tree.new.kernel))) }
-    ensures refused { IfErr result
+    ensures refused { IsReady D.Disk tree.old.kernel tree.old.calls_left → IfErr result
         (StopsAdding D.Disk (files_named files.now) tree.old.kernel tree.new.kernel) }
     ensures cause { IfErr result IsOfTree }
     ensures stays { StaysOver D.Disk tree.old.kernel tree.new.kernel }
@@ -323,8 +323,8 @@ fn add<D: Disk>(alloc: Global, tree: &mut Tree<D>, file: &Named<'_>) -> Result<(
         file.now.name.now file.now.bytes.items
         (files_of (image_on D.image tree.old.kernel))
         (files_of (image_on D.image tree.new.kernel))) }
-    ensures refused { IfErr result (IsUnadded D.Disk file.now.name.now file.now.bytes.items
-        tree.old.kernel tree.new.kernel) }
+    ensures refused { IsReady D.Disk tree.old.kernel tree.old.calls_left → IfErr result
+        (IsUnadded D.Disk file.now.name.now file.now.bytes.items tree.old.kernel tree.new.kernel) }
     ensures cause { IfErr result IsOfTree }
     ensures stays { StaysOver D.Disk tree.old.kernel tree.new.kernel }
 {

@@ -22,6 +22,7 @@ returns-in-Ok-clause-ready g c =
     record {
       rests = c.over.ensures.idle.rests;
       few = c.over.ensures.idle.few;
+      many = c.over.ensures.idle.many;
       sound = subst (λ (y : Image). IsSound y) (sym (ap (image_on g.D.Disk.image) c.over.ensures.kernel)) opened.whole.sound;
       tree = subst (λ (y : Image). IsTree (files_of y)) (sym same) c.requires.tree;
       counted = subst (λ (y : Image). AreCounted (files_of y)) (sym same) c.requires.counted;

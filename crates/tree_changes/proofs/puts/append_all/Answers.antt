@@ -1,4 +1,4 @@
-use Rattle.std.proofs.Common.{◌≡◌, ◌≤◌, ℕ, ◌+◌, ◌*◌, List, length, inl, refl, rules, subst, arith}
+use Rattle.std.proofs.Common.{◌≡◌, ap, ◌∙◌, ◌≤◌, ℕ, ◌+◌, ◌*◌, List, length, inl, refl, rules, subst, arith}
 use Rattle.std.specs.Int.{div_ceil}
 use Rattle.calls.specs.Calls.{image_on}
 use Rattle.model.specs.Files.{files_of}
@@ -9,7 +9,7 @@ use Rattle.tree_changes.proofs.Pieces.{left_by, piece_is, piece_left, piece_writ
 use Rattle.tree_changes.proofs.puts.append_all.Goals as goal
 
 pub loop-piece-init : goal.loop-piece-init
-loop-piece-init g c = record { ready = c.requires.ready; kept = λ is. is; stays = record { opening = refl; name = refl }; leaves = inl refl; writes = refl }
+loop-piece-init g c = record { ready = c.requires.ready; kept = λ is. is; none = λ zero. refl; stays = record { opening = refl; name = refl }; leaves = inl refl; writes = refl }
 
 pub loop-piece-preserved : goal.loop-piece-preserved
 loop-piece-preserved g c =
@@ -20,6 +20,7 @@ loop-piece-preserved g c =
     record {
       ready = c.append.ensures.ready;
       kept = λ is. c.in_ok-append.ensures.done;
+      none = λ zero. c.append.ensures.none (ap (λ t. t.calls_left) (so_far.none zero) ∙ zero) ∙ so_far.none zero;
       stays = over_on g.D.Disk k m e so_far.stays c.append.ensures.stays;
       leaves = piece_left g.D.Disk k m e c.args.path.now c.args.bytes.now c.loop-piece.piece c.min-to.result so_far.stays c.min-to.ensures so_far.writes so_far.leaves c.append.ensures.leaves;
       writes = piece_written g.D.Disk k m c.args.path.now c.args.bytes.now c.loop-piece.piece c.min-to.result so_far.stays c.min-to.ensures _ _ so_far.writes c.in_ok-append.ensures.writes;
@@ -29,7 +30,7 @@ pub returns-in_err-append-clause-stays : goal.returns-in_err-append-clause-stays
 returns-in_err-append-clause-stays g c = over_on g.D.Disk _ c.loop-piece.tree.kernel _ c.loop-piece.invariant.stays c.append.ensures.stays
 
 pub returns-in_err-append-clause-undone : goal.returns-in_err-append-clause-undone
-returns-in_err-append-clause-undone g c =
+returns-in_err-append-clause-undone g c = λ ready.
     let i = c.loop-piece.piece in
     let mid = c.loop-piece.tree.kernel in
     let stops : StopsWriting g.D.Disk c.args.path.now c.args.bytes.now c.args.tree.now.kernel c.append.new.tree.kernel c.in_err-append.field-0.0
@@ -37,7 +38,7 @@ returns-in_err-append-clause-undone g c =
       piece = i;
       mid = mid;
       written = c.loop-piece.invariant.writes;
-      why = subst (λ (piece : List ℕ). IsUnappended g.D.Disk c.args.path.now (i * 3072) piece mid c.append.new.tree.kernel c.in_err-append.field-0.0) (piece_is c.args.bytes.now (i * 3072) c.min-to.result c.min-to.ensures) c.in_err-append.ensures.undone;
+      why = subst (λ (piece : List ℕ). IsUnappended g.D.Disk c.args.path.now (i * 3072) piece mid c.append.new.tree.kernel c.in_err-append.field-0.0) (piece_is c.args.bytes.now (i * 3072) c.min-to.result c.min-to.ensures) (c.in_err-append.ensures.undone (c.loop-piece.invariant.kept ready));
     } in
     search rules
 

@@ -30,14 +30,14 @@ pub returns-clause-stays : goal.returns-clause-stays
 returns-clause-stays g c = over_on g.D.Disk c.args.tree.now.kernel c.make.new.self.kernel c.append_all.new.tree.kernel c.make.ensures.stays c.append_all.ensures.stays
 
 pub returns-in-Err-clause-refused : goal.returns-in-Err-clause-refused
-returns-in-Err-clause-refused g c = inl c.in-Err.ensures.refused
+returns-in-Err-clause-refused g c = λ ready. inl (c.in-Err.ensures.refused ready)
 
 pub returns-clause-refused : goal.returns-clause-refused
-returns-clause-refused g c =
+returns-clause-refused g c = λ ready.
     let name = c.args.file.now.name.now in
     let bytes = c.as_slice.result.now in
     let k = c.args.tree.now.kernel in
     let m = c.append_all.new.tree.kernel in
     subst (λ (bytes : List ℕ). IfErr c.append_all.result (IsUnadded g.D.Disk name bytes k m)) c.as_slice.ensures.value
     (IfErr-weaker c.append_all.result (StopsWriting g.D.Disk name bytes c.make.new.self.kernel m) (IsUnadded g.D.Disk name bytes k m)
-    (λ r stops. inr (c.in_default.field-0, (c.make.new.self.kernel, c.in_default.ensures.makes, stops))) c.append_all.ensures.undone)
+    (λ r stops. inr (c.in_default.field-0, (c.make.new.self.kernel, c.in_default.ensures.makes, stops))) (c.append_all.ensures.undone c.in_default.ensures.done))

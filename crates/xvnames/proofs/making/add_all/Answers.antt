@@ -34,7 +34,7 @@ pub returns-in_err-add-clause-stays : goal.returns-in_err-add-clause-stays
 returns-in_err-add-clause-stays g c = over_on g.D.Disk _ c.loop-file.tree.kernel _ c.loop-file.invariant.stays c.add.ensures.stays
 
 pub returns-in_err-add-clause-refused : goal.returns-in_err-add-clause-refused
-returns-in_err-add-clause-refused g c =
+returns-in_err-add-clause-refused g c = λ ready.
     let files = c.args.files.now in
     let i = c.loop-file.file-index in
     let m = c.loop-file.tree.kernel in
@@ -48,6 +48,6 @@ returns-in_err-add-clause-refused g c =
       split = files_split files i c.file-item.result c.loop-file-test.true;
       mid = m;
       added = c.loop-file.invariant.added;
-      why = subst (λ (file : Named). IsUnadded g.D.Disk file.name.now file.bytes.items m e refusal) c.file-item.is c.in_err-add.ensures.refused;
+      why = subst (λ (file : Named). IsUnadded g.D.Disk file.name.now file.bytes.items m e refusal) c.file-item.is (c.in_err-add.ensures.refused (c.loop-file.invariant.kept ready));
     } in
     search rules

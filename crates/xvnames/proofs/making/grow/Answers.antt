@@ -30,4 +30,4 @@ returns-in-Ok-clause-refused g c =
     let mid = c.make_root.new.self.kernel in
     let m = c.add_all.new.tree.kernel in
     IfErr-weaker c.add_all.result (StopsAdding g.D.Disk named mid m) (IsUngrown g.D.Disk named c.args.tree.now.kernel m)
-    (λ r stops. inr (mid, c.in-Ok.ensures.root, stops)) c.add_all.ensures.refused
+    (λ r stops. inr (mid, c.in-Ok.ensures.root, stops)) (c.add_all.ensures.refused c.in-Ok.ensures.ready)

@@ -1,9 +1,13 @@
-use Rattle.std.proofs.Common.{◌≡◌, ◌+◌, ◌-◌, refl, rules, arith}
-use Rattle.names.proofs.Going.{call_answers, call_broken, call_cause, call_goes, leaves_on, stays_here}
+use Rattle.std.proofs.Common.{◌≡◌, ◌+◌, ◌-◌, refl, arith}
+use Rattle.names.proofs.Going.{call_answers, call_broken, call_cause, call_goes, leaves_on, none_left, stays_here}
 use Rattle.names.proofs.tree.Tree.called.Goals as goal
 
 pub returns-then-self-eq0-clause-goes : goal.returns-then-self-eq0-clause-goes
-returns-then-self-eq0-clause-goes g c = record { on = tt; stays = stays_here g.D.Disk c.args.self.now.kernel; ends = search rules }
+returns-then-self-eq0-clause-goes g c = record {
+  on = tt;
+  stays = stays_here g.D.Disk c.args.self.now.kernel;
+  ends = none_left g.D.Disk c.args.self.now.kernel c.args.self.now.calls_left c.requires c.if-self-eq0.true;
+}
 
 pub returns-in-Ok-clause-goes : goal.returns-in-Ok-clause-goes
 returns-in-Ok-clause-goes g c =

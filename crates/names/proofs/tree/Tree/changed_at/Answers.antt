@@ -1,4 +1,4 @@
-use Rattle.std.proofs.Common.{◌<◌, ap, rules, subst, sym}
+use Rattle.std.proofs.Common.{◌<◌, ap, rules, subst, sym, refl, inr, arith}
 use Rattle.model.specs.Files.{Files}
 use Rattle.model.specs.Layout.{form_of}
 use Rattle.model.specs.declared.types.image.Form.{Form}
@@ -46,3 +46,6 @@ pub committed-requires-clause-counted : goal.committed-requires-clause-counted
 committed-requires-clause-counted g c =
     let some : 0 < c.args.self.now.calls_left = search rules in
     c.in_ok-made.ensures.tree.counted (subst (λ (f : Files). AreCounted f) (sym c.in_ok-begun.ensures.begins.files) (c.requires.ready some).counted)
+
+pub returns-then-self-eq0-clause-refused : goal.returns-then-self-eq0-clause-refused
+returns-then-self-eq0-clause-refused g c = λ ready. (record { image = refl; faults = refl }, inr (omega (arith, ready.many, c.if-self-eq0.true)))

@@ -1,10 +1,13 @@
 use Rattle.std.proofs.Common.{◌≡◌, ◌+◌, ◌-◌, refl, arith}
 use Rattle.names.specs.Inside.{files_seen}
-use Rattle.names.proofs.Going.{commit_broken, commit_ends, commit_leaves, ends_here}
+use Rattle.names.proofs.Going.{commit_broken, commit_ends, commit_leaves, ends_here, none_left}
 use Rattle.names.proofs.tree.Tree.committed.Goals as goal
 
 pub returns-then-self-eq0-clause-leaves : goal.returns-then-self-eq0-clause-leaves
 returns-then-self-eq0-clause-leaves g c = ends_here g.D.Disk c.args.self.now.kernel
+
+pub returns-then-self-eq0-clause-ends : goal.returns-then-self-eq0-clause-ends
+returns-then-self-eq0-clause-ends g c = none_left g.D.Disk c.args.self.now.kernel c.args.self.now.calls_left c.requires.way c.if-self-eq0.true
 
 pub returns-in-Ok-clause-commits : goal.returns-in-Ok-clause-commits
 returns-in-Ok-clause-commits g c =

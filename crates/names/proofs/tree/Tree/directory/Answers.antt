@@ -21,6 +21,7 @@ returns-in_default g c =
       found = untold_directory (files_seen g.D.Disk.image c.args.self.now.kernel) c.args.number c.in_ok-kind.field-0
           (stat_kind g.D.Disk c.args.self.now.kernel c.called.new.self.kernel c.args.number c.in_ok-kind.field-0 c.in_ok-kind.ensures.answers)
           (λ one. absurd (omega arith));
+      answered = omega (arith, c.in_ok-kind.ensures.cause.answered);
     }
 
 pub returns-then-kind-ne-DIRECTORY_KIND-clause-same : goal.returns-then-kind-ne-DIRECTORY_KIND-clause-same

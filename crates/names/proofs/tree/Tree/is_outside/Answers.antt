@@ -1,4 +1,7 @@
-use Rattle.std.proofs.Common.{◌∙◌, refl}
+use Rattle.std.proofs.Common.{◌∙◌, ◌^◌, ◌≤◌, refl, inr, arith}
+use Rattle.calls.specs.Calls.{call_count}
+use Rattle.names.specs.declared.refusal.TreeFault.TheVariants.{NoCall}
+use Rattle.names.proofs.Going.{ends_on}
 use Rattle.names.specs.Inside.{files_seen}
 use Rattle.names.proofs.Rising.{has_parent, inside_itself, parent_decides, parent_there, root_decides, stepped_as}
 use Rattle.names.proofs.tree.Tree.is_outside.Goals as goal
@@ -33,6 +36,7 @@ loop-step-preserved g c =
       way = c.in_ok-parent.ensures.goes.on.way;
       same = c.in_ok-parent.ensures.goes.on.same ∙ c.loop-step.invariant.same;
       opening = c.in_ok-parent.ensures.goes.on.opening ∙ c.loop-step.invariant.opening;
+      answered = omega (arith, c.loop-step.invariant.answered, c.in_ok-parent.ensures.answered);
       files = c.in_ok-parent.ensures.same ∙ c.loop-step.invariant.files;
       stays = record {
         on = λ o same so_far. c.step.ensures.goes.stays.on o (c.loop-step.invariant.same ∙ same) (c.loop-step.invariant.stays.on o same so_far);
@@ -40,4 +44,18 @@ loop-step-preserved g c =
       is = parent_there (files_seen g.D.Disk.image c.args.self.now.kernel) c.args.number c.loop-step.at c.in-Ok.parent c.in_ok-parent.field-0 c.requires.tree
           c.loop-step.invariant.is c.if-at-eq-DIRECTORY.false leads c.in-Ok.is;
       decides = (λ outside. decide.0 (c.loop-step.invariant.decides.0 outside), λ outside. c.loop-step.invariant.decides.1 (decide.1 outside));
+    }
+
+-- each step made a call, and as many were made as a tree makes
+pub returns-clause-goes : goal.returns-clause-goes
+returns-clause-goes g c =
+    let before = c.loop-step.invariant in
+    let spent : 2 ^ 62 ≤ call_count c.loop-step.self.kernel =
+    omega (arith, c.requires.way.many, before.answered, c.loop-step-test.false, c.loop-step.auto._step-end) in
+    record {
+      on = tt;
+      stays = before.stays;
+      ends = ends_on g.D.Disk c.args.self.now.kernel c.loop-step.self.kernel c.loop-step.self.kernel c.args.self.now.calls_left c.loop-step.self.calls_left 0 NoCall
+          c.requires.way (record { way = before.way; same = before.same; opening = before.opening; later = omega (arith, before.answered) })
+          (record { none = refl; broken = (record { image = refl; faults = refl }, inr spent) });
     }

@@ -5,6 +5,6 @@ use Rattle.names.proofs.Renamed.{undone_both}
 use Rattle.names.proofs.tree.Tree.link.Goals as goal
 
 pub returns-in-Ok-clause-refused : goal.returns-in-Ok-clause-refused
-returns-in-Ok-clause-refused g c =
+returns-in-Ok-clause-refused g c = λ ready.
     undone_both g.D.Disk c.args.path.now c.args.into.now (IsNotLinkedAt (names_of c.args.path.now)) (names_of c.args.into.now) c.as_slice.result.now c.args.self.now.kernel
-    c.changed.new.self.kernel c.changed.result (c.as_slice.ensures.value ∙ c.in-Ok.ensures.names) c.changed.ensures.refused
+    c.changed.new.self.kernel c.changed.result (c.as_slice.ensures.value ∙ c.in-Ok.ensures.names) (c.changed.ensures.refused ready)

@@ -1,8 +1,9 @@
-use Rattle.std.proofs.Common.{◌≡◌, ◌∙◌, Result, true, subst, rules}
+use Rattle.std.proofs.Common.{◌≡◌, ◌∙◌, Result, Err, true, sym, subst, rules}
 use Rattle.names.specs.declared.planning.Plan.{Plan}
 use Rattle.directories.specs.declared.refusal.Refusal.{Refusal}
 use Rattle.directories.specs.Counts.{StaysCounted}
-use Rattle.names.specs.Inside.{files_seen}
+use Rattle.names.specs.Inside.{files_seen, Proceeds}
+use Rattle.names.proofs.Going.{ends_on, goes_on, stays_on}
 use Rattle.names.specs.Renaming.{IsPlan, IsPlanned, Renames}
 use Rattle.directories.specs.Trees.{directory_in, number_of, IsDirectory}
 use Rattle.directories.specs.Writes.{NeedsBlock}
@@ -101,3 +102,29 @@ relinked-requires-2-clause-there g c =
     c.in_ok-entered.field-0 c.requires.tree c.requires.apart c.in_ok-plan.ensures.same plan c.in_ok-entered.ensures.entered
     c.entered-2.new.self.kernel c.in_ok-_freed._freed holds c.in_ok-_freed.ensures.entered c.in_ok-entered.ensures.goes.on.opening c.relinked.new.self.kernel c.in-Some.rise.left
     c.in_ok-relinked.ensures.relinks
+
+pub returns-in_err-_turned-clause-goes : goal.returns-in_err-_turned-clause-goes
+returns-in_err-_turned-clause-goes g c =
+    let d = g.D.Disk in
+    let k = c.args.self.now.kernel in
+    let a = c.planned.new.self.kernel in
+    let b = c.entered.new.self.kernel in
+    let e = c.entered-2.new.self.kernel in
+    let r = c.relinked.new.self.kernel in
+    let t = c.relinked-2.new.self.kernel in
+    let m = c.entered-3.new.self.kernel in
+    let one = goes_on d k a b c.planned.new.self.calls_left c.entered.new.self.calls_left c.in_ok-plan.ensures.goes.on c.in_ok-entered.ensures.goes.on in
+    let two = goes_on d k b e c.entered.new.self.calls_left c.entered-2.new.self.calls_left one c.in_ok-_freed.ensures.goes.on in
+    let three = goes_on d k e r c.entered-2.new.self.calls_left c.relinked.new.self.calls_left two c.in_ok-relinked.ensures.goes.on in
+    let four = goes_on d k r t c.relinked.new.self.calls_left c.relinked-2.new.self.calls_left three c.in_ok-relinked-2.ensures.goes.on in
+    let first = stays_on d k a b c.planned.new.self.calls_left c.in_ok-plan.ensures.goes.on c.planned.ensures.goes.stays c.entered.ensures.goes.stays in
+    let second = stays_on d k b e c.entered.new.self.calls_left one first c.entered-2.ensures.goes.stays in
+    let third = stays_on d k e r c.entered-2.new.self.calls_left two second c.relinked.ensures.goes.stays in
+    let fourth = stays_on d k r t c.relinked.new.self.calls_left three third c.relinked-2.ensures.goes.stays in
+    let is : c.from_residual-in_err-_turned.result ≡ Err c.in_err-_turned.field-0.0 = search rules in
+    subst (λ x. Proceeds d x k m c.entered-3.new.self.calls_left) (sym is) (record {
+      on = tt;
+      stays = stays_on d k t m c.relinked-2.new.self.calls_left four fourth c.entered-3.ensures.goes.stays;
+      ends = ends_on d k t m c.args.self.now.calls_left c.relinked-2.new.self.calls_left c.entered-3.new.self.calls_left c.in_err-_turned.field-0.0
+          c.requires.way four c.in_err-_turned.ensures.goes.ends;
+    })

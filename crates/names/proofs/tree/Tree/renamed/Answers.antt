@@ -1,6 +1,7 @@
-use Rattle.std.proofs.Common.{◌∙◌, sym, rules}
+use Rattle.std.proofs.Common.{◌≡◌, ◌∙◌, Err, sym, subst, rules}
 use Rattle.directories.specs.Counts.{StaysCounted}
-use Rattle.names.specs.Inside.{files_seen, form_seen}
+use Rattle.names.specs.Inside.{files_seen, form_seen, Proceeds}
+use Rattle.names.proofs.Going.{ends_on, goes_on, stays_on}
 use Rattle.directories.specs.Trees.{IsDown}
 use Rattle.names.proofs.Entering.{found_fits}
 use Rattle.names.proofs.Renamed.{freed_directory, freed_fits, freed_links, lookup_used, renamed_whole}
@@ -59,3 +60,41 @@ returns-clause-tree g c = (whole g c).1
 
 pub returns-clause-renamed : goal.returns-clause-renamed
 returns-clause-renamed g c = (whole g c).0
+
+pub returns-clause-goes : goal.returns-clause-goes
+returns-clause-goes g c =
+    let d = g.D.Disk in
+    let k = c.args.self.now.kernel in
+    let a = c.directory.new.self.kernel in
+    let b = c.entered.new.self.kernel in
+    let t = c.tidy_directory.new.self.kernel in
+    let m = c.entered-2.new.self.kernel in
+    let one = goes_on d k a b c.directory.new.self.calls_left c.entered.new.self.calls_left c.in_ok-bytes.ensures.goes.on c.in_ok-_whole.ensures.goes.on in
+    let two = goes_on d k b t c.entered.new.self.calls_left c.tidy_directory.new.self.calls_left one c.in_ok-bytes-2.ensures.goes.on in
+    let first = stays_on d k a b c.directory.new.self.calls_left c.in_ok-bytes.ensures.goes.on c.directory.ensures.goes.stays c.entered.ensures.goes.stays in
+    let second = stays_on d k b t c.entered.new.self.calls_left one first c.tidy_directory.ensures.goes.stays in
+    record {
+      on = goes_on d k t m c.tidy_directory.new.self.calls_left c.entered-2.new.self.calls_left two c.in_ok-_whole-2.ensures.goes.on;
+      stays = stays_on d k t m c.tidy_directory.new.self.calls_left two second c.entered-2.ensures.goes.stays;
+      ends = tt;
+    }
+
+pub returns-in_err-_whole-2-clause-goes : goal.returns-in_err-_whole-2-clause-goes
+returns-in_err-_whole-2-clause-goes g c =
+    let d = g.D.Disk in
+    let k = c.args.self.now.kernel in
+    let a = c.directory.new.self.kernel in
+    let b = c.entered.new.self.kernel in
+    let t = c.tidy_directory.new.self.kernel in
+    let m = c.entered-2.new.self.kernel in
+    let one = goes_on d k a b c.directory.new.self.calls_left c.entered.new.self.calls_left c.in_ok-bytes.ensures.goes.on c.in_ok-_whole.ensures.goes.on in
+    let two = goes_on d k b t c.entered.new.self.calls_left c.tidy_directory.new.self.calls_left one c.in_ok-bytes-2.ensures.goes.on in
+    let first = stays_on d k a b c.directory.new.self.calls_left c.in_ok-bytes.ensures.goes.on c.directory.ensures.goes.stays c.entered.ensures.goes.stays in
+    let second = stays_on d k b t c.entered.new.self.calls_left one first c.tidy_directory.ensures.goes.stays in
+    let is : c.from_residual-in_err-_whole-2.result ≡ Err c.in_err-_whole-2.field-0.0 = search rules in
+    subst (λ r. Proceeds d r k m c.entered-2.new.self.calls_left) (sym is) (record {
+      on = tt;
+      stays = stays_on d k t m c.tidy_directory.new.self.calls_left two second c.entered-2.ensures.goes.stays;
+      ends = ends_on d k t m c.args.self.now.calls_left c.tidy_directory.new.self.calls_left c.entered-2.new.self.calls_left c.in_err-_whole-2.field-0.0
+          c.requires.way two c.in_err-_whole-2.ensures.goes.ends;
+    })

@@ -14,6 +14,7 @@ loop-piece-init g c = record {
   opening = refl;
   files = refl;
   stays = stays_here g.D.Disk c.args.self.now.kernel;
+  later = omega arith;
   bytes_are = c.new-bytes.ensures.items;
 }
 
@@ -34,6 +35,7 @@ loop-piece-preserved g c =
       opening = c.in_ok-read_behind.ensures.goes.on.opening ∙ before.opening;
       files = c.in_ok-read_behind.ensures.same ∙ before.files;
       stays = record { on = λ o same so_far. c.read_behind.ensures.goes.stays.on o (before.same ∙ same) (before.stays.on o same so_far) };
+      later = omega (arith, before.later, c.in_ok-read_behind.ensures.goes.on.later);
       bytes_are = one_more whole c.loop-piece.bytes.items c.read_behind.new.bytes.items c.loop-piece.piece before.bytes_are more;
     }
 
@@ -43,3 +45,8 @@ returns-clause-bytes g c =
     let enough : length whole ≤ c.loop-piece.piece * 3072 =
     omega (arith, c.requires.size, c.loop-piece-test.false, c.loop-piece.auto.piece-end, c.div_ceil-piece-end.ensures) in
     c.new.ensures ∙ all_read whole c.loop-piece.bytes.items c.loop-piece.piece c.loop-piece.invariant.bytes_are enough
+
+pub returns-clause-goes : goal.returns-clause-goes
+returns-clause-goes g c =
+    let read = c.loop-piece.invariant in
+    record { on = record { way = read.way; same = read.same; opening = read.opening; later = read.later }; stays = read.stays; ends = tt }
