@@ -1,9 +1,9 @@
 // Requests that change files.
 ghost use Rattle.names.specs.Ready.{MayGoOn};
 
-use crate::directories::{ROOT, aside, new_name};
 use crate::errno::Errno;
 use crate::files::{resize, write};
+use crate::listings::{ROOT, aside, new_name};
 use crate::looks::tell_opened;
 use crate::serving::Server;
 use crate::terms::Moment;

@@ -8,9 +8,9 @@
 
 mod answering;
 mod changes;
-mod directories;
 mod errno;
 mod files;
+mod listings;
 mod looks;
 mod nodes;
 mod serving;

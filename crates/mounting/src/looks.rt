@@ -1,9 +1,9 @@
 // Requests that change no file.
 ghost use Rattle.names.specs.Ready.{MayGoOn};
 
-use crate::directories::{Part, ROOT, is_aside, list};
 use crate::errno::Errno;
 use crate::files::read;
+use crate::listings::{Part, ROOT, is_aside, list};
 use crate::serving::{MOST, Server};
 use blocks::Disk;
 use directories::Name;

@@ -4,8 +4,8 @@ ghost use Rattle.mounting.specs.Serving.{HasAnswer};
 ghost use Rattle.names.specs.Ready.{MayGoOn};
 
 use crate::answering::put_answer;
-use crate::directories::sweep;
 use crate::errno::Errno;
+use crate::listings::sweep;
 use crate::nodes::Nodes;
 use crate::terms::{Moment, Terms};
 use blocks::Disk;
