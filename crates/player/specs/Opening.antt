@@ -29,7 +29,7 @@ use Rattle.clients.specs.Backlogs.{ops_of}
 use Rattle.clients.specs.Feeders.{AreNewFeeders}
 use Rattle.rings.specs.Callers.{intake_names}
 use Rattle.player.specs.Stepping.{BreaksOff, Ringed}
-use Rattle.player.specs.Told.{RunsTo, Told, base_of}
+use Rattle.player.specs.Told.{RunsTo, Saying, Told, base_of}
 use Rattle.opening.specs.Recoveries.{IsUnrecovered}
 use Rattle.player.specs.declared.player.Player.{Player}
 use Rattle.player.specs.declared.refusals.ReplayRefusal.{ReplayRefusal}
@@ -95,13 +95,12 @@ pub record IsPlayedOn {D N : Type 0} (below : Ghosts D N) (disk : Ghosts (Faulty
   pub leaves : LeavesFromSync below d e (KeepsSome disk last.kernel)
 
 -- The disk d, now e, was recovered. A player was opened over it, and made the turns of these words,
--- which were noted so. Printed are what `says` has of each, over an image of so many inode numbers,
--- and the counts, of writes from behind the recovery on; the write to be stopped is counted from
+-- which were noted so. Printed is what `says` has of each, over an image of so many inode numbers,
+-- and of the counts, of writes from behind the recovery on; the write to be stopped is counted from
 -- there, too. This fault is told of the disk.
 pub record Replays {D N : Type 0} (below : Ghosts D N) (disk : Ghosts (FaultyDisk D) (N × Trap))
-    (d e : D) (tasks : List Task) (processes : ℕ) (words : List Word) (stop : ℕ)
-    (says : ℕ → Told → List ℕ) (fault : Option DeviceFault) (text printed : Option (List ℕ))
-    (tolds : List Told) : Type 0 where
+    (d e : D) (tasks : List Task) (processes : ℕ) (words : List Word) (stop : ℕ) (says : Saying)
+    (fault : Option DeviceFault) (text printed : Option (List ℕ)) (tolds : List Told) : Type 0 where
   pub player : Player D N
   pub last : Player D N
   pub ready : IsReadyOver below disk d tasks processes stop player
@@ -137,8 +136,8 @@ IsNotBegun below disk processes stop d e r = ⊥
 -- why a replay over the disk d, now e, was refused, and what it came to; `none` says that nothing
 -- was printed
 abbrev pub IsNotReplayed : {D N : Type 0} → Ghosts D N → Ghosts (FaultyDisk D) (N × Trap) → D → D
-    → List Task → ℕ → List Word → ℕ → (ℕ → Told → List ℕ) → Option (List ℕ) → Option (List ℕ)
-    → Type 0 → ReplayRefusal → Type 0
+    → List Task → ℕ → List Word → ℕ → Saying → Option (List ℕ) → Option (List ℕ) → Type 0
+    → ReplayRefusal → Type 0
 IsNotReplayed below disk d e tasks processes words stop says text printed none (Disk fault) =
     (tolds : List Told)
     × Replays below disk d e tasks processes words stop says (Some fault) text printed tolds

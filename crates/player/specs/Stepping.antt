@@ -35,7 +35,6 @@ use Rattle.player.specs.declared.player.Player.{Player}
 use Rattle.player.specs.declared.refusals.ReplayRefusal.{ReplayRefusal}
 use Rattle.player.specs.declared.refusals.ReplayRefusal.TheVariants.{Disk, Output}
 use Rattle.messages.specs.Events.{is_last}
-use Rattle.messages.specs.Output.{counts_text}
 use Rattle.player.specs.Turns.{Turns, event_of, told_fault}
 
 -- a kernel over rings and a board
@@ -199,24 +198,26 @@ pub record BreaksOff {D N : Type 0} (disk : Ghosts (FaultyDisk D) (N × Trap)) (
   pub events : List Event
   pub makes : MakesTurns disk stop (take count words) events old new
 
--- the counts of a kernel, of writes over a disk that had counted `base` of them before
-abbrev pub kernel_counts : {D N : Type 0} → Ghosts D N → ℕ → Ringed D → List ℕ
-kernel_counts disk base k =
-    counts_text (disk.write_count k.store.volume.device - base) k.store.volume.log.committed
+-- what `says` has of the counts of a kernel, of writes over a disk that had counted `base` of them
+-- before
+abbrev pub end_text : {D N : Type 0} → Ghosts D N → ℕ → (ℕ → ℕ → List ℕ) → Ringed D → List ℕ
+end_text disk base says k =
+    says (disk.write_count k.store.volume.device - base) k.store.volume.log.committed
 
 -- the fault that is told of a kernel's disk
 abbrev pub kernel_fault : {D : Type 0} → Ringed (FaultyDisk D) → Option DeviceFault
 kernel_fault k = told_fault (has_fired k.store.volume.device) k.store.volume.fault
 
--- its counts were printed, and this fault is told of it
-abbrev pub IsClosed : {D N : Type 0} → Ghosts (FaultyDisk D) N → ℕ → Ringed (FaultyDisk D)
-    → Option DeviceFault → Option (List ℕ) → Option (List ℕ) → Type 0
-IsClosed disk base k fault text printed =
-    (kernel_fault k ≡ fault) × Appends text printed (kernel_counts disk base k)
+-- its counts were printed, as `says` has them, and this fault is told of it
+abbrev pub IsClosed : {D N : Type 0} → Ghosts (FaultyDisk D) N → ℕ → (ℕ → ℕ → List ℕ)
+    → Ringed (FaultyDisk D) → Option DeviceFault → Option (List ℕ) → Option (List ℕ) → Type 0
+IsClosed disk base says k fault text printed =
+    (kernel_fault k ≡ fault) × Appends text printed (end_text disk base says k)
 
 -- the same where that was refused: a fault is told, or the output failed
-abbrev pub IsNotClosed : {D N : Type 0} → Ghosts (FaultyDisk D) N → ℕ → Ringed (FaultyDisk D)
-    → Option (List ℕ) → Option (List ℕ) → ReplayRefusal → Type 0
-IsNotClosed disk base k text printed (Disk fault) = IsClosed disk base k (Some fault) text printed
-IsNotClosed disk base k text printed Output = ⊤
-IsNotClosed disk base k text printed r = ⊥
+abbrev pub IsNotClosed : {D N : Type 0} → Ghosts (FaultyDisk D) N → ℕ → (ℕ → ℕ → List ℕ)
+    → Ringed (FaultyDisk D) → Option (List ℕ) → Option (List ℕ) → ReplayRefusal → Type 0
+IsNotClosed disk base says k text printed (Disk fault) =
+    IsClosed disk base says k (Some fault) text printed
+IsNotClosed disk base says k text printed Output = ⊤
+IsNotClosed disk base says k text printed r = ⊥

@@ -13,10 +13,14 @@ use Rattle.scripts.specs.declared.schedule.Word.{Word}
 use Rattle.scripts.specs.declared.schedule.Word.TheVariants as word
 use Rattle.messages.specs.Deeds.{note_text}
 use Rattle.messages.specs.Events.{event_line, is_last}
+use Rattle.messages.specs.Output.{counts_text}
 use Rattle.messages.specs.declared.deeds.Detail.{Detail}
 use Rattle.messages.specs.declared.deeds.StepNote.{StepNote}
 use Rattle.messages.specs.declared.events.Event.{Event}
-use Rattle.player.specs.Stepping.{BreaksOff, MakesRingedStep, MakesTurn, MakesTurnOf, Ringed, kernel_counts, kernel_fault}
+use Rattle.json_lines.specs.Counts.{counts_object}
+use Rattle.json_lines.specs.Events.{event_object}
+use Rattle.json_lines.specs.Steps.{step_objects}
+use Rattle.player.specs.Stepping.{BreaksOff, MakesRingedStep, MakesTurn, MakesTurnOf, Ringed, end_text, kernel_fault}
 use Rattle.player.specs.Turns.{Turns}
 use Rattle.player.specs.declared.noting.Base.{Base}
 use Rattle.player.specs.declared.player.Player.{Player}
@@ -109,9 +113,26 @@ pub record HearsTurns {T : Type 0} (hears : Word → Told → T → T → Type 0
   pub told : P tolds
   pub heard : Turns is_last_told hears words tolds t u
 
+-- what is printed of a run: of a turn, over an image of n inode numbers; and at the end, of how many
+-- blocks were written, and how many groups are committed
+pub record Saying : Type 0 where
+  pub of_turn : ℕ → Told → List ℕ
+  pub of_end : ℕ → ℕ → List ℕ
+
 -- the line of a turn, and below it what is told of its steps, over an image of n inode numbers
 abbrev pub told_text : Detail → ℕ → Told → List ℕ
 told_text detail n told = event_line told.event ++ flat_map (note_text detail n) told.notes
+
+-- lines of text
+abbrev pub in_lines : Detail → Saying
+in_lines detail = record { of_turn = told_text detail; of_end = counts_text }
+
+-- objects of JSON: those of a turn's steps and then that of the turn, and that of the counts
+abbrev pub in_objects : Saying
+in_objects = record {
+  of_turn = λ n told. step_objects n told.notes ++ event_object told.event;
+  of_end = counts_object;
+}
 
 -- whether something is told of steps
 abbrev pub tells_steps : Detail → Bool
@@ -127,22 +148,22 @@ pub record PlaysTo {D N : Type 0} (disk : Ghosts (FaultyDisk D) (N × Trap)) (ba
   pub makes : TellsTurns disk base stop words tolds old new
   pub lines : Appends text printed (flat_map says tolds)
 
--- The same, over an image of as many inode numbers as the kernel's, and behind it the counts of the
--- kernel. This fault is told of it.
+-- The same, over an image of as many inode numbers as the kernel's, and behind it what `says` has of
+-- the counts of the kernel. This fault is told of it.
 pub record RunsTo {D N : Type 0} (disk : Ghosts (FaultyDisk D) (N × Trap)) (base : Base)
-    (stop : ℕ) (says : ℕ → Told → List ℕ) (words : List Word) (old new : Player D N)
+    (stop : ℕ) (says : Saying) (words : List Word) (old new : Player D N)
     (fault : Option DeviceFault) (text printed : Option (List ℕ)) (tolds : List Told)
     : Type 0 where
   pub makes : TellsTurns disk base stop words tolds old new
   pub tells : kernel_fault new.kernel ≡ fault
-  pub lines : Appends text printed (flat_map (says old.kernel.store.table.inode_count) tolds
-      ++ kernel_counts disk base.writes new.kernel)
+  pub lines : Appends text printed (flat_map (says.of_turn old.kernel.store.table.inode_count) tolds
+      ++ end_text disk base.writes says.of_end new.kernel)
 
 -- What a run that was refused came to: where the disk failed, all was printed; where the output
 -- did, turns were made up to then.
-abbrev pub IsBrokenOff : {D N : Type 0} → Ghosts (FaultyDisk D) (N × Trap) → Base → ℕ
-    → (ℕ → Told → List ℕ) → List Word → Player D N → Player D N → Option (List ℕ)
-    → Option (List ℕ) → ReplayRefusal → Type 0
+abbrev pub IsBrokenOff : {D N : Type 0} → Ghosts (FaultyDisk D) (N × Trap) → Base → ℕ → Saying
+    → List Word → Player D N → Player D N → Option (List ℕ) → Option (List ℕ) → ReplayRefusal
+    → Type 0
 IsBrokenOff disk base stop says words old new text printed (Disk fault) =
     (tolds : List Told)
     × RunsTo disk base stop says words old new (Some fault) text printed tolds

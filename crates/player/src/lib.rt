@@ -9,6 +9,7 @@
 mod checking;
 mod copying;
 mod fault_lines;
+mod json_teller;
 mod looks;
 mod making;
 mod noting;
@@ -33,7 +34,7 @@ pub use player::Player;
 pub use playing::make_turns;
 pub use recovering::recover_disk;
 pub use refusals::{CatRefusal, ReplayRefusal};
-pub use replaying::{Scenario, replay_disk, replay_with, take_board};
+pub use replaying::{Scenario, replay_disk, replay_objects, replay_with, take_board};
 pub use showing::{cat_disk, cat_read_only};
 pub use teller::Teller;
 pub use tellers::{LineTeller, StepTeller};

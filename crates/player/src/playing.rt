@@ -13,13 +13,13 @@ use crate::refusals::ReplayRefusal;
 use crate::teller::Teller;
 use blocks::{Disk, FaultyDisk, NoMemory};
 use kernel::Step;
-use messages::{Event, Meter, Unwritten, print_counts};
+use messages::{Event, Meter, Unwritten};
 use scripts::Word;
 use std::io::Write;
 
 /// Makes the turns of the words over a disk that had counted `base` before them. The teller hears of
-/// each, and prints what it has to say of it; behind them it is printed what they came to. The write
-/// of number `stop` isn't made. The processes that the words name are the player's. The meter is told
+/// each, and prints what it has to say of it, and behind them of what they came to. The write of
+/// number `stop` isn't made. The processes that the words name are the player's. The meter is told
 /// how many of the words' turns were made.
 ///
 /// # Errors
@@ -62,7 +62,7 @@ pub(crate) fn run<D: Disk + Drop, T: Teller, P: Meter, O: Write>(
         progress,
         out,
     )?;
-    close(player, base.writes, out)
+    close(player, base.writes, teller, out)
 }
 
 /// Makes the turns of the words, up to the last that can be made, and prints nothing. The write of
@@ -118,8 +118,9 @@ fn play<D: Disk + Drop, T: Teller, P: Meter, O: Write>(
         (list_all (is_word_of (length player.old.kernel.world.processes)) words.now) }
     requires seated { IsSeated player.old }
     ensures printed { OnOk result (HearsTurns T.hears words.now teller.old teller.new
-        (PlaysTo ⟦<FaultyDisk<D> as Disk>⟧ base stop (T.says teller.old inode_count) words.now
-        player.old player.new (O.contents out.old) (O.contents out.new))) }
+        (PlaysTo ⟦<FaultyDisk<D> as Disk>⟧ base stop ((T.says teller.old).of_turn inode_count)
+        words.now player.old player.new (O.contents out.old) (O.contents out.new))) }
+    ensures says { T.says teller.new ≡ T.says teller.old }
     ensures breaks { BreaksOff ⟦<FaultyDisk<D> as Disk>⟧ stop words.now player.old player.new }
     ensures seated { IsSeated player.new }
 {
@@ -136,19 +137,22 @@ fn play<D: Disk + Drop, T: Teller, P: Meter, O: Write>(
     Ok(())
 }
 
-// Prints what the turns came to. `Disk` where the disk failed, and all is printed then, too.
-fn close<D: Disk + Drop, O: Write>(
+// The teller prints what it has to say of what the turns came to. `Disk` where the disk failed, and all
+// is printed then, too.
+fn close<D: Disk + Drop, T: Teller, O: Write>(
     player: &Player<'_, D>,
     base: u64,
+    teller: &T,
     out: &mut O,
 ) -> Result<(), ReplayRefusal>
-    ensures printed { OnOk result (IsClosed ⟦<FaultyDisk<D> as Disk>⟧ base player.now.kernel
-        None (O.contents out.old) (O.contents out.new)) }
-    ensures refused { IfErr result (IsNotClosed ⟦<FaultyDisk<D> as Disk>⟧ base player.now.kernel
+    ensures printed { OnOk result (IsClosed ⟦<FaultyDisk<D> as Disk>⟧ base
+        (T.says teller.now).of_end player.now.kernel None
         (O.contents out.old) (O.contents out.new)) }
+    ensures refused { IfErr result (IsNotClosed ⟦<FaultyDisk<D> as Disk>⟧ base
+        (T.says teller.now).of_end player.now.kernel (O.contents out.old) (O.contents out.new)) }
 {
     let outcome = player.outcome(base);
-    print_counts(out, outcome.writes, outcome.committed)?;
+    teller.print_end(out, outcome.writes, outcome.committed)?;
     match outcome.fault {
         Some(fault) => Err(ReplayRefusal::Disk(fault)),
         None => Ok(()),

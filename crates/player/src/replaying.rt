@@ -5,8 +5,9 @@ ghost use Rattle.std.specs.List.{list_all};
 ghost use Rattle.scripts.specs.Schedule.{is_word_of};
 ghost use Rattle.player.specs.Opening.{IsNotBegun, IsNotReplayed, IsReadyOver, Replays};
 ghost use Rattle.player.specs.Stepping.{IsSeated};
-ghost use Rattle.player.specs.Told.{HearsTurns, Told, base_of, tells_steps, told_text};
+ghost use Rattle.player.specs.Told.{HearsTurns, Told, base_of, in_lines, in_objects, tells_steps};
 
+use crate::json_teller::JsonTeller;
 use crate::noting::Base;
 use crate::player::Player;
 use crate::playing::run;
@@ -59,11 +60,11 @@ pub fn replay_disk<D: Disk + Drop, P: Meter, O: Write>(
     requires words { IsTrue (list_all (is_word_of scenario.processes) scenario.words.items) }
     ensures printed { OnOk result.0 ((tolds : List Told) × Replays D.Disk
         ⟦<FaultyDisk<D> as Disk>⟧ disk result.1 scenario.tasks.items scenario.processes
-        scenario.words.items (unwrap_or scenario.stop 0) (told_text detail)
+        scenario.words.items (unwrap_or scenario.stop 0) (in_lines detail)
         None (O.contents out.old) (O.contents out.new) tolds) }
     ensures refused { IfErr result.0 (IsNotReplayed D.Disk ⟦<FaultyDisk<D> as Disk>⟧ disk result.1
         scenario.tasks.items scenario.processes scenario.words.items (unwrap_or scenario.stop 0)
-        (told_text detail) (O.contents out.old) (O.contents out.new) (out.new ≡ out.old)) }
+        (in_lines detail) (O.contents out.old) (O.contents out.new) (out.new ≡ out.old)) }
     ensures name { D.name result.1 ≡ D.name disk }
 {
     if !tells_steps(detail) {
@@ -71,6 +72,42 @@ pub fn replay_disk<D: Disk + Drop, P: Meter, O: Write>(
         return replay_with(alloc, disk, scenario, &mut teller, progress, out);
     }
     let mut teller = match StepTeller::new(alloc, detail) {
+        Ok(teller) => teller,
+        Err(_refused) => {
+            return (Err(ReplayRefusal::Unopened(OpenFault::NoMemory)), disk);
+        }
+    };
+    replay_with(alloc, disk, scenario, &mut teller, progress, out)
+}
+
+/// Recovers the image of a disk, and makes the operations of a scenario in its turns, as
+/// `replay_with`. Prints objects of JSON, a line each: for each word of the schedule, up to the one in
+/// whose turn the disk failed, one for each step of its turn, and one for what the turn came to;
+/// behind them one with the counts.
+///
+/// # Errors
+///
+/// As those of `replay_with`, with `Unopened` of `NoMemory` also where memory for the notes of a turn
+/// is refused.
+pub fn replay_objects<D: Disk + Drop, P: Meter, O: Write>(
+    alloc: Global,
+    disk: D,
+    scenario: Scenario,
+    progress: &mut P,
+    out: &mut O,
+) -> (Result<(), ReplayRefusal>, D)
+    requires tasks { All (λ task. task.pid < scenario.processes) scenario.tasks.items }
+    requires words { IsTrue (list_all (is_word_of scenario.processes) scenario.words.items) }
+    ensures printed { OnOk result.0 ((tolds : List Told) × Replays D.Disk
+        ⟦<FaultyDisk<D> as Disk>⟧ disk result.1 scenario.tasks.items scenario.processes
+        scenario.words.items (unwrap_or scenario.stop 0) in_objects
+        None (O.contents out.old) (O.contents out.new) tolds) }
+    ensures refused { IfErr result.0 (IsNotReplayed D.Disk ⟦<FaultyDisk<D> as Disk>⟧ disk result.1
+        scenario.tasks.items scenario.processes scenario.words.items (unwrap_or scenario.stop 0)
+        in_objects (O.contents out.old) (O.contents out.new) (out.new ≡ out.old)) }
+    ensures name { D.name result.1 ≡ D.name disk }
+{
+    let mut teller = match JsonTeller::new(alloc) {
         Ok(teller) => teller,
         Err(_refused) => {
             return (Err(ReplayRefusal::Unopened(OpenFault::NoMemory)), disk);
@@ -88,8 +125,8 @@ fn tells_steps(detail: Detail) -> bool
 
 /// Recovers the image of a disk, and makes the operations of a scenario in its turns. The teller
 /// hears of each turn, up to the one in which the disk failed, and prints what it has to say of it;
-/// behind them it is printed how many blocks were written since the image was recovered, and how
-/// many groups are committed. The meter is told how many words' turns were made.
+/// and behind them of how many blocks were written since the image was recovered, and how many
+/// groups are committed. The meter is told how many words' turns were made.
 ///
 /// Hands the disk back as the last turn left it. Whatever a stop leaves keeps a beginning of the
 /// groups: one at any moment, or, where the disk held writes back at the start, one since the sync

@@ -1,5 +1,5 @@
-// Who hears of turns, and prints what it has to say of each.
-ghost use Rattle.std.specs.Prelude.{◌≡◌, ℕ, List, OnOk, IsTrue, length};
+// Who hears of turns, and prints what it has to say of each, and of the end.
+ghost use Rattle.std.specs.Prelude.{◌≡◌, OnOk, IsTrue, length};
 ghost use Rattle.std.specs.Io.KnownBytes.{Appends};
 ghost use Rattle.scripts.specs.Schedule.{is_word_of};
 ghost use Rattle.player.specs.Stepping.{IsSeated};
@@ -12,14 +12,13 @@ use messages::{Event, Unwritten};
 use scripts::Word;
 use std::io::Write;
 
-/// Hears of each turn of a replay, and prints what it has to say of it.
+/// Hears of each turn of a replay, and prints what it has to say of it, and of the end.
 pub trait Teller {
-    ghost use Rattle.std.specs.Prelude.{ℕ, List};
     ghost use Rattle.scripts.specs.declared.schedule.Word.{Word};
-    ghost use Rattle.player.specs.Told.{Told};
+    ghost use Rattle.player.specs.Told.{Saying, Told};
 
-    /// What it prints of a turn, over an image of so many inode numbers.
-    ghost says: { Self → ℕ → Told → List ℕ };
+    /// What it prints.
+    ghost says: { Self → Saying };
 
     /// What it was, and is once it heard of the turn of a word.
     ghost hears: { Word → Told → Self → Self → Type 0 };
@@ -47,5 +46,11 @@ pub trait Teller {
     fn print<O: Write>(&self, out: &mut O, event: &Event, inode_count: u32) -> Result<(), Unwritten>
         ensures { OnOk result ((word : _) (told : Told) (was : Self) → hears word told was self.now
             → told.event ≡ event.now → Appends (O.contents out.old) (O.contents out.new)
-            (says self.now inode_count told)) };
+            ((says self.now).of_turn inode_count told)) };
+
+    /// Prints what it has to say of the end of a run, which wrote so many blocks, and of which so many
+    /// groups are committed, as the last text of a command.
+    fn print_end<O: Write>(&self, out: &mut O, writes: u64, committed: u64) -> Result<(), Unwritten>
+        ensures { OnOk result (Appends (O.contents out.old) (O.contents out.new)
+            ((says self.now).of_end writes committed)) };
 }

@@ -1,23 +1,23 @@
 // Who tells the lines of turns, and who tells what their steps were, too.
 ghost use Rattle.std.specs.Prelude.{◌≡◌, ◌++◌, [], OnOk, IfOk, length};
 ghost use Rattle.std.specs.Io.KnownBytes.{Appends};
-ghost use Rattle.player.specs.Told.{no_detail, told_text};
+ghost use Rattle.player.specs.Told.{in_lines, no_detail};
 
 use crate::noting::{Base, Notes};
 use crate::player::Player;
 use crate::teller::Teller;
 use blocks::{Disk, NoMemory};
-use messages::{Detail, Event, StepNote, Unwritten, print_event, print_notes};
+use messages::{Detail, Event, StepNote, Unwritten, print_counts, print_event, print_notes};
 use scripts::Word;
 use std::alloc::Global;
 use std::io::Write;
 
-/// Prints the line of each turn. It hears of no step, and none is noted.
+/// Prints the line of each turn, and the counts. It hears of no step, and none is noted.
 #[derive(Clone, Copy, Drop)]
 pub struct LineTeller;
 
 impl Teller for LineTeller {
-    ghost says = { λ teller. told_text no_detail };
+    ghost says = { λ teller. in_lines no_detail };
 
     ghost hears = { λ word told old new. new ≡ old };
 
@@ -39,9 +39,18 @@ impl Teller for LineTeller {
     ) -> Result<(), Unwritten> {
         print_event(out, event)
     }
+
+    fn print_end<O: Write>(
+        &self,
+        out: &mut O,
+        writes: u64,
+        committed: u64,
+    ) -> Result<(), Unwritten> {
+        print_counts(out, writes, committed)
+    }
 }
 
-/// Prints the line of each turn, and below it what is told of its steps.
+/// Prints the line of each turn, below it what is told of its steps, and the counts.
 #[derive(Drop)]
 pub struct StepTeller {
     detail: Detail,
@@ -73,7 +82,7 @@ impl StepTeller {
 }
 
 impl Teller for StepTeller {
-    ghost says = { λ teller. told_text teller.detail };
+    ghost says = { λ teller. in_lines teller.detail };
 
     ghost hears = { λ word told old new. (new.detail ≡ old.detail) × (new.notes ≡ told.notes) };
 
@@ -95,5 +104,14 @@ impl Teller for StepTeller {
     ) -> Result<(), Unwritten> {
         print_event(out, event)?;
         print_notes(out, self.detail, inode_count, self.notes.as_slice())
+    }
+
+    fn print_end<O: Write>(
+        &self,
+        out: &mut O,
+        writes: u64,
+        committed: u64,
+    ) -> Result<(), Unwritten> {
+        LineTeller.print_end(out, writes, committed)
     }
 }

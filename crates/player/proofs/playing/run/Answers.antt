@@ -1,7 +1,8 @@
 use Rattle.std.proofs.Common.{◌≡◌, Err, rules, subst, sym, take}
-use Rattle.std.specs.Prelude.{IfErr}
+use Rattle.std.specs.Prelude.{IfErr, None, OnOk}
 use Rattle.std.proofs.lemmas.Result.{IfErr-weaker, on_ok_weaker}
-use Rattle.player.specs.Told.{IsBrokenOff}
+use Rattle.player.specs.Stepping.{IsClosed, IsNotClosed}
+use Rattle.player.specs.Told.{IsBrokenOff, Saying}
 use Rattle.player.proofs.Keeping.{turns_keep}
 use Rattle.player.proofs.Owning.{turns_ops}
 use Rattle.player.proofs.Refused.{broken_off, counts_printed, heard_as}
@@ -31,18 +32,20 @@ returns-in_err-play-clause-name g c =
 
 pub returns-clause-printed : goal.returns-clause-printed
 returns-clause-printed g c =
+    let closed = subst (λ (says : Saying). OnOk c.close.result (IsClosed (faulty g.D.Disk) c.args.base.writes says.of_end c.play.new.player.kernel None (g.O.Write.contents c.play.new.out) (g.O.Write.contents c.close.new.out))) c.play.ensures.says c.close.ensures.printed in
     on_ok_weaker c.close.result
-    (λ closed. heard_as g.T.Teller.hears c.args.words.now c.args.teller.now c.play.new.teller _ _
-    (λ tolds plays. counts_printed (faulty g.D.Disk) c.args.base c.args.stop c.inode_count-inode_count.result (g.T.Teller.says c.args.teller.now) c.args.words.now _ _ (g.O.Write.contents c.args.out.now) (g.O.Write.contents c.play.new.out) (g.O.Write.contents c.close.new.out) c.inode_count-inode_count.ensures _ tolds plays closed.0 closed.1)
+    (λ ended. heard_as g.T.Teller.hears c.args.words.now c.args.teller.now c.play.new.teller _ _
+    (λ tolds plays. counts_printed (faulty g.D.Disk) c.args.base c.args.stop c.inode_count-inode_count.result (g.T.Teller.says c.args.teller.now) c.args.words.now _ _ (g.O.Write.contents c.args.out.now) (g.O.Write.contents c.play.new.out) (g.O.Write.contents c.close.new.out) c.inode_count-inode_count.ensures _ tolds plays ended.0 ended.1)
     c.in_ok-play.ensures.printed)
-    c.close.ensures.printed
+    closed
 
 pub returns-clause-refused : goal.returns-clause-refused
 returns-clause-refused g c =
     let heard = c.in_ok-play.ensures.printed in
+    let refused = subst (λ (says : Saying). IfErr c.close.result (IsNotClosed (faulty g.D.Disk) c.args.base.writes says.of_end c.play.new.player.kernel (g.O.Write.contents c.play.new.out) (g.O.Write.contents c.close.new.out))) c.play.ensures.says c.close.ensures.refused in
     IfErr-weaker c.close.result _ _
     (broken_off (faulty g.D.Disk) c.args.base c.args.stop c.inode_count-inode_count.result (g.T.Teller.says c.args.teller.now) c.args.words.now c.args.player.now c.play.new.player (g.O.Write.contents c.args.out.now) (g.O.Write.contents c.play.new.out) (g.O.Write.contents c.close.new.out) c.inode_count-inode_count.ensures heard.tolds heard.told c.play.ensures.breaks)
-    c.close.ensures.refused
+    refused
 
 pub returns-clause-keeps : goal.returns-clause-keeps
 returns-clause-keeps g c =
