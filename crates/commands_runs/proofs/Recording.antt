@@ -10,7 +10,7 @@ use Rattle.model.specs.Fields.{u32_at}
 use Rattle.model.specs.Layout.{inode_count_of, super_in}
 use Rattle.pictures.specs.Along.{left_along}
 use Rattle.pictures.specs.declared.recorder.Recorder.{Recorder}
-use Rattle.player.specs.Told.{Told, is_last_told}
+use Rattle.player.specs.Told.{Told, in_lines, is_last_told}
 use Rattle.player.specs.Turns.{IfLast, Turns}
 use Rattle.scripts.specs.declared.schedule.Word.{Word}
 use Rattle.scripts.specs.declared.script.Task.{Task}
@@ -51,19 +51,19 @@ pictured_of contents anew holds x tasks processes words n m r s made count same 
     (subst (λ (q : Recorder). IsPictured contents anew.holds (copied_image anew.copied) anew.tasks.items anew.processes anew.words.items n q) same drawn))))))
 
 -- a replay by a teller with this detail, of which this is recorded
-pub heard_so : {F : Type 0} (told asked : Detail) (stop : ℕ) (old new : Option (List ℕ)) (was heard is : Recorder) (holds : Bool) (scene : Scene) (d e : FileDisk F) → told ≡ asked → is ≡ heard → IsReplayedSo told stop old new (IsSceneOf was heard holds scene) d e
-    → IsReplayedSo asked stop old new (IsSceneOf was is holds scene) d e
+pub heard_so : {F : Type 0} (told asked : Detail) (stop : ℕ) (old new : Option (List ℕ)) (was heard is : Recorder) (holds : Bool) (scene : Scene) (d e : FileDisk F) → told ≡ asked → is ≡ heard → IsReplayedSo (in_lines told) stop old new (IsSceneOf was heard holds scene) d e
+    → IsReplayedSo (in_lines asked) stop old new (IsSceneOf was is holds scene) d e
 heard_so told asked stop old new was heard is holds scene d e same_detail same so =
-    subst (λ (r : Recorder). IsReplayedSo asked stop old new (IsSceneOf was r holds scene) d e) (sym same)
-    (subst (λ (o : Detail). IsReplayedSo o stop old new (IsSceneOf was heard holds scene) d e) same_detail so)
+    subst (λ (r : Recorder). IsReplayedSo (in_lines asked) stop old new (IsSceneOf was r holds scene) d e) (sym same)
+    (subst (λ (o : Detail). IsReplayedSo (in_lines o) stop old new (IsSceneOf was heard holds scene) d e) same_detail so)
 
 module _ {F : Type 0} (contents : F → Option (List ℕ)) (detail : Detail) (stop : ℕ) (old new : Option (List ℕ)) (was is : Recorder) (holds : Bool) (scene : Scene) (d e : FileDisk F)
-    (none : was ≡ none_recorded) (so : IsReplayedSo detail stop old new (IsSceneOf was is holds scene) d e) where
+    (none : was ≡ none_recorded) (so : IsReplayedSo (in_lines detail) stop old new (IsSceneOf was is holds scene) d e) where
   same : is ≡ recorded so.tolds
   same = so.more.heard ∙ ap (λ r. left_along hear_of r so.tolds) none
 
   -- the run was drawn
-  pub pictured : is.steps ≤ 2000 → IsPictured contents scene.anew.holds (copied_image scene.anew.copied) scene.anew.tasks.items scene.anew.processes scene.anew.words.items scene.inode_count is → IsReplayedSo detail stop old new (HasPicture contents holds) d e
+  pub pictured : is.steps ≤ 2000 → IsPictured contents scene.anew.holds (copied_image scene.anew.copied) scene.anew.tasks.items scene.anew.processes scene.anew.words.items scene.inode_count is → IsReplayedSo (in_lines detail) stop old new (HasPicture contents holds) d e
   pictured fits drawn = record {
     tasks = so.tasks;
     processes = so.processes;
@@ -77,7 +77,7 @@ module _ {F : Type 0} (contents : F → Option (List ℕ)) (detail : Detail) (st
   }
 
   -- or wasn't
-  pub unpictured : (refusal : PicturedRefusal) → IsUndrawn refusal is → IsReplayedSo detail stop old new (HasNoPicture refusal) d e
+  pub unpictured : (refusal : PicturedRefusal) → IsUndrawn refusal is → IsReplayedSo (in_lines detail) stop old new (HasNoPicture refusal) d e
   unpictured refusal why = record {
     tasks = so.tasks;
     processes = so.processes;

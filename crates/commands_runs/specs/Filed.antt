@@ -4,6 +4,7 @@ use Rattle.blocks.specs.Disk.{Image, one_more}
 use Rattle.blocks.specs.contracts.sync.SyncDiskDisk.TheImpl.{ghosts as held_ghosts}
 use Rattle.blocks.specs.declared.disk.Disk.{Ghosts}
 use Rattle.blocks.specs.declared.sync.SyncDisk.{SyncDisk}
+use Rattle.messages.specs.Output.{counts_text}
 use Rattle.messages.specs.declared.events.Event.{Event}
 use Rattle.messages.specs.declared.events.Event.TheVariants.{Stepped, Answered, Shut, Stopped}
 use Rattle.model.specs.Log.{recovered}
@@ -15,7 +16,7 @@ use Rattle.pictures.specs.declared.types.FilesThen.{FilesThen}
 use Rattle.pictures.specs.declared.types.Moment.{Moment}
 use Rattle.player.specs.Disks.{faulty}
 use Rattle.player.specs.Opening.{Replays}
-use Rattle.player.specs.Told.{Told}
+use Rattle.player.specs.Told.{Saying, Told}
 use Rattle.scripts.specs.declared.schedule.Word.{Word}
 use Rattle.scripts.specs.declared.script.Task.{Task}
 use Rattle.commands.specs.Copied.{memory}
@@ -70,9 +71,9 @@ wants_in (Stopped n) = false
 abbrev pub wants_then : Bool → Told → Bool
 wants_then before told = before || wants_in told.event
 
--- nothing is printed
-abbrev pub mute : ℕ → Told → List ℕ
-mute inode_count told = []
+-- nothing is printed of a turn
+abbrev pub mute : Saying
+mute = record { of_turn = λ inode_count told. []; of_end = counts_text }
 
 -- A disk had the blocks of an image, and a replay over it of these operations, in the turns of these
 -- words, was stopped before the write of that number, from 1. Memory was refused to no operation of it.

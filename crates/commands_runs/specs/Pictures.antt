@@ -10,7 +10,7 @@ use Rattle.model.specs.Layout.{inode_count_of}
 use Rattle.pictures.specs.Along.{left_along}
 use Rattle.pictures.specs.declared.recorder.Recorder.{Recorder}
 use Rattle.pictures.specs.declared.types.FilesThen.{FilesThen}
-use Rattle.player.specs.Told.{Told}
+use Rattle.player.specs.Told.{Told, in_lines}
 use Rattle.scripts.specs.declared.schedule.Word.{Word}
 use Rattle.scripts.specs.declared.script.Task.{Task}
 use Rattle.commands.specs.Copied.{copied_image}
@@ -93,15 +93,17 @@ IsUnbegun (Picture f) = ⊥
 -- a script was replayed over the disk in a file, and drawn into the file at a path, where there is one
 abbrev pub IsReplayedInto : {F P : Type 0} → (F → Option (List ℕ)) → Bool → Detail → ℕ
     → Option (List ℕ) → Option (List ℕ) → Option P → FileDisk F → FileDisk F → Type 0
-IsReplayedInto contents holds detail stop old new None d e = IsReplayed detail stop old new d e
+IsReplayedInto contents holds detail stop old new None d e =
+    IsReplayed (in_lines detail) stop old new d e
 IsReplayedInto contents holds detail stop old new (Some path) d e =
-    IsReplayedSo detail stop old new (HasPicture contents holds) d e
+    IsReplayedSo (in_lines detail) stop old new (HasPicture contents holds) d e
 
 -- why it wasn't: nothing was done, the replay was refused, or it was made and printed, and not drawn
 abbrev pub IsUnpictured : {F : Type 0} → (F → Option (List ℕ)) → Bool → Detail → ℕ
     → Option (List ℕ) → Option (List ℕ) → Type 0 → PicturedRefusal → Type 0
 IsUnpictured remaining holds detail stop old new none NoMemory = none
 IsUnpictured remaining holds detail stop old new none (Replay r) =
-    IsUnreplayed remaining holds detail stop old new none r
+    IsUnreplayed remaining holds (in_lines detail) stop old new none r
 IsUnpictured remaining holds detail stop old new none refusal =
-    OpensDisk remaining file_disk holds (IsReplayedSo detail stop old new (HasNoPicture refusal))
+    OpensDisk remaining file_disk holds
+    (IsReplayedSo (in_lines detail) stop old new (HasNoPicture refusal))

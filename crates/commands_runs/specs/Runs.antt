@@ -4,11 +4,10 @@ use Rattle.std.specs.List.{list_all}
 use Rattle.blocks.specs.declared.file.FileDisk.{FileDisk}
 use Rattle.cmd.specs.Lemmas.Disks.{faulty_disk, file_disk}
 use Rattle.cmd.specs.Opened.{OpensDisk}
-use Rattle.messages.specs.declared.deeds.Detail.{Detail}
 use Rattle.messages.specs.Telling.{Telling, file_telling, schedule_telling, script_telling}
 use Rattle.player.specs.Opening.{IsNotReplayed, Replays}
 use Rattle.player.specs.Refusals.{replay_telling}
-use Rattle.player.specs.Told.{Told, told_text}
+use Rattle.player.specs.Told.{Saying, Told}
 use Rattle.player.specs.declared.refusals.ReplayRefusal.{ReplayRefusal}
 use Rattle.player.specs.declared.replaying.Scenario.{Scenario}
 use Rattle.runner.specs.Refusals.{run_telling}
@@ -47,22 +46,21 @@ IsUnread (replay.Schedule fault) = ⊤
 IsUnread (replay.File fault) = ⊤
 IsUnread (replay.Replay refusal) = ⊥
 
--- It was recovered, a player of some operations was opened over it, and the turns of some words made,
--- and printed with what is told of their steps. P says more of these, and of what was told.
-pub record IsReplayedSo {F : Type 0} (detail : Detail) (stop : ℕ) (old new : Option (List ℕ))
+-- It was recovered, a player of some operations was opened over it, and the turns of some words made.
+-- Printed is what `says` has of them, and of the end. P says more of these, and of what was told.
+pub record IsReplayedSo {F : Type 0} (says : Saying) (stop : ℕ) (old new : Option (List ℕ))
     (P : List Task → ℕ → List Word → List Told → FileDisk F → FileDisk F → Type 0) (d e : FileDisk F)
     : Type 0 where
   pub tasks : List Task
   pub processes : ℕ
   pub words : List Word
   pub tolds : List Told
-  pub replays : Replays file_disk faulty_disk d e tasks processes words stop (told_text detail) None
-      old new tolds
+  pub replays : Replays file_disk faulty_disk d e tasks processes words stop says None old new tolds
   pub more : P tasks processes words tolds d e
 
-abbrev pub IsReplayed : {F : Type 0} → Detail → ℕ → Option (List ℕ) → Option (List ℕ) → FileDisk F
+abbrev pub IsReplayed : {F : Type 0} → Saying → ℕ → Option (List ℕ) → Option (List ℕ) → FileDisk F
     → FileDisk F → Type 0
-IsReplayed detail stop old new = IsReplayedSo detail stop old new (λ tasks processes words tolds d e. ⊤)
+IsReplayed says stop old new = IsReplayedSo says stop old new (λ tasks processes words tolds d e. ⊤)
 
 -- it was recovered, the operations of a script were run over it by threads, and what they came to
 -- printed
@@ -72,13 +70,12 @@ pub record IsRun {F : Type 0} (old new : Option (List ℕ)) (d e : FileDisk F) :
   pub runs : Runs file_disk d e tasks processes None true old new
 
 -- why some operations were not replayed over it in the turns of some words, and what was printed
-pub record IsUnreplayedFor {F : Type 0} (detail : Detail) (stop : ℕ) (old new : Option (List ℕ))
+pub record IsUnreplayedFor {F : Type 0} (says : Saying) (stop : ℕ) (old new : Option (List ℕ))
     (none : Type 0) (r : ReplayRefusal) (d e : FileDisk F) : Type 0 where
   pub tasks : List Task
   pub processes : ℕ
   pub words : List Word
-  pub refused : IsNotReplayed file_disk faulty_disk d e tasks processes words stop
-      (told_text detail) old new none r
+  pub refused : IsNotReplayed file_disk faulty_disk d e tasks processes words stop says old new none r
 
 -- why some operations were not run over it by threads, and what was printed
 pub record IsNotRunFor {F : Type 0} (old new : Option (List ℕ)) (none : Type 0) (r : RunRefusal)
@@ -89,13 +86,13 @@ pub record IsNotRunFor {F : Type 0} (old new : Option (List ℕ)) (none : Type 0
 
 -- why a script was not replayed over the disk in a file: one of its files could not be had, or this
 -- was the disk's refusal; `none` says that nothing was printed, here and below
-abbrev pub IsUnreplayed : {F : Type 0} → (F → Option (List ℕ)) → Bool → Detail → ℕ
+abbrev pub IsUnreplayed : {F : Type 0} → (F → Option (List ℕ)) → Bool → Saying → ℕ
     → Option (List ℕ) → Option (List ℕ) → Type 0 → ReplayFilesRefusal → Type 0
-IsUnreplayed remaining holds detail stop old new none (replay.Script fault) = none
-IsUnreplayed remaining holds detail stop old new none (replay.Schedule fault) = none
-IsUnreplayed remaining holds detail stop old new none (replay.File fault) = none
-IsUnreplayed remaining holds detail stop old new none (replay.Replay r) =
-    OpensDisk remaining file_disk holds (IsUnreplayedFor detail stop old new none r)
+IsUnreplayed remaining holds says stop old new none (replay.Script fault) = none
+IsUnreplayed remaining holds says stop old new none (replay.Schedule fault) = none
+IsUnreplayed remaining holds says stop old new none (replay.File fault) = none
+IsUnreplayed remaining holds says stop old new none (replay.Replay r) =
+    OpensDisk remaining file_disk holds (IsUnreplayedFor says stop old new none r)
 
 -- why a script was not run over it
 abbrev pub IsNotRun : {F : Type 0} → (F → Option (List ℕ)) → Bool → Option (List ℕ)

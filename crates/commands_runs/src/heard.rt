@@ -4,6 +4,7 @@ ghost use Rattle.std.specs.List.{list_all};
 ghost use Rattle.cmd.specs.Lemmas.Disks.{file_disk};
 ghost use Rattle.cmd.specs.Opened.{IsOpened, OpensDisk};
 ghost use Rattle.model.specs.Layout.{inode_count_of};
+ghost use Rattle.player.specs.Told.{in_lines};
 ghost use Rattle.scripts.specs.Schedule.{is_word_of};
 ghost use Rattle.commands_runs.specs.Pictures.{IsSceneOf, IsUnpictured};
 ghost use Rattle.commands_runs.specs.Runs.{IsReplayedSo};
@@ -37,7 +38,7 @@ pub(crate) fn replay_told<R: Files + AllocGlobal, P: Meter, O: Write>(
     requires tasks { All (λ task. task.pid < scenario.processes) scenario.tasks.items }
     requires words { IsTrue (list_all (is_word_of scenario.processes) scenario.words.items) }
     ensures replayed { IfOk result (λ scene. OpensDisk R.File.remaining file_disk
-        sync (IsReplayedSo teller.old.lines.detail (unwrap_or scenario.stop 0)
+        sync (IsReplayedSo (in_lines teller.old.lines.detail) (unwrap_or scenario.stop 0)
         (O.contents out.old) (O.contents out.new)
         (IsSceneOf teller.old.recorder teller.new.recorder sync scene))) }
     ensures refused { IfErr result (IsUnpictured R.File.remaining sync teller.old.lines.detail

@@ -1,4 +1,4 @@
-// Who hears of turns and prints nothing.
+// Who hears of turns and prints nothing of them.
 ghost use Rattle.std.specs.Prelude.{◌≡◌, ◌||◌};
 ghost use Rattle.commands_runs.specs.Filed.{mute, wants_in, wants_then};
 
@@ -9,7 +9,8 @@ use player::{Base, LineTeller, Player, Teller};
 use scripts::Word;
 use std::io::Write;
 
-/// Prints nothing, and knows whether memory was refused to an operation.
+/// Prints nothing of a turn, and the counts at the end. It knows whether memory was refused to an
+/// operation.
 #[derive(Clone, Copy, Drop)]
 pub struct Mute {
     pub lines: LineTeller,
@@ -40,6 +41,15 @@ impl Teller for Mute {
         _inode_count: u32,
     ) -> Result<(), Unwritten> {
         Ok(())
+    }
+
+    fn print_end<O: Write>(
+        &self,
+        out: &mut O,
+        writes: u64,
+        committed: u64,
+    ) -> Result<(), Unwritten> {
+        self.lines.print_end(out, writes, committed)
     }
 }
 

@@ -1,6 +1,6 @@
 // Who prints of turns what is told of them, and records their steps.
 ghost use Rattle.std.specs.Prelude.{◌≡◌, IfOk};
-ghost use Rattle.player.specs.Told.{told_text};
+ghost use Rattle.player.specs.Told.{in_lines};
 ghost use Rattle.pictures.specs.Recorders.{heard};
 ghost use Rattle.commands_runs.specs.Recorded.{none_recorded};
 
@@ -44,7 +44,7 @@ impl PictureTeller {
 }
 
 impl Teller for PictureTeller {
-    ghost says = { λ teller. told_text teller.lines.detail };
+    ghost says = { λ teller. in_lines teller.lines.detail };
 
     ghost hears = { λ word told old new. (new.lines.detail ≡ old.lines.detail)
         × (new.lines.notes ≡ told.notes)
@@ -69,5 +69,14 @@ impl Teller for PictureTeller {
         inode_count: u32,
     ) -> Result<(), Unwritten> {
         self.lines.print(out, event, inode_count)
+    }
+
+    fn print_end<O: Write>(
+        &self,
+        out: &mut O,
+        writes: u64,
+        committed: u64,
+    ) -> Result<(), Unwritten> {
+        self.lines.print_end(out, writes, committed)
     }
 }

@@ -3,6 +3,7 @@ ghost use Rattle.std.specs.Prelude.{◌≡◌, ◌≤◌, IfErr, IfOk, OnOk, unw
 ghost use Rattle.cmd.specs.Lemmas.Disks.{file_disk};
 ghost use Rattle.cmd.specs.Opened.{OpensDisk};
 ghost use Rattle.commands.specs.Copied.{copied_image};
+ghost use Rattle.player.specs.Told.{in_lines};
 ghost use Rattle.commands_runs.specs.Pictures.{
   HasPicture,
   IsPictured,
@@ -68,24 +69,25 @@ impl Reason for PicturedRefusal {
 pub fn replay_into<R: Locks + AllocGlobal, P: Meter, H: Holder<R::File>, O: Write>(
     rt: &R,
     replay: Replay<'_>,
+    detail: Detail,
     picture: Option<&str>,
     progress: &mut P,
     holder: &mut H,
     out: &mut O,
 ) -> Result<(), PicturedRefusal>
     ensures done { OnOk result (OpensDisk R.File.remaining file_disk replay.entry.sync
-        (IsReplayedInto R.File.contents replay.entry.sync replay.entry.detail
+        (IsReplayedInto R.File.contents replay.entry.sync detail
         (unwrap_or replay.entry.stop 0) (O.contents out.old) (O.contents out.new)
         picture.entry)) }
     ensures refused { IfErr result (IsUnpictured R.File.remaining replay.entry.sync
-        replay.entry.detail (unwrap_or replay.entry.stop 0)
+        detail (unwrap_or replay.entry.stop 0)
         (O.contents out.old) (O.contents out.new) (out.new ≡ out.old)) }
     ensures unbegun { IfErr result (λ refusal. IsUnbegun refusal → holder.new ≡ holder.old) }
 {
     if let Some(path) = picture {
-        return replay_pictured(rt, replay, path, progress, holder, out);
+        return replay_pictured(rt, replay, detail, path, progress, holder, out);
     }
-    match replay_files(rt, replay, progress, out) {
+    match replay_files(rt, replay, detail, progress, out) {
         Ok(()) => Ok(()),
         Err(refusal) => Err(PicturedRefusal::Replay(refusal)),
     }
@@ -105,21 +107,22 @@ pub fn replay_into<R: Locks + AllocGlobal, P: Meter, H: Holder<R::File>, O: Writ
 pub fn replay_pictured<R: Locks + AllocGlobal, P: Meter, H: Holder<R::File>, O: Write>(
     rt: &R,
     replay: Replay<'_>,
+    detail: Detail,
     picture: &str,
     progress: &mut P,
     holder: &mut H,
     out: &mut O,
 ) -> Result<(), PicturedRefusal>
     ensures drawn { OnOk result (OpensDisk R.File.remaining file_disk replay.entry.sync
-        (IsReplayedSo replay.entry.detail (unwrap_or replay.entry.stop 0)
+        (IsReplayedSo (in_lines detail) (unwrap_or replay.entry.stop 0)
         (O.contents out.old) (O.contents out.new)
         (HasPicture R.File.contents replay.entry.sync))) }
     ensures refused { IfErr result (IsUnpictured R.File.remaining replay.entry.sync
-        replay.entry.detail (unwrap_or replay.entry.stop 0)
+        detail (unwrap_or replay.entry.stop 0)
         (O.contents out.old) (O.contents out.new) (out.new ≡ out.old)) }
     ensures unbegun { IfErr result (λ refusal. IsUnbegun refusal → holder.new ≡ holder.old) }
 {
-    let (mut teller, mut block) = match take_room(rt.alloc(), replay.detail) {
+    let (mut teller, mut block) = match take_room(rt.alloc(), detail) {
         Ok(room) => room,
         Err(_refused) => return Err(PicturedRefusal::NoMemory),
     };
@@ -148,7 +151,7 @@ fn replay_heard<R: Locks + AllocGlobal, P: Meter, O: Write>(
     out: &mut O,
 ) -> Result<Scene, PicturedRefusal>
     ensures replayed { IfOk result (λ scene. OpensDisk R.File.remaining file_disk replay.entry.sync
-        (IsReplayedSo teller.old.lines.detail (unwrap_or replay.entry.stop 0)
+        (IsReplayedSo (in_lines teller.old.lines.detail) (unwrap_or replay.entry.stop 0)
         (O.contents out.old) (O.contents out.new)
         (IsSceneOf teller.old.recorder teller.new.recorder replay.entry.sync scene))) }
     ensures refused { IfErr result (IsUnpictured R.File.remaining replay.entry.sync

@@ -3,13 +3,14 @@ ghost use Rattle.std.specs.Prelude.{◌≡◌, IfErr, IfOk, OnOk, unwrap_or};
 ghost use Rattle.sysring.specs.Origins.{AreWorkers};
 ghost use Rattle.cmd.specs.Lemmas.Disks.{file_disk};
 ghost use Rattle.cmd.specs.Opened.{IsOpened, OpensDisk};
+ghost use Rattle.player.specs.Told.{in_lines, in_objects};
 ghost use Rattle.commands_runs.specs.Runs.{IsNotRun, IsReplayed, IsRun, IsScenario, IsUnread, IsUnreplayed, replay_files_telling, run_files_telling};
 
 use blocks::{FileDisk, FileFault};
 use cmd::{Access, Locking, Locks, open_for};
 use commands::{schedule_from, script_from};
 use messages::{Detail, Meter, Reason, Told};
-use player::{ReplayRefusal, Scenario, replay_disk};
+use player::{ReplayRefusal, Scenario, replay_disk, replay_objects};
 use runner::{RunRefusal, run_disk};
 use scripts::{ScheduleFault, ScriptFault, processes};
 use std::io::Write;
@@ -81,8 +82,6 @@ pub struct Replay<'a> {
     pub sync: bool,
     /// How its lock is taken, once script and schedule are read.
     pub locking: Locking,
-    /// What is told of the steps.
-    pub detail: Detail,
 }
 
 /// Recovers the image in the file of a replay, and makes the operations of its script in the turns of
@@ -95,21 +94,53 @@ pub struct Replay<'a> {
 pub fn replay_files<R: Locks + AllocGlobal, P: Meter, O: Write>(
     rt: &R,
     replay: Replay<'_>,
+    detail: Detail,
     progress: &mut P,
     out: &mut O,
 ) -> Result<(), ReplayFilesRefusal>
     ensures opened { OnOk result (OpensDisk R.File.remaining file_disk replay.entry.sync
-        (IsReplayed replay.entry.detail (unwrap_or replay.entry.stop 0)
+        (IsReplayed (in_lines detail) (unwrap_or replay.entry.stop 0)
         (O.contents out.old) (O.contents out.new))) }
     ensures refused { IfErr result (IsUnreplayed R.File.remaining replay.entry.sync
-        replay.entry.detail (unwrap_or replay.entry.stop 0)
+        (in_lines detail) (unwrap_or replay.entry.stop 0)
         (O.contents out.old) (O.contents out.new) (out.new ≡ out.old)) }
 {
     let (scenario, disk) = match read_replay(rt, replay) {
         Ok(read) => read,
         Err(refusal) => return Err(refusal),
     };
-    let (ran, _disk) = replay_disk(rt.alloc(), disk, scenario, replay.detail, progress, out);
+    let (ran, _disk) = replay_disk(rt.alloc(), disk, scenario, detail, progress, out);
+    match ran {
+        Ok(()) => Ok(()),
+        Err(refusal) => Err(ReplayFilesRefusal::Replay(refusal)),
+    }
+}
+
+/// Recovers the image in the file of a replay, and makes the operations of its script in the turns of
+/// its schedule, as `replay_objects`. The meter is told how many of the schedule's words were done.
+///
+/// # Errors
+///
+/// A fault of the script, then of the schedule, then of `FileDisk::open`, then a refusal of
+/// `replay_objects`.
+pub fn replay_json<R: Locks + AllocGlobal, P: Meter, O: Write>(
+    rt: &R,
+    replay: Replay<'_>,
+    progress: &mut P,
+    out: &mut O,
+) -> Result<(), ReplayFilesRefusal>
+    ensures opened { OnOk result (OpensDisk R.File.remaining file_disk replay.entry.sync
+        (IsReplayed in_objects (unwrap_or replay.entry.stop 0)
+        (O.contents out.old) (O.contents out.new))) }
+    ensures refused { IfErr result (IsUnreplayed R.File.remaining replay.entry.sync
+        in_objects (unwrap_or replay.entry.stop 0)
+        (O.contents out.old) (O.contents out.new) (out.new ≡ out.old)) }
+{
+    let (scenario, disk) = match read_replay(rt, replay) {
+        Ok(read) => read,
+        Err(refusal) => return Err(refusal),
+    };
+    let (ran, _disk) = replay_objects(rt.alloc(), disk, scenario, progress, out);
     match ran {
         Ok(()) => Ok(()),
         Err(refusal) => Err(ReplayFilesRefusal::Replay(refusal)),

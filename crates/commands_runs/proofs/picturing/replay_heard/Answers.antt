@@ -4,12 +4,13 @@ use Rattle.cmd.specs.Lemmas.Disks.{file_disk}
 use Rattle.cmd.specs.Opened.{OpensDisk}
 use Rattle.commands_runs.specs.Pictures.{IsSceneOf, IsUnpictured}
 use Rattle.commands_runs.specs.Runs.{IsReplayedSo}
+use Rattle.player.specs.Told.{in_lines}
 use Rattle.commands_runs.proofs.picturing.replay_heard.Goals as goal
 
 pub returns-in-Ok-clause-replayed : goal.returns-in-Ok-clause-replayed
 returns-in-Ok-clause-replayed g c =
     let was = c.args.teller.now in
-    subst (λ (stop : Option ℕ). IfOk c.replay_told.result (λ scene. OpensDisk g.R.File.Read.remaining file_disk c.args.replay.sync (IsReplayedSo was.lines.detail (unwrap_or stop 0) (g.O.Write.contents c.args.out.now) (g.O.Write.contents c.replay_told.new.out) (IsSceneOf was.recorder c.replay_told.new.teller.recorder c.args.replay.sync scene))))
+    subst (λ (stop : Option ℕ). IfOk c.replay_told.result (λ scene. OpensDisk g.R.File.Read.remaining file_disk c.args.replay.sync (IsReplayedSo (in_lines was.lines.detail) (unwrap_or stop 0) (g.O.Write.contents c.args.out.now) (g.O.Write.contents c.replay_told.new.out) (IsSceneOf was.recorder c.replay_told.new.teller.recorder c.args.replay.sync scene))))
     c.in-Ok.ensures.scenario.stops c.replay_told.ensures.replayed
 
 pub returns-in-Ok-clause-refused : goal.returns-in-Ok-clause-refused

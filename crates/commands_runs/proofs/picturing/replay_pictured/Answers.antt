@@ -13,7 +13,7 @@ returns-in-Ok-replayed-clause-drawn g c =
       (
         told.1.0,
         told.1.1,
-        pictured g.R.File.Write.contents c.args.replay.detail (unwrap_or c.args.replay.stop 0) (g.O.Write.contents c.args.out.now) (g.O.Write.contents c.replay_heard-replayed.new.out) c.in-Ok.room.0.recorder c.recorder.result.now c.args.replay.sync c.in-Ok-replayed.scene told.0
+        pictured g.R.File.Write.contents c.args.detail (unwrap_or c.args.replay.stop 0) (g.O.Write.contents c.args.out.now) (g.O.Write.contents c.replay_heard-replayed.new.out) c.in-Ok.room.0.recorder c.recorder.result.now c.args.replay.sync c.in-Ok-replayed.scene told.0
             told.1.0 c.in-Ok.ensures.none so fits drawn,
       ),
     )) c.draw_run.ensures.fits c.draw_run.ensures.drawn
@@ -23,5 +23,5 @@ returns-in-Ok-replayed-clause-refused g c =
     let told = c.in-Ok-replayed.ensures.replayed in
     let so = heard_so _ _ _ _ _ _ _ _ _ _ _ _ c.in-Ok.ensures.detail c.recorder.ensures told.1.2 in
     IfErr-weaker c.draw_run.result _ _
-    (unpictured_for g.R.File.Write.contents c.args.replay.detail (unwrap_or c.args.replay.stop 0) (g.O.Write.contents c.args.out.now) (g.O.Write.contents c.replay_heard-replayed.new.out) c.in-Ok.room.0.recorder c.recorder.result.now c.args.replay.sync c.in-Ok-replayed.scene told.0
+    (unpictured_for g.R.File.Write.contents c.args.detail (unwrap_or c.args.replay.stop 0) (g.O.Write.contents c.args.out.now) (g.O.Write.contents c.replay_heard-replayed.new.out) c.in-Ok.room.0.recorder c.recorder.result.now c.args.replay.sync c.in-Ok-replayed.scene told.0
     told.1.0 c.in-Ok.ensures.none so g.R.File.Read.remaining _ told.1.1) c.draw_run.ensures.undrawn
