@@ -5,7 +5,7 @@ use Rattle.cli.specs.Asking.{HasChoice, HasFlag, HasNumber, Wording, WritesNumbe
 use Rattle.cli.specs.declared.words.Part.{Part}
 use Rattle.cli.specs.declared.words.Part.TheVariants.{Whole, File, Log}
 use Rattle.cli.specs.declared.words.Request.{Request}
-use Rattle.cli.specs.declared.words.Request.TheVariants.{Mkfs, Check, Recover, Cat, Ls, Df, Show, ShowLog, ShowPicture, Put, Copy, Rescue, Replay, Run, Stops}
+use Rattle.cli.specs.declared.words.Request.TheVariants.{Mkfs, Check, Recover, Cat, Ls, Df, Show, ShowLog, ShowPicture, Put, Copy, Rescue, Replay, ReplayJson, Run, Stops}
 use Rattle.clap.specs.declared.builder.command.Command.{Command}
 use Rattle.clap.specs.declared.builder.command.Command.TheViews.{out-Command}
 use Rattle.clap.specs.declared.builder.action.ArgAction.TheVariants.{SetTrue}
@@ -97,10 +97,11 @@ rescue_app = with_rule (with_rule (waiting_app (codes "rescue") (codes "OLD"))
     (required_rule (codes "NEW"))) (flag_rule (codes "no-sync"))
 
 abbrev pub replay_app : App
-replay_app = with_rule (with_rule (with_rule (with_rule (with_rule (with_rule (with_rule
+replay_app = with_rule (with_rule (with_rule (with_rule (with_rule (with_rule (with_rule (with_rule
     (image_app (codes "replay")) (required_rule (codes "SCRIPT")))
     (required_rule (codes "SCHEDULE"))) stop_rule) (flag_rule (codes "sync")))
-    (flag_rule (codes "writes"))) (flag_rule (codes "steps"))) picture_rule
+    (flag_rule (codes "writes"))) (flag_rule (codes "steps"))) picture_rule)
+    (flag_rule (codes "json"))
 
 -- `--workers N`, where N is from 1 to 32
 abbrev pub workers_rule : Rule
@@ -231,6 +232,14 @@ AsksBy name rows (Replay image script schedule stop sync writes steps picture) =
     × HasChoice 64 (codes "stop") rows stop × HasFlag (codes "sync") rows sync
     × HasFlag (codes "writes") rows writes × HasFlag (codes "steps") rows steps
     × (option_map (λ path. path.now) picture ≡ first_of (codes "picture") rows)
+    × HasFlag (codes "json") rows false
+AsksBy name rows (ReplayJson image script schedule stop sync) =
+    (name ≡ codes "replay") × (first_of (codes "IMAGE") rows ≡ Some image.now)
+    × (first_of (codes "SCRIPT") rows ≡ Some script.now)
+    × (first_of (codes "SCHEDULE") rows ≡ Some schedule.now)
+    × HasChoice 64 (codes "stop") rows stop × HasFlag (codes "sync") rows sync
+    × HasFlag (codes "json") rows true × HasFlag (codes "writes") rows false
+    × HasFlag (codes "steps") rows false × (first_of (codes "picture") rows ≡ None)
 AsksBy name rows (Run image script workers group sync) =
     (name ≡ codes "run") × (first_of (codes "IMAGE") rows ≡ Some image.now)
     × (first_of (codes "SCRIPT") rows ≡ Some script.now) × HasWorkers rows workers

@@ -348,6 +348,11 @@ const LINES: &[Line] = &[
                 kind: Kind::Path,
                 help: "Draws the steps into this file, too, as a page that a browser shows",
             },
+            Word {
+                name: "json",
+                kind: Kind::Flag,
+                help: "Prints lines of JSON in place of text: an object for each step and each turn, then the counts",
+            },
         ],
     },
     Line {

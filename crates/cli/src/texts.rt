@@ -53,6 +53,18 @@ pub const SCHEDULE: &[&str] = &[
     "length) and bytes HEX (- for none). A refusal is refused with 1 NoFile, 2",
     "BadOffset (a write begins after the file's end, or a length lies there), 3",
     "TooBig (it would end after the largest file), 4 TooLong or 5 BadType.",
+    "",
+    "With --json it prints lines of JSON: an object for each step of a turn, then",
+    "one for the turn; last one with writes and committed. Fields may be added, none",
+    "changes. It excludes --writes, --steps, --picture.",
+    "",
+    "- A step: step, its number in the turn; process; deed, with inode or block;",
+    "   came; why it waits, by whom; groups opened, committed.",
+    "- Its write: write, block, part; of log place and home, of header count and",
+    "   group, of home area. Its sync: sync, and the part that ends.",
+    "- A turn: event, as stepped (process, came, why), answered (process, operation,",
+    "   group, reply), stopped (write) or shut.",
+    "- A reply: inode, count, bytes, or type, links, size; refused has why.",
 ];
 
 pub const REFUSALS: &[&str] = &[

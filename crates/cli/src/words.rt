@@ -1,6 +1,7 @@
 // What the words of a command line ask `xvfs` for.
 ghost use Rattle.std.specs.Prelude.{◌≡◌, true, codes, option_map, IfSome};
 ghost use Rattle.clap.specs.Words.{found_of, is_simple_and_free, rows_of};
+ghost use Rattle.cli.specs.Asking.{HasFlag};
 ghost use Rattle.cli.specs.CommandLine.{AsksBy, HasPart, HasWorkers, xvfs_app, xvfs_words};
 ghost use Rattle.cli.specs.Table.{outline_app};
 ghost use Rattle.cli.specs.declared.words.Part.TheVariants as parts;
@@ -131,6 +132,19 @@ pub enum Request<'a> {
         /// The path of the file into which the run is drawn.
         picture: Option<&'a str>,
     },
+    /// A script's operations over an image, told as JSON.
+    ReplayJson {
+        /// The path of the image's file.
+        image: &'a str,
+        /// The path of the script.
+        script: &'a str,
+        /// The path of the schedule.
+        schedule: &'a str,
+        /// The write, counted from 1 after the opening, before which it stops.
+        stop: Option<u64>,
+        /// Whether the file holds writes back until it is synced.
+        sync: bool,
+    },
     /// A script's operations over an image, by callers and workers on threads.
     Run {
         /// The path of the image's file.
@@ -229,6 +243,9 @@ fn rescue_request<'a>(values: &ArgMatches<'a>) -> Option<Request<'a>>
 fn replay_request<'a>(values: &ArgMatches<'a>) -> Option<Request<'a>>
     ensures { IfSome result (AsksBy (codes "replay") (rows_of (found_of values.now))) }
 {
+    if values.get_flag("json") {
+        return json_request(values);
+    }
     Some(Request::Replay {
         image: values.get_str("IMAGE")?,
         script: values.get_str("SCRIPT")?,
@@ -239,6 +256,25 @@ fn replay_request<'a>(values: &ArgMatches<'a>) -> Option<Request<'a>>
         steps: values.get_flag("steps"),
         picture: values.get_str("picture"),
     })
+}
+
+// A replay that is told as JSON, with all of each step, and is not drawn.
+fn json_request<'a>(values: &ArgMatches<'a>) -> Option<Request<'a>>
+    requires { HasFlag (codes "json") (rows_of (found_of values.now)) true }
+    ensures { IfSome result (AsksBy (codes "replay") (rows_of (found_of values.now))) }
+{
+    let writes = values.get_flag("writes");
+    let steps = values.get_flag("steps");
+    match (writes, steps, values.get_str("picture")) {
+        (false, false, None) => Some(Request::ReplayJson {
+            image: values.get_str("IMAGE")?,
+            script: values.get_str("SCRIPT")?,
+            schedule: values.get_str("SCHEDULE")?,
+            stop: values.get_one("stop"),
+            sync: values.get_flag("sync"),
+        }),
+        _ => None,
+    }
 }
 
 fn mkfs_request<'a>(values: &ArgMatches<'a>) -> Option<Request<'a>>
