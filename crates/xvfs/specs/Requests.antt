@@ -8,7 +8,7 @@ use Rattle.cli.specs.CommandLine.{xvfs_words}
 use Rattle.cli.specs.Topics.{AsksAbout, topic_text}
 use Rattle.cli.specs.declared.topics.Topic.{Topic}
 use Rattle.cli.specs.declared.words.Request.{Request}
-use Rattle.cli.specs.declared.words.Request.TheVariants.{Mkfs, Check, Recover, Cat, Ls, Df, Show, ShowLog, ShowPicture, Put, Copy, Rescue, Replay, Run, Stops}
+use Rattle.cli.specs.declared.words.Request.TheVariants.{Mkfs, Check, Recover, Cat, Ls, Df, Show, ShowLog, ShowPicture, Put, Copy, Rescue, Replay, ReplayJson, Run, Stops}
 use Rattle.cmd.specs.Batches.{AreDone, StopsAmong}
 use Rattle.cmd.specs.Lemmas.Disks.{file_disk}
 use Rattle.cmd.specs.Opened.{OpensDisk}
@@ -17,9 +17,10 @@ use Rattle.inspect.specs.Causes.{IsHidden, IsUncounted, IsUndrawn, IsUnlisted}
 use Rattle.inspect.specs.Looks.{HasCounted, HasListed, HasLogShown, HasShown as HasBlocksShown}
 use Rattle.player.specs.Causes.{IsNotRecovered, IsUncheckedBy}
 use Rattle.player.specs.Looks.{HasRecovered, HasReported}
+use Rattle.player.specs.Told.{in_objects}
 use Rattle.commands_runs.specs.Cats.{HasCat, IsNotCat}
 use Rattle.commands_runs.specs.Pictures.{IsReplayedInto, IsUnpictured}
-use Rattle.commands_runs.specs.Runs.{IsNotRun, IsRun}
+use Rattle.commands_runs.specs.Runs.{IsNotRun, IsReplayed, IsRun, IsUnreplayed}
 use Rattle.commands.specs.Shown.{IsShownInto, IsUnshown}
 use Rattle.commands_changes.specs.Copies.{HasCopied, OnCopyRefusal}
 use Rattle.commands_changes.specs.Making.{IsMade, IsNotMade}
@@ -64,6 +65,8 @@ Answers file (Rescue from to no_sync) old new =
 Answers file (Replay image script schedule stop sync writes steps picture) old new =
     OpensDisk file.remaining file_disk sync (IsReplayedInto file.contents sync
     (record { steps = steps; writes = writes }) (unwrap_or stop 0) old new picture)
+Answers file (ReplayJson image script schedule stop sync) old new =
+    OpensDisk file.remaining file_disk sync (IsReplayed in_objects (unwrap_or stop 0) old new)
 Answers file (Run image script workers group sync) old new =
     OpensDisk file.remaining file_disk sync (IsRun old new)
 Answers file (Stops script schedule held picture) old new =
@@ -104,6 +107,8 @@ OnRefused file (Rescue from to no_sync) old new none =
 OnRefused file (Replay image script schedule stop sync writes steps picture) old new none =
     Refuses (IsUnpictured file.remaining sync (record { steps = steps; writes = writes })
     (unwrap_or stop 0) old new none)
+OnRefused file (ReplayJson image script schedule stop sync) old new none =
+    Refuses (IsUnreplayed file.remaining sync in_objects (unwrap_or stop 0) old new none)
 OnRefused file (Run image script workers group sync) old new none =
     Refuses (IsNotRun file.remaining sync old new none)
 OnRefused file (Stops script schedule held picture) old new none =

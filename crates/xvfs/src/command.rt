@@ -16,7 +16,7 @@ use cli::{Asked, Request, Topic, parse};
 use cmd::{Access, Locking, Locks, OverFile, end, perform};
 use commands::{Keeper, ShowPicture, explain};
 use commands_changes::{Copy, Making, Mkfs, Put, Rescue, Target};
-use commands_runs::{Cat, Replay, replay_into, run_files};
+use commands_runs::{Cat, Replay, replay_into, replay_json, run_files};
 use commands_stops::{end_stops, stops_into};
 use inspect::{Df, Ls, Show, ShowLog};
 use messages::Detail;
@@ -341,13 +341,31 @@ where
                 stop,
                 sync,
                 locking,
-                detail: Detail { steps, writes },
             };
+            let detail = Detail { steps, writes };
             end(
                 NAME,
-                replay_into(rt, replay, picture, &mut progress, &mut holder, out),
+                replay_into(rt, replay, detail, picture, &mut progress, &mut holder, out),
                 err,
             )
+        }
+        Request::ReplayJson {
+            image,
+            script,
+            schedule,
+            stop,
+            sync,
+        } => {
+            let mut progress = TerminalMeter::beside_lines(rt);
+            let replay = Replay {
+                image,
+                script,
+                schedule,
+                stop,
+                sync,
+                locking,
+            };
+            end(NAME, replay_json(rt, replay, &mut progress, out), err)
         }
         Request::Run {
             image,

@@ -62,6 +62,12 @@ pub fn given<'a>(request: &Request<'a>) -> Given<'a> {
             picture,
             ..
         } => played(Given::over(image, true), script, schedule, picture),
+        Request::ReplayJson {
+            image,
+            script,
+            schedule,
+            ..
+        } => played(Given::over(image, true), script, schedule, None),
         Request::Run { image, script, .. } => Given {
             script: Some(script),
             ..Given::over(image, true)

@@ -66,6 +66,14 @@ pub returns-in-Replay-clause-refused : goal.returns-in-Replay-clause-refused
 returns-in-Replay-clause-refused g c =
     λ refused. subst (λ request. OnRefused (seen_by g.R.File.Read.remaining g.R.File.Write.contents) request (g.O.Write.contents c.args.out.now) (g.O.Write.contents c.replay_into.new.out) (c.replay_into.new.out ≡ c.args.out.now)) (sym c.in-Replay.is) (was_refused c.replay_into.result _ c.replay_into.ensures.refused (c.end.ensures.refused refused))
 
+pub returns-in-ReplayJson-clause-done : goal.returns-in-ReplayJson-clause-done
+returns-in-ReplayJson-clause-done g c =
+    λ done. subst (λ request. Answers (seen_by g.R.File.Read.remaining g.R.File.Write.contents) request (g.O.Write.contents c.args.out.now) (g.O.Write.contents c.replay_json.new.out)) (sym c.in-ReplayJson.is) (was_done c.replay_json.result _ c.replay_json.ensures.opened (c.end-in-ReplayJson.ensures.done done))
+
+pub returns-in-ReplayJson-clause-refused : goal.returns-in-ReplayJson-clause-refused
+returns-in-ReplayJson-clause-refused g c =
+    λ refused. subst (λ request. OnRefused (seen_by g.R.File.Read.remaining g.R.File.Write.contents) request (g.O.Write.contents c.args.out.now) (g.O.Write.contents c.replay_json.new.out) (c.replay_json.new.out ≡ c.args.out.now)) (sym c.in-ReplayJson.is) (was_refused c.replay_json.result _ c.replay_json.ensures.refused (c.end-in-ReplayJson.ensures.refused refused))
+
 pub returns-in-Run-clause-done : goal.returns-in-Run-clause-done
 returns-in-Run-clause-done g c =
     λ done. subst (λ request. Answers (seen_by g.R.File.Read.remaining g.R.File.Write.contents) request (g.O.Write.contents c.args.out.now) (g.O.Write.contents c.run_files.new.out)) (sym c.in-Run.is) (was_done c.run_files.result _ c.run_files.ensures.opened (c.end-in-Run.ensures.done done))
