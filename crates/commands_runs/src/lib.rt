@@ -18,5 +18,5 @@ mod scene;
 
 pub use cats::Cat;
 pub use picture_teller::PictureTeller;
-pub use picturing::{PicturedRefusal, replay_into, replay_pictured};
-pub use runs::{Replay, ReplayFilesRefusal, RunFilesRefusal, replay_files, replay_json, run_files};
+pub use picturing::{PicturedRefusal, replay_into};
+pub use runs::{Replay, ReplayFilesRefusal, RunFilesRefusal, replay_json, run_files};

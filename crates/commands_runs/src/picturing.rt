@@ -60,12 +60,18 @@ impl Reason for PicturedRefusal {
     }
 }
 
-/// Replays a script as `replay_files`, and draws its steps as `replay_pictured` where a path is given
-/// for that.
+/// Recovers the image in the file of a replay, and makes the operations of its script in the turns of
+/// its schedule, as `replay_disk`. The meter is told how many of the schedule's words were done. Where
+/// a path is given as `picture`, the steps are then drawn into the file at it.
 ///
 /// # Errors
 ///
-/// As those of `replay_pictured`.
+/// - `NoMemory`: nothing was done.
+/// - `Replay`: a fault of the script, then of the schedule, then of `FileDisk::open`, then a refusal of
+///   `replay_disk`. Nothing was drawn.
+/// - `TooLong`: the replay was made and printed, and has more steps than `MOST_COLUMNS`.
+/// - `Unfiled`: the same, and memory to make it once more was refused.
+/// - `Picture`: the same, with a fault of the file drawn into. With all but this the holder is as it was.
 pub fn replay_into<R: Locks + AllocGlobal, P: Meter, H: Holder<R::File>, O: Write>(
     rt: &R,
     replay: Replay<'_>,
@@ -93,18 +99,18 @@ pub fn replay_into<R: Locks + AllocGlobal, P: Meter, H: Holder<R::File>, O: Writ
     }
 }
 
-/// Replays a script as `replay_files`, and then draws its steps into the file at the path `picture`,
-/// as `draw`, with the files that recovery gives of what a stop leaves: before the first write, and
-/// behind each step with which a group was committed. For each of these stops the replay is made once
-/// more in memory, over a copy of the disk as it was opened.
-///
-/// # Errors
-///
-/// `NoMemory`, and then nothing was done; `Replay` with a refusal of `replay_files`, and then nothing
-/// was drawn. With the others the replay was made and printed: `TooLong` where it has more steps than
-/// `MOST_COLUMNS`; `Unfiled` where memory to make it once more is refused; `Picture` with a fault of
-/// `draw`. With all but `Picture` the holder is as it was.
-pub fn replay_pictured<R: Locks + AllocGlobal, P: Meter, H: Holder<R::File>, O: Write>(
+// Replays a script as `replay_files`, and then draws its steps into the file at the path `picture`,
+// as `draw`, with the files that recovery gives of what a stop leaves: before the first write, and
+// behind each step with which a group was committed. For each of these stops the replay is made once
+// more in memory, over a copy of the disk as it was opened.
+//
+// # Errors
+//
+// `NoMemory`, and then nothing was done; `Replay` with a refusal of `replay_files`, and then nothing
+// was drawn. With the others the replay was made and printed: `TooLong` where it has more steps than
+// `MOST_COLUMNS`; `Unfiled` where memory to make it once more is refused; `Picture` with a fault of
+// `draw`. With all but `Picture` the holder is as it was.
+pub(crate) fn replay_pictured<R: Locks + AllocGlobal, P: Meter, H: Holder<R::File>, O: Write>(
     rt: &R,
     replay: Replay<'_>,
     detail: Detail,

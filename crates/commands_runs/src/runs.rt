@@ -84,14 +84,14 @@ pub struct Replay<'a> {
     pub locking: Locking,
 }
 
-/// Recovers the image in the file of a replay, and makes the operations of its script in the turns of
-/// its schedule, as `replay_disk`. The meter is told how many of the schedule's words were done.
-///
-/// # Errors
-///
-/// A fault of the script, then of the schedule, then of `FileDisk::open`, then a refusal of
-/// `replay_disk`.
-pub fn replay_files<R: Locks + AllocGlobal, P: Meter, O: Write>(
+// Recovers the image in the file of a replay, and makes the operations of its script in the turns of
+// its schedule, as `replay_disk`. The meter is told how many of the schedule's words were done.
+//
+// # Errors
+//
+// A fault of the script, then of the schedule, then of `FileDisk::open`, then a refusal of
+// `replay_disk`.
+pub(crate) fn replay_files<R: Locks + AllocGlobal, P: Meter, O: Write>(
     rt: &R,
     replay: Replay<'_>,
     detail: Detail,
