@@ -1,3 +1,4 @@
+mod Behind
 pub mod Cuts
 pub mod Relinking
 pub mod Staying

@@ -26,6 +26,7 @@ use Rattle.directories.specs.TreeChanges.{directory_file, empty_file, IsUnnamed}
 use Rattle.directories.specs.Trees.{new_directory, IsFile, IsTree}
 use Rattle.directories.specs.Lemmas.CountedChanges.{root_is_counted}
 use Rattle.names.proofs.Going.{wider}
+use Rattle.names.proofs.PlainPuts.{none_by}
 use Rattle.directories.specs.Lemmas.Unnamed.{create_makes, write_fills}
 use Rattle.directories.specs.Lemmas.WholeChanges.{filled_by, makes_root_whole}
 
@@ -42,11 +43,6 @@ root_of form files made new none create fill =
       tree,
       root_is_counted new tree unnamed.there (λ i ne. unnamed.rest i ne ∙ none i ne),
     )
-
--- the cause that hindered it is none
-none_by : (o : Option Refusal) → ((x : Refusal) → o ≡ Some x → ⊥) → o ≡ None
-none_by None not = refl
-none_by (Some x) not = absurd (not x refl)
 
 module _ {D N : Type 0} (disk : Ghosts D N) where
   pub root_filled : (k a b : Plain D) (i : ℕ) (reply : Reply) (whole : Bool) → a.opening ≡ k.opening → reply ≡ Made i → i ≡ 1 →

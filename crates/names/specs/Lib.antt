@@ -15,3 +15,4 @@ pub mod Replacing
 pub mod Opening
 pub mod Lemmas
 pub mod Stops
+pub mod Runs

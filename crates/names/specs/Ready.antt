@@ -1,5 +1,5 @@
 -- A tree of directories on a kernel's disk, and what a transaction makes of it.
-use Rattle.std.specs.Prelude.{◌≡◌, ◌≢◌, ◌⊎◌, ℕ, ◌+◌, ◌^◌, ◌<◌, ◌≤◌, ◌==◌, Bool, false, IsTrue, List, length, Option, Some, None, Result, Ok, Err}
+use Rattle.std.specs.Prelude.{◌≡◌, ◌≢◌, ◌⊎◌, ⊤, ℕ, ◌+◌, ◌^◌, ◌<◌, ◌≤◌, ◌==◌, Bool, false, IsTrue, List, length, Option, Some, None, Result, Ok, Err}
 use Rattle.blocks.specs.Disk.{Image, LeavesOnly}
 use Rattle.blocks.specs.declared.disk.Disk.{Ghosts}
 use Rattle.model.specs.Files.{Files, file_in, files_of}
@@ -87,15 +87,27 @@ IsRootless disk k m (Call cause) = IsBroken disk k m (Call cause)
 IsRootless disk k m NoSpace = ⊥
 IsRootless disk k m NoCall = IsBroken disk k m NoCall
 
--- No call was left in kernel k, which is m now: nothing was done.
-abbrev pub HasNoCall : {D T : Type 0} → Plain D → Plain D → Result T TreeFault → Type 0
-HasNoCall k m (Err (Path cause)) = m ≡ k
-HasNoCall k m (Err NoCall) = m ≡ k
-HasNoCall k m result = ⊥
+-- No call was left in tree t, which is u now: nothing was done, and that is the answer.
+abbrev pub HasNoCall : {S T : Type 0} → S → S → Result T TreeFault → Type 0
+HasNoCall t u (Err NoCall) = u ≡ t
+HasNoCall t u result = ⊥
+
+-- the same of a call at a path, which may be none
+abbrev pub HasNoCallAt : {S T : Type 0} → List ℕ → S → S → Result T TreeFault → Type 0
+HasNoCallAt path t u (Err (Path cause)) = (u ≡ t) × IsPathCause path cause
+HasNoCallAt path t u result = HasNoCall t u result
 
 -- the same as being ready, unless no call is left
 abbrev pub MayGoOn : {D N : Type 0} → Ghosts D N → Plain D → ℕ → Type 0
 MayGoOn disk k left = 0 < left → IsReady disk k left
+
+-- Behind a call that was done, or that the files refused, the tree is ready for the next one. Behind one
+-- that was not answered no other one is made.
+abbrev pub IsReadyBehind : {D N T : Type 0} → Ghosts D N → Plain D → ℕ → Result T TreeFault → Type 0
+IsReadyBehind disk m left (Ok made) = IsReady disk m left
+IsReadyBehind disk m left (Err (Path cause)) = ⊤
+IsReadyBehind disk m left (Err (Refused cause)) = IsReady disk m left
+IsReadyBehind disk m left (Err cause) = left ≡ 0
 
 -- a transaction began with the files on the disk
 pub record HasBegun {D N : Type 0} (disk : Ghosts D N) (k m : Plain D) (left : ℕ) : Type 0 where
@@ -155,6 +167,21 @@ abbrev pub LeavesTree : {D N T : Type 0} → Ghosts D N → (T → Files → Fil
 LeavesTree disk change k m =
     LeavesOnly disk.moment disk.leaves k.store.volume.device m.store.volume.device
     (KeepsTree change (image_on disk.image k))
+
+-- a change made something of files
+abbrev pub AnyOf : {T : Type 0} → (T → Files → Files → Type 0) → Files → Files → Type 0
+AnyOf {T} change files new = (made : T) × change made files new
+
+-- What a stop leaves of changes over kernel k, now m: recovery gives a sound image whose files are a
+-- tree, those that were on the disk or such as the changes may leave.
+abbrev pub LeavesMidst : {D N : Type 0} → Ghosts D N → (Files → Files → Type 0) → Plain D → Plain D
+    → Type 0
+LeavesMidst disk midst k m = LeavesTree disk (λ (made : Unit {0}). midst) k m
+
+-- nothing was done over kernel k, which is m now, or a stop leaves of it as said
+abbrev pub LeavesIfDone : {D N : Type 0} → Ghosts D N → (Files → Files → Type 0) → Plain D → Plain D
+    → Type 0
+LeavesIfDone disk midst k m = (m ≡ k) ⊎ LeavesMidst disk midst k m
 
 -- Why a call is not answered, in kernel k, which is m now: the files refuse, which are as they were, or
 -- a call of the kernel failed, or as many were answered as a tree makes, besides what else is said to

@@ -13,7 +13,7 @@ use Rattle.names.specs.declared.planning.Rise.{Rise}
 use Rattle.names.specs.declared.refusal.TreeFault.{TreeFault}
 use Rattle.names.specs.declared.refusal.TreeFault.TheVariants.{Path, Refused, Call, NoSpace, NoCall}
 use Rattle.directories.specs.Paths.{IsPathCause}
-use Rattle.names.specs.Ready.{IsUnanswered}
+use Rattle.names.specs.Ready.{HasNoCall, IsUnanswered}
 use Rattle.directories.specs.TreeChanges.{MovesDirectory, MovesName}
 use Rattle.directories.specs.Trees.{directory_in, links_of, number_of, parent_name, IsDirectory, IsDown, IsOutside}
 use Rattle.directories.specs.Walks.{IsUnled, LeadsIn}
@@ -129,3 +129,9 @@ IsUndoneAtBoth disk path into why k m (Refused cause) = IsUnanswered disk why k 
 IsUndoneAtBoth disk path into why k m (Call cause) = IsUnanswered disk why k m (Call cause)
 IsUndoneAtBoth disk path into why k m NoSpace = IsUnanswered disk why k m NoSpace
 IsUndoneAtBoth disk path into why k m NoCall = IsUnanswered disk why k m NoCall
+
+-- no call was left, as for one at a path
+abbrev pub HasNoCallAtBoth : {S T : Type 0} → List ℕ → List ℕ → S → S → Result T TreeFault → Type 0
+HasNoCallAtBoth path into t u (Err (Path cause)) =
+    (u ≡ t) × (IsPathCause path cause ⊎ IsPathCause into cause)
+HasNoCallAtBoth path into t u result = HasNoCall t u result

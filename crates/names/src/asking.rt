@@ -6,7 +6,7 @@ ghost use Rattle.model.specs.Files.{files_of};
 ghost use Rattle.names.specs.Inside.{files_seen, IsUnderWay, Proceeds, SeesSame, Never};
 ghost use Rattle.names.specs.Looks.{IsFound, Looks};
 ghost use Rattle.directories.specs.Paths.{names_of};
-ghost use Rattle.names.specs.Ready.{HasNoCall, IsReady, IsUndone, LeavesTree, MayGoOn};
+ghost use Rattle.names.specs.Ready.{HasNoCallAt, IsReady, IsReadyBehind, IsUndone, LeavesTree, MayGoOn};
 ghost use Rattle.directories.specs.Trees.{IsFile};
 ghost use Rattle.directories.specs.Walks.{Finds, IsUnfound, IsUnlisted, Lists};
 
@@ -111,15 +111,14 @@ impl<D: Disk> Tree<D> {
     pub fn lookup(&mut self, alloc: Global, path: &[u8]) -> Result<u32, TreeFault>
         requires ready { MayGoOn D.Disk self.old.kernel self.old.calls_left }
         ensures ready { MayGoOn D.Disk self.new.kernel self.new.calls_left }
-        ensures done { OnOk result (IsReady D.Disk self.new.kernel self.new.calls_left) }
+        ensures done { IsReadyBehind D.Disk self.new.kernel self.new.calls_left result }
         ensures finds { IfOk result (λ number. Finds (names_of path.now) number
             (files_of (image_on D.image self.old.kernel))
             (files_of (image_on D.image self.new.kernel))) }
         ensures refused { IsReady D.Disk self.old.kernel self.old.calls_left → IfErr result
             (IsUndone D.Disk path.now (IsUnfound (names_of path.now))
             self.old.kernel self.new.kernel) }
-        ensures none { self.old.calls_left ≡ 0
-            → HasNoCall self.old.kernel self.new.kernel result }
+        ensures none { self.old.calls_left ≡ 0 → HasNoCallAt path.now self.old self.new result }
         ensures leaves { 0 < self.old.calls_left → LeavesTree D.Disk (Finds (names_of path.now))
             self.old.kernel self.new.kernel }
         ensures stays { StaysOver D.Disk self.old.kernel self.new.kernel }
@@ -138,15 +137,14 @@ impl<D: Disk> Tree<D> {
     pub fn look(&mut self, alloc: Global, path: &[u8]) -> Result<Found, TreeFault>
         requires ready { MayGoOn D.Disk self.old.kernel self.old.calls_left }
         ensures ready { MayGoOn D.Disk self.new.kernel self.new.calls_left }
-        ensures done { OnOk result (IsReady D.Disk self.new.kernel self.new.calls_left) }
+        ensures done { IsReadyBehind D.Disk self.new.kernel self.new.calls_left result }
         ensures looks { IfOk result (λ found. Looks (names_of path.now) found
             (files_of (image_on D.image self.old.kernel))
             (files_of (image_on D.image self.new.kernel))) }
         ensures refused { IsReady D.Disk self.old.kernel self.old.calls_left → IfErr result
             (IsUndone D.Disk path.now (IsUnfound (names_of path.now))
             self.old.kernel self.new.kernel) }
-        ensures none { self.old.calls_left ≡ 0
-            → HasNoCall self.old.kernel self.new.kernel result }
+        ensures none { self.old.calls_left ≡ 0 → HasNoCallAt path.now self.old self.new result }
         ensures leaves { 0 < self.old.calls_left → LeavesTree D.Disk (Looks (names_of path.now))
             self.old.kernel self.new.kernel }
         ensures stays { StaysOver D.Disk self.old.kernel self.new.kernel }
@@ -186,15 +184,14 @@ impl<D: Disk> Tree<D> {
     pub fn list(&mut self, alloc: Global, path: &[u8]) -> Result<Content, TreeFault>
         requires ready { MayGoOn D.Disk self.old.kernel self.old.calls_left }
         ensures ready { MayGoOn D.Disk self.new.kernel self.new.calls_left }
-        ensures done { OnOk result (IsReady D.Disk self.new.kernel self.new.calls_left) }
+        ensures done { IsReadyBehind D.Disk self.new.kernel self.new.calls_left result }
         ensures lists { IfOk result (λ bytes. Lists (names_of path.now) bytes
             (files_of (image_on D.image self.old.kernel))
             (files_of (image_on D.image self.new.kernel))) }
         ensures refused { IsReady D.Disk self.old.kernel self.old.calls_left → IfErr result
             (IsUndone D.Disk path.now (IsUnlisted (names_of path.now))
             self.old.kernel self.new.kernel) }
-        ensures none { self.old.calls_left ≡ 0
-            → HasNoCall self.old.kernel self.new.kernel result }
+        ensures none { self.old.calls_left ≡ 0 → HasNoCallAt path.now self.old self.new result }
         ensures leaves { 0 < self.old.calls_left → LeavesTree D.Disk (Lists (names_of path.now))
             self.old.kernel self.new.kernel }
         ensures stays { StaysOver D.Disk self.old.kernel self.new.kernel }

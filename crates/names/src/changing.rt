@@ -9,7 +9,7 @@ ghost use Rattle.directories.specs.declared.refusal.Refusal.{Refusal};
 ghost use Rattle.names.specs.declared.refusal.TreeFault.{TreeFault as SomeTreeFault};
 ghost use Rattle.names.specs.Inside.{files_seen, form_seen, IsUnderWay, ProceedsOr};
 ghost use Rattle.directories.specs.Paths.{names_of};
-ghost use Rattle.names.specs.Ready.{answer_of, Happens, HasNoCall, IsReady, IsUnansweredOr, IsUndoneOr, LeavesTree, MayGoOn, TreeStays};
+ghost use Rattle.names.specs.Ready.{answer_of, Happens, HasNoCall, HasNoCallAt, IsReady, IsReadyBehind, IsUnansweredOr, IsUndoneOr, LeavesTree, MayGoOn, TreeStays};
 ghost use Rattle.directories.specs.Trees.{IsTree};
 ghost use Rattle.directories.specs.Walks.{AtLast, IsUndoneIn};
 
@@ -117,7 +117,7 @@ impl<D: Disk> Tree<D> {
     ) -> Result<C::Made, TreeFault>
         requires ready { MayGoOn D.Disk self.old.kernel self.old.calls_left }
         ensures ready { MayGoOn D.Disk self.new.kernel self.new.calls_left }
-        ensures done { OnOk result (IsReady D.Disk self.new.kernel self.new.calls_left) }
+        ensures done { IsReadyBehind D.Disk self.new.kernel self.new.calls_left result }
         ensures makes { IfOk result (λ made.
             C.makes change.now (form_seen D.image self.old.kernel) (names_of path.now) made
             (files_of (image_on D.image self.old.kernel))
@@ -126,8 +126,7 @@ impl<D: Disk> Tree<D> {
             (IsUndoneOr (C.hinders change.now
             (files_of (image_on D.image self.old.kernel))) D.Disk path.now
             (C.refuses change.now (names_of path.now)) self.old.kernel self.new.kernel) }
-        ensures none { self.old.calls_left ≡ 0
-            → HasNoCall self.old.kernel self.new.kernel result }
+        ensures none { self.old.calls_left ≡ 0 → HasNoCallAt path.now self.old self.new result }
         ensures leaves { 0 < self.old.calls_left → LeavesTree D.Disk
             (C.makes change.now (form_seen D.image self.old.kernel) (names_of path.now))
             self.old.kernel self.new.kernel }
@@ -151,7 +150,7 @@ impl<D: Disk> Tree<D> {
     ) -> Result<C::Made, TreeFault>
         requires ready { MayGoOn D.Disk self.old.kernel self.old.calls_left }
         ensures ready { MayGoOn D.Disk self.new.kernel self.new.calls_left }
-        ensures done { OnOk result (IsReady D.Disk self.new.kernel self.new.calls_left) }
+        ensures done { IsReadyBehind D.Disk self.new.kernel self.new.calls_left result }
         ensures makes { IfOk result (λ made.
             C.makes change.now (form_seen D.image self.old.kernel) names.now made
             (files_of (image_on D.image self.old.kernel))
@@ -160,8 +159,7 @@ impl<D: Disk> Tree<D> {
             (IsUnansweredOr (C.hinders change.now
             (files_of (image_on D.image self.old.kernel))) D.Disk
             (C.refuses change.now names.now) self.old.kernel self.new.kernel) }
-        ensures none { self.old.calls_left ≡ 0
-            → HasNoCall self.old.kernel self.new.kernel result }
+        ensures none { self.old.calls_left ≡ 0 → HasNoCall self.old self.new result }
         ensures leaves { 0 < self.old.calls_left → LeavesTree D.Disk
             (C.makes change.now (form_seen D.image self.old.kernel) names.now)
             self.old.kernel self.new.kernel }

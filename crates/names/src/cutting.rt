@@ -6,7 +6,7 @@ ghost use Rattle.model.specs.Files.{files_of};
 ghost use Rattle.names.specs.Contents.{IsNoPlain};
 ghost use Rattle.names.specs.Inside.{files_seen, IsUnderWay, Proceeds, Never};
 ghost use Rattle.names.specs.Numbered.{CutsAt, IsNoFileOrDirectory, is_done};
-ghost use Rattle.names.specs.Ready.{Happens, HasNoCall, IsReady, IsUnanswered, LeavesTree, MayGoOn, TreeStays};
+ghost use Rattle.names.specs.Ready.{Happens, HasNoCall, IsReady, IsReadyBehind, IsUnanswered, LeavesTree, MayGoOn, TreeStays};
 ghost use Rattle.directories.specs.Trees.{IsFile, IsTree};
 
 use crate::changing::Change;
@@ -53,15 +53,14 @@ impl<D: Disk> Tree<D> {
     pub fn cut_at(&mut self, alloc: Global, number: u32, size: u32) -> Result<bool, TreeFault>
         requires ready { MayGoOn D.Disk self.old.kernel self.old.calls_left }
         ensures ready { MayGoOn D.Disk self.new.kernel self.new.calls_left }
-        ensures done { OnOk result (IsReady D.Disk self.new.kernel self.new.calls_left) }
+        ensures done { IsReadyBehind D.Disk self.new.kernel self.new.calls_left result }
         ensures cuts { IfOk result (λ done. CutsAt number size done
             (files_of (image_on D.image self.old.kernel))
             (files_of (image_on D.image self.new.kernel))) }
         ensures refused { IsReady D.Disk self.old.kernel self.old.calls_left → IfErr result
             (IsUnanswered D.Disk (IsNoFileOrDirectory number)
             self.old.kernel self.new.kernel) }
-        ensures none { self.old.calls_left ≡ 0
-            → HasNoCall self.old.kernel self.new.kernel result }
+        ensures none { self.old.calls_left ≡ 0 → HasNoCall self.old self.new result }
         ensures leaves { 0 < self.old.calls_left → LeavesTree D.Disk (CutsAt number size)
             self.old.kernel self.new.kernel }
         ensures stays { StaysOver D.Disk self.old.kernel self.new.kernel }

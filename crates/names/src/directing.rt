@@ -1,12 +1,12 @@
 // Directories made in a tree.
-ghost use Rattle.std.specs.Prelude.{◌≡◌, ⊤, ◌<◌, IfErr, IfOk, OnOk};
+ghost use Rattle.std.specs.Prelude.{◌≡◌, ⊤, ◌<◌, IfErr, IfOk};
 ghost use Rattle.calls.specs.Calls.{image_on};
 ghost use Rattle.calls.specs.Stopped.{StaysOver};
 ghost use Rattle.model.specs.Files.{files_of};
 ghost use Rattle.names.specs.Inside.{IsUnderWay, Proceeds};
 ghost use Rattle.names.specs.Making.{HasFilledFor, IsUnmadeDirectoryIn, MakesDirectoryAt};
 ghost use Rattle.directories.specs.Paths.{names_of};
-ghost use Rattle.names.specs.Ready.{HasNoCall, IsReady, IsUndone, LeavesTree, MayGoOn};
+ghost use Rattle.names.specs.Ready.{HasNoCallAt, IsReady, IsReadyBehind, IsUndone, LeavesTree, MayGoOn};
 ghost use Rattle.directories.specs.TreeChanges.{directory_file};
 ghost use Rattle.directories.specs.Walks.{IsUndoneIn};
 
@@ -66,15 +66,14 @@ impl<D: Disk> Tree<D> {
     pub fn make_directory(&mut self, alloc: Global, path: &[u8]) -> Result<u16, TreeFault>
         requires ready { MayGoOn D.Disk self.old.kernel self.old.calls_left }
         ensures ready { MayGoOn D.Disk self.new.kernel self.new.calls_left }
-        ensures done { OnOk result (IsReady D.Disk self.new.kernel self.new.calls_left) }
+        ensures done { IsReadyBehind D.Disk self.new.kernel self.new.calls_left result }
         ensures makes { IfOk result (λ number. MakesDirectoryAt (names_of path.now) number
             (files_of (image_on D.image self.old.kernel))
             (files_of (image_on D.image self.new.kernel))) }
         ensures refused { IsReady D.Disk self.old.kernel self.old.calls_left → IfErr result
             (IsUndone D.Disk path.now
             (IsUndoneIn IsUnmadeDirectoryIn (names_of path.now)) self.old.kernel self.new.kernel) }
-        ensures none { self.old.calls_left ≡ 0
-            → HasNoCall self.old.kernel self.new.kernel result }
+        ensures none { self.old.calls_left ≡ 0 → HasNoCallAt path.now self.old self.new result }
         ensures leaves { 0 < self.old.calls_left → LeavesTree D.Disk
             (MakesDirectoryAt (names_of path.now)) self.old.kernel self.new.kernel }
         ensures stays { StaysOver D.Disk self.old.kernel self.new.kernel }

@@ -10,7 +10,7 @@ ghost use Rattle.names.specs.Inside.{files_seen, IsUnderWay, Proceeds, SeesSame,
 ghost use Rattle.directories.specs.Trees.{IsFile};
 ghost use Rattle.names.specs.Making.{file_kind, HasCreated, HasCreatedNew, HasEntered, HasParentCount, IsNewFile, IsUnmadeIn, IsUnmadeOr, MakesAt, Settles, Uncreates, unlinked};
 ghost use Rattle.directories.specs.Paths.{names_of};
-ghost use Rattle.names.specs.Ready.{HasNoCall, IsReady, IsUndone, LeavesTree, MayGoOn};
+ghost use Rattle.names.specs.Ready.{HasNoCallAt, IsReady, IsReadyBehind, IsUndone, LeavesTree, MayGoOn};
 ghost use Rattle.directories.specs.TreeChanges.{empty_file, AddsName};
 ghost use Rattle.directories.specs.Walks.{IsUndoneIn};
 
@@ -145,15 +145,14 @@ impl<D: Disk> Tree<D> {
     pub fn make(&mut self, alloc: Global, path: &[u8]) -> Result<u16, TreeFault>
         requires ready { MayGoOn D.Disk self.old.kernel self.old.calls_left }
         ensures ready { MayGoOn D.Disk self.new.kernel self.new.calls_left }
-        ensures done { OnOk result (IsReady D.Disk self.new.kernel self.new.calls_left) }
+        ensures done { IsReadyBehind D.Disk self.new.kernel self.new.calls_left result }
         ensures makes { IfOk result (λ number. MakesAt (names_of path.now) number
             (files_of (image_on D.image self.old.kernel))
             (files_of (image_on D.image self.new.kernel))) }
         ensures refused { IsReady D.Disk self.old.kernel self.old.calls_left → IfErr result
             (IsUndone D.Disk path.now
             (IsUndoneIn IsUnmadeIn (names_of path.now)) self.old.kernel self.new.kernel) }
-        ensures none { self.old.calls_left ≡ 0
-            → HasNoCall self.old.kernel self.new.kernel result }
+        ensures none { self.old.calls_left ≡ 0 → HasNoCallAt path.now self.old self.new result }
         ensures leaves { 0 < self.old.calls_left → LeavesTree D.Disk (MakesAt (names_of path.now))
             self.old.kernel self.new.kernel }
         ensures stays { StaysOver D.Disk self.old.kernel self.new.kernel }

@@ -7,7 +7,7 @@ ghost use Rattle.model.specs.Files.{files_of};
 ghost use Rattle.names.specs.Contents.{ReadsOf};
 ghost use Rattle.names.specs.Inside.{files_seen, IsUnderWay, Proceeds, SeesSame, Never};
 ghost use Rattle.names.specs.Numbered.{IsNoDirectory, IsNoFile, IsNoFileOrDirectory, IsUnseenIn, ListsAt, LooksAt, LooksIn};
-ghost use Rattle.names.specs.Ready.{Happens, HasNoCall, IsReady, IsUnanswered, LeavesTree, MayGoOn, TreeStays};
+ghost use Rattle.names.specs.Ready.{Happens, HasNoCall, IsReady, IsReadyBehind, IsUnanswered, LeavesTree, MayGoOn, TreeStays};
 ghost use Rattle.directories.specs.Trees.{IsTree};
 
 use crate::asking::Found;
@@ -139,15 +139,14 @@ impl<D: Disk> Tree<D> {
     pub fn look_at(&mut self, alloc: Global, number: u32) -> Result<Found, TreeFault>
         requires ready { MayGoOn D.Disk self.old.kernel self.old.calls_left }
         ensures ready { MayGoOn D.Disk self.new.kernel self.new.calls_left }
-        ensures done { OnOk result (IsReady D.Disk self.new.kernel self.new.calls_left) }
+        ensures done { IsReadyBehind D.Disk self.new.kernel self.new.calls_left result }
         ensures looks { IfOk result (λ found. LooksAt number found
             (files_of (image_on D.image self.old.kernel))
             (files_of (image_on D.image self.new.kernel))) }
         ensures refused { IsReady D.Disk self.old.kernel self.old.calls_left → IfErr result
             (IsUnanswered D.Disk (IsNoFile number)
             self.old.kernel self.new.kernel) }
-        ensures none { self.old.calls_left ≡ 0
-            → HasNoCall self.old.kernel self.new.kernel result }
+        ensures none { self.old.calls_left ≡ 0 → HasNoCall self.old self.new result }
         ensures leaves { 0 < self.old.calls_left → LeavesTree D.Disk (LooksAt number)
             self.old.kernel self.new.kernel }
         ensures stays { StaysOver D.Disk self.old.kernel self.new.kernel }
@@ -165,15 +164,14 @@ impl<D: Disk> Tree<D> {
     pub fn look_in(&mut self, alloc: Global, from: u32, name: &Name) -> Result<Found, TreeFault>
         requires ready { MayGoOn D.Disk self.old.kernel self.old.calls_left }
         ensures ready { MayGoOn D.Disk self.new.kernel self.new.calls_left }
-        ensures done { OnOk result (IsReady D.Disk self.new.kernel self.new.calls_left) }
+        ensures done { IsReadyBehind D.Disk self.new.kernel self.new.calls_left result }
         ensures looks { IfOk result (λ found. LooksIn from name.now found
             (files_of (image_on D.image self.old.kernel))
             (files_of (image_on D.image self.new.kernel))) }
         ensures refused { IsReady D.Disk self.old.kernel self.old.calls_left → IfErr result
             (IsUnanswered D.Disk (IsUnseenIn from name.now)
             self.old.kernel self.new.kernel) }
-        ensures none { self.old.calls_left ≡ 0
-            → HasNoCall self.old.kernel self.new.kernel result }
+        ensures none { self.old.calls_left ≡ 0 → HasNoCall self.old self.new result }
         ensures leaves { 0 < self.old.calls_left → LeavesTree D.Disk (LooksIn from name.now)
             self.old.kernel self.new.kernel }
         ensures stays { StaysOver D.Disk self.old.kernel self.new.kernel }
@@ -190,15 +188,14 @@ impl<D: Disk> Tree<D> {
     pub fn list_at(&mut self, alloc: Global, number: u32) -> Result<Content, TreeFault>
         requires ready { MayGoOn D.Disk self.old.kernel self.old.calls_left }
         ensures ready { MayGoOn D.Disk self.new.kernel self.new.calls_left }
-        ensures done { OnOk result (IsReady D.Disk self.new.kernel self.new.calls_left) }
+        ensures done { IsReadyBehind D.Disk self.new.kernel self.new.calls_left result }
         ensures lists { IfOk result (λ bytes. ListsAt number bytes
             (files_of (image_on D.image self.old.kernel))
             (files_of (image_on D.image self.new.kernel))) }
         ensures refused { IsReady D.Disk self.old.kernel self.old.calls_left → IfErr result
             (IsUnanswered D.Disk (IsNoDirectory number)
             self.old.kernel self.new.kernel) }
-        ensures none { self.old.calls_left ≡ 0
-            → HasNoCall self.old.kernel self.new.kernel result }
+        ensures none { self.old.calls_left ≡ 0 → HasNoCall self.old self.new result }
         ensures leaves { 0 < self.old.calls_left → LeavesTree D.Disk (ListsAt number)
             self.old.kernel self.new.kernel }
         ensures stays { StaysOver D.Disk self.old.kernel self.new.kernel }
@@ -222,15 +219,14 @@ impl<D: Disk> Tree<D> {
     ) -> Result<Content, TreeFault>
         requires ready { MayGoOn D.Disk self.old.kernel self.old.calls_left }
         ensures ready { MayGoOn D.Disk self.new.kernel self.new.calls_left }
-        ensures done { OnOk result (IsReady D.Disk self.new.kernel self.new.calls_left) }
+        ensures done { IsReadyBehind D.Disk self.new.kernel self.new.calls_left result }
         ensures reads { IfOk result (λ bytes. ReadsOf number offset count bytes
             (files_of (image_on D.image self.old.kernel))
             (files_of (image_on D.image self.new.kernel))) }
         ensures refused { IsReady D.Disk self.old.kernel self.old.calls_left → IfErr result
             (IsUnanswered D.Disk (IsNoFileOrDirectory number)
             self.old.kernel self.new.kernel) }
-        ensures none { self.old.calls_left ≡ 0
-            → HasNoCall self.old.kernel self.new.kernel result }
+        ensures none { self.old.calls_left ≡ 0 → HasNoCall self.old self.new result }
         ensures leaves { 0 < self.old.calls_left → LeavesTree D.Disk (ReadsOf number offset count)
             self.old.kernel self.new.kernel }
         ensures stays { StaysOver D.Disk self.old.kernel self.new.kernel }

@@ -7,7 +7,7 @@ ghost use Rattle.names.specs.Contents.{IsNoPlain};
 ghost use Rattle.names.specs.Inside.{files_seen, form_seen, IsUnderWay, Proceeds, Never};
 ghost use Rattle.names.specs.Making.{IsUnmadeDirectoryIn, IsUnmadeIn, MakesDirectoryIn, MakesIn};
 ghost use Rattle.names.specs.Numbered.{EmptiesAt, IsNoFileOrDirectory, WritesSomeOf, some_told};
-ghost use Rattle.names.specs.Ready.{Happens, HasNoCall, IsReady, IsUnanswered, LeavesTree, MayGoOn, TreeStays};
+ghost use Rattle.names.specs.Ready.{Happens, HasNoCall, IsReady, IsReadyBehind, IsUnanswered, LeavesTree, MayGoOn, TreeStays};
 ghost use Rattle.names.specs.Removing.{IsUnremovedIn, RemovesIn};
 ghost use Rattle.directories.specs.Trees.{IsFile, IsTree};
 ghost use Rattle.names.specs.Undirecting.{IsUnemptiedIn, RemovesDirectoryIn};
@@ -112,15 +112,14 @@ impl<D: Disk> Tree<D> {
     pub fn empty_at(&mut self, alloc: Global, number: u32) -> Result<(), TreeFault>
         requires ready { MayGoOn D.Disk self.old.kernel self.old.calls_left }
         ensures ready { MayGoOn D.Disk self.new.kernel self.new.calls_left }
-        ensures done { OnOk result (IsReady D.Disk self.new.kernel self.new.calls_left) }
+        ensures done { IsReadyBehind D.Disk self.new.kernel self.new.calls_left result }
         ensures empties { IfOk result (λ done. EmptiesAt number done
             (files_of (image_on D.image self.old.kernel))
             (files_of (image_on D.image self.new.kernel))) }
         ensures refused { IsReady D.Disk self.old.kernel self.old.calls_left → IfErr result
             (IsUnanswered D.Disk (IsNoFileOrDirectory number)
             self.old.kernel self.new.kernel) }
-        ensures none { self.old.calls_left ≡ 0
-            → HasNoCall self.old.kernel self.new.kernel result }
+        ensures none { self.old.calls_left ≡ 0 → HasNoCall self.old self.new result }
         ensures leaves { 0 < self.old.calls_left → LeavesTree D.Disk (EmptiesAt number)
             self.old.kernel self.new.kernel }
         ensures stays { StaysOver D.Disk self.old.kernel self.new.kernel }
@@ -144,7 +143,7 @@ impl<D: Disk> Tree<D> {
     ) -> Result<Result<u32, Unwritten>, TreeFault>
         requires ready { MayGoOn D.Disk self.old.kernel self.old.calls_left }
         ensures ready { MayGoOn D.Disk self.new.kernel self.new.calls_left }
-        ensures done { OnOk result (IsReady D.Disk self.new.kernel self.new.calls_left) }
+        ensures done { IsReadyBehind D.Disk self.new.kernel self.new.calls_left result }
         ensures writes { IfOk result (λ done. WritesSomeOf (form_seen D.image self.old.kernel)
             number offset bytes.now done
             (files_of (image_on D.image self.old.kernel))
@@ -152,8 +151,7 @@ impl<D: Disk> Tree<D> {
         ensures refused { IsReady D.Disk self.old.kernel self.old.calls_left → IfErr result
             (IsUnanswered D.Disk (IsNoFileOrDirectory number)
             self.old.kernel self.new.kernel) }
-        ensures none { self.old.calls_left ≡ 0
-            → HasNoCall self.old.kernel self.new.kernel result }
+        ensures none { self.old.calls_left ≡ 0 → HasNoCall self.old self.new result }
         ensures leaves { 0 < self.old.calls_left → LeavesTree D.Disk
             (WritesSomeOf (form_seen D.image self.old.kernel) number offset bytes.now)
             self.old.kernel self.new.kernel }
@@ -180,15 +178,14 @@ impl<D: Disk> Tree<D> {
     pub fn make_in(&mut self, alloc: Global, from: u32, name: &Name) -> Result<u16, TreeFault>
         requires ready { MayGoOn D.Disk self.old.kernel self.old.calls_left }
         ensures ready { MayGoOn D.Disk self.new.kernel self.new.calls_left }
-        ensures done { OnOk result (IsReady D.Disk self.new.kernel self.new.calls_left) }
+        ensures done { IsReadyBehind D.Disk self.new.kernel self.new.calls_left result }
         ensures makes { IfOk result (λ number. MakesIn from name.now number
             (files_of (image_on D.image self.old.kernel))
             (files_of (image_on D.image self.new.kernel))) }
         ensures refused { IsReady D.Disk self.old.kernel self.old.calls_left → IfErr result
             (IsUnanswered D.Disk
             (λ files. IsUnmadeIn files from name.now) self.old.kernel self.new.kernel) }
-        ensures none { self.old.calls_left ≡ 0
-            → HasNoCall self.old.kernel self.new.kernel result }
+        ensures none { self.old.calls_left ≡ 0 → HasNoCall self.old self.new result }
         ensures leaves { 0 < self.old.calls_left → LeavesTree D.Disk (MakesIn from name.now)
             self.old.kernel self.new.kernel }
         ensures stays { StaysOver D.Disk self.old.kernel self.new.kernel }
@@ -210,15 +207,14 @@ impl<D: Disk> Tree<D> {
     ) -> Result<u16, TreeFault>
         requires ready { MayGoOn D.Disk self.old.kernel self.old.calls_left }
         ensures ready { MayGoOn D.Disk self.new.kernel self.new.calls_left }
-        ensures done { OnOk result (IsReady D.Disk self.new.kernel self.new.calls_left) }
+        ensures done { IsReadyBehind D.Disk self.new.kernel self.new.calls_left result }
         ensures makes { IfOk result (λ number. MakesDirectoryIn from name.now number
             (files_of (image_on D.image self.old.kernel))
             (files_of (image_on D.image self.new.kernel))) }
         ensures refused { IsReady D.Disk self.old.kernel self.old.calls_left → IfErr result
             (IsUnanswered D.Disk
             (λ files. IsUnmadeDirectoryIn files from name.now) self.old.kernel self.new.kernel) }
-        ensures none { self.old.calls_left ≡ 0
-            → HasNoCall self.old.kernel self.new.kernel result }
+        ensures none { self.old.calls_left ≡ 0 → HasNoCall self.old self.new result }
         ensures leaves { 0 < self.old.calls_left → LeavesTree D.Disk
             (MakesDirectoryIn from name.now) self.old.kernel self.new.kernel }
         ensures stays { StaysOver D.Disk self.old.kernel self.new.kernel }
@@ -238,15 +234,14 @@ impl<D: Disk> Tree<D> {
     pub fn remove_in(&mut self, alloc: Global, from: u32, name: &Name) -> Result<(), TreeFault>
         requires ready { MayGoOn D.Disk self.old.kernel self.old.calls_left }
         ensures ready { MayGoOn D.Disk self.new.kernel self.new.calls_left }
-        ensures done { OnOk result (IsReady D.Disk self.new.kernel self.new.calls_left) }
+        ensures done { IsReadyBehind D.Disk self.new.kernel self.new.calls_left result }
         ensures removes { IfOk result (λ done. RemovesIn from name.now done
             (files_of (image_on D.image self.old.kernel))
             (files_of (image_on D.image self.new.kernel))) }
         ensures refused { IsReady D.Disk self.old.kernel self.old.calls_left → IfErr result
             (IsUnanswered D.Disk
             (λ files. IsUnremovedIn files from name.now) self.old.kernel self.new.kernel) }
-        ensures none { self.old.calls_left ≡ 0
-            → HasNoCall self.old.kernel self.new.kernel result }
+        ensures none { self.old.calls_left ≡ 0 → HasNoCall self.old self.new result }
         ensures leaves { 0 < self.old.calls_left → LeavesTree D.Disk (RemovesIn from name.now)
             self.old.kernel self.new.kernel }
         ensures stays { StaysOver D.Disk self.old.kernel self.new.kernel }
@@ -271,15 +266,14 @@ impl<D: Disk> Tree<D> {
     ) -> Result<(), TreeFault>
         requires ready { MayGoOn D.Disk self.old.kernel self.old.calls_left }
         ensures ready { MayGoOn D.Disk self.new.kernel self.new.calls_left }
-        ensures done { OnOk result (IsReady D.Disk self.new.kernel self.new.calls_left) }
+        ensures done { IsReadyBehind D.Disk self.new.kernel self.new.calls_left result }
         ensures removes { IfOk result (λ done. RemovesDirectoryIn from name.now done
             (files_of (image_on D.image self.old.kernel))
             (files_of (image_on D.image self.new.kernel))) }
         ensures refused { IsReady D.Disk self.old.kernel self.old.calls_left → IfErr result
             (IsUnanswered D.Disk
             (λ files. IsUnemptiedIn files from name.now) self.old.kernel self.new.kernel) }
-        ensures none { self.old.calls_left ≡ 0
-            → HasNoCall self.old.kernel self.new.kernel result }
+        ensures none { self.old.calls_left ≡ 0 → HasNoCall self.old self.new result }
         ensures leaves { 0 < self.old.calls_left → LeavesTree D.Disk
             (RemovesDirectoryIn from name.now) self.old.kernel self.new.kernel }
         ensures stays { StaysOver D.Disk self.old.kernel self.new.kernel }

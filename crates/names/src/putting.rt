@@ -8,7 +8,7 @@ ghost use Rattle.names.specs.Contents.{IsNoPlain};
 ghost use Rattle.names.specs.Inside.{files_seen, IsUnderWay, ProceedsOr, Fills};
 ghost use Rattle.directories.specs.Paths.{names_of};
 ghost use Rattle.names.specs.Putting.{file_of, told, IsUnputIn, PutsAt, PutsIn, Refills};
-ghost use Rattle.names.specs.Ready.{Happens, HasNoCall, IsReady, IsUnwritten, LeavesTree, MayGoOn, TreeStays};
+ghost use Rattle.names.specs.Ready.{Happens, HasNoCallAt, IsReady, IsReadyBehind, IsUnwritten, LeavesTree, MayGoOn, TreeStays};
 ghost use Rattle.directories.specs.Trees.{IsFile, IsTree};
 ghost use Rattle.directories.specs.Walks.{IsUndoneIn};
 
@@ -115,15 +115,14 @@ impl<D: Disk> Tree<D> {
     ) -> Result<Result<u16, Unwritten>, TreeFault>
         requires ready { MayGoOn D.Disk self.old.kernel self.old.calls_left }
         ensures ready { MayGoOn D.Disk self.new.kernel self.new.calls_left }
-        ensures done { OnOk result (IsReady D.Disk self.new.kernel self.new.calls_left) }
+        ensures done { IsReadyBehind D.Disk self.new.kernel self.new.calls_left result }
         ensures puts { IfOk result (λ done. PutsAt bytes.now (names_of path.now) done
             (files_of (image_on D.image self.old.kernel))
             (files_of (image_on D.image self.new.kernel))) }
         ensures refused { IsReady D.Disk self.old.kernel self.old.calls_left → IfErr result
             (IsUnwritten D.Disk path.now
             (IsUndoneIn IsUnputIn (names_of path.now)) self.old.kernel self.new.kernel) }
-        ensures none { self.old.calls_left ≡ 0
-            → HasNoCall self.old.kernel self.new.kernel result }
+        ensures none { self.old.calls_left ≡ 0 → HasNoCallAt path.now self.old self.new result }
         ensures leaves { 0 < self.old.calls_left → LeavesTree D.Disk
             (PutsAt bytes.now (names_of path.now)) self.old.kernel self.new.kernel }
         ensures stays { StaysOver D.Disk self.old.kernel self.new.kernel }

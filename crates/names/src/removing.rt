@@ -5,7 +5,7 @@ ghost use Rattle.calls.specs.Stopped.{StaysOver};
 ghost use Rattle.model.specs.Files.{files_of};
 ghost use Rattle.names.specs.Inside.{files_seen, IsUnderWay, Proceeds, Never};
 ghost use Rattle.directories.specs.Paths.{names_of};
-ghost use Rattle.names.specs.Ready.{HasNoCall, IsReady, IsUndone, LeavesTree, MayGoOn, TreeStays};
+ghost use Rattle.names.specs.Ready.{HasNoCallAt, IsReady, IsReadyBehind, IsUndone, LeavesTree, MayGoOn, TreeStays};
 ghost use Rattle.names.specs.Removing.{IsUnremovedIn, KeepsLinks, MayDrop, MayLose, RemovesAt, RemovesIn};
 ghost use Rattle.directories.specs.TreeChanges.{DropsName, UnlinksName};
 ghost use Rattle.directories.specs.Trees.{IsTree};
@@ -72,15 +72,14 @@ impl<D: Disk> Tree<D> {
     pub fn remove(&mut self, alloc: Global, path: &[u8]) -> Result<(), TreeFault>
         requires ready { MayGoOn D.Disk self.old.kernel self.old.calls_left }
         ensures ready { MayGoOn D.Disk self.new.kernel self.new.calls_left }
-        ensures done { OnOk result (IsReady D.Disk self.new.kernel self.new.calls_left) }
+        ensures done { IsReadyBehind D.Disk self.new.kernel self.new.calls_left result }
         ensures removes { IfOk result (λ done. RemovesAt (names_of path.now) done
             (files_of (image_on D.image self.old.kernel))
             (files_of (image_on D.image self.new.kernel))) }
         ensures refused { IsReady D.Disk self.old.kernel self.old.calls_left → IfErr result
             (IsUndone D.Disk path.now
             (IsUndoneIn IsUnremovedIn (names_of path.now)) self.old.kernel self.new.kernel) }
-        ensures none { self.old.calls_left ≡ 0
-            → HasNoCall self.old.kernel self.new.kernel result }
+        ensures none { self.old.calls_left ≡ 0 → HasNoCallAt path.now self.old self.new result }
         ensures leaves { 0 < self.old.calls_left → LeavesTree D.Disk (RemovesAt (names_of path.now))
             self.old.kernel self.new.kernel }
         ensures stays { StaysOver D.Disk self.old.kernel self.new.kernel }

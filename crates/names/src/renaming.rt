@@ -6,8 +6,8 @@ ghost use Rattle.model.specs.Files.{files_of};
 ghost use Rattle.directories.specs.Counts.{AreCounted};
 ghost use Rattle.names.specs.Inside.{files_seen, IsUnderWay, Proceeds, Never};
 ghost use Rattle.directories.specs.Paths.{names_of};
-ghost use Rattle.names.specs.Ready.{Happens, HasNoCall, IsReady, LeavesTree, MayGoOn, TreeStays};
-ghost use Rattle.names.specs.Renaming.{IsUndoneAt, IsUndoneAtBoth, IsUnrenamed, Renames, RenamesAt};
+ghost use Rattle.names.specs.Ready.{Happens, IsReady, IsReadyBehind, LeavesTree, MayGoOn, TreeStays};
+ghost use Rattle.names.specs.Renaming.{HasNoCallAtBoth, IsUndoneAt, IsUndoneAtBoth, IsUnrenamed, Renames, RenamesAt};
 ghost use Rattle.directories.specs.Trees.{IsTree};
 
 use crate::changing::Change;
@@ -73,15 +73,14 @@ impl<D: Disk> Tree<D> {
     pub fn rename(&mut self, alloc: Global, path: &[u8], into: &[u8]) -> Result<(), TreeFault>
         requires ready { MayGoOn D.Disk self.old.kernel self.old.calls_left }
         ensures ready { MayGoOn D.Disk self.new.kernel self.new.calls_left }
-        ensures done { OnOk result (IsReady D.Disk self.new.kernel self.new.calls_left) }
+        ensures done { IsReadyBehind D.Disk self.new.kernel self.new.calls_left result }
         ensures renames { IfOk result (λ done. RenamesAt (names_of path.now) (names_of into.now) done
             (files_of (image_on D.image self.old.kernel))
             (files_of (image_on D.image self.new.kernel))) }
         ensures refused { IsReady D.Disk self.old.kernel self.old.calls_left → IfErr result
             (IsUndoneAtBoth D.Disk path.now into.now
             (IsUndoneAt (names_of path.now) (names_of into.now)) self.old.kernel self.new.kernel) }
-        ensures none { self.old.calls_left ≡ 0
-            → HasNoCall self.old.kernel self.new.kernel result }
+        ensures none { self.old.calls_left ≡ 0 → HasNoCallAtBoth path.now into.now self.old self.new result }
         ensures leaves { 0 < self.old.calls_left → LeavesTree D.Disk
             (RenamesAt (names_of path.now) (names_of into.now)) self.old.kernel self.new.kernel }
         ensures stays { StaysOver D.Disk self.old.kernel self.new.kernel }

@@ -6,7 +6,7 @@ ghost use Rattle.model.specs.Files.{files_of};
 ghost use Rattle.directories.specs.Counts.{AreCounted};
 ghost use Rattle.names.specs.Inside.{files_seen, IsUnderWay, Proceeds, SeesSame, Never};
 ghost use Rattle.names.specs.Replacing.{Clears, HindersHalf, IsReplaceable, IsUncleared, IsUnreplaced, Replaces};
-ghost use Rattle.names.specs.Ready.{Happens, HasNoCall, IsReady, IsUnanswered, IsUnansweredOr, LeavesTree, MayGoOn, TreeStays};
+ghost use Rattle.names.specs.Ready.{Happens, HasNoCall, IsReady, IsReadyBehind, IsUnanswered, IsUnansweredOr, LeavesTree, MayGoOn, TreeStays};
 ghost use Rattle.names.specs.Renaming.{IsUnrenamed, Renames};
 ghost use Rattle.directories.specs.Trees.{IsTree};
 
@@ -190,15 +190,14 @@ impl<D: Disk> Tree<D> {
     ) -> Result<(), TreeFault>
         requires ready { MayGoOn D.Disk self.old.kernel self.old.calls_left }
         ensures ready { MayGoOn D.Disk self.new.kernel self.new.calls_left }
-        ensures done { OnOk result (IsReady D.Disk self.new.kernel self.new.calls_left) }
+        ensures done { IsReadyBehind D.Disk self.new.kernel self.new.calls_left result }
         ensures renames { IfOk result (λ done. Renames from old.now to name.now done
             (files_of (image_on D.image self.old.kernel))
             (files_of (image_on D.image self.new.kernel))) }
         ensures refused { IsReady D.Disk self.old.kernel self.old.calls_left → IfErr result
             (IsUnanswered D.Disk
             (λ files. IsUnrenamed files from old.now to name.now) self.old.kernel self.new.kernel) }
-        ensures none { self.old.calls_left ≡ 0
-            → HasNoCall self.old.kernel self.new.kernel result }
+        ensures none { self.old.calls_left ≡ 0 → HasNoCall self.old self.new result }
         ensures leaves { 0 < self.old.calls_left → LeavesTree D.Disk
             (Renames from old.now to name.now) self.old.kernel self.new.kernel }
         ensures stays { StaysOver D.Disk self.old.kernel self.new.kernel }
@@ -235,7 +234,7 @@ impl<D: Disk> Tree<D> {
     ) -> Result<(), TreeFault>
         requires ready { MayGoOn D.Disk self.old.kernel self.old.calls_left }
         ensures ready { MayGoOn D.Disk self.new.kernel self.new.calls_left }
-        ensures done { OnOk result (IsReady D.Disk self.new.kernel self.new.calls_left) }
+        ensures done { IsReadyBehind D.Disk self.new.kernel self.new.calls_left result }
         ensures replaces { IfOk result (λ done.
             Replaces from old.now to name.now aside.now keeps done
             (files_of (image_on D.image self.old.kernel))
@@ -245,8 +244,7 @@ impl<D: Disk> Tree<D> {
             (files_of (image_on D.image self.old.kernel))) D.Disk
             (IsUnreplaced from old.now to name.now aside.now keeps)
             self.old.kernel self.new.kernel) }
-        ensures none { self.old.calls_left ≡ 0
-            → HasNoCall self.old.kernel self.new.kernel result }
+        ensures none { self.old.calls_left ≡ 0 → HasNoCall self.old self.new result }
         ensures leaves { 0 < self.old.calls_left → LeavesTree D.Disk
             (Replaces from old.now to name.now aside.now keeps) self.old.kernel self.new.kernel }
         ensures stays { StaysOver D.Disk self.old.kernel self.new.kernel }

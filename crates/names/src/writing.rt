@@ -7,7 +7,7 @@ ghost use Rattle.model.specs.Operations.{where_true};
 ghost use Rattle.names.specs.Contents.{IsNoPlain, LeadsToNoPlain};
 ghost use Rattle.names.specs.Inside.{files_seen, form_seen, IsUnderWay, Proceeds, ProceedsOr, Fills};
 ghost use Rattle.directories.specs.Paths.{names_of};
-ghost use Rattle.names.specs.Ready.{Happens, HasNoCall, IsReady, IsUnwritten, LeavesTree, MayGoOn, TreeStays};
+ghost use Rattle.names.specs.Ready.{Happens, HasNoCallAt, IsReady, IsReadyBehind, IsUnwritten, LeavesTree, MayGoOn, TreeStays};
 ghost use Rattle.directories.specs.Trees.{IsFile, IsTree};
 ghost use Rattle.names.specs.Writing.{written, HasWritten, Writes, WritesOf};
 
@@ -86,7 +86,7 @@ impl<D: Disk> Tree<D> {
     ) -> Result<Result<(), Unwritten>, TreeFault>
         requires ready { MayGoOn D.Disk self.old.kernel self.old.calls_left }
         ensures ready { MayGoOn D.Disk self.new.kernel self.new.calls_left }
-        ensures done { OnOk result (IsReady D.Disk self.new.kernel self.new.calls_left) }
+        ensures done { IsReadyBehind D.Disk self.new.kernel self.new.calls_left result }
         ensures writes { IfOk result (λ done. Writes (form_seen D.image self.old.kernel)
             (names_of path.now) offset bytes.now done
             (files_of (image_on D.image self.old.kernel))
@@ -94,8 +94,7 @@ impl<D: Disk> Tree<D> {
         ensures refused { IsReady D.Disk self.old.kernel self.old.calls_left → IfErr result
             (IsUnwritten D.Disk path.now
             (LeadsToNoPlain (names_of path.now)) self.old.kernel self.new.kernel) }
-        ensures none { self.old.calls_left ≡ 0
-            → HasNoCall self.old.kernel self.new.kernel result }
+        ensures none { self.old.calls_left ≡ 0 → HasNoCallAt path.now self.old self.new result }
         ensures leaves { 0 < self.old.calls_left → LeavesTree D.Disk
             (Writes (form_seen D.image self.old.kernel) (names_of path.now) offset bytes.now)
             self.old.kernel self.new.kernel }

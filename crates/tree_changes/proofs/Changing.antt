@@ -17,7 +17,7 @@ use Rattle.model.specs.Verdict.{verdict}
 use Rattle.model.specs.declared.types.image.Form.{Form}
 use Rattle.names.specs.Inside.{form_seen}
 use Rattle.names.specs.Opening.{IsUnopened}
-use Rattle.names.specs.Ready.{KeepsTree, LeavesTree}
+use Rattle.names.specs.Ready.{KeepsTree, LeavesTree, LeavesMidst}
 use Rattle.directories.specs.Counts.{AreCounted}
 use Rattle.directories.specs.Trees.{IsTree}
 use Rattle.names.specs.declared.opening.TreeOpenFault.{TreeOpenFault}
@@ -25,7 +25,7 @@ use Rattle.names.specs.declared.opening.TreeOpenFault.TheVariants as opening
 use Rattle.transfer.specs.Ending.{SyncsIf}
 use Rattle.wal.specs.Lemmas.Stops.{if_synced, if_synced_wider, run_leaves}
 use Rattle.wal.specs.Recovery.{RecoversAs}
-use Rattle.tree_changes.specs.Changes.{AnyOf, HasChanged, HasMade, HasNotChanged, IsOfTree, IsUnended, LeavesMidst, StopsChange, Tells, Turn, turn}
+use Rattle.tree_changes.specs.Changes.{HasChanged, HasMade, HasNotChanged, IsOfTree, IsUnended, StopsChange, Tells, Turn, turn}
 use Rattle.tree_changes.specs.declared.faults.ChangeRefusal.{ChangeRefusal}
 use Rattle.tree_changes.specs.declared.faults.ChangeRefusal.TheVariants.{Unopened, Tree, Unwritten, Disk, Output}
 
@@ -39,18 +39,6 @@ pub record IsWhole (x : Image) : Type 0 where
 left_same : {D N : Type 0} (disk : Ghosts D N) (last : Bool) (d e : D) → SyncsIf last disk d e → disk.image e ≡ disk.image d
 left_same disk true d e syncs = syncs.image
 left_same disk false d e same = ap disk.image same
-
--- what a stop leaves of one call of a tree
-pub leaves_any : {D N T : Type 0} (disk : Ghosts D N) (change : T → Files → Files → Type 0) (k m : Plain D) → LeavesTree disk change k m → LeavesMidst disk (AnyOf change) k m
-leaves_any {D} {N} {T} disk change k m leaves =
-    leaves_wider disk.moment disk.leaves k.store.volume.device m.store.volume.device (KeepsTree change (image_on disk.image k)) (KeepsTree (λ (made : Unit {0}). AnyOf change) (image_on disk.image k))
-    (λ z kept. record {
-      log = kept.log;
-      sound = kept.sound;
-      tree = kept.tree;
-      counted = kept.counted;
-      files = ⊎_elim (λ (same : files_of (recovered z) ≡ files_of (image_on disk.image k)). inl same) (λ (made : (t : T) × change t (files_of (image_on disk.image k)) (files_of (recovered z))). inr (tt, made)) kept.files;
-    }) leaves
 
 module _ {D N : Type 0} (disk : Ghosts D N) (midst : Form → Files → Files → Type 0) (d : D) where
   abbrev Keeps : Image → Type 0

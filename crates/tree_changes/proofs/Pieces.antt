@@ -1,5 +1,6 @@
 -- Bytes that are put, in one call or piece by piece.
-use Rattle.std.proofs.Common.{◌≡◌, ◌∙◌, ℕ, ◌+◌, ◌-◌, ◌*◌, ◌<◌, ◌≤◌, List, [], length, take, drop, Option, ⊎_elim, add-one, refl, sym, ap, subst, inl, inr, arith}
+use Rattle.names.specs.Lemmas.Midst.{leaves_more, leaves_behind, leaves_on}
+use Rattle.std.proofs.Common.{◌≡◌, ◌∙◌, ℕ, ◌+◌, ◌-◌, ◌*◌, ◌<◌, ◌≤◌, List, [], ◌∷◌, length, take, drop, Option, ⊎_elim, add-one, refl, sym, ap, subst, inl, inr, arith}
 use Rattle.std.specs.Prelude.{min, Result, Ok, Err, IfOk}
 use Rattle.std.proofs.lemmas.Bool.{cases_lt}
 use Rattle.std.proofs.lemmas.List.{length-drop, take_all}
@@ -17,11 +18,13 @@ use Rattle.model.specs.declared.types.image.Form.{Form}
 use Rattle.names.specs.Inside.{form_seen}
 use Rattle.names.specs.Lemmas.Over.{form_stays}
 use Rattle.directories.specs.Paths.{names_of}
-use Rattle.names.specs.Ready.{KeepsTree}
+use Rattle.names.specs.Ready.{KeepsTree, AnyOf, LeavesMidst, LeavesIfDone}
 use Rattle.names.specs.Writing.{Outcome, Writes}
-use Rattle.tree_changes.specs.Changes.{AnyOf, LeavesMidst}
-use Rattle.tree_changes.specs.Puts.{LeavesIfDone, Puts, PutsAny, PutsFew, PutsSome, WritesPieces, WritesSome, piece_count, piece_of}
+use Rattle.tree_changes.specs.Puts.{HasAppendedNone, HasNotAppended, Puts, PutsAny, PutsFew, PutsSome, WritesPieces, WritesSome, piece_count, piece_of}
 use Rattle.tree_changes.specs.declared.faults.ChangeRefusal.{ChangeRefusal}
+use Rattle.tree_changes.specs.declared.faults.ChangeRefusal.TheVariants as change
+use Rattle.names.specs.declared.refusal.TreeFault.TheVariants as tree
+use Rattle.names.specs.declared.writing.Unwritten.TheVariants as unwritten
 
 -- a piece up to the next one, or to the end
 pub piece_is : (bytes : List ℕ) (from to : ℕ) → to ≡ min (from + 3072) (length bytes) → take (to - from) (drop from bytes) ≡ take 3072 (drop from bytes)
@@ -41,46 +44,28 @@ piece_written disk k m path bytes i to stays is files new before write =
     let in_form = subst (λ (form : Form). Writes form (names_of path) (i * 3072) (piece_of bytes i) (Ok tt) seen new) (form_stays disk k m stays) as_piece in
     subst (λ (n : ℕ). WritesPieces (form_seen disk.image k) path bytes n files new) (sym (add-one i)) (seen, before, in_form)
 
+-- where no call was left for the first piece, none is appended
+pub first_unappended : {T : Type 0} (bytes : List ℕ) (from : ℕ) (t s u : T) (r : ChangeRefusal) → from ≡ 0 → s ≡ t → HasNotAppended from s u (Err r) → HasAppendedNone bytes t u (Err r)
+first_unappended bytes from t s u (change.Tree tree.NoCall) first same none = none ∙ same
+first_unappended bytes from t s u (change.Tree (tree.Path cause)) first same none = absurd none
+first_unappended bytes from t s u (change.Tree (tree.Refused cause)) first same none = absurd none
+first_unappended bytes from t s u (change.Tree (tree.Call cause)) first same none = absurd none
+first_unappended bytes from t s u (change.Tree tree.NoSpace) first same none = absurd none
+first_unappended bytes from t s u (change.Unwritten unwritten.TooBig) first same none = let far = none.0 in absurd (omega (arith, far, first))
+first_unappended bytes from t s u (change.Unwritten unwritten.TooLong) first same none = absurd none
+first_unappended bytes from t s u (change.Unwritten unwritten.BadOffset) first same none = absurd none
+first_unappended bytes from t s u (change.Unopened cause) first same none = absurd none
+first_unappended bytes from t s u (change.Disk cause) first same none = absurd none
+first_unappended bytes from t s u change.Output first same none = absurd none
+
+-- no piece is none of them
+pub no_pieces : (bytes : List ℕ) (pieces : ℕ) → pieces ≡ piece_count bytes → pieces ≡ 0 → bytes ≡ []
+no_pieces [] pieces all none = refl
+no_pieces (byte ∷ bytes) pieces all none = absurd (omega (arith, all, none))
+
 -- no more than one call writes
 pub few_put : (r : Result (Option ℕ) ChangeRefusal) (path bytes : List ℕ) (form : Form) (files new : Files) → length bytes ≤ 3072 → IfOk r (λ told. PutsFew path bytes told files new) → IfOk r (λ told. Puts path bytes form told files new)
 few_put r path bytes form files new few = IfOk-weaker r _ _ (λ told put. inl (few, put))
-
-module _ {D N : Type 0} (disk : Ghosts D N) where
-  -- what a stop leaves is less than that
-  pub leaves_more : (less more : Files → Files → Type 0) (k m : Plain D) → ((x z : Files) → less x z → more x z) → LeavesMidst disk less k m → LeavesMidst disk more k m
-  leaves_more less more k m wider leaves =
-      leaves_wider disk.moment disk.leaves k.store.volume.device m.store.volume.device (KeepsTree (λ (made : Unit {0}). less) (image_on disk.image k)) (KeepsTree (λ (made : Unit {0}). more) (image_on disk.image k))
-      (λ z kept. record {
-        log = kept.log;
-        sound = kept.sound;
-        tree = kept.tree;
-        counted = kept.counted;
-        files = ⊎_elim (λ (same : files_of (recovered z) ≡ files_of (image_on disk.image k)). inl same)
-            (λ (made : (t : Unit {0}) × less (files_of (image_on disk.image k)) (files_of (recovered z))). inr (tt, wider _ _ made.1)) kept.files;
-      }) leaves
-
-  -- What a stop in a run from m to e leaves of the files there is what it leaves of those of k, which came
-  -- to them.
-  pub leaves_behind : (later all : Files → Files → Type 0) (k m e : Plain D) → LeavesMidst disk later m e
-      → all (files_of (image_on disk.image k)) (files_of (image_on disk.image m)) → ((z : Files) → later (files_of (image_on disk.image m)) z → all (files_of (image_on disk.image k)) z)
-      → LeavesOnly disk.moment disk.leaves m.store.volume.device e.store.volume.device (KeepsTree (λ (made : Unit {0}). all) (image_on disk.image k))
-  leaves_behind later all k m e behind here on =
-      leaves_wider disk.moment disk.leaves m.store.volume.device e.store.volume.device (KeepsTree (λ (made : Unit {0}). later) (image_on disk.image m)) (KeepsTree (λ (made : Unit {0}). all) (image_on disk.image k))
-      (λ z kept. record {
-        log = kept.log;
-        sound = kept.sound;
-        tree = kept.tree;
-        counted = kept.counted;
-        files = ⊎_elim (λ (same : files_of (recovered z) ≡ files_of (image_on disk.image m)). inr (tt, subst (all (files_of (image_on disk.image k))) (sym same) here))
-            (λ (made : (t : Unit {0}) × later (files_of (image_on disk.image m)) (files_of (recovered z))). inr (tt, on _ made.1)) kept.files;
-      }) behind
-
-  -- and in a run from k to e through m
-  pub leaves_on : (first later all : Files → Files → Type 0) (k m e : Plain D) → LeavesMidst disk first k m → LeavesMidst disk later m e → ((x z : Files) → first x z → all x z)
-      → all (files_of (image_on disk.image k)) (files_of (image_on disk.image m)) → ((z : Files) → later (files_of (image_on disk.image m)) z → all (files_of (image_on disk.image k)) z) → LeavesMidst disk all k e
-  leaves_on first later all k m e before behind wider here on =
-      joined disk.moment disk.leaves k.store.volume.device m.store.volume.device e.store.volume.device (KeepsTree (λ (made : Unit {0}). all) (image_on disk.image k))
-      (leaves_more first all k m wider before) (leaves_behind later all k m e behind here on)
 
 -- one piece more may have been written, or is refused
 pub piece_left : {D N : Type 0} (disk : Ghosts D N) (k m e : Plain D) (path bytes : List ℕ) (i to : ℕ) → StaysOver disk k m → to ≡ min (i * 3072 + 3072) (length bytes)

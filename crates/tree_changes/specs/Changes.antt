@@ -16,7 +16,7 @@ use Rattle.model.specs.declared.types.image.Form.{Form}
 use Rattle.names.specs.Making.{MakesDirectoryAt}
 use Rattle.names.specs.Opening.{IsUnopened}
 use Rattle.directories.specs.Paths.{names_of}
-use Rattle.names.specs.Ready.{KeepsTree}
+use Rattle.names.specs.Ready.{KeepsTree, AnyOf}
 use Rattle.directories.specs.Counts.{AreCounted}
 use Rattle.directories.specs.Trees.{IsTree}
 use Rattle.names.specs.declared.refusal.TreeFault.{TreeFault}
@@ -57,22 +57,10 @@ IsOfTree Output = ⊥
 abbrev pub Plainly : (Unit {0} → Files → Files → Type 0) → Option ℕ → Files → Files → Type 0
 Plainly change number files new = (number ≡ None) × change tt files new
 
--- a change made something of files
-abbrev pub AnyOf : {T : Type 0} → (T → Files → Files → Type 0) → Files → Files → Type 0
-AnyOf {T} change files new = (made : T) × change made files new
-
 -- a directory was made at a path, and no number is answered
 abbrev pub MakesDirectory : List ℕ → Option ℕ → Files → Files → Type 0
 MakesDirectory path number files new =
     (number ≡ None) × AnyOf (MakesDirectoryAt (names_of path)) files new
-
--- What a stop leaves of a change over kernel k, now m: recovery gives a sound image whose files are a
--- tree, those that were on the disk or such as the change may leave.
-abbrev pub LeavesMidst : {D N : Type 0} → Ghosts D N → (Files → Files → Type 0) → Plain D → Plain D
-    → Type 0
-LeavesMidst disk midst k m =
-    LeavesOnly disk.moment disk.leaves k.store.volume.device m.store.volume.device
-    (KeepsTree (λ (made : Unit {0}). midst) (image_on disk.image k))
 
 -- a number was printed, if there is one
 abbrev pub Tells : Option ℕ → Option (List ℕ) → Option (List ℕ) → Type 0

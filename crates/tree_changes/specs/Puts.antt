@@ -1,5 +1,5 @@
 -- Bytes put under a path.
-use Rattle.std.specs.Prelude.{◌≡◌, ◌⊎◌, ℕ, zero, suc, ◌*◌, ◌^◌, ◌<◌, ◌≤◌, List, [], length, take, drop, Option, Some, Ok, Err}
+use Rattle.std.specs.Prelude.{◌≡◌, ◌⊎◌, ℕ, zero, suc, ◌*◌, ◌^◌, ◌<◌, ◌≤◌, List, [], length, take, drop, Option, Some, Result, Ok, Err}
 use Rattle.std.specs.Int.{div_ceil}
 use Rattle.blocks.specs.declared.disk.Disk.{Ghosts}
 use Rattle.calls.specs.Calls.{image_on}
@@ -7,16 +7,17 @@ use Rattle.calls.specs.Stepping.{Plain}
 use Rattle.model.specs.Files.{Files, files_of}
 use Rattle.model.specs.Operations.{transfer_limit}
 use Rattle.model.specs.declared.types.image.Form.{Form}
+use Rattle.names.specs.declared.refusal.TreeFault.TheVariants as tree
+use Rattle.names.specs.declared.writing.Unwritten.TheVariants as unwritten
 use Rattle.names.specs.Inside.{form_seen}
 use Rattle.directories.specs.Paths.{names_of}
 use Rattle.names.specs.Putting.{IsUnputIn, PutsAt}
-use Rattle.names.specs.Ready.{IsUnwritten}
+use Rattle.names.specs.Ready.{IsUnwritten, AnyOf, LeavesMidst}
 use Rattle.directories.specs.Walks.{IsUndoneIn}
 use Rattle.names.specs.Contents.{LeadsToNoPlain}
 use Rattle.names.specs.Writing.{Writes}
 use Rattle.tree_changes.specs.declared.faults.ChangeRefusal.{ChangeRefusal}
 use Rattle.tree_changes.specs.declared.faults.ChangeRefusal.TheVariants as change
-use Rattle.tree_changes.specs.Changes.{AnyOf, LeavesMidst}
 
 -- the bytes were put in one transaction
 abbrev pub PutsFew : List ℕ → List ℕ → Option ℕ → Files → Files → Type 0
@@ -70,6 +71,19 @@ IsUnappended disk path from bytes k m (change.Unopened fault) = ⊥
 IsUnappended disk path from bytes k m (change.Disk fault) = ⊥
 IsUnappended disk path from bytes k m change.Output = ⊥
 
+-- No call was left in tree t, which is u now: nothing was done, since that is so, or the bytes stand
+-- too far.
+abbrev pub HasNotAppended : {T : Type 0} → ℕ → T → T → Result (Unit {0}) ChangeRefusal → Type 0
+HasNotAppended from t u (Err (change.Tree tree.NoCall)) = u ≡ t
+HasNotAppended from t u (Err (change.Unwritten unwritten.TooBig)) = (2 ^ 32 ≤ from) × (u ≡ t)
+HasNotAppended from t u result = ⊥
+
+-- the same of all pieces: there were none, or that is the answer
+abbrev pub HasAppendedNone : {T : Type 0} → List ℕ → T → T → Result (Unit {0}) ChangeRefusal → Type 0
+HasAppendedNone bytes t u (Ok done) = (bytes ≡ []) × (u ≡ t)
+HasAppendedNone bytes t u (Err (change.Tree tree.NoCall)) = u ≡ t
+HasAppendedNone bytes t u result = ⊥
+
 -- so many pieces were written, and the one behind them was not
 pub record StopsWriting {D N : Type 0} (disk : Ghosts D N) (path bytes : List ℕ) (k m : Plain D)
     (r : ChangeRefusal) : Type 0 where
@@ -105,8 +119,3 @@ abbrev pub PutsSome : List ℕ → List ℕ → Form → Files → Files → Typ
 PutsSome path bytes form files new = ((length bytes ≤ transfer_limit) × PutsAny path bytes files new)
     ⊎ ((transfer_limit < length bytes) × ((empty : Files) × PutsAny path [] files empty
     × WritesSome form path bytes (piece_count bytes) empty new))
-
--- nothing was done over kernel k, which is m now, or a stop leaves of it as said
-abbrev pub LeavesIfDone : {D N : Type 0} → Ghosts D N → (Files → Files → Type 0) → Plain D → Plain D
-    → Type 0
-LeavesIfDone disk midst k m = (m ≡ k) ⊎ LeavesMidst disk midst k m

@@ -2,12 +2,12 @@
 ghost use Rattle.names.specs.Linking.{IsNotLinkedAt, LinksAt};
 ghost use Rattle.names.specs.Making.{IsUnmadeDirectoryIn, MakesDirectoryAt};
 ghost use Rattle.directories.specs.Paths.{names_of};
-ghost use Rattle.names.specs.Ready.{IsUndone};
+ghost use Rattle.names.specs.Ready.{IsUndone, AnyOf};
 ghost use Rattle.names.specs.Removing.{IsUnremovedIn, RemovesAt};
 ghost use Rattle.names.specs.Renaming.{IsUndoneAt, IsUndoneAtBoth, RenamesAt};
 ghost use Rattle.names.specs.Undirecting.{IsUnemptiedIn, RemovesDirectoryAt};
 ghost use Rattle.directories.specs.Walks.{IsUndoneIn};
-ghost use Rattle.tree_changes.specs.Changes.{AnyOf, MakesDirectory, OnTree, Plainly};
+ghost use Rattle.tree_changes.specs.Changes.{MakesDirectory, OnTree, Plainly};
 
 use crate::faults::ChangeRefusal;
 use crate::over_tree::TreeChange;

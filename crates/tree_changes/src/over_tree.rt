@@ -7,9 +7,9 @@ ghost use Rattle.calls.specs.Stopped.{StaysOver};
 ghost use Rattle.model.specs.Files.{Files, files_of};
 ghost use Rattle.model.specs.declared.types.image.Form.{Form};
 ghost use Rattle.names.specs.Inside.{form_seen};
-ghost use Rattle.names.specs.Ready.{IsReady};
+ghost use Rattle.names.specs.Ready.{IsReady, LeavesMidst};
 ghost use Rattle.transfer.specs.Ending.{SyncsIf};
-ghost use Rattle.tree_changes.specs.Changes.{HasChanged, HasNotChanged, IsOfTree, IsUnended, LeavesMidst, StopsChange, Tells, Turn, turn};
+ghost use Rattle.tree_changes.specs.Changes.{HasChanged, HasNotChanged, IsOfTree, IsUnended, StopsChange, Tells, Turn, turn};
 ghost use Rattle.tree_changes.specs.declared.faults.ChangeRefusal.{ChangeRefusal as SomeChangeRefusal};
 
 use crate::faults::ChangeRefusal;

@@ -6,15 +6,16 @@ ghost use Rattle.model.specs.Files.{files_of};
 ghost use Rattle.model.specs.Operations.{transfer_limit};
 ghost use Rattle.names.specs.Inside.{form_seen};
 ghost use Rattle.directories.specs.Paths.{names_of};
-ghost use Rattle.names.specs.Ready.{IsReady, MayGoOn};
+ghost use Rattle.names.specs.Ready.{IsReady, MayGoOn, AnyOf, LeavesMidst, LeavesIfDone};
 ghost use Rattle.names.specs.Writing.{Writes};
-ghost use Rattle.tree_changes.specs.Changes.{AnyOf, IsOfTree, LeavesMidst};
+ghost use Rattle.tree_changes.specs.Changes.{IsOfTree};
 ghost use Rattle.tree_changes.specs.Puts.{
   piece_count,
+  HasAppendedNone,
+  HasNotAppended,
   IsUnappended,
   IsUnputAt,
   IsUnputFew,
-  LeavesIfDone,
   Puts,
   PutsAny,
   PutsFew,
@@ -119,7 +120,7 @@ pub fn append_all<D: Disk>(
         (files_of (image_on D.image tree.new.kernel))) }
     ensures undone { IsReady D.Disk tree.old.kernel tree.old.calls_left → IfErr result
         (StopsWriting D.Disk path.now bytes.now tree.old.kernel tree.new.kernel) }
-    ensures none { tree.old.calls_left ≡ 0 → tree.new.kernel ≡ tree.old.kernel }
+    ensures none { tree.old.calls_left ≡ 0 → HasAppendedNone bytes.now tree.old tree.new result }
     ensures cause { IfErr result IsOfTree }
     ensures leaves { LeavesIfDone D.Disk (WritesSome (form_seen D.image tree.old.kernel)
         path.now bytes.now (piece_count bytes.now)) tree.old.kernel tree.new.kernel }
@@ -150,7 +151,7 @@ fn append<D: Disk>(
         (files_of (image_on D.image tree.new.kernel))) }
     ensures undone { IsReady D.Disk tree.old.kernel tree.old.calls_left → IfErr result
         (IsUnappended D.Disk path.now from bytes.now tree.old.kernel tree.new.kernel) }
-    ensures none { tree.old.calls_left ≡ 0 → tree.new ≡ tree.old }
+    ensures none { tree.old.calls_left ≡ 0 → HasNotAppended from tree.old tree.new result }
     ensures cause { IfErr result IsOfTree }
     ensures leaves { LeavesIfDone D.Disk (AnyOf (Writes (form_seen D.image tree.old.kernel)
         (names_of path.now) from bytes.now)) tree.old.kernel tree.new.kernel }

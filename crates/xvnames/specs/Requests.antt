@@ -12,7 +12,7 @@ use Rattle.model.specs.declared.types.image.Form.TheVariants.{One}
 use Rattle.names.specs.Linking.{IsNotLinkedAt, LinksAt}
 use Rattle.names.specs.Making.{IsUnmadeDirectoryIn, MakesDirectoryAt}
 use Rattle.directories.specs.Paths.{names_of}
-use Rattle.names.specs.Ready.{IsUndone}
+use Rattle.names.specs.Ready.{IsUndone, AnyOf}
 use Rattle.names.specs.Recounting.{StopsRecount}
 use Rattle.names.specs.Removing.{IsUnremovedIn, RemovesAt}
 use Rattle.names.specs.Renaming.{IsUndoneAt, IsUndoneAtBoth, RenamesAt}
@@ -22,7 +22,7 @@ use Rattle.directories.specs.declared.refusal.Refusal.{Refusal}
 use Rattle.names_words.specs.CommandLine.{xvnames_words}
 use Rattle.names_words.specs.declared.words.Request.{Request}
 use Rattle.names_words.specs.declared.words.Request.TheVariants.{Ls, Stat, Tree, Cat, Get, Put, Rm, Mv, Ln, Mkdir, Rmdir, Check, Recount, Mkfs}
-use Rattle.tree_changes.specs.Changes.{AnyOf, HasChanged, HasNotChanged, MakesDirectory, OnTree, Plainly, StopsChange, Turn}
+use Rattle.tree_changes.specs.Changes.{HasChanged, HasNotChanged, MakesDirectory, OnTree, Plainly, StopsChange, Turn}
 use Rattle.tree_changes.specs.Recounts.{HasNotRecounted, TellsRecount}
 use Rattle.tree_changes.specs.declared.faults.ChangeRefusal.{ChangeRefusal}
 use Rattle.tree_looks.specs.Gets.{HasGot, HasGotAll, IsUngot, IsUngotAll}

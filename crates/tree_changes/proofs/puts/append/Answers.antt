@@ -1,9 +1,9 @@
+use Rattle.names.specs.Lemmas.Midst.{leaves_any}
+use Rattle.names.specs.Ready.{AnyOf, LeavesMidst}
 use Rattle.std.proofs.Common.{ℕ, inr, refl, subst}
 use Rattle.names.specs.Inside.{form_seen}
 use Rattle.directories.specs.Paths.{names_of}
 use Rattle.names.specs.Writing.{Writes}
-use Rattle.tree_changes.specs.Changes.{AnyOf, LeavesMidst}
-use Rattle.tree_changes.proofs.Changing.{leaves_any}
 use Rattle.tree_changes.proofs.puts.append.Goals as goal
 
 pub returns-in-Ok-Ok-clause-leaves : goal.returns-in-Ok-Ok-clause-leaves

@@ -1,6 +1,6 @@
+use Rattle.names.specs.Lemmas.Midst.{leaves_any}
 use Rattle.directories.specs.Paths.{names_of}
 use Rattle.names.specs.Putting.{PutsAt}
-use Rattle.tree_changes.proofs.Changing.{leaves_any}
 use Rattle.tree_changes.proofs.puts.put_few.Goals as goal
 
 pub returns-in-Ok-Ok-clause-leaves : goal.returns-in-Ok-Ok-clause-leaves

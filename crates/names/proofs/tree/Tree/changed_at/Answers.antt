@@ -1,10 +1,13 @@
-use Rattle.std.proofs.Common.{◌<◌, ap, rules, subst, sym, refl, inr, arith}
+use Rattle.std.proofs.Common.{◌∙◌, ◌<◌, Err, ap, rules, subst, sym, refl, inr, arith}
+use Rattle.std.proofs.lemmas.Result.{err_from_is_err_and}
 use Rattle.model.specs.Files.{Files}
 use Rattle.model.specs.Layout.{form_of}
 use Rattle.model.specs.declared.types.image.Form.{Form}
-use Rattle.names.specs.Inside.{files_seen, form_seen}
+use Rattle.names.specs.declared.refusal.TreeFault.{TreeFault}
+use Rattle.names.specs.Inside.{files_seen, form_seen, Never}
 use Rattle.directories.specs.Counts.{AreCounted}
-use Rattle.names.specs.Ready.{Happens, LeavesTree}
+use Rattle.names.specs.Ready.{Happens, IsReadyBehind, LeavesTree}
+use Rattle.names.proofs.Behind.{ends_behind, ready_behind}
 use Rattle.names.proofs.Transacting.{unchanged_leaves, whole_by, whole_leaves}
 use Rattle.names.proofs.tree.Tree.changed_at.Given.{Over}
 use Rattle.names.proofs.tree.Tree.changed_at.Goals.{After-committed}
@@ -49,3 +52,23 @@ committed-requires-clause-counted g c =
 
 pub returns-then-self-eq0-clause-refused : goal.returns-then-self-eq0-clause-refused
 returns-then-self-eq0-clause-refused g c = λ ready. (record { image = refl; faults = refl }, inr (omega (arith, ready.many, c.if-self-eq0.true)))
+
+pub returns-in_err-begun-clause-done : goal.returns-in_err-begun-clause-done
+returns-in_err-begun-clause-done g c =
+    let p = err_from_is_err_and c.from_residual.result c.from_residual.ensures.1 in
+    ends_behind g.D.Disk Never _ _ _ _ c.in_err-begun.field-0.0 (p.1 ∙ ap (λ (e : TreeFault). Err e) p.2) c.in_err-begun.ensures.ends
+
+pub returns-in_err-made-clause-done : goal.returns-in_err-made-clause-done
+returns-in_err-made-clause-done g c =
+    let p = err_from_is_err_and c.from_residual-in_err-made.result c.from_residual-in_err-made.ensures.1 in
+    ends_behind g.D.Disk _ _ _ _ _ c.in_err-made.field-0.0 (p.1 ∙ ap (λ (e : TreeFault). Err e) p.2) c.in_err-made.ensures.goes.ends
+
+pub returns-in_err-committed-clause-done : goal.returns-in_err-committed-clause-done
+returns-in_err-committed-clause-done g c =
+    let p = err_from_is_err_and c.from_residual-in_err-committed.result c.from_residual-in_err-committed.ensures.1 in
+    ends_behind g.D.Disk Never _ _ _ _ c.in_err-committed.field-0.0 (p.1 ∙ ap (λ (e : TreeFault). Err e) p.2) c.in_err-committed.ensures.ends
+
+pub returns-clause-done : goal.returns-clause-done
+returns-clause-done g c =
+    subst (λ r. IsReadyBehind g.D.Disk c.committed.new.self.kernel c.committed.new.self.calls_left r) (sym c.answer_of.ensures)
+    (ready_behind g.D.Disk c.committed.new.self.kernel c.committed.new.self.calls_left c.in_ok-made.made c.in_ok-committed.ensures.commits.ready)

@@ -1,8 +1,8 @@
+use Rattle.names.specs.Lemmas.Midst.{leaves_any}
+use Rattle.names.specs.Ready.{AnyOf, LeavesMidst}
 use Rattle.std.proofs.Common.{List, ℕ, subst}
 use Rattle.directories.specs.Paths.{names_of}
 use Rattle.names.specs.Undirecting.{RemovesDirectoryAt}
-use Rattle.tree_changes.specs.Changes.{AnyOf, LeavesMidst}
-use Rattle.tree_changes.proofs.Changing.{leaves_any}
 use Rattle.tree_changes.proofs.changes.RemoveDirectoryTreeChange.make.Goals as goal
 
 pub returns-in-Ok-clause-leaves : goal.returns-in-Ok-clause-leaves

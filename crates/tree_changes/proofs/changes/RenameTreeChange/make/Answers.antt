@@ -1,10 +1,10 @@
+use Rattle.names.specs.Lemmas.Midst.{leaves_any}
+use Rattle.names.specs.Ready.{AnyOf, LeavesMidst}
 use Rattle.std.proofs.Common.{List, ℕ, rules, subst}
 use Rattle.model.specs.Files.{files_of}
 use Rattle.calls.specs.Calls.{image_on}
 use Rattle.directories.specs.Paths.{names_of}
 use Rattle.names.specs.Renaming.{RenamesAt}
-use Rattle.tree_changes.specs.Changes.{AnyOf, LeavesMidst}
-use Rattle.tree_changes.proofs.Changing.{leaves_any}
 use Rattle.tree_changes.proofs.changes.RenameTreeChange.make.Goals as goal
 
 pub returns-in-Ok-clause-leaves : goal.returns-in-Ok-clause-leaves
