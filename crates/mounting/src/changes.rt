@@ -1,6 +1,15 @@
 // Requests that change files.
+ghost use Rattle.std.specs.Prelude.{OnOk};
+ghost use Rattle.mounting.specs.Changes.{Did, Does, RenamedFile, aside_of, Links, Makes, MakesDirectory, MakesFile, MayMake, RemovesEmpty, RemovesName, RenamesFile, Resizes, Unlinks, WritesIn};
+ghost use Rattle.directories.specs.Entries.{padded};
+ghost use Rattle.fuse.specs.Requests.{asked, Release};
+ghost use Rattle.directories.specs.Trees.{root};
 ghost use Rattle.names.specs.Ready.{MayGoOn};
 
+use crate::calling::{
+    link_in, look_at, look_in, make_directory_in, make_in, remove_directory_in, remove_in,
+    rename_in, replace_in,
+};
 use crate::errno::Errno;
 use crate::files::{resize, write};
 use crate::listings::{ROOT, aside, new_name};
@@ -40,6 +49,10 @@ impl Server {
     ) -> Result<(), Errno>
         requires ready { MayGoOn D.Disk tree.old.kernel tree.old.calls_left }
         ensures ready { MayGoOn D.Disk tree.new.kernel tree.new.calls_left }
+        ensures makes { Makes D.Disk (λ form. MayMake form node (asked request.now)) tree.old.kernel tree.new.kernel
+            tree.old.calls_left tree.new.calls_left }
+        ensures does { OnOk result (Did D.Disk (λ form. Does form node (asked request.now)) tree.old.kernel
+            tree.new.kernel) }
     {
         match request {
             Request::SetAttributes {
@@ -76,6 +89,8 @@ impl Server {
     ) -> Result<(), Errno>
         requires ready { MayGoOn D.Disk tree.old.kernel tree.old.calls_left }
         ensures ready { MayGoOn D.Disk tree.new.kernel tree.new.calls_left }
+        ensures makes { Makes D.Disk (Resizes node size) tree.old.kernel tree.new.kernel
+            tree.old.calls_left tree.new.calls_left }
     {
         if valid & SETS_SIZE != 0 {
             resize(alloc, tree, node, size)?;
@@ -97,6 +112,8 @@ impl Server {
     ) -> Result<(), Errno>
         requires ready { MayGoOn D.Disk tree.old.kernel tree.old.calls_left }
         ensures ready { MayGoOn D.Disk tree.new.kernel tree.new.calls_left }
+        ensures makes { Makes D.Disk (WritesIn node offset bytes.now) tree.old.kernel tree.new.kernel
+            tree.old.calls_left tree.new.calls_left }
     {
         self.moved = self.moved.saturating_add(bytes.len() as u64);
         let count = write(alloc, tree, node, offset, bytes)?;
@@ -117,6 +134,10 @@ impl Server {
     ) -> Result<(), Errno>
         requires ready { MayGoOn D.Disk tree.old.kernel tree.old.calls_left }
         ensures ready { MayGoOn D.Disk tree.new.kernel tree.new.calls_left }
+        ensures makes { Makes D.Disk (λ form. MayMake form node (asked request.now)) tree.old.kernel tree.new.kernel
+            tree.old.calls_left tree.new.calls_left }
+        ensures does { OnOk result (Did D.Disk (λ form. Does form node (asked request.now)) tree.old.kernel
+            tree.new.kernel) }
     {
         match request {
             Request::MakeNode { mode, name } => {
@@ -159,18 +180,22 @@ impl Server {
     ) -> Result<(), Errno>
         requires ready { MayGoOn D.Disk tree.old.kernel tree.old.calls_left }
         ensures ready { MayGoOn D.Disk tree.new.kernel tree.new.calls_left }
+        ensures makes { Makes D.Disk (Links file to (padded name.now)) tree.old.kernel tree.new.kernel
+            tree.old.calls_left tree.new.calls_left }
+        ensures does { OnOk result (Did D.Disk (Links file to (padded name.now)) tree.old.kernel
+            tree.new.kernel) }
     {
         let name = new_name(to, name)?;
         if self.nodes.is_unlinked(file) {
             return Err(Errno::NoEntry);
         }
-        match tree.link_in(alloc, file, to, &name) {
+        match link_in(alloc, tree, file, to, &name) {
             Ok(()) => {}
             Err(TreeFault::Refused(Refusal::IsADirectory)) => return Err(Errno::NotPermitted),
             Err(fault) => return Err(fault.into()),
         }
         self.nodes.touched(to, now);
-        let found = tree.look_at(alloc, file)?;
+        let found = look_at(alloc, tree, file)?;
         self.tell_entry(&found, out)
     }
 
@@ -187,9 +212,13 @@ impl Server {
     ) -> Result<u32, Errno>
         requires ready { MayGoOn D.Disk tree.old.kernel tree.old.calls_left }
         ensures ready { MayGoOn D.Disk tree.new.kernel tree.new.calls_left }
+        ensures makes { Makes D.Disk (MakesFile node (padded name.now)) tree.old.kernel tree.new.kernel
+            tree.old.calls_left tree.new.calls_left }
+        ensures does { OnOk result (Did D.Disk (MakesFile node (padded name.now)) tree.old.kernel
+            tree.new.kernel) }
     {
         let name = new_name(node, name)?;
-        let made = tree.make_in(alloc, node, &name)?;
+        let made = make_in(alloc, tree, node, &name)?;
         self.nodes.made(u32::from(made), mode, now);
         self.nodes.touched(node, now);
         let found = Found {
@@ -215,12 +244,16 @@ impl Server {
     ) -> Result<(), Errno>
         requires ready { MayGoOn D.Disk tree.old.kernel tree.old.calls_left }
         ensures ready { MayGoOn D.Disk tree.new.kernel tree.new.calls_left }
+        ensures makes { Makes D.Disk (MakesDirectory node (padded name.now)) tree.old.kernel tree.new.kernel
+            tree.old.calls_left tree.new.calls_left }
+        ensures does { OnOk result (Did D.Disk (MakesDirectory node (padded name.now)) tree.old.kernel
+            tree.new.kernel) }
     {
         let name = new_name(node, name)?;
-        let made = tree.make_directory_in(alloc, node, &name)?;
+        let made = make_directory_in(alloc, tree, node, &name)?;
         self.nodes.made(u32::from(made), mode, now);
         self.nodes.touched(node, now);
-        let found = tree.look_at(alloc, u32::from(made))?;
+        let found = look_at(alloc, tree, u32::from(made))?;
         self.tell_entry(&found, out)
     }
 
@@ -235,6 +268,10 @@ impl Server {
     ) -> Result<(), Errno>
         requires ready { MayGoOn D.Disk tree.old.kernel tree.old.calls_left }
         ensures ready { MayGoOn D.Disk tree.new.kernel tree.new.calls_left }
+        ensures makes { Makes D.Disk (λ form. MayMake form node (asked request.now)) tree.old.kernel tree.new.kernel
+            tree.old.calls_left tree.new.calls_left }
+        ensures does { OnOk result (Did D.Disk (λ form. Does form node (asked request.now)) tree.old.kernel
+            tree.new.kernel) }
     {
         match request {
             Request::Unlink { name } => self.unlink(alloc, tree, node, name, now),
@@ -271,9 +308,13 @@ impl Server {
     ) -> Result<(), Errno>
         requires ready { MayGoOn D.Disk tree.old.kernel tree.old.calls_left }
         ensures ready { MayGoOn D.Disk tree.new.kernel tree.new.calls_left }
+        ensures makes { Makes D.Disk (Unlinks from (padded name.now)) tree.old.kernel tree.new.kernel
+            tree.old.calls_left tree.new.calls_left }
+        ensures does { OnOk result (Did D.Disk (Unlinks from (padded name.now)) tree.old.kernel
+            tree.new.kernel) }
     {
         let name = Name::new(name)?;
-        let found = tree.look_in(alloc, from, &name)?;
+        let found = look_in(alloc, tree, from, &name)?;
         if found.kind == DIRECTORY {
             return Err(Errno::IsADirectory);
         }
@@ -292,14 +333,18 @@ impl Server {
     ) -> Result<(), Errno>
         requires ready { MayGoOn D.Disk tree.old.kernel tree.old.calls_left }
         ensures ready { MayGoOn D.Disk tree.new.kernel tree.new.calls_left }
+        ensures makes { Makes D.Disk (Unlinks from name.now) tree.old.kernel tree.new.kernel
+            tree.old.calls_left tree.new.calls_left }
+        ensures does { OnOk result (Did D.Disk (Unlinks from name.now) tree.old.kernel
+            tree.new.kernel) }
     {
         if self.needs_aside(found) {
             let aside = aside(found.number)?;
-            tree.rename_in(alloc, from, name, ROOT, &aside)?;
+            rename_in(alloc, tree, from, name, ROOT, &aside)?;
             self.nodes.unlinked(found.number);
             return Ok(());
         }
-        tree.remove_in(alloc, from, name)?;
+        remove_in(alloc, tree, from, name)?;
         self.nodes.left(found);
         Ok(())
     }
@@ -320,10 +365,14 @@ impl Server {
     ) -> Result<(), Errno>
         requires ready { MayGoOn D.Disk tree.old.kernel tree.old.calls_left }
         ensures ready { MayGoOn D.Disk tree.new.kernel tree.new.calls_left }
+        ensures makes { Makes D.Disk (RemovesEmpty from (padded name.now)) tree.old.kernel tree.new.kernel
+            tree.old.calls_left tree.new.calls_left }
+        ensures does { OnOk result (Did D.Disk (RemovesEmpty from (padded name.now)) tree.old.kernel
+            tree.new.kernel) }
     {
         let name = Name::new(name)?;
-        let found = tree.look_in(alloc, from, &name)?;
-        tree.remove_directory_in(alloc, from, &name)?;
+        let found = look_in(alloc, tree, from, &name)?;
+        remove_directory_in(alloc, tree, from, &name)?;
         self.nodes.gone(found.number);
         self.nodes.touched(from, now);
         Ok(())
@@ -342,18 +391,23 @@ impl Server {
     ) -> Result<(), Errno>
         requires ready { MayGoOn D.Disk tree.old.kernel tree.old.calls_left }
         ensures ready { MayGoOn D.Disk tree.new.kernel tree.new.calls_left }
+        ensures makes { Makes D.Disk (RenamesFile from (padded old.now) to (padded name.now)) tree.old.kernel tree.new.kernel
+            tree.old.calls_left tree.new.calls_left }
+        ensures does { OnOk result (Did D.Disk (RenamedFile from (padded old.now) to (padded name.now)) tree.old.kernel
+            tree.new.kernel) }
     {
         if flags > NEW_ALONE {
             return Err(Errno::Invalid);
         }
         let old = Name::new(old)?;
         let name = new_name(to, name)?;
-        let source = tree.look_in(alloc, from, &old)?;
-        match tree.look_in(alloc, to, &name) {
-            Err(_) => {
-                tree.rename_in(alloc, from, &old, to, &name)?;
+        let source = look_in(alloc, tree, from, &old)?;
+        match look_in(alloc, tree, to, &name) {
+            Err(TreeFault::Refused(_)) => {
+                rename_in(alloc, tree, from, &old, to, &name)?;
                 Ok(())
             }
+            Err(fault) => Err(fault.into()),
             Ok(found) => {
                 if flags == NEW_ALONE {
                     return Err(Errno::Exists);
@@ -380,15 +434,19 @@ impl Server {
     ) -> Result<(), Errno>
         requires ready { MayGoOn D.Disk tree.old.kernel tree.old.calls_left }
         ensures ready { MayGoOn D.Disk tree.new.kernel tree.new.calls_left }
+        ensures makes { Makes D.Disk (RenamesFile from old.now to name.now) tree.old.kernel tree.new.kernel
+            tree.old.calls_left tree.new.calls_left }
+        ensures does { OnOk result (Did D.Disk (RenamedFile from old.now to name.now) tree.old.kernel
+            tree.new.kernel) }
     {
         if found.kind == DIRECTORY {
             if kind != DIRECTORY {
                 return Err(Errno::IsADirectory);
             }
             // Two transactions.
-            tree.remove_directory_in(alloc, to, name)?;
+            remove_directory_in(alloc, tree, to, name)?;
             self.nodes.gone(found.number);
-            tree.rename_in(alloc, from, old, to, name)?;
+            rename_in(alloc, tree, from, old, to, name)?;
             return Ok(());
         }
         if kind == DIRECTORY {
@@ -396,7 +454,7 @@ impl Server {
         }
         let keeps = self.needs_aside(&found);
         let aside = aside(found.number)?;
-        tree.replace_in(alloc, from, old, to, name, &aside, keeps)?;
+        replace_in(alloc, tree, from, old, to, name, &aside, keeps)?;
         if keeps {
             self.nodes.unlinked(found.number);
         } else {
@@ -414,10 +472,14 @@ impl Server {
     ) -> Result<(), Errno>
         requires ready { MayGoOn D.Disk tree.old.kernel tree.old.calls_left }
         ensures ready { MayGoOn D.Disk tree.new.kernel tree.new.calls_left }
+        ensures makes { Makes D.Disk (RemovesName root (aside_of node)) tree.old.kernel tree.new.kernel
+            tree.old.calls_left tree.new.calls_left }
+        ensures does { OnOk result (Did D.Disk (λ form. Does form node Release) tree.old.kernel
+            tree.new.kernel) }
     {
         if self.nodes.closed(node) {
             let aside = aside(node)?;
-            tree.remove_in(alloc, ROOT, &aside)?;
+            remove_in(alloc, tree, ROOT, &aside)?;
             self.nodes.gone(node);
         }
         Ok(())

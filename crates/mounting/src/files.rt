@@ -1,16 +1,16 @@
 // The bytes of files.
+ghost use Rattle.std.specs.Prelude.{OnOk, ◌<◌, ◌≤◌, length, IfOk};
+ghost use Rattle.mounting.specs.Changes.{StaySame, EndsBefore, Lengthens, Makes, OnlyLooks, Resizes, WritesIn, WritesPart};
 ghost use Rattle.names.specs.Ready.{MayGoOn};
 
+use crate::calling::{cut_at, look_at, read_at, write_at};
 use crate::errno::Errno;
 use blocks::Disk;
-use names::Tree;
+use names::{Tree, TreeFault, Unwritten};
 use std::alloc::Global;
 
 // So many bytes are written by one call.
 const PIECE: u32 = 3072;
-
-// As many zeroes.
-static ZEROES: [u8; 3072] = [0; 3072];
 
 /// The bytes of a file from an offset on, no more than `size`, added to these.
 pub(crate) fn read<D: Disk>(
@@ -23,6 +23,9 @@ pub(crate) fn read<D: Disk>(
 ) -> Result<(), Errno>
     requires ready { MayGoOn D.Disk tree.old.kernel tree.old.calls_left }
     ensures ready { MayGoOn D.Disk tree.new.kernel tree.new.calls_left }
+    ensures looks { OnlyLooks D.Disk tree.old.kernel tree.new.kernel
+        tree.old.calls_left tree.new.calls_left }
+    ensures same { OnOk result (StaySame D.Disk tree.old.kernel tree.new.kernel) }
 {
     let Ok(offset) = u32::try_from(offset) else {
         return Ok(());
@@ -31,7 +34,7 @@ pub(crate) fn read<D: Disk>(
     let mut left = size;
     for _piece in 0..size.div_ceil(PIECE) {
         let most = PIECE.min(left);
-        let bytes = tree.read_at(alloc, number, at, most)?;
+        let bytes = read_at(alloc, tree, number, at, most)?;
         out.extend_from_slice(bytes.as_slice())?;
         if bytes.len() < most as usize {
             break;
@@ -53,14 +56,13 @@ pub(crate) fn write<D: Disk>(
 ) -> Result<u32, Errno>
     requires ready { MayGoOn D.Disk tree.old.kernel tree.old.calls_left }
     ensures ready { MayGoOn D.Disk tree.new.kernel tree.new.calls_left }
+    ensures makes { Makes D.Disk (WritesIn number offset bytes.now) tree.old.kernel tree.new.kernel
+        tree.old.calls_left tree.new.calls_left }
 {
     let Ok(offset) = u32::try_from(offset) else {
         return Err(Errno::TooBig);
     };
-    let found = tree.look_at(alloc, number)?;
-    if found.size < offset {
-        fill(alloc, tree, number, found.size, offset)?;
-    }
+    fill_up(alloc, tree, number, offset)?;
     let left = write_pieces(alloc, tree, number, offset, bytes)?;
     if left == bytes.len() && left > 0 {
         return Err(Errno::NoSpace);
@@ -69,6 +71,25 @@ pub(crate) fn write<D: Disk>(
         Ok(count) => Ok(count),
         Err(_) => Err(Errno::InputOutput),
     }
+}
+
+// Writes zeroes from a file's end up to an offset that is behind it.
+fn fill_up<D: Disk>(
+    alloc: Global,
+    tree: &mut Tree<D>,
+    number: u32,
+    offset: u32,
+) -> Result<(), Errno>
+    requires ready { MayGoOn D.Disk tree.old.kernel tree.old.calls_left }
+    ensures ready { MayGoOn D.Disk tree.new.kernel tree.new.calls_left }
+    ensures makes { Makes D.Disk (Lengthens number offset) tree.old.kernel tree.new.kernel
+        tree.old.calls_left tree.new.calls_left }
+{
+    let found = look_at(alloc, tree, number)?;
+    if found.size < offset {
+        return fill(alloc, tree, number, found.size, offset);
+    }
+    Ok(())
 }
 
 // Writes bytes into a file, piece by piece. How many are left.
@@ -81,33 +102,49 @@ fn write_pieces<D: Disk>(
 ) -> Result<usize, Errno>
     requires ready { MayGoOn D.Disk tree.old.kernel tree.old.calls_left }
     ensures ready { MayGoOn D.Disk tree.new.kernel tree.new.calls_left }
+    ensures makes { Makes D.Disk (WritesPart number offset bytes.now) tree.old.kernel
+        tree.new.kernel tree.old.calls_left tree.new.calls_left }
 {
-    let mut at = offset;
-    let mut rest = bytes;
+    let mut left = bytes.len();
     for _piece in 0..bytes.len() {
-        if rest.is_empty() {
+        if left == 0 {
             return Ok(0);
         }
-        // It ends at a block's end.
-        let room = (PIECE - at % 1024) as usize;
-        let wrote = tree.write_at(alloc, number, at, &rest[..room.min(rest.len())])?;
-        match wrote {
-            Ok(count) => {
-                if count == 0 || count as usize > rest.len() {
-                    return Ok(rest.len());
-                }
-                at = at.saturating_add(count);
-                rest = &rest[count as usize..];
-            }
+        match write_piece(alloc, tree, number, offset, bytes, bytes.len() - left)? {
+            Ok(0) => return Ok(left),
+            Ok(count) => left -= left.min(count as usize),
             Err(cause) => {
-                if rest.len() == bytes.len() {
+                if left == bytes.len() {
                     return Err(cause.into());
                 }
-                return Ok(rest.len());
+                return Ok(left);
             }
         }
     }
-    Ok(rest.len())
+    Ok(left)
+}
+
+// Writes the bytes behind so many of them, up to a block's end. How many were written.
+fn write_piece<D: Disk>(
+    alloc: Global,
+    tree: &mut Tree<D>,
+    number: u32,
+    offset: u32,
+    bytes: &[u8],
+    done: usize,
+) -> Result<Result<u32, Unwritten>, TreeFault>
+    requires ready { MayGoOn D.Disk tree.old.kernel tree.old.calls_left }
+    requires some { done ≤ length bytes.now }
+    ensures ready { MayGoOn D.Disk tree.new.kernel tree.new.calls_left }
+    ensures makes { Makes D.Disk (WritesPart number offset bytes.now) tree.old.kernel
+        tree.new.kernel tree.old.calls_left tree.new.calls_left }
+{
+    let Ok(at) = u32::try_from(offset as usize + done) else {
+        return Ok(Err(Unwritten::TooBig));
+    };
+    let room = (PIECE - at % 1024) as usize;
+    let end = done + room.min(bytes.len() - done);
+    write_at(alloc, tree, number, at, &bytes[done..end])
 }
 
 // Writes zeroes from a file's end up to an offset.
@@ -119,21 +156,44 @@ fn fill<D: Disk>(
     to: u32,
 ) -> Result<(), Errno>
     requires ready { MayGoOn D.Disk tree.old.kernel tree.old.calls_left }
+    requires end { EndsBefore D.Disk number tree.old.kernel from }
     ensures ready { MayGoOn D.Disk tree.new.kernel tree.new.calls_left }
+    ensures makes { Makes D.Disk (Lengthens number to) tree.old.kernel tree.new.kernel
+        tree.old.calls_left tree.new.calls_left }
 {
     let mut at = from;
     for _piece in 0..to {
         if at >= to {
             break;
         }
-        let count = (PIECE - at % 1024).min(to - at);
-        match tree.write_at(alloc, number, at, &ZEROES[..count as usize])? {
-            Ok(0) => return Err(Errno::NoSpace),
-            Ok(count) => at = at.saturating_add(count),
-            Err(cause) => return Err(cause.into()),
-        }
+        at = fill_piece(alloc, tree, number, at, to)?;
     }
     Ok(())
+}
+
+// Writes zeroes behind a file's end, up to a block's end, or to that offset. Where they end.
+fn fill_piece<D: Disk>(
+    alloc: Global,
+    tree: &mut Tree<D>,
+    number: u32,
+    at: u32,
+    to: u32,
+) -> Result<u32, Errno>
+    requires ready { MayGoOn D.Disk tree.old.kernel tree.old.calls_left }
+    requires some { at < to }
+    requires end { EndsBefore D.Disk number tree.old.kernel at }
+    ensures ready { MayGoOn D.Disk tree.new.kernel tree.new.calls_left }
+    ensures makes { Makes D.Disk (Lengthens number to) tree.old.kernel tree.new.kernel
+        tree.old.calls_left tree.new.calls_left }
+    ensures end { IfOk result (EndsBefore D.Disk number tree.new.kernel) }
+{
+    let zeroes = [0u8; PIECE as usize];
+    let count = (PIECE - at % 1024).min(to - at);
+    match write_at(alloc, tree, number, at, &zeroes[..count as usize])? {
+        Ok(0) => Err(Errno::NoSpace),
+        Ok(wrote) => Ok(at + wrote.min(count)),
+        Err(cause) => Err(cause.into()),
+    }
 }
 
 /// Gives a file another length. A shorter one it has whole over a stop. What is new of a longer one
@@ -146,11 +206,13 @@ pub(crate) fn resize<D: Disk>(
 ) -> Result<(), Errno>
     requires ready { MayGoOn D.Disk tree.old.kernel tree.old.calls_left }
     ensures ready { MayGoOn D.Disk tree.new.kernel tree.new.calls_left }
+    ensures makes { Makes D.Disk (Resizes number size) tree.old.kernel tree.new.kernel
+        tree.old.calls_left tree.new.calls_left }
 {
     let Ok(size) = u32::try_from(size) else {
         return Err(Errno::TooBig);
     };
-    let found = tree.look_at(alloc, number)?;
+    let found = look_at(alloc, tree, number)?;
     if size > found.size {
         return fill(alloc, tree, number, found.size, size);
     }
@@ -158,6 +220,6 @@ pub(crate) fn resize<D: Disk>(
         return Ok(());
     }
     // It has so many bytes, so it is cut.
-    let _cut = tree.cut_at(alloc, number, size)?;
+    let _cut = cut_at(alloc, tree, number, size)?;
     Ok(())
 }

@@ -7,9 +7,11 @@
 #![tactic(auto)]
 
 mod answering;
+mod calling;
 mod changes;
 mod errno;
 mod files;
+pub mod laws;
 mod listings;
 mod looks;
 mod nodes;

@@ -1,7 +1,10 @@
 // The entries of directories.
-ghost use Rattle.std.specs.Prelude.{◌≤◌, length};
+ghost use Rattle.std.specs.Prelude.{OnOk, ◌≡◌, ◌≤◌, length, IfOk, IsTrue};
+ghost use Rattle.directories.specs.Entries.{padded};
+ghost use Rattle.mounting.specs.Changes.{StaySame, aside_of, digit, IsAside, Makes, OnlyLooks, RemovesAside};
 ghost use Rattle.names.specs.Ready.{MayGoOn};
 
+use crate::calling::{list_at, look_at, remove_in};
 use crate::errno::Errno;
 use crate::nodes::Nodes;
 use blocks::Disk;
@@ -20,13 +23,17 @@ const ASIDE: &[u8] = b".xvgone";
 const ASIDE_SIZE: usize = 7;
 
 // One of the digits of a number.
-fn digit(number: u32) -> u8 {
+fn digit(number: u32) -> u8
+    ensures { result ≡ digit number }
+{
     48 + (number % 10) as u8
 }
 
 /// The name that the file of a number has aside in the root, when its last one was removed while it
 /// was open.
-pub(crate) fn aside(number: u32) -> Result<Name, Errno> {
+pub(crate) fn aside(number: u32) -> Result<Name, Errno>
+    ensures { IfOk result (λ name. name ≡ aside_of number) }
+{
     let bytes = [
         46,
         120,
@@ -47,7 +54,9 @@ pub(crate) fn aside(number: u32) -> Result<Name, Errno> {
 }
 
 /// Whether that name is one aside.
-pub(crate) fn is_aside(name: &[u8]) -> bool {
+pub(crate) fn is_aside(name: &[u8]) -> bool
+    ensures { IsTrue result → IsAside name.now }
+{
     name.len() == NAME_SIZE
         && name.starts_with(ASIDE)
         && name[ASIDE_SIZE..]
@@ -60,7 +69,9 @@ pub(crate) fn is_aside(name: &[u8]) -> bool {
 /// # Errors
 ///
 /// `NotPermitted` for a name aside in the root, and those of a name.
-pub(crate) fn new_name(node: u32, name: &[u8]) -> Result<Name, Errno> {
+pub(crate) fn new_name(node: u32, name: &[u8]) -> Result<Name, Errno>
+    ensures { IfOk result (λ made. made ≡ padded name.now) }
+{
     if node == ROOT && is_aside(name) {
         return Err(Errno::NotPermitted);
     }
@@ -92,8 +103,11 @@ pub(crate) fn list<D: Disk>(
 ) -> Result<(), Errno>
     requires ready { MayGoOn D.Disk tree.old.kernel tree.old.calls_left }
     ensures ready { MayGoOn D.Disk tree.new.kernel tree.new.calls_left }
+    ensures looks { OnlyLooks D.Disk tree.old.kernel tree.new.kernel
+        tree.old.calls_left tree.new.calls_left }
+    ensures same { OnOk result (StaySame D.Disk tree.old.kernel tree.new.kernel) }
 {
-    let bytes = tree.list_at(alloc, number)?;
+    let bytes = list_at(alloc, tree, number)?;
     let mut place = 0u64;
     for entry in entries_in(bytes.as_slice()) {
         place = place.saturating_add(1);
@@ -131,6 +145,9 @@ fn add_told<D: Disk>(
 ) -> Result<u32, Errno>
     requires ready { MayGoOn D.Disk tree.old.kernel tree.old.calls_left }
     ensures ready { MayGoOn D.Disk tree.new.kernel tree.new.calls_left }
+    ensures looks { OnlyLooks D.Disk tree.old.kernel tree.new.kernel
+        tree.old.calls_left tree.new.calls_left }
+    ensures same { OnOk result (StaySame D.Disk tree.old.kernel tree.new.kernel) }
 {
     if !part.plus {
         return Ok(0);
@@ -140,7 +157,7 @@ fn add_told<D: Disk>(
         return Ok(4);
     }
     let file = u32::from(number_in(entry));
-    let found = tree.look_at(alloc, file)?;
+    let found = look_at(alloc, tree, file)?;
     let attributes = nodes.attributes(&found)?;
     add_entry(out, &attributes, nodes.generation(file), part.valid)?;
     Ok(attributes.mode / 4096)
@@ -177,6 +194,9 @@ fn add<D: Disk>(
 ) -> Result<(), Errno>
     requires ready { MayGoOn D.Disk tree.old.kernel tree.old.calls_left }
     ensures ready { MayGoOn D.Disk tree.new.kernel tree.new.calls_left }
+    ensures looks { OnlyLooks D.Disk tree.old.kernel tree.new.kernel
+        tree.old.calls_left tree.new.calls_left }
+    ensures same { OnOk result (StaySame D.Disk tree.old.kernel tree.new.kernel) }
 {
     match add_told(alloc, tree, nodes, entry, part, out) {
         Ok(kind) => add_name(entry, next, kind, out),
@@ -192,12 +212,14 @@ fn sweep_entry<D: Disk>(
 ) -> Result<(), Errno>
     requires ready { MayGoOn D.Disk tree.old.kernel tree.old.calls_left }
     ensures ready { MayGoOn D.Disk tree.new.kernel tree.new.calls_left }
+    ensures makes { Makes D.Disk (RemovesAside) tree.old.kernel tree.new.kernel
+        tree.old.calls_left tree.new.calls_left }
 {
     if number_in(entry) == 0 || !is_aside(text_in(entry)) {
         return Ok(());
     }
     let name = Name::new(text_in(entry))?;
-    match tree.remove_in(alloc, ROOT, &name) {
+    match remove_in(alloc, tree, ROOT, &name) {
         // A directory is none that we put aside.
         Ok(()) | Err(TreeFault::Refused(_)) => Ok(()),
         Err(fault) => Err(fault.into()),
@@ -208,8 +230,10 @@ fn sweep_entry<D: Disk>(
 pub(crate) fn sweep<D: Disk>(alloc: Global, tree: &mut Tree<D>) -> Result<(), Errno>
     requires ready { MayGoOn D.Disk tree.old.kernel tree.old.calls_left }
     ensures ready { MayGoOn D.Disk tree.new.kernel tree.new.calls_left }
+    ensures makes { Makes D.Disk (RemovesAside) tree.old.kernel tree.new.kernel
+        tree.old.calls_left tree.new.calls_left }
 {
-    let bytes = tree.list_at(alloc, ROOT)?;
+    let bytes = list_at(alloc, tree, ROOT)?;
     for entry in entries_in(bytes.as_slice()) {
         sweep_entry(alloc, tree, entry)?;
     }

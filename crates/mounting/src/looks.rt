@@ -1,6 +1,10 @@
 // Requests that change no file.
+ghost use Rattle.std.specs.Prelude.{OnOk};
+ghost use Rattle.fuse.specs.Requests.{asked};
+ghost use Rattle.mounting.specs.Changes.{Did, Does, StaySame, OnlyLooks};
 ghost use Rattle.names.specs.Ready.{MayGoOn};
 
+use crate::calling::{look_at, look_in};
 use crate::errno::Errno;
 use crate::files::read;
 use crate::listings::{Part, ROOT, is_aside, list};
@@ -11,7 +15,7 @@ use fuse::{
     FileSystem, Opened, Request, add_attributes, add_entry, init_answer, opened_answer,
     statfs_answer,
 };
-use names::{Found, Tree};
+use names::{Found, Tree, TreeFault};
 use std::alloc::Global;
 
 // What we want of the system, as far as it can do it: reads side by side, writes of many pages, and
@@ -39,6 +43,10 @@ impl Server {
     ) -> Result<(), Errno>
         requires ready { MayGoOn D.Disk tree.old.kernel tree.old.calls_left }
         ensures ready { MayGoOn D.Disk tree.new.kernel tree.new.calls_left }
+        ensures looks { OnlyLooks D.Disk tree.old.kernel tree.new.kernel
+            tree.old.calls_left tree.new.calls_left }
+        ensures does { OnOk result (Did D.Disk (λ form. Does form node (asked request.now)) tree.old.kernel
+            tree.new.kernel) }
     {
         match request {
             Request::Init {
@@ -79,8 +87,11 @@ impl Server {
     ) -> Result<(), Errno>
         requires ready { MayGoOn D.Disk tree.old.kernel tree.old.calls_left }
         ensures ready { MayGoOn D.Disk tree.new.kernel tree.new.calls_left }
+        ensures looks { OnlyLooks D.Disk tree.old.kernel tree.new.kernel
+            tree.old.calls_left tree.new.calls_left }
+        ensures same { OnOk result (StaySame D.Disk tree.old.kernel tree.new.kernel) }
     {
-        let _found = tree.look_at(alloc, node)?;
+        let _found = look_at(alloc, tree, node)?;
         self.nodes.opened(node);
         tell_opened(KEEPS_BYTES, out)
     }
@@ -95,8 +106,11 @@ impl Server {
     ) -> Result<(), Errno>
         requires ready { MayGoOn D.Disk tree.old.kernel tree.old.calls_left }
         ensures ready { MayGoOn D.Disk tree.new.kernel tree.new.calls_left }
+        ensures looks { OnlyLooks D.Disk tree.old.kernel tree.new.kernel
+            tree.old.calls_left tree.new.calls_left }
+        ensures same { OnOk result (StaySame D.Disk tree.old.kernel tree.new.kernel) }
     {
-        let found = tree.look_at(alloc, node)?;
+        let found = look_at(alloc, tree, node)?;
         let attributes = self.nodes.attributes(&found)?;
         add_attributes(out, &attributes, self.valid)?;
         Ok(())
@@ -125,12 +139,15 @@ impl Server {
     ) -> Result<(), Errno>
         requires ready { MayGoOn D.Disk tree.old.kernel tree.old.calls_left }
         ensures ready { MayGoOn D.Disk tree.new.kernel tree.new.calls_left }
+        ensures looks { OnlyLooks D.Disk tree.old.kernel tree.new.kernel
+            tree.old.calls_left tree.new.calls_left }
+        ensures same { OnOk result (StaySame D.Disk tree.old.kernel tree.new.kernel) }
     {
         if node == ROOT && is_aside(name) {
             return Err(Errno::NoEntry);
         }
         let name = Name::new(name)?;
-        let found = tree.look_in(alloc, node, &name)?;
+        let found = look_in(alloc, tree, node, &name)?;
         self.tell_entry(&found, out)
     }
 
@@ -143,13 +160,16 @@ impl Server {
     ) -> Result<(), Errno>
         requires ready { MayGoOn D.Disk tree.old.kernel tree.old.calls_left }
         ensures ready { MayGoOn D.Disk tree.new.kernel tree.new.calls_left }
+        ensures looks { OnlyLooks D.Disk tree.old.kernel tree.new.kernel
+            tree.old.calls_left tree.new.calls_left }
+        ensures same { OnOk result (StaySame D.Disk tree.old.kernel tree.new.kernel) }
     {
         let mut files = 0u32;
         let mut blocks = 0u32;
         for number in 1..self.nodes.count() {
-            if let Ok(found) = tree.look_at(alloc, number) {
+            if let Some(count) = blocks_at(alloc, tree, number)? {
                 files = files.saturating_add(1);
-                blocks = blocks.saturating_add(blocks_of(found.size));
+                blocks = blocks.saturating_add(count);
             }
         }
         let numbers = self.nodes.count().saturating_sub(1);
@@ -162,6 +182,21 @@ impl Server {
             name_size: 14,
         }))?;
         Ok(())
+    }
+}
+
+// How many blocks the file of a number takes, where there is one.
+fn blocks_at<D: Disk>(alloc: Global, tree: &mut Tree<D>, number: u32) -> Result<Option<u32>, Errno>
+    requires ready { MayGoOn D.Disk tree.old.kernel tree.old.calls_left }
+    ensures ready { MayGoOn D.Disk tree.new.kernel tree.new.calls_left }
+    ensures looks { OnlyLooks D.Disk tree.old.kernel tree.new.kernel
+        tree.old.calls_left tree.new.calls_left }
+    ensures same { OnOk result (StaySame D.Disk tree.old.kernel tree.new.kernel) }
+{
+    match look_at(alloc, tree, number) {
+        Ok(found) => Ok(Some(blocks_of(found.size))),
+        Err(TreeFault::Refused(_)) => Ok(None),
+        Err(fault) => Err(fault.into()),
     }
 }
 

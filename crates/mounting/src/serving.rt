@@ -1,7 +1,11 @@
 // One request after the other.
-ghost use Rattle.std.specs.Prelude.{IfOk};
+ghost use Rattle.std.specs.Prelude.{◌≡◌, IfOk, OnOk};
+ghost use Rattle.fuse.specs.Requests.{asked, request_in};
+ghost use Rattle.mounting.specs.Changes.{Did, Does, DoesIf, HasServed, Makes, MayMake, MayMakeIf, MayServe, RemovesAside};
 ghost use Rattle.mounting.specs.Serving.{HasAnswer};
+ghost use Rattle.names.specs.Inside.{form_seen};
 ghost use Rattle.names.specs.Ready.{MayGoOn};
+ghost use Rattle.names.specs.Runs.{HasRun};
 
 use crate::answering::put_answer;
 use crate::errno::Errno;
@@ -50,6 +54,8 @@ impl Server {
     pub fn new<D: Disk>(alloc: Global, tree: &mut Tree<D>, terms: Terms) -> Result<Server, Errno>
         requires ready { MayGoOn D.Disk tree.old.kernel tree.old.calls_left }
         ensures ready { MayGoOn D.Disk tree.new.kernel tree.new.calls_left }
+        ensures runs { HasRun D.Disk (RemovesAside (form_seen D.image tree.old.kernel))
+            tree.old.kernel tree.new.kernel tree.old.calls_left tree.new.calls_left }
     {
         sweep(alloc, tree)?;
         let nodes = Nodes::new(alloc, tree.number_count(), terms)?;
@@ -88,7 +94,11 @@ impl Server {
     ) -> Result<Served, AllocError>
         requires ready { MayGoOn D.Disk tree.old.kernel tree.old.calls_left }
         ensures ready { MayGoOn D.Disk tree.new.kernel tree.new.calls_left }
-        ensures answered { IfOk result (λ served. HasAnswer bytes.now out.new.items served) }
+        ensures runs { HasRun D.Disk (MayServe (form_seen D.image tree.old.kernel) bytes.now)
+            tree.old.kernel tree.new.kernel tree.old.calls_left tree.new.calls_left }
+        ensures answered { IfOk result (HasAnswer
+            (Did D.Disk (λ form. HasServed form bytes.now) tree.old.kernel tree.new.kernel)
+            bytes.now out.new.items) }
     {
         let Some(header) = read_header(bytes) else {
             return Ok(Served::Unanswered);
@@ -120,6 +130,10 @@ impl Server {
     ) -> u32
         requires ready { MayGoOn D.Disk tree.old.kernel tree.old.calls_left }
         ensures ready { MayGoOn D.Disk tree.new.kernel tree.new.calls_left }
+        ensures makes { Makes D.Disk (λ form. MayMakeIf form node (request_in opcode asked.now))
+            tree.old.kernel tree.new.kernel tree.old.calls_left tree.new.calls_left }
+        ensures does { result ≡ 0 → Did D.Disk (λ form. DoesIf form node (request_in opcode asked.now))
+            tree.old.kernel tree.new.kernel }
     {
         let Some(request) = read_request(opcode, asked) else {
             return Errno::Invalid.number();
@@ -145,6 +159,10 @@ impl Server {
     ) -> Result<(), Errno>
         requires ready { MayGoOn D.Disk tree.old.kernel tree.old.calls_left }
         ensures ready { MayGoOn D.Disk tree.new.kernel tree.new.calls_left }
+        ensures makes { Makes D.Disk (λ form. MayMake form node (asked request.now))
+            tree.old.kernel tree.new.kernel tree.old.calls_left tree.new.calls_left }
+        ensures does { OnOk result (Did D.Disk (λ form. Does form node (asked request.now)) tree.old.kernel
+            tree.new.kernel) }
     {
         match request {
             Request::SetAttributes { .. } | Request::Write { .. } => {

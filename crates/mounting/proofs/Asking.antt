@@ -1,0 +1,31 @@
+-- What requests change, by what they ask.
+use Rattle.std.proofs.Common.{◌≡◌, ℕ, ◌/◌, List, [], ◌∷◌, refl, subst, sym}
+use Rattle.directories.specs.Entries.{padded}
+use Rattle.fuse.specs.declared.request.Request.{Request}
+use Rattle.fuse.specs.Requests.{asked}
+use Rattle.model.specs.declared.types.image.Form.{Form}
+use Rattle.model.specs.Files.{Files}
+use Rattle.mounting.specs.Changes.{aside_of, digit, Does, MayMake, RenamedFile, RenamesFile}
+
+-- of an equal request
+pub asked_as : (form : Form) (node : ℕ) (r s : Request) (x z : Files) → r ≡ s → MayMake form node (asked s) x z → MayMake form node (asked r) x z
+asked_as form node r s x z same makes = subst (λ (q : Request). MayMake form node (asked q) x z) (sym same) makes
+
+pub done_as : (form : Form) (node : ℕ) (r s : Request) (x z : Files) → r ≡ s → Does form node (asked s) x z → Does form node (asked r) x z
+done_as form node r s x z same does = subst (λ (q : Request). Does form node (asked q) x z) (sym same) does
+
+-- of equal names, and of equal files
+pub renames_at : (from to : ℕ) (form : Form) (old o name n : List ℕ) (x z : Files) → old ≡ o → name ≡ n → RenamesFile from old to name form x z → RenamesFile from o to n form x z
+renames_at from to form old o name n x z same_old same_name is =
+    subst (λ (m : List ℕ). RenamesFile from o to m form x z) same_name (subst (λ (m : List ℕ). RenamesFile from m to name form x z) same_old is)
+
+pub renamed_at : (from to : ℕ) (form : Form) (old o name n : List ℕ) (f files new : Files) → old ≡ o → name ≡ n → f ≡ files → RenamedFile from old to name form f new → RenamedFile from o to n form files new
+renamed_at from to form old o name n f files new same_old same_name same_files is =
+    subst (λ (l : Files). RenamedFile from o to n form l new) same_files
+    (subst (λ (m : List ℕ). RenamedFile from o to m form f new) same_name (subst (λ (m : List ℕ). RenamedFile from m to name form f new) same_old is))
+
+-- the digits of a name aside
+pub aside_is : (n a b c d e f h : ℕ) → a ≡ digit (n / 1000000) → b ≡ digit (n / 100000) → c ≡ digit (n / 10000) → d ≡ digit (n / 1000) → e ≡ digit (n / 100) → f ≡ digit (n / 10) → h ≡ digit n
+    → padded (46 ∷ 120 ∷ 118 ∷ 103 ∷ 111 ∷ 110 ∷ 101 ∷ a ∷ b ∷ c ∷ d ∷ e ∷ f ∷ h ∷ []) ≡ aside_of n
+unfolding aside_of
+aside_is n a b c d e f h same_a same_b same_c same_d same_e same_f same_h = rw (same_a, same_b, same_c, same_d, same_e, same_f, same_h) refl

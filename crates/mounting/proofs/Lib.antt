@@ -1,0 +1,4 @@
+mod Asking
+mod FileEnds
+mod Sessions
+mod TreeCalls

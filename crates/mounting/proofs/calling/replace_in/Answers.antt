@@ -1,0 +1,16 @@
+use Rattle.std.proofs.Common.{◌∙◌, ap}
+use Rattle.calls.specs.Calls.{image_on}
+use Rattle.model.specs.Files.{files_of}
+use Rattle.names.specs.Lemmas.Runs.{nothing_done}
+use Rattle.names.specs.Replacing.{HindersHalf, IsUnreplaced, Replaces}
+use Rattle.mounting.proofs.TreeCalls.{call_makes}
+use Rattle.mounting.proofs.calling.replace_in.Goals as goal
+
+pub returns-clause-makes : goal.returns-clause-makes
+returns-clause-makes g c =
+    let called = c.replace_in in
+    let old = c.args.tree.now in
+    let new = called.new.self in
+    call_makes g.D.Disk (HindersHalf c.args.from c.args.old.now c.args.to c.args.name.now c.args.aside.now c.args.keeps (files_of (image_on g.D.Disk.image c.args.tree.now.kernel))) (IsUnreplaced c.args.from c.args.old.now c.args.to c.args.name.now c.args.aside.now c.args.keeps) old.kernel new.kernel old.calls_left new.calls_left called.result c.requires.ready
+    (λ zero. let same = nothing_done old new called.result (called.ensures.none zero) in (ap (λ t. t.kernel) same, ap (λ t. t.calls_left) same ∙ zero))
+    called.ensures.done called.ensures.refused called.ensures.stays (Replaces c.args.from c.args.old.now c.args.to c.args.name.now c.args.aside.now c.args.keeps) called.ensures.replaces called.ensures.leaves

@@ -1,0 +1,13 @@
+use Rattle.mounting.proofs.files.fill_up.Goals as goal
+
+pub returns-in_err-found-clause-makes : goal.returns-in_err-found-clause-makes
+returns-in_err-found-clause-makes g c =
+    λ task o first within before. c.look_at.ensures.looks task o first before
+
+pub returns-then-found-offset-clause-makes : goal.returns-then-found-offset-clause-makes
+returns-then-found-offset-clause-makes g c =
+    λ task o first within before. c.fill.ensures.makes task o first within (c.look_at.ensures.looks task o first before)
+
+pub returns-clause-makes : goal.returns-clause-makes
+returns-clause-makes g c =
+    λ task o first within before. c.look_at.ensures.looks task o first before

@@ -1,0 +1,10 @@
+use Rattle.std.proofs.Common.{ℕ, ◌+◌, ◌-◌, take, drop, subst}
+use Rattle.names.specs.Inside.{form_seen}
+use Rattle.names.specs.Numbered.{WritesSomeOf}
+use Rattle.names.specs.Ready.{AnyOf}
+use Rattle.mounting.proofs.files.write_piece.Goals as goal
+
+pub returns-clause-makes : goal.returns-clause-makes
+returns-clause-makes g c =
+    λ task o first within before. c.write_at.ensures.makes task o first
+    (λ x z is. within x z (c.args.done, (c.args.done + c.min.result - c.args.done, subst (λ (at : ℕ). AnyOf (WritesSomeOf (form_seen g.D.Disk.image o) c.args.number at (take (c.args.done + c.min.result - c.args.done) (drop c.args.done c.args.bytes.now))) x z) c.in-Ok.ensures.1 is.1))) before

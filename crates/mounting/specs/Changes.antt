@@ -1,0 +1,224 @@
+-- What requests change of files.
+use Rattle.std.specs.Prelude.{◌≡◌, ◌⊎◌, ⊤, ℕ, ◌+◌, ◌%◌, ◌/◌, ◌<◌, ◌≤◌, Bool, List, [], ◌∷◌, length, take, drop, replicate, Option, Some, None, Result, Err}
+use Rattle.blocks.specs.declared.disk.Disk.{Ghosts}
+use Rattle.calls.specs.Calls.{image_on}
+use Rattle.calls.specs.Stepping.{Plain}
+use Rattle.directories.specs.Entries.{padded}
+use Rattle.directories.specs.Trees.{bytes_of, root}
+use Rattle.fuse.specs.Requests.{Asked, header_in, request_in, Create, Link, MakeDirectory, MakeNode, Release, RemoveDirectory, Rename, SetAttributes, Unlink, Write}
+use Rattle.model.specs.declared.types.image.Form.{Form}
+use Rattle.model.specs.Files.{Files, file_in, files_of}
+use Rattle.names.specs.declared.refusal.TreeFault.{TreeFault}
+use Rattle.names.specs.declared.refusal.TreeFault.TheVariants.{Refused}
+use Rattle.names.specs.Inside.{form_seen}
+use Rattle.names.specs.Linking.{LinksIn}
+use Rattle.names.specs.Making.{MakesDirectoryIn, MakesIn}
+use Rattle.names.specs.Numbered.{CutsAt, WritesSomeOf}
+use Rattle.names.specs.Ready.{AnyOf}
+use Rattle.names.specs.Removing.{RemovesIn}
+use Rattle.names.specs.Renaming.{Renames}
+use Rattle.names.specs.Replacing.{LeadToOne, Replaces}
+use Rattle.names.specs.Runs.{HasRun}
+use Rattle.names.specs.Undirecting.{RemovesDirectoryIn}
+
+-- ---- names aside
+
+-- a digit
+abbrev pub digit : ℕ → ℕ
+digit n = 48 + n % 10
+
+-- the name that the file of a number has in the root once its last one was removed while it was open:
+-- `.xvgone` and seven digits
+unfoldable pub aside_of : ℕ → List ℕ
+aside_of n = 46 ∷ 120 ∷ 118 ∷ 103 ∷ 111 ∷ 110 ∷ 101 ∷ digit (n / 1000000) ∷ digit (n / 100000)
+    ∷ digit (n / 10000) ∷ digit (n / 1000) ∷ digit (n / 100) ∷ digit (n / 10) ∷ digit n ∷ []
+
+-- a name like that
+pub record IsAside (name : List ℕ) : Type 0 where
+  pub full : length name ≡ 14
+  pub begins : take 7 name ≡ 46 ∷ 120 ∷ 118 ∷ 103 ∷ 111 ∷ 110 ∷ 101 ∷ []
+
+-- ---- the changes, of which each is one transaction
+
+-- Bytes of these, which stand behind one another from an offset on, are written into a file: as many of
+-- them as there is room for.
+abbrev pub WritesPart : ℕ → ℕ → List ℕ → Form → Files → Files → Type 0
+WritesPart number offset bytes form files new = (at : ℕ) × ((count : ℕ)
+    × AnyOf (WritesSomeOf form number (offset + at) (take count (drop at bytes))) files new)
+
+-- bytes are written into a file of just these files
+abbrev pub WritesHere : Files → ℕ → ℕ → List ℕ → Form → Files → Files → Type 0
+WritesHere here number offset bytes form files new =
+    (files ≡ here) × AnyOf (WritesSomeOf form number offset bytes) files new
+
+-- zeroes are written behind a file's end, up to that length at most
+abbrev pub Lengthens : ℕ → ℕ → Form → Files → Files → Type 0
+Lengthens number size form files new = (at : ℕ) × ((count : ℕ)
+    × (at + count ≤ size) × (length (bytes_of (file_in files number)) ≤ at)
+    × AnyOf (WritesSomeOf form number at (replicate count 0)) files new)
+
+-- bytes are written, behind zeroes where the file ends before them
+abbrev pub WritesIn : ℕ → ℕ → List ℕ → Form → Files → Files → Type 0
+WritesIn number offset bytes form files new =
+    WritesPart number offset bytes form files new ⊎ Lengthens number offset form files new
+
+-- a file gets another length
+abbrev pub Resizes : ℕ → ℕ → Form → Files → Files → Type 0
+Resizes number size form files new =
+    AnyOf (CutsAt number size) files new ⊎ Lengthens number size form files new
+
+-- a file, a directory or another name is made
+abbrev pub MakesFile : ℕ → List ℕ → Form → Files → Files → Type 0
+MakesFile from name form = AnyOf (MakesIn from name)
+
+abbrev pub MakesDirectory : ℕ → List ℕ → Form → Files → Files → Type 0
+MakesDirectory from name form = AnyOf (MakesDirectoryIn from name)
+
+abbrev pub Links : ℕ → ℕ → List ℕ → Form → Files → Files → Type 0
+Links number to name form = AnyOf (LinksIn number to name)
+
+-- a name is removed, with its file where that has no other one
+abbrev pub RemovesName : ℕ → List ℕ → Form → Files → Files → Type 0
+RemovesName from name form = AnyOf (RemovesIn from name)
+
+-- a file has a name aside in place of another one
+abbrev pub SetsAside : ℕ → List ℕ → Form → Files → Files → Type 0
+SetsAside from name form files new =
+    (number : ℕ) × AnyOf (Renames from name root (aside_of number)) files new
+
+-- a name is removed; with its last one a file goes, or has a name aside while it is open
+abbrev pub Unlinks : ℕ → List ℕ → Form → Files → Files → Type 0
+Unlinks from name form files new =
+    RemovesName from name form files new ⊎ SetsAside from name form files new
+
+abbrev pub RemovesEmpty : ℕ → List ℕ → Form → Files → Files → Type 0
+RemovesEmpty from name form = AnyOf (RemovesDirectoryIn from name)
+
+-- a file has the name of another one, which goes, or has a name aside while it is open
+abbrev pub ReplacesFile : ℕ → List ℕ → ℕ → List ℕ → Form → Files → Files → Type 0
+ReplacesFile from old to name form files new = (number : ℕ) × ((keeps : Bool)
+    × AnyOf (Replaces from old to name (aside_of number) keeps) files new)
+
+-- a file has another name; an empty directory that has it is removed before
+abbrev pub RenamesFile : ℕ → List ℕ → ℕ → List ℕ → Form → Files → Files → Type 0
+RenamesFile from old to name form files new = AnyOf (Renames from old to name) files new
+    ⊎ (RemovesEmpty to name form files new ⊎ ReplacesFile from old to name form files new)
+
+-- a name aside is removed, which a mount that was stopped left
+abbrev pub RemovesAside : Form → Files → Files → Type 0
+RemovesAside form files new =
+    (name : List ℕ) × (IsAside name × RemovesName root (padded name) form files new)
+
+-- ---- requests
+
+-- no file changes
+abbrev pub NoChange : Files → Files → Type 0
+NoChange files new = ⊥
+
+-- what a request of the file of a number may change
+abbrev pub MayMake : Form → ℕ → Asked → Files → Files → Type 0
+MayMake form node (SetAttributes valid size changed nanos mode) = Resizes node size form
+MayMake form node (Write offset bytes) = WritesIn node offset bytes form
+MayMake form node (MakeNode mode name) = MakesFile node (padded name) form
+MayMake form node (Create flags mode name) = MakesFile node (padded name) form
+MayMake form node (MakeDirectory mode name) = MakesDirectory node (padded name) form
+MayMake form node (Link number name) = Links number node (padded name) form
+MayMake form node (Unlink name) = Unlinks node (padded name) form
+MayMake form node (RemoveDirectory name) = RemovesEmpty node (padded name) form
+MayMake form node (Rename to flags old name) = RenamesFile node (padded old) to (padded name) form
+MayMake form node Release = RemovesName root (aside_of node) form
+MayMake form node request = NoChange
+
+abbrev pub MayMakeIf : Form → ℕ → Option Asked → Files → Files → Type 0
+MayMakeIf form node None = NoChange
+MayMakeIf form node (Some request) = MayMake form node request
+
+-- the same of its bytes
+abbrev pub MayServe : Form → List ℕ → Files → Files → Type 0
+MayServe form bytes =
+    MayMakeIf form (header_in bytes).node (request_in (header_in bytes).opcode (drop 40 bytes))
+
+-- ---- requests that were done
+
+-- a file has another name; nothing is done where both lead to one file, and what has the name is removed
+-- before, or replaced
+abbrev pub RenamedFile : ℕ → List ℕ → ℕ → List ℕ → Form → Files → Files → Type 0
+RenamedFile from old to name form files new = AnyOf (Renames from old to name) files new
+    ⊎ (((new ≡ files) × LeadToOne from old to name files)
+    ⊎ (ReplacesFile from old to name form files new
+    ⊎ ((mid : Files) × (RemovesEmpty to name form files mid
+    × AnyOf (Renames from old to name) mid new))))
+
+-- What became of the files where the request is answered without an error. Of one that may take several
+-- transactions that is said by its changes alone.
+abbrev pub Does : Form → ℕ → Asked → Files → Files → Type 0
+Does form node (SetAttributes valid size changed nanos mode) files new = ⊤
+Does form node (Write offset bytes) files new = ⊤
+Does form node (MakeNode mode name) files new = MakesFile node (padded name) form files new
+Does form node (Create flags mode name) files new = MakesFile node (padded name) form files new
+Does form node (MakeDirectory mode name) files new =
+    MakesDirectory node (padded name) form files new
+Does form node (Link number name) files new = Links number node (padded name) form files new
+Does form node (Unlink name) files new = Unlinks node (padded name) form files new
+Does form node (RemoveDirectory name) files new = RemovesEmpty node (padded name) form files new
+Does form node (Rename to flags old name) files new =
+    RenamedFile node (padded old) to (padded name) form files new
+Does form node Release files new =
+    (new ≡ files) ⊎ RemovesName root (aside_of node) form files new
+Does form node request files new = new ≡ files
+
+abbrev pub DoesIf : Form → ℕ → Option Asked → Files → Files → Type 0
+DoesIf form node None files new = ⊥
+DoesIf form node (Some request) files new = Does form node request files new
+
+-- the same of its bytes
+abbrev pub HasServed : Form → List ℕ → Files → Files → Type 0
+HasServed form bytes =
+    DoesIf form (header_in bytes).node (request_in (header_in bytes).opcode (drop 40 bytes))
+
+-- ---- kernels
+
+-- the files on the disk of m came of those on the disk of k so
+abbrev pub Did : {D N : Type 0} → Ghosts D N → (Form → Files → Files → Type 0) → Plain D → Plain D
+    → Type 0
+Did disk part k m = part (form_seen disk.image k) (files_of (image_on disk.image k))
+    (files_of (image_on disk.image m))
+
+-- they are the same
+abbrev pub StaySame : {D N : Type 0} → Ghosts D N → Plain D → Plain D → Type 0
+StaySame disk k m = files_of (image_on disk.image m) ≡ files_of (image_on disk.image k)
+
+-- unless a call failed behind which no other is made
+abbrev pub StaysIfRefused : {D N T : Type 0} → Ghosts D N → Plain D → Plain D → Result T TreeFault
+    → Type 0
+StaysIfRefused disk k m (Err (Refused cause)) = StaySame disk k m
+StaysIfRefused disk k m result = ⊤
+
+-- what a server does to files: it serves a request of the file of a number, or removes what a stop left
+pub data Task : Type 0 where
+  Serving : (node : ℕ) (request : Asked) → Task
+  Sweeping : Task
+
+abbrev pub MayDo : Form → Task → Files → Files → Type 0
+MayDo form (Serving node request) = MayMake form node request
+MayDo form Sweeping = RemovesAside form
+
+-- From kernel k of a tree to m only such changes were made: what came of a task since kernel o came of it
+-- up to m, where such changes are among those of the task.
+abbrev pub Makes : {D N : Type 0} → Ghosts D N → (Form → Files → Files → Type 0) → Plain D → Plain D
+    → ℕ → ℕ → Type 0
+Makes {D} disk part k m left less = (task : Task) (o : Plain D) (first : ℕ)
+    → ((x z : Files) → part (form_seen disk.image o) x z → MayDo (form_seen disk.image o) task x z)
+    → HasRun disk (MayDo (form_seen disk.image o) task) o k first left
+    → HasRun disk (MayDo (form_seen disk.image o) task) o m first less
+
+-- no file changes: the same of any task
+abbrev pub OnlyLooks : {D N : Type 0} → Ghosts D N → Plain D → Plain D → ℕ → ℕ → Type 0
+OnlyLooks {D} disk k m left less = (task : Task) (o : Plain D) (first : ℕ)
+    → HasRun disk (MayDo (form_seen disk.image o) task) o k first left
+    → HasRun disk (MayDo (form_seen disk.image o) task) o m first less
+
+-- a file ends at that offset or before
+abbrev pub EndsBefore : {D N : Type 0} → Ghosts D N → ℕ → Plain D → ℕ → Type 0
+EndsBefore disk number k at =
+    length (bytes_of (file_in (files_of (image_on disk.image k)) number)) ≤ at
