@@ -5,7 +5,7 @@ use Rattle.fuse.specs.declared.request.Request.{Request}
 use Rattle.fuse.specs.Requests.{asked}
 use Rattle.model.specs.declared.types.image.Form.{Form}
 use Rattle.model.specs.Files.{Files}
-use Rattle.mounting.specs.Changes.{aside_of, digit, Does, MayMake, RenamedFile, RenamesFile}
+use Rattle.mounting.specs.Changes.{aside_of, digit, Does, MayMake, RenamedFile}
 
 -- of an equal request
 pub asked_as : (form : Form) (node : ℕ) (r s : Request) (x z : Files) → r ≡ s → MayMake form node (asked s) x z → MayMake form node (asked r) x z
@@ -14,11 +14,11 @@ asked_as form node r s x z same makes = subst (λ (q : Request). MayMake form no
 pub done_as : (form : Form) (node : ℕ) (r s : Request) (x z : Files) → r ≡ s → Does form node (asked s) x z → Does form node (asked r) x z
 done_as form node r s x z same does = subst (λ (q : Request). Does form node (asked q) x z) (sym same) does
 
--- of equal names, and of equal files
-pub renames_at : (from to : ℕ) (form : Form) (old o name n : List ℕ) (x z : Files) → old ≡ o → name ≡ n → RenamesFile from old to name form x z → RenamesFile from o to n form x z
-renames_at from to form old o name n x z same_old same_name is =
-    subst (λ (m : List ℕ). RenamesFile from o to m form x z) same_name (subst (λ (m : List ℕ). RenamesFile from m to name form x z) same_old is)
+-- of two equal names
+pub twice : (P : List ℕ → List ℕ → Type 0) (old o name n : List ℕ) → old ≡ o → name ≡ n → P old name → P o n
+twice P old o name n same_old same_name is = subst (λ (m : List ℕ). P o m) same_name (subst (λ (m : List ℕ). P m name) same_old is)
 
+-- and of equal files
 pub renamed_at : (from to : ℕ) (form : Form) (old o name n : List ℕ) (f files new : Files) → old ≡ o → name ≡ n → f ≡ files → RenamedFile from old to name form f new → RenamedFile from o to n form files new
 renamed_at from to form old o name n f files new same_old same_name same_files is =
     subst (λ (l : Files). RenamedFile from o to n form l new) same_files

@@ -1,5 +1,5 @@
 -- What requests change of files.
-use Rattle.std.specs.Prelude.{◌≡◌, ◌⊎◌, ⊤, ℕ, ◌+◌, ◌%◌, ◌/◌, ◌<◌, ◌≤◌, Bool, List, [], ◌∷◌, length, take, drop, replicate, Option, Some, None, Result, Err}
+use Rattle.std.specs.Prelude.{◌≡◌, ◌≢◌, ◌⊎◌, ⊤, ℕ, ◌+◌, ◌%◌, ◌/◌, ◌<◌, ◌≤◌, Bool, List, [], ◌∷◌, length, take, drop, replicate, bit_and, Option, Some, None, Result, Err}
 use Rattle.blocks.specs.declared.disk.Disk.{Ghosts}
 use Rattle.calls.specs.Calls.{image_on}
 use Rattle.calls.specs.Stepping.{Plain}
@@ -104,6 +104,18 @@ abbrev pub RenamesFile : ℕ → List ℕ → ℕ → List ℕ → Form → File
 RenamesFile from old to name form files new = AnyOf (Renames from old to name) files new
     ⊎ (RemovesEmpty to name form files new ⊎ ReplacesFile from old to name form files new)
 
+-- the same by flags: only where there are none may another file lose its name
+abbrev pub RenamesAs : ℕ → ℕ → List ℕ → ℕ → List ℕ → Form → Files → Files → Type 0
+RenamesAs flags from old to name form files new = AnyOf (Renames from old to name) files new
+    ⊎ ((flags ≡ 0) × RenamesFile from old to name form files new)
+
+-- a file gets another length, where the bits say that it is set
+abbrev pub SetsSize : ℕ → Type 0
+SetsSize valid = bit_and valid 8 ≢ 0
+
+abbrev pub ResizesAs : ℕ → ℕ → ℕ → Form → Files → Files → Type 0
+ResizesAs valid number size form files new = SetsSize valid × Resizes number size form files new
+
 -- a name aside is removed, which a mount that was stopped left
 abbrev pub RemovesAside : Form → Files → Files → Type 0
 RemovesAside form files new =
@@ -117,7 +129,7 @@ NoChange files new = ⊥
 
 -- what a request of the file of a number may change
 abbrev pub MayMake : Form → ℕ → Asked → Files → Files → Type 0
-MayMake form node (SetAttributes valid size changed nanos mode) = Resizes node size form
+MayMake form node (SetAttributes valid size changed nanos mode) = ResizesAs valid node size form
 MayMake form node (Write offset bytes) = WritesIn node offset bytes form
 MayMake form node (MakeNode mode name) = MakesFile node (padded name) form
 MayMake form node (Create flags mode name) = MakesFile node (padded name) form
@@ -125,7 +137,8 @@ MayMake form node (MakeDirectory mode name) = MakesDirectory node (padded name) 
 MayMake form node (Link number name) = Links number node (padded name) form
 MayMake form node (Unlink name) = Unlinks node (padded name) form
 MayMake form node (RemoveDirectory name) = RemovesEmpty node (padded name) form
-MayMake form node (Rename to flags old name) = RenamesFile node (padded old) to (padded name) form
+MayMake form node (Rename to flags old name) =
+    RenamesAs flags node (padded old) to (padded name) form
 MayMake form node Release = RemovesName root (aside_of node) form
 MayMake form node request = NoChange
 
@@ -149,10 +162,16 @@ RenamedFile from old to name form files new = AnyOf (Renames from old to name) f
     ⊎ ((mid : Files) × (RemovesEmpty to name form files mid
     × AnyOf (Renames from old to name) mid new))))
 
+-- the same by flags
+abbrev pub RenamedAs : ℕ → ℕ → List ℕ → ℕ → List ℕ → Form → Files → Files → Type 0
+RenamedAs flags from old to name form files new = AnyOf (Renames from old to name) files new
+    ⊎ ((flags ≡ 0) × RenamedFile from old to name form files new)
+
 -- What became of the files where the request is answered without an error. Of one that may take several
 -- transactions that is said by its changes alone.
 abbrev pub Does : Form → ℕ → Asked → Files → Files → Type 0
-Does form node (SetAttributes valid size changed nanos mode) files new = ⊤
+Does form node (SetAttributes valid size changed nanos mode) files new =
+    (SetsSize valid → ⊥) → new ≡ files
 Does form node (Write offset bytes) files new = ⊤
 Does form node (MakeNode mode name) files new = MakesFile node (padded name) form files new
 Does form node (Create flags mode name) files new = MakesFile node (padded name) form files new
@@ -162,7 +181,7 @@ Does form node (Link number name) files new = Links number node (padded name) fo
 Does form node (Unlink name) files new = Unlinks node (padded name) form files new
 Does form node (RemoveDirectory name) files new = RemovesEmpty node (padded name) form files new
 Does form node (Rename to flags old name) files new =
-    RenamedFile node (padded old) to (padded name) form files new
+    RenamedAs flags node (padded old) to (padded name) form files new
 Does form node Release files new =
     (new ≡ files) ⊎ RemovesName root (aside_of node) form files new
 Does form node request files new = new ≡ files

@@ -1,6 +1,26 @@
 // Requests that change files.
 ghost use Rattle.std.specs.Prelude.{OnOk};
-ghost use Rattle.mounting.specs.Changes.{Did, Does, RenamedFile, aside_of, Links, Makes, MakesDirectory, MakesFile, MayMake, RemovesEmpty, RemovesName, RenamesFile, Resizes, Unlinks, WritesIn};
+ghost use Rattle.mounting.specs.Changes.{
+  aside_of,
+  Did,
+  Does,
+  Links,
+  Makes,
+  MakesDirectory,
+  MakesFile,
+  MayMake,
+  RemovesEmpty,
+  RemovesName,
+  RenamedAs,
+  RenamedFile,
+  RenamesAs,
+  RenamesFile,
+  ResizesAs,
+  SetsSize,
+  StaySame,
+  Unlinks,
+  WritesIn,
+};
 ghost use Rattle.directories.specs.Entries.{padded};
 ghost use Rattle.fuse.specs.Requests.{asked, Release};
 ghost use Rattle.directories.specs.Trees.{root};
@@ -89,13 +109,16 @@ impl Server {
     ) -> Result<(), Errno>
         requires ready { MayGoOn D.Disk tree.old.kernel tree.old.calls_left }
         ensures ready { MayGoOn D.Disk tree.new.kernel tree.new.calls_left }
-        ensures makes { Makes D.Disk (Resizes node size) tree.old.kernel tree.new.kernel
+        ensures makes { Makes D.Disk (ResizesAs valid node size) tree.old.kernel tree.new.kernel
             tree.old.calls_left tree.new.calls_left }
+        ensures same { OnOk result ((SetsSize valid → ⊥) → StaySame D.Disk tree.old.kernel
+            tree.new.kernel) }
     {
-        if valid & SETS_SIZE != 0 {
-            resize(alloc, tree, node, size)?;
-            self.nodes.touched(node, now);
+        if valid & SETS_SIZE == 0 {
+            return Ok(());
         }
+        resize(alloc, tree, node, size)?;
+        self.nodes.touched(node, now);
         Ok(())
     }
 
@@ -391,9 +414,9 @@ impl Server {
     ) -> Result<(), Errno>
         requires ready { MayGoOn D.Disk tree.old.kernel tree.old.calls_left }
         ensures ready { MayGoOn D.Disk tree.new.kernel tree.new.calls_left }
-        ensures makes { Makes D.Disk (RenamesFile from (padded old.now) to (padded name.now)) tree.old.kernel tree.new.kernel
+        ensures makes { Makes D.Disk (RenamesAs flags from (padded old.now) to (padded name.now)) tree.old.kernel tree.new.kernel
             tree.old.calls_left tree.new.calls_left }
-        ensures does { OnOk result (Did D.Disk (RenamedFile from (padded old.now) to (padded name.now)) tree.old.kernel
+        ensures does { OnOk result (Did D.Disk (RenamedAs flags from (padded old.now) to (padded name.now)) tree.old.kernel
             tree.new.kernel) }
     {
         if flags > NEW_ALONE {

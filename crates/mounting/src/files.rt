@@ -1,6 +1,15 @@
 // The bytes of files.
 ghost use Rattle.std.specs.Prelude.{OnOk, ◌<◌, ◌≤◌, length, IfOk};
-ghost use Rattle.mounting.specs.Changes.{StaySame, EndsBefore, Lengthens, Makes, OnlyLooks, Resizes, WritesIn, WritesPart};
+ghost use Rattle.mounting.specs.Changes.{
+  EndsBefore,
+  Lengthens,
+  Makes,
+  OnlyLooks,
+  Resizes,
+  StaySame,
+  WritesIn,
+  WritesPart,
+};
 ghost use Rattle.names.specs.Ready.{MayGoOn};
 
 use crate::calling::{cut_at, look_at, read_at, write_at};

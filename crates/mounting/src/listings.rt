@@ -1,7 +1,15 @@
 // The entries of directories.
 ghost use Rattle.std.specs.Prelude.{OnOk, ◌≡◌, ◌≤◌, length, IfOk, IsTrue};
 ghost use Rattle.directories.specs.Entries.{padded};
-ghost use Rattle.mounting.specs.Changes.{StaySame, aside_of, digit, IsAside, Makes, OnlyLooks, RemovesAside};
+ghost use Rattle.mounting.specs.Changes.{
+  aside_of,
+  digit,
+  IsAside,
+  Makes,
+  OnlyLooks,
+  RemovesAside,
+  StaySame,
+};
 ghost use Rattle.names.specs.Ready.{MayGoOn};
 
 use crate::calling::{list_at, look_at, remove_in};

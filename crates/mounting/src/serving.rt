@@ -1,7 +1,17 @@
 // One request after the other.
 ghost use Rattle.std.specs.Prelude.{◌≡◌, IfOk, OnOk};
 ghost use Rattle.fuse.specs.Requests.{asked, request_in};
-ghost use Rattle.mounting.specs.Changes.{Did, Does, DoesIf, HasServed, Makes, MayMake, MayMakeIf, MayServe, RemovesAside};
+ghost use Rattle.mounting.specs.Changes.{
+  Did,
+  Does,
+  DoesIf,
+  HasServed,
+  Makes,
+  MayMake,
+  MayMakeIf,
+  MayServe,
+  RemovesAside,
+};
 ghost use Rattle.mounting.specs.Serving.{HasAnswer};
 ghost use Rattle.names.specs.Inside.{form_seen};
 ghost use Rattle.names.specs.Ready.{MayGoOn};

@@ -1,12 +1,14 @@
-use Rattle.std.proofs.Common.{◌∙◌, Err, inl, subst}
+use Rattle.std.proofs.Common.{◌∙◌, ◌≡◌, ℕ, List, Err, inl, inr, subst, arith}
 use Rattle.calls.specs.Calls.{image_on}
-use Rattle.model.specs.Files.{files_of}
-use Rattle.mounting.specs.Changes.{StaysIfRefused, StaySame}
+use Rattle.model.specs.Files.{Files, files_of}
+use Rattle.mounting.specs.Changes.{RenamesFile, StaysIfRefused, StaySame}
+use Rattle.names.specs.Ready.{AnyOf}
+use Rattle.names.specs.Renaming.{Renames}
 use Rattle.names.specs.declared.asking.Found.{Found}
 use Rattle.names.specs.declared.refusal.TreeFault.{TreeFault}
 use Rattle.names.specs.Inside.{form_seen}
 use Rattle.std.proofs.lemmas.Result.{on_ok_weaker}
-use Rattle.mounting.proofs.Asking.{renamed_at, renames_at}
+use Rattle.mounting.proofs.Asking.{renamed_at, twice}
 use Rattle.mounting.proofs.serving.Server.rename.Goals as goal
 
 pub returns-in_err-source-clause-makes : goal.returns-in_err-source-clause-makes
@@ -15,7 +17,9 @@ returns-in_err-source-clause-makes g c =
 
 pub returns-in_err-rename_in-in-Err-Refused-clause-makes : goal.returns-in_err-rename_in-in-Err-Refused-clause-makes
 returns-in_err-rename_in-in-Err-Refused-clause-makes g c =
-    λ task o first within before. c.rename_in.ensures.makes task o first (λ x z is. within x z (renames_at c.args.from c.args.to (form_seen g.D.Disk.image o) _ _ _ _ x z c.in_ok-old.ensures.name c.in_ok-name.ensures (inl is))) (c.look_in-2.ensures.looks task o first (c.look_in.ensures.looks task o first before))
+    λ task o first within before. c.rename_in.ensures.makes task o first
+    (λ x z is. within x z (inl (twice (λ (a b : List ℕ). AnyOf (Renames c.args.from a c.args.to b) x z) _ _ _ _ c.in_ok-old.ensures.name c.in_ok-name.ensures is)))
+    (c.look_in-2.ensures.looks task o first (c.look_in.ensures.looks task o first before))
 
 pub returns-then-flags-eq-NEW_ALONE-clause-makes : goal.returns-then-flags-eq-NEW_ALONE-clause-makes
 returns-then-flags-eq-NEW_ALONE-clause-makes g c =
@@ -27,14 +31,16 @@ returns-then-source-found-clause-makes g c =
 
 pub returns-in_ok-rename_in-in-Err-Refused-clause-makes : goal.returns-in_ok-rename_in-in-Err-Refused-clause-makes
 returns-in_ok-rename_in-in-Err-Refused-clause-makes g c =
-    λ task o first within before. c.rename_in.ensures.makes task o first (λ x z is. within x z (renames_at c.args.from c.args.to (form_seen g.D.Disk.image o) _ _ _ _ x z c.in_ok-old.ensures.name c.in_ok-name.ensures (inl is))) (c.look_in-2.ensures.looks task o first (c.look_in.ensures.looks task o first before))
+    λ task o first within before. c.rename_in.ensures.makes task o first
+    (λ x z is. within x z (inl (twice (λ (a b : List ℕ). AnyOf (Renames c.args.from a c.args.to b) x z) _ _ _ _ c.in_ok-old.ensures.name c.in_ok-name.ensures is)))
+    (c.look_in-2.ensures.looks task o first (c.look_in.ensures.looks task o first before))
 
 pub returns-in_ok-rename_in-in-Err-Refused-clause-does : goal.returns-in_ok-rename_in-in-Err-Refused-clause-does
 returns-in_ok-rename_in-in-Err-Refused-clause-does g c =
     let same : StaySame g.D.Disk c.look_in.new.tree.kernel c.look_in-2.new.tree.kernel =
     subst (λ (fault : TreeFault). StaysIfRefused {T = Found} g.D.Disk c.look_in.new.tree.kernel c.look_in-2.new.tree.kernel (Err fault)) c.in-Err-Refused.field-0-is c.in-Err-Refused.ensures.same in
-    renamed_at c.args.from c.args.to (form_seen g.D.Disk.image c.args.tree.now.kernel) _ _ _ _ (files_of (image_on g.D.Disk.image c.look_in-2.new.tree.kernel)) (files_of (image_on g.D.Disk.image c.args.tree.now.kernel)) (files_of (image_on g.D.Disk.image c.rename_in.new.tree.kernel))
-    c.in_ok-old.ensures.name c.in_ok-name.ensures (same ∙ c.in_ok-source.ensures.does.same) (inl (tt, c.in_ok-rename_in-in-Err-Refused.ensures.does))
+    inl (twice (λ (a b : List ℕ). AnyOf (Renames c.args.from a c.args.to b) (files_of (image_on g.D.Disk.image c.args.tree.now.kernel)) (files_of (image_on g.D.Disk.image c.rename_in.new.tree.kernel))) _ _ _ _ c.in_ok-old.ensures.name c.in_ok-name.ensures
+    (subst (λ (files : Files). AnyOf (Renames c.args.from c.in_ok-old.old c.args.to c.in_ok-name.name) files (files_of (image_on g.D.Disk.image c.rename_in.new.tree.kernel))) (same ∙ c.in_ok-source.ensures.does.same) (tt, c.in_ok-rename_in-in-Err-Refused.ensures.does)))
 
 pub returns-in-Err : goal.returns-in-Err
 returns-in-Err g c = record {
@@ -45,10 +51,16 @@ returns-in-Err g c = record {
 
 pub returns-else-source-found-clause-makes : goal.returns-else-source-found-clause-makes
 returns-else-source-found-clause-makes g c =
-    λ task o first within before. c.rename_over.ensures.makes task o first (λ x z is. within x z (renames_at c.args.from c.args.to (form_seen g.D.Disk.image o) _ _ _ _ x z c.in_ok-old.ensures.name c.in_ok-name.ensures is)) (c.look_in-2.ensures.looks task o first (c.look_in.ensures.looks task o first before))
+    λ task o first within before. c.rename_over.ensures.makes task o first
+    (λ x z is. within x z (inr ((let few = c.if-flags-gt-NEW_ALONE.false in let not = c.if-flags-eq-NEW_ALONE.false in omega (arith, few, not)), twice (λ (a b : List ℕ). RenamesFile c.args.from a c.args.to b (form_seen g.D.Disk.image o) x z) _ _ _ _ c.in_ok-old.ensures.name c.in_ok-name.ensures is)))
+    (c.look_in-2.ensures.looks task o first (c.look_in.ensures.looks task o first before))
 
 pub returns-else-source-found-clause-does : goal.returns-else-source-found-clause-does
 returns-else-source-found-clause-does g c =
+    let none : c.args.flags ≡ 0 = (let few = c.if-flags-gt-NEW_ALONE.false in let not = c.if-flags-eq-NEW_ALONE.false in omega (arith, few, not)) in
     on_ok_weaker c.rename_over.result
-    (λ done. renamed_at c.args.from c.args.to (form_seen g.D.Disk.image c.args.tree.now.kernel) _ _ _ _ (files_of (image_on g.D.Disk.image c.look_in-2.new.tree.kernel)) (files_of (image_on g.D.Disk.image c.args.tree.now.kernel)) (files_of (image_on g.D.Disk.image c.rename_over.new.tree.kernel))
-    c.in_ok-old.ensures.name c.in_ok-name.ensures (c.in-Ok.ensures.does.same ∙ c.in_ok-source.ensures.does.same) done) c.rename_over.ensures.does
+    (λ done. inr (
+      none,
+      renamed_at c.args.from c.args.to (form_seen g.D.Disk.image c.args.tree.now.kernel) _ _ _ _ (files_of (image_on g.D.Disk.image c.look_in-2.new.tree.kernel)) (files_of (image_on g.D.Disk.image c.args.tree.now.kernel)) (files_of (image_on g.D.Disk.image c.rename_over.new.tree.kernel))
+          c.in_ok-old.ensures.name c.in_ok-name.ensures (c.in-Ok.ensures.does.same ∙ c.in_ok-source.ensures.does.same) done,
+    )) c.rename_over.ensures.does

@@ -2,14 +2,14 @@ use Rattle.calls.specs.Calls.{image_on}
 use Rattle.model.specs.Files.{files_of}
 use Rattle.std.proofs.Common.{ℕ, subst}
 use Rattle.directories.specs.Entries.{padded}
-use Rattle.mounting.specs.Changes.{RenamedFile, RenamesFile}
+use Rattle.mounting.specs.Changes.{RenamedAs, RenamesAs}
 use Rattle.names.specs.Inside.{form_seen}
 use Rattle.mounting.proofs.Asking.{asked_as, done_as}
 use Rattle.mounting.proofs.serving.Server.take_name.Goals as goal
 
 pub returns-in_err-rename-in-Rename-clause-makes : goal.returns-in_err-rename-in-Rename-clause-makes
 returns-in_err-rename-in-Rename-clause-makes g c =
-    λ task o first within before. c.rename.ensures.makes task o first (λ x z is. within x z (asked_as (form_seen g.D.Disk.image o) c.args.node _ _ x z c.in-Rename.is (subst (λ (n : ℕ). RenamesFile c.args.node (padded c.in-Rename.old.now) n (padded c.in-Rename.name.now) (form_seen g.D.Disk.image o) x z) c.in-Ok.ensures.1 is))) before
+    λ task o first within before. c.rename.ensures.makes task o first (λ x z is. within x z (asked_as (form_seen g.D.Disk.image o) c.args.node _ _ x z c.in-Rename.is (subst (λ (n : ℕ). RenamesAs c.in-Rename.flags c.args.node (padded c.in-Rename.old.now) n (padded c.in-Rename.name.now) (form_seen g.D.Disk.image o) x z) c.in-Ok.ensures.1 is))) before
 
 pub returns-in-Unlink-clause-makes : goal.returns-in-Unlink-clause-makes
 returns-in-Unlink-clause-makes g c =
@@ -21,12 +21,12 @@ returns-in-RemoveDirectory-clause-makes g c =
 
 pub returns-in_ok-rename-in-Rename-clause-makes : goal.returns-in_ok-rename-in-Rename-clause-makes
 returns-in_ok-rename-in-Rename-clause-makes g c =
-    λ task o first within before. c.rename.ensures.makes task o first (λ x z is. within x z (asked_as (form_seen g.D.Disk.image o) c.args.node _ _ x z c.in-Rename.is (subst (λ (n : ℕ). RenamesFile c.args.node (padded c.in-Rename.old.now) n (padded c.in-Rename.name.now) (form_seen g.D.Disk.image o) x z) c.in-Ok.ensures.1 is))) before
+    λ task o first within before. c.rename.ensures.makes task o first (λ x z is. within x z (asked_as (form_seen g.D.Disk.image o) c.args.node _ _ x z c.in-Rename.is (subst (λ (n : ℕ). RenamesAs c.in-Rename.flags c.args.node (padded c.in-Rename.old.now) n (padded c.in-Rename.name.now) (form_seen g.D.Disk.image o) x z) c.in-Ok.ensures.1 is))) before
 
 pub returns-in_ok-rename-in-Rename-clause-does : goal.returns-in_ok-rename-in-Rename-clause-does
 returns-in_ok-rename-in-Rename-clause-does g c =
     done_as (form_seen g.D.Disk.image c.args.tree.now.kernel) c.args.node _ _ (files_of (image_on g.D.Disk.image c.args.tree.now.kernel)) (files_of (image_on g.D.Disk.image c.rename.new.tree.kernel)) c.in-Rename.is
-    (subst (λ (n : ℕ). RenamedFile c.args.node (padded c.in-Rename.old.now) n (padded c.in-Rename.name.now) (form_seen g.D.Disk.image c.args.tree.now.kernel) (files_of (image_on g.D.Disk.image c.args.tree.now.kernel)) (files_of (image_on g.D.Disk.image c.rename.new.tree.kernel))) c.in-Ok.ensures.1 c.in_ok-rename-in-Rename.ensures.does)
+    (subst (λ (n : ℕ). RenamedAs c.in-Rename.flags c.args.node (padded c.in-Rename.old.now) n (padded c.in-Rename.name.now) (form_seen g.D.Disk.image c.args.tree.now.kernel) (files_of (image_on g.D.Disk.image c.args.tree.now.kernel)) (files_of (image_on g.D.Disk.image c.rename.new.tree.kernel))) c.in-Ok.ensures.1 c.in_ok-rename-in-Rename.ensures.does)
 
 pub returns-in-Release-clause-makes : goal.returns-in-Release-clause-makes
 returns-in-Release-clause-makes g c =
