@@ -46,6 +46,10 @@ abbrev pub WritesPart : ℕ → ℕ → List ℕ → Form → Files → Files �
 WritesPart number offset bytes form files new = (at : ℕ) × ((count : ℕ)
     × AnyOf (WritesSomeOf form number (offset + at) (take count (drop at bytes))) files new)
 
+-- the file of a number has so many bytes
+abbrev pub HasLength : Files → ℕ → ℕ → Type 0
+HasLength files number size = length (bytes_of (file_in files number)) ≡ size
+
 -- bytes are written into a file of just these files
 abbrev pub WritesHere : Files → ℕ → ℕ → List ℕ → Form → Files → Files → Type 0
 WritesHere here number offset bytes form files new =
@@ -54,7 +58,7 @@ WritesHere here number offset bytes form files new =
 -- zeroes are written behind a file's end, up to that length at most
 abbrev pub Lengthens : ℕ → ℕ → Form → Files → Files → Type 0
 Lengthens number size form files new = (at : ℕ) × ((count : ℕ)
-    × (at + count ≤ size) × (length (bytes_of (file_in files number)) ≤ at)
+    × (at + count ≤ size) × HasLength files number at
     × AnyOf (WritesSomeOf form number at (replicate count 0)) files new)
 
 -- bytes are written, behind zeroes where the file ends before them
@@ -171,7 +175,7 @@ RenamedAs flags from old to name form files new = AnyOf (Renames from old to nam
 -- transactions that is said by its changes alone.
 abbrev pub Does : Form → ℕ → Asked → Files → Files → Type 0
 Does form node (SetAttributes valid size changed nanos mode) files new =
-    (SetsSize valid → ⊥) → new ≡ files
+    ((SetsSize valid → ⊥) → new ≡ files) × (SetsSize valid → HasLength new node size)
 Does form node (Write offset bytes) files new = ⊤
 Does form node (MakeNode mode name) files new = MakesFile node (padded name) form files new
 Does form node (Create flags mode name) files new = MakesFile node (padded name) form files new
@@ -237,7 +241,6 @@ OnlyLooks {D} disk k m left less = (task : Task) (o : Plain D) (first : ℕ)
     → HasRun disk (MayDo (form_seen disk.image o) task) o k first left
     → HasRun disk (MayDo (form_seen disk.image o) task) o m first less
 
--- a file ends at that offset or before
-abbrev pub EndsBefore : {D N : Type 0} → Ghosts D N → ℕ → Plain D → ℕ → Type 0
-EndsBefore disk number k at =
-    length (bytes_of (file_in (files_of (image_on disk.image k)) number)) ≤ at
+-- it has them on the disk
+abbrev pub EndsAt : {D N : Type 0} → Ghosts D N → ℕ → Plain D → ℕ → Type 0
+EndsAt disk number k at = HasLength (files_of (image_on disk.image k)) number at

@@ -3,6 +3,7 @@ ghost use Rattle.std.specs.Prelude.{OnOk};
 ghost use Rattle.mounting.specs.Changes.{
   aside_of,
   Did,
+  EndsAt,
   Does,
   Links,
   Makes,
@@ -113,6 +114,7 @@ impl Server {
             tree.old.calls_left tree.new.calls_left }
         ensures same { OnOk result ((SetsSize valid → ⊥) → StaySame D.Disk tree.old.kernel
             tree.new.kernel) }
+        ensures end { OnOk result (SetsSize valid → EndsAt D.Disk node tree.new.kernel size) }
     {
         if valid & SETS_SIZE == 0 {
             return Ok(());

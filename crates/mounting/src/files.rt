@@ -1,7 +1,7 @@
 // The bytes of files.
 ghost use Rattle.std.specs.Prelude.{OnOk, ◌<◌, ◌≤◌, length, IfOk};
 ghost use Rattle.mounting.specs.Changes.{
-  EndsBefore,
+  EndsAt,
   Lengthens,
   Makes,
   OnlyLooks,
@@ -165,10 +165,12 @@ fn fill<D: Disk>(
     to: u32,
 ) -> Result<(), Errno>
     requires ready { MayGoOn D.Disk tree.old.kernel tree.old.calls_left }
-    requires end { EndsBefore D.Disk number tree.old.kernel from }
+    requires end { EndsAt D.Disk number tree.old.kernel from }
+    requires low { from ≤ to }
     ensures ready { MayGoOn D.Disk tree.new.kernel tree.new.calls_left }
     ensures makes { Makes D.Disk (Lengthens number to) tree.old.kernel tree.new.kernel
         tree.old.calls_left tree.new.calls_left }
+    ensures end { OnOk result (EndsAt D.Disk number tree.new.kernel to) }
 {
     let mut at = from;
     for _piece in 0..to {
@@ -190,11 +192,12 @@ fn fill_piece<D: Disk>(
 ) -> Result<u32, Errno>
     requires ready { MayGoOn D.Disk tree.old.kernel tree.old.calls_left }
     requires some { at < to }
-    requires end { EndsBefore D.Disk number tree.old.kernel at }
+    requires end { EndsAt D.Disk number tree.old.kernel at }
     ensures ready { MayGoOn D.Disk tree.new.kernel tree.new.calls_left }
     ensures makes { Makes D.Disk (Lengthens number to) tree.old.kernel tree.new.kernel
         tree.old.calls_left tree.new.calls_left }
-    ensures end { IfOk result (EndsBefore D.Disk number tree.new.kernel) }
+    ensures end { IfOk result (EndsAt D.Disk number tree.new.kernel) }
+    ensures more { IfOk result (λ next. (at < next) × (next ≤ to)) }
 {
     let zeroes = [0u8; PIECE as usize];
     let count = (PIECE - at % 1024).min(to - at);
@@ -217,6 +220,7 @@ pub(crate) fn resize<D: Disk>(
     ensures ready { MayGoOn D.Disk tree.new.kernel tree.new.calls_left }
     ensures makes { Makes D.Disk (Resizes number size) tree.old.kernel tree.new.kernel
         tree.old.calls_left tree.new.calls_left }
+    ensures end { OnOk result (EndsAt D.Disk number tree.new.kernel size) }
 {
     let Ok(size) = u32::try_from(size) else {
         return Err(Errno::TooBig);

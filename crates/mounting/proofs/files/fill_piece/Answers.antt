@@ -5,7 +5,7 @@ use Rattle.model.specs.Files.{Files, file_in}
 use Rattle.names.specs.Inside.{form_seen}
 use Rattle.names.specs.Numbered.{WritesSomeOf}
 use Rattle.names.specs.Ready.{AnyOf}
-use Rattle.mounting.specs.Changes.{EndsBefore}
+use Rattle.mounting.specs.Changes.{EndsAt, HasLength}
 use Rattle.mounting.proofs.FileEnds.{ends_behind}
 use Rattle.mounting.proofs.files.fill_piece.Goals as goal
 
@@ -17,7 +17,7 @@ returns-in_err-write_at-clause-makes g c =
       (
         c.min-count.result,
         let count = c.min-count.ensures in let some = c.requires.some in omega (arith, count, some),
-        subst (λ (f : Files). length (bytes_of (file_in f c.args.number)) ≤ c.args.at) (sym is.0) c.requires.end,
+        subst (λ (f : Files). HasLength f c.args.number c.args.at) (sym is.0) c.requires.end,
         subst (λ (bytes : List ℕ). AnyOf (WritesSomeOf (form_seen g.D.Disk.image o) c.args.number c.args.at bytes) x z) (take-replicate c.min-count.result 3072 0 (let count = c.min-count.ensures in omega (arith, count))) is.1,
       ),
     )) before
@@ -30,7 +30,7 @@ returns-in-Ok-eq0-clause-makes g c =
       (
         c.min-count.result,
         let count = c.min-count.ensures in let some = c.requires.some in omega (arith, count, some),
-        subst (λ (f : Files). length (bytes_of (file_in f c.args.number)) ≤ c.args.at) (sym is.0) c.requires.end,
+        subst (λ (f : Files). HasLength f c.args.number c.args.at) (sym is.0) c.requires.end,
         subst (λ (bytes : List ℕ). AnyOf (WritesSomeOf (form_seen g.D.Disk.image o) c.args.number c.args.at bytes) x z) (take-replicate c.min-count.result 3072 0 (let count = c.min-count.ensures in omega (arith, count))) is.1,
       ),
     )) before
@@ -43,7 +43,7 @@ returns-in-Ok-clause-makes g c =
       (
         c.min-count.result,
         let count = c.min-count.ensures in let some = c.requires.some in omega (arith, count, some),
-        subst (λ (f : Files). length (bytes_of (file_in f c.args.number)) ≤ c.args.at) (sym is.0) c.requires.end,
+        subst (λ (f : Files). HasLength f c.args.number c.args.at) (sym is.0) c.requires.end,
         subst (λ (bytes : List ℕ). AnyOf (WritesSomeOf (form_seen g.D.Disk.image o) c.args.number c.args.at bytes) x z) (take-replicate c.min-count.result 3072 0 (let count = c.min-count.ensures in omega (arith, count))) is.1,
       ),
     )) before
@@ -56,7 +56,7 @@ returns-in-Err-clause-makes g c =
       (
         c.min-count.result,
         let count = c.min-count.ensures in let some = c.requires.some in omega (arith, count, some),
-        subst (λ (f : Files). length (bytes_of (file_in f c.args.number)) ≤ c.args.at) (sym is.0) c.requires.end,
+        subst (λ (f : Files). HasLength f c.args.number c.args.at) (sym is.0) c.requires.end,
         subst (λ (bytes : List ℕ). AnyOf (WritesSomeOf (form_seen g.D.Disk.image o) c.args.number c.args.at bytes) x z) (take-replicate c.min-count.result 3072 0 (let count = c.min-count.ensures in omega (arith, count))) is.1,
       ),
     )) before
@@ -65,5 +65,5 @@ pub returns-in-Ok-clause-end : goal.returns-in-Ok-clause-end
 returns-in-Ok-clause-end g c =
     let few : c.min-count.result ≤ 3072 = let count = c.min-count.ensures in omega (arith, count) in
     let size : length (take c.min-count.result (replicate 3072 0)) ≡ c.min-count.result = ap (λ (l : List ℕ). length l) (take-replicate c.min-count.result 3072 0 few) ∙ length-replicate c.min-count.result 0 in
-    subst (λ (n : ℕ). EndsBefore g.D.Disk c.args.number c.write_at.new.tree.kernel (c.args.at + n)) (sym c.min.ensures)
+    subst (λ (n : ℕ). EndsAt g.D.Disk c.args.number c.write_at.new.tree.kernel (c.args.at + n)) (sym c.min.ensures)
     (ends_behind _ _ _ c.args.number c.args.at _ c.min-count.result c.in-Ok.wrote c.in_ok-write_at.field-0 c.in-Ok.is size c.in_ok-write_at.ensures.does c.requires.end)

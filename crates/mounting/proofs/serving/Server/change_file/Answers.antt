@@ -1,7 +1,8 @@
-use Rattle.std.proofs.Common.{◌∙◌}
+use Rattle.std.proofs.Common.{◌∙◌, subst, sym}
+use Rattle.mounting.specs.Changes.{HasLength}
 use Rattle.std.proofs.lemmas.Result.{on_ok_weaker}
 use Rattle.calls.specs.Calls.{image_on}
-use Rattle.model.specs.Files.{files_of}
+use Rattle.model.specs.Files.{Files, files_of}
 use Rattle.names.specs.Inside.{form_seen}
 use Rattle.mounting.proofs.Asking.{asked_as, done_as}
 use Rattle.mounting.proofs.serving.Server.change_file.Goals as goal
@@ -21,5 +22,8 @@ returns-in-Write-clause-makes g c =
 pub returns-in_ok-set_size-in-SetAttributes-clause-does : goal.returns-in_ok-set_size-in-SetAttributes-clause-does
 returns-in_ok-set_size-in-SetAttributes-clause-does g c =
     on_ok_weaker c.tell.result
-    (λ same. done_as (form_seen g.D.Disk.image c.args.tree.now.kernel) c.args.node _ _ (files_of (image_on g.D.Disk.image c.args.tree.now.kernel)) (files_of (image_on g.D.Disk.image c.tell.new.tree.kernel)) c.in-SetAttributes.is
-    (λ unset. same ∙ c.in_ok-set_size-in-SetAttributes.ensures.same unset)) c.tell.ensures.same
+    (λ same. done_as (form_seen g.D.Disk.image c.args.tree.now.kernel) c.args.node _ _ (files_of (image_on g.D.Disk.image c.args.tree.now.kernel)) (files_of (image_on g.D.Disk.image c.tell.new.tree.kernel)) c.in-SetAttributes.is (
+      λ unset. same ∙ c.in_ok-set_size-in-SetAttributes.ensures.same unset,
+      λ sets. subst (λ (files : Files). HasLength files c.args.node c.in-SetAttributes.size) (sym same) (c.in_ok-set_size-in-SetAttributes.ensures.end sets),
+    ))
+    c.tell.ensures.same
