@@ -11,8 +11,8 @@ use Rattle.mounting.specs.Changes.{aside_of, digit, Does, MayMake, RenamedFile}
 pub asked_as : (form : Form) (node : ℕ) (r s : Request) (x z : Files) → r ≡ s → MayMake form node (asked s) x z → MayMake form node (asked r) x z
 asked_as form node r s x z same makes = subst (λ (q : Request). MayMake form node (asked q) x z) (sym same) makes
 
-pub done_as : (form : Form) (node : ℕ) (r s : Request) (x z : Files) → r ≡ s → Does form node (asked s) x z → Does form node (asked r) x z
-done_as form node r s x z same does = subst (λ (q : Request). Does form node (asked q) x z) (sym same) does
+pub done_as : (form : Form) (node : ℕ) (body : List ℕ) (r s : Request) (x z : Files) → r ≡ s → Does form node (asked s) body x z → Does form node (asked r) body x z
+done_as form node body r s x z same does = subst (λ (q : Request). Does form node (asked q) body x z) (sym same) does
 
 -- of two equal names
 pub twice : (P : List ℕ → List ℕ → Type 0) (old o name n : List ℕ) → old ≡ o → name ≡ n → P old name → P o n

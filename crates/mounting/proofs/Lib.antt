@@ -1,4 +1,5 @@
 mod Asking
 mod FileEnds
+mod ReadParts
 mod Sessions
 mod TreeCalls

@@ -126,7 +126,7 @@ module _ {D N : Type 0} (disk : Ghosts D N) (bytes : List ℕ) (header : Header)
       (subst (λ (rest : List ℕ). HasRun disk (MayMakeIf (form_seen disk.image k) header.node (request_in header.opcode rest)) k m left less) (behind_header bytes)
       (request_run disk header.node (request_in header.opcode asked_behind) k m left less makes))
 
-  pub served_done : (k m : Plain D) → header ≡ header_in bytes → Did disk (λ form. DoesIf form header.node (request_in header.opcode asked_behind)) k m → Did disk (λ form. HasServed form bytes) k m
-  served_done k m same did =
-      subst (λ (h : Header). Did disk (λ form. DoesIf form h.node (request_in h.opcode (drop 40 bytes))) k m) same
-      (subst (λ (rest : List ℕ). Did disk (λ form. DoesIf form header.node (request_in header.opcode rest)) k m) (behind_header bytes) did)
+  pub served_done : (body : List ℕ) (k m : Plain D) → header ≡ header_in bytes → Did disk (λ form. DoesIf form header.node (request_in header.opcode asked_behind) body) k m → Did disk (λ form. HasServed form bytes body) k m
+  served_done body k m same did =
+      subst (λ (h : Header). Did disk (λ form. DoesIf form h.node (request_in h.opcode (drop 40 bytes)) body) k m) same
+      (subst (λ (rest : List ℕ). Did disk (λ form. DoesIf form header.node (request_in header.opcode rest) body) k m) (behind_header bytes) did)

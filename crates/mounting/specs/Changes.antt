@@ -1,13 +1,14 @@
 -- What requests change of files.
-use Rattle.std.specs.Prelude.{◌≡◌, ◌≢◌, ◌⊎◌, ⊤, ℕ, ◌+◌, ◌%◌, ◌/◌, ◌<◌, ◌≤◌, Bool, List, [], ◌∷◌, length, take, drop, replicate, bit_and, Option, Some, None, Result, Err}
+use Rattle.std.specs.Prelude.{◌≡◌, ◌≢◌, ◌⊎◌, ⊤, ℕ, ◌+◌, ◌%◌, ◌/◌, ◌^◌, ◌<◌, ◌≤◌, Bool, List, [], ◌∷◌, length, take, drop, replicate, bit_and, Option, Some, None, Result, Err}
 use Rattle.blocks.specs.declared.disk.Disk.{Ghosts}
 use Rattle.calls.specs.Calls.{image_on}
 use Rattle.calls.specs.Stepping.{Plain}
 use Rattle.directories.specs.Entries.{padded}
 use Rattle.directories.specs.Trees.{bytes_of, root}
-use Rattle.fuse.specs.Requests.{Asked, header_in, request_in, Create, Link, MakeDirectory, MakeNode, Release, RemoveDirectory, Rename, SetAttributes, Unlink, Write}
+use Rattle.fuse.specs.Requests.{Asked, header_in, request_in, Create, Link, MakeDirectory, MakeNode, Read, Release, RemoveDirectory, Rename, SetAttributes, Unlink, Write}
 use Rattle.model.specs.declared.types.image.Form.{Form}
 use Rattle.model.specs.Files.{Files, file_in, files_of}
+use Rattle.model.specs.Operations.{part_of}
 use Rattle.names.specs.declared.refusal.TreeFault.{TreeFault}
 use Rattle.names.specs.declared.refusal.TreeFault.TheVariants.{Refused}
 use Rattle.names.specs.Inside.{form_seen}
@@ -171,31 +172,33 @@ abbrev pub RenamedAs : ℕ → ℕ → List ℕ → ℕ → List ℕ → Form �
 RenamedAs flags from old to name form files new = AnyOf (Renames from old to name) files new
     ⊎ ((flags ≡ 0) × RenamedFile from old to name form files new)
 
--- What became of the files where the request is answered without an error. Of one that may take several
+-- What became of the files, and what is told, where the request is answered without an error. Of one that may take several
 -- transactions that is said by its changes alone.
-abbrev pub Does : Form → ℕ → Asked → Files → Files → Type 0
-Does form node (SetAttributes valid size changed nanos mode) files new =
+abbrev pub Does : Form → ℕ → Asked → List ℕ → Files → Files → Type 0
+Does form node (Read offset size) body files new = (new ≡ files)
+    × (offset < 2 ^ 32 → body ≡ part_of (bytes_of (file_in files node)) offset size)
+Does form node (SetAttributes valid size changed nanos mode) body files new =
     ((SetsSize valid → ⊥) → new ≡ files) × (SetsSize valid → HasLength new node size)
-Does form node (Write offset bytes) files new = ⊤
-Does form node (MakeNode mode name) files new = MakesFile node (padded name) form files new
-Does form node (Create flags mode name) files new = MakesFile node (padded name) form files new
-Does form node (MakeDirectory mode name) files new =
+Does form node (Write offset bytes) body files new = ⊤
+Does form node (MakeNode mode name) body files new = MakesFile node (padded name) form files new
+Does form node (Create flags mode name) body files new = MakesFile node (padded name) form files new
+Does form node (MakeDirectory mode name) body files new =
     MakesDirectory node (padded name) form files new
-Does form node (Link number name) files new = Links number node (padded name) form files new
-Does form node (Unlink name) files new = Unlinks node (padded name) form files new
-Does form node (RemoveDirectory name) files new = RemovesEmpty node (padded name) form files new
-Does form node (Rename to flags old name) files new =
+Does form node (Link number name) body files new = Links number node (padded name) form files new
+Does form node (Unlink name) body files new = Unlinks node (padded name) form files new
+Does form node (RemoveDirectory name) body files new = RemovesEmpty node (padded name) form files new
+Does form node (Rename to flags old name) body files new =
     RenamedAs flags node (padded old) to (padded name) form files new
-Does form node Release files new =
+Does form node Release body files new =
     (new ≡ files) ⊎ RemovesName root (aside_of node) form files new
-Does form node request files new = new ≡ files
+Does form node request body files new = new ≡ files
 
-abbrev pub DoesIf : Form → ℕ → Option Asked → Files → Files → Type 0
-DoesIf form node None files new = ⊥
-DoesIf form node (Some request) files new = Does form node request files new
+abbrev pub DoesIf : Form → ℕ → Option Asked → List ℕ → Files → Files → Type 0
+DoesIf form node None body files new = ⊥
+DoesIf form node (Some request) body files new = Does form node request body files new
 
 -- the same of its bytes
-abbrev pub HasServed : Form → List ℕ → Files → Files → Type 0
+abbrev pub HasServed : Form → List ℕ → List ℕ → Files → Files → Type 0
 HasServed form bytes =
     DoesIf form (header_in bytes).node (request_in (header_in bytes).opcode (drop 40 bytes))
 
@@ -206,6 +209,10 @@ abbrev pub Did : {D N : Type 0} → Ghosts D N → (Form → Files → Files →
     → Type 0
 Did disk part k m = part (form_seen disk.image k) (files_of (image_on disk.image k))
     (files_of (image_on disk.image m))
+
+-- the bytes of the file of a number on the disk of a kernel
+abbrev pub bytes_on : {D N : Type 0} → Ghosts D N → ℕ → Plain D → List ℕ
+bytes_on disk number k = bytes_of (file_in (files_of (image_on disk.image k)) number)
 
 -- they are the same
 abbrev pub StaySame : {D N : Type 0} → Ghosts D N → Plain D → Plain D → Type 0

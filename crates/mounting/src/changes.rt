@@ -1,5 +1,5 @@
 // Requests that change files.
-ghost use Rattle.std.specs.Prelude.{OnOk};
+ghost use Rattle.std.specs.Prelude.{◌≡◌, ℕ, List, [], OnOk};
 ghost use Rattle.mounting.specs.Changes.{
   aside_of,
   Did,
@@ -72,8 +72,8 @@ impl Server {
         ensures ready { MayGoOn D.Disk tree.new.kernel tree.new.calls_left }
         ensures makes { Makes D.Disk (λ form. MayMake form node (asked request.now)) tree.old.kernel tree.new.kernel
             tree.old.calls_left tree.new.calls_left }
-        ensures does { OnOk result (Did D.Disk (λ form. Does form node (asked request.now)) tree.old.kernel
-            tree.new.kernel) }
+        ensures does { OnOk result (out.old.items ≡ [] → Did D.Disk (λ form.
+            Does form node (asked request.now) out.new.items) tree.old.kernel tree.new.kernel) }
     {
         match request {
             Request::SetAttributes {
@@ -161,8 +161,8 @@ impl Server {
         ensures ready { MayGoOn D.Disk tree.new.kernel tree.new.calls_left }
         ensures makes { Makes D.Disk (λ form. MayMake form node (asked request.now)) tree.old.kernel tree.new.kernel
             tree.old.calls_left tree.new.calls_left }
-        ensures does { OnOk result (Did D.Disk (λ form. Does form node (asked request.now)) tree.old.kernel
-            tree.new.kernel) }
+        ensures does { OnOk result (out.old.items ≡ [] → Did D.Disk (λ form.
+            Does form node (asked request.now) out.new.items) tree.old.kernel tree.new.kernel) }
     {
         match request {
             Request::MakeNode { mode, name } => {
@@ -295,8 +295,8 @@ impl Server {
         ensures ready { MayGoOn D.Disk tree.new.kernel tree.new.calls_left }
         ensures makes { Makes D.Disk (λ form. MayMake form node (asked request.now)) tree.old.kernel tree.new.kernel
             tree.old.calls_left tree.new.calls_left }
-        ensures does { OnOk result (Did D.Disk (λ form. Does form node (asked request.now)) tree.old.kernel
-            tree.new.kernel) }
+        ensures does { OnOk result ((body : List ℕ) → Did D.Disk (λ form.
+            Does form node (asked request.now) body) tree.old.kernel tree.new.kernel) }
     {
         match request {
             Request::Unlink { name } => self.unlink(alloc, tree, node, name, now),
@@ -499,7 +499,7 @@ impl Server {
         ensures ready { MayGoOn D.Disk tree.new.kernel tree.new.calls_left }
         ensures makes { Makes D.Disk (RemovesName root (aside_of node)) tree.old.kernel tree.new.kernel
             tree.old.calls_left tree.new.calls_left }
-        ensures does { OnOk result (Did D.Disk (λ form. Does form node Release) tree.old.kernel
+        ensures does { OnOk result (Did D.Disk (λ form. Does form node Release []) tree.old.kernel
             tree.new.kernel) }
     {
         if self.nodes.closed(node) {

@@ -1,6 +1,7 @@
 // The bytes of files.
-ghost use Rattle.std.specs.Prelude.{OnOk, ◌<◌, ◌≤◌, length, IfOk};
+ghost use Rattle.std.specs.Prelude.{◌≡◌, ◌+◌, ◌^◌, ◌<◌, ◌≤◌, ◌==◌, ◌++◌, length, IfOk, OnOk};
 ghost use Rattle.mounting.specs.Changes.{
+  bytes_on,
   EndsAt,
   Lengthens,
   Makes,
@@ -10,6 +11,7 @@ ghost use Rattle.mounting.specs.Changes.{
   WritesIn,
   WritesPart,
 };
+ghost use Rattle.model.specs.Operations.{part_of, transfer_limit};
 ghost use Rattle.names.specs.Ready.{MayGoOn};
 
 use crate::calling::{cut_at, look_at, read_at, write_at};
@@ -35,23 +37,51 @@ pub(crate) fn read<D: Disk>(
     ensures looks { OnlyLooks D.Disk tree.old.kernel tree.new.kernel
         tree.old.calls_left tree.new.calls_left }
     ensures same { OnOk result (StaySame D.Disk tree.old.kernel tree.new.kernel) }
+    ensures reads { OnOk result (offset < 2 ^ 32 → out.new.items ≡ out.old.items
+        ++ part_of (bytes_on D.Disk number tree.old.kernel) offset size) }
 {
     let Ok(offset) = u32::try_from(offset) else {
         return Ok(());
     };
-    let mut at = offset;
     let mut left = size;
     for _piece in 0..size.div_ceil(PIECE) {
         let most = PIECE.min(left);
-        let bytes = read_at(alloc, tree, number, at, most)?;
-        out.extend_from_slice(bytes.as_slice())?;
-        if bytes.len() < most as usize {
-            break;
+        if !read_piece(alloc, tree, number, offset, size - left, most, out)? {
+            return Ok(());
         }
-        at = at.saturating_add(most);
-        left = left.saturating_sub(most);
+        left -= most;
     }
     Ok(())
+}
+
+// The bytes of a file that stand so far behind an offset, no more than one call reads, added to these.
+// Whether there are as many.
+fn read_piece<D: Disk>(
+    alloc: Global,
+    tree: &mut Tree<D>,
+    number: u32,
+    offset: u32,
+    done: u32,
+    most: u32,
+    out: &mut Vec<u8>,
+) -> Result<bool, Errno>
+    requires ready { MayGoOn D.Disk tree.old.kernel tree.old.calls_left }
+    requires few { most ≤ transfer_limit }
+    ensures ready { MayGoOn D.Disk tree.new.kernel tree.new.calls_left }
+    ensures looks { OnlyLooks D.Disk tree.old.kernel tree.new.kernel
+        tree.old.calls_left tree.new.calls_left }
+    ensures same { OnOk result (StaySame D.Disk tree.old.kernel tree.new.kernel) }
+    ensures reads { OnOk result (out.new.items ≡ out.old.items
+        ++ part_of (bytes_on D.Disk number tree.old.kernel) (offset + done) most) }
+    ensures whole { IfOk result (λ whole. whole ≡
+        (length (part_of (bytes_on D.Disk number tree.old.kernel) (offset + done) most) == most)) }
+{
+    let Some(at) = offset.checked_add(done) else {
+        return Err(Errno::InputOutput);
+    };
+    let bytes = read_at(alloc, tree, number, at, most)?;
+    out.extend_from_slice(bytes.as_slice())?;
+    Ok(bytes.len() == most as usize)
 }
 
 /// Writes bytes into a file from an offset on. How many were written. What is before the offset and

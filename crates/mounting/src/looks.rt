@@ -1,5 +1,5 @@
 // Requests that change no file.
-ghost use Rattle.std.specs.Prelude.{OnOk};
+ghost use Rattle.std.specs.Prelude.{◌≡◌, [], OnOk};
 ghost use Rattle.fuse.specs.Requests.{asked};
 ghost use Rattle.mounting.specs.Changes.{Did, Does, StaySame, OnlyLooks};
 ghost use Rattle.names.specs.Ready.{MayGoOn};
@@ -45,8 +45,8 @@ impl Server {
         ensures ready { MayGoOn D.Disk tree.new.kernel tree.new.calls_left }
         ensures looks { OnlyLooks D.Disk tree.old.kernel tree.new.kernel
             tree.old.calls_left tree.new.calls_left }
-        ensures does { OnOk result (Did D.Disk (λ form. Does form node (asked request.now)) tree.old.kernel
-            tree.new.kernel) }
+        ensures does { OnOk result (out.old.items ≡ [] → Did D.Disk (λ form.
+            Does form node (asked request.now) out.new.items) tree.old.kernel tree.new.kernel) }
     {
         match request {
             Request::Init {

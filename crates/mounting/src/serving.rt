@@ -1,5 +1,5 @@
 // One request after the other.
-ghost use Rattle.std.specs.Prelude.{◌≡◌, IfOk, OnOk};
+ghost use Rattle.std.specs.Prelude.{◌≡◌, [], IfOk, OnOk};
 ghost use Rattle.fuse.specs.Requests.{asked, request_in};
 ghost use Rattle.mounting.specs.Changes.{
   Did,
@@ -107,7 +107,8 @@ impl Server {
         ensures runs { HasRun D.Disk (MayServe (form_seen D.image tree.old.kernel) bytes.now)
             tree.old.kernel tree.new.kernel tree.old.calls_left tree.new.calls_left }
         ensures answered { IfOk result (HasAnswer
-            (Did D.Disk (λ form. HasServed form bytes.now) tree.old.kernel tree.new.kernel)
+            (λ body. Did D.Disk (λ form. HasServed form bytes.now body)
+            tree.old.kernel tree.new.kernel)
             bytes.now out.new.items) }
     {
         let Some(header) = read_header(bytes) else {
@@ -142,7 +143,8 @@ impl Server {
         ensures ready { MayGoOn D.Disk tree.new.kernel tree.new.calls_left }
         ensures makes { Makes D.Disk (λ form. MayMakeIf form node (request_in opcode asked.now))
             tree.old.kernel tree.new.kernel tree.old.calls_left tree.new.calls_left }
-        ensures does { result ≡ 0 → Did D.Disk (λ form. DoesIf form node (request_in opcode asked.now))
+        ensures does { out.old.items ≡ [] → result ≡ 0 → Did D.Disk (λ form.
+            DoesIf form node (request_in opcode asked.now) out.new.items)
             tree.old.kernel tree.new.kernel }
     {
         let Some(request) = read_request(opcode, asked) else {
@@ -171,8 +173,8 @@ impl Server {
         ensures ready { MayGoOn D.Disk tree.new.kernel tree.new.calls_left }
         ensures makes { Makes D.Disk (λ form. MayMake form node (asked request.now))
             tree.old.kernel tree.new.kernel tree.old.calls_left tree.new.calls_left }
-        ensures does { OnOk result (Did D.Disk (λ form. Does form node (asked request.now)) tree.old.kernel
-            tree.new.kernel) }
+        ensures does { OnOk result (out.old.items ≡ [] → Did D.Disk (λ form.
+            Does form node (asked request.now) out.new.items) tree.old.kernel tree.new.kernel) }
     {
         match request {
             Request::SetAttributes { .. } | Request::Write { .. } => {

@@ -22,7 +22,7 @@ returns-in-Write-clause-makes g c =
 pub returns-in_ok-set_size-in-SetAttributes-clause-does : goal.returns-in_ok-set_size-in-SetAttributes-clause-does
 returns-in_ok-set_size-in-SetAttributes-clause-does g c =
     on_ok_weaker c.tell.result
-    (λ same. done_as (form_seen g.D.Disk.image c.args.tree.now.kernel) c.args.node _ _ (files_of (image_on g.D.Disk.image c.args.tree.now.kernel)) (files_of (image_on g.D.Disk.image c.tell.new.tree.kernel)) c.in-SetAttributes.is (
+    (λ same empty. done_as (form_seen g.D.Disk.image c.args.tree.now.kernel) c.args.node c.tell.new.out.items _ _ (files_of (image_on g.D.Disk.image c.args.tree.now.kernel)) (files_of (image_on g.D.Disk.image c.tell.new.tree.kernel)) c.in-SetAttributes.is (
       λ unset. same ∙ c.in_ok-set_size-in-SetAttributes.ensures.same unset,
       λ sets. subst (λ (files : Files). HasLength files c.args.node c.in-SetAttributes.size) (sym same) (c.in_ok-set_size-in-SetAttributes.ensures.end sets),
     ))

@@ -1,4 +1,4 @@
-use Rattle.std.proofs.Common.{◌≡◌, ◌∙◌, false, inl, refl, ap, subst, sym, arith}
+use Rattle.std.proofs.Common.{◌≡◌, ◌∙◌, ℕ, List, false, inl, refl, ap, subst, sym, arith}
 use Rattle.fuse.specs.declared.header.Header.{Header}
 use Rattle.fuse.specs.Requests.{header_in, wants_none}
 use Rattle.mounting.specs.Answers.{answer_bytes}
@@ -23,9 +23,9 @@ returns-clause-answered g c =
     record {
       error = 0;
       few = omega arith;
-      body = c.as_slice.result.now;
-      is = c.in_ok-put_answer-2.ensures ∙ ap (λ (h : Header). answer_bytes 0 h.unique c.as_slice.result.now) same;
+      body = c.told-error.new.out.items;
+      is = c.in_ok-put_answer-2.ensures ∙ ap (λ (h : Header). answer_bytes 0 h.unique c.as_slice.result.now) same ∙ ap (λ (b : List ℕ). answer_bytes 0 (header_in c.args.bytes.now).unique b) c.as_slice.ensures.value;
       alone = inl refl;
-      is_done = λ zero. served_done g.D.Disk c.args.bytes.now c.in-Some.header c.args.tree.now.kernel c.told-error.new.tree.kernel same (c.told-error.ensures.does c.if-error-ne0.false);
+      is_done = λ zero. served_done g.D.Disk c.args.bytes.now c.in-Some.header c.told-error.new.out.items c.args.tree.now.kernel c.told-error.new.tree.kernel same (c.told-error.ensures.does c.clear.ensures.items c.if-error-ne0.false);
       wanted = subst (λ (h : Header). wants_none h.opcode ≡ false) same (sym c.wants_none.ensures ∙ c.if-wants_none.false);
     }

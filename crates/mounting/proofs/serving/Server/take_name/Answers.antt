@@ -25,7 +25,7 @@ returns-in_ok-rename-in-Rename-clause-makes g c =
 
 pub returns-in_ok-rename-in-Rename-clause-does : goal.returns-in_ok-rename-in-Rename-clause-does
 returns-in_ok-rename-in-Rename-clause-does g c =
-    done_as (form_seen g.D.Disk.image c.args.tree.now.kernel) c.args.node _ _ (files_of (image_on g.D.Disk.image c.args.tree.now.kernel)) (files_of (image_on g.D.Disk.image c.rename.new.tree.kernel)) c.in-Rename.is
+    λ body. done_as (form_seen g.D.Disk.image c.args.tree.now.kernel) c.args.node body _ _ (files_of (image_on g.D.Disk.image c.args.tree.now.kernel)) (files_of (image_on g.D.Disk.image c.rename.new.tree.kernel)) c.in-Rename.is
     (subst (λ (n : ℕ). RenamedAs c.in-Rename.flags c.args.node (padded c.in-Rename.old.now) n (padded c.in-Rename.name.now) (form_seen g.D.Disk.image c.args.tree.now.kernel) (files_of (image_on g.D.Disk.image c.args.tree.now.kernel)) (files_of (image_on g.D.Disk.image c.rename.new.tree.kernel))) c.in-Ok.ensures.1 c.in_ok-rename-in-Rename.ensures.does)
 
 pub returns-in-Release-clause-makes : goal.returns-in-Release-clause-makes
