@@ -21,7 +21,7 @@ below files number file there =
     (λ (past : length files ≤ number). let none = sym (get_or_past files number None past) ∙ there in absurd (cc none))
     (cases_lt number (length files))
 
-set_in : (files : Files) (number : ℕ) (file : File) (bytes : List ℕ) → file_in files number ≡ Some file → bytes_of (file_in (slice_set files number (with_bytes file bytes)) number) ≡ bytes
+pub set_in : (files : Files) (number : ℕ) (file : File) (bytes : List ℕ) → file_in files number ≡ Some file → bytes_of (file_in (slice_set files number (with_bytes file bytes)) number) ≡ bytes
 set_in files number file bytes there = ap bytes_of (get_or-set_same files number (with_bytes file bytes) None (below files number file there))
 
 ends : (old : List ℕ) (at : ℕ) (bytes : List ℕ) → length old ≡ at → length (overwritten old at bytes) ≡ at + length bytes

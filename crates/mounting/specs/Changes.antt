@@ -1,16 +1,18 @@
 -- What requests change of files.
-use Rattle.std.specs.Prelude.{◌≡◌, ◌≢◌, ◌⊎◌, ⊤, ℕ, ◌+◌, ◌%◌, ◌/◌, ◌^◌, ◌<◌, ◌≤◌, Bool, List, [], ◌∷◌, length, take, drop, replicate, bit_and, Option, Some, None, Result, Err}
+use Rattle.std.specs.Prelude.{◌≡◌, ◌≢◌, ◌⊎◌, ⊤, ℕ, ◌+◌, ◌%◌, ◌/◌, ◌^◌, ◌<◌, ◌≤◌, Bool, List, [], ◌∷◌, length, take, drop, replicate, bit_and, Option, Some, None, Result, Ok, Err}
 use Rattle.blocks.specs.declared.disk.Disk.{Ghosts}
 use Rattle.calls.specs.Calls.{image_on}
 use Rattle.calls.specs.Stepping.{Plain}
 use Rattle.directories.specs.Entries.{padded}
 use Rattle.directories.specs.Trees.{bytes_of, root}
+use Rattle.fuse.specs.Answers.{wrote_answer_bytes}
 use Rattle.fuse.specs.Requests.{Asked, header_in, request_in, Create, Link, MakeDirectory, MakeNode, Read, Release, RemoveDirectory, Rename, SetAttributes, Unlink, Write}
 use Rattle.model.specs.declared.types.image.Form.{Form}
 use Rattle.model.specs.Files.{Files, file_in, files_of}
 use Rattle.model.specs.Operations.{part_of}
 use Rattle.names.specs.declared.refusal.TreeFault.{TreeFault}
 use Rattle.names.specs.declared.refusal.TreeFault.TheVariants.{Refused}
+use Rattle.names.specs.declared.writing.Unwritten.{Unwritten}
 use Rattle.names.specs.Inside.{form_seen}
 use Rattle.names.specs.Linking.{LinksIn}
 use Rattle.names.specs.Making.{MakesDirectoryIn, MakesIn}
@@ -172,6 +174,17 @@ abbrev pub RenamedAs : ℕ → ℕ → List ℕ → ℕ → List ℕ → Form �
 RenamedAs flags from old to name form files new = AnyOf (Renames from old to name) files new
     ⊎ ((flags ≡ 0) × RenamedFile from old to name form files new)
 
+-- the first so many of these bytes stand in those of a file from an offset on
+pub record StandsAt (old : List ℕ) (offset : ℕ) (bytes : List ℕ) (count : ℕ) : Type 0 where
+  pub far : offset + count ≤ length old
+  pub few : count ≤ length bytes
+  pub stand : part_of old offset count ≡ take count bytes
+
+-- how many bytes were written
+abbrev pub wrote_count : Result ℕ Unwritten → ℕ
+wrote_count (Ok count) = count
+wrote_count (Err cause) = 0
+
 -- What became of the files, and what is told, where the request is answered without an error. Of one that may take several
 -- transactions that is said by its changes alone.
 abbrev pub Does : Form → ℕ → Asked → List ℕ → Files → Files → Type 0
@@ -179,7 +192,8 @@ Does form node (Read offset size) body files new = (new ≡ files)
     × (offset < 2 ^ 32 → body ≡ part_of (bytes_of (file_in files node)) offset size)
 Does form node (SetAttributes valid size changed nanos mode) body files new =
     ((SetsSize valid → ⊥) → new ≡ files) × (SetsSize valid → HasLength new node size)
-Does form node (Write offset bytes) body files new = ⊤
+Does form node (Write offset bytes) body files new = (count : ℕ)
+    × ((body ≡ wrote_answer_bytes count) × StandsAt (bytes_of (file_in new node)) offset bytes count)
 Does form node (MakeNode mode name) body files new = MakesFile node (padded name) form files new
 Does form node (Create flags mode name) body files new = MakesFile node (padded name) form files new
 Does form node (MakeDirectory mode name) body files new =

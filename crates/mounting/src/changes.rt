@@ -23,7 +23,7 @@ ghost use Rattle.mounting.specs.Changes.{
   WritesIn,
 };
 ghost use Rattle.directories.specs.Entries.{padded};
-ghost use Rattle.fuse.specs.Requests.{asked, Release};
+ghost use Rattle.fuse.specs.Requests.{asked, Release, Write};
 ghost use Rattle.directories.specs.Trees.{root};
 ghost use Rattle.names.specs.Ready.{MayGoOn};
 
@@ -139,6 +139,8 @@ impl Server {
         ensures ready { MayGoOn D.Disk tree.new.kernel tree.new.calls_left }
         ensures makes { Makes D.Disk (WritesIn node offset bytes.now) tree.old.kernel tree.new.kernel
             tree.old.calls_left tree.new.calls_left }
+        ensures does { OnOk result (out.old.items ≡ [] → Did D.Disk (λ form.
+            Does form node (Write offset bytes.now) out.new.items) tree.old.kernel tree.new.kernel) }
     {
         self.moved = self.moved.saturating_add(bytes.len() as u64);
         let count = write(alloc, tree, node, offset, bytes)?;

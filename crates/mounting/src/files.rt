@@ -1,12 +1,14 @@
 // The bytes of files.
-ghost use Rattle.std.specs.Prelude.{◌≡◌, ◌+◌, ◌^◌, ◌<◌, ◌≤◌, ◌==◌, ◌++◌, length, IfOk, OnOk};
+ghost use Rattle.std.specs.Prelude.{◌≡◌, ◌+◌, ◌-◌, ◌^◌, ◌<◌, ◌≤◌, ◌==◌, ◌++◌, length, IfOk, OnOk};
 ghost use Rattle.mounting.specs.Changes.{
   bytes_on,
+  wrote_count,
   EndsAt,
   Lengthens,
   Makes,
   OnlyLooks,
   Resizes,
+  StandsAt,
   StaySame,
   WritesIn,
   WritesPart,
@@ -97,6 +99,8 @@ pub(crate) fn write<D: Disk>(
     ensures ready { MayGoOn D.Disk tree.new.kernel tree.new.calls_left }
     ensures makes { Makes D.Disk (WritesIn number offset bytes.now) tree.old.kernel tree.new.kernel
         tree.old.calls_left tree.new.calls_left }
+    ensures stands { IfOk result (StandsAt (bytes_on D.Disk number tree.new.kernel) offset
+        bytes.now) }
 {
     let Ok(offset) = u32::try_from(offset) else {
         return Err(Errno::TooBig);
@@ -123,6 +127,7 @@ fn fill_up<D: Disk>(
     ensures ready { MayGoOn D.Disk tree.new.kernel tree.new.calls_left }
     ensures makes { Makes D.Disk (Lengthens number offset) tree.old.kernel tree.new.kernel
         tree.old.calls_left tree.new.calls_left }
+    ensures far { OnOk result (offset ≤ length (bytes_on D.Disk number tree.new.kernel)) }
 {
     let found = look_at(alloc, tree, number)?;
     if found.size < offset {
@@ -140,9 +145,12 @@ fn write_pieces<D: Disk>(
     bytes: &[u8],
 ) -> Result<usize, Errno>
     requires ready { MayGoOn D.Disk tree.old.kernel tree.old.calls_left }
+    requires far { offset ≤ length (bytes_on D.Disk number tree.old.kernel) }
     ensures ready { MayGoOn D.Disk tree.new.kernel tree.new.calls_left }
     ensures makes { Makes D.Disk (WritesPart number offset bytes.now) tree.old.kernel
         tree.new.kernel tree.old.calls_left tree.new.calls_left }
+    ensures stands { IfOk result (λ left. (left ≤ length bytes.now) × StandsAt
+        (bytes_on D.Disk number tree.new.kernel) offset bytes.now (length bytes.now - left)) }
 {
     let mut left = bytes.len();
     for _piece in 0..bytes.len() {
@@ -173,10 +181,12 @@ fn write_piece<D: Disk>(
     done: usize,
 ) -> Result<Result<u32, Unwritten>, TreeFault>
     requires ready { MayGoOn D.Disk tree.old.kernel tree.old.calls_left }
-    requires some { done ≤ length bytes.now }
+    requires stands { StandsAt (bytes_on D.Disk number tree.old.kernel) offset bytes.now done }
     ensures ready { MayGoOn D.Disk tree.new.kernel tree.new.calls_left }
     ensures makes { Makes D.Disk (WritesPart number offset bytes.now) tree.old.kernel
         tree.new.kernel tree.old.calls_left tree.new.calls_left }
+    ensures stands { IfOk result (λ wrote. StandsAt (bytes_on D.Disk number tree.new.kernel)
+        offset bytes.now (done + wrote_count wrote)) }
 {
     let Ok(at) = u32::try_from(offset as usize + done) else {
         return Ok(Err(Unwritten::TooBig));
