@@ -185,8 +185,7 @@ abbrev pub wrote_count : Result ℕ Unwritten → ℕ
 wrote_count (Ok count) = count
 wrote_count (Err cause) = 0
 
--- What became of the files, and what is told, where the request is answered without an error. Of one that may take several
--- transactions that is said by its changes alone.
+-- What became of the files where a request is answered without an error, and what is told of bytes.
 abbrev pub Does : Form → ℕ → Asked → List ℕ → Files → Files → Type 0
 Does form node (Read offset size) body files new = (new ≡ files)
     × (offset < 2 ^ 32 → body ≡ part_of (bytes_of (file_in files node)) offset size)
@@ -228,7 +227,11 @@ Did disk part k m = part (form_seen disk.image k) (files_of (image_on disk.image
 abbrev pub bytes_on : {D N : Type 0} → Ghosts D N → ℕ → Plain D → List ℕ
 bytes_on disk number k = bytes_of (file_in (files_of (image_on disk.image k)) number)
 
--- they are the same
+-- it has so many
+abbrev pub EndsAt : {D N : Type 0} → Ghosts D N → ℕ → Plain D → ℕ → Type 0
+EndsAt disk number k at = HasLength (files_of (image_on disk.image k)) number at
+
+-- the files on the disk are the same
 abbrev pub StaySame : {D N : Type 0} → Ghosts D N → Plain D → Plain D → Type 0
 StaySame disk k m = files_of (image_on disk.image m) ≡ files_of (image_on disk.image k)
 
@@ -261,7 +264,3 @@ abbrev pub OnlyLooks : {D N : Type 0} → Ghosts D N → Plain D → Plain D →
 OnlyLooks {D} disk k m left less = (task : Task) (o : Plain D) (first : ℕ)
     → HasRun disk (MayDo (form_seen disk.image o) task) o k first left
     → HasRun disk (MayDo (form_seen disk.image o) task) o m first less
-
--- it has them on the disk
-abbrev pub EndsAt : {D N : Type 0} → Ghosts D N → ℕ → Plain D → ℕ → Type 0
-EndsAt disk number k at = HasLength (files_of (image_on disk.image k)) number at
