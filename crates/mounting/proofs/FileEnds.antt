@@ -1,9 +1,10 @@
 -- Where a file ends behind a write.
-use Rattle.std.proofs.Common.{◌≡◌, ℕ, ◌+◌, ◌<◌, ◌≤◌, Bool, true, false, Option, List, length, take, drop, ◌++◌, replicate, Some, None, Ok, ⊎_elim, sym, ap, subst, ◌∙◌, arith}
+use Rattle.std.proofs.Common.{◌≡◌, ℕ, ◌+◌, ◌<◌, ◌≤◌, Bool, true, false, Option, List, length, take, drop, ◌++◌, replicate, Some, None, Ok, ⊎_elim, refl, sym, ap, subst, ◌∙◌, arith}
 use Rattle.std.specs.Prelude.{min, slice_set, Result}
 use Rattle.std.proofs.lemmas.Bool.{and_parts, cases_lt, leb-true}
-use Rattle.std.proofs.lemmas.List.{get_or-set_same, length-append, length-drop, length-replicate, length-take}
+use Rattle.std.proofs.lemmas.List.{length-append, length-drop, length-replicate, length-take}
 use Rattle.blocks.specs.Block.{overwritten}
+use Rattle.directories.specs.Lemmas.FileMaps.{set_there}
 use Rattle.directories.specs.Trees.{bytes_of}
 use Rattle.model.specs.declared.types.image.File.{File}
 use Rattle.model.specs.declared.types.image.Form.{Form}
@@ -22,7 +23,7 @@ below files number file there =
     (cases_lt number (length files))
 
 pub set_in : (files : Files) (number : ℕ) (file : File) (bytes : List ℕ) → file_in files number ≡ Some file → bytes_of (file_in (slice_set files number (with_bytes file bytes)) number) ≡ bytes
-set_in files number file bytes there = ap bytes_of (get_or-set_same files number (with_bytes file bytes) None (below files number file there))
+set_in files number file bytes there = ap bytes_of (set_there files (slice_set files number (with_bytes file bytes)) number (with_bytes file bytes) (below files number file there) refl)
 
 ends : (old : List ℕ) (at : ℕ) (bytes : List ℕ) → length old ≡ at → length (overwritten old at bytes) ≡ at + length bytes
 ends old at bytes is =

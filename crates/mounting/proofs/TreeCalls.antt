@@ -79,25 +79,6 @@ call_stays disk hinders why t u k m left (Err NoSpace) ready none refused = tt
 call_stays disk hinders why t u k m left (Err NoCall) ready none refused = tt
 
 module _ {D N : Type 0} (disk : Ghosts D N) where
-  -- ---- what was done, one call behind the other
-  pub looks_same : (k : Plain D) (left : ℕ) → OnlyLooks disk k k left left
-  looks_same k left = λ task o first before. before
-
-  pub looks_on : (k m e : Plain D) (left mid less : ℕ) → OnlyLooks disk k m left mid → OnlyLooks disk m e mid less → OnlyLooks disk k e left less
-  looks_on k m e left mid less one more = λ task o first before. more task o first (one task o first before)
-
-  pub makes_same : (part : Form → Files → Files → Type 0) (k : Plain D) (left : ℕ) → Makes disk part k k left left
-  makes_same part k left = λ task o first within before. before
-
-  pub makes_looks : (part : Form → Files → Files → Type 0) (k m : Plain D) (left less : ℕ) → OnlyLooks disk k m left less → Makes disk part k m left less
-  makes_looks part k m left less looks = λ task o first within before. looks task o first before
-
-  pub makes_on : (part : Form → Files → Files → Type 0) (k m e : Plain D) (left mid less : ℕ) → Makes disk part k m left mid → Makes disk part m e mid less → Makes disk part k e left less
-  makes_on part k m e left mid less one more = λ task o first within before. more task o first within (one task o first within before)
-
-  pub makes_wider : (less_of more_of : Form → Files → Files → Type 0) (k m : Plain D) (left less : ℕ) → ((form : Form) (x z : Files) → less_of form x z → more_of form x z) → Makes disk less_of k m left less → Makes disk more_of k m left less
-  makes_wider less_of more_of k m left less wider makes = λ task o first within before. makes task o first (λ x z is. within x z (wider (form_seen disk.image o) x z is)) before
-
   -- a task from its beginning on
   pub task_run : (task : Task) (k m : Plain D) (left less : ℕ) → Makes disk (λ form. MayDo form task) k m left less → HasRun disk (MayDo (form_seen disk.image k) task) k m left less
   task_run task k m left less makes = makes task k left (λ x z is. is) (run_same disk (MayDo (form_seen disk.image k) task) k k left left refl refl)

@@ -116,8 +116,8 @@ pub(crate) fn write_at<D: Disk>(
     ensures makes { Makes D.Disk (WritesHere (files_of (image_on D.image tree.old.kernel))
         number offset bytes.now) tree.old.kernel tree.new.kernel
         tree.old.calls_left tree.new.calls_left }
-    ensures does { IfOk result (λ done. WritesSomeOf (form_seen D.image tree.old.kernel) number offset bytes.now done
-        (files_of (image_on D.image tree.old.kernel))
+    ensures does { IfOk result (λ done. WritesSomeOf (form_seen D.image
+        tree.old.kernel) number offset bytes.now done (files_of (image_on D.image tree.old.kernel))
         (files_of (image_on D.image tree.new.kernel))) }
 {
     tree.write_at(alloc, number, offset, bytes)

@@ -70,8 +70,8 @@ impl Server {
     ) -> Result<(), Errno>
         requires ready { MayGoOn D.Disk tree.old.kernel tree.old.calls_left }
         ensures ready { MayGoOn D.Disk tree.new.kernel tree.new.calls_left }
-        ensures makes { Makes D.Disk (λ form. MayMake form node (asked request.now)) tree.old.kernel tree.new.kernel
-            tree.old.calls_left tree.new.calls_left }
+        ensures makes { Makes D.Disk (λ form. MayMake form node (asked request.now))
+            tree.old.kernel tree.new.kernel tree.old.calls_left tree.new.calls_left }
         ensures does { OnOk result (out.old.items ≡ [] → Did D.Disk (λ form.
             Does form node (asked request.now) out.new.items) tree.old.kernel tree.new.kernel) }
     {
@@ -137,10 +137,11 @@ impl Server {
     ) -> Result<(), Errno>
         requires ready { MayGoOn D.Disk tree.old.kernel tree.old.calls_left }
         ensures ready { MayGoOn D.Disk tree.new.kernel tree.new.calls_left }
-        ensures makes { Makes D.Disk (WritesIn node offset bytes.now) tree.old.kernel tree.new.kernel
-            tree.old.calls_left tree.new.calls_left }
+        ensures makes { Makes D.Disk (WritesIn node offset bytes.now)
+            tree.old.kernel tree.new.kernel tree.old.calls_left tree.new.calls_left }
         ensures does { OnOk result (out.old.items ≡ [] → Did D.Disk (λ form.
-            Does form node (Write offset bytes.now) out.new.items) tree.old.kernel tree.new.kernel) }
+            Does form node (Write offset bytes.now) out.new.items)
+            tree.old.kernel tree.new.kernel) }
     {
         self.moved = self.moved.saturating_add(bytes.len() as u64);
         let count = write(alloc, tree, node, offset, bytes)?;
@@ -161,8 +162,8 @@ impl Server {
     ) -> Result<(), Errno>
         requires ready { MayGoOn D.Disk tree.old.kernel tree.old.calls_left }
         ensures ready { MayGoOn D.Disk tree.new.kernel tree.new.calls_left }
-        ensures makes { Makes D.Disk (λ form. MayMake form node (asked request.now)) tree.old.kernel tree.new.kernel
-            tree.old.calls_left tree.new.calls_left }
+        ensures makes { Makes D.Disk (λ form. MayMake form node (asked request.now))
+            tree.old.kernel tree.new.kernel tree.old.calls_left tree.new.calls_left }
         ensures does { OnOk result (out.old.items ≡ [] → Did D.Disk (λ form.
             Does form node (asked request.now) out.new.items) tree.old.kernel tree.new.kernel) }
     {
@@ -207,8 +208,8 @@ impl Server {
     ) -> Result<(), Errno>
         requires ready { MayGoOn D.Disk tree.old.kernel tree.old.calls_left }
         ensures ready { MayGoOn D.Disk tree.new.kernel tree.new.calls_left }
-        ensures makes { Makes D.Disk (Links file to (padded name.now)) tree.old.kernel tree.new.kernel
-            tree.old.calls_left tree.new.calls_left }
+        ensures makes { Makes D.Disk (Links file to (padded name.now))
+            tree.old.kernel tree.new.kernel tree.old.calls_left tree.new.calls_left }
         ensures does { OnOk result (Did D.Disk (Links file to (padded name.now)) tree.old.kernel
             tree.new.kernel) }
     {
@@ -239,8 +240,8 @@ impl Server {
     ) -> Result<u32, Errno>
         requires ready { MayGoOn D.Disk tree.old.kernel tree.old.calls_left }
         ensures ready { MayGoOn D.Disk tree.new.kernel tree.new.calls_left }
-        ensures makes { Makes D.Disk (MakesFile node (padded name.now)) tree.old.kernel tree.new.kernel
-            tree.old.calls_left tree.new.calls_left }
+        ensures makes { Makes D.Disk (MakesFile node (padded name.now))
+            tree.old.kernel tree.new.kernel tree.old.calls_left tree.new.calls_left }
         ensures does { OnOk result (Did D.Disk (MakesFile node (padded name.now)) tree.old.kernel
             tree.new.kernel) }
     {
@@ -271,10 +272,10 @@ impl Server {
     ) -> Result<(), Errno>
         requires ready { MayGoOn D.Disk tree.old.kernel tree.old.calls_left }
         ensures ready { MayGoOn D.Disk tree.new.kernel tree.new.calls_left }
-        ensures makes { Makes D.Disk (MakesDirectory node (padded name.now)) tree.old.kernel tree.new.kernel
-            tree.old.calls_left tree.new.calls_left }
-        ensures does { OnOk result (Did D.Disk (MakesDirectory node (padded name.now)) tree.old.kernel
-            tree.new.kernel) }
+        ensures makes { Makes D.Disk (MakesDirectory node (padded name.now))
+            tree.old.kernel tree.new.kernel tree.old.calls_left tree.new.calls_left }
+        ensures does { OnOk result (Did D.Disk (MakesDirectory node (padded name.now))
+            tree.old.kernel tree.new.kernel) }
     {
         let name = new_name(node, name)?;
         let made = make_directory_in(alloc, tree, node, &name)?;
@@ -295,8 +296,8 @@ impl Server {
     ) -> Result<(), Errno>
         requires ready { MayGoOn D.Disk tree.old.kernel tree.old.calls_left }
         ensures ready { MayGoOn D.Disk tree.new.kernel tree.new.calls_left }
-        ensures makes { Makes D.Disk (λ form. MayMake form node (asked request.now)) tree.old.kernel tree.new.kernel
-            tree.old.calls_left tree.new.calls_left }
+        ensures makes { Makes D.Disk (λ form. MayMake form node (asked request.now))
+            tree.old.kernel tree.new.kernel tree.old.calls_left tree.new.calls_left }
         ensures does { OnOk result ((body : List ℕ) → Did D.Disk (λ form.
             Does form node (asked request.now) body) tree.old.kernel tree.new.kernel) }
     {
@@ -335,8 +336,8 @@ impl Server {
     ) -> Result<(), Errno>
         requires ready { MayGoOn D.Disk tree.old.kernel tree.old.calls_left }
         ensures ready { MayGoOn D.Disk tree.new.kernel tree.new.calls_left }
-        ensures makes { Makes D.Disk (Unlinks from (padded name.now)) tree.old.kernel tree.new.kernel
-            tree.old.calls_left tree.new.calls_left }
+        ensures makes { Makes D.Disk (Unlinks from (padded name.now))
+            tree.old.kernel tree.new.kernel tree.old.calls_left tree.new.calls_left }
         ensures does { OnOk result (Did D.Disk (Unlinks from (padded name.now)) tree.old.kernel
             tree.new.kernel) }
     {
@@ -392,8 +393,8 @@ impl Server {
     ) -> Result<(), Errno>
         requires ready { MayGoOn D.Disk tree.old.kernel tree.old.calls_left }
         ensures ready { MayGoOn D.Disk tree.new.kernel tree.new.calls_left }
-        ensures makes { Makes D.Disk (RemovesEmpty from (padded name.now)) tree.old.kernel tree.new.kernel
-            tree.old.calls_left tree.new.calls_left }
+        ensures makes { Makes D.Disk (RemovesEmpty from (padded name.now))
+            tree.old.kernel tree.new.kernel tree.old.calls_left tree.new.calls_left }
         ensures does { OnOk result (Did D.Disk (RemovesEmpty from (padded name.now)) tree.old.kernel
             tree.new.kernel) }
     {
@@ -418,10 +419,11 @@ impl Server {
     ) -> Result<(), Errno>
         requires ready { MayGoOn D.Disk tree.old.kernel tree.old.calls_left }
         ensures ready { MayGoOn D.Disk tree.new.kernel tree.new.calls_left }
-        ensures makes { Makes D.Disk (RenamesAs flags from (padded old.now) to (padded name.now)) tree.old.kernel tree.new.kernel
-            tree.old.calls_left tree.new.calls_left }
-        ensures does { OnOk result (Did D.Disk (RenamedAs flags from (padded old.now) to (padded name.now)) tree.old.kernel
-            tree.new.kernel) }
+        ensures makes { Makes D.Disk (RenamesAs flags from (padded old.now) to (padded name.now))
+            tree.old.kernel tree.new.kernel tree.old.calls_left tree.new.calls_left }
+        ensures does { OnOk result (Did D.Disk
+            (RenamedAs flags from (padded old.now) to (padded name.now))
+            tree.old.kernel tree.new.kernel) }
     {
         if flags > NEW_ALONE {
             return Err(Errno::Invalid);
@@ -461,10 +463,10 @@ impl Server {
     ) -> Result<(), Errno>
         requires ready { MayGoOn D.Disk tree.old.kernel tree.old.calls_left }
         ensures ready { MayGoOn D.Disk tree.new.kernel tree.new.calls_left }
-        ensures makes { Makes D.Disk (RenamesFile from old.now to name.now) tree.old.kernel tree.new.kernel
-            tree.old.calls_left tree.new.calls_left }
-        ensures does { OnOk result (Did D.Disk (RenamedFile from old.now to name.now) tree.old.kernel
-            tree.new.kernel) }
+        ensures makes { Makes D.Disk (RenamesFile from old.now to name.now)
+            tree.old.kernel tree.new.kernel tree.old.calls_left tree.new.calls_left }
+        ensures does { OnOk result (Did D.Disk (RenamedFile from old.now to name.now)
+            tree.old.kernel tree.new.kernel) }
     {
         if found.kind == DIRECTORY {
             if kind != DIRECTORY {
@@ -499,8 +501,8 @@ impl Server {
     ) -> Result<(), Errno>
         requires ready { MayGoOn D.Disk tree.old.kernel tree.old.calls_left }
         ensures ready { MayGoOn D.Disk tree.new.kernel tree.new.calls_left }
-        ensures makes { Makes D.Disk (RemovesName root (aside_of node)) tree.old.kernel tree.new.kernel
-            tree.old.calls_left tree.new.calls_left }
+        ensures makes { Makes D.Disk (RemovesName root (aside_of node))
+            tree.old.kernel tree.new.kernel tree.old.calls_left tree.new.calls_left }
         ensures does { OnOk result (Did D.Disk (λ form. Does form node Release []) tree.old.kernel
             tree.new.kernel) }
     {
