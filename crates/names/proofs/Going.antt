@@ -180,6 +180,7 @@ module _ {D N : Type 0} (disk : Ghosts D N) where
           later = omega (arith, count);
         };
         files = seen m (files_of (image_on disk.image k)) begins.files;
+        size = ap (λ (y : Image). length y) begins.same ∙ begins.size ∙ ap (λ (o : D). length (disk.image o)) (sym opening);
       }
 
   pub begin_broken : (k m : Plain D) (cause : TransactionFault) → IsUnbegun disk k m cause → IsBroken disk k m (Call cause)
@@ -199,6 +200,8 @@ module _ {D N : Type 0} (disk : Ghosts D N) where
       record {
         ready = record { rests = rests; few = omega (arith, commits.one_more, way.few); many = omega (arith, commits.one_more, one, way.many); sound = commits.sound; tree = subst (λ (f : Files). IsTree f) (sym same) tree; counted = subst (λ (f : Files). AreCounted f) (sym same) counted };
         files = same;
+        size = commits.size;
+        marks = commits.marks;
       }
 
   pub wider : (a b : D) (P Q : Image → Type 0) → ((z : Image) → P z → Q z) → LeavesOnly disk.moment disk.leaves a b P → LeavesOnly disk.moment disk.leaves a b Q

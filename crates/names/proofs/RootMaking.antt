@@ -86,6 +86,9 @@ module _ {D N : Type 0} (disk : Ghosts D N) where
         let done : MakesRoot disk.image a b None = subst (λ (p : Option Refusal). MakesRoot disk.image a b p) (none_by o not) made in
         done (subst (λ (f : Files). HasNoFile f) (sym begun.files) none)
 
+    pub root_counted : AreCounted (files_seen disk.image b)
+    root_counted = root.2
+
     pub root_alone : (r : Result (Unit {0}) TreeFault) → OnOk r (HasCommitted disk b m rest) → OnOk r (IsRootAlone (files_of (image_on disk.image m)))
     root_alone r all = on_ok_weaker r (λ (done : HasCommitted disk b m rest). subst (λ (f : Files). IsRootAlone f) (sym done.files) root.0) all
 

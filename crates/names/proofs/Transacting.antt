@@ -1,19 +1,21 @@
 -- A change of a tree in one transaction, from the promises of its parts.
-use Rattle.std.proofs.Common.{◌≡◌, ◌⊎◌, ℕ, Result, Ok, Err, sym, subst, ◌∙◌, inl, inr, ⊎_elim}
+use Rattle.std.proofs.Common.{◌≡◌, ◌⊎◌, ℕ, length, Result, Ok, Err, sym, ap, subst, ◌∙◌, inl, inr, ⊎_elim, arith}
 use Rattle.std.specs.Prelude.{OnOk}
 use Rattle.blocks.specs.Disk.{Image}
 use Rattle.blocks.specs.declared.disk.Disk.{Ghosts}
 use Rattle.model.specs.Files.{Files, files_of}
 use Rattle.model.specs.Log.{recovered}
 use Rattle.calls.specs.Calls.{image_on}
+use Rattle.calls.specs.Files.{IsFull}
 use Rattle.calls.specs.Stepping.{Plain}
-use Rattle.calls.specs.Transactions.{KeepsEither, KeepsFiles, labels_made}
+use Rattle.calls.specs.Transactions.{KeepsEither, KeepsFiles, image_seen, labels_made}
 use Rattle.directories.specs.declared.refusal.Refusal.{Refusal}
-use Rattle.names.specs.Inside.{files_seen, LeavesFiles, StaysOn}
-use Rattle.names.specs.Ready.{EndsOn, Happens, HasBegun, IsReady, KeepsTree, LeavesTree}
+use Rattle.names.specs.Inside.{files_seen, Goes, LeavesFiles, StaysOn}
+use Rattle.names.specs.Ready.{answer_of, EndsOn, Happens, HasBegun, HasCommitted, IsReady, KeepsTree, LeavesTree}
 use Rattle.directories.specs.Counts.{AreCounted, StaysCounted}
 use Rattle.directories.specs.Trees.{IsTree}
 use Rattle.names.proofs.Going.{wider}
+use Rattle.wal.specs.Common.{length-current}
 
 -- The change of a transaction that began with kernel k, which is b now: what a stop left so far, and
 -- what became of the files.
@@ -86,3 +88,16 @@ module _ {D N : Type 0} (disk : Ghosts D N) where
           wider disk k.store.volume.device m.store.volume.device (KeepsEither (image_on disk.image k) (files_seen disk.image b) (labels_made disk.image b)) (KeepsTree change (image_on disk.image k))
           (λ z keeps. keeps_either (image_on disk.image k) z (files_seen disk.image b) (labels_made disk.image b) r whole.tree whole.counted whole.seen whole.happens keeps)
           (over.on k whole.same whole.leaves).leaves
+
+  -- a transaction that saw no block free leaves none
+  pub full_by : (k a b m : Plain D) (less rest left : ℕ) → HasBegun disk k a less → Goes disk a b rest → HasCommitted disk b m left → IsFull (image_seen disk.image b) → IsFull (image_on disk.image m)
+  full_by k a b m less rest left begun goes committed full i below =
+      let seen : length (image_seen disk.image b) ≡ length (image_on disk.image b) = length-current (image_on disk.image b) b.store.volume.buffers in
+      let same : length (image_on disk.image b) ≡ length (image_on disk.image a) = ap (λ (y : Image). length y) goes.same in
+      let size : length (image_on disk.image m) ≡ length (image_on disk.image a) = committed.size ∙ ap (λ (o : D). length (disk.image o)) goes.opening ∙ sym begun.size in
+      committed.marks i ∙ full i (omega (arith, below, seen, same, size))
+
+-- what was answered was made
+pub made_of : {T : Type 0} (r : Result T Refusal) (made : T) → answer_of r ≡ Ok made → r ≡ Ok made
+made_of (Ok t) made is = cc is
+made_of (Err cause) made is = absurd (cc is)

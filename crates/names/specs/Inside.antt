@@ -1,5 +1,5 @@
 -- Calls of a transaction, and the files that it sees.
-use Rattle.std.specs.Prelude.{◌≡◌, ◌⊎◌, ⊤, ℕ, ◌+◌, ◌^◌, ◌<◌, ◌≤◌, [], length, Some, unwrap_or, Result, OnOk, IfErr}
+use Rattle.std.specs.Prelude.{◌≡◌, ◌⊎◌, ⊤, ℕ, ◌+◌, ◌^◌, ◌<◌, ◌≤◌, [], length, Some, unwrap_or, Result, Ok, OnOk, IfErr}
 use Rattle.blocks.specs.Disk.{Image, LeavesOnly}
 use Rattle.blocks.specs.declared.disk.Disk.{Ghosts}
 use Rattle.model.specs.Files.{Files, files_of}
@@ -15,6 +15,7 @@ use Rattle.calls.specs.Stepping.{Plain}
 use Rattle.calls.specs.Transactions.{HasFiles, IsInside, KeepsFiles, image_seen}
 use Rattle.calls.specs.declared.transactions.fault.TransactionFault.TheVariants as fault
 use Rattle.directories.specs.Sizes.{AreSized}
+use Rattle.directories.specs.declared.refusal.Refusal.{Refusal}
 use Rattle.names.specs.declared.refusal.TreeFault.{TreeFault}
 use Rattle.names.specs.declared.refusal.TreeFault.TheVariants.{Path, Refused, Call, NoSpace, NoCall}
 
@@ -73,6 +74,11 @@ pub record LeavesFiles {D N : Type 0} (disk : Ghosts D N) (k m : Plain D) : Type
 pub record StaysOn {D N : Type 0} (disk : Ghosts D N) (k m : Plain D) : Type 0 where
   pub on : (o : Plain D) → image_on disk.image k ≡ image_on disk.image o → LeavesFiles disk o k
       → LeavesFiles disk o m
+
+-- where a change answers so, no block is free of those that the transaction of m sees
+abbrev pub FillsUp : {D T : Type 0} → (D → Image) → (T → Type 0) → Plain D → Result T Refusal → Type 0
+FillsUp {T = T} image fills m answer =
+    (made : T) → answer ≡ Ok made → fills made → IsFull (image_seen image m)
 
 -- the disk has the same image, and counted no fault
 pub record IsSame {D N : Type 0} (disk : Ghosts D N) (k m : Plain D) : Type 0 where

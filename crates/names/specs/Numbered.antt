@@ -1,12 +1,16 @@
 -- What is asked of the file of a number.
 use Rattle.std.specs.Prelude.{◌≡◌, ◌≤◌, ◌<◌, ◌⊎◌, ℕ, Bool, true, false, List, [], length, take, slice_set, Option, None, Some, Result, Ok, Err, IsTrue}
 use Rattle.blocks.specs.Block.{overwritten}
+use Rattle.blocks.specs.declared.disk.Disk.{Ghosts}
+use Rattle.calls.specs.Calls.{image_on}
+use Rattle.calls.specs.Files.{IsFull}
+use Rattle.calls.specs.Stepping.{Plain}
 use Rattle.model.specs.declared.types.image.File.{File}
 use Rattle.model.specs.declared.types.image.Form.{Form}
 use Rattle.model.specs.declared.types.operations.Op.TheVariants.{Write}
 use Rattle.model.specs.declared.types.operations.Reply.{Reply}
 use Rattle.model.specs.declared.types.operations.Reply.TheVariants.{Wrote, Done, BadOffset, TooBig, TooLong}
-use Rattle.model.specs.Files.{Files, file_in}
+use Rattle.model.specs.Files.{Files, file_in, files_of}
 use Rattle.model.specs.Operations.{may_have_written, refusal_of, with_bytes}
 use Rattle.names.specs.declared.asking.Found.{Found}
 use Rattle.directories.specs.declared.refusal.Refusal.{Refusal}
@@ -14,6 +18,7 @@ use Rattle.directories.specs.declared.refusal.Refusal.TheVariants.{NotFound, Not
 use Rattle.names.specs.declared.writing.Unwritten.{Unwritten}
 use Rattle.names.specs.declared.writing.Unwritten.TheVariants as unwritten
 use Rattle.names.specs.Contents.{HasOnly, IsNoPlain, IsPlainFile}
+use Rattle.names.specs.Inside.{form_seen}
 use Rattle.names.specs.Looks.{IsFound}
 use Rattle.directories.specs.Trees.{directory_in, IsDirectory}
 use Rattle.directories.specs.Walks.{stepped}
@@ -81,6 +86,18 @@ pub record WritesSomeOf (form : Form) (number offset : ℕ) (bytes : List ℕ) (
   pub file : File
   pub plain : IsPlainFile files number file
   pub writes : WritesSomeAs form number offset bytes file done files new
+
+-- fewer of these bytes were written than there are
+abbrev pub IsPart : List ℕ → Result ℕ Unwritten → Type 0
+IsPart bytes (Ok count) = count < length bytes
+IsPart bytes (Err cause) = ⊥
+
+-- the same on the disk, from kernel k to m: no block is free where fewer were written
+pub record WritesSome {D N : Type 0} (disk : Ghosts D N) (number offset : ℕ) (bytes : List ℕ)
+    (k m : Plain D) (done : Result ℕ Unwritten) : Type 0 where
+  pub writes : WritesSomeOf (form_seen disk.image k) number offset bytes done
+      (files_of (image_on disk.image k)) (files_of (image_on disk.image m))
+  pub full : IsPart bytes done → IsFull (image_on disk.image m)
 
 -- an operation was done
 abbrev pub is_done : Reply → Bool

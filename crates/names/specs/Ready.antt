@@ -6,6 +6,7 @@ use Rattle.model.specs.Files.{Files, file_in, files_of}
 use Rattle.model.specs.declared.types.operations.Op.TheVariants.{Write}
 use Rattle.model.specs.declared.types.operations.Reply.{Reply}
 use Rattle.model.specs.declared.types.operations.Reply.TheVariants.{Wrote}
+use Rattle.model.specs.Layout.{is_marked}
 use Rattle.model.specs.Log.{is_lawful_log, recovered}
 use Rattle.model.specs.Soundness.{IsSound}
 use Rattle.calls.specs.Calls.{ShortIsFull, call_count, image_on}
@@ -113,12 +114,15 @@ IsReadyBehind disk m left (Err cause) = left ≡ 0
 pub record HasBegun {D N : Type 0} (disk : Ghosts D N) (k m : Plain D) (left : ℕ) : Type 0 where
   pub goes : Goes disk k m left
   pub files : files_seen disk.image m ≡ files_of (image_on disk.image k)
+  pub size : length (image_on disk.image m) ≡ length (disk.image m.opening)
 
--- it ended, and the files on the disk are those that it saw
+-- it ended, and the files on the disk are those that it saw, as are the blocks that are free
 pub record HasCommitted {D N : Type 0} (disk : Ghosts D N) (k m : Plain D) (left : ℕ)
     : Type 0 where
   pub ready : IsReady disk m left
   pub files : files_of (image_on disk.image m) ≡ files_seen disk.image k
+  pub size : length (image_on disk.image m) ≡ length (disk.image k.opening)
+  pub marks : (b : ℕ) → is_marked (image_on disk.image m) b ≡ is_marked (image_seen disk.image k) b
 
 -- From kernel k to m a stop leaves the files on the disk as they were or those that the transaction
 -- of b sees, and m is over the same disk, as it was opened.

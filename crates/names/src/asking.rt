@@ -46,6 +46,8 @@ impl Change for FindFile {
 
     ghost hinders = { λ find files. Never };
 
+    ghost fills = { λ find made. ⊥ };
+
     fn apply<D: Disk>(&self, tree: &mut Tree<D>, _alloc: Global, names: &[Name]) -> Asked<u32> {
         tree.walk(names)
     }
@@ -63,6 +65,8 @@ impl Change for LookAtFile {
     ghost refuses = { λ look. IsUnfound };
 
     ghost hinders = { λ look files. Never };
+
+    ghost fills = { λ look made. ⊥ };
 
     fn apply<D: Disk>(&self, tree: &mut Tree<D>, _alloc: Global, names: &[Name]) -> Asked<Found> {
         match tree.walk(names)? {
@@ -87,6 +91,8 @@ impl Change for ListDirectory {
     ghost refuses = { λ list. IsUnlisted };
 
     ghost hinders = { λ list files. Never };
+
+    ghost fills = { λ list made. ⊥ };
 
     fn apply<D: Disk>(&self, tree: &mut Tree<D>, _alloc: Global, names: &[Name]) -> Asked<Content> {
         match tree.walk(names)? {

@@ -1,13 +1,14 @@
 // What the calls of a tree do at a path, each in a transaction of its own.
-ghost use Rattle.std.specs.Prelude.{◌≡◌, ◌<◌, ℕ, List, IfErr, IfOk, OnOk};
+ghost use Rattle.std.specs.Prelude.{◌≡◌, ◌<◌, ℕ, List, IfErr, IfOk, Ok, OnOk};
 ghost use Rattle.calls.specs.Calls.{image_on};
+ghost use Rattle.calls.specs.Files.{IsFull};
 ghost use Rattle.calls.specs.Stopped.{StaysOver};
 ghost use Rattle.model.specs.Files.{Files, files_of};
 ghost use Rattle.model.specs.declared.types.image.Form.{Form};
 ghost use Rattle.directories.specs.Counts.{AreCounted};
 ghost use Rattle.directories.specs.declared.refusal.Refusal.{Refusal};
 ghost use Rattle.names.specs.declared.refusal.TreeFault.{TreeFault as SomeTreeFault};
-ghost use Rattle.names.specs.Inside.{files_seen, form_seen, IsUnderWay, ProceedsOr};
+ghost use Rattle.names.specs.Inside.{files_seen, form_seen, FillsUp, IsUnderWay, ProceedsOr};
 ghost use Rattle.directories.specs.Paths.{names_of};
 ghost use Rattle.names.specs.Ready.{answer_of, Happens, HasNoCall, HasNoCallAt, IsReady, IsReadyBehind, IsUnansweredOr, IsUndoneOr, LeavesTree, MayGoOn, TreeStays};
 ghost use Rattle.directories.specs.Trees.{IsTree};
@@ -33,6 +34,9 @@ pub(crate) trait Change {
     // What else may hinder it, over those files.
     ghost hinders: { Self → Files → SomeTreeFault → Type 0 };
 
+    // Where it answers so, no block is free.
+    ghost fills: { Self → Self.Made → Type 0 };
+
     // Makes it in the transaction under way.
     fn apply<D: Disk>(&self, tree: &mut Tree<D>, alloc: Global, names: &[Name]) -> Asked<Self::Made>
         requires way { IsUnderWay D.Disk tree.old.kernel tree.old.calls_left }
@@ -44,7 +48,8 @@ pub(crate) trait Change {
         ensures made { IfOk result (Happens
             (makes self.now (form_seen D.image tree.old.kernel) names.now)
             (refuses self.now names.now)
-            (files_seen D.image tree.old.kernel) (files_seen D.image tree.new.kernel)) };
+            (files_seen D.image tree.old.kernel) (files_seen D.image tree.new.kernel)) }
+        ensures full { IfOk result (FillsUp D.image (fills self.now) tree.new.kernel) };
 }
 
 // A change at a name of a directory.
@@ -94,6 +99,8 @@ impl<C: ChangeIn> Change for Last<C> {
     ghost refuses = { λ last names. IsUndoneIn (C.refuses last.change) names };
 
     ghost hinders = { λ last files. C.hinders last.change };
+
+    ghost fills = { λ last made. ⊥ };
 
     fn apply<D: Disk>(&self, tree: &mut Tree<D>, alloc: Global, names: &[Name]) -> Asked<C::Made> {
         if names.is_empty() {
@@ -164,6 +171,8 @@ impl<D: Disk> Tree<D> {
             (C.makes change.now (form_seen D.image self.old.kernel) names.now)
             self.old.kernel self.new.kernel }
         ensures stays { StaysOver D.Disk self.old.kernel self.new.kernel }
+        ensures full { (made : C.Made) → result ≡ Ok made → C.fills change.now made →
+            IsFull (image_on D.image self.new.kernel) }
     {
         if self.calls_left == 0 {
             return Err(TreeFault::NoCall);

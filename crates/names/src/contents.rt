@@ -34,6 +34,8 @@ impl Change for ReadFile {
 
     ghost hinders = { λ read files. Never };
 
+    ghost fills = { λ read made. ⊥ };
+
     fn apply<D: Disk>(&self, tree: &mut Tree<D>, _alloc: Global, names: &[Name]) -> Asked<Content> {
         match tree.walk(names)? {
             Ok(number) => tree.read_of(number, self.offset, self.count),
@@ -54,6 +56,8 @@ impl Change for EmptyFile {
     ghost refuses = { λ empty. LeadsToNoPlain };
 
     ghost hinders = { λ empty files. Never };
+
+    ghost fills = { λ empty made. ⊥ };
 
     fn apply<D: Disk>(&self, tree: &mut Tree<D>, _alloc: Global, names: &[Name]) -> Asked<()> {
         match tree.walk(names)? {

@@ -33,6 +33,8 @@ impl Change for CutAt {
 
     ghost hinders = { λ cut files. Never };
 
+    ghost fills = { λ cut made. ⊥ };
+
     fn apply<D: Disk>(&self, tree: &mut Tree<D>, _alloc: Global, _names: &[Name]) -> Asked<bool> {
         match tree.seen(self.number)? {
             Ok(_found) => tree.cut(self.number, self.size),

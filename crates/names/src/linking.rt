@@ -39,6 +39,8 @@ impl<'a> Change for LinkFile<'a> {
 
     ghost hinders = { λ link files. Never };
 
+    ghost fills = { λ link made. ⊥ };
+
     fn apply<D: Disk>(&self, tree: &mut Tree<D>, alloc: Global, names: &[Name]) -> Asked<()> {
         if self.into.is_empty() {
             return Ok(Err(Refusal::IsRoot));
@@ -72,6 +74,8 @@ impl<'a> Change for LinkIn<'a> {
     ghost refuses = { λ link names. IsNotLinkedAs link.number link.to link.name.now };
 
     ghost hinders = { λ link files. Never };
+
+    ghost fills = { λ link made. ⊥ };
 
     fn apply<D: Disk>(&self, tree: &mut Tree<D>, alloc: Global, _names: &[Name]) -> Asked<()> {
         match tree.seen(self.number)? {

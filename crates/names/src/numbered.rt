@@ -35,6 +35,8 @@ impl Change for LookAt {
 
     ghost hinders = { λ look files. Never };
 
+    ghost fills = { λ look made. ⊥ };
+
     fn apply<D: Disk>(&self, tree: &mut Tree<D>, _alloc: Global, _names: &[Name]) -> Asked<Found> {
         tree.seen(self.number)
     }
@@ -55,6 +57,8 @@ impl<'a> Change for LookIn<'a> {
     ghost refuses = { λ look names. IsUnseenIn look.from look.name.now };
 
     ghost hinders = { λ look files. Never };
+
+    ghost fills = { λ look made. ⊥ };
 
     fn apply<D: Disk>(&self, tree: &mut Tree<D>, _alloc: Global, _names: &[Name]) -> Asked<Found> {
         match tree.step(self.from, self.name)? {
@@ -78,6 +82,8 @@ impl Change for ListAt {
     ghost refuses = { λ list names. IsNoDirectory list.number };
 
     ghost hinders = { λ list files. Never };
+
+    ghost fills = { λ list made. ⊥ };
 
     fn apply<D: Disk>(
         &self,
@@ -108,6 +114,8 @@ impl Change for ReadAt {
     ghost refuses = { λ read names. IsNoFileOrDirectory read.number };
 
     ghost hinders = { λ read files. Never };
+
+    ghost fills = { λ read made. ⊥ };
 
     fn apply<D: Disk>(
         &self,

@@ -4,9 +4,9 @@ ghost use Rattle.calls.specs.Calls.{image_on};
 ghost use Rattle.calls.specs.Stopped.{StaysOver};
 ghost use Rattle.model.specs.Files.{files_of};
 ghost use Rattle.names.specs.Contents.{IsNoPlain};
-ghost use Rattle.names.specs.Inside.{files_seen, form_seen, IsUnderWay, Proceeds, Never};
+ghost use Rattle.names.specs.Inside.{files_seen, form_seen, FillsUp, IsUnderWay, Proceeds, Never};
 ghost use Rattle.names.specs.Making.{IsUnmadeDirectoryIn, IsUnmadeIn, MakesDirectoryIn, MakesIn};
-ghost use Rattle.names.specs.Numbered.{EmptiesAt, IsNoFileOrDirectory, WritesSomeOf, some_told};
+ghost use Rattle.names.specs.Numbered.{EmptiesAt, IsNoFileOrDirectory, IsPart, WritesSome, WritesSomeOf, some_told};
 ghost use Rattle.names.specs.Ready.{Happens, HasNoCall, IsReady, IsReadyBehind, IsUnanswered, LeavesTree, MayGoOn, TreeStays};
 ghost use Rattle.names.specs.Removing.{IsUnremovedIn, RemovesIn};
 ghost use Rattle.directories.specs.Trees.{IsFile, IsTree};
@@ -44,6 +44,8 @@ impl<'a, C: ChangeIn> Change for At<'a, C> {
 
     ghost hinders = { λ at files. C.hinders at.change };
 
+    ghost fills = { λ at made. ⊥ };
+
     fn apply<D: Disk>(&self, tree: &mut Tree<D>, alloc: Global, _names: &[Name]) -> Asked<C::Made> {
         self.change.apply_in(tree, alloc, self.from, self.name)
     }
@@ -63,6 +65,8 @@ impl Change for EmptyAt {
     ghost refuses = { λ empty names. IsNoFileOrDirectory empty.number };
 
     ghost hinders = { λ empty files. Never };
+
+    ghost fills = { λ empty made. ⊥ };
 
     fn apply<D: Disk>(&self, tree: &mut Tree<D>, _alloc: Global, _names: &[Name]) -> Asked<()> {
         match tree.seen(self.number)? {
@@ -88,6 +92,8 @@ impl<'a> Change for WriteAt<'a> {
     ghost refuses = { λ write names. IsNoFileOrDirectory write.number };
 
     ghost hinders = { λ write files. Never };
+
+    ghost fills = { λ write. IsPart write.bytes.now };
 
     fn apply<D: Disk>(
         &self,
@@ -144,10 +150,8 @@ impl<D: Disk> Tree<D> {
         requires ready { MayGoOn D.Disk self.old.kernel self.old.calls_left }
         ensures ready { MayGoOn D.Disk self.new.kernel self.new.calls_left }
         ensures done { IsReadyBehind D.Disk self.new.kernel self.new.calls_left result }
-        ensures writes { IfOk result (λ done. WritesSomeOf (form_seen D.image self.old.kernel)
-            number offset bytes.now done
-            (files_of (image_on D.image self.old.kernel))
-            (files_of (image_on D.image self.new.kernel))) }
+        ensures writes { IfOk result (WritesSome D.Disk number offset bytes.now
+            self.old.kernel self.new.kernel) }
         ensures refused { IsReady D.Disk self.old.kernel self.old.calls_left → IfErr result
             (IsUnanswered D.Disk (IsNoFileOrDirectory number)
             self.old.kernel self.new.kernel) }
@@ -299,6 +303,7 @@ impl<D: Disk> Tree<D> {
             (WritesSomeOf (form_seen D.image self.old.kernel) number offset bytes.now)
             (IsNoPlain number)
             (files_seen D.image self.old.kernel) (files_seen D.image self.new.kernel)) }
+        ensures full { IfOk result (FillsUp D.image (IsPart bytes.now) self.new.kernel) }
     {
         if self.is_directory(number)? {
             return Ok(Err(Refusal::IsADirectory));

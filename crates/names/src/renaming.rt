@@ -32,6 +32,8 @@ impl<'a> Change for RenameFile<'a> {
 
     ghost hinders = { λ rename files. Never };
 
+    ghost fills = { λ rename made. ⊥ };
+
     fn apply<D: Disk>(&self, tree: &mut Tree<D>, alloc: Global, names: &[Name]) -> Asked<()> {
         if names.is_empty() {
             return Ok(Err(Refusal::IsRoot));

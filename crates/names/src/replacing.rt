@@ -37,6 +37,8 @@ impl<'a> Change for RenameIn<'a> {
 
     ghost hinders = { λ rename files. Never };
 
+    ghost fills = { λ rename made. ⊥ };
+
     fn apply<D: Disk>(&self, tree: &mut Tree<D>, alloc: Global, _names: &[Name]) -> Asked<()> {
         tree.renamed_in(alloc, self.from, self.old, self.to, self.name)
     }
@@ -62,6 +64,8 @@ impl<'a> Change for Replace<'a> {
     ghost refuses = { λ r names. IsUnreplaced r.from r.old.now r.to r.name.now r.aside.now r.keeps };
 
     ghost hinders = { λ r. HindersHalf r.from r.old.now r.to r.name.now r.aside.now r.keeps };
+
+    ghost fills = { λ r made. ⊥ };
 
     fn apply<D: Disk>(&self, tree: &mut Tree<D>, alloc: Global, _names: &[Name]) -> Asked<()> {
         match tree.replaceable(self.from, self.old, self.to, self.name)? {

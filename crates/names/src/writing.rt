@@ -52,6 +52,8 @@ impl<'a> Change for WriteFile<'a> {
 
     ghost hinders = { λ write files. Fills };
 
+    ghost fills = { λ write made. ⊥ };
+
     fn apply<D: Disk>(
         &self,
         tree: &mut Tree<D>,

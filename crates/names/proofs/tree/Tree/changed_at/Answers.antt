@@ -8,7 +8,7 @@ use Rattle.names.specs.Inside.{files_seen, form_seen, Never}
 use Rattle.directories.specs.Counts.{AreCounted}
 use Rattle.names.specs.Ready.{Happens, IsReadyBehind, LeavesTree}
 use Rattle.names.proofs.Behind.{ends_behind, ready_behind}
-use Rattle.names.proofs.Transacting.{unchanged_leaves, whole_by, whole_leaves}
+use Rattle.names.proofs.Transacting.{full_by, made_of, unchanged_leaves, whole_by, whole_leaves}
 use Rattle.names.proofs.tree.Tree.changed_at.Given.{Over}
 use Rattle.names.proofs.tree.Tree.changed_at.Goals.{After-committed}
 use Rattle.names.proofs.tree.Tree.changed_at.Goals as goal
@@ -39,6 +39,12 @@ returns-in_err-committed-clause-leaves g c = λ some. whole g (goal.at.returns-i
 
 pub returns-clause-leaves : goal.returns-clause-leaves
 returns-clause-leaves g c = λ some. whole g (goal.at.returns-clause-leaves g c).After-committed some
+
+pub returns-clause-full : goal.returns-clause-full
+returns-clause-full g c = λ made is fills.
+    full_by g.D.Disk c.args.self.now.kernel c.begun.new.self.kernel c.apply.new.tree.kernel c.committed.new.self.kernel c.begun.new.self.calls_left c.apply.new.tree.calls_left
+    c.committed.new.self.calls_left c.in_ok-begun.ensures.begins c.in_ok-made.ensures.goes.on c.in_ok-committed.ensures.commits
+    (c.in_ok-made.ensures.full made (made_of c.in_ok-made.made made (sym c.answer_of.ensures ∙ is)) fills)
 
 pub apply-requires-clause-counted : goal.apply-requires-clause-counted
 apply-requires-clause-counted g c =
