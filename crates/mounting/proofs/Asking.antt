@@ -5,14 +5,21 @@ use Rattle.fuse.specs.declared.request.Request.{Request}
 use Rattle.fuse.specs.Requests.{asked}
 use Rattle.model.specs.declared.types.image.Form.{Form}
 use Rattle.model.specs.Files.{Files}
-use Rattle.mounting.specs.Changes.{aside_of, digit, Does, MayMake, RenamedFile}
+use Rattle.blocks.specs.Disk.{Image}
+use Rattle.mounting.specs.declared.errno.Errno.{Errno}
+use Rattle.mounting.specs.Causes.{Hinders}
+use Rattle.mounting.specs.Asides.{aside_of, digit}
+use Rattle.mounting.specs.Changes.{Does, MayMake, RenamedFile}
 
 -- of an equal request
 pub asked_as : (form : Form) (node : ℕ) (r s : Request) (x z : Files) → r ≡ s → MayMake form node (asked s) x z → MayMake form node (asked r) x z
 asked_as form node r s x z same makes = subst (λ (q : Request). MayMake form node (asked q) x z) (sym same) makes
 
-pub done_as : (form : Form) (node : ℕ) (body : List ℕ) (r s : Request) (x z : Files) → r ≡ s → Does form node (asked s) body x z → Does form node (asked r) body x z
-done_as form node body r s x z same does = subst (λ (q : Request). Does form node (asked q) body x z) (sym same) does
+pub done_as : (form : Form) (full : Type 0) (node : ℕ) (body : List ℕ) (r s : Request) (x z : Files) → r ≡ s → Does form full node (asked s) body x z → Does form full node (asked r) body x z
+done_as form full node body r s x z same does = subst (λ (q : Request). Does form full node (asked q) body x z) (sym same) does
+
+pub hinders_as : (form : Form) (node : ℕ) (r s : Request) (x : Image) (e : Errno) → r ≡ s → Hinders node (asked s) form x e → Hinders node (asked r) form x e
+hinders_as form node r s x e same why = subst (λ (q : Request). Hinders node (asked q) form x e) (sym same) why
 
 -- of two equal names
 pub twice : (P : List ℕ → List ℕ → Type 0) (old o name n : List ℕ) → old ≡ o → name ≡ n → P old name → P o n

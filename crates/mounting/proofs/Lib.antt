@@ -1,5 +1,10 @@
+mod AsideNames
 mod Asking
 mod FileEnds
+mod FoundKinds
+mod Hindering
+mod Listed
 mod ReadParts
 mod Sessions
+mod Telling
 mod TreeCalls

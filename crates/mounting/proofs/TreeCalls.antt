@@ -1,6 +1,6 @@
 -- One call of a tree, by what it does to files.
 use Rattle.std.proofs.Common.{◌≡◌, ◌≢◌, ℕ, ◌-◌, ◌<◌, List, length, take, drop, ⊎_elim, inl, inr, refl, subst, arith}
-use Rattle.std.specs.Prelude.{Option, Some, None, Result, Ok, Err, IfErr, IfOk}
+use Rattle.std.specs.Prelude.{Option, Some, None, Result, Ok, Err, IfErr, IfOk, OnOk}
 use Rattle.std.proofs.lemmas.Bool.{cases_eq}
 use Rattle.std.proofs.lemmas.List.{length-drop, take_all}
 use Rattle.std.proofs.lemmas.Result.{IfOk-weaker}
@@ -15,7 +15,9 @@ use Rattle.fuse.specs.Requests.{Asked, header_in, Other, request_in}
 use Rattle.history.specs.Lemmas.Leaving.{leaves_wider}
 use Rattle.model.specs.Files.{Files, files_of}
 use Rattle.model.specs.Log.{recovered}
-use Rattle.mounting.specs.Changes.{Did, DoesIf, HasServed, Makes, MayDo, MayMake, MayMakeIf, MayServe, OnlyLooks, Serving, StaysIfRefused, Task}
+use Rattle.mounting.specs.declared.errno.Errno.{Errno}
+use Rattle.mounting.specs.Causes.{HindersIf, HindersServed, IsHindered}
+use Rattle.mounting.specs.Changes.{DidAskedIf, DidServe, Makes, MayDo, MayMake, MayMakeIf, MayServe, OnlyLooks, Serving, StaysIfRefused, Task}
 use Rattle.names.specs.declared.refusal.TreeFault.{TreeFault}
 use Rattle.names.specs.declared.refusal.TreeFault.TheVariants.{Path, Refused, Call, NoSpace, NoCall}
 use Rattle.names.specs.Inside.{form_seen}
@@ -23,6 +25,11 @@ use Rattle.names.specs.Lemmas.Over.{form_stays}
 use Rattle.names.specs.Lemmas.Runs.{run_nowhere, run_of, run_on, run_same, run_wider}
 use Rattle.names.specs.Ready.{AnyOf, HasNoCall, IsReady, IsReadyBehind, IsUnansweredOr, KeepsTree, LeavesTree, MayGoOn}
 use Rattle.names.specs.Runs.{HasRun}
+
+-- two things that are so where a result is one
+pub both_ok : {T E P Q S : Type 0} (r : Result T E) → OnOk r P → OnOk r Q → (P → Q → S) → OnOk r S
+both_ok (Ok t) p q on = on p q
+both_ok (Err e) p q on = tt
 
 module _ {D N : Type 0} (disk : Ghosts D N) where
   -- what a call ensures, as a run of one change
@@ -107,7 +114,12 @@ module _ {D N : Type 0} (disk : Ghosts D N) (bytes : List ℕ) (header : Header)
       (subst (λ (rest : List ℕ). HasRun disk (MayMakeIf (form_seen disk.image k) header.node (request_in header.opcode rest)) k m left less) (behind_header bytes)
       (request_run disk header.node (request_in header.opcode asked_behind) k m left less makes))
 
-  pub served_done : (body : List ℕ) (k m : Plain D) → header ≡ header_in bytes → Did disk (λ form. DoesIf form header.node (request_in header.opcode asked_behind) body) k m → Did disk (λ form. HasServed form bytes body) k m
+  pub served_done : (body : List ℕ) (k m : Plain D) → header ≡ header_in bytes → DidAskedIf disk header.node (request_in header.opcode asked_behind) body k m → DidServe disk bytes k m body
   served_done body k m same did =
-      subst (λ (h : Header). Did disk (λ form. DoesIf form h.node (request_in h.opcode (drop 40 bytes)) body) k m) same
-      (subst (λ (rest : List ℕ). Did disk (λ form. DoesIf form header.node (request_in header.opcode rest) body) k m) (behind_header bytes) did)
+      subst (λ (h : Header). DidAskedIf disk h.node (request_in h.opcode (drop 40 bytes)) body k m) same
+      (subst (λ (rest : List ℕ). DidAskedIf disk header.node (request_in header.opcode rest) body k m) (behind_header bytes) did)
+
+  pub served_hindered : (m : Plain D) (left : ℕ) (e : Errno) → header ≡ header_in bytes → IsHindered disk (HindersIf header.node (request_in header.opcode asked_behind)) m left e → IsHindered disk (HindersServed bytes) m left e
+  served_hindered m left e same why =
+      subst (λ (h : Header). IsHindered disk (HindersIf h.node (request_in h.opcode (drop 40 bytes))) m left e) same
+      (subst (λ (rest : List ℕ). IsHindered disk (HindersIf header.node (request_in header.opcode rest)) m left e) (behind_header bytes) why)

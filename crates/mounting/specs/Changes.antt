@@ -1,15 +1,20 @@
 -- What requests change of files.
-use Rattle.std.specs.Prelude.{◌≡◌, ◌≢◌, ◌⊎◌, ⊤, ℕ, ◌+◌, ◌%◌, ◌/◌, ◌^◌, ◌<◌, ◌≤◌, Bool, List, [], ◌∷◌, length, take, drop, replicate, bit_and, Option, Some, None, Result, Ok, Err}
+use Rattle.std.specs.Prelude.{◌≡◌, ◌≢◌, ◌⊎◌, ⊤, ℕ, ◌+◌, ◌^◌, ◌<◌, ◌≤◌, Bool, List, [], length, take, drop, replicate, bit_and, Option, Some, None, Result, Ok, Err}
 use Rattle.blocks.specs.declared.disk.Disk.{Ghosts}
 use Rattle.calls.specs.Calls.{image_on}
+use Rattle.calls.specs.Files.{IsFull}
 use Rattle.calls.specs.Stepping.{Plain}
-use Rattle.directories.specs.Entries.{padded}
-use Rattle.directories.specs.Trees.{bytes_of, root}
+use Rattle.directories.specs.Entries.{entries_of, padded}
+use Rattle.directories.specs.Trees.{bytes_of, directory_in, root}
 use Rattle.fuse.specs.Answers.{wrote_answer_bytes}
-use Rattle.fuse.specs.Requests.{Asked, header_in, request_in, Create, Link, MakeDirectory, MakeNode, Read, Release, RemoveDirectory, Rename, SetAttributes, Unlink, Write}
+use Rattle.fuse.specs.Requests.{Asked, header_in, request_in, Create, Destroy, Flush, GetAttributes, Link, Lookup, MakeDirectory, MakeNode, Open, OpenDirectory, Read, ReadDirectory, Release, ReleaseDirectory, RemoveDirectory, Rename, SetAttributes, Sync, Unlink, Write}
 use Rattle.model.specs.declared.types.image.Form.{Form}
 use Rattle.model.specs.Files.{Files, file_in, files_of}
-use Rattle.model.specs.Operations.{part_of}
+use Rattle.model.specs.declared.types.operations.Op.TheVariants as op
+use Rattle.model.specs.Operations.{part_of, refusal_of}
+use Rattle.mounting.specs.Asides.{IsAside, aside_of}
+use Rattle.mounting.specs.Listings.{Lists}
+use Rattle.mounting.specs.Tells.{TellsAttributes, TellsEntry, TellsNamed, TellsOpened}
 use Rattle.names.specs.declared.refusal.TreeFault.{TreeFault}
 use Rattle.names.specs.declared.refusal.TreeFault.TheVariants.{Refused}
 use Rattle.names.specs.declared.writing.Unwritten.{Unwritten}
@@ -22,24 +27,8 @@ use Rattle.names.specs.Removing.{RemovesIn}
 use Rattle.names.specs.Renaming.{Renames}
 use Rattle.names.specs.Replacing.{LeadToOne, Replaces}
 use Rattle.names.specs.Runs.{HasRun}
+use Rattle.names.specs.Writing.{reply_of}
 use Rattle.names.specs.Undirecting.{RemovesDirectoryIn}
-
--- ---- names aside
-
--- a digit
-abbrev pub digit : ℕ → ℕ
-digit n = 48 + n % 10
-
--- the name that the file of a number has in the root once its last one was removed while it was open:
--- `.xvgone` and seven digits
-unfoldable pub aside_of : ℕ → List ℕ
-aside_of n = 46 ∷ 120 ∷ 118 ∷ 103 ∷ 111 ∷ 110 ∷ 101 ∷ digit (n / 1000000) ∷ digit (n / 100000)
-    ∷ digit (n / 10000) ∷ digit (n / 1000) ∷ digit (n / 100) ∷ digit (n / 10) ∷ digit n ∷ []
-
--- a name like that
-pub record IsAside (name : List ℕ) : Type 0 where
-  pub full : length name ≡ 14
-  pub begins : take 7 name ≡ 46 ∷ 120 ∷ 118 ∷ 103 ∷ 111 ∷ 110 ∷ 101 ∷ []
 
 -- ---- the changes, of which each is one transaction
 
@@ -185,35 +174,70 @@ abbrev pub wrote_count : Result ℕ Unwritten → ℕ
 wrote_count (Ok count) = count
 wrote_count (Err cause) = 0
 
--- What became of the files where a request is answered without an error, and what is told of bytes.
-abbrev pub Does : Form → ℕ → Asked → List ℕ → Files → Files → Type 0
-Does form node (Read offset size) body files new = (new ≡ files)
+-- the kernel refuses a part of these bytes
+abbrev pub RefusesPart : Form → Files → ℕ → ℕ → List ℕ → Unwritten → Type 0
+RefusesPart form files number offset bytes cause = (at : ℕ) × ((count : ℕ)
+    × (refusal_of form files (op.Write number (offset + at) (take count (drop at bytes)))
+    ≡ Some (reply_of cause)))
+
+-- why no more of them stand, besides that no block is free
+abbrev pub EndsShort : Type 0 → Form → Files → ℕ → ℕ → List ℕ → Type 0
+EndsShort full form files number offset bytes =
+    full ⊎ (((cause : Unwritten) × RefusesPart form files number offset bytes cause)
+    ⊎ (2 ^ 32 ≤ offset + length bytes))
+
+-- nothing is told, and the files are the same
+abbrev pub TellsNothing : List ℕ → Files → Files → Type 0
+TellsNothing body files new = (new ≡ files) × (body ≡ [])
+
+-- a new file is told
+abbrev pub TellsMade : (ℕ → Files → Files → Type 0) → List ℕ → Files → Files → Type 0
+TellsMade makes body files new =
+    (number : ℕ) × (makes number files new × TellsEntry new number [] body)
+
+-- and how it was opened
+abbrev pub TellsCreated : (ℕ → Files → Files → Type 0) → List ℕ → Files → Files → Type 0
+TellsCreated makes body files new =
+    (entry : List ℕ) × (TellsMade makes entry files new × TellsOpened 2 entry body)
+
+-- What became of the files where a request is answered without an error, and what is told.
+abbrev pub Does : Form → Type 0 → ℕ → Asked → List ℕ → Files → Files → Type 0
+Does form full node (Lookup name) body files new =
+    (new ≡ files) × TellsNamed new node (padded name) [] body
+Does form full node GetAttributes body files new = (new ≡ files) × TellsAttributes new node [] body
+Does form full node (Open flags) body files new = (new ≡ files) × TellsOpened 2 [] body
+Does form full node OpenDirectory body files new = (new ≡ files) × TellsOpened 10 [] body
+Does form full node (ReadDirectory offset size plus) body files new = (new ≡ files)
+    × Lists files node offset size plus 0 (entries_of (directory_in files node)) [] body
+Does form full node (Read offset size) body files new = (new ≡ files)
     × (offset < 2 ^ 32 → body ≡ part_of (bytes_of (file_in files node)) offset size)
-Does form node (SetAttributes valid size changed nanos mode) body files new =
+Does form full node (SetAttributes valid size changed nanos mode) body files new =
     ((SetsSize valid → ⊥) → new ≡ files) × (SetsSize valid → HasLength new node size)
-Does form node (Write offset bytes) body files new = (count : ℕ)
-    × ((body ≡ wrote_answer_bytes count) × StandsAt (bytes_of (file_in new node)) offset bytes count)
-Does form node (MakeNode mode name) body files new = MakesFile node (padded name) form files new
-Does form node (Create flags mode name) body files new = MakesFile node (padded name) form files new
-Does form node (MakeDirectory mode name) body files new =
-    MakesDirectory node (padded name) form files new
-Does form node (Link number name) body files new = Links number node (padded name) form files new
-Does form node (Unlink name) body files new = Unlinks node (padded name) form files new
-Does form node (RemoveDirectory name) body files new = RemovesEmpty node (padded name) form files new
-Does form node (Rename to flags old name) body files new =
-    RenamedAs flags node (padded old) to (padded name) form files new
-Does form node Release body files new =
-    (new ≡ files) ⊎ RemovesName root (aside_of node) form files new
-Does form node request body files new = new ≡ files
-
-abbrev pub DoesIf : Form → ℕ → Option Asked → List ℕ → Files → Files → Type 0
-DoesIf form node None body files new = ⊥
-DoesIf form node (Some request) body files new = Does form node request body files new
-
--- the same of its bytes
-abbrev pub HasServed : Form → List ℕ → List ℕ → Files → Files → Type 0
-HasServed form bytes =
-    DoesIf form (header_in bytes).node (request_in (header_in bytes).opcode (drop 40 bytes))
+    × TellsAttributes new node [] body
+Does form full node (Write offset bytes) body files new = (count : ℕ)
+    × ((body ≡ wrote_answer_bytes count) × StandsAt (bytes_of (file_in new node)) offset bytes count
+    × (count < length bytes → EndsShort full form new node offset bytes))
+Does form full node (MakeNode mode name) body files new =
+    TellsMade (MakesIn node (padded name)) body files new
+Does form full node (Create flags mode name) body files new =
+    TellsCreated (MakesIn node (padded name)) body files new
+Does form full node (MakeDirectory mode name) body files new =
+    TellsMade (MakesDirectoryIn node (padded name)) body files new
+Does form full node (Link number name) body files new =
+    Links number node (padded name) form files new × TellsEntry new number [] body
+Does form full node (Unlink name) body files new =
+    Unlinks node (padded name) form files new × (body ≡ [])
+Does form full node (RemoveDirectory name) body files new =
+    RemovesEmpty node (padded name) form files new × (body ≡ [])
+Does form full node (Rename to flags old name) body files new =
+    RenamedAs flags node (padded old) to (padded name) form files new × (body ≡ [])
+Does form full node Release body files new =
+    ((new ≡ files) ⊎ RemovesName root (aside_of node) form files new) × (body ≡ [])
+Does form full node Flush body files new = TellsNothing body files new
+Does form full node Sync body files new = TellsNothing body files new
+Does form full node ReleaseDirectory body files new = TellsNothing body files new
+Does form full node Destroy body files new = TellsNothing body files new
+Does form full node request body files new = new ≡ files
 
 -- ---- kernels
 
@@ -222,6 +246,24 @@ abbrev pub Did : {D N : Type 0} → Ghosts D N → (Form → Files → Files →
     → Type 0
 Did disk part k m = part (form_seen disk.image k) (files_of (image_on disk.image k))
     (files_of (image_on disk.image m))
+
+-- from kernel k to m a request was done, and this is told
+abbrev pub DidAsked : {D N : Type 0} → Ghosts D N → ℕ → Asked → List ℕ → Plain D → Plain D → Type 0
+DidAsked disk node request body k m =
+    Does (form_seen disk.image m) (IsFull (image_on disk.image m)) node request body
+    (files_of (image_on disk.image k)) (files_of (image_on disk.image m))
+
+-- the same of a request that may be none
+abbrev pub DidAskedIf : {D N : Type 0} → Ghosts D N → ℕ → Option Asked → List ℕ → Plain D → Plain D
+    → Type 0
+DidAskedIf disk node None body k m = ⊥
+DidAskedIf disk node (Some request) body k m = DidAsked disk node request body k m
+
+-- and of its bytes
+abbrev pub DidServe : {D N : Type 0} → Ghosts D N → List ℕ → Plain D → Plain D → List ℕ → Type 0
+DidServe disk bytes k m body =
+    DidAskedIf disk (header_in bytes).node (request_in (header_in bytes).opcode (drop 40 bytes))
+    body k m
 
 -- the bytes of the file of a number on the disk of a kernel
 abbrev pub bytes_on : {D N : Type 0} → Ghosts D N → ℕ → Plain D → List ℕ

@@ -1,7 +1,8 @@
 // Calls of a tree, by what they do to files.
-ghost use Rattle.std.specs.Prelude.{IfOk};
+ghost use Rattle.std.specs.Prelude.{IfErr, IfOk};
 ghost use Rattle.calls.specs.Calls.{image_on};
 ghost use Rattle.model.specs.Files.{files_of};
+ghost use Rattle.mounting.specs.Causes.{IsNotDone, WrotePart};
 ghost use Rattle.mounting.specs.Changes.{
   Links,
   Makes,
@@ -15,14 +16,24 @@ ghost use Rattle.mounting.specs.Changes.{
 };
 ghost use Rattle.names.specs.Contents.{ReadsOf};
 ghost use Rattle.names.specs.Inside.{form_seen};
-ghost use Rattle.names.specs.Linking.{LinksIn};
-ghost use Rattle.names.specs.Making.{MakesDirectoryIn, MakesIn};
-ghost use Rattle.names.specs.Numbered.{CutsAt, ListsAt, LooksAt, LooksIn, WritesSomeOf};
+ghost use Rattle.names.specs.Linking.{IsNotLinkedAs, LinksIn};
+ghost use Rattle.names.specs.Making.{IsUnmadeDirectoryIn, IsUnmadeIn, MakesDirectoryIn, MakesIn};
+ghost use Rattle.names.specs.Numbered.{
+  CutsAt,
+  IsNoDirectory,
+  IsNoFile,
+  IsNoFileOrDirectory,
+  IsUnseenIn,
+  ListsAt,
+  LooksAt,
+  LooksIn,
+  WritesSomeOf,
+};
 ghost use Rattle.names.specs.Ready.{AnyOf, MayGoOn};
-ghost use Rattle.names.specs.Removing.{RemovesIn};
-ghost use Rattle.names.specs.Renaming.{Renames};
-ghost use Rattle.names.specs.Replacing.{Replaces};
-ghost use Rattle.names.specs.Undirecting.{RemovesDirectoryIn};
+ghost use Rattle.names.specs.Removing.{IsUnremovedIn, RemovesIn};
+ghost use Rattle.names.specs.Renaming.{IsUnrenamed, Renames};
+ghost use Rattle.names.specs.Replacing.{IsUnreplaced, Replaces};
+ghost use Rattle.names.specs.Undirecting.{IsUnemptiedIn, RemovesDirectoryIn};
 
 use blocks::Disk;
 use directories::Name;
@@ -44,6 +55,9 @@ pub(crate) fn look_at<D: Disk>(
     ensures does { IfOk result (λ found. LooksAt number found
         (files_of (image_on D.image tree.old.kernel))
         (files_of (image_on D.image tree.new.kernel))) }
+    ensures hindered { IfErr result (IsNotDone D.Disk
+        (IsNoFile number)
+        tree.new.kernel tree.new.calls_left) }
 {
     tree.look_at(alloc, number)
 }
@@ -63,6 +77,9 @@ pub(crate) fn look_in<D: Disk>(
     ensures does { IfOk result (λ found. LooksIn from name.now found
         (files_of (image_on D.image tree.old.kernel))
         (files_of (image_on D.image tree.new.kernel))) }
+    ensures hindered { IfErr result (IsNotDone D.Disk
+        (IsUnseenIn from name.now)
+        tree.new.kernel tree.new.calls_left) }
 {
     tree.look_in(alloc, from, name)
 }
@@ -80,6 +97,9 @@ pub(crate) fn list_at<D: Disk>(
     ensures does { IfOk result (λ bytes. ListsAt number bytes
         (files_of (image_on D.image tree.old.kernel))
         (files_of (image_on D.image tree.new.kernel))) }
+    ensures hindered { IfErr result (IsNotDone D.Disk
+        (IsNoDirectory number)
+        tree.new.kernel tree.new.calls_left) }
 {
     tree.list_at(alloc, number)
 }
@@ -99,6 +119,9 @@ pub(crate) fn read_at<D: Disk>(
     ensures does { IfOk result (λ bytes. ReadsOf number offset count bytes
         (files_of (image_on D.image tree.old.kernel))
         (files_of (image_on D.image tree.new.kernel))) }
+    ensures hindered { IfErr result (IsNotDone D.Disk
+        (IsNoFileOrDirectory number)
+        tree.new.kernel tree.new.calls_left) }
 {
     tree.read_at(alloc, number, offset, count)
 }
@@ -119,6 +142,10 @@ pub(crate) fn write_at<D: Disk>(
     ensures does { IfOk result (λ done. WritesSomeOf (form_seen D.image
         tree.old.kernel) number offset bytes.now done (files_of (image_on D.image tree.old.kernel))
         (files_of (image_on D.image tree.new.kernel))) }
+    ensures hindered { IfErr result (IsNotDone D.Disk
+        (IsNoFileOrDirectory number)
+        tree.new.kernel tree.new.calls_left) }
+    ensures part { IfOk result (WrotePart D.Disk number offset bytes.now tree.new.kernel) }
 {
     tree.write_at(alloc, number, offset, bytes)
 }
@@ -138,6 +165,9 @@ pub(crate) fn cut_at<D: Disk>(
     ensures does { IfOk result (λ done. CutsAt number size done
         (files_of (image_on D.image tree.old.kernel))
         (files_of (image_on D.image tree.new.kernel))) }
+    ensures hindered { IfErr result (IsNotDone D.Disk
+        (IsNoFileOrDirectory number)
+        tree.new.kernel tree.new.calls_left) }
 {
     tree.cut_at(alloc, number, size)
 }
@@ -157,6 +187,9 @@ pub(crate) fn make_in<D: Disk>(
     ensures does { IfOk result (λ number. MakesIn from name.now number
         (files_of (image_on D.image tree.old.kernel))
         (files_of (image_on D.image tree.new.kernel))) }
+    ensures hindered { IfErr result (IsNotDone D.Disk
+        (λ files. IsUnmadeIn files from name.now)
+        tree.new.kernel tree.new.calls_left) }
 {
     tree.make_in(alloc, from, name)
 }
@@ -176,6 +209,9 @@ pub(crate) fn make_directory_in<D: Disk>(
     ensures does { IfOk result (λ number. MakesDirectoryIn from name.now number
         (files_of (image_on D.image tree.old.kernel))
         (files_of (image_on D.image tree.new.kernel))) }
+    ensures hindered { IfErr result (IsNotDone D.Disk
+        (λ files. IsUnmadeDirectoryIn files from name.now)
+        tree.new.kernel tree.new.calls_left) }
 {
     tree.make_directory_in(alloc, from, name)
 }
@@ -196,6 +232,9 @@ pub(crate) fn link_in<D: Disk>(
     ensures does { IfOk result (λ done. LinksIn number to name.now done
         (files_of (image_on D.image tree.old.kernel))
         (files_of (image_on D.image tree.new.kernel))) }
+    ensures hindered { IfErr result (IsNotDone D.Disk
+        (IsNotLinkedAs number to name.now)
+        tree.new.kernel tree.new.calls_left) }
 {
     tree.link_in(alloc, number, to, name)
 }
@@ -215,6 +254,9 @@ pub(crate) fn remove_in<D: Disk>(
     ensures does { IfOk result (λ done. RemovesIn from name.now done
         (files_of (image_on D.image tree.old.kernel))
         (files_of (image_on D.image tree.new.kernel))) }
+    ensures hindered { IfErr result (IsNotDone D.Disk
+        (λ files. IsUnremovedIn files from name.now)
+        tree.new.kernel tree.new.calls_left) }
 {
     tree.remove_in(alloc, from, name)
 }
@@ -234,6 +276,9 @@ pub(crate) fn remove_directory_in<D: Disk>(
     ensures does { IfOk result (λ done. RemovesDirectoryIn from name.now done
         (files_of (image_on D.image tree.old.kernel))
         (files_of (image_on D.image tree.new.kernel))) }
+    ensures hindered { IfErr result (IsNotDone D.Disk
+        (λ files. IsUnemptiedIn files from name.now)
+        tree.new.kernel tree.new.calls_left) }
 {
     tree.remove_directory_in(alloc, from, name)
 }
@@ -255,6 +300,10 @@ pub(crate) fn rename_in<D: Disk>(
     ensures does { IfOk result (λ done. Renames from old.now to name.now done
         (files_of (image_on D.image tree.old.kernel))
         (files_of (image_on D.image tree.new.kernel))) }
+    ensures same { StaysIfRefused D.Disk tree.old.kernel tree.new.kernel result }
+    ensures hindered { IfErr result (IsNotDone D.Disk
+        (λ files. IsUnrenamed files from old.now to name.now)
+        tree.new.kernel tree.new.calls_left) }
 {
     tree.rename_in(alloc, from, old, to, name)
 }
@@ -279,6 +328,10 @@ pub(crate) fn replace_in<D: Disk>(
     ensures does { IfOk result (λ done. Replaces from old.now to name.now aside.now keeps done
         (files_of (image_on D.image tree.old.kernel))
         (files_of (image_on D.image tree.new.kernel))) }
+    ensures same { StaysIfRefused D.Disk tree.old.kernel tree.new.kernel result }
+    ensures hindered { IfErr result (IsNotDone D.Disk
+        (IsUnreplaced from old.now to name.now aside.now keeps)
+        tree.new.kernel tree.new.calls_left) }
 {
     tree.replace_in(alloc, from, old, to, name, aside, keeps)
 }

@@ -1,10 +1,33 @@
 // Requests that change files.
-ghost use Rattle.std.specs.Prelude.{◌≡◌, ℕ, List, [], OnOk};
+ghost use Rattle.std.specs.Prelude.{◌≡◌, [], IfErr, IfOk, OnOk};
+ghost use Rattle.calls.specs.Calls.{image_on};
+ghost use Rattle.mounting.specs.Tells.{TellsEntry};
+ghost use Rattle.model.specs.Files.{files_of};
+ghost use Rattle.names.specs.Making.{MakesDirectoryIn, MakesIn};
+ghost use Rattle.names.specs.Numbered.{LooksIn};
+ghost use Rattle.mounting.specs.Causes.{
+  AddsFile,
+  ChangesFile,
+  Hinders,
+  IsDirectoryKept,
+  IsHindered,
+  IsNameKept,
+  IsNotLinked,
+  IsNotOver,
+  IsNotRenamed,
+  IsNotUnlinked,
+  IsUnmade,
+  IsUnmadeDirectory,
+  IsUnresized,
+  IsUnwritten,
+  LeadsTo,
+  TakesName,
+};
+ghost use Rattle.mounting.specs.Asides.{aside_of};
 ghost use Rattle.mounting.specs.Changes.{
-  aside_of,
   Did,
   EndsAt,
-  Does,
+  DidAsked,
   Links,
   Makes,
   MakesDirectory,
@@ -19,6 +42,7 @@ ghost use Rattle.mounting.specs.Changes.{
   ResizesAs,
   SetsSize,
   StaySame,
+  TellsMade,
   Unlinks,
   WritesIn,
 };
@@ -31,14 +55,14 @@ use crate::calling::{
     link_in, look_at, look_in, make_directory_in, make_in, remove_directory_in, remove_in,
     rename_in, replace_in,
 };
-use crate::errno::Errno;
+use crate::errno::{Errno, link_errno};
 use crate::files::{resize, write};
-use crate::listings::{ROOT, aside, new_name};
+use crate::listings::{ROOT, aside, has_aside, new_name, old_name};
 use crate::looks::tell_opened;
 use crate::serving::Server;
 use crate::terms::Moment;
 use blocks::Disk;
-use directories::{Name, Refusal};
+use directories::Name;
 use fuse::{Request, wrote_answer};
 use names::{Found, Tree, TreeFault};
 use std::alloc::Global;
@@ -69,11 +93,14 @@ impl Server {
         out: &mut Vec<u8>,
     ) -> Result<(), Errno>
         requires ready { MayGoOn D.Disk tree.old.kernel tree.old.calls_left }
+        requires change { ChangesFile (asked request.now) }
         ensures ready { MayGoOn D.Disk tree.new.kernel tree.new.calls_left }
         ensures makes { Makes D.Disk (λ form. MayMake form node (asked request.now))
             tree.old.kernel tree.new.kernel tree.old.calls_left tree.new.calls_left }
-        ensures does { OnOk result (out.old.items ≡ [] → Did D.Disk (λ form.
-            Does form node (asked request.now) out.new.items) tree.old.kernel tree.new.kernel) }
+        ensures does { OnOk result (out.old.items ≡ [] → DidAsked D.Disk node
+            (asked request.now) out.new.items tree.old.kernel tree.new.kernel) }
+        ensures hindered { IfErr result (IsHindered D.Disk (Hinders node (asked request.now))
+            tree.new.kernel tree.new.calls_left) }
     {
         match request {
             Request::SetAttributes {
@@ -115,6 +142,9 @@ impl Server {
         ensures same { OnOk result ((SetsSize valid → ⊥) → StaySame D.Disk tree.old.kernel
             tree.new.kernel) }
         ensures end { OnOk result (SetsSize valid → EndsAt D.Disk node tree.new.kernel size) }
+        ensures hindered { IfErr result (IsHindered D.Disk
+            (λ form x e. SetsSize valid × IsUnresized node size form x e)
+            tree.new.kernel tree.new.calls_left) }
     {
         if valid & SETS_SIZE == 0 {
             return Ok(());
@@ -139,9 +169,10 @@ impl Server {
         ensures ready { MayGoOn D.Disk tree.new.kernel tree.new.calls_left }
         ensures makes { Makes D.Disk (WritesIn node offset bytes.now)
             tree.old.kernel tree.new.kernel tree.old.calls_left tree.new.calls_left }
-        ensures does { OnOk result (out.old.items ≡ [] → Did D.Disk (λ form.
-            Does form node (Write offset bytes.now) out.new.items)
-            tree.old.kernel tree.new.kernel) }
+        ensures does { OnOk result (out.old.items ≡ [] → DidAsked D.Disk node
+            (Write offset bytes.now) out.new.items tree.old.kernel tree.new.kernel) }
+        ensures hindered { IfErr result (IsHindered D.Disk (IsUnwritten node offset bytes.now)
+            tree.new.kernel tree.new.calls_left) }
     {
         self.moved = self.moved.saturating_add(bytes.len() as u64);
         let count = write(alloc, tree, node, offset, bytes)?;
@@ -161,11 +192,14 @@ impl Server {
         out: &mut Vec<u8>,
     ) -> Result<(), Errno>
         requires ready { MayGoOn D.Disk tree.old.kernel tree.old.calls_left }
+        requires adds { AddsFile (asked request.now) }
         ensures ready { MayGoOn D.Disk tree.new.kernel tree.new.calls_left }
         ensures makes { Makes D.Disk (λ form. MayMake form node (asked request.now))
             tree.old.kernel tree.new.kernel tree.old.calls_left tree.new.calls_left }
-        ensures does { OnOk result (out.old.items ≡ [] → Did D.Disk (λ form.
-            Does form node (asked request.now) out.new.items) tree.old.kernel tree.new.kernel) }
+        ensures does { OnOk result (out.old.items ≡ [] → DidAsked D.Disk node
+            (asked request.now) out.new.items tree.old.kernel tree.new.kernel) }
+        ensures hindered { IfErr result (IsHindered D.Disk (Hinders node (asked request.now))
+            tree.new.kernel tree.new.calls_left) }
     {
         match request {
             Request::MakeNode { mode, name } => {
@@ -194,8 +228,8 @@ impl Server {
         }
     }
 
-    // Gives the file of a number another name in a directory. One that has only a name aside gets none:
-    // no program sees that it is there.
+    // Gives the file of a number another name in a directory. One that has only a name aside gets
+    // none: no program sees that it is there.
     fn link<D: Disk>(
         &mut self,
         alloc: Global,
@@ -212,15 +246,18 @@ impl Server {
             tree.old.kernel tree.new.kernel tree.old.calls_left tree.new.calls_left }
         ensures does { OnOk result (Did D.Disk (Links file to (padded name.now)) tree.old.kernel
             tree.new.kernel) }
+        ensures tells { OnOk result (TellsEntry (files_of (image_on D.image tree.new.kernel))
+            file out.old.items out.new.items) }
+        ensures hindered { IfErr result (IsHindered D.Disk (IsNotLinked file to name.now)
+            tree.new.kernel tree.new.calls_left) }
     {
         let name = new_name(to, name)?;
-        if self.nodes.is_unlinked(file) {
+        if has_aside(alloc, tree, file)? {
             return Err(Errno::NoEntry);
         }
         match link_in(alloc, tree, file, to, &name) {
             Ok(()) => {}
-            Err(TreeFault::Refused(Refusal::IsADirectory)) => return Err(Errno::NotPermitted),
-            Err(fault) => return Err(fault.into()),
+            Err(fault) => return Err(link_errno(fault)),
         }
         self.nodes.touched(to, now);
         let found = look_at(alloc, tree, file)?;
@@ -242,8 +279,13 @@ impl Server {
         ensures ready { MayGoOn D.Disk tree.new.kernel tree.new.calls_left }
         ensures makes { Makes D.Disk (MakesFile node (padded name.now))
             tree.old.kernel tree.new.kernel tree.old.calls_left tree.new.calls_left }
-        ensures does { OnOk result (Did D.Disk (MakesFile node (padded name.now)) tree.old.kernel
-            tree.new.kernel) }
+        ensures makes_it { IfOk result (λ number. MakesIn node (padded name.now) number
+            (files_of (image_on D.image tree.old.kernel))
+            (files_of (image_on D.image tree.new.kernel))) }
+        ensures tells { IfOk result (λ number. TellsEntry
+            (files_of (image_on D.image tree.new.kernel)) number out.old.items out.new.items) }
+        ensures hindered { IfErr result (IsHindered D.Disk (IsUnmade node name.now)
+            tree.new.kernel tree.new.calls_left) }
     {
         let name = new_name(node, name)?;
         let made = make_in(alloc, tree, node, &name)?;
@@ -274,14 +316,22 @@ impl Server {
         ensures ready { MayGoOn D.Disk tree.new.kernel tree.new.calls_left }
         ensures makes { Makes D.Disk (MakesDirectory node (padded name.now))
             tree.old.kernel tree.new.kernel tree.old.calls_left tree.new.calls_left }
-        ensures does { OnOk result (Did D.Disk (MakesDirectory node (padded name.now))
+        ensures does { OnOk result (out.old.items ≡ [] → Did D.Disk (λ form.
+            TellsMade (MakesDirectoryIn node (padded name.now)) out.new.items)
             tree.old.kernel tree.new.kernel) }
+        ensures hindered { IfErr result (IsHindered D.Disk (IsUnmadeDirectory node name.now)
+            tree.new.kernel tree.new.calls_left) }
     {
         let name = new_name(node, name)?;
         let made = make_directory_in(alloc, tree, node, &name)?;
         self.nodes.made(u32::from(made), mode, now);
         self.nodes.touched(node, now);
-        let found = look_at(alloc, tree, u32::from(made))?;
+        let found = Found {
+            number: u32::from(made),
+            kind: DIRECTORY,
+            links: 1,
+            size: 32,
+        };
         self.tell_entry(&found, out)
     }
 
@@ -295,11 +345,14 @@ impl Server {
         now: Moment,
     ) -> Result<(), Errno>
         requires ready { MayGoOn D.Disk tree.old.kernel tree.old.calls_left }
+        requires takes { TakesName (asked request.now) }
         ensures ready { MayGoOn D.Disk tree.new.kernel tree.new.calls_left }
         ensures makes { Makes D.Disk (λ form. MayMake form node (asked request.now))
             tree.old.kernel tree.new.kernel tree.old.calls_left tree.new.calls_left }
-        ensures does { OnOk result ((body : List ℕ) → Did D.Disk (λ form.
-            Does form node (asked request.now) body) tree.old.kernel tree.new.kernel) }
+        ensures does { OnOk result (DidAsked D.Disk node (asked request.now) []
+            tree.old.kernel tree.new.kernel) }
+        ensures hindered { IfErr result (IsHindered D.Disk (Hinders node (asked request.now))
+            tree.new.kernel tree.new.calls_left) }
     {
         match request {
             Request::Unlink { name } => self.unlink(alloc, tree, node, name, now),
@@ -340,8 +393,10 @@ impl Server {
             tree.old.kernel tree.new.kernel tree.old.calls_left tree.new.calls_left }
         ensures does { OnOk result (Did D.Disk (Unlinks from (padded name.now)) tree.old.kernel
             tree.new.kernel) }
+        ensures hindered { IfErr result (IsHindered D.Disk (IsNotUnlinked from name.now)
+            tree.new.kernel tree.new.calls_left) }
     {
-        let name = Name::new(name)?;
+        let name = old_name(from, name)?;
         let found = look_in(alloc, tree, from, &name)?;
         if found.kind == DIRECTORY {
             return Err(Errno::IsADirectory);
@@ -360,14 +415,18 @@ impl Server {
         found: &Found,
     ) -> Result<(), Errno>
         requires ready { MayGoOn D.Disk tree.old.kernel tree.old.calls_left }
+        requires leads { LeadsTo (files_of (image_on D.image tree.old.kernel)) from name.now
+            found.now.number }
         ensures ready { MayGoOn D.Disk tree.new.kernel tree.new.calls_left }
         ensures makes { Makes D.Disk (Unlinks from name.now) tree.old.kernel tree.new.kernel
             tree.old.calls_left tree.new.calls_left }
         ensures does { OnOk result (Did D.Disk (Unlinks from name.now) tree.old.kernel
             tree.new.kernel) }
+        ensures hindered { IfErr result (IsHindered D.Disk (IsNameKept from name.now)
+            tree.new.kernel tree.new.calls_left) }
     {
         if self.needs_aside(found) {
-            let aside = aside(found.number)?;
+            let aside = aside(found.number);
             rename_in(alloc, tree, from, name, ROOT, &aside)?;
             self.nodes.unlinked(found.number);
             return Ok(());
@@ -397,8 +456,10 @@ impl Server {
             tree.old.kernel tree.new.kernel tree.old.calls_left tree.new.calls_left }
         ensures does { OnOk result (Did D.Disk (RemovesEmpty from (padded name.now)) tree.old.kernel
             tree.new.kernel) }
+        ensures hindered { IfErr result (IsHindered D.Disk (IsDirectoryKept from name.now)
+            tree.new.kernel tree.new.calls_left) }
     {
-        let name = Name::new(name)?;
+        let name = old_name(from, name)?;
         let found = look_in(alloc, tree, from, &name)?;
         remove_directory_in(alloc, tree, from, &name)?;
         self.nodes.gone(found.number);
@@ -424,11 +485,14 @@ impl Server {
         ensures does { OnOk result (Did D.Disk
             (RenamedAs flags from (padded old.now) to (padded name.now))
             tree.old.kernel tree.new.kernel) }
+        ensures hindered { IfErr result (IsHindered D.Disk
+            (IsNotRenamed flags from old.now to name.now)
+            tree.new.kernel tree.new.calls_left) }
     {
         if flags > NEW_ALONE {
             return Err(Errno::Invalid);
         }
-        let old = Name::new(old)?;
+        let old = old_name(from, old)?;
         let name = new_name(to, name)?;
         let source = look_in(alloc, tree, from, &old)?;
         match look_in(alloc, tree, to, &name) {
@@ -444,7 +508,7 @@ impl Server {
                 if source.number == found.number {
                     return Ok(());
                 }
-                self.rename_over(alloc, tree, from, &old, source.kind, to, &name, found)
+                self.rename_over(alloc, tree, from, &old, source, to, &name, found)
             }
         }
     }
@@ -456,20 +520,26 @@ impl Server {
         tree: &mut Tree<D>,
         from: u32,
         old: &Name,
-        kind: u16,
+        source: Found,
         to: u32,
         name: &Name,
         found: Found,
     ) -> Result<(), Errno>
         requires ready { MayGoOn D.Disk tree.old.kernel tree.old.calls_left }
+        requires looks { LooksIn from old.now source (files_of (image_on D.image tree.old.kernel))
+            (files_of (image_on D.image tree.old.kernel)) }
+        requires there { LooksIn to name.now found (files_of (image_on D.image tree.old.kernel))
+            (files_of (image_on D.image tree.old.kernel)) }
         ensures ready { MayGoOn D.Disk tree.new.kernel tree.new.calls_left }
         ensures makes { Makes D.Disk (RenamesFile from old.now to name.now)
             tree.old.kernel tree.new.kernel tree.old.calls_left tree.new.calls_left }
         ensures does { OnOk result (Did D.Disk (RenamedFile from old.now to name.now)
             tree.old.kernel tree.new.kernel) }
+        ensures hindered { IfErr result (IsHindered D.Disk (IsNotOver from old.now to name.now)
+            tree.new.kernel tree.new.calls_left) }
     {
         if found.kind == DIRECTORY {
-            if kind != DIRECTORY {
+            if source.kind != DIRECTORY {
                 return Err(Errno::IsADirectory);
             }
             // Two transactions.
@@ -478,11 +548,11 @@ impl Server {
             rename_in(alloc, tree, from, old, to, name)?;
             return Ok(());
         }
-        if kind == DIRECTORY {
+        if source.kind == DIRECTORY {
             return Err(Errno::NotADirectory);
         }
         let keeps = self.needs_aside(&found);
-        let aside = aside(found.number)?;
+        let aside = aside(found.number);
         replace_in(alloc, tree, from, old, to, name, &aside, keeps)?;
         if keeps {
             self.nodes.unlinked(found.number);
@@ -503,11 +573,13 @@ impl Server {
         ensures ready { MayGoOn D.Disk tree.new.kernel tree.new.calls_left }
         ensures makes { Makes D.Disk (RemovesName root (aside_of node))
             tree.old.kernel tree.new.kernel tree.old.calls_left tree.new.calls_left }
-        ensures does { OnOk result (Did D.Disk (λ form. Does form node Release []) tree.old.kernel
-            tree.new.kernel) }
+        ensures does { OnOk result (DidAsked D.Disk node Release []
+            tree.old.kernel tree.new.kernel) }
+        ensures hindered { IfErr result (IsHindered D.Disk (Hinders node Release)
+            tree.new.kernel tree.new.calls_left) }
     {
         if self.nodes.closed(node) {
-            let aside = aside(node)?;
+            let aside = aside(node);
             remove_in(alloc, tree, ROOT, &aside)?;
             self.nodes.gone(node);
         }

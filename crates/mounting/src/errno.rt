@@ -1,5 +1,6 @@
 // Why a request isn't done.
-ghost use Rattle.std.specs.Prelude.{◌<◌, ◌≤◌};
+ghost use Rattle.std.specs.Prelude.{◌≡◌};
+ghost use Rattle.mounting.specs.Causes.{errno_of, fault_errno_by, link_errno, number_of};
 
 use blocks::NoMemory;
 use calls::transactions::TransactionFault;
@@ -16,7 +17,7 @@ pub enum Errno {
     NoEntry,
     /// A call of the disk failed, or one before.
     InputOutput,
-    /// Memory is refused.
+    /// Memory is refused, or an answer would have more than 4 MiB.
     NoMemory,
     /// The root is neither removed nor renamed.
     Busy,
@@ -45,8 +46,7 @@ pub enum Errno {
 impl Errno {
     /// The system's number, from 1 to 39.
     pub fn number(self) -> u32
-        ensures some { 0 < result }
-        ensures few { result ≤ 39 }
+        ensures { result ≡ number_of self }
     {
         match self {
             Errno::NotPermitted => 1,
@@ -69,18 +69,33 @@ impl Errno {
 }
 
 impl From<AllocError> for Errno {
+    ghost use Rattle.std.specs.Prelude.{◌≡◌};
+    ghost use Rattle.mounting.specs.declared.errno.Errno.TheVariants as errno;
+
+    ghost from_gives = { λ _ e. e ≡ errno.NoMemory };
+
     fn from(_refused: AllocError) -> Errno {
         Errno::NoMemory
     }
 }
 
 impl From<NoMemory> for Errno {
+    ghost use Rattle.std.specs.Prelude.{◌≡◌};
+    ghost use Rattle.mounting.specs.declared.errno.Errno.TheVariants as errno;
+
+    ghost from_gives = { λ _ e. e ≡ errno.NoMemory };
+
     fn from(_refused: NoMemory) -> Errno {
         Errno::NoMemory
     }
 }
 
 impl From<NameFault> for Errno {
+    ghost use Rattle.std.specs.Prelude.{◌≡◌};
+    ghost use Rattle.mounting.specs.Causes.{name_errno};
+
+    ghost from_gives = { λ fault e. e ≡ name_errno fault };
+
     fn from(fault: NameFault) -> Errno {
         match fault {
             NameFault::TooLong => Errno::NameTooLong,
@@ -91,6 +106,11 @@ impl From<NameFault> for Errno {
 }
 
 impl From<Unwritten> for Errno {
+    ghost use Rattle.std.specs.Prelude.{◌≡◌};
+    ghost use Rattle.mounting.specs.Causes.{unwritten_errno};
+
+    ghost from_gives = { λ cause e. e ≡ unwritten_errno cause };
+
     fn from(cause: Unwritten) -> Errno {
         match cause {
             Unwritten::TooBig => Errno::TooBig,
@@ -100,6 +120,11 @@ impl From<Unwritten> for Errno {
 }
 
 impl From<TreeFault> for Errno {
+    ghost use Rattle.std.specs.Prelude.{◌≡◌};
+    ghost use Rattle.mounting.specs.Causes.{fault_errno};
+
+    ghost from_gives = { λ fault e. e ≡ fault_errno fault };
+
     fn from(fault: TreeFault) -> Errno {
         match fault {
             TreeFault::Path(PathFault::NameTooLong) => Errno::NameTooLong,
@@ -116,7 +141,9 @@ impl From<TreeFault> for Errno {
 }
 
 // What the files refuse.
-fn errno_of(refusal: Refusal) -> Errno {
+fn errno_of(refusal: Refusal) -> Errno
+    ensures { result ≡ errno_of refusal }
+{
     match refusal {
         Refusal::NotFound => Errno::NoEntry,
         Refusal::NotADirectory => Errno::NotADirectory,
@@ -127,5 +154,16 @@ fn errno_of(refusal: Refusal) -> Errno {
         Refusal::NotEmpty => Errno::NotEmpty,
         Refusal::IsInside | Refusal::NotDown => Errno::Invalid,
         Refusal::TooManyLinks => Errno::TooManyLinks,
+    }
+}
+
+/// The same of a file that gets another name. Of a directory Linux has a number of its own for
+/// that.
+pub(crate) fn link_errno(fault: TreeFault) -> Errno
+    ensures { result ≡ fault_errno_by link_errno fault }
+{
+    match fault {
+        TreeFault::Refused(Refusal::IsADirectory) => Errno::NotPermitted,
+        fault => fault.into(),
     }
 }

@@ -1,5 +1,18 @@
 // The bytes of files.
-ghost use Rattle.std.specs.Prelude.{◌≡◌, ◌+◌, ◌-◌, ◌^◌, ◌<◌, ◌≤◌, ◌==◌, ◌++◌, length, IfOk, OnOk};
+ghost use Rattle.std.specs.Prelude.{◌≡◌, ◌+◌, ◌-◌, ◌^◌, ◌<◌, ◌≤◌, ◌==◌, ◌++◌, length};
+ghost use Rattle.std.specs.Prelude.{IfErr, IfOk, OnOk};
+ghost use Rattle.mounting.specs.Causes.{
+  AreUnwritten,
+  IsHindered,
+  IsNotDone,
+  IsUnfilled,
+  IsUnread,
+  IsUnresized,
+  IsUnwritten,
+  LeavesBytes,
+  WroteBehind,
+  WroteFewer,
+};
 ghost use Rattle.mounting.specs.Changes.{
   bytes_on,
   wrote_count,
@@ -14,6 +27,7 @@ ghost use Rattle.mounting.specs.Changes.{
   WritesPart,
 };
 ghost use Rattle.model.specs.Operations.{part_of, transfer_limit};
+ghost use Rattle.names.specs.Numbered.{IsNoFileOrDirectory};
 ghost use Rattle.names.specs.Ready.{MayGoOn};
 
 use crate::calling::{cut_at, look_at, read_at, write_at};
@@ -41,6 +55,8 @@ pub(crate) fn read<D: Disk>(
     ensures same { OnOk result (StaySame D.Disk tree.old.kernel tree.new.kernel) }
     ensures reads { OnOk result (offset < 2 ^ 32 → out.new.items ≡ out.old.items
         ++ part_of (bytes_on D.Disk number tree.old.kernel) offset size) }
+    ensures hindered { IfErr result (IsHindered D.Disk (IsUnread number offset size)
+        tree.new.kernel tree.new.calls_left) }
 {
     let Ok(offset) = u32::try_from(offset) else {
         return Ok(());
@@ -56,7 +72,8 @@ pub(crate) fn read<D: Disk>(
     Ok(())
 }
 
-// The bytes of a file that stand so far behind an offset, no more than one call reads, added to these.
+// The bytes of a file that stand so far behind an offset, no more than one call reads, added to
+// these.
 // Whether there are as many.
 fn read_piece<D: Disk>(
     alloc: Global,
@@ -77,6 +94,8 @@ fn read_piece<D: Disk>(
         ++ part_of (bytes_on D.Disk number tree.old.kernel) (offset + done) most) }
     ensures whole { IfOk result (λ whole. whole ≡
         (length (part_of (bytes_on D.Disk number tree.old.kernel) (offset + done) most) == most)) }
+    ensures hindered { IfErr result (IsHindered D.Disk (IsUnread number offset (done + most))
+        tree.new.kernel tree.new.calls_left) }
 {
     let Some(at) = offset.checked_add(done) else {
         return Err(Errno::InputOutput);
@@ -101,6 +120,9 @@ pub(crate) fn write<D: Disk>(
         tree.old.calls_left tree.new.calls_left }
     ensures stands { IfOk result (StandsAt (bytes_on D.Disk number tree.new.kernel) offset
         bytes.now) }
+    ensures short { IfOk result (WroteFewer D.Disk number offset bytes.now tree.new.kernel) }
+    ensures hindered { IfErr result (IsHindered D.Disk (IsUnwritten number offset bytes.now)
+        tree.new.kernel tree.new.calls_left) }
 {
     let Ok(offset) = u32::try_from(offset) else {
         return Err(Errno::TooBig);
@@ -128,6 +150,8 @@ fn fill_up<D: Disk>(
     ensures makes { Makes D.Disk (Lengthens number offset) tree.old.kernel tree.new.kernel
         tree.old.calls_left tree.new.calls_left }
     ensures far { OnOk result (offset ≤ length (bytes_on D.Disk number tree.new.kernel)) }
+    ensures hindered { IfErr result (IsHindered D.Disk (IsUnfilled number offset)
+        tree.new.kernel tree.new.calls_left) }
 {
     let found = look_at(alloc, tree, number)?;
     if found.size < offset {
@@ -151,6 +175,9 @@ fn write_pieces<D: Disk>(
         tree.new.kernel tree.old.calls_left tree.new.calls_left }
     ensures stands { IfOk result (λ left. (left ≤ length bytes.now) × StandsAt
         (bytes_on D.Disk number tree.new.kernel) offset bytes.now (length bytes.now - left)) }
+    ensures short { IfOk result (LeavesBytes D.Disk number offset bytes.now tree.new.kernel) }
+    ensures hindered { IfErr result (IsHindered D.Disk (AreUnwritten number offset bytes.now)
+        tree.new.kernel tree.new.calls_left) }
 {
     let mut left = bytes.len();
     for _piece in 0..bytes.len() {
@@ -187,6 +214,9 @@ fn write_piece<D: Disk>(
         tree.new.kernel tree.old.calls_left tree.new.calls_left }
     ensures stands { IfOk result (λ wrote. StandsAt (bytes_on D.Disk number tree.new.kernel)
         offset bytes.now (done + wrote_count wrote)) }
+    ensures part { IfOk result (WroteBehind D.Disk number offset bytes.now done tree.new.kernel) }
+    ensures hindered { IfErr result (IsNotDone D.Disk (IsNoFileOrDirectory number)
+        tree.new.kernel tree.new.calls_left) }
 {
     let Ok(at) = u32::try_from(offset as usize + done) else {
         return Ok(Err(Unwritten::TooBig));
@@ -211,6 +241,8 @@ fn fill<D: Disk>(
     ensures makes { Makes D.Disk (Lengthens number to) tree.old.kernel tree.new.kernel
         tree.old.calls_left tree.new.calls_left }
     ensures end { OnOk result (EndsAt D.Disk number tree.new.kernel to) }
+    ensures hindered { IfErr result (IsHindered D.Disk (IsUnfilled number to)
+        tree.new.kernel tree.new.calls_left) }
 {
     let mut at = from;
     for _piece in 0..to {
@@ -238,6 +270,8 @@ fn fill_piece<D: Disk>(
         tree.old.calls_left tree.new.calls_left }
     ensures end { IfOk result (EndsAt D.Disk number tree.new.kernel) }
     ensures more { IfOk result (λ next. (at < next) × (next ≤ to)) }
+    ensures hindered { IfErr result (IsHindered D.Disk (IsUnfilled number to)
+        tree.new.kernel tree.new.calls_left) }
 {
     let zeroes = [0u8; PIECE as usize];
     let count = (PIECE - at % 1024).min(to - at);
@@ -261,6 +295,8 @@ pub(crate) fn resize<D: Disk>(
     ensures makes { Makes D.Disk (Resizes number size) tree.old.kernel tree.new.kernel
         tree.old.calls_left tree.new.calls_left }
     ensures end { OnOk result (EndsAt D.Disk number tree.new.kernel size) }
+    ensures hindered { IfErr result (IsHindered D.Disk (IsUnresized number size)
+        tree.new.kernel tree.new.calls_left) }
 {
     let Ok(size) = u32::try_from(size) else {
         return Err(Errno::TooBig);

@@ -1,24 +1,41 @@
 // The entries of directories.
-ghost use Rattle.std.specs.Prelude.{OnOk, ◌≡◌, ◌≤◌, length, IfOk, IsTrue};
-ghost use Rattle.directories.specs.Entries.{padded};
-ghost use Rattle.mounting.specs.Changes.{
-  aside_of,
-  digit,
-  IsAside,
-  Makes,
-  OnlyLooks,
-  RemovesAside,
-  StaySame,
+ghost use Rattle.std.specs.Prelude.{OnOk, ◌≡◌, ◌+◌, ◌^◌, ◌<◌, ◌++◌, replicate, IfErr, IfOk, IsTrue};
+ghost use Rattle.std.specs.List.{list_all};
+ghost use Rattle.calls.specs.Calls.{image_on};
+ghost use Rattle.directories.specs.Entries.{entries_of, padded};
+ghost use Rattle.directories.specs.Trees.{directory_in, root};
+ghost use Rattle.model.specs.Files.{files_of};
+ghost use Rattle.mounting.specs.Causes.{
+  IsHindered,
+  IsNoMemory,
+  IsNoNewName,
+  IsNoOldName,
+  IsRefused,
+  LeadsTo,
+  NoCause,
 };
+ghost use Rattle.mounting.specs.Asides.{aside_of, digit, is_aside, is_digit};
+ghost use Rattle.mounting.specs.Changes.{Makes, OnlyLooks, RemovesAside, StaySame};
+ghost use Rattle.mounting.specs.Listings.{
+  is_hidden,
+  told_size,
+  Lists,
+  ListsOn,
+  TellsFile,
+  TellsFound,
+  TellsName,
+  TellsOf,
+};
+ghost use Rattle.names.specs.Numbered.{IsNoDirectory};
 ghost use Rattle.names.specs.Ready.{MayGoOn};
 
-use crate::calling::{list_at, look_at, remove_in};
+use crate::calling::{list_at, look_at, look_in, remove_in};
 use crate::errno::Errno;
 use crate::nodes::Nodes;
 use blocks::Disk;
 use directories::{ENTRY_SIZE, NAME_SIZE, Name, entries_in, leads_down, number_in, text_in};
 use fuse::{add_entry, directory_entry, padding_of};
-use names::{Tree, TreeFault};
+use names::{Found, Tree, TreeFault};
 use std::alloc::Global;
 
 /// The number of the root.
@@ -39,8 +56,8 @@ fn digit(number: u32) -> u8
 
 /// The name that the file of a number has aside in the root, when its last one was removed while it
 /// was open.
-pub(crate) fn aside(number: u32) -> Result<Name, Errno>
-    ensures { IfOk result (λ name. name ≡ aside_of number) }
+pub(crate) fn aside(number: u32) -> Name
+    ensures { result ≡ aside_of number }
 {
     let bytes = [
         46,
@@ -58,18 +75,48 @@ pub(crate) fn aside(number: u32) -> Result<Name, Errno>
         digit(number / 10),
         digit(number),
     ];
-    Ok(Name::new(&bytes)?)
+    match Name::new(&bytes) {
+        Ok(name) => name,
+        // It has 14 bytes, none of which is a zero or a slash.
+        Err(_) => unreachable!(),
+    }
+}
+
+/// Whether the file of a number has its name aside.
+pub(crate) fn has_aside<D: Disk>(
+    alloc: Global,
+    tree: &mut Tree<D>,
+    file: u32,
+) -> Result<bool, Errno>
+    requires ready { MayGoOn D.Disk tree.old.kernel tree.old.calls_left }
+    ensures ready { MayGoOn D.Disk tree.new.kernel tree.new.calls_left }
+    ensures looks { OnlyLooks D.Disk tree.old.kernel tree.new.kernel
+        tree.old.calls_left tree.new.calls_left }
+    ensures same { OnOk result (StaySame D.Disk tree.old.kernel tree.new.kernel) }
+    ensures told { IfOk result (λ told. IsTrue told →
+        LeadsTo (files_of (image_on D.image tree.new.kernel)) root (aside_of file) file) }
+    ensures hindered { IfErr result (IsHindered D.Disk NoCause
+        tree.new.kernel tree.new.calls_left) }
+{
+    match look_in(alloc, tree, ROOT, &aside(file)) {
+        Ok(found) => Ok(found.number == file),
+        Err(TreeFault::Refused(_)) => Ok(false),
+        Err(fault) => Err(fault.into()),
+    }
 }
 
 /// Whether that name is one aside.
 pub(crate) fn is_aside(name: &[u8]) -> bool
-    ensures { IsTrue result → IsAside name.now }
+    ensures { result ≡ is_aside name.now }
 {
-    name.len() == NAME_SIZE
-        && name.starts_with(ASIDE)
-        && name[ASIDE_SIZE..]
-            .iter()
-            .all(|byte| *byte >= 48 && *byte <= 57)
+    name.len() == NAME_SIZE && name.starts_with(ASIDE) && are_digits(&name[ASIDE_SIZE..])
+}
+
+// Whether each of these bytes is a digit.
+fn are_digits(bytes: &[u8]) -> bool
+    ensures { result ≡ list_all is_digit bytes.now }
+{
+    bytes.iter().all(|byte| *byte >= 48 && *byte <= 57)
 }
 
 /// The name of these bytes, for a file that gets it in the directory of a number.
@@ -78,10 +125,26 @@ pub(crate) fn is_aside(name: &[u8]) -> bool
 ///
 /// `NotPermitted` for a name aside in the root, and those of a name.
 pub(crate) fn new_name(node: u32, name: &[u8]) -> Result<Name, Errno>
-    ensures { IfOk result (λ made. made ≡ padded name.now) }
+    ensures is { IfOk result (λ made. made ≡ padded name.now) }
+    ensures hindered { IfErr result (IsNoNewName node name.now) }
 {
     if node == ROOT && is_aside(name) {
         return Err(Errno::NotPermitted);
+    }
+    Ok(Name::new(name)?)
+}
+
+/// The name of these bytes, of a file in the directory of a number.
+///
+/// # Errors
+///
+/// `NoEntry` for a name aside in the root, and those of a name.
+pub(crate) fn old_name(node: u32, name: &[u8]) -> Result<Name, Errno>
+    ensures is { IfOk result (λ is. is ≡ padded name.now) }
+    ensures hindered { IfErr result (IsNoOldName node name.now) }
+{
+    if node == ROOT && is_aside(name) {
+        return Err(Errno::NoEntry);
     }
     Ok(Name::new(name)?)
 }
@@ -114,29 +177,71 @@ pub(crate) fn list<D: Disk>(
     ensures looks { OnlyLooks D.Disk tree.old.kernel tree.new.kernel
         tree.old.calls_left tree.new.calls_left }
     ensures same { OnOk result (StaySame D.Disk tree.old.kernel tree.new.kernel) }
+    ensures lists { OnOk result (Lists (files_of (image_on D.image tree.old.kernel)) number
+        part.offset part.size part.plus 0
+        (entries_of (directory_in (files_of (image_on D.image tree.old.kernel)) number))
+        out.old.items out.new.items) }
+    ensures hindered { IfErr result (IsHindered D.Disk (IsRefused (IsNoDirectory number))
+        tree.new.kernel tree.new.calls_left) }
 {
     let bytes = list_at(alloc, tree, number)?;
     let mut place = 0u64;
     for entry in entries_in(bytes.as_slice()) {
-        place = place.saturating_add(1);
-        if place <= part.offset || is_hidden(number, entry) {
-            continue;
+        if !list_entry(alloc, tree, nodes, number, entry, place, part, out)? {
+            return Ok(());
         }
-        if out.len().saturating_add(whole_size(entry, part.plus)) > part.size {
-            break;
-        }
-        add(alloc, tree, nodes, entry, place, part, out)?;
+        place += 1;
     }
     Ok(())
 }
 
+// Adds what is told of an entry at a place, unless it is hidden or stands before the part that is
+// asked for. Whether there was room.
+fn list_entry<D: Disk>(
+    alloc: Global,
+    tree: &mut Tree<D>,
+    nodes: &Nodes,
+    number: u32,
+    entry: &[u8; ENTRY_SIZE],
+    place: u64,
+    part: Part,
+    out: &mut Vec<u8>,
+) -> Result<bool, Errno>
+    requires ready { MayGoOn D.Disk tree.old.kernel tree.old.calls_left }
+    requires low { place + 1 < 2 ^ 64 }
+    ensures ready { MayGoOn D.Disk tree.new.kernel tree.new.calls_left }
+    ensures looks { OnlyLooks D.Disk tree.old.kernel tree.new.kernel
+        tree.old.calls_left tree.new.calls_left }
+    ensures same { OnOk result (StaySame D.Disk tree.old.kernel tree.new.kernel) }
+    ensures lists { IfOk result (ListsOn (files_of (image_on D.image tree.new.kernel)) number
+        part.offset part.size part.plus place entry.now out.old.items out.new.items) }
+    ensures hindered { IfErr result (IsHindered D.Disk NoCause
+        tree.new.kernel tree.new.calls_left) }
+{
+    if place < part.offset {
+        return Ok(true);
+    }
+    if is_hidden(number, entry) {
+        return Ok(true);
+    }
+    if out.len().saturating_add(whole_size(entry, part.plus)) > part.size {
+        return Ok(false);
+    }
+    add(alloc, tree, nodes, entry, place + 1, part, out)?;
+    Ok(true)
+}
+
 // Whether an entry is free, or one of the names aside, which are in the root.
-fn is_hidden(number: u32, entry: &[u8; ENTRY_SIZE]) -> bool {
+fn is_hidden(number: u32, entry: &[u8; ENTRY_SIZE]) -> bool
+    ensures { result ≡ is_hidden number entry.now }
+{
     number_in(entry) == 0 || (number == ROOT && is_aside(text_in(entry)))
 }
 
 // How many bytes an entry takes.
-fn whole_size(entry: &[u8; ENTRY_SIZE], plus: bool) -> usize {
+fn whole_size(entry: &[u8; ENTRY_SIZE], plus: bool) -> usize
+    ensures { result ≡ told_size plus entry.now }
+{
     let size = text_in(entry).len();
     let more = if plus { 152 } else { 24 };
     size.saturating_add(padding_of(size)).saturating_add(more)
@@ -156,34 +261,53 @@ fn add_told<D: Disk>(
     ensures looks { OnlyLooks D.Disk tree.old.kernel tree.new.kernel
         tree.old.calls_left tree.new.calls_left }
     ensures same { OnOk result (StaySame D.Disk tree.old.kernel tree.new.kernel) }
+    ensures tells { IfOk result (λ kind. TellsFile (files_of (image_on D.image tree.new.kernel))
+        entry.now part.plus kind out.old.items out.new.items) }
+    ensures hindered { IfErr result (IsHindered D.Disk NoCause
+        tree.new.kernel tree.new.calls_left) }
 {
     if !part.plus {
         return Ok(0);
     }
     if !leads_down(entry) {
-        out.extend_from_slice(&[0u8; 128])?;
-        return Ok(4);
+        return add_nothing(out);
     }
     let file = u32::from(number_in(entry));
-    let found = look_at(alloc, tree, file)?;
-    let attributes = nodes.attributes(&found)?;
-    add_entry(out, &attributes, nodes.generation(file), part.valid)?;
+    match look_at(alloc, tree, file) {
+        Ok(found) => add_found(nodes, &found, part, out),
+        Err(TreeFault::Refused(_)) => add_nothing(out),
+        Err(fault) => Err(fault.into()),
+    }
+}
+
+// Adds what is told of a file that was found. Its type.
+fn add_found(nodes: &Nodes, found: &Found, part: Part, out: &mut Vec<u8>) -> Result<u32, Errno>
+    ensures tells { IfOk result (TellsFound found.now out.old.items out.new.items) }
+    ensures hindered { IfErr result (IsNoMemory) }
+{
+    let attributes = nodes.attributes(found);
+    add_entry(out, &attributes, nodes.generation(found.number), part.valid)?;
     Ok(attributes.mode / 4096)
 }
 
+// Adds zeroes, by which nothing is told of a file.
+fn add_nothing(out: &mut Vec<u8>) -> Result<u32, Errno>
+    ensures tells { IfOk result (λ kind. (kind ≡ 4)
+        × (out.new.items ≡ out.old.items ++ replicate 128 0)) }
+    ensures hindered { IfErr result (IsNoMemory) }
+{
+    out.extend_from_slice(&[0u8; 128])?;
+    Ok(4)
+}
+
 // Adds the name of an entry, and what stands before it.
-fn add_name(
-    entry: &[u8; ENTRY_SIZE],
-    next: u64,
-    kind: u32,
-    out: &mut Vec<u8>,
-) -> Result<(), Errno> {
+fn add_name(entry: &[u8; ENTRY_SIZE], next: u64, kind: u32, out: &mut Vec<u8>) -> Result<(), Errno>
+    ensures tells { OnOk result (TellsName entry.now next kind out.old.items out.new.items) }
+    ensures hindered { IfErr result (IsNoMemory) }
+{
     let name = text_in(entry);
-    let Ok(size) = u32::try_from(name.len()) else {
-        return Err(Errno::InputOutput);
-    };
     let file = u64::from(number_in(entry));
-    out.extend_from_slice(&directory_entry(file, next, size, kind))?;
+    out.extend_from_slice(&directory_entry(file, next, name.len() as u32, kind))?;
     out.extend_from_slice(name)?;
     let zeroes = [0u8; 8];
     out.extend_from_slice(&zeroes[..padding_of(name.len())])?;
@@ -205,6 +329,10 @@ fn add<D: Disk>(
     ensures looks { OnlyLooks D.Disk tree.old.kernel tree.new.kernel
         tree.old.calls_left tree.new.calls_left }
     ensures same { OnOk result (StaySame D.Disk tree.old.kernel tree.new.kernel) }
+    ensures tells { OnOk result (TellsOf (files_of (image_on D.image tree.new.kernel)) part.plus
+        next entry.now out.old.items out.new.items) }
+    ensures hindered { IfErr result (IsHindered D.Disk NoCause
+        tree.new.kernel tree.new.calls_left) }
 {
     match add_told(alloc, tree, nodes, entry, part, out) {
         Ok(kind) => add_name(entry, next, kind, out),

@@ -1,16 +1,21 @@
 // Requests that change no file.
-ghost use Rattle.std.specs.Prelude.{◌≡◌, [], OnOk};
-ghost use Rattle.fuse.specs.Requests.{asked};
-ghost use Rattle.mounting.specs.Changes.{Did, Does, StaySame, OnlyLooks};
+ghost use Rattle.std.specs.Prelude.{◌≡◌, [], IfErr, OnOk};
+ghost use Rattle.calls.specs.Calls.{image_on};
+ghost use Rattle.fuse.specs.Requests.{asked, Lookup};
+ghost use Rattle.mounting.specs.Causes.{Hinders, IsHindered, IsNoMemory, IsRefused, Looks, NoCause};
+ghost use Rattle.mounting.specs.Changes.{DidAsked, StaySame, OnlyLooks};
+ghost use Rattle.mounting.specs.Tells.{AddsEntry, TellsAttributes, TellsNamed, TellsOpened};
+ghost use Rattle.directories.specs.Entries.{padded};
+ghost use Rattle.model.specs.Files.{files_of};
+ghost use Rattle.names.specs.Numbered.{IsNoFile};
 ghost use Rattle.names.specs.Ready.{MayGoOn};
 
 use crate::calling::{look_at, look_in};
 use crate::errno::Errno;
 use crate::files::read;
-use crate::listings::{Part, ROOT, is_aside, list};
+use crate::listings::{Part, list, old_name};
 use crate::serving::{MOST, Server};
 use blocks::Disk;
-use directories::Name;
 use fuse::{
     FileSystem, Opened, Request, add_attributes, add_entry, init_answer, opened_answer,
     statfs_answer,
@@ -42,11 +47,14 @@ impl Server {
         out: &mut Vec<u8>,
     ) -> Result<(), Errno>
         requires ready { MayGoOn D.Disk tree.old.kernel tree.old.calls_left }
+        requires looks { Looks (asked request.now) }
         ensures ready { MayGoOn D.Disk tree.new.kernel tree.new.calls_left }
         ensures looks { OnlyLooks D.Disk tree.old.kernel tree.new.kernel
             tree.old.calls_left tree.new.calls_left }
-        ensures does { OnOk result (out.old.items ≡ [] → Did D.Disk (λ form.
-            Does form node (asked request.now) out.new.items) tree.old.kernel tree.new.kernel) }
+        ensures does { OnOk result (out.old.items ≡ [] → DidAsked D.Disk node
+            (asked request.now) out.new.items tree.old.kernel tree.new.kernel) }
+        ensures hindered { IfErr result (IsHindered D.Disk (Hinders node (asked request.now))
+            tree.new.kernel tree.new.calls_left) }
     {
         match request {
             Request::Init {
@@ -90,6 +98,9 @@ impl Server {
         ensures looks { OnlyLooks D.Disk tree.old.kernel tree.new.kernel
             tree.old.calls_left tree.new.calls_left }
         ensures same { OnOk result (StaySame D.Disk tree.old.kernel tree.new.kernel) }
+        ensures tells { OnOk result (TellsOpened 2 out.old.items out.new.items) }
+        ensures hindered { IfErr result (IsHindered D.Disk (IsRefused (IsNoFile node))
+            tree.new.kernel tree.new.calls_left) }
     {
         let _found = look_at(alloc, tree, node)?;
         self.nodes.opened(node);
@@ -109,19 +120,24 @@ impl Server {
         ensures looks { OnlyLooks D.Disk tree.old.kernel tree.new.kernel
             tree.old.calls_left tree.new.calls_left }
         ensures same { OnOk result (StaySame D.Disk tree.old.kernel tree.new.kernel) }
+        ensures tells { OnOk result (TellsAttributes
+            (files_of (image_on D.image tree.new.kernel)) node out.old.items out.new.items) }
+        ensures hindered { IfErr result (IsHindered D.Disk (IsRefused (IsNoFile node))
+            tree.new.kernel tree.new.calls_left) }
     {
         let found = look_at(alloc, tree, node)?;
-        let attributes = self.nodes.attributes(&found)?;
-        add_attributes(out, &attributes, self.valid)?;
+        add_attributes(out, &self.nodes.attributes(&found), self.valid)?;
         Ok(())
     }
 
     // What is told of a file of a name.
-    pub(crate) fn tell_entry(&self, found: &Found, out: &mut Vec<u8>) -> Result<(), Errno> {
-        let attributes = self.nodes.attributes(found)?;
+    pub(crate) fn tell_entry(&self, found: &Found, out: &mut Vec<u8>) -> Result<(), Errno>
+        ensures tells { OnOk result (AddsEntry found.now out.old.items out.new.items) }
+        ensures hindered { IfErr result (IsNoMemory) }
+    {
         add_entry(
             out,
-            &attributes,
+            &self.nodes.attributes(found),
             self.nodes.generation(found.number),
             self.valid,
         )?;
@@ -142,11 +158,12 @@ impl Server {
         ensures looks { OnlyLooks D.Disk tree.old.kernel tree.new.kernel
             tree.old.calls_left tree.new.calls_left }
         ensures same { OnOk result (StaySame D.Disk tree.old.kernel tree.new.kernel) }
+        ensures tells { OnOk result (TellsNamed (files_of (image_on D.image tree.new.kernel))
+            node (padded name.now) out.old.items out.new.items) }
+        ensures hindered { IfErr result (IsHindered D.Disk (Hinders node (Lookup name.now))
+            tree.new.kernel tree.new.calls_left) }
     {
-        if node == ROOT && is_aside(name) {
-            return Err(Errno::NoEntry);
-        }
-        let name = Name::new(name)?;
+        let name = old_name(node, name)?;
         let found = look_in(alloc, tree, node, &name)?;
         self.tell_entry(&found, out)
     }
@@ -163,6 +180,8 @@ impl Server {
         ensures looks { OnlyLooks D.Disk tree.old.kernel tree.new.kernel
             tree.old.calls_left tree.new.calls_left }
         ensures same { OnOk result (StaySame D.Disk tree.old.kernel tree.new.kernel) }
+        ensures hindered { IfErr result (IsHindered D.Disk NoCause
+            tree.new.kernel tree.new.calls_left) }
     {
         let mut files = 0u32;
         let mut blocks = 0u32;
@@ -192,6 +211,8 @@ fn blocks_at<D: Disk>(alloc: Global, tree: &mut Tree<D>, number: u32) -> Result<
     ensures looks { OnlyLooks D.Disk tree.old.kernel tree.new.kernel
         tree.old.calls_left tree.new.calls_left }
     ensures same { OnOk result (StaySame D.Disk tree.old.kernel tree.new.kernel) }
+    ensures hindered { IfErr result (IsHindered D.Disk NoCause
+        tree.new.kernel tree.new.calls_left) }
 {
     match look_at(alloc, tree, number) {
         Ok(found) => Ok(Some(blocks_of(found.size))),
@@ -201,13 +222,18 @@ fn blocks_at<D: Disk>(alloc: Global, tree: &mut Tree<D>, number: u32) -> Result<
 }
 
 // Tells the version that we speak, and what we want of the system.
-fn begin(readahead: u32, flags: u32, out: &mut Vec<u8>) -> Result<(), Errno> {
+fn begin(readahead: u32, flags: u32, out: &mut Vec<u8>) -> Result<(), Errno>
+    ensures { IfErr result (IsNoMemory) }
+{
     out.extend_from_slice(&init_answer(readahead, flags & WANTED, MOST, PAGES))?;
     Ok(())
 }
 
 /// Tells how a file was opened.
-pub(crate) fn tell_opened(flags: u32, out: &mut Vec<u8>) -> Result<(), Errno> {
+pub(crate) fn tell_opened(flags: u32, out: &mut Vec<u8>) -> Result<(), Errno>
+    ensures tells { OnOk result (TellsOpened flags out.old.items out.new.items) }
+    ensures hindered { IfErr result (IsNoMemory) }
+{
     out.extend_from_slice(&opened_answer(&Opened { handle: 0, flags }))?;
     Ok(())
 }

@@ -1,5 +1,6 @@
 // What a mount keeps of files besides the tree, while it lasts: an image has no place for it.
-use crate::errno::Errno;
+ghost use Rattle.mounting.specs.Tells.{IsTold};
+
 use crate::terms::{Moment, Terms};
 use fuse::Attributes;
 use names::Found;
@@ -27,6 +28,16 @@ struct Node {
     nanoseconds: u32,
 }
 
+// What is so of a file of which nothing was heard yet.
+const UNHEARD: Node = Node {
+    opens: 0,
+    unlinked: false,
+    generation: 0,
+    mode: 0o755,
+    seconds: 0,
+    nanoseconds: 0,
+};
+
 /// What is kept of all files.
 #[derive(Drop)]
 pub(crate) struct Nodes {
@@ -43,14 +54,7 @@ impl Nodes {
     pub(crate) fn new(alloc: Global, numbers: u32, terms: Terms) -> Result<Nodes, AllocError> {
         let mut nodes = Vec::new(alloc);
         for _number in 0..numbers {
-            nodes.push(Node {
-                opens: 0,
-                unlinked: false,
-                generation: 0,
-                mode: 0o755,
-                seconds: 0,
-                nanoseconds: 0,
-            })?;
+            nodes.push(UNHEARD)?;
         }
         Ok(Nodes { nodes, terms })
     }
@@ -88,26 +92,25 @@ impl Nodes {
 
     /// What is told of a file. As its links its names are told that programs see, and of a directory
     /// that for itself, too, as Linux has it: an image counts a directory's other names.
-    ///
-    /// # Errors
-    ///
-    /// `NoEntry` where there is no such number.
-    pub(crate) fn attributes(&self, found: &Found) -> Result<Attributes, Errno> {
-        let Some(node) = self.nodes.get(found.number as usize) else {
-            return Err(Errno::NoEntry);
+    pub(crate) fn attributes(&self, found: &Found) -> Attributes
+        ensures { IsTold found.now result }
+    {
+        let node = match self.nodes.get(found.number as usize) {
+            Some(node) => *node,
+            None => UNHEARD,
         };
         let kind = match found.kind {
             1 => DIRECTORY_MODE,
             2 => FILE_MODE,
             _ => DEVICE_MODE,
         };
-        Ok(Attributes {
+        Attributes {
             number: u64::from(found.number),
             size: u64::from(found.size),
             pieces: u64::from(found.size.div_ceil(1024)) * 2,
             seconds: node.seconds,
             nanoseconds: node.nanoseconds,
-            mode: kind | (node.mode & !self.terms.mask),
+            mode: kind + (node.mode & !self.terms.mask) % 4096,
             links: match (found.kind, node.unlinked) {
                 (1, _) => u32::from(found.links).saturating_add(1),
                 (_, true) => 0,
@@ -115,7 +118,7 @@ impl Nodes {
             },
             owner: self.terms.owner,
             group: self.terms.group,
-        })
+        }
     }
 
     /// A file of that number was made, at this moment.
@@ -172,11 +175,6 @@ impl Nodes {
     /// Whether it is open.
     pub(crate) fn is_open(&self, number: u32) -> bool {
         matches!(self.nodes.get(number as usize), Some(node) if node.opens > 0)
-    }
-
-    /// Whether it has only a name aside.
-    pub(crate) fn is_unlinked(&self, number: u32) -> bool {
-        matches!(self.nodes.get(number as usize), Some(node) if node.unlinked)
     }
 
     /// Its last name was removed.

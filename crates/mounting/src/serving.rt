@@ -1,11 +1,17 @@
 // One request after the other.
-ghost use Rattle.std.specs.Prelude.{◌≡◌, [], IfOk, OnOk};
+ghost use Rattle.std.specs.Prelude.{◌≡◌, ◌≤◌, [], length, IfErr, IfOk, OnOk};
 ghost use Rattle.fuse.specs.Requests.{asked, request_in};
+ghost use Rattle.mounting.specs.Causes.{
+  Hinders,
+  HindersIf,
+  HindersServed,
+  IsHindered,
+  IsHinderedBy,
+};
 ghost use Rattle.mounting.specs.Changes.{
-  Did,
-  Does,
-  DoesIf,
-  HasServed,
+  DidAsked,
+  DidAskedIf,
+  DidServe,
   Makes,
   MayMake,
   MayMakeIf,
@@ -107,8 +113,8 @@ impl Server {
         ensures runs { HasRun D.Disk (MayServe (form_seen D.image tree.old.kernel) bytes.now)
             tree.old.kernel tree.new.kernel tree.old.calls_left tree.new.calls_left }
         ensures answered { IfOk result (HasAnswer
-            (λ body. Did D.Disk (λ form. HasServed form bytes.now body)
-            tree.old.kernel tree.new.kernel)
+            (DidServe D.Disk bytes.now tree.old.kernel tree.new.kernel)
+            (IsHinderedBy D.Disk (HindersServed bytes.now) tree.new.kernel tree.new.calls_left)
             bytes.now out.new.items) }
     {
         let Some(header) = read_header(bytes) else {
@@ -119,16 +125,14 @@ impl Server {
         }
         body.clear();
         let asked = &bytes[HEADER_SIZE..];
-        let error = self.told(alloc, tree, header.opcode, header.node, asked, now, body);
-        if error != 0 || body.len() > MOST_ANSWERED {
-            put_answer(out, error.max(1), header.unique, &[])?;
-            return Ok(Served::Answered);
+        match self.told(alloc, tree, header.opcode, header.node, asked, now, body) {
+            Ok(()) => put_answer(out, 0, header.unique, body.as_slice())?,
+            Err(errno) => put_answer(out, errno.number(), header.unique, &[])?,
         }
-        put_answer(out, 0, header.unique, body.as_slice())?;
         Ok(Served::Answered)
     }
 
-    // Does what is asked, and adds what is told of it. The system's number for why not, or 0.
+    // Does what is asked, and adds what is told of it.
     fn told<D: Disk>(
         &mut self,
         alloc: Global,
@@ -138,25 +142,28 @@ impl Server {
         asked: &[u8],
         now: Moment,
         out: &mut Vec<u8>,
-    ) -> u32
+    ) -> Result<(), Errno>
         requires ready { MayGoOn D.Disk tree.old.kernel tree.old.calls_left }
         ensures ready { MayGoOn D.Disk tree.new.kernel tree.new.calls_left }
         ensures makes { Makes D.Disk (λ form. MayMakeIf form node (request_in opcode asked.now))
             tree.old.kernel tree.new.kernel tree.old.calls_left tree.new.calls_left }
-        ensures does { out.old.items ≡ [] → result ≡ 0 → Did D.Disk (λ form.
-            DoesIf form node (request_in opcode asked.now) out.new.items)
-            tree.old.kernel tree.new.kernel }
+        ensures does { OnOk result (out.old.items ≡ [] → DidAskedIf D.Disk node
+            (request_in opcode asked.now) out.new.items tree.old.kernel tree.new.kernel) }
+        ensures hindered { IfErr result (IsHindered D.Disk
+            (HindersIf node (request_in opcode asked.now)) tree.new.kernel tree.new.calls_left) }
+        ensures few { OnOk result (length out.new.items ≤ 4194304) }
     {
         let Some(request) = read_request(opcode, asked) else {
-            return Errno::Invalid.number();
+            return Err(Errno::Invalid);
         };
         let Ok(node) = u32::try_from(node) else {
-            return Errno::NoEntry.number();
+            return Err(Errno::NoEntry);
         };
-        match self.answer(alloc, tree, node, &request, now, out) {
-            Ok(()) => 0,
-            Err(errno) => errno.number(),
+        self.answer(alloc, tree, node, &request, now, out)?;
+        if out.len() > MOST_ANSWERED {
+            return Err(Errno::NoMemory);
         }
+        Ok(())
     }
 
     // Does what is asked, and adds what is told of it.
@@ -173,21 +180,22 @@ impl Server {
         ensures ready { MayGoOn D.Disk tree.new.kernel tree.new.calls_left }
         ensures makes { Makes D.Disk (λ form. MayMake form node (asked request.now))
             tree.old.kernel tree.new.kernel tree.old.calls_left tree.new.calls_left }
-        ensures does { OnOk result (out.old.items ≡ [] → Did D.Disk (λ form.
-            Does form node (asked request.now) out.new.items) tree.old.kernel tree.new.kernel) }
+        ensures does { OnOk result (out.old.items ≡ [] → DidAsked D.Disk node
+            (asked request.now) out.new.items tree.old.kernel tree.new.kernel) }
+        ensures hindered { IfErr result (IsHindered D.Disk (Hinders node (asked request.now))
+            tree.new.kernel tree.new.calls_left) }
     {
         match request {
-            Request::SetAttributes { .. } | Request::Write { .. } => {
-                self.change_file(alloc, tree, node, request, now, out)
-            }
-            Request::MakeNode { .. }
-            | Request::Create { .. }
-            | Request::MakeDirectory { .. }
-            | Request::Link { .. } => self.add_file(alloc, tree, node, request, now, out),
-            Request::Unlink { .. }
-            | Request::RemoveDirectory { .. }
-            | Request::Rename { .. }
-            | Request::Release => self.take_name(alloc, tree, node, request, now),
+            Request::SetAttributes { .. } => self.change_file(alloc, tree, node, request, now, out),
+            Request::Write { .. } => self.change_file(alloc, tree, node, request, now, out),
+            Request::MakeNode { .. } => self.add_file(alloc, tree, node, request, now, out),
+            Request::Create { .. } => self.add_file(alloc, tree, node, request, now, out),
+            Request::MakeDirectory { .. } => self.add_file(alloc, tree, node, request, now, out),
+            Request::Link { .. } => self.add_file(alloc, tree, node, request, now, out),
+            Request::Unlink { .. } => self.take_name(alloc, tree, node, request, now),
+            Request::RemoveDirectory { .. } => self.take_name(alloc, tree, node, request, now),
+            Request::Rename { .. } => self.take_name(alloc, tree, node, request, now),
+            Request::Release => self.take_name(alloc, tree, node, request, now),
             request => self.look(alloc, tree, node, request, out),
         }
     }

@@ -3,6 +3,7 @@ use Rattle.names.specs.Lemmas.Runs.{nothing_done}
 use Rattle.names.specs.Inside.{Never}
 use Rattle.names.specs.Numbered.{IsNoDirectory, ListsAt}
 use Rattle.mounting.proofs.TreeCalls.{call_looks}
+use Rattle.mounting.proofs.Hindering.{call_hindered}
 use Rattle.mounting.proofs.calling.list_at.Goals as goal
 
 pub returns-clause-looks : goal.returns-clause-looks
@@ -13,3 +14,10 @@ returns-clause-looks g c =
     call_looks g.D.Disk Never (IsNoDirectory c.args.number) old.kernel new.kernel old.calls_left new.calls_left called.result c.requires.ready
     (λ zero. let same = nothing_done old new called.result (called.ensures.none zero) in (ap (λ t. t.kernel) same, ap (λ t. t.calls_left) same ∙ zero))
     called.ensures.done called.ensures.refused called.ensures.stays (ListsAt c.args.number) (λ made x z is. is.same) called.ensures.lists called.ensures.leaves
+
+pub returns-clause-hindered : goal.returns-clause-hindered
+returns-clause-hindered g c =
+    let called = c.list_at in
+    let old = c.args.tree.now in
+    let new = called.new.self in
+    call_hindered g.D.Disk Never (IsNoDirectory c.args.number) old new old.kernel new.kernel old.calls_left new.calls_left called.result (λ no. no) c.requires.ready called.ensures.none called.ensures.done called.ensures.refused

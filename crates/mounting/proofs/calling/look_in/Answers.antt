@@ -3,6 +3,7 @@ use Rattle.names.specs.Lemmas.Runs.{nothing_done}
 use Rattle.names.specs.Inside.{Never}
 use Rattle.names.specs.Numbered.{IsUnseenIn, LooksIn}
 use Rattle.mounting.proofs.TreeCalls.{call_looks, call_stays}
+use Rattle.mounting.proofs.Hindering.{call_hindered}
 use Rattle.mounting.proofs.calling.look_in.Goals as goal
 
 pub returns-clause-looks : goal.returns-clause-looks
@@ -18,3 +19,10 @@ pub returns-clause-same : goal.returns-clause-same
 returns-clause-same g c =
     let called = c.look_in in
     call_stays g.D.Disk Never (IsUnseenIn c.args.from c.args.name.now) c.args.tree.now called.new.self c.args.tree.now.kernel called.new.self.kernel c.args.tree.now.calls_left called.result c.requires.ready called.ensures.none called.ensures.refused
+
+pub returns-clause-hindered : goal.returns-clause-hindered
+returns-clause-hindered g c =
+    let called = c.look_in in
+    let old = c.args.tree.now in
+    let new = called.new.self in
+    call_hindered g.D.Disk Never (IsUnseenIn c.args.from c.args.name.now) old new old.kernel new.kernel old.calls_left new.calls_left called.result (λ no. no) c.requires.ready called.ensures.none called.ensures.done called.ensures.refused

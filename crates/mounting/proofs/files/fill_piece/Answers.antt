@@ -1,7 +1,7 @@
-use Rattle.std.proofs.Common.{◌∙◌, ◌+◌, ◌≡◌, ℕ, ◌≤◌, List, length, take, replicate, ap, subst, sym, arith}
+use Rattle.mounting.proofs.Hindering.{unlengthened}
+use Rattle.std.proofs.Common.{◌∙◌, ◌+◌, ◌≡◌, ℕ, ◌≤◌, List, length, take, replicate, ap, subst, sym, arith, inl, inr}
 use Rattle.std.proofs.lemmas.List.{length-replicate, take-replicate}
-use Rattle.directories.specs.Trees.{bytes_of}
-use Rattle.model.specs.Files.{Files, file_in}
+use Rattle.model.specs.Files.{Files}
 use Rattle.names.specs.Inside.{form_seen}
 use Rattle.names.specs.Numbered.{WritesSomeOf}
 use Rattle.names.specs.Ready.{AnyOf}
@@ -67,3 +67,10 @@ returns-in-Ok-clause-end g c =
     let size : length (take c.min-count.result (replicate 3072 0)) ≡ c.min-count.result = ap (λ (l : List ℕ). length l) (take-replicate c.min-count.result 3072 0 few) ∙ length-replicate c.min-count.result 0 in
     subst (λ (n : ℕ). EndsAt g.D.Disk c.args.number c.write_at.new.tree.kernel (c.args.at + n)) (sym c.min.ensures)
     (ends_behind _ _ _ c.args.number c.args.at _ c.min-count.result c.in-Ok.wrote c.in_ok-write_at.field-0 c.in-Ok.is size c.in_ok-write_at.ensures.does c.requires.end)
+
+pub returns-in-Err-clause-hindered : goal.returns-in-Err-clause-hindered
+returns-in-Err-clause-hindered g c =
+    let count = c.min-count.ensures in
+    let some = c.requires.some in
+    inl (inr (inr (unlengthened g.D.Disk c.args.number c.args.at c.args.to c.min-count.result _ c.args.tree.now.kernel c.write_at.new.tree.kernel c.in_ok-write_at.field-0 c.in-Err.cause c.into.result c.in-Err.is
+    (take-replicate c.min-count.result 3072 0 (omega (arith, count))) (omega (arith, count, some)) c.requires.end c.in_ok-write_at.ensures.does c.in_ok-write_at.ensures.part c.into.ensures)))

@@ -1,4 +1,7 @@
-use Rattle.std.proofs.Common.{◌≡◌, ◌∙◌, ℕ, ◌+◌, ◌-◌, ◌≤◌, List, ◌++◌, ap, arith}
+use Rattle.mounting.specs.Causes.{IsUnread}
+use Rattle.std.proofs.lemmas.Result.{err_from_is_err_and}
+use Rattle.mounting.proofs.Hindering.{left_by}
+use Rattle.std.proofs.Common.{◌≡◌, ◌∙◌, ℕ, ◌+◌, ◌-◌, ◌≤◌, List, ◌++◌, ap, arith, inl, inr, ⊎_elim}
 use Rattle.directories.specs.Trees.{bytes_of}
 use Rattle.model.specs.Files.{Files, file_in}
 use Rattle.model.specs.Operations.{part_of}
@@ -45,3 +48,14 @@ returns-clause-reads g c = λ narrow.
     c.loop-piece.invariant.reads
     ∙ ap (λ (n : ℕ). c.args.out.now.items ++ part_of (bytes_on g.D.Disk c.args.number c.args.tree.now.kernel) c.in-Ok.offset n) all
     ∙ ap (λ (at : ℕ). c.args.out.now.items ++ part_of (bytes_on g.D.Disk c.args.number c.args.tree.now.kernel) at c.args.size) c.in-Ok.ensures.1
+
+pub returns-in_err-read_piece-clause-hindered : goal.returns-in_err-read_piece-clause-hindered
+returns-in_err-read_piece-clause-hindered g c =
+    let p = err_from_is_err_and c.from_residual.result c.from_residual.ensures.1 in
+    let m = c.read_piece.new.tree.kernel in
+    let count = c.loop-piece.invariant.count in
+    let most = c.min-most.ensures in
+    let from = c.in-Ok.ensures.1 in
+    left_by g.D.Disk (IsUnread c.args.number c.in-Ok.offset ((c.args.size - c.loop-piece.left) + c.min-most.result)) (IsUnread c.args.number c.args.offset c.args.size)
+    (λ form x e is. ⊎_elim (λ a. inl a) (λ b. inr (b.0, (let far = b.1 in omega (arith, far, count, most, from)))) is)
+    m c.read_piece.new.tree.calls_left c.from_residual.result p.0 c.in_err-read_piece.field-0.0 p.1 p.2 c.in_err-read_piece.ensures.hindered

@@ -1,4 +1,5 @@
-use Rattle.std.proofs.Common.{ℕ, ◌+◌, ◌-◌, take, drop, subst}
+use Rattle.mounting.proofs.Hindering.{wrote_behind}
+use Rattle.std.proofs.Common.{ℕ, ◌+◌, ◌-◌, take, drop, subst, arith}
 use Rattle.std.proofs.lemmas.Result.{IfOk-weaker}
 use Rattle.mounting.proofs.ReadParts.{stands_by}
 use Rattle.names.specs.Inside.{form_seen}
@@ -14,3 +15,10 @@ returns-clause-makes g c =
 pub returns-clause-stands : goal.returns-clause-stands
 returns-clause-stands g c =
     IfOk-weaker c.write_at.result _ _ (λ wrote writes. stands_by _ _ _ c.args.number c.in-Ok.at c.args.offset c.args.done (c.args.done + c.min.result - c.args.done) c.args.bytes.now wrote c.in-Ok.ensures.1 c.requires.stands writes) c.write_at.ensures.does
+
+pub returns-clause-part : goal.returns-clause-part
+returns-clause-part g c =
+    let least = c.min.ensures in
+    IfOk-weaker c.write_at.result _ _
+    (λ wrote part. wrote_behind g.D.Disk c.args.number c.args.offset c.in-Ok.at c.args.done (c.args.done + c.min.result - c.args.done) c.args.bytes.now c.write_at.new.tree.kernel wrote c.in-Ok.ensures.1 (λ few. omega (arith, few, least)) part)
+    c.write_at.ensures.part
