@@ -1,6 +1,7 @@
 -- The names that files have aside.
-use Rattle.std.specs.Prelude.{ℕ, ◌+◌, ◌%◌, ◌/◌, ◌==◌, ◌&&◌, eqb, nat_le, Bool, IsTrue, List, [], ◌∷◌, length, drop}
+use Rattle.std.specs.Prelude.{◌≡◌, ℕ, ◌+◌, ◌%◌, ◌/◌, ◌==◌, ◌&&◌, eqb, nat_le, Bool, IsTrue, List, [], ◌∷◌, length, drop}
 use Rattle.std.specs.List.{list_all, starts_with}
+use Rattle.directories.specs.Trees.{root}
 
 -- a digit
 abbrev pub digit : ℕ → ℕ
@@ -23,3 +24,7 @@ is_aside name = length name == 14
 
 abbrev pub IsAside : List ℕ → Type 0
 IsAside name = IsTrue (is_aside name)
+
+-- a name aside in the directory of a number, which no program sees
+abbrev pub IsHidden : ℕ → List ℕ → Type 0
+IsHidden node name = (node ≡ root) × IsAside name

@@ -22,7 +22,7 @@ use Rattle.model.specs.Files.{Files, files_of}
 use Rattle.model.specs.Operations.{refusal_of}
 use Rattle.mounting.specs.declared.errno.Errno.{Errno}
 use Rattle.mounting.specs.declared.errno.Errno.TheVariants as errno
-use Rattle.mounting.specs.Asides.{IsAside, aside_of}
+use Rattle.mounting.specs.Asides.{IsHidden, aside_of}
 use Rattle.mounting.specs.Changes.{EndsShort, HasLength, RefusesPart, SetsSize}
 use Rattle.names.specs.declared.refusal.TreeFault.{TreeFault}
 use Rattle.names.specs.declared.refusal.TreeFault.TheVariants as tree_fault
@@ -119,10 +119,6 @@ IsRefused = IsRefusedBy errno_of
 -- the bytes are no name
 abbrev pub IsNoName : List ℕ → Errno → Type 0
 IsNoName name e = (fault : NameFault) × ((e ≡ name_errno fault) × IsNameCause name fault)
-
--- a name aside, which no program sees
-abbrev pub IsHidden : ℕ → List ℕ → Type 0
-IsHidden node name = (node ≡ root) × IsAside name
 
 -- no file that programs see has such a name, and none gets it
 abbrev pub IsNoOldName : ℕ → List ℕ → Errno → Type 0

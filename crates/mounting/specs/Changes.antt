@@ -12,7 +12,7 @@ use Rattle.model.specs.declared.types.image.Form.{Form}
 use Rattle.model.specs.Files.{Files, file_in, files_of}
 use Rattle.model.specs.declared.types.operations.Op.TheVariants as op
 use Rattle.model.specs.Operations.{part_of, refusal_of}
-use Rattle.mounting.specs.Asides.{IsAside, aside_of}
+use Rattle.mounting.specs.Asides.{IsAside, IsHidden, aside_of}
 use Rattle.mounting.specs.Listings.{Lists}
 use Rattle.mounting.specs.Tells.{TellsAttributes, TellsEntry, TellsNamed, TellsOpened}
 use Rattle.names.specs.declared.refusal.TreeFault.{TreeFault}
@@ -202,8 +202,8 @@ TellsCreated makes body files new =
 
 -- What became of the files where a request is answered without an error, and what is told.
 abbrev pub Does : Form → Type 0 → ℕ → Asked → List ℕ → Files → Files → Type 0
-Does form full node (Lookup name) body files new =
-    (new ≡ files) × TellsNamed new node (padded name) [] body
+Does form full node (Lookup name) body files new = (new ≡ files)
+    × (IsHidden node name → ⊥) × TellsNamed new node (padded name) [] body
 Does form full node GetAttributes body files new = (new ≡ files) × TellsAttributes new node [] body
 Does form full node (Open flags) body files new = (new ≡ files) × TellsOpened 2 [] body
 Does form full node OpenDirectory body files new = (new ≡ files) × TellsOpened 10 [] body

@@ -14,7 +14,7 @@ ghost use Rattle.mounting.specs.Causes.{
   LeadsTo,
   NoCause,
 };
-ghost use Rattle.mounting.specs.Asides.{aside_of, digit, is_aside, is_digit};
+ghost use Rattle.mounting.specs.Asides.{aside_of, digit, is_aside, is_digit, IsHidden};
 ghost use Rattle.mounting.specs.Changes.{Makes, OnlyLooks, RemovesAside, StaySame};
 ghost use Rattle.mounting.specs.Listings.{
   is_hidden,
@@ -141,6 +141,7 @@ pub(crate) fn new_name(node: u32, name: &[u8]) -> Result<Name, Errno>
 /// `NoEntry` for a name aside in the root, and those of a name.
 pub(crate) fn old_name(node: u32, name: &[u8]) -> Result<Name, Errno>
     ensures is { IfOk result (λ is. is ≡ padded name.now) }
+    ensures seen { OnOk result (IsHidden node name.now → ⊥) }
     ensures hindered { IfErr result (IsNoOldName node name.now) }
 {
     if node == ROOT && is_aside(name) {

@@ -3,6 +3,7 @@ ghost use Rattle.std.specs.Prelude.{◌≡◌, [], IfErr, OnOk};
 ghost use Rattle.calls.specs.Calls.{image_on};
 ghost use Rattle.fuse.specs.Requests.{asked, Lookup};
 ghost use Rattle.mounting.specs.Causes.{Hinders, IsHindered, IsNoMemory, IsRefused, Looks, NoCause};
+ghost use Rattle.mounting.specs.Asides.{IsHidden};
 ghost use Rattle.mounting.specs.Changes.{DidAsked, StaySame, OnlyLooks};
 ghost use Rattle.mounting.specs.Tells.{AddsEntry, TellsAttributes, TellsNamed, TellsOpened};
 ghost use Rattle.directories.specs.Entries.{padded};
@@ -160,6 +161,7 @@ impl Server {
         ensures same { OnOk result (StaySame D.Disk tree.old.kernel tree.new.kernel) }
         ensures tells { OnOk result (TellsNamed (files_of (image_on D.image tree.new.kernel))
             node (padded name.now) out.old.items out.new.items) }
+        ensures seen { OnOk result (IsHidden node name.now → ⊥) }
         ensures hindered { IfErr result (IsHindered D.Disk (Hinders node (Lookup name.now))
             tree.new.kernel tree.new.calls_left) }
     {
