@@ -2,6 +2,10 @@
 -- escaped; digits have none.
 use Rattle.std.specs.Prelude.{ℕ, List, ◌++◌, codes, decimal}
 
+-- the beginning of an object, with its first field: a number
+unfoldable pub first_number : List ℕ → ℕ → List ℕ
+first_number name n = codes "{\"" ++ name ++ codes "\":" ++ decimal n
+
 -- a field behind another: a number, and a word
 unfoldable pub number_field : List ℕ → ℕ → List ℕ
 number_field name n = codes ",\"" ++ name ++ codes "\":" ++ decimal n

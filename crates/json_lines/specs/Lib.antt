@@ -1,4 +1,7 @@
 pub mod Fields
+pub mod Arrays
 pub mod Steps
 pub mod Events
 pub mod Counts
+pub mod Faults
+pub mod Lemmas
