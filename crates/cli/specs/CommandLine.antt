@@ -52,10 +52,18 @@ mkfs_app = with_rule (with_rule (with_rule (with_rule (image_app (codes "mkfs"))
     (flag_rule (codes "no-sync"))
 
 abbrev pub check_app : App
-check_app = with_rule (image_app (codes "check")) (flag_rule (codes "all"))
+check_app =
+    with_rule (with_rule (image_app (codes "check")) (flag_rule (codes "all")))
+    (flag_rule (codes "json"))
+
+-- a look at an image that may be told as JSON
+abbrev pub look_app : List ℕ → App
+look_app name = with_rule (image_app name) (flag_rule (codes "json"))
 
 abbrev pub recover_app : App
-recover_app = with_rule (image_app (codes "recover")) (flag_rule (codes "sync"))
+recover_app =
+    with_rule (with_rule (image_app (codes "recover")) (flag_rule (codes "sync")))
+    (flag_rule (codes "json"))
 
 abbrev pub cat_app : App
 cat_app = with_rule (with_rule (image_app (codes "cat")) (number_rule (codes "INUM")))
@@ -73,7 +81,9 @@ picture_rule = record (new_rule (codes "picture")) {
 }
 
 abbrev pub show_app : App
-show_app = with_rule (with_rule (image_app (codes "show")) (new_rule (codes "INUM"))) picture_rule
+show_app =
+    with_rule (with_rule (with_rule (image_app (codes "show")) (new_rule (codes "INUM")))
+    picture_rule) (flag_rule (codes "json"))
 
 abbrev pub put_app : App
 put_app = with_rule (with_rule (with_rule (with_rule (image_app (codes "put"))
@@ -126,9 +136,10 @@ run_app = with_rule (with_rule (with_rule (with_rule (image_app (codes "run"))
     (required_rule (codes "SCRIPT"))) workers_rule) group_rule) (flag_rule (codes "sync"))
 
 abbrev pub stops_app : App
-stops_app = with_rule (with_rule (explained (with_rule (with_rule (new_app (codes "stops"))
+stops_app =
+    with_rule (with_rule (with_rule (explained (with_rule (with_rule (new_app (codes "stops"))
     (required_rule (codes "SCRIPT"))) (required_rule (codes "SCHEDULE"))))
-    (flag_rule (codes "held"))) picture_rule
+    (flag_rule (codes "held"))) picture_rule) (flag_rule (codes "json"))
 
 -- a program of that name, with no command yet
 abbrev pub named_app : List ℕ → App
@@ -149,7 +160,7 @@ xvfs_app =
     with_subcommand (with_subcommand (with_subcommand (with_subcommand (with_subcommand
     (with_subcommand (with_subcommand (with_subcommand (with_subcommand (with_subcommand
     (with_subcommand (with_subcommand (with_subcommand bare_app mkfs_app.top) check_app.top)
-    (image_app (codes "ls")).top) (image_app (codes "df")).top) cat_app.top) show_app.top)
+    (look_app (codes "ls")).top) (look_app (codes "df")).top) cat_app.top) show_app.top)
     put_app.top) copy_app.top) rescue_app.top)
     recover_app.top) replay_app.top) run_app.top) stops_app.top
 
@@ -191,28 +202,32 @@ AsksBy name rows (Mkfs image size ninodes large no_sync) = (name ≡ codes "mkfs
     × (first_of (codes "IMAGE") rows ≡ Some image.now) × HasNumber 32 (codes "SIZE") rows size
     × HasNumber 32 (codes "NINODES") rows ninodes × HasFlag (codes "large") rows large
     × HasFlag (codes "no-sync") rows no_sync
-AsksBy name rows (Check image all) = (name ≡ codes "check")
+AsksBy name rows (Check image all json) = (name ≡ codes "check")
     × (first_of (codes "IMAGE") rows ≡ Some image.now) × HasFlag (codes "all") rows all
-AsksBy name rows (Recover image sync) = (name ≡ codes "recover")
+    × HasFlag (codes "json") rows json
+AsksBy name rows (Recover image sync json) = (name ≡ codes "recover")
     × (first_of (codes "IMAGE") rows ≡ Some image.now) × HasFlag (codes "sync") rows sync
+    × HasFlag (codes "json") rows json
 AsksBy name rows (Cat image inum read_only) = (name ≡ codes "cat")
     × (first_of (codes "IMAGE") rows ≡ Some image.now) × HasNumber 32 (codes "INUM") rows inum
     × HasFlag (codes "read-only") rows read_only
-AsksBy name rows (Ls image) = (name ≡ codes "ls")
-    × (first_of (codes "IMAGE") rows ≡ Some image.now)
-AsksBy name rows (Df image) = (name ≡ codes "df")
-    × (first_of (codes "IMAGE") rows ≡ Some image.now)
-AsksBy name rows (Show image inum) = (name ≡ codes "show")
+AsksBy name rows (Ls image json) = (name ≡ codes "ls")
+    × (first_of (codes "IMAGE") rows ≡ Some image.now) × HasFlag (codes "json") rows json
+AsksBy name rows (Df image json) = (name ≡ codes "df")
+    × (first_of (codes "IMAGE") rows ≡ Some image.now) × HasFlag (codes "json") rows json
+AsksBy name rows (Show image inum json) = (name ≡ codes "show")
     × (first_of (codes "IMAGE") rows ≡ Some image.now)
     × HasPart (first_of (codes "INUM") rows) (part_of inum)
-    × (first_of (codes "picture") rows ≡ None)
-AsksBy name rows (ShowLog image) = (name ≡ codes "show")
+    × (first_of (codes "picture") rows ≡ None) × HasFlag (codes "json") rows json
+AsksBy name rows (ShowLog image json) = (name ≡ codes "show")
     × (first_of (codes "IMAGE") rows ≡ Some image.now)
     × HasPart (first_of (codes "INUM") rows) Log × (first_of (codes "picture") rows ≡ None)
+    × HasFlag (codes "json") rows json
 AsksBy name rows (ShowPicture image picture) = (name ≡ codes "show")
     × (first_of (codes "IMAGE") rows ≡ Some image.now)
     × HasPart (first_of (codes "INUM") rows) Whole
     × (first_of (codes "picture") rows ≡ Some picture.now)
+    × HasFlag (codes "json") rows false
 AsksBy name rows (Put image file inum sync no_sync) = (name ≡ codes "put")
     × (first_of (codes "IMAGE") rows ≡ Some image.now)
     × (first_of (codes "FILE") rows ≡ Some file.now) × HasChoice 32 (codes "INUM") rows inum
@@ -244,10 +259,11 @@ AsksBy name rows (Run image script workers group sync) =
     (name ≡ codes "run") × (first_of (codes "IMAGE") rows ≡ Some image.now)
     × (first_of (codes "SCRIPT") rows ≡ Some script.now) × HasWorkers rows workers
     × HasChoice 32 (codes "group") rows group × HasFlag (codes "sync") rows sync
-AsksBy name rows (Stops script schedule held picture) =
+AsksBy name rows (Stops script schedule held picture json) =
     (name ≡ codes "stops") × (first_of (codes "SCRIPT") rows ≡ Some script.now)
     × (first_of (codes "SCHEDULE") rows ≡ Some schedule.now) × HasFlag (codes "held") rows held
     × (option_map (λ path. path.now) picture ≡ first_of (codes "picture") rows)
+    × HasFlag (codes "json") rows json
 
 -- the words of `xvfs`
 abbrev pub xvfs_words : Wording Request

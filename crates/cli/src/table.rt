@@ -109,6 +109,13 @@ pub const EXPLAIN: Word = Word {
     help: "Says more of a refusal in a second line, as on a terminal",
 };
 
+// `--json`, of a command that tells one value.
+const JSON: Word = Word {
+    name: "json",
+    kind: Kind::Flag,
+    help: "Prints one value of JSON in place of text",
+};
+
 const SCRIPT: Word = Word {
     name: "SCRIPT",
     kind: Kind::Needed,
@@ -202,19 +209,20 @@ const LINES: &[Line] = &[
                 kind: Kind::Flag,
                 help: "Prints all faults of the image, a line each, and how many there are",
             },
+            JSON,
         ],
     },
     Line {
         name: "ls",
         about: "Lists the files of an image: number, type, bytes and blocks",
-        example: "Example: xvfs ls fs.img",
-        words: &[IMAGE_KEPT, WAIT, EXPLAIN, NO_LOCK],
+        example: "Examples: xvfs ls fs.img, xvfs ls fs.img --json",
+        words: &[IMAGE_KEPT, WAIT, EXPLAIN, NO_LOCK, JSON],
     },
     Line {
         name: "df",
         about: "Counts the blocks and the inodes of an image, used and free ones",
-        example: "Example: xvfs df fs.img",
-        words: &[IMAGE_KEPT, WAIT, EXPLAIN, NO_LOCK],
+        example: "Examples: xvfs df fs.img, xvfs df fs.img --json",
+        words: &[IMAGE_KEPT, WAIT, EXPLAIN, NO_LOCK, JSON],
     },
     Line {
         name: "cat",
@@ -256,6 +264,7 @@ const LINES: &[Line] = &[
                 kind: Kind::Path,
                 help: "Draws the blocks of the whole image into this file, too, as a page that a browser shows",
             },
+            JSON,
         ],
     },
     Line {
@@ -314,7 +323,7 @@ const LINES: &[Line] = &[
         name: "recover",
         about: "Checks an image, and copies the blocks of its log home",
         example: "Example: xvfs recover fs.img",
-        words: &[IMAGE, WAIT, EXPLAIN, NO_LOCK, SYNC],
+        words: &[IMAGE, WAIT, EXPLAIN, NO_LOCK, SYNC, JSON],
     },
     Line {
         name: "replay",
@@ -396,6 +405,7 @@ const LINES: &[Line] = &[
                 kind: Kind::Path,
                 help: "Draws the stops into this file, too, as a page that a browser shows",
             },
+            JSON,
         ],
     },
 ];

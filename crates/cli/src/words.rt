@@ -1,5 +1,5 @@
 // What the words of a command line ask `xvfs` for.
-ghost use Rattle.std.specs.Prelude.{◌≡◌, true, codes, option_map, IfSome};
+ghost use Rattle.std.specs.Prelude.{◌≡◌, false, true, codes, option_map, IfSome};
 ghost use Rattle.clap.specs.Words.{found_of, is_simple_and_free, rows_of};
 ghost use Rattle.cli.specs.Asking.{HasFlag};
 ghost use Rattle.cli.specs.CommandLine.{AsksBy, HasPart, HasWorkers, xvfs_app, xvfs_words};
@@ -34,6 +34,8 @@ pub enum Request<'a> {
         image: &'a str,
         /// Whether all faults are told, not the first alone.
         all: bool,
+        /// Whether it is told as JSON.
+        json: bool,
     },
     /// A recovery of an image.
     Recover {
@@ -41,6 +43,8 @@ pub enum Request<'a> {
         image: &'a str,
         /// Whether the file holds writes back until it is synced.
         sync: bool,
+        /// Whether it is told as JSON.
+        json: bool,
     },
     /// The bytes of a file of an image.
     Cat {
@@ -55,11 +59,15 @@ pub enum Request<'a> {
     Ls {
         /// The path of the image's file.
         image: &'a str,
+        /// Whether they are told as JSON.
+        json: bool,
     },
     /// How much of an image is used.
     Df {
         /// The path of the image's file.
         image: &'a str,
+        /// Whether it is told as JSON.
+        json: bool,
     },
     /// The blocks of an image, or of one of its files.
     Show {
@@ -67,11 +75,15 @@ pub enum Request<'a> {
         image: &'a str,
         /// The file's number.
         inum: Option<u32>,
+        /// Whether they are told as JSON.
+        json: bool,
     },
     /// What the log of an image holds.
     ShowLog {
         /// The path of the image's file.
         image: &'a str,
+        /// Whether it is told as JSON.
+        json: bool,
     },
     /// The blocks of an image, drawn into a file, too.
     ShowPicture {
@@ -169,6 +181,8 @@ pub enum Request<'a> {
         held: bool,
         /// The path of the file into which the stops are drawn.
         picture: Option<&'a str>,
+        /// Whether it is told as JSON.
+        json: bool,
     },
 }
 
@@ -204,6 +218,7 @@ fn request_of<'a>(name: &str, values: &ArgMatches<'a>) -> Option<Request<'a>>
         "put" => put_request(values),
         "show" => show_request(values),
         "run" => run_request(values),
+        "cat" => cat_request(values),
         _ => request_over(name, values),
     }
 }
@@ -216,6 +231,7 @@ fn stops_request<'a>(values: &ArgMatches<'a>) -> Option<Request<'a>>
         schedule: values.get_str("SCHEDULE")?,
         held: values.get_flag("held"),
         picture: values.get_str("picture"),
+        json: values.get_flag("json"),
     })
 }
 
@@ -314,27 +330,35 @@ fn run_request<'a>(values: &ArgMatches<'a>) -> Option<Request<'a>>
     })
 }
 
+fn cat_request<'a>(values: &ArgMatches<'a>) -> Option<Request<'a>>
+    ensures { IfSome result (AsksBy (codes "cat") (rows_of (found_of values.now))) }
+{
+    Some(Request::Cat {
+        image: values.get_str("IMAGE")?,
+        inum: values.get_one("INUM")?,
+        read_only: values.get_flag("read-only"),
+    })
+}
+
 // What the words of another command over an image ask for.
 fn request_over<'a>(name: &str, values: &ArgMatches<'a>) -> Option<Request<'a>>
     ensures { IfSome result (AsksBy name.now (rows_of (found_of values.now))) }
 {
     let image = values.get_str("IMAGE")?;
+    let json = values.get_flag("json");
     match name {
         "check" => Some(Request::Check {
             image,
             all: values.get_flag("all"),
+            json,
         }),
         "recover" => Some(Request::Recover {
             image,
             sync: values.get_flag("sync"),
+            json,
         }),
-        "cat" => Some(Request::Cat {
-            image,
-            inum: values.get_one("INUM")?,
-            read_only: values.get_flag("read-only"),
-        }),
-        "ls" => Some(Request::Ls { image }),
-        "df" => Some(Request::Df { image }),
+        "ls" => Some(Request::Ls { image, json }),
+        "df" => Some(Request::Df { image, json }),
         _ => None,
     }
 }
@@ -344,26 +368,33 @@ fn show_request<'a>(values: &ArgMatches<'a>) -> Option<Request<'a>>
 {
     let image = values.get_str("IMAGE")?;
     let part = part_of(values.get_str("INUM"))?;
+    let json = values.get_flag("json");
     if let Some(picture) = values.get_str("picture") {
-        return drawn(image, part, picture);
+        return drawn(image, part, json, picture);
     }
     match part {
-        Part::Whole => Some(Request::Show { image, inum: None }),
+        Part::Whole => Some(Request::Show {
+            image,
+            inum: None,
+            json,
+        }),
         Part::File(number) => Some(Request::Show {
             image,
             inum: Some(number),
+            json,
         }),
-        Part::Log => Some(Request::ShowLog { image }),
+        Part::Log => Some(Request::ShowLog { image, json }),
     }
 }
 
-// A picture that has a part of an image: there is one of the whole alone.
-fn drawn<'a>(image: &'a str, part: Part, picture: &'a str) -> Option<Request<'a>>
-    ensures { IfSome result (λ asked. (part ≡ parts.Whole)
+// A picture that has a part of an image, told as JSON or as text: there is one of the whole alone,
+// beside text.
+fn drawn<'a>(image: &'a str, part: Part, json: bool, picture: &'a str) -> Option<Request<'a>>
+    ensures { IfSome result (λ asked. (part ≡ parts.Whole) × (json ≡ false)
         × (asked ≡ requests.ShowPicture image.entry picture.entry)) }
 {
-    match part {
-        Part::Whole => Some(Request::ShowPicture { image, picture }),
+    match (part, json) {
+        (Part::Whole, false) => Some(Request::ShowPicture { image, picture }),
         _ => None,
     }
 }

@@ -8,13 +8,13 @@ use Rattle.cli.specs.declared.words.Request.TheVariants.{Mkfs, Check, Recover, C
 
 few_by : (name : List ℕ) (rows : List Row) (request : Request) → AsksBy name rows request → HasFewWorkers request
 few_by name rows (Mkfs image size ninodes large no_sync) asks = tt
-few_by name rows (Check image all) asks = tt
-few_by name rows (Recover image sync) asks = tt
+few_by name rows (Check image all json) asks = tt
+few_by name rows (Recover image sync json) asks = tt
 few_by name rows (Cat image inum read_only) asks = tt
-few_by name rows (Ls image) asks = tt
-few_by name rows (Df image) asks = tt
-few_by name rows (Show image inum) asks = tt
-few_by name rows (ShowLog image) asks = tt
+few_by name rows (Ls image json) asks = tt
+few_by name rows (Df image json) asks = tt
+few_by name rows (Show image inum json) asks = tt
+few_by name rows (ShowLog image json) asks = tt
 few_by name rows (ShowPicture image picture) asks = tt
 few_by name rows (Put image file inum sync no_sync) asks = tt
 few_by name rows (Copy old new size no_sync) asks = tt
@@ -22,7 +22,7 @@ few_by name rows (Rescue old new no_sync) asks = tt
 few_by name rows (Replay image script schedule stop sync writes steps picture) asks = tt
 few_by name rows (ReplayJson image script schedule stop sync) asks = tt
 few_by name rows (Run image script workers group sync) asks = (asks.3.0, asks.3.1)
-few_by name rows (Stops script schedule held picture) asks = tt
+few_by name rows (Stops script schedule held picture json) asks = tt
 
 few_of : (command : Option (List ℕ × List Row)) (request : Request) → Asks xvfs_words command request → HasFewWorkers request
 few_of None request asks = absurd asks

@@ -11,4 +11,5 @@ returns c =
       value_read found (codes "SCHEDULE") _ c.in_ok-get_str-2.ensures,
       flag_read found (codes "held") c.get_flag.result c.get_flag.ensures.none c.get_flag.ensures.value c.get_flag.ensures.other,
       path_read found (codes "picture") _ c.get_str-3.ensures,
+      flag_read found (codes "json") c.get_flag-2.result c.get_flag-2.ensures.none c.get_flag-2.ensures.value c.get_flag-2.ensures.other,
     )
