@@ -1,5 +1,5 @@
 -- How the signs of an image are drawn.
-use Rattle.std.specs.Prelude.{ℕ, ◌*◌, List, ◌++◌, drop, take, length, codes, decimal}
+use Rattle.std.specs.Prelude.{ℕ, ◌*◌, Bool, true, false, List, ◌++◌, drop, take, length, codes, decimal}
 use Rattle.std.specs.Int.{div_ceil}
 use Rattle.std.specs.List.{flat_map, range_with_len}
 use Rattle.blocks.specs.Disk.{Image}
@@ -28,3 +28,15 @@ drawing_text signs =
 -- the rows of all signs of an image, and the key
 abbrev pub drawing_of : Image → List ℕ
 drawing_of x = drawing_text (signs_of x)
+
+-- the object of signs, one for each block
+unfoldable pub signs_object : List ℕ → List ℕ
+signs_object signs = codes "{\"signs\":\"" ++ signs ++ codes "\"}\n"
+
+-- signs as JSON or as rows of text
+abbrev pub signs_in : Bool → List ℕ → List ℕ
+signs_in true signs = signs_object signs
+signs_in false signs = drawing_text signs
+
+abbrev pub blocks_told : Bool → Image → List ℕ
+blocks_told json x = signs_in json (signs_of x)

@@ -8,7 +8,7 @@ pub mod Showing
 pub mod Logging
 pub mod Signs
 pub mod Drawing
+pub mod Usage
 pub mod Looks
 pub mod Laws
-pub mod Usage
 pub mod Lemmas

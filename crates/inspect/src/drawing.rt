@@ -5,9 +5,10 @@ ghost use Rattle.blocks.specs.Calls.{OnlyReads};
 ghost use Rattle.model.specs.Verdict.{verdict};
 ghost use Rattle.inspect.specs.Causes.{IsUndrawn};
 ghost use Rattle.inspect.specs.Cells.{cells_of};
-ghost use Rattle.inspect.specs.Drawing.{drawing_of, drawing_text, label_text, row_text};
+ghost use Rattle.inspect.specs.Drawing.{blocks_told, drawing_of, drawing_text, label_text, row_text, signs_in};
 
 use crate::cells::gather_cells;
+use crate::objects::print_signs_object;
 use crate::refused::ShowRefusal;
 use crate::signs::gather_signs;
 use blocks::Disk;
@@ -28,6 +29,8 @@ const ROW: usize = 64;
 /// block of addresses, a digit for a data block, the last of its file's number, `.` a free block;
 /// and `*` in the place of these for a block whose newer content still stands in the log.
 ///
+/// Or it prints an object of JSON with all signs as one word.
+///
 /// # Errors
 ///
 /// `Check` with a fault of the image or of its check, or with `Disk` where a read after the check
@@ -36,17 +39,18 @@ const ROW: usize = 64;
 pub fn show_disk<D: Disk, O: Write>(
     alloc: Global,
     disk: &mut D,
+    json: bool,
     out: &mut O,
 ) -> Result<(), ShowRefusal>
     ensures sound { OnOk result (verdict (D.image disk.old) ≡ None) }
     ensures printed { OnOk result (Appends (O.contents out.old) (O.contents out.new)
-        (drawing_of (D.image disk.old))) }
+        (blocks_told json (D.image disk.old))) }
     ensures reads { OnlyReads D.Disk disk.old disk.new }
     ensures refused { IfErr result (IsUndrawn D.Disk disk.old disk.new (out.new ≡ out.old)) }
 {
     check(alloc, disk).map_err(ShowRefusal::Check)?;
     let signs = gather_signs(alloc, disk)?;
-    draw(out, signs.as_slice()).map_err(|_| ShowRefusal::Output)
+    print_signs(out, json, signs.as_slice()).map_err(|_| ShowRefusal::Output)
 }
 
 /// Draws the blocks of an image as `show_disk`, and hands out what each of them is, and whose, for a
@@ -73,6 +77,18 @@ pub fn show_cells<D: Disk, O: Write>(
     match draw(out, signs.as_slice()) {
         Ok(()) => Ok(cells),
         Err(_) => Err(ShowRefusal::Output),
+    }
+}
+
+// Prints these signs, as an object of JSON or as rows, as the last text of a command.
+fn print_signs<O: Write>(out: &mut O, json: bool, signs: &[u8]) -> Result<(), Unwritten>
+    ensures printed { OnOk result (Appends (O.contents out.old) (O.contents out.new)
+        (signs_in json signs.now)) }
+{
+    if json {
+        print_signs_object(out, signs)
+    } else {
+        draw(out, signs)
     }
 }
 

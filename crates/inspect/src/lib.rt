@@ -10,6 +10,7 @@ pub mod laws;
 mod listing;
 mod logging;
 mod looks;
+mod objects;
 mod owned;
 mod refused;
 mod showing;

@@ -9,9 +9,10 @@ ghost use Rattle.model.specs.Verdict.{verdict};
 ghost use Rattle.inspect.specs.Causes.{IsUnlisted};
 ghost use Rattle.offline.specs.Checked.{IsCheckedOf};
 ghost use Rattle.inspect.specs.Gathering.{KeepsCount, LieBehindLog};
-ghost use Rattle.inspect.specs.Listing.{listing_of, row_text, rows_at, rows_of, rows_text};
+ghost use Rattle.inspect.specs.Listing.{listing_of, row_text, rows_at, rows_in, rows_of, rows_text};
 
 use crate::fault::GatherFault;
+use crate::objects::print_row_array;
 use crate::owned::add_owned;
 use crate::refused::LsRefusal;
 use blocks::{Block, Disk};
@@ -22,11 +23,13 @@ use offline::{Recovered, check};
 use std::alloc::Global;
 use std::io::Write;
 
-// A file of an image, as a line of the list tells of it.
+// A file of an image, as the list tells of it.
 #[derive(Clone, Copy)]
 pub struct Row {
     pub number: u32,
     pub kind: u16,
+    // How many names lead to it.
+    pub links: u16,
     // Its bytes.
     pub size: u32,
     // The blocks that it owns, blocks of addresses among them.
@@ -35,7 +38,8 @@ pub struct Row {
 
 /// Checks the image of a disk, and prints a line for each of its files once the log is copied home,
 /// in the order of their numbers: `I type T size S blocks N`. The size is in bytes; the blocks are
-/// those that the file owns, blocks of addresses among them. It writes no block.
+/// those that the file owns, blocks of addresses among them. Or it prints an array of JSON with an
+/// object for each, which has its links, too. It writes no block.
 ///
 /// # Errors
 ///
@@ -45,17 +49,18 @@ pub struct Row {
 pub fn list_disk<D: Disk, O: Write>(
     alloc: Global,
     disk: &mut D,
+    json: bool,
     out: &mut O,
 ) -> Result<(), LsRefusal>
     ensures sound { OnOk result (verdict (D.image disk.old) ≡ None) }
     ensures printed { OnOk result (Appends (O.contents out.old) (O.contents out.new)
-        (listing_of (recovered (D.image disk.old)))) }
+        (listing_of json (recovered (D.image disk.old)))) }
     ensures reads { OnlyReads D.Disk disk.old disk.new }
     ensures refused { IfErr result (IsUnlisted D.Disk disk.old disk.new (out.new ≡ out.old)) }
 {
     check(alloc, disk).map_err(LsRefusal::Check)?;
     let rows = gather_rows(alloc, disk)?;
-    print_rows(out, rows.as_slice()).map_err(|_| LsRefusal::Output)
+    print_rows_in(out, json, rows.as_slice()).map_err(|_| LsRefusal::Output)
 }
 
 // The rows of the files of a disk that was checked.
@@ -104,6 +109,7 @@ fn add_row<D: Disk>(
     rows.push(Row {
         number: i,
         kind: inode.kind,
+        links: inode.nlink,
         size: inode.size,
         blocks,
     })?;
@@ -131,6 +137,18 @@ fn count_blocks<D: Disk>(
     let mut owned = Vec::new(alloc);
     add_owned(disk, image, entries, &mut owned, file, inode)?;
     Ok(owned.len())
+}
+
+// Prints these rows, as an array of JSON or as lines, as the last text of a command.
+fn print_rows_in<O: Write>(out: &mut O, json: bool, rows: &[Row]) -> Result<(), Unwritten>
+    ensures printed { OnOk result (Appends (O.contents out.old) (O.contents out.new)
+        (rows_in json rows.now)) }
+{
+    if json {
+        print_row_array(out, rows)
+    } else {
+        print_rows(out, rows)
+    }
 }
 
 // Prints the lines of these rows, as the last text of a command.

@@ -1,14 +1,15 @@
 // What the log of an image holds.
-ghost use Rattle.std.specs.Prelude.{◌≡◌, ◌++◌, IfErr, IfOk, None, OnOk, length};
+ghost use Rattle.std.specs.Prelude.{◌≡◌, IfErr, IfOk, None, OnOk};
 ghost use Rattle.std.specs.Io.KnownBytes.{Appends};
 ghost use Rattle.blocks.specs.Calls.{OnlyReads};
 ghost use Rattle.model.specs.Verdict.{verdict};
 ghost use Rattle.inspect.specs.Causes.{IsUndrawn};
 ghost use Rattle.offline.specs.Checked.{IsCheckedOf};
 ghost use Rattle.inspect.specs.Gathering.{KeepsCount};
-ghost use Rattle.inspect.specs.Logging.{count_line, home_line, homes_text, log_text};
+ghost use Rattle.inspect.specs.Logging.{count_line, home_line, homes_in, homes_lines, log_text};
 
 use crate::fault::GatherFault;
+use crate::objects::print_log_object;
 use crate::refused::ShowRefusal;
 use blocks::{Block, Disk};
 use itoa::Buffer;
@@ -18,7 +19,8 @@ use std::alloc::Global;
 use std::io::Write;
 
 /// Checks the image of a disk, and prints how many blocks its log holds, and a line for each: its
-/// place in the log, from 0, its home, and what the home is. It writes no block.
+/// place in the log, from 0, its home, and what the home is. Or it prints an object of JSON with
+/// the homes, in the order of their places. It writes no block.
 ///
 /// # Errors
 ///
@@ -28,17 +30,18 @@ use std::io::Write;
 pub fn show_log<D: Disk, O: Write>(
     alloc: Global,
     disk: &mut D,
+    json: bool,
     out: &mut O,
 ) -> Result<(), ShowRefusal>
     ensures sound { OnOk result (verdict (D.image disk.old) ≡ None) }
     ensures printed { OnOk result (Appends (O.contents out.old) (O.contents out.new)
-        (log_text (D.image disk.old))) }
+        (log_text json (D.image disk.old))) }
     ensures reads { OnlyReads D.Disk disk.old disk.new }
     ensures refused { IfErr result (IsUndrawn D.Disk disk.old disk.new (out.new ≡ out.old)) }
 {
     check(alloc, disk).map_err(ShowRefusal::Check)?;
     let image = open_checked(alloc, disk)?;
-    print_log(out, image.sup.ninodes, image.header.homes.as_slice()).map_err(
+    print_log_in(out, json, image.sup.ninodes, image.header.homes.as_slice()).map_err(
         |_| ShowRefusal::Output,
     )
 }
@@ -56,10 +59,28 @@ fn open_checked<D: Disk>(alloc: Global, disk: &mut D) -> Result<Recovered, Gathe
     Ok(image)
 }
 
+// Prints these homes, as an object of JSON or as lines, in an image of so many inode numbers, as
+// the last text of a command.
+fn print_log_in<O: Write>(
+    out: &mut O,
+    json: bool,
+    inode_count: u32,
+    homes: &[u32],
+) -> Result<(), Unwritten>
+    ensures printed { OnOk result (Appends (O.contents out.old) (O.contents out.new)
+        (homes_in json inode_count homes.now)) }
+{
+    if json {
+        print_log_object(out, inode_count, homes)
+    } else {
+        print_log(out, inode_count, homes)
+    }
+}
+
 // Prints how many homes there are, and a line for each, in an image of so many inode numbers.
 fn print_log<O: Write>(out: &mut O, inode_count: u32, homes: &[u32]) -> Result<(), Unwritten>
     ensures printed { OnOk result (Appends (O.contents out.old) (O.contents out.new)
-        (count_line (length homes.now) ++ homes_text inode_count 0 homes.now)) }
+        (homes_lines inode_count homes.now)) }
 {
     print_count(out, homes.len())?;
     for (place, home) in homes.iter().enumerate() {

@@ -15,12 +15,15 @@ use std::io::Write;
 
 /// Lists the files of an image, as `list_disk`.
 #[derive(Clone, Copy, Drop)]
-pub struct Ls;
+pub struct Ls {
+    /// Whether they are told as JSON.
+    pub json: bool,
+}
 
 impl DiskCommand for Ls {
     type Refusal = LsRefusal;
 
-    ghost done = { λ ls c. HasListed c.disk c.was c.now };
+    ghost done = { λ ls c. HasListed c.disk ls.json c.was c.now };
 
     ghost refused = { λ ls c old new. IsUnlisted c.disk c.was c.now };
 
@@ -31,7 +34,7 @@ impl DiskCommand for Ls {
         out: &mut O,
     ) -> (Result<(), LsRefusal>, D) {
         let mut disk = disk;
-        let ended = list_disk(alloc, &mut disk, out);
+        let ended = list_disk(alloc, &mut disk, self.json, out);
         (ended, disk)
     }
 }
@@ -39,14 +42,19 @@ impl DiskCommand for Ls {
 /// Draws the blocks of an image, as `show_disk`, or lists those of its file of a number, as
 /// `show_file`.
 #[derive(Clone, Copy, Drop)]
-pub struct Show(pub Option<u32>);
+pub struct Show {
+    /// The file's number.
+    pub inum: Option<u32>,
+    /// Whether they are told as JSON.
+    pub json: bool,
+}
 
 impl DiskCommand for Show {
     type Refusal = ShowRefusal;
 
-    ghost done = { λ show c. HasShown c.disk show.0 c.was c.now };
+    ghost done = { λ show c. HasShown c.disk show.json show.inum c.was c.now };
 
-    ghost refused = { λ show c old new. IsHidden c.disk show.0 c.was c.now };
+    ghost refused = { λ show c old new. IsHidden c.disk show.inum c.was c.now };
 
     fn run_on<D: Disk + Drop, O: Write>(
         self,
@@ -55,9 +63,9 @@ impl DiskCommand for Show {
         out: &mut O,
     ) -> (Result<(), ShowRefusal>, D) {
         let mut disk = disk;
-        let ended = match self.0 {
-            None => show_disk(alloc, &mut disk, out),
-            Some(number) => show_file(alloc, &mut disk, number, out),
+        let ended = match self.inum {
+            None => show_disk(alloc, &mut disk, self.json, out),
+            Some(number) => show_file(alloc, &mut disk, number, self.json, out),
         };
         (ended, disk)
     }
@@ -65,12 +73,15 @@ impl DiskCommand for Show {
 
 /// Tells what the log of an image holds, as `show_log`.
 #[derive(Clone, Copy, Drop)]
-pub struct ShowLog;
+pub struct ShowLog {
+    /// Whether it is told as JSON.
+    pub json: bool,
+}
 
 impl DiskCommand for ShowLog {
     type Refusal = ShowRefusal;
 
-    ghost done = { λ show c. HasLogShown c.disk c.was c.now };
+    ghost done = { λ show c. HasLogShown c.disk show.json c.was c.now };
 
     ghost refused = { λ show c old new. IsUndrawn c.disk c.was c.now };
 
@@ -81,19 +92,22 @@ impl DiskCommand for ShowLog {
         out: &mut O,
     ) -> (Result<(), ShowRefusal>, D) {
         let mut disk = disk;
-        let ended = show_log(alloc, &mut disk, out);
+        let ended = show_log(alloc, &mut disk, self.json, out);
         (ended, disk)
     }
 }
 
 /// Tells how much of an image is used, as `count_disk`.
 #[derive(Clone, Copy, Drop)]
-pub struct Df;
+pub struct Df {
+    /// Whether it is told as JSON.
+    pub json: bool,
+}
 
 impl DiskCommand for Df {
     type Refusal = DfRefusal;
 
-    ghost done = { λ df c. HasCounted c.disk c.was c.now };
+    ghost done = { λ df c. HasCounted c.disk df.json c.was c.now };
 
     ghost refused = { λ df c old new. IsUncounted c.disk c.was c.now };
 
@@ -104,7 +118,7 @@ impl DiskCommand for Df {
         out: &mut O,
     ) -> (Result<(), DfRefusal>, D) {
         let mut disk = disk;
-        let ended = count_disk(alloc, &mut disk, out);
+        let ended = count_disk(alloc, &mut disk, self.json, out);
         (ended, disk)
     }
 }

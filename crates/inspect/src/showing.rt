@@ -7,9 +7,10 @@ ghost use Rattle.model.specs.Log.{recovered};
 ghost use Rattle.model.specs.Verdict.{verdict};
 ghost use Rattle.inspect.specs.Causes.{IsUnshown};
 ghost use Rattle.inspect.specs.Gathering.{KeepsCount};
-ghost use Rattle.inspect.specs.Showing.{IsOwnedBy, block_line, blocks_text, file_text};
+ghost use Rattle.inspect.specs.Showing.{IsOwnedBy, block_line, blocks_in, blocks_text, file_text};
 
 use crate::fault::GatherFault;
+use crate::objects::print_file_object;
 use crate::owned::{Owned, add_owned};
 use crate::refused::ShowRefusal;
 use blocks::{Block, Disk};
@@ -21,7 +22,8 @@ use std::io::Write;
 
 /// Checks the image of a disk, and prints the numbers of the blocks that one of its files owns once
 /// the log is copied home, a line for each in the order of the file's places. A block of addresses
-/// comes before those that it leads to, and its line ends with ` addresses`. It writes no block.
+/// comes before those that it leads to, and its line ends with ` addresses`. Or it prints
+/// an object of JSON with these. It writes no block.
 ///
 /// # Errors
 ///
@@ -32,13 +34,14 @@ pub fn show_file<D: Disk, O: Write>(
     alloc: Global,
     disk: &mut D,
     number: u32,
+    json: bool,
     out: &mut O,
 ) -> Result<(), ShowRefusal>
     ensures sound { OnOk result (verdict (D.image disk.old) ≡ None) }
     ensures there { OnOk result
         (IsSome (file_in (files_of (recovered (D.image disk.old))) number)) }
     ensures printed { OnOk result (Appends (O.contents out.old) (O.contents out.new)
-        (file_text (recovered (D.image disk.old)) number)) }
+        (file_text json (recovered (D.image disk.old)) number)) }
     ensures reads { OnlyReads D.Disk disk.old disk.new }
     ensures refused { IfErr result
         (IsUnshown D.Disk number disk.old disk.new (out.new ≡ out.old)) }
@@ -47,7 +50,7 @@ pub fn show_file<D: Disk, O: Write>(
     let Some(owned) = blocks_of(alloc, disk, number)? else {
         return Err(ShowRefusal::NoFile);
     };
-    print_blocks(out, owned.as_slice()).map_err(|_| ShowRefusal::Output)
+    print_blocks_in(out, json, number, owned.as_slice()).map_err(|_| ShowRefusal::Output)
 }
 
 // The blocks of the file of a number, on a disk that was checked; None where there is no such file.
@@ -77,6 +80,24 @@ fn blocks_of<D: Disk>(
     let mut owned = Vec::new(alloc);
     add_owned(disk, &image, &mut block, &mut owned, number, &inode)?;
     Ok(Some(owned))
+}
+
+// Prints these blocks of the file of a number, as an object of JSON or as lines, as the last text
+// of a command.
+fn print_blocks_in<O: Write>(
+    out: &mut O,
+    json: bool,
+    number: u32,
+    blocks: &[Owned],
+) -> Result<(), Unwritten>
+    ensures printed { OnOk result (Appends (O.contents out.old) (O.contents out.new)
+        (blocks_in json number blocks.now)) }
+{
+    if json {
+        print_file_object(out, number, blocks)
+    } else {
+        print_blocks(out, blocks)
+    }
 }
 
 // Prints the lines of these blocks, as the last text of a command.

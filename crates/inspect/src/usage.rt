@@ -7,9 +7,10 @@ ghost use Rattle.model.specs.Verdict.{verdict};
 ghost use Rattle.inspect.specs.Causes.{IsUncounted};
 ghost use Rattle.inspect.specs.Gathering.{KeepsCount};
 ghost use Rattle.inspect.specs.Owned.{owned_by_all};
-ghost use Rattle.inspect.specs.Usage.{line_text, usage_lines, usage_text};
+ghost use Rattle.inspect.specs.Usage.{line_text, usage_in, usage_lines, usage_text};
 
 use crate::fault::GatherFault;
+use crate::objects::print_usage_object;
 use crate::owned::owned_by_all;
 use crate::refused::DfRefusal;
 use blocks::{Block, Disk};
@@ -19,10 +20,24 @@ use offline::{Recovered, check};
 use std::alloc::Global;
 use std::io::Write;
 
+// How much of an image is used.
+#[derive(Clone, Copy)]
+pub struct Usage {
+    // The blocks that files may own.
+    pub blocks: usize,
+    // Those that they own, blocks of addresses among them.
+    pub used_blocks: usize,
+    // The numbers that files may have.
+    pub inodes: usize,
+    // Those that they have.
+    pub used_inodes: usize,
+}
+
 /// Checks the image of a disk, and prints how much of it is used once the log is copied home, by two
 /// lines: `blocks N used U free F` tells of the blocks of 1024 bytes that files may own, those of
 /// addresses among the used ones; `inodes N used U free F` tells of the numbers that files may have,
-/// without the unused number 0. It writes no block.
+/// without the unused number 0. Or it prints one object of JSON with these numbers. It writes no
+/// block.
 ///
 /// # Errors
 ///
@@ -32,25 +47,25 @@ use std::io::Write;
 pub fn count_disk<D: Disk, O: Write>(
     alloc: Global,
     disk: &mut D,
+    json: bool,
     out: &mut O,
 ) -> Result<(), DfRefusal>
     ensures sound { OnOk result (verdict (D.image disk.old) ≡ None) }
     ensures printed { OnOk result (Appends (O.contents out.old) (O.contents out.new)
-        (usage_text (D.image disk.old))) }
+        (usage_text json (D.image disk.old))) }
     ensures reads { OnlyReads D.Disk disk.old disk.new }
     ensures refused { IfErr result (IsUncounted D.Disk disk.old disk.new (out.new ≡ out.old)) }
 {
     let report = check(alloc, disk).map_err(DfRefusal::Check)?;
     let owned = count_owned(alloc, disk)?;
     let sup = report.sup;
-    print_usage(
-        out,
-        sup.nblocks as usize,
-        owned,
-        sup.ninodes.saturating_sub(1) as usize,
-        report.files as usize,
-    )
-    .map_err(|_| DfRefusal::Output)
+    let usage = Usage {
+        blocks: sup.nblocks as usize,
+        used_blocks: owned,
+        inodes: sup.ninodes.saturating_sub(1) as usize,
+        used_inodes: report.files as usize,
+    };
+    print_usage_in(out, json, usage).map_err(|_| DfRefusal::Output)
 }
 
 // How many blocks the files of a disk own that was checked.
@@ -67,20 +82,26 @@ fn count_owned<D: Disk>(alloc: Global, disk: &mut D) -> Result<usize, GatherFaul
     Ok(owned.len())
 }
 
+// Prints how much is used, as an object of JSON or as lines, as the last text of a command.
+fn print_usage_in<O: Write>(out: &mut O, json: bool, usage: Usage) -> Result<(), Unwritten>
+    ensures printed { OnOk result (Appends (O.contents out.old) (O.contents out.new)
+        (usage_in json usage)) }
+{
+    if json {
+        print_usage_object(out, usage)
+    } else {
+        print_usage(out, usage)
+    }
+}
+
 // Prints both lines, as the last text of a command: how many blocks and inodes there are, and how
 // many of them are used.
-fn print_usage<O: Write>(
-    out: &mut O,
-    blocks: usize,
-    used_blocks: usize,
-    inodes: usize,
-    used_inodes: usize,
-) -> Result<(), Unwritten>
+fn print_usage<O: Write>(out: &mut O, usage: Usage) -> Result<(), Unwritten>
     ensures printed { OnOk result (Appends (O.contents out.old) (O.contents out.new)
-        (usage_lines blocks used_blocks inodes used_inodes)) }
+        (usage_lines usage)) }
 {
-    print_line(out, "blocks", blocks, used_blocks)?;
-    print_line(out, "inodes", inodes, used_inodes)?;
+    print_line(out, "blocks", usage.blocks, usage.used_blocks)?;
+    print_line(out, "inodes", usage.inodes, usage.used_inodes)?;
     pass_on(out)
 }
 
