@@ -38,7 +38,7 @@ not_false false h = absurd (cc h)
 
 module _ {O : Type 0} (contents : O → Option (List ℕ)) where
   -- an image of which no fault was heard has none, and nothing was printed
-  pub none_found : (x : Image) (old new : O) (heard : Heard) → PrintsFaults contents (faults x) old nothing_heard new heard → heard.first ≡ None → (verdict x ≡ None) × (new ≡ old)
+  pub none_found : (x : Image) (old new : O) (heard : Heard) → PrintsFaults contents false (faults x) old nothing_heard new heard → heard.first ≡ None → (verdict x ≡ None) × (new ≡ old)
   none_found x old new heard prints none =
       let sound : verdict x ≡ None = (verdict_is_first x).first ∙ sym prints.first ∙ none in
       (sound, prints.none ((verdict_is_first x).none.0 sound))
@@ -49,14 +49,14 @@ module _ {O : Type 0} (contents : O → Option (List ℕ)) where
       (0, (λ _. same), subst (λ (o : O). Appends (contents old) (contents o) (flat_map fault_line (take 0 list))) (sym same) (Appends-nil (contents old)))
 
   -- those that were told by then
-  pub tells_first : (list : List CheckFault) (old new : O) (heard : Heard) (count : ℕ) → heard.is_printed ≡ true → PrintsFaults contents (take count list) old nothing_heard new heard →
+  pub tells_first : (list : List CheckFault) (old new : O) (heard : Heard) (count : ℕ) → heard.is_printed ≡ true → PrintsFaults contents false (take count list) old nothing_heard new heard →
       TellsFirst list (contents old) (contents new) (new ≡ old)
   tells_first list old new heard count all prints = (count, prints.none, (prints.printed all).lines)
 
   module _ {D N : Type 0} (disk : Ghosts D N) where
     -- its faults were told
     pub faults_told : (d e : D) (old mid new : O) (heard : Heard) (first : CheckFault) (r : Printed CheckFault) → heard.is_printed ≡ true →
-        PrintsFaults contents (faults (disk.image d)) old nothing_heard mid heard → heard.first ≡ Some first → IsToldWith (contents mid) (contents new) heard.count first r →
+        PrintsFaults contents false (faults (disk.image d)) old nothing_heard mid heard → heard.first ≡ Some first → IsToldWith (contents mid) (contents new) heard.count first r →
         HasFaultsTold disk d e (contents old) (contents new) (new ≡ old) r
     faults_told d e old mid new heard first (printed.Fault fault) all prints is told =
         let x = disk.image d in

@@ -7,4 +7,5 @@ pub mod Keeping
 pub mod Seats
 pub mod Shown
 pub mod Owning
+mod Arrayed
 mod Checked

@@ -1,5 +1,5 @@
 -- Why a command over a disk wasn't done, and how the disk is then.
-use Rattle.std.specs.Prelude.{◌≡◌, ◌⊎◌, ◌&&◌, ◌==◌, ⊤, ℕ, Bool, true, false, List, [], length, take, Option, Some, None}
+use Rattle.std.specs.Prelude.{◌≡◌, ◌⊎◌, ◌&&◌, ◌==◌, ⊤, ℕ, Bool, true, false, List, [], ◌++◌, length, take, codes, Option, Some, None, Result, Ok, Err}
 use Rattle.std.specs.List.{flat_map}
 use Rattle.std.specs.Io.KnownBytes.{Appends}
 use Rattle.blocks.specs.Disk.{Image, Rose}
@@ -15,6 +15,8 @@ use Rattle.model.specs.declared.types.fault.CheckFault.{CheckFault}
 use Rattle.model.specs.declared.types.image.Form.{Form}
 use Rattle.opening.specs.Recoveries.{IsUnrecovered}
 use Rattle.opening.specs.declared.recovering.RecoverRefusal.{RecoverRefusal}
+use Rattle.json_lines.specs.Arrays.{array_text, elements_behind}
+use Rattle.json_lines.specs.Faults.{fault_object}
 use Rattle.messages.specs.Output.{fault_count_text, fault_line, faults_text}
 use Rattle.messages.specs.declared.printed.Printed.{Printed}
 use Rattle.messages.specs.declared.printed.Printed.TheVariants as printed
@@ -51,11 +53,34 @@ HasFaultsTold disk d e old new none (printed.Fault fault) =
     × TellsFirst (faults (disk.image d)) old new none)
 HasFaultsTold disk d e old new none printed.Output = ⊤
 
--- why a check that tells the first fault, or all of them, was refused
-abbrev pub IsUncheckedBy : {D N : Type 0} → Ghosts D N → Bool → D → D → Option (List ℕ)
+-- the end of an array of faults was printed, of which that is the first, if there is any: that is
+-- the refusal then; or it could not be printed
+abbrev pub EndsWith : Option (List ℕ) → Option (List ℕ) → Option CheckFault
+    → Result (Unit {0}) (Printed CheckFault) → Type 0
+EndsWith old new first (Ok done) = (first ≡ None) × Appends old new (codes "]\n")
+EndsWith old new first (Err (printed.Fault fault)) =
+    (first ≡ Some fault) × Appends old new (codes "]\n")
+EndsWith old new first (Err printed.Output) = ⊤
+
+-- The image of the disk d, now e, has faults, and an array of all was printed, and the refusal is
+-- the first; or what was found could not be printed; or a read failed, or memory was refused, and an
+-- array was begun with the first of its faults.
+abbrev pub HasArrayTold : {D N : Type 0} → Ghosts D N → D → D → Option (List ℕ)
+    → Option (List ℕ) → Printed CheckFault → Type 0
+HasArrayTold disk d e old new (printed.Fault fault) =
+    ((verdict (disk.image d) ≡ Some fault)
+    × Appends old new (array_text fault_object (faults (disk.image d))))
+    ⊎ (IsCause None (disk.fault_count d) (disk.fault_count e) fault
+    × ((count : ℕ) × Appends old new (codes "["
+    ++ elements_behind fault_object 0 (take count (faults (disk.image d))))))
+HasArrayTold disk d e old new printed.Output = ⊤
+
+-- why a check that tells the first fault, or all of them, as JSON or as text, was refused
+abbrev pub IsUncheckedBy : {D N : Type 0} → Ghosts D N → Bool → Bool → D → D → Option (List ℕ)
     → Option (List ℕ) → Type 0 → Printed CheckFault → Type 0
-IsUncheckedBy disk false d e old new none r = IsUnchecked disk d e none r
-IsUncheckedBy disk true d e old new none r = HasFaultsTold disk d e old new none r
+IsUncheckedBy disk json false d e old new none r = IsUnchecked disk d e none r
+IsUncheckedBy disk false true d e old new none r = HasFaultsTold disk d e old new none r
+IsUncheckedBy disk true true d e old new none r = HasArrayTold disk d e old new r
 
 -- the disk d, now e, was not recovered; or it was, and how many blocks were copied could not be
 -- printed

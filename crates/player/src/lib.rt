@@ -25,7 +25,7 @@ mod tellers;
 mod telling;
 mod turns;
 
-pub use checking::{check_disk, check_disk_all};
+pub use checking::{check_disk, check_disk_all, check_disk_array};
 pub use copying::copies_of;
 pub use looks::{Cat, CatReadOnly, Check, Recover};
 pub use making::make_disk;

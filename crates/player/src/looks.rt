@@ -4,7 +4,7 @@ ghost use Rattle.blocks.specs.Calls.{OnlyReads};
 ghost use Rattle.player.specs.Looks.{HasRead, HasRecovered, HasReported, HasShown};
 ghost use Rattle.player.specs.Showing.{IsNotShown, IsUnread};
 
-use crate::checking::{check_disk, check_disk_all};
+use crate::checking::{check_disk, check_disk_all, check_disk_array};
 use crate::recovering::recover_disk;
 use crate::refusals::CatRefusal;
 use crate::showing::{cat_disk, cat_read_only};
@@ -16,19 +16,22 @@ use opening::RecoverRefusal;
 use std::alloc::Global;
 use std::io::Write;
 
-/// Checks an image, as `check_disk`, or as `check_disk_all`.
+/// Checks an image, as `check_disk`, or as `check_disk_all` or `check_disk_array`.
 #[derive(Clone, Copy, Drop)]
 pub struct Check {
     /// Whether all faults are told.
     pub all: bool,
+    /// Whether it is told as JSON.
+    pub json: bool,
 }
 
 impl DiskCommand for Check {
     type Refusal = Printed<CheckFault>;
 
-    ghost done = { λ check c. HasReported c.disk c.was c.now };
+    ghost done = { λ check c. HasReported c.disk check.json check.all c.was c.now };
 
-    ghost refused = { λ check c old new. IsUncheckedBy c.disk check.all c.was c.now old new };
+    ghost refused = { λ check c old new.
+        IsUncheckedBy c.disk check.json check.all c.was c.now old new };
 
     fn run_on<D: Disk + Drop, O: Write>(
         self,
@@ -37,10 +40,10 @@ impl DiskCommand for Check {
         out: &mut O,
     ) -> (Result<(), Printed<CheckFault>>, D) {
         let mut disk = disk;
-        let ended = if self.all {
-            check_disk_all(alloc, &mut disk, out)
-        } else {
-            check_disk(alloc, &mut disk, out)
+        let ended = match (self.json, self.all) {
+            (json, false) => check_disk(alloc, &mut disk, json, out),
+            (false, true) => check_disk_all(alloc, &mut disk, out),
+            (true, true) => check_disk_array(alloc, &mut disk, out),
         };
         (ended, disk)
     }
@@ -51,12 +54,14 @@ impl DiskCommand for Check {
 pub struct Recover<P> {
     /// Who is told how far the recovery is.
     pub progress: P,
+    /// Whether it is told as JSON.
+    pub json: bool,
 }
 
 impl<P: Meter + Drop> DiskCommand for Recover<P> {
     type Refusal = Printed<RecoverRefusal>;
 
-    ghost done = { λ recover c. HasRecovered c.disk c.was c.now };
+    ghost done = { λ recover c. HasRecovered c.disk recover.json c.was c.now };
 
     ghost refused = { λ recover c old new. IsNotRecovered c.disk c.was c.now };
 
@@ -68,7 +73,7 @@ impl<P: Meter + Drop> DiskCommand for Recover<P> {
     ) -> (Result<(), Printed<RecoverRefusal>>, D) {
         let mut disk = disk;
         let mut progress = self.progress;
-        let ended = recover_disk(alloc, &mut disk, &mut progress, out);
+        let ended = recover_disk(alloc, &mut disk, self.json, &mut progress, out);
         (ended, disk)
     }
 }

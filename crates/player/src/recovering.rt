@@ -6,16 +6,17 @@ ghost use Rattle.wal.specs.Recovery.{IsCalm, LeavesFromSync, RecoversAs};
 ghost use Rattle.kernel.specs.Opening.{LeavesRecovered};
 ghost use Rattle.opening.specs.Recoveries.{IsRecovered};
 ghost use Rattle.player.specs.Causes.{IsNotRecovered};
-ghost use Rattle.messages.specs.Output.{copied_text};
+ghost use Rattle.player.specs.Looks.{copied_in};
 
 use blocks::Disk;
-use messages::{Meter, Printed, print_copied};
+use json_lines::print_number_object;
+use messages::{Meter, Printed, Unwritten, print_copied};
 use opening::{RecoverRefusal, recover_image};
 use std::alloc::Global;
 use std::io::Write;
 
-/// Checks the image of a disk, copies the blocks of its log home, and prints how many these were. The
-/// meter is told as by `recover_image`.
+/// Checks the image of a disk, copies the blocks of its log home, and prints how many these were,
+/// as an object of JSON or as a line. The meter is told as by `recover_image`.
 ///
 /// # Errors
 ///
@@ -28,6 +29,7 @@ use std::io::Write;
 pub fn recover_disk<D: Disk, P: Meter, O: Write>(
     alloc: Global,
     disk: &mut D,
+    json: bool,
     progress: &mut P,
     out: &mut O,
 ) -> Result<(), Printed<RecoverRefusal>>
@@ -35,7 +37,7 @@ pub fn recover_disk<D: Disk, P: Meter, O: Write>(
         (logged_count (D.image disk.old)) disk.old disk.new) }
     ensures name { D.name disk.new ≡ D.name disk.old }
     ensures printed { OnOk result (Appends (O.contents out.old) (O.contents out.new)
-        (copied_text (logged_count (D.image disk.old)))) }
+        (copied_in json (logged_count (D.image disk.old)))) }
     ensures refused { IfErr result (IsNotRecovered D.Disk disk.old disk.new (out.new ≡ out.old)) }
     ensures stops { LeavesRecovered D.Disk disk.old disk.new }
     ensures synced { OnOk result
@@ -46,5 +48,18 @@ pub fn recover_disk<D: Disk, P: Meter, O: Write>(
         Ok(copied) => copied,
         Err(refusal) => return Err(Printed::Fault(refusal)),
     };
-    print_copied(out, copied).map_err(|_| Printed::Output)
+    print_copied_in(out, json, copied).map_err(|_| Printed::Output)
+}
+
+// Prints how many blocks were copied home, as an object or as a line, as the last text of a
+// command.
+fn print_copied_in<O: Write>(out: &mut O, json: bool, copied: u32) -> Result<(), Unwritten>
+    ensures ok { OnOk result (Appends (O.contents out.old) (O.contents out.new)
+        (copied_in json copied)) }
+{
+    if json {
+        print_number_object(out, "recovered", copied as u64)
+    } else {
+        print_copied(out, copied)
+    }
 }

@@ -48,12 +48,12 @@ fn refuse_all(rt: &impl Print, alloc: Global, disk: &mut MemDisk) -> anyhow::Res
 }
 
 fn refuse_check(alloc: Global, disk: &mut MemDisk, room: usize) -> Result<(), Wrong> {
-    let ended = check_disk(alloc, disk, &mut Narrow { room });
+    let ended = check_disk(alloc, disk, false, &mut Narrow { room });
     ensure(is_output_of_check(&ended), "the output was not refused")?;
     let Ok(mut out) = BufWriter::new(alloc, Narrow { room }) else {
         return Err(Wrong::NoMemory);
     };
-    let ended = check_disk(alloc, disk, &mut out);
+    let ended = check_disk(alloc, disk, false, &mut out);
     ensure(
         is_output_of_check(&ended),
         "the buffered output was not refused",
@@ -65,8 +65,8 @@ fn refuse_recovery(alloc: Global, disk: &mut MemDisk) -> Result<(), Wrong> {
     let Ok(mut out) = BufWriter::new(alloc, Narrow { room: 20 }) else {
         return Err(Wrong::NoMemory);
     };
-    let is_checked = check_disk(alloc, disk, &mut out).is_ok();
-    let ended = recover_disk(alloc, disk, &mut Silent, &mut out);
+    let is_checked = check_disk(alloc, disk, false, &mut out).is_ok();
+    let ended = recover_disk(alloc, disk, false, &mut Silent, &mut out);
     ensure(is_checked, "the output of the check was refused")?;
     ensure(is_output_of_recovery(&ended), "the output was not refused")
 }

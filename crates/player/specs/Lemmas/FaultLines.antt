@@ -1,15 +1,16 @@
 -- Lines of faults, one list after the other.
-use Rattle.std.proofs.Common.{◌≡◌, ◌∙◌, ℕ, ◌+◌, List, [], ◌∷◌, ◌++◌, length, Option, Some, None, refl, sym, ap, subst, add-zero, add_assoc}
+use Rattle.std.proofs.Common.{◌≡◌, ◌∙◌, ℕ, ◌+◌, Bool, true, false, List, [], ◌∷◌, ◌++◌, length, Option, Some, None, refl, sym, ap, subst, add-zero, add_assoc}
 use Rattle.std.specs.Io.KnownBytes.{Appends}
-use Rattle.std.specs.List.{flat_map}
 use Rattle.std.proofs.KnownBytes.{Appends-nil, Appends-trans}
 use Rattle.std.proofs.lemmas.List.{length-append}
 use Rattle.std.proofs.lemmas.List.Concat.{flat_map-append}
 use Rattle.model.specs.Faults.{first_in}
 use Rattle.model.specs.Verdict.{or_else}
 use Rattle.model.specs.declared.types.fault.CheckFault.{CheckFault}
+use Rattle.json_lines.specs.Faults.{fault_object}
+use Rattle.json_lines.specs.Lemmas.Elements.{elements_joined}
 use Rattle.messages.specs.Output.{fault_line}
-use Rattle.player.specs.FaultLines.{HearsLines, PrintsFaults}
+use Rattle.player.specs.FaultLines.{HearsLines, PrintsFaults, faults_in}
 use Rattle.player.specs.declared.fault_lines.FaultLines.{FaultLines}
 use Rattle.player.specs.declared.fault_lines.Heard.{Heard}
 
@@ -30,17 +31,26 @@ none_behind : {A : Type 0} (front back : List A) → front ++ back ≡ [] → ba
 none_behind [] back h = h
 none_behind (a ∷ front) back h = absurd (cc h)
 
+-- faults behind others are printed, one list after the other
+faults_joined : (json : Bool) (n : ℕ) (front back : List CheckFault) → faults_in json n (front ++ back) ≡ faults_in json n front ++ faults_in json (n + length front) back
+faults_joined true n front back = elements_joined fault_object n front back
+faults_joined false n front back = flat_map-append fault_line front back
+
+none_in : (json : Bool) (n : ℕ) → faults_in json n [] ≡ []
+none_in true n = refl
+none_in false n = refl
+
 module _ {O : Type 0} (contents : O → Option (List ℕ)) where
-  prints_none : (out : O) (heard : Heard) → PrintsFaults contents [] out heard out heard
-  prints_none out heard = record {
+  prints_none : (json : Bool) (out : O) (heard : Heard) → PrintsFaults contents json [] out heard out heard
+  prints_none json out heard = record {
     none = λ h. refl;
     first = or_none heard.first;
-    printed = λ is. record { others = is; count = sym (add-zero heard.count); lines = Appends-nil (contents out) };
+    printed = λ is. record { others = is; count = sym (add-zero heard.count); lines = subst (Appends (contents out) (contents out)) (sym (none_in json heard.count)) (Appends-nil (contents out)) };
   }
 
-  prints_more : (a b c : O) (before between after : Heard) (front back : List CheckFault) → PrintsFaults contents front a before b between → PrintsFaults contents back b between c after →
-      PrintsFaults contents (front ++ back) a before c after
-  prints_more a b c before between after front back first then = record {
+  prints_more : (json : Bool) (a b c : O) (before between after : Heard) (front back : List CheckFault) → PrintsFaults contents json front a before b between → PrintsFaults contents json back b between c after →
+      PrintsFaults contents json (front ++ back) a before c after
+  prints_more json a b c before between after front back first then = record {
     none = λ h. then.none (none_behind front back h) ∙ first.none (none_before front back h);
     first = then.first ∙ ap (λ o. or_else o (first_in back)) first.first ∙ first_of_both before.first front back;
     printed = λ is.
@@ -49,16 +59,19 @@ module _ {O : Type 0} (contents : O → Option (List ℕ)) where
         record {
           others = one.others;
           count = second.count ∙ ap (λ n. n + length back) one.count ∙ add_assoc before.count (length front) (length back) ∙ ap (λ n. before.count + n) (sym (length-append front back));
-          lines = subst (Appends (contents a) (contents c)) (sym (flat_map-append fault_line front back))
-              (Appends-trans (contents a) (contents b) (contents c) (flat_map fault_line front) (flat_map fault_line back) one.lines second.lines);
+          lines = subst (Appends (contents a) (contents c)) (sym (faults_joined json before.count front back))
+              (Appends-trans (contents a) (contents b) (contents c) (faults_in json before.count front) (faults_in json (before.count + length front) back) one.lines
+              (subst (λ n. Appends (contents b) (contents c) (faults_in json n back)) one.count second.lines));
         };
   }
 
   pub lines_none : (a : FaultLines O) → HearsLines contents a [] a
-  lines_none a = (refl, prints_none a.out.now a.heard)
+  lines_none a = (refl, refl, prints_none a.json a.out.now a.heard)
 
   pub lines_more : (a b c : FaultLines O) (front back : List CheckFault) → HearsLines contents a front b → HearsLines contents b back c → HearsLines contents a (front ++ back) c
   lines_more a b c front back first then = (
     then.0 ∙ first.0,
-    prints_more a.out.now b.out.now c.out.now a.heard b.heard c.heard front back first.1 then.1,
+    then.1 ∙ first.1,
+    prints_more a.json a.out.now b.out.now c.out.now a.heard b.heard c.heard front back first.2
+        (subst (λ (json : Bool). PrintsFaults contents json back b.out.now b.heard c.out.now c.heard) first.1 then.2),
   )
