@@ -28,13 +28,14 @@ place_text (Script fault) = []
 place_text (Schedule fault) = []
 
 -- some operations were checked in the turns of some words, over a disk that holds writes back or over
--- one that doesn't, each image passed, and how many there were was printed; these stops were tried
-pub record ChecksScript (held : Bool) (tried : List Column) (old new : Option (List ℕ)) : Type 0
-  where
-    pub tasks : List Task
-    pub processes : ℕ
-    pub words : List Word
-    pub checks : ChecksAll held tasks processes words tried old new
+-- one that doesn't, each image passed, and how many there were was printed, as JSON or as text;
+-- these stops were tried
+pub record ChecksScript (json held : Bool) (tried : List Column) (old new : Option (List ℕ))
+    : Type 0 where
+  pub tasks : List Task
+  pub processes : ℕ
+  pub words : List Word
+  pub checks : ChecksAll json held tasks processes words tried old new
 
 -- some operations were not, for this reason
 pub record IsUncheckedFor (held : Bool) (tried : List Column) (none : Type 0)

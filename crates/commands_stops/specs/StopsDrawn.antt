@@ -97,18 +97,18 @@ IsDrawnInto (Some path) drawn = drawn
 -- ---- a script
 
 -- it was checked, and a file got the picture of its stops
-abbrev pub ChecksInto : {F P : Type 0} → (F → Option (List ℕ)) → Bool → Option (List ℕ)
+abbrev pub ChecksInto : {F P : Type 0} → (F → Option (List ℕ)) → Bool → Bool → Option (List ℕ)
     → Option (List ℕ) → Option P → Type 0
-ChecksInto contents held old new picture = (tried : List Column)
-    × ChecksScript held tried old new × IsDrawnInto picture (DrawsStops contents tried None)
+ChecksInto contents json held old new picture = (tried : List Column)
+    × ChecksScript json held tried old new × IsDrawnInto picture (DrawsStops contents tried None)
 
 -- Why it wasn't: nothing was done; or the check was refused, and a file got the picture of what was
 -- tried then; or it was done and printed, and not drawn.
-abbrev pub IsUncheckedInto : {F P : Type 0} → (F → Option (List ℕ)) → Bool → Option (List ℕ)
+abbrev pub IsUncheckedInto : {F P : Type 0} → (F → Option (List ℕ)) → Bool → Bool → Option (List ℕ)
     → Option (List ℕ) → Type 0 → Option P → DrawnStopsRefusal → Type 0
 IsUncheckedInto contents held old new none picture NoMemory = none
 IsUncheckedInto contents held old new none picture (Stops r u) = (tried : List Column)
     × IsScriptUnchecked held tried none r
     × DrawsOr u tried (IsDrawnInto picture (DrawsRefused contents tried r))
 IsUncheckedInto contents held old new none picture (Picture u) = (tried : List Column)
-    × ChecksScript held tried old new × IsUndrawn u tried
+    × ChecksScript json held tried old new × IsUndrawn u tried

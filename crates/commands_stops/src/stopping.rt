@@ -74,22 +74,25 @@ pub fn stops_into<R: Files + AllocGlobal, P: Meter, H: Holder<R::File>, O: Write
     script: &str,
     schedule: &str,
     held: bool,
+    json: bool,
     picture: Option<&str>,
     progress: &mut P,
     holder: &mut H,
     out: &mut O,
 ) -> Result<(), DrawnStopsRefusal>
-    ensures checked { OnOk result (ChecksInto R.File.contents held
+    ensures checked { OnOk result (ChecksInto R.File.contents json held
         (O.contents out.old) (O.contents out.new) picture.entry) }
-    ensures refused { IfErr result (IsUncheckedInto R.File.contents held
+    ensures refused { IfErr result (IsUncheckedInto R.File.contents json held
         (O.contents out.old) (O.contents out.new) (out.new ≡ out.old) picture.entry) }
     ensures unbegun { IfErr result (λ refusal. IsUnbegun refusal → holder.new ≡ holder.old) }
 {
     if let Some(path) = picture {
-        return stops_pictured(rt, script, schedule, held, path, progress, holder, out);
+        return stops_pictured(
+            rt, script, schedule, held, json, path, progress, holder, out,
+        );
     }
     let mut tried = Vec::new(rt.alloc());
-    match stops_files(rt, script, schedule, held, &mut tried, progress, out) {
+    match stops_files(rt, script, schedule, held, json, &mut tried, progress, out) {
         Ok(()) => Ok(()),
         Err(refusal) => Err(DrawnStopsRefusal::Stops(refusal, Ok(()))),
     }
@@ -101,14 +104,15 @@ fn stops_pictured<R: Files + AllocGlobal, P: Meter, H: Holder<R::File>, O: Write
     script: &str,
     schedule: &str,
     held: bool,
+    json: bool,
     path: &str,
     progress: &mut P,
     holder: &mut H,
     out: &mut O,
 ) -> Result<(), DrawnStopsRefusal>
-    ensures checked { OnOk result (ChecksInto R.File.contents held
+    ensures checked { OnOk result (ChecksInto R.File.contents json held
         (O.contents out.old) (O.contents out.new) (Some path)) }
-    ensures refused { IfErr result (IsUncheckedInto R.File.contents held
+    ensures refused { IfErr result (IsUncheckedInto R.File.contents json held
         (O.contents out.old) (O.contents out.new) (out.new ≡ out.old) (Some path)) }
     ensures unbegun { IfErr result (λ refusal. IsUnbegun refusal → holder.new ≡ holder.old) }
 {
@@ -116,7 +120,7 @@ fn stops_pictured<R: Files + AllocGlobal, P: Meter, H: Holder<R::File>, O: Write
         Ok(tried) => tried,
         Err(_refused) => return Err(DrawnStopsRefusal::NoMemory),
     };
-    match stops_files(rt, script, schedule, held, &mut tried, progress, out) {
+    match stops_files(rt, script, schedule, held, json, &mut tried, progress, out) {
         Ok(()) => match draw_passed(rt, path, tried.as_slice(), holder) {
             Ok(()) => Ok(()),
             Err(undrawn) => Err(DrawnStopsRefusal::Picture(undrawn)),
@@ -137,11 +141,12 @@ fn stops_files<R: Files + AllocGlobal, P: Meter, O: Write>(
     script: &str,
     schedule: &str,
     held: bool,
+    json: bool,
     tried: &mut Vec<Column>,
     progress: &mut P,
     out: &mut O,
 ) -> Result<(), StopsRefusal>
-    ensures checked { OnOk result (ChecksScript held tried.new.items
+    ensures checked { OnOk result (ChecksScript json held tried.new.items
         (O.contents out.old) (O.contents out.new)) }
     ensures refused { IfErr result (IsScriptUnchecked held tried.new.items (out.new ≡ out.old)) }
 {
@@ -154,6 +159,7 @@ fn stops_files<R: Files + AllocGlobal, P: Meter, O: Write>(
         processes,
         words.as_slice(),
         held,
+        json,
         tried,
         progress,
         out,

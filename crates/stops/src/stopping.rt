@@ -1,24 +1,27 @@
 // A script at each of its stops, and what is printed of it.
 ghost use Rattle.std.specs.Prelude.{◌≡◌, ◌<◌, ◌+◌, ◌^◌, [], All, IfOk, IfErr, IsTrue, OnOk};
 ghost use Rattle.std.specs.List.{list_all};
+ghost use Rattle.std.specs.Io.KnownBytes.{Appends};
 ghost use Rattle.scripts.specs.Schedule.{is_word_of};
 ghost use Rattle.crash_check.specs.Mismatches.{OnMismatch};
 ghost use Rattle.crash_check.specs.declared.mismatch.Stop.TheVariants.{End};
-ghost use Rattle.stops.specs.Checks.{ChecksAll, FailsSome, IsUnchecked, PassesAll};
+ghost use Rattle.stops.specs.Checks.{ChecksAll, FailsSome, IsUnchecked, PassesAll, images_in};
 ghost use Rattle.stops.specs.Trials.{AllPass, Fails, FailsBehind, IsTried, Passes, SomeFails};
 
 use crate::holding::try_held_stops;
 use crate::trial::try_run;
 use crate::tried::add;
 use crash_check::{Cause, Mismatch, Stop, StopsFault};
-use messages::{Meter, Printed, print_images};
+use json_lines::print_number_object;
+use messages::{Meter, Printed, Unwritten, print_images};
 use pictures::Column;
 use scripts::{Task, Word};
 use std::alloc::Global;
 use std::io::Write;
 
 /// Checks a script of so many processes, in the turns of a schedule, at each of its stops, and
-/// prints how many images these left: one more than the writes of the whole run. Where `held` is
+/// prints how many images these left, as an object of JSON or as a line: one more than the writes
+/// of the whole run. Where `held` is
 /// said, it is made over a disk that holds writes back, and stopped before each sync, too; each stop
 /// then leaves an image for each choice of the held writes that get through, or, where more than 6
 /// are held, for each beginning of them. The stops that passed are put into `tried`, in this order: the
@@ -38,13 +41,14 @@ pub fn check_stops<P: Meter, O: Write>(
     processes: u32,
     words: &[Word],
     held: bool,
+    json: bool,
     tried: &mut Vec<Column>,
     progress: &mut P,
     out: &mut O,
 ) -> Result<(), Printed<StopsFault>>
     requires tasks { All (λ task. task.pid < processes) tasks.now }
     requires words { IsTrue (list_all (is_word_of processes) words.now) }
-    ensures checked { OnOk result (ChecksAll held tasks.now processes words.now
+    ensures checked { OnOk result (ChecksAll json held tasks.now processes words.now
         tried.new.items (O.contents out.old) (O.contents out.new)) }
     ensures refused { IfErr result (IsUnchecked held tasks.now processes words.now
         tried.new.items (out.new ≡ out.old)) }
@@ -53,7 +57,19 @@ pub fn check_stops<P: Meter, O: Write>(
     let all = try_all(alloc, tasks, processes, words, progress, held, tried);
     progress.ended();
     let images = all.map_err(Printed::Fault)?;
-    print_images(out, images).map_err(|_| Printed::Output)
+    print_images_in(out, json, images).map_err(|_| Printed::Output)
+}
+
+// Prints how many images there were, as an object or as a line, as the last text of a command.
+fn print_images_in<O: Write>(out: &mut O, json: bool, images: u64) -> Result<(), Unwritten>
+    ensures ok { OnOk result (Appends (O.contents out.old) (O.contents out.new)
+        (images_in json images)) }
+{
+    if json {
+        print_number_object(out, "images", images)
+    } else {
+        print_images(out, images)
+    }
 }
 
 // Makes all runs over a disk of that kind. How many images there were.
