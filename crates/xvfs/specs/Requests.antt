@@ -40,20 +40,20 @@ abbrev pub Answers : {F N : Type 0} → FileGhosts F N → Request → Option (L
     → Option (List ℕ) → Type 0
 Answers file (Mkfs image size ninodes large no_sync) old new =
     IsMade file.disk (form_asked large) size ninodes (not no_sync) old new
-Answers file (Check image all) old new =
-    OpensDisk file.remaining file_disk false (λ d e. HasReported file_disk d e old new)
-Answers file (Recover image sync) old new =
-    OpensDisk file.remaining file_disk sync (λ d e. HasRecovered file_disk d e old new)
+Answers file (Check image all json) old new =
+    OpensDisk file.remaining file_disk false (λ d e. HasReported file_disk json all d e old new)
+Answers file (Recover image sync json) old new =
+    OpensDisk file.remaining file_disk sync (λ d e. HasRecovered file_disk json d e old new)
 Answers file (Cat image inum read_only) old new =
     HasCat file.remaining read_only inum old new
-Answers file (Ls image) old new =
-    OpensDisk file.remaining file_disk false (λ d e. HasListed file_disk d e old new)
-Answers file (Df image) old new =
-    OpensDisk file.remaining file_disk false (λ d e. HasCounted file_disk d e old new)
-Answers file (Show image inum) old new =
-    OpensDisk file.remaining file_disk false (λ d e. HasBlocksShown file_disk inum d e old new)
-Answers file (ShowLog image) old new =
-    OpensDisk file.remaining file_disk false (λ d e. HasLogShown file_disk d e old new)
+Answers file (Ls image json) old new =
+    OpensDisk file.remaining file_disk false (λ d e. HasListed file_disk json d e old new)
+Answers file (Df image json) old new =
+    OpensDisk file.remaining file_disk false (λ d e. HasCounted file_disk json d e old new)
+Answers file (Show image inum json) old new =
+    OpensDisk file.remaining file_disk false (λ d e. HasBlocksShown file_disk json inum d e old new)
+Answers file (ShowLog image json) old new =
+    OpensDisk file.remaining file_disk false (λ d e. HasLogShown file_disk json d e old new)
 Answers file (ShowPicture image picture) old new =
     IsShownInto file.remaining file.contents old new
 Answers file (Put image path inum sync no_sync) old new =
@@ -69,8 +69,8 @@ Answers file (ReplayJson image script schedule stop sync) old new =
     OpensDisk file.remaining file_disk sync (IsReplayed in_objects (unwrap_or stop 0) old new)
 Answers file (Run image script workers group sync) old new =
     OpensDisk file.remaining file_disk sync (IsRun old new)
-Answers file (Stops script schedule held picture) old new =
-    ChecksInto file.contents held old new picture
+Answers file (Stops script schedule held picture json) old new =
+    ChecksInto file.contents json held old new picture
 
 -- a command was refused, for some reason of its own
 abbrev pub Refuses : {R : Type 0} → (R → Type 0) → Type 0
@@ -82,19 +82,20 @@ abbrev pub OnRefused : {F N : Type 0} → FileGhosts F N → Request → Option 
     → Option (List ℕ) → Type 0 → Type 0
 OnRefused file (Mkfs image size ninodes large no_sync) old new none =
     Refuses (IsNotMade size ninodes none)
-OnRefused file (Check image all) old new none = Refuses
-    (IsRefusedOn file.remaining false none (λ d e. IsUncheckedBy file_disk all d e old new none))
-OnRefused file (Recover image sync) old new none =
+OnRefused file (Check image all json) old new none = Refuses
+    (IsRefusedOn file.remaining false none
+    (λ d e. IsUncheckedBy file_disk json all d e old new none))
+OnRefused file (Recover image sync json) old new none =
     Refuses (IsRefusedOn file.remaining sync none (λ d e. IsNotRecovered file_disk d e none))
 OnRefused file (Cat image inum read_only) old new none =
     Refuses (IsNotCat file.remaining read_only inum none)
-OnRefused file (Ls image) old new none =
+OnRefused file (Ls image json) old new none =
     Refuses (IsRefusedOn file.remaining false none (λ d e. IsUnlisted file_disk d e none))
-OnRefused file (Df image) old new none =
+OnRefused file (Df image json) old new none =
     Refuses (IsRefusedOn file.remaining false none (λ d e. IsUncounted file_disk d e none))
-OnRefused file (Show image inum) old new none =
+OnRefused file (Show image inum json) old new none =
     Refuses (IsRefusedOn file.remaining false none (λ d e. IsHidden file_disk inum d e none))
-OnRefused file (ShowLog image) old new none =
+OnRefused file (ShowLog image json) old new none =
     Refuses (IsRefusedOn file.remaining false none (λ d e. IsUndrawn file_disk d e none))
 OnRefused file (ShowPicture image picture) old new none =
     Refuses (IsUnshown file.remaining old new none)
@@ -111,8 +112,8 @@ OnRefused file (ReplayJson image script schedule stop sync) old new none =
     Refuses (IsUnreplayed file.remaining sync in_objects (unwrap_or stop 0) old new none)
 OnRefused file (Run image script workers group sync) old new none =
     Refuses (IsNotRun file.remaining sync old new none)
-OnRefused file (Stops script schedule held picture) old new none =
-    Refuses (IsUncheckedInto file.contents held old new none picture)
+OnRefused file (Stops script schedule held picture json) old new none =
+    Refuses (IsUncheckedInto file.contents json held old new none picture)
 
 -- the words ask help for a format, and its lines were printed
 abbrev pub HasTold : List (List ℕ) → Option (List ℕ) → Option (List ℕ) → Type 0

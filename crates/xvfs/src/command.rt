@@ -197,18 +197,19 @@ where
             out,
             err,
         ),
-        Request::Check { image, all } => {
+        Request::Check { image, all, json } => {
             perform(
                 NAME,
                 rt,
-                OverFile(image, Access::Look(locking), Check { all }),
+                OverFile(image, Access::Look(locking), Check { all, json }),
                 out,
                 err,
             )
         }
-        Request::Recover { image, sync } => {
+        Request::Recover { image, sync, json } => {
             let recover = Recover {
                 progress: TerminalMeter::new(rt),
+                json,
             };
             perform(
                 NAME,
@@ -231,32 +232,32 @@ where
             };
             perform(NAME, rt, cat, out, err)
         }
-        Request::Ls { image } => perform(
+        Request::Ls { image, json } => perform(
             NAME,
             rt,
-            OverFile(image, Access::Look(locking), Ls),
+            OverFile(image, Access::Look(locking), Ls { json }),
             out,
             err,
         ),
-        Request::Df { image } => perform(
+        Request::Df { image, json } => perform(
             NAME,
             rt,
-            OverFile(image, Access::Look(locking), Df),
+            OverFile(image, Access::Look(locking), Df { json }),
             out,
             err,
         ),
-        Request::Show { image, inum } => perform(
+        Request::Show { image, inum, json } => perform(
             NAME,
             rt,
-            OverFile(image, Access::Look(locking), Show(inum)),
+            OverFile(image, Access::Look(locking), Show { inum, json }),
             out,
             err,
         ),
-        Request::ShowLog { image } => {
+        Request::ShowLog { image, json } => {
             perform(
                 NAME,
                 rt,
-                OverFile(image, Access::Look(locking), ShowLog),
+                OverFile(image, Access::Look(locking), ShowLog { json }),
                 out,
                 err,
             )
@@ -383,6 +384,7 @@ where
             schedule,
             held,
             picture,
+            json,
         } => {
             let mut progress = TerminalMeter::new(rt);
             let mut holder = Keeper::new(rt, at_once(locking));
@@ -393,6 +395,7 @@ where
                     script,
                     schedule,
                     held,
+                    json,
                     picture,
                     &mut progress,
                     &mut holder,

@@ -25,14 +25,14 @@ pub fn given<'a>(request: &Request<'a>) -> Given<'a> {
             inum: Some(inum),
             ..Given::over(image, false)
         },
-        Request::Ls { image } => Given::over(image, false),
-        Request::Df { image } => Given::over(image, false),
-        Request::ShowLog { image } => Given::over(image, false),
+        Request::Ls { image, .. } => Given::over(image, false),
+        Request::Df { image, .. } => Given::over(image, false),
+        Request::ShowLog { image, .. } => Given::over(image, false),
         Request::ShowPicture { image, picture } => Given {
             made: Some(picture),
             ..Given::over(image, false)
         },
-        Request::Show { image, inum } => Given {
+        Request::Show { image, inum, .. } => Given {
             inum,
             ..Given::over(image, false)
         },
