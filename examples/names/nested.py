@@ -73,6 +73,13 @@ class Model:
         del self.files[path]
         return "rm", "a.img", path
 
+    def mkdir_all(self):
+        path = self.new_path()
+        last = path + "/old/first"
+        for made in path, path + "/old", last:
+            self.files[made + "/"] = None
+        return "mkdir", "a.img", last, "-p"
+
     def remove_directory(self):
         empty = [path for path in self.directories()[1:] if not any(p != path and p.startswith(path) for p in self.files)]
         if not empty:
@@ -98,10 +105,17 @@ class Model:
         return "mv", "a.img", path[:-1], new[:-1]
 
 
+def partly(left, before, after):
+    """Whether a tree has what both have, and of the rest some of what one of them has."""
+    either = {**before, **after}
+    return all(path in either and left[path] == either[path] for path in left) and \
+        all(path in left for path in before if path in after)
+
+
 def stopped(words, before, after):
     """Runs a change, killed before each of its writes in turn, each time from the same image. How many stops. A
     put of more bytes than one call writes is written into a new image, which takes the old one's name: of its
-    writes, a block each, some are chosen, and the last."""
+    writes, a block each, some are chosen, and the last. A change by several transactions may be made in part."""
     with open("a.img", "rb") as file:
         image = file.read()
     is_anew = words[0] == "put" and os.path.getsize("host") > PIECE
@@ -116,7 +130,8 @@ def stopped(words, before, after):
             fail("%s: status %d before write %d" % (" ".join(words), ran.returncode, at))
         if ran.returncode == 0 and left != after:
             fail("%s made something else" % " ".join(words))
-        if ran.returncode != 0 and left != before and (is_anew or left != after):
+        whole = left == before or left == after and not is_anew
+        if ran.returncode != 0 and not whole and not (words[-1] == "-p" and partly(left, before, after)):
             fail("%s: stopped before write %d it left another tree" % (" ".join(words), at))
         return ran.returncode != 0
 
@@ -159,7 +174,8 @@ def main():
     chosen = [model.mkdir, model.move, model.move_directory, model.remove, model.remove_directory,
               lambda: model.put(model.new_path(), 0), lambda: model.put(model.new_path(), PIECE),
               lambda: model.put(random.choice(model.plain()), 700), lambda: model.put(random.choice(model.plain()), PIECE),
-              lambda: model.put(model.new_path(), 10000), lambda: model.put(random.choice(model.plain()), 10000)]
+              lambda: model.put(model.new_path(), 10000), lambda: model.put(random.choice(model.plain()), 10000),
+              model.mkdir_all]
     for change in chosen:
         before = dict(model.files)
         stops += stopped(change(), before, model.files)

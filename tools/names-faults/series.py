@@ -22,6 +22,7 @@ HOWS = {
 SMALL, LONG = b"small " * 100, b"0123456789abcdef" * 1000
 COMMANDS = {
     "mkdir": ["mkdir", "a.img", "/docs/new"],
+    "mkdir -p": ["mkdir", "a.img", "/docs/new/first", "-p"],
     "rmdir": ["rmdir", "a.img", "/docs/empty"],
     "rm": ["rm", "a.img", "/docs/long"],
     "mv of a file": ["mv", "a.img", "/first", "/docs/moved"],
@@ -110,13 +111,23 @@ def begun(left, before, after):
     return left == one and left[changed[0]] is not None and after[changed[0]].startswith(left[changed[0]])
 
 
+def partly(left, before, after):
+    """Whether a tree has what both have, and besides some of what one of them has: of a change by several
+    transactions some were made."""
+    either = {**before, **after}
+    return all(path in either and left[path] == either[path] for path in left) and \
+        all(path in left for path in before if path in after)
+
+
 def judge(trial, usual, has_failed):
     """Why an end is not as it should be."""
     (before, _), (after, _) = BASE_TREE, usual.tree()
     left, wrong = trial.tree()
     if wrong:
         return "; ".join(wrong)
-    if left not in (before, after) and not (trial.words[1] == "two.img" and begun(left, before, after)):
+    may_be_part = trial.words[-1] == "-p" and partly(left, before, after) \
+        or trial.words[1] == "two.img" and begun(left, before, after)
+    if left not in (before, after) and not may_be_part:
         return "the tree is neither that of before nor that of the change"
     if trial.status == 0:
         if has_failed:

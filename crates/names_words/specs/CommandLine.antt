@@ -1,6 +1,6 @@
 -- The command line of `xvnames`, as clap is told it, and what words ask for by it.
 use Rattle.std.specs.Prelude.{◌≡◌, ℕ, List, [], Bool, Some, codes, map, unwrap_or}
-use Rattle.clap.specs.Words.{App, Row, all_of, first_of, new_rule, with_rule, with_subcommand}
+use Rattle.clap.specs.Words.{App, Row, Rule, all_of, first_of, new_rule, with_rule, with_subcommand}
 use Rattle.clap.specs.declared.builder.action.ArgAction.TheVariants.{Append, SetTrue}
 use Rattle.cli.specs.Asking.{HasFlag, HasNumber, Wording}
 use Rattle.cli.specs.CommandLine.{flag_rule, image_app, named_app, number_rule, required_rule}
@@ -19,10 +19,18 @@ path_app name = with_rule (image_app name) (required_rule (codes "PATH"))
 abbrev pub changing : App → App
 changing app = with_rule (with_rule app (flag_rule (codes "sync"))) (flag_rule (codes "no-sync"))
 
+-- a flag of one letter
+abbrev pub letter_rule : List ℕ → ℕ → Rule
+letter_rule id letter = record (new_rule id) { short = Some letter; action = Some SetTrue }
+
 -- `-r`
 abbrev pub get_app : App
 get_app = with_rule (with_rule (path_app (codes "get")) (required_rule (codes "FILE")))
-    (record (new_rule (codes "all")) { short = Some 114; action = Some SetTrue })
+    (letter_rule (codes "all") 114)
+
+-- `-p`
+abbrev pub mkdir_app : App
+mkdir_app = with_rule (changing (path_app (codes "mkdir"))) (letter_rule (codes "parents") 112)
 
 abbrev pub put_app : App
 put_app = changing (with_rule (with_rule (image_app (codes "put")) (required_rule (codes "FILE")))
@@ -50,8 +58,8 @@ xvnames_app =
     (with_subcommand (with_subcommand (with_subcommand (with_subcommand
     (named_app (codes "xvnames")) (look_app (codes "ls")).top) (path_app (codes "stat")).top)
     (look_app (codes "tree")).top) (path_app (codes "cat")).top) get_app.top) put_app.top)
-    (changing (path_app (codes "rm"))).top) mv_app.top) ln_app.top)
-    (changing (path_app (codes "mkdir"))).top) (changing (path_app (codes "rmdir"))).top)
+    (changing (path_app (codes "rm"))).top) mv_app.top) ln_app.top) mkdir_app.top)
+    (changing (path_app (codes "rmdir"))).top)
     (image_app (codes "check")).top) (changing (image_app (codes "recount"))).top) mkfs_app.top
 
 -- a word has that value
@@ -96,8 +104,9 @@ AsksBy name rows (Mv image from to sync no_sync) = (name ≡ codes "mv")
 AsksBy name rows (Ln image path into sync no_sync) = (name ≡ codes "ln")
     × Changes rows image.now sync no_sync × HasWord (codes "OLD") rows path.now
     × HasWord (codes "NEW") rows into.now
-AsksBy name rows (Mkdir image path sync no_sync) = (name ≡ codes "mkdir")
+AsksBy name rows (Mkdir image path parents sync no_sync) = (name ≡ codes "mkdir")
     × Changes rows image.now sync no_sync × HasWord (codes "PATH") rows path.now
+    × HasFlag (codes "parents") rows parents
 AsksBy name rows (Rmdir image path sync no_sync) = (name ≡ codes "rmdir")
     × Changes rows image.now sync no_sync × HasWord (codes "PATH") rows path.now
 AsksBy name rows (Check image) = (name ≡ codes "check") × HasWord (codes "IMAGE") rows image.now

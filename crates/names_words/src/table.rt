@@ -142,9 +142,22 @@ const LINES: &[Line] = &[
     },
     Line {
         name: "mkdir",
-        about: "Makes a directory",
-        example: "Example: xvnames mkdir fs.img /docs",
-        words: &[IMAGE, WAIT, EXPLAIN, NO_LOCK, PATH, SYNC, NO_SYNC],
+        about: "Makes a directory, or with -p each of its path that is not there",
+        example: "Examples: xvnames mkdir fs.img /docs, xvnames mkdir -p fs.img /docs/old/first",
+        words: &[
+            IMAGE,
+            WAIT,
+            EXPLAIN,
+            NO_LOCK,
+            PATH,
+            SYNC,
+            NO_SYNC,
+            Word {
+                name: "parents",
+                kind: Kind::Letter('p'),
+                help: "Makes each directory of the path that is not there, from the first on; a stop leaves a beginning of them",
+            },
+        ],
     },
     Line {
         name: "rmdir",

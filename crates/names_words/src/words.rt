@@ -108,6 +108,8 @@ pub enum Request<'a> {
         image: &'a str,
         /// The directory's path.
         path: &'a str,
+        /// Whether each directory of the path is made that isn't there.
+        parents: bool,
         /// Whether the image's file holds writes back until it is synced.
         sync: bool,
         /// Whether the sync at the end is left out.
@@ -222,7 +224,9 @@ fn request_of<'a>(name: &str, values: &ArgMatches<'a>) -> Option<Request<'a>>
         "ln" => ln_request(values),
         "check" => check_request(values),
         "recount" => recount_request(values),
-        "rm" | "mkdir" | "rmdir" => change_request(name, values),
+        "rm" => rm_request(values),
+        "mkdir" => mkdir_request(values),
+        "rmdir" => rmdir_request(values),
         "cat" => cat_request(values),
         "stat" => stat_request(values),
         _ => look_request(name, values),
@@ -294,34 +298,38 @@ fn recount_request<'a>(values: &ArgMatches<'a>) -> Option<Request<'a>>
     })
 }
 
-fn change_request<'a>(name: &str, values: &ArgMatches<'a>) -> Option<Request<'a>>
-    ensures { IfSome result (AsksBy name.now (rows_of (found_of values.now))) }
+fn rm_request<'a>(values: &ArgMatches<'a>) -> Option<Request<'a>>
+    ensures { IfSome result (AsksBy (codes "rm") (rows_of (found_of values.now))) }
 {
-    let image = values.get_str("IMAGE")?;
-    let path = values.get_str("PATH")?;
-    let sync = values.get_flag("sync");
-    let no_sync = values.get_flag("no-sync");
-    match name {
-        "rm" => Some(Request::Rm {
-            image,
-            path,
-            sync,
-            no_sync,
-        }),
-        "mkdir" => Some(Request::Mkdir {
-            image,
-            path,
-            sync,
-            no_sync,
-        }),
-        "rmdir" => Some(Request::Rmdir {
-            image,
-            path,
-            sync,
-            no_sync,
-        }),
-        _ => None,
-    }
+    Some(Request::Rm {
+        image: values.get_str("IMAGE")?,
+        path: values.get_str("PATH")?,
+        sync: values.get_flag("sync"),
+        no_sync: values.get_flag("no-sync"),
+    })
+}
+
+fn mkdir_request<'a>(values: &ArgMatches<'a>) -> Option<Request<'a>>
+    ensures { IfSome result (AsksBy (codes "mkdir") (rows_of (found_of values.now))) }
+{
+    Some(Request::Mkdir {
+        image: values.get_str("IMAGE")?,
+        path: values.get_str("PATH")?,
+        parents: values.get_flag("parents"),
+        sync: values.get_flag("sync"),
+        no_sync: values.get_flag("no-sync"),
+    })
+}
+
+fn rmdir_request<'a>(values: &ArgMatches<'a>) -> Option<Request<'a>>
+    ensures { IfSome result (AsksBy (codes "rmdir") (rows_of (found_of values.now))) }
+{
+    Some(Request::Rmdir {
+        image: values.get_str("IMAGE")?,
+        path: values.get_str("PATH")?,
+        sync: values.get_flag("sync"),
+        no_sync: values.get_flag("no-sync"),
+    })
 }
 
 fn cat_request<'a>(values: &ArgMatches<'a>) -> Option<Request<'a>>

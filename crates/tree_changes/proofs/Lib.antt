@@ -1,4 +1,6 @@
 mod Changing
+mod Entered
+mod Lefts
 mod Pieces
 mod Recounted
 mod Rooms

@@ -3,3 +3,4 @@ pub mod Changes
 pub mod Puts
 pub mod Room
 pub mod Recounts
+pub mod Making

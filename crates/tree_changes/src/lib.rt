@@ -4,6 +4,7 @@
 
 mod changes;
 mod faults;
+mod making;
 mod over_tree;
 mod puts;
 mod recounting;
@@ -11,6 +12,7 @@ mod room;
 
 pub use changes::{Link, MakeDirectory, Remove, RemoveDirectory, Rename};
 pub use faults::ChangeRefusal;
+pub use making::MakeDirectories;
 pub use over_tree::{OverTree, TreeChange, change_disk};
 pub use puts::{Put, append_all};
 pub use recounting::Recount;

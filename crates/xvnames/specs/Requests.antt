@@ -23,6 +23,7 @@ use Rattle.names_words.specs.CommandLine.{xvnames_words}
 use Rattle.names_words.specs.declared.words.Request.{Request}
 use Rattle.names_words.specs.declared.words.Request.TheVariants.{Ls, Stat, Tree, Cat, Get, Put, Rm, Mv, Ln, Mkdir, Rmdir, Check, Recount, Mkfs}
 use Rattle.tree_changes.specs.Changes.{HasChanged, HasNotChanged, MakesDirectory, OnTree, Plainly, StopsChange, Turn}
+use Rattle.tree_changes.specs.Making.{EntersSome, IsUnmadeAll, MakesDirectories}
 use Rattle.tree_changes.specs.Recounts.{HasNotRecounted, TellsRecount}
 use Rattle.tree_changes.specs.declared.faults.ChangeRefusal.{ChangeRefusal}
 use Rattle.tree_looks.specs.Gets.{HasGot, HasGotAll, IsUngot, IsUngotAll}
@@ -59,6 +60,14 @@ abbrev pub Gets : {F : Type 0} → (F → Option (List ℕ)) → (F → Option (
 Gets remaining contents true path old new = HasGotAll remaining contents path old new
 Gets remaining contents false path old new = HasGot remaining contents path old new
 
+-- a directory was made, or each of a path that was not there
+abbrev pub Makes : {F : Type 0} → (F → Option (List ℕ)) → Bool → List ℕ → Bool → Bool
+    → Option (List ℕ) → Option (List ℕ) → Type 0
+Makes remaining true path sync no_sync old new = Changes remaining
+    (λ form. MakesDirectories path) (λ form. EntersSome (names_of path)) sync no_sync old new
+Makes remaining false path sync no_sync old new = Changes remaining (λ form. MakesDirectory path)
+    (λ form. AnyOf (MakesDirectoryAt (names_of path))) sync no_sync old new
+
 -- the image that is asked for
 abbrev pub making_asked : ℕ → ℕ → Bool → Making
 making_asked size ninodes no_sync =
@@ -85,9 +94,8 @@ Answers remaining contents (Mv image from to sync no_sync) old new = Changes rem
 Answers remaining contents (Ln image path into sync no_sync) old new = Changes remaining
     (λ form. Plainly (LinksAt (names_of path.now) (names_of into.now)))
     (λ form. AnyOf (LinksAt (names_of path.now) (names_of into.now))) sync no_sync old new
-Answers remaining contents (Mkdir image path sync no_sync) old new = Changes remaining
-    (λ form. MakesDirectory path.now) (λ form. AnyOf (MakesDirectoryAt (names_of path.now)))
-    sync no_sync old new
+Answers remaining contents (Mkdir image path parents sync no_sync) old new =
+    Makes remaining parents path.now sync no_sync old new
 Answers remaining contents (Rmdir image path sync no_sync) old new = Changes remaining
     (λ form. Plainly (RemovesDirectoryAt (names_of path.now)))
     (λ form. AnyOf (RemovesDirectoryAt (names_of path.now))) sync no_sync old new
@@ -138,6 +146,16 @@ abbrev pub UndoneAt : List ℕ → (Files → ℕ → List ℕ → Refusal → T
     → Type 0
 UndoneAt path why t = OnTree (IsUndone t.disk path (IsUndoneIn why (names_of path)) t.was t.now)
 
+-- a directory was not made, or not each of a path
+abbrev pub MakesNot : {F : Type 0} → (F → Option (List ℕ)) → Bool → List ℕ → Bool → Bool → Type 0
+    → Type 0
+MakesNot remaining true path sync no_sync none = ChangesNot remaining
+    (λ form. MakesDirectories path) (λ form. EntersSome (names_of path))
+    (λ t. IsUnmadeAll t.disk path t.was t.now) sync no_sync none
+MakesNot remaining false path sync no_sync none = ChangesNot remaining
+    (λ form. MakesDirectory path) (λ form. AnyOf (MakesDirectoryAt (names_of path)))
+    (UndoneAt path IsUnmadeDirectoryIn) sync no_sync none
+
 -- A request was refused, for a reason of its command; `none` says that nothing was printed.
 abbrev pub OnRefused : {F : Type 0} → (F → Option (List ℕ)) → Request → Option (List ℕ)
     → Option (List ℕ) → Type 0 → Type 0
@@ -162,9 +180,8 @@ OnRefused remaining (Ln image path into sync no_sync) old new none = ChangesNot 
     (λ form. AnyOf (LinksAt (names_of path.now) (names_of into.now)))
     (λ t. OnTree (IsUndoneAtBoth t.disk path.now into.now
     (IsNotLinkedAt (names_of path.now) (names_of into.now)) t.was t.now)) sync no_sync none
-OnRefused remaining (Mkdir image path sync no_sync) old new none = ChangesNot remaining
-    (λ form. MakesDirectory path.now) (λ form. AnyOf (MakesDirectoryAt (names_of path.now)))
-    (UndoneAt path.now IsUnmadeDirectoryIn) sync no_sync none
+OnRefused remaining (Mkdir image path parents sync no_sync) old new none =
+    MakesNot remaining parents path.now sync no_sync none
 OnRefused remaining (Rmdir image path sync no_sync) old new none = ChangesNot remaining
     (λ form. Plainly (RemovesDirectoryAt (names_of path.now)))
     (λ form. AnyOf (RemovesDirectoryAt (names_of path.now)))

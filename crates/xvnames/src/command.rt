@@ -6,7 +6,7 @@ ghost use Rattle.cmd.specs.Opened.{OpensDisk};
 ghost use Rattle.cmd.specs.Over.{IsRefusedOn};
 ghost use Rattle.commands.specs.Words.{IsDoneOf, IsMisused, IsRefusedOf};
 ghost use Rattle.names_words.specs.CommandLine.{xvnames_words};
-ghost use Rattle.xvnames.specs.Requests.{Answers, Gets, GetsNot, OnRefused};
+ghost use Rattle.xvnames.specs.Requests.{Answers, Gets, GetsNot, Makes, MakesNot, OnRefused};
 ghost use Rattle.xvnames.specs.Making.{IsMadeWith};
 ghost use Rattle.xvnames.specs.Unmade.{IsNotMadeWith};
 ghost use Rattle.cli.specs.declared.explanation.Explanation.{Explanation as SomeExplanation};
@@ -26,7 +26,9 @@ use names_words::Request;
 use second_lines::{Line, tell};
 use std::convert::AsStr;
 use std::io::Write;
-use tree_changes::{Link, MakeDirectory, OverTree, Recount, Remove, RemoveDirectory, Rename};
+use tree_changes::{
+    Link, MakeDirectories, MakeDirectory, OverTree, Recount, Remove, RemoveDirectory, Rename,
+};
 use tree_looks::{Cat, Counts, Get, GetAll, InTree, Ls, OverFiles, Paths, Stat};
 use tree_puts::PutFile;
 
@@ -242,14 +244,13 @@ fn dispatch<R: Locks + AllocGlobal, O: Write, E: Write>(
         Request::Mkdir {
             image,
             path,
+            parents,
             sync,
             no_sync,
         } => {
-            let over = OverTree {
-                change: MakeDirectory { path },
-                last: !*no_sync,
-            };
-            change(rt, image, locking, *sync, over, out, err)
+            make_directory(
+                rt, image, locking, path, *parents, *sync, *no_sync, out, err,
+            )
         }
         Request::Rmdir {
             image,
@@ -288,6 +289,56 @@ fn dispatch<R: Locks + AllocGlobal, O: Write, E: Write>(
             make(rt, image, making, files.as_slice(), locking, out, err)
         }
     }
+}
+
+// Makes a directory, or each of a path that isn't there.
+fn make_directory<R: Locks + AllocGlobal, O: Write, E: Write>(
+    rt: &R,
+    image: &str,
+    locking: Locking,
+    path: &str,
+    parents: bool,
+    sync: bool,
+    no_sync: bool,
+    out: &mut O,
+    err: &mut E,
+) -> u8
+    ensures status { result ≤ 1 }
+    ensures done { result ≡ 0 → Makes R.File.remaining parents path.now sync no_sync
+        (O.contents out.old) (O.contents out.new) }
+    ensures refused { result ≡ 1 → MakesNot R.File.remaining parents path.now sync no_sync
+        (out.new ≡ out.old) }
+    ensures silent { result ≡ 0 → err.new ≡ err.old }
+{
+    let last = !no_sync;
+    if parents {
+        let change_all = MakeDirectories { path };
+        return change(
+            rt,
+            image,
+            locking,
+            sync,
+            OverTree {
+                change: change_all,
+                last,
+            },
+            out,
+            err,
+        );
+    }
+    let change_one = MakeDirectory { path };
+    change(
+        rt,
+        image,
+        locking,
+        sync,
+        OverTree {
+            change: change_one,
+            last,
+        },
+        out,
+        err,
+    )
 }
 
 // Copies a file, or a directory with all below it.

@@ -80,11 +80,11 @@ returns-in-Ln-clause-refused g c =
 
 pub returns-in-Mkdir-clause-done : goal.returns-in-Mkdir-clause-done
 returns-in-Mkdir-clause-done g c =
-    λ done. subst (λ request. Answers g.R.File.Read.remaining g.R.File.Write.contents request (g.O.Write.contents c.args.out.now) (g.O.Write.contents c.change-in-Mkdir.new.out)) (sym c.in-Mkdir.is) (c.change-in-Mkdir.ensures.done done)
+    λ done. subst (λ request. Answers g.R.File.Read.remaining g.R.File.Write.contents request (g.O.Write.contents c.args.out.now) (g.O.Write.contents c.make_directory.new.out)) (sym c.in-Mkdir.is) (c.make_directory.ensures.done done)
 
 pub returns-in-Mkdir-clause-refused : goal.returns-in-Mkdir-clause-refused
 returns-in-Mkdir-clause-refused g c =
-    λ refused. subst (λ request. OnRefused g.R.File.Read.remaining request (g.O.Write.contents c.args.out.now) (g.O.Write.contents c.change-in-Mkdir.new.out) (c.change-in-Mkdir.new.out ≡ c.args.out.now)) (sym c.in-Mkdir.is) (c.change-in-Mkdir.ensures.refused refused)
+    λ refused. subst (λ request. OnRefused g.R.File.Read.remaining request (g.O.Write.contents c.args.out.now) (g.O.Write.contents c.make_directory.new.out) (c.make_directory.new.out ≡ c.args.out.now)) (sym c.in-Mkdir.is) (c.make_directory.ensures.refused refused)
 
 pub returns-in-Rmdir-clause-done : goal.returns-in-Rmdir-clause-done
 returns-in-Rmdir-clause-done g c =
