@@ -80,6 +80,12 @@ class Model:
             self.files[made + "/"] = None
         return "mkdir", "a.img", last, "-p"
 
+    def remove_all(self):
+        path = random.choice(self.directories()[1:])
+        for below in [below for below in self.files if below.startswith(path)]:
+            del self.files[below]
+        return "rm", "a.img", path[:-1], "-r"
+
     def remove_directory(self):
         empty = [path for path in self.directories()[1:] if not any(p != path and p.startswith(path) for p in self.files)]
         if not empty:
@@ -131,7 +137,7 @@ def stopped(words, before, after):
         if ran.returncode == 0 and left != after:
             fail("%s made something else" % " ".join(words))
         whole = left == before or left == after and not is_anew
-        if ran.returncode != 0 and not whole and not (words[-1] == "-p" and partly(left, before, after)):
+        if ran.returncode != 0 and not whole and not (words[-1] in ("-p", "-r") and partly(left, before, after)):
             fail("%s: stopped before write %d it left another tree" % (" ".join(words), at))
         return ran.returncode != 0
 
@@ -175,7 +181,7 @@ def main():
               lambda: model.put(model.new_path(), 0), lambda: model.put(model.new_path(), PIECE),
               lambda: model.put(random.choice(model.plain()), 700), lambda: model.put(random.choice(model.plain()), PIECE),
               lambda: model.put(model.new_path(), 10000), lambda: model.put(random.choice(model.plain()), 10000),
-              model.mkdir_all]
+              model.mkdir_all, model.remove_all, model.remove_all]
     for change in chosen:
         before = dict(model.files)
         stops += stopped(change(), before, model.files)

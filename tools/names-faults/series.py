@@ -25,6 +25,7 @@ COMMANDS = {
     "mkdir -p": ["mkdir", "a.img", "/docs/new/first", "-p"],
     "rmdir": ["rmdir", "a.img", "/docs/empty"],
     "rm": ["rm", "a.img", "/docs/long"],
+    "rm -r": ["rm", "a.img", "/docs", "-r"],
     "mv of a file": ["mv", "a.img", "/first", "/docs/moved"],
     "mv of a directory": ["mv", "a.img", "/docs", "/others/docs"],
     "put of a small file": ["put", "a.img", "small", "/new"],
@@ -125,7 +126,7 @@ def judge(trial, usual, has_failed):
     left, wrong = trial.tree()
     if wrong:
         return "; ".join(wrong)
-    may_be_part = trial.words[-1] == "-p" and partly(left, before, after) \
+    may_be_part = trial.words[-1] in ("-p", "-r") and partly(left, before, after) \
         or trial.words[1] == "two.img" and begun(left, before, after)
     if left not in (before, after) and not may_be_part:
         return "the tree is neither that of before nor that of the change"

@@ -28,6 +28,9 @@ abbrev pub get_app : App
 get_app = with_rule (with_rule (path_app (codes "get")) (required_rule (codes "FILE")))
     (letter_rule (codes "all") 114)
 
+abbrev pub rm_app : App
+rm_app = with_rule (changing (path_app (codes "rm"))) (letter_rule (codes "all") 114)
+
 -- `-p`
 abbrev pub mkdir_app : App
 mkdir_app = with_rule (changing (path_app (codes "mkdir"))) (letter_rule (codes "parents") 112)
@@ -58,7 +61,7 @@ xvnames_app =
     (with_subcommand (with_subcommand (with_subcommand (with_subcommand
     (named_app (codes "xvnames")) (look_app (codes "ls")).top) (path_app (codes "stat")).top)
     (look_app (codes "tree")).top) (path_app (codes "cat")).top) get_app.top) put_app.top)
-    (changing (path_app (codes "rm"))).top) mv_app.top) ln_app.top) mkdir_app.top)
+    rm_app.top) mv_app.top) ln_app.top) mkdir_app.top)
     (changing (path_app (codes "rmdir"))).top)
     (image_app (codes "check")).top) (changing (image_app (codes "recount"))).top) mkfs_app.top
 
@@ -96,8 +99,9 @@ AsksBy name rows (Get image path file all) = (name ≡ codes "get")
 AsksBy name rows (Put image file path sync no_sync) = (name ≡ codes "put")
     × Changes rows image.now sync no_sync × HasWord (codes "FILE") rows file.now
     × HasWord (codes "PATH") rows path.now
-AsksBy name rows (Rm image path sync no_sync) = (name ≡ codes "rm")
+AsksBy name rows (Rm image path all sync no_sync) = (name ≡ codes "rm")
     × Changes rows image.now sync no_sync × HasWord (codes "PATH") rows path.now
+    × HasFlag (codes "all") rows all
 AsksBy name rows (Mv image from to sync no_sync) = (name ≡ codes "mv")
     × Changes rows image.now sync no_sync × HasWord (codes "FROM") rows from.now
     × HasWord (codes "TO") rows to.now

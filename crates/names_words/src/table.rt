@@ -90,9 +90,22 @@ const LINES: &[Line] = &[
     },
     Line {
         name: "rm",
-        about: "Removes a name of a file, which is no directory, and the file with its last name",
-        example: "Example: xvnames rm fs.img /docs/notes.txt",
-        words: &[IMAGE, WAIT, EXPLAIN, NO_LOCK, PATH, SYNC, NO_SYNC],
+        about: "Removes a name of a file, which is no directory, and the file with its last name, or with -r a directory with all below it",
+        example: "Examples: xvnames rm fs.img /docs/notes.txt, xvnames rm -r fs.img /docs",
+        words: &[
+            IMAGE,
+            WAIT,
+            EXPLAIN,
+            NO_LOCK,
+            PATH,
+            SYNC,
+            NO_SYNC,
+            Word {
+                name: "all",
+                kind: Kind::Letter('r'),
+                help: "Removes a directory with all below it, one name after the other, those below first; a stop leaves a tree with some of it removed",
+            },
+        ],
     },
     Line {
         name: "mv",

@@ -65,12 +65,14 @@ pub enum Request<'a> {
         /// Whether the sync at the end is left out.
         no_sync: bool,
     },
-    /// A file, removed.
+    /// A file, or a directory with all below it, removed.
     Rm {
         /// The path of the image's file.
         image: &'a str,
         /// The file's path.
         path: &'a str,
+        /// Whether it may be a directory, with all below it.
+        all: bool,
         /// Whether the image's file holds writes back until it is synced.
         sync: bool,
         /// Whether the sync at the end is left out.
@@ -301,9 +303,11 @@ fn recount_request<'a>(values: &ArgMatches<'a>) -> Option<Request<'a>>
 fn rm_request<'a>(values: &ArgMatches<'a>) -> Option<Request<'a>>
     ensures { IfSome result (AsksBy (codes "rm") (rows_of (found_of values.now))) }
 {
+    let all = values.get_flag("all");
     Some(Request::Rm {
         image: values.get_str("IMAGE")?,
         path: values.get_str("PATH")?,
+        all,
         sync: values.get_flag("sync"),
         no_sync: values.get_flag("no-sync"),
     })

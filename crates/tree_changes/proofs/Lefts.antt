@@ -58,6 +58,10 @@ module _ {D N : Type 0} (disk : Ghosts D N) where
             (λ (made : (t : Unit {0}) × all (files_of (image_on disk.image m)) (files_of (recovered z))). inr (tt, subst (λ (f : Files). all f (files_of (recovered z))) same made.1)) kept.files;
       }) leaves)) behind
 
+  pub left_if_behind : (all : Files → Files → Type 0) (k m e : Plain D) → files_of (image_on disk.image m) ≡ files_of (image_on disk.image k) → LeavesIfDone disk all k m → LeavesIfDone disk all m e → LeavesIfDone disk all k e
+  left_if_behind all k m e same first behind =
+      ⊎_elim (λ (still : m ≡ k). subst (λ (o : Plain D). LeavesIfDone disk all o e) still behind) (λ (leaves : LeavesMidst disk all k m). inr (left_behind all k m e same leaves behind)) first
+
   -- behind changes that are part of all
   pub left_on : (first later all : Files → Files → Type 0) (k m e : Plain D) → LeavesIfDone disk first k m → LeavesIfDone disk later m e → ((x z : Files) → first x z → all x z)
       → all (files_of (image_on disk.image k)) (files_of (image_on disk.image m)) → ((z : Files) → later (files_of (image_on disk.image m)) z → all (files_of (image_on disk.image k)) z) → LeavesIfDone disk all k e
@@ -72,3 +76,9 @@ module _ {D N : Type 0} (disk : Ghosts D N) where
       (λ (one : LeavesMidst disk first k m). inr (leaves_on disk first later all k m e one leaves wider here on))
       before)
       behind
+
+  -- of changes that change nothing none
+  pub stays_leaves : (all : Files → Files → Type 0) (k m : Plain D) → LeavesIfDone disk (λ files new. new ≡ files) k m → LeavesIfDone disk all k m
+  stays_leaves all k m left =
+      ⊎_elim (λ (same : m ≡ k). inl same)
+      (λ (leaves : LeavesMidst disk (λ files new. new ≡ files) k m). inr (look_leaves (λ (made : Unit {0}) files new. new ≡ files) all k m (λ made z is. is) leaves)) left

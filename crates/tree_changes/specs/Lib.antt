@@ -4,3 +4,4 @@ pub mod Puts
 pub mod Room
 pub mod Recounts
 pub mod Making
+pub mod Removing

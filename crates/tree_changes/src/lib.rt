@@ -8,6 +8,7 @@ mod making;
 mod over_tree;
 mod puts;
 mod recounting;
+mod removing;
 mod room;
 
 pub use changes::{Link, MakeDirectory, Remove, RemoveDirectory, Rename};
@@ -16,4 +17,5 @@ pub use making::MakeDirectories;
 pub use over_tree::{OverTree, TreeChange, change_disk};
 pub use puts::{Put, append_all};
 pub use recounting::Recount;
+pub use removing::{Below, RemoveAll};
 pub use room::judge_room;

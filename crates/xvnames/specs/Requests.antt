@@ -25,6 +25,7 @@ use Rattle.names_words.specs.declared.words.Request.TheVariants.{Ls, Stat, Tree,
 use Rattle.tree_changes.specs.Changes.{HasChanged, HasNotChanged, MakesDirectory, OnTree, Plainly, StopsChange, Turn}
 use Rattle.tree_changes.specs.Making.{EntersSome, IsUnmadeAll, MakesDirectories}
 use Rattle.tree_changes.specs.Recounts.{HasNotRecounted, TellsRecount}
+use Rattle.tree_changes.specs.Removing.{IsUnremovedAll, RemovesPart, RemovesWhole}
 use Rattle.tree_changes.specs.declared.faults.ChangeRefusal.{ChangeRefusal}
 use Rattle.tree_looks.specs.Gets.{HasGot, HasGotAll, IsUngot, IsUngotAll}
 use Rattle.tree_looks.specs.Looks.{HasLooked, HasNoPaths, HasNotCounted, HasNotLooked, IsUnlisted, IsUnshown, Lists, NotOfTree, OfTree, Shows, ShowsPaths, ShowsStat, TellsCounts}
@@ -68,6 +69,15 @@ Makes remaining true path sync no_sync old new = Changes remaining
 Makes remaining false path sync no_sync old new = Changes remaining (λ form. MakesDirectory path)
     (λ form. AnyOf (MakesDirectoryAt (names_of path))) sync no_sync old new
 
+-- a name was removed, or a directory with all below it
+abbrev pub Removes : {F : Type 0} → (F → Option (List ℕ)) → Bool → List ℕ → Bool → Bool
+    → Option (List ℕ) → Option (List ℕ) → Type 0
+Removes remaining true path sync no_sync old new = Changes remaining
+    (λ form. RemovesWhole path) (λ form. RemovesPart (names_of path)) sync no_sync old new
+Removes remaining false path sync no_sync old new = Changes remaining
+    (λ form. Plainly (RemovesAt (names_of path))) (λ form. AnyOf (RemovesAt (names_of path)))
+    sync no_sync old new
+
 -- the image that is asked for
 abbrev pub making_asked : ℕ → ℕ → Bool → Making
 making_asked size ninodes no_sync =
@@ -85,9 +95,8 @@ Answers remaining contents (Get image path file all) old new =
     Gets remaining contents all path.now old new
 Answers remaining contents (Put image file path sync no_sync) old new =
     HasPut remaining path.now sync (not no_sync) old new
-Answers remaining contents (Rm image path sync no_sync) old new = Changes remaining
-    (λ form. Plainly (RemovesAt (names_of path.now))) (λ form. AnyOf (RemovesAt (names_of path.now)))
-    sync no_sync old new
+Answers remaining contents (Rm image path all sync no_sync) old new =
+    Removes remaining all path.now sync no_sync old new
 Answers remaining contents (Mv image from to sync no_sync) old new = Changes remaining
     (λ form. Plainly (RenamesAt (names_of from.now) (names_of to.now)))
     (λ form. AnyOf (RenamesAt (names_of from.now) (names_of to.now))) sync no_sync old new
@@ -156,6 +165,16 @@ MakesNot remaining false path sync no_sync none = ChangesNot remaining
     (λ form. MakesDirectory path) (λ form. AnyOf (MakesDirectoryAt (names_of path)))
     (UndoneAt path IsUnmadeDirectoryIn) sync no_sync none
 
+-- a name was not removed, or not a directory with all below it
+abbrev pub RemovesNot : {F : Type 0} → (F → Option (List ℕ)) → Bool → List ℕ → Bool → Bool
+    → Type 0 → Type 0
+RemovesNot remaining true path sync no_sync none = ChangesNot remaining
+    (λ form. RemovesWhole path) (λ form. RemovesPart (names_of path))
+    (λ t. IsUnremovedAll t.disk path t.was t.now) sync no_sync none
+RemovesNot remaining false path sync no_sync none = ChangesNot remaining
+    (λ form. Plainly (RemovesAt (names_of path))) (λ form. AnyOf (RemovesAt (names_of path)))
+    (UndoneAt path IsUnremovedIn) sync no_sync none
+
 -- A request was refused, for a reason of its command; `none` says that nothing was printed.
 abbrev pub OnRefused : {F : Type 0} → (F → Option (List ℕ)) → Request → Option (List ℕ)
     → Option (List ℕ) → Type 0 → Type 0
@@ -167,9 +186,8 @@ OnRefused remaining (Cat image path) old new none = LooksNot remaining (IsUnshow
 OnRefused remaining (Get image path file all) old new none = GetsNot remaining all path.now none
 OnRefused remaining (Put image file path sync no_sync) old new none =
     Refuses (IsUnput remaining path.now sync (not no_sync) none)
-OnRefused remaining (Rm image path sync no_sync) old new none = ChangesNot remaining
-    (λ form. Plainly (RemovesAt (names_of path.now))) (λ form. AnyOf (RemovesAt (names_of path.now)))
-    (UndoneAt path.now IsUnremovedIn) sync no_sync none
+OnRefused remaining (Rm image path all sync no_sync) old new none =
+    RemovesNot remaining all path.now sync no_sync none
 OnRefused remaining (Mv image from to sync no_sync) old new none = ChangesNot remaining
     (λ form. Plainly (RenamesAt (names_of from.now) (names_of to.now)))
     (λ form. AnyOf (RenamesAt (names_of from.now) (names_of to.now)))

@@ -6,7 +6,7 @@ ghost use Rattle.cmd.specs.Opened.{OpensDisk};
 ghost use Rattle.cmd.specs.Over.{IsRefusedOn};
 ghost use Rattle.commands.specs.Words.{IsDoneOf, IsMisused, IsRefusedOf};
 ghost use Rattle.names_words.specs.CommandLine.{xvnames_words};
-ghost use Rattle.xvnames.specs.Requests.{Answers, Gets, GetsNot, Makes, MakesNot, OnRefused};
+ghost use Rattle.xvnames.specs.Requests.{Answers, Gets, GetsNot, Makes, MakesNot, OnRefused, Removes, RemovesNot};
 ghost use Rattle.xvnames.specs.Making.{IsMadeWith};
 ghost use Rattle.xvnames.specs.Unmade.{IsNotMadeWith};
 ghost use Rattle.cli.specs.declared.explanation.Explanation.{Explanation as SomeExplanation};
@@ -27,7 +27,8 @@ use second_lines::{Line, tell};
 use std::convert::AsStr;
 use std::io::Write;
 use tree_changes::{
-    Link, MakeDirectories, MakeDirectory, OverTree, Recount, Remove, RemoveDirectory, Rename,
+    Link, MakeDirectories, MakeDirectory, OverTree, Recount, Remove, RemoveAll, RemoveDirectory,
+    Rename,
 };
 use tree_looks::{Cat, Counts, Get, GetAll, InTree, Ls, OverFiles, Paths, Stat};
 use tree_puts::PutFile;
@@ -206,15 +207,10 @@ fn dispatch<R: Locks + AllocGlobal, O: Write, E: Write>(
         Request::Rm {
             image,
             path,
+            all,
             sync,
             no_sync,
-        } => {
-            let over = OverTree {
-                change: Remove { path },
-                last: !*no_sync,
-            };
-            change(rt, image, locking, *sync, over, out, err)
-        }
+        } => { remove(rt, image, locking, path, *all, *sync, *no_sync, out, err) }
         Request::Mv {
             image,
             from,
@@ -327,6 +323,56 @@ fn make_directory<R: Locks + AllocGlobal, O: Write, E: Write>(
         );
     }
     let change_one = MakeDirectory { path };
+    change(
+        rt,
+        image,
+        locking,
+        sync,
+        OverTree {
+            change: change_one,
+            last,
+        },
+        out,
+        err,
+    )
+}
+
+// Removes a name of a file, or a directory with all below it.
+fn remove<R: Locks + AllocGlobal, O: Write, E: Write>(
+    rt: &R,
+    image: &str,
+    locking: Locking,
+    path: &str,
+    all: bool,
+    sync: bool,
+    no_sync: bool,
+    out: &mut O,
+    err: &mut E,
+) -> u8
+    ensures status { result ≤ 1 }
+    ensures done { result ≡ 0 → Removes R.File.remaining all path.now sync no_sync
+        (O.contents out.old) (O.contents out.new) }
+    ensures refused { result ≡ 1 → RemovesNot R.File.remaining all path.now sync no_sync
+        (out.new ≡ out.old) }
+    ensures silent { result ≡ 0 → err.new ≡ err.old }
+{
+    let last = !no_sync;
+    if all {
+        let change_all = RemoveAll { path };
+        return change(
+            rt,
+            image,
+            locking,
+            sync,
+            OverTree {
+                change: change_all,
+                last,
+            },
+            out,
+            err,
+        );
+    }
+    let change_one = Remove { path };
     change(
         rt,
         image,

@@ -56,19 +56,19 @@ returns-in-Put-clause-refused g c =
 
 pub returns-in-Rm-clause-done : goal.returns-in-Rm-clause-done
 returns-in-Rm-clause-done g c =
-    λ done. subst (λ request. Answers g.R.File.Read.remaining g.R.File.Write.contents request (g.O.Write.contents c.args.out.now) (g.O.Write.contents c.change.new.out)) (sym c.in-Rm.is) (c.change.ensures.done done)
+    λ done. subst (λ request. Answers g.R.File.Read.remaining g.R.File.Write.contents request (g.O.Write.contents c.args.out.now) (g.O.Write.contents c.remove.new.out)) (sym c.in-Rm.is) (c.remove.ensures.done done)
 
 pub returns-in-Rm-clause-refused : goal.returns-in-Rm-clause-refused
 returns-in-Rm-clause-refused g c =
-    λ refused. subst (λ request. OnRefused g.R.File.Read.remaining request (g.O.Write.contents c.args.out.now) (g.O.Write.contents c.change.new.out) (c.change.new.out ≡ c.args.out.now)) (sym c.in-Rm.is) (c.change.ensures.refused refused)
+    λ refused. subst (λ request. OnRefused g.R.File.Read.remaining request (g.O.Write.contents c.args.out.now) (g.O.Write.contents c.remove.new.out) (c.remove.new.out ≡ c.args.out.now)) (sym c.in-Rm.is) (c.remove.ensures.refused refused)
 
 pub returns-in-Mv-clause-done : goal.returns-in-Mv-clause-done
 returns-in-Mv-clause-done g c =
-    λ done. subst (λ request. Answers g.R.File.Read.remaining g.R.File.Write.contents request (g.O.Write.contents c.args.out.now) (g.O.Write.contents c.change-in-Mv.new.out)) (sym c.in-Mv.is) (c.change-in-Mv.ensures.done done)
+    λ done. subst (λ request. Answers g.R.File.Read.remaining g.R.File.Write.contents request (g.O.Write.contents c.args.out.now) (g.O.Write.contents c.change.new.out)) (sym c.in-Mv.is) (c.change.ensures.done done)
 
 pub returns-in-Mv-clause-refused : goal.returns-in-Mv-clause-refused
 returns-in-Mv-clause-refused g c =
-    λ refused. subst (λ request. OnRefused g.R.File.Read.remaining request (g.O.Write.contents c.args.out.now) (g.O.Write.contents c.change-in-Mv.new.out) (c.change-in-Mv.new.out ≡ c.args.out.now)) (sym c.in-Mv.is) (c.change-in-Mv.ensures.refused refused)
+    λ refused. subst (λ request. OnRefused g.R.File.Read.remaining request (g.O.Write.contents c.args.out.now) (g.O.Write.contents c.change.new.out) (c.change.new.out ≡ c.args.out.now)) (sym c.in-Mv.is) (c.change.ensures.refused refused)
 
 pub returns-in-Ln-clause-done : goal.returns-in-Ln-clause-done
 returns-in-Ln-clause-done g c =
