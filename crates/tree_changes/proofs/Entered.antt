@@ -1,15 +1,15 @@
 -- Directories of a path, one behind the other.
-use Rattle.std.proofs.Common.{◌≡◌, ◌≢◌, ◌∙◌, ℕ, ◌+◌, ◌≤◌, true, List, [], length, slice_index_or, Option, Result, Ok, Err, add-one, ap, refl, sym, subst, inl, inr, arith}
+use Rattle.std.proofs.Common.{◌≡◌, ◌≢◌, ◌∙◌, ℕ, ◌+◌, ◌≤◌, true, List, [], length, slice_index_or, Ok, Err, add-one, ap, refl, sym, subst, inl, arith}
 use Rattle.blocks.specs.declared.disk.Disk.{Ghosts}
 use Rattle.calls.specs.Calls.{image_on}
 use Rattle.calls.specs.Stepping.{Plain}
 use Rattle.directories.specs.Trees.{IsDirectory, kind_of}
 use Rattle.directories.specs.declared.refusal.Refusal.{Refusal}
 use Rattle.directories.specs.declared.refusal.Refusal.TheVariants.{Exists, NotFound}
-use Rattle.model.specs.Files.{Files, file_in, files_of}
+use Rattle.model.specs.Files.{Files, files_of}
 use Rattle.names.specs.Looks.{IsFound, Looks}
 use Rattle.names.specs.Numbered.{LooksIn}
-use Rattle.names.specs.Ready.{IsReady, IsReadyBehind, IsUnanswered, IsUnansweredOr, IsUndone, LeavesIfDone, LeavesMidst}
+use Rattle.names.specs.Ready.{IsReady, IsReadyBehind, IsUnanswered, IsUnansweredOr, IsUndone, LeavesIfDone}
 use Rattle.names.specs.declared.asking.Found.{Found}
 use Rattle.names.specs.declared.refusal.TreeFault.{TreeFault}
 use Rattle.names.specs.declared.refusal.TreeFault.TheVariants as tree

@@ -1,5 +1,5 @@
 -- A directory that is removed with all that is below it.
-use Rattle.std.specs.Prelude.{◌≡◌, ◌≢◌, ◌⊎◌, ℕ, ◌-◌, ◌==◌, if◌then◌else◌, Bool, true, false, List, [], ◌∷◌, ◌++◌, length, drop, slice_index_or, Option, None, Ok}
+use Rattle.std.specs.Prelude.{◌≡◌, ◌≢◌, ◌⊎◌, ℕ, ◌==◌, if◌then◌else◌, Bool, true, false, List, [], ◌∷◌, ◌++◌, drop, Option, None, Ok}
 use Rattle.std.specs.List.{flat_map}
 use Rattle.blocks.specs.declared.disk.Disk.{Ghosts}
 use Rattle.calls.specs.Calls.{image_on}
@@ -9,7 +9,6 @@ use Rattle.directories.specs.Entries.{entries_of, number_in, padded, text_in}
 use Rattle.directories.specs.Paths.{IsPathCause, names_of}
 use Rattle.directories.specs.Trees.{directory_in, directory_kind, kind_of, leads_down, root, IsDirectory, IsDown}
 use Rattle.directories.specs.Walks.{walked, IsUndoneIn, IsUnfound}
-use Rattle.directories.specs.declared.refusal.Refusal.{Refusal}
 use Rattle.directories.specs.declared.refusal.Refusal.TheVariants.{IsADirectory, IsRoot, NotDown}
 use Rattle.model.specs.Files.{Files, file_in, files_of}
 use Rattle.names.specs.Numbered.{IsNoDirectory}

@@ -1,11 +1,10 @@
-use Rattle.std.proofs.Common.{◌≡◌, ◌∙◌, List, inl, inr, subst, sym}
+use Rattle.std.proofs.Common.{inl, inr, subst, sym}
 use Rattle.std.proofs.lemmas.Result.{IfErr-weaker, on_ok_weaker}
 use Rattle.calls.specs.Calls.{image_on}
 use Rattle.directories.specs.Paths.{names_of}
 use Rattle.model.specs.Files.{Files, files_of}
 use Rattle.names.specs.Lemmas.Over.{over_on}
-use Rattle.tree_changes.specs.Removing.{AreNamesBelow, IsUnremovedListed, RemovesListed, RemovesPartBelow, RemovesPartListed}
-use Rattle.tree_changes.specs.declared.removing.Below.{Below}
+use Rattle.tree_changes.specs.Removing.{AreNamesBelow, RemovesListed, RemovesPartBelow, RemovesPartListed}
 use Rattle.tree_changes.proofs.Lefts.{left_if_behind, left_more, stays_leaves}
 use Rattle.tree_changes.proofs.removing.remove_below.Goals as goal
 

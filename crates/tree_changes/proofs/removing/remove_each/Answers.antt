@@ -1,7 +1,4 @@
-use Rattle.std.proofs.Common.{◌≡◌, inl, refl, rules, subst}
-use Rattle.std.proofs.lemmas.List.{drop_all}
-use Rattle.calls.specs.Calls.{image_on}
-use Rattle.model.specs.Files.{files_of}
+use Rattle.std.proofs.Common.{rules}
 use Rattle.names.specs.Lemmas.Over.{over_on}
 use Rattle.tree_changes.specs.Removing.{StopsRemoving}
 use Rattle.tree_changes.proofs.Removals.{removed_left, removed_more, stops_at}
