@@ -22,7 +22,7 @@ shown_telling (Picture f) = picture_telling f
 abbrev pub IsShownInto : {F : Type 0} → (F → Option (List ℕ)) → (F → Option (List ℕ))
     → Option (List ℕ) → Option (List ℕ) → Type 0
 IsShownInto remaining contents old new = OpensDisk remaining file_disk false
-    (λ d e. HasDrawn file_disk d e old new
+    (λ d e. HasDrawn file_disk false d e old new
     × IsDrawn contents (blocks_text (cells_of (file_disk.image d))))
 
 -- why none did: they weren't printed, where `none` says that nothing was, or they were
@@ -31,4 +31,4 @@ abbrev pub IsUnshown : {F : Type 0} → (F → Option (List ℕ)) → Option (Li
 IsUnshown remaining old new none (Show refusal) =
     IsRefusedOn remaining false none (λ d e. IsUndrawn file_disk d e none) refusal
 IsUnshown remaining old new none (Picture f) =
-    OpensDisk remaining file_disk false (λ d e. HasDrawn file_disk d e old new)
+    OpensDisk remaining file_disk false (λ d e. HasDrawn file_disk false d e old new)
