@@ -106,9 +106,9 @@ ChecksInto contents json held old new picture = (tried : List Column)
 -- tried then; or it was done and printed, and not drawn.
 abbrev pub IsUncheckedInto : {F P : Type 0} → (F → Option (List ℕ)) → Bool → Bool → Option (List ℕ)
     → Option (List ℕ) → Type 0 → Option P → DrawnStopsRefusal → Type 0
-IsUncheckedInto contents held old new none picture NoMemory = none
-IsUncheckedInto contents held old new none picture (Stops r u) = (tried : List Column)
+IsUncheckedInto contents json held old new none picture NoMemory = none
+IsUncheckedInto contents json held old new none picture (Stops r u) = (tried : List Column)
     × IsScriptUnchecked held tried none r
     × DrawsOr u tried (IsDrawnInto picture (DrawsRefused contents tried r))
-IsUncheckedInto contents held old new none picture (Picture u) = (tried : List Column)
+IsUncheckedInto contents json held old new none picture (Picture u) = (tried : List Column)
     × ChecksScript json held tried old new × IsUndrawn u tried
