@@ -129,3 +129,11 @@ returns-in-ShowPicture-clause-done g c =
 pub returns-in-ShowPicture-clause-refused : goal.returns-in-ShowPicture-clause-refused
 returns-in-ShowPicture-clause-refused g c =
     λ refused. subst (λ request. OnRefused (seen_by g.R.File.Read.remaining g.R.File.Write.contents) request (g.O.Write.contents c.args.out.now) (g.O.Write.contents c.perform-in-ShowPicture.new.out) (c.perform-in-ShowPicture.new.out ≡ c.args.out.now)) (sym c.in-ShowPicture.is) (c.perform-in-ShowPicture.ensures.refused refused)
+
+pub returns-in-Ls-clause-done : goal.returns-in-Ls-clause-done
+returns-in-Ls-clause-done g c =
+    λ done. subst (λ request. Answers (seen_by g.R.File.Read.remaining g.R.File.Write.contents) request (g.O.Write.contents c.args.out.now) (g.O.Write.contents c.perform-in-Ls.new.out)) (sym c.in-Ls.is) (c.perform-in-Ls.ensures.done done)
+
+pub returns-in-Df-clause-done : goal.returns-in-Df-clause-done
+returns-in-Df-clause-done g c =
+    λ done. subst (λ request. Answers (seen_by g.R.File.Read.remaining g.R.File.Write.contents) request (g.O.Write.contents c.args.out.now) (g.O.Write.contents c.perform-in-Df.new.out)) (sym c.in-Df.is) (c.perform-in-Df.ensures.done done)
