@@ -18,6 +18,7 @@ import rows
 from calls import Calls
 from checker import check
 from commands import Commands
+from conversions import make_conversions
 from kernel import Kernel
 from layout import FILE
 from log import Panic
@@ -130,6 +131,7 @@ def main(words, programs):
     print("%d images, each in turn with the kernel, for %d calls, and with xvnames, for %d commands"
           % (len(numbers), TURNS * CALLS, TURNS * COMMANDS))
     rows.large_directories(programs)
+    make_conversions(programs)
 
 
 if __name__ == "__main__":

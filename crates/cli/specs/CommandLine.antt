@@ -5,7 +5,7 @@ use Rattle.cli.specs.Asking.{HasChoice, HasFlag, HasNumber, Wording, WritesNumbe
 use Rattle.cli.specs.declared.words.Part.{Part}
 use Rattle.cli.specs.declared.words.Part.TheVariants.{Whole, File, Log}
 use Rattle.cli.specs.declared.words.Request.{Request}
-use Rattle.cli.specs.declared.words.Request.TheVariants.{Mkfs, Check, Recover, Cat, Ls, Df, Show, ShowLog, ShowPicture, Put, Copy, Rescue, Replay, ReplayJson, Run, Stops}
+use Rattle.cli.specs.declared.words.Request.TheVariants.{Mkfs, Check, Recover, Cat, Ls, Df, Show, ShowLog, ShowPicture, Put, Copy, Convert, Rescue, Replay, ReplayJson, Run, Stops}
 use Rattle.clap.specs.declared.builder.command.Command.{Command}
 use Rattle.clap.specs.declared.builder.command.Command.TheViews.{out-Command}
 use Rattle.clap.specs.declared.builder.action.ArgAction.TheVariants.{SetTrue}
@@ -102,6 +102,10 @@ copy_app = with_rule (with_rule (with_rule (with_rule (waiting_app (codes "copy"
     (required_rule (codes "NEW"))) size_rule) (flag_rule (codes "sync")))
     (flag_rule (codes "no-sync"))
 
+abbrev pub convert_app : App
+convert_app = with_rule (with_rule (with_rule (waiting_app (codes "convert") (codes "OLD"))
+    (required_rule (codes "NEW"))) size_rule) (flag_rule (codes "no-sync"))
+
 abbrev pub rescue_app : App
 rescue_app = with_rule (with_rule (waiting_app (codes "rescue") (codes "OLD"))
     (required_rule (codes "NEW"))) (flag_rule (codes "no-sync"))
@@ -159,9 +163,10 @@ abbrev pub xvfs_app : App
 xvfs_app =
     with_subcommand (with_subcommand (with_subcommand (with_subcommand (with_subcommand
     (with_subcommand (with_subcommand (with_subcommand (with_subcommand (with_subcommand
-    (with_subcommand (with_subcommand (with_subcommand bare_app mkfs_app.top) check_app.top)
+    (with_subcommand (with_subcommand (with_subcommand (with_subcommand
+    bare_app mkfs_app.top) check_app.top)
     (look_app (codes "ls")).top) (look_app (codes "df")).top) cat_app.top) show_app.top)
-    put_app.top) copy_app.top) rescue_app.top)
+    put_app.top) copy_app.top) convert_app.top) rescue_app.top)
     recover_app.top) replay_app.top) run_app.top) stops_app.top
 
 -- a command of this shape, whose arguments are its own
@@ -233,6 +238,10 @@ AsksBy name rows (Put image file inum sync no_sync) = (name ≡ codes "put")
     × (first_of (codes "FILE") rows ≡ Some file.now) × HasChoice 32 (codes "INUM") rows inum
     × HasFlag (codes "sync") rows sync × HasFlag (codes "no-sync") rows no_sync
 AsksBy name rows (Copy old new size no_sync) = (name ≡ codes "copy")
+    × (first_of (codes "OLD") rows ≡ Some old.now)
+    × (first_of (codes "NEW") rows ≡ Some new.now) × HasChoice 32 (codes "size") rows size
+    × HasFlag (codes "no-sync") rows no_sync
+AsksBy name rows (Convert old new size no_sync) = (name ≡ codes "convert")
     × (first_of (codes "OLD") rows ≡ Some old.now)
     × (first_of (codes "NEW") rows ≡ Some new.now) × HasChoice 32 (codes "size") rows size
     × HasFlag (codes "no-sync") rows no_sync

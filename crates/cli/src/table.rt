@@ -314,6 +314,24 @@ const LINES: &[Line] = &[
         ],
     },
     Line {
+        name: "convert",
+        about: "Makes an image whose log has another length, as xv6 made them up to 2024, one of this format",
+        example: "Example: xvfs convert fs.img new.img",
+        words: &[
+            OLD,
+            WAIT,
+            EXPLAIN,
+            NO_LOCK,
+            NEW,
+            Word {
+                name: "size",
+                kind: Kind::Valued,
+                help: "Blocks of the new image; where it is not given as many as the old one has, and those that its log gets",
+            },
+            NO_SYNC,
+        ],
+    },
+    Line {
         name: "rescue",
         about: "Copies the files of a damaged image that are whole into a new one, and tells which these are",
         example: "Example: xvfs rescue old.img new.img",

@@ -116,6 +116,17 @@ pub enum Request<'a> {
         /// Whether the sync at the end is left out.
         no_sync: bool,
     },
+    /// An image whose log has another length, made anew with the log of this format.
+    Convert {
+        /// The path of the image's file.
+        old: &'a str,
+        /// The path of the file that is made.
+        new: &'a str,
+        /// The blocks of the new image; none for as many data blocks as the old one has.
+        size: Option<u32>,
+        /// Whether the sync at the end is left out.
+        no_sync: bool,
+    },
     /// The whole files of an image, copied into a new one.
     Rescue {
         /// The path of the image's file.
@@ -212,6 +223,7 @@ fn request_of<'a>(name: &str, values: &ArgMatches<'a>) -> Option<Request<'a>>
     match name {
         "stops" => stops_request(values),
         "copy" => copy_request(values),
+        "convert" => convert_request(values),
         "rescue" => rescue_request(values),
         "replay" => replay_request(values),
         "mkfs" => mkfs_request(values),
@@ -239,6 +251,17 @@ fn copy_request<'a>(values: &ArgMatches<'a>) -> Option<Request<'a>>
     ensures { IfSome result (AsksBy (codes "copy") (rows_of (found_of values.now))) }
 {
     Some(Request::Copy {
+        old: values.get_str("OLD")?,
+        new: values.get_str("NEW")?,
+        size: values.get_one("size"),
+        no_sync: values.get_flag("no-sync"),
+    })
+}
+
+fn convert_request<'a>(values: &ArgMatches<'a>) -> Option<Request<'a>>
+    ensures { IfSome result (AsksBy (codes "convert") (rows_of (found_of values.now))) }
+{
+    Some(Request::Convert {
         old: values.get_str("OLD")?,
         new: values.get_str("NEW")?,
         size: values.get_one("size"),

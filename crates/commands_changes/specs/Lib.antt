@@ -2,6 +2,7 @@ pub mod PutsOver
 pub mod PutsAnew
 pub mod Puts
 pub mod Refusals
+pub mod Conversions
 pub mod Copies
 pub mod Rescues
 pub mod Making

@@ -1,10 +1,11 @@
 //! The commands that make an image or change its files, over the files that they name: `mkfs`, `put`,
-//! `copy` and `rescue`. Each opens these, hands the disk and what was read to `offline` or `transfer`, and
-//! does nothing else.
+//! `copy`, `convert` and `rescue`. Each opens these, hands the disk and what was read to `offline`, `conversion`
+//! or `transfer`, and does nothing else.
 //!
 //! Who makes the files of images holds their locks. No function here reads the words of a command line.
 #![tactic(auto)]
 
+mod conversions;
 mod copies;
 mod making;
 mod puts;
@@ -13,6 +14,7 @@ mod refused;
 mod rescues;
 mod targets;
 
+pub use conversions::Convert;
 pub use copies::Copy;
 pub use making::{Making, Mkfs, make_file};
 pub use puts::{Put, bytes_from};

@@ -4,6 +4,8 @@ ghost use Rattle.commands_changes.specs.Refusals.{copying_telling, putting_telli
 
 use blocks::FileFault;
 use cmd::OnFile;
+use conversion::ConversionFault;
+use layout::CheckFault;
 use messages::{Reason, Told, Unwritten};
 use transfer::{CopyFault, PutRefusal};
 
@@ -16,6 +18,8 @@ pub enum CopyRefusal {
     Exists,
     /// The image on the old disk isn't copied to the new one.
     Of(CopyFault),
+    /// The image on the old disk isn't one whose log can be made longer.
+    Unconverted(ConversionFault),
     /// The output can't be written.
     Output,
 }
@@ -28,8 +32,24 @@ impl Reason for CopyRefusal {
             CopyRefusal::File(fault) => fault.told(),
             CopyRefusal::Exists => Told::new("copy", 7, "Exists"),
             CopyRefusal::Of(fault) => fault.told(),
+            CopyRefusal::Unconverted(fault) => told_of(fault),
             CopyRefusal::Output => Unwritten.told(),
         }
+    }
+}
+
+// How it is told that an image isn't converted: as a copy's refusal, or a check's or mkfs's.
+fn told_of(fault: &ConversionFault) -> Told
+    ensures { result.told ≡ conversion_telling fault.now }
+{
+    match fault {
+        ConversionFault::BadMagic => CheckFault::BadMagic.told(),
+        ConversionFault::BadGeometry => CheckFault::BadGeometry.told(),
+        ConversionFault::Unsound(fault) => fault.told(),
+        ConversionFault::Logged(count) => Told::naming("copy", 9, "Logged", *count),
+        ConversionFault::SizeRange => Told::new("mkfs", 1, "SizeRange"),
+        ConversionFault::NoMemory => Told::new("copy", 5, "NoMemory"),
+        ConversionFault::Disk(_) => Told::new("copy", 6, "Disk"),
     }
 }
 

@@ -18,15 +18,19 @@ from_to name found least most = record { name = name; found = found; least = lea
 abbrev pub exactly : Name → ℕ → ℕ → Field
 exactly name found wanted = from_to name found wanted wanted
 
--- those of a superblock in an image of that many blocks
-abbrev pub fields_of : Super → ℕ → List Field
-fields_of sup block_count =
-    exactly Nlog sup.nlog log_blocks
+-- the blocks before the data of an image whose log has so many blocks
+abbrev pub meta_with : ℕ → ℕ → ℕ → ℕ
+meta_with log size inode_count = meta_count size inode_count - (log_blocks - log)
+
+-- those of a superblock in an image of that many blocks, whose log has so many
+abbrev pub fields_of : Super → ℕ → ℕ → List Field
+fields_of sup block_count log =
+    exactly Nlog sup.nlog log
     ∷ exactly Size sup.size block_count
     ∷ from_to Ninodes sup.ninodes 2 most_inodes
-    ∷ from_to Size sup.size (meta_count sup.size sup.ninodes + 1) most_blocks
-    ∷ exactly Nblocks sup.nblocks (sup.size - meta_count sup.size sup.ninodes)
+    ∷ from_to Size sup.size (meta_with log sup.size sup.ninodes + 1) most_blocks
+    ∷ exactly Nblocks sup.nblocks (sup.size - meta_with log sup.size sup.ninodes)
     ∷ exactly Logstart sup.logstart log_start
-    ∷ exactly Inodestart sup.inodestart inode_start
-    ∷ exactly Bmapstart sup.bmapstart (bitmap_block sup.ninodes)
+    ∷ exactly Inodestart sup.inodestart (inode_start - (log_blocks - log))
+    ∷ exactly Bmapstart sup.bmapstart (bitmap_block sup.ninodes - (log_blocks - log))
     ∷ []

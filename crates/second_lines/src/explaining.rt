@@ -226,8 +226,8 @@ fn of_image<R: Files + AllocGlobal>(
 ) -> Option<String> {
     let path = given.image?;
     match refusal.number {
-        1 => wrong_magic(rt, path),
-        2 => wrong_geometry(rt, path),
+        1 => wrong_magic(rt, path, given.converts),
+        2 => wrong_geometry(rt, path, given.converts),
         4..=6 => of_inode(rt, path, refusal.number, refusal.argument?),
         10 => unread(rt, path),
         number => with_phrase(rt.alloc(), path, fault_phrase(number)?),
@@ -402,6 +402,11 @@ fn of_copy<R: Files + AllocGlobal>(rt: &R, given: &Given<'_>, number: u32) -> Op
             given.made?,
             "it is there, or another program makes it",
         ),
+        9 => with_phrase(
+            rt.alloc(),
+            given.image?,
+            "its log is not empty: its own kernel clears it as it boots",
+        ),
         _ => None,
     }
 }
@@ -435,6 +440,13 @@ fn of_making<R: Files + AllocGlobal>(rt: &R, given: &Given<'_>, number: u32) -> 
 }
 
 fn of_size<R: Files + AllocGlobal>(rt: &R, given: &Given<'_>, path: &str) -> Option<String> {
+    if given.converts {
+        return with_phrase(
+            rt.alloc(),
+            path,
+            "its blocks have to be the old ones and those of its log, or more, and at most 8191",
+        );
+    }
     let Some(ninodes) = given.ninodes else {
         return with_phrase(
             rt.alloc(),

@@ -7,6 +7,8 @@ pub struct Given<'a> {
     pub image: Option<&'a str>,
     /// Whether it opens that to change it.
     pub changes: bool,
+    /// Whether the log of that image may have another length.
+    pub converts: bool,
     /// The path of the image that it makes.
     pub made: Option<&'a str>,
     /// How many blocks that has, where that is given.
@@ -56,6 +58,7 @@ impl<'a> Given<'a> {
         Given {
             image: None,
             changes: false,
+            converts: false,
             made: None,
             size: None,
             ninodes: None,

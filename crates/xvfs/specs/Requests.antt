@@ -8,7 +8,7 @@ use Rattle.cli.specs.CommandLine.{xvfs_words}
 use Rattle.cli.specs.Topics.{AsksAbout, topic_text}
 use Rattle.cli.specs.declared.topics.Topic.{Topic}
 use Rattle.cli.specs.declared.words.Request.{Request}
-use Rattle.cli.specs.declared.words.Request.TheVariants.{Mkfs, Check, Recover, Cat, Ls, Df, Show, ShowLog, ShowPicture, Put, Copy, Rescue, Replay, ReplayJson, Run, Stops}
+use Rattle.cli.specs.declared.words.Request.TheVariants.{Mkfs, Check, Recover, Cat, Ls, Df, Show, ShowLog, ShowPicture, Put, Copy, Convert, Rescue, Replay, ReplayJson, Run, Stops}
 use Rattle.cmd.specs.Batches.{AreDone, StopsAmong}
 use Rattle.cmd.specs.Lemmas.Disks.{file_disk}
 use Rattle.cmd.specs.Opened.{OpensDisk}
@@ -22,6 +22,7 @@ use Rattle.commands_runs.specs.Cats.{HasCat, IsNotCat}
 use Rattle.commands_runs.specs.Pictures.{IsReplayedInto, IsUnpictured}
 use Rattle.commands_runs.specs.Runs.{IsNotRun, IsReplayed, IsRun, IsUnreplayed}
 use Rattle.commands.specs.Shown.{IsShownInto, IsUnshown}
+use Rattle.commands_changes.specs.Conversions.{HasConverted, OnConvertRefusal}
 use Rattle.commands_changes.specs.Copies.{HasCopied, OnCopyRefusal}
 use Rattle.commands_changes.specs.Making.{IsMade, IsNotMade}
 use Rattle.commands_changes.specs.Rescues.{HasRescued, OnRescueRefusal}
@@ -60,6 +61,8 @@ Answers file (Put image path inum sync no_sync) old new =
     HasPut file.remaining inum sync (not no_sync) old new
 Answers file (Copy from to size no_sync) old new =
     HasCopied file.remaining file_disk size (not no_sync) old new
+Answers file (Convert from to size no_sync) old new =
+    HasConverted file.remaining file_disk size (not no_sync) old new
 Answers file (Rescue from to no_sync) old new =
     HasRescued file.remaining file_disk (not no_sync) old new
 Answers file (Replay image script schedule stop sync writes steps picture) old new =
@@ -103,6 +106,8 @@ OnRefused file (Put image path inum sync no_sync) old new none =
     Refuses (OnPutRefusal file.remaining inum sync (not no_sync) none)
 OnRefused file (Copy from to size no_sync) old new none =
     Refuses (OnCopyRefusal file.remaining file_disk size (not no_sync) none)
+OnRefused file (Convert from to size no_sync) old new none =
+    Refuses (OnConvertRefusal file.remaining file_disk size (not no_sync) none)
 OnRefused file (Rescue from to no_sync) old new none =
     Refuses (OnRescueRefusal file.remaining file_disk (not no_sync) none)
 OnRefused file (Replay image script schedule stop sync writes steps picture) old new none =

@@ -15,7 +15,7 @@ use blocks::{Disk, FaultyDisk, FileDisk};
 use cli::{Asked, Request, Topic, parse};
 use cmd::{Access, Locking, Locks, OverFile, end, perform};
 use commands::{Keeper, ShowPicture, explain};
-use commands_changes::{Copy, Making, Mkfs, Put, Rescue, Target};
+use commands_changes::{Convert, Copy, Making, Mkfs, Put, Rescue, Target};
 use commands_runs::{Cat, Replay, replay_into, replay_json, run_files};
 use commands_stops::{end_stops, stops_into};
 use inspect::{Df, Ls, Show, ShowLog};
@@ -313,6 +313,21 @@ where
                 target,
             };
             perform(NAME, rt, copy, out, err)
+        }
+        Request::Convert {
+            old,
+            new,
+            size,
+            no_sync,
+        } => {
+            let target = target_at(rt, new, !no_sync, locking);
+            let convert = Convert {
+                old,
+                locking,
+                size,
+                target,
+            };
+            perform(NAME, rt, convert, out, err)
         }
         Request::Rescue { old, new, no_sync } => {
             let target = target_at(rt, new, !no_sync, locking);

@@ -51,6 +51,12 @@ pub fn given<'a>(request: &Request<'a>) -> Given<'a> {
             size,
             ..Given::over(old, false)
         },
+        Request::Convert { old, new, size, .. } => Given {
+            converts: true,
+            made: Some(new),
+            size,
+            ..Given::over(old, false)
+        },
         Request::Rescue { old, new, .. } => Given {
             made: Some(new),
             ..Given::over(old, false)

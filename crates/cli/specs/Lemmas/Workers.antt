@@ -4,7 +4,7 @@ use Rattle.clap.specs.Words.{Row, subcommand_of}
 use Rattle.cli.specs.Asking.{AskFor, Asks}
 use Rattle.cli.specs.CommandLine.{AsksBy, HasFewWorkers, xvfs_app, xvfs_words}
 use Rattle.cli.specs.declared.words.Request.{Request}
-use Rattle.cli.specs.declared.words.Request.TheVariants.{Mkfs, Check, Recover, Cat, Ls, Df, Show, ShowLog, ShowPicture, Put, Copy, Rescue, Replay, ReplayJson, Run, Stops}
+use Rattle.cli.specs.declared.words.Request.TheVariants.{Mkfs, Check, Recover, Cat, Ls, Df, Show, ShowLog, ShowPicture, Put, Copy, Convert, Rescue, Replay, ReplayJson, Run, Stops}
 
 few_by : (name : List ℕ) (rows : List Row) (request : Request) → AsksBy name rows request → HasFewWorkers request
 few_by name rows (Mkfs image size ninodes large no_sync) asks = tt
@@ -18,6 +18,7 @@ few_by name rows (ShowLog image json) asks = tt
 few_by name rows (ShowPicture image picture) asks = tt
 few_by name rows (Put image file inum sync no_sync) asks = tt
 few_by name rows (Copy old new size no_sync) asks = tt
+few_by name rows (Convert old new size no_sync) asks = tt
 few_by name rows (Rescue old new no_sync) asks = tt
 few_by name rows (Replay image script schedule stop sync writes steps picture) asks = tt
 few_by name rows (ReplayJson image script schedule stop sync) asks = tt

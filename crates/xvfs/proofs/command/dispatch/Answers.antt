@@ -1,6 +1,7 @@
 use Rattle.std.proofs.Common.{Bool, subst, sym}
 use Rattle.std.specs.Prelude.{◌≡◌, not}
 use Rattle.cmd.specs.Lemmas.Disks.{file_disk}
+use Rattle.commands_changes.specs.Conversions.{HasConverted, OnConvertRefusal}
 use Rattle.commands_changes.specs.Copies.{HasCopied, OnCopyRefusal}
 use Rattle.commands_changes.specs.Making.{IsMade}
 use Rattle.commands_changes.specs.Rescues.{HasRescued, OnRescueRefusal}
@@ -46,6 +47,17 @@ pub returns-in-Copy-clause-refused : goal.returns-in-Copy-clause-refused
 returns-in-Copy-clause-refused g c =
     λ refused. subst (λ request. OnRefused (seen_by g.R.File.Read.remaining g.R.File.Write.contents) request (g.O.Write.contents c.args.out.now) (g.O.Write.contents c.perform-in-Copy.new.out) (c.perform-in-Copy.new.out ≡ c.args.out.now)) (sym c.in-Copy.is)
     (subst (λ (sync : Bool). (x : CopyRefusal) × OnCopyRefusal g.R.File.Read.remaining file_disk c.in-Copy.size sync (c.perform-in-Copy.new.out ≡ c.args.out.now) x) c.target_at-target.ensures (c.perform-in-Copy.ensures.refused refused))
+
+pub returns-in-Convert-clause-done : goal.returns-in-Convert-clause-done
+returns-in-Convert-clause-done g c =
+    let file = seen_by g.R.File.Read.remaining g.R.File.Write.contents in
+    λ done. subst (λ request. Answers file request (g.O.Write.contents c.args.out.now) (g.O.Write.contents c.perform-in-Convert.new.out)) (sym c.in-Convert.is)
+    (subst (λ (sync : Bool). HasConverted g.R.File.Read.remaining file_disk c.in-Convert.size sync (g.O.Write.contents c.args.out.now) (g.O.Write.contents c.perform-in-Convert.new.out)) c.target_at-target-in-Convert.ensures (c.perform-in-Convert.ensures.done done))
+
+pub returns-in-Convert-clause-refused : goal.returns-in-Convert-clause-refused
+returns-in-Convert-clause-refused g c =
+    λ refused. subst (λ request. OnRefused (seen_by g.R.File.Read.remaining g.R.File.Write.contents) request (g.O.Write.contents c.args.out.now) (g.O.Write.contents c.perform-in-Convert.new.out) (c.perform-in-Convert.new.out ≡ c.args.out.now)) (sym c.in-Convert.is)
+    (subst (λ (sync : Bool). (x : CopyRefusal) × OnConvertRefusal g.R.File.Read.remaining file_disk c.in-Convert.size sync (c.perform-in-Convert.new.out ≡ c.args.out.now) x) c.target_at-target-in-Convert.ensures (c.perform-in-Convert.ensures.refused refused))
 
 pub returns-in-Rescue-clause-done : goal.returns-in-Rescue-clause-done
 returns-in-Rescue-clause-done g c =
