@@ -1,5 +1,5 @@
 -- The table of commands, as clap is told it.
-use Rattle.std.specs.Prelude.{List, ℕ, [], ◌∷◌, Some, pos}
+use Rattle.std.specs.Prelude.{List, ℕ, [], ◌∷◌, Option, None, Some, codes, pos}
 use Rattle.clap.specs.declared.builder.action.ArgAction.TheVariants.{Append, SetTrue}
 use Rattle.clap.specs.Words.{App, Rule, new_app, new_rule, with_rule, with_subcommand}
 use Rattle.clap.specs.declared.builder.value_parser.ValueParser.TheVariants.{Signed, Unsigned}
@@ -46,9 +46,16 @@ abbrev pub with_words : App → List Word → App
 with_words app [] = app
 with_words app (word ∷ rest) = with_words (with_rule app (word_rule word)) rest
 
+-- with the path of an image, which it waits for, says more of, or takes no lock of
+abbrev pub with_image : App → Option Word → App
+with_image app None = app
+with_image app (Some image) =
+    with_rule (with_rule (with_rule (with_rule app (word_rule image)) (flag_rule (codes "wait")))
+    (flag_rule (codes "explain"))) (flag_rule (codes "no-lock"))
+
 -- a command with its words
 abbrev pub line_app : Line → App
-line_app line = with_words (new_app line.name.now) line.words.now
+line_app line = with_words (with_image (new_app line.name.now) line.image) line.words.now
 
 abbrev pub with_lines : App → List Line → App
 with_lines app [] = app

@@ -2,9 +2,9 @@
 ghost use Rattle.std.specs.Prelude.{◌≡◌, false, IfOk};
 ghost use Rattle.clap.specs.Words.{App, rule_of};
 ghost use Rattle.cli.specs.CommandLine.{HasApp, HasMore, named_app};
-ghost use Rattle.cli.specs.Table.{line_app, outline_app, preset_rule, valued_rule, with_lines, word_rule};
+ghost use Rattle.cli.specs.Table.{line_app, outline_app, preset_rule, valued_rule, with_lines, with_words, word_rule};
 
-use crate::table::{Kind, Line, Outline, Word};
+use crate::table::{EXPLAIN, Kind, Line, NO_LOCK, Outline, WAIT, Word};
 use clap::{Arg, ArgAction, Command, value_parser};
 use std::alloc::{AllocError, Global};
 
@@ -63,10 +63,29 @@ fn with_command<'a>(
 fn command_of<'a>(alloc: Global, line: Line) -> Result<Command<'a>, AllocError>
     ensures { IfOk result (HasApp (line_app line)) }
 {
-    let mut command = Command::new(alloc, line.name)
+    let command = Command::new(alloc, line.name)
         .about(line.about)
         .after_help(line.example);
-    for word in line.words {
+    match line.image {
+        Some(image) => {
+            let command = with_words(alloc, command, &[image, WAIT, EXPLAIN, NO_LOCK])?;
+            with_words(alloc, command, line.words)
+        }
+        None => with_words(alloc, command, line.words),
+    }
+}
+
+// A command, with these words.
+fn with_words<'a>(
+    alloc: Global,
+    command: Command<'a>,
+    words: &[Word],
+) -> Result<Command<'a>, AllocError>
+    ensures { IfOk result (λ new. (app : App) → HasApp app command.entry
+        → HasApp (with_words app words.now) new) }
+{
+    let mut command = command;
+    for word in words {
         command = command.arg(argument(alloc, *word))?;
     }
     Ok(command)

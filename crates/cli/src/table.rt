@@ -41,7 +41,7 @@ pub struct Word {
     pub help: &'static str,
 }
 
-/// A command: its name, what it does, an example, and its words in their order.
+/// A command: its name, what it does, an example, its image's path, and its words in their order.
 #[derive(Clone, Copy)]
 pub struct Line {
     /// Its name.
@@ -50,7 +50,10 @@ pub struct Line {
     pub about: &'static str,
     /// What help shows behind its words.
     pub example: &'static str,
-    /// Its words.
+    /// The path of the image that it opens, if it does: its first word, behind which it has `--wait`,
+    /// `--explain` and `--no-lock`.
+    pub image: Option<Word>,
+    /// Its other words.
     pub words: &'static [Word],
 }
 
@@ -89,21 +92,21 @@ pub const NO_SYNC: Word = Word {
 };
 
 /// `--wait`.
-pub const WAIT: Word = Word {
+pub(crate) const WAIT: Word = Word {
     name: "wait",
     kind: Kind::Flag,
     help: "Waits while another program has the image, in place of being refused",
 };
 
 /// `--no-lock`.
-pub const NO_LOCK: Word = Word {
+pub(crate) const NO_LOCK: Word = Word {
     name: "no-lock",
     kind: Kind::Flag,
     help: "Takes no lock of the image, for a system that gives none; two programs at once may lose files",
 };
 
 /// `--explain`.
-pub const EXPLAIN: Word = Word {
+pub(crate) const EXPLAIN: Word = Word {
     name: "explain",
     kind: Kind::Flag,
     help: "Says more of a refusal in a second line, as on a terminal",
@@ -180,11 +183,8 @@ const LINES: &[Line] = &[
         name: "mkfs",
         about: "Makes an image in a new file, or in place of an old one",
         example: "Example: xvfs mkfs fs.img 2000 200",
+        image: Some(IMAGE_MADE),
         words: &[
-            IMAGE_MADE,
-            WAIT,
-            EXPLAIN,
-            NO_LOCK,
             SIZE,
             NINODES,
             Word {
@@ -199,11 +199,8 @@ const LINES: &[Line] = &[
         name: "check",
         about: "Says whether an image is sound, and counts its logged blocks and its files",
         example: "Examples: xvfs check fs.img, xvfs check fs.img --all",
+        image: Some(IMAGE_KEPT),
         words: &[
-            IMAGE_KEPT,
-            WAIT,
-            EXPLAIN,
-            NO_LOCK,
             Word {
                 name: "all",
                 kind: Kind::Flag,
@@ -216,23 +213,22 @@ const LINES: &[Line] = &[
         name: "ls",
         about: "Lists the files of an image: number, type, bytes and blocks",
         example: "Examples: xvfs ls fs.img, xvfs ls fs.img --json",
-        words: &[IMAGE_KEPT, WAIT, EXPLAIN, NO_LOCK, JSON],
+        image: Some(IMAGE_KEPT),
+        words: &[JSON],
     },
     Line {
         name: "df",
         about: "Counts the blocks and the inodes of an image, used and free ones",
         example: "Examples: xvfs df fs.img, xvfs df fs.img --json",
-        words: &[IMAGE_KEPT, WAIT, EXPLAIN, NO_LOCK, JSON],
+        image: Some(IMAGE_KEPT),
+        words: &[JSON],
     },
     Line {
         name: "cat",
         about: "Recovers an image, and writes the bytes of one of its files",
         example: "Examples: xvfs cat fs.img 1, xvfs cat fs.img 1 --read-only",
+        image: Some(IMAGE),
         words: &[
-            IMAGE,
-            WAIT,
-            EXPLAIN,
-            NO_LOCK,
             Word {
                 name: "INUM",
                 kind: Kind::Number,
@@ -249,11 +245,8 @@ const LINES: &[Line] = &[
         name: "show",
         about: "Draws the blocks of an image, a sign each, or lists those of one file, or of the log",
         example: "Examples: xvfs show fs.img, xvfs show fs.img 1, xvfs show fs.img log",
+        image: Some(IMAGE_KEPT),
         words: &[
-            IMAGE_KEPT,
-            WAIT,
-            EXPLAIN,
-            NO_LOCK,
             Word {
                 name: "INUM",
                 kind: Kind::Free,
@@ -271,11 +264,8 @@ const LINES: &[Line] = &[
         name: "put",
         about: "Puts a file into an image, as a new file or in place of one, and prints its number",
         example: "Examples: xvfs put fs.img notes.txt, xvfs put fs.img notes.txt 1",
+        image: Some(IMAGE),
         words: &[
-            IMAGE,
-            WAIT,
-            EXPLAIN,
-            NO_LOCK,
             Word {
                 name: "FILE",
                 kind: Kind::Needed,
@@ -294,11 +284,8 @@ const LINES: &[Line] = &[
         name: "copy",
         about: "Copies the files of an image into a new one that has room for large files",
         example: "Example: xvfs copy old.img new.img --size 8191",
+        image: Some(OLD),
         words: &[
-            OLD,
-            WAIT,
-            EXPLAIN,
-            NO_LOCK,
             NEW,
             Word {
                 name: "size",
@@ -315,18 +302,15 @@ const LINES: &[Line] = &[
     },
     Line {
         name: "convert",
-        about: "Makes an image whose log has another length, as xv6 made them up to 2024, one of this format",
+        about: "Makes an image of an older xv6, whose log has another length, one of today",
         example: "Example: xvfs convert fs.img new.img",
+        image: Some(OLD),
         words: &[
-            OLD,
-            WAIT,
-            EXPLAIN,
-            NO_LOCK,
             NEW,
             Word {
                 name: "size",
                 kind: Kind::Valued,
-                help: "Blocks of the new image; where it is not given as many as the old one has, and those that its log gets",
+                help: "Blocks of the new image; as many data blocks as the old one has where it is not given",
             },
             NO_SYNC,
         ],
@@ -335,23 +319,22 @@ const LINES: &[Line] = &[
         name: "rescue",
         about: "Copies the files of a damaged image that are whole into a new one, and tells which these are",
         example: "Example: xvfs rescue old.img new.img",
-        words: &[OLD, WAIT, EXPLAIN, NO_LOCK, NEW, NO_SYNC],
+        image: Some(OLD),
+        words: &[NEW, NO_SYNC],
     },
     Line {
         name: "recover",
         about: "Checks an image, and copies the blocks of its log home",
         example: "Example: xvfs recover fs.img",
-        words: &[IMAGE, WAIT, EXPLAIN, NO_LOCK, SYNC, JSON],
+        image: Some(IMAGE),
+        words: &[SYNC, JSON],
     },
     Line {
         name: "replay",
         about: "Recovers an image, and makes a script's operations in the turns of a schedule",
         example: "Example: xvfs replay fs.img script schedule --stop 3",
+        image: Some(IMAGE),
         words: &[
-            IMAGE,
-            WAIT,
-            EXPLAIN,
-            NO_LOCK,
             SCRIPT,
             SCHEDULE,
             Word {
@@ -386,11 +369,8 @@ const LINES: &[Line] = &[
         name: "run",
         about: "Recovers an image, and makes a script's operations, each process's in order, by threads",
         example: "Examples: xvfs run fs.img script --group, xvfs run fs.img script --workers 4",
+        image: Some(IMAGE),
         words: &[
-            IMAGE,
-            WAIT,
-            EXPLAIN,
-            NO_LOCK,
             SCRIPT,
             Word {
                 name: "workers",
@@ -409,6 +389,7 @@ const LINES: &[Line] = &[
         name: "stops",
         about: "Makes a script's operations up to each of their writes, and checks what each stop leaves",
         example: "Example: xvfs stops script schedule",
+        image: None,
         words: &[
             SCRIPT,
             SCHEDULE,

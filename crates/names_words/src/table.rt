@@ -1,7 +1,6 @@
 // The commands of `xvnames`, and their words, as a table.
 use cli::table::{
-    EXPLAIN, IMAGE, IMAGE_KEPT, IMAGE_MADE, Kind, Line, NINODES, NO_LOCK, NO_SYNC, Outline, SIZE,
-    SYNC, WAIT, Word,
+    IMAGE, IMAGE_KEPT, IMAGE_MADE, Kind, Line, NINODES, NO_SYNC, Outline, SIZE, SYNC, Word,
 };
 
 pub const XVNAMES: Outline = Outline {
@@ -40,35 +39,36 @@ const LINES: &[Line] = &[
         name: "ls",
         about: "Lists a directory but for . and .., a line an entry: name, number, type and bytes",
         example: "Examples: xvnames ls fs.img, xvnames ls fs.img /docs",
-        words: &[IMAGE_KEPT, WAIT, EXPLAIN, NO_LOCK, FOLDER],
+        image: Some(IMAGE_KEPT),
+        words: &[FOLDER],
     },
     Line {
         name: "stat",
         about: "Prints a file's number, type, bytes and count of links",
         example: "Example: xvnames stat fs.img /README",
-        words: &[IMAGE_KEPT, WAIT, EXPLAIN, NO_LOCK, PATH],
+        image: Some(IMAGE_KEPT),
+        words: &[PATH],
     },
     Line {
         name: "tree",
         about: "Prints the paths of all files below a directory, a line each; those of directories end with a slash",
         example: "Examples: xvnames tree fs.img, xvnames tree fs.img /docs",
-        words: &[IMAGE_KEPT, WAIT, EXPLAIN, NO_LOCK, FOLDER],
+        image: Some(IMAGE_KEPT),
+        words: &[FOLDER],
     },
     Line {
         name: "cat",
         about: "Writes the bytes of a file",
         example: "Example: xvnames cat fs.img /README",
-        words: &[IMAGE_KEPT, WAIT, EXPLAIN, NO_LOCK, PATH],
+        image: Some(IMAGE_KEPT),
+        words: &[PATH],
     },
     Line {
         name: "get",
         about: "Copies a file of an image into a new file, or with -r a directory with all below it into a new folder",
         example: "Examples: xvnames get fs.img /README readme.txt, xvnames get -r fs.img /docs docs",
+        image: Some(IMAGE_KEPT),
         words: &[
-            IMAGE_KEPT,
-            WAIT,
-            EXPLAIN,
-            NO_LOCK,
             PATH,
             Word {
                 name: "FILE",
@@ -86,17 +86,15 @@ const LINES: &[Line] = &[
         name: "put",
         about: "Puts a file into an image under a path, as a new file or in place of one, and prints its number",
         example: "Example: xvnames put fs.img notes.txt /docs/notes.txt",
-        words: &[IMAGE, WAIT, EXPLAIN, NO_LOCK, FILE_PUT, PATH, SYNC, NO_SYNC],
+        image: Some(IMAGE),
+        words: &[FILE_PUT, PATH, SYNC, NO_SYNC],
     },
     Line {
         name: "rm",
         about: "Removes a name of a file, which is no directory, and the file with its last name, or with -r a directory with all below it",
         example: "Examples: xvnames rm fs.img /docs/notes.txt, xvnames rm -r fs.img /docs",
+        image: Some(IMAGE),
         words: &[
-            IMAGE,
-            WAIT,
-            EXPLAIN,
-            NO_LOCK,
             PATH,
             SYNC,
             NO_SYNC,
@@ -111,11 +109,8 @@ const LINES: &[Line] = &[
         name: "mv",
         about: "Gives a file or a directory another path, where nothing is",
         example: "Example: xvnames mv fs.img /README /docs/readme",
+        image: Some(IMAGE),
         words: &[
-            IMAGE,
-            WAIT,
-            EXPLAIN,
-            NO_LOCK,
             Word {
                 name: "FROM",
                 kind: Kind::Needed,
@@ -134,11 +129,8 @@ const LINES: &[Line] = &[
         name: "ln",
         about: "Gives a file, which is no directory, a second name",
         example: "Example: xvnames ln fs.img /README /docs/readme",
+        image: Some(IMAGE),
         words: &[
-            IMAGE,
-            WAIT,
-            EXPLAIN,
-            NO_LOCK,
             Word {
                 name: "OLD",
                 kind: Kind::Needed,
@@ -157,11 +149,8 @@ const LINES: &[Line] = &[
         name: "mkdir",
         about: "Makes a directory, or with -p each of its path that is not there",
         example: "Examples: xvnames mkdir fs.img /docs, xvnames mkdir -p fs.img /docs/old/first",
+        image: Some(IMAGE),
         words: &[
-            IMAGE,
-            WAIT,
-            EXPLAIN,
-            NO_LOCK,
             PATH,
             SYNC,
             NO_SYNC,
@@ -176,26 +165,28 @@ const LINES: &[Line] = &[
         name: "rmdir",
         about: "Removes a directory in which nothing is",
         example: "Example: xvnames rmdir fs.img /docs",
-        words: &[IMAGE, WAIT, EXPLAIN, NO_LOCK, PATH, SYNC, NO_SYNC],
+        image: Some(IMAGE),
+        words: &[PATH, SYNC, NO_SYNC],
     },
     Line {
         name: "check",
         about: "Says whether an image is sound and its files a tree, and lists each path of a file whose count of links is not how many names lead to it: number, links and names; where they are no tree, the files without a name",
         example: "Example: xvnames check fs.img",
-        words: &[IMAGE_KEPT, WAIT, EXPLAIN, NO_LOCK],
+        image: Some(IMAGE_KEPT),
+        words: &[],
     },
     Line {
         name: "recount",
         about: "Sets each file's wrong count of links to how many names lead to it, and prints how many were wrong",
         example: "Example: xvnames recount fs.img",
-        words: &[IMAGE, WAIT, EXPLAIN, NO_LOCK, SYNC, NO_SYNC],
+        image: Some(IMAGE),
+        words: &[SYNC, NO_SYNC],
     },
     Line {
         name: "mkfs",
         about: "Makes an image with a root directory and these files in it, in a new file or in place of an old one",
         example: "Example: xvnames mkfs fs.img 2000 200 README _cat _ls",
-        words: &[
-            IMAGE_MADE, WAIT, EXPLAIN, NO_LOCK, SIZE, NINODES, FILES, NO_SYNC,
-        ],
+        image: Some(IMAGE_MADE),
+        words: &[SIZE, NINODES, FILES, NO_SYNC],
     },
 ];
