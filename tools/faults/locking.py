@@ -223,6 +223,6 @@ def copies_wait(line):
 BIG_FILE = with_big()
 LOCKERS = [*LOOKS, *CHANGES, *MAKERS, *DRAWN]
 SERIES = [(read_first,), (slow_input,), (piped,), (read_only,), (dawdling_reader,), (renamed,)]
-SERIES += [(taken_name, line) for line in ("copy a.img b.img", "rescue a.img b.img")]
-SERIES += [(copies_wait, line) for line in ("copy a.img b.img", "rescue a.img b.img")]
+SERIES += [(taken_name, line) for line in ("copy a.img b.img", "rescue a.img b.img", "convert a.img b.img")]
+SERIES += [(copies_wait, line) for line in ("copy a.img b.img", "rescue a.img b.img", "convert a.img b.img")]
 SERIES += [(no_locks, line) for line in LOCKERS]

@@ -1,4 +1,4 @@
-"""What a copied, rescued or replaced image is for others: its permissions and owner, its name's sync, and that
+"""What a copied, rescued, converted or replaced image is for others: its permissions and owner, its name's sync, and that
 it stays where its answer can't be printed."""
 import os
 import stat
@@ -7,7 +7,7 @@ import image
 from rooms import changed
 from usual import ONE_FILE, ROOMS, SHORT, short_of, wrong_unless
 
-COPIES = ["copy a.img b.img", "rescue a.img b.img"]
+COPIES = ["copy a.img b.img", "rescue a.img b.img", "convert a.img b.img"]
 
 
 def mode_of(room, name):

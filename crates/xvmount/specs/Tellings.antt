@@ -17,3 +17,4 @@ abbrev pub mount_telling : MountRefusal → Telling
 mount_telling (mount.Unopened fault) = tree_open_telling fault
 mount_telling mount.NoMemory = plain (codes "names") 16 (codes "NoMemory")
 mount_telling mount.NoCall = plain (codes "names") 17 (codes "NoCall")
+mount_telling mount.Unsynced = plain (codes "disk") 2 (codes "SyncFault")

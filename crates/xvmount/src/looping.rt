@@ -5,10 +5,12 @@ ghost use Rattle.names.specs.Ready.{MayGoOn};
 use crate::images::{data_blocks, open};
 use crate::options::Options;
 use crate::refusal::MountRefusal;
+use crate::syncing::{Device, put_unsynced, sync_asked};
 use blocks::Disk;
 use mounting::{Errno, Moment, Served, Server, Terms};
 use names::Tree;
 use std::alloc::{AllocError, Global};
+use std::fs::OpenFile;
 use std::io::{ErrorKind, Read, Write};
 use std::time::{Clock, SystemTime, UNIX_EPOCH};
 
@@ -82,16 +84,17 @@ fn first_moment() -> Moment {
 }
 
 /// Serves the files of a disk, up to the last request. Each change is committed before it is
-/// answered.
+/// answered. A request for a sync is answered once the device was synced, and so is the end.
 ///
 /// # Errors
 ///
-/// `Unopened` where no tree is opened over it, `NoMemory`, and `NoCall` where a file that a stop left
-/// aside isn't removed.
-pub fn serve_disk<R: Clock, D: Disk + Drop, I: Read, O: Write>(
+/// `Unopened` where no tree is opened over it, `NoMemory`, `NoCall` where a file that a stop left
+/// aside isn't removed, and `Unsynced` where a sync of the device failed.
+pub fn serve_disk<R: Clock, D: Disk + Drop, F: OpenFile, I: Read, O: Write>(
     rt: &R,
     alloc: Global,
     disk: D,
+    device: &mut Device<F>,
     options: Options,
     input: &mut I,
     output: &mut O,
@@ -107,16 +110,17 @@ pub fn serve_disk<R: Clock, D: Disk + Drop, I: Read, O: Write>(
         blocks,
     };
     match open(alloc, disk) {
-        Ok(tree) => serve_tree(rt, alloc, tree, terms, input, output),
+        Ok(tree) => serve_tree(rt, alloc, tree, device, terms, input, output),
         Err(refusal) => Err(refusal),
     }
 }
 
 // Serves the files of a tree.
-fn serve_tree<R: Clock, D: Disk + Drop, I: Read, O: Write>(
+fn serve_tree<R: Clock, D: Disk + Drop, F: OpenFile, I: Read, O: Write>(
     rt: &R,
     alloc: Global,
     tree: Tree<D>,
+    device: &mut Device<F>,
     terms: Terms,
     input: &mut I,
     output: &mut O,
@@ -125,17 +129,18 @@ fn serve_tree<R: Clock, D: Disk + Drop, I: Read, O: Write>(
 {
     let mut tree = tree;
     match Server::new(alloc, &mut tree, terms) {
-        Ok(server) => serve(rt, alloc, tree, server, input, output),
+        Ok(server) => serve(rt, alloc, tree, device, server, input, output),
         Err(Errno::NoMemory) => Err(MountRefusal::NoMemory),
         Err(_errno) => Err(MountRefusal::NoCall),
     }
 }
 
 // Serves requests up to the last one.
-fn serve<R: Clock, D: Disk + Drop, I: Read, O: Write>(
+fn serve<R: Clock, D: Disk + Drop, F: OpenFile, I: Read, O: Write>(
     rt: &R,
     alloc: Global,
     tree: Tree<D>,
+    device: &mut Device<F>,
     server: Server,
     input: &mut I,
     output: &mut O,
@@ -152,13 +157,14 @@ fn serve<R: Clock, D: Disk + Drop, I: Read, O: Write>(
             rt,
             alloc,
             &mut tree,
+            device,
             &mut server,
             input,
             output,
             &mut buffers,
         ) {
             Ok(true) => {}
-            Ok(false) => return Ok(()),
+            Ok(false) => return ended(device),
             Err(_refused) => return Err(MountRefusal::NoMemory),
         }
         let anew = request % u64::from(MOST_SERVED) == u64::from(MOST_SERVED) - 1;
@@ -170,11 +176,21 @@ fn serve<R: Clock, D: Disk + Drop, I: Read, O: Write>(
     Ok(())
 }
 
+// The end of a mount, whose device is synced.
+fn ended<F: OpenFile>(device: &mut Device<F>) -> Result<(), MountRefusal> {
+    if device.is_synced() {
+        Ok(())
+    } else {
+        Err(MountRefusal::Unsynced)
+    }
+}
+
 // Serves the next request. Whether there may be another one.
-fn turn<R: Clock, D: Disk, I: Read, O: Write>(
+fn turn<R: Clock, D: Disk, F: OpenFile, I: Read, O: Write>(
     rt: &R,
     alloc: Global,
     tree: &mut Tree<D>,
+    device: &mut Device<F>,
     server: &mut Server,
     input: &mut I,
     output: &mut O,
@@ -188,10 +204,28 @@ fn turn<R: Clock, D: Disk, I: Read, O: Write>(
         Next::None => Ok(true),
         Next::Request(count) => {
             let served = serve_one(rt, alloc, tree, server, count, buffers)?;
+            sync_where_asked(device, count, buffers)?;
             tell(served, output, buffers.answer.as_slice());
             Ok(true)
         }
     }
+}
+
+// Syncs the device where the request of so many bytes asks for it, whose answer is another one where that
+// fails.
+fn sync_where_asked<F: OpenFile>(
+    device: &mut Device<F>,
+    count: usize,
+    buffers: &mut Buffers,
+) -> Result<(), AllocError> {
+    let request = buffers.request.as_slice();
+    let Some(unique) = sync_asked(&request[..count.min(request.len())]) else {
+        return Ok(());
+    };
+    if device.is_synced() {
+        return Ok(());
+    }
+    put_unsynced(unique, &mut buffers.answer)
 }
 
 // Writes an answer, where there is one. One that is given up meanwhile isn't waited for.

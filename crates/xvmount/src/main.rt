@@ -8,13 +8,16 @@ mod images;
 mod looping;
 mod options;
 mod refusal;
+mod syncing;
 
 use crate::images::disk_in_memory;
 use crate::looping::serve_disk;
 use crate::options::{Options, read_options};
+use crate::syncing::Device;
 use blocks::FileFault;
 use cli::arguments;
-use cmd::{Access, end, open_for};
+use cmd::{Access, disk_over, end, open_for, open_image};
+use std::fs::File;
 use std::io::Write;
 use std::process::ExitCode;
 
@@ -52,12 +55,26 @@ fn serve_image<E: Write>(rt: &HostRuntime, image: &str, options: Options, err: &
         sync: options.sync,
         locking: options.locking,
     };
-    match open_for(rt, image, access) {
+    match open_image(rt, image, access) {
+        Ok(file) => serve_file(rt, file, options, err),
+        Err(fault) => end::<FileFault, E>(NAME, Err(fault), err),
+    }
+}
+
+// Serves the image in a file that was opened. Where each commit syncs it, nothing else has to.
+fn serve_file<E: Write>(rt: &HostRuntime, file: File, options: Options, err: &mut E) -> u8 {
+    match disk_over(rt.alloc(), &file, options.sync) {
         Ok(disk) => {
+            let mut device = if options.sync {
+                Device::nowhere()
+            } else {
+                Device::of(file)
+            };
             let ended = serve_disk(
                 rt,
                 rt.alloc(),
                 disk,
+                &mut device,
                 options,
                 &mut rt.stdin(),
                 &mut rt.stdout(),
@@ -80,6 +97,7 @@ fn serve_copy<E: Write>(rt: &HostRuntime, image: &str, options: Options, err: &m
                 rt,
                 rt.alloc(),
                 copy,
+                &mut Device::<File>::nowhere(),
                 options,
                 &mut rt.stdin(),
                 &mut rt.stdout(),

@@ -16,6 +16,8 @@ pub enum MountRefusal {
     NoMemory,
     /// A call of the tree failed before the first request.
     NoCall,
+    /// A sync of the image's file failed.
+    Unsynced,
 }
 
 impl Reason for MountRefusal {
@@ -26,6 +28,7 @@ impl Reason for MountRefusal {
             MountRefusal::Unopened(fault) => tree_open_told(fault),
             MountRefusal::NoMemory => Told::new("names", 16, "NoMemory"),
             MountRefusal::NoCall => Told::new("names", 17, "NoCall"),
+            MountRefusal::Unsynced => Told::new("disk", 2, "SyncFault"),
         }
     }
 }
