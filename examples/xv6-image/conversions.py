@@ -60,7 +60,9 @@ def old_image(log, seed, size=600):
     calls = Calls(kernel, tree, chance, [])
     for _ in range(CALLS):
         calls.make_one()
-    return calls.stop(), tree, kernel.image_at_header(), chance
+    at_header = kernel.image_at_header()
+    # A boot, which clears the log.
+    return Kernel(calls.stop()).image(), tree, at_header, chance
 
 
 def refused(programs, data, wanted, *words):
@@ -102,7 +104,7 @@ def wrong_images(programs):
         return bytes(data)
 
     refused(programs, hurt(BLOCK, 0x10203041), b"xvfs: check 1 BadMagic\n")
-    for place, word in ((1, 299), (2, 1), (3, 41), (4, 10), (4, 32), (5, 3), (6, 33), (7, 36)):
+    for place, word in ((1, 299), (2, 1), (3, 48), (4, 10), (4, 32), (5, 3), (6, 33), (7, 36)):
         refused(programs, hurt(BLOCK + 4 * place, word), b"xvfs: check 2 BadGeometry\n")
     refused(programs, good[:-BLOCK], b"xvfs: check 2 BadGeometry\n")
     # The file's inode: its first address, and its size.
