@@ -1,0 +1,10 @@
+mod CountLemmas
+mod AddressLemmas
+mod FitLemmas
+mod BlockLemmas
+mod MovedLemmas
+mod OverLemmas
+mod StepLemmas
+mod NodeLemmas
+mod PlannedLemmas
+mod FillLemmas
