@@ -1,3 +1,4 @@
+pub mod Converting
 pub mod Copying
 pub mod Rescuing
 pub mod MakingLemmas

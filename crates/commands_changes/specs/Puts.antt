@@ -5,7 +5,7 @@ use Rattle.cmd.specs.Opened.{OpensDisk}
 use Rattle.cmd.specs.Over.{IsRefusedOn}
 use Rattle.cmd.specs.declared.files.OnFile.{OnFile}
 use Rattle.transfer.specs.declared.refused.PutRefusal.{PutRefusal}
-use Rattle.commands_changes.specs.PutsAnew.{HasPutAnew, IsUnputAnew, PrintsPut}
+use Rattle.commands_changes.specs.PutsAnew.{IsUnputAnew, PrintsPut}
 use Rattle.commands_changes.specs.PutsOver.{IsUnputOver, PutsOver}
 use Rattle.commands_changes.specs.declared.refused.PutFileRefusal.{PutFileRefusal}
 use Rattle.commands_changes.specs.declared.refused.PutFileRefusal.TheVariants.{Unread, Of}

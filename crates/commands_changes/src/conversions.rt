@@ -112,10 +112,11 @@ fn keep<'a, R: Files + AllocGlobal, O: Write, P: Meter, H: Holder<R::File>>(
     out: &mut O,
 ) -> Result<(), CopyRefusal>
     requires some { 2 ≤ length (⟦<MemDisk as Disk>⟧.image memory.old) }
-    ensures kept { OnOk result (IsKept file_disk (⟦<MemDisk as Disk>⟧.image memory.old)
-        target.old.sync (O.contents out.old) (O.contents out.new)) }
-    ensures refused { IfErr result (IsUnkept file_disk (⟦<MemDisk as Disk>⟧.image memory.old)
-        target.old.sync (out.new ≡ out.old)) }
+    ensures kept { OnOk result (IsKept ⟦<FileDisk<R::File> as Disk>⟧
+        (⟦<MemDisk as Disk>⟧.image memory.old) target.old.sync
+        (O.contents out.old) (O.contents out.new)) }
+    ensures refused { IfErr result (IsUnkept ⟦<FileDisk<R::File> as Disk>⟧
+        (⟦<MemDisk as Disk>⟧.image memory.old) target.old.sync (out.new ≡ out.old)) }
 {
     let fields = superblock::read(memory.block(1));
     let file = hold(target, mode)?;
@@ -136,10 +137,10 @@ fn fill_file<'a, R: Files + AllocGlobal, P: Meter, H>(
     target: &mut Target<'a, P, H>,
 ) -> Result<(), CopyRefusal>
     requires some { 2 ≤ length (⟦<MemDisk as Disk>⟧.image memory.old) }
-    ensures written { OnOk result (HasWrittenAnew file_disk
+    ensures written { OnOk result (HasWrittenAnew ⟦<FileDisk<R::File> as Disk>⟧
         (⟦<MemDisk as Disk>⟧.image memory.old) target.old.sync) }
-    ensures refused { IfErr result
-        (IsNotWrittenAnew file_disk (⟦<MemDisk as Disk>⟧.image memory.old)) }
+    ensures refused { IfErr result (IsNotWrittenAnew ⟦<FileDisk<R::File> as Disk>⟧
+        (⟦<MemDisk as Disk>⟧.image memory.old)) }
 {
     let path = target.path;
     let sync = target.sync;
@@ -160,10 +161,10 @@ fn fill_disk<'a, F: Read + Write + Seek + OpenFile + Drop, P: Meter, H>(
     target: &mut Target<'a, P, H>,
 ) -> Result<(), CopyRefusal>
     requires some { 2 ≤ length (⟦<MemDisk as Disk>⟧.image memory.old) }
-    ensures written { OnOk result (HasWrittenAnew file_disk
+    ensures written { OnOk result (HasWrittenAnew ⟦<FileDisk<F> as Disk>⟧
         (⟦<MemDisk as Disk>⟧.image memory.old) target.old.sync) }
-    ensures refused { IfErr result
-        (IsNotWrittenAnew file_disk (⟦<MemDisk as Disk>⟧.image memory.old)) }
+    ensures refused { IfErr result (IsNotWrittenAnew ⟦<FileDisk<F> as Disk>⟧
+        (⟦<MemDisk as Disk>⟧.image memory.old)) }
 {
     match zeroes_in(alloc, file, memory.size()) {
         Ok(new) => match write_to(alloc, memory, new, target.sync, &mut target.progress) {

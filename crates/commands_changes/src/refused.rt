@@ -1,6 +1,7 @@
 // Why a command over files of the system isn't done.
 ghost use Rattle.std.specs.Prelude.{◌≡◌};
-ghost use Rattle.commands_changes.specs.Refusals.{copying_telling, putting_telling, reading_telling};
+ghost use Rattle.messages.specs.Telling.{telling_of};
+ghost use Rattle.commands_changes.specs.Refusals.{conversion_telling, copying_telling, putting_telling, reading_telling};
 
 use blocks::FileFault;
 use cmd::OnFile;
@@ -40,7 +41,7 @@ impl Reason for CopyRefusal {
 
 // How it is told that an image isn't converted: as a copy's refusal, or a check's or mkfs's.
 fn told_of(fault: &ConversionFault) -> Told
-    ensures { result.told ≡ conversion_telling fault.now }
+    ensures { telling_of result ≡ conversion_telling fault.now }
 {
     match fault {
         ConversionFault::BadMagic => CheckFault::BadMagic.told(),

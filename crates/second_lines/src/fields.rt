@@ -121,7 +121,11 @@ fn fields_of(sup: &Super, block_count: u32, log: u32) -> [Field; 8]
         exactly(Name::Nblocks, sup.nblocks, size.saturating_sub(meta)),
         exactly(Name::Logstart, sup.logstart, LOG_START),
         exactly(Name::Inodestart, sup.inodestart, INODE_START - fewer),
-        exactly(Name::Bmapstart, sup.bmapstart, bitmap_block(ninodes) - fewer),
+        exactly(
+            Name::Bmapstart,
+            sup.bmapstart,
+            bitmap_block(ninodes) - fewer,
+        ),
     ]
 }
 
