@@ -3,6 +3,8 @@ mod AddressLemmas
 mod FitLemmas
 mod BlockLemmas
 mod MovedLemmas
+mod PlacedLemmas
+mod KeptLemmas
 mod OverLemmas
 mod StepLemmas
 mod NodeLemmas

@@ -35,9 +35,10 @@ fn print_inodes(rt: &impl Print, disk: &mut MemDisk, block: &mut Block) -> anyho
     let _ends = ends(disk, 33, block);
     for i in 1..5u32 {
         let d = inode::read_at(block, i);
+        let (first, last, node) = (d.addrs[0], d.addrs[11], d.addrs[12]);
         println!(rt;
-            "{i}: type {} labels {} {} links {} size {} at {} .. {}, {}",
-            d.kind, d.major, d.minor, d.nlink, d.size, d.addrs[0], d.addrs[11], d.addrs[12]
+            "{i}: type {} labels {} {} links {} size {} at {first} .. {last}, {node}",
+            d.kind, d.major, d.minor, d.nlink, d.size
         )?;
     }
     Ok(())

@@ -11,7 +11,7 @@ loop-e-preserved c =
     let e = c.loop-e.e in
     c.set_entry.ensures
     ∙ ap (with_entry c.loop-e.block e) (c.moved.ensures ∙ ap (λ (words : List ℕ). moved from to (get_or words e 0)) c.read_all-addresses.ensures.value)
-    ∙ words_more from to c.args.block.now c.loop-e.block e c.as_slice-bytes.ensures.block.size c.loop-e-test.true c.loop-e.invariant
+    ∙ words_more from to c.args.block.now c.loop-e.block e c.as_slice-bytes.ensures.block.size (omega (arith, c.loop-e-test.true)) c.loop-e.invariant
 
 pub returns : goal.returns
 returns c =

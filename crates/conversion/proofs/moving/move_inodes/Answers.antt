@@ -11,7 +11,7 @@ loop-k-preserved c =
     let k = c.loop-k.k in
     c.write_at.ensures
     ∙ ap (with_inode_bytes c.loop-k.block k) (c.moved_inode.ensures.value ∙ ap (moved_inode from to) c.read_at-inode.ensures.value)
-    ∙ inodes_more from to c.args.block.now c.loop-k.block k c.as_slice-bytes.ensures.block c.loop-k-test.true c.loop-k.invariant
+    ∙ inodes_more from to c.args.block.now c.loop-k.block k c.as_slice-bytes.ensures.block (omega (arith, c.loop-k-test.true)) c.loop-k.invariant
 
 pub returns : goal.returns
 returns c =
