@@ -4,7 +4,8 @@
     values.py KIND <VALUE >TEXT
 
 A KIND is ls, df, check, faults (of check --all), show, file (of show with a number), log (of show log), recover
-or stops. Nothing but the value is read, and each field of it has to be known here.
+or stops; of xvnames entries (of ls), stat, paths (of tree), counts (of check) or nameless (of check where the
+files are no tree). Nothing but the value is read, and each field of it has to be known here.
 """
 import json
 import sys
@@ -78,8 +79,39 @@ def stops(left):
     yield "images {images}".format(**fields(left, "images"))
 
 
-printed = sys.stdin.read()
-if printed.count("\n") != 1 or not printed.endswith("\n"):
-    sys.exit("values: it is not one line")
-for text in globals()[sys.argv[1]](json.loads(printed)):
-    print(text)
+def entries(files):
+    for file in files:
+        fields(file, "name number type links size")
+        yield "{name} {number} type {type} size {size}".format(**file)
+
+
+def stat(file):
+    fields(file, "number type links size")
+    yield "{number} type {type} size {size} links {links}".format(**file)
+
+
+def paths(files):
+    for file in files:
+        yield fields(file, "path number type links size")["path"]
+
+
+def counts(files):
+    for file in files:
+        yield "{path} {number} links {links} names {names}".format(**fields(file, "path number links names"))
+
+
+def nameless(files):
+    for file in files:
+        yield "no name " + "".join(stat(file))
+
+
+def main():
+    printed = sys.stdin.buffer.read()
+    if printed.count(b"\n") != 1 or not printed.endswith(b"\n") or not printed.isascii():
+        sys.exit("values: it is not one line of ASCII")
+    # A name is bytes, and each character of its string stands for one.
+    for text in globals()[sys.argv[1]](json.loads(printed)):
+        sys.stdout.buffer.write(text.encode("latin-1") + b"\n")
+
+
+main()

@@ -7,9 +7,13 @@ use Rattle.cli.specs.CommandLine.{flag_rule, image_app, named_app, number_rule, 
 use Rattle.names_words.specs.declared.words.Request.{Request}
 use Rattle.names_words.specs.declared.words.Request.TheVariants.{Ls, Stat, Tree, Cat, Get, Put, Rm, Mv, Ln, Mkdir, Rmdir, Check, Recount, Mkfs}
 
+-- a command that may answer with JSON
+abbrev pub answering : App → App
+answering app = with_rule app (flag_rule (codes "json"))
+
 -- a look at a directory, the root where none is given
 abbrev pub look_app : List ℕ → App
-look_app name = with_rule (image_app name) (new_rule (codes "PATH"))
+look_app name = answering (with_rule (image_app name) (new_rule (codes "PATH")))
 
 -- a command at a path
 abbrev pub path_app : List ℕ → App
@@ -59,11 +63,12 @@ xvnames_app =
     with_subcommand (with_subcommand (with_subcommand (with_subcommand (with_subcommand
     (with_subcommand (with_subcommand (with_subcommand (with_subcommand (with_subcommand
     (with_subcommand (with_subcommand (with_subcommand (with_subcommand
-    (named_app (codes "xvnames")) (look_app (codes "ls")).top) (path_app (codes "stat")).top)
+    (named_app (codes "xvnames")) (look_app (codes "ls")).top)
+    (answering (path_app (codes "stat"))).top)
     (look_app (codes "tree")).top) (path_app (codes "cat")).top) get_app.top) put_app.top)
     rm_app.top) mv_app.top) ln_app.top) mkdir_app.top)
     (changing (path_app (codes "rmdir"))).top)
-    (image_app (codes "check")).top) (changing (image_app (codes "recount"))).top) mkfs_app.top
+    (answering (image_app (codes "check"))).top) (changing (image_app (codes "recount"))).top) mkfs_app.top
 
 -- a word has that value
 abbrev pub HasWord : List ℕ → List Row → List ℕ → Type 0
@@ -85,12 +90,15 @@ files_in rows = unwrap_or (all_of (codes "FILE") rows) []
 
 -- a command of this name, with these values, asks for the request
 abbrev pub AsksBy : List ℕ → List Row → Request → Type 0
-AsksBy name rows (Ls image path) = (name ≡ codes "ls") × HasWord (codes "IMAGE") rows image.now
-    × HasPath rows path.now
-AsksBy name rows (Stat image path) = (name ≡ codes "stat")
-    × HasWord (codes "IMAGE") rows image.now × HasWord (codes "PATH") rows path.now
-AsksBy name rows (Tree image path) = (name ≡ codes "tree")
+AsksBy name rows (Ls image path json) = (name ≡ codes "ls")
     × HasWord (codes "IMAGE") rows image.now × HasPath rows path.now
+    × HasFlag (codes "json") rows json
+AsksBy name rows (Stat image path json) = (name ≡ codes "stat")
+    × HasWord (codes "IMAGE") rows image.now × HasWord (codes "PATH") rows path.now
+    × HasFlag (codes "json") rows json
+AsksBy name rows (Tree image path json) = (name ≡ codes "tree")
+    × HasWord (codes "IMAGE") rows image.now × HasPath rows path.now
+    × HasFlag (codes "json") rows json
 AsksBy name rows (Cat image path) = (name ≡ codes "cat") × HasWord (codes "IMAGE") rows image.now
     × HasWord (codes "PATH") rows path.now
 AsksBy name rows (Get image path file all) = (name ≡ codes "get")
@@ -113,7 +121,8 @@ AsksBy name rows (Mkdir image path parents sync no_sync) = (name ≡ codes "mkdi
     × HasFlag (codes "parents") rows parents
 AsksBy name rows (Rmdir image path sync no_sync) = (name ≡ codes "rmdir")
     × Changes rows image.now sync no_sync × HasWord (codes "PATH") rows path.now
-AsksBy name rows (Check image) = (name ≡ codes "check") × HasWord (codes "IMAGE") rows image.now
+AsksBy name rows (Check image json) = (name ≡ codes "check")
+    × HasWord (codes "IMAGE") rows image.now × HasFlag (codes "json") rows json
 AsksBy name rows (Recount image sync no_sync) = (name ≡ codes "recount")
     × Changes rows image.now sync no_sync
 AsksBy name rows (Mkfs image size ninodes files no_sync) = (name ≡ codes "mkfs")

@@ -22,6 +22,13 @@ const FOLDER: Word = Word {
     help: "The directory's path in the image; the root where it is not given",
 };
 
+// `--json`, of a command that tells one value.
+const JSON: Word = Word {
+    name: "json",
+    kind: Kind::Flag,
+    help: "Prints one value of JSON in place of text",
+};
+
 const FILE_PUT: Word = Word {
     name: "FILE",
     kind: Kind::Needed,
@@ -38,23 +45,23 @@ const LINES: &[Line] = &[
     Line {
         name: "ls",
         about: "Lists a directory but for . and .., a line an entry: name, number, type and bytes",
-        example: "Examples: xvnames ls fs.img, xvnames ls fs.img /docs",
+        example: "Examples: xvnames ls fs.img, xvnames ls fs.img /docs, xvnames ls fs.img --json",
         image: Some(IMAGE_KEPT),
-        words: &[FOLDER],
+        words: &[FOLDER, JSON],
     },
     Line {
         name: "stat",
         about: "Prints a file's number, type, bytes and count of links",
-        example: "Example: xvnames stat fs.img /README",
+        example: "Examples: xvnames stat fs.img /README, xvnames stat fs.img /README --json",
         image: Some(IMAGE_KEPT),
-        words: &[PATH],
+        words: &[PATH, JSON],
     },
     Line {
         name: "tree",
         about: "Prints the paths of all files below a directory, a line each; those of directories end with a slash",
-        example: "Examples: xvnames tree fs.img, xvnames tree fs.img /docs",
+        example: "Examples: xvnames tree fs.img, xvnames tree fs.img /docs, xvnames tree fs.img --json",
         image: Some(IMAGE_KEPT),
-        words: &[FOLDER],
+        words: &[FOLDER, JSON],
     },
     Line {
         name: "cat",
@@ -171,9 +178,9 @@ const LINES: &[Line] = &[
     Line {
         name: "check",
         about: "Says whether an image is sound and its files a tree, and lists each path of a file whose count of links is not how many names lead to it: number, links and names; where they are no tree, the files without a name",
-        example: "Example: xvnames check fs.img",
+        example: "Examples: xvnames check fs.img, xvnames check fs.img --json",
         image: Some(IMAGE_KEPT),
-        words: &[],
+        words: &[JSON],
     },
     Line {
         name: "recount",

@@ -19,6 +19,8 @@ pub enum Request<'a> {
         image: &'a str,
         /// The directory's path.
         path: &'a str,
+        /// Whether they are told as JSON.
+        json: bool,
     },
     /// A file's number, type, bytes and count of links.
     Stat {
@@ -26,6 +28,8 @@ pub enum Request<'a> {
         image: &'a str,
         /// The file's path.
         path: &'a str,
+        /// Whether it is told as JSON.
+        json: bool,
     },
     /// The paths below a directory.
     Tree {
@@ -33,6 +37,8 @@ pub enum Request<'a> {
         image: &'a str,
         /// The directory's path.
         path: &'a str,
+        /// Whether they are told as JSON.
+        json: bool,
     },
     /// The bytes of a file.
     Cat {
@@ -132,6 +138,8 @@ pub enum Request<'a> {
     Check {
         /// The path of the image's file.
         image: &'a str,
+        /// Whether they are told as JSON.
+        json: bool,
     },
     /// The files' counts of links, put right.
     Recount {
@@ -287,6 +295,7 @@ fn check_request<'a>(values: &ArgMatches<'a>) -> Option<Request<'a>>
 {
     Some(Request::Check {
         image: values.get_str("IMAGE")?,
+        json: values.get_flag("json"),
     })
 }
 
@@ -351,6 +360,7 @@ fn stat_request<'a>(values: &ArgMatches<'a>) -> Option<Request<'a>>
     Some(Request::Stat {
         image: values.get_str("IMAGE")?,
         path: values.get_str("PATH")?,
+        json: values.get_flag("json"),
     })
 }
 
@@ -359,9 +369,10 @@ fn look_request<'a>(name: &str, values: &ArgMatches<'a>) -> Option<Request<'a>>
 {
     let image = values.get_str("IMAGE")?;
     let path = values.get_str("PATH").unwrap_or("/");
+    let json = values.get_flag("json");
     match name {
-        "ls" => Some(Request::Ls { image, path }),
-        "tree" => Some(Request::Tree { image, path }),
+        "ls" => Some(Request::Ls { image, path, json }),
+        "tree" => Some(Request::Tree { image, path, json }),
         _ => None,
     }
 }

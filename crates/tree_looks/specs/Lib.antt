@@ -1,4 +1,5 @@
 pub mod Tellings
+pub mod Objects
 pub mod Listing
 pub mod Looks
 pub mod Gets

@@ -1,5 +1,5 @@
 -- What is told of the files of a disk, and why it isn't.
-use Rattle.std.specs.Prelude.{◌≡◌, ◌⊎◌, ℕ, List, [], length, None, Option, Ok, Err}
+use Rattle.std.specs.Prelude.{◌≡◌, ◌⊎◌, ℕ, Bool, List, None, Option, Ok, Err}
 use Rattle.std.specs.Io.KnownBytes.{Appends}
 use Rattle.blocks.specs.Calls.{OnlyReads}
 use Rattle.blocks.specs.declared.disk.Disk.{Ghosts}
@@ -15,7 +15,7 @@ use Rattle.directories.specs.declared.judging.JudgeFault.{JudgeFault}
 use Rattle.directories.specs.declared.judging.JudgeFault.TheVariants as judge
 use Rattle.directories.specs.declared.refusal.Refusal.TheVariants.{IsADirectory, NotADirectory, TooManyLinks}
 use Rattle.offline.specs.Cause.{IsCause}
-use Rattle.tree_looks.specs.Listing.{listed, nameless_lines, paths_below, stat_line, wrong_lines}
+use Rattle.tree_looks.specs.Listing.{listed, nameless_files, paths_below, stat_told, wrong_counts}
 use Rattle.tree_looks.specs.declared.counts.Text.{Text}
 use Rattle.tree_looks.specs.declared.counts.Text.TheVariants.{Counts, Nameless}
 use Rattle.tree_looks.specs.declared.faults.LookRefusal.{LookRefusal}
@@ -68,9 +68,9 @@ abbrev pub TellsOf : Files → List ℕ → (ℕ → List ℕ) → List ℕ → 
 TellsOf files path f text =
     (number : ℕ) × (walked files root (names_of path) ≡ Ok number) × (text ≡ f number)
 
--- the file at a path was listed
-abbrev pub Lists : List ℕ → Files → List ℕ → Type 0
-Lists path files text = TellsOf files path (listed files (names_of path)) text
+-- the file at a path was listed, as JSON or as text
+abbrev pub Lists : Bool → List ℕ → Files → List ℕ → Type 0
+Lists json path files text = TellsOf files path (listed json files (names_of path)) text
 
 -- or was not, for this reason
 abbrev pub IsUnlisted : List ℕ → Files → LookRefusal → Type 0
@@ -87,14 +87,14 @@ IsUnshown path files r = IsNotFound files path r
     × IsDirectory files number))
     ⊎ (r ≡ NoMemory)
 
--- what is told of the file at a path itself
-abbrev pub ShowsStat : List ℕ → Files → List ℕ → Type 0
-ShowsStat path files text = TellsOf files path (stat_line files) text
+-- what is told of the file at a path itself, as JSON or as text
+abbrev pub ShowsStat : Bool → List ℕ → Files → List ℕ → Type 0
+ShowsStat json path files text = TellsOf files path (stat_told json files) text
 
--- the paths of all files below the directory at a path
-abbrev pub ShowsPaths : List ℕ → Files → List ℕ → Type 0
-ShowsPaths path files text = (number : ℕ) × (walked files root (names_of path) ≡ Ok number)
-    × IsDirectory files number × (text ≡ paths_below (length files) files [] number)
+-- all files below the directory at a path as JSON, or their paths
+abbrev pub ShowsPaths : Bool → List ℕ → Files → List ℕ → Type 0
+ShowsPaths json path files text = (number : ℕ) × (walked files root (names_of path) ≡ Ok number)
+    × IsDirectory files number × (text ≡ paths_below json files number)
 
 abbrev pub HasNoPaths : List ℕ → Files → LookRefusal → Type 0
 HasNoPaths path files r = IsNotFound files path r
@@ -102,20 +102,22 @@ HasNoPaths path files r = IsNotFound files path r
     × (IsDirectory files number → ⊥)))
     ⊎ (r ≡ NoMemory)
 
--- the files whose counts of links are not how many names lead to them, by their paths
-pub record TellsCounts (files : Files) (text : List ℕ) : Type 0 where
+-- the files whose counts of links are not how many names lead to them, by their paths, as JSON or as
+-- text
+pub record TellsCounts (json : Bool) (files : Files) (text : List ℕ) : Type 0 where
   pub counts : List ℕ
   pub names : AreNameCounts files counts
-  pub lines : text ≡ wrong_lines files counts
+  pub lines : text ≡ wrong_counts json files counts
 
 -- or more names lead to one than a count may say
 abbrev pub IsUntold : Files → LookRefusal → Type 0
 IsUntold files r = ((r ≡ Refused TooManyLinks) × HasTooMany files) ⊎ (r ≡ NoMemory)
 
 -- what is told of files that are a tree, or are none
-abbrev pub IsTextOf : Files → Text → Type 0
-IsTextOf files (Counts text) = IsTree files × TellsCounts files text.items
-IsTextOf files (Nameless text) = (IsTree files → ⊥) × (text.items ≡ nameless_lines files)
+abbrev pub IsTextOf : Bool → Files → Text → Type 0
+IsTextOf json files (Counts text) = IsTree files × TellsCounts json files text.items
+IsTextOf json files (Nameless text) =
+    (IsTree files → ⊥) × (text.items ≡ nameless_files json files)
 
 -- The disk d, now e, was only read; its image had no fault, and of its files, as recovery would leave
 -- them, this was told and printed.
@@ -136,10 +138,10 @@ pub record HasNotLooked {D N : Type 0} (disk : Ghosts D N) (refuses : Files → 
 
 -- It was only read, and its counts were not told, for this reason; of files that are no tree those
 -- without a name were printed.
-pub record HasNotCounted {D N : Type 0} (disk : Ghosts D N) (d e : D) (old new : Option (List ℕ))
-    (none : Type 0) (r : LookRefusal) : Type 0 where
+pub record HasNotCounted {D N : Type 0} (disk : Ghosts D N) (json : Bool) (d e : D)
+    (old new : Option (List ℕ)) (none : Type 0) (r : LookRefusal) : Type 0 where
   pub reads : OnlyReads disk d e
   pub why : (IsUnseen disk IsUntold d e r × none)
       ⊎ ((verdict (disk.image d) ≡ None) × IsNoTree (files_of (recovered (disk.image d))) r
-      × Appends old new (nameless_lines (files_of (recovered (disk.image d)))))
+      × Appends old new (nameless_files json (files_of (recovered (disk.image d)))))
       ⊎ ((verdict (disk.image d) ≡ None) × (r ≡ Output))

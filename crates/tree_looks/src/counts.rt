@@ -1,17 +1,18 @@
 // The counts of links of files that are not how many names lead to them, and files without a name.
-ghost use Rattle.std.specs.Prelude.{◌≡◌, None, IfErr, IfOk, OnOk};
+ghost use Rattle.std.specs.Prelude.{◌≡◌, ◌++◌, None, IfErr, IfOk, OnOk};
 ghost use Rattle.blocks.specs.Calls.{OnlyReads};
 ghost use Rattle.model.specs.Files.{files_of};
 ghost use Rattle.model.specs.Log.{recovered};
 ghost use Rattle.model.specs.Verdict.{verdict};
 ghost use Rattle.directories.specs.Trees.{IsTree};
-ghost use Rattle.tree_looks.specs.Listing.{count_line, wrong_line, wrong_lines};
+ghost use Rattle.tree_looks.specs.Listing.{count_line, count_told, wrong_counts, wrong_told};
 ghost use Rattle.tree_looks.specs.Looks.{HasLooked, HasNotCounted, IsTextOf, IsUnseen, IsUntold, OfTree, TellsCounts};
 
 use crate::faults::LookRefusal;
 use crate::finding::links_at;
 use crate::loading::{load, refusal_of};
-use crate::nameless::nameless_lines;
+use crate::nameless::nameless_files;
+use crate::objects::{add_count_element, end_text};
 use crate::over_files::print_text;
 use crate::texts::{ByPath, add_below, add_number};
 use blocks::{Disk, NoMemory};
@@ -24,16 +25,20 @@ use std::io::Write;
 /// Tells which files of a disk, as recovery would leave them, have a count of links that is not how
 /// many names lead to them: a line for each path of such a file, from the root on. Of a directory its
 /// own name for itself is not counted, as in xv6. Of files that are no tree it tells those to which no
-/// name leads, by their numbers, and then refuses them as no tree. It writes no block.
+/// name leads, by their numbers, and then refuses them as no tree. Either may be an array of JSON with
+/// an object for each. It writes no block.
 #[derive(Clone, Copy, Drop)]
-pub struct Counts;
+pub struct Counts {
+    /// Whether they are told as JSON.
+    pub json: bool,
+}
 
 impl DiskCommand for Counts {
     type Refusal = LookRefusal;
 
-    ghost done = { λ counts c. HasLooked c.disk (OfTree TellsCounts) c.was c.now };
+    ghost done = { λ counts c. HasLooked c.disk (OfTree (TellsCounts counts.json)) c.was c.now };
 
-    ghost refused = { λ counts c. HasNotCounted c.disk c.was c.now };
+    ghost refused = { λ counts c. HasNotCounted c.disk counts.json c.was c.now };
 
     fn run_on<D: Disk + Drop, O: Write>(
         self,
@@ -42,7 +47,7 @@ impl DiskCommand for Counts {
         out: &mut O,
     ) -> (Result<(), LookRefusal>, D) {
         let mut disk = disk;
-        let ended = tell_counts(alloc, &mut disk, out);
+        let ended = tell_counts(alloc, &mut disk, self.json, out);
         (ended, disk)
     }
 }
@@ -56,18 +61,19 @@ pub enum Text {
     Nameless(Vec<u8>),
 }
 
-// Prints the lines of a disk.
+// Prints what is told of the files of a disk.
 fn tell_counts<D: Disk, O: Write>(
     alloc: Global,
     disk: &mut D,
+    json: bool,
     out: &mut O,
 ) -> Result<(), LookRefusal>
-    ensures looked { OnOk result (HasLooked D.Disk (OfTree TellsCounts) disk.old disk.new
+    ensures looked { OnOk result (HasLooked D.Disk (OfTree (TellsCounts json)) disk.old disk.new
         (O.contents out.old) (O.contents out.new)) }
-    ensures refused { IfErr result (HasNotCounted D.Disk disk.old disk.new
+    ensures refused { IfErr result (HasNotCounted D.Disk json disk.old disk.new
         (O.contents out.old) (O.contents out.new) (out.new ≡ out.old)) }
 {
-    match text_of(alloc, disk) {
+    match text_of(alloc, disk, json) {
         Ok(Text::Counts(text)) => print_text(out, text.as_slice()),
         Ok(Text::Nameless(text)) => match print_text(out, text.as_slice()) {
             Ok(()) => Err(LookRefusal::NoTree),
@@ -78,14 +84,14 @@ fn tell_counts<D: Disk, O: Write>(
 }
 
 // What is told of the files of a disk.
-fn text_of<D: Disk>(alloc: Global, disk: &mut D) -> Result<Text, LookRefusal>
+fn text_of<D: Disk>(alloc: Global, disk: &mut D, json: bool) -> Result<Text, LookRefusal>
     ensures sound { OnOk result (verdict (D.image disk.old) ≡ None) }
-    ensures tells { IfOk result (IsTextOf (files_of (recovered (D.image disk.old)))) }
+    ensures tells { IfOk result (IsTextOf json (files_of (recovered (D.image disk.old)))) }
     ensures reads { OnlyReads D.Disk disk.old disk.new }
     ensures refused { IfErr result (IsUnseen D.Disk IsUntold disk.old disk.new) }
 {
     match load(alloc, disk) {
-        Ok(files) => text_with(alloc, disk, files.as_slice()),
+        Ok(files) => text_with(alloc, disk, files.as_slice(), json),
         Err(refusal) => Err(refusal),
     }
 }
@@ -95,16 +101,17 @@ fn text_with<D: Disk>(
     alloc: Global,
     disk: &mut D,
     files: &[Option<File>],
+    json: bool,
 ) -> Result<Text, LookRefusal>
     requires sound { verdict (D.image disk.old) ≡ None }
     requires files { files.now ≡ files_of (recovered (D.image disk.old)) }
-    ensures tells { IfOk result (IsTextOf (files_of (recovered (D.image disk.old)))) }
+    ensures tells { IfOk result (IsTextOf json (files_of (recovered (D.image disk.old)))) }
     ensures reads { OnlyReads D.Disk disk.old disk.new }
     ensures refused { IfErr result (IsUnseen D.Disk IsUntold disk.old disk.new) }
 {
     match is_tree(alloc, disk) {
-        Ok(true) => counts_with(alloc, disk, files),
-        Ok(false) => match nameless_lines(alloc, files) {
+        Ok(true) => counts_with(alloc, disk, files, json),
+        Ok(false) => match nameless_files(alloc, files, json) {
             Ok(text) => Ok(Text::Nameless(text)),
             Err(_refused) => Err(LookRefusal::NoMemory),
         },
@@ -117,16 +124,17 @@ fn counts_with<D: Disk>(
     alloc: Global,
     disk: &mut D,
     files: &[Option<File>],
+    json: bool,
 ) -> Result<Text, LookRefusal>
     requires sound { verdict (D.image disk.old) ≡ None }
     requires tree { IsTree (files_of (recovered (D.image disk.old))) }
     requires files { files.now ≡ files_of (recovered (D.image disk.old)) }
-    ensures tells { IfOk result (IsTextOf (files_of (recovered (D.image disk.old)))) }
+    ensures tells { IfOk result (IsTextOf json (files_of (recovered (D.image disk.old)))) }
     ensures reads { OnlyReads D.Disk disk.old disk.new }
     ensures refused { IfErr result (IsUnseen D.Disk IsUntold disk.old disk.new) }
 {
     match name_counts(alloc, disk) {
-        Ok(Some(counts)) => match lines_of(alloc, files, counts.as_slice()) {
+        Ok(Some(counts)) => match wrong_counts(alloc, files, counts.as_slice(), json) {
             Ok(text) => Ok(Text::Counts(text)),
             Err(_refused) => Err(LookRefusal::NoMemory),
         },
@@ -135,26 +143,37 @@ fn counts_with<D: Disk>(
     }
 }
 
-// The lines of files to whose numbers so many names lead.
-fn lines_of(alloc: Global, files: &[Option<File>], counts: &[u16]) -> Result<Vec<u8>, NoMemory>
-    ensures { IfOk result (λ text. text.items ≡ wrong_lines files.now counts.now) }
+// What is told of files to whose numbers so many names lead.
+fn wrong_counts(
+    alloc: Global,
+    files: &[Option<File>],
+    counts: &[u16],
+    json: bool,
+) -> Result<Vec<u8>, NoMemory>
+    ensures { IfOk result (λ text. text.items ≡ wrong_counts json files.now counts.now) }
 {
     let mut text = Vec::new(alloc);
-    let wrong = Wrong { files, counts };
+    let wrong = Wrong {
+        files,
+        counts,
+        json,
+    };
     wrong.add(&mut text, b"/", DIRECTORY)?;
     add_below(&mut text, &wrong, files, b"/", DIRECTORY, files.len())?;
+    end_text(&mut text, json)?;
     Ok(text)
 }
 
-// The line of a file whose count is another one than that of its number here.
+// A file whose count is another one than that of its number here, as an element of JSON or as a line.
 #[derive(Clone, Copy, Drop)]
 struct Wrong<'a> {
     files: &'a [Option<File>],
     counts: &'a [u16],
+    json: bool,
 }
 
 impl<'a> ByPath for Wrong<'a> {
-    ghost tells = { λ wrong. wrong_line wrong.files.now wrong.counts.now };
+    ghost tells = { λ wrong. wrong_told wrong.json wrong.files.now wrong.counts.now };
 
     fn add(&self, text: &mut Vec<u8>, path: &[u8], number: u32) -> Result<(), NoMemory> {
         let links = links_at(self.files, number);
@@ -165,13 +184,31 @@ impl<'a> ByPath for Wrong<'a> {
         if links == names {
             return Ok(());
         }
-        let line = line_of(*text.allocator(), path, number, links, names)?;
-        text.extend_from_slice(line.as_slice())?;
-        Ok(())
+        add_count(text, path, number, links, names, self.json)
     }
 }
 
-// That line.
+// Adds a file's count of links and how many names lead to it.
+fn add_count(
+    text: &mut Vec<u8>,
+    path: &[u8],
+    number: u32,
+    links: u16,
+    names: u16,
+    json: bool,
+) -> Result<(), NoMemory>
+    ensures { OnOk result
+        (text.new.items ≡ text.old.items ++ count_told json path.now number links names) }
+{
+    if json {
+        return add_count_element(text, path, number, links, names);
+    }
+    let line = line_of(*text.allocator(), path, number, links, names)?;
+    text.extend_from_slice(line.as_slice())?;
+    Ok(())
+}
+
+// Their line.
 fn line_of(
     alloc: Global,
     path: &[u8],

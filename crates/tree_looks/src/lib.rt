@@ -9,6 +9,7 @@ mod gets;
 mod loading;
 mod looks;
 mod nameless;
+mod objects;
 mod over_files;
 mod texts;
 

@@ -1,11 +1,12 @@
 // Files to which no name leads.
-ghost use Rattle.std.specs.Prelude.{◌≡◌, ◌++◌, codes, IfOk, OnOk, not, is_none};
+ghost use Rattle.std.specs.Prelude.{◌≡◌, ◌++◌, IfOk, OnOk, not, is_none};
 ghost use Rattle.std.specs.List.{list_any};
 ghost use Rattle.model.specs.Files.{file_in};
 ghost use Rattle.directories.specs.Entries.{entries_of};
-ghost use Rattle.tree_looks.specs.Listing.{has_name_of, is_nameless, leads_down_to, nameless_line, nameless_lines, stat_line};
+ghost use Rattle.tree_looks.specs.Listing.{has_name_of, is_nameless, leads_down_to, lone_told, nameless_files, nameless_told};
 
 use crate::finding::{DIRECTORY_KIND, file_in};
+use crate::objects::{add_stat_object, end_text};
 use crate::texts::add_stat;
 use blocks::NoMemory;
 use directories::{ENTRY_SIZE, entries_in, leads_down, number_in};
@@ -15,35 +16,54 @@ use std::alloc::Global;
 // The root's number.
 const ROOT: usize = 1;
 
-// The lines of files to which no name leads, the lowest number first.
-pub fn nameless_lines(alloc: Global, files: &[Option<File>]) -> Result<Vec<u8>, NoMemory>
-    ensures { IfOk result (λ text. text.items ≡ nameless_lines files.now) }
+// What is told of files to which no name leads, the lowest number first.
+pub fn nameless_files(
+    alloc: Global,
+    files: &[Option<File>],
+    json: bool,
+) -> Result<Vec<u8>, NoMemory>
+    ensures { IfOk result (λ text. text.items ≡ nameless_files json files.now) }
 {
     let mut text = Vec::new(alloc);
     for number in 0..files.len() {
-        add_nameless(&mut text, files, number)?;
+        add_nameless(&mut text, files, number, json)?;
     }
+    end_text(&mut text, json)?;
     Ok(text)
 }
 
-// Adds the line of a file, if no name leads to it.
-fn add_nameless(text: &mut Vec<u8>, files: &[Option<File>], number: usize) -> Result<(), NoMemory>
-    ensures { OnOk result (text.new.items ≡ text.old.items ++ nameless_line files.now number) }
+// Adds a file, if no name leads to it.
+fn add_nameless(
+    text: &mut Vec<u8>,
+    files: &[Option<File>],
+    number: usize,
+    json: bool,
+) -> Result<(), NoMemory>
+    ensures { OnOk result
+        (text.new.items ≡ text.old.items ++ nameless_told json files.now number) }
 {
     if is_nameless(files, number) {
-        let line = line_of(*text.allocator(), files, number)?;
-        text.extend_from_slice(line.as_slice())?;
+        add_lone(text, files, number, json)?;
     }
     Ok(())
 }
 
-// That line.
-fn line_of(alloc: Global, files: &[Option<File>], number: usize) -> Result<Vec<u8>, NoMemory>
-    ensures { IfOk result (λ line. line.items ≡ codes "no name " ++ stat_line files.now number) }
+// Adds it as an element of JSON, or its line.
+fn add_lone(
+    text: &mut Vec<u8>,
+    files: &[Option<File>],
+    number: usize,
+    json: bool,
+) -> Result<(), NoMemory>
+    ensures { OnOk result (text.new.items ≡ text.old.items ++ lone_told json files.now number) }
 {
-    let mut line = Vec::from_slice(alloc, b"no name ")?;
-    add_stat(&mut line, file_in(files, number), number as u64)?;
-    Ok(line)
+    let file = file_in(files, number);
+    if json {
+        text.extend_from_slice(b",")?;
+        return add_stat_object(text, file, number as u64);
+    }
+    text.extend_from_slice(b"no name ")?;
+    add_stat(text, file, number as u64)
 }
 
 // Whether a number is that of a file but the root, and no name leads to it.

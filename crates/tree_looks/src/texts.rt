@@ -1,24 +1,31 @@
 // What is printed of the files of directories.
 ghost use Rattle.std.specs.Prelude.{◌≡◌, ◌++◌, ℕ, List, IfOk, OnOk, decimal};
 ghost use Rattle.std.specs.Option.{option_copied};
-ghost use Rattle.tree_looks.specs.Listing.{entry_line, line_of, listing_of, path_line, path_of, stat_text, told_below, told_entry};
+ghost use Rattle.tree_looks.specs.Listing.{entry_told, file_told, line_of, listing_of, path_of, path_told, stat_text, told_below, told_entry};
 
-use crate::finding::{bytes_at, bytes_of, is_directory, kind_at, kind_of, links_of};
+use crate::finding::{bytes_at, bytes_of, file_in, is_directory, kind_at, kind_of, links_of};
+use crate::objects::add_named_element;
 use blocks::NoMemory;
 use directories::{ENTRY_SIZE, entries_in, leads_down, number_in, text_in};
 use itoa::Buffer;
 use model::types::File;
 use std::alloc::Global;
 
-// Adds the line of a file with that name and number: its type and its bytes.
-pub fn add_line(
+// Adds a file with that name and number as an element of JSON, or its line: its type and its bytes.
+pub fn add_file(
     text: &mut Vec<u8>,
     files: &[Option<File>],
     name: &[u8],
     number: u32,
+    json: bool,
 ) -> Result<(), NoMemory>
-    ensures { OnOk result (text.new.items ≡ text.old.items ++ line_of files.now name.now number) }
+    ensures { OnOk result
+        (text.new.items ≡ text.old.items ++ file_told json files.now name.now number) }
 {
+    if json {
+        let file = file_in(files, number as usize);
+        return add_named_element(text, b"name", name, file, number);
+    }
     let line = line_of(*text.allocator(), files, name, number)?;
     text.extend_from_slice(line.as_slice())?;
     Ok(())
@@ -79,27 +86,34 @@ pub fn add_number(text: &mut Vec<u8>, number: u64) -> Result<(), NoMemory>
     Ok(())
 }
 
-// Adds a line for each entry of a directory that leads down, in their order.
-pub fn add_listing(text: &mut Vec<u8>, files: &[Option<File>], number: u32) -> Result<(), NoMemory>
-    ensures { OnOk result (text.new.items ≡ text.old.items ++ listing_of files.now number) }
+// Adds the file of each entry of a directory that leads down, in their order.
+pub fn add_listing(
+    text: &mut Vec<u8>,
+    files: &[Option<File>],
+    number: u32,
+    json: bool,
+) -> Result<(), NoMemory>
+    ensures { OnOk result (text.new.items ≡ text.old.items ++ listing_of json files.now number) }
 {
     for entry in entries_in(bytes_at(files, number)) {
-        add_entry_line(text, files, entry)?;
+        add_entry_file(text, files, entry, json)?;
     }
     Ok(())
 }
 
-// Adds the line of an entry, if it leads down.
-fn add_entry_line(
+// Adds the file of an entry, if it leads down.
+fn add_entry_file(
     text: &mut Vec<u8>,
     files: &[Option<File>],
     entry: &[u8; ENTRY_SIZE],
+    json: bool,
 ) -> Result<(), NoMemory>
-    ensures { OnOk result (text.new.items ≡ text.old.items ++ entry_line files.now entry.now) }
+    ensures { OnOk result
+        (text.new.items ≡ text.old.items ++ entry_told json files.now entry.now) }
 {
     if leads_down(entry) {
         let number = u32::from(number_in(entry));
-        add_line(text, files, text_in(entry), number)?;
+        add_file(text, files, text_in(entry), number, json)?;
     }
     Ok(())
 }
@@ -115,14 +129,21 @@ pub trait ByPath {
             (text.new.items ≡ text.old.items ++ tells self.now path.now number) };
 }
 
-// The path as a line.
+// The file at a path as an element of JSON, or the path as a line.
 #[derive(Clone, Copy, Drop)]
-pub struct PathLine;
+pub struct PathTold<'a> {
+    pub files: &'a [Option<File>],
+    pub json: bool,
+}
 
-impl ByPath for PathLine {
-    ghost tells = { λ line. path_line };
+impl<'a> ByPath for PathTold<'a> {
+    ghost tells = { λ told. path_told told.json told.files.now };
 
-    fn add(&self, text: &mut Vec<u8>, path: &[u8], _number: u32) -> Result<(), NoMemory> {
+    fn add(&self, text: &mut Vec<u8>, path: &[u8], number: u32) -> Result<(), NoMemory> {
+        if self.json {
+            let file = file_in(self.files, number as usize);
+            return add_named_element(text, b"path", path, file, number);
+        }
         text.extend_from_slice(path)?;
         text.extend_from_slice(b"\n")?;
         Ok(())

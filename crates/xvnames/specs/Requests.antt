@@ -86,10 +86,12 @@ making_asked size ninodes no_sync =
 -- a request was done, and its answer printed
 abbrev pub Answers : {F : Type 0} → (F → Option (List ℕ)) → (F → Option (List ℕ)) → Request
     → Option (List ℕ) → Option (List ℕ) → Type 0
-Answers remaining contents (Ls image path) old new = Looks remaining (Lists path.now) old new
-Answers remaining contents (Stat image path) old new = Looks remaining (ShowsStat path.now) old new
-Answers remaining contents (Tree image path) old new =
-    Looks remaining (OfTree (ShowsPaths path.now)) old new
+Answers remaining contents (Ls image path json) old new =
+    Looks remaining (Lists json path.now) old new
+Answers remaining contents (Stat image path json) old new =
+    Looks remaining (ShowsStat json path.now) old new
+Answers remaining contents (Tree image path json) old new =
+    Looks remaining (OfTree (ShowsPaths json path.now)) old new
 Answers remaining contents (Cat image path) old new = Looks remaining (Shows path.now) old new
 Answers remaining contents (Get image path file all) old new =
     Gets remaining contents all path.now old new
@@ -108,7 +110,8 @@ Answers remaining contents (Mkdir image path parents sync no_sync) old new =
 Answers remaining contents (Rmdir image path sync no_sync) old new = Changes remaining
     (λ form. Plainly (RemovesDirectoryAt (names_of path.now)))
     (λ form. AnyOf (RemovesDirectoryAt (names_of path.now))) sync no_sync old new
-Answers remaining contents (Check image) old new = Looks remaining (OfTree TellsCounts) old new
+Answers remaining contents (Check image json) old new =
+    Looks remaining (OfTree (TellsCounts json)) old new
 Answers remaining contents (Recount image sync no_sync) old new =
     Recounts remaining sync no_sync old new
 Answers {F} remaining contents (Mkfs image size ninodes files no_sync) old new =
@@ -126,10 +129,10 @@ LooksNot remaining refuses none = Refuses
     (IsRefusedOn remaining false none (λ d e. HasNotLooked file_disk refuses d e none))
 
 -- counts were not told: no disk was opened, or of its files no more than those without a name
-abbrev pub CountsNot : {F : Type 0} → (F → Option (List ℕ)) → Option (List ℕ) → Option (List ℕ)
-    → Type 0 → Type 0
-CountsNot remaining old new none = Refuses
-    (IsRefusedOn remaining false none (λ d e. HasNotCounted file_disk d e old new none))
+abbrev pub CountsNot : {F : Type 0} → (F → Option (List ℕ)) → Bool → Option (List ℕ)
+    → Option (List ℕ) → Type 0 → Type 0
+CountsNot remaining json old new none = Refuses
+    (IsRefusedOn remaining false none (λ d e. HasNotCounted file_disk json d e old new none))
 
 -- a change was refused: no disk was opened, or its files were not changed so
 abbrev pub ChangesNot : {F : Type 0} → (F → Option (List ℕ))
@@ -178,9 +181,11 @@ RemovesNot remaining false path sync no_sync none = ChangesNot remaining
 -- A request was refused, for a reason of its command; `none` says that nothing was printed.
 abbrev pub OnRefused : {F : Type 0} → (F → Option (List ℕ)) → Request → Option (List ℕ)
     → Option (List ℕ) → Type 0 → Type 0
-OnRefused remaining (Ls image path) old new none = LooksNot remaining (IsUnlisted path.now) none
-OnRefused remaining (Stat image path) old new none = LooksNot remaining (IsUnlisted path.now) none
-OnRefused remaining (Tree image path) old new none =
+OnRefused remaining (Ls image path json) old new none =
+    LooksNot remaining (IsUnlisted path.now) none
+OnRefused remaining (Stat image path json) old new none =
+    LooksNot remaining (IsUnlisted path.now) none
+OnRefused remaining (Tree image path json) old new none =
     LooksNot remaining (NotOfTree (HasNoPaths path.now)) none
 OnRefused remaining (Cat image path) old new none = LooksNot remaining (IsUnshown path.now) none
 OnRefused remaining (Get image path file all) old new none = GetsNot remaining all path.now none
@@ -204,7 +209,7 @@ OnRefused remaining (Rmdir image path sync no_sync) old new none = ChangesNot re
     (λ form. Plainly (RemovesDirectoryAt (names_of path.now)))
     (λ form. AnyOf (RemovesDirectoryAt (names_of path.now)))
     (UndoneAt path.now IsUnemptiedIn) sync no_sync none
-OnRefused remaining (Check image) old new none = CountsNot remaining old new none
+OnRefused remaining (Check image json) old new none = CountsNot remaining json old new none
 OnRefused remaining (Recount image sync no_sync) old new none =
     RecountsNot remaining sync no_sync none
 OnRefused {F} remaining (Mkfs image size ninodes files no_sync) old new none =

@@ -166,16 +166,18 @@ fn dispatch<R: Locks + AllocGlobal, O: Write, E: Write>(
     ensures silent { result ≡ 0 → err.new ≡ err.old }
 {
     match &asked.request {
-        Request::Ls { image, path } => look(rt, image, locking, OverFiles(Ls { path }), out, err),
-        Request::Stat { image, path } => look(
-            rt,
-            image,
-            locking,
-            OverFiles(Stat { path }),
-            out,
-            err,
-        ),
-        Request::Tree { image, path } => look(rt, image, locking, InTree(Paths { path }), out, err),
+        Request::Ls { image, path, json } => {
+            let ls = Ls { path, json: *json };
+            look(rt, image, locking, OverFiles(ls), out, err)
+        }
+        Request::Stat { image, path, json } => {
+            let stat = Stat { path, json: *json };
+            look(rt, image, locking, OverFiles(stat), out, err)
+        }
+        Request::Tree { image, path, json } => {
+            let paths = Paths { path, json: *json };
+            look(rt, image, locking, InTree(paths), out, err)
+        }
         Request::Cat { image, path } => look(rt, image, locking, OverFiles(Cat { path }), out, err),
         Request::Get {
             image,
@@ -260,7 +262,10 @@ fn dispatch<R: Locks + AllocGlobal, O: Write, E: Write>(
             };
             change(rt, image, locking, *sync, over, out, err)
         }
-        Request::Check { image } => look(rt, image, locking, Counts, out, err),
+        Request::Check { image, json } => {
+            let counts = Counts { json: *json };
+            look(rt, image, locking, counts, out, err)
+        }
         Request::Recount {
             image,
             sync,

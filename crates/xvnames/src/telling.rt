@@ -19,9 +19,9 @@ impl Screen for HostRuntime {
 /// The paths of a request, and what else a refusal may be about.
 pub fn given<'a>(request: &Request<'a>) -> Given<'a> {
     match *request {
-        Request::Ls { image, path } => at(image, path, false),
-        Request::Stat { image, path } => at(image, path, false),
-        Request::Tree { image, path } => at(image, path, false),
+        Request::Ls { image, path, .. } => at(image, path, false),
+        Request::Stat { image, path, .. } => at(image, path, false),
+        Request::Tree { image, path, .. } => at(image, path, false),
         Request::Cat { image, path } => at(image, path, false),
         Request::Get {
             image,
@@ -57,7 +57,7 @@ pub fn given<'a>(request: &Request<'a>) -> Given<'a> {
         } => between(image, path, into),
         Request::Mkdir { image, path, .. } => at(image, path, true),
         Request::Rmdir { image, path, .. } => at(image, path, true),
-        Request::Check { image } => Given::over(image, false),
+        Request::Check { image, .. } => Given::over(image, false),
         Request::Recount { image, .. } => Given::over(image, true),
         Request::Mkfs {
             image,

@@ -1,7 +1,11 @@
 use Rattle.std.proofs.Common.{codes, refl}
 use Rattle.clap.specs.Words.{found_of}
-use Rattle.cli.specs.Lemmas.Parses.{value_read}
+use Rattle.cli.specs.Lemmas.Parses.{flag_read, value_read}
 use Rattle.names_words.proofs.words.check_request.Goals as goal
 
 pub returns : goal.returns
-returns c = (refl, value_read (found_of c.args.values.now) (codes "IMAGE") _ c.in_ok-get_str.ensures)
+returns c = (
+  refl,
+  value_read (found_of c.args.values.now) (codes "IMAGE") _ c.in_ok-get_str.ensures,
+  flag_read (found_of c.args.values.now) (codes "json") c.get_flag.result c.get_flag.ensures.none c.get_flag.ensures.value c.get_flag.ensures.other,
+)

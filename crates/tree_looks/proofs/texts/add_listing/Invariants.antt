@@ -1,8 +1,8 @@
 use Rattle.std.proofs.Common.{◌≡◌, ◌++◌, take}
 use Rattle.std.specs.List.{flat_map}
-use Rattle.tree_looks.specs.Listing.{entry_line}
+use Rattle.tree_looks.specs.Listing.{entry_told}
 use Rattle.tree_looks.proofs.texts.add_listing.Given as goal
 
--- the lines of the first entries were added
+-- the files of the first entries were added
 abbrev pub invariant-loop-entry : goal.invariant-loop-entry
-invariant-loop-entry l = l.text.items ≡ l.initial.text.items ++ flat_map (entry_line l.files) (take l.entry-index l.entry-items)
+invariant-loop-entry l = l.text.items ≡ l.initial.text.items ++ flat_map (entry_told l.json l.files) (take l.entry-index l.entry-items)

@@ -15,4 +15,4 @@ returns-in-Ok-clause-tells c =
     let led = subst (λ (path : List ℕ). walked files root (names_of path) ≡ Ok found.number) c.as_bytes.ensures.value c.in-Ok.ensures.led in
     let names = c.as_slice.ensures.value ∙ c.in-Ok.ensures.names ∙ ap names_of c.as_bytes.ensures.value in
     kept_told c.list.result c.told.result _ c.told.ensures.text
-    (IfOk-weaker c.list.result _ _ (λ text is. (found.number, led, is ∙ ap (λ (names : List (List ℕ)). listed files names found.number) names)) c.list.ensures)
+    (IfOk-weaker c.list.result _ _ (λ text is. (found.number, led, is ∙ ap (λ (names : List (List ℕ)). listed c.args.self.now.json files names found.number) names)) c.list.ensures)
