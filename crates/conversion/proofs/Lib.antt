@@ -10,3 +10,4 @@ mod StepLemmas
 mod NodeLemmas
 mod PlannedLemmas
 mod FillLemmas
+mod OlderSoundLemmas
