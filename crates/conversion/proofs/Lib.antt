@@ -11,3 +11,4 @@ mod NodeLemmas
 mod PlannedLemmas
 mod FillLemmas
 mod OlderSoundLemmas
+mod OwnLemmas
