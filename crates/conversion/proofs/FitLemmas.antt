@@ -7,7 +7,7 @@ use Rattle.model.specs.declared.types.image.Form.TheVariants.{One}
 use Rattle.model.specs.declared.types.image.Super.{Super}
 use Rattle.model.specs.Lemmas.Log.{both_of}
 use Rattle.model.specs.Lemmas.Super.{guard_none}
-use Rattle.conversion.specs.Common.{behind_log, bitmap_behind, chosen_size, goal_in, is_log_length, is_older_super, is_room, is_size_with, IsPlanOf, IsRefusal, meta_with, super_with}
+use Rattle.conversion.specs.Common.{behind_log, bitmap_behind, chosen_size, goal_in, is_log_length, is_older_super, is_room, is_size_with, IsPlanOf, IsUnmoved, meta_with, super_with}
 use Rattle.conversion.specs.Converted.{conversion_fault}
 use Rattle.conversion.specs.Prepared.{IsNotOlder}
 use Rattle.conversion.specs.declared.fault.ConversionFault.{ConversionFault}
@@ -138,7 +138,7 @@ module _ (x : Image) (to : ℕ) (asked : Option ℕ) where
   none_refused long magic fields empty room = by_room long magic fields empty true room
 
   -- no superblock of an image to be moved
-  pub not_older : (was is : ℕ) (fault : ConversionFault) → 2 ≤ length x → IsNotOlder x was is fault → IsRefusal x to asked was is fault
+  pub not_older : (was is : ℕ) (fault : ConversionFault) → 2 ≤ length x → IsNotOlder x was is fault → IsUnmoved x to asked was is fault
   not_older was is BadMagic long why = (magic_refused long why.0, why.1)
   not_older was is BadGeometry long why = (fields_refused long why.0 why.1, why.2)
   not_older was is (Logged n) long why = absurd why

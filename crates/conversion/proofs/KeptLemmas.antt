@@ -16,6 +16,7 @@ use Rattle.conversion.specs.Older.{older_inode}
 use Rattle.conversion.proofs.AddressLemmas.{address_moved, file_moved, IsMovedNode}
 use Rattle.conversion.proofs.BlockLemmas.{words_of-moved}
 use Rattle.conversion.proofs.FitLemmas.{IsFit}
+use Rattle.conversion.proofs.PlacedLemmas.{IsUsedOf}
 use Rattle.conversion.proofs.MovedLemmas.{data-moved, fields-moved, form_one, inode-moved, magic-moved}
 
 -- ---- ranges
@@ -68,10 +69,8 @@ told_node d b told =
     (eqb-false d.kind 0 (not-true (eqb d.kind 0) parts.0), eqb-true (get_or d.addrs 12 0) b parts.1)
 
 -- a used number of an image with any log
-pub record IsUsed (x : Image) (i : ℕ) : Type 0 where
-  pub some : 1 ≤ i
-  pub low : i < inode_count_of x
-  pub used : (older_inode x i).kind ≢ 0
+abbrev pub IsUsed : Image → ℕ → Type 0
+IsUsed x i = IsUsedOf (older_inode x) (inode_count_of x) i
 
 -- a data block of such an image
 pub record IsWithin (x : Image) (a : ℕ) : Type 0 where
@@ -105,11 +104,12 @@ module _ (x : Image) (to size : ℕ) (is : IsImage x) (fit : IsFit x to size) wh
   one_y = form_one y (magic-moved x to size fit)
 
   -- where a data block went
-  record CameOver (a : ℕ) : Type 0 where
-    there : moved from to a ≢ 0
-    block : block_at y (moved from to a) ≡ moved_data x to a
+  pub record CameOver (a : ℕ) : Type 0 where
+    pub place : moved from to a + from ≡ a + to
+    pub there : moved from to a ≢ 0
+    pub block : block_at y (moved from to a) ≡ moved_data x to a
 
-  came_over : (a : ℕ) → IsWithin x a → CameOver a
+  pub came_over : (a : ℕ) → IsWithin x a → CameOver a
   came_over a within =
       let some : a ≢ 0 = λ e. absurd (omega (arith, e, within.high)) in
       let is : moved from to a ≡ min (a + to) (2 ^ 32 - 1) - from = rw (ne_eqb a 0 some) refl in
@@ -117,6 +117,7 @@ module _ (x : Image) (to size : ℕ) (is : IsImage x) (fit : IsFit x to size) wh
       let b = moved from to a in
       let source : source_in s to b ≡ a = omega (arith, place) in
       record {
+        place = place;
         there = λ e. absurd (omega (arith, e, place, within.high));
         block = data-moved x to size fit b (omega (arith, place, within.high)) (omega (arith, place, within.low, fit.least, fit.from_most))
             (omega (arith, source, within.low)) ∙ ap (moved_data x to) source;
@@ -128,7 +129,7 @@ module _ (x : Image) (to size : ℕ) (is : IsImage x) (fit : IsFit x to size) wh
 
   module _ (node_range : (i : ℕ) → IsUsed x i → node_of x i ≢ 0 → IsWithin x (node_of x i)) where
     -- the block of addresses of a used number was moved
-    node_moved : (i : ℕ) → IsUsed x i → node_of x i ≢ 0 → IsMovedNode x y from to (node_of x i)
+    pub node_moved : (i : ℕ) → IsUsed x i → node_of x i ≢ 0 → IsMovedNode x y from to (node_of x i)
     node_moved i u some =
         let came = came_over (node_of x i) (node_range i u some) in
         (came.there,

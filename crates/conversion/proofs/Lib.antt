@@ -10,3 +10,5 @@ mod StepLemmas
 mod NodeLemmas
 mod PlannedLemmas
 mod FillLemmas
+mod OlderSoundLemmas
+mod OwnLemmas

@@ -10,7 +10,7 @@ use Rattle.model.specs.Files.{file_of}
 use Rattle.model.specs.Fields.{has_bit}
 use Rattle.model.specs.Layout.{inode_in, inode_of}
 use Rattle.model.specs.Lemmas.Log.{both_of, recovered_empty}
-use Rattle.model.specs.Lemmas.Soundness.{IsInData, verdict_sound}
+use Rattle.model.specs.Lemmas.Soundness.{inode_in_data, IsInData, verdict_sound}
 use Rattle.model.specs.Places.{address_in}
 use Rattle.model.specs.Soundness.{IsSound}
 use Rattle.model.specs.Verdict.{verdict}
@@ -21,7 +21,7 @@ use Rattle.conversion.proofs.AddressLemmas.{moved_at}
 use Rattle.conversion.proofs.FitLemmas.{fit_of, IsFit}
 use Rattle.conversion.proofs.KeptLemmas.{address_over, files_kept, IsUsed, IsWithin, map_range, node_of}
 use Rattle.conversion.proofs.MovedLemmas.{boot-moved, empty-moved, fields-moved, form_one, inode-moved, length-moved_image, magic-moved, marked-moved}
-use Rattle.conversion.proofs.PlacedLemmas.{apart_in, data_in_data, IsUsedIn, node_in_data}
+use Rattle.conversion.proofs.PlacedLemmas.{apart_in, data_at_place, IsUsedOf, node_at_place}
 
 -- ---- an image with our log
 
@@ -82,7 +82,7 @@ module _ (x : Image) (size : ℕ) (is : IsImage x) (fit : IsFit x 31 size) (soun
   inode : (i : ℕ) → i < s.ninodes → inode_of y i ≡ moved_inode from 31 (old i)
   inode i low = own_inode y start i ∙ inode-moved x 31 size fit is i low
 
-  used_there : (i : ℕ) → IsUsed x i → IsUsedIn y i
+  used_there : (i : ℕ) → IsUsed x i → IsUsedOf (inode_of y) (inode_count_of y) i
   used_there i u = record {
     some = u.some;
     low = omega (arith, count, u.low);
@@ -118,7 +118,7 @@ module _ (x : Image) (size : ℕ) (is : IsImage x) (fit : IsFit x 31 size) (soun
   node_range : (i : ℕ) → IsUsed x i → node_of x i ≢ 0 → IsWithin x (node_of x i)
   node_range i u some =
       within (node_of x i) some
-      (node_in_data y one_y sound i (moved from 31 (node_of x i)) (used_there i u) (there (node_of x i) some) (node_there i (node_of x i) u refl))
+      (node_at_place y (inode_of y) (inode_count_of y) one_y (IsInData y) (λ j some low. inode_in_data y j sound some low) i (moved from 31 (node_of x i)) (used_there i u) (there (node_of x i) some) (node_there i (node_of x i) u refl))
 
   data_there : (i k a : ℕ) → IsUsed x i → address_in x (old i) k ≡ a → address_in y (inode_of y i) k ≡ moved from 31 a
   data_there i k a u leads =
@@ -127,11 +127,11 @@ module _ (x : Image) (size : ℕ) (is : IsImage x) (fit : IsFit x 31 size) (soun
   data_range : (i k : ℕ) → IsUsed x i → address_in x (old i) k ≢ 0 → IsWithin x (address_in x (old i) k)
   data_range i k u some =
       let a = address_in x (old i) k in
-      within a some (data_in_data y one_y sound i k (moved from 31 a) (used_there i u) (there a some) (data_there i k a u refl))
+      within a some (data_at_place y (inode_of y) (inode_count_of y) one_y (IsInData y) (λ j some low. inode_in_data y j sound some low) i k (moved from 31 a) (used_there i u) (there a some) (data_there i k a u refl))
 
   apart : (i j k a : ℕ) → IsUsed x i → IsUsed x j → a ≢ 0 → address_in x (old i) k ≡ a → node_of x j ≡ a → ⊥
   apart i j k a u v some leads node =
-      apart_in y one_y sound i j k (moved from 31 a) (used_there i u) (used_there j v) (there a some) (data_there i k a u leads) (node_there j a v node)
+      apart_in y (inode_of y) (inode_count_of y) one_y sound.once i j k (moved from 31 a) (used_there i u) (used_there j v) (there a some) (data_there i k a u leads) (node_there j a v node)
 
   pub converted : verdict y ≡ None → IsConverted x size y
   converted judged = record {

@@ -51,14 +51,19 @@ pub record IsConverted (x : Image) (size : ℕ) (y : Image) : Type 0 where
   pub labels : (i : ℕ) → 1 ≤ i → i < inode_count_of x → labels_of y i ≡ older_labels x i
   pub boot : block_at y 0 ≡ block_at x 0
 
--- why image x did not get a log of `to` blocks, on a disk whose faults were and are so many
-abbrev pub IsRefusal : Image → ℕ → Option ℕ → ℕ → ℕ → ConversionFault → Type 0
-IsRefusal x to asked was is (Unsound fault) =
-    (conversion_fault x to asked ≡ None)
-    × (verdict (moved_image x to (chosen_size x to asked)) ≡ Some fault) × (is ≡ was)
-IsRefusal x to asked was is (Disk b) = (b < length x) × Rose was is
-IsRefusal x to asked was is NoMemory = is ≡ was
-IsRefusal x to asked was is fault = (conversion_fault x to asked ≡ Some fault) × (is ≡ was)
+-- why image x was not moved to a log of `to` blocks, on a disk whose faults were and are so many
+abbrev pub IsUnmoved : Image → ℕ → Option ℕ → ℕ → ℕ → ConversionFault → Type 0
+IsUnmoved x to asked was is (Unsound fault) = ⊥
+IsUnmoved x to asked was is (Disk b) = (b < length x) × Rose was is
+IsUnmoved x to asked was is NoMemory = is ≡ was
+IsUnmoved x to asked was is fault = (conversion_fault x to asked ≡ Some fault) × (is ≡ was)
+
+-- why image x was not converted: what it would be has that fault, or it was not moved
+abbrev pub IsRefusal : Image → Option ℕ → ℕ → ℕ → ConversionFault → Type 0
+IsRefusal x asked was is (Unsound fault) =
+    (conversion_fault x log_blocks asked ≡ None)
+    × (verdict (moved_image x log_blocks (chosen_size x log_blocks asked)) ≡ Some fault) × (is ≡ was)
+IsRefusal x asked was is fault = IsUnmoved x log_blocks asked was is fault
 
 -- a read of image x failed, or memory was refused, which the disk doesn't count as a fault
 abbrev pub IsBreak : Image → ℕ → ℕ → ConversionFault → Type 0
@@ -71,13 +76,6 @@ abbrev pub IsNewFault : Image → ConversionFault → Type 0
 IsNewFault y (Unsound fault) = verdict y ≡ Some fault
 IsNewFault y NoMemory = ⊤
 IsNewFault y fault = ⊥
-
--- why image y, which is to be made of x, was not made, or is of no use
-abbrev pub IsUnfilled : Image → Image → ℕ → ℕ → ConversionFault → Type 0
-IsUnfilled x y was is (Unsound fault) = (verdict y ≡ Some fault) × (is ≡ was)
-IsUnfilled x y was is (Disk b) = (b < length x) × Rose was is
-IsUnfilled x y was is NoMemory = is ≡ was
-IsUnfilled x y was is fault = ⊥
 
 -- where an image may be converted, and what comes of it is sound, it is converted
 abbrev pub FilesComeOver : Type 0

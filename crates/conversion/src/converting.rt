@@ -1,17 +1,13 @@
 // An image with a shorter log, made into one with ours.
-ghost use Rattle.std.specs.Prelude.{◌≡◌, IfErr, IfOk, OnOk, None, length};
+ghost use Rattle.std.specs.Prelude.{◌≡◌, IfErr, IfOk, OnOk, None};
 ghost use Rattle.blocks.specs.Calls.{OnlyReads};
 ghost use Rattle.model.specs.Format.{log_blocks};
 ghost use Rattle.model.specs.Verdict.{verdict};
-ghost use Rattle.conversion.specs.Converted.{IsConverted, IsNewFault, IsRefusal, IsUnfilled, chosen_size, conversion_fault};
-ghost use Rattle.conversion.specs.Moving.{moved_image};
-ghost use Rattle.conversion.specs.Prepared.{IsPrepared};
+ghost use Rattle.conversion.specs.Converted.{IsConverted, IsNewFault, IsRefusal, chosen_size, conversion_fault};
 
 use crate::fault::ConversionFault;
-use crate::filling::fill;
-use crate::plan::read_plan;
-use crate::prepared::{Prepared, prepare};
-use blocks::{Block, Disk, MemDisk};
+use crate::filling::move_image;
+use blocks::{Disk, MemDisk};
 use layout::LOG_BLOCKS;
 use model::types::CheckFault;
 use offline::check;
@@ -46,43 +42,16 @@ pub fn convert<D: Disk>(
     ensures converted { IfOk result (λ new. IsConverted (D.image old.old)
         (chosen_size (D.image old.old) log_blocks size) (⟦<MemDisk as Disk>⟧.image new)) }
     ensures taken { OnOk result (conversion_fault (D.image old.old) log_blocks size ≡ None) }
-    ensures refused { IfErr result (IsRefusal (D.image old.old) log_blocks size
+    ensures refused { IfErr result (IsRefusal (D.image old.old) size
         (D.fault_count old.old) (D.fault_count old.new)) }
     ensures reads { OnlyReads D.Disk old.old old.new }
     ensures faults { OnOk result (D.fault_count old.new ≡ D.fault_count old.old) }
 {
-    let mut block = Block::zeroed(alloc)?;
-    let plan = read_plan(old, LOG_BLOCKS, size, &mut block)?;
-    let prepared = prepare(alloc, old, plan, &mut block)?;
-    let mut new = MemDisk::new(alloc, plan.size)?;
-    match fill_and_check(alloc, old, &prepared, &mut new, &mut block) {
+    let mut new = move_image(alloc, old, LOG_BLOCKS, size)?;
+    match check_new(alloc, &mut new) {
         Ok(()) => Ok(new),
         Err(fault) => Err(fault),
     }
-}
-
-// Fills the new image, in memory, and checks it.
-fn fill_and_check<D: Disk>(
-    alloc: Global,
-    old: &mut D,
-    prepared: &Prepared,
-    new: &mut MemDisk,
-    block: &mut Block,
-) -> Result<(), ConversionFault>
-    requires prepared { IsPrepared (D.image old.old) prepared.now }
-    requires size { length (⟦<MemDisk as Disk>⟧.image new.old) ≡ prepared.now.plan.size }
-    ensures moved { OnOk result (⟦<MemDisk as Disk>⟧.image new.new
-        ≡ moved_image (D.image old.old) prepared.now.plan.to prepared.now.plan.size) }
-    ensures sound { OnOk result (verdict (moved_image (D.image old.old)
-        prepared.now.plan.to prepared.now.plan.size) ≡ None) }
-    ensures refused { IfErr result (IsUnfilled (D.image old.old)
-        (moved_image (D.image old.old) prepared.now.plan.to prepared.now.plan.size)
-        (D.fault_count old.old) (D.fault_count old.new)) }
-    ensures reads { OnlyReads D.Disk old.old old.new }
-    ensures faults { OnOk result (D.fault_count old.new ≡ D.fault_count old.old) }
-{
-    fill(old, prepared, new, block)?;
-    check_new(alloc, new)
 }
 
 // Checks the new image.

@@ -1,18 +1,22 @@
 // The new image in memory, filled block by block.
-ghost use Rattle.std.specs.Prelude.{◌≡◌, ◌<◌, IfErr, OnOk, length, slice_set};
+ghost use Rattle.std.specs.Prelude.{◌≡◌, ◌<◌, IfErr, IfOk, None, OnOk, length, slice_set, true};
 ghost use Rattle.blocks.specs.Block.{zero_block};
 ghost use Rattle.blocks.specs.Calls.{OnlyReads};
 ghost use Rattle.blocks.specs.Disk.{CountsFault};
 ghost use Rattle.conversion.specs.Moving.{moved_block, moved_image};
-ghost use Rattle.conversion.specs.Older.{bitmap_behind};
+ghost use Rattle.conversion.specs.Converted.{IsUnmoved, chosen_size, conversion_fault};
+ghost use Rattle.conversion.specs.Older.{bitmap_behind, is_log_length};
 ghost use Rattle.conversion.specs.Prepared.{IsPrepared};
 
+use crate::fault::ConversionFault;
 use crate::geometry::{behind_log, bitmap_behind, super_with};
 use crate::moving::{move_entries, move_inodes};
-use crate::prepared::Prepared;
+use crate::plan::read_plan;
+use crate::prepared::{Prepared, prepare};
 use blocks::{BLOCK_SIZE, Block, Disk, DiskFault, MemDisk};
 use layout::superblock;
 use model::types::Form;
+use std::alloc::Global;
 
 // Writes a block of a disk in memory, where no write fails.
 fn put(new: &mut MemDisk, b: u32, block: &Block)
@@ -121,4 +125,30 @@ pub(crate) fn fill<D: Disk>(
         put(new, b, block);
     }
     Ok(())
+}
+
+/// The image with a log of `to` blocks, in memory, and of the size that is asked for.
+pub(crate) fn move_image<D: Disk>(
+    alloc: Global,
+    old: &mut D,
+    to: u32,
+    asked: Option<u32>,
+) -> Result<MemDisk, ConversionFault>
+    requires log { is_log_length to ≡ true }
+    ensures moved { IfOk result (λ new. ⟦<MemDisk as Disk>⟧.image new
+        ≡ moved_image (D.image old.old) to (chosen_size (D.image old.old) to asked)) }
+    ensures taken { OnOk result (conversion_fault (D.image old.old) to asked ≡ None) }
+    ensures refused { IfErr result (IsUnmoved (D.image old.old) to asked
+        (D.fault_count old.old) (D.fault_count old.new)) }
+    ensures reads { OnlyReads D.Disk old.old old.new }
+    ensures faults { OnOk result (D.fault_count old.new ≡ D.fault_count old.old) }
+{
+    let mut block = Block::zeroed(alloc)?;
+    let plan = read_plan(old, to, asked, &mut block)?;
+    let prepared = prepare(alloc, old, plan, &mut block)?;
+    let mut new = MemDisk::new(alloc, plan.size)?;
+    match fill(old, &prepared, &mut new, &mut block) {
+        Ok(()) => Ok(new),
+        Err(failed) => Err(ConversionFault::Disk(failed.0)),
+    }
 }

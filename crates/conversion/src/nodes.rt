@@ -3,7 +3,6 @@ ghost use Rattle.std.specs.Prelude.{◌≡◌, ◌<◌, IfErr, IfOk, OnOk, [], f
 ghost use Rattle.blocks.specs.Calls.{OnlyReads};
 ghost use Rattle.blocks.specs.Disk.{CountsFault, Rose};
 ghost use Rattle.model.specs.Places.{numbers_of};
-ghost use Rattle.conversion.specs.Converted.{IsRefusal};
 ghost use Rattle.conversion.specs.Older.{older_inode};
 ghost use Rattle.conversion.specs.Prepared.{AreNoted, IsPlanned, NotesNode};
 

@@ -4,7 +4,7 @@ ghost use Rattle.blocks.specs.Calls.{OnlyReads};
 ghost use Rattle.blocks.specs.Disk.{CountsFault};
 ghost use Rattle.model.specs.Format.{log_blocks, most_blocks};
 ghost use Rattle.model.specs.Log.{logged_count};
-ghost use Rattle.conversion.specs.Converted.{IsRefusal};
+ghost use Rattle.conversion.specs.Converted.{IsUnmoved};
 ghost use Rattle.conversion.specs.Moving.{goal_in};
 ghost use Rattle.conversion.specs.Older.{is_log_length};
 ghost use Rattle.conversion.specs.Prepared.{IsNotOlder, IsOlder, IsPlanOf};
@@ -37,7 +37,7 @@ pub(crate) fn read_plan<D: Disk>(
 ) -> Result<Plan, ConversionFault>
     requires log { is_log_length to ≡ true }
     ensures plan { IfOk result (IsPlanOf (D.image old.old) to asked) }
-    ensures refused { IfErr result (IsRefusal (D.image old.old) to asked
+    ensures refused { IfErr result (IsUnmoved (D.image old.old) to asked
         (D.fault_count old.old) (D.fault_count old.new)) }
     ensures reads { OnlyReads D.Disk old.old old.new }
     ensures faults { OnOk result (D.fault_count old.new ≡ D.fault_count old.old) }
