@@ -70,9 +70,12 @@ pub struct Outline {
     pub lines: &'static [Line],
 }
 
+/// The version of the programs.
+pub const VERSION: &str = "0.2.0";
+
 pub(crate) const XVFS: Outline = Outline {
     name: "xvfs",
-    version: "0.1.0",
+    version: VERSION,
     about: "Makes, checks, lists, shows, fills, copies and recovers images of the xv6 file system, and runs scripts of operations over them; without words, does the command lines of standard input",
     lines: LINES,
 };
@@ -112,8 +115,8 @@ pub(crate) const EXPLAIN: Word = Word {
     help: "Says more of a refusal in a second line, as on a terminal",
 };
 
-// `--json`, of a command that tells one value.
-const JSON: Word = Word {
+/// `--json`, of a command that tells one value.
+pub const JSON: Word = Word {
     name: "json",
     kind: Kind::Flag,
     help: "Prints one value of JSON in place of text",

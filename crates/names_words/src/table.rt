@@ -1,11 +1,12 @@
 // The commands of `xvnames`, and their words, as a table.
 use cli::table::{
-    IMAGE, IMAGE_KEPT, IMAGE_MADE, Kind, Line, NINODES, NO_SYNC, Outline, SIZE, SYNC, Word,
+    IMAGE, IMAGE_KEPT, IMAGE_MADE, JSON, Kind, Line, NINODES, NO_SYNC, Outline, SIZE, SYNC,
+    VERSION, Word,
 };
 
 pub const XVNAMES: Outline = Outline {
     name: "xvnames",
-    version: "0.1.0",
+    version: VERSION,
     about: "Lists, reads, puts, moves, links and removes the files of images of the xv6 file system by their paths, and makes images with files; without words, does the command lines of standard input",
     lines: LINES,
 };
@@ -20,13 +21,6 @@ const FOLDER: Word = Word {
     name: "PATH",
     kind: Kind::Free,
     help: "The directory's path in the image; the root where it is not given",
-};
-
-// `--json`, of a command that tells one value.
-const JSON: Word = Word {
-    name: "json",
-    kind: Kind::Flag,
-    help: "Prints one value of JSON in place of text",
 };
 
 const FILE_PUT: Word = Word {
