@@ -137,7 +137,7 @@ fn list(
 }
 
 // The last of these names.
-fn last_of(names: &[Name]) -> &[u8]
+pub fn last_of(names: &[Name]) -> &[u8]
     ensures { result.now ≡ text_of (last_of names.now) }
 {
     match names.last() {
@@ -154,7 +154,7 @@ fn line_of(alloc: Global, files: &[Option<File>], number: u32) -> Result<Vec<u8>
 }
 
 // The same bytes.
-fn copy(alloc: Global, bytes: &[u8]) -> Result<Vec<u8>, NoMemory>
+pub fn copy(alloc: Global, bytes: &[u8]) -> Result<Vec<u8>, NoMemory>
     ensures { IfOk result (λ text. text.items ≡ bytes.now) }
 {
     Ok(Vec::from_slice(alloc, bytes)?)
