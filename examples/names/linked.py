@@ -102,6 +102,13 @@ def give_names(third, second):
     refuse("ln", "a.img", "docs", "new", "--explain", refused="3 IsADirectory\ndocs: it is a directory")
     refuse("ln", "a.img", "one", "two", "--explain", refused="4 Exists\ntwo: it is there already")
     refuse("mv", "a.img", "one", "two", "--explain", refused="4 Exists\ntwo: it is there already")
+    refuse("cp", "a.img", "one", "docs", "--explain",
+           refused="23 SameFile\none to docs: both paths lead to the same file")
+    refuse("cp", "a.img", "docs/one", "last", refused="23 SameFile")
+    refuse("cp", "a.img", "docs", "new", "--explain", refused="3 IsADirectory\ndocs: it is a directory")
+    refuse("cp", "a.img", "none", "new", refused="1 NotFound")
+    refuse("cp", "a.img", "two", "none/new", refused="1 NotFound")
+    refuse("cp", "a.img", "two", "a" * 15, refused="8 NameTooLong")
     refuse("ln", "a.img", "one", "/", refused="6 IsRoot")
     refuse("ln", "a.img", "one", "docs/..", refused="4 Exists")
     refuse("ln", "a.img", "one", "a" * 15, refused="8 NameTooLong")
@@ -109,6 +116,26 @@ def give_names(third, second):
     run("rm", "a.img", "one")
     found({"/docs/one": (2, third), "/last": (2, third)})
     print("ln: a file with three names, in two directories, which goes with the last of them")
+
+
+def copy_a_device():
+    """A copy is another file than the one that it is of; no device is copied, nor written by a copy."""
+    run("mkfs", "a.img", "200", "32", "one", "two")
+    run("mkdir", "a.img", "docs")
+    run("mkdir", "a.img", "docs/one")
+    refuse("cp", "a.img", "one", "docs", "--explain", refused="4 Exists\ndocs: it is there already")
+    run("cp", "a.img", "one", "docs/two")
+    run("put", "a.img", "three", "one")
+    files = {}
+    for name in "one", "two", "three":
+        with open(name, "rb") as file:
+            files[name] = file.read()
+    found({"/one": (1, files["three"]), "/two": (1, files["two"]), "/docs/two": (1, files["one"])})
+    set_inode("a.img", 3, KIND, 3)
+    for words in ("two", "new"), ("one", "two"):
+        refuse("cp", "a.img", *words, "--explain",
+               refused="22 IsADevice\n%s to %s: one of the two is a device" % words)
+    print("cp: a copy keeps its bytes where the file gets others; no device, and no file onto itself")
 
 
 def counts():
@@ -228,6 +255,7 @@ def put_where_all_is_used():
         fail("put over a file where all is used leaves something else")
     os.link("a.img", "two-names.img")
     refuse("put", "a.img", "long", "rest", refused="11 NoBlock")
+    refuse("cp", "a.img", "rest", "new", refused="11 NoBlock")
     os.remove("two-names.img")
     print("a file gets others of the same size where no block is free")
 
@@ -283,6 +311,7 @@ def main():
     print("a file with two names: read and written by both, one moved, one removed, and the file with the last")
     lose_a_name()
     put_where_all_is_used()
+    copy_a_device()
     have_many_names()
 
 

@@ -99,6 +99,21 @@ class Model:
         self.files[new] = self.files.pop(path)
         return "mv", "a.img", path, new
 
+    def copy(self, is_long, over=False):
+        """A copy under a new path, or in place of another file."""
+        path = random.choice([path for path in self.plain() if (len(self.files[path]) > PIECE) == is_long])
+        to = random.choice([other for other in self.plain() if other != path]) if over else self.new_path()
+        self.files[to] = self.files[path]
+        return "cp", "a.img", path, to
+
+    def copy_into(self, is_long):
+        """A copy under the file's own name in another directory."""
+        path = random.choice([path for path in self.plain() if (len(self.files[path]) > PIECE) == is_long])
+        name = path.rsplit("/", 1)[1]
+        into = random.choice([to for to in self.directories() if to + name not in self.files and to + name + "/" not in self.files])
+        self.files[into + name] = self.files[path]
+        return "cp", "a.img", path, into
+
     def move_directory(self):
         movable = [path for path in self.directories()[1:]]
         path = random.choice(movable) if movable else None
@@ -120,11 +135,11 @@ def partly(left, before, after):
 
 def stopped(words, before, after):
     """Runs a change, killed before each of its writes in turn, each time from the same image. How many stops. A
-    put of more bytes than one call writes is written into a new image, which takes the old one's name: of its
-    writes, a block each, some are chosen, and the last. A change by several transactions may be made in part."""
+    put or copy of more bytes than one call writes is written into a new image, which takes the old one's name: of
+    its writes, a block each, some are chosen, and the last. A change by several transactions may be made in part."""
     with open("a.img", "rb") as file:
         image = file.read()
-    is_anew = words[0] == "put" and os.path.getsize("host") > PIECE
+    is_anew = words[0] == "put" and os.path.getsize("host") > PIECE or words[0] == "cp" and len(before[words[2]]) > PIECE
 
     def stops_at(at):
         with open("a.img", "wb") as file:
@@ -181,6 +196,8 @@ def main():
               lambda: model.put(model.new_path(), 0), lambda: model.put(model.new_path(), PIECE),
               lambda: model.put(random.choice(model.plain()), 700), lambda: model.put(random.choice(model.plain()), PIECE),
               lambda: model.put(model.new_path(), 10000), lambda: model.put(random.choice(model.plain()), 10000),
+              lambda: model.copy(False), lambda: model.copy(False, True), lambda: model.copy_into(False),
+              lambda: model.copy(True), lambda: model.copy(True, True), lambda: model.copy_into(True),
               model.mkdir_all, model.remove_all, model.remove_all]
     for change in chosen:
         before = dict(model.files)

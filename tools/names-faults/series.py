@@ -33,6 +33,11 @@ COMMANDS = {
     "put of a long file": ["put", "a.img", "long", "/new"],
     "put of a long file over another": ["put", "a.img", "long", "/docs/long"],
     "put of a long file into an image with two names": ["put", "two.img", "long", "/new"],
+    "cp of a small file": ["cp", "a.img", "/first", "/docs"],
+    "cp over a file": ["cp", "a.img", "/first", "/docs/long"],
+    "cp of a long file": ["cp", "a.img", "/docs/long", "/new"],
+    "cp of a long file within an image with two names": ["cp", "two.img", "/docs/long", "/new"],
+    "cp with --sync": ["cp", "a.img", "/first", "/new", "--sync"],
     "put with --sync": ["put", "a.img", "small", "/new", "--sync"],
 }
 MKFS = ["mkfs", "b.img", "400", "64", "small"]
@@ -174,8 +179,8 @@ def count_calls(words, call):
 
 
 def fault(words, call, at, how):
-    """The fault of a call for the image that is written, which of a long put is a new one beside the old."""
-    is_anew = words[:3] == ["put", "a.img", "long"] and call != "read"
+    """The fault of a call for the image that is written, which of a long put or copy is a new one beside the old."""
+    is_anew = words[:3] in (["put", "a.img", "long"], ["cp", "a.img", "/docs/long"]) and call != "read"
     return {"LD_PRELOAD": WORK + "/faults.so", "FAULTS_FILE": words[1] + ".xvfs-new" * is_anew, "FAULTS_CALL": call,
             "FAULTS_AT": str(at), "FAULTS_HOW": how}
 
@@ -239,7 +244,7 @@ def series():
                 yield name, iter([("undisturbed", usual.err.strip())])
                 continue
             for call, hows in HOWS.items():
-                if is_look and call != "read" or call == "fdatasync" and words[0] not in ("put", "mkdir"):
+                if is_look and call != "read" or call == "fdatasync" and words[0] not in ("put", "cp", "mkdir"):
                     continue
                 for how in hows:
                     yield f"{name}, {call} {how}", calls(words, call, how, usual, is_look)

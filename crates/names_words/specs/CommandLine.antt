@@ -5,7 +5,7 @@ use Rattle.clap.specs.declared.builder.action.ArgAction.TheVariants.{Append, Set
 use Rattle.cli.specs.Asking.{HasFlag, HasNumber, Wording}
 use Rattle.cli.specs.CommandLine.{flag_rule, image_app, named_app, number_rule, required_rule}
 use Rattle.names_words.specs.declared.words.Request.{Request}
-use Rattle.names_words.specs.declared.words.Request.TheVariants.{Ls, Stat, Tree, Cat, Get, Put, Rm, Mv, Ln, Mkdir, Rmdir, Check, Recount, Mkfs}
+use Rattle.names_words.specs.declared.words.Request.TheVariants.{Ls, Stat, Tree, Cat, Get, Put, Rm, Mv, Cp, Ln, Mkdir, Rmdir, Check, Recount, Mkfs}
 
 -- a command that may answer with JSON
 abbrev pub answering : App → App
@@ -43,8 +43,9 @@ abbrev pub put_app : App
 put_app = changing (with_rule (with_rule (image_app (codes "put")) (required_rule (codes "FILE")))
     (required_rule (codes "PATH")))
 
-abbrev pub mv_app : App
-mv_app = changing (with_rule (with_rule (image_app (codes "mv")) (required_rule (codes "FROM")))
+-- from a path to another one
+abbrev pub between_app : List ℕ → App
+between_app name = changing (with_rule (with_rule (image_app name) (required_rule (codes "FROM")))
     (required_rule (codes "TO")))
 
 abbrev pub ln_app : App
@@ -62,11 +63,12 @@ abbrev pub xvnames_app : App
 xvnames_app =
     with_subcommand (with_subcommand (with_subcommand (with_subcommand (with_subcommand
     (with_subcommand (with_subcommand (with_subcommand (with_subcommand (with_subcommand
-    (with_subcommand (with_subcommand (with_subcommand (with_subcommand
+    (with_subcommand (with_subcommand (with_subcommand (with_subcommand (with_subcommand
     (named_app (codes "xvnames")) (look_app (codes "ls")).top)
     (answering (path_app (codes "stat"))).top)
     (look_app (codes "tree")).top) (path_app (codes "cat")).top) get_app.top) put_app.top)
-    rm_app.top) mv_app.top) ln_app.top) mkdir_app.top)
+    rm_app.top) (between_app (codes "mv")).top) (between_app (codes "cp")).top) ln_app.top)
+    mkdir_app.top)
     (changing (path_app (codes "rmdir"))).top)
     (answering (image_app (codes "check"))).top) (changing (image_app (codes "recount"))).top) mkfs_app.top
 
@@ -111,6 +113,9 @@ AsksBy name rows (Rm image path all sync no_sync) = (name ≡ codes "rm")
     × Changes rows image.now sync no_sync × HasWord (codes "PATH") rows path.now
     × HasFlag (codes "all") rows all
 AsksBy name rows (Mv image from to sync no_sync) = (name ≡ codes "mv")
+    × Changes rows image.now sync no_sync × HasWord (codes "FROM") rows from.now
+    × HasWord (codes "TO") rows to.now
+AsksBy name rows (Cp image from to sync no_sync) = (name ≡ codes "cp")
     × Changes rows image.now sync no_sync × HasWord (codes "FROM") rows from.now
     × HasWord (codes "TO") rows to.now
 AsksBy name rows (Ln image path into sync no_sync) = (name ≡ codes "ln")

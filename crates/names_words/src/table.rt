@@ -127,6 +127,26 @@ const LINES: &[Line] = &[
         ],
     },
     Line {
+        name: "cp",
+        about: "Copies a file, which is no directory or device, within an image to a path, as a new file or in place of one, or under its own name into a directory, and prints the copy's number",
+        example: "Examples: xvnames cp fs.img /README /docs/readme, xvnames cp fs.img /README /docs",
+        image: Some(IMAGE),
+        words: &[
+            Word {
+                name: "FROM",
+                kind: Kind::Needed,
+                help: "The file's path in the image",
+            },
+            Word {
+                name: "TO",
+                kind: Kind::Needed,
+                help: "The path in the image that the copy gets, or a directory's; a stop leaves the old bytes or the new; of more than 3072, where the image is no plain file with one name, maybe a beginning of the new",
+            },
+            SYNC,
+            NO_SYNC,
+        ],
+    },
+    Line {
         name: "ln",
         about: "Gives a file, which is no directory, a second name",
         example: "Example: xvnames ln fs.img /README /docs/readme",

@@ -97,6 +97,19 @@ pub enum Request<'a> {
         /// Whether the sync at the end is left out.
         no_sync: bool,
     },
+    /// A copy of a file within an image.
+    Cp {
+        /// The path of the image's file.
+        image: &'a str,
+        /// The file's path in the image.
+        from: &'a str,
+        /// The path of the copy, or of a directory that it goes into.
+        to: &'a str,
+        /// Whether the image's file holds writes back until it is synced.
+        sync: bool,
+        /// Whether the sync at the end is left out.
+        no_sync: bool,
+    },
     /// A second name for a file.
     Ln {
         /// The path of the image's file.
@@ -231,6 +244,7 @@ fn request_of<'a>(name: &str, values: &ArgMatches<'a>) -> Option<Request<'a>>
         "put" => put_request(values),
         "get" => get_request(values),
         "mv" => mv_request(values),
+        "cp" => cp_request(values),
         "ln" => ln_request(values),
         "check" => check_request(values),
         "recount" => recount_request(values),
@@ -272,6 +286,19 @@ fn mv_request<'a>(values: &ArgMatches<'a>) -> Option<Request<'a>>
     Some(Request::Mv {
         image: values.get_str("IMAGE")?,
         from: values.get_str("FROM")?,
+        to: values.get_str("TO")?,
+        sync: values.get_flag("sync"),
+        no_sync: values.get_flag("no-sync"),
+    })
+}
+
+fn cp_request<'a>(values: &ArgMatches<'a>) -> Option<Request<'a>>
+    ensures { IfSome result (AsksBy (codes "cp") (rows_of (found_of values.now))) }
+{
+    let from = values.get_str("FROM")?;
+    Some(Request::Cp {
+        image: values.get_str("IMAGE")?,
+        from,
         to: values.get_str("TO")?,
         sync: values.get_flag("sync"),
         no_sync: values.get_flag("no-sync"),

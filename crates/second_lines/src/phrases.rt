@@ -68,6 +68,8 @@ pub fn names_phrase(number: u32) -> Option<&'static str> {
         18 => Some("the change needs more than ten blocks of the log"),
         19 => Some("a name below it can't be that of a file of the system"),
         20 => Some("as many names lead to the file as its count can say"),
+        22 => Some("one of the two is a device"),
+        23 => Some("both paths lead to the same file"),
         _ => None,
     }
 }

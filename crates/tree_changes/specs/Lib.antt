@@ -5,3 +5,4 @@ pub mod Room
 pub mod Recounts
 pub mod Making
 pub mod Removing
+pub mod Copying

@@ -8,7 +8,11 @@ use Rattle.names.specs.declared.opening.TreeOpenFault.TheVariants as opening
 use Rattle.names.specs.declared.refusal.TreeFault.{TreeFault}
 use Rattle.names.specs.declared.refusal.TreeFault.TheVariants as tree
 use Rattle.opening.specs.Openings.{open_telling}
-use Rattle.tree_looks.specs.Tellings.{miscounted, names_told, no_memory, no_tree, path_telling, refusal_telling}
+use Rattle.tree_looks.specs.Tellings.{look_telling, miscounted, names_told, no_memory, no_tree, path_telling, refusal_telling}
+use Rattle.tree_looks.specs.declared.copying.CopyFault.{CopyFault}
+use Rattle.tree_looks.specs.declared.copying.CopyFault.TheVariants as uncopied
+use Rattle.tree_changes.specs.declared.copying.CopyRefusal.{CopyRefusal}
+use Rattle.tree_changes.specs.declared.copying.CopyRefusal.TheVariants as copy
 use Rattle.tree_changes.specs.declared.faults.ChangeRefusal.{ChangeRefusal}
 use Rattle.tree_changes.specs.declared.faults.ChangeRefusal.TheVariants as change
 
@@ -35,3 +39,13 @@ change_telling (change.Tree fault) = tree_telling fault
 change_telling (change.Unwritten fault) = names_told 12 (codes "TooBig")
 change_telling (change.Disk fault) = disk_telling fault
 change_telling change.Output = unwritten
+
+abbrev pub uncopied_telling : CopyFault → Telling
+uncopied_telling (uncopied.Look refused) = look_telling refused
+uncopied_telling uncopied.IsADevice = names_told 22 (codes "IsADevice")
+uncopied_telling uncopied.SameFile = names_told 23 (codes "SameFile")
+
+abbrev pub copy_telling : CopyRefusal → Telling
+copy_telling (copy.Unplanned fault) = uncopied_telling fault
+copy_telling (copy.NoRoom refused) = change_telling refused
+copy_telling (copy.Of refused) = change_telling refused

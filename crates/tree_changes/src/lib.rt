@@ -3,6 +3,7 @@
 #![tactic(auto)]
 
 mod changes;
+mod copying;
 mod faults;
 mod making;
 mod over_tree;
@@ -12,6 +13,7 @@ mod removing;
 mod room;
 
 pub use changes::{Link, MakeDirectory, Remove, RemoveDirectory, Rename};
+pub use copying::{CopyOver, CopyRefusal, copy_disk};
 pub use faults::ChangeRefusal;
 pub use making::MakeDirectories;
 pub use over_tree::{OverTree, TreeChange, change_disk};

@@ -41,7 +41,7 @@ const PIECE: usize = TRANSFER_LIMIT as usize;
 #[derive(Drop)]
 pub struct Put<'a> {
     /// The path, from the root.
-    pub path: &'a str,
+    pub path: &'a [u8],
     /// The bytes.
     pub bytes: Vec<u8>,
 }
@@ -58,7 +58,7 @@ impl<'a> TreeChange for Put<'a> {
         alloc: Global,
         tree: &mut Tree<D>,
     ) -> Result<Option<u32>, ChangeRefusal> {
-        let path = self.path.as_bytes();
+        let path = self.path;
         let bytes = self.bytes.as_slice();
         if bytes.len() <= PIECE {
             return put_few(alloc, tree, path, bytes);

@@ -4,3 +4,4 @@ pub mod AddedTexts
 mod Looking
 mod Copied
 mod Ungot
+mod CopyPlans

@@ -3,3 +3,4 @@ pub mod Objects
 pub mod Listing
 pub mod Looks
 pub mod Gets
+pub mod Copies

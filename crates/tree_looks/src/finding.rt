@@ -40,7 +40,7 @@ pub fn find(alloc: Global, files: &[Option<File>], path: &[u8]) -> Result<Found,
 }
 
 // Where names lead from the root, one after the other.
-fn walk(files: &[Option<File>], names: &[Name]) -> Result<u32, Refusal>
+pub fn walk(files: &[Option<File>], names: &[Name]) -> Result<u32, Refusal>
     ensures { result ≡ walked files.now root names.now }
 {
     let mut number = DIRECTORY;

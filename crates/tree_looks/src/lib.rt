@@ -2,6 +2,7 @@
 //! recovery would leave them, and nothing is written to the disk.
 #![tactic(auto)]
 
+mod copying;
 mod counts;
 mod faults;
 mod finding;
@@ -13,6 +14,7 @@ mod objects;
 mod over_files;
 mod texts;
 
+pub use copying::{CopyFault, CopyPlan, plan_copy};
 pub use counts::Counts;
 pub use faults::{GetRefusal, LookRefusal, path_told, refusal_told};
 pub use gets::{Get, GetAll};

@@ -169,7 +169,7 @@ fn add_list(
 }
 
 // The last of these names.
-fn last_of(names: &[Name]) -> &[u8]
+pub fn last_of(names: &[Name]) -> &[u8]
     ensures { result.now ≡ text_of (last_of names.now) }
 {
     match names.last() {
@@ -198,7 +198,7 @@ fn stat_told(
 }
 
 // The same bytes.
-fn copy(alloc: Global, bytes: &[u8]) -> Result<Vec<u8>, NoMemory>
+pub fn copy(alloc: Global, bytes: &[u8]) -> Result<Vec<u8>, NoMemory>
     ensures { IfOk result (λ text. text.items ≡ bytes.now) }
 {
     Ok(Vec::from_slice(alloc, bytes)?)

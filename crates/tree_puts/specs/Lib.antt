@@ -1,3 +1,4 @@
 pub mod Anew
 pub mod Puts
 pub mod Refusals
+pub mod Copies

@@ -6,7 +6,7 @@ use Rattle.model.specs.Operations.{transfer_limit}
 use Rattle.tree_changes.specs.Changes.{HasChanged, StopsChange}
 use Rattle.tree_changes.specs.Puts.{Puts, PutsSome}
 use Rattle.tree_changes.specs.Room.{HasRoomFor}
-use Rattle.tree_puts.specs.Anew.{PrintsAnew}
+use Rattle.tree_puts.specs.Anew.{ChangesIn, PrintsAnew}
 
 -- Bytes were put on the disk of a file, which holds writes back where `sync` says so. Where one call does
 -- not write them, there was room for them before.
@@ -23,4 +23,4 @@ pub record HasPut {F : Type 0} (remaining : F → Option (List ℕ)) (path : Lis
     (sync last : Bool) (old new : Option (List ℕ)) : Type 0 where
   pub bytes : List ℕ
   pub put : PutsOver remaining path bytes sync last old new
-      ⊎ ((transfer_limit < length bytes) × PrintsAnew remaining (Puts path bytes) old new)
+      ⊎ ((transfer_limit < length bytes) × PrintsAnew remaining (ChangesIn (Puts path bytes)) old new)

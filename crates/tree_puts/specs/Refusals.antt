@@ -1,5 +1,6 @@
 -- Why a file of the system isn't put into an image, and how that is told.
 use Rattle.std.specs.Prelude.{⊤, ◌⊎◌, ℕ, ◌<◌, Bool, false, List, length, Option}
+use Rattle.blocks.specs.declared.memory.MemDisk.{MemDisk}
 use Rattle.cmd.specs.Lemmas.Disks.{file_disk}
 use Rattle.cmd.specs.Opened.{OpensDisk}
 use Rattle.cmd.specs.Over.{IsRefusedOn, on_file_telling}
@@ -13,7 +14,7 @@ use Rattle.tree_changes.specs.Puts.{IsUnputAt, Puts, PutsSome}
 use Rattle.tree_changes.specs.Room.{HasRoomFor, LacksRoom}
 use Rattle.tree_changes.specs.Tellings.{change_telling}
 use Rattle.tree_changes.specs.declared.faults.ChangeRefusal.{ChangeRefusal}
-use Rattle.tree_puts.specs.Anew.{IsUnchangedAnew}
+use Rattle.tree_puts.specs.Anew.{ChangesIn, IsUnchangedAnew, IsUnchangedIn}
 use Rattle.tree_puts.specs.declared.refused.PutRefusal.{PutRefusal}
 use Rattle.tree_puts.specs.declared.refused.PutRefusal.TheVariants as put
 
@@ -34,13 +35,18 @@ pub record HasNotPut {F : Type 0} (remaining : F → Option (List ℕ)) (path : 
   pub room : transfer_limit < length bytes
       → OpensDisk remaining file_disk false (HasRoomFor file_disk (length bytes))
 
+-- bytes were not put into an image in memory
+abbrev pub IsUnputIn : List ℕ → List ℕ → MemDisk → ChangeRefusal → Type 0
+IsUnputIn path bytes =
+    IsUnchangedIn (Puts path bytes) (λ t. IsUnputAt t.disk path bytes t.was t.now)
+
 -- more than one call writes were not put by way of a new file
 pub record HasNotPutAnew {F : Type 0} (remaining : F → Option (List ℕ)) (path : List ℕ)
     (none : Type 0) (r : OnFile ChangeRefusal) : Type 0 where
   pub bytes : List ℕ
   pub many : transfer_limit < length bytes
-  pub refused : IsUnchangedAnew remaining (Puts path bytes)
-      (λ t. IsUnputAt t.disk path bytes t.was t.now) none r
+  pub refused : IsUnchangedAnew remaining (ChangesIn (Puts path bytes)) (IsUnputIn path bytes)
+      (λ why. why) none r
 
 -- so many bytes have no room on the disk of a file, which was only read; or that can't be used as one
 abbrev pub HasNoRoom : {F : Type 0} → (F → Option (List ℕ)) → ℕ → OnFile ChangeRefusal → Type 0

@@ -3,11 +3,11 @@ ghost use Rattle.std.specs.Prelude.{◌≡◌, ◌<◌, false, length, true, IfE
 ghost use Rattle.cmd.specs.Lemmas.Disks.{file_disk};
 ghost use Rattle.cmd.specs.Opened.{OpensDisk};
 ghost use Rattle.model.specs.Operations.{transfer_limit};
-ghost use Rattle.tree_changes.specs.Puts.{IsUnputAt, Puts};
+ghost use Rattle.tree_changes.specs.Puts.{Puts};
 ghost use Rattle.tree_changes.specs.Room.{HasRoomFor};
-ghost use Rattle.tree_puts.specs.Anew.{HasChangedIfSo, IsUnchangedAnew};
+ghost use Rattle.tree_puts.specs.Anew.{ChangesIn, HasChangedIfSo, IsUnchangedAnew};
 ghost use Rattle.tree_puts.specs.Puts.{HasPut, PutsOver};
-ghost use Rattle.tree_puts.specs.Refusals.{HasNoRoom, IsUnput, IsUnputOver};
+ghost use Rattle.tree_puts.specs.Refusals.{HasNoRoom, IsUnput, IsUnputIn, IsUnputOver};
 
 use crate::anew::{ChangeAnew, change_anew};
 use crate::refused::PutRefusal;
@@ -65,7 +65,7 @@ impl<'a, R: Locks + AllocGlobal, H: Holder<R::File> + Drop> Command<R> for PutFi
         match bytes_from(rt, self.file) {
             Ok(bytes) => {
                 let put = Put {
-                    path: self.path,
+                    path: self.path.as_bytes(),
                     bytes,
                 };
                 put_bytes(rt, &place, put, &mut holder, out)
@@ -114,13 +114,12 @@ fn put_anew<R: Locks + AllocGlobal, H: Holder<R::File>, O: Write>(
     out: &mut O,
 ) -> Result<bool, OnFile<ChangeRefusal>>
     ensures put { IfOk result (HasChangedIfSo R.File.remaining
-        (Puts put.now.path.now put.now.bytes.items)
+        (ChangesIn (Puts put.now.path.now put.now.bytes.items))
         (O.contents out.old) (O.contents out.new) (out.new ≡ out.old)) }
     ensures long { IfOk result (λ anew. anew ≡ true → transfer_limit < length put.now.bytes.items) }
     ensures refused { IfErr result (IsUnchangedAnew R.File.remaining
-        (Puts put.now.path.now put.now.bytes.items)
-        (λ t. IsUnputAt t.disk put.now.path.now put.now.bytes.items t.was t.now)
-        (out.new ≡ out.old)) }
+        (ChangesIn (Puts put.now.path.now put.now.bytes.items))
+        (IsUnputIn put.now.path.now put.now.bytes.items) (λ why. why) (out.new ≡ out.old)) }
     ensures many { OnErr result (transfer_limit < length put.now.bytes.items) }
 {
     if put.bytes.len() <= TRANSFER_LIMIT as usize {

@@ -21,7 +21,7 @@ use Rattle.directories.specs.Walks.{IsUndoneIn}
 use Rattle.directories.specs.declared.refusal.Refusal.{Refusal}
 use Rattle.names_words.specs.CommandLine.{xvnames_words}
 use Rattle.names_words.specs.declared.words.Request.{Request}
-use Rattle.names_words.specs.declared.words.Request.TheVariants.{Ls, Stat, Tree, Cat, Get, Put, Rm, Mv, Ln, Mkdir, Rmdir, Check, Recount, Mkfs}
+use Rattle.names_words.specs.declared.words.Request.TheVariants.{Ls, Stat, Tree, Cat, Get, Put, Rm, Mv, Cp, Ln, Mkdir, Rmdir, Check, Recount, Mkfs}
 use Rattle.tree_changes.specs.Changes.{HasChanged, HasNotChanged, MakesDirectory, OnTree, Plainly, StopsChange, Turn}
 use Rattle.tree_changes.specs.Making.{EntersSome, IsUnmadeAll, MakesDirectories}
 use Rattle.tree_changes.specs.Recounts.{HasNotRecounted, TellsRecount}
@@ -30,6 +30,7 @@ use Rattle.tree_changes.specs.declared.faults.ChangeRefusal.{ChangeRefusal}
 use Rattle.tree_looks.specs.Gets.{HasGot, HasGotAll, IsUngot, IsUngotAll}
 use Rattle.tree_looks.specs.Looks.{HasLooked, HasNoPaths, HasNotCounted, HasNotLooked, IsUnlisted, IsUnshown, Lists, NotOfTree, OfTree, Shows, ShowsPaths, ShowsStat, TellsCounts}
 use Rattle.tree_looks.specs.declared.faults.LookRefusal.{LookRefusal}
+use Rattle.tree_puts.specs.Copies.{CopiesFile, IsUncopiedFile}
 use Rattle.tree_puts.specs.Puts.{HasPut}
 use Rattle.tree_puts.specs.Refusals.{IsUnput}
 use Rattle.xvnames.specs.Making.{IsMadeWith}
@@ -102,6 +103,8 @@ Answers remaining contents (Rm image path all sync no_sync) old new =
 Answers remaining contents (Mv image from to sync no_sync) old new = Changes remaining
     (λ form. Plainly (RenamesAt (names_of from.now) (names_of to.now)))
     (λ form. AnyOf (RenamesAt (names_of from.now) (names_of to.now))) sync no_sync old new
+Answers remaining contents (Cp image from to sync no_sync) old new =
+    CopiesFile remaining from.now to.now sync (not no_sync) old new
 Answers remaining contents (Ln image path into sync no_sync) old new = Changes remaining
     (λ form. Plainly (LinksAt (names_of path.now) (names_of into.now)))
     (λ form. AnyOf (LinksAt (names_of path.now) (names_of into.now))) sync no_sync old new
@@ -198,6 +201,8 @@ OnRefused remaining (Mv image from to sync no_sync) old new none = ChangesNot re
     (λ form. AnyOf (RenamesAt (names_of from.now) (names_of to.now)))
     (λ t. OnTree (IsUndoneAtBoth t.disk from.now to.now
     (IsUndoneAt (names_of from.now) (names_of to.now)) t.was t.now)) sync no_sync none
+OnRefused remaining (Cp image from to sync no_sync) old new none =
+    Refuses (IsUncopiedFile remaining from.now to.now sync (not no_sync) none)
 OnRefused remaining (Ln image path into sync no_sync) old new none = ChangesNot remaining
     (λ form. Plainly (LinksAt (names_of path.now) (names_of into.now)))
     (λ form. AnyOf (LinksAt (names_of path.now) (names_of into.now)))

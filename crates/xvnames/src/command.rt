@@ -31,7 +31,7 @@ use tree_changes::{
     Rename,
 };
 use tree_looks::{Cat, Counts, Get, GetAll, InTree, Ls, OverFiles, Paths, Stat};
-use tree_puts::PutFile;
+use tree_puts::{CopyFile, PutFile};
 
 /// The program's name, with which the line of each refusal begins.
 pub const NAME: &str = "xvnames";
@@ -225,6 +225,24 @@ fn dispatch<R: Locks + AllocGlobal, O: Write, E: Write>(
                 last: !*no_sync,
             };
             change(rt, image, locking, *sync, over, out, err)
+        }
+        Request::Cp {
+            image,
+            from,
+            to,
+            sync,
+            no_sync,
+        } => {
+            let copy = CopyFile {
+                image,
+                from,
+                to,
+                sync: *sync,
+                last: !*no_sync,
+                locking,
+                holder: Keeper::new(rt, locking),
+            };
+            perform(NAME, rt, copy, out, err)
         }
         Request::Ln {
             image,

@@ -49,6 +49,12 @@ pub fn given<'a>(request: &Request<'a>) -> Given<'a> {
             to,
             ..
         } => between(image, from, to),
+        Request::Cp {
+            image,
+            from,
+            to,
+            ..
+        } => between(image, from, to),
         Request::Ln {
             image,
             path,
@@ -71,7 +77,7 @@ pub fn given<'a>(request: &Request<'a>) -> Given<'a> {
     }
 }
 
-// What a command was given that gives a file of the image another path.
+// What a command was given that gives a file of the image, or a copy of it, another path.
 fn between<'a>(image: &'a str, path: &'a str, into: &'a str) -> Given<'a> {
     Given {
         into: Some(into),

@@ -7,5 +7,5 @@ returns-in-Ok-copied_from-clause-refused g c = inl (record {
   is = c.in-Ok.ensures;
   copy = c.in-Ok-copied_from.copy;
   alike = c.in-Ok-copied_from.ensures;
-  why = c.in-Err-change_copy.ensures.refused;
+  why = c.in-Err-make_in.ensures.undone;
 })

@@ -70,6 +70,14 @@ pub returns-in-Mv-clause-refused : goal.returns-in-Mv-clause-refused
 returns-in-Mv-clause-refused g c =
     λ refused. subst (λ request. OnRefused g.R.File.Read.remaining request (g.O.Write.contents c.args.out.now) (g.O.Write.contents c.change.new.out) (c.change.new.out ≡ c.args.out.now)) (sym c.in-Mv.is) (c.change.ensures.refused refused)
 
+pub returns-in-Cp-clause-done : goal.returns-in-Cp-clause-done
+returns-in-Cp-clause-done g c =
+    λ done. subst (λ request. Answers g.R.File.Read.remaining g.R.File.Write.contents request (g.O.Write.contents c.args.out.now) (g.O.Write.contents c.perform-in-Cp.new.out)) (sym c.in-Cp.is) (c.perform-in-Cp.ensures.done done)
+
+pub returns-in-Cp-clause-refused : goal.returns-in-Cp-clause-refused
+returns-in-Cp-clause-refused g c =
+    λ refused. subst (λ request. OnRefused g.R.File.Read.remaining request (g.O.Write.contents c.args.out.now) (g.O.Write.contents c.perform-in-Cp.new.out) (c.perform-in-Cp.new.out ≡ c.args.out.now)) (sym c.in-Cp.is) (c.perform-in-Cp.ensures.refused refused)
+
 pub returns-in-Ln-clause-done : goal.returns-in-Ln-clause-done
 returns-in-Ln-clause-done g c =
     λ done. subst (λ request. Answers g.R.File.Read.remaining g.R.File.Write.contents request (g.O.Write.contents c.args.out.now) (g.O.Write.contents c.change-in-Ln.new.out)) (sym c.in-Ln.is) (c.change-in-Ln.ensures.done done)
