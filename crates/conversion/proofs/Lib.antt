@@ -12,3 +12,4 @@ mod PlannedLemmas
 mod FillLemmas
 mod OlderSoundLemmas
 mod OwnLemmas
+mod UnderLemmas

@@ -1,6 +1,6 @@
 -- An image with a shorter log, and why there is none.
-use Rattle.std.specs.Prelude.{◌≡◌, ℕ, ◌<◌, ◌≤◌, IsTrue, length, Option, Some, None}
-use Rattle.blocks.specs.Disk.{Image, IsImage, Rose, block_at}
+use Rattle.std.specs.Prelude.{◌≡◌, ℕ, ◌<◌, ◌≤◌, IsTrue, length, Option, None}
+use Rattle.blocks.specs.Disk.{Image, IsImage, block_at}
 use Rattle.model.specs.Crash.{labels_of}
 use Rattle.model.specs.Files.{files_of}
 use Rattle.model.specs.Format.{log_blocks}
@@ -26,10 +26,16 @@ pub record IsShortened (x : Image) (to size : ℕ) (y : Image) : Type 0 where
   pub labels : (i : ℕ) → 1 ≤ i → i < inode_count_of x → older_labels y i ≡ labels_of x i
   pub boot : block_at y 0 ≡ block_at x 0
 
--- why image x got no shorter log: it has a fault or could not be checked, or it was not moved
+-- image x has that fault, or could not be checked
+abbrev pub IsUnchecked : Image → ℕ → ℕ → ConversionFault → Type 0
+IsUnchecked x was is (Unsound fault) = IsCause (verdict x) was is fault
+IsUnchecked x was is fault = ⊥
+
+-- why image x got no shorter log: it has a fault or could not be checked, or else it was not moved
 abbrev pub IsNotShortened : Image → ℕ → Option ℕ → ℕ → ℕ → ConversionFault → Type 0
 IsNotShortened x to asked was is (Unsound fault) = IsCause (verdict x) was is fault
-IsNotShortened x to asked was is fault = IsUnmoved x to asked was is fault
+IsNotShortened x to asked was is fault =
+    (verdict x ≡ None) × IsUnmoved x to asked was is fault
 
 -- an image that is sound, whatever the length of its log, is sound with another log
 abbrev pub SoundnessIsKept : Type 0
