@@ -64,8 +64,8 @@ IsUnmoved x to asked was is fault = (conversion_fault x to asked ≡ Some fault)
 abbrev pub IsRefusal : Image → Option ℕ → ℕ → ℕ → ConversionFault → Type 0
 IsRefusal x asked was is (Unsound fault) =
     (conversion_fault x log_blocks asked ≡ None)
-    × (verdict (moved_image x log_blocks (chosen_size x log_blocks asked)) ≡ Some fault) × (is ≡ was)
-    × (IsOlderSound x → ⊥)
+    × (verdict (moved_image x log_blocks (chosen_size x log_blocks asked)) ≡ Some fault)
+    × (is ≡ was) × (IsOlderSound x → ⊥)
 IsRefusal x asked was is fault = IsUnmoved x log_blocks asked was is fault
 
 -- a read of image x failed, or memory was refused, which the disk doesn't count as a fault

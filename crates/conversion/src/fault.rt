@@ -24,8 +24,8 @@ pub enum ConversionFault {
     /// there are would be more than 8191.
     #[error("the size has no room for the image, or is over 8191")]
     SizeRange,
-    /// The image isn't sound. `convert` tells what the new one would have: a block's number is that in it,
-    /// and in the old one it is less by as many as the log was shorter. `shorten` tells the fault of the old
+    /// The image isn't sound. `convert` tells the fault of the new one: a block's number is that in it,
+    /// and in the old one it is less by as many as the log was shorter. `shorten` tells that of the old
     /// one, or of its check.
     #[error("the image is not sound: {0}")]
     Unsound(CheckFault),
