@@ -13,3 +13,4 @@ mod FillLemmas
 mod OlderSoundLemmas
 mod OwnLemmas
 mod UnderLemmas
+mod BackLemmas

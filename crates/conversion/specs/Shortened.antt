@@ -5,9 +5,10 @@ use Rattle.model.specs.Crash.{labels_of}
 use Rattle.model.specs.Files.{files_of}
 use Rattle.model.specs.Format.{log_blocks}
 use Rattle.model.specs.Layout.{inode_count_of, super_of}
+use Rattle.model.specs.Log.{logged_count}
 use Rattle.model.specs.Verdict.{verdict}
 use Rattle.offline.specs.Cause.{IsCause}
-use Rattle.conversion.specs.Converted.{IsUnmoved, chosen_size, conversion_fault}
+use Rattle.conversion.specs.Converted.{IsUnmoved, chosen_size, conversion_fault, least_size}
 use Rattle.conversion.specs.Moving.{moved_image}
 use Rattle.conversion.specs.Older.{is_log_length, older_files, older_labels, super_with}
 use Rattle.conversion.specs.OlderSound.{IsOlderSound}
@@ -48,3 +49,16 @@ abbrev pub SoundOnesConvert : Type 0
 SoundOnesConvert = (x : Image) (asked : Option ℕ) → IsImage x → IsOlderSound x →
     conversion_fault x log_blocks asked ≡ None →
     verdict (moved_image x log_blocks (chosen_size x log_blocks asked)) ≡ None
+
+-- what was made of image x by shortening its log, image y, is converted to a sound one of the size of x, with
+-- its files
+pub record ConvertsBack (x y : Image) : Type 0 where
+  pub taken : conversion_fault y log_blocks None ≡ None
+  pub size : chosen_size y log_blocks None ≡ length x
+  pub judged : verdict (moved_image y log_blocks (length x)) ≡ None
+  pub files : files_of (moved_image y log_blocks (length x)) ≡ files_of x
+
+-- each that was shortened is
+abbrev pub ShortenedOnesConvert : Type 0
+ShortenedOnesConvert = (x y : Image) (to : ℕ) → IsTrue (is_log_length to) → IsImage y →
+    verdict x ≡ None → logged_count x ≡ 0 → IsShortened x to (least_size x to) y → ConvertsBack x y
