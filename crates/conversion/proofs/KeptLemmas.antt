@@ -1,6 +1,6 @@
 -- A moved image has the files of the other, where the blocks that its numbers name are data blocks, and
 -- no block of data is a block of addresses.
-use Rattle.std.proofs.Common.{◌≡◌, ◌≢◌, ℕ, zero, suc, ◌+◌, ◌-◌, ◌/◌, ◌^◌, ◌<◌, ◌≤◌, min, Bool, true, false, cond, not, ◌&&◌, ◌||◌, eqb, ltb, List, map, get_or, None, refl, sym, ap, ◌∙◌, subst, ⊎_elim, arith}
+use Rattle.std.proofs.Common.{◌≡◌, ◌≢◌, ℕ, zero, suc, ◌+◌, ◌-◌, ◌^◌, ◌<◌, ◌≤◌, min, Bool, true, false, cond, not, ◌||◌, eqb, map, get_or, None, refl, sym, ap, ◌∙◌, ⊎_elim, arith}
 use Rattle.std.specs.List.{list_any, range_with_len}
 use Rattle.blocks.specs.Disk.{block_at, Image, IsImage}
 use Rattle.model.specs.Common.{cases_eq, data_at, eq-eqb, eqb-false, eqb-true, form_of, inode_count_of, ne_eqb, not-true, super_of, words_of}
@@ -10,7 +10,7 @@ use Rattle.model.specs.declared.types.image.Super.{Super}
 use Rattle.model.specs.Files.{file_of}
 use Rattle.model.specs.Lemmas.Log.{both_of}
 use Rattle.model.specs.Places.{address_in}
-use Rattle.conversion.specs.Common.{bitmap_behind, is_node, is_node_in, meta_with, moved, moved_data, moved_inode, older_file, older_files, older_labels, source_in}
+use Rattle.conversion.specs.Common.{is_node, is_node_in, meta_with, moved, moved_data, moved_inode, older_file, older_files, source_in}
 use Rattle.conversion.specs.Moving.{moved_image, moved_words}
 use Rattle.conversion.specs.Older.{older_inode}
 use Rattle.conversion.proofs.AddressLemmas.{address_moved, file_moved, IsMovedNode}
@@ -131,10 +131,11 @@ module _ (x : Image) (to size : ℕ) (is : IsImage x) (fit : IsFit x to size) wh
     -- the block of addresses of a used number was moved
     pub node_moved : (i : ℕ) → IsUsed x i → node_of x i ≢ 0 → IsMovedNode x y from to (node_of x i)
     node_moved i u some =
-        let came = came_over (node_of x i) (node_range i u some) in
-        (came.there,
-        ap words_of (came.block ∙ ap (λ (v : Bool). cond v (moved_words from to (block_at x (node_of x i))) (block_at x (node_of x i))) (node_marked i u))
-        ∙ words_of-moved from to (block_at x (node_of x i)))
+        let came = came_over (node_of x i) (node_range i u some) in (
+          came.there,
+          ap words_of (came.block ∙ ap (λ (v : Bool). cond v (moved_words from to (block_at x (node_of x i))) (block_at x (node_of x i))) (node_marked i u))
+              ∙ words_of-moved from to (block_at x (node_of x i)),
+        )
 
     -- block k of its file was moved
     pub address_over : (i k : ℕ) → IsUsed x i → address_in y (moved_inode from to (old i)) k ≡ moved from to (address_in x (old i) k)

@@ -12,3 +12,5 @@ mod PlannedLemmas
 mod FillLemmas
 mod OlderSoundLemmas
 mod OwnLemmas
+mod UnderLemmas
+mod BackLemmas

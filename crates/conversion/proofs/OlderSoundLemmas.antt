@@ -1,19 +1,18 @@
 -- A sound image stays sound with a log of another length.
-use Rattle.std.proofs.Common.{◌≡◌, ◌≢◌, ℕ, zero, suc, ◌+◌, ◌-◌, ◌*◌, ◌/◌, ◌^◌, ◌<◌, ◌≤◌, min, Bool, true, false, cond, not, ◌&&◌, ◌||◌, eqb, leb, ltb, List, [], ◌∷◌, ◌++◌, length, map, get_or, refl, sym, ap, ap₂, ◌∙◌, subst, ⊎_elim, append-nil, le-leb, arith}
-use Rattle.std.specs.Prelude.{All, IsTrue}
+use Rattle.std.proofs.Common.{◌≡◌, ◌≢◌, ℕ, zero, suc, ◌+◌, ◌-◌, ◌<◌, ◌≤◌, Bool, true, false, cond, ◌&&◌, ◌||◌, eqb, ltb, List, [], ◌∷◌, ◌++◌, length, map, get_or, refl, sym, ap, ap₂, ◌∙◌, subst, ⊎_elim, append-nil, le-leb, arith}
+use Rattle.std.specs.Prelude.{All}
 use Rattle.std.specs.List.{AllByRecursion, flat_map, range_with_len}
 use Rattle.std.proofs.lemmas.List.{map-append}
 use Rattle.std.proofs.lemmas.List.Elements.{All-from_recursion, recursion_from_All}
 use Rattle.blocks.specs.Disk.{block_at, Image, IsImage}
-use Rattle.model.specs.Common.{addresses_in, cases_eq, cases_lt, depths, eq-eqb, form_of, inode_count_of, is_inode_count, is_marked, le-ltb, lt-ltb, ne_eqb, numbers_of, pointer_of, pointers_along, pointers_behind, pointers_under, reach, super_of, words_of}
+use Rattle.model.specs.Common.{addresses_in, cases_eq, cases_lt, depths, eq-eqb, form_of, inode_count_of, is_inode_count, is_marked, le-ltb, lt-ltb, ne_eqb, pointer_of, pointers_along, pointers_behind, pointers_under, reach, super_of, words_of}
 use Rattle.model.specs.declared.types.image.Dinode.{Dinode}
 use Rattle.model.specs.declared.types.image.Form.{Form}
 use Rattle.model.specs.declared.types.image.Form.TheVariants.{One}
 use Rattle.model.specs.declared.types.image.Pointer.{Pointer}
 use Rattle.model.specs.declared.types.image.Super.{Super}
-use Rattle.model.specs.Lemmas.Counts.{All-range, All-range_at, all_weaker, AllByRecursion-append, AllByRecursion-flat, AllByRecursion-parts, count_of-All, count_of-append}
+use Rattle.model.specs.Lemmas.Counts.{All-range, All-range_at, all_weaker, AllByRecursion-flat, count_of-All}
 use Rattle.model.specs.Lemmas.Frames.{pointers_free, pointers_used}
-use Rattle.model.specs.Lemmas.Names.{addresses_in-append}
 use Rattle.model.specs.Lemmas.Soundness.{no_address, one_address}
 use Rattle.model.specs.Places.{address_in, pointers_in}
 use Rattle.model.specs.Soundness.{count_of, IsFilled, IsLawfulInode}
@@ -233,9 +232,10 @@ module _ (x : Image) (to size : ℕ) (is : IsImage x) (fit : IsFit x to size) (s
       (all_mapped mv (IsWithin x) (λ b. (older_first_data y ≤ b) × (b < length y)) (older_places x)
       (λ a within.
       let place = went a within in
-      let long = length-moved_image x to size fit in
-      (omega (arith, first_y, place, within.high, fit.small, fit.most, fit.from_most, fit.to_most),
-      omega (arith, long, place, within.low, fit.least, fit.from_most)))
+      let long = length-moved_image x to size fit in (
+        omega (arith, first_y, place, within.high, fit.small, fit.most, fit.from_most, fit.to_most),
+        omega (arith, long, place, within.low, fit.least, fit.from_most),
+      ))
       all_within))
 
   once_moved : (b : ℕ) → count_of b (older_places y) ≤ 1
@@ -326,8 +326,17 @@ module _ (x : Image) (to size : ℕ) (is : IsImage x) (fit : IsFit x to size) (s
       let fits : is_size_with to size n ≡ true = rw (lt-ltb (meta_with to size n) size (room-moved x to size fit), le-leb size 8191 fit.most) refl in
       ap (λ (t : Super). is_older_super t (length y)) fields
       ∙ ap (is_older_super p) (length-moved_image x to size fit)
-      ∙ rw (eq-eqb size size refl, counted, log, fits, eq-eqb p.nblocks p.nblocks refl, eq-eqb n n refl, eq-eqb to to refl, eq-eqb p.inodestart p.inodestart refl,
-      eq-eqb p.bmapstart p.bmapstart refl) refl
+      ∙ rw (
+        eq-eqb size size refl,
+        counted,
+        log,
+        fits,
+        eq-eqb p.nblocks p.nblocks refl,
+        eq-eqb n n refl,
+        eq-eqb to to refl,
+        eq-eqb p.inodestart p.inodestart refl,
+        eq-eqb p.bmapstart p.bmapstart refl,
+      ) refl
 
   pub sound_moved : is_log_length to ≡ true → IsOlderSound y
   sound_moved log = record {

@@ -1,6 +1,5 @@
 -- A moved image that is sound and has our log has the files of the old one.
-use Rattle.std.proofs.Common.{◌≡◌, ◌≢◌, ℕ, ◌+◌, ◌-◌, ◌/◌, ◌^◌, ◌<◌, ◌≤◌, min, Bool, true, cond, ◌&&◌, ◌||◌, eqb, ltb, get_or, map, None, refl, sym, ap, ◌∙◌, subst, arith}
-use Rattle.std.specs.List.{range_with_len}
+use Rattle.std.proofs.Common.{◌≡◌, ◌≢◌, ℕ, ◌+◌, ◌-◌, ◌/◌, ◌^◌, ◌<◌, ◌≤◌, min, true, cond, ◌&&◌, eqb, ltb, get_or, None, refl, sym, ap, ◌∙◌, subst, arith}
 use Rattle.blocks.specs.Disk.{block_at, Image, IsImage}
 use Rattle.model.specs.Common.{file_at, files_of, first_data_block, form_of, inode_bytes_in, inode_count_of, le-ltb, logged_count, ltb-true, meta_count, ne_eqb, planned_super, super_of}
 use Rattle.model.specs.declared.types.image.Dinode.{Dinode}

@@ -1,9 +1,8 @@
 -- An image with our log is sound in the one sense exactly where it is in the other.
-use Rattle.std.proofs.Common.{◌≡◌, ◌≢◌, ℕ, ◌+◌, ◌-◌, ◌/◌, ◌<◌, ◌≤◌, Bool, true, ◌&&◌, ◌||◌, eqb, leb, ltb, List, length, None, refl, sym, ap, ◌∙◌, subst, arith}
-use Rattle.std.specs.Prelude.{All}
-use Rattle.std.specs.List.{range_with_len}
+use Rattle.std.proofs.Common.{◌≡◌, ℕ, ◌-◌, ◌≤◌, true, ◌&&◌, ◌||◌, eqb, leb, ltb, List, length, None, refl, sym, ap, ◌∙◌, subst, arith}
+use Rattle.std.specs.Prelude.{All, Option}
 use Rattle.blocks.specs.Disk.{Image, IsImage}
-use Rattle.model.specs.Common.{addresses_in, are_alike, are_distinct, are_in_place, eq-eqb, eqb-true, first_data_block, form_of, homes_of, inode_count_of, is_inode_count, is_lawful_log, is_lawful_super, is_marked, is_size, logged_count, magic_at, magic_of, meta_count, numbers_of, places_of, planned_super, pointers_of, super_of}
+use Rattle.model.specs.Common.{addresses_in, are_alike, are_distinct, are_in_place, eqb-true, first_data_block, form_of, inode_count_of, is_inode_count, is_lawful_log, is_lawful_super, is_size, logged_count, magic_at, magic_of, numbers_of, places_of, planned_super, pointers_of, super_of}
 use Rattle.model.specs.declared.types.image.Form.TheVariants.{One}
 use Rattle.model.specs.declared.types.image.Super.{Super}
 use Rattle.model.specs.Layout.{inode_of}
@@ -15,6 +14,9 @@ use Rattle.model.specs.Lemmas.Soundness.{sound_verdict}
 use Rattle.model.specs.Places.{pointers_in}
 use Rattle.model.specs.Soundness.{count_of, IsFilled, IsLawfulInode, IsSound, place_count}
 use Rattle.model.specs.Verdict.{verdict}
+use Rattle.conversion.specs.Converted.{conversion_fault, IsNewFault, IsRefusal}
+use Rattle.conversion.specs.declared.fault.ConversionFault.{ConversionFault}
+use Rattle.conversion.specs.declared.fault.ConversionFault.TheVariants.{BadGeometry, BadMagic, Disk, Logged, NoMemory, SizeRange, Unsound}
 use Rattle.conversion.specs.Common.{chosen_size, is_log_length, is_older_super, is_size_with, meta_with, super_with}
 use Rattle.conversion.specs.Moving.{moved_image}
 use Rattle.conversion.specs.Older.{older_inode}
@@ -48,7 +50,7 @@ our_log s n h =
     let three = both_of (eqb s.size p.size && eqb s.nblocks p.nblocks && eqb s.ninodes p.ninodes) (eqb s.nlog p.nlog) four.0 in
     eqb-true s.nlog p.nlog three.1
 
-older_of_lawful : (s : Super) (n : ℕ) → is_lawful_super s n ≡ true → is_older_super s n ≡ true
+pub older_of_lawful : (s : Super) (n : ℕ) → is_lawful_super s n ≡ true → is_older_super s n ≡ true
 older_of_lawful s n h =
     let own = our_log s n h in
     let all = both_of (eqb s.size n && is_inode_count s.ninodes && is_size s.size s.ninodes) (are_alike s (planned_super s.size s.ninodes)) h in
@@ -133,3 +135,15 @@ sound_ones_convert x asked is sound none =
     let own : (super_of y).nlog ≡ 31 = ap (λ (t : Super). t.nlog) (fields-moved x 31 size (fit_of x 31 asked refl none)) in
     let there = soundness_is_kept x 31 asked refl is sound none in
     judged_where_sound y (sound_of_older y own there.fields there)
+
+-- why a moved image is of no use
+pub of_no_use : (x : Image) (asked : Option ℕ) (was is : ℕ) (fault : ConversionFault) → IsImage x → conversion_fault x 31 asked ≡ None → is ≡ was →
+    IsNewFault (moved_image x 31 (chosen_size x 31 asked)) fault → IsRefusal x asked was is fault
+of_no_use x asked was is (Unsound fault) image none same has =
+    (none, has, same, λ sound. let both = sym (sound_ones_convert x asked image sound none) ∙ has in cc both)
+of_no_use x asked was is NoMemory image none same has = same
+of_no_use x asked was is BadMagic image none same has = absurd has
+of_no_use x asked was is BadGeometry image none same has = absurd has
+of_no_use x asked was is (Logged n) image none same has = absurd has
+of_no_use x asked was is SizeRange image none same has = absurd has
+of_no_use x asked was is (Disk b) image none same has = absurd has

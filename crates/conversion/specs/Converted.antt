@@ -11,6 +11,7 @@ use Rattle.model.specs.Verdict.{verdict}
 use Rattle.model.specs.declared.types.image.Form.TheVariants.{One}
 use Rattle.conversion.specs.Moving.{goal_in, moved_image}
 use Rattle.conversion.specs.Older.{is_older_super, older_files, older_labels}
+use Rattle.conversion.specs.OlderSound.{IsOlderSound}
 use Rattle.conversion.specs.declared.fault.ConversionFault.{ConversionFault}
 use Rattle.conversion.specs.declared.fault.ConversionFault.TheVariants.{BadGeometry, BadMagic, Disk, Logged, NoMemory, SizeRange, Unsound}
 
@@ -58,11 +59,13 @@ IsUnmoved x to asked was is (Disk b) = (b < length x) × Rose was is
 IsUnmoved x to asked was is NoMemory = is ≡ was
 IsUnmoved x to asked was is fault = (conversion_fault x to asked ≡ Some fault) × (is ≡ was)
 
--- why image x was not converted: what it would be has that fault, or it was not moved
+-- why image x was not converted: what it would be has that fault, which none has that is made of a sound
+-- image; or it was not moved
 abbrev pub IsRefusal : Image → Option ℕ → ℕ → ℕ → ConversionFault → Type 0
 IsRefusal x asked was is (Unsound fault) =
     (conversion_fault x log_blocks asked ≡ None)
-    × (verdict (moved_image x log_blocks (chosen_size x log_blocks asked)) ≡ Some fault) × (is ≡ was)
+    × (verdict (moved_image x log_blocks (chosen_size x log_blocks asked)) ≡ Some fault)
+    × (is ≡ was) × (IsOlderSound x → ⊥)
 IsRefusal x asked was is fault = IsUnmoved x log_blocks asked was is fault
 
 -- a read of image x failed, or memory was refused, which the disk doesn't count as a fault

@@ -2,7 +2,7 @@
 use Rattle.std.specs.Prelude.{◌≡◌, ℕ, ◌<◌, ◌≤◌, ◌||◌, nat_lt, All, IsTrue, List, length}
 use Rattle.std.specs.List.{flat_map}
 use Rattle.blocks.specs.Disk.{Image}
-use Rattle.model.specs.Layout.{inode_count_of, is_marked, magic_at, magic_of, super_of}
+use Rattle.model.specs.Layout.{is_marked, magic_at, magic_of, super_of}
 use Rattle.model.specs.Log.{logged_count}
 use Rattle.model.specs.Places.{addresses_in, numbers_of, pointers_in}
 use Rattle.model.specs.Soundness.{IsFilled, IsLawfulInode, count_of}

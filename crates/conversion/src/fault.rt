@@ -24,9 +24,10 @@ pub enum ConversionFault {
     /// there are would be more than 8191.
     #[error("the size has no room for the image, or is over 8191")]
     SizeRange,
-    /// The new image would have this fault. A block's number is that in the new image: in the old one it
-    /// is less by as many as the log was shorter.
-    #[error("the new image would not be sound: {0}")]
+    /// The image isn't sound. `convert` tells the fault of the new one: a block's number is that in it,
+    /// and in the old one it is less by as many as the log was shorter. `shorten` tells that of the old
+    /// one, or of its check.
+    #[error("the image is not sound: {0}")]
     Unsound(CheckFault),
     /// This block of the old image can't be read.
     #[error("block {0} of the old image can't be read")]

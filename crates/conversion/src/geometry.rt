@@ -9,8 +9,8 @@ use model::types::Super;
 // The fewest blocks of a log, its header included: one operation logs up to ten blocks.
 const FEWEST_LOG_BLOCKS: u32 = 11;
 
-// Whether a log may have that many blocks.
-fn is_log_length(nlog: u32) -> bool
+/// Whether a log may have that many blocks, its header included: 11 to 31.
+pub fn is_log_length(nlog: u32) -> bool
     ensures { result ≡ is_log_length nlog }
 {
     (FEWEST_LOG_BLOCKS..=LOG_BLOCKS).contains(&nlog)

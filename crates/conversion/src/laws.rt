@@ -1,6 +1,6 @@
 // Laws of converted images, each the contract of a function that does nothing.
 ghost use Rattle.conversion.specs.Converted.{FilesComeOver};
-ghost use Rattle.conversion.specs.Shortened.{SoundOnesConvert, SoundnessIsKept};
+ghost use Rattle.conversion.specs.Shortened.{ShortenedOnesConvert, SoundOnesConvert, SoundnessIsKept};
 
 /// Where a moved image is sound, it has the files of the old one.
 pub fn files_come_over()
@@ -15,4 +15,9 @@ pub fn soundness_is_kept()
 /// No image that is sound with its own log is refused as unsound.
 pub fn sound_ones_convert()
     ensures { SoundOnesConvert }
+{}
+
+/// An image whose log was shortened converts to one of the old size with the same files.
+pub fn shortened_ones_convert()
+    ensures { ShortenedOnesConvert }
 {}

@@ -1,5 +1,5 @@
-use Rattle.std.proofs.Common.{◌≡◌, ℕ, ◌∙◌, ap}
-use Rattle.conversion.specs.Common.{chosen_size, Image}
+use Rattle.std.proofs.Common.{ℕ, ◌∙◌, ap}
+use Rattle.conversion.specs.Common.{Image}
 use Rattle.conversion.specs.Moving.{moved_image}
 use Rattle.conversion.specs.declared.plan.Plan.{Plan}
 use Rattle.conversion.proofs.filling.move_image.Goals as goal
