@@ -6,3 +6,4 @@ mod Pieces
 mod Recounted
 mod Removals
 mod Rooms
+mod Copied

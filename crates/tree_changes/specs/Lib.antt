@@ -6,3 +6,4 @@ pub mod Recounts
 pub mod Making
 pub mod Removing
 pub mod Copying
+pub mod CopyLaws

@@ -5,6 +5,7 @@
 mod changes;
 mod copying;
 mod faults;
+pub mod laws;
 mod making;
 mod over_tree;
 mod puts;
