@@ -67,9 +67,12 @@ pub struct Outline {
     pub lines: &'static [Line],
 }
 
+/// The version of the programs. include/xvfs.h and CHANGELOG.md have it, too.
+pub const VERSION: &str = "0.2.0";
+
 pub(crate) const XVFS: Outline = Outline {
     name: "xvfs",
-    version: "0.1.0",
+    version: VERSION,
     about: "Makes, checks, lists, shows, fills, copies and recovers images of the xv6 file system, and runs scripts of operations over them; without words, does the command lines of standard input",
     lines: LINES,
 };

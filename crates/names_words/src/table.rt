@@ -1,12 +1,12 @@
 // The commands of `xvnames`, and their words, as a table.
 use cli::table::{
     EXPLAIN, IMAGE, IMAGE_KEPT, IMAGE_MADE, Kind, Line, NINODES, NO_LOCK, NO_SYNC, Outline, SIZE,
-    SYNC, WAIT, Word,
+    SYNC, VERSION, WAIT, Word,
 };
 
 pub const XVNAMES: Outline = Outline {
     name: "xvnames",
-    version: "0.1.0",
+    version: VERSION,
     about: "Lists, reads, puts, moves, links and removes the files of images of the xv6 file system by their paths, and makes images with files; without words, does the command lines of standard input",
     lines: LINES,
 };
