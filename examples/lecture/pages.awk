@@ -1,7 +1,7 @@
 # Writes the pages of the lecture: the text of the file output as HTML, a page for each heading of the first
 # rank. A page needs no script, and asks for nothing but the pictures beside it.
 #
-#     awk -v folder=FOLDER -v version="xvfs 0.1.0" -f pages.awk TEXT
+#     awk -v folder=FOLDER -v version="xvfs 0.2.0" -f pages.awk TEXT
 
 function escaped(text) {
     gsub(/&/, "\\&amp;", text)
