@@ -9,7 +9,7 @@ use Rattle.blocks.specs.Disk.{Image}
 use Rattle.mounting.specs.declared.errno.Errno.{Errno}
 use Rattle.mounting.specs.Causes.{Hinders}
 use Rattle.mounting.specs.Asides.{aside_of, digit}
-use Rattle.mounting.specs.Changes.{Does, MayMake, RenamedFile}
+use Rattle.mounting.specs.Changes.{Begins, Does, MayMake, RenamedFile}
 
 -- of an equal request
 pub asked_as : (form : Form) (node : ℕ) (r s : Request) (x z : Files) → r ≡ s → MayMake form node (asked s) x z → MayMake form node (asked r) x z
@@ -17,6 +17,9 @@ asked_as form node r s x z same makes = subst (λ (q : Request). MayMake form no
 
 pub done_as : (form : Form) (full : Type 0) (node : ℕ) (body : List ℕ) (r s : Request) (x z : Files) → r ≡ s → Does form full node (asked s) body x z → Does form full node (asked r) body x z
 done_as form full node body r s x z same does = subst (λ (q : Request). Does form full node (asked q) body x z) (sym same) does
+
+pub begins_as : (node : ℕ) (r s : Request) (x z : Files) → r ≡ s → Begins node (asked s) x z → Begins node (asked r) x z
+begins_as node r s x z same begins = subst (λ (q : Request). Begins node (asked q) x z) (sym same) begins
 
 pub hinders_as : (form : Form) (node : ℕ) (r s : Request) (x : Image) (e : Errno) → r ≡ s → Hinders node (asked s) form x e → Hinders node (asked r) form x e
 hinders_as form node r s x e same why = subst (λ (q : Request). Hinders node (asked q) form x e) (sym same) why

@@ -1,8 +1,8 @@
 -- Where a file ends behind a write.
-use Rattle.std.proofs.Common.{◌≡◌, ℕ, ◌+◌, ◌<◌, ◌≤◌, Bool, true, false, Option, List, length, take, drop, ◌++◌, replicate, Some, None, Ok, ⊎_elim, refl, sym, ap, subst, ◌∙◌, arith}
+use Rattle.std.proofs.Common.{◌≡◌, ℕ, ◌+◌, ◌<◌, ◌≤◌, Bool, true, false, Option, List, length, take, drop, ◌++◌, Some, None, Ok, ⊎_elim, refl, sym, ap, subst, ◌∙◌, arith}
 use Rattle.std.specs.Prelude.{min, slice_set, Result}
-use Rattle.std.proofs.lemmas.Bool.{and_parts, cases_lt, leb-true}
-use Rattle.std.proofs.lemmas.List.{length-append, length-drop, length-replicate, length-take}
+use Rattle.std.proofs.lemmas.Bool.{cases_lt}
+use Rattle.std.proofs.lemmas.List.{length-append, length-drop, length-take}
 use Rattle.blocks.specs.Block.{overwritten}
 use Rattle.directories.specs.Lemmas.FileMaps.{set_there}
 use Rattle.directories.specs.Trees.{bytes_of}

@@ -3,6 +3,7 @@ use Rattle.std.proofs.Common.{◌≡◌, ◌≢◌, ℕ, List, Ok, refl, sym, ap
 use Rattle.directories.specs.Trees.{kind_of}
 use Rattle.model.specs.Files.{Files}
 use Rattle.mounting.specs.Causes.{LeadsTo, LeadsToDirectory, LeadsToOther}
+use Rattle.mounting.specs.Changes.{DropsName, Unlinked}
 use Rattle.names.specs.declared.asking.Found.{Found}
 use Rattle.directories.specs.Walks.{stepped}
 use Rattle.names.specs.Looks.{IsFound}
@@ -30,3 +31,14 @@ pub leads_there : (files new : Files) (from : ℕ) (name : List ℕ) (found : Fo
 leads_there files new from name found looks =
     let there = looks_same files new from name found looks in
     subst (λ (n : ℕ). LeadsTo new from name n) (sym there.found_is.is) there.led
+
+-- a name that led to a file which is no directory goes
+pub unlinked : (files mid new : Files) (from : ℕ) (name n : List ℕ) (found : Found) → name ≡ n → found.kind ≢ 1 → LooksIn from name found files mid → DropsName from name found.number mid new → Unlinked from n files new
+unlinked files mid new from name n found same not looks drops =
+    let is = looks.found_is in
+    subst (λ (m : List ℕ). Unlinked from m files new) same (
+      looks.number,
+      looks.led,
+      (λ directory. not (is.kind ∙ sym (ap kind_of is.there) ∙ directory)),
+      subst (λ (i : ℕ). DropsName from name i files new) is.is (subst (λ (f : Files). DropsName from name found.number f new) looks.same drops),
+    )

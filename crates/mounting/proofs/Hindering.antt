@@ -1,34 +1,69 @@
 -- Why requests are not done, from why calls of a tree are not.
-use Rattle.std.proofs.Common.{◌≡◌, ◌≢◌, ◌⊎◌, ℕ, ◌+◌, ◌^◌, ◌<◌, ◌≤◌, List, length, take, drop, replicate, Some, inl, inr, refl, sym, subst, ⊎_elim, arith}
-use Rattle.std.specs.Prelude.{Result, Ok, Err, IfErr}
-use Rattle.std.proofs.lemmas.Bool.{cases_eq}
+use Rattle.std.proofs.Common.{◌≡◌, ◌≢◌, ◌∙◌, ℕ, ◌+◌, ◌^◌, ◌<◌, ◌≤◌, Bool, true, false, cond, ltb, List, length, take, drop, replicate, Option, Some, None, ap, inl, inr, refl, sym, subst, ⊎_elim, arith}
+use Rattle.std.specs.Prelude.{Result, Ok, Err, IfErr, IfOk}
+use Rattle.std.proofs.lemmas.Bool.{cases_eq, le-ltb}
 use Rattle.std.proofs.lemmas.List.{length-drop, length-take}
 use Rattle.std.proofs.lemmas.Result.{IfErr-weaker}
 use Rattle.blocks.specs.Disk.{Image}
 use Rattle.blocks.specs.declared.disk.Disk.{Ghosts}
 use Rattle.calls.specs.Calls.{image_on}
-use Rattle.calls.specs.Files.{IsFull}
 use Rattle.calls.specs.Stepping.{Plain}
 use Rattle.calls.specs.Stopped.{StaysOver}
 use Rattle.calls.specs.declared.transactions.fault.TransactionFault.TheVariants as call_fault
 use Rattle.directories.specs.declared.path.PathFault.TheVariants as path_fault
 use Rattle.directories.specs.declared.refusal.Refusal.{Refusal}
+use Rattle.directories.specs.Trees.{bytes_of}
 use Rattle.model.specs.declared.types.image.Form.{Form}
+use Rattle.model.specs.declared.types.image.File.{File}
 use Rattle.model.specs.declared.types.operations.Op.TheVariants.{Write}
-use Rattle.model.specs.Files.{Files, files_of}
-use Rattle.model.specs.Operations.{refusal_of}
+use Rattle.model.specs.declared.types.operations.Reply.TheVariants.{BadOffset, TooBig, TooLong}
+use Rattle.model.specs.Files.{Files, file_in, files_of}
+use Rattle.model.specs.Layout.{greatest_size}
+use Rattle.model.specs.Operations.{refusal_of, write_refusal}
 use Rattle.mounting.specs.declared.errno.Errno.{Errno}
 use Rattle.mounting.specs.declared.errno.Errno.TheVariants as errno
-use Rattle.mounting.specs.Causes.{IsHindered, IsLost, IsNotDone, IsPartUnwritten, IsRefusedBy, IsUnlengthened, WroteBehind, WrotePart, fault_errno, fault_errno_by, number_of, unwritten_errno}
-use Rattle.mounting.specs.Changes.{EndsAt, EndsShort, HasLength, RefusesPart, StaysIfRefused}
+use Rattle.mounting.specs.Causes.{IsHindered, IsLost, IsNotDone, IsRefusedBy, IsUnlengthened, Leaves, WroteBehind, WrotePart, fault_errno, fault_errno_by, number_of, unwritten_errno}
+use Rattle.mounting.specs.Changes.{bytes_on, EndsAt, HasLength, StandsAt, StaysIfRefused}
 use Rattle.names.specs.declared.refusal.TreeFault.{TreeFault}
 use Rattle.names.specs.declared.refusal.TreeFault.TheVariants.{Path, Refused, Call, NoSpace, NoCall}
 use Rattle.names.specs.declared.writing.Unwritten.{Unwritten}
+use Rattle.names.specs.declared.writing.Unwritten.TheVariants as unwritten
 use Rattle.names.specs.Inside.{form_seen}
 use Rattle.names.specs.Lemmas.Over.{form_stays}
 use Rattle.names.specs.Numbered.{WritesSome, WritesSomeOf}
 use Rattle.names.specs.Ready.{HasNoCall, IsReady, IsReadyBehind, IsUnansweredOr, MayGoOn}
 use Rattle.names.specs.Writing.{reply_of}
+
+-- two things that are so of a result
+pub if_ok_both : {T E : Type 0} {P Q S : T → Type 0} (r : Result T E) → ((t : T) → P t → Q t → S t) → IfOk r P → IfOk r Q → IfOk r S
+if_ok_both (Ok t) on p q = on t p q
+if_ok_both (Err e) on p q = tt
+
+never_long : (a b c : Bool) → a ≡ false → cond a (Some TooLong) (cond b (Some BadOffset) (cond c (Some TooBig) None)) ≡ Some TooLong → ⊥
+never_long true b c not h = absurd (cc not)
+never_long false true c not h = absurd (cc h)
+never_long false false true not h = absurd (cc h)
+never_long false false false not h = absurd (cc h)
+
+never_far : (a b c : Bool) → b ≡ false → cond a (Some TooLong) (cond b (Some BadOffset) (cond c (Some TooBig) None)) ≡ Some BadOffset → ⊥
+never_far true b c not h = absurd (cc h)
+never_far false true c not h = absurd (cc not)
+never_far false false true not h = absurd (cc h)
+never_far false false false not h = absurd (cc h)
+
+-- A kernel that refuses no more bytes than a call may write, behind no more than the file has, does so
+-- since the file would be too large.
+too_big : (form : Form) (files new : Files) (number at : ℕ) (bytes : List ℕ) (cause : Unwritten) → length bytes ≤ 3072 → at ≤ length (bytes_of (file_in files number)) → WritesSomeOf form number at bytes (Err cause) files new → cause ≡ unwritten.TooBig
+too_big form files new number at bytes unwritten.TooBig few far writes = refl
+too_big form files new number at bytes unwritten.TooLong few far writes =
+    let file = writes.file in
+    let why = ap (λ (o : Option File). cond (ltb 3072 (length bytes)) (Some TooLong) (write_refusal form o at (length bytes))) (sym writes.plain.there) ∙ writes.writes.1 in
+    absurd (never_long (ltb 3072 (length bytes)) (ltb (length file.bytes) at) (ltb (greatest_size form) (at + length bytes)) (le-ltb 3072 (length bytes) few) why)
+too_big form files new number at bytes unwritten.BadOffset few far writes =
+    let file = writes.file in
+    let low : at ≤ length file.bytes = subst (λ (l : List ℕ). at ≤ length l) (ap bytes_of writes.plain.there) far in
+    let why = ap (λ (o : Option File). cond (ltb 3072 (length bytes)) (Some TooLong) (write_refusal form o at (length bytes))) (sym writes.plain.there) ∙ writes.writes.1 in
+    absurd (never_far (ltb 3072 (length bytes)) (ltb (length file.bytes) at) (ltb (greatest_size form) (at + length bytes)) (le-ltb (length file.bytes) at low) why)
 
 module _ {D N : Type 0} (disk : Ghosts D N) where
   -- a call that is not done, from what it ensures
@@ -122,56 +157,63 @@ module _ {D N : Type 0} (disk : Ghosts D N) where
   undone_there T number why P k m left NoCall holds same is = inr is
 
   -- zeroes that a kernel refuses behind a file's end
-  pub unlengthened : (number at to count : ℕ) (bytes : List ℕ) (k m : Plain D) (done : Result ℕ Unwritten) (cause : Unwritten) (e : Errno) → done ≡ Err cause → bytes ≡ replicate count 0 → at + count ≤ to → EndsAt disk number k at
+  pub unlengthened : (number at to count : ℕ) (bytes : List ℕ) (k m : Plain D) (done : Result ℕ Unwritten) (cause : Unwritten) (e : Errno) → done ≡ Err cause → bytes ≡ replicate count 0 → length bytes ≤ 3072 → at + count ≤ to → EndsAt disk number k at
       → WritesSomeOf (form_seen disk.image k) number at bytes done (files_of (image_on disk.image k)) (files_of (image_on disk.image m)) → WrotePart disk number at bytes m done → e ≡ unwritten_errno cause
       → IsUnlengthened number to (form_seen disk.image m) (image_on disk.image m) e
-  unlengthened number at to count bytes k m done cause e is zeroes fits end writes part told =
+  unlengthened number at to count bytes k m done cause e is zeroes few fits end writes part told =
       let refused = subst (λ (d : Result ℕ Unwritten). WritesSomeOf (form_seen disk.image k) number at bytes d (files_of (image_on disk.image k)) (files_of (image_on disk.image m))) is writes in
       let same : files_of (image_on disk.image m) ≡ files_of (image_on disk.image k) = refused.writes.0 in
-      let why = subst (λ (d : Result ℕ Unwritten). WrotePart disk number at bytes m d) is part in (
-        cause,
+      let big : cause ≡ unwritten.TooBig = too_big (form_seen disk.image k) (files_of (image_on disk.image k)) (files_of (image_on disk.image m)) number at bytes cause few (omega (arith, end)) refused in
+      let why = subst (λ (d : Result ℕ Unwritten). WrotePart disk number at bytes m d) (is ∙ ap (λ (c : Unwritten). Err c) big) part in (
+        told ∙ ap unwritten_errno big,
         (
           at,
           (
             count,
-            (
-              told,
-              fits,
-              subst (λ (files : Files). HasLength files number at) (sym same) end,
-              subst (λ (b : List ℕ). refusal_of (form_seen disk.image m) (files_of (image_on disk.image m)) (Write number at b) ≡ Some (reply_of cause)) zeroes why,
-            ),
+            fits,
+            subst (λ (files : Files). HasLength files number at) (sym same) end,
+            subst (λ (b : List ℕ). refusal_of (form_seen disk.image m) (files_of (image_on disk.image m)) (Write number at b) ≡ Some TooBig) zeroes why,
           ),
         ),
       )
 
   -- fewer bytes behind so many of these
-  pub wrote_behind : (number offset at done k : ℕ) (bytes : List ℕ) (m : Plain D) (r : Result ℕ Unwritten) → at ≡ offset + done → (done < length bytes → 0 < k) → WrotePart disk number at (take k (drop done bytes)) m r → WroteBehind disk number offset bytes done m r
-  wrote_behind number offset at done k bytes m (Ok count) same some part = λ few none.
-      let cut = length-take k (drop done bytes) in
+  pub wrote_behind : (number offset at done n : ℕ) (bytes : List ℕ) (k m : Plain D) (r : Result ℕ Unwritten) → at ≡ offset + done → (done < length bytes → 0 < n) → n ≤ 3072 → StandsAt (bytes_on disk number k) offset bytes done
+      → WritesSomeOf (form_seen disk.image k) number at (take n (drop done bytes)) r (files_of (image_on disk.image k)) (files_of (image_on disk.image m)) → WrotePart disk number at (take n (drop done bytes)) m r → WroteBehind disk number offset bytes done m r
+  wrote_behind number offset at done n bytes k m (Ok count) same some most stands writes part = λ few none.
+      let cut = length-take n (drop done bytes) in
       let left = length-drop done bytes in
       let more = some few in
       part (omega (arith, cut, left, more, few, none))
-  wrote_behind number offset at done k bytes m (Err cause) same some part =
-      inl (
-        cause,
-        (
-          refl,
-          (
-            done,
-            (
-              k,
-              subst (λ (n : ℕ). refusal_of (form_seen disk.image m) (files_of (image_on disk.image m)) (Write number n (take k (drop done bytes))) ≡ Some (reply_of cause)) same part,
-            ),
-          ),
-        ),
-      )
+  wrote_behind number offset at done n bytes k m (Err cause) same some most stands writes part =
+      let cut = length-take n (drop done bytes) in
+      let far = stands.far in
+      let big : cause ≡ unwritten.TooBig = too_big (form_seen disk.image k) (files_of (image_on disk.image k)) (files_of (image_on disk.image m)) number at (take n (drop done bytes)) cause (omega (arith, cut, most)) (omega (arith, far, same)) writes in
+      let why = subst (λ (c : Unwritten). WrotePart disk number at (take n (drop done bytes)) m (Err c)) big part in
+      (big, inl (done, (n, subst (λ (i : ℕ). refusal_of (form_seen disk.image m) (files_of (image_on disk.image m)) (Write number i (take n (drop done bytes))) ≡ Some TooBig) same why)))
 
-  -- why no more of them stand
-  pub ends_short : (number offset : ℕ) (bytes : List ℕ) (m : Plain D) (cause : Unwritten) → IsPartUnwritten (form_seen disk.image m) (files_of (image_on disk.image m)) number offset bytes (unwritten_errno cause)
-      → EndsShort (IsFull (image_on disk.image m)) (form_seen disk.image m) (files_of (image_on disk.image m)) number offset bytes
-  ends_short number offset bytes m cause why =
-      ⊎_elim (λ (refused : (c : Unwritten) × ((unwritten_errno cause ≡ unwritten_errno c) × RefusesPart (form_seen disk.image m) (files_of (image_on disk.image m)) number offset bytes c)). inr (inl (refused.0, refused.1.1)))
-      (λ (far : (unwritten_errno cause ≡ errno.TooBig) × (2 ^ 32 ≤ offset + length bytes)). inr (inr far.1)) why
+  -- what an exit leaves of the files
+  pub left_same : {T : Type 0} (part : Files → Files → Type 0) (k m : Plain D) (left : ℕ) (r : Result T Errno) (e : Errno) → r ≡ Err e → (0 < left → part (files_of (image_on disk.image k)) (files_of (image_on disk.image m)))
+      → IfErr r (Leaves disk part k m left)
+  left_same part k m left r e is kept = subst (λ (q : Result _ Errno). IfErr q (Leaves disk part k m left)) (sym is) (λ some not. kept some)
+
+  pub left_full : {T : Type 0} (part : Files → Files → Type 0) (k m : Plain D) (left : ℕ) (r : Result T Errno) (e : Errno) → r ≡ Err e → e ≡ errno.NoMemory → IfErr r (Leaves disk part k m left)
+  left_full part k m left r e is memory = subst (λ (q : Result _ Errno). IfErr q (Leaves disk part k m left)) (sym is) (λ some not. absurd (not memory))
+
+  pub left_any : {T : Type 0} (part : Files → Files → Type 0) (k m : Plain D) (left : ℕ) (r : Result T Errno) → (0 < left → part (files_of (image_on disk.image k)) (files_of (image_on disk.image m))) → IfErr r (Leaves disk part k m left)
+  left_any part k m left (Ok t) kept = tt
+  left_any part k m left (Err e) kept = λ some not. kept some
+
+  -- what a function returns that was told of it
+  pub left_told : {T : Type 0} (part more : Files → Files → Type 0) (k m : Plain D) (left : ℕ) (r : Result T Errno) (e f : Errno) → r ≡ Err e → e ≡ f → (part (files_of (image_on disk.image k)) (files_of (image_on disk.image m)) → more (files_of (image_on disk.image k)) (files_of (image_on disk.image m)))
+      → Leaves disk part k m left f → IfErr r (Leaves disk more k m left)
+  left_told part more k m left r e f is same on kept =
+      subst (λ (q : Result _ Errno). IfErr q (Leaves disk more k m left)) (sym is) (λ some not. on (kept some (λ memory. not (same ∙ memory))))
+
+  -- behind what left them the same, or among more that may be left
+  pub left_after : {T : Type 0} (part more : Files → Files → Type 0) (k m e : Plain D) (left : ℕ) (r : Result T Errno) → ((new : Files) → part (files_of (image_on disk.image m)) new → more (files_of (image_on disk.image k)) new)
+      → IfErr r (Leaves disk part m e left) → IfErr r (Leaves disk more k e left)
+  left_after part more k m e left r on kept = IfErr-weaker r (Leaves disk part m e left) (Leaves disk more k e left) (λ cause leaves some not. on (files_of (image_on disk.image e)) (leaves some not)) kept
 
 -- the system's numbers
 pub number_few : (e : Errno) → number_of e < 2 ^ 32

@@ -1,6 +1,6 @@
 -- One call of a tree, by what it does to files.
 use Rattle.std.proofs.Common.{◌≡◌, ◌≢◌, ℕ, ◌-◌, ◌<◌, List, length, take, drop, ⊎_elim, inl, inr, refl, subst, arith}
-use Rattle.std.specs.Prelude.{Option, Some, None, Result, Ok, Err, IfErr, IfOk, OnOk}
+use Rattle.std.specs.Prelude.{zero, suc, Option, Some, None, Result, Ok, Err, IfErr, IfOk, OnErr, OnOk}
 use Rattle.std.proofs.lemmas.Bool.{cases_eq}
 use Rattle.std.proofs.lemmas.List.{length-drop, take_all}
 use Rattle.std.proofs.lemmas.Result.{IfOk-weaker}
@@ -11,25 +11,30 @@ use Rattle.calls.specs.Stopped.{StaysOver}
 use Rattle.directories.specs.declared.refusal.Refusal.{Refusal}
 use Rattle.model.specs.declared.types.image.Form.{Form}
 use Rattle.fuse.specs.declared.header.Header.{Header}
-use Rattle.fuse.specs.Requests.{Asked, header_in, Other, request_in}
+use Rattle.fuse.specs.Requests.{Asked, header_in, Other, Rename, request_in, SetAttributes, Write}
 use Rattle.history.specs.Lemmas.Leaving.{leaves_wider}
 use Rattle.model.specs.Files.{Files, files_of}
 use Rattle.model.specs.Log.{recovered}
 use Rattle.mounting.specs.declared.errno.Errno.{Errno}
-use Rattle.mounting.specs.Causes.{HindersIf, HindersServed, IsHindered}
-use Rattle.mounting.specs.Changes.{DidAskedIf, DidServe, Makes, MayDo, MayMake, MayMakeIf, MayServe, OnlyLooks, Serving, StaysIfRefused, Task}
+use Rattle.mounting.specs.Causes.{ChangesFile, HindersIf, HindersServed, IsHindered, Leaves, Looks}
+use Rattle.mounting.specs.Changes.{Begins, BeginsIf, BeginsServed, DidAskedIf, DidServe, Makes, MayDo, MayMake, MayMakeIf, MayServe, NoChange, OnlyLooks, Serving, StaysIfRefused, StaysOn, Task}
 use Rattle.names.specs.declared.refusal.TreeFault.{TreeFault}
 use Rattle.names.specs.declared.refusal.TreeFault.TheVariants.{Path, Refused, Call, NoSpace, NoCall}
 use Rattle.names.specs.Inside.{form_seen}
 use Rattle.names.specs.Lemmas.Over.{form_stays}
 use Rattle.names.specs.Lemmas.Runs.{run_nowhere, run_of, run_on, run_same, run_wider}
 use Rattle.names.specs.Ready.{AnyOf, HasNoCall, IsReady, IsReadyBehind, IsUnansweredOr, KeepsTree, LeavesTree, MayGoOn}
-use Rattle.names.specs.Runs.{HasRun}
+use Rattle.names.specs.Runs.{HasRun, MakeNew}
 
 -- two things that are so where a result is one
 pub both_ok : {T E P Q S : Type 0} (r : Result T E) → OnOk r P → OnOk r Q → (P → Q → S) → OnOk r S
 both_ok (Ok t) p q on = on p q
 both_ok (Err e) p q on = tt
+
+-- three
+pub all_ok : {T E P Q R S : Type 0} (r : Result T E) → OnOk r P → OnOk r Q → OnOk r R → (P → Q → R → S) → OnOk r S
+all_ok (Ok t) p q s on = on p q s
+all_ok (Err e) p q s on = tt
 
 module _ {D N : Type 0} (disk : Ghosts D N) where
   -- what a call ensures, as a run of one change
@@ -85,7 +90,45 @@ call_stays disk hinders why t u k m left (Err (Call cause)) ready none refused =
 call_stays disk hinders why t u k m left (Err NoSpace) ready none refused = tt
 call_stays disk hinders why t u k m left (Err NoCall) ready none refused = tt
 
+-- where it was not done, too, unless no other is made
+pub call_kept : {D N S T : Type 0} (disk : Ghosts D N) (hinders : TreeFault → Type 0) (why : Files → Refusal → Type 0) (t u : S) (k m : Plain D) (left less : ℕ) (r : Result T TreeFault) → MayGoOn disk k left
+    → (left ≡ 0 → HasNoCall t u r) → IsReadyBehind disk m less r → (IsReady disk k left → IfErr r (IsUnansweredOr hinders disk why k m)) → OnErr r (StaysOn disk k m less)
+call_kept disk hinders why t u k m left less (Ok made) ready none behind refused = tt
+call_kept disk hinders why t u k m left less (Err (Path cause)) ready none behind refused =
+    ⊎_elim (λ (zero : left ≡ 0). absurd (none zero)) (λ (some : left ≢ 0). absurd (refused (ready (omega (arith, some))))) (cases_eq left 0)
+call_kept disk hinders why t u k m left less (Err (Refused cause)) ready none behind refused = λ on.
+    ⊎_elim (λ (zero : left ≡ 0). absurd (none zero)) (λ (some : left ≢ 0). (refused (ready (omega (arith, some)))).0) (cases_eq left 0)
+call_kept disk hinders why t u k m left less (Err (Call cause)) ready none behind refused = λ on. absurd (omega (arith, behind, on))
+call_kept disk hinders why t u k m left less (Err NoSpace) ready none behind refused = λ on. absurd (omega (arith, behind, on))
+call_kept disk hinders why t u k m left less (Err NoCall) ready none behind refused = λ on. absurd (omega (arith, behind, on))
+
+-- ---- what is done of a request that is refused
+
+-- of one that changes a file that may be anything
+pub begins_change : (node : ℕ) (r : Asked) (x z : Files) → ChangesFile r → Begins node r x z
+begins_change node (SetAttributes valid size changed nanos mode) x z is = tt
+begins_change node (Write offset bytes) x z is = tt
+begins_change node r x z is = absurd is
+
+-- of a look nothing
+pub begins_look : (node : ℕ) (r : Asked) (x z : Files) → Looks r → z ≡ x → Begins node r x z
+begins_look node (SetAttributes valid size changed nanos mode) x z is same = absurd is
+begins_look node (Write offset bytes) x z is same = absurd is
+begins_look node (Rename to flags old name) x z is same = inl same
+begins_look node r x z is same = same
+
+made_none : (count : ℕ) (x z : Files) → MakeNew NoChange count x z → z ≡ x
+made_none zero x z made = made
+made_none (suc count) x z made = absurd made.2
+
 module _ {D N : Type 0} (disk : Ghosts D N) where
+  -- where files are only looked at they are the same
+  pub looks_stay : (k m : Plain D) (left less : ℕ) → OnlyLooks disk k m left less → StaysOn disk k m less
+  looks_stay k m left less looks = λ some.
+      let run = looks (Serving 0 Other) k left (run_same disk NoChange k k left left refl refl) in
+      let came = run.made some in
+      made_none came.0 _ _ came.1
+
   -- a task from its beginning on
   pub task_run : (task : Task) (k m : Plain D) (left less : ℕ) → Makes disk (λ form. MayDo form task) k m left less → HasRun disk (MayDo (form_seen disk.image k) task) k m left less
   task_run task k m left less makes = makes task k left (λ x z is. is) (run_same disk (MayDo (form_seen disk.image k) task) k k left left refl refl)
@@ -118,6 +161,11 @@ module _ {D N : Type 0} (disk : Ghosts D N) (bytes : List ℕ) (header : Header)
   served_done body k m same did =
       subst (λ (h : Header). DidAskedIf disk h.node (request_in h.opcode (drop 40 bytes)) body k m) same
       (subst (λ (rest : List ℕ). DidAskedIf disk header.node (request_in header.opcode rest) body k m) (behind_header bytes) did)
+
+  pub served_left : (k m : Plain D) (left : ℕ) (e : Errno) → header ≡ header_in bytes → Leaves disk (BeginsIf header.node (request_in header.opcode asked_behind)) k m left e → Leaves disk (BeginsServed bytes) k m left e
+  served_left k m left e same leaves =
+      subst (λ (h : Header). Leaves disk (BeginsIf h.node (request_in h.opcode (drop 40 bytes))) k m left e) same
+      (subst (λ (rest : List ℕ). Leaves disk (BeginsIf header.node (request_in header.opcode rest)) k m left e) (behind_header bytes) leaves)
 
   pub served_hindered : (m : Plain D) (left : ℕ) (e : Errno) → header ≡ header_in bytes → IsHindered disk (HindersIf header.node (request_in header.opcode asked_behind)) m left e → IsHindered disk (HindersServed bytes) m left e
   served_hindered m left e same why =

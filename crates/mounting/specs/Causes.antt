@@ -1,5 +1,5 @@
 -- Why requests are not done.
-use Rattle.std.specs.Prelude.{◌≡◌, ◌⊎◌, ⊤, ℕ, ◌+◌, ◌^◌, ◌<◌, ◌≤◌, List, length, drop, replicate, bit_and, Bool, Option, Some, None, Result, Ok, Err}
+use Rattle.std.specs.Prelude.{◌≡◌, ◌≢◌, ◌⊎◌, ⊤, ℕ, ◌+◌, ◌^◌, ◌<◌, ◌≤◌, List, length, drop, replicate, Bool, Option, Some, None, Result, Ok, Err}
 use Rattle.blocks.specs.Disk.{Image}
 use Rattle.blocks.specs.declared.disk.Disk.{Ghosts}
 use Rattle.calls.specs.Calls.{image_on}
@@ -18,12 +18,13 @@ use Rattle.directories.specs.Walks.{stepped}
 use Rattle.fuse.specs.Requests.{Asked, header_in, request_in, Access, Create, GetAttributes, Link, Lookup, MakeDirectory, MakeNode, Open, Other, Read, ReadDirectory, Release, RemoveDirectory, Rename, SetAttributes, Unanswered, Unlink, Write}
 use Rattle.model.specs.declared.types.image.Form.{Form}
 use Rattle.model.specs.declared.types.operations.Op.TheVariants as op
+use Rattle.model.specs.declared.types.operations.Reply.TheVariants.{TooBig}
 use Rattle.model.specs.Files.{Files, files_of}
 use Rattle.model.specs.Operations.{refusal_of}
 use Rattle.mounting.specs.declared.errno.Errno.{Errno}
 use Rattle.mounting.specs.declared.errno.Errno.TheVariants as errno
 use Rattle.mounting.specs.Asides.{IsHidden, aside_of}
-use Rattle.mounting.specs.Changes.{EndsShort, HasLength, RefusesPart, SetsSize}
+use Rattle.mounting.specs.Changes.{AreTooMany, BeginsServed, EndsShort, HasLength, IsOfBytes, SetsSize}
 use Rattle.names.specs.declared.refusal.TreeFault.{TreeFault}
 use Rattle.names.specs.declared.refusal.TreeFault.TheVariants as tree_fault
 use Rattle.names.specs.declared.writing.Unwritten.{Unwritten}
@@ -102,8 +103,8 @@ name_errno name_fault.Slash = errno.Invalid
 -- where the kernel refuses a write
 abbrev pub unwritten_errno : Unwritten → Errno
 unwritten_errno unwritten.TooBig = errno.TooBig
-unwritten_errno unwritten.TooLong = errno.InputOutput
-unwritten_errno unwritten.BadOffset = errno.InputOutput
+unwritten_errno unwritten.TooLong = errno.Invalid
+unwritten_errno unwritten.BadOffset = errno.Invalid
 
 -- ---- causes, of the form and the image of a disk
 
@@ -131,19 +132,16 @@ IsNoNewName node name e = IsNoName name e ⊎ ((e ≡ errno.NotPermitted) × IsH
 abbrev pub IsOutOfRoom : Image → Errno → Type 0
 IsOutOfRoom x e = (e ≡ errno.NoSpace) × IsFull x
 
--- the kernel refuses a part of these bytes, or the last of them would stand behind 2^32 others
+-- a file would be too large with these bytes
 abbrev pub IsPartUnwritten : Form → Files → ℕ → ℕ → List ℕ → Errno → Type 0
 IsPartUnwritten form files number offset bytes e =
-    ((cause : Unwritten) × ((e ≡ unwritten_errno cause)
-    × RefusesPart form files number offset bytes cause))
-    ⊎ ((e ≡ errno.TooBig) × (2 ^ 32 ≤ offset + length bytes))
+    (e ≡ errno.TooBig) × AreTooMany form files number offset bytes
 
--- or zeroes behind a file's end, up to that length at most
+-- or with zeroes behind its end, up to that length at most
 abbrev pub IsUnlengthened : ℕ → ℕ → Form → Image → Errno → Type 0
-IsUnlengthened number size form x e = (cause : Unwritten) × ((at : ℕ) × ((count : ℕ)
-    × ((e ≡ unwritten_errno cause) × (at + count ≤ size) × HasLength (files_of x) number at
-    × (refusal_of form (files_of x) (op.Write number at (replicate count 0))
-    ≡ Some (reply_of cause)))))
+IsUnlengthened number size form x e = (e ≡ errno.TooBig) × ((at : ℕ) × ((count : ℕ)
+    × (at + count ≤ size) × HasLength (files_of x) number at
+    × (refusal_of form (files_of x) (op.Write number at (replicate count 0)) ≡ Some TooBig)))
 
 -- why a file isn't lengthened, given another length, read and written
 abbrev pub IsUnfilled : ℕ → ℕ → Form → Image → Errno → Type 0
@@ -156,7 +154,7 @@ IsUnresized number size form x e =
 
 abbrev pub IsUnread : ℕ → ℕ → ℕ → Form → Image → Errno → Type 0
 IsUnread number offset size form x e = IsRefused (IsNoFileOrDirectory number) form x e
-    ⊎ ((e ≡ errno.InputOutput) × (2 ^ 32 ≤ offset + size))
+    ⊎ ((e ≡ errno.Invalid) × (2 ^ 32 ≤ offset + size))
 
 abbrev pub AreUnwritten : ℕ → ℕ → List ℕ → Form → Image → Errno → Type 0
 AreUnwritten number offset bytes form x e = IsRefused (IsNoFileOrDirectory number) form x e
@@ -165,9 +163,7 @@ AreUnwritten number offset bytes form x e = IsRefused (IsNoFileOrDirectory numbe
 abbrev pub IsUnwritten : ℕ → ℕ → List ℕ → Form → Image → Errno → Type 0
 IsUnwritten number offset bytes form x e =
     ((e ≡ errno.TooBig) × (2 ^ 32 ≤ offset))
-    ⊎ (IsUnfilled number offset form x e
-    ⊎ (AreUnwritten number offset bytes form x e
-    ⊎ ((e ≡ errno.InputOutput) × (2 ^ 32 ≤ length bytes))))
+    ⊎ (IsUnfilled number offset form x e ⊎ AreUnwritten number offset bytes form x e)
 
 -- a name leads to a file, which is a directory or is none
 abbrev pub LeadsTo : Files → ℕ → List ℕ → ℕ → Type 0
@@ -249,10 +245,6 @@ IsNotRenamed flags from old to name form x e = ((e ≡ errno.Invalid) × (1 < fl
 abbrev pub IsNoNumber : ℕ → Errno → Type 0
 IsNoNumber number e = (e ≡ errno.NoEntry) × (2 ^ 32 ≤ number)
 
--- a mode is that of a file of bytes, or tells no type
-abbrev pub IsOfBytes : ℕ → Type 0
-IsOfBytes mode = (bit_and mode 61440 ≡ 32768) ⊎ (bit_and mode 61440 ≡ 0)
-
 -- what hinders a request of the file of a number
 abbrev pub Hinders : ℕ → Asked → Form → Image → Errno → Type 0
 Hinders node (Lookup name) form x e =
@@ -310,11 +302,22 @@ IsNoMemory e = e ≡ errno.NoMemory
 abbrev pub NoCause : Form → Image → Errno → Type 0
 NoCause form x e = ⊥
 
--- the same of the system's number
-abbrev pub IsHinderedBy : {D N : Type 0} → Ghosts D N → (Form → Image → Errno → Type 0) → Plain D
-    → ℕ → ℕ → Type 0
-IsHinderedBy disk why m left number =
-    (e : Errno) × ((number ≡ number_of e) × IsHindered disk why m left e)
+-- From kernel k to m this became of the files where something is not done, unless memory is refused, or
+-- no call is left.
+abbrev pub Leaves : {D N : Type 0} → Ghosts D N → (Files → Files → Type 0) → Plain D → Plain D → ℕ
+    → Errno → Type 0
+Leaves disk part k m left e = 0 < left → e ≢ errno.NoMemory
+    → part (files_of (image_on disk.image k)) (files_of (image_on disk.image m))
+
+-- they are the same
+abbrev pub Keeps : {D N : Type 0} → Ghosts D N → Plain D → Plain D → ℕ → Errno → Type 0
+Keeps disk k m left e = Leaves disk (λ files new. new ≡ files) k m left e
+
+-- the same of the system's number for a request of these bytes
+abbrev pub IsHinderedBy : {D N : Type 0} → Ghosts D N → List ℕ → Plain D → Plain D → ℕ → ℕ → Type 0
+IsHinderedBy disk bytes k m left number = (e : Errno) × ((number ≡ number_of e)
+    × IsHindered disk (HindersServed bytes) m left e
+    × Leaves disk (BeginsServed bytes) k m left e)
 
 -- why a call of a tree is not done
 abbrev pub IsNotDone : {D N : Type 0} → Ghosts D N → (Files → Refusal → Type 0) → Plain D → ℕ
@@ -337,9 +340,8 @@ abbrev pub WroteBehind : {D N : Type 0} → Ghosts D N → ℕ → ℕ → List 
     → Result ℕ Unwritten → Type 0
 WroteBehind disk number offset bytes done m (Ok count) =
     done < length bytes → count ≡ 0 → IsFull (image_on disk.image m)
-WroteBehind disk number offset bytes done m (Err cause) =
-    IsPartUnwritten (form_seen disk.image m) (files_of (image_on disk.image m)) number offset bytes
-    (unwritten_errno cause)
+WroteBehind disk number offset bytes done m (Err cause) = (cause ≡ unwritten.TooBig)
+    × AreTooMany (form_seen disk.image m) (files_of (image_on disk.image m)) number offset bytes
 
 -- why so many bytes are left to write: where all are, no block is free
 abbrev pub LeavesBytes : {D N : Type 0} → Ghosts D N → ℕ → ℕ → List ℕ → Plain D → ℕ → Type 0

@@ -5,12 +5,15 @@ use Rattle.calls.specs.Calls.{image_on}
 use Rattle.calls.specs.Files.{IsFull}
 use Rattle.calls.specs.Stepping.{Plain}
 use Rattle.directories.specs.Entries.{entries_of, padded}
-use Rattle.directories.specs.Trees.{bytes_of, directory_in, root}
+use Rattle.directories.specs.Trees.{bytes_of, directory_in, root, IsDirectory}
+use Rattle.directories.specs.Walks.{stepped}
 use Rattle.fuse.specs.Answers.{wrote_answer_bytes}
-use Rattle.fuse.specs.Requests.{Asked, header_in, request_in, Create, Destroy, Flush, GetAttributes, Link, Lookup, MakeDirectory, MakeNode, Open, OpenDirectory, Read, ReadDirectory, Release, ReleaseDirectory, RemoveDirectory, Rename, SetAttributes, Sync, Unlink, Write}
+use Rattle.fuse.specs.Requests.{Asked, header_in, request_in, Access, Create, Destroy, Flush, GetAttributes, Link, Lookup, MakeDirectory, MakeNode, Open, OpenDirectory, Other, Read, ReadDirectory, Release, ReleaseDirectory, RemoveDirectory, Rename, SetAttributes, Sync, Unanswered, Unlink, Write}
+use Rattle.model.specs.declared.types.image.File.{File}
 use Rattle.model.specs.declared.types.image.Form.{Form}
 use Rattle.model.specs.Files.{Files, file_in, files_of}
 use Rattle.model.specs.declared.types.operations.Op.TheVariants as op
+use Rattle.model.specs.declared.types.operations.Reply.TheVariants.{TooBig}
 use Rattle.model.specs.Operations.{part_of, refusal_of}
 use Rattle.mounting.specs.Asides.{IsAside, IsHidden, aside_of}
 use Rattle.mounting.specs.Listings.{Lists}
@@ -27,7 +30,6 @@ use Rattle.names.specs.Removing.{RemovesIn}
 use Rattle.names.specs.Renaming.{Renames}
 use Rattle.names.specs.Replacing.{LeadToOne, Replaces}
 use Rattle.names.specs.Runs.{HasRun}
-use Rattle.names.specs.Writing.{reply_of}
 use Rattle.names.specs.Undirecting.{RemovesDirectoryIn}
 
 -- ---- the changes, of which each is one transaction
@@ -149,12 +151,32 @@ MayServe form bytes =
 
 -- ---- requests that were done
 
+-- a name of a file goes, with its file where that has no other one; or that file, which is no directory,
+-- has its name aside in place of it
+abbrev pub DropsName : ℕ → List ℕ → ℕ → Files → Files → Type 0
+DropsName from name number files new = AnyOf (RemovesIn from name) files new
+    ⊎ AnyOf (Renames from name root (aside_of number)) files new
+
+abbrev pub Unlinked : ℕ → List ℕ → Files → Files → Type 0
+Unlinked from name files new = (number : ℕ) × (stepped files from name ≡ Ok number)
+    × (IsDirectory files number → ⊥) × DropsName from name number files new
+
+-- a file has the name of another one, which goes, or has its name aside
+abbrev pub ReplacedFile : ℕ → List ℕ → ℕ → List ℕ → Files → Files → Type 0
+ReplacedFile from old to name files new = (number : ℕ) × ((keeps : Bool)
+    × (stepped files to name ≡ Ok number)
+    × AnyOf (Replaces from old to name (aside_of number) keeps) files new)
+
+-- neither of two names is one aside
+abbrev pub AreSeen : ℕ → List ℕ → ℕ → List ℕ → Type 0
+AreSeen from old to name = (IsHidden from old → ⊥) × (IsHidden to name → ⊥)
+
 -- a file has another name; nothing is done where both lead to one file, and what has the name is removed
 -- before, or replaced
 abbrev pub RenamedFile : ℕ → List ℕ → ℕ → List ℕ → Form → Files → Files → Type 0
 RenamedFile from old to name form files new = AnyOf (Renames from old to name) files new
     ⊎ (((new ≡ files) × LeadToOne from old to name files)
-    ⊎ (ReplacesFile from old to name form files new
+    ⊎ (ReplacedFile from old to name files new
     ⊎ ((mid : Files) × (RemovesEmpty to name form files mid
     × AnyOf (Renames from old to name) mid new))))
 
@@ -169,22 +191,39 @@ pub record StandsAt (old : List ℕ) (offset : ℕ) (bytes : List ℕ) (count : 
   pub few : count ≤ length bytes
   pub stand : part_of old offset count ≡ take count bytes
 
+-- a mode is that of a file of bytes, or tells no type
+abbrev pub IsOfBytes : ℕ → Type 0
+IsOfBytes mode = (bit_and mode 61440 ≡ 32768) ⊎ (bit_and mode 61440 ≡ 0)
+
+-- there is a file of that number
+abbrev pub IsThere : Files → ℕ → Type 0
+IsThere files number = (file : File) × (file_in files number ≡ Some file)
+
+-- what stands from an offset on, of which bytes behind 2^32 others are none
+abbrev pub TellsPart : List ℕ → ℕ → ℕ → List ℕ → Type 0
+TellsPart bytes offset size body = (offset < 2 ^ 32 → body ≡ part_of bytes offset size)
+    × (2 ^ 32 ≤ offset → body ≡ [])
+
 -- how many bytes were written
 abbrev pub wrote_count : Result ℕ Unwritten → ℕ
 wrote_count (Ok count) = count
 wrote_count (Err cause) = 0
 
--- the kernel refuses a part of these bytes
-abbrev pub RefusesPart : Form → Files → ℕ → ℕ → List ℕ → Unwritten → Type 0
-RefusesPart form files number offset bytes cause = (at : ℕ) × ((count : ℕ)
+-- the kernel refuses a part of these bytes, with which the file would be too large
+abbrev pub RefusesPart : Form → Files → ℕ → ℕ → List ℕ → Type 0
+RefusesPart form files number offset bytes = (at : ℕ) × ((count : ℕ)
     × (refusal_of form files (op.Write number (offset + at) (take count (drop at bytes)))
-    ≡ Some (reply_of cause)))
+    ≡ Some TooBig))
+
+-- the file would be too large with all of them
+abbrev pub AreTooMany : Form → Files → ℕ → ℕ → List ℕ → Type 0
+AreTooMany form files number offset bytes =
+    RefusesPart form files number offset bytes ⊎ (2 ^ 32 ≤ offset + length bytes)
 
 -- why no more of them stand, besides that no block is free
 abbrev pub EndsShort : Type 0 → Form → Files → ℕ → ℕ → List ℕ → Type 0
 EndsShort full form files number offset bytes =
-    full ⊎ (((cause : Unwritten) × RefusesPart form files number offset bytes cause)
-    ⊎ (2 ^ 32 ≤ offset + length bytes))
+    full ⊎ AreTooMany form files number offset bytes
 
 -- nothing is told, and the files are the same
 abbrev pub TellsNothing : List ℕ → Files → Files → Type 0
@@ -205,39 +244,61 @@ abbrev pub Does : Form → Type 0 → ℕ → Asked → List ℕ → Files → F
 Does form full node (Lookup name) body files new = (new ≡ files)
     × (IsHidden node name → ⊥) × TellsNamed new node (padded name) [] body
 Does form full node GetAttributes body files new = (new ≡ files) × TellsAttributes new node [] body
-Does form full node (Open flags) body files new = (new ≡ files) × TellsOpened 2 [] body
+Does form full node (Open flags) body files new =
+    (new ≡ files) × IsThere new node × TellsOpened 2 [] body
 Does form full node OpenDirectory body files new = (new ≡ files) × TellsOpened 10 [] body
-Does form full node (ReadDirectory offset size plus) body files new = (new ≡ files)
+Does form full node (ReadDirectory offset size plus) body files new =
+    (new ≡ files) × IsDirectory files node
     × Lists files node offset size plus 0 (entries_of (directory_in files node)) [] body
-Does form full node (Read offset size) body files new = (new ≡ files)
-    × (offset < 2 ^ 32 → body ≡ part_of (bytes_of (file_in files node)) offset size)
+Does form full node (Read offset size) body files new =
+    (new ≡ files) × TellsPart (bytes_of (file_in files node)) offset size body
 Does form full node (SetAttributes valid size changed nanos mode) body files new =
     ((SetsSize valid → ⊥) → new ≡ files) × (SetsSize valid → HasLength new node size)
     × TellsAttributes new node [] body
 Does form full node (Write offset bytes) body files new = (count : ℕ)
     × ((body ≡ wrote_answer_bytes count) × StandsAt (bytes_of (file_in new node)) offset bytes count
     × (count < length bytes → EndsShort full form new node offset bytes))
-Does form full node (MakeNode mode name) body files new =
-    TellsMade (MakesIn node (padded name)) body files new
+Does form full node (MakeNode mode name) body files new = IsOfBytes mode
+    × (IsHidden node name → ⊥) × TellsMade (MakesIn node (padded name)) body files new
 Does form full node (Create flags mode name) body files new =
-    TellsCreated (MakesIn node (padded name)) body files new
+    (IsHidden node name → ⊥) × TellsCreated (MakesIn node (padded name)) body files new
 Does form full node (MakeDirectory mode name) body files new =
-    TellsMade (MakesDirectoryIn node (padded name)) body files new
-Does form full node (Link number name) body files new =
-    Links number node (padded name) form files new × TellsEntry new number [] body
+    (IsHidden node name → ⊥) × TellsMade (MakesDirectoryIn node (padded name)) body files new
+Does form full node (Link number name) body files new = (IsHidden node name → ⊥)
+    × Links number node (padded name) form files new × TellsEntry new number [] body
 Does form full node (Unlink name) body files new =
-    Unlinks node (padded name) form files new × (body ≡ [])
-Does form full node (RemoveDirectory name) body files new =
-    RemovesEmpty node (padded name) form files new × (body ≡ [])
-Does form full node (Rename to flags old name) body files new =
-    RenamedAs flags node (padded old) to (padded name) form files new × (body ≡ [])
+    (IsHidden node name → ⊥) × Unlinked node (padded name) files new × (body ≡ [])
+Does form full node (RemoveDirectory name) body files new = (IsHidden node name → ⊥)
+    × RemovesEmpty node (padded name) form files new × (body ≡ [])
+Does form full node (Rename to flags old name) body files new = (flags ≤ 1)
+    × AreSeen node old to name
+    × RenamedAs flags node (padded old) to (padded name) form files new × (body ≡ [])
 Does form full node Release body files new =
     ((new ≡ files) ⊎ RemovesName root (aside_of node) form files new) × (body ≡ [])
 Does form full node Flush body files new = TellsNothing body files new
 Does form full node Sync body files new = TellsNothing body files new
 Does form full node ReleaseDirectory body files new = TellsNothing body files new
 Does form full node Destroy body files new = TellsNothing body files new
+Does form full node Access body files new = ⊥
+Does form full node Other body files new = ⊥
+Does form full node Unanswered body files new = ⊥
 Does form full node request body files new = new ≡ files
+
+-- What may be done of a request that is refused: of several transactions the first ones.
+abbrev pub Begins : ℕ → Asked → Files → Files → Type 0
+Begins node (SetAttributes valid size changed nanos mode) files new = ⊤
+Begins node (Write offset bytes) files new = ⊤
+Begins node (Rename to flags old name) files new =
+    (new ≡ files) ⊎ AnyOf (RemovesDirectoryIn to (padded name)) files new
+Begins node request files new = new ≡ files
+
+abbrev pub BeginsIf : ℕ → Option Asked → Files → Files → Type 0
+BeginsIf node None files new = new ≡ files
+BeginsIf node (Some request) files new = Begins node request files new
+
+abbrev pub BeginsServed : List ℕ → Files → Files → Type 0
+BeginsServed bytes =
+    BeginsIf (header_in bytes).node (request_in (header_in bytes).opcode (drop 40 bytes))
 
 -- ---- kernels
 
@@ -276,6 +337,10 @@ EndsAt disk number k at = HasLength (files_of (image_on disk.image k)) number at
 -- the files on the disk are the same
 abbrev pub StaySame : {D N : Type 0} → Ghosts D N → Plain D → Plain D → Type 0
 StaySame disk k m = files_of (image_on disk.image m) ≡ files_of (image_on disk.image k)
+
+-- where another call may be made
+abbrev pub StaysOn : {D N : Type 0} → Ghosts D N → Plain D → Plain D → ℕ → Type 0
+StaysOn disk k m left = 0 < left → StaySame disk k m
 
 -- unless a call failed behind which no other is made
 abbrev pub StaysIfRefused : {D N T : Type 0} → Ghosts D N → Plain D → Plain D → Result T TreeFault

@@ -1,5 +1,5 @@
 // Calls of a tree, by what they do to files.
-ghost use Rattle.std.specs.Prelude.{IfErr, IfOk};
+ghost use Rattle.std.specs.Prelude.{IfErr, IfOk, OnErr};
 ghost use Rattle.calls.specs.Calls.{image_on};
 ghost use Rattle.model.specs.Files.{files_of};
 ghost use Rattle.mounting.specs.Causes.{IsNotDone, WrotePart};
@@ -12,6 +12,7 @@ ghost use Rattle.mounting.specs.Changes.{
   RemovesEmpty,
   RemovesName,
   StaysIfRefused,
+  StaysOn,
   WritesHere,
 };
 ghost use Rattle.names.specs.Contents.{ReadsOf};
@@ -58,6 +59,8 @@ pub(crate) fn look_at<D: Disk>(
     ensures hindered { IfErr result (IsNotDone D.Disk
         (IsNoFile number)
         tree.new.kernel tree.new.calls_left) }
+    ensures kept { OnErr result (StaysOn D.Disk tree.old.kernel tree.new.kernel
+        tree.new.calls_left) }
 {
     tree.look_at(alloc, number)
 }
@@ -80,6 +83,8 @@ pub(crate) fn look_in<D: Disk>(
     ensures hindered { IfErr result (IsNotDone D.Disk
         (IsUnseenIn from name.now)
         tree.new.kernel tree.new.calls_left) }
+    ensures kept { OnErr result (StaysOn D.Disk tree.old.kernel tree.new.kernel
+        tree.new.calls_left) }
 {
     tree.look_in(alloc, from, name)
 }
@@ -190,6 +195,8 @@ pub(crate) fn make_in<D: Disk>(
     ensures hindered { IfErr result (IsNotDone D.Disk
         (λ files. IsUnmadeIn files from name.now)
         tree.new.kernel tree.new.calls_left) }
+    ensures kept { OnErr result (StaysOn D.Disk tree.old.kernel tree.new.kernel
+        tree.new.calls_left) }
 {
     tree.make_in(alloc, from, name)
 }
@@ -212,6 +219,8 @@ pub(crate) fn make_directory_in<D: Disk>(
     ensures hindered { IfErr result (IsNotDone D.Disk
         (λ files. IsUnmadeDirectoryIn files from name.now)
         tree.new.kernel tree.new.calls_left) }
+    ensures kept { OnErr result (StaysOn D.Disk tree.old.kernel tree.new.kernel
+        tree.new.calls_left) }
 {
     tree.make_directory_in(alloc, from, name)
 }
@@ -235,6 +244,8 @@ pub(crate) fn link_in<D: Disk>(
     ensures hindered { IfErr result (IsNotDone D.Disk
         (IsNotLinkedAs number to name.now)
         tree.new.kernel tree.new.calls_left) }
+    ensures kept { OnErr result (StaysOn D.Disk tree.old.kernel tree.new.kernel
+        tree.new.calls_left) }
 {
     tree.link_in(alloc, number, to, name)
 }
@@ -257,6 +268,8 @@ pub(crate) fn remove_in<D: Disk>(
     ensures hindered { IfErr result (IsNotDone D.Disk
         (λ files. IsUnremovedIn files from name.now)
         tree.new.kernel tree.new.calls_left) }
+    ensures kept { OnErr result (StaysOn D.Disk tree.old.kernel tree.new.kernel
+        tree.new.calls_left) }
 {
     tree.remove_in(alloc, from, name)
 }
@@ -279,6 +292,8 @@ pub(crate) fn remove_directory_in<D: Disk>(
     ensures hindered { IfErr result (IsNotDone D.Disk
         (λ files. IsUnemptiedIn files from name.now)
         tree.new.kernel tree.new.calls_left) }
+    ensures kept { OnErr result (StaysOn D.Disk tree.old.kernel tree.new.kernel
+        tree.new.calls_left) }
 {
     tree.remove_directory_in(alloc, from, name)
 }
@@ -304,6 +319,8 @@ pub(crate) fn rename_in<D: Disk>(
     ensures hindered { IfErr result (IsNotDone D.Disk
         (λ files. IsUnrenamed files from old.now to name.now)
         tree.new.kernel tree.new.calls_left) }
+    ensures kept { OnErr result (StaysOn D.Disk tree.old.kernel tree.new.kernel
+        tree.new.calls_left) }
 {
     tree.rename_in(alloc, from, old, to, name)
 }
@@ -332,6 +349,8 @@ pub(crate) fn replace_in<D: Disk>(
     ensures hindered { IfErr result (IsNotDone D.Disk
         (IsUnreplaced from old.now to name.now aside.now keeps)
         tree.new.kernel tree.new.calls_left) }
+    ensures kept { OnErr result (StaysOn D.Disk tree.old.kernel tree.new.kernel
+        tree.new.calls_left) }
 {
     tree.replace_in(alloc, from, old, to, name, aside, keeps)
 }

@@ -1,5 +1,5 @@
 // Requests that change files.
-ghost use Rattle.std.specs.Prelude.{◌≡◌, [], IfErr, IfOk, OnOk};
+ghost use Rattle.std.specs.Prelude.{◌≡◌, ◌⊎◌, ◌≤◌, [], IfErr, IfOk, OnOk};
 ghost use Rattle.calls.specs.Calls.{image_on};
 ghost use Rattle.mounting.specs.Tells.{TellsEntry};
 ghost use Rattle.model.specs.Files.{files_of};
@@ -20,14 +20,19 @@ ghost use Rattle.mounting.specs.Causes.{
   IsUnmadeDirectory,
   IsUnresized,
   IsUnwritten,
+  Keeps,
   LeadsTo,
+  Leaves,
   TakesName,
 };
-ghost use Rattle.mounting.specs.Asides.{aside_of};
+ghost use Rattle.mounting.specs.Asides.{aside_of, IsHidden};
 ghost use Rattle.mounting.specs.Changes.{
+  AreSeen,
+  Begins,
   Did,
-  EndsAt,
   DidAsked,
+  DropsName,
+  EndsAt,
   Links,
   Makes,
   MakesDirectory,
@@ -43,13 +48,15 @@ ghost use Rattle.mounting.specs.Changes.{
   SetsSize,
   StaySame,
   TellsMade,
+  Unlinked,
   Unlinks,
   WritesIn,
 };
 ghost use Rattle.directories.specs.Entries.{padded};
 ghost use Rattle.fuse.specs.Requests.{asked, Release, Write};
 ghost use Rattle.directories.specs.Trees.{root};
-ghost use Rattle.names.specs.Ready.{MayGoOn};
+ghost use Rattle.names.specs.Ready.{AnyOf, MayGoOn};
+ghost use Rattle.names.specs.Undirecting.{RemovesDirectoryIn};
 
 use crate::calling::{
     link_in, look_at, look_in, make_directory_in, make_in, remove_directory_in, remove_in,
@@ -200,6 +207,8 @@ impl Server {
             (asked request.now) out.new.items tree.old.kernel tree.new.kernel) }
         ensures hindered { IfErr result (IsHindered D.Disk (Hinders node (asked request.now))
             tree.new.kernel tree.new.calls_left) }
+        ensures kept { IfErr result (Leaves D.Disk (Begins node (asked request.now))
+            tree.old.kernel tree.new.kernel tree.new.calls_left) }
     {
         match request {
             Request::MakeNode { mode, name } => {
@@ -250,6 +259,9 @@ impl Server {
             file out.old.items out.new.items) }
         ensures hindered { IfErr result (IsHindered D.Disk (IsNotLinked file to name.now)
             tree.new.kernel tree.new.calls_left) }
+        ensures kept { IfErr result (Keeps D.Disk tree.old.kernel
+            tree.new.kernel tree.new.calls_left) }
+        ensures seen { OnOk result (IsHidden to name.now → ⊥) }
     {
         let name = new_name(to, name)?;
         if has_aside(alloc, tree, file)? {
@@ -286,6 +298,9 @@ impl Server {
             (files_of (image_on D.image tree.new.kernel)) number out.old.items out.new.items) }
         ensures hindered { IfErr result (IsHindered D.Disk (IsUnmade node name.now)
             tree.new.kernel tree.new.calls_left) }
+        ensures kept { IfErr result (Keeps D.Disk tree.old.kernel
+            tree.new.kernel tree.new.calls_left) }
+        ensures seen { OnOk result (IsHidden node name.now → ⊥) }
     {
         let name = new_name(node, name)?;
         let made = make_in(alloc, tree, node, &name)?;
@@ -321,6 +336,9 @@ impl Server {
             tree.old.kernel tree.new.kernel) }
         ensures hindered { IfErr result (IsHindered D.Disk (IsUnmadeDirectory node name.now)
             tree.new.kernel tree.new.calls_left) }
+        ensures kept { IfErr result (Keeps D.Disk tree.old.kernel
+            tree.new.kernel tree.new.calls_left) }
+        ensures seen { OnOk result (IsHidden node name.now → ⊥) }
     {
         let name = new_name(node, name)?;
         let made = make_directory_in(alloc, tree, node, &name)?;
@@ -353,6 +371,8 @@ impl Server {
             tree.old.kernel tree.new.kernel) }
         ensures hindered { IfErr result (IsHindered D.Disk (Hinders node (asked request.now))
             tree.new.kernel tree.new.calls_left) }
+        ensures kept { IfErr result (Leaves D.Disk (Begins node (asked request.now))
+            tree.old.kernel tree.new.kernel tree.new.calls_left) }
     {
         match request {
             Request::Unlink { name } => self.unlink(alloc, tree, node, name, now),
@@ -391,10 +411,13 @@ impl Server {
         ensures ready { MayGoOn D.Disk tree.new.kernel tree.new.calls_left }
         ensures makes { Makes D.Disk (Unlinks from (padded name.now))
             tree.old.kernel tree.new.kernel tree.old.calls_left tree.new.calls_left }
-        ensures does { OnOk result (Did D.Disk (Unlinks from (padded name.now)) tree.old.kernel
-            tree.new.kernel) }
+        ensures does { OnOk result (Did D.Disk (λ form. Unlinked from (padded name.now))
+            tree.old.kernel tree.new.kernel) }
         ensures hindered { IfErr result (IsHindered D.Disk (IsNotUnlinked from name.now)
             tree.new.kernel tree.new.calls_left) }
+        ensures kept { IfErr result (Keeps D.Disk tree.old.kernel
+            tree.new.kernel tree.new.calls_left) }
+        ensures seen { OnOk result (IsHidden from name.now → ⊥) }
     {
         let name = old_name(from, name)?;
         let found = look_in(alloc, tree, from, &name)?;
@@ -420,9 +443,11 @@ impl Server {
         ensures ready { MayGoOn D.Disk tree.new.kernel tree.new.calls_left }
         ensures makes { Makes D.Disk (Unlinks from name.now) tree.old.kernel tree.new.kernel
             tree.old.calls_left tree.new.calls_left }
-        ensures does { OnOk result (Did D.Disk (Unlinks from name.now) tree.old.kernel
-            tree.new.kernel) }
+        ensures does { OnOk result (Did D.Disk (λ form. DropsName from name.now found.now.number)
+            tree.old.kernel tree.new.kernel) }
         ensures hindered { IfErr result (IsHindered D.Disk (IsNameKept from name.now)
+            tree.new.kernel tree.new.calls_left) }
+        ensures kept { IfErr result (Keeps D.Disk tree.old.kernel
             tree.new.kernel tree.new.calls_left) }
     {
         if self.needs_aside(found) {
@@ -458,6 +483,9 @@ impl Server {
             tree.new.kernel) }
         ensures hindered { IfErr result (IsHindered D.Disk (IsDirectoryKept from name.now)
             tree.new.kernel tree.new.calls_left) }
+        ensures kept { IfErr result (Keeps D.Disk tree.old.kernel
+            tree.new.kernel tree.new.calls_left) }
+        ensures seen { OnOk result (IsHidden from name.now → ⊥) }
     {
         let name = old_name(from, name)?;
         let found = look_in(alloc, tree, from, &name)?;
@@ -488,6 +516,11 @@ impl Server {
         ensures hindered { IfErr result (IsHindered D.Disk
             (IsNotRenamed flags from old.now to name.now)
             tree.new.kernel tree.new.calls_left) }
+        ensures kept { IfErr result (Leaves D.Disk (λ files new. (new ≡ files)
+            ⊎ AnyOf (RemovesDirectoryIn to (padded name.now)) files new)
+            tree.old.kernel tree.new.kernel tree.new.calls_left) }
+        ensures seen { OnOk result (AreSeen from old.now to name.now) }
+        ensures flags { OnOk result (flags ≤ 1) }
     {
         if flags > NEW_ALONE {
             return Err(Errno::Invalid);
@@ -537,6 +570,9 @@ impl Server {
             tree.old.kernel tree.new.kernel) }
         ensures hindered { IfErr result (IsHindered D.Disk (IsNotOver from old.now to name.now)
             tree.new.kernel tree.new.calls_left) }
+        ensures kept { IfErr result (Leaves D.Disk (λ files new. (new ≡ files)
+            ⊎ AnyOf (RemovesDirectoryIn to name.now) files new)
+            tree.old.kernel tree.new.kernel tree.new.calls_left) }
     {
         if found.kind == DIRECTORY {
             if source.kind != DIRECTORY {
@@ -576,6 +612,8 @@ impl Server {
         ensures does { OnOk result (DidAsked D.Disk node Release []
             tree.old.kernel tree.new.kernel) }
         ensures hindered { IfErr result (IsHindered D.Disk (Hinders node Release)
+            tree.new.kernel tree.new.calls_left) }
+        ensures kept { IfErr result (Keeps D.Disk tree.old.kernel
             tree.new.kernel tree.new.calls_left) }
     {
         if self.nodes.closed(node) {

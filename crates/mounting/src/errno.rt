@@ -15,7 +15,7 @@ pub enum Errno {
     NotPermitted,
     /// There is no such file.
     NoEntry,
-    /// A call of the disk failed, or one before.
+    /// The tree takes no other call, since one failed or as many were answered as it makes.
     InputOutput,
     /// Memory is refused, or an answer would have more than 4 MiB.
     NoMemory,
@@ -27,7 +27,8 @@ pub enum Errno {
     NotADirectory,
     /// The file is a directory.
     IsADirectory,
-    /// The request, or a name in it, is none; or a directory would be in itself.
+    /// The request, or a name in it, is none; a directory would be in itself; or what is read ends
+    /// behind 2^32 bytes.
     Invalid,
     /// The file would be too large.
     TooBig,
@@ -114,7 +115,7 @@ impl From<Unwritten> for Errno {
     fn from(cause: Unwritten) -> Errno {
         match cause {
             Unwritten::TooBig => Errno::TooBig,
-            Unwritten::TooLong | Unwritten::BadOffset => Errno::InputOutput,
+            Unwritten::TooLong | Unwritten::BadOffset => Errno::Invalid,
         }
     }
 }

@@ -55,6 +55,7 @@ pub(crate) fn read<D: Disk>(
     ensures same { OnOk result (StaySame D.Disk tree.old.kernel tree.new.kernel) }
     ensures reads { OnOk result (offset < 2 ^ 32 → out.new.items ≡ out.old.items
         ++ part_of (bytes_on D.Disk number tree.old.kernel) offset size) }
+    ensures none { OnOk result (2 ^ 32 ≤ offset → out.new.items ≡ out.old.items) }
     ensures hindered { IfErr result (IsHindered D.Disk (IsUnread number offset size)
         tree.new.kernel tree.new.calls_left) }
 {
@@ -98,7 +99,7 @@ fn read_piece<D: Disk>(
         tree.new.kernel tree.new.calls_left) }
 {
     let Some(at) = offset.checked_add(done) else {
-        return Err(Errno::InputOutput);
+        return Err(Errno::Invalid);
     };
     let bytes = read_at(alloc, tree, number, at, most)?;
     out.extend_from_slice(bytes.as_slice())?;
@@ -134,7 +135,7 @@ pub(crate) fn write<D: Disk>(
     }
     match u32::try_from(bytes.len().saturating_sub(left)) {
         Ok(count) => Ok(count),
-        Err(_) => Err(Errno::InputOutput),
+        Err(_) => Err(Errno::TooBig),
     }
 }
 

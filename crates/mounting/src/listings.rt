@@ -3,7 +3,7 @@ ghost use Rattle.std.specs.Prelude.{OnOk, ◌≡◌, ◌+◌, ◌^◌, ◌<◌, 
 ghost use Rattle.std.specs.List.{list_all};
 ghost use Rattle.calls.specs.Calls.{image_on};
 ghost use Rattle.directories.specs.Entries.{entries_of, padded};
-ghost use Rattle.directories.specs.Trees.{directory_in, root};
+ghost use Rattle.directories.specs.Trees.{directory_in, root, IsDirectory};
 ghost use Rattle.model.specs.Files.{files_of};
 ghost use Rattle.mounting.specs.Causes.{
   IsHindered,
@@ -126,6 +126,7 @@ fn are_digits(bytes: &[u8]) -> bool
 /// `NotPermitted` for a name aside in the root, and those of a name.
 pub(crate) fn new_name(node: u32, name: &[u8]) -> Result<Name, Errno>
     ensures is { IfOk result (λ made. made ≡ padded name.now) }
+    ensures seen { OnOk result (IsHidden node name.now → ⊥) }
     ensures hindered { IfErr result (IsNoNewName node name.now) }
 {
     if node == ROOT && is_aside(name) {
@@ -178,6 +179,8 @@ pub(crate) fn list<D: Disk>(
     ensures looks { OnlyLooks D.Disk tree.old.kernel tree.new.kernel
         tree.old.calls_left tree.new.calls_left }
     ensures same { OnOk result (StaySame D.Disk tree.old.kernel tree.new.kernel) }
+    ensures directory { OnOk result (IsDirectory
+        (files_of (image_on D.image tree.old.kernel)) number) }
     ensures lists { OnOk result (Lists (files_of (image_on D.image tree.old.kernel)) number
         part.offset part.size part.plus 0
         (entries_of (directory_in (files_of (image_on D.image tree.old.kernel)) number))

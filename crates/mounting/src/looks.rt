@@ -4,7 +4,7 @@ ghost use Rattle.calls.specs.Calls.{image_on};
 ghost use Rattle.fuse.specs.Requests.{asked, Lookup};
 ghost use Rattle.mounting.specs.Causes.{Hinders, IsHindered, IsNoMemory, IsRefused, Looks, NoCause};
 ghost use Rattle.mounting.specs.Asides.{IsHidden};
-ghost use Rattle.mounting.specs.Changes.{DidAsked, StaySame, OnlyLooks};
+ghost use Rattle.mounting.specs.Changes.{DidAsked, IsThere, OnlyLooks, StaySame};
 ghost use Rattle.mounting.specs.Tells.{AddsEntry, TellsAttributes, TellsNamed, TellsOpened};
 ghost use Rattle.directories.specs.Entries.{padded};
 ghost use Rattle.model.specs.Files.{files_of};
@@ -99,6 +99,7 @@ impl Server {
         ensures looks { OnlyLooks D.Disk tree.old.kernel tree.new.kernel
             tree.old.calls_left tree.new.calls_left }
         ensures same { OnOk result (StaySame D.Disk tree.old.kernel tree.new.kernel) }
+        ensures there { OnOk result (IsThere (files_of (image_on D.image tree.new.kernel)) node) }
         ensures tells { OnOk result (TellsOpened 2 out.old.items out.new.items) }
         ensures hindered { IfErr result (IsHindered D.Disk (IsRefused (IsNoFile node))
             tree.new.kernel tree.new.calls_left) }

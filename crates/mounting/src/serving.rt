@@ -4,11 +4,13 @@ ghost use Rattle.fuse.specs.Requests.{asked, request_in};
 ghost use Rattle.mounting.specs.Causes.{
   Hinders,
   HindersIf,
-  HindersServed,
   IsHindered,
   IsHinderedBy,
+  Leaves,
 };
 ghost use Rattle.mounting.specs.Changes.{
+  Begins,
+  BeginsIf,
   DidAsked,
   DidAskedIf,
   DidServe,
@@ -114,7 +116,7 @@ impl Server {
             tree.old.kernel tree.new.kernel tree.old.calls_left tree.new.calls_left }
         ensures answered { IfOk result (HasAnswer
             (DidServe D.Disk bytes.now tree.old.kernel tree.new.kernel)
-            (IsHinderedBy D.Disk (HindersServed bytes.now) tree.new.kernel tree.new.calls_left)
+            (IsHinderedBy D.Disk bytes.now tree.old.kernel tree.new.kernel tree.new.calls_left)
             bytes.now out.new.items) }
     {
         let Some(header) = read_header(bytes) else {
@@ -152,6 +154,8 @@ impl Server {
         ensures hindered { IfErr result (IsHindered D.Disk
             (HindersIf node (request_in opcode asked.now)) tree.new.kernel tree.new.calls_left) }
         ensures few { OnOk result (length out.new.items ≤ 4194304) }
+        ensures kept { IfErr result (Leaves D.Disk (BeginsIf node (request_in opcode asked.now))
+            tree.old.kernel tree.new.kernel tree.new.calls_left) }
     {
         let Some(request) = read_request(opcode, asked) else {
             return Err(Errno::Invalid);
@@ -184,6 +188,8 @@ impl Server {
             (asked request.now) out.new.items tree.old.kernel tree.new.kernel) }
         ensures hindered { IfErr result (IsHindered D.Disk (Hinders node (asked request.now))
             tree.new.kernel tree.new.calls_left) }
+        ensures kept { IfErr result (Leaves D.Disk (Begins node (asked request.now))
+            tree.old.kernel tree.new.kernel tree.new.calls_left) }
     {
         match request {
             Request::SetAttributes { .. } => self.change_file(alloc, tree, node, request, now, out),

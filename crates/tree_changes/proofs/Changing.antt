@@ -1,5 +1,5 @@
 -- What a change of files over a disk comes to, from its opening to its end.
-use Rattle.std.proofs.Common.{◌≡◌, ◌∙◌, ◌≤◌, ℕ, Bool, true, false, List, Option, None, sym, ap, subst, inl, inr, ⊎_elim}
+use Rattle.std.proofs.Common.{◌≡◌, ◌∙◌, ◌≤◌, ℕ, Bool, true, false, List, Option, None, sym, ap, subst, inl}
 use Rattle.std.specs.Prelude.{Result, Ok, Err, IfErr, OnOk}
 use Rattle.blocks.specs.Disk.{AddsNone, Image, LeavesOnly}
 use Rattle.blocks.specs.Lemmas.Moments.{stays}
@@ -17,7 +17,7 @@ use Rattle.model.specs.Verdict.{verdict}
 use Rattle.model.specs.declared.types.image.Form.{Form}
 use Rattle.names.specs.Inside.{form_seen}
 use Rattle.names.specs.Opening.{IsUnopened}
-use Rattle.names.specs.Ready.{KeepsTree, LeavesTree, LeavesMidst}
+use Rattle.names.specs.Ready.{KeepsTree, LeavesMidst}
 use Rattle.directories.specs.Counts.{AreCounted}
 use Rattle.directories.specs.Trees.{IsTree}
 use Rattle.names.specs.declared.opening.TreeOpenFault.{TreeOpenFault}

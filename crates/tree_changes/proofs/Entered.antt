@@ -51,10 +51,14 @@ pub absent_is : (fault : TreeFault) → is_absent fault ≡ true → fault ≡ t
 absent_is (tree.Refused NotFound) so = refl
 absent_is fault so = absurd (cc so)
 
--- where the files refused a call, they are as they were
+-- where the files refused a call, they are as they were, and have a cause
 pub refused_same : {D N : Type 0} (disk : Ghosts D N) (hinders : TreeFault → Type 0) (why : Files → Refusal → Type 0) (k m : Plain D) (fault : TreeFault) (cause : Refusal) → fault ≡ tree.Refused cause
     → IsUnansweredOr hinders disk why k m fault → files_of (image_on disk.image m) ≡ files_of (image_on disk.image k)
 refused_same disk hinders why k m fault cause is refused = (subst (λ (f : TreeFault). IsUnansweredOr hinders disk why k m f) is refused).0
+
+pub refused_why : {D N : Type 0} (disk : Ghosts D N) (hinders : TreeFault → Type 0) (why : Files → Refusal → Type 0) (k m : Plain D) (fault : TreeFault) (cause : Refusal) → fault ≡ tree.Refused cause
+    → IsUnansweredOr hinders disk why k m fault → why (files_of (image_on disk.image k)) cause
+refused_why disk hinders why k m fault cause is refused = (subst (λ (f : TreeFault). IsUnansweredOr hinders disk why k m f) is refused).1
 
 pub refused_same_at : {D N : Type 0} (disk : Ghosts D N) (path : List ℕ) (why : Files → Refusal → Type 0) (k m : Plain D) (fault : TreeFault) (cause : Refusal) → fault ≡ tree.Refused cause
     → IsUndone disk path why k m fault → files_of (image_on disk.image m) ≡ files_of (image_on disk.image k)

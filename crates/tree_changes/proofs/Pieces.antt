@@ -6,14 +6,11 @@ use Rattle.std.proofs.lemmas.Bool.{cases_lt}
 use Rattle.std.proofs.lemmas.List.{length-drop, take_all}
 use Rattle.std.proofs.lemmas.Result.{IfOk-weaker}
 use Rattle.blocks.specs.Disk.{LeavesOnly}
-use Rattle.blocks.specs.Lemmas.Moments.{joined}
 use Rattle.blocks.specs.declared.disk.Disk.{Ghosts}
 use Rattle.calls.specs.Calls.{image_on}
 use Rattle.calls.specs.Stepping.{Plain}
 use Rattle.calls.specs.Stopped.{StaysOver}
-use Rattle.history.specs.Lemmas.Leaving.{leaves_wider}
 use Rattle.model.specs.Files.{Files, files_of}
-use Rattle.model.specs.Log.{recovered}
 use Rattle.model.specs.declared.types.image.Form.{Form}
 use Rattle.names.specs.Inside.{form_seen}
 use Rattle.names.specs.Lemmas.Over.{form_stays}

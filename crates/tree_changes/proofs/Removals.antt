@@ -1,5 +1,5 @@
 -- Names that are removed one after the other, the last first.
-use Rattle.std.proofs.Common.{◌≡◌, ◌∙◌, ℕ, ◌+◌, ◌-◌, ◌<◌, ◌≤◌, true, List, [], ◌∷◌, ◌++◌, length, get_or, take, drop, flat_map, Result, Ok, Err, ap, refl, sym, subst, arith}
+use Rattle.std.proofs.Common.{◌≡◌, ◌≢◌, ◌∙◌, ℕ, ◌+◌, ◌-◌, ◌<◌, ◌≤◌, true, false, List, [], ◌∷◌, ◌++◌, length, get_or, take, drop, flat_map, Result, Ok, Err, ap, refl, sym, subst, arith}
 use Rattle.std.specs.Prelude.{OnOk}
 use Rattle.std.proofs.lemmas.List.{drop_more, take-append-drop}
 use Rattle.blocks.specs.declared.disk.Disk.{Ghosts}
@@ -11,17 +11,18 @@ use Rattle.directories.specs.Trees.{IsDirectory, IsTree}
 use Rattle.directories.specs.declared.refusal.Refusal.{Refusal}
 use Rattle.directories.specs.declared.refusal.Refusal.TheVariants.{IsADirectory}
 use Rattle.model.specs.Files.{Files, files_of}
+use Rattle.names.specs.Inside.{IsBroken}
 use Rattle.names.specs.Looks.{Looks}
 use Rattle.names.specs.Numbered.{IsNoDirectory, ListsAt}
 use Rattle.names.specs.Ready.{IsReady, IsUnanswered, LeavesIfDone}
 use Rattle.names.specs.declared.asking.Found.{Found}
 use Rattle.names.specs.declared.refusal.TreeFault.{TreeFault}
 use Rattle.names.specs.declared.refusal.TreeFault.TheVariants as tree
-use Rattle.tree_changes.proofs.Entered.{found_directory}
+use Rattle.tree_changes.proofs.Entered.{found_directory, found_other}
 use Rattle.tree_changes.proofs.Lefts.{left_on}
 use Rattle.tree_changes.proofs.Listed.{entries_named, names_are, no_names}
 use Rattle.tree_changes.specs.Changes.{IsOfTree}
-use Rattle.tree_changes.specs.Removing.{is_a_directory, is_refused, name_of_entry, names_in, no_memory, IsBadLast, IsBadLastOf, IsUnremovedOne, LeadsToNumber, RemovesEach, RemovesOne, RemovesSome, StopsRemoving}
+use Rattle.tree_changes.specs.Removing.{is_a_directory, is_refused, name_of_entry, names_in, no_memory, IsBadLast, IsBadLastOf, IsUnremovedOne, LeadsToFile, LeadsToNumber, RemovesEach, RemovesOne, RemovesSome, StopsRemoving}
 use Rattle.tree_changes.specs.declared.faults.ChangeRefusal.{ChangeRefusal}
 use Rattle.tree_changes.specs.declared.removing.Below.{Below}
 
@@ -89,11 +90,23 @@ module _ {D N : Type 0} (disk : Ghosts D N) (k m : Plain D) (number : ℕ) where
   pub unlisted_names : (fault : TreeFault) (cause : Refusal) → fault ≡ tree.Refused cause → IsUnanswered disk (IsNoDirectory number) k m fault → names_in (files_of (image_on disk.image k)) number ≡ []
   unlisted_names fault cause is refused = no_names (files_of (image_on disk.image k)) number (subst (λ (f : TreeFault). IsUnanswered disk (IsNoDirectory number) k m f) is refused).1.1
 
+  -- what is not refused is a fault of the kernel
+  pub unlisted_broken : (fault : TreeFault) → is_refused fault ≡ false → IsUnanswered disk (IsNoDirectory number) k m fault → IsBroken disk k m fault
+  unlisted_broken (tree.Path cause) not why = absurd why
+  unlisted_broken (tree.Refused cause) not why = absurd (cc not)
+  unlisted_broken (tree.Call cause) not why = why
+  unlisted_broken tree.NoSpace not why = why
+  unlisted_broken tree.NoCall not why = why
+
 -- a path leads to the directory that was found
 pub looked_number : (names : List (List ℕ)) (found : Found) (files new : Files) → Looks names found files new → found.kind ≡ 1 → LeadsToNumber names files found.number
 looked_number names found files new looks kind =
     let is : looks.number ≡ found.number = sym looks.found_is.is in
     (looks.led ∙ ap (λ (n : ℕ). Ok n) is, subst (IsDirectory files) is (found_directory files looks.number found looks.found_is kind))
+
+-- or to a file that is none
+pub looked_file : (names : List (List ℕ)) (found : Found) (files new : Files) → Looks names found files new → found.kind ≢ 1 → LeadsToFile names files
+looked_file names found files new looks kind = (looks.number, looks.led, found_other files looks.number found looks.found_is kind)
 
 -- a path has no name that leads down
 pub bad_last : (path : List ℕ) (names : List (List ℕ)) (fault : TreeFault) → names ≡ names_of path → IsBadLastOf names fault → IsBadLast path fault

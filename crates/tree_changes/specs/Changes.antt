@@ -1,9 +1,8 @@
 -- What changes of the files of a disk come to.
 use Rattle.std.specs.Prelude.{◌≡◌, ⊤, ℕ, Bool, List, Option, None, Some, IsTrue}
 use Rattle.std.specs.Io.KnownBytes.{Appends}
-use Rattle.blocks.specs.Disk.{LeavesOnly, Rose}
+use Rattle.blocks.specs.Disk.{Rose}
 use Rattle.blocks.specs.declared.disk.Disk.{Ghosts}
-use Rattle.calls.specs.Calls.{image_on}
 use Rattle.calls.specs.Opening.{IsOpenedPair}
 use Rattle.calls.specs.Stepping.{Plain}
 use Rattle.messages.specs.Output.{number_text}

@@ -1,5 +1,5 @@
 -- Each directory of a path, made where it isn't there.
-use Rattle.std.specs.Prelude.{◌≡◌, ◌≢◌, ◌⊎◌, ℕ, zero, suc, ◌≤◌, Bool, true, false, List, [], length, slice_index_or, Option, None, Ok}
+use Rattle.std.specs.Prelude.{◌≡◌, ◌≢◌, ◌⊎◌, ℕ, zero, suc, ◌<◌, ◌≤◌, Bool, true, false, List, [], length, slice_index_or, Option, None, Ok}
 use Rattle.blocks.specs.declared.disk.Disk.{Ghosts}
 use Rattle.calls.specs.Calls.{image_on}
 use Rattle.calls.specs.Stepping.{Plain}
@@ -103,13 +103,15 @@ IsNotEntered {D} disk from name k m r =
     OnTree (λ fault. (is_absent fault ≡ false)
     × IsUnanswered disk (IsUnseenIn from name) k m fault) r
     ⊎ (OnTree (IsUnanswered disk (IsOtherIn from name) k m) r
-    ⊎ ((mid : Plain D) × (files_of (image_on disk.image mid) ≡ files_of (image_on disk.image k))
-    × IsUnnewed disk from name mid m r))
+    ⊎ (IsUnseenIn from name (files_of (image_on disk.image k)) NotFound × ((mid : Plain D)
+    × (files_of (image_on disk.image mid) ≡ files_of (image_on disk.image k))
+    × IsUnnewed disk from name mid m r)))
 
 -- so many names lead to directories, and the one behind them does not
 pub record StopsEntering {D N : Type 0} (disk : Ghosts D N) (names : List (List ℕ)) (k m : Plain D)
     (r : ChangeRefusal) : Type 0 where
   pub count : ℕ
+  pub fewer : count < length names
   pub from : ℕ
   pub mid : Plain D
   pub entered : EntersEach names count from

@@ -12,7 +12,7 @@ use Rattle.names.specs.declared.writing.Unwritten.TheVariants as unwritten
 use Rattle.names.specs.Inside.{form_seen}
 use Rattle.directories.specs.Paths.{names_of}
 use Rattle.names.specs.Putting.{IsUnputIn, PutsAt}
-use Rattle.names.specs.Ready.{IsUnwritten, AnyOf, LeavesMidst}
+use Rattle.names.specs.Ready.{IsUnwritten, AnyOf}
 use Rattle.directories.specs.Walks.{IsUndoneIn}
 use Rattle.names.specs.Contents.{LeadsToNoPlain}
 use Rattle.names.specs.Writing.{Writes}

@@ -11,7 +11,7 @@ use Rattle.directories.specs.Trees.{directory_in, directory_kind, kind_of, leads
 use Rattle.directories.specs.Walks.{walked, IsUndoneIn, IsUnfound}
 use Rattle.directories.specs.declared.refusal.Refusal.TheVariants.{IsADirectory, IsRoot, NotDown}
 use Rattle.model.specs.Files.{Files, file_in, files_of}
-use Rattle.names.specs.Numbered.{IsNoDirectory}
+use Rattle.names.specs.Inside.{IsBroken}
 use Rattle.names.specs.Ready.{IsUnanswered, IsUndone}
 use Rattle.names.specs.Removing.{IsUnremovedIn, RemovesAt, RemovesIn}
 use Rattle.names.specs.Undirecting.{IsUnemptiedIn, RemovesDirectoryAt, RemovesDirectoryIn}
@@ -122,19 +122,17 @@ is_a_directory fault = false
 abbrev pub no_memory : ChangeRefusal
 no_memory = change.Tree (tree.Call call.NoMemory)
 
--- why the names of a directory are not had: it can't be listed, or memory for them was refused
-abbrev pub IsUnlisted : {D N : Type 0} → Ghosts D N → ℕ → Plain D → Plain D → ChangeRefusal
-    → Type 0
-IsUnlisted disk number k m r =
-    OnTree (λ fault. (is_refused fault ≡ false)
-    × IsUnanswered disk (IsNoDirectory number) k m fault) r
-    ⊎ (StaysSame disk k m × (r ≡ no_memory))
+-- why the names of a file are not had: a call of the kernel failed, or memory for them was refused;
+-- the files refuse none
+abbrev pub IsUnlisted : {D N : Type 0} → Ghosts D N → Plain D → Plain D → ChangeRefusal → Type 0
+IsUnlisted disk k m r =
+    OnTree (IsBroken disk k m) r ⊎ (StaysSame disk k m × (r ≡ no_memory))
 
--- those of some directory below are not, and the files on the disk are the same until then
+-- those of some file below are not, and the files on the disk are the same until then
 abbrev pub IsUnlistedBelow : {D N : Type 0} → Ghosts D N → Plain D → Plain D → ChangeRefusal
     → Type 0
-IsUnlistedBelow {D} disk k m r = (mid : Plain D) × StaysSame disk k mid
-    × ((number : ℕ) × IsUnlisted disk number mid m r)
+IsUnlistedBelow {D} disk k m r =
+    (mid : Plain D) × StaysSame disk k mid × IsUnlisted disk mid m r
 
 -- why the name of an empty directory was not removed
 abbrev pub IsNotEmptied : {D N : Type 0} → Ghosts D N → Below → Plain D → Plain D → ChangeRefusal
@@ -142,13 +140,15 @@ abbrev pub IsNotEmptied : {D N : Type 0} → Ghosts D N → Below → Plain D �
 IsNotEmptied disk one k m =
     OnTree (IsUnanswered disk (λ files. IsUnemptiedIn files one.from one.name) k m)
 
--- why a name was not: it is that of no directory, or of one
+-- why a name was not: a call that removes a file's did not, for another cause than that it is a
+-- directory's; or it is, and that was not removed
 abbrev pub IsUnremovedOne : {D N : Type 0} → Ghosts D N → Below → Plain D → Plain D
     → ChangeRefusal → Type 0
 IsUnremovedOne {D} disk one k m r =
     OnTree (λ fault. (is_a_directory fault ≡ false)
     × IsUnanswered disk (λ files. IsUnremovedIn files one.from one.name) k m fault) r
-    ⊎ ((mid : Plain D) × StaysSame disk k mid × IsNotEmptied disk one mid m r)
+    ⊎ (IsUnremovedIn (files_of (image_on disk.image k)) one.from one.name IsADirectory
+    × ((mid : Plain D) × StaysSame disk k mid × IsNotEmptied disk one mid m r))
 
 -- the names behind one were removed, and that one was not
 pub record StopsRemoving {D N : Type 0} (disk : Ghosts D N) (below : List Below) (k m : Plain D)
@@ -209,14 +209,21 @@ IsBadLast path fault = IsBadLastOf (names_of path) fault
 abbrev pub IsUnremovedTree : {D N : Type 0} → Ghosts D N → List ℕ → ℕ → Plain D → Plain D
     → ChangeRefusal → Type 0
 IsUnremovedTree disk path number k m r = ((m ≡ k) × OnTree (IsBadLast path) r)
-    ⊎ IsUnremovedBelow disk path number k m r
+    ⊎ (IsLastDown (names_of path) × IsUnremovedBelow disk path number k m r)
+
+-- names lead to a file that is no directory
+abbrev pub LeadsToFile : List (List ℕ) → Files → Type 0
+LeadsToFile names files =
+    (number : ℕ) × (walked files root names ≡ Ok number) × (IsDirectory files number → ⊥)
 
 -- Why what is at a path is not removed: the path leads nowhere; or to no directory, and its last name is
--- not; or to a directory.
+-- not removed; or to a directory.
 abbrev pub IsUnremovedAll : {D N : Type 0} → Ghosts D N → List ℕ → Plain D → Plain D
     → ChangeRefusal → Type 0
 IsUnremovedAll {D} disk path k m r =
     OnTree (IsUndone disk path (IsUnfound (names_of path)) k m) r
-    ⊎ ((mid : Plain D) × StaysSame disk k mid × (IsNotRemovedAt disk path mid m r
+    ⊎ ((mid : Plain D) × StaysSame disk k mid
+    × ((LeadsToFile (names_of path) (files_of (image_on disk.image k))
+    × IsNotRemovedAt disk path mid m r)
     ⊎ ((number : ℕ) × LeadsToNumber (names_of path) (files_of (image_on disk.image k)) number
     × IsUnremovedTree disk path number mid m r)))

@@ -310,7 +310,7 @@ fn add_names<D: Disk>(
         ++ names_in (files_of (image_on D.image tree.old.kernel)) number) }
     ensures same { OnOk result (StaysSame D.Disk tree.old.kernel tree.new.kernel) }
     ensures undone { IsReady D.Disk tree.old.kernel tree.old.calls_left → IfErr result
-        (IsUnlisted D.Disk number tree.old.kernel tree.new.kernel) }
+        (IsUnlisted D.Disk tree.old.kernel tree.new.kernel) }
     ensures cause { IfErr result IsOfTree }
     ensures leaves { LeavesIfDone D.Disk Stays tree.old.kernel tree.new.kernel }
     ensures stays { StaysOver D.Disk tree.old.kernel tree.new.kernel }

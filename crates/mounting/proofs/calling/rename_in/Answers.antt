@@ -2,7 +2,7 @@ use Rattle.std.proofs.Common.{◌∙◌, ap}
 use Rattle.names.specs.Lemmas.Runs.{nothing_done}
 use Rattle.names.specs.Inside.{Never}
 use Rattle.names.specs.Renaming.{IsUnrenamed, Renames}
-use Rattle.mounting.proofs.TreeCalls.{call_makes, call_stays}
+use Rattle.mounting.proofs.TreeCalls.{call_kept, call_makes, call_stays}
 use Rattle.mounting.proofs.Hindering.{call_hindered}
 use Rattle.mounting.proofs.calling.rename_in.Goals as goal
 
@@ -26,3 +26,10 @@ pub returns-clause-same : goal.returns-clause-same
 returns-clause-same g c =
     let called = c.rename_in in
     call_stays g.D.Disk Never (λ files. IsUnrenamed files c.args.from c.args.old.now c.args.to c.args.name.now) c.args.tree.now called.new.self c.args.tree.now.kernel called.new.self.kernel c.args.tree.now.calls_left called.result c.requires.ready called.ensures.none called.ensures.refused
+
+pub returns-clause-kept : goal.returns-clause-kept
+returns-clause-kept g c =
+    let called = c.rename_in in
+    let old = c.args.tree.now in
+    let new = called.new.self in
+    call_kept g.D.Disk Never (λ files. IsUnrenamed files c.args.from c.args.old.now c.args.to c.args.name.now) old new old.kernel new.kernel old.calls_left new.calls_left called.result c.requires.ready called.ensures.none called.ensures.done called.ensures.refused

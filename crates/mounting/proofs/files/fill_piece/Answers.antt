@@ -1,6 +1,6 @@
 use Rattle.mounting.proofs.Hindering.{unlengthened}
 use Rattle.std.proofs.Common.{◌∙◌, ◌+◌, ◌≡◌, ℕ, ◌≤◌, List, length, take, replicate, ap, subst, sym, arith, inl, inr}
-use Rattle.std.proofs.lemmas.List.{length-replicate, take-replicate}
+use Rattle.std.proofs.lemmas.List.{length-replicate, length-take, take-replicate}
 use Rattle.model.specs.Files.{Files}
 use Rattle.names.specs.Inside.{form_seen}
 use Rattle.names.specs.Numbered.{WritesSomeOf}
@@ -72,5 +72,8 @@ pub returns-in-Err-clause-hindered : goal.returns-in-Err-clause-hindered
 returns-in-Err-clause-hindered g c =
     let count = c.min-count.ensures in
     let some = c.requires.some in
+    let few : c.min-count.result ≤ 3072 = omega (arith, count) in
+    let zeroes : take c.min-count.result (replicate 3072 0) ≡ replicate c.min-count.result 0 = take-replicate c.min-count.result 3072 0 few in
+    let cut : length (take c.min-count.result (replicate 3072 0)) ≤ 3072 = let size = length-take {A = ℕ} c.min-count.result (replicate 3072 0) in omega (arith, size, few) in
     inl (inr (inr (unlengthened g.D.Disk c.args.number c.args.at c.args.to c.min-count.result _ c.args.tree.now.kernel c.write_at.new.tree.kernel c.in_ok-write_at.field-0 c.in-Err.cause c.into.result c.in-Err.is
-    (take-replicate c.min-count.result 3072 0 (omega (arith, count))) (omega (arith, count, some)) c.requires.end c.in_ok-write_at.ensures.does c.in_ok-write_at.ensures.part c.into.ensures)))
+    zeroes cut (omega (arith, count, some)) c.requires.end c.in_ok-write_at.ensures.does c.in_ok-write_at.ensures.part c.into.ensures)))

@@ -1,7 +1,7 @@
 use Rattle.model.specs.Files.{files_of}
 use Rattle.calls.specs.Files.{IsFull}
 use Rattle.calls.specs.Calls.{image_on}
-use Rattle.std.proofs.Common.{ℕ, inl, inr, subst, ◌-◌, ◌<◌, arith}
+use Rattle.std.proofs.Common.{ℕ, inl, inr, refl, subst, ◌<◌, arith}
 use Rattle.mounting.specs.Changes.{Lengthens, WritesPart, EndsShort}
 use Rattle.names.specs.Inside.{form_seen}
 use Rattle.mounting.proofs.files.write.Goals as goal
@@ -25,6 +25,9 @@ returns-in-Ok-try_from-clause-makes g c =
 pub returns-in-Err-clause-makes : goal.returns-in-Err-clause-makes
 returns-in-Err-clause-makes g c =
     λ task o first within before. c.write_pieces.ensures.makes task o first (λ x z is. within x z (inl (subst (λ (n : ℕ). WritesPart c.args.number n c.args.bytes.now (form_seen g.D.Disk.image o) x z) c.in-Ok.ensures.1 is))) (c.fill_up.ensures.makes task o first (λ x z is. within x z (inr (subst (λ (n : ℕ). Lengthens c.args.number n (form_seen g.D.Disk.image o) x z) c.in-Ok.ensures.1 is))) before)
+
+pub returns-in-Err-clause-hindered : goal.returns-in-Err-clause-hindered
+returns-in-Err-clause-hindered g c = inl (inr (inr (inr (refl, inr (omega (arith, c.in-Err.ensures, c.saturating_sub.ensures))))))
 
 pub returns-in-Ok-try_from-clause-short : goal.returns-in-Ok-try_from-clause-short
 returns-in-Ok-try_from-clause-short g c = λ few.

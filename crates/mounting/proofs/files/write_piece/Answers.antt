@@ -1,4 +1,4 @@
-use Rattle.mounting.proofs.Hindering.{wrote_behind}
+use Rattle.mounting.proofs.Hindering.{if_ok_both, wrote_behind}
 use Rattle.std.proofs.Common.{ℕ, ◌+◌, ◌-◌, take, drop, subst, arith}
 use Rattle.std.proofs.lemmas.Result.{IfOk-weaker}
 use Rattle.mounting.proofs.ReadParts.{stands_by}
@@ -19,6 +19,7 @@ returns-clause-stands g c =
 pub returns-clause-part : goal.returns-clause-part
 returns-clause-part g c =
     let least = c.min.ensures in
-    IfOk-weaker c.write_at.result _ _
-    (λ wrote part. wrote_behind g.D.Disk c.args.number c.args.offset c.in-Ok.at c.args.done (c.args.done + c.min.result - c.args.done) c.args.bytes.now c.write_at.new.tree.kernel wrote c.in-Ok.ensures.1 (λ few. omega (arith, few, least)) part)
-    c.write_at.ensures.part
+    if_ok_both c.write_at.result
+    (λ wrote writes part. wrote_behind g.D.Disk c.args.number c.args.offset c.in-Ok.at c.args.done (c.args.done + c.min.result - c.args.done) c.args.bytes.now c.args.tree.now.kernel c.write_at.new.tree.kernel wrote c.in-Ok.ensures.1 (λ few. omega (arith, few, least))
+    (omega (arith, least)) c.requires.stands writes part)
+    c.write_at.ensures.does c.write_at.ensures.part

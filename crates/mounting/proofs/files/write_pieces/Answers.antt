@@ -1,12 +1,8 @@
-use Rattle.mounting.specs.declared.errno.Errno.{Errno}
-use Rattle.model.specs.Files.{files_of}
-use Rattle.calls.specs.Calls.{image_on}
-use Rattle.names.specs.Inside.{form_seen}
 use Rattle.names.specs.Numbered.{IsNoFileOrDirectory}
-use Rattle.mounting.specs.Causes.{AreUnwritten, IsPartUnwritten, WroteBehind, errno_of}
+use Rattle.mounting.specs.Causes.{AreUnwritten, WroteBehind, errno_of, unwritten_errno}
 use Rattle.std.proofs.lemmas.Result.{err_from_is_err_and}
-use Rattle.mounting.proofs.Hindering.{ends_short, left_call}
-use Rattle.std.proofs.Common.{◌≡◌, ℕ, ◌+◌, ◌-◌, length, subst, arith, inl, inr, sym}
+use Rattle.mounting.proofs.Hindering.{left_call}
+use Rattle.std.proofs.Common.{◌≡◌, ◌∙◌, ℕ, ◌+◌, ◌-◌, length, ap, subst, arith, inl, inr}
 use Rattle.std.specs.Prelude.{Result}
 use Rattle.mounting.specs.Changes.{bytes_on, wrote_count, StandsAt}
 use Rattle.names.specs.declared.writing.Unwritten.{Unwritten}
@@ -51,13 +47,13 @@ pub returns-then-left-bytes-clause-hindered : goal.returns-then-left-bytes-claus
 returns-then-left-bytes-clause-hindered g c =
     let m = c.write_piece.new.tree.kernel in
     let part = subst (λ (r : Result ℕ Unwritten). WroteBehind g.D.Disk c.args.number c.args.offset c.args.bytes.now (length c.args.bytes.now - c.loop-piece.left) m r) c.in-Err.is c.in_ok-write_piece.ensures.part in
-    inl (inr (subst (λ (e : Errno). IsPartUnwritten (form_seen g.D.Disk.image m) (files_of (image_on g.D.Disk.image m)) c.args.number c.args.offset c.args.bytes.now e) (sym c.into.ensures) part))
+    inl (inr (c.into.ensures ∙ ap unwritten_errno part.0, part.1))
 
 pub returns-in-Err-clause-short : goal.returns-in-Err-clause-short
 returns-in-Err-clause-short g c = λ some.
     let m = c.write_piece.new.tree.kernel in
     let part = subst (λ (r : Result ℕ Unwritten). WroteBehind g.D.Disk c.args.number c.args.offset c.args.bytes.now (length c.args.bytes.now - c.loop-piece.left) m r) c.in-Err.is c.in_ok-write_piece.ensures.part in
-    (λ all. absurd (c.if-left-bytes.false all), ends_short g.D.Disk c.args.number c.args.offset c.args.bytes.now m c.in-Err.cause part)
+    (λ all. absurd (c.if-left-bytes.false all), inr part.1)
 
 pub returns-clause-short : goal.returns-clause-short
 returns-clause-short g c = λ some.

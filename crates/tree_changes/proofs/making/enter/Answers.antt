@@ -7,7 +7,7 @@ use Rattle.names.specs.Numbered.{IsUnseenIn, LooksIn}
 use Rattle.names.specs.Ready.{AnyOf}
 use Rattle.names.specs.declared.asking.Found.{Found}
 use Rattle.tree_changes.specs.Making.{EntersAny}
-use Rattle.tree_changes.proofs.Entered.{absent_is, entered_found, entered_other, refused_ready, refused_same}
+use Rattle.tree_changes.proofs.Entered.{absent_is, entered_found, entered_other, refused_ready, refused_same, refused_why}
 use Rattle.tree_changes.proofs.Lefts.{left_behind, left_more, look_leaves}
 use Rattle.tree_changes.proofs.making.enter.Goals as goal
 
@@ -27,7 +27,8 @@ pub returns-then-is_absent-clause-undone : goal.returns-then-is_absent-clause-un
 returns-then-is_absent-clause-undone g c = λ ready.
     let is = absent_is c.in-Err.fault (sym c.is_absent.ensures ∙ c.if-is_absent.true) in
     let same = refused_same g.D.Disk Never (IsUnseenIn c.args.from c.args.name.now) c.args.tree.now.kernel c.look_in.new.self.kernel c.in-Err.fault NotFound is (c.in-Err.ensures.refused ready) in
-    IfErr-weaker c.make_new.result _ _ (λ r why. inr (inr (c.look_in.new.self.kernel, same, why)))
+    let unseen = refused_why g.D.Disk Never (IsUnseenIn c.args.from c.args.name.now) c.args.tree.now.kernel c.look_in.new.self.kernel c.in-Err.fault NotFound is (c.in-Err.ensures.refused ready) in
+    IfErr-weaker c.make_new.result _ _ (λ r why. inr (inr (unseen, (c.look_in.new.self.kernel, same, why))))
     (c.make_new.ensures.undone (refused_ready Found g.D.Disk c.look_in.new.self.kernel c.look_in.new.self.calls_left c.in-Err.fault NotFound is c.in-Err.ensures.done))
 
 pub returns-then-is_absent-clause-leaves : goal.returns-then-is_absent-clause-leaves

@@ -35,6 +35,7 @@ returns-in_err-number-clause-undone g c = λ ready.
     let stops : StopsEntering g.D.Disk names c.args.tree.now.kernel c.enter.new.tree.kernel c.in_err-number.field-0.0
     = record {
       count = c.loop-name.name-index;
+      fewer = omega (arith, c.loop-name-test.true);
       from = c.loop-name.number;
       mid = c.loop-name.tree.kernel;
       entered = c.loop-name.invariant.entered;

@@ -7,7 +7,7 @@ use Rattle.tree_changes.specs.Removing.{Stays}
 use Rattle.tree_changes.specs.declared.removing.Below.{Below}
 use Rattle.tree_changes.proofs.Entered.{refused_ready, refused_same}
 use Rattle.tree_changes.proofs.Lefts.{look_leaves}
-use Rattle.tree_changes.proofs.Removals.{listed_named, listed_names, of_no_memory, on_any, refused_is, unlisted_names}
+use Rattle.tree_changes.proofs.Removals.{listed_named, listed_names, of_no_memory, on_any, refused_is, unlisted_broken, unlisted_names}
 use Rattle.tree_changes.proofs.removing.add_names.Goals as goal
 
 pub add_entries-requires : goal.add_entries-requires
@@ -55,7 +55,8 @@ returns-then-is_refused-clause-leaves g c =
     inr (look_leaves g.D.Disk (ListsAt c.args.number) Stays c.args.tree.now.kernel c.list_at.new.self.kernel (λ made z is. is.same) (c.list_at.ensures.leaves (c.if-not-may_call.ensures.0 refl)))
 
 pub returns-else-is_refused-clause-undone : goal.returns-else-is_refused-clause-undone
-returns-else-is_refused-clause-undone g c = λ ready. inl (sym c.is_refused.ensures ∙ c.if-is_refused.false, c.in-Err.ensures.refused ready)
+returns-else-is_refused-clause-undone g c = λ ready.
+    inl (unlisted_broken g.D.Disk c.args.tree.now.kernel c.list_at.new.self.kernel c.args.number c.in-Err.fault (sym c.is_refused.ensures ∙ c.if-is_refused.false) (c.in-Err.ensures.refused ready))
 
 pub returns-else-is_refused-clause-leaves : goal.returns-else-is_refused-clause-leaves
 returns-else-is_refused-clause-leaves g c =

@@ -12,13 +12,13 @@ use Rattle.tree_changes.proofs.removing.names_below.Goals as goal
 pub returns-in_err-add_names-clause-undone : goal.returns-in_err-add_names-clause-undone
 returns-in_err-add_names-clause-undone g c = λ ready.
     let p = err_from_is_err_and c.from_residual.result c.from_residual.ensures.1 in
-    rw (p.1, p.2) (c.args.tree.now.kernel, refl, (c.args.number, c.in_err-add_names.ensures.undone ready))
+    rw (p.1, p.2) (c.args.tree.now.kernel, refl, c.in_err-add_names.ensures.undone ready)
 
 pub returns-in_err-add_names-2-clause-undone : goal.returns-in_err-add_names-2-clause-undone
 returns-in_err-add_names-2-clause-undone g c = λ ready.
     let so_far = c.loop-place.invariant in
     let p = err_from_is_err_and c.from_residual-in_err-add_names-2.result c.from_residual-in_err-add_names-2.ensures.1 in
-    rw (p.1, p.2) (c.loop-place.tree.kernel, so_far.same ∙ c.in_ok-add_names.ensures.same, (c.index.result.now.number, c.in_err-add_names-2.ensures.undone (so_far.kept c.in_ok-add_names.ensures.done)))
+    rw (p.1, p.2) (c.loop-place.tree.kernel, so_far.same ∙ c.in_ok-add_names.ensures.same, c.in_err-add_names-2.ensures.undone (so_far.kept c.in_ok-add_names.ensures.done))
 
 pub returns-in_err-add_names-2-clause-leaves : goal.returns-in_err-add_names-2-clause-leaves
 returns-in_err-add_names-2-clause-leaves g c =

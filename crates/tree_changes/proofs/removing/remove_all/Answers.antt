@@ -6,7 +6,7 @@ use Rattle.names.specs.Looks.{Looks}
 use Rattle.names.specs.Removing.{RemovesAt}
 use Rattle.tree_changes.specs.Removing.{LeadsToNumber, RemovesPart, RemovesPartBelow}
 use Rattle.tree_changes.proofs.Lefts.{left_behind, left_more, look_leaves}
-use Rattle.tree_changes.proofs.Removals.{looked_number}
+use Rattle.tree_changes.proofs.Removals.{looked_file, looked_number}
 use Rattle.tree_changes.proofs.removing.remove_all.Goals as goal
 
 pub returns-then-found-eq-DIRECTORY_KIND-clause-undone : goal.returns-then-found-eq-DIRECTORY_KIND-clause-undone
@@ -28,7 +28,7 @@ returns-then-found-eq-DIRECTORY_KIND-clause-leaves g c =
 
 pub returns-else-found-eq-DIRECTORY_KIND-clause-undone : goal.returns-else-found-eq-DIRECTORY_KIND-clause-undone
 returns-else-found-eq-DIRECTORY_KIND-clause-undone g c =
-    IfErr-weaker c.remove_name.result _ _ (λ r why. inr (c.look.new.self.kernel, c.in-Ok.ensures.looks.same, inl why)) (c.remove_name.ensures.undone c.in-Ok.ensures.done)
+    IfErr-weaker c.remove_name.result _ _ (λ r why. inr (c.look.new.self.kernel, c.in-Ok.ensures.looks.same, inl (looked_file (names_of c.args.path.now) c.in-Ok.found _ _ c.in-Ok.ensures.looks c.if-found-eq-DIRECTORY_KIND.false, why))) (c.remove_name.ensures.undone c.in-Ok.ensures.done)
 
 pub returns-else-found-eq-DIRECTORY_KIND-clause-leaves : goal.returns-else-found-eq-DIRECTORY_KIND-clause-leaves
 returns-else-found-eq-DIRECTORY_KIND-clause-leaves g c =

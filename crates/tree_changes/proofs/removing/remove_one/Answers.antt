@@ -8,7 +8,7 @@ use Rattle.names.specs.Lemmas.Over.{over_on}
 use Rattle.names.specs.Removing.{IsUnremovedIn, RemovesIn}
 use Rattle.names.specs.Undirecting.{RemovesDirectoryIn}
 use Rattle.tree_changes.specs.Removing.{RemovesOne}
-use Rattle.tree_changes.proofs.Entered.{refused_ready, refused_same}
+use Rattle.tree_changes.proofs.Entered.{refused_ready, refused_same, refused_why}
 use Rattle.tree_changes.proofs.Lefts.{call_leaves, left_behind, left_more}
 use Rattle.tree_changes.proofs.Removals.{directory_is}
 use Rattle.tree_changes.proofs.removing.remove_one.Goals as goal
@@ -29,7 +29,8 @@ returns-then-is_a_directory-clause-undone g c = λ ready.
     let one = c.args.one.now in
     let is = directory_is c.in-Err.fault (sym c.is_a_directory.ensures ∙ c.if-is_a_directory.true) in
     let same = refused_same g.D.Disk Never (λ files. IsUnremovedIn files one.from one.name) c.args.tree.now.kernel c.remove_in.new.self.kernel c.in-Err.fault IsADirectory is (c.in-Err.ensures.refused ready) in
-    IfErr-weaker c.remove_empty.result _ _ (λ r why. inr (c.remove_in.new.self.kernel, same, why))
+    let found = refused_why g.D.Disk Never (λ files. IsUnremovedIn files one.from one.name) c.args.tree.now.kernel c.remove_in.new.self.kernel c.in-Err.fault IsADirectory is (c.in-Err.ensures.refused ready) in
+    IfErr-weaker c.remove_empty.result _ _ (λ r why. inr (found, (c.remove_in.new.self.kernel, same, why)))
     (c.remove_empty.ensures.undone (refused_ready (Unit {0}) g.D.Disk c.remove_in.new.self.kernel c.remove_in.new.self.calls_left c.in-Err.fault IsADirectory is c.in-Err.ensures.done))
 
 pub returns-then-is_a_directory-clause-leaves : goal.returns-then-is_a_directory-clause-leaves

@@ -1,4 +1,4 @@
-use Rattle.mounting.proofs.TreeCalls.{both_ok}
+use Rattle.mounting.proofs.TreeCalls.{all_ok}
 use Rattle.mounting.specs.Tells.{TellsEntry}
 use Rattle.fuse.specs.Requests.{asked}
 use Rattle.mounting.specs.Causes.{Hinders, IsNotLinked, IsUnmadeDirectory}
@@ -43,8 +43,11 @@ returns-in_ok-number-in-Create-clause-does g c =
     let new = files_of (image_on g.D.Disk.image c.make-in-Create.new.tree.kernel) in
     on_ok_weaker c.tell_opened.result
     (λ opened empty. done_as (form_seen g.D.Disk.image c.make-in-Create.new.tree.kernel) (IsFull (image_on g.D.Disk.image c.make-in-Create.new.tree.kernel)) c.args.node c.tell_opened.new.out.items _ _ (files_of (image_on g.D.Disk.image c.args.tree.now.kernel)) (files_of (image_on g.D.Disk.image c.make-in-Create.new.tree.kernel)) c.in-Create.is (
-      c.make-in-Create.new.out.items,
-      ((c.in_ok-number-in-Create.number, (c.in_ok-number-in-Create.ensures.makes_it, subst (λ (old : List ℕ). TellsEntry new c.in_ok-number-in-Create.number old c.make-in-Create.new.out.items) empty c.in_ok-number-in-Create.ensures.tells)), opened),
+      c.in_ok-number-in-Create.ensures.seen,
+      (
+        c.make-in-Create.new.out.items,
+        ((c.in_ok-number-in-Create.number, (c.in_ok-number-in-Create.ensures.makes_it, subst (λ (old : List ℕ). TellsEntry new c.in_ok-number-in-Create.number old c.make-in-Create.new.out.items) empty c.in_ok-number-in-Create.ensures.tells)), opened),
+      ),
     ))
     c.tell_opened.ensures.tells
 
@@ -57,8 +60,9 @@ returns-in-MakeDirectory-clause-hindered g c =
 pub returns-in-Ok-clause-does : goal.returns-in-Ok-clause-does
 returns-in-Ok-clause-does g c =
     let new = files_of (image_on g.D.Disk.image c.link.new.tree.kernel) in
-    both_ok c.link.result c.link.ensures.does c.link.ensures.tells
-    (λ does tells empty. done_as (form_seen g.D.Disk.image c.link.new.tree.kernel) (IsFull (image_on g.D.Disk.image c.link.new.tree.kernel)) c.args.node c.link.new.out.items _ _ (files_of (image_on g.D.Disk.image c.args.tree.now.kernel)) (files_of (image_on g.D.Disk.image c.link.new.tree.kernel)) c.in-Link.is (
+    all_ok c.link.result c.link.ensures.seen c.link.ensures.does c.link.ensures.tells
+    (λ seen does tells empty. done_as (form_seen g.D.Disk.image c.link.new.tree.kernel) (IsFull (image_on g.D.Disk.image c.link.new.tree.kernel)) c.args.node c.link.new.out.items _ _ (files_of (image_on g.D.Disk.image c.args.tree.now.kernel)) (files_of (image_on g.D.Disk.image c.link.new.tree.kernel)) c.in-Link.is (
+      seen,
       subst (λ (n : ℕ). Links n c.args.node (padded c.in-Link.name.now) (form_seen g.D.Disk.image c.args.tree.now.kernel) (files_of (image_on g.D.Disk.image c.args.tree.now.kernel)) new) c.in-Ok.ensures.1 does,
       subst (λ (n : ℕ). TellsEntry new n [] c.link.new.out.items) c.in-Ok.ensures.1 (subst (λ (old : List ℕ). TellsEntry new c.in-Ok.file old c.link.new.out.items) empty tells),
     ))

@@ -21,7 +21,7 @@ returns-then-needs_aside-clause-makes g c =
 
 pub returns-then-needs_aside-clause-does : goal.returns-then-needs_aside-clause-does
 returns-then-needs_aside-clause-does g c =
-    inr (c.args.found.now.number, subst (λ (aside : List ℕ). AnyOf (Renames c.args.from c.args.name.now root aside) (files_of (image_on g.D.Disk.image c.args.tree.now.kernel)) (files_of (image_on g.D.Disk.image c.rename_in.new.tree.kernel))) c.aside-aside.ensures (tt, c.in_ok-rename_in.ensures.does))
+    inr (subst (λ (aside : List ℕ). AnyOf (Renames c.args.from c.args.name.now root aside) (files_of (image_on g.D.Disk.image c.args.tree.now.kernel)) (files_of (image_on g.D.Disk.image c.rename_in.new.tree.kernel))) c.aside-aside.ensures (tt, c.in_ok-rename_in.ensures.does))
 
 pub returns-in_err-remove_in-clause-makes : goal.returns-in_err-remove_in-clause-makes
 returns-in_err-remove_in-clause-makes g c =

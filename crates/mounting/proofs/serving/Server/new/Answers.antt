@@ -1,4 +1,3 @@
-use Rattle.std.proofs.Common.{refl}
 use Rattle.mounting.specs.Changes.{Sweeping}
 use Rattle.mounting.proofs.TreeCalls.{task_run}
 use Rattle.mounting.proofs.serving.Server.new.Goals as goal

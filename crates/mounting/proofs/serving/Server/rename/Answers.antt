@@ -1,7 +1,9 @@
+use Rattle.directories.specs.Entries.{padded}
+use Rattle.names.specs.Undirecting.{RemovesDirectoryIn}
 use Rattle.names.specs.Numbered.{IsUnseenIn}
 use Rattle.mounting.specs.Causes.{IsNoNewName, IsNotOver, IsNotRenamed, IsRefused, LeadsTo, errno_of}
-use Rattle.mounting.proofs.Hindering.{left_call, left_for, err_by}
-use Rattle.std.proofs.Common.{◌∙◌, ◌≡◌, ℕ, List, Err, inl, inr, subst, arith, refl, sym}
+use Rattle.mounting.proofs.Hindering.{left_call, left_for, err_by, left_after}
+use Rattle.std.proofs.Common.{◌∙◌, ◌≡◌, ℕ, List, Err, inl, inr, subst, arith, refl, sym, ◌⊎◌}
 use Rattle.calls.specs.Calls.{image_on}
 use Rattle.model.specs.Files.{Files, files_of}
 use Rattle.mounting.specs.Changes.{RenamesFile, StaysIfRefused, StaySame}
@@ -103,3 +105,13 @@ returns-else-source-found-clause-hindered g c =
     err_by g.D.Disk (IsNotOver c.args.from c.in_ok-old.old c.args.to c.in_ok-name.name) (IsNotRenamed c.args.flags c.args.from c.args.old.now c.args.to c.args.name.now)
     (λ form x e is. inr (inr (inr (inr (twice (λ (a b : List ℕ). IsNotOver c.args.from a c.args.to b form x e) _ _ _ _ c.in_ok-old.ensures.is c.in_ok-name.ensures.is is)))))
     c.rename_over.new.tree.kernel c.rename_over.new.tree.calls_left c.rename_over.result c.rename_over.ensures.hindered
+
+pub returns-else-source-found-clause-kept : goal.returns-else-source-found-clause-kept
+returns-else-source-found-clause-kept g c =
+    let disk = g.D.Disk in
+    let k = c.args.tree.now.kernel in
+    let m = c.look_in-2.new.tree.kernel in
+    left_after disk (λ x z. (z ≡ x) ⊎ AnyOf (RemovesDirectoryIn c.args.to c.in_ok-name.name) x z) (λ x z. (z ≡ x) ⊎ AnyOf (RemovesDirectoryIn c.args.to (padded c.args.name.now)) x z) k m c.rename_over.new.tree.kernel c.rename_over.new.tree.calls_left c.rename_over.result
+    (λ new left. subst (λ (x : Files). (new ≡ x) ⊎ AnyOf (RemovesDirectoryIn c.args.to (padded c.args.name.now)) x new) (c.in-Ok.ensures.does.same ∙ c.in_ok-source.ensures.does.same)
+    (subst (λ (n : List ℕ). (new ≡ files_of (image_on disk.image m)) ⊎ AnyOf (RemovesDirectoryIn c.args.to n) (files_of (image_on disk.image m)) new) c.in_ok-name.ensures.is left))
+    c.rename_over.ensures.kept

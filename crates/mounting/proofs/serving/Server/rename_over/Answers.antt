@@ -1,12 +1,12 @@
 use Rattle.calls.specs.Calls.{image_on}
 use Rattle.mounting.proofs.FoundKinds.{is_directory, is_other}
-use Rattle.model.specs.Files.{files_of}
+use Rattle.model.specs.Files.{files_of, Files}
 use Rattle.names.specs.Renaming.{IsUnrenamed}
-use Rattle.names.specs.Undirecting.{IsUnemptiedIn}
+use Rattle.names.specs.Undirecting.{IsUnemptiedIn, RemovesDirectoryIn}
 use Rattle.mounting.specs.Causes.{IsNotOver, IsRefused, IsRefusedBy, LeadsTo, errno_of}
 use Rattle.std.proofs.lemmas.Result.{err_from_is_err_and}
-use Rattle.mounting.proofs.Hindering.{left_call, left_by, undone_there}
-use Rattle.std.proofs.Common.{ℕ, List, inl, inr, subst, sym, refl}
+use Rattle.mounting.proofs.Hindering.{left_call, left_by, undone_there, left_same}
+use Rattle.std.proofs.Common.{ℕ, List, inl, inr, subst, sym, refl, ◌≡◌, ◌⊎◌}
 use Rattle.names.specs.Ready.{AnyOf}
 use Rattle.names.specs.Replacing.{Replaces, IsUnreplaced}
 use Rattle.mounting.proofs.serving.Server.rename_over.Goals as goal
@@ -71,3 +71,38 @@ returns-in_err-replace_in-clause-hindered g c =
     c.replace_in.new.tree.kernel c.replace_in.new.tree.calls_left c.from_residual-in_err-replace_in.result p.0 _ p.1 p.2
     (undone_there g.D.Disk (Unit {0}) errno_of why (λ files. LeadsTo files c.args.to name number) c.args.tree.now.kernel c.replace_in.new.tree.kernel c.replace_in.new.tree.calls_left c.in_err-replace_in.field-0.0
     (subst (λ (n : ℕ). LeadsTo (files_of (image_on g.D.Disk.image c.args.tree.now.kernel)) c.args.to name n) (sym there.found_is.is) there.led) c.in_err-replace_in.ensures.same c.in_err-replace_in.ensures.hindered)
+
+pub returns-then-keeps-clause-does : goal.returns-then-keeps-clause-does
+returns-then-keeps-clause-does g c =
+    let there = c.requires.there in
+    let files = files_of (image_on g.D.Disk.image c.args.tree.now.kernel) in
+    let keeps = c.needs_aside-keeps.result in
+    inr (inr (inl (
+      c.args.found.number,
+      (
+        keeps,
+        subst (λ (n : ℕ). LeadsTo files c.args.to c.args.name.now n) (sym there.found_is.is) there.led,
+        subst (λ (aside : List ℕ). AnyOf (Replaces c.args.from c.args.old.now c.args.to c.args.name.now aside keeps) files (files_of (image_on g.D.Disk.image c.replace_in.new.tree.kernel))) c.aside-aside.ensures (tt, c.in_ok-replace_in.ensures.does),
+      ),
+    )))
+
+pub returns-else-keeps-clause-does : goal.returns-else-keeps-clause-does
+returns-else-keeps-clause-does g c =
+    let there = c.requires.there in
+    let files = files_of (image_on g.D.Disk.image c.args.tree.now.kernel) in
+    let keeps = c.needs_aside-keeps.result in
+    inr (inr (inl (
+      c.args.found.number,
+      (
+        keeps,
+        subst (λ (n : ℕ). LeadsTo files c.args.to c.args.name.now n) (sym there.found_is.is) there.led,
+        subst (λ (aside : List ℕ). AnyOf (Replaces c.args.from c.args.old.now c.args.to c.args.name.now aside keeps) files (files_of (image_on g.D.Disk.image c.replace_in.new.tree.kernel))) c.aside-aside.ensures (tt, c.in_ok-replace_in.ensures.does),
+      ),
+    )))
+
+pub returns-in_err-rename_in-clause-kept : goal.returns-in_err-rename_in-clause-kept
+returns-in_err-rename_in-clause-kept g c =
+    let p = err_from_is_err_and c.from_residual-in_err-rename_in.result c.from_residual-in_err-rename_in.ensures.1 in
+    let files = files_of (image_on g.D.Disk.image c.args.tree.now.kernel) in
+    left_same g.D.Disk (λ x z. (z ≡ x) ⊎ AnyOf (RemovesDirectoryIn c.args.to c.args.name.now) x z) c.args.tree.now.kernel c.rename_in.new.tree.kernel c.rename_in.new.tree.calls_left c.from_residual-in_err-rename_in.result p.0 p.1
+    (λ some. inr (subst (λ (z : Files). AnyOf (RemovesDirectoryIn c.args.to c.args.name.now) files z) (sym (c.in_err-rename_in.ensures.kept some)) (tt, c.in_ok-remove_directory_in.ensures.does)))

@@ -1,5 +1,5 @@
 use Rattle.mounting.proofs.Hindering.{number_few, number_some}
-use Rattle.mounting.proofs.TreeCalls.{served_done, served_hindered, served_run}
+use Rattle.mounting.proofs.TreeCalls.{served_done, served_hindered, served_left, served_run}
 use Rattle.mounting.specs.Answers.{answer_bytes}
 use Rattle.fuse.specs.Requests.{header_in, wants_none}
 use Rattle.fuse.specs.declared.header.Header.{Header}
@@ -42,6 +42,6 @@ returns-in_ok-put_answer-in-Err-clause-answered g c =
       is = c.in_ok-put_answer-in-Err.ensures ∙ ap (λ (h : Header). answer_bytes c.number.result h.unique []) same;
       alone = inr refl;
       is_done = λ zero. absurd (number_some c.in-Err.errno (sym c.number.ensures ∙ zero));
-      hindered = λ some. (c.in-Err.errno, (c.number.ensures, served_hindered g.D.Disk c.args.bytes.now c.in-Some.header c.told.new.tree.kernel c.told.new.tree.calls_left c.in-Err.errno same c.in-Err.ensures.hindered));
+      hindered = λ some. (c.in-Err.errno, (c.number.ensures, served_hindered g.D.Disk c.args.bytes.now c.in-Some.header c.told.new.tree.kernel c.told.new.tree.calls_left c.in-Err.errno same c.in-Err.ensures.hindered, served_left g.D.Disk c.args.bytes.now c.in-Some.header c.args.tree.now.kernel c.told.new.tree.kernel c.told.new.tree.calls_left c.in-Err.errno same c.in-Err.ensures.kept));
       wanted = subst (λ (h : Header). wants_none h.opcode ≡ false) same (sym c.wants_none.ensures ∙ c.if-wants_none.false);
     }

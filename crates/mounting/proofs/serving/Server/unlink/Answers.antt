@@ -1,11 +1,11 @@
-use Rattle.mounting.proofs.FoundKinds.{is_directory_there, leads_there}
+use Rattle.mounting.proofs.FoundKinds.{is_directory_there, leads_there, unlinked}
 use Rattle.names.specs.Numbered.{IsUnseenIn}
 use Rattle.mounting.specs.Causes.{IsNameKept, IsNotUnlinked, IsRefused, LeadsToDirectory, errno_of}
-use Rattle.mounting.proofs.Hindering.{left_call, err_by}
+use Rattle.mounting.proofs.Hindering.{left_call, err_by, left_after}
 use Rattle.std.proofs.lemmas.Result.{on_ok_weaker, err_from_is_err_and}
 use Rattle.calls.specs.Calls.{image_on}
-use Rattle.model.specs.Files.{Files, files_of}
-use Rattle.std.proofs.Common.{ℕ, List, subst, inl, inr, refl}
+use Rattle.model.specs.Files.{files_of}
+use Rattle.std.proofs.Common.{ℕ, List, subst, inl, inr, refl, ◌≡◌, ◌∙◌}
 use Rattle.mounting.specs.Changes.{Unlinks}
 use Rattle.names.specs.Inside.{form_seen}
 use Rattle.mounting.proofs.serving.Server.unlink.Goals as goal
@@ -25,8 +25,7 @@ returns-clause-makes g c =
 pub returns-clause-does : goal.returns-clause-does
 returns-clause-does g c =
     on_ok_weaker c.drop_name.result
-    (λ done. subst (λ (name : List ℕ). Unlinks c.args.from name (form_seen g.D.Disk.image c.args.tree.now.kernel) (files_of (image_on g.D.Disk.image c.args.tree.now.kernel)) (files_of (image_on g.D.Disk.image c.drop_name.new.tree.kernel))) c.in_ok-name.ensures.is
-    (subst (λ (files : Files). Unlinks c.args.from c.in_ok-name.name (form_seen g.D.Disk.image c.args.tree.now.kernel) files (files_of (image_on g.D.Disk.image c.drop_name.new.tree.kernel))) c.in_ok-found.ensures.does.same done)) c.drop_name.ensures.does
+    (λ done. unlinked _ _ (files_of (image_on g.D.Disk.image c.drop_name.new.tree.kernel)) c.args.from c.in_ok-name.name _ c.in_ok-found.found c.in_ok-name.ensures.is c.if-found-eq-DIRECTORY.false c.in_ok-found.ensures.does done) c.drop_name.ensures.does
 
 pub returns-in_err-found-clause-hindered : goal.returns-in_err-found-clause-hindered
 returns-in_err-found-clause-hindered g c =
@@ -51,3 +50,7 @@ returns-clause-hindered g c =
     err_by g.D.Disk (IsNameKept c.args.from c.in_ok-name.name) (IsNotUnlinked c.args.from c.args.name.now)
     (λ form x e is. inr (inr (inr (subst (λ (n : List ℕ). IsNameKept c.args.from n form x e) c.in_ok-name.ensures.is is))))
     c.drop_name.new.tree.kernel c.drop_name.new.tree.calls_left c.drop_name.result c.drop_name.ensures.hindered
+
+pub returns-clause-kept : goal.returns-clause-kept
+returns-clause-kept g c =
+    left_after g.D.Disk (λ x z. z ≡ x) (λ x z. z ≡ x) c.args.tree.now.kernel c.look_in.new.tree.kernel c.drop_name.new.tree.kernel c.drop_name.new.tree.calls_left c.drop_name.result (λ new same. same ∙ c.in_ok-found.ensures.does.same) c.drop_name.ensures.kept
