@@ -91,7 +91,7 @@ pub record IsNoConversion {F N : Type 0} (remaining : F → Option (List ℕ))
   pub opened : FileDisk F
   pub read : FileDisk F
   pub is : IsOpened remaining disk false opened
-  pub why : IsRefusal (disk.image opened) log_blocks size (disk.fault_count opened)
+  pub why : IsRefusal (disk.image opened) size (disk.fault_count opened)
       (disk.fault_count read) cause
 
 -- Where the command was refused: a path is to blame; or the image was not converted; or it was, and
