@@ -71,6 +71,21 @@ def refused(programs, data, wanted, *words):
         raise Failure("convert tells '%s' in place of '%s'" % (shown(told).strip(), shown(wanted).strip()))
 
 
+def there_and_back(programs, data, log):
+    """The same image for an older kernel, which boots on it."""
+    status, told, older = convert(programs, data, "--log", str(log))
+    if status != 0:
+        raise Failure("convert to a log of %d blocks tells '%s'" % (log, shown(told).strip()))
+    before, after = Checker(data), Checker(older)
+    if after.faults or before.files != after.files or before.inodes != after.inodes or labels(data) != labels(older):
+        raise Failure("the older image has other files: %s" % after.faults[:3])
+    if superblock(older).nlog != log or len(older) != len(data) - (LOG - log) * BLOCK:
+        raise Failure("the older image has the superblock %s" % (superblock(older),))
+    Kernel(older)
+    for other in ("10", "32"):
+        refused(programs, data, b"xvfs: copy 10 LogRange\n", "--log", other)
+
+
 def whole(programs, log, seed):
     """Converts one image. The new one, and its tree."""
     data, tree, at_header, chance = old_image(log, seed)
@@ -85,6 +100,7 @@ def whole(programs, log, seed):
         raise Failure("the new image has other files: %s" % (before.faults + after.faults)[:3])
     if data[:BLOCK] != new[:BLOCK] or labels(data) != labels(new):
         raise Failure("the new image has another boot block, or other labels")
+    there_and_back(programs, new, log)
     count = at_header[2 * BLOCK]
     if count:
         refused(programs, at_header, b"xvfs: copy 9 Logged %d\n" % count)

@@ -102,9 +102,16 @@ copy_app = with_rule (with_rule (with_rule (with_rule (waiting_app (codes "copy"
     (required_rule (codes "NEW"))) size_rule) (flag_rule (codes "sync")))
     (flag_rule (codes "no-sync"))
 
+-- `--log N`
+abbrev pub log_rule : Rule
+log_rule = record (choice_rule (codes "log")) {
+  long = Some (codes "log");
+  value_names = 1;
+}
+
 abbrev pub convert_app : App
-convert_app = with_rule (with_rule (with_rule (waiting_app (codes "convert") (codes "OLD"))
-    (required_rule (codes "NEW"))) size_rule) (flag_rule (codes "no-sync"))
+convert_app = with_rule (with_rule (with_rule (with_rule (waiting_app (codes "convert") (codes "OLD"))
+    (required_rule (codes "NEW"))) log_rule) size_rule) (flag_rule (codes "no-sync"))
 
 abbrev pub rescue_app : App
 rescue_app = with_rule (with_rule (waiting_app (codes "rescue") (codes "OLD"))
@@ -241,9 +248,10 @@ AsksBy name rows (Copy old new size no_sync) = (name ≡ codes "copy")
     × (first_of (codes "OLD") rows ≡ Some old.now)
     × (first_of (codes "NEW") rows ≡ Some new.now) × HasChoice 32 (codes "size") rows size
     × HasFlag (codes "no-sync") rows no_sync
-AsksBy name rows (Convert old new size no_sync) = (name ≡ codes "convert")
+AsksBy name rows (Convert old new log size no_sync) = (name ≡ codes "convert")
     × (first_of (codes "OLD") rows ≡ Some old.now)
-    × (first_of (codes "NEW") rows ≡ Some new.now) × HasChoice 32 (codes "size") rows size
+    × (first_of (codes "NEW") rows ≡ Some new.now) × HasChoice 32 (codes "log") rows log
+    × HasChoice 32 (codes "size") rows size
     × HasFlag (codes "no-sync") rows no_sync
 AsksBy name rows (Rescue old new no_sync) = (name ≡ codes "rescue")
     × (first_of (codes "OLD") rows ≡ Some old.now)

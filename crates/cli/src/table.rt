@@ -306,10 +306,15 @@ const LINES: &[Line] = &[
     Line {
         name: "convert",
         about: "Makes an image of an older xv6, whose log has another length, one of today",
-        example: "Example: xvfs convert fs.img new.img",
+        example: "Examples: xvfs convert fs.img new.img, xvfs convert fs.img old.img --log 30",
         image: Some(OLD),
         words: &[
             NEW,
+            Word {
+                name: "log",
+                kind: Kind::Valued,
+                help: "Blocks of the new image's log: 31, where it is not given, or for an older kernel 11 to 30",
+            },
             Word {
                 name: "size",
                 kind: Kind::Valued,

@@ -90,7 +90,7 @@ pub const REFUSALS: &[&str] = &[
     "  put       1 NoFile, 2 NoInode, 3 TooBig, 4 Full, 5 NoMemory, 6 File, 7",
     "            NotAFile",
     "  copy      2 NotFirst, 4 Full i, 5 NoMemory, 6 Disk, 7 Exists, 8 Leaked i, 9",
-    "            Logged n",
+    "            Logged n, 10 LogRange",
     "  run       1 Thread, 3 Unanswered, 4 NoMemory",
     "  stops     1 Mismatch, 2 NoMemory",
     "  picture   1 NoMemory, 2 TooLong n, 3 Write",

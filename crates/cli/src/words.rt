@@ -122,6 +122,8 @@ pub enum Request<'a> {
         old: &'a str,
         /// The path of the file that is made.
         new: &'a str,
+        /// The blocks of the new image's log; none for those of this format.
+        log: Option<u32>,
         /// The blocks of the new image; none for as many data blocks as the old one has.
         size: Option<u32>,
         /// Whether the sync at the end is left out.
@@ -264,6 +266,7 @@ fn convert_request<'a>(values: &ArgMatches<'a>) -> Option<Request<'a>>
     Some(Request::Convert {
         old: values.get_str("OLD")?,
         new: values.get_str("NEW")?,
+        log: values.get_one("log"),
         size: values.get_one("size"),
         no_sync: values.get_flag("no-sync"),
     })

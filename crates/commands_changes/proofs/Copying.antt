@@ -16,7 +16,7 @@ use Rattle.transfer.specs.declared.fault.CopyFault.TheVariants.{Mkfs}
 use Rattle.cmd.specs.Opened.{IsOpened}
 use Rattle.commands_changes.specs.Copies.{HasFilled, HasMade, HasNotFilled, IsUnmade, IsUnplanned, OnCopyRefusal, size_asked}
 use Rattle.commands_changes.specs.declared.refused.CopyRefusal.{CopyRefusal}
-use Rattle.commands_changes.specs.declared.refused.CopyRefusal.TheVariants.{File, Exists, Of, Unconverted, Output}
+use Rattle.commands_changes.specs.declared.refused.CopyRefusal.TheVariants.{File, Exists, Of, Unconverted, LogRange, Output}
 
 -- an image without a fault has a number of inodes within the limits
 count_within : {D N : Type 0} (disk : Ghosts D N) (d : D) → verdict (disk.image d) ≡ None → is_inode_count (inode_count_of (disk.image d)) ≡ true
@@ -61,6 +61,7 @@ uncopied remaining disk size planned d e left none opened reads asked silent syn
 uncopied remaining disk size planned d e left none opened reads asked silent sync (Of cause) why =
     (inr (record { opened = d; read = e; left = left; is = opened; reads = reads; why = subst (λ n. HasNotFilled disk n e left cause) asked why }), silent)
 uncopied remaining disk size planned d e left none opened reads asked silent sync (Unconverted fault) why = absurd why
+uncopied remaining disk size planned d e left none opened reads asked silent sync LogRange why = absurd why
 uncopied remaining disk size planned d e left none opened reads asked silent sync Output why = absurd why
 
 -- and what is known where it was

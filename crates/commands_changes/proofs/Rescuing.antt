@@ -6,7 +6,7 @@ use Rattle.blocks.specs.declared.file.FileDisk.{FileDisk}
 use Rattle.cmd.specs.Opened.{IsOpened}
 use Rattle.commands_changes.specs.Rescues.{IsUnmadeRescue, OnRescueRefusal}
 use Rattle.commands_changes.specs.declared.refused.CopyRefusal.{CopyRefusal}
-use Rattle.commands_changes.specs.declared.refused.CopyRefusal.TheVariants.{File, Exists, Of, Unconverted, Output}
+use Rattle.commands_changes.specs.declared.refused.CopyRefusal.TheVariants.{File, Exists, Of, Unconverted, LogRange, Output}
 
 -- why a rescue that was begun was not made
 pub unrescued : {F N : Type 0} (remaining : F → Option (List ℕ)) (disk : Ghosts (FileDisk F) N) (d e left : FileDisk F) (none : Type 0) → IsOpened remaining disk false d → OnlyReads disk d e
@@ -16,4 +16,5 @@ unrescued remaining disk d e left none opened reads silent sync Exists why = sil
 unrescued remaining disk d e left none opened reads silent sync (Of cause) why =
     (inr (record { opened = d; read = e; left = left; is = opened; reads = reads; why = why }), silent)
 unrescued remaining disk d e left none opened reads silent sync (Unconverted fault) why = absurd why
+unrescued remaining disk d e left none opened reads silent sync LogRange why = absurd why
 unrescued remaining disk d e left none opened reads silent sync Output why = absurd why

@@ -1,11 +1,13 @@
 -- What became of the image in a file whose log has another length, and of the new file.
-use Rattle.std.specs.Prelude.{◌≡◌, ⊤, ℕ, Bool, false, List, Option, length, replicate}
+use Rattle.std.specs.Prelude.{◌≡◌, ◌==◌, ⊤, ℕ, Bool, false, if◌then◌else◌, IsTrue, List, Option, Some, None, length, replicate}
 use Rattle.std.specs.Io.KnownBytes.{Appends}
 use Rattle.blocks.specs.Block.{zero_block}
 use Rattle.blocks.specs.Disk.{Image, Rose}
 use Rattle.blocks.specs.declared.disk.Disk.{Ghosts}
 use Rattle.blocks.specs.declared.file.FileDisk.{FileDisk}
 use Rattle.conversion.specs.Converted.{IsConverted, IsRefusal, chosen_size}
+use Rattle.conversion.specs.Older.{is_log_length}
+use Rattle.conversion.specs.Shortened.{IsNotShortened, IsShortened}
 use Rattle.conversion.specs.declared.fault.ConversionFault.{ConversionFault}
 use Rattle.model.specs.Format.{log_blocks}
 use Rattle.model.specs.Layout.{super_of}
@@ -16,7 +18,7 @@ use Rattle.transfer.specs.declared.fault.CopyFault.TheVariants as fault
 use Rattle.wal.specs.Recovery.{LeavesIfCalm}
 use Rattle.cmd.specs.Opened.{IsOpened}
 use Rattle.commands_changes.specs.declared.refused.CopyRefusal.{CopyRefusal}
-use Rattle.commands_changes.specs.declared.refused.CopyRefusal.TheVariants.{File, Exists, Of, Unconverted, Output}
+use Rattle.commands_changes.specs.declared.refused.CopyRefusal.TheVariants.{File, Exists, Of, Unconverted, LogRange, Output}
 
 -- image x was written to the disk d, and synced at the end where `sync` says so; a stop before left
 -- block 1 as it was, or this very image
@@ -52,6 +54,7 @@ IsNotWrittenAnew disk x (File fault) = ⊤
 IsNotWrittenAnew disk x Exists = ⊤
 IsNotWrittenAnew disk x (Of cause) = HasNotWritten disk x cause
 IsNotWrittenAnew disk x (Unconverted fault) = ⊥
+IsNotWrittenAnew disk x LogRange = ⊥
 IsNotWrittenAnew disk x Output = ⊥
 
 -- image x is in a new file, and its numbers were printed
@@ -67,42 +70,71 @@ IsUnkept disk x sync none (File fault) = none
 IsUnkept disk x sync none Exists = none
 IsUnkept disk x sync none (Of cause) = HasNotWritten disk x cause × none
 IsUnkept disk x sync none (Unconverted fault) = ⊥
+IsUnkept disk x sync none LogRange = ⊥
 IsUnkept disk x sync none Output = HasWrittenAnew disk x sync
 
--- the disk of a file was opened, and its image, once more with the log of this format, is x
+-- the length of another log than that of this format, where it is asked for
+abbrev pub other_log : Option ℕ → Option ℕ
+other_log None = None
+other_log (Some log) = if log == log_blocks then None else Some log
+
+-- image y is x with the log of this format, or with another one
+abbrev pub HasLog : Option ℕ → Option ℕ → Image → Image → Type 0
+HasLog None size x y = IsConverted x (chosen_size x log_blocks size) y
+HasLog (Some log) size x y = IsShortened x log (chosen_size x log size) y
+
+-- why image x doesn't get it, on a disk whose faults were and are so many
+abbrev pub HasNoLog : Option ℕ → Option ℕ → Image → ℕ → ℕ → ConversionFault → Type 0
+HasNoLog None size x was is cause = IsRefusal x size was is cause
+HasNoLog (Some log) size x was is cause =
+    IsTrue (is_log_length log) × IsNotShortened x log size was is cause
+
+-- no log has the length that is asked for
+abbrev pub IsNoLength : Option ℕ → Type 0
+IsNoLength None = ⊥
+IsNoLength (Some log) = is_log_length log ≡ false
+
+-- why it doesn't get that which is asked for
+abbrev pub IsUnlogged : Option ℕ → Option ℕ → Image → ℕ → ℕ → CopyRefusal → Type 0
+IsUnlogged log size x was is (Unconverted cause) = HasNoLog (other_log log) size x was is cause
+IsUnlogged log size x was is LogRange = IsNoLength (other_log log)
+IsUnlogged log size x was is _ = ⊥
+
+-- the disk of a file was opened, and x is its image with the log that is asked for
 pub record IsConversion {F N : Type 0} (remaining : F → Option (List ℕ))
-    (disk : Ghosts (FileDisk F) N) (size : Option ℕ) (x : Image) : Type 0 where
+    (disk : Ghosts (FileDisk F) N) (log size : Option ℕ) (x : Image) : Type 0 where
   pub opened : FileDisk F
   pub is : IsOpened remaining disk false opened
-  pub converted :
-      IsConverted (disk.image opened) (chosen_size (disk.image opened) log_blocks size) x
+  pub converted : HasLog (other_log log) size (disk.image opened) x
 
 -- and x is in a new file, and its numbers were printed
 pub record HasConverted {F N : Type 0} (remaining : F → Option (List ℕ))
-    (disk : Ghosts (FileDisk F) N) (size : Option ℕ) (sync : Bool) (old new : Option (List ℕ))
-    : Type 0 where
+    (disk : Ghosts (FileDisk F) N) (log size : Option ℕ) (sync : Bool)
+    (old new : Option (List ℕ)) : Type 0 where
   pub x : Image
-  pub of : IsConversion remaining disk size x
+  pub of : IsConversion remaining disk log size x
   pub kept : IsKept disk x sync old new
 
 -- the disk of a file was opened, and its image not converted, for this reason
 pub record IsNoConversion {F N : Type 0} (remaining : F → Option (List ℕ))
-    (disk : Ghosts (FileDisk F) N) (size : Option ℕ) (cause : ConversionFault) : Type 0 where
+    (disk : Ghosts (FileDisk F) N) (log size : Option ℕ) (cause : ConversionFault) : Type 0 where
   pub opened : FileDisk F
   pub read : FileDisk F
   pub is : IsOpened remaining disk false opened
-  pub why : IsRefusal (disk.image opened) size (disk.fault_count opened)
+  pub why : HasNoLog (other_log log) size (disk.image opened) (disk.fault_count opened)
       (disk.fault_count read) cause
 
--- Where the command was refused: a path is to blame; or the image was not converted; or it was, and
--- could not be written; or its numbers could not be printed. `none` says that nothing was printed.
+-- Where the command was refused: a path is to blame, or the length of the log; or the image was not
+-- converted; or it was, and could not be written; or its numbers could not be printed. `none` says that
+-- nothing was printed.
 abbrev pub OnConvertRefusal : {F N : Type 0} → (F → Option (List ℕ)) → Ghosts (FileDisk F) N
-    → Option ℕ → Bool → Type 0 → CopyRefusal → Type 0
-OnConvertRefusal remaining disk size sync none (File fault) = none
-OnConvertRefusal remaining disk size sync none Exists = none
-OnConvertRefusal remaining disk size sync none (Of cause) =
-    (x : Image) × IsConversion remaining disk size x × HasNotWritten disk x cause × none
-OnConvertRefusal remaining disk size sync none (Unconverted cause) =
-    IsNoConversion remaining disk size cause × none
-OnConvertRefusal remaining disk size sync none Output =
-    (x : Image) × IsConversion remaining disk size x × HasWrittenAnew disk x sync
+    → Option ℕ → Option ℕ → Bool → Type 0 → CopyRefusal → Type 0
+OnConvertRefusal remaining disk log size sync none (File fault) = none
+OnConvertRefusal remaining disk log size sync none Exists = none
+OnConvertRefusal remaining disk log size sync none (Of cause) =
+    (x : Image) × IsConversion remaining disk log size x × HasNotWritten disk x cause × none
+OnConvertRefusal remaining disk log size sync none (Unconverted cause) =
+    IsNoConversion remaining disk log size cause × none
+OnConvertRefusal remaining disk log size sync none LogRange = IsNoLength (other_log log) × none
+OnConvertRefusal remaining disk log size sync none Output =
+    (x : Image) × IsConversion remaining disk log size x × HasWrittenAnew disk x sync

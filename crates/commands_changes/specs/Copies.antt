@@ -17,7 +17,7 @@ use Rattle.model.specs.declared.types.image.Form.TheVariants.{One, Two}
 use Rattle.messages.specs.Output.{files_text}
 use Rattle.cmd.specs.Opened.{IsOpened}
 use Rattle.commands_changes.specs.declared.refused.CopyRefusal.{CopyRefusal}
-use Rattle.commands_changes.specs.declared.refused.CopyRefusal.TheVariants.{File, Exists, Of, Unconverted, Output}
+use Rattle.commands_changes.specs.declared.refused.CopyRefusal.TheVariants.{File, Exists, Of, Unconverted, LogRange, Output}
 
 -- the blocks of a copy of image x: those that were asked for, or as many as it has
 abbrev pub size_asked : Option ℕ → Image → ℕ
@@ -118,6 +118,7 @@ IsUnmade disk size d d' (File fault) = ⊤
 IsUnmade disk size d d' Exists = ⊤
 IsUnmade disk size d d' (Of cause) = HasNotFilled disk size d d' cause
 IsUnmade disk size d d' (Unconverted fault) = ⊥
+IsUnmade disk size d d' LogRange = ⊥
 IsUnmade disk size d d' Output = ⊥
 
 -- Where the command was refused: a path is to blame; or no copy was planned, or none made; or how
@@ -129,5 +130,6 @@ OnCopyRefusal remaining disk size sync none Exists = none
 OnCopyRefusal remaining disk size sync none (Of cause) =
     (HasNotPlanned remaining disk size cause ⊎ HasNotCopied remaining disk size cause) × none
 OnCopyRefusal remaining disk size sync none (Unconverted fault) = ⊥
+OnCopyRefusal remaining disk size sync none LogRange = ⊥
 OnCopyRefusal remaining disk size sync none Output =
     (count : ℕ) × HasMade remaining disk size sync count

@@ -27,6 +27,7 @@ copying_telling (copy.File fault) = file_telling fault
 copying_telling copy.Exists = plain (codes "copy") 7 (codes "Exists")
 copying_telling (copy.Of fault) = copy_telling fault
 copying_telling (copy.Unconverted fault) = conversion_telling fault
+copying_telling copy.LogRange = plain (codes "copy") 10 (codes "LogRange")
 copying_telling copy.Output = unwritten
 
 abbrev pub reading_telling : ReadFault → Telling

@@ -11,7 +11,7 @@ use Rattle.transfer.specs.declared.picking.Rescued.{Rescued}
 use Rattle.messages.specs.Output.{rescued_text}
 use Rattle.cmd.specs.Opened.{IsOpened}
 use Rattle.commands_changes.specs.declared.refused.CopyRefusal.{CopyRefusal}
-use Rattle.commands_changes.specs.declared.refused.CopyRefusal.TheVariants.{File, Exists, Of, Unconverted, Output}
+use Rattle.commands_changes.specs.declared.refused.CopyRefusal.TheVariants.{File, Exists, Of, Unconverted, LogRange, Output}
 
 -- the clean files of disk d were rescued to the disk `new`, and this is told of them; that was synced
 -- at the end where `sync` says so, here and below
@@ -81,6 +81,7 @@ IsUnmadeRescue disk d d' (File fault) = ⊤
 IsUnmadeRescue disk d d' Exists = ⊤
 IsUnmadeRescue disk d d' (Of cause) = HasNotFilledRescue disk d d' cause
 IsUnmadeRescue disk d d' (Unconverted fault) = ⊥
+IsUnmadeRescue disk d d' LogRange = ⊥
 IsUnmadeRescue disk d d' Output = ⊥
 
 -- Where the command was refused: a path is to blame; or the image was not opened, or no rescue made;
@@ -92,5 +93,6 @@ OnRescueRefusal remaining disk sync none Exists = none
 OnRescueRefusal remaining disk sync none (Of cause) =
     (HasNotOpened remaining disk cause ⊎ HasNotRescued remaining disk cause) × none
 OnRescueRefusal remaining disk sync none (Unconverted fault) = ⊥
+OnRescueRefusal remaining disk sync none LogRange = ⊥
 OnRescueRefusal remaining disk sync none Output =
     (told : Rescued) × HasMadeRescue remaining disk sync told

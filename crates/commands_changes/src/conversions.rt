@@ -6,13 +6,16 @@ ghost use Rattle.cmd.specs.Opened.{IsOpened};
 ghost use Rattle.model.specs.Layout.{super_of};
 ghost use Rattle.commands_changes.specs.Conversions.{
   HasConverted,
+  HasLog,
   HasWrittenAnew,
   IsKept,
   IsNotWrittenAnew,
   IsUnkept,
+  IsUnlogged,
   IsUnwrittenTo,
   IsWrittenTo,
   OnConvertRefusal,
+  other_log,
 };
 
 use crate::refused::CopyRefusal;
@@ -20,8 +23,8 @@ use crate::targets::{Target, ensure_free, hold, mode_of, zeroes_in};
 use blocks::{Block, Disk, FileDisk, MemDisk};
 use cmd::{Access, Command, Locking, Locks, open_for};
 use commands::{Holder, remove_refused, sync_folder};
-use conversion::convert;
-use layout::superblock;
+use conversion::{convert, is_log_length, shorten};
+use layout::{LOG_BLOCKS, superblock};
 use messages::{Meter, print_numbers};
 use std::alloc::Global;
 use std::fs::OpenFile;
@@ -40,6 +43,8 @@ pub struct Convert<'a, P, H> {
     pub old: &'a str,
     /// How its lock is taken.
     pub locking: Locking,
+    /// How many blocks its log has; none for those of this format.
+    pub log: Option<u32>,
     /// How many blocks the new one has; none for those of the old one and those that its log gets.
     pub size: Option<u32>,
     /// Where it is made.
@@ -51,14 +56,22 @@ impl<'a, R: Locks + AllocGlobal, P: Meter + Drop, H: Holder<R::File> + Drop> Com
     type Refusal = CopyRefusal;
 
     ghost done = { λ convert.
-        HasConverted R.File.remaining file_disk convert.size convert.target.sync };
+        HasConverted R.File.remaining file_disk convert.log convert.size convert.target.sync };
 
     ghost refused = { λ convert old new.
-        OnConvertRefusal R.File.remaining file_disk convert.size convert.target.sync };
+        OnConvertRefusal R.File.remaining file_disk convert.log convert.size convert.target.sync };
 
     fn run<O: Write>(self, rt: &R, out: &mut O) -> Result<(), CopyRefusal> {
         let mut target = self.target;
-        convert_file(rt, self.old, self.locking, self.size, &mut target, out)
+        convert_file(
+            rt,
+            self.old,
+            self.locking,
+            self.log,
+            self.size,
+            &mut target,
+            out,
+        )
     }
 }
 
@@ -66,19 +79,20 @@ fn convert_file<'a, R: Locks + AllocGlobal, O: Write, P: Meter, H: Holder<R::Fil
     rt: &R,
     old: &str,
     locking: Locking,
+    log: Option<u32>,
     size: Option<u32>,
     target: &mut Target<'a, P, H>,
     out: &mut O,
 ) -> Result<(), CopyRefusal>
-    ensures converted { OnOk result (HasConverted R.File.remaining file_disk size target.old.sync
+    ensures converted { OnOk result (HasConverted R.File.remaining file_disk log size target.old.sync
         (O.contents out.old) (O.contents out.new)) }
     ensures refused { IfErr result
-        (OnConvertRefusal R.File.remaining file_disk size target.old.sync (out.new ≡ out.old)) }
+        (OnConvertRefusal R.File.remaining file_disk log size target.old.sync (out.new ≡ out.old)) }
 {
     ensure_free(rt, target.path, locking)?;
     let mut disk = open_for(rt, old, Access::Look(locking))?;
     let mode = mode_of(rt, old)?;
-    convert_from(rt, &mut disk, mode, size, target, out)
+    convert_from(rt, &mut disk, mode, log, size, target, out)
 }
 
 // Converts the image on a disk that was opened into a new file. The disk is lent, so that the proof
@@ -87,18 +101,47 @@ fn convert_from<'a, R: Files + AllocGlobal, O: Write, P: Meter, H: Holder<R::Fil
     rt: &R,
     disk: &mut FileDisk<R::File>,
     mode: u32,
+    log: Option<u32>,
     size: Option<u32>,
     target: &mut Target<'a, P, H>,
     out: &mut O,
 ) -> Result<(), CopyRefusal>
     requires { IsOpened R.File.remaining file_disk false disk.old }
-    ensures converted { OnOk result (HasConverted R.File.remaining file_disk size target.old.sync
+    ensures converted { OnOk result (HasConverted R.File.remaining file_disk log size target.old.sync
         (O.contents out.old) (O.contents out.new)) }
     ensures refused { IfErr result
-        (OnConvertRefusal R.File.remaining file_disk size target.old.sync (out.new ≡ out.old)) }
+        (OnConvertRefusal R.File.remaining file_disk log size target.old.sync (out.new ≡ out.old)) }
 {
-    match convert(rt.alloc(), disk, size) {
+    match with_log(rt.alloc(), disk, log, size) {
         Ok(mut memory) => keep(rt, &mut memory, mode, target, out),
+        Err(refusal) => Err(refusal),
+    }
+}
+
+// The image on a disk, in memory, with a log of this length.
+fn with_log<D: Disk>(
+    alloc: Global,
+    disk: &mut D,
+    log: Option<u32>,
+    size: Option<u32>,
+) -> Result<MemDisk, CopyRefusal>
+    ensures made { IfOk result (λ new. HasLog (other_log log) size (D.image disk.old)
+        (⟦<MemDisk as Disk>⟧.image new)) }
+    ensures some { IfOk result (λ new. 2 ≤ length (⟦<MemDisk as Disk>⟧.image new)) }
+    ensures refused { IfErr result (IsUnlogged log size (D.image disk.old)
+        (D.fault_count disk.old) (D.fault_count disk.new)) }
+{
+    let made = match log {
+        None | Some(LOG_BLOCKS) => convert(alloc, disk, size),
+        Some(log) => {
+            if !is_log_length(log) {
+                return Err(CopyRefusal::LogRange);
+            }
+            shorten(alloc, disk, log, size)
+        }
+    };
+    match made {
+        Ok(new) => Ok(new),
         Err(fault) => Err(CopyRefusal::Unconverted(fault)),
     }
 }

@@ -19,8 +19,10 @@ pub enum CopyRefusal {
     Exists,
     /// The image on the old disk isn't copied to the new one.
     Of(CopyFault),
-    /// The image on the old disk isn't one whose log can be made longer.
+    /// The image on the old disk doesn't get a log of another length.
     Unconverted(ConversionFault),
+    /// No log has the length that is asked for.
+    LogRange,
     /// The output can't be written.
     Output,
 }
@@ -34,6 +36,7 @@ impl Reason for CopyRefusal {
             CopyRefusal::Exists => Told::new("copy", 7, "Exists"),
             CopyRefusal::Of(fault) => fault.told(),
             CopyRefusal::Unconverted(fault) => told_of(fault),
+            CopyRefusal::LogRange => Told::new("copy", 10, "LogRange"),
             CopyRefusal::Output => Unwritten.told(),
         }
     }

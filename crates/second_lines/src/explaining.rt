@@ -407,6 +407,11 @@ fn of_copy<R: Files + AllocGlobal>(rt: &R, given: &Given<'_>, number: u32) -> Op
             given.image?,
             "its log is not empty: its own kernel clears it as it boots",
         ),
+        10 => with_phrase(
+            rt.alloc(),
+            given.made?,
+            "its log has to be of 11 to 31 blocks",
+        ),
         _ => None,
     }
 }

@@ -61,8 +61,8 @@ Answers file (Put image path inum sync no_sync) old new =
     HasPut file.remaining inum sync (not no_sync) old new
 Answers file (Copy from to size no_sync) old new =
     HasCopied file.remaining file_disk size (not no_sync) old new
-Answers file (Convert from to size no_sync) old new =
-    HasConverted file.remaining file_disk size (not no_sync) old new
+Answers file (Convert from to log size no_sync) old new =
+    HasConverted file.remaining file_disk log size (not no_sync) old new
 Answers file (Rescue from to no_sync) old new =
     HasRescued file.remaining file_disk (not no_sync) old new
 Answers file (Replay image script schedule stop sync writes steps picture) old new =
@@ -106,8 +106,8 @@ OnRefused file (Put image path inum sync no_sync) old new none =
     Refuses (OnPutRefusal file.remaining inum sync (not no_sync) none)
 OnRefused file (Copy from to size no_sync) old new none =
     Refuses (OnCopyRefusal file.remaining file_disk size (not no_sync) none)
-OnRefused file (Convert from to size no_sync) old new none =
-    Refuses (OnConvertRefusal file.remaining file_disk size (not no_sync) none)
+OnRefused file (Convert from to log size no_sync) old new none =
+    Refuses (OnConvertRefusal file.remaining file_disk log size (not no_sync) none)
 OnRefused file (Rescue from to no_sync) old new none =
     Refuses (OnRescueRefusal file.remaining file_disk (not no_sync) none)
 OnRefused file (Replay image script schedule stop sync writes steps picture) old new none =

@@ -317,6 +317,7 @@ where
         Request::Convert {
             old,
             new,
+            log,
             size,
             no_sync,
         } => {
@@ -324,6 +325,7 @@ where
             let convert = Convert {
                 old,
                 locking,
+                log,
                 size,
                 target,
             };

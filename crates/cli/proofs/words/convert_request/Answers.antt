@@ -8,6 +8,7 @@ returns c = (
   refl,
   value_read (found_of c.args.values.now) (codes "OLD") _ c.in_ok-get_str.ensures,
   value_read (found_of c.args.values.now) (codes "NEW") _ c.in_ok-get_str-2.ensures,
-  choice_read 32 (found_of c.args.values.now) (codes "size") c.get_one.result c.get_one.ensures.none c.get_one.ensures.value,
+  choice_read 32 (found_of c.args.values.now) (codes "log") c.get_one.result c.get_one.ensures.none c.get_one.ensures.value,
+  choice_read 32 (found_of c.args.values.now) (codes "size") c.get_one-2.result c.get_one-2.ensures.none c.get_one-2.ensures.value,
   flag_read (found_of c.args.values.now) (codes "no-sync") c.get_flag.result c.get_flag.ensures.none c.get_flag.ensures.value c.get_flag.ensures.other,
 )

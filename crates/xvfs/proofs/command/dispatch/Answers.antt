@@ -52,12 +52,12 @@ pub returns-in-Convert-clause-done : goal.returns-in-Convert-clause-done
 returns-in-Convert-clause-done g c =
     let file = seen_by g.R.File.Read.remaining g.R.File.Write.contents in
     λ done. subst (λ request. Answers file request (g.O.Write.contents c.args.out.now) (g.O.Write.contents c.perform-in-Convert.new.out)) (sym c.in-Convert.is)
-    (subst (λ (sync : Bool). HasConverted g.R.File.Read.remaining file_disk c.in-Convert.size sync (g.O.Write.contents c.args.out.now) (g.O.Write.contents c.perform-in-Convert.new.out)) c.target_at-target-in-Convert.ensures (c.perform-in-Convert.ensures.done done))
+    (subst (λ (sync : Bool). HasConverted g.R.File.Read.remaining file_disk c.in-Convert.log c.in-Convert.size sync (g.O.Write.contents c.args.out.now) (g.O.Write.contents c.perform-in-Convert.new.out)) c.target_at-target-in-Convert.ensures (c.perform-in-Convert.ensures.done done))
 
 pub returns-in-Convert-clause-refused : goal.returns-in-Convert-clause-refused
 returns-in-Convert-clause-refused g c =
     λ refused. subst (λ request. OnRefused (seen_by g.R.File.Read.remaining g.R.File.Write.contents) request (g.O.Write.contents c.args.out.now) (g.O.Write.contents c.perform-in-Convert.new.out) (c.perform-in-Convert.new.out ≡ c.args.out.now)) (sym c.in-Convert.is)
-    (subst (λ (sync : Bool). (x : CopyRefusal) × OnConvertRefusal g.R.File.Read.remaining file_disk c.in-Convert.size sync (c.perform-in-Convert.new.out ≡ c.args.out.now) x) c.target_at-target-in-Convert.ensures (c.perform-in-Convert.ensures.refused refused))
+    (subst (λ (sync : Bool). (x : CopyRefusal) × OnConvertRefusal g.R.File.Read.remaining file_disk c.in-Convert.log c.in-Convert.size sync (c.perform-in-Convert.new.out ≡ c.args.out.now) x) c.target_at-target-in-Convert.ensures (c.perform-in-Convert.ensures.refused refused))
 
 pub returns-in-Rescue-clause-done : goal.returns-in-Rescue-clause-done
 returns-in-Rescue-clause-done g c =
