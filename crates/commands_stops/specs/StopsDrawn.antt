@@ -1,5 +1,5 @@
 -- What became of a script that was checked at each of its stops, and of their picture.
-use Rattle.std.specs.Prelude.{◌≡◌, ◌<◌, ◌≤◌, ⊤, ℕ, min, Bool, List, [], ◌++◌, length, codes, MatchResult, Option, Result, Some, None}
+use Rattle.std.specs.Prelude.{◌≡◌, ◌<◌, ◌≤◌, ⊤, ℕ, min, Bool, List, [], ◌++◌, length, codes, MatchResult, Option, Result, Ok, Some, None}
 use Rattle.crash_check.specs.Faults.{mismatch_text}
 use Rattle.crash_check.specs.declared.fault.StopsFault.TheVariants.{Mismatch, NoMemory as Memory}
 use Rattle.crash_check.specs.declared.mismatch.Mismatch.{Mismatch as SomeMismatch}
@@ -94,6 +94,17 @@ abbrev pub IsDrawnInto : {P : Type 0} → Option P → Type 0 → Type 0
 IsDrawnInto None drawn = ⊤
 IsDrawnInto (Some path) drawn = drawn
 
+-- where there is none, nothing kept them from being drawn
+abbrev pub DrawsInto : {P : Type 0} → Option P → Result (Unit {0}) Undrawn → List Column → Type 0
+    → Type 0
+DrawsInto None ended tried drawn = ended ≡ Ok tt
+DrawsInto (Some path) ended tried drawn = DrawsOr ended tried drawn
+
+-- there is one
+abbrev pub IsAsked : {P : Type 0} → Option P → Type 0
+IsAsked None = ⊥
+IsAsked (Some path) = ⊤
+
 -- ---- a script
 
 -- it was checked, and a file got the picture of its stops
@@ -103,12 +114,12 @@ ChecksInto contents json held old new picture = (tried : List Column)
     × ChecksScript json held tried old new × IsDrawnInto picture (DrawsStops contents tried None)
 
 -- Why it wasn't: nothing was done; or the check was refused, and a file got the picture of what was
--- tried then; or it was done and printed, and not drawn.
+-- tried then; or it was done and printed, and not drawn. Without a path only the check is refused.
 abbrev pub IsUncheckedInto : {F P : Type 0} → (F → Option (List ℕ)) → Bool → Bool → Option (List ℕ)
     → Option (List ℕ) → Type 0 → Option P → DrawnStopsRefusal → Type 0
-IsUncheckedInto contents json held old new none picture NoMemory = none
+IsUncheckedInto contents json held old new none picture NoMemory = IsAsked picture × none
 IsUncheckedInto contents json held old new none picture (Stops r u) = (tried : List Column)
     × IsScriptUnchecked held tried none r
-    × DrawsOr u tried (IsDrawnInto picture (DrawsRefused contents tried r))
-IsUncheckedInto contents json held old new none picture (Picture u) = (tried : List Column)
-    × ChecksScript json held tried old new × IsUndrawn u tried
+    × DrawsInto picture u tried (DrawsRefused contents tried r)
+IsUncheckedInto contents json held old new none picture (Picture u) = IsAsked picture
+    × ((tried : List Column) × ChecksScript json held tried old new × IsUndrawn u tried)
