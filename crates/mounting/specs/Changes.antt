@@ -161,22 +161,17 @@ abbrev pub Unlinked : ℕ → List ℕ → Files → Files → Type 0
 Unlinked from name files new = (number : ℕ) × (stepped files from name ≡ Ok number)
     × (IsDirectory files number → ⊥) × DropsName from name number files new
 
--- a file has the name of another one, which goes, or has its name aside
-abbrev pub ReplacedFile : ℕ → List ℕ → ℕ → List ℕ → Files → Files → Type 0
-ReplacedFile from old to name files new = (number : ℕ) × ((keeps : Bool)
-    × (stepped files to name ≡ Ok number)
-    × AnyOf (Replaces from old to name (aside_of number) keeps) files new)
-
 -- neither of two names is one aside
 abbrev pub AreSeen : ℕ → List ℕ → ℕ → List ℕ → Type 0
 AreSeen from old to name = (IsHidden from old → ⊥) × (IsHidden to name → ⊥)
 
 -- a file has another name; nothing is done where both lead to one file, and what has the name is removed
--- before, or replaced
+-- before, or replaced: it goes, or has its name aside
 abbrev pub RenamedFile : ℕ → List ℕ → ℕ → List ℕ → Form → Files → Files → Type 0
 RenamedFile from old to name form files new = AnyOf (Renames from old to name) files new
     ⊎ (((new ≡ files) × LeadToOne from old to name files)
-    ⊎ (ReplacedFile from old to name files new
+    ⊎ (((number : ℕ) × ((keeps : Bool) × (stepped files to name ≡ Ok number)
+    × AnyOf (Replaces from old to name (aside_of number) keeps) files new))
     ⊎ ((mid : Files) × (RemovesEmpty to name form files mid
     × AnyOf (Renames from old to name) mid new))))
 
@@ -198,11 +193,6 @@ IsOfBytes mode = (bit_and mode 61440 ≡ 32768) ⊎ (bit_and mode 61440 ≡ 0)
 -- there is a file of that number
 abbrev pub IsThere : Files → ℕ → Type 0
 IsThere files number = (file : File) × (file_in files number ≡ Some file)
-
--- what stands from an offset on, of which bytes behind 2^32 others are none
-abbrev pub TellsPart : List ℕ → ℕ → ℕ → List ℕ → Type 0
-TellsPart bytes offset size body = (offset < 2 ^ 32 → body ≡ part_of bytes offset size)
-    × (2 ^ 32 ≤ offset → body ≡ [])
 
 -- how many bytes were written
 abbrev pub wrote_count : Result ℕ Unwritten → ℕ
@@ -250,8 +240,9 @@ Does form full node OpenDirectory body files new = (new ≡ files) × TellsOpene
 Does form full node (ReadDirectory offset size plus) body files new =
     (new ≡ files) × IsDirectory files node
     × Lists files node offset size plus 0 (entries_of (directory_in files node)) [] body
-Does form full node (Read offset size) body files new =
-    (new ≡ files) × TellsPart (bytes_of (file_in files node)) offset size body
+Does form full node (Read offset size) body files new = (new ≡ files)
+    × ((offset < 2 ^ 32 → body ≡ part_of (bytes_of (file_in files node)) offset size)
+    × (2 ^ 32 ≤ offset → body ≡ []))
 Does form full node (SetAttributes valid size changed nanos mode) body files new =
     ((SetsSize valid → ⊥) → new ≡ files) × (SetsSize valid → HasLength new node size)
     × TellsAttributes new node [] body
@@ -271,7 +262,7 @@ Does form full node (Unlink name) body files new =
 Does form full node (RemoveDirectory name) body files new = (IsHidden node name → ⊥)
     × RemovesEmpty node (padded name) form files new × (body ≡ [])
 Does form full node (Rename to flags old name) body files new = (flags ≤ 1)
-    × AreSeen node old to name
+    × ((IsHidden node old → ⊥) × (IsHidden to name → ⊥))
     × RenamedAs flags node (padded old) to (padded name) form files new × (body ≡ [])
 Does form full node Release body files new =
     ((new ≡ files) ⊎ RemovesName root (aside_of node) form files new) × (body ≡ [])
