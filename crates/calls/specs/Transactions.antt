@@ -7,7 +7,7 @@ use Rattle.blocks.specs.declared.disk.Disk.{Ghosts}
 use Rattle.model.specs.Crash.{IsUntouched, due_labels, labels_of}
 use Rattle.model.specs.Files.{Files, file_in, files_of}
 use Rattle.model.specs.Journal.{is_making, own, replay}
-use Rattle.model.specs.Layout.{form_of, is_marked}
+use Rattle.model.specs.Layout.{form_of, inode_count_of, is_marked}
 use Rattle.model.specs.Log.{is_lawful_log, recovered}
 use Rattle.model.specs.Operations.{after}
 use Rattle.model.specs.Soundness.{IsSound}
@@ -179,6 +179,12 @@ IsUncommitted disk k m fault.NoRoom = ⊥
 -- the files of an image have these labels
 abbrev pub HasLabels : (ℕ → ℕ × ℕ) → Image → Type 0
 HasLabels labels x = (i : ℕ) → file_in (files_of x) i ≢ None → labels_of x i ≡ labels i
+
+-- image x of kernel k's disk has as many numbers as at the opening, and each of its files the labels
+-- that it had then, or (0, 0) where it was made since
+pub record IsLabelled {D : Type 0} (image : D → Image) (k : Plain D) (x : Image) : Type 0 where
+  pub numbers : inode_count_of x ≡ inode_count_of (image k.opening)
+  pub labels : HasLabels (labels_made image k) x
 
 -- ALL OR NOTHING: what a stop in the commit of a transaction leaves: recovery gives a sound image
 -- with the files of image x, which stood on the disk before it, or with those that the whole of it

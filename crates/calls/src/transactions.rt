@@ -24,4 +24,4 @@ pub use fault::TransactionFault;
 pub use making::make_one;
 pub use opening::open_pair;
 pub use pairing::make_both;
-pub use resting::{abandon, rested, still};
+pub use resting::{abandon, labelled, rested, still};

@@ -8,12 +8,12 @@ ghost use Rattle.model.specs.Log.{recovered};
 ghost use Rattle.names.specs.Inside.{files_seen, IsUnderWay, Proceeds};
 ghost use Rattle.names.specs.Ready.{HasFilled, HasNoFile, IsIdle, IsReady, IsRootAlone, IsRootless, KeepsRoot, MakesRoot, is_filled};
 ghost use Rattle.directories.specs.Trees.{IsTree};
-ghost use Rattle.calls.specs.Transactions.{Rests};
+ghost use Rattle.calls.specs.Transactions.{IsLabelled, Rests};
 
 use crate::refusal::TreeFault;
 use crate::tree::Tree;
 use blocks::Disk;
-use calls::transactions::{Pair, TransactionFault};
+use calls::transactions::{Pair, TransactionFault, labelled};
 use directories::{DIRECTORY, Refusal, new_directory};
 use model::types::{Op, Reply};
 use std::alloc::Global;
@@ -43,8 +43,11 @@ impl<D: Disk> Tree<D> {
         ensures disk { result ≡ self.kernel.store.volume.device }
         ensures tree { IsReady D.Disk self.kernel self.calls_left
             → IsTree (files_of (recovered (D.image result))) }
+        ensures labels { IsReady D.Disk self.kernel self.calls_left
+            → IsLabelled D.image self.kernel (D.image result) }
     {
         let Tree { kernel, .. } = self;
+        labelled(&kernel);
         kernel.into_disk()
     }
 

@@ -6,9 +6,15 @@ use Rattle.blocks.specs.declared.disk.Disk.{Ghosts}
 use Rattle.calls.specs.Calls.{image_on}
 use Rattle.calls.specs.Opening.{IsOpenedPair}
 use Rattle.calls.specs.Stepping.{Plain}
+use Rattle.calls.specs.Stopped.{StaysOver}
+use Rattle.calls.specs.Transactions.{HasLabels, IsLabelled}
 use Rattle.model.specs.Codec.{made_image}
+use Rattle.model.specs.Crash.{labels_of}
+use Rattle.model.specs.declared.types.operations.Entry.{Entry}
 use Rattle.model.specs.Files.{Files, files_of}
-use Rattle.model.specs.Layout.{form_of, is_inode_count, is_size, magic_at, magic_of}
+use Rattle.model.specs.Journal.{is_making}
+use Rattle.model.specs.Layout.{form_of, inode_count_of, is_inode_count, is_size, magic_at, magic_of}
+use Rattle.model.specs.Lemmas.FileNumbers.{below_there, length-files_of}
 use Rattle.model.specs.Lemmas.Log.{recovered_empty}
 use Rattle.model.specs.Lemmas.MadeImages.{is_within, magic-made_image, sound-made_image}
 use Rattle.model.specs.Log.{recovered}
@@ -16,7 +22,8 @@ use Rattle.model.specs.declared.types.image.Form.{Form}
 use Rattle.model.specs.declared.types.image.Form.TheVariants.{One, Two}
 use Rattle.names.specs.Inside.{form_seen}
 use Rattle.transfer.specs.Ending.{SyncsIf}
-use Rattle.xvnames.specs.Making.{AddsAll, AddsFile, AreNamed, HasGrown, IsNameOf, files_named}
+use Rattle.std.specs.List.{list_any}
+use Rattle.xvnames.specs.Making.{AddsAll, AddsFile, AreNamed, HasGrown, IsNameOf, IsUnlabelled, files_named, new_labels}
 use Rattle.xvnames.specs.declared.making.Named.{Named}
 
 -- one more at the end
@@ -66,6 +73,19 @@ module _ {D N : Type 0} (disk : Ghosts D N) where
       = ap (λ (m : Plain D). form_seen disk.image m) is ∙ ap (λ (o : D). form_of (disk.image o)) (sym opened.device) ∙ ap form_of opened.image in
       subst (λ (o : D). HasGrown (form_of (recovered (disk.image d))) named (files_of (disk.image o))) (sym left)
       (subst (λ (f : Form). HasGrown f named (files_of (image_on disk.image last))) one_form grown)
+
+  -- the files of a tree that grew over a disk have the labels of new ones, where its inodes had them
+  pub labels_opened : (d : D) (k first last : Plain D) (x : Image) → IsOpenedPair disk d k → first ≡ k → StaysOver disk first last → IsLabelled disk.image last x → IsUnlabelled (recovered (disk.image d)) → HasLabels new_labels x
+  labels_opened d k first last x opened is stays labelled fresh = λ i there.
+      let o = disk.image last.opening in
+      let opening : o ≡ recovered (disk.image d)
+      = ap disk.image stays.opening ∙ ap (λ (m : Plain D). disk.image m.opening) is ∙ ap disk.image (sym opened.device) ∙ opened.image in
+      let below : i < inode_count_of o = subst (λ (n : ℕ). i < n) (length-files_of x ∙ labelled.numbers) (below_there (files_of x) i there) in
+      labelled.labels i there ∙ none_or (list_any (λ (e : Entry). is_making i e.reply) last.world.journal.list) (labels_of o i) (subst IsUnlabelled (sym opening) fresh i below)
+    where
+      none_or : (b : Bool) (p : ℕ × ℕ) → p ≡ (0, 0) → (if b then (0, 0) else p) ≡ (0, 0)
+      none_or true p is = refl
+      none_or false p is = is
 
 -- an image has the form of its magic number
 form_from_magic : (form : Form) (x : Image) → magic_at x ≡ magic_of form → form_of x ≡ form

@@ -2,12 +2,15 @@
 use Rattle.std.specs.Prelude.{◌≡◌, ◌≢◌, ◌⊎◌, ⊤, ℕ, ◌+◌, ◌<◌, ◌≤◌, ◌==◌, if◌then◌else◌, Bool, List, [], ◌∷◌, drop, length, map, replicate, slice_index, Option}
 use Rattle.std.specs.Io.KnownBytes.{Appends}
 use Rattle.blocks.specs.Block.{zero_block}
+use Rattle.blocks.specs.Disk.{Image}
 use Rattle.blocks.specs.declared.disk.Disk.{Ghosts}
 use Rattle.blocks.specs.declared.file.FileDisk.{FileDisk}
+use Rattle.calls.specs.Transactions.{HasLabels}
 use Rattle.commands_changes.specs.declared.making.Making.{Making}
 use Rattle.messages.specs.Output.{numbers_text}
 use Rattle.model.specs.Files.{Files, files_of}
-use Rattle.model.specs.Layout.{planned_super}
+use Rattle.model.specs.Crash.{labels_of}
+use Rattle.model.specs.Layout.{inode_count_of, planned_super}
 use Rattle.model.specs.Soundness.{IsSound}
 use Rattle.model.specs.declared.types.image.Form.{Form}
 use Rattle.model.specs.declared.types.image.Super.{Super}
@@ -78,11 +81,20 @@ pub record HasAddedTo {D N : Type 0} (disk : Ghosts D N) (sync : Bool) (form : F
   pub tree : IsTree (files_of (disk.image e))
   pub counted : AreCounted (files_of (disk.image e))
 
--- an image was made so on the disk d, whose fields are told
+-- the labels of a new file: major and minor
+abbrev pub new_labels : ℕ → ℕ × ℕ
+new_labels i = (0, 0)
+
+-- each inode of an image has them
+abbrev pub IsUnlabelled : Image → Type 0
+IsUnlabelled x = (i : ℕ) → i < inode_count_of x → labels_of x i ≡ new_labels i
+
+-- an image was made so on the disk d, whose fields are told; its files have the labels of new ones
 pub record IsFilledWith {D N : Type 0} (disk : Ghosts D N) (made : Making)
     (named : List (List ℕ × List ℕ)) (d : D) (fields : Super) : Type 0 where
   pub now : D
   pub adds : HasAddedTo disk made.sync made.form named now
+  pub labels : HasLabels new_labels (disk.image now)
   pub told : fields ≡ planned_super made.size made.ninodes
 
 -- a disk of so many blocks of zeroes was created in a file, and an image made on it

@@ -2,6 +2,7 @@
 ghost use Rattle.std.specs.Prelude.{◌≡◌, length, map, IfErr, IfOk, OnOk};
 ghost use Rattle.calls.specs.Calls.{image_on};
 ghost use Rattle.calls.specs.Stopped.{StaysOver};
+ghost use Rattle.calls.specs.Transactions.{HasLabels};
 ghost use Rattle.commands_changes.specs.Making.{IsPlan};
 ghost use Rattle.model.specs.Files.{files_of};
 ghost use Rattle.model.specs.Layout.{form_of, planned_super};
@@ -22,8 +23,10 @@ ghost use Rattle.xvnames.specs.Making.{
   IsLastOf,
   IsMadeWith,
   IsNameOf,
+  IsUnlabelled,
   bare,
   files_named,
+  new_labels,
 };
 ghost use Rattle.xvnames.specs.Unmade.{
   IsNotMadeIn,
@@ -218,6 +221,7 @@ fn make_empty<D: Disk>(alloc: Global, disk: &mut D, making: Making) -> Result<Su
     ensures made { OnOk result
         (MakesAs D.Disk making.form making.size making.ninodes disk.old disk.new) }
     ensures none { OnOk result (HasNoFile (files_of (recovered (D.image disk.new)))) }
+    ensures labels { OnOk result (IsUnlabelled (recovered (D.image disk.new))) }
     ensures fields { IfOk result (λ fields. fields ≡ planned_super making.size making.ninodes) }
     ensures refused { IfErr result (IsUnmadeOn D.Disk disk.old disk.new) }
 {
@@ -241,6 +245,8 @@ fn fill_tree<D: Disk + Drop>(
     requires { HasNoFile (files_of (recovered (D.image disk))) }
     ensures filled { IfOk result (HasAddedTo D.Disk sync
         (form_of (recovered (D.image disk))) (files_named files.now)) }
+    ensures labels { IfOk result (λ e. IsUnlabelled (recovered (D.image disk))
+        → HasLabels new_labels (D.image e)) }
     ensures refused { IfErr result (IsUnfilledBy D.Disk sync
         (form_of (recovered (D.image disk))) (files_named files.now) disk) }
 {
@@ -283,6 +289,7 @@ fn grow<D: Disk>(
     ensures refused { IfErr result
         (IsUngrown D.Disk (files_named files.now) tree.old.kernel tree.new.kernel) }
     ensures cause { IfErr result IsOfTree }
+    ensures stays { StaysOver D.Disk tree.old.kernel tree.new.kernel }
 {
     match tree.make_root(alloc) {
         Ok(()) => add_all(alloc, tree, files),

@@ -2,7 +2,7 @@
 ghost use Rattle.std.specs.Prelude.{◌≡◌, None};
 ghost use Rattle.calls.specs.Calls.{LeavesFiles, image_on};
 ghost use Rattle.model.specs.Verdict.{verdict};
-ghost use Rattle.calls.specs.Transactions.{IsInside, KeepsFiles, Rests};
+ghost use Rattle.calls.specs.Transactions.{IsInside, IsLabelled, KeepsFiles, Rests};
 
 use crate::transactions::beginning::Pair;
 use blocks::Disk;
@@ -21,6 +21,15 @@ pub fn rested<D: Disk>(kernel: &Pair<D>)
 pub fn still<D: Disk>(kernel: &Pair<D>)
     requires { IsInside D.fault_count kernel.now }
     ensures { LeavesFiles D.Disk kernel.now kernel.now }
+{
+    kernel.known();
+}
+
+/// Does nothing: it says which labels (major and minor) the files on the disk have between two transactions:
+/// those that they had at the opening, or (0, 0) where they were made since.
+pub fn labelled<D: Disk>(kernel: &Pair<D>)
+    ensures { Rests D.fault_count kernel.now
+        → IsLabelled D.image kernel.now (image_on D.image kernel.now) }
 {
     kernel.known();
 }

@@ -17,6 +17,7 @@ returns-in-Ok-clause-filled g c =
     record {
       now = c.in-Ok._disk;
       adds = subst (λ (f : Form). HasAddedTo g.D.Disk making.sync f named c.in-Ok._disk) one_form c.in-Ok.ensures.filled;
+      labels = c.in-Ok.ensures.labels c.in_ok-fields.ensures.labels;
       told = c.in_ok-fields.ensures.fields;
     }
 

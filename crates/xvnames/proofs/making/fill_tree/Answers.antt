@@ -1,6 +1,7 @@
 use Rattle.std.proofs.Common.{◌∙◌, ap, sym, subst}
 use Rattle.std.proofs.lemmas.Result.{IfErr-weaker, IfOk-weaker}
 use Rattle.blocks.specs.Disk.{Image}
+use Rattle.calls.specs.Transactions.{HasLabels}
 use Rattle.model.specs.Files.{files_of}
 use Rattle.model.specs.Layout.{form_of}
 use Rattle.model.specs.Log.{recovered}
@@ -8,10 +9,10 @@ use Rattle.model.specs.Soundness.{IsSound}
 use Rattle.directories.specs.Counts.{AreCounted}
 use Rattle.names.specs.Ready.{HasNoFile}
 use Rattle.directories.specs.Trees.{IsTree}
-use Rattle.xvnames.specs.Making.{HasAddedTo, files_named}
+use Rattle.xvnames.specs.Making.{HasAddedTo, IsUnlabelled, files_named, new_labels}
 use Rattle.xvnames.specs.Unmade.{IsUngrown, IsUnfilledBy, IsUnsynced}
 use Rattle.xvnames.proofs.Fits.{of_sync, of_tree}
-use Rattle.xvnames.proofs.Added.{form_opened, synced_image}
+use Rattle.xvnames.proofs.Added.{form_opened, labels_opened, synced_image}
 use Rattle.xvnames.proofs.making.fill_tree.Goals as goal
 
 pub grow-requires-clause-none : goal.grow-requires-clause-none
@@ -35,6 +36,15 @@ returns-in-Ok-grow-clause-filled g c =
       tree = subst (λ (x : Image). IsTree (files_of x)) same ready.tree;
       counted = subst (λ (x : Image). AreCounted (files_of x)) same ready.counted;
     }) c.synced.ensures.syncs
+
+pub returns-in-Ok-grow-clause-labels : goal.returns-in-Ok-grow-clause-labels
+returns-in-Ok-grow-clause-labels g c =
+    let d = c.args.disk in
+    let e = c.into_disk.result in
+    IfOk-weaker c.synced.result _ (λ last. IsUnlabelled (recovered (g.D.Disk.image d)) → HasLabels new_labels (g.D.Disk.image last)) (λ last syncs fresh.
+    subst (λ (x : Image). HasLabels new_labels x) (sym (synced_image g.D.Disk c.args.sync e last syncs))
+    (labels_opened g.D.Disk d c.in-Ok.kernel c.over-tree.result.kernel c.grow.new.tree.kernel (g.D.Disk.image e) c.in-Ok.ensures.opened c.over-tree.ensures.kernel c.grow.ensures.stays
+        (c.into_disk.ensures.labels c.in-Ok-grow.ensures.done) fresh)) c.synced.ensures.syncs
 
 pub returns-in-Ok-grow-clause-refused : goal.returns-in-Ok-grow-clause-refused
 returns-in-Ok-grow-clause-refused g c =

@@ -3,7 +3,7 @@ use Rattle.std.proofs.lemmas.Result.{IfErr-weaker, on_ok_weaker}
 use Rattle.calls.specs.Calls.{image_on}
 use Rattle.model.specs.Files.{files_of}
 use Rattle.model.specs.declared.types.image.Form.{Form}
-use Rattle.names.specs.Lemmas.Over.{form_stays}
+use Rattle.names.specs.Lemmas.Over.{form_stays, over_on}
 use Rattle.xvnames.specs.Making.{AddsAll, files_named}
 use Rattle.xvnames.specs.Unmade.{IsUngrown, StopsAdding}
 use Rattle.xvnames.proofs.making.grow.Goals as goal
@@ -31,3 +31,7 @@ returns-in-Ok-clause-refused g c =
     let m = c.add_all.new.tree.kernel in
     IfErr-weaker c.add_all.result (StopsAdding g.D.Disk named mid m) (IsUngrown g.D.Disk named c.args.tree.now.kernel m)
     (λ r stops. inr (mid, c.in-Ok.ensures.root, stops)) (c.add_all.ensures.refused c.in-Ok.ensures.ready)
+
+pub returns-in-Ok-clause-stays : goal.returns-in-Ok-clause-stays
+returns-in-Ok-clause-stays g c =
+    over_on g.D.Disk c.args.tree.now.kernel c.make_root.new.self.kernel c.add_all.new.tree.kernel c.make_root.ensures.stays c.add_all.ensures.stays
