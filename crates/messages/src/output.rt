@@ -13,7 +13,6 @@ use crate::told::{Reason, Unwritten};
 use itoa::Buffer;
 use layout::{CheckFault, Super};
 use model::types::Step;
-use offline::Report;
 use std::fmt::Display;
 use std::io::Write;
 
@@ -107,14 +106,14 @@ pub fn print_numbers<O: Write>(out: &mut O, fields: &Super) -> Result<(), Unwrit
     )
 }
 
-/// Prints what a check found, as the last text of a command.
-pub fn print_report<O: Write>(out: &mut O, report: &Report) -> Result<(), Unwritten>
+/// Prints what a check found, as the last text of a command: so many logged blocks, and files.
+pub fn print_report<O: Write>(out: &mut O, logged: u32, files: u32) -> Result<(), Unwritten>
     ensures ok { OnOk result (Appends (O.contents out.old) (O.contents out.new)
-        (report_text report.now.logged report.now.files)) }
+        (report_text logged files)) }
 {
     let mut buffers = (Buffer::new(), Buffer::new());
-    let logged = buffers.0.format(report.logged);
-    let files = buffers.1.format(report.files);
+    let logged = buffers.0.format(logged);
+    let files = buffers.1.format(files);
     print_last(out, format_args!("sound log {logged} files {files}\n"))
 }
 

@@ -43,7 +43,7 @@ fn print_report_in<O: Write>(out: &mut O, json: bool, report: &Report) -> Result
     if json {
         print_report_object(out, report.logged, report.files)
     } else {
-        print_report(out, report)
+        print_report(out, report.logged, report.files)
     }
 }
 
