@@ -11,3 +11,6 @@ pub mod FirstNames
 pub mod Tallies
 pub mod Takings
 pub mod Witness
+pub mod AddedFlaws
+mod FlawTrees
+mod FlawlessTrees

@@ -15,5 +15,7 @@ pub mod PathLaws
 pub mod Checks
 pub mod Judging
 pub mod Tallying
+pub mod Flaws
+pub mod FlawLaws
 pub mod Laws
 pub mod Lemmas

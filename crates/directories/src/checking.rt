@@ -72,7 +72,7 @@ fn names_stand_once(entries: &[[u8; ENTRY_SIZE]]) -> bool
 }
 
 // The place of the first entry with the name of an entry.
-fn first_named(entries: &[[u8; ENTRY_SIZE]], named: &[u8; ENTRY_SIZE]) -> Option<usize>
+pub(crate) fn first_named(entries: &[[u8; ENTRY_SIZE]], named: &[u8; ENTRY_SIZE]) -> Option<usize>
     ensures { result ≡ position (is_for (name_in named.now)) entries.now }
 {
     let name = name_in(named);

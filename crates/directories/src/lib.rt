@@ -6,12 +6,14 @@
 //! change is the write of one entry.
 //!
 //! `is_tree` tells whether the files of an image are a tree, `first_miscounted` whether their counts of
-//! links are right. `tree_laws` says what a tree is, and that changes leave one.
+//! links are right, `flaws_of` all that keeps them from both. `tree_laws` says what a tree is, and that changes leave one.
 #![tactic(auto)]
 
 mod checking;
 mod directory;
 mod entries;
+pub mod files;
+mod flaws;
 mod judging;
 pub mod laws;
 mod name;
@@ -26,6 +28,7 @@ pub use entries::{
     DIRECTORY, ENTRY_SIZE, EntryWrite, LinkFault, MOST_ENTRIES, entries_in, link, lookup,
     new_directory, number_in, repoint, unlink,
 };
+pub use flaws::{Flaw, climbs, first_down, flaws_of, home_in, homes_of, leads_down_to, names_to};
 pub use judging::{JudgeFault, is_tree};
 pub use name::{NAME_SIZE, Name, NameFault, text_in};
 pub use path::{PathFault, names_of};

@@ -1,6 +1,7 @@
 // Names of files.
 ghost use Rattle.std.specs.Prelude.{◌≡◌, ◌↔◌, ◌<◌, ◌≤◌, ◌==◌, [], length, position, Contains, IsTrue, OnOk, IfOk, IfErr, IfSome};
 ghost use Rattle.directories.specs.Entries.{name_in, name_size, padded, text_in, text_of, IsProper, IsStored};
+ghost use Rattle.directories.specs.Flaws.{is_proper};
 ghost use Rattle.directories.specs.Names.{IsName, IsNameCause};
 ghost use Rattle.directories.specs.Trees.{parent_name, self_name, IsDown};
 
@@ -163,7 +164,8 @@ fn padded(text: &[u8]) -> [u8; NAME_SIZE]
 
 // Whether bytes are a name: one at least is there, and none is a slash.
 pub(crate) fn is_proper(name: &[u8; NAME_SIZE]) -> bool
-    ensures { IsTrue result ↔ IsProper name.now }
+    ensures proper { IsTrue result ↔ IsProper name.now }
+    ensures value { result ≡ is_proper name.now }
 {
     name[0] != 0 && !name.contains(&SLASH)
 }

@@ -238,7 +238,7 @@ fn take_one(left: &mut [u16], number: u16) -> bool
 }
 
 // Whether an entry is used, and its name is not a directory's for itself.
-fn is_counted(entry: &[u8; ENTRY_SIZE]) -> bool
+pub(crate) fn is_counted(entry: &[u8; ENTRY_SIZE]) -> bool
     ensures { result ≡ is_counted entry.now }
 {
     !is_none_counted(entry)

@@ -1,5 +1,6 @@
 //! What changes of names make of a tree of directories, the contracts of functions that do nothing.
 ghost use Rattle.directories.specs.CountLaws.{AddingCounts, AddingDirectoryCounts, CountsAreOne, DirectoriesCount, DroppingCounts, DroppingDirectoryCounts, KeepingCounts, LinkingKeeps, MoreCountOthers, MovingCounts, MovingDirectoryCounts, OneCountsOnce, RootCounts, UnlinkingKeeps};
+ghost use Rattle.directories.specs.FlawLaws.{NoFlawIsTree, TreeHasNoFlaw};
 ghost use Rattle.directories.specs.PathLaws.{DirectoriesAreNamedOnce, FilesAreReached, NamesAreOne, NamesLead};
 ghost use Rattle.directories.specs.TreeLaws.{AddingKeeps, CreateMakes, DroppingKeeps, FilesAreNew, KeepingKeeps, LinkAdds, LinkLeads, LinkMoves, MovingDirectoryKeeps, MovingKeeps, PlainKeeps, ReadsPart, RelinkLeads, RemoveDrops, RemoveUndoes, RepointLeads, RootIsTree, UnlinkLeads, UnlinkMoves, WriteFills};
 ghost use Rattle.directories.specs.TreeMeaning.{DirectoriesAreTidy, EntriesLead, NoHalfIsTree, NumbersStandOnce, ParentsDecide, RootIsOutside, StepsLead};
@@ -107,4 +108,11 @@ pub fn paths_name_files()
     ensures reached { FilesAreReached }
     ensures one { NamesAreOne }
     ensures directories { DirectoriesAreNamedOnce }
+{}
+
+/// Files have no flaw exactly where they are a tree whose counts of links are right: no such fault is left
+/// out, and none is told of a tree.
+pub fn flaws_tell_trees()
+    ensures tree { NoFlawIsTree }
+    ensures flawless { TreeHasNoFlaw }
 {}
