@@ -1,13 +1,15 @@
 """Opens the page in a browser without a window: each run, the questions' places, and what stands there.
 
-    browse.py BROWSER PAGE
+    browse.py BROWSER PAGE [PAGE..]
+
+The further pages are the program's, each of one run: no stop may differ from the program in them.
 """
 import re
 import subprocess
 import sys
 import tempfile
 
-BROWSER, PAGE = sys.argv[1:]
+BROWSER, PAGE, *OTHERS = sys.argv[1:]
 # Where the page is opened: the run, the order, the disk and the step; what has to stand there, and whether it is bad.
 PLACES = [
     ("run=0&step=1", "✓ sound"),
@@ -21,11 +23,11 @@ PLACES = [
 ]
 
 
-def opened(place):
-    """The page as its scripts leave it."""
+def opened(page, place):
+    """A page as its scripts leave it."""
     with tempfile.TemporaryDirectory() as folder:
         ran = subprocess.run([BROWSER, "--headless", "--no-sandbox", "--disable-gpu", "--user-data-dir=" + folder,
-                              "--virtual-time-budget=20000", "--dump-dom", "file://%s#%s" % (PAGE, place)],
+                              "--virtual-time-budget=20000", "--dump-dom", "file://%s#%s" % (page, place)],
                              capture_output=True, timeout=120)
     return ran.stdout.decode("utf-8", "replace")
 
@@ -33,12 +35,18 @@ def opened(place):
 def main():
     bad = 0
     for place, text in PLACES:
-        page = opened(place)
+        page = opened(PAGE, place)
         shown = re.sub(r'<script.*?</script>', "", page, flags=re.DOTALL)
         differing = re.search(r'<body[^>]* data-differing="(\d+)"', page)
         if text not in shown or not differing or differing[1] != "0":
             bad += 1
             print("explorer: at %s the browser doesn't show %s" % (place, text))
+    for path in OTHERS:
+        found = re.search(r'<body[^>]* data-differing="(\d+)"', opened(path, "step=9"))
+        if not found or found[1] != "0":
+            bad += 1
+            print("explorer: %s is not as it should be" % path)
+    print("explorer: %d pages of the program opened in a browser" % len(OTHERS))
     print("explorer: %d places opened in a browser, %d not as they should be" % (len(PLACES), bad))
     return bad > 0
 

@@ -33,16 +33,22 @@ function blockOf(hex) {
 }
 
 const ZEROES = new Uint8Array(BLOCK);
+const keyOf = (bytes) => String.fromCharCode(...bytes);
 
 class Run {
-    // `told` is what make.py has of a run: the image at its opening, each step, and each write with the bytes
-    // that it changed.
+    // `told` is what make.py or `toldBy` has of a run: the image at its opening, each step, and each write with the
+    // bytes that it changed, or with all of its block.
     constructor(told) {
         this.told = told;
         this.size = told.size;
         this.bitmap = INODES + Math.floor(told.ninodes / 16) + 1;
         this.data = this.bitmap + 1;
-        this.opening = Array.from({ length: told.size }, (_, block) => (told.opening[block] ? blockOf(told.opening[block]) : ZEROES));
+        // Each content once, so that blocks are alike where they are the same.
+        this.contents = new Map([[keyOf(ZEROES), ZEROES]]);
+        this.numbers = new Map([[ZEROES, 0]]);
+        this.opening = Array.from({ length: told.size }, (_, block) => (told.opening[block] ? this.only(blockOf(told.opening[block])) : ZEROES));
+        // A run begins with a recovery.
+        this.opening = this.recovered(this.opening) || this.opening;
         this.writes = this.readWrites();
         this.commits = this.readCommits();
         this.order = "log";
@@ -51,14 +57,24 @@ class Run {
         this.after = this.filesAfterGroups();
     }
 
+    // The one block with these bytes.
+    only(bytes) {
+        const key = keyOf(bytes);
+        if (!this.contents.has(key)) {
+            this.contents.set(key, bytes);
+            this.numbers.set(bytes, this.numbers.size);
+        }
+        return this.contents.get(key);
+    }
+
     // Each write with its part of a commit and all bytes of its block.
     readWrites() {
         const now = this.opening.slice();
         return this.told.writes.map((write, index) => {
-            const bytes = now[write.block].slice();
-            for (const [at, hex] of write.changes) bytes.set(bytesOf(hex), at);
-            now[write.block] = bytes;
-            return { ...write, index, bytes };
+            const bytes = write.changes ? now[write.block].slice() : blockOf(write.bytes);
+            for (const [at, hex] of write.changes || []) bytes.set(bytesOf(hex), at);
+            now[write.block] = this.only(bytes);
+            return { ...write, index, bytes: now[write.block] };
         });
     }
 
@@ -226,6 +242,25 @@ class Run {
         return files;
     }
 
+    // The files of an image as one text, so that they can be compared: of a whole block its number.
+    textOf(image) {
+        let text = "";
+        for (let number = 1; number < this.told.ninodes; number++) {
+            const inode = this.inode(image, number);
+            const kind = number16(inode, 0);
+            if (kind === 0) continue;
+            const length = Math.min(number32(inode, 8), MOST_BYTES);
+            text += `${number}:${kind}:${length}`;
+            for (const { address, place, isNeeded } of this.addressesOf(image, inode)) {
+                if (!isNeeded || place < 0 || address >= this.size) continue;
+                const left = length - place * BLOCK;
+                text += left < BLOCK ? `:${image[address].subarray(0, left).join()}` : `;${this.numbers.get(image[address])}`;
+            }
+            text += "\n";
+        }
+        return text;
+    }
+
     // Whose block each is.
     ownersIn(image) {
         const owners = new Map();
@@ -242,11 +277,11 @@ class Run {
     // The files after each number of groups, by the order that the program has.
     filesAfterGroups() {
         const written = [];
-        const after = [textOf(this.filesIn(this.recovered(this.imageWith(written))))];
+        const after = [this.textOf(this.recovered(this.imageWith(written)))];
         for (const made of this.plan) {
             if (!made) continue;
             written.push(made);
-            if (made.write.part === "header") after.push(textOf(this.filesIn(this.recovered(this.imageWith(written)))));
+            if (made.write.part === "header") after.push(this.textOf(this.recovered(this.imageWith(written))));
         }
         return after;
     }
@@ -258,7 +293,7 @@ class Run {
     }
 
     // What a stop behind these writes comes to, where some of them are lost: the image, what recovery makes of it,
-    // its files, and either how many groups it keeps, or what is wrong.
+    // and either how many groups it keeps, or what is wrong.
     judge(written, lost) {
         const held = new Set(this.heldAmong(written).map(({ write }) => write.index));
         const least = written.filter((made) => this.isCommit(made) && !held.has(made.write.index)).length;
@@ -268,15 +303,14 @@ class Run {
         const image = this.imageWith(written, lost);
         const after = this.recovered(image);
         if (!after) return { image, wrong: "the log's header is unlawful (BadLog)" };
-        const files = this.filesIn(after);
         const fault = this.faultIn(after);
-        if (fault) return { image, after, files, fault, wrong: `recovered, the image is not sound: ${fault}` };
-        const text = textOf(files);
+        if (fault) return { image, after, fault, wrong: `recovered, the image is not sound: ${fault}` };
+        const text = this.textOf(after);
         for (let kept = least; kept <= most; kept++) {
-            if (this.after[kept] === text) return { image, after, files, kept };
+            if (this.after[kept] === text) return { image, after, kept };
         }
         const groups = least === most ? `${least}` : `${least} to ${most}`;
-        return { image, after, files, wrong: `recovered, the files are not those after ${groups} groups` };
+        return { image, after, wrong: `recovered, the files are not those after ${groups} groups` };
     }
 
     // The first choice of lost writes that a stop there doesn't survive, if there is one, and how many were tried.
@@ -306,9 +340,80 @@ class Run {
     }
 }
 
-// Files as one text, so that they can be compared.
-function textOf(files) {
-    return files.map(({ number, kind, bytes }) => `${number}:${kind}:${bytes.join()}`).join(";");
+// ---- a run as `xvfs replay --picture` writes it, a line an object
+
+// What a step was to do, and why it waits.
+function deedOf(step) {
+    let deed = step.deed;
+    if (deed === "get" || deed === "use") deed += ` ${step.block}`;
+    if (step.came !== "moved" && step.came !== "answered") deed += ` ${step.came}${step.why ? ` ${step.why}` : ""}`;
+    return step.by === undefined ? deed : `${deed} by ${step.by}`;
 }
 
-if (typeof module !== "undefined") module.exports = { Run, ORDERS, BLOCK, LOG, INODES, number16, number32 };
+// A step's write.
+function writeOf(step, index) {
+    const words = { log: `log ${step.place} of ${step.home}`, header: `header n ${step.count} group ${step.group}` };
+    return { block: step.block, part: step.part, what: words[step.part] || step.part, group: step.group, step: index, bytes: step.bytes || "" };
+}
+
+// What a turn came to; `from` is its first step.
+function turnOf(turn, from, to) {
+    const more = turn.event === "answered" ? `${turn.operation} ${turn.group} ${turn.reply}` : "";
+    return { process: turn.process, came: turn.event === "answered" ? "answered" : turn.came, more, from, to };
+}
+
+// An operation, as the line of a script.
+function lineOf({ process, operation, inode, type, offset, count, to, bytes }) {
+    const words = { create: [type], write: [inode, offset, bytes || "-"], read: [inode, offset, count], links: [inode, to], resize: [inode, to] };
+    return [process, operation, ...(words[operation] || [inode])].join(" ");
+}
+
+function toldBy(text) {
+    const told = { title: "A run, stop by stop", script: [], opening: {}, steps: [], writes: [], turns: [], stops: [] };
+    let from = 0;
+    for (const line of text.split("\n").filter((each) => each)) {
+        const each = JSON.parse(line);
+        if ("image" in each) Object.assign(told, { size: each.image, ninodes: each.inodes, holds: each.holds });
+        else if ("operation" in each && !("event" in each)) told.script.push(lineOf(each));
+        else if ("step" in each) {
+            told.steps.push({ process: each.process, deed: deedOf(each) });
+            if ("write" in each) told.writes.push(writeOf(each, told.steps.length - 1));
+        } else if ("event" in each) {
+            if ("process" in each) told.turns.push(turnOf(each, from, told.steps.length));
+            from = told.steps.length;
+        } else if ("behind" in each) told.stops.push({ behind: each.behind, files: [] });
+        else if ("file" in each) told.stops[told.stops.length - 1].files.push([each.file, each.type, each.size]);
+        else if ("block" in each) told.opening[each.block] = each.bytes;
+    }
+    return told;
+}
+
+// What the program's recovery gives behind so many writes: its own files there, or those of the last stop before at
+// which they changed.
+function toldBehind(told, count) {
+    return told.stops[0].behind === undefined ? told.stops[count] : told.stops.filter(({ behind }) => behind <= count).pop();
+}
+
+// A file as the program tells it: number, type, length, and the first bytes if it has them.
+function toldFile({ number, kind, bytes }, { length }) {
+    const hex = bytes.slice(0, 64).map((byte) => byte.toString(16).padStart(2, "0")).join("");
+    return [number, kind, bytes.length, hex].slice(0, length);
+}
+
+// At how many stops the recovery here has other files than the program's, in its own order.
+function differingStops(told) {
+    const own = new Run(told);
+    const all = own.plan.filter((made) => made !== null);
+    let differing = 0;
+    for (let count = 0; count <= all.length; count++) {
+        const written = all.slice(0, count);
+        const after = own.recovered(own.imageWith(written));
+        const { committed, files } = toldBehind(told, count);
+        const found = after === null ? [] : own.filesIn(after).map((file) => toldFile(file, files[0] || []));
+        const groups = written.filter((made) => made.write.part === "header").length;
+        if (JSON.stringify(found) !== JSON.stringify(files) || (committed !== undefined && groups !== committed)) differing++;
+    }
+    return differing;
+}
+
+if (typeof module !== "undefined") module.exports = { Run, ORDERS, toldBy, differingStops, BLOCK, LOG, INODES, number16, number32 };

@@ -1,12 +1,13 @@
 // The page of a run: a line is moved over its steps, and beside it stands what a stop there leaves.
 "use strict";
 
-const RUNS = JSON.parse(document.getElementById("data").textContent);
+const DATA = document.getElementById("data").textContent.trim();
+const RUNS = DATA.startsWith("[") ? JSON.parse(DATA) : [toldBy(DATA)];
 const asked = new URLSearchParams(location.hash.slice(1));
 const chosen = Math.min(RUNS.length - 1, Math.max(0, Number(asked.get("run")) || 0));
 const run = new Run(RUNS[chosen]);
 const steps = run.told.steps;
-const processes = 1 + Math.max(...run.told.turns.map((turn) => turn.process));
+const processes = steps.reduce((most, step) => Math.max(most, step.process + 1), 1);
 
 const ORDER_WORDS = {
     log: "log, header, homes, clear: as xvfs does it",
@@ -193,6 +194,18 @@ const answers = run.told.turns.filter((turn) => turn.came === "answered").map((t
     return { process: turn.process, place, group, step: turn.to - 1 };
 });
 
+// The operations, each with its process and its answer.
+function readOperations() {
+    const found = new Map(answers.map((answer) => [`${answer.process} ${answer.place}`, answer]));
+    const counts = new Map();
+    return run.told.script.map((line) => {
+        const process = Number(line.split(" ")[0]);
+        counts.set(process, (counts.get(process) || 0) + 1);
+        return { line, process, answer: found.get(`${process} ${counts.get(process)}`) };
+    });
+}
+const operations = readOperations();
+
 function underWay() {
     const found = [];
     for (let process = 0; process < processes; process++) {
@@ -227,6 +240,7 @@ function showMemory(newer) {
 
 function showBlocks(image, made, newer) {
     const owners = run.ownersIn(image);
+    element("blocks").style.setProperty("--across", run.size > 1024 ? 64 : run.size > 256 ? 32 : 16);
     element("blocks").innerHTML = image.map((_, block) => {
         const owner = owners.get(block);
         const letter = roleOf(block) || (owner ? (owner.isAddresses ? "a" : String(owner.number % 10)) : ".");
@@ -251,16 +265,16 @@ function showLog(image) {
             : '<p class="quiet">What stands in the blocks behind it is read by nobody.</p>');
 }
 
-function showRecovered({ wrong, kept, files }) {
+function showRecovered({ wrong, kept, after }) {
     const verdict = wrong ? `<div class="verdict is-bad"><span class="bad">✗ ${escaped(wrong)}</span></div>`
         : `<div class="verdict is-good"><span class="good">✓ sound</span>, with exactly the first ${counted(kept, "group")}</div>`;
-    const listed = (files || []).slice(0, 8).map(({ number, kind, bytes }) => `<tr><td>${number}</td><td>${KINDS[kind] || kind}</td>`
+    const files = after ? run.filesIn(after) : [];
+    const listed = files.slice(0, 8).map(({ number, kind, bytes }) => `<tr><td>${number}</td><td>${KINDS[kind] || kind}</td>`
         + `<td>${bytes.length}</td><td class="bytes">${escaped(printable(bytes.slice(0, 18)))}${bytes.length > 18 ? "…" : ""}</td></tr>`);
     const table = listed.length ? `<table><tr><th>file</th><th>type</th><th>bytes</th><th>content</th></tr>${listed.join("")}</table>` : "<p>No file.</p>";
-    const rows = run.told.script.slice(0, 10).map((line, index) => {
-        const process = Number(line.split(" ")[0]);
-        const place = run.told.script.slice(0, index + 1).filter((text) => Number(text.split(" ")[0]) === process).length;
-        const answer = answers.find((one) => one.process === process && one.place === place);
+    const next = operations.findIndex(({ answer }) => !answer || answer.step > at);
+    const first = Math.max(0, Math.min((next < 0 ? operations.length : next) - 6, operations.length - 10));
+    const rows = operations.slice(first, first + 10).map(({ line, process, answer }) => {
         const group = answer ? answer.group : 0;
         const state = wrong ? "?" : group && group <= kept ? '<span class="good">✓ kept</span>' : group ? '<span class="quiet">lost</span>' : "";
         const told = !answer ? "" : answer.step <= at ? "yes" : '<span class="quiet">not yet</span>';
@@ -452,17 +466,12 @@ function onKey(event) {
     event.preventDefault();
 }
 
-// At how many stops the page's recovery has other files than the program's, in its own order.
-function differingStops() {
-    const own = new Run(run.told);
-    return own.told.stops.filter(({ committed, files }, count) => {
-        const written = own.plan.filter((made) => made !== null).slice(0, count);
-        const found = own.filesIn(own.recovered(own.imageWith(written)));
-        const told = found.map(({ number, kind, bytes }) => [number, kind, bytes.length,
-            bytes.slice(0, 64).map((byte) => byte.toString(16).padStart(2, "0")).join("")]);
-        const groups = written.filter((made) => made.write.part === "header").length;
-        return JSON.stringify(told) !== JSON.stringify(files) || groups !== committed;
-    }).length;
+// What the page says of its own recovery.
+function footWords(differing) {
+    const stops = run.writes.length + 1;
+    if (differing) return `The page's recovery differs from the program's at ${counted(differing, "stop")} of ${stops}!`;
+    if (run.told.version) return `At all ${stops} stops the page's recovery gives the files that xvfs recover, ls and cat tell.`;
+    return `At all ${stops} stops the page's recovery gives the files, by number, type and length, that the program's gives.`;
 }
 
 addRuns();
@@ -482,8 +491,6 @@ addEventListener("resize", () => {
     show();
 });
 refresh();
-const differing = differingStops();
-element("foot").textContent = `${run.told.version}. Schedule: ${run.told.schedule}. ` + (differing
-    ? `The page's recovery differs from the program's at ${counted(differing, "stop")}!`
-    : `At all ${run.told.stops.length} stops the page's recovery gives the files that xvfs recover, ls and cat tell.`);
+const differing = differingStops(run.told);
+element("foot").textContent = (run.told.version ? `${run.told.version}. Schedule: ${run.told.schedule}. ` : "") + footWords(differing);
 document.body.dataset.differing = differing;

@@ -1,23 +1,18 @@
 -- The object of what a turn came to.
 use Rattle.std.specs.Prelude.{ℕ, List, ◌++◌, codes}
-use Rattle.hex.specs.Hex.{encode_lower}
 use Rattle.messages.specs.declared.events.Event.{Event}
 use Rattle.messages.specs.declared.events.Event.TheVariants.{Stepped, Answered, Shut, Stopped}
 use Rattle.model.specs.declared.types.operations.Answer.{Answer}
 use Rattle.model.specs.declared.types.operations.Reply.{Reply}
 use Rattle.model.specs.declared.types.operations.Reply.TheVariants.{Made, NoInode, Wrote, Bytes, Done, StatOf, NoFile, BadOffset, TooBig, TooLong, BadType}
 use Rattle.model.specs.declared.types.operations.Step.{Step}
-use Rattle.json_lines.specs.Fields.{number_field, word_field}
+use Rattle.json_lines.specs.Fields.{bytes_field, number_field, word_field}
 use Rattle.json_lines.specs.Steps.{came_fields}
 
 -- ---- a reply: its kind, and its values
 
 abbrev pub reply_field : List ℕ → List ℕ
 reply_field kind = word_field (codes "reply") kind
-
--- bytes, as hexadecimal digits of lower case
-unfoldable pub bytes_field : List ℕ → List ℕ
-bytes_field bytes = codes ",\"bytes\":\"" ++ encode_lower bytes ++ codes "\""
 
 unfoldable pub stat_fields : ℕ → ℕ → ℕ → List ℕ
 stat_fields kind links size =

@@ -1,5 +1,6 @@
 pub mod Fields
 pub mod Arrays
+pub mod Blocks
 pub mod Steps
 pub mod Events
 pub mod Counts

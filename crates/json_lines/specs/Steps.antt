@@ -9,7 +9,9 @@ use Rattle.wal.specs.declared.deeds.CommitDeed.{CommitDeed}
 use Rattle.wal.specs.declared.deeds.Deed.{Deed}
 use Rattle.wal.specs.declared.deeds.TaskDeed.{TaskDeed}
 use Rattle.wal.specs.declared.types.Part.{Part}
+use Rattle.json_lines.specs.Blocks.{write_field}
 use Rattle.json_lines.specs.Fields.{number_field, word_field}
+use Rattle.json_lines.specs.declared.written.Written.{Written}
 
 -- ---- what a step was to do, with the inode or the block that it is about
 
@@ -93,12 +95,19 @@ abbrev pub made_fields : Option CommitDeed → ℕ → ℕ → ℕ → List ℕ
 made_fields None n writes syncs = []
 made_fields (Some deed) n writes syncs = written_fields n deed writes syncs
 
+-- the bytes of a step's write among those of a run's writes, in their order, where it made one
+abbrev pub content_fields : List Written → Option CommitDeed → ℕ → List ℕ
+content_fields written None writes = []
+content_fields written (Some (CommitDeed.Sync part)) writes = []
+content_fields written (Some deed) writes = write_field written writes
+
 -- the groups that were opened with a step, and those that are committed
 unfoldable pub group_fields : ℕ → ℕ → List ℕ
 group_fields opened committed =
     number_field (codes "opened") opened ++ number_field (codes "committed") committed
 
--- ---- THE OBJECT OF A STEP, the k-th of its turn, over an image of n inode numbers, with its line feed
+-- ---- THE OBJECT OF A STEP, the k-th of its turn, over an image of n inode numbers, in a run of these
+-- writes, with its line feed
 
 unfoldable pub head_text : ℕ → ℕ → List ℕ
 head_text k process = codes "{\"step\":" ++ decimal k ++ number_field (codes "process") process
@@ -107,17 +116,19 @@ unfoldable pub told_fields : StepNote → List ℕ
 told_fields note =
     deed_fields note.deed ++ came_fields note.step ++ by_field note.step note.holder
 
-unfoldable pub step_object : ℕ → ℕ → StepNote → List ℕ
-step_object n k note =
+unfoldable pub step_object : ℕ → List Written → ℕ → StepNote → List ℕ
+step_object n written k note =
     head_text k note.process ++ told_fields note
     ++ made_fields (made_deed note.step note.deed) n note.writes note.syncs
-    ++ group_fields note.opened note.committed ++ codes "}\n"
+    ++ group_fields note.opened note.committed
+    ++ content_fields written (made_deed note.step note.deed) note.writes ++ codes "}\n"
 
 -- those of steps that are numbered from k on
-abbrev pub objects_from : ℕ → ℕ → List StepNote → List ℕ
-objects_from n k [] = []
-objects_from n k (note ∷ notes) = step_object n k note ++ objects_from n (k + 1) notes
+abbrev pub objects_from : ℕ → List Written → ℕ → List StepNote → List ℕ
+objects_from n written k [] = []
+objects_from n written k (note ∷ notes) =
+    step_object n written k note ++ objects_from n written (k + 1) notes
 
 -- those of a turn
-abbrev pub step_objects : ℕ → List StepNote → List ℕ
-step_objects n notes = objects_from n 1 notes
+abbrev pub step_objects : ℕ → List Written → List StepNote → List ℕ
+step_objects n written notes = objects_from n written 1 notes

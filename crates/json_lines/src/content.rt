@@ -1,8 +1,9 @@
-// The bytes that were read, as hexadecimal digits.
+// Bytes, as hexadecimal digits: those that were read, and those of a block.
 ghost use Rattle.std.specs.Prelude.{◌≡◌, ◌≤◌, ◌*◌, OnOk, length};
 ghost use Rattle.std.specs.Io.KnownBytes.{Appends};
 ghost use Rattle.hex.specs.Hex.{encode_lower};
-ghost use Rattle.json_lines.specs.Events.{bytes_field};
+ghost use Rattle.json_lines.specs.Blocks.{block_field, kept_count, without_last_zeroes};
+ghost use Rattle.json_lines.specs.Fields.{bytes_field};
 
 use hex::encode_to_slice;
 use messages::{Unwritten, print, write_bytes};
@@ -11,8 +12,8 @@ use std::io::Write;
 // The most bytes whose digits are made at once.
 const PIECE: usize = 256;
 
-// Writes the bytes that were read.
-#[tactic(auto, unfolding(crate::specs::Events::bytes_field))]
+/// Writes a field behind another, with bytes as hexadecimal digits.
+#[tactic(auto, unfolding(crate::specs::Fields::bytes_field))]
 pub fn print_bytes<O: Write>(out: &mut O, bytes: &[u8]) -> Result<(), Unwritten>
     ensures ok { OnOk result (Appends (O.contents out.old) (O.contents out.new)
         (bytes_field bytes.now)) }
@@ -20,6 +21,36 @@ pub fn print_bytes<O: Write>(out: &mut O, bytes: &[u8]) -> Result<(), Unwritten>
     print(out, ",\"bytes\":\"")?;
     print_digits(out, bytes)?;
     print(out, "\"")
+}
+
+/// Writes a field behind another, with the bytes of a block as hexadecimal digits: the zeroes at its
+/// end are left out.
+pub fn print_block<O: Write>(out: &mut O, bytes: &[u8]) -> Result<(), Unwritten>
+    ensures ok { OnOk result (Appends (O.contents out.old) (O.contents out.new)
+        (block_field bytes.now)) }
+{
+    print_bytes(out, without_last_zeroes(bytes))
+}
+
+// Bytes without the zeroes at their end.
+fn without_last_zeroes(bytes: &[u8]) -> &[u8]
+    ensures { result.now ≡ without_last_zeroes bytes.now }
+{
+    &bytes[..kept_count(bytes)]
+}
+
+// How many bytes are left without the zeroes at their end.
+fn kept_count(bytes: &[u8]) -> usize
+    ensures count { result ≡ kept_count bytes.now (length bytes.now) }
+    ensures inside { result ≤ length bytes.now }
+{
+    let mut kept = 0;
+    for i in 0..bytes.len() {
+        if bytes[i] != 0 {
+            kept = i + 1;
+        }
+    }
+    kept
 }
 
 // Writes the hexadecimal digits of bytes, piece by piece.

@@ -12,10 +12,13 @@ mod events;
 mod faults;
 mod fields;
 mod steps;
+mod written;
 
 pub use arrays::print_comma;
+pub use content::{print_block, print_bytes};
 pub use counts::{print_counts_object, print_number_object, print_report_object};
 pub use events::print_event_object;
 pub use faults::print_fault_object;
 pub use fields::{print_first_number, print_number, print_word};
 pub use steps::print_step_objects;
+pub use written::Written;

@@ -3,9 +3,12 @@ ghost use Rattle.std.specs.Prelude.{◌≡◌, OnOk};
 ghost use Rattle.std.specs.Io.KnownBytes.{Appends};
 ghost use Rattle.messages.specs.Deeds.{commit_word, is_plain, made_deed, task_word};
 ghost use Rattle.messages.specs.Events.{name_of};
-ghost use Rattle.json_lines.specs.Steps.{about_field, by_field, came_fields, came_word, deed_field, deed_fields, group_fields, head_text, holder_field, made_fields, part_word, place_fields, step_object, step_objects, told_fields, why_field, written_fields};
+ghost use Rattle.json_lines.specs.Blocks.{write_field};
+ghost use Rattle.json_lines.specs.Steps.{about_field, by_field, came_fields, came_word, content_fields, deed_field, deed_fields, group_fields, head_text, holder_field, made_fields, part_word, place_fields, step_object, step_objects, told_fields, why_field, written_fields};
 
+use crate::content::print_block;
 use crate::fields::{print_number, print_word};
+use crate::written::Written;
 use itoa::Buffer;
 use messages::{StepNote, Unwritten, made_deed, print, role_of};
 use model::types::{Step, Why};
@@ -13,19 +16,21 @@ use std::io::Write;
 use wal::{CommitDeed, Deed, Part, TaskDeed};
 
 /// Writes the objects of a turn's steps, over an image of so many inode numbers, a line each: they are
-/// numbered from 1. The writer may hold them back.
+/// numbered from 1. Each that wrote has the bytes of its write among those of the run's, in their
+/// order. The writer may hold them back.
 pub fn print_step_objects<O: Write>(
     out: &mut O,
     inode_count: u32,
+    written: &[Written],
     notes: &[StepNote],
 ) -> Result<(), Unwritten>
     ensures ok { OnOk result (Appends (O.contents out.old) (O.contents out.new)
-        (step_objects inode_count notes.now)) }
+        (step_objects inode_count written.now notes.now)) }
 {
     let mut number = 0;
     for note in notes {
         number += 1;
-        print_step_object(out, inode_count, number, note)?;
+        print_step_object(out, inode_count, written, number, note)?;
     }
     Ok(())
 }
@@ -35,16 +40,18 @@ pub fn print_step_objects<O: Write>(
 fn print_step_object<O: Write>(
     out: &mut O,
     inode_count: u32,
+    written: &[Written],
     number: usize,
     note: &StepNote,
 ) -> Result<(), Unwritten>
     ensures ok { OnOk result (Appends (O.contents out.old) (O.contents out.new)
-        (step_object inode_count number note.now)) }
+        (step_object inode_count written.now number note.now)) }
 {
     print_head(out, number, note.process)?;
     print_told(out, note)?;
     print_made(out, inode_count, note)?;
     print_groups(out, note.opened, note.committed)?;
+    print_content(out, written, note)?;
     print(out, "}\n")
 }
 
@@ -292,4 +299,30 @@ fn print_groups<O: Write>(out: &mut O, opened: u64, committed: u64) -> Result<()
 {
     print_number(out, "opened", opened)?;
     print_number(out, "committed", committed)
+}
+
+// Writes the bytes of a step's write, if it made one.
+fn print_content<O: Write>(
+    out: &mut O,
+    written: &[Written],
+    note: &StepNote,
+) -> Result<(), Unwritten>
+    ensures ok { OnOk result (Appends (O.contents out.old) (O.contents out.new)
+        (content_fields written.now (made_deed note.now.step note.now.deed) note.now.writes)) }
+{
+    match made_deed(note.step, note.deed) {
+        None | Some(CommitDeed::Sync(_)) => Ok(()),
+        Some(_) => print_write(out, written, note.writes),
+    }
+}
+
+// Writes the bytes of the write of that number, from 1, if they are there.
+fn print_write<O: Write>(out: &mut O, written: &[Written], number: u64) -> Result<(), Unwritten>
+    ensures ok { OnOk result (Appends (O.contents out.old) (O.contents out.new)
+        (write_field written.now number)) }
+{
+    match written.get(number.saturating_sub(1) as usize) {
+        None => Ok(()),
+        Some(write) => print_block(out, &write.bytes),
+    }
 }

@@ -1,6 +1,6 @@
 -- Turns whose steps are told, each as it was noted: what it was to do before it was made, and what
 -- it came to.
-use Rattle.std.specs.Prelude.{◌≡◌, ◌≢◌, ℕ, ◌-◌, Bool, false, ◌||◌, List, [], ◌∷◌, ◌++◌, flat_map, Option, Some}
+use Rattle.std.specs.Prelude.{◌≡◌, ◌≢◌, ℕ, ◌-◌, Bool, false, ◌||◌, List, [], ◌∷◌, ◌++◌, flat_map, Option, Some, Result, Ok, Err}
 use Rattle.std.specs.Io.KnownBytes.{Appends}
 use Rattle.blocks.specs.declared.disk.Disk.{Ghosts}
 use Rattle.blocks.specs.declared.faulty.FaultyDisk.{FaultyDisk}
@@ -20,6 +20,7 @@ use Rattle.messages.specs.declared.events.Event.{Event}
 use Rattle.json_lines.specs.Counts.{counts_object}
 use Rattle.json_lines.specs.Events.{event_object}
 use Rattle.json_lines.specs.Steps.{step_objects}
+use Rattle.json_lines.specs.declared.written.Written.{Written}
 use Rattle.player.specs.Stepping.{BreaksOff, MakesRingedStep, MakesTurn, MakesTurnOf, Ringed, end_text, kernel_fault}
 use Rattle.player.specs.Turns.{Turns}
 use Rattle.player.specs.declared.noting.Base.{Base}
@@ -127,12 +128,18 @@ told_text detail n told = event_line told.event ++ flat_map (note_text detail n)
 abbrev pub in_lines : Detail → Saying
 in_lines detail = record { of_turn = told_text detail; of_end = counts_text }
 
--- objects of JSON: those of a turn's steps and then that of the turn, and that of the counts
-abbrev pub in_objects : Saying
-in_objects = record {
-  of_turn = λ n told. step_objects n told.notes ++ event_object told.event;
+-- objects of JSON: those of a turn's steps, in a run of these writes, then that of the turn, and that of
+-- the counts
+abbrev pub in_objects : List Written → Saying
+in_objects written = record {
+  of_turn = λ n told. step_objects n written told.notes ++ event_object told.event;
   of_end = counts_object;
 }
+
+-- the writes, where memory for them was had
+abbrev pub writes_in : {V E : Type 0} → Result V E → (V → List Written) → List Written
+writes_in (Ok written) items_of = items_of written
+writes_in (Err refused) items_of = []
 
 -- whether something is told of steps
 abbrev pub tells_steps : Detail → Bool

@@ -1,11 +1,11 @@
 // A script's operations over a disk, in the turns of a schedule.
-ghost use Rattle.std.specs.Prelude.{◌≡◌, ◌<◌, false, length, List, All, IsTrue, IfOk, OnOk, IfErr, None, unwrap_or};
+ghost use Rattle.std.specs.Prelude.{◌≡◌, ◌<◌, false, length, List, All, IsTrue, IfOk, IsOk, OnOk, IfErr, None, unwrap_or};
 ghost use Rattle.rings.specs.Boards.{KeeperOf, WatchOf, asked, published};
 ghost use Rattle.std.specs.List.{list_all};
 ghost use Rattle.scripts.specs.Schedule.{is_word_of};
 ghost use Rattle.player.specs.Opening.{IsNotBegun, IsNotReplayed, IsReadyOver, Replays};
 ghost use Rattle.player.specs.Stepping.{IsSeated};
-ghost use Rattle.player.specs.Told.{HearsTurns, Told, base_of, in_lines, in_objects, tells_steps};
+ghost use Rattle.player.specs.Told.{HearsTurns, Told, base_of, in_lines, in_objects, tells_steps, writes_in};
 
 use crate::json_teller::JsonTeller;
 use crate::noting::Base;
@@ -16,6 +16,7 @@ use crate::teller::Teller;
 use crate::tellers::{LineTeller, StepTeller};
 use crate::turns::{Hands, open_player};
 use blocks::{Disk, FaultyDisk, NoMemory};
+use json_lines::Written;
 use kernel::OpenFault;
 use messages::{Detail, Meter, Silent};
 use opening::recover_image;
@@ -83,16 +84,18 @@ pub fn replay_disk<D: Disk + Drop, P: Meter, O: Write>(
 /// Recovers the image of a disk, and makes the operations of a scenario in its turns, as
 /// `replay_with`. Prints objects of JSON, a line each: for each word of the schedule, up to the one in
 /// whose turn the disk failed, one for each step of its turn, and one for what the turn came to;
-/// behind them one with the counts.
+/// behind them one with the counts. The object of a write has its bytes among these, which are those
+/// of the run's writes, in their order.
 ///
 /// # Errors
 ///
-/// As those of `replay_with`, with `Unopened` of `NoMemory` also where memory for the notes of a turn
-/// is refused.
+/// As those of `replay_with`, with `Unopened` of `NoMemory` also where memory for the writes was
+/// refused, or where that for the notes of a turn is.
 pub fn replay_objects<D: Disk + Drop, P: Meter, O: Write>(
     alloc: Global,
     disk: D,
     scenario: Scenario,
+    written: Result<Vec<Written>, NoMemory>,
     progress: &mut P,
     out: &mut O,
 ) -> (Result<(), ReplayRefusal>, D)
@@ -100,14 +103,17 @@ pub fn replay_objects<D: Disk + Drop, P: Meter, O: Write>(
     requires words { IsTrue (list_all (is_word_of scenario.processes) scenario.words.items) }
     ensures printed { OnOk result.0 ((tolds : List Told) × Replays D.Disk
         ⟦<FaultyDisk<D> as Disk>⟧ disk result.1 scenario.tasks.items scenario.processes
-        scenario.words.items (unwrap_or scenario.stop 0) in_objects
+        scenario.words.items (unwrap_or scenario.stop 0)
+        (in_objects (writes_in written (λ v. v.items)))
         None (O.contents out.old) (O.contents out.new) tolds) }
     ensures refused { IfErr result.0 (IsNotReplayed D.Disk ⟦<FaultyDisk<D> as Disk>⟧ disk result.1
         scenario.tasks.items scenario.processes scenario.words.items (unwrap_or scenario.stop 0)
-        in_objects (O.contents out.old) (O.contents out.new) (out.new ≡ out.old)) }
+        (in_objects (writes_in written (λ v. v.items)))
+        (O.contents out.old) (O.contents out.new) (out.new ≡ out.old)) }
+    ensures had { OnOk result.0 (IsOk written) }
     ensures name { D.name result.1 ≡ D.name disk }
 {
-    let mut teller = match JsonTeller::new(alloc) {
+    let mut teller = match JsonTeller::new(alloc, written) {
         Ok(teller) => teller,
         Err(_refused) => {
             return (Err(ReplayRefusal::Unopened(OpenFault::NoMemory)), disk);

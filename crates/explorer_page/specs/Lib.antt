@@ -1,0 +1,4 @@
+pub mod Lines
+pub mod Operations
+pub mod Texts
+pub mod Page
