@@ -4,7 +4,7 @@
     values.py KIND <VALUE >TEXT
 
 A KIND is ls, df, check, faults (of check --all), show, file (of show with a number), log (of show log), recover
-or stops; of xvnames entries (of ls), stat, paths (of tree), counts (of check) or nameless (of check where the
+or stops; of xvnames entries (of ls), stat, paths (of tree), counts (of check) or flaws (of check where the
 files are no tree). Nothing but the value is read, and each field of it has to be known here.
 """
 import json
@@ -100,9 +100,14 @@ def counts(files):
         yield "{path} {number} links {links} names {names}".format(**fields(file, "path number links names"))
 
 
-def nameless(files):
+def flaws(files):
     for file in files:
-        yield "no name " + "".join(stat(file))
+        if "fault" in file:
+            yield "{path} {number} {fault}".format(**fields(file, "path number fault"))
+        elif "path" in file:
+            yield from counts([file])
+        else:
+            yield "no name " + "".join(stat(file))
 
 
 def main():

@@ -208,7 +208,8 @@ def look_without_a_tree():
         fail("ls of a directory with two names lists something else")
     for words in ("tree", "a.img"), ("get", "-r", "a.img", "docs", "folder"), ("recount", "a.img"), ("rm", "a.img", "more"):
         refuse(*words, refused="13 NoTree")
-    refuse("check", "a.img", "--explain", refused="13 NoTree\na.img: its files are no tree of directories")
+    refuse("check", "a.img", "--explain", refused="13 NoTree\na.img: its files are no tree of directories",
+           printed=b"/more/ 4 second name\n")
 
 
 def lose_a_name():

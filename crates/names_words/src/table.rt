@@ -191,7 +191,7 @@ const LINES: &[Line] = &[
     },
     Line {
         name: "check",
-        about: "Says whether an image is sound and its files a tree, and lists each path of a file whose count of links is not how many names lead to it: number, links and names; where they are no tree, the files without a name",
+        about: "Says whether an image is sound and its files a tree, and lists each path of a file whose count of links is not how many names lead to it: number, links and names; where they are no tree, each flaw by its path and its number",
         example: "Examples: xvnames check fs.img, xvnames check fs.img --json",
         image: Some(IMAGE_KEPT),
         words: &[JSON],

@@ -5,3 +5,4 @@ mod Looking
 mod Copied
 mod Ungot
 mod CopyPlans
+mod FlawTexts

@@ -1,6 +1,6 @@
 -- What is printed of the files of directories.
-use Rattle.std.specs.Prelude.{ℕ, zero, suc, ◌-◌, ◌==◌, ◌&&◌, not, if◌then◌else◌, Bool, true, false, List, [], ◌++◌, length, slice_index_or, codes, decimal, is_none, Option}
-use Rattle.std.specs.List.{flat_map, list_any, range_with_len}
+use Rattle.std.specs.Prelude.{ℕ, zero, suc, ◌-◌, ◌==◌, if◌then◌else◌, Bool, true, false, List, [], ◌++◌, length, slice_index_or, codes, decimal, Option}
+use Rattle.std.specs.List.{flat_map}
 use Rattle.model.specs.Files.{Files, file_in}
 use Rattle.model.specs.declared.types.image.File.{File}
 use Rattle.directories.specs.Entries.{entries_of, number_in, text_in, text_of}
@@ -116,32 +116,3 @@ all_wrong json files counts = wrong_told json files counts (codes "/") root
 -- what is told of them, as JSON or as text
 abbrev pub wrong_counts : Bool → Files → List ℕ → List ℕ
 wrong_counts json files counts = told_in json (all_wrong json files counts)
-
--- an entry leads down to a number
-abbrev pub leads_down_to : ℕ → List ℕ → Bool
-leads_down_to number entry = leads_down entry && (number_in entry == number)
-
--- an entry of a directory does
-abbrev pub has_name_of : ℕ → Option File → Bool
-has_name_of number file = (kind_of file == directory_kind)
-    && list_any (leads_down_to number) (entries_of (bytes_of file))
-
--- a file but the root, to which no entry of any directory leads down
-abbrev pub is_nameless : Files → ℕ → Bool
-is_nameless files number = not (number == root) && not (is_none (file_in files number))
-    && not (list_any (has_name_of number) files)
-
--- a file as an element of JSON, or its line
-abbrev pub lone_told : Bool → Files → ℕ → List ℕ
-lone_told true files number = element (stat_object (file_in files number) number)
-lone_told false files number = codes "no name " ++ stat_line files number
-
--- that of such a file
-abbrev pub nameless_told : Bool → Files → ℕ → List ℕ
-nameless_told json files number =
-    if is_nameless files number then lone_told json files number else []
-
--- what is told of all numbers, the lowest first, as JSON or as text
-abbrev pub nameless_files : Bool → Files → List ℕ
-nameless_files json files =
-    told_in json (flat_map (nameless_told json files) (range_with_len 0 (length files)))

@@ -15,9 +15,10 @@ use Rattle.directories.specs.declared.judging.JudgeFault.{JudgeFault}
 use Rattle.directories.specs.declared.judging.JudgeFault.TheVariants as judge
 use Rattle.directories.specs.declared.refusal.Refusal.TheVariants.{IsADirectory, NotADirectory, TooManyLinks}
 use Rattle.offline.specs.Cause.{IsCause}
-use Rattle.tree_looks.specs.Listing.{listed, nameless_files, paths_below, stat_told, wrong_counts}
+use Rattle.tree_looks.specs.Flaws.{flaws_told}
+use Rattle.tree_looks.specs.Listing.{listed, paths_below, stat_told, wrong_counts}
 use Rattle.tree_looks.specs.declared.counts.Text.{Text}
-use Rattle.tree_looks.specs.declared.counts.Text.TheVariants.{Counts, Nameless}
+use Rattle.tree_looks.specs.declared.counts.Text.TheVariants.{Counts, Flaws}
 use Rattle.tree_looks.specs.declared.faults.LookRefusal.{LookRefusal}
 use Rattle.tree_looks.specs.declared.faults.LookRefusal.TheVariants.{Check, NoTree, Path, Refused, NoMemory, Output}
 
@@ -116,8 +117,7 @@ IsUntold files r = ((r ≡ Refused TooManyLinks) × HasTooMany files) ⊎ (r ≡
 -- what is told of files that are a tree, or are none
 abbrev pub IsTextOf : Bool → Files → Text → Type 0
 IsTextOf json files (Counts text) = IsTree files × TellsCounts json files text.items
-IsTextOf json files (Nameless text) =
-    (IsTree files → ⊥) × (text.items ≡ nameless_files json files)
+IsTextOf json files (Flaws text) = (IsTree files → ⊥) × (text.items ≡ flaws_told json files)
 
 -- The disk d, now e, was only read; its image had no fault, and of its files, as recovery would leave
 -- them, this was told and printed.
@@ -136,12 +136,12 @@ pub record HasNotLooked {D N : Type 0} (disk : Ghosts D N) (refuses : Files → 
   pub why : (IsUnseen disk refuses d e r × none)
       ⊎ ((verdict (disk.image d) ≡ None) × (r ≡ Output))
 
--- It was only read, and its counts were not told, for this reason; of files that are no tree those
--- without a name were printed.
+-- It was only read, and its counts were not told, for this reason; of files that are no tree each flaw
+-- was printed.
 pub record HasNotCounted {D N : Type 0} (disk : Ghosts D N) (json : Bool) (d e : D)
     (old new : Option (List ℕ)) (none : Type 0) (r : LookRefusal) : Type 0 where
   pub reads : OnlyReads disk d e
   pub why : (IsUnseen disk IsUntold d e r × none)
       ⊎ ((verdict (disk.image d) ≡ None) × IsNoTree (files_of (recovered (disk.image d))) r
-      × Appends old new (nameless_files json (files_of (recovered (disk.image d)))))
+      × Appends old new (flaws_told json (files_of (recovered (disk.image d)))))
       ⊎ ((verdict (disk.image d) ≡ None) × (r ≡ Output))

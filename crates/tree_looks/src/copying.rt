@@ -21,11 +21,12 @@ ghost use Rattle.tree_looks.specs.Copies.{
 };
 
 use crate::faults::LookRefusal;
-use crate::finding::{DIRECTORY_KIND, Found, bytes_at, find, kind_at, walk};
+use crate::finding::{Found, find, walk};
 use crate::loading::load_tree;
 use crate::looks::{copy, last_of, told};
 use blocks::{Disk, NoMemory};
-use directories::{Name, Refusal, names_of};
+use directories::files::{bytes_at, kind_at};
+use directories::{DIRECTORY_KIND, Name, Refusal, names_of};
 use model::types::File;
 use std::alloc::Global;
 

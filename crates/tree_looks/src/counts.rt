@@ -1,4 +1,4 @@
-// The counts of links of files that are not how many names lead to them, and files without a name.
+// The counts of links of files that are not how many names lead to them, and the flaws of other files.
 ghost use Rattle.std.specs.Prelude.{◌≡◌, ◌++◌, None, IfErr, IfOk, OnOk};
 ghost use Rattle.blocks.specs.Calls.{OnlyReads};
 ghost use Rattle.model.specs.Files.{files_of};
@@ -9,14 +9,14 @@ ghost use Rattle.tree_looks.specs.Listing.{count_line, count_told, wrong_counts,
 ghost use Rattle.tree_looks.specs.Looks.{HasLooked, HasNotCounted, IsTextOf, IsUnseen, IsUntold, OfTree, TellsCounts};
 
 use crate::faults::LookRefusal;
-use crate::finding::links_at;
+use crate::flaws::flaws_told;
 use crate::loading::{load, refusal_of};
-use crate::nameless::nameless_files;
 use crate::objects::{add_count_element, end_text};
 use crate::over_files::print_text;
 use crate::texts::{ByPath, add_below, add_number};
 use blocks::{Disk, NoMemory};
 use cmd::DiskCommand;
+use directories::files::links_at;
 use directories::{DIRECTORY, Refusal, is_tree, name_counts};
 use model::types::File;
 use std::alloc::Global;
@@ -24,9 +24,9 @@ use std::io::Write;
 
 /// Tells which files of a disk, as recovery would leave them, have a count of links that is not how
 /// many names lead to them: a line for each path of such a file, from the root on. Of a directory its
-/// own name for itself is not counted, as in xv6. Of files that are no tree it tells those to which no
-/// name leads, by their numbers, and then refuses them as no tree. Either may be an array of JSON with
-/// an object for each. It writes no block.
+/// own name for itself is not counted, as in xv6. Of files that are no tree it tells each flaw, with its
+/// path and its number, and then refuses them as no tree. Either may be an array of JSON with an object
+/// for each. It writes no block.
 #[derive(Clone, Copy, Drop)]
 pub struct Counts {
     /// Whether they are told as JSON.
@@ -57,8 +57,8 @@ impl DiskCommand for Counts {
 pub enum Text {
     // Of a tree its wrong counts.
     Counts(Vec<u8>),
-    // Of others the files without a name.
-    Nameless(Vec<u8>),
+    // Of others their flaws.
+    Flaws(Vec<u8>),
 }
 
 // Prints what is told of the files of a disk.
@@ -75,7 +75,7 @@ fn tell_counts<D: Disk, O: Write>(
 {
     match text_of(alloc, disk, json) {
         Ok(Text::Counts(text)) => print_text(out, text.as_slice()),
-        Ok(Text::Nameless(text)) => match print_text(out, text.as_slice()) {
+        Ok(Text::Flaws(text)) => match print_text(out, text.as_slice()) {
             Ok(()) => Err(LookRefusal::NoTree),
             Err(refusal) => Err(refusal),
         },
@@ -111,8 +111,8 @@ fn text_with<D: Disk>(
 {
     match is_tree(alloc, disk) {
         Ok(true) => counts_with(alloc, disk, files, json),
-        Ok(false) => match nameless_files(alloc, files, json) {
-            Ok(text) => Ok(Text::Nameless(text)),
+        Ok(false) => match flaws_told(alloc, files, json) {
+            Ok(text) => Ok(Text::Flaws(text)),
             Err(_refused) => Err(LookRefusal::NoMemory),
         },
         Err(fault) => Err(refusal_of(fault)),
@@ -184,17 +184,24 @@ impl<'a> ByPath for Wrong<'a> {
         if links == names {
             return Ok(());
         }
-        add_count(text, path, number, links, names, self.json)
+        add_count(
+            text,
+            path,
+            u64::from(number),
+            links,
+            u32::from(names),
+            self.json,
+        )
     }
 }
 
 // Adds a file's count of links and how many names lead to it.
-fn add_count(
+pub fn add_count(
     text: &mut Vec<u8>,
     path: &[u8],
-    number: u32,
+    number: u64,
     links: u16,
-    names: u16,
+    names: u32,
     json: bool,
 ) -> Result<(), NoMemory>
     ensures { OnOk result
@@ -212,15 +219,15 @@ fn add_count(
 fn line_of(
     alloc: Global,
     path: &[u8],
-    number: u32,
+    number: u64,
     links: u16,
-    names: u16,
+    names: u32,
 ) -> Result<Vec<u8>, NoMemory>
     ensures { IfOk result (λ line. line.items ≡ count_line path.now number links names) }
 {
     let mut line = Vec::from_slice(alloc, path)?;
     line.extend_from_slice(b" ")?;
-    add_number(&mut line, u64::from(number))?;
+    add_number(&mut line, number)?;
     line.extend_from_slice(b" links ")?;
     add_number(&mut line, u64::from(links))?;
     line.extend_from_slice(b" names ")?;

@@ -1,20 +1,16 @@
 // Where paths lead among files.
-ghost use Rattle.std.specs.Prelude.{◌≡◌, ◌↔◌, IfErr, IfOk, IsTrue, Ok};
-ghost use Rattle.std.specs.Option.{option_copied};
-ghost use Rattle.model.specs.Files.{file_in};
+ghost use Rattle.std.specs.Prelude.{◌≡◌, IfErr, IfOk, Ok};
 ghost use Rattle.directories.specs.Entries.{lookup};
 ghost use Rattle.directories.specs.Paths.{names_of};
-ghost use Rattle.directories.specs.Trees.{bytes_of, kind_of, links_of, root, IsDirectory};
+ghost use Rattle.directories.specs.Trees.{root};
 ghost use Rattle.directories.specs.Walks.{found_or, stepped, walked};
 ghost use Rattle.tree_looks.specs.Looks.{IsNotFound};
 
 use crate::faults::LookRefusal;
-use directories::{DIRECTORY, Name, Refusal, lookup, names_of};
+use directories::files::{bytes_at, kind_at};
+use directories::{DIRECTORY, DIRECTORY_KIND, Name, Refusal, lookup, names_of};
 use model::types::File;
 use std::alloc::Global;
-
-// The type of a directory.
-pub const DIRECTORY_KIND: u16 = 1;
 
 // The names of a path, and the number of the file that they lead to.
 #[derive(Drop)]
@@ -72,72 +68,4 @@ fn led_by(bytes: &[u8], name: &Name) -> Result<u32, Refusal>
         Some(number) => Ok(u32::from(number)),
         None => Err(Refusal::NotFound),
     }
-}
-
-// The file of a number, if there is one.
-pub fn file_in(files: &[Option<File>], number: usize) -> Option<&File>
-    ensures { option_copied result ≡ file_in files.now number }
-{
-    match files.get(number) {
-        Some(Some(file)) => Some(file),
-        _ => None,
-    }
-}
-
-// The type of a file, and 0 where there is none.
-pub fn kind_of(file: Option<&File>) -> u16
-    ensures { result ≡ kind_of (option_copied file.entry) }
-{
-    match file {
-        Some(file) => file.kind,
-        None => 0,
-    }
-}
-
-// A file's count of links, and 0 where there is none.
-pub fn links_of(file: Option<&File>) -> u16
-    ensures { result ≡ links_of (option_copied file.entry) }
-{
-    match file {
-        Some(file) => file.links,
-        None => 0,
-    }
-}
-
-// The bytes of a file; none where there is no file.
-pub fn bytes_of<'a>(file: Option<&'a File>) -> &'a [u8]
-    ensures { result.now ≡ bytes_of (option_copied file.entry) }
-{
-    match file {
-        Some(file) => file.bytes.as_slice(),
-        None => &[],
-    }
-}
-
-// The type of a number's file, and 0 where there is none.
-pub fn kind_at(files: &[Option<File>], number: u32) -> u16
-    ensures { result ≡ kind_of (file_in files.now number) }
-{
-    kind_of(file_in(files, number as usize))
-}
-
-// The count of links of a number's file, and 0 where there is none.
-pub fn links_at(files: &[Option<File>], number: u32) -> u16
-    ensures { result ≡ links_of (file_in files.now number) }
-{
-    links_of(file_in(files, number as usize))
-}
-
-// The bytes of a number's file; none where there is no file.
-pub fn bytes_at(files: &[Option<File>], number: u32) -> &[u8]
-    ensures { result.now ≡ bytes_of (file_in files.now number) }
-{
-    bytes_of(file_in(files, number as usize))
-}
-
-// Whether a number's file is a directory.
-pub fn is_directory(files: &[Option<File>], number: u32) -> bool
-    ensures { IsTrue result ↔ IsDirectory files.now number }
-{
-    kind_at(files, number) == DIRECTORY_KIND
 }

@@ -22,12 +22,13 @@ ghost use Rattle.tree_looks.specs.Looks.{HasNoPaths};
 ghost use Rattle.tree_looks.specs.declared.faults.GetRefusal.TheVariants as get;
 
 use crate::faults::{GetRefusal, LookRefusal};
-use crate::finding::{bytes_at, find, is_directory};
+use crate::finding::find;
 use crate::loading::load_tree;
 use crate::looks::Cat;
 use crate::over_files::OverFiles;
 use blocks::FileFault;
 use cmd::{Access, Command, Locking, Locks, OnFile, OverFile, open_for};
+use directories::files::{bytes_at, is_directory};
 use directories::{ENTRY_SIZE, Refusal, entries_in, leads_down, number_in, text_in};
 use messages::{Unwritten, pass_on, write_bytes};
 use model::types::File as Stored;

@@ -5,11 +5,12 @@ ghost use Rattle.tree_looks.specs.Listing.{last_of, list_of, listed, paths_below
 ghost use Rattle.tree_looks.specs.Looks.{HasNoPaths, IsUnlisted, IsUnshown, Lists, Shows, ShowsPaths, ShowsStat};
 
 use crate::faults::LookRefusal;
-use crate::finding::{bytes_at, file_in, find, is_directory};
+use crate::finding::find;
 use crate::objects::{add_stat_object, end_text};
 use crate::over_files::Look;
 use crate::texts::{PathTold, add_below, add_file, add_listing, stat_text};
 use blocks::NoMemory;
+use directories::files::{bytes_at, file_in, is_directory};
 use directories::{Name, Refusal};
 use model::types::File;
 use std::alloc::Global;

@@ -3,12 +3,13 @@ ghost use Rattle.std.specs.Prelude.{◌≡◌, ◌++◌, [], ◌∷◌, codes, d
 ghost use Rattle.std.specs.List.{flat_map};
 ghost use Rattle.std.specs.Option.{option_copied};
 ghost use Rattle.hex.specs.Hex.{encode_lower};
-ghost use Rattle.json_lines.specs.Fields.{first_number, number_field};
+ghost use Rattle.json_lines.specs.Fields.{first_number, number_field, word_field};
+ghost use Rattle.tree_looks.specs.Flaws.{words_object};
 ghost use Rattle.tree_looks.specs.Objects.{byte_text, count_object, element, file_fields, first_string, is_plain, named_object, stat_object, string_text, told_in};
 
-use crate::finding::{bytes_of, kind_of, links_of};
 use crate::texts::add_number;
 use blocks::NoMemory;
+use directories::files::{bytes_of, kind_of, links_of};
 use hex::encode_to_slice;
 use model::types::File;
 
@@ -45,18 +46,37 @@ pub fn add_named_element(
 pub fn add_count_element(
     text: &mut Vec<u8>,
     path: &[u8],
-    number: u32,
+    number: u64,
     links: u16,
-    names: u16,
+    names: u32,
 ) -> Result<(), NoMemory>
     ensures { OnOk result (text.new.items
         ≡ text.old.items ++ element (count_object path.now number links names)) }
 {
     text.extend_from_slice(b",")?;
     add_first_string(text, b"path", path)?;
-    add_number_field(text, b"number", u64::from(number))?;
+    add_number_field(text, b"number", number)?;
     add_number_field(text, b"links", u64::from(links))?;
     add_number_field(text, b"names", u64::from(names))?;
+    text.extend_from_slice(b"}")?;
+    Ok(())
+}
+
+// Adds the object of a flaw, as an element of an array.
+#[tactic(auto, unfolding(crate::specs::Flaws::words_object))]
+pub fn add_words_element(
+    text: &mut Vec<u8>,
+    path: &[u8],
+    number: u64,
+    words: &[u8],
+) -> Result<(), NoMemory>
+    ensures { OnOk result
+        (text.new.items ≡ text.old.items ++ element (words_object path.now number words.now)) }
+{
+    text.extend_from_slice(b",")?;
+    add_first_string(text, b"path", path)?;
+    add_number_field(text, b"number", number)?;
+    add_word_field(text, b"fault", words)?;
     text.extend_from_slice(b"}")?;
     Ok(())
 }
@@ -94,6 +114,19 @@ fn add_number_field(text: &mut Vec<u8>, name: &[u8], number: u64) -> Result<(), 
     text.extend_from_slice(name)?;
     text.extend_from_slice(b"\":")?;
     add_number(text, number)
+}
+
+// Adds a field behind another, with a word.
+#[tactic(auto, unfolding(json_lines::specs::Fields::word_field))]
+fn add_word_field(text: &mut Vec<u8>, name: &[u8], word: &[u8]) -> Result<(), NoMemory>
+    ensures { OnOk result (text.new.items ≡ text.old.items ++ word_field name.now word.now) }
+{
+    text.extend_from_slice(b",\"")?;
+    text.extend_from_slice(name)?;
+    text.extend_from_slice(b"\":\"")?;
+    text.extend_from_slice(word)?;
+    text.extend_from_slice(b"\"")?;
+    Ok(())
 }
 
 // Adds the beginning of an object, with its first field, a string of these bytes.

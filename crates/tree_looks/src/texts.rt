@@ -3,9 +3,9 @@ ghost use Rattle.std.specs.Prelude.{◌≡◌, ◌++◌, ℕ, List, IfOk, OnOk, 
 ghost use Rattle.std.specs.Option.{option_copied};
 ghost use Rattle.tree_looks.specs.Listing.{entry_told, file_told, line_of, listing_of, path_of, path_told, stat_text, told_below, told_entry};
 
-use crate::finding::{bytes_at, bytes_of, file_in, is_directory, kind_at, kind_of, links_of};
 use crate::objects::add_named_element;
 use blocks::NoMemory;
+use directories::files::{bytes_at, bytes_of, file_in, is_directory, kind_at, kind_of, links_of};
 use directories::{ENTRY_SIZE, entries_in, leads_down, number_in, text_in};
 use itoa::Buffer;
 use model::types::File;

@@ -131,7 +131,7 @@ abbrev pub LooksNot : {F : Type 0} → (F → Option (List ℕ)) → (Files → 
 LooksNot remaining refuses none = Refuses
     (IsRefusedOn remaining false none (λ d e. HasNotLooked file_disk refuses d e none))
 
--- counts were not told: no disk was opened, or of its files no more than those without a name
+-- counts were not told: no disk was opened, or of its files, which are no tree, the flaws alone
 abbrev pub CountsNot : {F : Type 0} → (F → Option (List ℕ)) → Bool → Option (List ℕ)
     → Option (List ℕ) → Type 0 → Type 0
 CountsNot remaining json old new none = Refuses
