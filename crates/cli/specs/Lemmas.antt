@@ -1,3 +1,2 @@
 -- What the proofs of the crates above use.
 pub mod Parses
-pub mod Workers

@@ -4,11 +4,11 @@ use Rattle.std.specs.Io.KnownBytes.{Appends}
 use Rattle.model.specs.declared.types.image.Form.{Form}
 use Rattle.model.specs.declared.types.image.Form.TheVariants.{One, Two}
 use Rattle.messages.specs.declared.told.Unwritten.{Unwritten}
-use Rattle.cli.specs.CommandLine.{xvfs_words}
+use Rattle.xvfs_words.specs.CommandLine.{xvfs_words}
 use Rattle.cli.specs.Topics.{AsksAbout, topic_text}
 use Rattle.cli.specs.declared.topics.Topic.{Topic}
-use Rattle.cli.specs.declared.words.Request.{Request}
-use Rattle.cli.specs.declared.words.Request.TheVariants.{Mkfs, Check, Recover, Cat, Ls, Df, Show, ShowLog, ShowPicture, Put, Copy, Convert, Rescue, Replay, ReplayJson, Run, Stops}
+use Rattle.xvfs_words.specs.declared.words.Request.{Request}
+use Rattle.xvfs_words.specs.declared.words.Request.TheVariants.{Mkfs, Check, Recover, Cat, Ls, Df, Show, ShowLog, ShowPicture, Put, Copy, Convert, Rescue, Replay, ReplayJson, Run, Stops}
 use Rattle.cmd.specs.Batches.{AreDone, StopsAmong}
 use Rattle.cmd.specs.Lemmas.Disks.{file_disk}
 use Rattle.cmd.specs.Opened.{OpensDisk}

@@ -1,9 +1,9 @@
 // One command, and the exit status that it ends with.
 ghost use Rattle.std.specs.Prelude.{◌≡◌, ◌≤◌, map};
-ghost use Rattle.cli.specs.CommandLine.{HasFewWorkers, xvfs_words};
 ghost use Rattle.commands.specs.Words.{IsDoneOf, IsMisused, IsRefusedOf};
 ghost use Rattle.xvfs.specs.Files.{ghosts_of};
 ghost use Rattle.xvfs.specs.Requests.{Answers, IsDone, IsRefused, OnRefused, form_asked};
+ghost use Rattle.xvfs_words.specs.CommandLine.{HasFewWorkers, xvfs_words};
 ghost use Rattle.cli.specs.declared.explanation.Explanation.{Explanation as SomeExplanation};
 
 use crate::progress::{Screen, TerminalMeter};
@@ -12,7 +12,7 @@ use crate::telling::{given, says_more};
 use crate::topics::print_topic;
 use arrayvec::ArrayVec;
 use blocks::{Disk, FaultyDisk, FileDisk};
-use cli::{Asked, Request, Topic, parse};
+use cli::{Asked, Topic, parse};
 use cmd::{Access, Locking, Locks, OverFile, end, perform};
 use commands::{Keeper, ShowPicture, explain};
 use commands_changes::{Convert, Copy, Making, Mkfs, Put, Rescue, Target};
@@ -28,6 +28,7 @@ use std::io::Write;
 use std::rt::Clock;
 use std::sync::Wait;
 use std::thread::Threads;
+use xvfs_words::Request;
 
 /// The program's name, with which the line of each refusal begins.
 pub const NAME: &str = "xvfs";
@@ -70,7 +71,7 @@ where
 }
 
 // The same where they ask for no format.
-#[tactic(auto, using(cli::specs::Lemmas::Workers::few_workers))]
+#[tactic(auto, using(xvfs_words::specs::Lemmas::Workers::few_workers))]
 fn command_of<
     R: Locks + AllocGlobal + Threads + Wait + Clock + Screen + Sync,
     S: AsStr,

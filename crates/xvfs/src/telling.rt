@@ -1,8 +1,8 @@
 // What more is said of a refusal.
 use crate::progress::Screen;
-use cli::Request;
 use second_lines::Given;
 use std::io::IsTerminal;
+use xvfs_words::Request;
 
 /// Whether more is said of a refusal, in a second line: where that is asked for, also by the
 /// environment, or a terminal is at the standard error.

@@ -1,6 +1,6 @@
 use Rattle.std.proofs.Common.{rules, arith, refl, ◌≡◌, ◌<◌, ◌∙◌, ap, sym, subst, length, map}
 use Rattle.std.proofs.lemmas.List.{take_more, map-append}
-use Rattle.cli.specs.CommandLine.{xvfs_words}
+use Rattle.xvfs_words.specs.CommandLine.{xvfs_words}
 use Rattle.cmd.specs.Lemmas.Sequences.{one_more_done, stops_here}
 use Rattle.commands.specs.Lemmas.Ends.{not_done}
 use Rattle.commands.specs.Words.{IsNotDone}

@@ -1,0 +1,12 @@
+use Rattle.std.proofs.Common.{codes, refl}
+use Rattle.clap.specs.Words.{found_of}
+use Rattle.cli.specs.Lemmas.Parses.{flag_read, value_read}
+use Rattle.xvfs_words.proofs.words.rescue_request.Goals as goal
+
+pub returns : goal.returns
+returns c = (
+  refl,
+  value_read (found_of c.args.values.now) (codes "OLD") _ c.in_ok-get_str.ensures,
+  value_read (found_of c.args.values.now) (codes "NEW") _ c.in_ok-get_str-2.ensures,
+  flag_read (found_of c.args.values.now) (codes "no-sync") c.get_flag.result c.get_flag.ensures.none c.get_flag.ensures.value c.get_flag.ensures.other,
+)
