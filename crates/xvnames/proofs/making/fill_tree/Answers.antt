@@ -44,7 +44,7 @@ returns-in-Ok-grow-clause-labels g c =
     IfOk-weaker c.synced.result _ (λ last. IsUnlabelled (recovered (g.D.Disk.image d)) → HasLabels new_labels (g.D.Disk.image last)) (λ last syncs fresh.
     subst (λ (x : Image). HasLabels new_labels x) (sym (synced_image g.D.Disk c.args.sync e last syncs))
     (labels_opened g.D.Disk d c.in-Ok.kernel c.over-tree.result.kernel c.grow.new.tree.kernel (g.D.Disk.image e) c.in-Ok.ensures.opened c.over-tree.ensures.kernel c.grow.ensures.stays
-        (c.into_disk.ensures.labels c.in-Ok-grow.ensures.done) fresh)) c.synced.ensures.syncs
+    (c.into_disk.ensures.labels c.in-Ok-grow.ensures.done) fresh)) c.synced.ensures.syncs
 
 pub returns-in-Ok-grow-clause-refused : goal.returns-in-Ok-grow-clause-refused
 returns-in-Ok-grow-clause-refused g c =
