@@ -19,6 +19,11 @@ counted_more : (n : ℕ) (ws : List Written) (w : Written) → counted n (length
 counted_more n [] w = refl
 counted_more n (v ∷ ws) w = ap one_more (counted_more n ws w)
 
+-- what is so where a call succeeds, which it did
+pub when_ok : {T E : Type 0} (r : Result T E) (P : Type 0) → IsOk r → OnOk r P → P
+when_ok (Ok done) P is_ok so = so
+when_ok (Err e) P is_ok so = let no : false ≡ true = is_ok in absurd (cc no)
+
 module _ {D N : Type 0} (disk : Ghosts D N) where
   -- none yet
   pub no_writes : (d : D) → AreWrites disk d d []

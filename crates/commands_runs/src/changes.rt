@@ -44,10 +44,10 @@ pub fn stops_among(alloc: Global, written: &[Written]) -> Result<Vec<Stop>, NoMe
         column: 0,
         write: 1,
     })?;
-    let mut number = 0u64;
+    let mut number = 0;
     for write in written {
-        number = number.saturating_add(1);
-        add_stop_with(&mut stops, number, write)?;
+        number += 1;
+        add_stop_with(&mut stops, number as u64, write)?;
     }
     Ok(stops)
 }

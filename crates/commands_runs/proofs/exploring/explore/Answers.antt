@@ -44,8 +44,8 @@ returns-in-Ok-ran-clause-refused g c =
     known.made known.count known.begun known.detail known.reads.image (subst (λ (b : Gathered). HeardAll told.tolds c.in-Ok.taken.1.run b) (sym c.run.ensures) heard) told.told
     g.R.File.Read.remaining _ (still_opened g.R.File.Read.remaining c.args.sync c.args.disk c.take_scene.new.disk known.reads known.file c.requires.opened)) c.make_page.ensures.untold
 
-pub returns-in-Err-ran-clause-refused : goal.returns-in-Err-ran-clause-refused
-returns-in-Err-ran-clause-refused g c =
+pub returns-clause-refused : goal.returns-clause-refused
+returns-clause-refused g c =
     let ran = c.replay_with-ran in
     let known = c.in-Ok.ensures in (
       c.take_scene.new.disk,
