@@ -44,7 +44,7 @@ pub fn stops_among(alloc: Global, written: &[Written]) -> Result<Vec<Stop>, NoMe
         column: 0,
         write: 1,
     })?;
-    let mut number = 0;
+    let mut number = 0usize;
     for write in written {
         number += 1;
         add_stop_with(&mut stops, number as u64, write)?;
