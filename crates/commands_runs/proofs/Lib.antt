@@ -3,3 +3,6 @@ pub mod Opened
 pub mod Recording
 pub mod Lines
 pub mod Leaving
+pub mod Keeping
+pub mod Gathering
+pub mod Walks

@@ -3,4 +3,8 @@ pub mod Runs
 pub mod Recorded
 pub mod FileLines
 pub mod Filed
+pub mod Writes
+pub mod Objects
+pub mod Explored
 pub mod Pictures
+pub mod Pages

@@ -90,15 +90,8 @@ IsUnbegun (TooLong steps) = ⊤
 IsUnbegun Unfiled = ⊤
 IsUnbegun (Picture f) = ⊥
 
--- a script was replayed over the disk in a file, and drawn into the file at a path, where there is one
-abbrev pub IsReplayedInto : {F P : Type 0} → (F → Option (List ℕ)) → Bool → Detail → ℕ
-    → Option (List ℕ) → Option (List ℕ) → Option P → FileDisk F → FileDisk F → Type 0
-IsReplayedInto contents holds detail stop old new None d e =
-    IsReplayed (in_lines detail) stop old new d e
-IsReplayedInto contents holds detail stop old new (Some path) d e =
-    IsReplayedSo (in_lines detail) stop old new (HasPicture contents holds) d e
-
--- why it wasn't: nothing was done, the replay was refused, or it was made and printed, and not drawn
+-- why it wasn't replayed and drawn: nothing was done, the replay was refused, or it was made and printed,
+-- and not drawn
 abbrev pub IsUnpictured : {F : Type 0} → (F → Option (List ℕ)) → Bool → Detail → ℕ
     → Option (List ℕ) → Option (List ℕ) → Type 0 → PicturedRefusal → Type 0
 IsUnpictured remaining holds detail stop old new none NoMemory = none

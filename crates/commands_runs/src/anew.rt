@@ -1,5 +1,5 @@
 // A replay made once more, over a copy in memory of its disk as it was opened: which files a stop
-// leaves.
+// leaves, and what it writes.
 ghost use Rattle.std.specs.Prelude.{◌≡◌, ◌<◌, All, IfOk, IsOk, IsTrue, OnOk, Some, false, unwrap_or};
 ghost use Rattle.std.specs.List.{list_all};
 ghost use Rattle.scripts.specs.Schedule.{is_word_of};
@@ -8,11 +8,13 @@ ghost use Rattle.commands_runs.specs.FileLines.{lines_of};
 ghost use Rattle.commands.specs.Copied.{memory};
 ghost use Rattle.commands_runs.specs.Filed.{LeavesLines, held_memory};
 
-use crate::changes::stops_of;
+use crate::changes::{Stop, stops_among, stops_of};
 use crate::file_lines::file_lines;
 use crate::mute::Mute;
+use crate::writes::{writes_held, writes_over};
 use blocks::{Block, Disk, FileDisk, MemDisk, NoMemory, SyncDisk};
 use commands::Copied;
+use json_lines::Written;
 use messages::Silent;
 use pictures::{FileLine, FilesThen, Moment};
 use player::{LineTeller, ReplayRefusal, Scenario, copies_of, replay_with};
@@ -44,7 +46,9 @@ impl Anew {
     ghost use Rattle.cmd.specs.Lemmas.Disks.{file_disk};
     ghost use Rattle.commands.specs.Copied.{copied_image};
     ghost use Rattle.commands_runs.specs.Filed.{AreFiled, HasFiles, LeavesFiles, stops_of};
+    ghost use Rattle.commands_runs.specs.Explored.{stops_among};
     ghost use Rattle.commands_runs.specs.Pictures.{IsMadeOf};
+    ghost use Rattle.commands_runs.specs.Writes.{AreItsWrites};
 
     // What a replay of this scenario is made of, over a disk that holds writes back or doesn't. The
     // block is room for one: what it holds afterwards is not said.
@@ -83,8 +87,31 @@ impl Anew {
             self.now.words.items) (stops_of moments.now) files.items) }
     {
         let stops = stops_of(alloc, moments)?;
+        self.files_at(alloc, stops.as_slice())
+    }
+
+    // The files at the opening, and behind each of these writes with which a group was committed.
+    pub(crate) fn files_among(
+        &self,
+        alloc: Global,
+        written: &[Written],
+    ) -> Result<Vec<FilesThen>, NoMemory>
+        ensures { IfOk result (λ files. AreFiled (HasFiles self.now.holds
+            (copied_image self.now.copied) self.now.tasks.items self.now.processes
+            self.now.words.items) (stops_among written.now) files.items) }
+    {
+        let stops = stops_among(alloc, written)?;
+        self.files_at(alloc, stops.as_slice())
+    }
+
+    // Those at each of these stops.
+    fn files_at(&self, alloc: Global, stops: &[Stop]) -> Result<Vec<FilesThen>, NoMemory>
+        ensures { IfOk result (λ files. AreFiled (HasFiles self.now.holds
+            (copied_image self.now.copied) self.now.tasks.items self.now.processes
+            self.now.words.items) stops.now files.items) }
+    {
         let mut files = Vec::new(alloc);
-        for stop in stops.as_slice() {
+        for stop in stops {
             let lines = self.lines(alloc, stop.write)?;
             files.push(FilesThen {
                 column: stop.column,
@@ -100,24 +127,38 @@ impl Anew {
             self.now.tasks.items self.now.processes self.now.words.items write lines.items) }
     {
         let disk = self.copied.disk(alloc)?;
-        let scenario = self.scenario(alloc, write)?;
+        let scenario = self.scenario(alloc, Some(write))?;
         if self.holds {
             return lines_held(alloc, disk, scenario);
         }
         lines_left(alloc, disk, scenario)
     }
 
-    fn scenario(&self, alloc: Global, write: u64) -> Result<Scenario, NoMemory>
+    // The writes that it makes, up to the one of that number.
+    pub(crate) fn writes(&self, alloc: Global, stop: Option<u64>) -> Result<Vec<Written>, NoMemory>
+        ensures { IfOk result (λ written. AreItsWrites self.now.holds
+            (copied_image self.now.copied) self.now.tasks.items self.now.processes
+            self.now.words.items (unwrap_or stop 0) written.items) }
+    {
+        let disk = self.copied.disk(alloc)?;
+        let scenario = self.scenario(alloc, stop)?;
+        if self.holds {
+            return writes_held(alloc, disk, scenario);
+        }
+        writes_over(alloc, disk, scenario)
+    }
+
+    fn scenario(&self, alloc: Global, stop: Option<u64>) -> Result<Scenario, NoMemory>
         ensures tasks { IfOk result (λ scenario. scenario.tasks.items ≡ self.now.tasks.items) }
         ensures processes { IfOk result (λ scenario. scenario.processes ≡ self.now.processes) }
         ensures words { IfOk result (λ scenario. scenario.words.items ≡ self.now.words.items) }
-        ensures stop { IfOk result (λ scenario. scenario.stop ≡ Some write) }
+        ensures stop { IfOk result (λ scenario. scenario.stop ≡ stop) }
     {
         Ok(Scenario {
             tasks: copies_of(alloc, self.tasks.as_slice())?,
             processes: self.processes,
             words: Vec::from_slice(alloc, self.words.as_slice())?,
-            stop: Some(write),
+            stop,
         })
     }
 }

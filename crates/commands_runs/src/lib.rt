@@ -8,13 +8,18 @@
 mod anew;
 mod cats;
 mod changes;
+mod explorer_teller;
+mod exploring;
 mod file_lines;
+mod gathered;
 mod heard;
 mod mute;
 mod picture_teller;
 mod picturing;
+mod remembering;
 mod runs;
 mod scene;
+mod writes;
 
 pub use cats::Cat;
 pub use picture_teller::PictureTeller;

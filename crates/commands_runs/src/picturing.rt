@@ -7,16 +7,17 @@ ghost use Rattle.player.specs.Told.{in_lines};
 ghost use Rattle.commands_runs.specs.Pictures.{
   HasPicture,
   IsPictured,
-  IsReplayedInto,
   IsSceneOf,
   IsUnbegun,
   IsUndrawn,
   IsUnpictured,
   pictured_telling,
 };
+ghost use Rattle.commands_runs.specs.Pages.{HasPage, IsNotReplayedInto, IsReplayedInto};
 ghost use Rattle.commands_runs.specs.Recorded.{none_recorded};
 ghost use Rattle.commands_runs.specs.Runs.{IsReplayedSo};
 
+use crate::exploring::replay_explored;
 use crate::heard::replay_told;
 use crate::picture_teller::PictureTeller;
 use crate::runs::{Replay, ReplayFilesRefusal, read_replay, replay_files};
@@ -39,7 +40,8 @@ pub enum PicturedRefusal {
     Replay(ReplayFilesRefusal),
     /// The replay was made and printed. It has so many steps, which is more than a picture has.
     TooLong(u32),
-    /// The replay was made and printed. Memory to make it once more, for its files, was refused.
+    /// The replay was made and printed. Memory to make it once more, for its files, was refused, or
+    /// memory for what is told of it.
     Unfiled,
     /// The replay was made and printed, and isn't drawn.
     Picture(PictureFault),
@@ -62,21 +64,24 @@ impl Reason for PicturedRefusal {
 
 /// Recovers the image in the file of a replay, and makes the operations of its script in the turns of
 /// its schedule, as `replay_disk`. The meter is told how many of the schedule's words were done. Where
-/// a path is given as `picture`, the steps are then drawn into the file at it.
+/// a path is given as `picture`, a page is then made in the file at it that walks through the steps; or,
+/// where it is to be plain, one on which they are drawn.
 ///
 /// # Errors
 ///
 /// - `NoMemory`: nothing was done.
 /// - `Replay`: a fault of the script, then of the schedule, then of `FileDisk::open`, then a refusal of
 ///   `replay_disk`. Nothing was drawn.
-/// - `TooLong`: the replay was made and printed, and has more steps than `MOST_COLUMNS`.
-/// - `Unfiled`: the same, and memory to make it once more was refused.
+/// - `TooLong`: the replay was made and printed, and has more steps than 10,000, or, where it is drawn,
+///   than `MOST_COLUMNS`.
+/// - `Unfiled`: the same, and memory to make it once more, or for what is told of it, was refused.
 /// - `Picture`: the same, with a fault of the file drawn into. With all but this the holder is as it was.
 pub fn replay_into<R: Locks + AllocGlobal, P: Meter, H: Holder<R::File>, O: Write>(
     rt: &R,
     replay: Replay<'_>,
     detail: Detail,
     picture: Option<&str>,
+    plain: bool,
     progress: &mut P,
     holder: &mut H,
     out: &mut O,
@@ -84,19 +89,45 @@ pub fn replay_into<R: Locks + AllocGlobal, P: Meter, H: Holder<R::File>, O: Writ
     ensures done { OnOk result (OpensDisk R.File.remaining file_disk replay.entry.sync
         (IsReplayedInto R.File.contents replay.entry.sync detail
         (unwrap_or replay.entry.stop 0) (O.contents out.old) (O.contents out.new)
-        picture.entry)) }
-    ensures refused { IfErr result (IsUnpictured R.File.remaining replay.entry.sync
-        detail (unwrap_or replay.entry.stop 0)
+        picture.entry plain)) }
+    ensures refused { IfErr result (IsNotReplayedInto R.File.remaining replay.entry.sync
+        detail (unwrap_or replay.entry.stop 0) plain
         (O.contents out.old) (O.contents out.new) (out.new ≡ out.old)) }
     ensures unbegun { IfErr result (λ refusal. IsUnbegun refusal → holder.new ≡ holder.old) }
 {
     if let Some(path) = picture {
-        return replay_pictured(rt, replay, detail, path, progress, holder, out);
+        return replay_on_page(rt, replay, detail, path, plain, progress, holder, out);
     }
     match replay_files(rt, replay, detail, progress, out) {
         Ok(()) => Ok(()),
         Err(refusal) => Err(PicturedRefusal::Replay(refusal)),
     }
+}
+
+// Replays a script, and makes a page of it, which walks through its steps, or on which they are drawn.
+fn replay_on_page<R: Locks + AllocGlobal, P: Meter, H: Holder<R::File>, O: Write>(
+    rt: &R,
+    replay: Replay<'_>,
+    detail: Detail,
+    path: &str,
+    plain: bool,
+    progress: &mut P,
+    holder: &mut H,
+    out: &mut O,
+) -> Result<(), PicturedRefusal>
+    ensures done { OnOk result (OpensDisk R.File.remaining file_disk replay.entry.sync
+        (IsReplayedSo (in_lines detail) (unwrap_or replay.entry.stop 0)
+        (O.contents out.old) (O.contents out.new)
+        (HasPage R.File.contents replay.entry.sync (unwrap_or replay.entry.stop 0) plain))) }
+    ensures refused { IfErr result (IsNotReplayedInto R.File.remaining replay.entry.sync
+        detail (unwrap_or replay.entry.stop 0) plain
+        (O.contents out.old) (O.contents out.new) (out.new ≡ out.old)) }
+    ensures unbegun { IfErr result (λ refusal. IsUnbegun refusal → holder.new ≡ holder.old) }
+{
+    if plain {
+        return replay_pictured(rt, replay, detail, path, progress, holder, out);
+    }
+    replay_explored(rt, replay, detail, path, progress, holder, out)
 }
 
 // Replays a script as `replay_files`, and then draws its steps into the file at the path `picture`,

@@ -1,19 +1,29 @@
 // The commands that make a script's operations over the disk in a file, in turns or by threads.
-ghost use Rattle.std.specs.Prelude.{◌≡◌, IfErr, IfOk, OnOk, unwrap_or};
+ghost use Rattle.std.specs.Prelude.{◌≡◌, ◌<◌, All, IfErr, IfOk, IsTrue, OnOk, unwrap_or};
 ghost use Rattle.sysring.specs.Origins.{AreWorkers};
 ghost use Rattle.cmd.specs.Lemmas.Disks.{file_disk};
 ghost use Rattle.cmd.specs.Opened.{IsOpened, OpensDisk};
-ghost use Rattle.player.specs.Told.{in_lines, in_objects};
+ghost use Rattle.player.specs.Told.{in_lines};
+ghost use Rattle.scripts.specs.Schedule.{is_word_of};
+ghost use Rattle.std.specs.List.{list_all};
+ghost use Rattle.blocks.specs.Calls.{OnlyReads};
+ghost use Rattle.blocks.specs.FileDisk.{file_of};
+ghost use Rattle.commands_runs.specs.Objects.{IsReplayedInObjects, IsUnreplayedInObjects};
+ghost use Rattle.commands_runs.specs.Writes.{AreItsWrites};
 ghost use Rattle.commands_runs.specs.Runs.{IsNotRun, IsReplayed, IsRun, IsScenario, IsUnread, IsUnreplayed, replay_files_telling, run_files_telling};
 
-use blocks::{FileDisk, FileFault};
+use crate::anew::Anew;
+use blocks::{Block, FileDisk, FileFault, NoMemory};
 use cmd::{Access, Locking, Locks, open_for};
 use commands::{schedule_from, script_from};
+use json_lines::Written;
 use messages::{Detail, Meter, Reason, Told};
 use player::{ReplayRefusal, Scenario, replay_disk, replay_objects};
 use runner::{RunRefusal, run_disk};
 use scripts::{ScheduleFault, ScriptFault, processes};
-use std::io::Write;
+use std::alloc::Global;
+use std::fs::OpenFile;
+use std::io::{Seek, Write};
 use std::rt::Clock;
 use std::sync::Wait;
 use std::thread::Threads;
@@ -117,7 +127,8 @@ pub(crate) fn replay_files<R: Locks + AllocGlobal, P: Meter, O: Write>(
 }
 
 /// Recovers the image in the file of a replay, and makes the operations of its script in the turns of
-/// its schedule, as `replay_objects`. The meter is told how many of the schedule's words were done.
+/// its schedule, as `replay_objects`: the bytes of the writes are had first, by a replay over a copy of
+/// the disk in memory. The meter is told how many of the schedule's words were done.
 ///
 /// # Errors
 ///
@@ -130,21 +141,48 @@ pub fn replay_json<R: Locks + AllocGlobal, P: Meter, O: Write>(
     out: &mut O,
 ) -> Result<(), ReplayFilesRefusal>
     ensures opened { OnOk result (OpensDisk R.File.remaining file_disk replay.entry.sync
-        (IsReplayed in_objects (unwrap_or replay.entry.stop 0)
+        (IsReplayedInObjects replay.entry.sync (unwrap_or replay.entry.stop 0)
         (O.contents out.old) (O.contents out.new))) }
-    ensures refused { IfErr result (IsUnreplayed R.File.remaining replay.entry.sync
-        in_objects (unwrap_or replay.entry.stop 0)
+    ensures refused { IfErr result (IsUnreplayedInObjects R.File.remaining replay.entry.sync
+        (unwrap_or replay.entry.stop 0)
         (O.contents out.old) (O.contents out.new) (out.new ≡ out.old)) }
 {
-    let (scenario, disk) = match read_replay(rt, replay) {
+    let (scenario, mut disk) = match read_replay(rt, replay) {
         Ok(read) => read,
         Err(refusal) => return Err(refusal),
     };
-    let (ran, _disk) = replay_objects(rt.alloc(), disk, scenario, progress, out);
+    let written = writes_on(rt.alloc(), &mut disk, &scenario, replay.sync);
+    let (ran, _disk) = replay_objects(rt.alloc(), disk, scenario, written, progress, out);
     match ran {
         Ok(()) => Ok(()),
         Err(refusal) => Err(ReplayFilesRefusal::Replay(refusal)),
     }
+}
+
+// The writes that a replay of this scenario makes, by one over a copy in memory of the disk.
+//
+// # Errors
+//
+// `NoMemory` where memory for the copy or for that replay is refused.
+#[tactic(auto, using(blocks::specs::Lemmas::Reads::reads_none))]
+fn writes_on<F: Write + Seek + OpenFile + Drop>(
+    alloc: Global,
+    disk: &mut FileDisk<F>,
+    scenario: &Scenario,
+    holds: bool,
+) -> Result<Vec<Written>, NoMemory>
+    requires tasks { All (λ task. task.pid < scenario.now.processes) scenario.now.tasks.items }
+    requires words { IsTrue
+        (list_all (is_word_of scenario.now.processes) scenario.now.words.items) }
+    ensures writes { IfOk result (λ written. AreItsWrites holds (file_disk.image disk.old)
+        scenario.now.tasks.items scenario.now.processes scenario.now.words.items
+        (unwrap_or scenario.now.stop 0) written.items) }
+    ensures reads { OnlyReads file_disk disk.old disk.new }
+    ensures file { file_of disk.new ≡ file_of disk.old }
+{
+    let mut block = Block::zeroed(alloc)?;
+    let anew = Anew::of(alloc, disk, scenario, holds, &mut block)?;
+    anew.writes(alloc, scenario.stop)
 }
 
 // What is replayed, read from its files, and the disk in the file of its image.

@@ -17,10 +17,10 @@ use Rattle.inspect.specs.Causes.{IsHidden, IsUncounted, IsUndrawn, IsUnlisted}
 use Rattle.inspect.specs.Looks.{HasCounted, HasListed, HasLogShown, HasShown as HasBlocksShown}
 use Rattle.player.specs.Causes.{IsNotRecovered, IsUncheckedBy}
 use Rattle.player.specs.Looks.{HasRecovered, HasReported}
-use Rattle.player.specs.Told.{in_objects}
 use Rattle.commands_runs.specs.Cats.{HasCat, IsNotCat}
-use Rattle.commands_runs.specs.Pictures.{IsReplayedInto, IsUnpictured}
-use Rattle.commands_runs.specs.Runs.{IsNotRun, IsReplayed, IsRun, IsUnreplayed}
+use Rattle.commands_runs.specs.Objects.{IsReplayedInObjects, IsUnreplayedInObjects}
+use Rattle.commands_runs.specs.Pages.{IsNotReplayedInto, IsReplayedInto}
+use Rattle.commands_runs.specs.Runs.{IsNotRun, IsRun}
 use Rattle.commands.specs.Shown.{IsShownInto, IsUnshown}
 use Rattle.commands_changes.specs.Conversions.{HasConverted, OnConvertRefusal}
 use Rattle.commands_changes.specs.Copies.{HasCopied, OnCopyRefusal}
@@ -65,11 +65,12 @@ Answers file (Convert from to log size no_sync) old new =
     HasConverted file.remaining file_disk log size (not no_sync) old new
 Answers file (Rescue from to no_sync) old new =
     HasRescued file.remaining file_disk (not no_sync) old new
-Answers file (Replay image script schedule stop sync writes steps picture) old new =
+Answers file (Replay image script schedule stop sync writes steps picture plain) old new =
     OpensDisk file.remaining file_disk sync (IsReplayedInto file.contents sync
-    (record { steps = steps; writes = writes }) (unwrap_or stop 0) old new picture)
+    (record { steps = steps; writes = writes }) (unwrap_or stop 0) old new picture plain)
 Answers file (ReplayJson image script schedule stop sync) old new =
-    OpensDisk file.remaining file_disk sync (IsReplayed in_objects (unwrap_or stop 0) old new)
+    OpensDisk file.remaining file_disk sync
+    (IsReplayedInObjects sync (unwrap_or stop 0) old new)
 Answers file (Run image script workers group sync) old new =
     OpensDisk file.remaining file_disk sync (IsRun old new)
 Answers file (Stops script schedule held picture json) old new =
@@ -110,11 +111,11 @@ OnRefused file (Convert from to log size no_sync) old new none =
     Refuses (OnConvertRefusal file.remaining file_disk log size (not no_sync) none)
 OnRefused file (Rescue from to no_sync) old new none =
     Refuses (OnRescueRefusal file.remaining file_disk (not no_sync) none)
-OnRefused file (Replay image script schedule stop sync writes steps picture) old new none =
-    Refuses (IsUnpictured file.remaining sync (record { steps = steps; writes = writes })
-    (unwrap_or stop 0) old new none)
+OnRefused file (Replay image script schedule stop sync writes steps picture plain) old new none =
+    Refuses (IsNotReplayedInto file.remaining sync (record { steps = steps; writes = writes })
+    (unwrap_or stop 0) plain old new none)
 OnRefused file (ReplayJson image script schedule stop sync) old new none =
-    Refuses (IsUnreplayed file.remaining sync in_objects (unwrap_or stop 0) old new none)
+    Refuses (IsUnreplayedInObjects file.remaining sync (unwrap_or stop 0) old new none)
 OnRefused file (Run image script workers group sync) old new none =
     Refuses (IsNotRun file.remaining sync old new none)
 OnRefused file (Stops script schedule held picture json) old new none =

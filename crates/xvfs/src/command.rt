@@ -350,6 +350,7 @@ where
             writes,
             steps,
             picture,
+            plain,
         } => {
             let mut progress = TerminalMeter::beside_lines(rt);
             let mut holder = Sparing::new(rt, at_once(locking), image);
@@ -364,7 +365,16 @@ where
             let detail = Detail { steps, writes };
             end(
                 NAME,
-                replay_into(rt, replay, detail, picture, &mut progress, &mut holder, out),
+                replay_into(
+                    rt,
+                    replay,
+                    detail,
+                    picture,
+                    plain,
+                    &mut progress,
+                    &mut holder,
+                    out,
+                ),
                 err,
             )
         }

@@ -86,10 +86,10 @@ rescue_app = with_rule (with_rule (waiting_app (codes "rescue") (codes "OLD"))
 
 abbrev pub replay_app : App
 replay_app = with_rule (with_rule (with_rule (with_rule (with_rule (with_rule (with_rule (with_rule
-    (image_app (codes "replay")) (required_rule (codes "SCRIPT")))
+    (with_rule (image_app (codes "replay")) (required_rule (codes "SCRIPT")))
     (required_rule (codes "SCHEDULE"))) stop_rule) (flag_rule (codes "sync")))
     (flag_rule (codes "writes"))) (flag_rule (codes "steps"))) picture_rule)
-    (flag_rule (codes "json"))
+    (flag_rule (codes "plain"))) (flag_rule (codes "json"))
 
 -- `--workers N`, where N is from 1 to 32
 abbrev pub workers_rule : Rule
@@ -205,14 +205,14 @@ AsksBy name rows (Rescue old new no_sync) = (name ≡ codes "rescue")
     × (first_of (codes "OLD") rows ≡ Some old.now)
     × (first_of (codes "NEW") rows ≡ Some new.now)
     × HasFlag (codes "no-sync") rows no_sync
-AsksBy name rows (Replay image script schedule stop sync writes steps picture) =
+AsksBy name rows (Replay image script schedule stop sync writes steps picture plain) =
     (name ≡ codes "replay") × (first_of (codes "IMAGE") rows ≡ Some image.now)
     × (first_of (codes "SCRIPT") rows ≡ Some script.now)
     × (first_of (codes "SCHEDULE") rows ≡ Some schedule.now)
     × HasChoice 64 (codes "stop") rows stop × HasFlag (codes "sync") rows sync
     × HasFlag (codes "writes") rows writes × HasFlag (codes "steps") rows steps
     × (option_map (λ path. path.now) picture ≡ first_of (codes "picture") rows)
-    × HasFlag (codes "json") rows false
+    × HasFlag (codes "plain") rows plain × HasFlag (codes "json") rows false
 AsksBy name rows (ReplayJson image script schedule stop sync) =
     (name ≡ codes "replay") × (first_of (codes "IMAGE") rows ≡ Some image.now)
     × (first_of (codes "SCRIPT") rows ≡ Some script.now)

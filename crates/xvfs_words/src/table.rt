@@ -218,7 +218,12 @@ const LINES: &[Line] = &[
             Word {
                 name: "picture",
                 kind: Kind::Path,
-                help: "Draws the steps into this file, too, as a page that a browser shows",
+                help: "Makes a page in this file, too, that walks through the steps in a browser",
+            },
+            Word {
+                name: "plain",
+                kind: Kind::Flag,
+                help: "Draws the steps on that page, for printing, without a script",
             },
             Word {
                 name: "json",

@@ -155,8 +155,10 @@ pub enum Request<'a> {
         writes: bool,
         /// Whether each step is told.
         steps: bool,
-        /// The path of the file into which the run is drawn.
+        /// The path of the file that gets a page of the run.
         picture: Option<&'a str>,
+        /// Whether the run is drawn on it, in place of a page that walks through it.
+        plain: bool,
     },
     /// A script's operations over an image, told as JSON.
     ReplayJson {
@@ -298,6 +300,7 @@ fn replay_request<'a>(values: &ArgMatches<'a>) -> Option<Request<'a>>
         writes: values.get_flag("writes"),
         steps: values.get_flag("steps"),
         picture: values.get_str("picture"),
+        plain: values.get_flag("plain"),
     })
 }
 

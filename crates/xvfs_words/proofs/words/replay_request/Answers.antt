@@ -15,6 +15,7 @@ returns c = (
   flag_read (found_of c.args.values.now) (codes "writes") c.get_flag-3.result c.get_flag-3.ensures.none c.get_flag-3.ensures.value c.get_flag-3.ensures.other,
   flag_read (found_of c.args.values.now) (codes "steps") c.get_flag-4.result c.get_flag-4.ensures.none c.get_flag-4.ensures.value c.get_flag-4.ensures.other,
   path_read (found_of c.args.values.now) (codes "picture") _ c.get_str-4.ensures,
+  flag_read (found_of c.args.values.now) (codes "plain") c.get_flag-5.result c.get_flag-5.ensures.none c.get_flag-5.ensures.value c.get_flag-5.ensures.other,
   subst (HasFlag (codes "json") (rows_of (found_of c.args.values.now))) c.if-get_flag.false
       (flag_read (found_of c.args.values.now) (codes "json") c.get_flag.result c.get_flag.ensures.none c.get_flag.ensures.value c.get_flag.ensures.other),
 )
