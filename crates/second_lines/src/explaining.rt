@@ -310,7 +310,9 @@ fn of_picture<R: Files + AllocGlobal>(rt: &R, given: &Given<'_>, number: u32) ->
         1 => with_phrase(alloc, path, "memory was refused for what it draws"),
         2 => {
             let path = quoted(alloc, path)?;
-            format!(in alloc; "{path}: at most {most} steps or stops; all else was done").ok()
+            format!(in alloc;
+                "{path}: at most 10000 steps, {most} drawn, or stops; all else was done"
+            ).ok()
         }
         3 => with_phrase(alloc, path, "a write to it failed; all else was done"),
         _ => None,
