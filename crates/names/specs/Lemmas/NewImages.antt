@@ -5,9 +5,10 @@ use Rattle.std.proofs.lemmas.Bool.{cases_lt}
 use Rattle.blocks.specs.Block.{zero_block}
 use Rattle.blocks.specs.Disk.{Image, block_at}
 use Rattle.model.specs.Codec.{made_image}
-use Rattle.model.specs.Common.{drop-replicate, get_or_past, inode_block, inode_bytes_in, inode_count_of, is_inode_count, is_size, Super, take-replicate}
+use Rattle.model.specs.Common.{drop-replicate, get_or_past, inode_block, inode_bytes_in, inode_count_of, is_inode_count, is_size, take-replicate}
 use Rattle.model.specs.Crash.{labels_of}
 use Rattle.model.specs.declared.types.image.Form.{Form}
+use Rattle.model.specs.declared.types.image.Super.{Super}
 use Rattle.model.specs.Fields.{u16_at}
 use Rattle.model.specs.Files.{Files, file_in, files_of}
 use Rattle.model.specs.Layout.{inode_in, inode_of}
