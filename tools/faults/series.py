@@ -1,6 +1,7 @@
 """Faults of the calls that move an image's bytes, power cuts, and two programs at once: the series, and what each
 run has to come to."""
 import collections
+import fcntl
 import hashlib
 import os
 import re
@@ -413,6 +414,25 @@ def waiting():
         yield at, None if right else f"{ends}, files {files!r}, {trial.checked()}"
 
 
+def named():
+    """A new file has just got the name of the image from its maker, who has it yet: another mkfs waits for it."""
+    for stays in (False, True):
+        trial = Trial(BASE, ["--version"])
+        new = trial.image + ".xvfs-new"
+        os.link(trial.image, new)
+        with open(new, "rb") as held:
+            fcntl.flock(held, fcntl.LOCK_EX)
+            ends = [ended(trial.begin("mkfs", "a.img", "200", "32"))]
+            waiting = trial.begin("mkfs", "a.img", "200", "32", "--wait")
+            time.sleep(0.1)
+            waits = waiting.poll() is None
+            if not stays:
+                os.remove(new)
+        ends.append(ended(waiting))
+        right = waits and ends == [LOCKED, (1, "", "xvfs: file 5 Exists\n") if stays else DONE]
+        yield int(stays), None if right else f"{ends}, waits {waits}"
+
+
 def looked_at():
     """The new file of a copy, while that is made: nobody else may look at it or make it anew."""
     for at in range(1, 11):
@@ -454,7 +474,7 @@ SERIES += [(mkfs, call, how, old) for old in (None, ONE_FILE) for call in ("writ
            for how in HOWS[call]]
 SERIES += [(copy, call, how) for call in ("write", "fdatasync", "ftruncate") for how in HOWS[call]]
 SERIES += [(at_once, other) for other in ("put", "cat")]
-SERIES += [(replaced, old) for old in (None, BASE)] + [(waiting,), (looked_at,)]
+SERIES += [(replaced, old) for old in (None, BASE)] + [(waiting,), (named,), (looked_at,)]
 SERIES += [(copy_cut, seed) for seed in (1, 2, 3)]
 SERIES += [(put, call, how) for call in ("write", "lseek") for how in HOWS[call]]
 SERIES += [(put, "write", "kill", seed) for seed in (1, 2, 3)] + [(syncs,)]

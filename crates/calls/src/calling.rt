@@ -6,12 +6,12 @@ ghost use Rattle.calls.specs.Calls.{Calls, IsUncalled, KeepsCall, Rests, call_co
 ghost use Rattle.calls.specs.Stepping.{IsReached};
 
 use crate::fault::CallFault;
-use crate::stepping::make_steps;
 use blocks::Disk;
 use kernel::laws::sleeps_for_cause;
 use kernel::{Kernel, Step};
 use model::types::{Op, Reply};
 use ports::{PlainHerald, QueueIntake};
+use stepping::make_steps;
 
 /// A kernel of one process.
 pub type Sole<D> = Kernel<D, QueueIntake, PlainHerald>;

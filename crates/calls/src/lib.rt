@@ -16,7 +16,6 @@ mod changes;
 mod fault;
 mod opening;
 mod resting;
-mod stepping;
 pub mod transactions;
 
 pub use calling::{Sole, call};
@@ -24,4 +23,3 @@ pub use changes::{append, create, empty, remove, resize, set_links};
 pub use fault::CallFault;
 pub use opening::open_sole;
 pub use resting::rested;
-pub use stepping::make_steps;

@@ -128,6 +128,7 @@ pub fn stays<R: Locks>(rt: &R, path: &str) -> Result<bool, FileFault> {
 fn left_at<R: Locks>(rt: &R, path: &str, locking: Locking) -> Result<Option<R::File>, FileFault> {
     match symlink_metadata(rt, path) {
         Ok(found) if found.is_file() && found.nlink() == 1 => {}
+        Ok(found) if found.is_file() => return unless_it_stays(rt, path, locking),
         Ok(_) => return Err(FileFault::Exists),
         Err(error) if error.kind() == ErrorKind::NotFound => return Ok(None),
         Err(error) => return Err(fault_of(error)),
@@ -139,6 +140,24 @@ fn left_at<R: Locks>(rt: &R, path: &str, locking: Locking) -> Result<Option<R::F
     };
     if is_held_at(rt, &file, path, Share::Nobody, locking)? {
         return Ok(Some(file));
+    }
+    Ok(None)
+}
+
+// None where a plain file with several names has gone from a path: another program that has it, and has
+// given it the name of the image, takes this one away.
+fn unless_it_stays<R: Locks>(
+    rt: &R,
+    path: &str,
+    locking: Locking,
+) -> Result<Option<R::File>, FileFault> {
+    let file = match OpenOptions::new().read(true).open(rt, path) {
+        Ok(file) => file,
+        Err(error) if error.kind() == ErrorKind::NotFound => return Ok(None),
+        Err(_) => return Err(FileFault::Exists),
+    };
+    if is_held_at(rt, &file, path, Share::Lookers, locking)? {
+        return Err(FileFault::Exists);
     }
     Ok(None)
 }

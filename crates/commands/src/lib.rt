@@ -1,6 +1,5 @@
 //! What the commands over files share: who holds the files of images by their locks, how a new file takes
-//! the place of an old one, the picture in a file, what is read from one, how a program starts, and how it
-//! does command lines. And `show` with a picture.
+//! the place of an old one, what is read from a file, how a program starts, and how it does command lines.
 //!
 //! No function here reads the words of a command line; what is told where these make no command is here.
 #![tactic(auto)]
@@ -8,26 +7,22 @@
 mod batch;
 mod beside;
 mod copied;
-mod drawing;
 mod explaining;
 mod holding;
 mod inputs;
 mod keeper;
 mod replacing;
 mod settling;
-mod showing;
 mod starting;
 mod whole;
 
 pub use batch::{Program, do_lines};
 pub use copied::Copied;
-pub use drawing::{PictureFault, draw};
 pub use explaining::explain;
 pub use holding::Holder;
 pub use inputs::{schedule_from, script_from};
 pub use keeper::{Keeper, stays};
 pub use replacing::{MakesThere, make_in_place, make_instead};
 pub use settling::{remove_refused, sync_folder};
-pub use showing::{ShowPicture, ShowPictureRefusal};
 pub use starting::{Unbegun, end_unbegun, greet, take_number, words_and_output};
 pub use whole::write_whole;

@@ -11,7 +11,7 @@ use Rattle.model.specs.Layout.{is_size, planned_super}
 use Rattle.model.specs.declared.types.image.Form.{Form}
 use Rattle.model.specs.declared.types.image.Super.{Super}
 use Rattle.offline.specs.Making.{MakesAs}
-use Rattle.player.specs.Looks.{EndsSynced}
+use Rattle.disk_commands.specs.Looks.{EndsSynced}
 use Rattle.commands_changes.specs.Lemmas.Plans.{not_off}
 use Rattle.commands_changes.specs.Making.{IsFilledWith, IsNotFilledWith, IsNotMadeIn, IsPlan}
 

@@ -16,8 +16,8 @@ use Rattle.model.specs.Layout.{is_inode_count, is_size, planned_super}
 use Rattle.model.specs.declared.types.image.Form.{Form}
 use Rattle.model.specs.declared.types.image.Super.{Super}
 use Rattle.offline.specs.Making.{MakesAs}
-use Rattle.player.specs.Causes.{IsUnmade}
-use Rattle.player.specs.Looks.{EndsSynced}
+use Rattle.disk_commands.specs.Causes.{IsUnmade}
+use Rattle.disk_commands.specs.Looks.{EndsSynced}
 
 -- an image was made on the disk d, and the last call to it, where one is asked for, was a sync that
 -- was done

@@ -6,8 +6,8 @@ ghost use Rattle.layout.specs.declared.geometry.MkfsFault.TheVariants as fault;
 ghost use Rattle.messages.specs.declared.printed.Printed.TheVariants as printed;
 ghost use Rattle.model.specs.Layout.{is_inode_count, is_size, planned_super};
 ghost use Rattle.offline.specs.Making.{MakesAs};
-ghost use Rattle.player.specs.Causes.{IsUnmade};
-ghost use Rattle.player.specs.Looks.{EndsSynced};
+ghost use Rattle.disk_commands.specs.Causes.{IsUnmade};
+ghost use Rattle.disk_commands.specs.Looks.{EndsSynced};
 ghost use Rattle.commands_changes.specs.Making.{
   HasMadeAs,
   IsFilledWith,
@@ -21,11 +21,11 @@ ghost use Rattle.commands_changes.specs.Making.{
 use blocks::{Disk, FileDisk};
 use cmd::{Command, OnFile};
 use commands::{Holder, MakesThere, make_in_place};
+use disk_commands::make_disk;
 use layout::{MkfsFault, Super, plan};
 use messages::{Printed, print_numbers};
 use model::types::Form;
 use offline::mkfs_as;
-use player::make_disk;
 use std::alloc::Global;
 use std::io::Write;
 use std::rt::Files;

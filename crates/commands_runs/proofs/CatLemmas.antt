@@ -9,10 +9,10 @@ use Rattle.cmd.specs.Over.{IsRefusedOn}
 use Rattle.cmd.specs.declared.files.OnFile.{OnFile}
 use Rattle.cmd.specs.declared.files.OnFile.TheVariants.{File, Of}
 use Rattle.opening.specs.declared.recovering.RecoverRefusal.TheVariants.{Check, Recover}
-use Rattle.player.specs.Looks.{HasRead, HasShown}
-use Rattle.player.specs.Showing.{IsNotShown, IsUnread, ShowsFirst, ShowsPart}
-use Rattle.player.specs.declared.refusals.CatRefusal.{CatRefusal}
-use Rattle.player.specs.declared.refusals.CatRefusal.TheVariants.{NoMemory, Unrecovered, NoFile, Disk, Output}
+use Rattle.disk_commands.specs.Looks.{HasRead, HasShown}
+use Rattle.disk_commands.specs.Showing.{IsNotShown, IsUnread, ShowsFirst, ShowsPart}
+use Rattle.disk_commands.specs.declared.refusals.CatRefusal.{CatRefusal}
+use Rattle.disk_commands.specs.declared.refusals.CatRefusal.TheVariants.{NoMemory, Unrecovered, NoFile, Disk, Output}
 use Rattle.commands_runs.specs.Cats.{Gathers, GathersNot, HasGathered, IsNotCat, IsUngathered, into_memory, of_memory}
 
 module _ {F : Type 0} (d e : FileDisk F) (i : ℕ) (old new : Option (List ℕ)) (none : Type 0) where

@@ -10,7 +10,7 @@ use Rattle.player.specs.Turns.{IfLast, Turns}
 use Rattle.scripts.specs.declared.schedule.Word.{Word}
 use Rattle.scripts.specs.declared.script.Task.{Task}
 use Rattle.commands.specs.Copied.{copied_image}
-use Rattle.commands.specs.Drawn.{IsDrawn}
+use Rattle.commands_drawing.specs.Drawn.{IsDrawn}
 use Rattle.explorer_page.specs.Page.{data_text, explorer_text}
 use Rattle.commands_runs.specs.Explored.{HearsObjects, IsBegun, IsExplored, IsPage, steps_of, steps_then, stops_among, told_objects}
 use Rattle.commands_runs.specs.Filed.{AreFiled, HasFiles}

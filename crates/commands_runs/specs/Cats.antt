@@ -7,10 +7,10 @@ use Rattle.cmd.specs.Lemmas.Disks.{file_disk}
 use Rattle.cmd.specs.Opened.{OpensDisk}
 use Rattle.cmd.specs.declared.files.OnFile.{OnFile}
 use Rattle.cmd.specs.declared.files.OnFile.TheVariants.{File, Of}
-use Rattle.player.specs.Looks.{HasRead, HasShown}
-use Rattle.player.specs.Showing.{IsNotShown, IsUnread}
-use Rattle.player.specs.declared.refusals.CatRefusal.{CatRefusal}
-use Rattle.player.specs.declared.refusals.CatRefusal.TheVariants.{NoMemory, Unrecovered, NoFile, Disk, Output}
+use Rattle.disk_commands.specs.Looks.{HasRead, HasShown}
+use Rattle.disk_commands.specs.Showing.{IsNotShown, IsUnread}
+use Rattle.disk_commands.specs.declared.refusals.CatRefusal.{CatRefusal}
+use Rattle.disk_commands.specs.declared.refusals.CatRefusal.TheVariants.{NoMemory, Unrecovered, NoFile, Disk, Output}
 
 -- the bytes of the file of number i of the disk d, now e, were gathered: it was only read; or, where that
 -- is not asked for, it may have been recovered

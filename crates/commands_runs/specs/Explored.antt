@@ -15,7 +15,7 @@ use Rattle.player.specs.Told.{Told, in_lines, in_objects}
 use Rattle.scripts.specs.declared.schedule.Word.{Word}
 use Rattle.scripts.specs.declared.script.Task.{Task}
 use Rattle.commands.specs.Copied.{copied_image}
-use Rattle.commands.specs.Drawn.{IsDrawn}
+use Rattle.commands_drawing.specs.Drawn.{IsDrawn}
 use Rattle.commands_runs.specs.Filed.{AreFiled, HasFiles, first_stop}
 use Rattle.commands_runs.specs.Runs.{IsReplayedSo, IsUnreplayed}
 use Rattle.commands_runs.specs.Writes.{AreItsWrites}

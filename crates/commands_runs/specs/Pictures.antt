@@ -14,12 +14,12 @@ use Rattle.player.specs.Told.{Told, in_lines}
 use Rattle.scripts.specs.declared.schedule.Word.{Word}
 use Rattle.scripts.specs.declared.script.Task.{Task}
 use Rattle.commands.specs.Copied.{copied_image}
-use Rattle.commands.specs.Drawn.{IsDrawn, picture_telling}
+use Rattle.commands_drawing.specs.Drawn.{IsDrawn, picture_telling}
 use Rattle.commands_runs.specs.Filed.{AreFiled, HasFiles, stops_of}
 use Rattle.commands_runs.specs.Recorded.{hear_of, recorded, run_picture}
 use Rattle.commands_runs.specs.Runs.{IsReplayed, IsReplayedSo, IsUnreplayed, replay_files_telling}
 use Rattle.commands_runs.specs.declared.anew.Anew.{Anew}
-use Rattle.commands.specs.declared.drawing.PictureFault.{PictureFault}
+use Rattle.commands_drawing.specs.declared.drawing.PictureFault.{PictureFault}
 use Rattle.commands_runs.specs.declared.picturing.PicturedRefusal.{PicturedRefusal}
 use Rattle.commands_runs.specs.declared.picturing.PicturedRefusal.TheVariants.{NoMemory, Replay, TooLong, Unfiled, Picture}
 use Rattle.commands_runs.specs.declared.scene.Scene.{Scene}

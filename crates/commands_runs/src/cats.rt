@@ -4,7 +4,7 @@ ghost use Rattle.commands_runs.specs.Cats.{HasCat, HasGathered, IsNotCat, IsUnga
 
 use cmd::{Access, Command, Locking, Locks, OnFile, OverFile};
 use commands::write_whole;
-use player::{Cat as Recovering, CatReadOnly, CatRefusal};
+use disk_commands::{Cat as Recovering, CatReadOnly, CatRefusal};
 use std::alloc::Global;
 use std::fs::OpenOptions;
 use std::io::{ErrorKind, Write};

@@ -9,7 +9,7 @@ use Rattle.messages.specs.declared.printed.Printed.TheVariants.{Fault, Output}
 use Rattle.pictures.specs.Stops.{stops_text}
 use Rattle.pictures.specs.declared.stops.Column.{Column}
 use Rattle.pictures.specs.declared.stops.Lost.{Lost}
-use Rattle.commands.specs.Drawn.{IsDrawn, picture_telling}
+use Rattle.commands_drawing.specs.Drawn.{IsDrawn, picture_telling}
 use Rattle.stops.specs.Tried.{at_of}
 use Rattle.commands_stops.specs.Scripts.{ChecksScript, IsScriptUnchecked, place_text, stops_files_telling}
 use Rattle.commands_stops.specs.declared.stopping.DrawnStopsRefusal.{DrawnStopsRefusal}

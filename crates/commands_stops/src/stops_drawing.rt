@@ -13,7 +13,8 @@ ghost use Rattle.commands_stops.specs.StopsDrawn.{
 
 use crate::stopping::StopsRefusal;
 use arrayvec::ArrayVec;
-use commands::{Holder, PictureFault, draw};
+use commands::Holder;
+use commands_drawing::{PictureFault, draw};
 use crash_check::{Mismatch, Stop, StopsFault, print_mismatch};
 use messages::{MOST_COLUMNS, Printed, Reason, Told};
 use pictures::{Column, Lost, Stops};

@@ -5,7 +5,4 @@ pub mod Openings
 pub mod Steps
 pub mod Keeping
 pub mod Seats
-pub mod Shown
 pub mod Owning
-mod Arrayed
-mod Checked

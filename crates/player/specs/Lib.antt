@@ -1,12 +1,7 @@
-pub mod Causes
 pub mod Afterwards
 pub mod Turns
 pub mod Stepping
 pub mod Told
 pub mod Opening
-pub mod Showing
 pub mod Refusals
-pub mod Looks
 pub mod Disks
-pub mod FaultLines
-pub mod Lemmas

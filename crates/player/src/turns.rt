@@ -31,7 +31,6 @@ ghost use Rattle.player.specs.Turns.{event_of};
 use crate::player::Player;
 use crate::reconciling::Reconciling;
 use blocks::{Disk, FaultyDisk, Kind};
-use calls::make_steps;
 use clients::feeders;
 use kernel::{Kernel, OpenFault, Step};
 use messages::Event;
@@ -39,6 +38,7 @@ use model::types::{Answer, Entry};
 use rings::{Board, BoardHerald, Keeper, Watch};
 use scripts::{Task, Word};
 use std::alloc::Global;
+use stepping::make_steps;
 use wal::DeviceFault;
 
 /// What the turns came to.

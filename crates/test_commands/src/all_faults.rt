@@ -1,9 +1,9 @@
 // All faults of an image that is hurt in each way, in their order.
 use blocks::{Block, Disk, MemDisk, NoMemory};
+use disk_commands::check_disk_all;
 use layout::{Dinode, Form, MkfsFault, bitmap, entries, inode};
 use messages::Reason;
 use offline::mkfs_as;
-use player::check_disk_all;
 use std::alloc::Global;
 
 // The data begins behind block 36, the bitmap.

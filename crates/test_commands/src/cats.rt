@@ -4,7 +4,7 @@ use crate::refusals::{Shown, is_early, is_later, is_no_file};
 use crate::wrong::{Wrong, ensure};
 use anyhow::{Context, bail, ensure};
 use blocks::{FaultyDisk, Kind, MemDisk};
-use player::cat_disk;
+use disk_commands::cat_disk;
 use std::alloc::{AllocFailed, Global};
 
 // How many bytes the file has: 22 blocks, of which one of addresses leads to the last ten.

@@ -3,8 +3,8 @@ use crate::ground::new_image;
 use crate::refusals::{is_output_of_check, is_output_of_recovery};
 use crate::wrong::{Wrong, ensure};
 use blocks::MemDisk;
+use disk_commands::{check_disk, recover_disk};
 use messages::Silent;
-use player::{check_disk, recover_disk};
 use std::alloc::Global;
 use std::io::{self, BufWriter, ErrorKind, Write};
 

@@ -1,10 +1,11 @@
 // What the commands' refusals say.
 use blocks::DiskFault;
+use disk_commands::CatRefusal;
 use kernel::OpenFault;
 use layout::CheckFault;
 use messages::Printed;
 use opening::RecoverRefusal;
-use player::{CatRefusal, ReplayRefusal};
+use player::ReplayRefusal;
 use runner::RunRefusal;
 use transfer::PutRefusal;
 use wal::{DeviceFault, RecoverFault};

@@ -15,13 +15,13 @@ use Rattle.cmd.specs.Opened.{OpensDisk}
 use Rattle.cmd.specs.Over.{IsRefusedOn}
 use Rattle.inspect.specs.Causes.{IsHidden, IsUncounted, IsUndrawn, IsUnlisted}
 use Rattle.inspect.specs.Looks.{HasCounted, HasListed, HasLogShown, HasShown as HasBlocksShown}
-use Rattle.player.specs.Causes.{IsNotRecovered, IsUncheckedBy}
-use Rattle.player.specs.Looks.{HasRecovered, HasReported}
+use Rattle.disk_commands.specs.Causes.{IsNotRecovered, IsUncheckedBy}
+use Rattle.disk_commands.specs.Looks.{HasRecovered, HasReported}
 use Rattle.commands_runs.specs.Cats.{HasCat, IsNotCat}
 use Rattle.commands_runs.specs.Objects.{IsReplayedInObjects, IsUnreplayedInObjects}
 use Rattle.commands_runs.specs.Pages.{IsNotReplayedInto, IsReplayedInto}
 use Rattle.commands_runs.specs.Runs.{IsNotRun, IsRun}
-use Rattle.commands.specs.Shown.{IsShownInto, IsUnshown}
+use Rattle.commands_show.specs.Shown.{IsShownInto, IsUnshown}
 use Rattle.commands_changes.specs.Conversions.{HasConverted, OnConvertRefusal}
 use Rattle.commands_changes.specs.Copies.{HasCopied, OnCopyRefusal}
 use Rattle.commands_changes.specs.Making.{IsMade, IsNotMade}

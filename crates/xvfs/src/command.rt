@@ -13,15 +13,16 @@ use crate::topics::print_topic;
 use arrayvec::ArrayVec;
 use blocks::{Disk, FaultyDisk, FileDisk};
 use cli::{Asked, Topic, parse};
-use cmd::{Access, Locking, Locks, OverFile, end, perform};
-use commands::{Keeper, ShowPicture, explain};
+use cmd::{Access, Command, Locking, Locks, OverFile, end, perform};
+use commands::{Keeper, explain};
 use commands_changes::{Convert, Copy, Making, Mkfs, Put, Rescue, Target};
 use commands_runs::{Cat, Replay, replay_into, replay_json, run_files};
+use commands_show::ShowPicture;
 use commands_stops::{end_stops, stops_into};
+use disk_commands::{Check, Recover};
 use inspect::{Df, Ls, Show, ShowLog};
 use messages::Detail;
 use model::types::Form;
-use player::{Check, Recover};
 use second_lines::{Line, tell};
 use std::convert::AsStr;
 use std::io::Write;
@@ -182,8 +183,7 @@ where
             ninodes,
             large,
             no_sync,
-        } => perform(
-            NAME,
+        } => perform_alone(
             rt,
             Mkfs {
                 image,
@@ -199,8 +199,7 @@ where
             err,
         ),
         Request::Check { image, all, json } => {
-            perform(
-                NAME,
+            perform_alone(
                 rt,
                 OverFile(image, Access::Look(locking), Check { all, json }),
                 out,
@@ -212,8 +211,7 @@ where
                 progress: TerminalMeter::new(rt),
                 json,
             };
-            perform(
-                NAME,
+            perform_alone(
                 rt,
                 OverFile(image, Access::Change { sync, locking }, recover),
                 out,
@@ -231,40 +229,35 @@ where
                 read_only,
                 locking,
             };
-            perform(NAME, rt, cat, out, err)
+            perform_alone(rt, cat, out, err)
         }
-        Request::Ls { image, json } => perform(
-            NAME,
+        Request::Ls { image, json } => perform_alone(
             rt,
             OverFile(image, Access::Look(locking), Ls { json }),
             out,
             err,
         ),
-        Request::Df { image, json } => perform(
-            NAME,
+        Request::Df { image, json } => perform_alone(
             rt,
             OverFile(image, Access::Look(locking), Df { json }),
             out,
             err,
         ),
-        Request::Show { image, inum, json } => perform(
-            NAME,
+        Request::Show { image, inum, json } => perform_alone(
             rt,
             OverFile(image, Access::Look(locking), Show { inum, json }),
             out,
             err,
         ),
         Request::ShowLog { image, json } => {
-            perform(
-                NAME,
+            perform_alone(
                 rt,
                 OverFile(image, Access::Look(locking), ShowLog { json }),
                 out,
                 err,
             )
         }
-        Request::ShowPicture { image, picture } => perform(
-            NAME,
+        Request::ShowPicture { image, picture } => perform_alone(
             rt,
             ShowPicture {
                 image,
@@ -283,8 +276,7 @@ where
             no_sync,
         } => {
             let progress = TerminalMeter::new(rt);
-            perform(
-                NAME,
+            perform_alone(
                 rt,
                 Put {
                     image,
@@ -313,7 +305,7 @@ where
                 size,
                 target,
             };
-            perform(NAME, rt, copy, out, err)
+            perform_alone(rt, copy, out, err)
         }
         Request::Convert {
             old,
@@ -330,7 +322,7 @@ where
                 size,
                 target,
             };
-            perform(NAME, rt, convert, out, err)
+            perform_alone(rt, convert, out, err)
         }
         Request::Rescue { old, new, no_sync } => {
             let target = target_at(rt, new, !no_sync, locking);
@@ -339,7 +331,7 @@ where
                 locking,
                 target,
             };
-            perform(NAME, rt, rescue, out, err)
+            perform_alone(rt, rescue, out, err)
         }
         Request::Replay {
             image,
@@ -433,6 +425,23 @@ where
             )
         }
     }
+}
+
+// The same as `perform`, in a frame of its own: in one frame the commands take the stack of all.
+#[inline(never)]
+fn perform_alone<R, C: Command<R>, O: Write, E: Write>(
+    rt: &R,
+    command: C,
+    out: &mut O,
+    err: &mut E,
+) -> u8
+    ensures status { result ≤ 1 }
+    ensures done { result ≡ 0 → C.done command (O.contents out.old) (O.contents out.new) }
+    ensures silent { result ≡ 0 → err.new ≡ err.old }
+    ensures refused { result ≡ 1 → (r : C.Refusal) × C.refused command
+        (O.contents out.old) (O.contents out.new) (out.new ≡ out.old) r }
+{
+    perform(NAME, rt, command, out, err)
 }
 
 // How the lock of a picture's file is taken, for which nothing waits.

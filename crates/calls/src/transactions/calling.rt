@@ -5,7 +5,6 @@ ghost use Rattle.calls.specs.Calls.{LeavesFiles, call_count};
 ghost use Rattle.calls.specs.Transactions.{Adds, IsInside, IsUncalled, has_room};
 ghost use Rattle.calls.specs.Stepping.{IsReached};
 
-use crate::stepping::make_steps;
 use crate::transactions::beginning::Pair;
 use crate::transactions::fault::TransactionFault;
 use blocks::Disk;
@@ -13,6 +12,7 @@ use kernel::Step;
 use kernel::laws::sleeps_for_cause;
 use model::types::{Op, Reply};
 use ports::{PlainHerald, QueueIntake};
+use stepping::make_steps;
 
 /// Makes an operation in a transaction, from its submission to its answer. Nothing of it is kept
 /// until the commit: however it ends, the disk was neither written nor synced. A creation logs one block at most, a write nine, what

@@ -6,13 +6,13 @@ ghost use Rattle.model.specs.Files.{Files};
 ghost use Rattle.calls.specs.Transactions.{Commits, HasFiles, IsInside, IsUncommitted, KeepsEither, Rests, labels_made};
 ghost use Rattle.calls.specs.Stepping.{IsReached};
 
-use crate::stepping::make_steps;
 use crate::transactions::beginning::Pair;
 use crate::transactions::fault::TransactionFault;
 use blocks::Disk;
 use kernel::Step;
 use kernel::laws::sleeps_for_cause;
 use ports::{PlainHerald, QueueIntake};
+use stepping::make_steps;
 
 /// Ends a transaction: where it is answered, the files on the disk are those after all its calls. A
 /// stop at any moment of it keeps all of them or none.

@@ -2,7 +2,7 @@ use Rattle.std.proofs.Common.{◌≡◌, List, ℕ, Option, Some, subst, sym, tr
 use Rattle.std.specs.Prelude.{IfErr, OnOk}
 use Rattle.cmd.specs.Lemmas.Disks.{file_disk}
 use Rattle.cmd.specs.Opened.{OpensDisk}
-use Rattle.player.specs.Looks.{HasRead}
+use Rattle.disk_commands.specs.Looks.{HasRead}
 use Rattle.commands_runs.specs.Cats.{HasGathered, IsUngathered}
 use Rattle.commands_runs.proofs.CatLemmas.{gathered_so, leaves_read, ungathered_so}
 use Rattle.commands_runs.proofs.cats.gather_read_only.Goals as goal

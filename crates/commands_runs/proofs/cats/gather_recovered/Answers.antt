@@ -2,7 +2,7 @@ use Rattle.std.proofs.Common.{◌≡◌, List, ℕ, Option, Some, subst, sym, in
 use Rattle.std.specs.Prelude.{IfErr, OnOk}
 use Rattle.cmd.specs.Lemmas.Disks.{file_disk}
 use Rattle.cmd.specs.Opened.{OpensDisk}
-use Rattle.player.specs.Looks.{HasShown}
+use Rattle.disk_commands.specs.Looks.{HasShown}
 use Rattle.commands_runs.specs.Cats.{HasGathered, IsUngathered}
 use Rattle.commands_runs.proofs.CatLemmas.{gathered_so, leaves_recovered, ungathered_so}
 use Rattle.commands_runs.proofs.cats.gather_recovered.Goals as goal

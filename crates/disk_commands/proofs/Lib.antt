@@ -1,0 +1,3 @@
+pub mod Shown
+mod Arrayed
+mod Checked
