@@ -16,7 +16,7 @@ use Rattle.names.specs.declared.refusal.TreeFault.TheVariants as tree
 use Rattle.tree_changes.specs.Changes.{OnTree}
 use Rattle.tree_changes.specs.Making.{is_absent, Enters, EntersAny, EntersEach, EntersFirst, EntersSome, IsDirectoryFound, IsNoDirectoryFound, IsOtherIn, LeadsToOther, MakesAll}
 use Rattle.tree_changes.specs.declared.faults.ChangeRefusal.{ChangeRefusal}
-use Rattle.tree_changes.proofs.Lefts.{left_more, left_on}
+use Rattle.tree_changes.specs.Lemmas.Lefts.{left_more, left_on}
 
 -- one name more leads to a directory
 pub entered_more : (names : List (List ℕ)) (count from number : ℕ) (name : List ℕ) (files mid new : Files) → name ≡ slice_index_or names count [] → EntersEach names count from files mid

@@ -1,6 +1,5 @@
 mod Changing
 mod Entered
-mod Lefts
 mod Listed
 mod Pieces
 mod Recounted

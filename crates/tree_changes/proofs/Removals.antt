@@ -19,7 +19,7 @@ use Rattle.names.specs.declared.asking.Found.{Found}
 use Rattle.names.specs.declared.refusal.TreeFault.{TreeFault}
 use Rattle.names.specs.declared.refusal.TreeFault.TheVariants as tree
 use Rattle.tree_changes.proofs.Entered.{found_directory, found_other}
-use Rattle.tree_changes.proofs.Lefts.{left_on}
+use Rattle.tree_changes.specs.Lemmas.Lefts.{left_on}
 use Rattle.tree_changes.proofs.Listed.{entries_named, names_are, no_names}
 use Rattle.tree_changes.specs.Changes.{IsOfTree}
 use Rattle.tree_changes.specs.Removing.{is_a_directory, is_refused, name_of_entry, names_in, no_memory, IsBadLast, IsBadLastOf, IsUnremovedOne, LeadsToFile, LeadsToNumber, RemovesEach, RemovesOne, RemovesSome, StopsRemoving}

@@ -1,2 +1,3 @@
 mod Added
 mod Fits
+mod Stopped

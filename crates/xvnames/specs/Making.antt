@@ -1,26 +1,33 @@
 -- An image that was made with files.
-use Rattle.std.specs.Prelude.{◌≡◌, ◌≢◌, ◌⊎◌, ⊤, ℕ, ◌+◌, ◌<◌, ◌≤◌, ◌==◌, if◌then◌else◌, Bool, List, [], ◌∷◌, drop, length, map, replicate, slice_index, Option}
+use Rattle.std.specs.Prelude.{◌≡◌, ◌≢◌, ◌⊎◌, ⊤, ℕ, ◌+◌, ◌<◌, ◌≤◌, ◌==◌, if◌then◌else◌, Bool, IsTrue, List, [], ◌∷◌, drop, length, map, replicate, slice_index, None, Option}
 use Rattle.std.specs.Io.KnownBytes.{Appends}
 use Rattle.blocks.specs.Block.{zero_block}
-use Rattle.blocks.specs.Disk.{Image}
+use Rattle.blocks.specs.Disk.{Image, LeavesOnly}
 use Rattle.blocks.specs.declared.disk.Disk.{Ghosts}
 use Rattle.blocks.specs.declared.file.FileDisk.{FileDisk}
+use Rattle.calls.specs.Calls.{image_on}
+use Rattle.calls.specs.Stepping.{Plain}
 use Rattle.calls.specs.Transactions.{HasLabels}
 use Rattle.commands_changes.specs.declared.making.Making.{Making}
 use Rattle.messages.specs.Output.{numbers_text}
 use Rattle.model.specs.Files.{Files, files_of}
 use Rattle.model.specs.Crash.{labels_of}
-use Rattle.model.specs.Layout.{inode_count_of, planned_super}
+use Rattle.model.specs.Layout.{form_of, inode_count_of, planned_super}
+use Rattle.model.specs.Log.{is_lawful_log, recovered}
 use Rattle.model.specs.Soundness.{IsSound}
+use Rattle.model.specs.Verdict.{verdict}
 use Rattle.model.specs.declared.types.image.Form.{Form}
 use Rattle.model.specs.declared.types.image.Super.{Super}
 use Rattle.directories.specs.Counts.{AreCounted}
+use Rattle.names.specs.Inside.{form_seen}
 use Rattle.names.specs.Making.{MakesAt}
 use Rattle.directories.specs.Paths.{names_of}
 use Rattle.names.specs.Ready.{IsRootAlone}
 use Rattle.directories.specs.Trees.{IsTree}
+use Rattle.offline.specs.Making.{MakesAs, MakesInOrder}
 use Rattle.transfer.specs.Ending.{SyncsIf}
-use Rattle.tree_changes.specs.Puts.{WritesPieces, piece_count}
+use Rattle.tree_changes.specs.Puts.{WritesPieces, WritesSome, piece_count}
+use Rattle.wal.specs.Recovery.{LeavesIfSynced}
 use Rattle.xvnames.specs.declared.making.Named.{Named}
 
 -- a path's last part, behind its last slash
@@ -63,12 +70,56 @@ AddsAll form [] files new = new ≡ files
 AddsAll form (file ∷ rest) files new =
     (mid : Files) × AddsFile form file.0 file.1 files mid × AddsAll form rest mid new
 
+-- one was made under its name, and some pieces of its bytes were written, from the first on, or all
+abbrev pub AddsPart : Form → List ℕ → List ℕ → Files → Files → Type 0
+AddsPart form name bytes files new = (number : ℕ) × ((made : Files)
+    × MakesAt (names_of name) number files made
+    × WritesSome form name bytes (piece_count bytes) made new)
+
+-- What a stop may leave of these: the first so many were added, in their order, and of the next one
+-- nothing or a part.
+abbrev pub AddsSome : Form → List (List ℕ × List ℕ) → Files → Files → Type 0
+AddsSome form [] files new = new ≡ files
+AddsSome form (file ∷ rest) files new = (new ≡ files)
+    ⊎ (AddsPart form file.0 file.1 files new
+    ⊎ ((mid : Files) × AddsFile form file.0 file.1 files mid × AddsSome form rest mid new))
+
 -- so there are a root directory and these
 pub record HasGrown (form : Form) (named : List (List ℕ × List ℕ)) (files : Files)
     : Type 0 where
   pub root : Files
   pub alone : IsRootAlone root
   pub added : AddsAll form named root files
+
+-- There are a root directory and so much of these, a tree whose counts are right.
+pub record HasGrownInPart (form : Form) (named : List (List ℕ × List ℕ)) (files : Files)
+    : Type 0 where
+  pub root : Files
+  pub alone : IsRootAlone root
+  pub added : AddsSome form named root files
+  pub tree : IsTree files
+  pub counted : AreCounted files
+
+-- What a stop leaves of image x then: recovery gives a sound image with the files of x, or with that.
+pub record KeepsGrowing (form : Form) (named : List (List ℕ × List ℕ)) (x z : Image)
+    : Type 0 where
+  pub log : IsTrue (is_lawful_log z)
+  pub sound : IsSound (recovered z)
+  pub files : (files_of (recovered z) ≡ files_of x)
+      ⊎ HasGrownInPart form named (files_of (recovered z))
+
+-- a stop at any moment from kernel k to m leaves such an image
+abbrev pub LeavesGrowing : {D N : Type 0} → Ghosts D N → List (List ℕ × List ℕ) → Plain D → Plain D
+    → Type 0
+LeavesGrowing disk named k m =
+    LeavesOnly disk.moment disk.leaves k.store.volume.device m.store.volume.device
+    (KeepsGrowing (form_seen disk.image k) named (image_on disk.image k))
+
+-- so does one from disk d to e, where d has no fault: since the first sync of the recovery, or at any
+-- moment where nothing was held back on d
+abbrev pub StopsGrowing : {D N : Type 0} → Ghosts D N → List (List ℕ × List ℕ) → D → D → Type 0
+StopsGrowing disk named d e = verdict (disk.image d) ≡ None → LeavesIfSynced disk d e
+    (KeepsGrowing (form_of (recovered (disk.image d))) named (recovered (disk.image d)))
 
 -- The disk e has these, and the last call to it was a sync that was done where one is asked for. Its
 -- image is sound, and its files are a tree whose counts are right.
@@ -89,10 +140,21 @@ new_labels i = (0, 0)
 abbrev pub IsUnlabelled : Image → Type 0
 IsUnlabelled x = (i : ℕ) → i < inode_count_of x → labels_of x i ≡ new_labels i
 
+-- An image without files was made on the disk d, block by block, which was the disk `empty` then, and
+-- files were put on that up to e. What a stop leaves has the first of the blocks, the superblock last;
+-- then, the first of the files.
+pub record IsMadeUpTo {D N : Type 0} (disk : Ghosts D N) (made : Making)
+    (named : List (List ℕ × List ℕ)) (d empty e : D) : Type 0 where
+  pub makes : MakesAs disk made.form made.size made.ninodes d empty
+  pub order : MakesInOrder disk made.form made.size made.ninodes d empty
+  pub stops : LeavesIfSynced disk empty e (KeepsGrowing made.form named (disk.image empty))
+
 -- an image was made so on the disk d, whose fields are told; its files have the labels of new ones
 pub record IsFilledWith {D N : Type 0} (disk : Ghosts D N) (made : Making)
     (named : List (List ℕ × List ℕ)) (d : D) (fields : Super) : Type 0 where
+  pub empty : D
   pub now : D
+  pub way : IsMadeUpTo disk made named d empty now
   pub adds : HasAddedTo disk made.sync made.form named now
   pub labels : HasLabels new_labels (disk.image now)
   pub told : fields ≡ planned_super made.size made.ninodes

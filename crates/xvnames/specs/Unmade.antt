@@ -22,13 +22,13 @@ use Rattle.directories.specs.Paths.{names_of}
 use Rattle.names.specs.Ready.{IsRootAlone, IsRootless, IsUndone}
 use Rattle.directories.specs.Walks.{IsUndoneIn}
 use Rattle.names.specs.declared.opening.TreeOpenFault.TheVariants as opening
-use Rattle.offline.specs.Making.{MakesAs}
+use Rattle.offline.specs.Making.{MakesInOrder}
 use Rattle.tree_changes.specs.Changes.{OnTree}
 use Rattle.tree_changes.specs.Puts.{StopsWriting}
 use Rattle.tree_changes.specs.declared.faults.ChangeRefusal.{ChangeRefusal}
 use Rattle.tree_changes.specs.declared.faults.ChangeRefusal.TheVariants as change
 use Rattle.wal.specs.Step.{FailsToSync}
-use Rattle.xvnames.specs.Making.{AddsAll, AreNamed, HasGrown, HasMadeOf}
+use Rattle.xvnames.specs.Making.{AddsAll, AreNamed, HasGrown, HasMadeOf, IsMadeUpTo}
 use Rattle.xvnames.specs.declared.refused.FillFault.{FillFault}
 use Rattle.xvnames.specs.declared.refused.FillFault.TheVariants as fill
 use Rattle.xvnames.specs.declared.refused.MkfsRefusal.{MkfsRefusal}
@@ -67,45 +67,46 @@ IsUngrown {D} disk named k m r = OnTree (IsRootless disk k m) r
 
 -- ---- on a disk
 
--- A kernel was opened over the disk d, and its tree has not all of the files.
-pub record FailsToGrow {D N : Type 0} (disk : Ghosts D N) (named : List (List ℕ × List ℕ)) (d : D)
+-- A kernel was opened over the disk d, now e, and its tree has not all of the files.
+pub record FailsToGrow {D N : Type 0} (disk : Ghosts D N) (named : List (List ℕ × List ℕ)) (d e : D)
     (r : ChangeRefusal) : Type 0 where
   pub first : Plain D
   pub opened : IsOpenedPair disk d first
   pub last : Plain D
   pub why : IsUngrown disk named first last r
+  pub device : last.store.volume.device ≡ e
 
--- the sync of the disk d failed, which was asked for
-abbrev pub IsUnsynced : {D N : Type 0} → Ghosts D N → Bool → D → ChangeRefusal → Type 0
-IsUnsynced {D} disk sync d (change.Disk fault) =
-    IsTrue sync × FailsToSync fault × ((e : D) × Rose (disk.fault_count d) (disk.fault_count e))
-IsUnsynced disk sync d (change.Unopened fault) = ⊥
-IsUnsynced disk sync d (change.Tree fault) = ⊥
-IsUnsynced disk sync d (change.Unwritten fault) = ⊥
-IsUnsynced disk sync d change.Output = ⊥
+-- the sync of the disk d, now e, failed, which was asked for
+abbrev pub IsUnsynced : {D N : Type 0} → Ghosts D N → Bool → D → D → ChangeRefusal → Type 0
+IsUnsynced disk sync d e (change.Disk fault) =
+    IsTrue sync × FailsToSync fault × Rose (disk.fault_count d) (disk.fault_count e)
+IsUnsynced disk sync d e (change.Unopened fault) = ⊥
+IsUnsynced disk sync d e (change.Tree fault) = ⊥
+IsUnsynced disk sync d e (change.Unwritten fault) = ⊥
+IsUnsynced disk sync d e change.Output = ⊥
 
--- all files are on a disk, and its sync failed
+-- all files are on a disk, now e, and its sync failed
 pub record FailsAtEnd {D N : Type 0} (disk : Ghosts D N) (sync : Bool) (form : Form)
-    (named : List (List ℕ × List ℕ)) (r : ChangeRefusal) : Type 0 where
+    (named : List (List ℕ × List ℕ)) (e : D) (r : ChangeRefusal) : Type 0 where
   pub unsynced : D
   pub grown : HasGrown form named (files_of (disk.image unsynced))
-  pub fails : IsUnsynced disk sync unsynced r
+  pub fails : IsUnsynced disk sync unsynced e r
 
--- why files were not put on the new disk d: no kernel was opened, not all were added, or the sync
--- failed
+-- why files were not put on the new disk d, now e: no kernel was opened, not all were added, or the
+-- sync failed
 abbrev pub IsUnfilledBy : {D N : Type 0} → Ghosts D N → Bool → Form → List (List ℕ × List ℕ)
-    → D → ChangeRefusal → Type 0
-IsUnfilledBy {D} disk sync form named d (change.Unopened (opening.Kernel cause)) =
-    (e : D) × IsNotOpenedPair disk d e cause
-IsUnfilledBy disk sync form named d (change.Unopened opening.NoTree) = ⊥
-IsUnfilledBy disk sync form named d (change.Unopened (opening.Miscounted number)) = ⊥
-IsUnfilledBy disk sync form named d (change.Tree fault) =
-    FailsToGrow disk named d (change.Tree fault)
-IsUnfilledBy disk sync form named d (change.Unwritten fault) =
-    FailsToGrow disk named d (change.Unwritten fault)
-IsUnfilledBy disk sync form named d (change.Disk fault) =
-    FailsAtEnd disk sync form named (change.Disk fault)
-IsUnfilledBy disk sync form named d change.Output = ⊥
+    → D → D → ChangeRefusal → Type 0
+IsUnfilledBy disk sync form named d e (change.Unopened (opening.Kernel cause)) =
+    IsNotOpenedPair disk d e cause
+IsUnfilledBy disk sync form named d e (change.Unopened opening.NoTree) = ⊥
+IsUnfilledBy disk sync form named d e (change.Unopened (opening.Miscounted number)) = ⊥
+IsUnfilledBy disk sync form named d e (change.Tree fault) =
+    FailsToGrow disk named d e (change.Tree fault)
+IsUnfilledBy disk sync form named d e (change.Unwritten fault) =
+    FailsToGrow disk named d e (change.Unwritten fault)
+IsUnfilledBy disk sync form named d e (change.Disk fault) =
+    FailsAtEnd disk sync form named e (change.Disk fault)
+IsUnfilledBy disk sync form named d e change.Output = ⊥
 
 -- why no empty image was made on the disk d, which is e now
 abbrev pub IsUnmadeOn : {D N : Type 0} → Ghosts D N → D → D → FillFault → Type 0
@@ -115,14 +116,21 @@ IsUnmadeOn disk d e (fill.Mkfs making.Disk) = Rose (disk.fault_count d) (disk.fa
 IsUnmadeOn disk d e (fill.Mkfs making.NoMemory) = e ≡ d
 IsUnmadeOn disk d e (fill.Change refused) = ⊥
 
--- or one was, and files were not put on it
+-- or one was, and files were not put on it, as far as e
+pub record FailsToPut {D N : Type 0} (disk : Ghosts D N) (made : Making)
+    (named : List (List ℕ × List ℕ)) (d : D) (r : ChangeRefusal) : Type 0 where
+  pub empty : D
+  pub now : D
+  pub way : IsMadeUpTo disk made named d empty now
+  pub why : IsUnfilledBy disk made.sync made.form named empty now r
+
+-- why there is no image with files on the disk d; what a stop leaves is said here, too
 abbrev pub IsUnfilled : {D N : Type 0} → Ghosts D N → Making → List (List ℕ × List ℕ) → D
     → FillFault → Type 0
 IsUnfilled {D} disk made named d (fill.Mkfs fault) =
-    (e : D) × IsUnmadeOn disk d e (fill.Mkfs fault)
-IsUnfilled {D} disk made named d (fill.Change refused) =
-    (e : D) × MakesAs disk made.form made.size made.ninodes d e
-    × IsUnfilledBy disk made.sync made.form named e refused
+    (e : D) × MakesInOrder disk made.form made.size made.ninodes d e
+    × IsUnmadeOn disk d e (fill.Mkfs fault)
+IsUnfilled disk made named d (fill.Change refused) = FailsToPut disk made named d refused
 
 -- ---- in a file
 

@@ -1,5 +1,6 @@
 // The command that makes an image with a root directory and files.
-ghost use Rattle.std.specs.Prelude.{◌≡◌, length, map, IfErr, IfOk, OnOk};
+ghost use Rattle.std.specs.Prelude.{◌≡◌, ◌<◌, length, map, IfErr, IfOk, OnOk};
+ghost use Rattle.blocks.specs.Disk.{AddsNone};
 ghost use Rattle.calls.specs.Calls.{image_on};
 ghost use Rattle.calls.specs.Stopped.{StaysOver};
 ghost use Rattle.calls.specs.Transactions.{HasLabels};
@@ -8,13 +9,15 @@ ghost use Rattle.model.specs.Files.{files_of};
 ghost use Rattle.model.specs.Layout.{form_of, planned_super};
 ghost use Rattle.model.specs.Log.{recovered};
 ghost use Rattle.names.specs.Inside.{form_seen};
-ghost use Rattle.names.specs.Ready.{HasNoFile, IsIdle, IsReady, MayGoOn};
-ghost use Rattle.offline.specs.Making.{MakesAs};
+ghost use Rattle.names.specs.Ready.{HasNoFile, IsIdle, IsReady, LeavesIfDone, MayGoOn};
+ghost use Rattle.offline.specs.Making.{MakesAs, MakesInOrder};
 ghost use Rattle.transfer.specs.Ending.{SyncsIf};
 ghost use Rattle.tree_changes.specs.Changes.{IsOfTree};
 ghost use Rattle.xvnames.specs.Making.{
   AddsAll,
   AddsFile,
+  AddsPart,
+  AddsSome,
   AreNamed,
   HasAddedTo,
   HasGrown,
@@ -24,6 +27,8 @@ ghost use Rattle.xvnames.specs.Making.{
   IsMadeWith,
   IsNameOf,
   IsUnlabelled,
+  LeavesGrowing,
+  StopsGrowing,
   bare,
   files_named,
   new_labels,
@@ -209,8 +214,8 @@ fn fill<D: Disk + Drop>(alloc: Global, disk: D, filled: &Filled<'_>) -> Result<S
     let mut disk = disk;
     let fields = make_empty(alloc, &mut disk, filled.making)?;
     match fill_tree(alloc, disk, filled.files, filled.making.sync) {
-        Ok(_disk) => Ok(fields),
-        Err(refusal) => Err(FillFault::Change(refusal)),
+        (Ok(()), _disk) => Ok(fields),
+        (Err(refusal), _disk) => Err(FillFault::Change(refusal)),
     }
 }
 
@@ -223,6 +228,7 @@ fn make_empty<D: Disk>(alloc: Global, disk: &mut D, making: Making) -> Result<Su
     ensures none { OnOk result (HasNoFile (files_of (recovered (D.image disk.new)))) }
     ensures labels { OnOk result (IsUnlabelled (recovered (D.image disk.new))) }
     ensures fields { IfOk result (λ fields. fields ≡ planned_super making.size making.ninodes) }
+    ensures order { MakesInOrder D.Disk making.form making.size making.ninodes disk.old disk.new }
     ensures refused { IfErr result (IsUnmadeOn D.Disk disk.old disk.new) }
 {
     match plan(making.size, making.ninodes) {
@@ -235,44 +241,53 @@ fn make_empty<D: Disk>(alloc: Global, disk: &mut D, making: Making) -> Result<Su
 }
 
 // Makes a root directory on a disk without files, and these files in it, and syncs the disk where that
-// is asked for. The disk.
+// is asked for. The disk is handed back.
 fn fill_tree<D: Disk + Drop>(
     alloc: Global,
     disk: D,
     files: &[Named<'_>],
     sync: bool,
-) -> Result<D, ChangeRefusal>
+) -> (Result<(), ChangeRefusal>, D)
     requires { HasNoFile (files_of (recovered (D.image disk))) }
-    ensures filled { IfOk result (HasAddedTo D.Disk sync
-        (form_of (recovered (D.image disk))) (files_named files.now)) }
-    ensures labels { IfOk result (λ e. IsUnlabelled (recovered (D.image disk))
-        → HasLabels new_labels (D.image e)) }
-    ensures refused { IfErr result (IsUnfilledBy D.Disk sync
-        (form_of (recovered (D.image disk))) (files_named files.now) disk) }
+    ensures filled { OnOk result.0 (HasAddedTo D.Disk sync
+        (form_of (recovered (D.image disk))) (files_named files.now) result.1) }
+    ensures labels { OnOk result.0 (IsUnlabelled (recovered (D.image disk))
+        → HasLabels new_labels (D.image result.1)) }
+    ensures refused { IfErr result.0 (IsUnfilledBy D.Disk sync
+        (form_of (recovered (D.image disk))) (files_named files.now) disk result.1) }
+    ensures stops { StopsGrowing D.Disk (files_named files.now) disk result.1 }
 {
     let kernel = match open_pair(alloc, disk) {
         Ok(kernel) => kernel,
-        Err((fault, _disk)) => return Err(ChangeRefusal::Unopened(TreeOpenFault::Kernel(fault))),
+        Err((fault, disk)) => {
+            let refusal = ChangeRefusal::Unopened(TreeOpenFault::Kernel(fault));
+            return (Err(refusal), disk);
+        }
     };
     let mut tree = Tree::over(alloc, kernel);
     match grow(alloc, &mut tree, files) {
-        Ok(()) => synced(tree.into_disk(), sync),
-        Err(refusal) => Err(refusal),
+        Ok(()) => {
+            let mut disk = tree.into_disk();
+            let synced = sync_if(&mut disk, sync);
+            (synced, disk)
+        }
+        Err(refusal) => (Err(refusal), tree.into_disk()),
     }
 }
 
-// Syncs a disk where that is asked for, and else leaves it alone. The disk.
-fn synced<D: Disk + Drop>(disk: D, sync: bool) -> Result<D, ChangeRefusal>
-    ensures syncs { IfOk result (λ e. SyncsIf sync D.Disk disk e) }
-    ensures refused { IfErr result (IsUnsynced D.Disk sync disk) }
+// Syncs a disk where that is asked for, and else leaves it alone.
+fn sync_if<D: Disk>(disk: &mut D, sync: bool) -> Result<(), ChangeRefusal>
+    ensures syncs { OnOk result (SyncsIf sync D.Disk disk.old disk.new) }
+    ensures refused { IfErr result (IsUnsynced D.Disk sync disk.old disk.new) }
+    ensures time { AddsNone (D.moment disk.old) (D.moment disk.new)
+        (D.leaves disk.old) (D.leaves disk.new) }
 {
-    let mut disk = disk;
     if sync {
         if let Err(fault) = disk.sync() {
             return Err(ChangeRefusal::Disk(DeviceFault::Sync(fault)));
         }
     }
-    Ok(disk)
+    Ok(())
 }
 
 // Makes the root directory of a tree that has no file, and these files in it.
@@ -289,6 +304,8 @@ fn grow<D: Disk>(
     ensures refused { IfErr result
         (IsUngrown D.Disk (files_named files.now) tree.old.kernel tree.new.kernel) }
     ensures cause { IfErr result IsOfTree }
+    ensures leaves { 0 < tree.old.calls_left
+        → LeavesGrowing D.Disk (files_named files.now) tree.old.kernel tree.new.kernel }
     ensures stays { StaysOver D.Disk tree.old.kernel tree.new.kernel }
 {
     match tree.make_root(alloc) {
@@ -313,6 +330,8 @@ fn add_all<D: Disk>(
     ensures refused { IsReady D.Disk tree.old.kernel tree.old.calls_left → IfErr result
         (StopsAdding D.Disk (files_named files.now) tree.old.kernel tree.new.kernel) }
     ensures cause { IfErr result IsOfTree }
+    ensures leaves { LeavesIfDone D.Disk (AddsSome (form_seen D.image tree.old.kernel)
+        (files_named files.now)) tree.old.kernel tree.new.kernel }
     ensures stays { StaysOver D.Disk tree.old.kernel tree.new.kernel }
 {
     for file in files {
@@ -333,6 +352,8 @@ fn add<D: Disk>(alloc: Global, tree: &mut Tree<D>, file: &Named<'_>) -> Result<(
     ensures refused { IsReady D.Disk tree.old.kernel tree.old.calls_left → IfErr result
         (IsUnadded D.Disk file.now.name.now file.now.bytes.items tree.old.kernel tree.new.kernel) }
     ensures cause { IfErr result IsOfTree }
+    ensures leaves { LeavesIfDone D.Disk (AddsPart (form_seen D.image tree.old.kernel)
+        file.now.name.now file.now.bytes.items) tree.old.kernel tree.new.kernel }
     ensures stays { StaysOver D.Disk tree.old.kernel tree.new.kernel }
 {
     let path = file.name;

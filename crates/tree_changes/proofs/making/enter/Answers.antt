@@ -8,7 +8,7 @@ use Rattle.names.specs.Ready.{AnyOf}
 use Rattle.names.specs.declared.asking.Found.{Found}
 use Rattle.tree_changes.specs.Making.{EntersAny}
 use Rattle.tree_changes.proofs.Entered.{absent_is, entered_found, entered_other, refused_ready, refused_same, refused_why}
-use Rattle.tree_changes.proofs.Lefts.{left_behind, left_more, look_leaves}
+use Rattle.tree_changes.specs.Lemmas.Lefts.{left_behind, left_more, look_leaves}
 use Rattle.tree_changes.proofs.making.enter.Goals as goal
 
 pub returns-in-Ok-clause-enters : goal.returns-in-Ok-clause-enters

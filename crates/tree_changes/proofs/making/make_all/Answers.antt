@@ -7,7 +7,7 @@ use Rattle.names.specs.Looks.{Looks}
 use Rattle.names.specs.declared.asking.Found.{Found}
 use Rattle.tree_changes.specs.Making.{EntersSome}
 use Rattle.tree_changes.proofs.Entered.{absent_is, refused_ready, refused_same_at}
-use Rattle.tree_changes.proofs.Lefts.{left_behind, look_leaves}
+use Rattle.tree_changes.specs.Lemmas.Lefts.{left_behind, look_leaves}
 use Rattle.tree_changes.proofs.making.make_all.Goals as goal
 
 pub returns-in-Ok-directory_found-clause-leaves : goal.returns-in-Ok-directory_found-clause-leaves

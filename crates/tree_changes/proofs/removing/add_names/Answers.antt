@@ -6,7 +6,7 @@ use Rattle.names.specs.Numbered.{IsNoDirectory, ListsAt}
 use Rattle.tree_changes.specs.Removing.{Stays}
 use Rattle.tree_changes.specs.declared.removing.Below.{Below}
 use Rattle.tree_changes.proofs.Entered.{refused_ready, refused_same}
-use Rattle.tree_changes.proofs.Lefts.{look_leaves}
+use Rattle.tree_changes.specs.Lemmas.Lefts.{look_leaves}
 use Rattle.tree_changes.proofs.Removals.{listed_named, listed_names, of_no_memory, on_any, refused_is, unlisted_broken, unlisted_names}
 use Rattle.tree_changes.proofs.removing.add_names.Goals as goal
 

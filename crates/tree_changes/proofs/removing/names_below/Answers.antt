@@ -5,7 +5,7 @@ use Rattle.calls.specs.Calls.{image_on}
 use Rattle.model.specs.Files.{files_of}
 use Rattle.names.specs.Lemmas.Over.{over_on}
 use Rattle.tree_changes.specs.Removing.{names_in, Stays}
-use Rattle.tree_changes.proofs.Lefts.{left_if_behind}
+use Rattle.tree_changes.specs.Lemmas.Lefts.{left_if_behind}
 use Rattle.tree_changes.proofs.Listed.{all_names, grown_length, grown_names}
 use Rattle.tree_changes.proofs.removing.names_below.Goals as goal
 

@@ -5,7 +5,7 @@ use Rattle.model.specs.Files.{Files}
 use Rattle.names.specs.Looks.{Looks}
 use Rattle.names.specs.Removing.{RemovesAt}
 use Rattle.tree_changes.specs.Removing.{LeadsToNumber, RemovesPart, RemovesPartBelow}
-use Rattle.tree_changes.proofs.Lefts.{left_behind, left_more, look_leaves}
+use Rattle.tree_changes.specs.Lemmas.Lefts.{left_behind, left_more, look_leaves}
 use Rattle.tree_changes.proofs.Removals.{looked_file, looked_number}
 use Rattle.tree_changes.proofs.removing.remove_all.Goals as goal
 

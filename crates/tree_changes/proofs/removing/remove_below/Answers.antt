@@ -5,7 +5,7 @@ use Rattle.directories.specs.Paths.{names_of}
 use Rattle.model.specs.Files.{Files, files_of}
 use Rattle.names.specs.Lemmas.Over.{over_on}
 use Rattle.tree_changes.specs.Removing.{AreNamesBelow, RemovesListed, RemovesPartBelow, RemovesPartListed}
-use Rattle.tree_changes.proofs.Lefts.{left_if_behind, left_more, stays_leaves}
+use Rattle.tree_changes.specs.Lemmas.Lefts.{left_if_behind, left_more, stays_leaves}
 use Rattle.tree_changes.proofs.removing.remove_below.Goals as goal
 
 pub returns-in-Ok-clause-removes : goal.returns-in-Ok-clause-removes

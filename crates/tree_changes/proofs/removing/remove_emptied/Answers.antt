@@ -1,7 +1,7 @@
 use Rattle.std.proofs.Common.{inr, refl}
 use Rattle.directories.specs.Paths.{names_of}
 use Rattle.names.specs.Undirecting.{RemovesDirectoryAt}
-use Rattle.tree_changes.proofs.Lefts.{call_leaves}
+use Rattle.tree_changes.specs.Lemmas.Lefts.{call_leaves}
 use Rattle.tree_changes.proofs.removing.remove_emptied.Goals as goal
 
 pub returns-in-Ok-clause-leaves : goal.returns-in-Ok-clause-leaves

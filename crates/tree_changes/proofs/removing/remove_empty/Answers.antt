@@ -1,6 +1,6 @@
 use Rattle.std.proofs.Common.{inr, refl}
 use Rattle.names.specs.Undirecting.{RemovesDirectoryIn}
-use Rattle.tree_changes.proofs.Lefts.{call_leaves}
+use Rattle.tree_changes.specs.Lemmas.Lefts.{call_leaves}
 use Rattle.tree_changes.proofs.removing.remove_empty.Goals as goal
 
 pub returns-in-Ok-clause-leaves : goal.returns-in-Ok-clause-leaves

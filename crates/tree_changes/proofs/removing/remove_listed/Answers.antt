@@ -6,7 +6,7 @@ use Rattle.model.specs.Files.{files_of}
 use Rattle.names.specs.Lemmas.Over.{over_on}
 use Rattle.names.specs.Undirecting.{RemovesDirectoryAt}
 use Rattle.tree_changes.specs.Removing.{RemovesPartListed, RemovesSome}
-use Rattle.tree_changes.proofs.Lefts.{left_more, left_on}
+use Rattle.tree_changes.specs.Lemmas.Lefts.{left_more, left_on}
 use Rattle.tree_changes.proofs.removing.remove_listed.Goals as goal
 
 pub returns-in-Ok-clause-removes : goal.returns-in-Ok-clause-removes

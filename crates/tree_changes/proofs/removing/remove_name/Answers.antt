@@ -1,7 +1,7 @@
 use Rattle.std.proofs.Common.{inr, refl}
 use Rattle.directories.specs.Paths.{names_of}
 use Rattle.names.specs.Removing.{RemovesAt}
-use Rattle.tree_changes.proofs.Lefts.{call_leaves}
+use Rattle.tree_changes.specs.Lemmas.Lefts.{call_leaves}
 use Rattle.tree_changes.proofs.removing.remove_name.Goals as goal
 
 pub returns-in-Ok-clause-leaves : goal.returns-in-Ok-clause-leaves

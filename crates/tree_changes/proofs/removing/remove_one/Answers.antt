@@ -9,7 +9,7 @@ use Rattle.names.specs.Removing.{IsUnremovedIn, RemovesIn}
 use Rattle.names.specs.Undirecting.{RemovesDirectoryIn}
 use Rattle.tree_changes.specs.Removing.{RemovesOne}
 use Rattle.tree_changes.proofs.Entered.{refused_ready, refused_same, refused_why}
-use Rattle.tree_changes.proofs.Lefts.{call_leaves, left_behind, left_more}
+use Rattle.tree_changes.specs.Lemmas.Lefts.{call_leaves, left_behind, left_more}
 use Rattle.tree_changes.proofs.Removals.{directory_is}
 use Rattle.tree_changes.proofs.removing.remove_one.Goals as goal
 

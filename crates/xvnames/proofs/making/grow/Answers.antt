@@ -6,6 +6,7 @@ use Rattle.model.specs.declared.types.image.Form.{Form}
 use Rattle.names.specs.Lemmas.Over.{form_stays, over_on}
 use Rattle.xvnames.specs.Making.{AddsAll, files_named}
 use Rattle.xvnames.specs.Unmade.{IsUngrown, StopsAdding}
+use Rattle.xvnames.proofs.Stopped.{grown_left, root_left}
 use Rattle.xvnames.proofs.making.grow.Goals as goal
 
 pub returns-in-Ok-clause-grown : goal.returns-in-Ok-clause-grown
@@ -35,3 +36,14 @@ returns-in-Ok-clause-refused g c =
 pub returns-in-Ok-clause-stays : goal.returns-in-Ok-clause-stays
 returns-in-Ok-clause-stays g c =
     over_on g.D.Disk c.args.tree.now.kernel c.make_root.new.self.kernel c.add_all.new.tree.kernel c.make_root.ensures.stays c.add_all.ensures.stays
+
+pub returns-in-Err-clause-leaves : goal.returns-in-Err-clause-leaves
+returns-in-Err-clause-leaves g c = λ some.
+    root_left g.D.Disk (files_named c.args.files.now) c.args.tree.now.kernel c.make_root.new.self.kernel (c.make_root.ensures.leaves some)
+
+pub returns-in-Ok-clause-leaves : goal.returns-in-Ok-clause-leaves
+returns-in-Ok-clause-leaves g c = λ some.
+    let named = files_named c.args.files.now in
+    let k = c.args.tree.now.kernel in
+    let m = c.make_root.new.self.kernel in
+    grown_left g.D.Disk named k m c.add_all.new.tree.kernel c.make_root.ensures.stays c.in-Ok.ensures.root (root_left g.D.Disk named k m (c.make_root.ensures.leaves some)) c.add_all.ensures.leaves

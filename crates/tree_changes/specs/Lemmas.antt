@@ -1,0 +1,2 @@
+-- What follows from the definitions, for the crates above.
+pub mod Lefts
