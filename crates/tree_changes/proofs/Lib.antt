@@ -7,3 +7,4 @@ mod Recounted
 mod Removals
 mod Rooms
 mod Copied
+mod Filled

@@ -7,3 +7,4 @@ pub mod Making
 pub mod Removing
 pub mod Copying
 pub mod CopyLaws
+pub mod Filling
