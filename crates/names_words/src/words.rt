@@ -272,8 +272,8 @@ fn put_request<'a>(values: &ArgMatches<'a>) -> Option<Request<'a>>
     let image = values.get_str("IMAGE")?;
     let file = values.get_str("FILE")?;
     let path = values.get_str("PATH")?;
-    let all = values.get_flag("all");
-    if all {
+    let whole = values.get_flag("all");
+    if whole {
         let folder = file;
         return Some(Request::PutFolder {
             image,

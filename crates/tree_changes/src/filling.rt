@@ -74,7 +74,7 @@ impl<'a> TreeChange for Fill<'a> {
         alloc: Global,
         tree: &mut Tree<D>,
     ) -> Result<Option<u32>, ChangeRefusal> {
-        match fill(alloc, tree, self.path, self.items) {
+        match fill_at(alloc, tree, self.path, self.items) {
             Ok(()) => Ok(None),
             Err(refusal) => Err(refusal),
         }
@@ -82,7 +82,7 @@ impl<'a> TreeChange for Fill<'a> {
 }
 
 // Puts items, once a directory is at a path.
-fn fill<D: Disk>(
+fn fill_at<D: Disk>(
     alloc: Global,
     tree: &mut Tree<D>,
     path: &[u8],

@@ -17,7 +17,7 @@ use Rattle.tree_changes.proofs.filling.enter_at.Goals as goal
 
 pub returns-in-Ok-directory_found-clause-enters : goal.returns-in-Ok-directory_found-clause-enters
 returns-in-Ok-directory_found-clause-enters g c =
-    found_at (names_of c.args.path.now) c.in-Ok.found c.in-Ok-directory_found.number _ _ c.in-Ok.ensures.looks c.in-Ok-directory_found.ensures.is
+    found_at (names_of c.args.path.now) c.in-Ok.found c.in-Ok-directory_found._number _ _ c.in-Ok.ensures.looks c.in-Ok-directory_found.ensures.is
 
 pub returns-in-Err-directory_found-clause-undone : goal.returns-in-Err-directory_found-clause-undone
 returns-in-Err-directory_found-clause-undone g c =

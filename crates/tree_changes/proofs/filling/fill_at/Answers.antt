@@ -8,7 +8,7 @@ use Rattle.names.specs.Inside.{form_seen}
 use Rattle.names.specs.Lemmas.Over.{form_stays, over_on}
 use Rattle.tree_changes.specs.Filling.{PutsEach}
 use Rattle.tree_changes.proofs.Filled.{filled_left, unentered_left}
-use Rattle.tree_changes.proofs.filling.fill.Goals as goal
+use Rattle.tree_changes.proofs.filling.fill_at.Goals as goal
 
 pub returns-in-Ok-clause-fills : goal.returns-in-Ok-clause-fills
 returns-in-Ok-clause-fills g c =
