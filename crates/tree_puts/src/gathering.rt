@@ -81,10 +81,8 @@ pub fn gather<R: Files + AllocGlobal>(
     if folder.is_empty() {
         return Err(FolderFault::File);
     }
-    let mut found = Found {
-        items: Vec::new(rt.alloc()),
-        bytes: 0,
-    };
+    let items = Vec::new(rt.alloc());
+    let mut found = Found { items, bytes: 0 };
     add_below(rt, folder, path, &mut found)?;
     for place in 0..usize::MAX {
         if place >= found.items.len() {
