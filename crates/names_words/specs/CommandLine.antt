@@ -1,11 +1,11 @@
 -- The command line of `xvnames`, as clap is told it, and what words ask for by it.
-use Rattle.std.specs.Prelude.{◌≡◌, ℕ, List, [], Bool, Some, codes, map, unwrap_or}
+use Rattle.std.specs.Prelude.{◌≡◌, ℕ, List, [], Bool, false, true, Some, codes, map, unwrap_or}
 use Rattle.clap.specs.Words.{App, Row, Rule, all_of, first_of, new_rule, with_rule, with_subcommand}
 use Rattle.clap.specs.declared.builder.action.ArgAction.TheVariants.{Append, SetTrue}
 use Rattle.cli.specs.Asking.{HasFlag, HasNumber, Wording}
 use Rattle.cli.specs.CommandLine.{flag_rule, image_app, named_app, number_rule, required_rule}
 use Rattle.names_words.specs.declared.words.Request.{Request}
-use Rattle.names_words.specs.declared.words.Request.TheVariants.{Ls, Stat, Tree, Cat, Get, Put, Rm, Mv, Cp, Ln, Mkdir, Rmdir, Check, Recount, Mkfs}
+use Rattle.names_words.specs.declared.words.Request.TheVariants.{Ls, Stat, Tree, Cat, Get, Put, PutFolder, Rm, Mv, Cp, Ln, Mkdir, Rmdir, Check, Recount, Mkfs}
 
 -- a command that may answer with JSON
 abbrev pub answering : App → App
@@ -40,8 +40,9 @@ abbrev pub mkdir_app : App
 mkdir_app = with_rule (changing (path_app (codes "mkdir"))) (letter_rule (codes "parents") 112)
 
 abbrev pub put_app : App
-put_app = changing (with_rule (with_rule (image_app (codes "put")) (required_rule (codes "FILE")))
-    (required_rule (codes "PATH")))
+put_app = with_rule (changing (with_rule (with_rule (image_app (codes "put"))
+    (required_rule (codes "FILE"))) (required_rule (codes "PATH"))))
+    (letter_rule (codes "all") 114)
 
 -- from a path to another one
 abbrev pub between_app : List ℕ → App
@@ -108,7 +109,10 @@ AsksBy name rows (Get image path file all) = (name ≡ codes "get")
     × HasWord (codes "FILE") rows file.now × HasFlag (codes "all") rows all
 AsksBy name rows (Put image file path sync no_sync) = (name ≡ codes "put")
     × Changes rows image.now sync no_sync × HasWord (codes "FILE") rows file.now
-    × HasWord (codes "PATH") rows path.now
+    × HasWord (codes "PATH") rows path.now × HasFlag (codes "all") rows false
+AsksBy name rows (PutFolder image folder path) = (name ≡ codes "put")
+    × HasWord (codes "IMAGE") rows image.now × HasWord (codes "FILE") rows folder.now
+    × HasWord (codes "PATH") rows path.now × HasFlag (codes "all") rows true
 AsksBy name rows (Rm image path all sync no_sync) = (name ≡ codes "rm")
     × Changes rows image.now sync no_sync × HasWord (codes "PATH") rows path.now
     × HasFlag (codes "all") rows all

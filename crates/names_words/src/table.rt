@@ -85,10 +85,20 @@ const LINES: &[Line] = &[
     },
     Line {
         name: "put",
-        about: "Puts a file into an image under a path, as a new file or in place of one, and prints its number",
-        example: "Example: xvnames put fs.img notes.txt /docs/notes.txt",
+        about: "Puts a file into an image under a path, as a new file or in place of one, and prints its number, or with -r all that is below a folder into a directory",
+        example: "Examples: xvnames put fs.img notes.txt /docs/notes.txt, xvnames put -r fs.img docs /docs",
         image: Some(IMAGE),
-        words: &[FILE_PUT, PATH, SYNC, NO_SYNC],
+        words: &[
+            FILE_PUT,
+            PATH,
+            SYNC,
+            NO_SYNC,
+            Word {
+                name: "all",
+                kind: Kind::Letter('r'),
+                help: "Puts all files and folders that are below the folder FILE into the directory PATH, which is made where nothing is there, all of them or nothing: a stop leaves the old image or the new",
+            },
+        ],
     },
     Line {
         name: "rm",

@@ -71,6 +71,15 @@ pub enum Request<'a> {
         /// Whether the sync at the end is left out.
         no_sync: bool,
     },
+    /// All that is below a folder of the system, put into a directory of an image.
+    PutFolder {
+        /// The path of the image's file.
+        image: &'a str,
+        /// The path of the folder.
+        folder: &'a str,
+        /// The path of the directory.
+        path: &'a str,
+    },
     /// A file, or a directory with all below it, removed.
     Rm {
         /// The path of the image's file.
@@ -260,10 +269,22 @@ fn request_of<'a>(name: &str, values: &ArgMatches<'a>) -> Option<Request<'a>>
 fn put_request<'a>(values: &ArgMatches<'a>) -> Option<Request<'a>>
     ensures { IfSome result (AsksBy (codes "put") (rows_of (found_of values.now))) }
 {
+    let image = values.get_str("IMAGE")?;
+    let file = values.get_str("FILE")?;
+    let path = values.get_str("PATH")?;
+    let whole = values.get_flag("all");
+    if whole {
+        let folder = file;
+        return Some(Request::PutFolder {
+            image,
+            folder,
+            path,
+        });
+    }
     Some(Request::Put {
-        image: values.get_str("IMAGE")?,
-        file: values.get_str("FILE")?,
-        path: values.get_str("PATH")?,
+        image,
+        file,
+        path,
         sync: values.get_flag("sync"),
         no_sync: values.get_flag("no-sync"),
     })

@@ -6,3 +6,4 @@ mod Recounted
 mod Removals
 mod Rooms
 mod Copied
+mod Filled

@@ -8,3 +8,4 @@ pub mod Removing
 pub mod Copying
 pub mod CopyLaws
 pub mod Lemmas
+pub mod Filling

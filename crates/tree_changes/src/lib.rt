@@ -5,6 +5,7 @@
 mod changes;
 mod copying;
 mod faults;
+mod filling;
 pub mod laws;
 mod making;
 mod over_tree;
@@ -16,6 +17,7 @@ mod room;
 pub use changes::{Link, MakeDirectory, Remove, RemoveDirectory, Rename};
 pub use copying::{CopyOver, CopyRefusal, copy_disk};
 pub use faults::ChangeRefusal;
+pub use filling::{Fill, Item, What};
 pub use making::MakeDirectories;
 pub use over_tree::{OverTree, TreeChange, change_disk};
 pub use puts::{Put, append_all};

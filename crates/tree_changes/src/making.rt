@@ -87,7 +87,7 @@ fn make_all<D: Disk>(alloc: Global, tree: &mut Tree<D>, path: &[u8]) -> Result<(
 }
 
 // The number of a file that was found, where it is a directory.
-fn directory_found(found: &Found) -> Result<u32, ChangeRefusal>
+pub(crate) fn directory_found(found: &Found) -> Result<u32, ChangeRefusal>
     ensures is { IfOk result (IsDirectoryFound found.now) }
     ensures none { IfErr result (IsNoDirectoryFound found.now) }
 {
@@ -98,7 +98,7 @@ fn directory_found(found: &Found) -> Result<u32, ChangeRefusal>
 }
 
 // Whether a call was refused since a name isn't there.
-fn is_absent(fault: &TreeFault) -> bool
+pub(crate) fn is_absent(fault: &TreeFault) -> bool
     ensures { result ≡ is_absent fault.now }
 {
     matches!(fault, TreeFault::Refused(Refusal::NotFound))

@@ -58,16 +58,40 @@ impl<'a> TreeChange for Put<'a> {
         alloc: Global,
         tree: &mut Tree<D>,
     ) -> Result<Option<u32>, ChangeRefusal> {
-        let path = self.path;
-        let bytes = self.bytes.as_slice();
-        if bytes.len() <= PIECE {
-            return put_few(alloc, tree, path, bytes);
-        }
-        let number = put_few(alloc, tree, path, &[])?;
-        match append_all(alloc, tree, path, bytes) {
-            Ok(()) => Ok(number),
-            Err(refusal) => Err(refusal),
-        }
+        put_whole(alloc, tree, self.path, self.bytes.as_slice())
+    }
+}
+
+// Puts bytes, few in one transaction, more piece by piece.
+pub(crate) fn put_whole<D: Disk>(
+    alloc: Global,
+    tree: &mut Tree<D>,
+    path: &[u8],
+    bytes: &[u8],
+) -> Result<Option<u32>, ChangeRefusal>
+    requires ready { IsReady D.Disk tree.old.kernel tree.old.calls_left }
+    requires some { 0 < tree.old.calls_left }
+    ensures ready { MayGoOn D.Disk tree.new.kernel tree.new.calls_left }
+    ensures done { OnOk result (IsReady D.Disk tree.new.kernel tree.new.calls_left) }
+    ensures puts { IfOk result (λ told. Puts path.now bytes.now
+        (form_seen D.image tree.old.kernel) told
+        (files_of (image_on D.image tree.old.kernel))
+        (files_of (image_on D.image tree.new.kernel))) }
+    ensures undone { IfErr result
+        (IsUnputAt D.Disk path.now bytes.now tree.old.kernel tree.new.kernel) }
+    ensures cause { IfErr result IsOfTree }
+    ensures leaves { LeavesMidst D.Disk
+        (PutsSome path.now bytes.now (form_seen D.image tree.old.kernel))
+        tree.old.kernel tree.new.kernel }
+    ensures stays { StaysOver D.Disk tree.old.kernel tree.new.kernel }
+{
+    if bytes.len() <= PIECE {
+        return put_few(alloc, tree, path, bytes);
+    }
+    let number = put_few(alloc, tree, path, &[])?;
+    match append_all(alloc, tree, path, bytes) {
+        Ok(()) => Ok(number),
+        Err(refusal) => Err(refusal),
     }
 }
 

@@ -1,2 +1,3 @@
 mod Anyhow
 mod Long
+mod Gathered

@@ -21,7 +21,7 @@ use Rattle.directories.specs.Walks.{IsUndoneIn}
 use Rattle.directories.specs.declared.refusal.Refusal.{Refusal}
 use Rattle.names_words.specs.CommandLine.{xvnames_words}
 use Rattle.names_words.specs.declared.words.Request.{Request}
-use Rattle.names_words.specs.declared.words.Request.TheVariants.{Ls, Stat, Tree, Cat, Get, Put, Rm, Mv, Cp, Ln, Mkdir, Rmdir, Check, Recount, Mkfs}
+use Rattle.names_words.specs.declared.words.Request.TheVariants.{Ls, Stat, Tree, Cat, Get, Put, PutFolder, Rm, Mv, Cp, Ln, Mkdir, Rmdir, Check, Recount, Mkfs}
 use Rattle.tree_changes.specs.Changes.{HasChanged, HasNotChanged, MakesDirectory, OnTree, Plainly, StopsChange, Turn}
 use Rattle.tree_changes.specs.Making.{EntersSome, IsUnmadeAll, MakesDirectories}
 use Rattle.tree_changes.specs.Recounts.{HasNotRecounted, TellsRecount}
@@ -31,6 +31,7 @@ use Rattle.tree_looks.specs.Gets.{HasGot, HasGotAll, IsUngot, IsUngotAll}
 use Rattle.tree_looks.specs.Looks.{HasLooked, HasNoPaths, HasNotCounted, HasNotLooked, IsUnlisted, IsUnshown, Lists, NotOfTree, OfTree, Shows, ShowsPaths, ShowsStat, TellsCounts}
 use Rattle.tree_looks.specs.declared.faults.LookRefusal.{LookRefusal}
 use Rattle.tree_puts.specs.Copies.{CopiesFile, IsUncopiedFile}
+use Rattle.tree_puts.specs.Folders.{HasPutFolder, IsUnputFolder}
 use Rattle.tree_puts.specs.Puts.{HasPut}
 use Rattle.tree_puts.specs.Refusals.{IsUnput}
 use Rattle.xvnames.specs.Making.{IsMadeWith}
@@ -98,6 +99,8 @@ Answers remaining contents (Get image path file all) old new =
     Gets remaining contents all path.now old new
 Answers remaining contents (Put image file path sync no_sync) old new =
     HasPut remaining path.now sync (not no_sync) old new
+Answers remaining contents (PutFolder image folder path) old new =
+    HasPutFolder remaining path.now old new
 Answers remaining contents (Rm image path all sync no_sync) old new =
     Removes remaining all path.now sync no_sync old new
 Answers remaining contents (Mv image from to sync no_sync) old new = Changes remaining
@@ -194,6 +197,8 @@ OnRefused remaining (Cat image path) old new none = LooksNot remaining (IsUnshow
 OnRefused remaining (Get image path file all) old new none = GetsNot remaining all path.now none
 OnRefused remaining (Put image file path sync no_sync) old new none =
     Refuses (IsUnput remaining path.now sync (not no_sync) none)
+OnRefused remaining (PutFolder image folder path) old new none =
+    Refuses (IsUnputFolder remaining path.now none)
 OnRefused remaining (Rm image path all sync no_sync) old new none =
     RemovesNot remaining all path.now sync no_sync none
 OnRefused remaining (Mv image from to sync no_sync) old new none = ChangesNot remaining

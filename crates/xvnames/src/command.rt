@@ -31,7 +31,7 @@ use tree_changes::{
     Rename,
 };
 use tree_looks::{Cat, Counts, Get, GetAll, InTree, Ls, OverFiles, Paths, Stat};
-use tree_puts::{CopyFile, PutFile};
+use tree_puts::{CopyFile, PutFile, PutFolder};
 
 /// The program's name, with which the line of each refusal begins.
 pub const NAME: &str = "xvnames";
@@ -206,6 +206,19 @@ fn dispatch<R: Locks + AllocGlobal, O: Write, E: Write>(
             out,
             err,
         ),
+        Request::PutFolder {
+            image,
+            folder,
+            path,
+        } => {
+            let put = PutFolder {
+                image,
+                folder,
+                path,
+                holder: Keeper::new(rt, locking),
+            };
+            perform(NAME, rt, put, out, err)
+        }
         Request::Rm {
             image,
             path,

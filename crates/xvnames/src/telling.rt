@@ -42,6 +42,7 @@ pub fn given<'a>(request: &Request<'a>) -> Given<'a> {
             file: Some(file),
             ..at(image, path, true)
         },
+        Request::PutFolder { image, path, .. } => at(image, path, true),
         Request::Rm { image, path, .. } => at(image, path, true),
         Request::Mv {
             image,

@@ -54,6 +54,14 @@ pub returns-in-Put-clause-refused : goal.returns-in-Put-clause-refused
 returns-in-Put-clause-refused g c =
     λ refused. subst (λ request. OnRefused g.R.File.Read.remaining request (g.O.Write.contents c.args.out.now) (g.O.Write.contents c.perform.new.out) (c.perform.new.out ≡ c.args.out.now)) (sym c.in-Put.is) (c.perform.ensures.refused refused)
 
+pub returns-in-PutFolder-clause-done : goal.returns-in-PutFolder-clause-done
+returns-in-PutFolder-clause-done g c =
+    λ done. subst (λ request. Answers g.R.File.Read.remaining g.R.File.Write.contents request (g.O.Write.contents c.args.out.now) (g.O.Write.contents c.perform-in-PutFolder.new.out)) (sym c.in-PutFolder.is) (c.perform-in-PutFolder.ensures.done done)
+
+pub returns-in-PutFolder-clause-refused : goal.returns-in-PutFolder-clause-refused
+returns-in-PutFolder-clause-refused g c =
+    λ refused. subst (λ request. OnRefused g.R.File.Read.remaining request (g.O.Write.contents c.args.out.now) (g.O.Write.contents c.perform-in-PutFolder.new.out) (c.perform-in-PutFolder.new.out ≡ c.args.out.now)) (sym c.in-PutFolder.is) (c.perform-in-PutFolder.ensures.refused refused)
+
 pub returns-in-Rm-clause-done : goal.returns-in-Rm-clause-done
 returns-in-Rm-clause-done g c =
     λ done. subst (λ request. Answers g.R.File.Read.remaining g.R.File.Write.contents request (g.O.Write.contents c.args.out.now) (g.O.Write.contents c.remove.new.out)) (sym c.in-Rm.is) (c.remove.ensures.done done)

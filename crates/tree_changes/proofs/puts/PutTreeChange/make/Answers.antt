@@ -1,38 +1,23 @@
-use Rattle.std.proofs.Common.{◌<◌, List, ℕ, length, inr, refl, arith, subst}
-use Rattle.model.specs.Operations.{transfer_limit}
+use Rattle.std.proofs.Common.{ℕ, List, refl, subst}
+use Rattle.std.specs.Prelude.{IfErr, IfOk}
+use Rattle.calls.specs.Calls.{image_on}
+use Rattle.model.specs.Files.{files_of}
 use Rattle.names.specs.Inside.{form_seen}
-use Rattle.tree_changes.specs.Puts.{IsUnputAt}
-use Rattle.tree_changes.proofs.Pieces.{emptied_left, left_as_given, put_left}
+use Rattle.tree_changes.specs.Puts.{IsUnputAt, Puts}
+use Rattle.tree_changes.proofs.Pieces.{left_as_given}
 use Rattle.tree_changes.proofs.puts.PutTreeChange.make.Goals as goal
 
-pub returns-in-Err-clause-undone : goal.returns-in-Err-clause-undone
-returns-in-Err-clause-undone g c =
+pub returns-clause-makes : goal.returns-clause-makes
+returns-clause-makes g c =
     let disk = g.D.Disk in
-    let bytes = c.as_slice-bytes.result.now in
     let old = c.args.tree.now.kernel in
-    let new = c.append_all.new.tree.kernel in
-    let many : transfer_limit < length bytes = omega (arith, c.if-bytes-le-PIECE.false) in
-    let undone : IsUnputAt disk c.args.self.now.path.now bytes old new c.in-Err.refusal
-    = inr (many, inr (c.in_ok-number.number, (c.put_few-2.new.tree.kernel, c.in_ok-number.ensures.puts, c.in-Err.ensures.undone c.in_ok-number.ensures.done))) in
-    subst (λ (b : List ℕ). IsUnputAt disk c.args.self.now.path.now b old new c.in-Err.refusal) c.as_slice-bytes.ensures.value undone
+    let new = c.put_whole.new.tree.kernel in
+    subst (λ (bytes : List ℕ). IfOk c.put_whole.result (λ told. Puts c.args.self.now.path.now bytes (form_seen disk.image old) told (files_of (image_on disk.image old)) (files_of (image_on disk.image new)))) c.as_slice.ensures.value c.put_whole.ensures.puts
 
-pub returns-in-Ok-clause-leaves : goal.returns-in-Ok-clause-leaves
-returns-in-Ok-clause-leaves g c =
-    put_left g.D.Disk c.args.tree.now.kernel c.put_few-2.new.tree.kernel c.append_all.new.tree.kernel c.args.self.now.path.now _ c.as_slice-bytes.result.now _ c.in_ok-number.number refl c.as_slice-bytes.ensures.value (omega (arith, c.if-bytes-le-PIECE.false))
-    c.put_few-2.ensures.stays c.in_ok-number.ensures.puts (c.put_few-2.ensures.leaves c.requires.some) c.append_all.ensures.leaves
+pub returns-clause-undone : goal.returns-clause-undone
+returns-clause-undone g c =
+    subst (λ (bytes : List ℕ). IfErr c.put_whole.result (IsUnputAt g.D.Disk c.args.self.now.path.now bytes c.args.tree.now.kernel c.put_whole.new.tree.kernel)) c.as_slice.ensures.value c.put_whole.ensures.undone
 
-pub returns-in-Err-clause-leaves : goal.returns-in-Err-clause-leaves
-returns-in-Err-clause-leaves g c =
-    put_left g.D.Disk c.args.tree.now.kernel c.put_few-2.new.tree.kernel c.append_all.new.tree.kernel c.args.self.now.path.now _ c.as_slice-bytes.result.now _ c.in_ok-number.number refl c.as_slice-bytes.ensures.value (omega (arith, c.if-bytes-le-PIECE.false))
-    c.put_few-2.ensures.stays c.in_ok-number.ensures.puts (c.put_few-2.ensures.leaves c.requires.some) c.append_all.ensures.leaves
-
-pub returns-in_err-number-clause-leaves : goal.returns-in_err-number-clause-leaves
-returns-in_err-number-clause-leaves g c =
-    let disk = g.D.Disk in
-    let path = c.args.self.now.path.now in
-    let bytes = c.as_slice-bytes.result.now in
-    let old = c.args.tree.now.kernel in
-    let mid = c.put_few-2.new.tree.kernel in
-    let many : transfer_limit < length bytes = omega (arith, c.if-bytes-le-PIECE.false) in
-    left_as_given disk old mid (form_seen disk.image old) path _ bytes _ refl c.as_slice-bytes.ensures.value
-    (emptied_left disk old mid path bytes (form_seen disk.image old) many (c.put_few-2.ensures.leaves c.requires.some))
+pub returns-clause-leaves : goal.returns-clause-leaves
+returns-clause-leaves g c =
+    left_as_given g.D.Disk c.args.tree.now.kernel c.put_whole.new.tree.kernel (form_seen g.D.Disk.image c.args.tree.now.kernel) c.args.self.now.path.now _ c.as_slice.result.now _ refl c.as_slice.ensures.value c.put_whole.ensures.leaves
