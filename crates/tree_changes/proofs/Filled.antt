@@ -18,7 +18,7 @@ use Rattle.tree_changes.specs.Filling.{EntersAt, FillsSome, PutsEach, PutsFirst,
 use Rattle.tree_changes.specs.Making.{IsDirectoryFound}
 use Rattle.tree_changes.specs.declared.filling.Item.{Item}
 use Rattle.tree_changes.proofs.Entered.{found_directory}
-use Rattle.tree_changes.proofs.Lefts.{left_more, left_on}
+use Rattle.tree_changes.specs.Lemmas.Lefts.{left_more, left_on}
 
 -- one more at the end
 each_more : (form : Form) (items : List Item) (item : Item) (a b c : Files) → PutsEach form items a b → PutsItem form item b c → PutsEach form (items ++ item ∷ []) a c

@@ -12,7 +12,7 @@ use Rattle.names.specs.declared.asking.Found.{Found}
 use Rattle.tree_changes.specs.Filling.{EntersAt}
 use Rattle.tree_changes.proofs.Entered.{absent_is, led_other, refused_ready, refused_same_at}
 use Rattle.tree_changes.proofs.Filled.{found_at}
-use Rattle.tree_changes.proofs.Lefts.{left_behind, left_more, look_leaves}
+use Rattle.tree_changes.specs.Lemmas.Lefts.{left_behind, left_more, look_leaves}
 use Rattle.tree_changes.proofs.filling.enter_at.Goals as goal
 
 pub returns-in-Ok-directory_found-clause-enters : goal.returns-in-Ok-directory_found-clause-enters
