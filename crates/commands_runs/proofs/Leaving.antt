@@ -24,7 +24,7 @@ use Rattle.commands_runs.proofs.Recording.{all_heard}
 use Rattle.commands_runs.specs.Explored.{stops_from, stops_with}
 use Rattle.commands_runs.specs.FileLines.{lines_of}
 use Rattle.commands_runs.specs.Filed.{AreFiled, LeavesLines, mute, stops_along, stops_at, wants_then}
-use Rattle.commands_runs.specs.Writes.{AreWrites, IsOfImage, Kept, MakesWrites, keeping}
+use Rattle.commands_runs.specs.Writes.{AreItsWrites, AreWrites, IsOfImage, Kept, MakesWrites, keeping}
 use Rattle.commands_runs.specs.declared.changes.Stop.{Stop}
 use Rattle.commands_runs.specs.declared.mute.Mute.{Mute}
 
@@ -169,3 +169,13 @@ writes_of_scenario items_of r below x y s tasks processes words stop image ops c
 pub writes_had : {V E : Type 0} (r : Result V E) (items_of : V → List Written) (P : List Written → Type 0) → IsOk r → IfOk r (λ v. P (items_of v)) → P (writes_in r items_of)
 writes_had (Ok v) items_of P is_ok so = so
 writes_had (Err e) items_of P is_ok so = let no : false ≡ true = is_ok in absurd (cc no)
+
+-- The same of writes over an image that is another's, and of a stop that is another: they are those that
+-- were asked for.
+pub writes_asked : {V E : Type 0} (r : Result V E) (items_of : V → List Written) (holds : Bool) (x y : Image) (tasks : List Task) (processes : ℕ) (words : List Word) (stop asked : Option ℕ) →
+    x ≡ y → stop ≡ asked → IsOk r → IfOk r (λ v. AreItsWrites holds x tasks processes words (unwrap_or stop 0) (items_of v)) →
+    AreItsWrites holds y tasks processes words (unwrap_or asked 0) (writes_in r items_of)
+writes_asked r items_of holds x y tasks processes words stop asked same stops is_ok so =
+    subst (λ (z : Image). AreItsWrites holds z tasks processes words (unwrap_or asked 0) (writes_in r items_of)) same
+    (subst (λ (o : Option ℕ). AreItsWrites holds x tasks processes words (unwrap_or o 0) (writes_in r items_of)) stops
+    (writes_had r items_of (AreItsWrites holds x tasks processes words (unwrap_or stop 0)) is_ok so))

@@ -14,6 +14,7 @@ mod file_lines;
 mod gathered;
 mod heard;
 mod mute;
+mod objects;
 mod picture_teller;
 mod picturing;
 mod remembering;

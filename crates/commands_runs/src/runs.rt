@@ -13,12 +13,13 @@ ghost use Rattle.commands_runs.specs.Writes.{AreItsWrites};
 ghost use Rattle.commands_runs.specs.Runs.{IsNotRun, IsReplayed, IsRun, IsScenario, IsUnread, IsUnreplayed, replay_files_telling, run_files_telling};
 
 use crate::anew::Anew;
+use crate::objects::replay_written;
 use blocks::{Block, FileDisk, FileFault, NoMemory};
 use cmd::{Access, Locking, Locks, open_for};
 use commands::{schedule_from, script_from};
 use json_lines::Written;
 use messages::{Detail, Meter, Reason, Told};
-use player::{ReplayRefusal, Scenario, replay_disk, replay_objects};
+use player::{ReplayRefusal, Scenario, replay_disk};
 use runner::{RunRefusal, run_disk};
 use scripts::{ScheduleFault, ScriptFault, processes};
 use std::alloc::Global;
@@ -152,7 +153,7 @@ pub fn replay_json<R: Locks + AllocGlobal, P: Meter, O: Write>(
         Err(refusal) => return Err(refusal),
     };
     let written = writes_on(rt.alloc(), &mut disk, &scenario, replay.sync);
-    let (ran, _disk) = replay_objects(rt.alloc(), disk, scenario, written, progress, out);
+    let (ran, _disk) = replay_written(rt.alloc(), disk, scenario, written, progress, out);
     match ran {
         Ok(()) => Ok(()),
         Err(refusal) => Err(ReplayFilesRefusal::Replay(refusal)),

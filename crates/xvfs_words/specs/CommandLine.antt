@@ -1,5 +1,5 @@
 -- The command line of `xvfs`, as clap is told it, and what words ask for by it.
-use Rattle.std.specs.Prelude.{◌≡◌, ◌≢◌, ◌≤◌, ⊤, ℕ, List, [], ◌∷◌, Option, Some, None, true, false, codes, pos, option_map}
+use Rattle.std.specs.Prelude.{◌≡◌, ◌≢◌, ◌≤◌, ⊤, ℕ, Bool, List, [], ◌∷◌, Option, Some, None, true, false, codes, pos, option_map}
 use Rattle.clap.specs.Words.{App, Row, Rule, new_app, new_rule, first_of, one_of, with_rule, with_subcommand}
 use Rattle.clap.specs.declared.builder.value_parser.ValueParser.TheVariants.{Signed, Unsigned}
 use Rattle.cli.specs.Asking.{HasChoice, HasFlag, HasNumber, Wording, WritesNumber}
@@ -156,6 +156,11 @@ abbrev pub part_of : Option ℕ → Part
 part_of None = Whole
 part_of (Some number) = File number
 
+-- a page is plain only where there is one
+abbrev pub IsOfPage : {P : Type 0} → Option P → Bool → Type 0
+IsOfPage (Some path) plain = ⊤
+IsOfPage None plain = plain ≡ false
+
 -- a command of this name, with these values, asks for the request
 abbrev pub AsksBy : List ℕ → List Row → Request → Type 0
 AsksBy name rows (Mkfs image size ninodes large no_sync) = (name ≡ codes "mkfs")
@@ -212,14 +217,16 @@ AsksBy name rows (Replay image script schedule stop sync writes steps picture pl
     × HasChoice 64 (codes "stop") rows stop × HasFlag (codes "sync") rows sync
     × HasFlag (codes "writes") rows writes × HasFlag (codes "steps") rows steps
     × (option_map (λ path. path.now) picture ≡ first_of (codes "picture") rows)
-    × HasFlag (codes "plain") rows plain × HasFlag (codes "json") rows false
+    × HasFlag (codes "plain") rows plain × IsOfPage picture plain
+    × HasFlag (codes "json") rows false
 AsksBy name rows (ReplayJson image script schedule stop sync) =
     (name ≡ codes "replay") × (first_of (codes "IMAGE") rows ≡ Some image.now)
     × (first_of (codes "SCRIPT") rows ≡ Some script.now)
     × (first_of (codes "SCHEDULE") rows ≡ Some schedule.now)
     × HasChoice 64 (codes "stop") rows stop × HasFlag (codes "sync") rows sync
     × HasFlag (codes "json") rows true × HasFlag (codes "writes") rows false
-    × HasFlag (codes "steps") rows false × (first_of (codes "picture") rows ≡ None)
+    × HasFlag (codes "steps") rows false × HasFlag (codes "plain") rows false
+    × (first_of (codes "picture") rows ≡ None)
 AsksBy name rows (Run image script workers group sync) =
     (name ≡ codes "run") × (first_of (codes "IMAGE") rows ≡ Some image.now)
     × (first_of (codes "SCRIPT") rows ≡ Some script.now) × HasWorkers rows workers

@@ -223,7 +223,7 @@ const LINES: &[Line] = &[
             Word {
                 name: "plain",
                 kind: Kind::Flag,
-                help: "Draws the steps on that page, for printing, without a script",
+                help: "Draws the steps on the page of --picture, for printing, without a script",
             },
             Word {
                 name: "json",

@@ -1,9 +1,9 @@
 // What the words of a command line ask `xvfs` for.
 ghost use Rattle.std.specs.Prelude.{◌≡◌, false, true, codes, option_map, IfSome};
-ghost use Rattle.clap.specs.Words.{found_of, is_simple_and_free, rows_of};
+ghost use Rattle.clap.specs.Words.{first_of, found_of, is_simple_and_free, rows_of};
 ghost use Rattle.cli.specs.Asking.{HasFlag};
 ghost use Rattle.cli.specs.Table.{outline_app};
-ghost use Rattle.xvfs_words.specs.CommandLine.{AsksBy, HasPart, HasWorkers, xvfs_app, xvfs_words};
+ghost use Rattle.xvfs_words.specs.CommandLine.{AsksBy, HasPart, HasWorkers, IsOfPage, xvfs_app, xvfs_words};
 ghost use Rattle.xvfs_words.specs.declared.words.Part.TheVariants as parts;
 ghost use Rattle.xvfs_words.specs.declared.words.Request.TheVariants as requests;
 
@@ -157,7 +157,7 @@ pub enum Request<'a> {
         steps: bool,
         /// The path of the file that gets a page of the run.
         picture: Option<&'a str>,
-        /// Whether the run is drawn on it, in place of a page that walks through it.
+        /// Whether the run is drawn on it, in place of a page that walks through it; only where there is one.
         plain: bool,
     },
     /// A script's operations over an image, told as JSON.
@@ -291,6 +291,7 @@ fn replay_request<'a>(values: &ArgMatches<'a>) -> Option<Request<'a>>
     if values.get_flag("json") {
         return json_request(values);
     }
+    let page = page_of(values)?;
     Some(Request::Replay {
         image: values.get_str("IMAGE")?,
         script: values.get_str("SCRIPT")?,
@@ -299,20 +300,36 @@ fn replay_request<'a>(values: &ArgMatches<'a>) -> Option<Request<'a>>
         sync: values.get_flag("sync"),
         writes: values.get_flag("writes"),
         steps: values.get_flag("steps"),
-        picture: values.get_str("picture"),
-        plain: values.get_flag("plain"),
+        picture: page.0,
+        plain: page.1,
     })
 }
 
-// A replay that is told as JSON, with all of each step, and is not drawn.
+// The path of a page, if there is one, and whether that is plain: without a page nothing is.
+fn page_of<'a>(values: &ArgMatches<'a>) -> Option<(Option<&'a str>, bool)>
+    ensures path { IfSome result (λ page. option_map (λ path. path.now) page.0
+        ≡ first_of (codes "picture") (rows_of (found_of values.now))) }
+    ensures plain { IfSome result (λ page.
+        HasFlag (codes "plain") (rows_of (found_of values.now)) page.1) }
+    ensures whose { IfSome result (λ page. IsOfPage page.0 page.1) }
+{
+    match (values.get_str("picture"), values.get_flag("plain")) {
+        (Some(path), plain) => Some((Some(path), plain)),
+        (None, false) => Some((None, false)),
+        (None, true) => None,
+    }
+}
+
+// A replay that is told as JSON, with all of each step, and has no page.
 fn json_request<'a>(values: &ArgMatches<'a>) -> Option<Request<'a>>
     requires { HasFlag (codes "json") (rows_of (found_of values.now)) true }
     ensures { IfSome result (AsksBy (codes "replay") (rows_of (found_of values.now))) }
 {
     let writes = values.get_flag("writes");
     let steps = values.get_flag("steps");
-    match (writes, steps, values.get_str("picture")) {
-        (false, false, None) => Some(Request::ReplayJson {
+    let plain = values.get_flag("plain");
+    match (writes, steps, plain, values.get_str("picture")) {
+        (false, false, false, None) => Some(Request::ReplayJson {
             image: values.get_str("IMAGE")?,
             script: values.get_str("SCRIPT")?,
             schedule: values.get_str("SCHEDULE")?,
