@@ -1,11 +1,10 @@
 -- Directories and files that are put below a directory.
-use Rattle.std.proofs.Common.{◌≡◌, ◌∙◌, ◌≢◌, ◌⊎◌, ℕ, ◌+◌, ◌<◌, true, List, [], ◌∷◌, ◌++◌, length, slice_index_or, take, drop, Option, Ok, ⊎_elim, refl, sym, ap, subst, inl, inr}
+use Rattle.std.proofs.Common.{◌≡◌, ◌∙◌, ℕ, ◌+◌, ◌<◌, List, [], ◌∷◌, ◌++◌, length, slice_index_or, take, drop, ⊎_elim, refl, sym, ap, subst, inl, inr}
 use Rattle.std.proofs.lemmas.List.{append_assoc, drop_more, take_more, take-append-drop}
 use Rattle.blocks.specs.declared.disk.Disk.{Ghosts}
 use Rattle.calls.specs.Calls.{image_on}
 use Rattle.calls.specs.Stepping.{Plain}
 use Rattle.calls.specs.Stopped.{StaysOver}
-use Rattle.directories.specs.Trees.{IsDirectory}
 use Rattle.model.specs.Files.{Files, files_of}
 use Rattle.model.specs.declared.types.image.Form.{Form}
 use Rattle.names.specs.Inside.{form_seen}

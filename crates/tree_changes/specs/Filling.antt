@@ -1,5 +1,5 @@
 -- Directories and files that are put below a directory.
-use Rattle.std.specs.Prelude.{◌≡◌, ◌⊎◌, ℕ, Bool, false, List, [], ◌∷◌, ◌++◌, Option, None}
+use Rattle.std.specs.Prelude.{◌≡◌, ◌⊎◌, ℕ, false, List, [], ◌∷◌, ◌++◌, Option, None}
 use Rattle.blocks.specs.declared.disk.Disk.{Ghosts}
 use Rattle.calls.specs.Calls.{image_on}
 use Rattle.calls.specs.Stepping.{Plain}

@@ -1,5 +1,5 @@
 // Directories and files, put below a directory one after the other.
-ghost use Rattle.std.specs.Prelude.{◌≡◌, ◌<◌, IfErr, IfOk, OnOk};
+ghost use Rattle.std.specs.Prelude.{◌<◌, IfErr, OnOk};
 ghost use Rattle.calls.specs.Calls.{image_on};
 ghost use Rattle.calls.specs.Stopped.{StaysOver};
 ghost use Rattle.directories.specs.Paths.{names_of};
@@ -29,7 +29,7 @@ use crate::making::{directory_found, is_absent};
 use crate::over_tree::TreeChange;
 use crate::puts::put_whole;
 use blocks::Disk;
-use names::{Found, Tree, TreeFault};
+use names::{Tree, TreeFault};
 use std::alloc::Global;
 
 /// What is put under a path.
