@@ -104,7 +104,10 @@ impl<'a, R: Files + AllocGlobal, H: Holder<R::File> + Drop> Command<R> for Mkfs<
             files: files.as_slice(),
         };
         match make_in_place(rt, image, &filled, making.sync, &mut holder) {
-            Ok(fields) => print_numbers(out, &fields).map_err(|_| MkfsRefusal::Output),
+            Ok(fields) => match print_numbers(out, &fields) {
+                Ok(()) => Ok(()),
+                Err(_unwritten) => Err(MkfsRefusal::Output),
+            },
             Err(refusal) => Err(MkfsRefusal::Of(refusal)),
         }
     }
