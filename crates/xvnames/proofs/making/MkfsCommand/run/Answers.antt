@@ -6,11 +6,11 @@ use Rattle.xvnames.proofs.making.MkfsCommand.run.Goals as goal
 
 pub returns-in-Ok-make_in_place-clause-refused : goal.returns-in-Ok-make_in_place-clause-refused
 returns-in-Ok-make_in_place-clause-refused g c = (
-    both_of (is_inode_count c.args.self.making.ninodes) (is_size c.args.self.making.size c.args.self.making.ninodes) (c.in_default.ensures.ok.0 refl),
-    record {
-      named = files_named c.as_slice.result.now;
-      names = subst (λ files. AreNamed (map (λ file. file.now) c.args.self.files.now) (files_named files)) (sym c.as_slice.ensures.value) c.in-Ok.ensures;
-      fields = c.in-Ok-make_in_place.fields;
-      makes = c.in-Ok-make_in_place.ensures.made;
-    },
-  )
+  both_of (is_inode_count c.args.self.making.ninodes) (is_size c.args.self.making.size c.args.self.making.ninodes) (c.in_default.ensures.ok.0 refl),
+  record {
+    named = files_named c.as_slice.result.now;
+    names = subst (λ files. AreNamed (map (λ file. file.now) c.args.self.files.now) (files_named files)) (sym c.as_slice.ensures.value) c.in-Ok.ensures;
+    fields = c.in-Ok-make_in_place.fields;
+    makes = c.in-Ok-make_in_place.ensures.made;
+  },
+)
