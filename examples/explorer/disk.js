@@ -309,8 +309,8 @@ class Run {
         for (let kept = least; kept <= most; kept++) {
             if (this.after[kept] === text) return { image, after, kept };
         }
-        const groups = least === most ? `${least}` : `${least} to ${most}`;
-        return { image, after, wrong: `recovered, the files are not those after ${groups} groups` };
+        const groups = least === most ? `${least} group${least === 1 ? "" : "s"}` : `${least} to ${most} groups`;
+        return { image, after, wrong: `recovered, the files are not those after ${groups}` };
     }
 
     // The first choice of lost writes that a stop there doesn't survive, if there is one, and how many were tried.
@@ -400,7 +400,8 @@ function toldFile({ number, kind, bytes }, { length }) {
     return [number, kind, bytes.length, hex].slice(0, length);
 }
 
-// At how many stops the recovery here has other files than the program's, in its own order.
+// At how many stops the recovery here has other files than the program's, in its own order, or the image isn't sound by
+// the check here, as each is by the program's.
 function differingStops(told) {
     const own = new Run(told);
     const all = own.plan.filter((made) => made !== null);
@@ -411,7 +412,8 @@ function differingStops(told) {
         const { committed, files } = toldBehind(told, count);
         const found = after === null ? [] : own.filesIn(after).map((file) => toldFile(file, files[0] || []));
         const groups = written.filter((made) => made.write.part === "header").length;
-        if (JSON.stringify(found) !== JSON.stringify(files) || (committed !== undefined && groups !== committed)) differing++;
+        const isSound = after !== null && own.faultIn(after) === "";
+        if (!isSound || JSON.stringify(found) !== JSON.stringify(files) || (committed !== undefined && groups !== committed)) differing++;
     }
     return differing;
 }

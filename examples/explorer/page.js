@@ -10,9 +10,9 @@ const steps = run.told.steps;
 const processes = steps.reduce((most, step) => Math.max(most, step.process + 1), 1);
 
 const ORDER_WORDS = {
-    log: "log, header, homes, clear: as xvfs does it",
-    homes: "homes before the header",
-    header: "header before the log blocks",
+    log: "as xvfs: log, header, homes, clear",
+    homes: "homes before header",
+    header: "header before log",
     none: "no log: homes at once",
 };
 const HOLDING_WORDS = {
@@ -29,7 +29,9 @@ let holding = HOLDING_WORDS[asked.get("disk")] ? asked.get("disk") : "no";
 let at = asked.has("step") ? Number(asked.get("step")) - 1 : 0;
 let lost = new Set();
 let survey = [];
+// How wide a step and a letter m are drawn.
 let width = 0;
+let em = 0;
 
 const element = (id) => document.getElementById(id);
 const escaped = (text) => String(text).replace(/[&<>"]/g, (sign) => ({ "&": "&amp;", "<": "&lt;", ">": "&gt;", '"': "&quot;" })[sign]);
@@ -67,56 +69,65 @@ function wordOf(step) {
 function drawStep(step, lane) {
     const kind = kindOf(step);
     const left = step * width;
-    const top = 10 + steps[step].process * lane;
+    const top = 0.7 * em + steps[step].process * lane;
     const isLine = kind === "waits" || kind === "nothing";
     const fill = isLine ? "none" : `var(--${kind})`;
-    const light = /header|home/.test(kind) ? " light" : "";
-    let drawn = `<rect x="${left + 0.5}" y="${top}" width="${Math.max(width - 1, 1)}" height="${lane - 9}" fill="${fill}"`
-        + ` stroke="var(--quiet)" stroke-width="${width > 6 ? 0.6 : 0}"${isLine ? ' stroke-dasharray="3 2"' : ""}>`
+    const light = /header|home/.test(kind) ? " light" : /log|clear/.test(kind) ? " dark" : "";
+    let drawn = `<rect x="${left + 0.5}" y="${top}" width="${Math.max(width - 1, 1)}" height="${lane - 0.6 * em}" fill="${fill}"`
+        + ` stroke="var(--quiet)" stroke-width="${width > 6 || (isLine && width > 2) ? 0.6 : 0}"${isLine ? ' stroke-dasharray="3 2"' : ""}>`
         + `<title>step ${step + 1}, process ${steps[step].process}: ${escaped(wordOf(step))}</title></rect>`;
-    const text = width > 34 ? escaped(wordOf(step)) : width > 14 ? PART_LETTERS[kind] : "";
-    if (text) drawn += `<text class="middle${light}" x="${left + width / 2}" y="${top + 12}">${text}</text>`;
+    const text = width > 3 * em ? escaped(wordOf(step)) : width > em ? PART_LETTERS[kind] : "";
+    if (text) drawn += `<text class="middle${light}" x="${left + width / 2}" y="${top + 0.92 * em}">${text}</text>`;
     return drawn;
 }
 
-// One stretch of the band: the stops that come to the same.
+// One stretch of the band: the stops that come to the same. A broken one is dark, so that who sees no red sees it, too,
+// and is never too narrow to be seen.
 function drawStretch(from, to, top) {
     const { wrong, kept } = survey[from];
     const left = from * width;
     const wide = (to - from) * width;
     const groups = counted(kept, "group");
-    const said = wide > 190 ? `✓ a stop here keeps ${groups}` : wide > 90 ? `✓ keeps ${kept}` : wide > 30 ? `✓ ${kept}` : wide > 12 ? "✓" : "";
-    const text = wrong ? (wide > 60 ? "✗ broken" : wide > 10 ? "✗" : "") : said;
-    return `<rect x="${left}" y="${top}" width="${wide}" height="20" fill="var(--${wrong ? "bad" : "good"}-back)"`
-        + ` stroke="var(--${wrong ? "bad" : "good"})"/><text class="middle" x="${left + wide / 2}" y="${top + 14}">${text}</text>`;
+    const said = wide > 13 * em ? `✓ a stop here keeps ${groups}` : wide > 6 * em ? `✓ keeps ${kept}` : wide > 3 * em ? `✓ ${kept}` : wide > em ? "✓" : "";
+    const text = wrong ? (wide > 5 * em ? "✗ broken" : wide > em ? "✗" : "") : said;
+    return `<rect x="${left}" y="${top}" width="${wrong ? Math.max(wide, 2) : wide}" height="${1.5 * em}"`
+        + ` fill="var(--${wrong ? "bad" : "good-back"})" stroke="var(--${wrong ? "bad" : "good"})" stroke-width="${wide > 4 ? 1 : 0}"/>`
+        + `<text class="middle${wrong ? " broken" : ""}" x="${left + wide / 2}" y="${top + 1.05 * em}">${text}</text>`;
 }
 
 function drawBand(top) {
-    let drawn = "";
+    let sound = "";
+    let broken = "";
     let from = 0;
     for (let step = 1; step <= survey.length; step++) {
         const here = survey[step];
         if (here && !here.wrong === !survey[from].wrong && here.kept === survey[from].kept) continue;
-        drawn += drawStretch(from, step, top);
+        if (survey[from].wrong) broken += drawStretch(from, step, top);
+        else sound += drawStretch(from, step, top);
         from = step;
     }
-    return drawn;
+    return sound + broken;
 }
 
 function draw() {
-    const lane = 26;
-    const room = Math.max(document.body.clientWidth - 104, 240);
-    width = Math.max(room / steps.length, steps.length > 400 ? 1.5 : steps.length > 60 ? 8 : 22);
-    const band = 14 + processes * lane;
+    em = parseFloat(getComputedStyle(document.body).fontSize);
+    const lane = 1.8 * em;
+    const names = 5.2 * em;
+    // All steps are seen at once; few on a narrow screen are moved along.
+    width = Math.max((element("steps").clientWidth - names) / steps.length, steps.length > 42 ? 0 : 1.5 * em);
+    const band = 0.9 * em + processes * lane;
     const wide = width * steps.length;
-    let drawn = `<svg width="${wide + 64}" height="${band + 44}" role="img" aria-label="${counted(steps.length, "step")}, from`
+    let drawn = `<svg width="${wide + names}" height="${band + 3.1 * em}" role="img" aria-label="${counted(steps.length, "step")}, from`
         + ` left to right, a lane a process; below, what recovery makes of a stop behind each step">`;
     for (let process = 0; process < processes; process++) {
-        drawn += `<text x="${wide + 4}" y="${22 + process * lane}">process ${process}</text>`;
+        drawn += `<text x="${wide + 0.3 * em}" y="${1.6 * em + process * lane}">process ${process}</text>`;
     }
-    for (let step = 0; step < steps.length; step++) drawn += drawStep(step, lane);
-    drawn += drawBand(band) + `<path id="line" d="M0 0V${band + 24}" stroke="var(--text)" stroke-width="2.5"/>`
-        + `<text id="line-text" class="middle" y="${band + 38}"></text></svg>`;
+    // The writes over the others, so that they are seen where a step is narrow.
+    for (const isWrite of [false, true]) {
+        for (let step = 0; step < steps.length; step++) if (isWrite === (run.plan[step] !== null)) drawn += drawStep(step, lane);
+    }
+    drawn += drawBand(band) + `<path id="line" d="M0 0V${band + 1.8 * em}" stroke="var(--text)" stroke-width="2.5"/>`
+        + `<text id="line-text" class="middle" y="${band + 2.7 * em}"></text></svg>`;
     element("steps").innerHTML = drawn;
     element("steps").firstChild.onclick = (event) => {
         const left = event.currentTarget.getBoundingClientRect().left;
@@ -129,7 +140,7 @@ function showLine() {
     const line = element("line");
     line.setAttribute("d", line.getAttribute("d").replace(/^M[\d.]+/, "M" + left));
     const text = element("line-text");
-    text.setAttribute("x", Math.min(Math.max(left, 40), width * steps.length - 40));
+    text.setAttribute("x", Math.min(Math.max(left, 3 * em), width * steps.length - 3 * em));
     text.textContent = at < 0 ? "stop at once" : "stop here";
     const drawn = element("steps");
     if (width * steps.length > drawn.clientWidth) drawn.scrollLeft = left - drawn.clientWidth / 2;
@@ -273,12 +284,12 @@ function showRecovered({ wrong, kept, after }) {
         + `<td>${bytes.length}</td><td class="bytes">${escaped(printable(bytes.slice(0, 18)))}${bytes.length > 18 ? "…" : ""}</td></tr>`);
     const table = listed.length ? `<table><tr><th>file</th><th>type</th><th>bytes</th><th>content</th></tr>${listed.join("")}</table>` : "<p>No file.</p>";
     const next = operations.findIndex(({ answer }) => !answer || answer.step > at);
-    const first = Math.max(0, Math.min((next < 0 ? operations.length : next) - 6, operations.length - 10));
-    const rows = operations.slice(first, first + 10).map(({ line, process, answer }) => {
+    const first = Math.max(0, Math.min((next < 0 ? operations.length : next) - 4, operations.length - 7));
+    const rows = operations.slice(first, first + 7).map(({ line, process, answer }) => {
         const group = answer ? answer.group : 0;
         const state = wrong ? "?" : group && group <= kept ? '<span class="good">✓ kept</span>' : group ? '<span class="quiet">lost</span>' : "";
         const told = !answer ? "" : answer.step <= at ? "yes" : '<span class="quiet">not yet</span>';
-        return `<tr><td>${state}</td><td>${process}</td><td>${escaped(operationWords(line))}</td><td>${group || ""}</td><td>${told}</td></tr>`;
+        return `<tr><td>${state}</td><td>${process}</td><td class="${operations.length > 6 ? "long" : "words"}">${escaped(operationWords(line))}</td><td>${group || ""}</td><td>${told}</td></tr>`;
     });
     element("recovered").innerHTML = verdict + table
         + `<table><tr><th></th><th>process</th><th>operation</th><th>group</th><th>answered</th></tr>${rows.join("")}</table>`;
@@ -470,8 +481,8 @@ function onKey(event) {
 function footWords(differing) {
     const stops = run.writes.length + 1;
     if (differing) return `The page's recovery differs from the program's at ${counted(differing, "stop")} of ${stops}!`;
-    if (run.told.version) return `At all ${stops} stops the page's recovery gives the files that xvfs recover, ls and cat tell.`;
-    return `At all ${stops} stops the page's recovery gives the files, by number, type and length, that the program's gives.`;
+    const files = run.told.version ? "that xvfs recover, ls and cat tell" : "by number, type and length, that the program's recovery gives";
+    return `At all ${stops} stops the recovered image is sound by the page's own check, too, with the files${run.told.version ? "" : ","} ${files}.`;
 }
 
 addRuns();

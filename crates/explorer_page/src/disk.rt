@@ -1,7 +1,7 @@
 // The page behind them, with the disk of a run, as tools/explorer-page/run makes it of examples/explorer.
 ghost use Rattle.std.specs.Prelude.{OnOk};
 ghost use Rattle.std.specs.Io.KnownBytes.{Appends};
-ghost use Rattle.explorer_page.specs.Texts.{disk_1, disk_2, disk_3, disk_4, disk_5, disk_text};
+ghost use Rattle.explorer_page.specs.Texts.{disk_1, disk_2, disk_3, disk_4, disk_5, disk_6, disk_text};
 
 use crate::lines::print_lines;
 use messages::Unwritten;
@@ -273,8 +273,8 @@ pub const DISK_4: &[&str] = &[
     "for (let kept = least; kept <= most; kept++) {",
     "if (this.after[kept] === text) return { image, after, kept };",
     "}",
-    "const groups = least === most ? `${least}` : `${least} to ${most}`;",
-    "return { image, after, wrong: `recovered, the files are not those after ${groups} groups` };",
+    "const groups = least === most ? `${least} group${least === 1 ? \"\" : \"s\"}` : `${least} to ${most} groups`;",
+    "return { image, after, wrong: `recovered, the files are not those after ${groups}` };",
     "}",
     "worst(written) {",
     "const held = this.heldAmong(written);",
@@ -311,11 +311,11 @@ pub const DISK_4: &[&str] = &[
     "}",
     "function turnOf(turn, from, to) {",
     "const more = turn.event === \"answered\" ? `${turn.operation} ${turn.group} ${turn.reply}` : \"\";",
-    "return { process: turn.process, came: turn.event === \"answered\" ? \"answered\" : turn.came, more, from, to };",
-    "}",
 ];
 
 pub const DISK_5: &[&str] = &[
+    "return { process: turn.process, came: turn.event === \"answered\" ? \"answered\" : turn.came, more, from, to };",
+    "}",
     "function lineOf({ process, operation, inode, type, offset, count, to, bytes }) {",
     "const words = { create: [type], write: [inode, offset, bytes || \"-\"], read: [inode, offset, count], links: [inode, to], resize: [inode, to] };",
     "return [process, operation, ...(words[operation] || [inode])].join(\" \");",
@@ -356,10 +356,14 @@ pub const DISK_5: &[&str] = &[
     "const { committed, files } = toldBehind(told, count);",
     "const found = after === null ? [] : own.filesIn(after).map((file) => toldFile(file, files[0] || []));",
     "const groups = written.filter((made) => made.write.part === \"header\").length;",
-    "if (JSON.stringify(found) !== JSON.stringify(files) || (committed !== undefined && groups !== committed)) differing++;",
+    "const isSound = after !== null && own.faultIn(after) === \"\";",
+    "if (!isSound || JSON.stringify(found) !== JSON.stringify(files) || (committed !== undefined && groups !== committed)) differing++;",
     "}",
     "return differing;",
     "}",
+];
+
+pub const DISK_6: &[&str] = &[
     "if (typeof module !== \"undefined\") module.exports = { Run, ORDERS, toldBy, differingStops, BLOCK, LOG, INODES, number16, number32 };",
     "</script>",
     "<script>",
@@ -400,6 +404,13 @@ fn print_disk_5<O: Write>(out: &mut O) -> Result<(), Unwritten>
     print_lines(out, DISK_5)
 }
 
+#[tactic(auto, unfolding(crate::specs::Texts::disk_6))]
+fn print_disk_6<O: Write>(out: &mut O) -> Result<(), Unwritten>
+    ensures ok { OnOk result (Appends (O.contents out.old) (O.contents out.new) disk_6) }
+{
+    print_lines(out, DISK_6)
+}
+
 #[tactic(auto, unfolding(crate::specs::Texts::disk_text))]
 pub fn print_disk<O: Write>(out: &mut O) -> Result<(), Unwritten>
     ensures ok { OnOk result (Appends (O.contents out.old) (O.contents out.new) disk_text) }
@@ -408,5 +419,6 @@ pub fn print_disk<O: Write>(out: &mut O) -> Result<(), Unwritten>
     print_disk_2(out)?;
     print_disk_3(out)?;
     print_disk_4(out)?;
-    print_disk_5(out)
+    print_disk_5(out)?;
+    print_disk_6(out)
 }

@@ -8,9 +8,12 @@ use messages::Unwritten;
 use std::io::Write;
 
 pub const ENDING_1: &[&str] = &[
+    "const first = Math.max(0, Math.min((next < 0 ? operations.length : next) - 4, operations.length - 7));",
+    "const rows = operations.slice(first, first + 7).map(({ line, process, answer }) => {",
+    "const group = answer ? answer.group : 0;",
     "const state = wrong ? \"?\" : group && group <= kept ? '<span class=\"good\">\\u2713 kept</span>' : group ? '<span class=\"quiet\">lost</span>' : \"\";",
     "const told = !answer ? \"\" : answer.step <= at ? \"yes\" : '<span class=\"quiet\">not yet</span>';",
-    "return `<tr><td>${state}</td><td>${process}</td><td>${escaped(operationWords(line))}</td><td>${group || \"\"}</td><td>${told}</td></tr>`;",
+    "return `<tr><td>${state}</td><td>${process}</td><td class=\"${operations.length > 6 ? \"long\" : \"words\"}\">${escaped(operationWords(line))}</td><td>${group || \"\"}</td><td>${told}</td></tr>`;",
     "});",
     "element(\"recovered\").innerHTML = verdict + table",
     "+ `<table><tr><th></th><th>process</th><th>operation</th><th>group</th><th>answered</th></tr>${rows.join(\"\")}</table>`;",
@@ -51,15 +54,15 @@ pub const ENDING_1: &[&str] = &[
     "function changedRows(old, now) {",
     "const rows = [];",
     "for (let row = 0; row < BLOCK && rows.length < 6; row += 16) {",
+];
+
+pub const ENDING_2: &[&str] = &[
     "const bytes = Array.from(now.subarray(row, row + 16));",
     "if (!bytes.some((byte, place) => byte !== old[row + place])) continue;",
     "const hex = bytes.map((byte, place) => {",
     "const text = byte.toString(16).padStart(2, \"0\");",
     "return byte === old[row + place] ? text : `<u>${text}</u>`;",
     "});",
-];
-
-pub const ENDING_2: &[&str] = &[
     "rows.push(`${row.toString(16).padStart(3, \"0\")}  ${hex.join(\" \")}  ${escaped(printable(bytes))}\\n`);",
     "}",
     "return rows.join(\"\") || \"no byte differs from what was there\\n\";",
@@ -119,6 +122,9 @@ pub const ENDING_2: &[&str] = &[
     "function addChoices(box, words, now, choose) {",
     "for (const [key, text] of Object.entries(words)) {",
     "const label = document.createElement(\"label\");",
+];
+
+pub const ENDING_3: &[&str] = &[
     "label.innerHTML = `<input type=\"radio\" name=\"${box}\" value=\"${key}\"${now === key ? \" checked\" : \"\"}> ${escaped(text)}`;",
     "label.firstChild.onchange = () => {",
     "choose(key);",
@@ -130,9 +136,6 @@ pub const ENDING_2: &[&str] = &[
     "}",
     "function addQuestion(asking) {",
     "const details = document.createElement(\"details\");",
-];
-
-pub const ENDING_3: &[&str] = &[
     "details.innerHTML = `<summary>${escaped(asking.question)}</summary><p class=\"quiet\">${escaped(asking.answer)} <button>show</button></p>`;",
     "details.querySelector(\"button\").onclick = () => {",
     "order = asking.order || \"log\";",
@@ -186,17 +189,17 @@ pub const ENDING_3: &[&str] = &[
     "function footWords(differing) {",
     "const stops = run.writes.length + 1;",
     "if (differing) return `The page's recovery differs from the program's at ${counted(differing, \"stop\")} of ${stops}!`;",
-    "if (run.told.version) return `At all ${stops} stops the page's recovery gives the files that xvfs recover, ls and cat tell.`;",
-    "return `At all ${stops} stops the page's recovery gives the files, by number, type and length, that the program's gives.`;",
+    "const files = run.told.version ? \"that xvfs recover, ls and cat tell\" : \"by number, type and length, that the program's recovery gives\";",
+    "return `At all ${stops} stops the recovered image is sound by the page's own check, too, with the files${run.told.version ? \"\" : \",\"} ${files}.`;",
     "}",
     "addRuns();",
+];
+
+pub const ENDING_4: &[&str] = &[
     "addChoices(\"orders\", ORDER_WORDS, order, (key) => (order = key));",
     "addChoices(\"holdings\", HOLDING_WORDS, holding, (key) => (holding = key));",
     "(run.told.questions || []).forEach(addQuestion);",
     "element(\"title\").textContent = run.told.title;",
-];
-
-pub const ENDING_4: &[&str] = &[
     "element(\"about\").textContent = `${counted(run.writes.length, \"write\")}, ${counted(steps.length, \"step\")}, ${run.size} blocks. Move the line: \\u2190 \\u2192 a step, Page Up, Page Down a write.`;",
     "element(\"at\").max = steps.length;",
     "element(\"at\").oninput = () => go(Number(element(\"at\").value) - 1);",
