@@ -1,7 +1,6 @@
 """Makes one page that walks through runs, stop by stop, from what the program prints and writes.
 
-    make.py XVFS PAGE            the page of the runs in runs.py
-    make.py XVFS --data          their data alone, for check.js
+    make.py XVFS PAGE DATA.json     the page of the runs in runs.py, and their data alone
 
 The image at the opening is that of mkfs; the bytes of write N are those of its block after `replay --stop N+1`.
 Each stop is recovered by the program, too, and what its `ls` and `cat` tell stands in the page, which compares it with
@@ -152,13 +151,11 @@ def page_of(told):
 
 
 def main():
-    path, out = os.path.realpath(sys.argv[1]), sys.argv[2]
+    path, page, data = os.path.realpath(sys.argv[1]), *sys.argv[2:]
     told = [data_of(path, run) for run in RUNS]
-    if out == "--data":
-        json.dump(told, sys.stdout)
-        return
-    with open(out, "w", encoding="utf-8") as file:
-        file.write(page_of(told))
+    for out, text in ((page, page_of(told)), (data, json.dumps(told))):
+        with open(out, "w", encoding="utf-8") as file:
+            file.write(text)
 
 
 if __name__ == "__main__":
