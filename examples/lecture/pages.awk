@@ -1,7 +1,9 @@
 # Writes the pages of the lecture: the text of the file output as HTML, a page for each heading of the first
 # rank. A page needs no script, and asks for nothing but the pictures beside it.
 #
-#     awk -v folder=FOLDER -v version="xvfs 0.2.0" -f pages.awk TEXT
+#     awk -v folder=FOLDER -v version="xvfs 0.2.0" [-v explorer=yes] -f pages.awk TEXT TEXT
+#
+# With explorer they name explorer.html, too.
 
 function escaped(text) {
     gsub(/&/, "\\&amp;", text)
@@ -55,7 +57,7 @@ function end_lines() {
 function end_block() {
     end_lines()
     end_table()
-    if (picture != "") out("<p class=\"picture\"><a href=\"" picture "\">This run as a picture</a></p>")
+    if (picture != "") out("<p class=\"picture\"><a href=\"" picture "\">Walk through this run, and break it</a></p>")
     picture = ""
     if (paragraph != "") out("<p>" inline(paragraph) "</p>")
     paragraph = ""
@@ -106,6 +108,7 @@ function begin_page(title,    name, other) {
     for (other = 1; other <= (name == "exercises" ? 2 : 3); other++)
         out("<li><a href=\"" files[other] ".html\"" (files[other] == name ? " aria-current=\"page\"" : "") ">" \
             labels[other] "</a></li>")
+    if (explorer != "") out("<li><a href=\"explorer.html\">Explorer</a></li>")
     out("</ul></nav>")
     out("<h1>" inline(title) "</h1>")
     out("</header>")
