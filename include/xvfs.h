@@ -1,5 +1,5 @@
 /*
- * xvfs.h: the lower storey of the xv6 file system, over an image in memory.
+ * xvfs.h: the lower layers of the xv6 file system, over an image in memory.
  *
  * The library does no input and no output. A session holds a copy of an image, and each step of a
  * process tells the host the one block that it wrote, if it wrote one, or that it synced. The host
