@@ -11,7 +11,7 @@ h1 { font-size: 1.5rem; } h2 { font-size: 1.2rem; margin-top: 2.5rem; }
 pre { background: var(--soft); padding: .6rem .8rem; overflow-x: auto; font: 14px/1.45 ui-monospace, monospace; }
 details { border-left: 2px solid var(--line); margin: .4rem 0; padding-left: .8rem; }
 summary { cursor: pointer; } summary code { font-weight: 600; }
-.where, .by { color: #888; font-size: .85rem; } .about { margin: .3rem 0; }
+.where, .by { color: color-mix(in srgb, CanvasText 70%, Canvas); font-size: .85rem; } .about { margin: .3rem 0; }
 :target > summary { background: #fd06; }
 '''
 SCRIPT = '''
