@@ -195,7 +195,10 @@ def main():
     program, xvfs, data, page, *others = words[:pictures]
     with open(data, encoding="utf-8") as file:
         runs = json.load(file)
-    looker = Looker(program, xvfs)
+    try:
+        looker = Looker(program, xvfs)
+    except Refused as refused:
+        sys.exit("explorer: %s" % refused)
     try:
         hold_all(looker, page, others, runs)
         if words[pictures:]:

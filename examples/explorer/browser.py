@@ -5,9 +5,11 @@ Needs nothing but Chromium and Python.
 import base64
 import json
 import os
+import select
 import subprocess
 import tempfile
 
+PATIENCE = 300
 KEYS = {"ArrowLeft": 37, "ArrowRight": 39, "PageUp": 33, "PageDown": 34, "Home": 36, "End": 35, "Tab": 9, " ": 32}
 
 
@@ -28,6 +30,13 @@ class Browser:
         os.close(wanted)
         os.close(told)
         self.said, self.count, self.events, self.session = b"", 0, [], None
+        try:
+            self.begin()
+        except (Refused, BrokenPipeError):
+            self.end()
+            raise Refused("%s doesn't start" % program) from None
+
+    def begin(self):
         target = self.ask("Target.createTarget", url="about:blank")["targetId"]
         self.session = self.ask("Target.attachToTarget", targetId=target, flatten=True)["sessionId"]
         for domain in ("Page", "Runtime", "Network", "Log"):
@@ -46,6 +55,8 @@ class Browser:
     def message(self):
         """The next message of the browser."""
         while b"\0" not in self.said:
+            if not select.select([self.answers], [], [], PATIENCE)[0]:
+                raise Refused("the browser has said nothing for %d seconds" % PATIENCE)
             part = os.read(self.answers, 1 << 16)
             if not part:
                 raise Refused("the browser has ended")
