@@ -1,15 +1,16 @@
 """Opens the page in a browser without a window: each run, the questions' places, and what stands there.
 
-    browse.py BROWSER PAGE [PAGE..]
+    browse.py BROWSER PAGE FAILED [PAGE..]
 
-The further pages are the program's, each of one run: no stop may differ from the program in them.
+The further pages are the program's, each of one run: no stop may differ from the program in them. In the one of FAILED
+a stop is told to have failed: its band is red there, and the page's own recovery differs.
 """
 import re
 import subprocess
 import sys
 import tempfile
 
-BROWSER, PAGE, *OTHERS = sys.argv[1:]
+BROWSER, PAGE, FAILED, *OTHERS = sys.argv[1:]
 # Where the page is opened: the run, the order, the disk and the step; what has to stand there, and whether it is bad.
 PLACES = [
     ("run=0&step=1", "✓ sound"),
@@ -41,6 +42,11 @@ def main():
         if text not in shown or not differing or differing[1] != "0":
             bad += 1
             print("explorer: at %s the browser doesn't show %s" % (place, text))
+    page = opened(FAILED, "step=6")
+    failed = ('data-differing="1"', "✗", "a stop before write 3: stopped before write 3: file 1 differs", "a stop before write 4: not tried")
+    if not all(text in page for text in failed):
+        bad += 1
+        print("explorer: the browser doesn't show a stop that failed")
     for path in OTHERS:
         found = re.search(r'<body[^>]* data-differing="(\d+)"', opened(path, "step=9"))
         if not found or found[1] != "0":

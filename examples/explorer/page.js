@@ -25,11 +25,16 @@ const PART_LETTERS = { log: "L", header: "H", home: "h", clear: "c" };
 const KINDS = ["free", "directory", "file", "device"];
 
 let order = ORDER_WORDS[asked.get("order")] ? asked.get("order") : "log";
-let holding = HOLDING_WORDS[asked.get("disk")] ? asked.get("disk") : "no";
+const ownHolding = run.told.holds ? "synced" : "no";
+let holding = HOLDING_WORDS[asked.get("disk")] ? asked.get("disk") : ownHolding;
 let at = asked.has("step") ? Number(asked.get("step")) - 1 : 0;
 let lost = new Set();
 let survey = [];
 let width = 0;
+
+// The stops that the program tried, and where it stops the run behind each step.
+const tried = new Map((run.told.tried || []).map((stop) => [stop.name, stop]));
+const names = run.stopNames();
 
 const element = (id) => document.getElementById(id);
 const escaped = (text) => String(text).replace(/[&<>"]/g, (sign) => ({ "&": "&amp;", "<": "&lt;", ">": "&gt;", '"': "&quot;" })[sign]);
@@ -79,24 +84,49 @@ function drawStep(step, lane) {
     return drawn;
 }
 
-// One stretch of the band: the stops that come to the same.
+// Whether the program tried the stops of the run as it is arranged now.
+const isTried = () => tried.size > 0 && order === "log" && holding === ownHolding;
+
+// What the program found at a stop behind a step, in words.
+function triedWords(step) {
+    const name = names[step + 1];
+    const stop = tried.get(name);
+    const where = name === "end" ? "the whole run" : name.startsWith("sync") ? `a stop at ${name}` : `a stop before ${name}`;
+    if (!stop) return `${where}: not tried`;
+    return stop.why ? `${where}: ${stop.why}` : `${where}: ${counted(stop.images, "image")} passed`;
+}
+
+// What a stop behind a step comes to: "good" or "bad", as the program found it where it tried it, else as the page does;
+// "quiet" where an earlier one ended its tries.
+function verdictOf(step) {
+    if (!isTried()) return survey[step].wrong ? "bad" : "good";
+    const stop = tried.get(names[step + 1]);
+    return !stop ? "quiet" : stop.why ? "bad" : "good";
+}
+
+// One stretch of the band: the stops that come to the same, or, where the program tried them, one of these.
 function drawStretch(from, to, top) {
-    const { wrong, kept } = survey[from];
+    const verdict = verdictOf(from);
     const left = from * width;
     const wide = (to - from) * width;
-    const groups = counted(kept, "group");
-    const said = wide > 190 ? `✓ a stop here keeps ${groups}` : wide > 90 ? `✓ keeps ${kept}` : wide > 30 ? `✓ ${kept}` : wide > 12 ? "✓" : "";
-    const text = wrong ? (wide > 60 ? "✗ broken" : wide > 10 ? "✗" : "") : said;
-    return `<rect x="${left}" y="${top}" width="${wide}" height="20" fill="var(--${wrong ? "bad" : "good"}-back)"`
-        + ` stroke="var(--${wrong ? "bad" : "good"})"/><text class="middle" x="${left + wide / 2}" y="${top + 14}">${text}</text>`;
+    const { kept } = survey[from];
+    const said = wide > 190 ? `✓ a stop here keeps ${counted(kept, "group")}` : wide > 90 ? `✓ keeps ${kept}` : wide > 30 ? `✓ ${kept}` : wide > 12 ? "✓" : "";
+    const text = { good: kept === undefined ? "✓" : said, bad: wide > 60 ? "✗ broken" : wide > 10 ? "✗" : "", quiet: wide > 10 ? "?" : "" }[verdict];
+    const title = isTried() ? `<title>${escaped(triedWords(from))}</title>` : "";
+    return `<g>${title}<rect x="${left}" y="${top}" width="${wide}" height="20" fill="var(--${verdict === "quiet" ? "meta" : verdict + "-back"})"`
+        + ` stroke="var(--${verdict})"/><text class="middle" x="${left + wide / 2}" y="${top + 14}">${text}</text></g>`;
+}
+
+function isAlike(one, other) {
+    if (isTried()) return names[one + 1] === names[other + 1];
+    return !survey[one].wrong === !survey[other].wrong && survey[one].kept === survey[other].kept;
 }
 
 function drawBand(top) {
     let drawn = "";
     let from = 0;
     for (let step = 1; step <= survey.length; step++) {
-        const here = survey[step];
-        if (here && !here.wrong === !survey[from].wrong && here.kept === survey[from].kept) continue;
+        if (step < survey.length && isAlike(from, step)) continue;
         drawn += drawStretch(from, step, top);
         from = step;
     }
@@ -106,7 +136,7 @@ function drawBand(top) {
 function draw() {
     const lane = 26;
     const room = Math.max(document.body.clientWidth - 104, 240);
-    width = Math.max(room / steps.length, steps.length > 400 ? 1.5 : steps.length > 60 ? 8 : 22);
+    width = Math.max(room / Math.max(steps.length, 1), steps.length > 400 ? 1.5 : steps.length > 60 ? 8 : 22);
     const band = 14 + processes * lane;
     const wide = width * steps.length;
     let drawn = `<svg width="${wide + 64}" height="${band + 44}" role="img" aria-label="${counted(steps.length, "step")}, from`
@@ -151,16 +181,16 @@ function sayStep(made) {
 }
 
 function showHeld(written) {
-    const held = run.heldAmong(written);
+    const held = run.heldAmong(written, at);
     for (const index of [...lost]) if (!held.some(({ write }) => write.index === index)) lost.delete(index);
     const box = element("held");
     box.innerHTML = "";
     if (!held.length) return;
     const chips = held.map(({ write }) => `<label class="chip"><input type="checkbox" value="${write.index}"`
         + `${lost.has(write.index) ? "" : " checked"}> ${write.part} → block ${write.block}</label>`);
-    const { wrong, tried } = survey[Math.max(at, 0)];
+    const { wrong, tried: choices } = survey[Math.max(at, 0)];
     box.innerHTML = `<b>May be lost</b> (untick those that didn't get through): ${chips.join("")} `
-        + (wrong ? '<button id="find">show a choice that breaks it</button>' : `<span class="good">✓ all ${tried} choices recover</span>`);
+        + (wrong ? '<button id="find">show a choice that breaks it</button>' : `<span class="good">✓ all ${choices} choices recover</span>`);
     for (const input of box.querySelectorAll("input")) {
         input.onchange = () => {
             if (input.checked) lost.delete(Number(input.value));
@@ -365,10 +395,11 @@ function show() {
     const made = at >= 0 ? run.plan[at] : null;
     const newer = newerBlocks(written);
     showHeld(written);
-    const found = run.judge(written, lost);
+    const found = run.judge(written, at, lost);
     element("at").value = at + 1;
     element("place").textContent = `step ${at + 1} of ${steps.length}, ${counted(written.length, "write")} made`;
     element("said").textContent = sayStep(made);
+    element("tried").textContent = isTried() ? `Tried by the program: ${triedWords(at)}.` : "";
     showLine();
     showMemory(newer);
     showBlocks(found.image, made, newer);
@@ -466,6 +497,14 @@ function onKey(event) {
     event.preventDefault();
 }
 
+// What the program found at its stops, and whether the page's own recovery finds the same.
+function triedFoot(differing) {
+    const images = run.told.tried.reduce((sum, stop) => sum + stop.images, 0);
+    const failed = run.told.tried.find((stop) => stop.why);
+    const found = `The program tried ${counted(run.told.tried.length, "stop")}: ${counted(images, "image")} passed${failed ? `, and then one didn't: ${failed.why}` : ""}.`;
+    return `${found} The page's own recovery ${differing ? `finds something else at ${differing} of them!` : "finds the same at each."}`;
+}
+
 // What the page says of its own recovery.
 function footWords(differing) {
     const stops = run.writes.length + 1;
@@ -478,7 +517,7 @@ addRuns();
 addChoices("orders", ORDER_WORDS, order, (key) => (order = key));
 addChoices("holdings", HOLDING_WORDS, holding, (key) => (holding = key));
 (run.told.questions || []).forEach(addQuestion);
-element("title").textContent = run.told.title;
+element("title").textContent = tried.size ? "A run at each of its stops" : run.told.title;
 element("about").textContent = `${counted(run.writes.length, "write")}, ${counted(steps.length, "step")}, ${run.size} blocks. Move the line: ← → a step, Page Up, Page Down a write.`;
 element("at").max = steps.length;
 element("at").oninput = () => go(Number(element("at").value) - 1);
@@ -492,5 +531,7 @@ addEventListener("resize", () => {
 });
 refresh();
 const differing = differingStops(run.told);
-element("foot").textContent = (run.told.version ? `${run.told.version}. Schedule: ${run.told.schedule}. ` : "") + footWords(differing);
-document.body.dataset.differing = differing;
+const differingFound = tried.size ? differingTried(run.told) : 0;
+element("foot").textContent = (run.told.version ? `${run.told.version}. Schedule: ${run.told.schedule}. ` : "")
+    + (tried.size ? `${triedFoot(differingFound)} ` : "") + footWords(differing);
+document.body.dataset.differing = differing + differingFound;

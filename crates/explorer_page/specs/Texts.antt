@@ -2,7 +2,7 @@
 use Rattle.std.specs.Prelude.{ℕ, List, ◌++◌, map}
 use Rattle.explorer_page.specs.Lines.{lines_text}
 use Rattle.explorer_page.specs.declared.opening.TheConstants.{OPENING_1, OPENING_2, OPENING_3}
-use Rattle.explorer_page.specs.declared.disk.TheConstants.{DISK_1, DISK_2, DISK_3, DISK_4, DISK_5}
+use Rattle.explorer_page.specs.declared.disk.TheConstants.{DISK_1, DISK_2, DISK_3, DISK_4, DISK_5, DISK_6}
 use Rattle.explorer_page.specs.declared.page.TheConstants.{PAGE_1, PAGE_2, PAGE_3, PAGE_4, PAGE_5}
 use Rattle.explorer_page.specs.declared.ending.TheConstants.{ENDING_1, ENDING_2, ENDING_3, ENDING_4}
 
@@ -33,8 +33,11 @@ disk_4 = lines_text (map (λ line. line.now) DISK_4.now)
 unfoldable pub disk_5 : List ℕ
 disk_5 = lines_text (map (λ line. line.now) DISK_5.now)
 
+unfoldable pub disk_6 : List ℕ
+disk_6 = lines_text (map (λ line. line.now) DISK_6.now)
+
 unfoldable pub disk_text : List ℕ
-disk_text = disk_1 ++ disk_2 ++ disk_3 ++ disk_4 ++ disk_5
+disk_text = disk_1 ++ disk_2 ++ disk_3 ++ disk_4 ++ disk_5 ++ disk_6
 
 unfoldable pub page_1 : List ℕ
 page_1 = lines_text (map (λ line. line.now) PAGE_1.now)

@@ -1,7 +1,7 @@
 // The page behind them, with the disk of a run, as tools/explorer-page/run makes it of examples/explorer.
 ghost use Rattle.std.specs.Prelude.{OnOk};
 ghost use Rattle.std.specs.Io.KnownBytes.{Appends};
-ghost use Rattle.explorer_page.specs.Texts.{disk_1, disk_2, disk_3, disk_4, disk_5, disk_text};
+ghost use Rattle.explorer_page.specs.Texts.{disk_1, disk_2, disk_3, disk_4, disk_5, disk_6, disk_text};
 
 use crate::lines::print_lines;
 use messages::Unwritten;
@@ -95,6 +95,7 @@ pub const DISK_1: &[&str] = &[
 pub const DISK_2: &[&str] = &[
     "arrange() {",
     "this.plan = this.told.steps.map(() => null);",
+    "this.synced = null;",
     "for (const commit of this.commits) {",
     "const ordered = ORDERS[this.order].flatMap((part) => commit[part]);",
     "commit.steps.forEach((step, place) => {",
@@ -105,9 +106,24 @@ pub const DISK_2: &[&str] = &[
     "writtenBy(step) {",
     "return this.plan.slice(0, step + 1).filter((made) => made !== null);",
     "}",
-    "heldAmong(written) {",
+    "syncedBy(step) {",
+    "if (!this.told.holds || this.order !== \"log\") return null;",
+    "if (!this.synced) {",
+    "let written = 0;",
+    "let synced = 0;",
+    "this.synced = this.plan.map((made, at) => {",
+    "if (made) written++;",
+    "if (this.told.steps[at].sync) synced = written;",
+    "return synced;",
+    "});",
+    "}",
+    "return this.synced[step] || 0;",
+    "}",
+    "heldAmong(written, step) {",
     "if (this.holding === \"no\") return [];",
     "if (this.holding === \"never\") return written.slice(-8);",
+    "const synced = this.syncedBy(step);",
+    "if (synced !== null) return written.slice(synced);",
     "const last = written[written.length - 1];",
     "if (!last) return [];",
     "let from = written.length;",
@@ -158,6 +174,9 @@ pub const DISK_2: &[&str] = &[
     "}",
     "return found;",
     "}",
+];
+
+pub const DISK_3: &[&str] = &[
     "isMarked(image, block) {",
     "return ((image[this.bitmap][block >> 3] >> (block % 8)) & 1) === 1;",
     "}",
@@ -169,9 +188,6 @@ pub const DISK_2: &[&str] = &[
     "}",
     "for (let block = 0; block < this.size; block++) {",
     "if (block < this.data || used.has(block)) {",
-];
-
-pub const DISK_3: &[&str] = &[
     "if (!this.isMarked(image, block)) return `UsedButFree ${block}`;",
     "} else if (this.isMarked(image, block)) {",
     "return `LostBlock ${block}`;",
@@ -237,6 +253,9 @@ pub const DISK_3: &[&str] = &[
     "const inode = this.inode(image, number);",
     "if (number16(inode, 0) === 0) continue;",
     "for (const { address, place } of this.addressesOf(image, inode)) {",
+];
+
+pub const DISK_4: &[&str] = &[
     "if (address >= this.data && address < this.size) owners.set(address, { number, isAddresses: place < 0 });",
     "}",
     "}",
@@ -250,17 +269,14 @@ pub const DISK_3: &[&str] = &[
     "written.push(made);",
     "if (made.write.part === \"header\") after.push(this.textOf(this.recovered(this.imageWith(written))));",
     "}",
-];
-
-pub const DISK_4: &[&str] = &[
     "return after;",
     "}",
     "isCommit({ write, commit }) {",
     "if (this.order !== \"none\") return write.part === \"header\";",
     "return write.part === \"home\" && write === commit.home[commit.home.length - 1];",
     "}",
-    "judge(written, lost) {",
-    "const held = new Set(this.heldAmong(written).map(({ write }) => write.index));",
+    "judge(written, step, lost) {",
+    "const held = new Set(this.heldAmong(written, step).map(({ write }) => write.index));",
     "const least = written.filter((made) => this.isCommit(made) && !held.has(made.write.index)).length;",
     "let most = written.filter((made) => this.isCommit(made)).length;",
     "if (this.order === \"none\" && written.length && !this.isCommit(written[written.length - 1])) most++;",
@@ -276,12 +292,14 @@ pub const DISK_4: &[&str] = &[
     "const groups = least === most ? `${least}` : `${least} to ${most}`;",
     "return { image, after, wrong: `recovered, the files are not those after ${groups} groups` };",
     "}",
-    "worst(written) {",
-    "const held = this.heldAmong(written);",
-    "const choices = 1 << held.length;",
+    "worst(written, step) {",
+    "const held = this.heldAmong(written, step);",
+    "const isEach = held.length <= (this.holding === \"never\" ? 8 : 6);",
+    "const choices = isEach ? 1 << held.length : held.length + 1;",
     "for (let choice = 0; choice < choices; choice++) {",
-    "const lost = new Set(held.filter((_, place) => (choice >> place) & 1).map(({ write }) => write.index));",
-    "const { wrong } = this.judge(written, lost);",
+    "const isLost = (_, place) => (isEach ? (choice >> place) & 1 : place >= choice);",
+    "const lost = new Set(held.filter(isLost).map(({ write }) => write.index));",
+    "const { wrong } = this.judge(written, step, lost);",
     "if (wrong) return { lost, wrong, tried: choice + 1 };",
     "}",
     "return { tried: choices };",
@@ -289,14 +307,27 @@ pub const DISK_4: &[&str] = &[
     "survey() {",
     "let written = [];",
     "let found = null;",
-    "return this.plan.map((made) => {",
-    "if (made) {",
-    "written = written.concat([made]);",
-    "found = null;",
-    "}",
-    "found = found || { ...this.worst(written), kept: this.judge(written).kept };",
+    "return this.plan.map((made, step) => {",
+    "if (made) written = written.concat([made]);",
+    "if (made || this.told.steps[step].sync) found = null;",
+    "found = found || { ...this.worst(written, step), kept: this.judge(written, step).kept };",
     "return found;",
     "});",
+    "}",
+    "stopNames() {",
+    "const names = [];",
+    "let next = \"end\";",
+    "let number = this.writes.length;",
+    "for (let step = this.told.steps.length - 1; step >= 0; step--) {",
+    "names[step + 1] = next;",
+];
+
+pub const DISK_5: &[&str] = &[
+    "if (this.plan[step]) next = `write ${number--}`;",
+    "else if (this.told.steps[step].sync) next = `sync ${this.told.steps[step].sync}`;",
+    "}",
+    "names[0] = next;",
+    "return names;",
     "}",
     "}",
     "function deedOf(step) {",
@@ -313,32 +344,37 @@ pub const DISK_4: &[&str] = &[
     "const more = turn.event === \"answered\" ? `${turn.operation} ${turn.group} ${turn.reply}` : \"\";",
     "return { process: turn.process, came: turn.event === \"answered\" ? \"answered\" : turn.came, more, from, to };",
     "}",
-];
-
-pub const DISK_5: &[&str] = &[
     "function lineOf({ process, operation, inode, type, offset, count, to, bytes }) {",
     "const words = { create: [type], write: [inode, offset, bytes || \"-\"], read: [inode, offset, count], links: [inode, to], resize: [inode, to] };",
     "return [process, operation, ...(words[operation] || [inode])].join(\" \");",
     "}",
+    "function triedOf({ stop, number, passed, bytes }) {",
+    "const why = bytes ? String.fromCharCode(...bytesOf(bytes)).trim() : \"\";",
+    "return { name: number === undefined ? stop : `${stop} ${number}`, images: passed || 0, why };",
+    "}",
     "function toldBy(text) {",
-    "const told = { title: \"A run, stop by stop\", script: [], opening: {}, steps: [], writes: [], turns: [], stops: [] };",
+    "const told = { title: \"A run, stop by stop\", script: [], opening: {}, steps: [], writes: [], turns: [], stops: [], tried: [] };",
     "let from = 0;",
     "for (const line of text.split(\"\\n\").filter((each) => each)) {",
     "const each = JSON.parse(line);",
     "if (\"image\" in each) Object.assign(told, { size: each.image, ninodes: each.inodes, holds: each.holds });",
     "else if (\"operation\" in each && !(\"event\" in each)) told.script.push(lineOf(each));",
     "else if (\"step\" in each) {",
-    "told.steps.push({ process: each.process, deed: deedOf(each) });",
+    "told.steps.push({ process: each.process, deed: deedOf(each), sync: each.sync });",
     "if (\"write\" in each) told.writes.push(writeOf(each, told.steps.length - 1));",
     "} else if (\"event\" in each) {",
     "if (\"process\" in each) told.turns.push(turnOf(each, from, told.steps.length));",
     "from = told.steps.length;",
-    "} else if (\"behind\" in each) told.stops.push({ behind: each.behind, files: [] });",
+    "} else if (\"stop\" in each) told.tried.push(triedOf(each));",
+    "else if (\"behind\" in each) told.stops.push({ behind: each.behind, files: [] });",
     "else if (\"file\" in each) told.stops[told.stops.length - 1].files.push([each.file, each.type, each.size]);",
     "else if (\"block\" in each) told.opening[each.block] = each.bytes;",
     "}",
     "return told;",
     "}",
+];
+
+pub const DISK_6: &[&str] = &[
     "function toldBehind(told, count) {",
     "return told.stops[0].behind === undefined ? told.stops[count] : told.stops.filter(({ behind }) => behind <= count).pop();",
     "}",
@@ -360,7 +396,18 @@ pub const DISK_5: &[&str] = &[
     "}",
     "return differing;",
     "}",
-    "if (typeof module !== \"undefined\") module.exports = { Run, ORDERS, toldBy, differingStops, BLOCK, LOG, INODES, number16, number32 };",
+    "function differingTried(told) {",
+    "const own = new Run(told);",
+    "own.choose(\"log\", told.holds ? \"synced\" : \"no\");",
+    "const names = own.stopNames();",
+    "return told.tried.filter(({ name, images, why }) => {",
+    "const step = names.lastIndexOf(name) - 1;",
+    "if (step < -1) return true;",
+    "const { wrong, tried } = own.worst(own.writtenBy(step), step);",
+    "return !wrong !== !why || (!why && tried !== images);",
+    "}).length;",
+    "}",
+    "if (typeof module !== \"undefined\") module.exports = { Run, ORDERS, toldBy, differingStops, differingTried, BLOCK, LOG, INODES, number16, number32 };",
     "</script>",
     "<script>",
 ];
@@ -400,6 +447,13 @@ fn print_disk_5<O: Write>(out: &mut O) -> Result<(), Unwritten>
     print_lines(out, DISK_5)
 }
 
+#[tactic(auto, unfolding(crate::specs::Texts::disk_6))]
+fn print_disk_6<O: Write>(out: &mut O) -> Result<(), Unwritten>
+    ensures ok { OnOk result (Appends (O.contents out.old) (O.contents out.new) disk_6) }
+{
+    print_lines(out, DISK_6)
+}
+
 #[tactic(auto, unfolding(crate::specs::Texts::disk_text))]
 pub fn print_disk<O: Write>(out: &mut O) -> Result<(), Unwritten>
     ensures ok { OnOk result (Appends (O.contents out.old) (O.contents out.new) disk_text) }
@@ -408,5 +462,6 @@ pub fn print_disk<O: Write>(out: &mut O) -> Result<(), Unwritten>
     print_disk_2(out)?;
     print_disk_3(out)?;
     print_disk_4(out)?;
-    print_disk_5(out)
+    print_disk_5(out)?;
+    print_disk_6(out)
 }

@@ -8,6 +8,15 @@ use messages::Unwritten;
 use std::io::Write;
 
 pub const ENDING_1: &[&str] = &[
+    ": `<div class=\"verdict is-good\"><span class=\"good\">\\u2713 sound</span>, with exactly the first ${counted(kept, \"group\")}</div>`;",
+    "const files = after ? run.filesIn(after) : [];",
+    "const listed = files.slice(0, 8).map(({ number, kind, bytes }) => `<tr><td>${number}</td><td>${KINDS[kind] || kind}</td>`",
+    "+ `<td>${bytes.length}</td><td class=\"bytes\">${escaped(printable(bytes.slice(0, 18)))}${bytes.length > 18 ? \"\\u2026\" : \"\"}</td></tr>`);",
+    "const table = listed.length ? `<table><tr><th>file</th><th>type</th><th>bytes</th><th>content</th></tr>${listed.join(\"\")}</table>` : \"<p>No file.</p>\";",
+    "const next = operations.findIndex(({ answer }) => !answer || answer.step > at);",
+    "const first = Math.max(0, Math.min((next < 0 ? operations.length : next) - 6, operations.length - 10));",
+    "const rows = operations.slice(first, first + 10).map(({ line, process, answer }) => {",
+    "const group = answer ? answer.group : 0;",
     "const state = wrong ? \"?\" : group && group <= kept ? '<span class=\"good\">\\u2713 kept</span>' : group ? '<span class=\"quiet\">lost</span>' : \"\";",
     "const told = !answer ? \"\" : answer.step <= at ? \"yes\" : '<span class=\"quiet\">not yet</span>';",
     "return `<tr><td>${state}</td><td>${process}</td><td>${escaped(operationWords(line))}</td><td>${group || \"\"}</td><td>${told}</td></tr>`;",
@@ -37,6 +46,9 @@ pub const ENDING_1: &[&str] = &[
     "}",
     "return [...(set.length ? [`bits set: ${set.join(\", \")}`] : []), ...(cleared.length ? [`bits cleared: ${cleared.join(\", \")}`] : [])];",
     "}",
+];
+
+pub const ENDING_2: &[&str] = &[
     "function changeWords(block, old, now) {",
     "if (block === LOG) return [`header: n ${number32(old, 0)} \\u2192 ${number32(now, 0)}`];",
     "if (block === run.bitmap) return bitChanges(old, now);",
@@ -57,9 +69,6 @@ pub const ENDING_1: &[&str] = &[
     "const text = byte.toString(16).padStart(2, \"0\");",
     "return byte === old[row + place] ? text : `<u>${text}</u>`;",
     "});",
-];
-
-pub const ENDING_2: &[&str] = &[
     "rows.push(`${row.toString(16).padStart(3, \"0\")}  ${hex.join(\" \")}  ${escaped(printable(bytes))}\\n`);",
     "}",
     "return rows.join(\"\") || \"no byte differs from what was there\\n\";",
@@ -89,15 +98,19 @@ pub const ENDING_2: &[&str] = &[
     "const made = at >= 0 ? run.plan[at] : null;",
     "const newer = newerBlocks(written);",
     "showHeld(written);",
-    "const found = run.judge(written, lost);",
+    "const found = run.judge(written, at, lost);",
     "element(\"at\").value = at + 1;",
     "element(\"place\").textContent = `step ${at + 1} of ${steps.length}, ${counted(written.length, \"write\")} made`;",
     "element(\"said\").textContent = sayStep(made);",
+    "element(\"tried\").textContent = isTried() ? `Tried by the program: ${triedWords(at)}.` : \"\";",
     "showLine();",
     "showMemory(newer);",
     "showBlocks(found.image, made, newer);",
     "showLog(found.image);",
     "showRecovered(found);",
+];
+
+pub const ENDING_3: &[&str] = &[
     "showChange(written, made);",
     "}",
     "function refresh() {",
@@ -130,9 +143,6 @@ pub const ENDING_2: &[&str] = &[
     "}",
     "function addQuestion(asking) {",
     "const details = document.createElement(\"details\");",
-];
-
-pub const ENDING_3: &[&str] = &[
     "details.innerHTML = `<summary>${escaped(asking.question)}</summary><p class=\"quiet\">${escaped(asking.answer)} <button>show</button></p>`;",
     "details.querySelector(\"button\").onclick = () => {",
     "order = asking.order || \"log\";",
@@ -179,9 +189,18 @@ pub const ENDING_3: &[&str] = &[
     "ArrowRight: () => go(at + 1), ArrowLeft: () => go(at - 1), Home: () => go(-1), End: () => go(steps.length - 1),",
     "PageDown: () => goToWrite(true), PageUp: () => goToWrite(false),",
     "};",
+];
+
+pub const ENDING_4: &[&str] = &[
     "if (isAtChoice || !moves[event.key] || (event.target.id === \"at\" && /Arrow|Home|End/.test(event.key))) return;",
     "moves[event.key]();",
     "event.preventDefault();",
+    "}",
+    "function triedFoot(differing) {",
+    "const images = run.told.tried.reduce((sum, stop) => sum + stop.images, 0);",
+    "const failed = run.told.tried.find((stop) => stop.why);",
+    "const found = `The program tried ${counted(run.told.tried.length, \"stop\")}: ${counted(images, \"image\")} passed${failed ? `, and then one didn't: ${failed.why}` : \"\"}.`;",
+    "return `${found} The page's own recovery ${differing ? `finds something else at ${differing} of them!` : \"finds the same at each.\"}`;",
     "}",
     "function footWords(differing) {",
     "const stops = run.writes.length + 1;",
@@ -193,10 +212,7 @@ pub const ENDING_3: &[&str] = &[
     "addChoices(\"orders\", ORDER_WORDS, order, (key) => (order = key));",
     "addChoices(\"holdings\", HOLDING_WORDS, holding, (key) => (holding = key));",
     "(run.told.questions || []).forEach(addQuestion);",
-    "element(\"title\").textContent = run.told.title;",
-];
-
-pub const ENDING_4: &[&str] = &[
+    "element(\"title\").textContent = tried.size ? \"A run at each of its stops\" : run.told.title;",
     "element(\"about\").textContent = `${counted(run.writes.length, \"write\")}, ${counted(steps.length, \"step\")}, ${run.size} blocks. Move the line: \\u2190 \\u2192 a step, Page Up, Page Down a write.`;",
     "element(\"at\").max = steps.length;",
     "element(\"at\").oninput = () => go(Number(element(\"at\").value) - 1);",
@@ -210,8 +226,10 @@ pub const ENDING_4: &[&str] = &[
     "});",
     "refresh();",
     "const differing = differingStops(run.told);",
-    "element(\"foot\").textContent = (run.told.version ? `${run.told.version}. Schedule: ${run.told.schedule}. ` : \"\") + footWords(differing);",
-    "document.body.dataset.differing = differing;",
+    "const differingFound = tried.size ? differingTried(run.told) : 0;",
+    "element(\"foot\").textContent = (run.told.version ? `${run.told.version}. Schedule: ${run.told.schedule}. ` : \"\")",
+    "+ (tried.size ? `${triedFoot(differingFound)} ` : \"\") + footWords(differing);",
+    "document.body.dataset.differing = differing + differingFound;",
     "</script>",
     "</body>",
     "</html>",

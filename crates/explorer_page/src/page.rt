@@ -31,11 +31,14 @@ pub const PAGE_1: &[&str] = &[
     "const PART_LETTERS = { log: \"L\", header: \"H\", home: \"h\", clear: \"c\" };",
     "const KINDS = [\"free\", \"directory\", \"file\", \"device\"];",
     "let order = ORDER_WORDS[asked.get(\"order\")] ? asked.get(\"order\") : \"log\";",
-    "let holding = HOLDING_WORDS[asked.get(\"disk\")] ? asked.get(\"disk\") : \"no\";",
+    "const ownHolding = run.told.holds ? \"synced\" : \"no\";",
+    "let holding = HOLDING_WORDS[asked.get(\"disk\")] ? asked.get(\"disk\") : ownHolding;",
     "let at = asked.has(\"step\") ? Number(asked.get(\"step\")) - 1 : 0;",
     "let lost = new Set();",
     "let survey = [];",
     "let width = 0;",
+    "const tried = new Map((run.told.tried || []).map((stop) => [stop.name, stop]));",
+    "const names = run.stopNames();",
     "const element = (id) => document.getElementById(id);",
     "const escaped = (text) => String(text).replace(/[&<>\"]/g, (sign) => ({ \"&\": \"&amp;\", \"<\": \"&lt;\", \">\": \"&gt;\", '\"': \"&quot;\" })[sign]);",
     "const printable = (bytes) => Array.from(bytes, (byte) => (byte > 31 && byte < 127 ? String.fromCharCode(byte) : \"\\u00b7\")).join(\"\");",
@@ -61,13 +64,13 @@ pub const PAGE_1: &[&str] = &[
     "if (run.plan[step]) return PART_WORDS[run.plan[step].write.part];",
     "return kindOf(step) === \"nothing\" ? \"\\u2013\" : steps[step].deed.replace(/ by .*/, \"\");",
     "}",
+];
+
+pub const PAGE_2: &[&str] = &[
     "function drawStep(step, lane) {",
     "const kind = kindOf(step);",
     "const left = step * width;",
     "const top = 10 + steps[step].process * lane;",
-];
-
-pub const PAGE_2: &[&str] = &[
     "const isLine = kind === \"waits\" || kind === \"nothing\";",
     "const fill = isLine ? \"none\" : `var(--${kind})`;",
     "const light = /header|home/.test(kind) ? \" light\" : \"\";",
@@ -78,22 +81,42 @@ pub const PAGE_2: &[&str] = &[
     "if (text) drawn += `<text class=\"middle${light}\" x=\"${left + width / 2}\" y=\"${top + 12}\">${text}</text>`;",
     "return drawn;",
     "}",
+    "const isTried = () => tried.size > 0 && order === \"log\" && holding === ownHolding;",
+    "function triedWords(step) {",
+    "const name = names[step + 1];",
+    "const stop = tried.get(name);",
+    "const where = name === \"end\" ? \"the whole run\" : name.startsWith(\"sync\") ? `a stop at ${name}` : `a stop before ${name}`;",
+    "if (!stop) return `${where}: not tried`;",
+    "return stop.why ? `${where}: ${stop.why}` : `${where}: ${counted(stop.images, \"image\")} passed`;",
+    "}",
+    "function verdictOf(step) {",
+    "if (!isTried()) return survey[step].wrong ? \"bad\" : \"good\";",
+    "const stop = tried.get(names[step + 1]);",
+    "return !stop ? \"quiet\" : stop.why ? \"bad\" : \"good\";",
+    "}",
     "function drawStretch(from, to, top) {",
-    "const { wrong, kept } = survey[from];",
+    "const verdict = verdictOf(from);",
     "const left = from * width;",
     "const wide = (to - from) * width;",
-    "const groups = counted(kept, \"group\");",
-    "const said = wide > 190 ? `\\u2713 a stop here keeps ${groups}` : wide > 90 ? `\\u2713 keeps ${kept}` : wide > 30 ? `\\u2713 ${kept}` : wide > 12 ? \"\\u2713\" : \"\";",
-    "const text = wrong ? (wide > 60 ? \"\\u2717 broken\" : wide > 10 ? \"\\u2717\" : \"\") : said;",
-    "return `<rect x=\"${left}\" y=\"${top}\" width=\"${wide}\" height=\"20\" fill=\"var(--${wrong ? \"bad\" : \"good\"}-back)\"`",
-    "+ ` stroke=\"var(--${wrong ? \"bad\" : \"good\"})\"/><text class=\"middle\" x=\"${left + wide / 2}\" y=\"${top + 14}\">${text}</text>`;",
+    "const { kept } = survey[from];",
+    "const said = wide > 190 ? `\\u2713 a stop here keeps ${counted(kept, \"group\")}` : wide > 90 ? `\\u2713 keeps ${kept}` : wide > 30 ? `\\u2713 ${kept}` : wide > 12 ? \"\\u2713\" : \"\";",
+    "const text = { good: kept === undefined ? \"\\u2713\" : said, bad: wide > 60 ? \"\\u2717 broken\" : wide > 10 ? \"\\u2717\" : \"\", quiet: wide > 10 ? \"?\" : \"\" }[verdict];",
+    "const title = isTried() ? `<title>${escaped(triedWords(from))}</title>` : \"\";",
+    "return `<g>${title}<rect x=\"${left}\" y=\"${top}\" width=\"${wide}\" height=\"20\" fill=\"var(--${verdict === \"quiet\" ? \"meta\" : verdict + \"-back\"})\"`",
+    "+ ` stroke=\"var(--${verdict})\"/><text class=\"middle\" x=\"${left + wide / 2}\" y=\"${top + 14}\">${text}</text></g>`;",
+    "}",
+    "function isAlike(one, other) {",
+    "if (isTried()) return names[one + 1] === names[other + 1];",
+    "return !survey[one].wrong === !survey[other].wrong && survey[one].kept === survey[other].kept;",
     "}",
     "function drawBand(top) {",
     "let drawn = \"\";",
     "let from = 0;",
     "for (let step = 1; step <= survey.length; step++) {",
-    "const here = survey[step];",
-    "if (here && !here.wrong === !survey[from].wrong && here.kept === survey[from].kept) continue;",
+];
+
+pub const PAGE_3: &[&str] = &[
+    "if (step < survey.length && isAlike(from, step)) continue;",
     "drawn += drawStretch(from, step, top);",
     "from = step;",
     "}",
@@ -102,7 +125,7 @@ pub const PAGE_2: &[&str] = &[
     "function draw() {",
     "const lane = 26;",
     "const room = Math.max(document.body.clientWidth - 104, 240);",
-    "width = Math.max(room / steps.length, steps.length > 400 ? 1.5 : steps.length > 60 ? 8 : 22);",
+    "width = Math.max(room / Math.max(steps.length, 1), steps.length > 400 ? 1.5 : steps.length > 60 ? 8 : 22);",
     "const band = 14 + processes * lane;",
     "const wide = width * steps.length;",
     "let drawn = `<svg width=\"${wide + 64}\" height=\"${band + 44}\" role=\"img\" aria-label=\"${counted(steps.length, \"step\")}, from`",
@@ -114,9 +137,6 @@ pub const PAGE_2: &[&str] = &[
     "drawn += drawBand(band) + `<path id=\"line\" d=\"M0 0V${band + 24}\" stroke=\"var(--text)\" stroke-width=\"2.5\"/>`",
     "+ `<text id=\"line-text\" class=\"middle\" y=\"${band + 38}\"></text></svg>`;",
     "element(\"steps\").innerHTML = drawn;",
-];
-
-pub const PAGE_3: &[&str] = &[
     "element(\"steps\").firstChild.onclick = (event) => {",
     "const left = event.currentTarget.getBoundingClientRect().left;",
     "go(Math.floor((event.clientX - left) / width));",
@@ -145,16 +165,19 @@ pub const PAGE_3: &[&str] = &[
     "return `${who} writes block ${made.write.block}: ${what}.`;",
     "}",
     "function showHeld(written) {",
-    "const held = run.heldAmong(written);",
+    "const held = run.heldAmong(written, at);",
     "for (const index of [...lost]) if (!held.some(({ write }) => write.index === index)) lost.delete(index);",
     "const box = element(\"held\");",
     "box.innerHTML = \"\";",
     "if (!held.length) return;",
     "const chips = held.map(({ write }) => `<label class=\"chip\"><input type=\"checkbox\" value=\"${write.index}\"`",
+];
+
+pub const PAGE_4: &[&str] = &[
     "+ `${lost.has(write.index) ? \"\" : \" checked\"}> ${write.part} \\u2192 block ${write.block}</label>`);",
-    "const { wrong, tried } = survey[Math.max(at, 0)];",
+    "const { wrong, tried: choices } = survey[Math.max(at, 0)];",
     "box.innerHTML = `<b>May be lost</b> (untick those that didn't get through): ${chips.join(\"\")} `",
-    "+ (wrong ? '<button id=\"find\">show a choice that breaks it</button>' : `<span class=\"good\">\\u2713 all ${tried} choices recover</span>`);",
+    "+ (wrong ? '<button id=\"find\">show a choice that breaks it</button>' : `<span class=\"good\">\\u2713 all ${choices} choices recover</span>`);",
     "for (const input of box.querySelectorAll(\"input\")) {",
     "input.onchange = () => {",
     "if (input.checked) lost.delete(Number(input.value));",
@@ -175,9 +198,6 @@ pub const PAGE_3: &[&str] = &[
     "const text = value === \"-\" ? \"\" : printable(bytesOf(value));",
     "return `write file ${file} at ${offset}: \\u201c${text.length > 14 ? text.slice(0, 14) + \"\\u2026\" : text}\\u201d`;",
     "}",
-];
-
-pub const PAGE_4: &[&str] = &[
     "if (verb === \"fill\") return `write file ${file} at ${offset}: ${value} times \\u201c${printable(bytesOf(byte))}\\u201d`;",
     "return `${verb} file ${file}`;",
     "}",
@@ -208,6 +228,9 @@ pub const PAGE_4: &[&str] = &[
     "function newerBlocks(written) {",
     "const ended = run.commits.filter((commit) => commit.steps[commit.steps.length - 1] <= at);",
     "const from = ended.length ? Math.max(...ended.map((commit) => commit.steps[commit.steps.length - 1])) + 1 : 0;",
+];
+
+pub const PAGE_5: &[&str] = &[
     "const next = run.commits.find((commit) => commit.steps[commit.steps.length - 1] > at && commit.steps[0] >= from);",
     "if (!next) return [];",
     "const used = new Set();",
@@ -225,9 +248,6 @@ pub const PAGE_4: &[&str] = &[
     "}",
     "function showBlocks(image, made, newer) {",
     "const owners = run.ownersIn(image);",
-];
-
-pub const PAGE_5: &[&str] = &[
     "element(\"blocks\").style.setProperty(\"--across\", run.size > 1024 ? 64 : run.size > 256 ? 32 : 16);",
     "element(\"blocks\").innerHTML = image.map((_, block) => {",
     "const owner = owners.get(block);",
@@ -253,15 +273,6 @@ pub const PAGE_5: &[&str] = &[
     "}",
     "function showRecovered({ wrong, kept, after }) {",
     "const verdict = wrong ? `<div class=\"verdict is-bad\"><span class=\"bad\">\\u2717 ${escaped(wrong)}</span></div>`",
-    ": `<div class=\"verdict is-good\"><span class=\"good\">\\u2713 sound</span>, with exactly the first ${counted(kept, \"group\")}</div>`;",
-    "const files = after ? run.filesIn(after) : [];",
-    "const listed = files.slice(0, 8).map(({ number, kind, bytes }) => `<tr><td>${number}</td><td>${KINDS[kind] || kind}</td>`",
-    "+ `<td>${bytes.length}</td><td class=\"bytes\">${escaped(printable(bytes.slice(0, 18)))}${bytes.length > 18 ? \"\\u2026\" : \"\"}</td></tr>`);",
-    "const table = listed.length ? `<table><tr><th>file</th><th>type</th><th>bytes</th><th>content</th></tr>${listed.join(\"\")}</table>` : \"<p>No file.</p>\";",
-    "const next = operations.findIndex(({ answer }) => !answer || answer.step > at);",
-    "const first = Math.max(0, Math.min((next < 0 ? operations.length : next) - 6, operations.length - 10));",
-    "const rows = operations.slice(first, first + 10).map(({ line, process, answer }) => {",
-    "const group = answer ? answer.group : 0;",
 ];
 
 #[tactic(auto, unfolding(crate::specs::Texts::page_1))]

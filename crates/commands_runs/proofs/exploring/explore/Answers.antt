@@ -7,9 +7,10 @@ use Rattle.messages.specs.declared.deeds.Detail.{Detail}
 use Rattle.player.specs.Opening.{IsNotReplayed}
 use Rattle.player.specs.Told.{in_lines}
 use Rattle.commands_runs.proofs.Walks.{explored_all, unexplored_for}
-use Rattle.commands_runs.proofs.Gathering.{HeardAll, all_gathered}
+use Rattle.commands_runs.proofs.Gathering.{all_gathered}
 use Rattle.commands_runs.proofs.Opened.{still_opened}
 use Rattle.commands_runs.proofs.Recording.{both_done}
+use Rattle.commands_runs.specs.Explored.{HeardAll}
 use Rattle.commands_runs.specs.declared.gathered.Gathered.{Gathered}
 use Rattle.commands_runs.specs.declared.explorer_teller.ExplorerTeller.{ExplorerTeller}
 use Rattle.commands_runs.proofs.exploring.explore.Goals as goal
