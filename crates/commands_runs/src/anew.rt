@@ -173,11 +173,7 @@ impl Anew {
 
     // Has a teller hear of the turns of the whole of it. Refused where memory was, also to an operation
     // of it.
-    pub(crate) fn tell(
-        &self,
-        alloc: Global,
-        teller: &mut ExplorerTeller,
-    ) -> Result<(), NoMemory>
+    pub(crate) fn tell(&self, alloc: Global, teller: &mut ExplorerTeller) -> Result<(), NoMemory>
         requires new { teller.old.refused ≡ false }
         ensures { OnOk result (HearsOfRun self.now.holds (opened_image self.now.opened)
             self.now.tasks.items self.now.processes self.now.words.items

@@ -156,12 +156,7 @@ fn lost_at(stop: Stop, words: &[u8]) -> Lost<'_>
 }
 
 // There is no page, since the words of the last stop take too much room.
-fn unworded(
-    plain: bool,
-    held: bool,
-    scenario: &Scenario,
-    columns: &[Column],
-) -> Result<(), Undrawn>
+fn unworded(plain: bool, held: bool, scenario: &Scenario, columns: &[Column]) -> Result<(), Undrawn>
     ensures undrawn { IsErrAnd result (IsUndrawn plain held scenario.now.tasks.items
         scenario.now.processes scenario.now.words.items columns.now) }
 {
