@@ -20,7 +20,7 @@ returns-in-Ok-ran-clause-explored g c =
     let ran = c.replay_with-ran in
     let known = c.in-Ok.ensures in
     let told = where_done ran.result.0 _ _ c.in-Ok-ran.is ran.ensures.printed in
-    let heard = all_gathered _ (λ (t : ExplorerTeller). t.run) (λ w one a b h. h.2) _ told.tolds _ _ told.heard in
+    let heard = all_gathered _ (λ (t : ExplorerTeller). t.run) (λ w one a b h. h.3) _ told.tolds _ _ told.heard in
     both_done c.make_page.result _ _ _
     (λ few page. (
       c.take_scene.new.disk,
@@ -38,7 +38,7 @@ returns-in-Ok-ran-clause-refused g c =
     let ran = c.replay_with-ran in
     let known = c.in-Ok.ensures in
     let told = where_done ran.result.0 _ _ c.in-Ok-ran.is ran.ensures.printed in
-    let heard = all_gathered _ (λ (t : ExplorerTeller). t.run) (λ w one a b h. h.2) _ told.tolds _ _ told.heard in
+    let heard = all_gathered _ (λ (t : ExplorerTeller). t.run) (λ w one a b h. h.3) _ told.tolds _ _ told.heard in
     IfErr-weaker c.make_page.result _ _
     (unexplored_for g.R.File.Write.contents c.args.sync c.args.disk c.take_scene.new.disk ran.result.1 c.args.scenario.tasks.items c.args.scenario.processes c.args.scenario.words.items (unwrap_or c.args.scenario.stop 0)
     c.in-Ok.taken.1.lines.detail c.args.detail (g.O.Write.contents c.args.out.now) (g.O.Write.contents ran.new.out) told.tolds c.in-Ok.taken.0 c.in-Ok.taken.1.run c.run.result.now
