@@ -2,8 +2,8 @@
 use Rattle.blocks.specs.Disk.{Image}
 use Rattle.commands.specs.Copied.{copied_image}
 use Rattle.crash_check.specs.Images.{new_image}
-use Rattle.commands_runs.specs.declared.opened.Opened.{Opened}
-use Rattle.commands_runs.specs.declared.opened.Opened.TheVariants.{Copied, New}
+use Rattle.commands_runs.specs.declared.origin.Opened.{Opened}
+use Rattle.commands_runs.specs.declared.origin.Opened.TheVariants.{Copied, New}
 
 -- that which was copied, or a new one
 abbrev pub opened_image : Opened → Image

@@ -12,7 +12,7 @@ use crate::changes::{Stop, stops_among, stops_of};
 use crate::explorer_teller::ExplorerTeller;
 use crate::file_lines::file_lines;
 use crate::mute::Mute;
-use crate::opened::{Opened, disk_of};
+use crate::origin::{Opened, disk_of};
 use crate::telling::{tell_held, tell_over};
 use crate::writes::{writes_held, writes_over};
 use blocks::{Block, Disk, FileDisk, MemDisk, NoMemory, SyncDisk};

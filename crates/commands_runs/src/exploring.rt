@@ -17,7 +17,7 @@ ghost use Rattle.commands_runs.specs.Runs.{IsReplayedSo};
 use crate::anew::Anew;
 use crate::explorer_teller::ExplorerTeller;
 use crate::gathered::Gathered;
-use crate::opened::disk_of;
+use crate::origin::disk_of;
 use crate::picturing::PicturedRefusal;
 use crate::runs::{Replay, ReplayFilesRefusal, read_replay};
 use crate::scene::Scene;

@@ -10,7 +10,7 @@ ghost use Rattle.commands_runs.specs.Tried.{IsExploredNew, IsUnexploredNew, IsHe
 use crate::anew::Anew;
 use crate::explorer_teller::ExplorerTeller;
 use crate::exploring::{inode_count_on, make_page};
-use crate::opened::disk_of;
+use crate::origin::disk_of;
 use crate::picturing::PicturedRefusal;
 use crate::scene::Scene;
 use blocks::NoMemory;

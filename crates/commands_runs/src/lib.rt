@@ -17,7 +17,7 @@ mod gathered;
 mod heard;
 mod mute;
 mod objects;
-mod opened;
+mod origin;
 mod picture_teller;
 mod picturing;
 mod remembering;

@@ -1,7 +1,7 @@
 use Rattle.std.proofs.Common.{sym, subst}
 use Rattle.std.proofs.lemmas.Result.{IfErr-weaker}
 use Rattle.commands_runs.proofs.Recording.{both_done}
-use Rattle.commands_runs.proofs.Telling.{explored_new, unexplored_new}
+use Rattle.commands_runs.proofs.WholeRuns.{explored_new, unexplored_new}
 use Rattle.commands_runs.specs.Tried.{IsHeardOf}
 use Rattle.commands_runs.specs.declared.gathered.Gathered.{Gathered}
 use Rattle.commands_runs.proofs.exploring_new.explore_new.Goals as goal

@@ -1,4 +1,4 @@
-use Rattle.commands_runs.proofs.Telling.{heard_of}
+use Rattle.commands_runs.proofs.WholeRuns.{heard_of}
 use Rattle.commands_runs.specs.declared.explorer_teller.ExplorerTeller.{ExplorerTeller}
 use Rattle.commands_runs.proofs.telling.tell_over.Goals as goal
 

@@ -1,7 +1,7 @@
 use Rattle.std.proofs.Common.{Bool, subst, sym}
 use Rattle.std.specs.Prelude.{OnOk}
 use Rattle.commands.specs.Copied.{memory}
-use Rattle.commands_runs.proofs.Telling.{heard_scenario}
+use Rattle.commands_runs.proofs.WholeRuns.{heard_scenario}
 use Rattle.commands_runs.specs.Filed.{held_memory}
 use Rattle.commands_runs.specs.Images.{opened_image}
 use Rattle.commands_runs.specs.Tried.{HearsOfRun}
