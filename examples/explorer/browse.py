@@ -1,9 +1,10 @@
 """Opens pages in a browser without a window, moves through them as a person does, and compares what is seen there with
 the program.
 
-    browse.py BROWSER XVFS DATA.json PAGE [PAGE..] [--pictures FOLDER]
+    browse.py BROWSER XVFS DATA.json PAGE FAILED [PAGE..] [--pictures FOLDER]
 
-PAGE is that of the runs in DATA.json, and the further ones are the program's, each of one run. Of PAGE:
+PAGE is that of the runs in DATA.json, and the further ones are the program's, each of one run. In FAILED a stop is told
+to have failed: its band is dark there, and the page's own recovery differs. Of PAGE:
 
 - at each stop of each run, in the program's order, the files and the count of groups are what `xvfs recover`, `ls` and
   `cat` tell; in each wrong order the fault is what `xvfs check` says of the image that stands on the page's disk;
@@ -164,6 +165,16 @@ def hold_foot(looker, page, place):
         looker.fault("%s#%s: %s" % (os.path.basename(page), place, foot))
 
 
+def hold_failed(looker, page):
+    """The page of a run of which a stop is told to have failed."""
+    looker.open(page, "step=6")
+    shown = looker.browser.value("document.getElementById('tried').textContent + Array.from(document.querySelectorAll('#steps title'),"
+                                 " (each) => each.textContent).join() + document.querySelectorAll('#steps .broken').length")
+    wanted = ("a stop before write 3: stopped before write 3: file 1 differs", "a stop before write 4: not tried")
+    if looker.browser.value("document.body.dataset.differing") != "1" or not shown.endswith("1") or not all(text in shown for text in wanted):
+        looker.fault("a stop that failed isn't shown: %s" % shown)
+
+
 def take_pictures(looker, page, folder):
     for name, (place, screen) in PICTURES.items():
         looker.browser.screen(*SCREENS[screen])
@@ -172,7 +183,7 @@ def take_pictures(looker, page, folder):
             file.write(looker.browser.picture())
 
 
-def hold_all(looker, page, others, runs):
+def hold_all(looker, page, failed, others, runs):
     looker.browser.screen(*SCREENS[0])
     with tempfile.TemporaryDirectory() as folder:
         for place, run in enumerate(runs):
@@ -181,6 +192,7 @@ def hold_all(looker, page, others, runs):
             hold_orders(looker, page, place, run, folder)
             hold_questions(looker, page, place, run)
     hold_keys(looker, page)
+    hold_failed(looker, failed)
     for place in ("run=2&order=homes&disk=no&step=38", "run=2&disk=never&step=38", "run=3&step=180", "run=5&step=20"):
         hold_look(looker, page, place, 16)
     for other in others:
@@ -192,7 +204,7 @@ def hold_all(looker, page, others, runs):
 def main():
     words = sys.argv[1:]
     pictures = words.index("--pictures") if "--pictures" in words else len(words)
-    program, xvfs, data, page, *others = words[:pictures]
+    program, xvfs, data, page, failed, *others = words[:pictures]
     with open(data, encoding="utf-8") as file:
         runs = json.load(file)
     try:
@@ -200,7 +212,7 @@ def main():
     except Refused as refused:
         sys.exit("explorer: %s" % refused)
     try:
-        hold_all(looker, page, others, runs)
+        hold_all(looker, page, failed, others, runs)
         if words[pictures:]:
             take_pictures(looker, page, words[pictures + 1])
     except Refused as refused:
@@ -208,7 +220,7 @@ def main():
     finally:
         looker.browser.end()
     print("explorer: in a browser %d stops and %d images of wrong orders compared with the program, %d pages and %d texts looked at,"
-          " %d not as they should be" % (looker.stops, looker.images, 1 + len(others), looker.texts, looker.bad))
+          " %d not as they should be" % (looker.stops, looker.images, 2 + len(others), looker.texts, looker.bad))
     return looker.bad > 0
 
 

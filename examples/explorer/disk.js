@@ -105,6 +105,7 @@ class Run {
     // Which write each step makes in this order, if any.
     arrange() {
         this.plan = this.told.steps.map(() => null);
+        this.synced = null;
         for (const commit of this.commits) {
             const ordered = ORDERS[this.order].flatMap((part) => commit[part]);
             commit.steps.forEach((step, place) => {
@@ -118,10 +119,28 @@ class Run {
         return this.plan.slice(0, step + 1).filter((made) => made !== null);
     }
 
-    // Those of them that the disk may still hold: of a disk that is never synced the last eight.
-    heldAmong(written) {
+    // How many writes no stop behind a step loses, since the program synced the disk behind them; null where the
+    // order is not the program's, or where it didn't.
+    syncedBy(step) {
+        if (!this.told.holds || this.order !== "log") return null;
+        if (!this.synced) {
+            let written = 0;
+            let synced = 0;
+            this.synced = this.plan.map((made, at) => {
+                if (made) written++;
+                if (this.told.steps[at].sync) synced = written;
+                return synced;
+            });
+        }
+        return this.synced[step] || 0;
+    }
+
+    // Those of the writes by a step that the disk may still hold: of a disk that is never synced the last eight.
+    heldAmong(written, step) {
         if (this.holding === "no") return [];
         if (this.holding === "never") return written.slice(-8);
+        const synced = this.syncedBy(step);
+        if (synced !== null) return written.slice(synced);
         const last = written[written.length - 1];
         if (!last) return [];
         let from = written.length;
@@ -292,10 +311,10 @@ class Run {
         return write.part === "home" && write === commit.home[commit.home.length - 1];
     }
 
-    // What a stop behind these writes comes to, where some of them are lost: the image, what recovery makes of it,
-    // and either how many groups it keeps, or what is wrong.
-    judge(written, lost) {
-        const held = new Set(this.heldAmong(written).map(({ write }) => write.index));
+    // What a stop behind a step with these writes comes to, where some of them are lost: the image, what recovery
+    // makes of it, and either how many groups it keeps, or what is wrong.
+    judge(written, step, lost) {
+        const held = new Set(this.heldAmong(written, step).map(({ write }) => write.index));
         const least = written.filter((made) => this.isCommit(made) && !held.has(made.write.index)).length;
         let most = written.filter((made) => this.isCommit(made)).length;
         // Without a log a group is under way from its first home on.
@@ -313,13 +332,16 @@ class Run {
         return { image, after, wrong: `recovered, the files are not those after ${groups}` };
     }
 
-    // The first choice of lost writes that a stop there doesn't survive, if there is one, and how many were tried.
-    worst(written) {
-        const held = this.heldAmong(written);
-        const choices = 1 << held.length;
+    // The first choice of lost writes that a stop there doesn't survive, if there is one, and how many were tried: each,
+    // or, where more than six are held, each beginning of them that gets through, as the program tries them.
+    worst(written, step) {
+        const held = this.heldAmong(written, step);
+        const isEach = held.length <= (this.holding === "never" ? 8 : 6);
+        const choices = isEach ? 1 << held.length : held.length + 1;
         for (let choice = 0; choice < choices; choice++) {
-            const lost = new Set(held.filter((_, place) => (choice >> place) & 1).map(({ write }) => write.index));
-            const { wrong } = this.judge(written, lost);
+            const isLost = (_, place) => (isEach ? (choice >> place) & 1 : place >= choice);
+            const lost = new Set(held.filter(isLost).map(({ write }) => write.index));
+            const { wrong } = this.judge(written, step, lost);
             if (wrong) return { lost, wrong, tried: choice + 1 };
         }
         return { tried: choices };
@@ -329,14 +351,26 @@ class Run {
     survey() {
         let written = [];
         let found = null;
-        return this.plan.map((made) => {
-            if (made) {
-                written = written.concat([made]);
-                found = null;
-            }
-            found = found || { ...this.worst(written), kept: this.judge(written).kept };
+        return this.plan.map((made, step) => {
+            if (made) written = written.concat([made]);
+            if (made || this.told.steps[step].sync) found = null;
+            found = found || { ...this.worst(written, step), kept: this.judge(written, step).kept };
             return found;
         });
+    }
+
+    // Where the program stops the run behind each step, first behind none: at the next call of the disk.
+    stopNames() {
+        const names = [];
+        let next = "end";
+        let number = this.writes.length;
+        for (let step = this.told.steps.length - 1; step >= 0; step--) {
+            names[step + 1] = next;
+            if (this.plan[step]) next = `write ${number--}`;
+            else if (this.told.steps[step].sync) next = `sync ${this.told.steps[step].sync}`;
+        }
+        names[0] = next;
+        return names;
     }
 }
 
@@ -368,20 +402,27 @@ function lineOf({ process, operation, inode, type, offset, count, to, bytes }) {
     return [process, operation, ...(words[operation] || [inode])].join(" ");
 }
 
+// A stop that the program tried: so many images passed, or one didn't, for this reason.
+function triedOf({ stop, number, passed, bytes }) {
+    const why = bytes ? String.fromCharCode(...bytesOf(bytes)).trim() : "";
+    return { name: number === undefined ? stop : `${stop} ${number}`, images: passed || 0, why };
+}
+
 function toldBy(text) {
-    const told = { title: "A run, stop by stop", script: [], opening: {}, steps: [], writes: [], turns: [], stops: [] };
+    const told = { title: "A run, stop by stop", script: [], opening: {}, steps: [], writes: [], turns: [], stops: [], tried: [] };
     let from = 0;
     for (const line of text.split("\n").filter((each) => each)) {
         const each = JSON.parse(line);
         if ("image" in each) Object.assign(told, { size: each.image, ninodes: each.inodes, holds: each.holds });
         else if ("operation" in each && !("event" in each)) told.script.push(lineOf(each));
         else if ("step" in each) {
-            told.steps.push({ process: each.process, deed: deedOf(each) });
+            told.steps.push({ process: each.process, deed: deedOf(each), sync: each.sync });
             if ("write" in each) told.writes.push(writeOf(each, told.steps.length - 1));
         } else if ("event" in each) {
             if ("process" in each) told.turns.push(turnOf(each, from, told.steps.length));
             from = told.steps.length;
-        } else if ("behind" in each) told.stops.push({ behind: each.behind, files: [] });
+        } else if ("stop" in each) told.tried.push(triedOf(each));
+        else if ("behind" in each) told.stops.push({ behind: each.behind, files: [] });
         else if ("file" in each) told.stops[told.stops.length - 1].files.push([each.file, each.type, each.size]);
         else if ("block" in each) told.opening[each.block] = each.bytes;
     }
@@ -418,4 +459,18 @@ function differingStops(told) {
     return differing;
 }
 
-if (typeof module !== "undefined") module.exports = { Run, ORDERS, toldBy, differingStops, BLOCK, LOG, INODES, number16, number32 };
+// At how many of the stops that the program tried the recovery here comes to something else: to an image that passes
+// or doesn't, or to another number of images.
+function differingTried(told) {
+    const own = new Run(told);
+    own.choose("log", told.holds ? "synced" : "no");
+    const names = own.stopNames();
+    return told.tried.filter(({ name, images, why }) => {
+        const step = names.lastIndexOf(name) - 1;
+        if (step < -1) return true;
+        const { wrong, tried } = own.worst(own.writtenBy(step), step);
+        return !wrong !== !why || (!why && tried !== images);
+    }).length;
+}
+
+if (typeof module !== "undefined") module.exports = { Run, ORDERS, toldBy, differingStops, differingTried, BLOCK, LOG, INODES, number16, number32 };

@@ -15,7 +15,7 @@ function seenRecovered() {
 
 // The image that the stop leaves, as it is on the page's own disk, in base 64.
 function seenImage() {
-    const { image } = run.judge(run.writtenBy(at), lost);
+    const { image } = run.judge(run.writtenBy(at), at, lost);
     let bytes = "";
     for (const block of image) bytes += String.fromCharCode(...block);
     return btoa(bytes);

@@ -25,13 +25,18 @@ const PART_LETTERS = { log: "L", header: "H", home: "h", clear: "c" };
 const KINDS = ["free", "directory", "file", "device"];
 
 let order = ORDER_WORDS[asked.get("order")] ? asked.get("order") : "log";
-let holding = HOLDING_WORDS[asked.get("disk")] ? asked.get("disk") : "no";
+const ownHolding = run.told.holds ? "synced" : "no";
+let holding = HOLDING_WORDS[asked.get("disk")] ? asked.get("disk") : ownHolding;
 let at = asked.has("step") ? Number(asked.get("step")) - 1 : 0;
 let lost = new Set();
 let survey = [];
 // How wide a step and a letter m are drawn.
 let width = 0;
 let em = 0;
+
+// The stops that the program tried, and where it stops the run behind each step.
+const tried = new Map((run.told.tried || []).map((stop) => [stop.name, stop]));
+const names = run.stopNames();
 
 const element = (id) => document.getElementById(id);
 const escaped = (text) => String(text).replace(/[&<>"]/g, (sign) => ({ "&": "&amp;", "<": "&lt;", ">": "&gt;", '"': "&quot;" })[sign]);
@@ -81,18 +86,46 @@ function drawStep(step, lane) {
     return drawn;
 }
 
-// One stretch of the band: the stops that come to the same. A broken one is dark, so that who sees no red sees it, too,
-// and is never too narrow to be seen.
+// Whether the program tried the stops of the run as it is arranged now.
+const isTried = () => tried.size > 0 && order === "log" && holding === ownHolding;
+
+// What the program found at a stop behind a step, in words.
+function triedWords(step) {
+    const name = names[step + 1];
+    const stop = tried.get(name);
+    const where = name === "end" ? "the whole run" : name.startsWith("sync") ? `a stop at ${name}` : `a stop before ${name}`;
+    if (!stop) return `${where}: not tried`;
+    return stop.why ? `${where}: ${stop.why}` : `${where}: ${counted(stop.images, "image")} passed`;
+}
+
+// What a stop behind a step comes to: "good" or "bad", as the program found it where it tried it, else as the page does;
+// "quiet" where an earlier one ended its tries.
+function verdictOf(step) {
+    if (!isTried()) return survey[step].wrong ? "bad" : "good";
+    const stop = tried.get(names[step + 1]);
+    return !stop ? "quiet" : stop.why ? "bad" : "good";
+}
+
+// One stretch of the band: the stops that come to the same, or, where the program tried them, one of these. A broken one
+// is dark, so that who sees no red sees it, too, and is never too narrow to be seen.
 function drawStretch(from, to, top) {
-    const { wrong, kept } = survey[from];
+    const verdict = verdictOf(from);
     const left = from * width;
     const wide = (to - from) * width;
-    const groups = counted(kept, "group");
-    const said = wide > 13 * em ? `✓ a stop here keeps ${groups}` : wide > 6 * em ? `✓ keeps ${kept}` : wide > 3 * em ? `✓ ${kept}` : wide > em ? "✓" : "";
-    const text = wrong ? (wide > 5 * em ? "✗ broken" : wide > em ? "✗" : "") : said;
-    return `<rect x="${left}" y="${top}" width="${wrong ? Math.max(wide, 2) : wide}" height="${1.5 * em}"`
-        + ` fill="var(--${wrong ? "bad" : "good-back"})" stroke="var(--${wrong ? "bad" : "good"})" stroke-width="${wide > 4 ? 1 : 0}"/>`
-        + `<text class="middle${wrong ? " broken" : ""}" x="${left + wide / 2}" y="${top + 1.05 * em}">${text}</text>`;
+    const { kept } = survey[from];
+    const isBad = verdict === "bad";
+    const said = wide > 13 * em ? `✓ a stop here keeps ${counted(kept, "group")}` : wide > 6 * em ? `✓ keeps ${kept}` : wide > 3 * em ? `✓ ${kept}` : wide > em ? "✓" : "";
+    const text = { good: kept === undefined ? "✓" : said, bad: wide > 5 * em ? "✗ broken" : wide > em ? "✗" : "", quiet: wide > em ? "?" : "" }[verdict];
+    const title = isTried() ? `<title>${escaped(triedWords(from))}</title>` : "";
+    const fill = { good: "good-back", bad: "bad", quiet: "meta" }[verdict];
+    return `<g>${title}<rect x="${left}" y="${top}" width="${isBad ? Math.max(wide, 2) : wide}" height="${1.5 * em}" fill="var(--${fill})"`
+        + ` stroke="var(--${verdict})" stroke-width="${wide > 4 ? 1 : 0}"/>`
+        + `<text class="middle${isBad ? " broken" : ""}" x="${left + wide / 2}" y="${top + 1.05 * em}">${text}</text></g>`;
+}
+
+function isAlike(one, other) {
+    if (isTried()) return names[one + 1] === names[other + 1];
+    return !survey[one].wrong === !survey[other].wrong && survey[one].kept === survey[other].kept;
 }
 
 function drawBand(top) {
@@ -100,9 +133,8 @@ function drawBand(top) {
     let broken = "";
     let from = 0;
     for (let step = 1; step <= survey.length; step++) {
-        const here = survey[step];
-        if (here && !here.wrong === !survey[from].wrong && here.kept === survey[from].kept) continue;
-        if (survey[from].wrong) broken += drawStretch(from, step, top);
+        if (step < survey.length && isAlike(from, step)) continue;
+        if (verdictOf(from) === "bad") broken += drawStretch(from, step, top);
         else sound += drawStretch(from, step, top);
         from = step;
     }
@@ -112,12 +144,12 @@ function drawBand(top) {
 function draw() {
     em = parseFloat(getComputedStyle(document.body).fontSize);
     const lane = 1.8 * em;
-    const names = 5.2 * em;
+    const beside = 5.2 * em;
     // All steps are seen at once; few on a narrow screen are moved along.
-    width = Math.max((element("steps").clientWidth - names) / steps.length, steps.length > 42 ? 0 : 1.5 * em);
+    width = Math.max((element("steps").clientWidth - beside) / Math.max(steps.length, 1), steps.length > 42 ? 0 : 1.5 * em);
     const band = 0.9 * em + processes * lane;
     const wide = width * steps.length;
-    let drawn = `<svg width="${wide + names}" height="${band + 3.1 * em}" role="img" aria-label="${counted(steps.length, "step")}, from`
+    let drawn = `<svg width="${wide + beside}" height="${band + 3.1 * em}" role="img" aria-label="${counted(steps.length, "step")}, from`
         + ` left to right, a lane a process; below, what recovery makes of a stop behind each step">`;
     for (let process = 0; process < processes; process++) {
         drawn += `<text x="${wide + 0.3 * em}" y="${1.6 * em + process * lane}">process ${process}</text>`;
@@ -162,16 +194,16 @@ function sayStep(made) {
 }
 
 function showHeld(written) {
-    const held = run.heldAmong(written);
+    const held = run.heldAmong(written, at);
     for (const index of [...lost]) if (!held.some(({ write }) => write.index === index)) lost.delete(index);
     const box = element("held");
     box.innerHTML = "";
     if (!held.length) return;
     const chips = held.map(({ write }) => `<label class="chip"><input type="checkbox" value="${write.index}"`
         + `${lost.has(write.index) ? "" : " checked"}> ${write.part} → block ${write.block}</label>`);
-    const { wrong, tried } = survey[Math.max(at, 0)];
+    const { wrong, tried: choices } = survey[Math.max(at, 0)];
     box.innerHTML = `<b>May be lost</b> (untick those that didn't get through): ${chips.join("")} `
-        + (wrong ? '<button id="find">show a choice that breaks it</button>' : `<span class="good">✓ all ${tried} choices recover</span>`);
+        + (wrong ? '<button id="find">show a choice that breaks it</button>' : `<span class="good">✓ all ${choices} choices recover</span>`);
     for (const input of box.querySelectorAll("input")) {
         input.onchange = () => {
             if (input.checked) lost.delete(Number(input.value));
@@ -376,10 +408,11 @@ function show() {
     const made = at >= 0 ? run.plan[at] : null;
     const newer = newerBlocks(written);
     showHeld(written);
-    const found = run.judge(written, lost);
+    const found = run.judge(written, at, lost);
     element("at").value = at + 1;
     element("place").textContent = `step ${at + 1} of ${steps.length}, ${counted(written.length, "write")} made`;
     element("said").textContent = sayStep(made);
+    element("tried").textContent = isTried() ? `Tried by the program: ${triedWords(at)}.` : "";
     showLine();
     showMemory(newer);
     showBlocks(found.image, made, newer);
@@ -477,6 +510,14 @@ function onKey(event) {
     event.preventDefault();
 }
 
+// What the program found at its stops, and whether the page's own recovery finds the same.
+function triedFoot(differing) {
+    const images = run.told.tried.reduce((sum, stop) => sum + stop.images, 0);
+    const failed = run.told.tried.find((stop) => stop.why);
+    const found = `The program tried ${counted(run.told.tried.length, "stop")}: ${counted(images, "image")} passed${failed ? `, and then one didn't: ${failed.why}` : ""}.`;
+    return `${found} The page's own recovery ${differing ? `finds something else at ${differing} of them!` : "finds the same at each."}`;
+}
+
 // What the page says of its own recovery.
 function footWords(differing) {
     const stops = run.writes.length + 1;
@@ -489,7 +530,7 @@ addRuns();
 addChoices("orders", ORDER_WORDS, order, (key) => (order = key));
 addChoices("holdings", HOLDING_WORDS, holding, (key) => (holding = key));
 (run.told.questions || []).forEach(addQuestion);
-element("title").textContent = run.told.title;
+element("title").textContent = tried.size ? "A run at each of its stops" : run.told.title;
 element("about").textContent = `${counted(run.writes.length, "write")}, ${counted(steps.length, "step")}, ${run.size} blocks. Move the line: ← → a step, Page Up, Page Down a write.`;
 element("at").max = steps.length;
 element("at").oninput = () => go(Number(element("at").value) - 1);
@@ -503,5 +544,7 @@ addEventListener("resize", () => {
 });
 refresh();
 const differing = differingStops(run.told);
-element("foot").textContent = (run.told.version ? `${run.told.version}. Schedule: ${run.told.schedule}. ` : "") + footWords(differing);
-document.body.dataset.differing = differing;
+const differingFound = tried.size ? differingTried(run.told) : 0;
+element("foot").textContent = (run.told.version ? `${run.told.version}. Schedule: ${run.told.schedule}. ` : "")
+    + (tried.size ? `${triedFoot(differingFound)} ` : "") + footWords(differing);
+document.body.dataset.differing = differing + differingFound;

@@ -5,25 +5,20 @@ use Rattle.blocks.specs.Disk.{Image}
 use Rattle.json_lines.specs.declared.written.Written.{Written}
 use Rattle.model.specs.Layout.{inode_count_of}
 use Rattle.pictures.specs.Along.{left_along}
+use Rattle.pictures.specs.declared.stops.Column.{Column}
+use Rattle.pictures.specs.declared.stops.Lost.{Lost}
 use Rattle.player.specs.Told.{Told, in_objects, is_last_told}
 use Rattle.player.specs.Turns.{IfLast, Turns}
 use Rattle.scripts.specs.declared.schedule.Word.{Word}
 use Rattle.scripts.specs.declared.script.Task.{Task}
-use Rattle.commands.specs.Copied.{copied_image}
+use Rattle.commands_runs.specs.Images.{opened_image}
 use Rattle.commands_drawing.specs.Drawn.{IsDrawn}
 use Rattle.explorer_page.specs.Page.{data_text, explorer_text}
-use Rattle.commands_runs.specs.Explored.{HearsObjects, IsBegun, IsExplored, IsPage, steps_of, steps_then, stops_among, told_objects}
+use Rattle.commands_runs.specs.Explored.{HeardAll, HearsObjects, IsBegun, IsExplored, IsPage, steps_of, steps_then, stops_among, told_objects}
 use Rattle.commands_runs.specs.Filed.{AreFiled, HasFiles}
 use Rattle.commands_runs.specs.Pictures.{IsMadeOf}
 use Rattle.commands_runs.specs.declared.gathered.Gathered.{Gathered}
 use Rattle.commands_runs.specs.declared.scene.Scene.{Scene}
-
--- turns were heard of
-pub record HeardAll (tolds : List Told) (a b : Gathered) : Type 0 where
-  pub count : b.inode_count ≡ a.inode_count
-  pub writes : b.written.items ≡ a.written.items
-  pub steps : b.steps ≡ left_along steps_then a.steps tolds
-  pub text : b.short ≡ false → (a.short ≡ false) × (b.text.items ≡ a.text.items ++ told_objects a.written.items a.inode_count tolds)
 
 heard_none : (a : Gathered) → HeardAll [] a a
 heard_none a = record { count = refl; writes = refl; steps = refl; text = λ whole. (whole, sym (append-nil a.text.items)) }
@@ -74,7 +69,7 @@ module _ {F : Type 0} (contents : F → Option (List ℕ)) (holds : Bool) (x : I
   pub of_steps : (P : ℕ → Type 0) → P b.steps → P (steps_of tolds)
   of_steps P so = subst P steps_same so
 
-  module _ (page : IsPage contents scene b) where
+  module _ (tried : List Column) (lost : Option Lost) (page : IsPage contents scene b tried lost) where
     writes_same : b.written.items ≡ begun.written
     writes_same = heard.writes ∙ begun.unheard.writes
 
@@ -84,8 +79,8 @@ module _ {F : Type 0} (contents : F → Option (List ℕ)) (holds : Bool) (x : I
         ∙ ap (λ (ws : List Written). told_objects ws a.inode_count tolds) begun.unheard.writes
         ∙ ap (λ (n : ℕ). told_objects begun.written n tolds) begun.unheard.count
 
-    pub explored_so : (n : ℕ) → scene.inode_count ≡ n → IsExplored contents holds x tasks processes words stop n tolds
-    explored_so n count = let run = scene.anew in subst (λ (m : ℕ). IsExplored contents holds x tasks processes words stop m tolds) count (record {
+    pub explored_so : (n : ℕ) → scene.inode_count ≡ n → IsExplored contents holds x tasks processes words stop n tolds tried lost
+    explored_so n count = let run = scene.anew in subst (λ (m : ℕ). IsExplored contents holds x tasks processes words stop m tolds tried lost) count (record {
       written = begun.written;
       files = page.files;
       writes = begun.writes;
@@ -93,10 +88,10 @@ module _ {F : Type 0} (contents : F → Option (List ℕ)) (holds : Bool) (x : I
           (subst (λ (ws : List Word). AreFiled (HasFiles holds x run.tasks.items processes ws) (stops_among begun.written) page.files) made.words
           (subst (λ (k : ℕ). AreFiled (HasFiles holds x run.tasks.items k run.words.items) (stops_among begun.written) page.files) made.processes
           (subst (λ (y : Image). AreFiled (HasFiles holds y run.tasks.items run.processes run.words.items) (stops_among begun.written) page.files) made.image
-          (subst (λ (h : Bool). AreFiled (HasFiles h (copied_image run.copied) run.tasks.items run.processes run.words.items) (stops_among begun.written) page.files) made.holds
-          (subst (λ (ws : List Written). AreFiled (HasFiles run.holds (copied_image run.copied) run.tasks.items run.processes run.words.items) (stops_among ws) page.files) writes_same page.filed)))));
-      drawn = subst (λ (ts : List Task). IsDrawn contents (explorer_text (data_text scene.inode_count holds x ts (told_objects begun.written scene.inode_count tolds) page.files))) made.tasks
-          (subst (λ (y : Image). IsDrawn contents (explorer_text (data_text scene.inode_count holds y run.tasks.items (told_objects begun.written scene.inode_count tolds) page.files))) made.image
-          (subst (λ (h : Bool). IsDrawn contents (explorer_text (data_text scene.inode_count h (copied_image run.copied) run.tasks.items (told_objects begun.written scene.inode_count tolds) page.files))) made.holds
-          (subst (λ (l : List ℕ). IsDrawn contents (explorer_text (data_text scene.inode_count run.holds (copied_image run.copied) run.tasks.items l page.files))) text_same page.drawn)));
+          (subst (λ (h : Bool). AreFiled (HasFiles h (opened_image run.opened) run.tasks.items run.processes run.words.items) (stops_among begun.written) page.files) made.holds
+          (subst (λ (ws : List Written). AreFiled (HasFiles run.holds (opened_image run.opened) run.tasks.items run.processes run.words.items) (stops_among ws) page.files) writes_same page.filed)))));
+      drawn = subst (λ (ts : List Task). IsDrawn contents (explorer_text (data_text scene.inode_count holds x ts (told_objects begun.written scene.inode_count tolds) page.files tried lost))) made.tasks
+          (subst (λ (y : Image). IsDrawn contents (explorer_text (data_text scene.inode_count holds y run.tasks.items (told_objects begun.written scene.inode_count tolds) page.files tried lost))) made.image
+          (subst (λ (h : Bool). IsDrawn contents (explorer_text (data_text scene.inode_count h (opened_image run.opened) run.tasks.items (told_objects begun.written scene.inode_count tolds) page.files tried lost))) made.holds
+          (subst (λ (l : List ℕ). IsDrawn contents (explorer_text (data_text scene.inode_count run.holds (opened_image run.opened) run.tasks.items l page.files tried lost))) text_same page.drawn)));
     })

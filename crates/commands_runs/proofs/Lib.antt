@@ -6,3 +6,4 @@ pub mod Leaving
 pub mod Keeping
 pub mod Gathering
 pub mod Walks
+pub mod WholeRuns

@@ -14,7 +14,7 @@ use Rattle.player.specs.Told.{Told, in_lines, is_last_told}
 use Rattle.player.specs.Turns.{IfLast, Turns}
 use Rattle.scripts.specs.declared.schedule.Word.{Word}
 use Rattle.scripts.specs.declared.script.Task.{Task}
-use Rattle.commands.specs.Copied.{copied_image}
+use Rattle.commands_runs.specs.Images.{opened_image}
 use Rattle.commands_runs.specs.Pictures.{HasNoPicture, HasPicture, IsMadeOf, IsPictured, IsSceneOf, IsUndrawn, IsUnpictured}
 use Rattle.commands_runs.specs.Recorded.{hear_of, none_recorded, recorded}
 use Rattle.commands_runs.specs.Runs.{IsReplayedSo}
@@ -39,16 +39,16 @@ module _ {T S : Type 0} (hears : Word → Told → T → T → Type 0) (state_of
 -- what was drawn of a run that this was made of
 pub pictured_of : {F : Type 0} (contents : F → Option (List ℕ)) (anew : Anew) (holds : Bool) (x : Image) (tasks : List Task) (processes : ℕ) (words : List Word) (n m : ℕ) (r s : Recorder) →
     IsMadeOf anew holds x tasks processes words → n ≡ m → r ≡ s →
-    IsPictured contents anew.holds (copied_image anew.copied) anew.tasks.items anew.processes anew.words.items n r →
+    IsPictured contents anew.holds (opened_image anew.opened) anew.tasks.items anew.processes anew.words.items n r →
     IsPictured contents holds x tasks processes words m s
 pictured_of contents anew holds x tasks processes words n m r s made count same drawn =
     subst (λ (ts : List Task). IsPictured contents holds x ts processes words m s) made.tasks
     (subst (λ (ws : List Word). IsPictured contents holds x anew.tasks.items processes ws m s) made.words
     (subst (λ (k : ℕ). IsPictured contents holds x anew.tasks.items k anew.words.items m s) made.processes
     (subst (λ (y : Image). IsPictured contents holds y anew.tasks.items anew.processes anew.words.items m s) made.image
-    (subst (λ (h : Bool). IsPictured contents h (copied_image anew.copied) anew.tasks.items anew.processes anew.words.items m s) made.holds
-    (subst (λ (k : ℕ). IsPictured contents anew.holds (copied_image anew.copied) anew.tasks.items anew.processes anew.words.items k s) count
-    (subst (λ (q : Recorder). IsPictured contents anew.holds (copied_image anew.copied) anew.tasks.items anew.processes anew.words.items n q) same drawn))))))
+    (subst (λ (h : Bool). IsPictured contents h (opened_image anew.opened) anew.tasks.items anew.processes anew.words.items m s) made.holds
+    (subst (λ (k : ℕ). IsPictured contents anew.holds (opened_image anew.opened) anew.tasks.items anew.processes anew.words.items k s) count
+    (subst (λ (q : Recorder). IsPictured contents anew.holds (opened_image anew.opened) anew.tasks.items anew.processes anew.words.items n q) same drawn))))))
 
 -- a replay by a teller with this detail, of which this is recorded
 pub heard_so : {F : Type 0} (told asked : Detail) (stop : ℕ) (old new : Option (List ℕ)) (was heard is : Recorder) (holds : Bool) (scene : Scene) (d e : FileDisk F) → told ≡ asked → is ≡ heard → IsReplayedSo (in_lines told) stop old new (IsSceneOf was heard holds scene) d e
@@ -63,7 +63,7 @@ module _ {F : Type 0} (contents : F → Option (List ℕ)) (detail : Detail) (st
   same = so.more.heard ∙ ap (λ r. left_along hear_of r so.tolds) none
 
   -- the run was drawn
-  pub pictured : is.steps ≤ 2000 → IsPictured contents scene.anew.holds (copied_image scene.anew.copied) scene.anew.tasks.items scene.anew.processes scene.anew.words.items scene.inode_count is → IsReplayedSo (in_lines detail) stop old new (HasPicture contents holds) d e
+  pub pictured : is.steps ≤ 2000 → IsPictured contents scene.anew.holds (opened_image scene.anew.opened) scene.anew.tasks.items scene.anew.processes scene.anew.words.items scene.inode_count is → IsReplayedSo (in_lines detail) stop old new (HasPicture contents holds) d e
   pictured fits drawn = record {
     tasks = so.tasks;
     processes = so.processes;

@@ -1,5 +1,5 @@
 -- A run that was replayed, and its page made, or not.
-use Rattle.std.proofs.Common.{◌∙◌, ◌≡◌, ◌≤◌, ℕ, Bool, List, Option, None, refl, sym, subst}
+use Rattle.std.proofs.Common.{◌∙◌, ◌≡◌, ◌≤◌, ℕ, Bool, List, [], Option, None, refl, sym, subst}
 use Rattle.blocks.specs.Disk.{Image}
 use Rattle.blocks.specs.declared.file.FileDisk.{FileDisk}
 use Rattle.cmd.specs.Lemmas.Disks.{faulty_disk, file_disk}
@@ -10,8 +10,8 @@ use Rattle.player.specs.Opening.{Replays}
 use Rattle.player.specs.Told.{Told, in_lines}
 use Rattle.scripts.specs.declared.schedule.Word.{Word}
 use Rattle.scripts.specs.declared.script.Task.{Task}
-use Rattle.commands_runs.proofs.Gathering.{HeardAll, explored_so, few_steps, of_steps}
-use Rattle.commands_runs.specs.Explored.{HasExplorer, HasNoExplorer, IsBegun, IsPage, IsUnexplored, IsUntold}
+use Rattle.commands_runs.proofs.Gathering.{explored_so, few_steps, of_steps}
+use Rattle.commands_runs.specs.Explored.{HasExplorer, HasNoExplorer, HeardAll, IsBegun, IsPage, IsUnexplored, IsUntold}
 use Rattle.commands_runs.specs.Pictures.{IsMadeOf}
 use Rattle.commands_runs.specs.Runs.{IsReplayedSo}
 use Rattle.commands_runs.specs.declared.gathered.Gathered.{Gathered}
@@ -28,7 +28,7 @@ module _ {F : Type 0} (contents : F → Option (List ℕ)) (holds : Bool) (a d e
   replayed : Replays file_disk faulty_disk d e tasks processes words stop (in_lines asked) None old new tolds
   replayed = subst (λ (o : Detail). Replays file_disk faulty_disk d e tasks processes words stop (in_lines o) None old new tolds) detail told
 
-  pub explored_all : is.steps ≤ 10000 → IsPage contents scene is → IsReplayedSo (in_lines asked) stop old new (HasExplorer contents holds stop) d e
+  pub explored_all : is.steps ≤ 10000 → IsPage contents scene is [] None → IsReplayedSo (in_lines asked) stop old new (HasExplorer contents holds stop) d e
   explored_all few page = record {
     tasks = tasks;
     processes = processes;
@@ -39,7 +39,7 @@ module _ {F : Type 0} (contents : F → Option (List ℕ)) (holds : Bool) (a d e
       few_steps contents holds (file_disk.image a) tasks processes words stop scene was is tolds made begun heard few,
       explored_so contents holds (file_disk.image d) tasks processes words stop scene was is tolds
           (subst (λ (x : Image). IsMadeOf scene.anew holds x tasks processes words) (sym image) made)
-          (subst (λ (x : Image). IsBegun holds x tasks processes words stop scene.inode_count was) (sym image) begun) heard page _
+          (subst (λ (x : Image). IsBegun holds x tasks processes words stop scene.inode_count was) (sym image) begun) heard [] None page _
           (subst (λ (x : Image). scene.inode_count ≡ inode_count_of x) (sym image) count),
     );
   }

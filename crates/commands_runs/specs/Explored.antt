@@ -10,11 +10,13 @@ use Rattle.json_lines.specs.declared.written.Written.{Written}
 use Rattle.messages.specs.declared.deeds.Detail.{Detail}
 use Rattle.model.specs.Layout.{inode_count_of}
 use Rattle.pictures.specs.Along.{left_along}
+use Rattle.pictures.specs.declared.stops.Column.{Column}
+use Rattle.pictures.specs.declared.stops.Lost.{Lost}
 use Rattle.pictures.specs.declared.types.FilesThen.{FilesThen}
 use Rattle.player.specs.Told.{Told, in_lines, in_objects}
 use Rattle.scripts.specs.declared.schedule.Word.{Word}
 use Rattle.scripts.specs.declared.script.Task.{Task}
-use Rattle.commands.specs.Copied.{copied_image}
+use Rattle.commands_runs.specs.Images.{opened_image}
 use Rattle.commands_drawing.specs.Drawn.{IsDrawn}
 use Rattle.commands_runs.specs.Filed.{AreFiled, HasFiles, first_stop}
 use Rattle.commands_runs.specs.Runs.{IsReplayedSo, IsUnreplayed}
@@ -50,6 +52,18 @@ pub record HearsObjects (told : Told) (old new : Gathered) : Type 0 where
   pub text : new.short ≡ false
       → (old.short ≡ false) × (new.text.items ≡ old.text.items ++ turn_objects old told)
 
+-- the objects of turns, in a run of these writes over an image of n inode numbers
+abbrev pub told_objects : List Written → ℕ → List Told → List ℕ
+told_objects written n tolds = flat_map ((in_objects written).of_turn n) tolds
+
+-- turns were heard of
+pub record HeardAll (tolds : List Told) (a b : Gathered) : Type 0 where
+  pub count : b.inode_count ≡ a.inode_count
+  pub writes : b.written.items ≡ a.written.items
+  pub steps : b.steps ≡ left_along steps_then a.steps tolds
+  pub text : b.short ≡ false → (a.short ≡ false)
+      × (b.text.items ≡ a.text.items ++ told_objects a.written.items a.inode_count tolds)
+
 -- ---- the stops at which the files change
 
 -- the write of a header that names homes: they are at most 30, so one byte has their number
@@ -79,29 +93,27 @@ stops_among written = first_stop ∷ stops_from 1 written
 abbrev pub steps_of : List Told → ℕ
 steps_of tolds = left_along steps_then 0 tolds
 
--- the objects of turns, in a run of these writes over an image of n inode numbers
-abbrev pub told_objects : List Written → ℕ → List Told → List ℕ
-told_objects written n tolds = flat_map ((in_objects written).of_turn n) tolds
-
 -- A file got the page of a run of these operations, in the turns of these words, over a disk whose image
 -- was x: of the turns that were told, with the bytes of its writes, and with the files at the opening and
--- behind each write with which a group was committed, each time those that a stop there leaves.
+-- behind each write with which a group was committed, each time those that a stop there leaves; and of
+-- stops that were tried.
 pub record IsExplored {F : Type 0} (contents : F → Option (List ℕ)) (holds : Bool) (x : Image)
     (tasks : List Task) (processes : ℕ) (words : List Word) (stop inode_count : ℕ) (tolds : List Told)
-    : Type 0 where
+    (tried : List Column) (lost : Option Lost) : Type 0 where
   pub written : List Written
   pub files : List FilesThen
   pub writes : AreItsWrites holds x tasks processes words stop written
   pub filed : AreFiled (HasFiles holds x tasks processes words) (stops_among written) files
   pub drawn : IsDrawn contents (explorer_text
-      (data_text inode_count holds x tasks (told_objects written inode_count tolds) files))
+      (data_text inode_count holds x tasks (told_objects written inode_count tolds) files tried
+      lost))
 
--- it has so many steps, and a file got it
+-- it has so many steps, and a file got it; no stop of it was tried
 abbrev pub HasExplorer : {F : Type 0} → (F → Option (List ℕ)) → Bool → ℕ → List Task → ℕ → List Word
     → List Told → FileDisk F → FileDisk F → Type 0
 HasExplorer contents holds stop tasks processes words tolds d e = (steps_of tolds ≤ 10000)
     × IsExplored contents holds (file_disk.image d) tasks processes words stop
-    (inode_count_of (file_disk.image d)) tolds
+    (inode_count_of (file_disk.image d)) tolds [] None
 
 -- ---- a run before it, and its page before it is known what was told
 
@@ -112,16 +124,17 @@ pub record IsBegun (holds : Bool) (x : Image) (tasks : List Task) (processes : �
   pub unheard : IsUnheard inode_count written g
   pub writes : AreItsWrites holds x tasks processes words stop written
 
--- a file got the page of what was gathered of a run
+-- a file got the page of what was gathered of a run, and of stops that were tried
 pub record IsPage {F : Type 0} (contents : F → Option (List ℕ)) (scene : Scene) (g : Gathered)
-    : Type 0 where
+    (tried : List Column) (lost : Option Lost) : Type 0 where
   pub files : List FilesThen
   pub whole : g.short ≡ false
-  pub filed : AreFiled (HasFiles scene.anew.holds (copied_image scene.anew.copied)
+  pub filed : AreFiled (HasFiles scene.anew.holds (opened_image scene.anew.opened)
       scene.anew.tasks.items scene.anew.processes scene.anew.words.items)
       (stops_among g.written.items) files
   pub drawn : IsDrawn contents (explorer_text (data_text scene.inode_count scene.anew.holds
-      (copied_image scene.anew.copied) scene.anew.tasks.items g.text.items files))
+      (opened_image scene.anew.opened) scene.anew.tasks.items g.text.items files tried
+      lost))
 
 -- ---- why none did
 

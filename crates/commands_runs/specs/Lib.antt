@@ -1,3 +1,4 @@
+pub mod Images
 pub mod Cats
 pub mod Runs
 pub mod Recorded
@@ -6,5 +7,6 @@ pub mod Filed
 pub mod Writes
 pub mod Objects
 pub mod Explored
+pub mod Tried
 pub mod Pictures
 pub mod Pages

@@ -13,7 +13,7 @@ use Rattle.pictures.specs.declared.types.FilesThen.{FilesThen}
 use Rattle.player.specs.Told.{Told, in_lines}
 use Rattle.scripts.specs.declared.schedule.Word.{Word}
 use Rattle.scripts.specs.declared.script.Task.{Task}
-use Rattle.commands.specs.Copied.{copied_image}
+use Rattle.commands_runs.specs.Images.{opened_image}
 use Rattle.commands_drawing.specs.Drawn.{IsDrawn, picture_telling}
 use Rattle.commands_runs.specs.Filed.{AreFiled, HasFiles, stops_of}
 use Rattle.commands_runs.specs.Recorded.{hear_of, recorded, run_picture}
@@ -38,7 +38,7 @@ pictured_telling (Picture f) = picture_telling f
 -- image, which holds writes back or doesn't
 pub record IsMadeOf (anew : Anew) (sync : Bool) (x : Image) (ops : List Task) (count : ℕ)
     (turns : List Word) : Type 0 where
-  pub image : copied_image anew.copied ≡ x
+  pub image : opened_image anew.opened ≡ x
   pub holds : anew.holds ≡ sync
   pub tasks : anew.tasks.items ≡ ops
   pub processes : anew.processes ≡ count

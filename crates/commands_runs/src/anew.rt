@@ -9,8 +9,11 @@ ghost use Rattle.commands.specs.Copied.{memory};
 ghost use Rattle.commands_runs.specs.Filed.{LeavesLines, held_memory};
 
 use crate::changes::{Stop, stops_among, stops_of};
+use crate::explorer_teller::ExplorerTeller;
 use crate::file_lines::file_lines;
 use crate::mute::Mute;
+use crate::origin::{Opened, disk_of};
+use crate::telling::{tell_held, tell_over};
 use crate::writes::{writes_held, writes_over};
 use blocks::{Block, Disk, FileDisk, MemDisk, NoMemory, SyncDisk};
 use commands::Copied;
@@ -27,7 +30,7 @@ use std::io::{Seek, Write, sink};
 #[derive(Drop)]
 pub struct Anew {
     /// The blocks of its disk, as it was opened.
-    pub copied: Copied,
+    pub opened: Opened,
     /// Whether the disk holds writes back.
     pub holds: bool,
     /// Its operations.
@@ -44,11 +47,13 @@ impl Anew {
     ghost use Rattle.blocks.specs.Calls.{OnlyReads};
     ghost use Rattle.blocks.specs.FileDisk.{file_of};
     ghost use Rattle.cmd.specs.Lemmas.Disks.{file_disk};
-    ghost use Rattle.commands.specs.Copied.{copied_image};
+    ghost use Rattle.commands_runs.specs.Images.{opened_image};
     ghost use Rattle.commands_runs.specs.Filed.{AreFiled, HasFiles, LeavesFiles, stops_of};
     ghost use Rattle.commands_runs.specs.Explored.{stops_among};
     ghost use Rattle.commands_runs.specs.Pictures.{IsMadeOf};
+    ghost use Rattle.commands_runs.specs.Tried.{HearsOfRun};
     ghost use Rattle.commands_runs.specs.Writes.{AreItsWrites};
+    ghost use Rattle.crash_check.specs.Images.{new_image};
 
     // What a replay of this scenario is made of, over a disk that holds writes back or doesn't. The
     // block is room for one: what it holds afterwards is not said.
@@ -68,7 +73,25 @@ impl Anew {
         ensures file { file_of disk.new ≡ file_of disk.old }
     {
         Ok(Anew {
-            copied: Copied::of(alloc, disk, block)?,
+            opened: Opened::Copied(Copied::of(alloc, disk, block)?),
+            holds,
+            tasks: copies_of(alloc, scenario.tasks.as_slice())?,
+            processes: scenario.processes,
+            words: Vec::from_slice(alloc, scenario.words.as_slice())?,
+        })
+    }
+
+    // What a replay of this scenario is made of, over a new image on a disk that holds writes back or
+    // doesn't.
+    pub fn over_new(alloc: Global, scenario: &Scenario, holds: bool) -> Result<Anew, NoMemory>
+        requires tasks { All (λ task. task.pid < scenario.now.processes) scenario.now.tasks.items }
+        requires words { IsTrue
+            (list_all (is_word_of scenario.now.processes) scenario.now.words.items) }
+        ensures made { IfOk result (λ anew. IsMadeOf anew holds new_image
+            scenario.now.tasks.items scenario.now.processes scenario.now.words.items) }
+    {
+        Ok(Anew {
+            opened: Opened::New,
             holds,
             tasks: copies_of(alloc, scenario.tasks.as_slice())?,
             processes: scenario.processes,
@@ -83,7 +106,7 @@ impl Anew {
         moments: &[Moment],
     ) -> Result<Vec<FilesThen>, NoMemory>
         ensures { IfOk result (λ files. AreFiled (HasFiles self.now.holds
-            (copied_image self.now.copied) self.now.tasks.items self.now.processes
+            (opened_image self.now.opened) self.now.tasks.items self.now.processes
             self.now.words.items) (stops_of moments.now) files.items) }
     {
         let stops = stops_of(alloc, moments)?;
@@ -97,7 +120,7 @@ impl Anew {
         written: &[Written],
     ) -> Result<Vec<FilesThen>, NoMemory>
         ensures { IfOk result (λ files. AreFiled (HasFiles self.now.holds
-            (copied_image self.now.copied) self.now.tasks.items self.now.processes
+            (opened_image self.now.opened) self.now.tasks.items self.now.processes
             self.now.words.items) (stops_among written.now) files.items) }
     {
         let stops = stops_among(alloc, written)?;
@@ -107,7 +130,7 @@ impl Anew {
     // Those at each of these stops.
     fn files_at(&self, alloc: Global, stops: &[Stop]) -> Result<Vec<FilesThen>, NoMemory>
         ensures { IfOk result (λ files. AreFiled (HasFiles self.now.holds
-            (copied_image self.now.copied) self.now.tasks.items self.now.processes
+            (opened_image self.now.opened) self.now.tasks.items self.now.processes
             self.now.words.items) stops.now files.items) }
     {
         let mut files = Vec::new(alloc);
@@ -123,10 +146,10 @@ impl Anew {
 
     // Those that a stop before that write leaves.
     fn lines(&self, alloc: Global, write: u64) -> Result<Vec<FileLine>, NoMemory>
-        ensures { IfOk result (λ lines. LeavesFiles self.now.holds (copied_image self.now.copied)
+        ensures { IfOk result (λ lines. LeavesFiles self.now.holds (opened_image self.now.opened)
             self.now.tasks.items self.now.processes self.now.words.items write lines.items) }
     {
-        let disk = self.copied.disk(alloc)?;
+        let disk = disk_of(alloc, &self.opened)?;
         let scenario = self.scenario(alloc, Some(write))?;
         if self.holds {
             return lines_held(alloc, disk, scenario);
@@ -137,15 +160,31 @@ impl Anew {
     // The writes that it makes, up to the one of that number.
     pub(crate) fn writes(&self, alloc: Global, stop: Option<u64>) -> Result<Vec<Written>, NoMemory>
         ensures { IfOk result (λ written. AreItsWrites self.now.holds
-            (copied_image self.now.copied) self.now.tasks.items self.now.processes
+            (opened_image self.now.opened) self.now.tasks.items self.now.processes
             self.now.words.items (unwrap_or stop 0) written.items) }
     {
-        let disk = self.copied.disk(alloc)?;
+        let disk = disk_of(alloc, &self.opened)?;
         let scenario = self.scenario(alloc, stop)?;
         if self.holds {
             return writes_held(alloc, disk, scenario);
         }
         writes_over(alloc, disk, scenario)
+    }
+
+    // Has a teller hear of the turns of the whole of it. Refused where memory was, also to an operation
+    // of it.
+    pub(crate) fn tell(&self, alloc: Global, teller: &mut ExplorerTeller) -> Result<(), NoMemory>
+        requires new { teller.old.refused ≡ false }
+        ensures { OnOk result (HearsOfRun self.now.holds (opened_image self.now.opened)
+            self.now.tasks.items self.now.processes self.now.words.items
+            teller.old.run teller.new.run) }
+    {
+        let disk = disk_of(alloc, &self.opened)?;
+        let scenario = self.scenario(alloc, None)?;
+        if self.holds {
+            return tell_held(alloc, disk, scenario, teller);
+        }
+        tell_over(alloc, disk, scenario, teller)
     }
 
     fn scenario(&self, alloc: Global, stop: Option<u64>) -> Result<Scenario, NoMemory>

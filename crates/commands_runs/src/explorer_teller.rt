@@ -1,9 +1,11 @@
 // Who prints of turns what is told of them, and gathers the objects of their steps.
-ghost use Rattle.std.specs.Prelude.{◌≡◌, IfOk};
+ghost use Rattle.std.specs.Prelude.{◌≡◌, IfOk, false};
 ghost use Rattle.player.specs.Told.{in_lines};
 ghost use Rattle.commands_runs.specs.Explored.{HearsObjects, IsUnheard};
+ghost use Rattle.commands_runs.specs.Filed.{wants_then};
 
 use crate::gathered::Gathered;
+use crate::mute::{either, wants_in};
 use blocks::{Disk, NoMemory};
 use json_lines::Written;
 use messages::{Detail, Event, Unwritten};
@@ -12,11 +14,13 @@ use scripts::Word;
 use std::alloc::Global;
 use std::io::Write;
 
-/// Prints as `StepTeller`, and gathers the objects of the steps of each turn, and of the turn.
+/// Prints as `StepTeller`, and gathers the objects of the steps of each turn, and of the turn. It knows
+/// whether memory was refused to an operation.
 #[derive(Drop)]
 pub struct ExplorerTeller {
     lines: StepTeller,
     run: Gathered,
+    pub refused: bool,
 }
 
 impl ExplorerTeller {
@@ -30,10 +34,12 @@ impl ExplorerTeller {
     ) -> Result<ExplorerTeller, NoMemory>
         ensures detail { IfOk result (λ teller. teller.lines.detail ≡ detail) }
         ensures none { IfOk result (λ teller. IsUnheard inode_count written.items teller.run) }
+        ensures served { IfOk result (λ teller. teller.refused ≡ false) }
     {
         Ok(ExplorerTeller {
             lines: StepTeller::new(alloc, detail)?,
             run: Gathered::new(alloc, inode_count, written),
+            refused: false,
         })
     }
 
@@ -49,7 +55,8 @@ impl Teller for ExplorerTeller {
     ghost says = { λ teller. in_lines teller.lines.detail };
 
     ghost hears = { λ word told old new. (new.lines.detail ≡ old.lines.detail)
-        × (new.lines.notes ≡ told.notes) × HearsObjects told old.run new.run };
+        × (new.lines.notes ≡ told.notes) × (new.refused ≡ wants_then old.refused told)
+        × HearsObjects told old.run new.run };
 
     fn turn<D: Disk + Drop>(
         &mut self,
@@ -60,6 +67,7 @@ impl Teller for ExplorerTeller {
     ) -> Event {
         let event = self.lines.turn(player, word, stop, base);
         self.run.hear(&event, self.lines.notes());
+        self.refused = either(self.refused, wants_in(&event));
         event
     }
 

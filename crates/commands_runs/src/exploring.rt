@@ -17,6 +17,7 @@ ghost use Rattle.commands_runs.specs.Runs.{IsReplayedSo};
 use crate::anew::Anew;
 use crate::explorer_teller::ExplorerTeller;
 use crate::gathered::Gathered;
+use crate::origin::disk_of;
 use crate::picturing::PicturedRefusal;
 use crate::runs::{Replay, ReplayFilesRefusal, read_replay};
 use crate::scene::Scene;
@@ -27,6 +28,7 @@ use commands_drawing::draw;
 use explorer_page::Explorer;
 use layout::superblock;
 use messages::{Detail, Meter};
+use pictures::{Column, Lost};
 use player::{Scenario, replay_with};
 use std::alloc::Global;
 use std::fs::OpenFile;
@@ -113,7 +115,7 @@ fn explore<R: Files + AllocGlobal, P: Meter, H: Holder<R::File>, O: Write>(
     };
     let (ran, _disk) = replay_with(rt.alloc(), disk, scenario, &mut teller, progress, out);
     match ran {
-        Ok(()) => make_page(rt, page, &scene, teller.run(), holder),
+        Ok(()) => make_page(rt, page, &scene, teller.run(), &[], None, holder),
         Err(refusal) => Err(PicturedRefusal::Replay(ReplayFilesRefusal::Replay(refusal))),
     }
 }
@@ -144,13 +146,13 @@ fn take_scene<F: Write + Seek + OpenFile + Drop>(
     let mut block = Block::zeroed(alloc)?;
     let anew = Anew::of(alloc, disk, scenario, sync, &mut block)?;
     let written = anew.writes(alloc, scenario.stop)?;
-    let inode_count = inode_count_on(&anew.copied.disk(alloc)?);
+    let inode_count = inode_count_on(&disk_of(alloc, &anew.opened)?);
     let teller = ExplorerTeller::new(alloc, detail, inode_count, written)?;
     Ok((Scene { inode_count, anew }, teller))
 }
 
 // The inode numbers that the superblock on a disk tells: none where there is no such block.
-fn inode_count_on(disk: &MemDisk) -> u32
+pub(crate) fn inode_count_on(disk: &MemDisk) -> u32
     ensures { result ≡ inode_count_of (memory.image disk.now) }
 {
     if disk.size() < 2 {
@@ -159,16 +161,19 @@ fn inode_count_on(disk: &MemDisk) -> u32
     superblock::read(disk.block(1)).ninodes
 }
 
-// Makes the page of a run.
-fn make_page<R: Files + AllocGlobal, H: Holder<R::File>>(
+// Makes the page of a run, of which these stops were tried.
+pub(crate) fn make_page<R: Files + AllocGlobal, H: Holder<R::File>>(
     rt: &R,
     path: &str,
     scene: &Scene,
     run: &Gathered,
+    columns: &[Column],
+    lost: Option<Lost<'_>>,
     holder: &mut H,
 ) -> Result<(), PicturedRefusal>
     ensures few { OnOk result (run.now.steps ≤ 10000) }
-    ensures made { OnOk result (IsPage R.File.contents scene.now run.now) }
+    ensures made { OnOk result
+        (IsPage R.File.contents scene.now run.now columns.now lost.entry) }
     ensures untold { IfErr result (λ refusal. IsUntold refusal run.now.steps) }
     ensures unbegun { IfErr result (λ refusal. IsUnbegun refusal → holder.new ≡ holder.old) }
 {
@@ -183,7 +188,7 @@ fn make_page<R: Files + AllocGlobal, H: Holder<R::File>>(
         Ok(files) => files,
         Err(_refused) => return Err(PicturedRefusal::Unfiled),
     };
-    let disk = match scene.anew.copied.disk(rt.alloc()) {
+    let disk = match disk_of(rt.alloc(), &scene.anew.opened) {
         Ok(disk) => disk,
         Err(_refused) => return Err(PicturedRefusal::Unfiled),
     };
@@ -194,6 +199,8 @@ fn make_page<R: Files + AllocGlobal, H: Holder<R::File>>(
         tasks: scene.anew.tasks.as_slice(),
         told,
         files: files.as_slice(),
+        columns,
+        lost,
     };
     match draw(rt, path, &explorer, holder) {
         Ok(()) => Ok(()),

@@ -54,13 +54,13 @@ impl Teller for Mute {
 }
 
 // Whether memory was refused to an operation in a turn.
-fn wants_in(event: &Event) -> bool
+pub(crate) fn wants_in(event: &Event) -> bool
     ensures { result ≡ wants_in event.now }
 {
     matches!(event, Event::Stepped(_, Step::NoMemory))
 }
 
-fn either(one: bool, other: bool) -> bool
+pub(crate) fn either(one: bool, other: bool) -> bool
     ensures { result ≡ (one || other) }
 {
     one || other

@@ -2,7 +2,7 @@
 ghost use Rattle.std.specs.Prelude.{◌≡◌, ◌≤◌, IfErr, IfOk, OnOk, unwrap_or};
 ghost use Rattle.cmd.specs.Lemmas.Disks.{file_disk};
 ghost use Rattle.cmd.specs.Opened.{OpensDisk};
-ghost use Rattle.commands.specs.Copied.{copied_image};
+ghost use Rattle.commands_runs.specs.Images.{opened_image};
 ghost use Rattle.player.specs.Told.{in_lines};
 ghost use Rattle.commands_runs.specs.Pictures.{
   HasPicture,
@@ -223,7 +223,7 @@ fn draw_run<R: Files + AllocGlobal, H: Holder<R::File>>(
 ) -> Result<(), PicturedRefusal>
     ensures fits { OnOk result (recorder.now.steps ≤ 2000) }
     ensures drawn { OnOk result (IsPictured R.File.contents scene.now.anew.holds
-        (copied_image scene.now.anew.copied) scene.now.anew.tasks.items
+        (opened_image scene.now.anew.opened) scene.now.anew.tasks.items
         scene.now.anew.processes scene.now.anew.words.items scene.now.inode_count
         recorder.now) }
     ensures undrawn { IfErr result (λ refusal. IsUndrawn refusal recorder.now) }

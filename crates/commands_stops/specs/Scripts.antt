@@ -1,5 +1,5 @@
 -- What became of a script that was checked at each of its stops.
-use Rattle.std.specs.Prelude.{ℕ, Bool, List, [], Option}
+use Rattle.std.specs.Prelude.{⊤, ℕ, Bool, List, [], Option}
 use Rattle.scripts.specs.declared.schedule.Word.{Word}
 use Rattle.scripts.specs.declared.script.Task.{Task}
 use Rattle.crash_check.specs.Faults.{mismatch_text, stops_telling}
@@ -45,9 +45,8 @@ pub record IsUncheckedFor (held : Bool) (tried : List Column) (none : Type 0)
   pub words : List Word
   pub refused : IsUnchecked held tasks processes words tried none r
 
--- why a script was not checked: it, or its schedule, could not be had, or an image did not pass;
--- `none` says that nothing was printed
-abbrev pub IsScriptUnchecked : Bool → List Column → Type 0 → StopsRefusal → Type 0
-IsScriptUnchecked held tried none (Script fault) = none
-IsScriptUnchecked held tried none (Schedule fault) = none
-IsScriptUnchecked held tried none (Stops r) = IsUncheckedFor held tried none r
+-- a script, or its schedule, could not be had
+abbrev pub IsUnread : StopsRefusal → Type 0
+IsUnread (Script fault) = ⊤
+IsUnread (Schedule fault) = ⊤
+IsUnread (Stops r) = ⊥

@@ -1,7 +1,11 @@
 // The command that checks a script at each of its stops, over the files that it names.
-ghost use Rattle.std.specs.Prelude.{◌≡◌, ◌≤◌, Err, IfErr, IsOk, OnOk, Some};
+ghost use Rattle.std.specs.Prelude.{◌≡◌, ◌<◌, ◌≤◌, All, Err, IfErr, IfOk, IsOk, IsTrue, None, OnOk, Some};
 ghost use Rattle.std.specs.Io.KnownBytes.{Appends};
-ghost use Rattle.commands_stops.specs.Scripts.{ChecksScript, IsScriptUnchecked, stops_files_telling};
+ghost use Rattle.std.specs.List.{list_all};
+ghost use Rattle.scripts.specs.Schedule.{is_word_of};
+ghost use Rattle.stops.specs.Checks.{ChecksAll, IsUnchecked};
+ghost use Rattle.commands_runs.specs.Runs.{IsScenario};
+ghost use Rattle.commands_stops.specs.Scripts.{IsUnread, stops_files_telling};
 ghost use Rattle.commands_stops.specs.StopsDrawn.{ChecksInto, IsUnbegun, IsUncheckedInto, drawn_stops_telling, unchecked_text};
 
 use crate::stops_drawing::{Undrawn, draw_passed, draw_refused};
@@ -9,7 +13,9 @@ use commands::{Holder, schedule_from, script_from};
 use crash_check::{StopsFault, print_mismatch};
 use messages::{MOST_COLUMNS, Meter, Printed, Reason, Told, Unwritten, print_refusal};
 use pictures::Column;
+use player::Scenario;
 use scripts::{ScheduleFault, ScriptFault, processes};
+use std::alloc::Global;
 use std::io::Write;
 use std::rt::Files;
 use stops::check_stops;
@@ -60,15 +66,19 @@ impl Reason for DrawnStopsRefusal {
     }
 }
 
-/// Checks a script at each of its stops as `stops_files`, and draws these into the file of a path where
-/// one is given, as `draw`: also where an image didn't pass, as the last of them, or where the output
-/// can't be written. The meter is told how many stops were checked.
+/// Makes the operations of a script in the turns of a schedule over a new image in memory, up to each of
+/// the run's writes, and checks the image that each of these stops leaves, as `check_stops`. Where a path
+/// is given as `picture`, a page is then made in the file at it that walks through the whole run, and has
+/// the stops; or, where it is to be plain, one on which these are drawn: also where an image didn't pass,
+/// as the last of them, or where the output can't be written. The meter is told how many stops were
+/// checked.
 ///
 /// # Errors
 ///
-/// `NoMemory`, and then nothing was done; `Stops` with a refusal of `stops_files`, and what kept those
-/// stops from being drawn that were tried by then, if anything did; `Picture` where the check was done and
-/// printed, and its stops aren't drawn: more than 2000 of them never are.
+/// `NoMemory`, and then nothing was done; `Stops` with a fault of the script, then of the schedule, then a
+/// refusal of `check_stops`, and what kept those stops from a page that were tried by then, if anything
+/// did; `Picture` where the check was done and printed, and there is no page: never of more than 10,000
+/// steps, nor a plain one of more than 2000 stops.
 pub fn stops_into<R: Files + AllocGlobal, P: Meter, H: Holder<R::File>, O: Write>(
     rt: &R,
     script: &str,
@@ -76,29 +86,34 @@ pub fn stops_into<R: Files + AllocGlobal, P: Meter, H: Holder<R::File>, O: Write
     held: bool,
     json: bool,
     picture: Option<&str>,
+    plain: bool,
     progress: &mut P,
     holder: &mut H,
     out: &mut O,
 ) -> Result<(), DrawnStopsRefusal>
-    ensures checked { OnOk result (ChecksInto R.File.contents json held
+    ensures checked { OnOk result (ChecksInto R.File.contents json held plain
         (O.contents out.old) (O.contents out.new) picture.entry) }
-    ensures refused { IfErr result (IsUncheckedInto R.File.contents json held
+    ensures refused { IfErr result (IsUncheckedInto R.File.contents json held plain
         (O.contents out.old) (O.contents out.new) (out.new ≡ out.old) picture.entry) }
     ensures unbegun { IfErr result (λ refusal. IsUnbegun refusal → holder.new ≡ holder.old) }
 {
     if let Some(path) = picture {
         return stops_pictured(
-            rt, script, schedule, held, json, path, progress, holder, out,
+            rt, script, schedule, held, json, path, plain, progress, holder, out,
         );
     }
+    let scenario = match read_scenario(rt, script, schedule) {
+        Ok(scenario) => scenario,
+        Err(refusal) => return Err(DrawnStopsRefusal::Stops(refusal, Ok(()))),
+    };
     let mut tried = Vec::new(rt.alloc());
-    match stops_files(rt, script, schedule, held, json, &mut tried, progress, out) {
+    match stops_of(rt.alloc(), &scenario, held, json, &mut tried, progress, out) {
         Ok(()) => Ok(()),
-        Err(refusal) => Err(DrawnStopsRefusal::Stops(refusal, Ok(()))),
+        Err(refusal) => Err(DrawnStopsRefusal::Stops(StopsRefusal::Stops(refusal), Ok(()))),
     }
 }
 
-// The same with a picture at this path.
+// The same with a page at this path.
 fn stops_pictured<R: Files + AllocGlobal, P: Meter, H: Holder<R::File>, O: Write>(
     rt: &R,
     script: &str,
@@ -106,13 +121,14 @@ fn stops_pictured<R: Files + AllocGlobal, P: Meter, H: Holder<R::File>, O: Write
     held: bool,
     json: bool,
     path: &str,
+    plain: bool,
     progress: &mut P,
     holder: &mut H,
     out: &mut O,
 ) -> Result<(), DrawnStopsRefusal>
-    ensures checked { OnOk result (ChecksInto R.File.contents json held
+    ensures checked { OnOk result (ChecksInto R.File.contents json held plain
         (O.contents out.old) (O.contents out.new) (Some path)) }
-    ensures refused { IfErr result (IsUncheckedInto R.File.contents json held
+    ensures refused { IfErr result (IsUncheckedInto R.File.contents json held plain
         (O.contents out.old) (O.contents out.new) (out.new ≡ out.old) (Some path)) }
     ensures unbegun { IfErr result (λ refusal. IsUnbegun refusal → holder.new ≡ holder.old) }
 {
@@ -120,54 +136,75 @@ fn stops_pictured<R: Files + AllocGlobal, P: Meter, H: Holder<R::File>, O: Write
         Ok(tried) => tried,
         Err(_refused) => return Err(DrawnStopsRefusal::NoMemory),
     };
-    match stops_files(rt, script, schedule, held, json, &mut tried, progress, out) {
-        Ok(()) => match draw_passed(rt, path, tried.as_slice(), holder) {
+    let scenario = match read_scenario(rt, script, schedule) {
+        Ok(scenario) => scenario,
+        Err(refusal) => return Err(DrawnStopsRefusal::Stops(refusal, Ok(()))),
+    };
+    let checked = stops_of(rt.alloc(), &scenario, held, json, &mut tried, progress, out);
+    match checked {
+        Ok(()) => match draw_passed(rt, path, plain, held, &scenario, tried.as_slice(), holder) {
             Ok(()) => Ok(()),
             Err(undrawn) => Err(DrawnStopsRefusal::Picture(undrawn)),
         },
         Err(refusal) => {
-            let drawn = draw_refused(rt, path, tried.as_slice(), &refusal, holder);
-            Err(DrawnStopsRefusal::Stops(refusal, drawn))
+            let columns = tried.as_slice();
+            let drawn = draw_refused(rt, path, plain, held, &scenario, columns, &refusal, holder);
+            Err(DrawnStopsRefusal::Stops(StopsRefusal::Stops(refusal), drawn))
         }
     }
 }
 
-// Makes the operations of a script in the turns of a schedule over a new image in memory, up to each of
-// the run's writes, and checks the image that each of these stops leaves, as `check_stops`, which puts
-// those that passed into `tried`. It is refused with a fault of the script, then of the schedule, then as
-// `check_stops`.
-fn stops_files<R: Files + AllocGlobal, P: Meter, O: Write>(
+// What a script and a schedule have to be made. It is refused with a fault of the script, then of the
+// schedule.
+fn read_scenario<R: Files + AllocGlobal>(
     rt: &R,
     script: &str,
     schedule: &str,
+) -> Result<Scenario, StopsRefusal>
+    ensures scenario { IfOk result (IsScenario None) }
+    ensures refused { IfErr result IsUnread }
+{
+    let tasks = script_from(rt, script).map_err(StopsRefusal::Script)?;
+    let processes = processes(tasks.as_slice());
+    let words = schedule_from(rt, schedule, processes).map_err(StopsRefusal::Schedule)?;
+    Ok(Scenario {
+        tasks,
+        processes,
+        words,
+        stop: None,
+    })
+}
+
+// Checks a scenario at each of its stops, as `check_stops`, which puts those that passed into `tried`.
+fn stops_of<P: Meter, O: Write>(
+    alloc: Global,
+    scenario: &Scenario,
     held: bool,
     json: bool,
     tried: &mut Vec<Column>,
     progress: &mut P,
     out: &mut O,
-) -> Result<(), StopsRefusal>
-    ensures checked { OnOk result (ChecksScript json held tried.new.items
+) -> Result<(), Printed<StopsFault>>
+    requires tasks { All (λ task. task.pid < scenario.now.processes) scenario.now.tasks.items }
+    requires words { IsTrue
+        (list_all (is_word_of scenario.now.processes) scenario.now.words.items) }
+    ensures checked { OnOk result (ChecksAll json held scenario.now.tasks.items
+        scenario.now.processes scenario.now.words.items tried.new.items
         (O.contents out.old) (O.contents out.new)) }
-    ensures refused { IfErr result (IsScriptUnchecked held tried.new.items (out.new ≡ out.old)) }
+    ensures refused { IfErr result (IsUnchecked held scenario.now.tasks.items
+        scenario.now.processes scenario.now.words.items tried.new.items (out.new ≡ out.old)) }
 {
-    let tasks = script_from(rt, script).map_err(StopsRefusal::Script)?;
-    let processes = processes(tasks.as_slice());
-    let words = schedule_from(rt, schedule, processes).map_err(StopsRefusal::Schedule)?;
-    let checked = check_stops(
-        rt.alloc(),
-        tasks.as_slice(),
-        processes,
-        words.as_slice(),
+    check_stops(
+        alloc,
+        scenario.tasks.as_slice(),
+        scenario.processes,
+        scenario.words.as_slice(),
         held,
         json,
         tried,
         progress,
         out,
-    );
-    match checked {
-        Ok(()) => Ok(()),
-        Err(refusal) => Err(StopsRefusal::Stops(refusal)),
-    }
+    )
 }
 
 /// Ends the command: says to `err` why it was refused, if it was, by a line of the program of that

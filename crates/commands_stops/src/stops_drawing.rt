@@ -1,32 +1,41 @@
-// The picture of a script's stops, in the file of a path.
-ghost use Rattle.std.specs.Prelude.{◌≡◌, ◌≤◌, IfErr, IsErrAnd, IsOk, None, OnOk, length};
+// The page of a script's stops, in the file of a path.
+ghost use Rattle.std.specs.Prelude.{◌≡◌, ◌<◌, ◌≤◌, All, IfErr, IsErrAnd, IsOk, IsTrue, None, OnOk, length};
+ghost use Rattle.std.specs.List.{list_all};
+ghost use Rattle.scripts.specs.Schedule.{is_word_of};
 ghost use Rattle.stops.specs.Tried.{at_of};
 ghost use Rattle.commands_stops.specs.StopsDrawn.{
   DrawsLost,
+  DrawsPlain,
   DrawsRefused,
   DrawsStops,
-  HasNone,
-  IsTooLong,
+  HasNoFile,
+  HasNoPage,
   IsUndrawn,
+  IsUnplain,
+  undrawn_of,
   undrawn_telling,
 };
 
-use crate::stopping::StopsRefusal;
 use arrayvec::ArrayVec;
 use commands::Holder;
 use commands_drawing::{PictureFault, draw};
+use commands_runs::{PicturedRefusal, explore_new};
 use crash_check::{Mismatch, Stop, StopsFault, print_mismatch};
 use messages::{MOST_COLUMNS, Printed, Reason, Told};
 use pictures::{Column, Lost, Stops};
+use player::Scenario;
 use std::rt::Files;
 use stops::at_of;
 
-/// Why the stops that were tried aren't drawn.
+/// Why the stops that were tried have no page.
 #[derive(Clone, Copy, Debug)]
 pub enum Undrawn {
-    /// So many passed, which is more than a picture has.
+    /// So many passed, which is more than a plain page has; or the run has so many steps, which is more
+    /// than another has.
     TooLong(u32),
-    /// The picture can't be drawn.
+    /// Memory to make the run once more, or for what is told of it, was refused.
+    NoMemory,
+    /// The page can't be written.
     Picture(PictureFault),
 }
 
@@ -35,33 +44,44 @@ impl Reason for Undrawn {
 
     fn told(&self) -> Told {
         match self {
-            Undrawn::TooLong(stops) => Told::naming("picture", 2, "TooLong", *stops),
+            Undrawn::TooLong(count) => Told::naming("picture", 2, "TooLong", *count),
+            Undrawn::NoMemory => Told::new("picture", 1, "NoMemory"),
             Undrawn::Picture(fault) => fault.told(),
         }
     }
 }
 
-/// Draws the stops of a check each of which passed, into the file of a path, as `draw`.
+/// Makes the page of the stops of a check each of which passed, in the file of a path, as `draw`: a plain
+/// one, on which they are drawn, or one that walks through the whole run of the scenario.
 ///
 /// # Errors
 ///
-/// `TooLong` where there are more than `MOST_COLUMNS`, and then the holder is as it was; `Picture` with a
-/// fault of `draw`.
+/// `TooLong` where it is plain and there are more than `MOST_COLUMNS`, or where it isn't and the run has more
+/// than 10,000 steps; `NoMemory` where it isn't plain; `Picture` with a fault of `draw`. With all but this
+/// the holder is as it was.
 pub fn draw_passed<R: Files + AllocGlobal, H: Holder<R::File>>(
     rt: &R,
     path: &str,
+    plain: bool,
+    held: bool,
+    scenario: &Scenario,
     columns: &[Column],
     holder: &mut H,
 ) -> Result<(), Undrawn>
-    ensures drawn { OnOk result (DrawsStops R.File.contents columns.now None) }
-    ensures undrawn { IfErr result (λ undrawn. IsUndrawn undrawn columns.now) }
-    ensures long { IfErr result (λ undrawn. IsTooLong undrawn → holder.new ≡ holder.old) }
+    requires tasks { All (λ task. task.pid < scenario.now.processes) scenario.now.tasks.items }
+    requires words { IsTrue
+        (list_all (is_word_of scenario.now.processes) scenario.now.words.items) }
+    ensures drawn { OnOk result (DrawsStops R.File.contents plain held scenario.now.tasks.items
+        scenario.now.processes scenario.now.words.items columns.now None) }
+    ensures undrawn { IfErr result (IsUndrawn plain held scenario.now.tasks.items
+        scenario.now.processes scenario.now.words.items columns.now) }
+    ensures unbegun { IfErr result (λ undrawn. HasNoFile undrawn → holder.new ≡ holder.old) }
 {
-    draw_stops(rt, path, columns, None, holder)
+    draw_stops(rt, path, plain, held, scenario, columns, None, holder)
 }
 
-/// Draws the stops that were tried where a check was refused: those that passed, and behind them the one
-/// that didn't; all, where only the output can't be written; none with another refusal, and then the
+/// Makes that of the stops that were tried where a check was refused: those that passed, and behind them the
+/// one that didn't; all, where only the output can't be written; none with another refusal, and then the
 /// holder is as it was.
 ///
 /// # Errors
@@ -70,43 +90,57 @@ pub fn draw_passed<R: Files + AllocGlobal, H: Holder<R::File>>(
 pub fn draw_refused<R: Files + AllocGlobal, H: Holder<R::File>>(
     rt: &R,
     path: &str,
+    plain: bool,
+    held: bool,
+    scenario: &Scenario,
     columns: &[Column],
-    refusal: &StopsRefusal,
+    refusal: &Printed<StopsFault>,
     holder: &mut H,
 ) -> Result<(), Undrawn>
-    ensures drawn { OnOk result (DrawsRefused R.File.contents columns.now refusal.now) }
-    ensures undrawn { IfErr result (λ undrawn. IsUndrawn undrawn columns.now) }
-    ensures none { HasNone refusal.now → IsOk result }
-    ensures untouched { HasNone refusal.now → holder.new ≡ holder.old }
+    requires tasks { All (λ task. task.pid < scenario.now.processes) scenario.now.tasks.items }
+    requires words { IsTrue
+        (list_all (is_word_of scenario.now.processes) scenario.now.words.items) }
+    ensures drawn { OnOk result (DrawsRefused R.File.contents plain held scenario.now.tasks.items
+        scenario.now.processes scenario.now.words.items columns.now refusal.now) }
+    ensures undrawn { IfErr result (IsUndrawn plain held scenario.now.tasks.items
+        scenario.now.processes scenario.now.words.items columns.now) }
+    ensures none { HasNoPage refusal.now → IsOk result }
+    ensures untouched { HasNoPage refusal.now → holder.new ≡ holder.old }
 {
     match refusal {
-        StopsRefusal::Script(_) => Ok(()),
-        StopsRefusal::Schedule(_) => Ok(()),
-        StopsRefusal::Stops(Printed::Fault(StopsFault::NoMemory)) => Ok(()),
-        StopsRefusal::Stops(Printed::Fault(StopsFault::Mismatch(mismatch))) => {
-            draw_lost(rt, path, columns, mismatch, holder)
+        Printed::Fault(StopsFault::NoMemory) => Ok(()),
+        Printed::Fault(StopsFault::Mismatch(mismatch)) => {
+            draw_lost(rt, path, plain, held, scenario, columns, mismatch, holder)
         }
-        StopsRefusal::Stops(Printed::Output) => draw_passed(rt, path, columns, holder),
+        Printed::Output => draw_passed(rt, path, plain, held, scenario, columns, holder),
     }
 }
 
-// Draws the stops that passed, and behind them the one at which an image didn't.
+// That of the stops that passed, and behind them the one at which an image didn't.
 fn draw_lost<R: Files + AllocGlobal, H: Holder<R::File>>(
     rt: &R,
     path: &str,
+    plain: bool,
+    held: bool,
+    scenario: &Scenario,
     columns: &[Column],
     mismatch: &Mismatch,
     holder: &mut H,
 ) -> Result<(), Undrawn>
-    ensures drawn { OnOk result (DrawsLost R.File.contents columns.now mismatch.now) }
-    ensures undrawn { IfErr result (λ undrawn. IsUndrawn undrawn columns.now) }
+    requires tasks { All (λ task. task.pid < scenario.now.processes) scenario.now.tasks.items }
+    requires words { IsTrue
+        (list_all (is_word_of scenario.now.processes) scenario.now.words.items) }
+    ensures drawn { OnOk result (DrawsLost R.File.contents plain held scenario.now.tasks.items
+        scenario.now.processes scenario.now.words.items columns.now mismatch.now) }
+    ensures undrawn { IfErr result (IsUndrawn plain held scenario.now.tasks.items
+        scenario.now.processes scenario.now.words.items columns.now) }
 {
     let mut words: ArrayVec<u8, 400> = ArrayVec::new();
     if print_mismatch(&mut words, mismatch).is_err() {
-        return unworded(columns);
+        return unworded(plain, held, scenario, columns);
     }
     let lost = lost_at(mismatch.stop, words.as_slice());
-    match draw_stops(rt, path, columns, Some(lost), holder) {
+    match draw_stops(rt, path, plain, held, scenario, columns, Some(lost), holder) {
         Ok(()) => Ok(()),
         Err(undrawn) => Err(undrawn),
     }
@@ -121,20 +155,25 @@ fn lost_at(stop: Stop, words: &[u8]) -> Lost<'_>
     Lost { at, words }
 }
 
-// No stops are drawn, since the words of the last take too much room.
-fn unworded(columns: &[Column]) -> Result<(), Undrawn>
-    ensures undrawn { IsErrAnd result (λ undrawn. IsUndrawn undrawn columns.now) }
+// There is no page, since the words of the last stop take too much room.
+fn unworded(plain: bool, held: bool, scenario: &Scenario, columns: &[Column]) -> Result<(), Undrawn>
+    ensures undrawn { IsErrAnd result (IsUndrawn plain held scenario.now.tasks.items
+        scenario.now.processes scenario.now.words.items columns.now) }
 {
-    match fits(columns) {
-        Ok(()) => Err(Undrawn::Picture(PictureFault::Write)),
-        Err(undrawn) => Err(undrawn),
+    if plain {
+        return match fits(columns) {
+            Ok(()) => Err(Undrawn::Picture(PictureFault::Write)),
+            Err(undrawn) => Err(undrawn),
+        };
     }
+    Err(Undrawn::Picture(PictureFault::Write))
 }
 
-// Whether so many stops fit into a picture.
+// Whether so many stops fit into a plain page.
 fn fits(columns: &[Column]) -> Result<(), Undrawn>
     ensures fits { OnOk result (length columns.now ≤ 2000) }
-    ensures more { IfErr result (λ undrawn. IsUndrawn undrawn columns.now) }
+    ensures more { IfErr result (IsUnplain columns.now) }
+    ensures long { IfErr result HasNoFile }
 {
     if columns.len() > MOST_COLUMNS {
         return Err(Undrawn::TooLong(columns.len().min(4_294_967_295) as u32));
@@ -142,17 +181,59 @@ fn fits(columns: &[Column]) -> Result<(), Undrawn>
     Ok(())
 }
 
-// Draws the stops that passed, and the one behind them that didn't, if there is one.
+// Makes the page of the stops that passed, and of the one behind them that didn't, if there is one.
 fn draw_stops<R: Files + AllocGlobal, H: Holder<R::File>>(
+    rt: &R,
+    path: &str,
+    plain: bool,
+    held: bool,
+    scenario: &Scenario,
+    columns: &[Column],
+    lost: Option<Lost<'_>>,
+    holder: &mut H,
+) -> Result<(), Undrawn>
+    requires tasks { All (λ task. task.pid < scenario.now.processes) scenario.now.tasks.items }
+    requires words { IsTrue
+        (list_all (is_word_of scenario.now.processes) scenario.now.words.items) }
+    ensures drawn { OnOk result (DrawsStops R.File.contents plain held scenario.now.tasks.items
+        scenario.now.processes scenario.now.words.items columns.now lost.entry) }
+    ensures undrawn { IfErr result (IsUndrawn plain held scenario.now.tasks.items
+        scenario.now.processes scenario.now.words.items columns.now) }
+    ensures unbegun { IfErr result (λ undrawn. HasNoFile undrawn → holder.new ≡ holder.old) }
+{
+    if plain {
+        return draw_plain(rt, path, columns, lost, holder);
+    }
+    match explore_new(rt, path, scenario, held, columns, lost, holder) {
+        Ok(()) => Ok(()),
+        Err(refusal) => Err(undrawn_of(refusal)),
+    }
+}
+
+// Why there is no page that walks through a run.
+fn undrawn_of(refusal: PicturedRefusal) -> Undrawn
+    ensures { result ≡ undrawn_of refusal }
+{
+    match refusal {
+        PicturedRefusal::TooLong(steps) => Undrawn::TooLong(steps),
+        PicturedRefusal::Picture(fault) => Undrawn::Picture(fault),
+        PicturedRefusal::NoMemory | PicturedRefusal::Unfiled | PicturedRefusal::Replay(_) => {
+            Undrawn::NoMemory
+        }
+    }
+}
+
+// Draws them.
+fn draw_plain<R: Files + AllocGlobal, H: Holder<R::File>>(
     rt: &R,
     path: &str,
     columns: &[Column],
     lost: Option<Lost<'_>>,
     holder: &mut H,
 ) -> Result<(), Undrawn>
-    ensures drawn { OnOk result (DrawsStops R.File.contents columns.now lost.entry) }
-    ensures undrawn { IfErr result (λ undrawn. IsUndrawn undrawn columns.now) }
-    ensures long { IfErr result (λ undrawn. IsTooLong undrawn → holder.new ≡ holder.old) }
+    ensures drawn { OnOk result (DrawsPlain R.File.contents columns.now lost.entry) }
+    ensures undrawn { IfErr result (IsUnplain columns.now) }
+    ensures unbegun { IfErr result (λ undrawn. HasNoFile undrawn → holder.new ≡ holder.old) }
 {
     if let Err(undrawn) = fits(columns) {
         return Err(undrawn);

@@ -1,4 +1,5 @@
 pub mod Lines
 pub mod Operations
 pub mod Texts
+pub mod Tried
 pub mod Page

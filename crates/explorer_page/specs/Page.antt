@@ -1,14 +1,17 @@
 -- The page of a run: the constant page, and in it the run as lines of JSON.
-use Rattle.std.specs.Prelude.{ℕ, Bool, ◌==◌, if◌then◌else◌, List, [], ◌++◌, codes, length}
+use Rattle.std.specs.Prelude.{ℕ, Bool, ◌==◌, if◌then◌else◌, List, [], ◌++◌, codes, length, Option}
 use Rattle.std.specs.List.{flat_map, list_all, range_with_len}
 use Rattle.blocks.specs.Disk.{Image, block_at}
 use Rattle.json_lines.specs.Blocks.{block_field}
 use Rattle.json_lines.specs.Fields.{first_number, number_field}
 use Rattle.pictures.specs.declared.types.FileLine.{FileLine}
 use Rattle.pictures.specs.declared.types.FilesThen.{FilesThen}
+use Rattle.pictures.specs.declared.stops.Column.{Column}
+use Rattle.pictures.specs.declared.stops.Lost.{Lost}
 use Rattle.scripts.specs.declared.script.Task.{Task}
 use Rattle.explorer_page.specs.Operations.{task_object}
 use Rattle.explorer_page.specs.Texts.{disk_text, ending_text, opening_text, page_text}
+use Rattle.explorer_page.specs.Tried.{tried_text}
 
 -- ---- the image as the disk was opened
 
@@ -51,11 +54,12 @@ stop_text stop = stop_object stop.column ++ flat_map file_object stop.lines.item
 -- ---- the page
 
 -- THE LINES OF JSON of a run: over a disk of this image, which holds writes back or doesn't, of these
--- operations, with what was told of its turns, and the files at its stops
-unfoldable pub data_text : ℕ → Bool → Image → List Task → List ℕ → List FilesThen → List ℕ
-data_text inode_count holds x tasks told files =
+-- operations, with what was told of its turns, the files at its stops, and those stops that were tried
+unfoldable pub data_text : ℕ → Bool → Image → List Task → List ℕ → List FilesThen → List Column
+    → Option Lost → List ℕ
+data_text inode_count holds x tasks told files tried lost =
     image_text inode_count holds x ++ flat_map task_object tasks ++ told
-    ++ flat_map stop_text files
+    ++ flat_map stop_text files ++ tried_text tried lost
 
 -- THE PAGE with these lines of JSON in it
 abbrev pub explorer_text : List ℕ → List ℕ

@@ -4,7 +4,7 @@ use Rattle.explorer_page.specs.Lines.{lines_text}
 use Rattle.explorer_page.specs.declared.opening.TheConstants.{OPENING_1, OPENING_2, OPENING_3}
 use Rattle.explorer_page.specs.declared.disk.TheConstants.{DISK_1, DISK_2, DISK_3, DISK_4, DISK_5, DISK_6}
 use Rattle.explorer_page.specs.declared.page.TheConstants.{PAGE_1, PAGE_2, PAGE_3, PAGE_4, PAGE_5}
-use Rattle.explorer_page.specs.declared.ending.TheConstants.{ENDING_1, ENDING_2, ENDING_3, ENDING_4}
+use Rattle.explorer_page.specs.declared.ending.TheConstants.{ENDING_1, ENDING_2, ENDING_3, ENDING_4, ENDING_5}
 
 unfoldable pub opening_1 : List ℕ
 opening_1 = lines_text (map (λ line. line.now) OPENING_1.now)
@@ -69,5 +69,8 @@ ending_3 = lines_text (map (λ line. line.now) ENDING_3.now)
 unfoldable pub ending_4 : List ℕ
 ending_4 = lines_text (map (λ line. line.now) ENDING_4.now)
 
+unfoldable pub ending_5 : List ℕ
+ending_5 = lines_text (map (λ line. line.now) ENDING_5.now)
+
 unfoldable pub ending_text : List ℕ
-ending_text = ending_1 ++ ending_2 ++ ending_3 ++ ending_4
+ending_text = ending_1 ++ ending_2 ++ ending_3 ++ ending_4 ++ ending_5

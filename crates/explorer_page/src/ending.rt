@@ -1,13 +1,26 @@
 // The second half of what draws, and the end, as tools/explorer-page/run makes it of examples/explorer.
 ghost use Rattle.std.specs.Prelude.{OnOk};
 ghost use Rattle.std.specs.Io.KnownBytes.{Appends};
-ghost use Rattle.explorer_page.specs.Texts.{ending_1, ending_2, ending_3, ending_4, ending_text};
+ghost use Rattle.explorer_page.specs.Texts.{ending_1, ending_2, ending_3, ending_4, ending_5, ending_text};
 
 use crate::lines::print_lines;
 use messages::Unwritten;
 use std::io::Write;
 
 pub const ENDING_1: &[&str] = &[
+    "element(\"log\").innerHTML = `<p>Header, block ${LOG}: <b>n ${count}</b>${count ? \"\" : \", so recovery does nothing\"}</p>`",
+    "+ (count ? `<table><tr><th>log block</th><th>home</th><th></th></tr>${rows.join(\"\")}</table>`",
+    "+ '<p class=\"quiet\">Recovery copies each home and empties the header.</p>'",
+    ": '<p class=\"quiet\">What stands in the blocks behind it is read by nobody.</p>');",
+    "}",
+    "function showRecovered({ wrong, kept, after }) {",
+    "const verdict = wrong ? `<div class=\"verdict is-bad\"><span class=\"bad\">\\u2717 ${escaped(wrong)}</span></div>`",
+    ": `<div class=\"verdict is-good\"><span class=\"good\">\\u2713 sound</span>, with exactly the first ${counted(kept, \"group\")}</div>`;",
+    "const files = after ? run.filesIn(after) : [];",
+    "const listed = files.slice(0, 8).map(({ number, kind, bytes }) => `<tr><td>${number}</td><td>${KINDS[kind] || kind}</td>`",
+    "+ `<td>${bytes.length}</td><td class=\"bytes\">${escaped(printable(bytes.slice(0, 18)))}${bytes.length > 18 ? \"\\u2026\" : \"\"}</td></tr>`);",
+    "const table = listed.length ? `<table><tr><th>file</th><th>type</th><th>bytes</th><th>content</th></tr>${listed.join(\"\")}</table>` : \"<p>No file.</p>\";",
+    "const next = operations.findIndex(({ answer }) => !answer || answer.step > at);",
     "const first = Math.max(0, Math.min((next < 0 ? operations.length : next) - 4, operations.length - 7));",
     "const rows = operations.slice(first, first + 7).map(({ line, process, answer }) => {",
     "const group = answer ? answer.group : 0;",
@@ -25,6 +38,9 @@ pub const ENDING_1: &[&str] = &[
     "if (number16(old, 6) !== number16(now, 6)) found.push(`links ${number16(old, 6)} \\u2192 ${number16(now, 6)}`);",
     "if (number32(old, 8) !== number32(now, 8)) found.push(`size ${number32(old, 8)} \\u2192 ${number32(now, 8)}`);",
     "for (let place = 0; place < 13; place++) {",
+];
+
+pub const ENDING_2: &[&str] = &[
     "const [before, after] = [old, now].map((inode) => number32(inode, 12 + 4 * place));",
     "if (before !== after) found.push(`address ${place}: ${before} \\u2192 ${after}`);",
     "}",
@@ -54,9 +70,6 @@ pub const ENDING_1: &[&str] = &[
     "function changedRows(old, now) {",
     "const rows = [];",
     "for (let row = 0; row < BLOCK && rows.length < 6; row += 16) {",
-];
-
-pub const ENDING_2: &[&str] = &[
     "const bytes = Array.from(now.subarray(row, row + 16));",
     "if (!bytes.some((byte, place) => byte !== old[row + place])) continue;",
     "const hex = bytes.map((byte, place) => {",
@@ -86,16 +99,20 @@ pub const ENDING_2: &[&str] = &[
     "element(\"bytes\").innerHTML = (words.length ? `<ul>${words.map((text) => `<li>${escaped(text)}</li>`).join(\"\")}</ul>` : \"\")",
     "+ `<div class=\"bytes\">${changedRows(before[write.block], write.bytes)}</div>`;",
     "}",
+];
+
+pub const ENDING_3: &[&str] = &[
     "function show() {",
     "at = Math.min(steps.length - 1, Math.max(-1, at));",
     "const written = run.writtenBy(at);",
     "const made = at >= 0 ? run.plan[at] : null;",
     "const newer = newerBlocks(written);",
     "showHeld(written);",
-    "const found = run.judge(written, lost);",
+    "const found = run.judge(written, at, lost);",
     "element(\"at\").value = at + 1;",
     "element(\"place\").textContent = `step ${at + 1} of ${steps.length}, ${counted(written.length, \"write\")} made`;",
     "element(\"said\").textContent = sayStep(made);",
+    "element(\"tried\").textContent = isTried() ? `Tried by the program: ${triedWords(at)}.` : \"\";",
     "showLine();",
     "showMemory(newer);",
     "showBlocks(found.image, made, newer);",
@@ -122,9 +139,6 @@ pub const ENDING_2: &[&str] = &[
     "function addChoices(box, words, now, choose) {",
     "for (const [key, text] of Object.entries(words)) {",
     "const label = document.createElement(\"label\");",
-];
-
-pub const ENDING_3: &[&str] = &[
     "label.innerHTML = `<input type=\"radio\" name=\"${box}\" value=\"${key}\"${now === key ? \" checked\" : \"\"}> ${escaped(text)}`;",
     "label.firstChild.onchange = () => {",
     "choose(key);",
@@ -169,6 +183,9 @@ pub const ENDING_3: &[&str] = &[
     "if (timer) {",
     "clearInterval(timer);",
     "timer = 0;",
+];
+
+pub const ENDING_4: &[&str] = &[
     "element(\"play\").textContent = \"\\u25b6 play\";",
     "return;",
     "}",
@@ -186,6 +203,12 @@ pub const ENDING_3: &[&str] = &[
     "moves[event.key]();",
     "event.preventDefault();",
     "}",
+    "function triedFoot(differing) {",
+    "const images = run.told.tried.reduce((sum, stop) => sum + stop.images, 0);",
+    "const failed = run.told.tried.find((stop) => stop.why);",
+    "const found = `The program tried ${counted(run.told.tried.length, \"stop\")}: ${counted(images, \"image\")} passed${failed ? `, and then one didn't: ${failed.why}` : \"\"}.`;",
+    "return `${found} The page's own recovery ${differing ? `finds something else at ${differing} of them!` : \"finds the same at each.\"}`;",
+    "}",
     "function footWords(differing) {",
     "const stops = run.writes.length + 1;",
     "if (differing) return `The page's recovery differs from the program's at ${counted(differing, \"stop\")} of ${stops}!`;",
@@ -193,13 +216,10 @@ pub const ENDING_3: &[&str] = &[
     "return `At all ${stops} stops the recovered image is sound by the page's own check, too, with the files${run.told.version ? \"\" : \",\"} ${files}.`;",
     "}",
     "addRuns();",
-];
-
-pub const ENDING_4: &[&str] = &[
     "addChoices(\"orders\", ORDER_WORDS, order, (key) => (order = key));",
     "addChoices(\"holdings\", HOLDING_WORDS, holding, (key) => (holding = key));",
     "(run.told.questions || []).forEach(addQuestion);",
-    "element(\"title\").textContent = run.told.title;",
+    "element(\"title\").textContent = tried.size ? \"A run at each of its stops\" : run.told.title;",
     "element(\"about\").textContent = `${counted(run.writes.length, \"write\")}, ${counted(steps.length, \"step\")}, ${run.size} blocks. Move the line: \\u2190 \\u2192 a step, Page Up, Page Down a write.`;",
     "element(\"at\").max = steps.length;",
     "element(\"at\").oninput = () => go(Number(element(\"at\").value) - 1);",
@@ -213,8 +233,13 @@ pub const ENDING_4: &[&str] = &[
     "});",
     "refresh();",
     "const differing = differingStops(run.told);",
-    "element(\"foot\").textContent = (run.told.version ? `${run.told.version}. Schedule: ${run.told.schedule}. ` : \"\") + footWords(differing);",
-    "document.body.dataset.differing = differing;",
+];
+
+pub const ENDING_5: &[&str] = &[
+    "const differingFound = tried.size ? differingTried(run.told) : 0;",
+    "element(\"foot\").textContent = (run.told.version ? `${run.told.version}. Schedule: ${run.told.schedule}. ` : \"\")",
+    "+ (tried.size ? `${triedFoot(differingFound)} ` : \"\") + footWords(differing);",
+    "document.body.dataset.differing = differing + differingFound;",
     "</script>",
     "</body>",
     "</html>",
@@ -248,6 +273,13 @@ fn print_ending_4<O: Write>(out: &mut O) -> Result<(), Unwritten>
     print_lines(out, ENDING_4)
 }
 
+#[tactic(auto, unfolding(crate::specs::Texts::ending_5))]
+fn print_ending_5<O: Write>(out: &mut O) -> Result<(), Unwritten>
+    ensures ok { OnOk result (Appends (O.contents out.old) (O.contents out.new) ending_5) }
+{
+    print_lines(out, ENDING_5)
+}
+
 #[tactic(auto, unfolding(crate::specs::Texts::ending_text))]
 pub fn print_ending<O: Write>(out: &mut O) -> Result<(), Unwritten>
     ensures ok { OnOk result (Appends (O.contents out.old) (O.contents out.new) ending_text) }
@@ -255,5 +287,6 @@ pub fn print_ending<O: Write>(out: &mut O) -> Result<(), Unwritten>
     print_ending_1(out)?;
     print_ending_2(out)?;
     print_ending_3(out)?;
-    print_ending_4(out)
+    print_ending_4(out)?;
+    print_ending_5(out)
 }

@@ -11,9 +11,10 @@ use crate::opening::print_opening;
 use crate::operations::print_tasks;
 use crate::page::print_page;
 use crate::stops::print_stops;
+use crate::tried::print_tried;
 use blocks::{Disk, MemDisk};
 use messages::{Unwritten, pass_on, write_bytes};
-use pictures::{FilesThen, Picture};
+use pictures::{Column, FilesThen, Lost, Picture};
 use scripts::Task;
 use std::io::Write;
 
@@ -33,11 +34,16 @@ pub struct Explorer<'a> {
     /// The files that recovery gives where the run stops; of each such stop the column is how many
     /// writes were made.
     pub files: &'a [FilesThen],
+    /// The stops that were tried, and passed: none where none was tried.
+    pub columns: &'a [Column],
+    /// The one behind them that didn't, if there is one.
+    pub lost: Option<Lost<'a>>,
 }
 
 impl<'a> Picture for Explorer<'a> {
     ghost text = { λ e. explorer_text (data_text e.inode_count e.holds
-        (⟦<MemDisk as Disk>⟧.image e.disk.now) e.tasks.now e.told.now e.files.now) };
+        (⟦<MemDisk as Disk>⟧.image e.disk.now) e.tasks.now e.told.now e.files.now
+        e.columns.now e.lost) };
 
     fn print<O: Write>(&self, out: &mut O) -> Result<(), Unwritten> {
         print_opening(out)?;
@@ -52,12 +58,13 @@ fn print_data<O: Write>(out: &mut O, run: &Explorer<'_>) -> Result<(), Unwritten
     ensures ok { OnOk result (Appends (O.contents out.old) (O.contents out.new)
         (data_text run.now.inode_count run.now.holds
         (⟦<MemDisk as Disk>⟧.image run.now.disk.now) run.now.tasks.now run.now.told.now
-        run.now.files.now)) }
+        run.now.files.now run.now.columns.now run.now.lost)) }
 {
     print_image(out, run.inode_count, run.holds, run.disk)?;
     print_tasks(out, run.tasks)?;
     write_bytes(out, run.told)?;
-    print_stops(out, run.files)
+    print_stops(out, run.files)?;
+    print_tried(out, run.columns, run.lost)
 }
 
 // Writes the page behind them, and passes on what the writer holds back.

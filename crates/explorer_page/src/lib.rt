@@ -13,5 +13,6 @@ mod opening;
 mod operations;
 mod page;
 mod stops;
+mod tried;
 
 pub use explorer::Explorer;

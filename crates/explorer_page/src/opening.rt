@@ -109,6 +109,7 @@ pub const OPENING_3: &[&str] = &[
     "<span id=\"place\"></span>",
     "</div>",
     "<div id=\"said\" role=\"status\" aria-live=\"polite\"></div>",
+    "<p class=\"quiet\" id=\"tried\"></p>",
     "<div id=\"held\"></div>",
     "<div class=\"panels\">",
     "<section><h2>Memory: lost</h2><div id=\"memory\"></div></section>",

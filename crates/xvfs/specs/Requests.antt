@@ -73,8 +73,8 @@ Answers file (ReplayJson image script schedule stop sync) old new =
     (IsReplayedInObjects sync (unwrap_or stop 0) old new)
 Answers file (Run image script workers group sync) old new =
     OpensDisk file.remaining file_disk sync (IsRun old new)
-Answers file (Stops script schedule held picture json) old new =
-    ChecksInto file.contents json held old new picture
+Answers file (Stops script schedule held picture plain json) old new =
+    ChecksInto file.contents json held plain old new picture
 
 -- a command was refused, for some reason of its own
 abbrev pub Refuses : {R : Type 0} → (R → Type 0) → Type 0
@@ -118,8 +118,8 @@ OnRefused file (ReplayJson image script schedule stop sync) old new none =
     Refuses (IsUnreplayedInObjects file.remaining sync (unwrap_or stop 0) old new none)
 OnRefused file (Run image script workers group sync) old new none =
     Refuses (IsNotRun file.remaining sync old new none)
-OnRefused file (Stops script schedule held picture json) old new none =
-    Refuses (IsUncheckedInto file.contents json held old new none picture)
+OnRefused file (Stops script schedule held picture plain json) old new none =
+    Refuses (IsUncheckedInto file.contents json held plain old new none picture)
 
 -- the words ask help for a format, and its lines were printed
 abbrev pub HasTold : List (List ℕ) → Option (List ℕ) → Option (List ℕ) → Type 0

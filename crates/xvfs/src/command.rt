@@ -404,6 +404,7 @@ where
             schedule,
             held,
             picture,
+            plain,
             json,
         } => {
             let mut progress = TerminalMeter::new(rt);
@@ -417,6 +418,7 @@ where
                     held,
                     json,
                     picture,
+                    plain,
                     &mut progress,
                     &mut holder,
                     out,

@@ -115,9 +115,10 @@ run_app = with_rule (with_rule (with_rule (with_rule (image_app (codes "run"))
 
 abbrev pub stops_app : App
 stops_app =
-    with_rule (with_rule (with_rule (explained (with_rule (with_rule (new_app (codes "stops"))
-    (required_rule (codes "SCRIPT"))) (required_rule (codes "SCHEDULE"))))
-    (flag_rule (codes "held"))) picture_rule) (flag_rule (codes "json"))
+    with_rule (with_rule (with_rule (with_rule (explained (with_rule (with_rule
+    (new_app (codes "stops")) (required_rule (codes "SCRIPT"))) (required_rule (codes "SCHEDULE"))))
+    (flag_rule (codes "held"))) picture_rule) (flag_rule (codes "plain")))
+    (flag_rule (codes "json"))
 
 abbrev pub bare_app : App
 bare_app = named_app (codes "xvfs")
@@ -231,10 +232,11 @@ AsksBy name rows (Run image script workers group sync) =
     (name ≡ codes "run") × (first_of (codes "IMAGE") rows ≡ Some image.now)
     × (first_of (codes "SCRIPT") rows ≡ Some script.now) × HasWorkers rows workers
     × HasChoice 32 (codes "group") rows group × HasFlag (codes "sync") rows sync
-AsksBy name rows (Stops script schedule held picture json) =
+AsksBy name rows (Stops script schedule held picture plain json) =
     (name ≡ codes "stops") × (first_of (codes "SCRIPT") rows ≡ Some script.now)
     × (first_of (codes "SCHEDULE") rows ≡ Some schedule.now) × HasFlag (codes "held") rows held
     × (option_map (λ path. path.now) picture ≡ first_of (codes "picture") rows)
+    × HasFlag (codes "plain") rows plain × IsOfPage picture plain
     × HasFlag (codes "json") rows json
 
 -- the words of `xvfs`

@@ -269,7 +269,12 @@ const LINES: &[Line] = &[
             Word {
                 name: "picture",
                 kind: Kind::Path,
-                help: "Draws the stops into this file, too, as a page that a browser shows",
+                help: "Makes a page in this file, too, that walks through the run, with its stops, in a browser",
+            },
+            Word {
+                name: "plain",
+                kind: Kind::Flag,
+                help: "Draws the stops on the page of --picture, for printing, without a script",
             },
             JSON,
         ],

@@ -195,8 +195,10 @@ pub enum Request<'a> {
         schedule: &'a str,
         /// Whether the disk holds writes back until it is synced.
         held: bool,
-        /// The path of the file into which the stops are drawn.
+        /// The path of the file of their page.
         picture: Option<&'a str>,
+        /// Whether that page is plain.
+        plain: bool,
         /// Whether it is told as JSON.
         json: bool,
     },
@@ -243,11 +245,13 @@ fn request_of<'a>(name: &str, values: &ArgMatches<'a>) -> Option<Request<'a>>
 fn stops_request<'a>(values: &ArgMatches<'a>) -> Option<Request<'a>>
     ensures { IfSome result (AsksBy (codes "stops") (rows_of (found_of values.now))) }
 {
+    let page = page_of(values)?;
     Some(Request::Stops {
         script: values.get_str("SCRIPT")?,
         schedule: values.get_str("SCHEDULE")?,
         held: values.get_flag("held"),
-        picture: values.get_str("picture"),
+        picture: page.0,
+        plain: page.1,
         json: values.get_flag("json"),
     })
 }

@@ -23,7 +23,7 @@ few_by name rows (Rescue old new no_sync) asks = tt
 few_by name rows (Replay image script schedule stop sync writes steps picture plain) asks = tt
 few_by name rows (ReplayJson image script schedule stop sync) asks = tt
 few_by name rows (Run image script workers group sync) asks = (asks.3.0, asks.3.1)
-few_by name rows (Stops script schedule held picture json) asks = tt
+few_by name rows (Stops script schedule held picture plain json) asks = tt
 
 few_of : (command : Option (List ℕ × List Row)) (request : Request) → Asks xvfs_words command request → HasFewWorkers request
 few_of None request asks = absurd asks

@@ -7,9 +7,10 @@ use Rattle.messages.specs.declared.deeds.Detail.{Detail}
 use Rattle.player.specs.Opening.{IsNotReplayed}
 use Rattle.player.specs.Told.{in_lines}
 use Rattle.commands_runs.proofs.Walks.{explored_all, unexplored_for}
-use Rattle.commands_runs.proofs.Gathering.{HeardAll, all_gathered}
+use Rattle.commands_runs.proofs.Gathering.{all_gathered}
 use Rattle.commands_runs.proofs.Opened.{still_opened}
 use Rattle.commands_runs.proofs.Recording.{both_done}
+use Rattle.commands_runs.specs.Explored.{HeardAll}
 use Rattle.commands_runs.specs.declared.gathered.Gathered.{Gathered}
 use Rattle.commands_runs.specs.declared.explorer_teller.ExplorerTeller.{ExplorerTeller}
 use Rattle.commands_runs.proofs.exploring.explore.Goals as goal
@@ -19,7 +20,7 @@ returns-in-Ok-ran-clause-explored g c =
     let ran = c.replay_with-ran in
     let known = c.in-Ok.ensures in
     let told = where_done ran.result.0 _ _ c.in-Ok-ran.is ran.ensures.printed in
-    let heard = all_gathered _ (λ (t : ExplorerTeller). t.run) (λ w one a b h. h.2) _ told.tolds _ _ told.heard in
+    let heard = all_gathered _ (λ (t : ExplorerTeller). t.run) (λ w one a b h. h.3) _ told.tolds _ _ told.heard in
     both_done c.make_page.result _ _ _
     (λ few page. (
       c.take_scene.new.disk,
@@ -37,7 +38,7 @@ returns-in-Ok-ran-clause-refused g c =
     let ran = c.replay_with-ran in
     let known = c.in-Ok.ensures in
     let told = where_done ran.result.0 _ _ c.in-Ok-ran.is ran.ensures.printed in
-    let heard = all_gathered _ (λ (t : ExplorerTeller). t.run) (λ w one a b h. h.2) _ told.tolds _ _ told.heard in
+    let heard = all_gathered _ (λ (t : ExplorerTeller). t.run) (λ w one a b h. h.3) _ told.tolds _ _ told.heard in
     IfErr-weaker c.make_page.result _ _
     (unexplored_for g.R.File.Write.contents c.args.sync c.args.disk c.take_scene.new.disk ran.result.1 c.args.scenario.tasks.items c.args.scenario.processes c.args.scenario.words.items (unwrap_or c.args.scenario.stop 0)
     c.in-Ok.taken.1.lines.detail c.args.detail (g.O.Write.contents c.args.out.now) (g.O.Write.contents ran.new.out) told.tolds c.in-Ok.taken.0 c.in-Ok.taken.1.run c.run.result.now

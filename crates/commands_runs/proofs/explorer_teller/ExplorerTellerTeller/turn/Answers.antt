@@ -1,4 +1,5 @@
-use Rattle.std.proofs.Common.{◌∙◌, List, subst}
+use Rattle.std.proofs.Common.{◌∙◌, Bool, List, ap, subst}
+use Rattle.std.specs.Prelude.{◌||◌}
 use Rattle.messages.specs.declared.deeds.StepNote.{StepNote}
 use Rattle.commands_runs.specs.Explored.{HearsObjects}
 use Rattle.commands_runs.proofs.explorer_teller.ExplorerTellerTeller.turn.Goals as goal
@@ -12,6 +13,7 @@ returns-clause-heard g c =
       heard = (
         turn.heard.0,
         turn.heard.1,
+        c.either-self.ensures ∙ ap (λ (b : Bool). c.args.self.now.refused || b) c.wants_in.ensures,
         subst (λ (notes : List StepNote). HearsObjects (record { event = c.turn-event.result; notes = notes }) c.args.self.now.run c.hear.new.self) (c.notes.ensures ∙ turn.heard.1) c.hear.ensures,
       );
     }
