@@ -1,6 +1,9 @@
 -- What is known of the page of stops.
 use Rattle.std.proofs.Common.{◌≡◌, Bool, true, false, List, ℕ, Ok, subst, sym}
-use Rattle.std.specs.Prelude.{Option, Some, None}
+use Rattle.std.specs.Prelude.{Option, Some, None, Result, Err, IfErr, MatchResult, OnOk}
+use Rattle.crash_check.specs.declared.fault.StopsFault.{StopsFault}
+use Rattle.messages.specs.declared.printed.Printed.{Printed}
+use Rattle.stops.specs.Checks.{ChecksAll, IsUnchecked}
 use Rattle.scripts.specs.declared.schedule.Word.{Word}
 use Rattle.scripts.specs.declared.script.Task.{Task}
 use Rattle.pictures.specs.declared.stops.Column.{Column}
@@ -9,8 +12,9 @@ use Rattle.commands_runs.specs.Tried.{IsUnexploredNew}
 use Rattle.commands_runs.specs.declared.picturing.PicturedRefusal.{PicturedRefusal}
 use Rattle.commands_runs.specs.declared.picturing.PicturedRefusal.TheVariants as pictured
 use Rattle.commands_stops.specs.Scripts.{IsUnread}
-use Rattle.commands_stops.specs.StopsDrawn.{HasNoFile, IsDrawnInto, IsUncheckedInto, IsUndrawn, undrawn_of}
-use Rattle.commands_stops.specs.declared.stopping.DrawnStopsRefusal.TheVariants.{Stops}
+use Rattle.commands_stops.specs.StopsDrawn.{ChecksInto, DrawsInto, DrawsRefused, DrawsStops, HasNoFile, IsDrawnInto, IsUncheckedInto, IsUndrawn, undrawn_of}
+use Rattle.commands_stops.specs.declared.stopping.DrawnStopsRefusal.TheVariants.{Picture, Stops}
+use Rattle.commands_stops.specs.declared.stops_drawing.Undrawn.{Undrawn}
 use Rattle.commands_stops.specs.declared.stopping.StopsRefusal.{StopsRefusal}
 use Rattle.commands_stops.specs.declared.stopping.StopsRefusal.TheVariants as check
 
@@ -18,6 +22,37 @@ use Rattle.commands_stops.specs.declared.stopping.StopsRefusal.TheVariants as ch
 pub where_asked : {P X : Type 0} (picture : Option P) → X → IsDrawnInto picture X
 where_asked None so = tt
 where_asked (Some path) so = so
+
+-- a script was checked, and where it has a page, this is it
+pub checked_so : {F P : Type 0} (contents : F → Option (List ℕ)) (json held plain : Bool) (old new : Option (List ℕ)) (picture : Option P) (tried : List Column) (tasks : List Task) (processes : ℕ) (words : List Word) →
+    ChecksAll json held tasks processes words tried old new → IsDrawnInto picture (DrawsStops contents plain held tasks processes words tried None) → ChecksInto contents json held plain old new picture
+checked_so contents json held plain old new picture tried tasks processes words checks drawn = (
+  tried,
+  (record { tasks = tasks; processes = processes; words = words; checks = checks }, drawn),
+)
+
+-- or wasn't, and this is what became of its page
+pub unchecked_so : {F P : Type 0} (contents : F → Option (List ℕ)) (json held plain : Bool) (old new : Option (List ℕ)) (none : Type 0) (picture : Option P) (tried : List Column) (tasks : List Task) (processes : ℕ) (words : List Word) (r : Printed StopsFault) (u : Result (Unit {0}) Undrawn) →
+    IsUnchecked held tasks processes words tried none r → DrawsInto picture u (IsUndrawn plain held tasks processes words tried) (DrawsRefused contents plain held tasks processes words tried r) →
+    IsUncheckedInto contents json held plain old new none picture (Stops (check.Stops r) u)
+unchecked_so contents json held plain old new none picture tried tasks processes words r u refused drawn = (
+  tried,
+  (record { tasks = tasks; processes = processes; words = words; refused = refused }, drawn),
+)
+
+-- or was, and has no page
+pub undrawn_so : {F P : Type 0} (contents : F → Option (List ℕ)) (json held plain : Bool) (old new : Option (List ℕ)) (none : Type 0) (path : P) (tried : List Column) (tasks : List Task) (processes : ℕ) (words : List Word) (u : Undrawn) →
+    ChecksAll json held tasks processes words tried old new → IsUndrawn plain held tasks processes words tried u →
+    IsUncheckedInto contents json held plain old new none (Some path) (Picture u)
+undrawn_so contents json held plain old new none path tried tasks processes words u checks why = (
+  tt,
+  (tried, (record { tasks = tasks; processes = processes; words = words; checks = checks }, why)),
+)
+
+-- a page was made, or wasn't
+pub drawn_or : {T E : Type 0} (r : Result T E) (why : E → Type 0) (drawn : Type 0) → OnOk r drawn → IfErr r why → MatchResult r (λ done. drawn) why
+drawn_or (Ok done) why drawn so no = so
+drawn_or (Err e) why drawn so no = no
 
 -- a page that walks through a run wasn't made for this reason
 pub unexplored : (held : Bool) (tasks : List Task) (processes : ℕ) (words : List Word) (tried : List Column) (refusal : PicturedRefusal) →

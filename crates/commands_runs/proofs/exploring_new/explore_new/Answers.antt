@@ -6,8 +6,8 @@ use Rattle.commands_runs.specs.Tried.{IsHeardOf}
 use Rattle.commands_runs.specs.declared.gathered.Gathered.{Gathered}
 use Rattle.commands_runs.proofs.exploring_new.explore_new.Goals as goal
 
-pub returns-in-Ok-clause-explored : goal.returns-in-Ok-clause-explored
-returns-in-Ok-clause-explored g c =
+pub returns-clause-explored : goal.returns-in-Ok-clause-explored
+returns-clause-explored g c =
     let known = c.in-Ok.ensures in
     let s = c.args.scenario.now in
     let heard = subst (λ (b : Gathered). IsHeardOf c.args.holds s.tasks.items s.processes s.words.items c.in-Ok.taken.0.inode_count b) (sym c.run.ensures) known.heard in
@@ -15,8 +15,8 @@ returns-in-Ok-clause-explored g c =
     (explored_new g.R.File.Write.contents c.args.holds s.tasks.items s.processes s.words.items c.in-Ok.taken.0 c.run.result.now known.made known.count heard c.args.columns.now c.args.lost)
     c.make_page.ensures.few c.make_page.ensures.made
 
-pub returns-in-Ok-clause-refused : goal.returns-in-Ok-clause-refused
-returns-in-Ok-clause-refused g c =
+pub returns-clause-refused : goal.returns-in-Ok-clause-refused
+returns-clause-refused g c =
     let known = c.in-Ok.ensures in
     let s = c.args.scenario.now in
     let heard = subst (λ (b : Gathered). IsHeardOf c.args.holds s.tasks.items s.processes s.words.items c.in-Ok.taken.0.inode_count b) (sym c.run.ensures) known.heard in

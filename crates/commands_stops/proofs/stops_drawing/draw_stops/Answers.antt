@@ -1,7 +1,8 @@
 use Rattle.std.proofs.Common.{Bool, subst, sym}
 use Rattle.std.specs.Prelude.{IfErr, OnOk}
 use Rattle.commands_stops.proofs.Drawn.{unbegun, unexplored}
-use Rattle.commands_stops.specs.StopsDrawn.{DrawsStops, IsUndrawn}
+use Rattle.commands_stops.specs.StopsDrawn.{DrawsStops, HasNoFile, IsUndrawn, undrawn_of}
+use Rattle.commands_stops.specs.declared.stops_drawing.Undrawn.{Undrawn}
 use Rattle.commands_stops.proofs.stops_drawing.draw_stops.Goals as goal
 
 pub returns-then-plain-clause-drawn : goal.returns-then-plain-clause-drawn
@@ -13,3 +14,18 @@ pub returns-then-plain-clause-undrawn : goal.returns-then-plain-clause-undrawn
 returns-then-plain-clause-undrawn g c =
     let s = c.args.scenario.now in
     subst (λ (plain : Bool). IfErr c.draw_plain.result (IsUndrawn plain c.args.held s.tasks.items s.processes s.words.items c.args.columns.now)) (sym c.if-plain.true) c.draw_plain.ensures.undrawn
+
+pub returns-in-Ok-clause-drawn : goal.returns-in-Ok-clause-drawn
+returns-in-Ok-clause-drawn g c =
+    let s = c.args.scenario.now in
+    subst (λ (plain : Bool). DrawsStops g.R.File.Write.contents plain c.args.held s.tasks.items s.processes s.words.items c.args.columns.now c.args.lost) (sym c.if-plain.false) c.in-Ok.ensures.explored
+
+pub returns-clause-undrawn : goal.returns-clause-undrawn
+returns-clause-undrawn g c =
+    let s = c.args.scenario.now in
+    subst (λ (u : Undrawn). IsUndrawn c.args.plain c.args.held s.tasks.items s.processes s.words.items c.args.columns.now u) (sym c.undrawn_of.ensures)
+    (subst (λ (plain : Bool). IsUndrawn plain c.args.held s.tasks.items s.processes s.words.items c.args.columns.now (undrawn_of c.in-Err.refusal)) (sym c.if-plain.false)
+    (unexplored c.args.held s.tasks.items s.processes s.words.items c.args.columns.now c.in-Err.refusal c.in-Err.ensures.refused))
+
+pub returns-clause-unbegun : goal.returns-clause-unbegun
+returns-clause-unbegun g c = λ none. c.in-Err.ensures.unbegun (unbegun c.in-Err.refusal (subst HasNoFile c.undrawn_of.ensures none))
