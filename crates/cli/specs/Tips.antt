@@ -7,9 +7,9 @@ use Rattle.cli.specs.declared.explanation.Explanation.{Explanation}
 use Rattle.cli.specs.declared.explanation.Explanation.TheVariants.{Mistake}
 use Rattle.cli.specs.declared.table.Outline.{Outline}
 
--- the names of a program's commands, and of the topics of its help
+-- the names of the topics of a program's help, and of its commands
 abbrev pub told_names : Outline → List (List ℕ)
-told_names outline = map (λ line. line.name.now) outline.lines.now ++ map name_of outline.topics.now
+told_names outline = map name_of outline.topics.now ++ map (λ line. line.name.now) outline.lines.now
 
 -- how many characters have to be put in, taken out or changed, to make one text of another
 abbrev pub edits_between : List ℕ → List ℕ → ℕ

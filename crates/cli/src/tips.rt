@@ -58,16 +58,16 @@ fn near_name<S: AsStr>(alloc: Global, outline: Outline, words: &[S]) -> Option<&
     }
 }
 
-// The names of a program's commands and topics.
+// The names of a program's topics and commands.
 fn names_of(alloc: Global, outline: Outline) -> Result<Vec<&'static str>, AllocError>
     ensures { IfOk result (λ names. map (λ name. name.now) names.items ≡ told_names outline) }
 {
     let mut names = Vec::new(alloc);
-    for line in outline.lines {
-        names.push(line.name)?;
-    }
     for topic in outline.topics {
         names.push(topic.name())?;
+    }
+    for line in outline.lines {
+        names.push(line.name)?;
     }
     Ok(names)
 }

@@ -5,5 +5,5 @@
 mod painting;
 mod wanted;
 
-pub use painting::{Painted, Style};
+pub use painting::{Painted, Place, Style};
 pub use wanted::wants_colours;

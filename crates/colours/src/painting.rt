@@ -1,18 +1,30 @@
 // A writer that colours what is written to it.
-ghost use Rattle.std.specs.Prelude.{◌≡◌, ◌≤◌, ◌<◌, ◌-◌, IfOk, OnOk, flat_map, length, min, slice_index, take};
+ghost use Rattle.std.specs.Prelude.{◌≡◌, ◌≤◌, ◌<◌, ◌-◌, [], IfOk, OnOk, flat_map, length, min, slice_index, take};
 ghost use Rattle.std.specs.Io.{WritesAtMost};
 ghost use Rattle.std.specs.Io.KnownBytes.{Appends};
-ghost use Rattle.colours.specs.Painting.{coloured, held, painted, tint_of};
+ghost use Rattle.colours.specs.Painting.{coloured, has_sign, held, is_of_label, next_place, painted, place_behind, tint_of};
 
 use std::io::{Result, Write};
+
+// The columns of a line that have a block's number, with a blank.
+const LABEL: usize = 5;
+
+/// Where a byte of a drawn image comes.
+#[derive(Clone, Copy, Debug, Drop)]
+pub enum Place {
+    /// In a row of signs, at this column, which counts no further than the first sign's.
+    Row(usize),
+    /// In a line of text.
+    Text,
+}
 
 /// What a writer colours.
 #[derive(Clone, Copy, Debug, Drop)]
 pub enum Style {
     /// Nothing: all is written as it is.
     Plain,
-    /// Each sign of a drawn image, by what it stands for.
-    Signs,
+    /// Each sign of a drawn image, by what it stands for; the next byte comes at this place.
+    Signs(Place),
     /// What is written first, up to its first colon, in red.
     Head,
 }
@@ -39,7 +51,10 @@ impl<W: Write> Write for Painted<W> {
     fn write(&mut self, buf: &[u8]) -> Result<usize> {
         match self.style {
             Style::Plain => self.out.write(buf),
-            Style::Signs => write_sign(&mut self.out, buf),
+            Style::Signs(place) => {
+                self.style = Style::Signs(place_behind(place, buf));
+                write_sign(&mut self.out, place, buf)
+            }
             Style::Head => {
                 self.style = Style::Plain;
                 write_head(&mut self.out, buf)
@@ -52,19 +67,60 @@ impl<W: Write> Write for Painted<W> {
     }
 }
 
-// Writes the first sign in its colour, of no byte nothing. How many of the bytes are written.
-fn write_sign<W: Write>(out: &mut W, buf: &[u8]) -> Result<usize>
+// The place behind the first of these bytes, which comes at that place.
+fn place_behind(place: Place, buf: &[u8]) -> Place
+    ensures { result ≡ place_behind place buf.now }
+{
+    match buf.first() {
+        None => place,
+        Some(byte) => next_place(place, *byte),
+    }
+}
+
+fn next_place(place: Place, byte: u8) -> Place
+    ensures { result ≡ next_place place byte }
+{
+    if byte == b'\n' {
+        return Place::Row(0);
+    }
+    match place {
+        Place::Text => Place::Text,
+        Place::Row(0) if !is_of_label(byte) => Place::Text,
+        Place::Row(column) if column < LABEL => Place::Row(column + 1),
+        Place::Row(column) => Place::Row(column),
+    }
+}
+
+// Whether a row may begin with it: a blank, or a digit.
+fn is_of_label(byte: u8) -> bool
+    ensures { result ≡ is_of_label byte }
+{
+    byte == b' ' || byte.is_ascii_digit()
+}
+
+// Whether a sign is coloured there.
+fn has_sign(place: Place) -> bool
+    ensures { result ≡ has_sign place }
+{
+    match place {
+        Place::Row(column) => column >= LABEL,
+        Place::Text => false,
+    }
+}
+
+// Writes the first byte, a sign in its colour, and of no bytes nothing. How many of the bytes are written.
+fn write_sign<W: Write>(out: &mut W, place: Place, buf: &[u8]) -> Result<usize>
     ensures count { IfOk result (λ count. count ≡ min 1 (length buf.now)) }
     ensures bytes { OnOk result (Appends (W.contents out.old) (W.contents out.new)
-        (flat_map painted (take 1 buf.now))) }
+        (flat_map (painted place) (take 1 buf.now))) }
 {
     let Some(sign) = buf.first() else {
         return Ok(0);
     };
-    if *sign == b'\n' {
-        out.write_all(b"\n")?;
-    } else {
+    if has_sign(place) && *sign != b'\n' {
         out.write_all(&coloured(*sign))?;
+    } else {
+        out.write_all(&[*sign])?;
     }
     Ok(1)
 }

@@ -3,13 +3,13 @@ ghost use Rattle.std.specs.Prelude.{◌≡◌, map};
 ghost use Rattle.std.specs.List.{list_all};
 ghost use Rattle.xvfs.specs.Colouring.{draws, has_one_path, is_silent};
 
-use colours::{Style, wants_colours};
+use colours::{Place, Style, wants_colours};
 use std::convert::AsStr;
 
 /// How the output of the command of these words is coloured: on a terminal the signs that `show` draws are.
 pub fn style_of<S: AsStr>(rt: &HostRuntime, words: &[S]) -> Style {
     if draws(words) && wants_colours(rt, &rt.stdout()) {
-        Style::Signs
+        Style::Signs(Place::Row(0))
     } else {
         Style::Plain
     }

@@ -217,7 +217,7 @@ const LINES: &[Line] = &[
     },
     Line {
         name: "replay",
-        about: "Recovers an image, and makes a script's operations in the turns of a schedule",
+        about: "Recovers an image, and carries out a script's operations, step by step as a schedule says",
         example: REPLAY_WORDS,
         image: Some(IMAGE),
         words: &[
@@ -252,13 +252,13 @@ const LINES: &[Line] = &[
             Word {
                 name: "json",
                 kind: Kind::Flag,
-                help: "Prints lines of JSON in place of text: an object for each step and each turn, then the counts",
+                help: "Prints lines of JSON in place of text: an object for each step and each word, then the counts",
             },
         ],
     },
     Line {
         name: "run",
-        about: "Recovers an image, and makes a script's operations, each process's in order, by threads",
+        about: "Recovers an image, and carries out a script's operations, each process's in order, by threads",
         example: "Examples:\n  xvfs run fs.img script --group\n  xvfs run fs.img script --workers 4",
         image: Some(IMAGE),
         words: &[
@@ -278,7 +278,7 @@ const LINES: &[Line] = &[
     },
     Line {
         name: "stops",
-        about: "Makes a script's operations up to each of their writes, and checks what each stop leaves",
+        about: "Carries out a script's operations up to each of their writes, and checks what each stop leaves",
         example: "Example:\n  xvfs stops script schedule",
         image: None,
         words: &[
@@ -288,7 +288,7 @@ const LINES: &[Line] = &[
             Word {
                 name: "held",
                 kind: Kind::Flag,
-                help: "Makes them over a disk that holds writes back, and loses any of these at each stop",
+                help: "Carries them out over a disk that holds writes back, and loses any of these at each stop",
             },
             Word {
                 name: "picture",
