@@ -1,5 +1,5 @@
 -- What of a command's output has colours.
-use Rattle.std.specs.Prelude.{ℕ, ◌==◌, ◌&&◌, ◌||◌, not, Bool, false, if◌then◌else◌, List, [], ◌∷◌, codes, slice_index}
+use Rattle.std.specs.Prelude.{ℕ, ◌==◌, ◌&&◌, ◌||◌, not, Bool, false, List, [], ◌∷◌, codes, slice_index}
 use Rattle.std.specs.List.{list_all}
 use Rattle.std.specs.Str.{bytes_eq}
 
@@ -8,14 +8,9 @@ abbrev pub is_silent : List ℕ → Bool
 is_silent word = bytes_eq word (codes "--wait") || (bytes_eq word (codes "--explain")
     || bytes_eq word (codes "--no-lock"))
 
--- one word that is no option, among such options
-abbrev pub has_one_path : List (List ℕ) → Bool
-has_one_path [] = false
-has_one_path (word ∷ rest) =
-    if is_silent word then has_one_path rest
-    else not (slice_index word 0 == 45) && list_all is_silent rest
-
--- the words ask `show` for a whole image, by signs
+-- the words ask `show` for an image, and with such options alone: for all of it, by signs
 abbrev pub draws : List (List ℕ) → Bool
 draws [] = false
-draws (name ∷ rest) = bytes_eq name (codes "show") && has_one_path rest
+draws (name ∷ []) = false
+draws (name ∷ image ∷ rest) = bytes_eq name (codes "show")
+    && (not (slice_index image 0 == 45) && list_all is_silent rest)

@@ -1,7 +1,7 @@
 // What of a command's output has colours.
 ghost use Rattle.std.specs.Prelude.{◌≡◌, map};
 ghost use Rattle.std.specs.List.{list_all};
-ghost use Rattle.xvfs.specs.Colouring.{draws, has_one_path, is_silent};
+ghost use Rattle.xvfs.specs.Colouring.{draws, is_silent};
 
 use colours::{Place, Style, wants_colours};
 use std::convert::AsStr;
@@ -20,32 +20,21 @@ fn draws<S: AsStr>(words: &[S]) -> bool
     ensures { result ≡ draws (map S.text words.now) }
 {
     match words {
-        [show, rest @ ..] => show.as_str() == "show" && has_one_path(rest),
+        [show, image, rest @ ..] => {
+            show.as_str() == "show" && !image.as_str().starts_with('-') && are_silent(rest)
+        }
         _ => false,
     }
 }
 
-// Whether these are a path, and options that change nothing of what is printed.
-fn has_one_path<S: AsStr>(words: &[S]) -> bool
-    ensures { result ≡ has_one_path (map S.text words.now) }
-{
-    match words {
-        [] => false,
-        [word, rest @ ..] => {
-            if is_silent(word.as_str()) {
-                has_one_path(rest)
-            } else {
-                !word.as_str().starts_with('-') && are_silent(rest)
-            }
-        }
-    }
-}
-
-// Whether these are such options alone.
+// Whether these are options that change nothing of what is printed.
 fn are_silent<S: AsStr>(words: &[S]) -> bool
     ensures { result ≡ list_all is_silent (map S.text words.now) }
 {
-    words.iter().all(|word| is_silent(word.as_str()))
+    match words {
+        [] => true,
+        [word, rest @ ..] => is_silent(word.as_str()) && are_silent(rest),
+    }
 }
 
 // Whether it is an option that changes nothing of what is printed.
