@@ -27,7 +27,7 @@ const FOLDER: Word = Word {
 const FILE_PUT: Word = Word {
     name: "FILE",
     kind: Kind::Needed,
-    help: "The path of the file whose bytes are put; a stop leaves the old bytes or the new; of more than 3072, where the image is no plain file with one name, maybe a beginning of the new",
+    help: "The path of the file whose bytes are put; a new file has type 2 (1 is a directory, 3 a device); a stop leaves the old bytes or the new; of more than 3072, where the image is no plain file with one name, maybe a beginning of the new",
 };
 
 const FILES: Word = Word {
