@@ -1,2 +1,3 @@
 pub mod CommandLines
 pub mod Tables
+pub mod TipLemmas

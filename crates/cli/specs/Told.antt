@@ -4,6 +4,7 @@ use Rattle.clap.specs.Words.{IsAmong}
 use Rattle.clap.specs.declared.error.kind.ErrorKind.{ErrorKind}
 use Rattle.clap.specs.declared.error.kind.ErrorKind.TheVariants.{DisplayHelp, DisplayVersion, MissingSubcommand, OutOfMemory}
 use Rattle.cli.specs.Asking.{Wording, mistakes_in}
+use Rattle.cli.specs.Wrapping.{marks_of}
 use Rattle.cli.specs.declared.explanation.Explanation.{Explanation}
 use Rattle.cli.specs.declared.explanation.Explanation.TheVariants.{Help, Mistake, NoMemory}
 
@@ -16,6 +17,12 @@ abbrev pub IsOfKind : ErrorKind → Explanation → Type 0
 IsOfKind k (Help text) = IsHelp k
 IsOfKind k (Mistake text) = (k ≢ OutOfMemory) × (¬ (IsHelp k))
 IsOfKind k NoMemory = ⊤
+
+-- a text of help is told in other lines, unless memory is refused: it has the same marks
+abbrev pub IsLaidOut : List ℕ → Explanation → Type 0
+IsLaidOut text (Help laid) = marks_of (string_bytes laid) ≡ marks_of text
+IsLaidOut text (Mistake told) = ⊥
+IsLaidOut text NoMemory = ⊤
 
 -- the words ask for help or for the version
 pub record AskForHelp {Q : Type 0} (wording : Wording Q) (words : List (List ℕ)) : Type 0 where

@@ -9,6 +9,7 @@ ghost use Rattle.cli.specs.Told.{IsToldOf};
 use crate::explanation::Explanation;
 use crate::program::program_of;
 use crate::table::Outline;
+use crate::tips::with_tip;
 use clap::error::ErrorKind;
 use clap::{ArgMatches, Command, Error};
 use std::alloc::{AllocError, Global};
@@ -62,7 +63,10 @@ pub fn parse<'a, Q: ByWords<'a>, S: AsStr>(
 {
     match read(alloc, words) {
         Ok(asked) => Ok(asked),
-        Err(error) => Err(Explanation::of(alloc, error)),
+        Err(error) => {
+            let told = Explanation::of(alloc, error);
+            Err(with_tip(alloc, Q::outline(), words, told))
+        }
     }
 }
 

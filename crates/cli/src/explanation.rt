@@ -1,8 +1,9 @@
 // What is told of words that ask for no command.
 ghost use Rattle.std.specs.Prelude.{Some};
 ghost use Rattle.clap.specs.Words.{kind_of};
-ghost use Rattle.cli.specs.Told.{IsOfKind, explanation_text};
+ghost use Rattle.cli.specs.Told.{IsLaidOut, IsOfKind, explanation_text};
 
+use crate::wrapping::wrapped;
 use clap::Error;
 use clap::error::ErrorKind;
 use std::alloc::Global;
@@ -28,9 +29,22 @@ impl Explanation {
             return Explanation::NoMemory;
         };
         match error.kind() {
-            ErrorKind::DisplayHelp | ErrorKind::DisplayVersion => Explanation::Help(text),
+            ErrorKind::DisplayHelp => Explanation::help(alloc, text.as_str()),
+            ErrorKind::DisplayVersion => Explanation::Help(text),
             ErrorKind::OutOfMemory => Explanation::NoMemory,
             _ => Explanation::Mistake(text),
+        }
+    }
+}
+
+impl Explanation {
+    // The text of help, in lines that are not too wide.
+    fn help(alloc: Global, text: &str) -> Explanation
+        ensures { IsLaidOut text.now result }
+    {
+        match wrapped(alloc, text) {
+            Some(laid) => Explanation::Help(laid),
+            None => Explanation::NoMemory,
         }
     }
 }

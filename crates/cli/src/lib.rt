@@ -11,8 +11,10 @@ mod explanation;
 mod program;
 pub mod table;
 mod texts;
+mod tips;
 mod topics;
+mod wrapping;
 
 pub use asking::{Asked, ByWords, parse};
 pub use explanation::Explanation;
-pub use topics::Topic;
+pub use topics::{TOPICS, Topic};

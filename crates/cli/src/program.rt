@@ -5,6 +5,7 @@ ghost use Rattle.cli.specs.CommandLine.{HasApp, HasMore, named_app};
 ghost use Rattle.cli.specs.Table.{line_app, outline_app, preset_rule, valued_rule, with_lines, with_words, word_rule};
 
 use crate::table::{EXPLAIN, Kind, Line, NO_LOCK, Outline, WAIT, Word};
+use crate::topics::{TOPICS_TOLD, Topic};
 use clap::{Arg, ArgAction, Command, value_parser};
 use std::alloc::{AllocError, Global};
 
@@ -43,10 +44,16 @@ fn bare_program<'a>(alloc: Global, outline: Outline) -> Result<Command<'a>, Allo
         Command::new(alloc, outline.name)
             .version(outline.version)
             .about(outline.about)
+            .after_help(told_below(outline.topics))
             .bin_name(outline.name)?
             .no_binary_name(true)
             .subcommand_required(true),
     )
+}
+
+// What help says of these topics.
+fn told_below(topics: &[Topic]) -> &'static str {
+    if topics.is_empty() { "" } else { TOPICS_TOLD }
 }
 
 // The program, with one more command if there is memory for it.

@@ -1,6 +1,8 @@
 // The commands of a program, and their words, as a table: what help prints of each, and in which
 // order clap is told of them; and the words that programs have in common.
 
+use crate::topics::Topic;
+
 /// What a word of a command line is.
 #[derive(Clone, Copy)]
 pub enum Kind {
@@ -68,6 +70,8 @@ pub struct Outline {
     pub about: &'static str,
     /// Its commands, in the order of help.
     pub lines: &'static [Line],
+    /// What its help tells of besides.
+    pub topics: &'static [Topic],
 }
 
 /// The version of the programs.

@@ -20,7 +20,37 @@ pub enum Topic {
     Image,
 }
 
+/// All of them, in the order of help.
+pub const TOPICS: &[Topic] = &[
+    Topic::Script,
+    Topic::Schedule,
+    Topic::Refusals,
+    Topic::Status,
+    Topic::Image,
+];
+
+/// What help says of them below a program's commands.
+pub(crate) const TOPICS_TOLD: &str = "Topics of help:
+  script    The lines of a script: operations, and the types of files
+  schedule  The words of a schedule, and what a replay prints of them
+  refusals  The lines of refusals: layer, number and name
+  status    The exit statuses
+  image     The blocks of an image, byte for byte";
+
 impl Topic {
+    /// The word by which help is asked for it.
+    pub fn name(self) -> &'static str
+        ensures { result.now ≡ name_of self }
+    {
+        match self {
+            Topic::Script => "script",
+            Topic::Schedule => "schedule",
+            Topic::Refusals => "refusals",
+            Topic::Status => "status",
+            Topic::Image => "image",
+        }
+    }
+
     /// The topic that these words, without the program's name, ask help to tell of, if they do: they
     /// are `help` and its name.
     pub fn asked<S: AsStr>(words: &[S]) -> Option<Topic>

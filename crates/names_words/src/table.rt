@@ -9,6 +9,7 @@ pub const XVNAMES: Outline = Outline {
     version: VERSION,
     about: "Lists, reads, puts, moves, links and removes the files of images of the xv6 file system by their paths, and makes images with files; without words, does the command lines of standard input",
     lines: LINES,
+    topics: &[],
 };
 
 const PATH: Word = Word {
@@ -26,7 +27,7 @@ const FOLDER: Word = Word {
 const FILE_PUT: Word = Word {
     name: "FILE",
     kind: Kind::Needed,
-    help: "The path of the file whose bytes are put; a stop leaves the old bytes or the new; of more than 3072, where the image is no plain file with one name, maybe a beginning of the new",
+    help: "The path of the file whose bytes are put; a new file has type 2 (1 is a directory, 3 a device); a stop leaves the old bytes or the new; of more than 3072, where the image is no plain file with one name, maybe a beginning of the new",
 };
 
 const FILES: Word = Word {
@@ -38,36 +39,36 @@ const FILES: Word = Word {
 const LINES: &[Line] = &[
     Line {
         name: "ls",
-        about: "Lists a directory but for . and .., a line an entry: name, number, type and bytes",
-        example: "Examples: xvnames ls fs.img, xvnames ls fs.img /docs, xvnames ls fs.img --json",
+        about: "Lists a directory but for . and .., a line an entry: name, number, type (1 directory, 2 file, 3 device) and bytes",
+        example: "Examples:\n  xvnames ls fs.img\n  xvnames ls fs.img /docs\n  xvnames ls fs.img --json",
         image: Some(IMAGE_KEPT),
         words: &[FOLDER, JSON],
     },
     Line {
         name: "stat",
-        about: "Prints a file's number, type, bytes and count of links",
-        example: "Examples: xvnames stat fs.img /README, xvnames stat fs.img /README --json",
+        about: "Prints a file's number, type (1 directory, 2 file, 3 device), bytes and count of links",
+        example: "Examples:\n  xvnames stat fs.img /README\n  xvnames stat fs.img /README --json",
         image: Some(IMAGE_KEPT),
         words: &[PATH, JSON],
     },
     Line {
         name: "tree",
         about: "Prints the paths of all files below a directory, a line each; those of directories end with a slash",
-        example: "Examples: xvnames tree fs.img, xvnames tree fs.img /docs, xvnames tree fs.img --json",
+        example: "Examples:\n  xvnames tree fs.img\n  xvnames tree fs.img /docs\n  xvnames tree fs.img --json",
         image: Some(IMAGE_KEPT),
         words: &[FOLDER, JSON],
     },
     Line {
         name: "cat",
         about: "Writes the bytes of a file",
-        example: "Example: xvnames cat fs.img /README",
+        example: "Example:\n  xvnames cat fs.img /README",
         image: Some(IMAGE_KEPT),
         words: &[PATH],
     },
     Line {
         name: "get",
         about: "Copies a file of an image into a new file, or with -r a directory with all below it into a new folder",
-        example: "Examples: xvnames get fs.img /README readme.txt, xvnames get -r fs.img /docs docs",
+        example: "Examples:\n  xvnames get fs.img /README readme.txt\n  xvnames get -r fs.img /docs docs",
         image: Some(IMAGE_KEPT),
         words: &[
             PATH,
@@ -86,7 +87,7 @@ const LINES: &[Line] = &[
     Line {
         name: "put",
         about: "Puts a file into an image under a path, as a new file or in place of one, and prints its number, or with -r all that is below a folder into a directory",
-        example: "Examples: xvnames put fs.img notes.txt /docs/notes.txt, xvnames put -r fs.img docs /docs",
+        example: "Examples:\n  xvnames put fs.img notes.txt /docs/notes.txt\n  xvnames put -r fs.img docs /docs",
         image: Some(IMAGE),
         words: &[
             FILE_PUT,
@@ -103,7 +104,7 @@ const LINES: &[Line] = &[
     Line {
         name: "rm",
         about: "Removes a name of a file, which is no directory, and the file with its last name, or with -r a directory with all below it",
-        example: "Examples: xvnames rm fs.img /docs/notes.txt, xvnames rm -r fs.img /docs",
+        example: "Examples:\n  xvnames rm fs.img /docs/notes.txt\n  xvnames rm -r fs.img /docs",
         image: Some(IMAGE),
         words: &[
             PATH,
@@ -119,7 +120,7 @@ const LINES: &[Line] = &[
     Line {
         name: "mv",
         about: "Gives a file or a directory another path, where nothing is",
-        example: "Example: xvnames mv fs.img /README /docs/readme",
+        example: "Example:\n  xvnames mv fs.img /README /docs/readme",
         image: Some(IMAGE),
         words: &[
             Word {
@@ -139,7 +140,7 @@ const LINES: &[Line] = &[
     Line {
         name: "cp",
         about: "Copies a file, which is no directory or device, within an image to a path, as a new file or in place of one, or under its own name into a directory, and prints the copy's number",
-        example: "Examples: xvnames cp fs.img /README /docs/readme, xvnames cp fs.img /README /docs",
+        example: "Examples:\n  xvnames cp fs.img /README /docs/readme\n  xvnames cp fs.img /README /docs",
         image: Some(IMAGE),
         words: &[
             Word {
@@ -159,7 +160,7 @@ const LINES: &[Line] = &[
     Line {
         name: "ln",
         about: "Gives a file, which is no directory, a second name",
-        example: "Example: xvnames ln fs.img /README /docs/readme",
+        example: "Example:\n  xvnames ln fs.img /README /docs/readme",
         image: Some(IMAGE),
         words: &[
             Word {
@@ -179,7 +180,7 @@ const LINES: &[Line] = &[
     Line {
         name: "mkdir",
         about: "Makes a directory, or with -p each of its path that is not there",
-        example: "Examples: xvnames mkdir fs.img /docs, xvnames mkdir -p fs.img /docs/old/first",
+        example: "Examples:\n  xvnames mkdir fs.img /docs\n  xvnames mkdir -p fs.img /docs/old/first",
         image: Some(IMAGE),
         words: &[
             PATH,
@@ -195,28 +196,28 @@ const LINES: &[Line] = &[
     Line {
         name: "rmdir",
         about: "Removes a directory in which nothing is",
-        example: "Example: xvnames rmdir fs.img /docs",
+        example: "Example:\n  xvnames rmdir fs.img /docs",
         image: Some(IMAGE),
         words: &[PATH, SYNC, NO_SYNC],
     },
     Line {
         name: "check",
         about: "Says whether an image is sound and its files a tree, and lists each path of a file whose count of links is not how many names lead to it: number, links and names; where they are no tree, each flaw by its path and its number",
-        example: "Examples: xvnames check fs.img, xvnames check fs.img --json",
+        example: "Examples:\n  xvnames check fs.img\n  xvnames check fs.img --json",
         image: Some(IMAGE_KEPT),
         words: &[JSON],
     },
     Line {
         name: "recount",
         about: "Sets each file's wrong count of links to how many names lead to it, and prints how many were wrong",
-        example: "Example: xvnames recount fs.img",
+        example: "Example:\n  xvnames recount fs.img",
         image: Some(IMAGE),
         words: &[SYNC, NO_SYNC],
     },
     Line {
         name: "mkfs",
         about: "Makes an image with a root directory and these files in it, in a new file or in place of an old one",
-        example: "Example: xvnames mkfs fs.img 2000 200 README _cat _ls",
+        example: "Example:\n  xvnames mkfs fs.img 2000 200 README _cat _ls",
         image: Some(IMAGE_MADE),
         words: &[SIZE, NINODES, FILES, NO_SYNC],
     },

@@ -1,4 +1,5 @@
 // The commands of `xvfs`, and their words, as a table.
+use cli::TOPICS;
 use cli::table::{
     EXPLAIN, IMAGE, IMAGE_KEPT, IMAGE_MADE, JSON, Kind, Line, NINODES, NO_SYNC, Outline, SIZE,
     SYNC, VERSION, Word,
@@ -9,18 +10,19 @@ pub(crate) const XVFS: Outline = Outline {
     version: VERSION,
     about: "Makes, checks, lists, shows, fills, copies and recovers images of the xv6 file system, and runs scripts of operations over them; without words, does the command lines of standard input",
     lines: LINES,
+    topics: TOPICS,
 };
 
 const SCRIPT: Word = Word {
     name: "SCRIPT",
     kind: Kind::Needed,
-    help: "The path of the script, whose lines are the operations of processes",
+    help: "The path of the script, whose lines are the operations of processes: 'xvfs help script' has them. It creates files of type 1 (directory), 2 (file) or 3 (device)",
 };
 
 const SCHEDULE: Word = Word {
     name: "SCHEDULE",
     kind: Kind::Needed,
-    help: "The path of the schedule, whose words are turns of the processes",
+    help: "The path of the schedule, whose words say which process goes on: 'xvfs help schedule' has them",
 };
 
 const OLD: Word = Word {
@@ -35,11 +37,33 @@ const NEW: Word = Word {
     help: "The path of the file that is made",
 };
 
+const REPLAY_WORDS: &str = "Words of --steps:
+  begin    begins the operation that waits, if one does and it may
+  ref      takes a reference to the file's inode
+  lock     takes the inode's lock
+  get B    gets block B, which no other process then has
+  use B    reads or changes block B, which it got or kept
+  look     looks at the inode in the block that it got
+  finish   gives out what was read, and then the lock and the reference back
+  put      gives the lock and the reference back
+  end      ends the operation in the log; the last one's process then commits
+  log, header, home, clear, sync
+           a step of the commit; --writes has its line
+
+Words of --writes:
+  log K of H          into the log's place K, the new bytes of block H
+  header n K group G  the header with K blocks, by which group G is committed
+  home B              into block B its new bytes, of inodes, bitmap or data
+  clear               the header with no block
+
+Example:
+  xvfs replay fs.img script schedule --stop 3";
+
 const LINES: &[Line] = &[
     Line {
         name: "mkfs",
         about: "Makes an image in a new file, or in place of an old one",
-        example: "Example: xvfs mkfs fs.img 2000 200",
+        example: "Example:\n  xvfs mkfs fs.img 2000 200",
         image: Some(IMAGE_MADE),
         words: &[
             SIZE,
@@ -55,7 +79,7 @@ const LINES: &[Line] = &[
     Line {
         name: "check",
         about: "Says whether an image is sound, and counts its logged blocks and its files",
-        example: "Examples: xvfs check fs.img, xvfs check fs.img --all",
+        example: "Examples:\n  xvfs check fs.img\n  xvfs check fs.img --all",
         image: Some(IMAGE_KEPT),
         words: &[
             Word {
@@ -68,22 +92,22 @@ const LINES: &[Line] = &[
     },
     Line {
         name: "ls",
-        about: "Lists the files of an image: number, type, bytes and blocks",
-        example: "Examples: xvfs ls fs.img, xvfs ls fs.img --json",
+        about: "Lists the files of an image: number, type (1 directory, 2 file, 3 device), bytes and blocks",
+        example: "Examples:\n  xvfs ls fs.img\n  xvfs ls fs.img --json",
         image: Some(IMAGE_KEPT),
         words: &[JSON],
     },
     Line {
         name: "df",
         about: "Counts the blocks and the inodes of an image, used and free ones",
-        example: "Examples: xvfs df fs.img, xvfs df fs.img --json",
+        example: "Examples:\n  xvfs df fs.img\n  xvfs df fs.img --json",
         image: Some(IMAGE_KEPT),
         words: &[JSON],
     },
     Line {
         name: "cat",
         about: "Recovers an image, and writes the bytes of one of its files",
-        example: "Examples: xvfs cat fs.img 1, xvfs cat fs.img 1 --read-only",
+        example: "Examples:\n  xvfs cat fs.img 1\n  xvfs cat fs.img 1 --read-only",
         image: Some(IMAGE),
         words: &[
             Word {
@@ -101,7 +125,7 @@ const LINES: &[Line] = &[
     Line {
         name: "show",
         about: "Draws the blocks of an image, a sign each, or lists those of one file, or of the log",
-        example: "Examples: xvfs show fs.img, xvfs show fs.img 1, xvfs show fs.img log",
+        example: "Examples:\n  xvfs show fs.img\n  xvfs show fs.img 1\n  xvfs show fs.img log",
         image: Some(IMAGE_KEPT),
         words: &[
             Word {
@@ -120,13 +144,13 @@ const LINES: &[Line] = &[
     Line {
         name: "put",
         about: "Puts a file into an image, as a new file or in place of one, and prints its number",
-        example: "Examples: xvfs put fs.img notes.txt, xvfs put fs.img notes.txt 1",
+        example: "Examples:\n  xvfs put fs.img notes.txt\n  xvfs put fs.img notes.txt 1",
         image: Some(IMAGE),
         words: &[
             Word {
                 name: "FILE",
                 kind: Kind::Needed,
-                help: "The path of the file whose bytes are put",
+                help: "The path of the file whose bytes are put; a new file has type 2 (1 is a directory, 3 a device)",
             },
             Word {
                 name: "INUM",
@@ -140,7 +164,7 @@ const LINES: &[Line] = &[
     Line {
         name: "copy",
         about: "Copies the files of an image into a new one that has room for large files",
-        example: "Example: xvfs copy old.img new.img --size 8191",
+        example: "Example:\n  xvfs copy old.img new.img --size 8191",
         image: Some(OLD),
         words: &[
             NEW,
@@ -160,7 +184,7 @@ const LINES: &[Line] = &[
     Line {
         name: "convert",
         about: "Makes an image of an older xv6, whose log has another length, one of today",
-        example: "Examples: xvfs convert fs.img new.img, xvfs convert fs.img old.img --log 30",
+        example: "Examples:\n  xvfs convert fs.img new.img\n  xvfs convert fs.img old.img --log 30",
         image: Some(OLD),
         words: &[
             NEW,
@@ -180,21 +204,21 @@ const LINES: &[Line] = &[
     Line {
         name: "rescue",
         about: "Copies the files of a damaged image that are whole into a new one, and tells which these are",
-        example: "Example: xvfs rescue old.img new.img",
+        example: "Example:\n  xvfs rescue old.img new.img",
         image: Some(OLD),
         words: &[NEW, NO_SYNC],
     },
     Line {
         name: "recover",
         about: "Checks an image, and copies the blocks of its log home",
-        example: "Example: xvfs recover fs.img",
+        example: "Example:\n  xvfs recover fs.img",
         image: Some(IMAGE),
         words: &[SYNC, JSON],
     },
     Line {
         name: "replay",
-        about: "Recovers an image, and makes a script's operations in the turns of a schedule",
-        example: "Example: xvfs replay fs.img script schedule --stop 3",
+        about: "Recovers an image, and carries out a script's operations, step by step as a schedule says",
+        example: REPLAY_WORDS,
         image: Some(IMAGE),
         words: &[
             SCRIPT,
@@ -208,12 +232,12 @@ const LINES: &[Line] = &[
             Word {
                 name: "writes",
                 kind: Kind::Flag,
-                help: "Tells each write below its turn's line: its number, its block, and what it is",
+                help: "Tells each write below its word's line: its number, its block, and what it is",
             },
             Word {
                 name: "steps",
                 kind: Kind::Flag,
-                help: "Tells each step of a turn below its line: what it was to do",
+                help: "Tells each step of a word below its line: what it was to do",
             },
             Word {
                 name: "picture",
@@ -228,14 +252,14 @@ const LINES: &[Line] = &[
             Word {
                 name: "json",
                 kind: Kind::Flag,
-                help: "Prints lines of JSON in place of text: an object for each step and each turn, then the counts",
+                help: "Prints lines of JSON in place of text: an object for each step and each word, then the counts",
             },
         ],
     },
     Line {
         name: "run",
-        about: "Recovers an image, and makes a script's operations, each process's in order, by threads",
-        example: "Examples: xvfs run fs.img script --group, xvfs run fs.img script --workers 4",
+        about: "Recovers an image, and carries out a script's operations, each process's in order, by threads",
+        example: "Examples:\n  xvfs run fs.img script --group\n  xvfs run fs.img script --workers 4",
         image: Some(IMAGE),
         words: &[
             SCRIPT,
@@ -254,8 +278,8 @@ const LINES: &[Line] = &[
     },
     Line {
         name: "stops",
-        about: "Makes a script's operations up to each of their writes, and checks what each stop leaves",
-        example: "Example: xvfs stops script schedule",
+        about: "Carries out a script's operations up to each of their writes, and checks what each stop leaves",
+        example: "Example:\n  xvfs stops script schedule",
         image: None,
         words: &[
             SCRIPT,
@@ -264,7 +288,7 @@ const LINES: &[Line] = &[
             Word {
                 name: "held",
                 kind: Kind::Flag,
-                help: "Makes them over a disk that holds writes back, and loses any of these at each stop",
+                help: "Carries them out over a disk that holds writes back, and loses any of these at each stop",
             },
             Word {
                 name: "picture",
