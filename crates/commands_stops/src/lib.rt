@@ -7,4 +7,4 @@ mod stopping;
 mod stops_drawing;
 
 pub use stopping::{DrawnStopsRefusal, StopsRefusal, end_stops, stops_into};
-pub use stops_drawing::{Undrawn, draw_passed, draw_refused};
+pub use stops_drawing::Undrawn;

@@ -59,7 +59,7 @@ impl Reason for Undrawn {
 /// `TooLong` where it is plain and there are more than `MOST_COLUMNS`, or where it isn't and the run has more
 /// than 10,000 steps; `NoMemory` where it isn't plain; `Picture` with a fault of `draw`. With all but this
 /// the holder is as it was.
-pub fn draw_passed<R: Files + AllocGlobal, H: Holder<R::File>>(
+pub(crate) fn draw_passed<R: Files + AllocGlobal, H: Holder<R::File>>(
     rt: &R,
     path: &str,
     plain: bool,
@@ -87,7 +87,7 @@ pub fn draw_passed<R: Files + AllocGlobal, H: Holder<R::File>>(
 /// # Errors
 ///
 /// As those of `draw_passed`; `Picture`, too, where a mismatch has no short words.
-pub fn draw_refused<R: Files + AllocGlobal, H: Holder<R::File>>(
+pub(crate) fn draw_refused<R: Files + AllocGlobal, H: Holder<R::File>>(
     rt: &R,
     path: &str,
     plain: bool,
