@@ -6,7 +6,7 @@ use Rattle.commands_runs.specs.Tried.{IsHeardOf}
 use Rattle.commands_runs.specs.declared.gathered.Gathered.{Gathered}
 use Rattle.commands_runs.proofs.exploring_new.explore_new.Goals as goal
 
-pub returns-clause-explored : goal.returns-in-Ok-clause-explored
+pub returns-clause-explored : goal.returns-clause-explored
 returns-clause-explored g c =
     let known = c.in-Ok.ensures in
     let s = c.args.scenario.now in
@@ -15,7 +15,7 @@ returns-clause-explored g c =
     (explored_new g.R.File.Write.contents c.args.holds s.tasks.items s.processes s.words.items c.in-Ok.taken.0 c.run.result.now known.made known.count heard c.args.columns.now c.args.lost)
     c.make_page.ensures.few c.make_page.ensures.made
 
-pub returns-clause-refused : goal.returns-in-Ok-clause-refused
+pub returns-clause-refused : goal.returns-clause-refused
 returns-clause-refused g c =
     let known = c.in-Ok.ensures in
     let s = c.args.scenario.now in
