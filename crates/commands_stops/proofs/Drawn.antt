@@ -1,5 +1,5 @@
 -- What is known of the page of stops.
-use Rattle.std.proofs.Common.{◌≡◌, Bool, true, false, List, ℕ, Ok, subst, sym}
+use Rattle.std.proofs.Common.{◌≡◌, Bool, true, false, List, ℕ, Ok, refl, subst, sym}
 use Rattle.std.specs.Prelude.{Option, Some, None, Result, Err, IfErr, MatchResult, OnOk}
 use Rattle.crash_check.specs.declared.fault.StopsFault.{StopsFault}
 use Rattle.messages.specs.declared.printed.Printed.{Printed}
@@ -28,7 +28,8 @@ pub checked_so : {F P : Type 0} (contents : F → Option (List ℕ)) (json held 
     ChecksAll json held tasks processes words tried old new → IsDrawnInto picture (DrawsStops contents plain held tasks processes words tried None) → ChecksInto contents json held plain old new picture
 checked_so contents json held plain old new picture tried tasks processes words checks drawn = (
   tried,
-  (record { tasks = tasks; processes = processes; words = words; checks = checks }, drawn),
+  record { tasks = tasks; processes = processes; words = words; checks = checks },
+  drawn,
 )
 
 -- or wasn't, and this is what became of its page
@@ -37,7 +38,8 @@ pub unchecked_so : {F P : Type 0} (contents : F → Option (List ℕ)) (json hel
     IsUncheckedInto contents json held plain old new none picture (Stops (check.Stops r) u)
 unchecked_so contents json held plain old new none picture tried tasks processes words r u refused drawn = (
   tried,
-  (record { tasks = tasks; processes = processes; words = words; refused = refused }, drawn),
+  record { tasks = tasks; processes = processes; words = words; refused = refused },
+  drawn,
 )
 
 -- or was, and has no page
@@ -46,13 +48,13 @@ pub undrawn_so : {F P : Type 0} (contents : F → Option (List ℕ)) (json held 
     IsUncheckedInto contents json held plain old new none (Some path) (Picture u)
 undrawn_so contents json held plain old new none path tried tasks processes words u checks why = (
   tt,
-  (tried, (record { tasks = tasks; processes = processes; words = words; checks = checks }, why)),
+  (tried, record { tasks = tasks; processes = processes; words = words; checks = checks }, why),
 )
 
 -- a page was made, or wasn't
 pub drawn_or : {T E : Type 0} (r : Result T E) (why : E → Type 0) (drawn : Type 0) → OnOk r drawn → IfErr r why → MatchResult r (λ done. drawn) why
-drawn_or (Ok done) why drawn so no = so
-drawn_or (Err e) why drawn so no = no
+drawn_or (Ok done) why drawn so else_so = so
+drawn_or (Err e) why drawn so else_so = else_so
 
 -- a page that walks through a run wasn't made for this reason
 pub unexplored : (held : Bool) (tasks : List Task) (processes : ℕ) (words : List Word) (tried : List Column) (refusal : PicturedRefusal) →
@@ -77,3 +79,8 @@ pub unread : {F P : Type 0} (contents : F → Option (List ℕ)) (json held plai
 unread contents json held plain old new none picture (check.Script f) why silent = (silent, cc)
 unread contents json held plain old new none picture (check.Schedule f) why silent = (silent, cc)
 unread contents json held plain old new none picture (check.Stops r) why silent = absurd why
+
+-- without a path nothing kept the stops from a page
+pub unasked : {P : Type 0} (picture : Option P) (why : Undrawn → Type 0) (drawn : Type 0) → ((path : P) → picture ≡ Some path → ⊥) → DrawsInto picture (Ok tt) why drawn
+unasked None why drawn none = refl
+unasked (Some path) why drawn none = absurd (none path refl)

@@ -20,12 +20,12 @@ returns-in-Ok-clause-drawn g c =
     let s = c.args.scenario.now in
     subst (λ (plain : Bool). DrawsStops g.R.File.Write.contents plain c.args.held s.tasks.items s.processes s.words.items c.args.columns.now c.args.lost) (sym c.if-plain.false) c.in-Ok.ensures.explored
 
-pub returns-clause-undrawn : goal.returns-clause-undrawn
-returns-clause-undrawn g c =
+pub returns-in-Err-clause-undrawn : goal.returns-in-Err-clause-undrawn
+returns-in-Err-clause-undrawn g c =
     let s = c.args.scenario.now in
     subst (λ (u : Undrawn). IsUndrawn c.args.plain c.args.held s.tasks.items s.processes s.words.items c.args.columns.now u) (sym c.undrawn_of.ensures)
     (subst (λ (plain : Bool). IsUndrawn plain c.args.held s.tasks.items s.processes s.words.items c.args.columns.now (undrawn_of c.in-Err.refusal)) (sym c.if-plain.false)
     (unexplored c.args.held s.tasks.items s.processes s.words.items c.args.columns.now c.in-Err.refusal c.in-Err.ensures.refused))
 
-pub returns-clause-unbegun : goal.returns-clause-unbegun
-returns-clause-unbegun g c = λ none. c.in-Err.ensures.unbegun (unbegun c.in-Err.refusal (subst HasNoFile c.undrawn_of.ensures none))
+pub returns-in-Err-clause-unbegun : goal.returns-in-Err-clause-unbegun
+returns-in-Err-clause-unbegun g c = λ none. c.in-Err.ensures.unbegun (unbegun c.in-Err.refusal (subst HasNoFile c.undrawn_of.ensures none))
