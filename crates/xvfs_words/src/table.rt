@@ -16,7 +16,7 @@ pub(crate) const XVFS: Outline = Outline {
 const SCRIPT: Word = Word {
     name: "SCRIPT",
     kind: Kind::Needed,
-    help: "The path of the script, whose lines are the operations of processes: 'xvfs help script' has them. It creates files of type 1 (directory), 2 (file) or 3 (device)",
+    help: "The path of the script, whose lines are the operations of processes: 'xvfs help script' has them, and types",
 };
 
 const SCHEDULE: Word = Word {
@@ -49,12 +49,6 @@ const REPLAY_WORDS: &str = "Words of --steps:
   end      ends the operation in the log; the last one's process then commits
   log, header, home, clear, sync
            a step of the commit; --writes has its line
-
-Words of --writes:
-  log K of H          into the log's place K, the new bytes of block H
-  header n K group G  the header with K blocks, by which group G is committed
-  home B              into block B its new bytes, of inodes, bitmap or data
-  clear               the header with no block
 
 Example:
   xvfs replay fs.img script schedule --stop 3";
