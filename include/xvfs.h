@@ -183,7 +183,8 @@ xvfs_result xvfs_recover_step(const uint8_t *image, size_t len, uint32_t place, 
  * XVFS_E_OPEN_MEMORY, _PROCESSES, _FLAGS, XVFS_E_LOGGED. */
 xvfs_result xvfs_open(xvfs *fs, const uint8_t *image, size_t len, uint32_t processes, uint32_t flags);
 
-/* Operations, by inode number. XVFS_OP_RESIZE cuts a file to a length of at most what it has. */
+/* Operations, by inode number. XVFS_OP_RESIZE cuts a file, or adds up to XVFS_TRANSFER zeroes to it: then
+ * its answer is XVFS_REPLY_WROTE, as a write's. */
 typedef enum xvfs_op_kind {
     XVFS_OP_CREATE, XVFS_OP_WRITE, XVFS_OP_READ, XVFS_OP_TRUNC, XVFS_OP_REMOVE, XVFS_OP_STAT,
     XVFS_OP_LINKS, XVFS_OP_RESIZE

@@ -136,7 +136,8 @@ static size_t think_of(xvfs_op *op) {
     size = size_of(op->inum);
     if (op->kind == XVFS_OP_CREATE) op->inum = one_in(12) ? below(70) * 1000 % 65536 : 1 + below(3);
     if (op->kind == XVFS_OP_LINKS) op->len = below(65536);
-    if (op->kind == XVFS_OP_RESIZE) op->len = one_in(4) ? below(3) : size + below(3) - below(size / 8 + 1);
+    if (op->kind == XVFS_OP_RESIZE && one_in(2)) op->len = size + below(XVFS_TRANSFER + 9);
+    else if (op->kind == XVFS_OP_RESIZE) op->len = one_in(4) ? below(3) : size + 2 - below(size / 8 + 3);
     if (op->kind == XVFS_OP_READ) {
         op->offset = below(size + 10);
         op->len = one_in(12) ? XVFS_TRANSFER + below(9) : below(XVFS_TRANSFER + 1);

@@ -217,7 +217,13 @@ static void answer_own(struct process *process, struct handed *it, const xvfs_an
                        const uint8_t *bytes) {
     static uint8_t wanted[XVFS_TRANSFER];
     xvfs_answer theirs;
-    if (ours->reply == XVFS_REPLY_WROTE && ours->value < it->len) {
+    if (ours->reply == XVFS_REPLY_WROTE && it->op.kind == XVFS_OP_RESIZE) {
+        /* Where no block was free, the file ends with a block. */
+        uint32_t end = size_of_own(process->now) + ours->value;
+        MUST(end == it->op.len || (end < it->op.len && end % XVFS_BLOCK_SIZE == 0));
+        it->op.len = end;
+        if (ours->value == 0) return;
+    } else if (ours->reply == XVFS_REPLY_WROTE && ours->value < it->len) {
         /* No block was free: the write ended with a block, and with the file. */
         uint32_t end = it->op.offset + ours->value;
         MUST(end % XVFS_BLOCK_SIZE == 0 && end >= size_of_own(process->now));
@@ -271,7 +277,9 @@ void files_answer(uint32_t pid, const xvfs_answer *answer, const uint8_t *bytes)
     it->group = answer->group;
     if (it->target == OWN) {
         /* What comes short may change nothing, and isn't seen then. */
-        int may_be_missed = answer->reply == XVFS_REPLY_WROTE && answer->value < it->len;
+        int adds = it->op.kind == XVFS_OP_RESIZE;
+        int may_be_missed =
+            answer->reply == XVFS_REPLY_WROTE && (adds ? answer->value == 0 : answer->value < it->len);
         MUST(answer->group == 0 || may_be_missed || answer->group > process->missed);
         MUST(answer->group <= process->shown);
         answer_own(process, it, answer, bytes);

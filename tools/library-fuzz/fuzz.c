@@ -589,16 +589,20 @@ static void see_links(void) {
     xvfs_host_close(&host);
 }
 
-/* A file is cut to a length, keeps the bytes before it, and gets none behind its end. */
+/* A file is cut to a length and keeps the bytes before it, or gets zeroes behind its end, at most as
+ * many as one operation moves, and none where its image has no room for it. */
 static void see_resize(void) {
     make();
     EXPECT(XVFS_OK, xvfs_host_open(&host, &device_calls, room, device_size, 1, 0));
     call(XVFS_OP_CREATE, 2, 0, 0);
     memset(bytes, 7, 1500);
     call(XVFS_OP_WRITE, 1, 0, 1500);
-    EXPECT(XVFS_REPLY_BAD_OFFSET, call(XVFS_OP_RESIZE, 1, 1501, 0).reply);
+    EXPECT(XVFS_REPLY_TOO_LONG, call(XVFS_OP_RESIZE, 1, 1500 + XVFS_TRANSFER + 1, 0).reply);
     EXPECT(XVFS_REPLY_DONE, call(XVFS_OP_RESIZE, 1, 1100, 0).reply);
-    EXPECT(XVFS_REPLY_BAD_OFFSET, call(XVFS_OP_RESIZE, 1, 1101, 0).reply);
+    EXPECT(XVFS_REPLY_WROTE, call(XVFS_OP_RESIZE, 1, 1500, 0).reply);
+    if (call(XVFS_OP_READ, 1, 3000, 0).len != 1500) fail("a longer file has another length", 1500);
+    for (unsigned k = 0; k < 1500; k++)
+        if (bytes[k] != (k < 1100 ? 7 : 0)) fail("a longer file has other bytes", k);
     EXPECT(XVFS_REPLY_DONE, call(XVFS_OP_RESIZE, 1, 100, 0).reply);
     if (call(XVFS_OP_STAT, 1, 0, 0).size != 100) fail("a file that was cut has another length", 100);
     if (call(XVFS_OP_READ, 1, 3000, 0).len != 100) fail("a file that was cut has other bytes", 100);

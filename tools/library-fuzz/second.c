@@ -341,9 +341,16 @@ static xvfs_reply read(uint8_t *image, const xvfs_op *op, uint8_t *into, uint32_
     return XVFS_REPLY_BYTES;
 }
 
-static xvfs_reply resize(uint8_t *image, const xvfs_op *op) {
+/* A longer length writes zeroes behind the file's end. */
+static xvfs_reply resize(uint8_t *image, const xvfs_op *op, uint32_t *value) {
+    static const uint8_t zeroes[XVFS_TRANSFER];
     uint8_t *size = image + inode_at(op->inum) + 8;
-    if (op->len > number_at(size)) return XVFS_REPLY_BAD_OFFSET;
+    uint32_t old = number_at(size);
+    if (op->len > old) {
+        xvfs_op more = {XVFS_OP_WRITE, op->inum, old, 0};
+        if (op->len - old > XVFS_TRANSFER) return XVFS_REPLY_TOO_LONG;
+        return write(image, &more, zeroes, op->len - old, value);
+    }
     put_number(size, op->len);
     return XVFS_REPLY_DONE;
 }
@@ -366,7 +373,7 @@ static xvfs_reply reply_of(uint8_t *image, const xvfs_op *op, const uint8_t *byt
     case XVFS_OP_WRITE: return write(image, op, bytes, len, &out->value);
     case XVFS_OP_READ: return read(image, op, into, &out->len);
     case XVFS_OP_STAT: return stat(image, op->inum, out);
-    case XVFS_OP_RESIZE: return resize(image, op);
+    case XVFS_OP_RESIZE: return resize(image, op, &out->value);
     case XVFS_OP_LINKS: put_half(image + inode_at(op->inum) + 6, op->len); break;
     case XVFS_OP_REMOVE: put_half(image + inode_at(op->inum), 0); /* fall through */
     default: empty(image, op->inum);

@@ -1,5 +1,5 @@
 -- Laws over images in which tasks write files.
-use Rattle.std.specs.Prelude.{◌≡◌, ◌≢◌, ◌⊎◌, ℕ, suc, ◌+◌, ◌*◌, ◌/◌, ◌%◌, ◌<◌, ◌≤◌, false, List, [], ◌∷◌, ◌++◌, length, take, slice_index, slice_set, max, Some, None}
+use Rattle.std.specs.Prelude.{◌≡◌, ◌≢◌, ◌⊎◌, ℕ, suc, ◌+◌, ◌*◌, ◌/◌, ◌%◌, ◌<◌, ◌≤◌, Bool, true, false, List, [], ◌∷◌, ◌++◌, length, take, slice_index, slice_set, max, Some, None}
 use Rattle.std.specs.List.{AllByRecursion}
 use Rattle.blocks.specs.Block.{overwritten, zero_block, block_size}
 use Rattle.blocks.specs.Disk.{Image, block_at}
@@ -22,12 +22,17 @@ use Rattle.in_flight.specs.Trees.{depth_of, entry_of, led_to, place_of}
 
 -- ---- the turn
 
+-- a task that begins to write into a file whose inode is this
+abbrev pub beginning : Dinode → ℕ → Bool → Growth
+beginning d off at_end =
+    record { copy = d; taken = None; offset = off; at_end = at_end; written = [] }
+
 -- a used number at rest is held by the task whose turn it is, with the image's inode as its copy
 abbrev pub TurnGrows : Type 0
-TurnGrows = (m : Files) (x : Image) (claims new : Claims) (i off : ℕ) → FitsHeld m x claims →
-    IsUsed x i → claims i ≡ None → off ≤ (inode_of x i).size →
-    IsClaimedNow claims i
-    (Some (grows (record { copy = inode_of x i; taken = None; offset = off; written = [] }))) new →
+TurnGrows = (m : Files) (x : Image) (claims new : Claims) (i off : ℕ) (at_end : Bool) →
+    FitsHeld m x claims → IsUsed x i → claims i ≡ None → off ≤ (inode_of x i).size →
+    (at_end ≡ true → (inode_of x i).size ≤ off) →
+    IsClaimedNow claims i (Some (grows (beginning (inode_of x i) off at_end))) new →
     FitsThen m x claims i x new
 
 -- what a write answers that begins behind the file's end, or that no file has room for

@@ -1,5 +1,5 @@
 -- Images in which tasks at work hold files, and the files that such an image stands for.
-use Rattle.std.specs.Prelude.{◌≡◌, ◌≢◌, ◌⊎◌, ℕ, ◌+◌, ◌<◌, ◌≤◌, ◌==◌, if◌then◌else◌, List, [], ◌∷◌, ◌++◌, length, slice_set, Option, Some, None}
+use Rattle.std.specs.Prelude.{◌≡◌, ◌≢◌, ◌⊎◌, ℕ, ◌+◌, ◌<◌, ◌≤◌, ◌==◌, if◌then◌else◌, List, [], ◌∷◌, ◌++◌, length, slice_set, Option, Some, None, Bool, true}
 use Rattle.std.specs.List.{flat_map}
 use Rattle.blocks.specs.Block.{overwritten, zero_block}
 use Rattle.blocks.specs.Disk.{Image, block_at}
@@ -28,11 +28,12 @@ pub record Held : Type 0 where
 
 -- A task that writes bytes into a file, from an offset on. Its copy of the inode has the addresses
 -- that it made and the size that it reached. It may have taken a block that the copy does not name
--- yet. So many bytes lie in the file's blocks by now
+-- yet. So many bytes lie in the file's blocks by now. An extension begins where the file ends
 pub record Growth : Type 0 where
   pub copy : Dinode
   pub taken : Option ℕ
   pub offset : ℕ
+  pub at_end : Bool
   pub written : List ℕ
 
 -- what a task holds of its file's number
@@ -90,6 +91,7 @@ pub record IsGrowing (x : Image) (i : ℕ) (g : Growth) (file : Option File) : T
   pub kind : g.copy.kind ≡ old.kind
   pub links : g.copy.nlink ≡ old.links
   pub reaches : g.offset ≤ length old.bytes
+  pub ends : g.at_end ≡ true → length old.bytes ≤ g.offset
   pub bytes : bytes_in x g.copy ≡ overwritten old.bytes g.offset g.written
 
 abbrev pub IsFine : Image → ℕ → Option Claim → Option File → Type 0

@@ -2,7 +2,7 @@
 ghost use Rattle.in_flight.specs.Laws.{SoundFits, FitsSoundly, FitsWhenCleared, FitsOutsideLog, ClaimsOne, ClaimMakesFile, MadeFits};
 ghost use Rattle.in_flight.specs.HeldLaws.{FitsAtRest, RestsSoundly, DirectGivenUp, BlockGivenUp, EntryPassed, LeavesAsMany, TreeGivenUp, TurnHolds, TurnAnswers, WriteBackRests, ClaimFits, HeldOutsideLog, RestingTells, FreeTells, HeldHasBlocks, FewLeft, ClearedBitKeeps, WriteBackKeeps};
 ghost use Rattle.in_flight.specs.GrowthLaws.{TurnGrows, RestingRefuses, BlockTaken, TakenZeroed, AddressPlaced, EntryPlaced, BytesWritten, GrowthRests, GrowthAnswers, GrowthHasBlocks, SetBitKeeps, DataKeeps, GrowthKeeps};
-ghost use Rattle.in_flight.specs.AttributeLaws.{SetAnswers, SetRefuses, SetRests, TurnSets};
+ghost use Rattle.in_flight.specs.AttributeLaws.{AdditionAnswers, SetAnswers, SetRefuses, SetRests, TurnSets};
 ghost use Rattle.in_flight.specs.Looks.{UsedIsFit, UsedHasBlocks, StatTells, ReadTells, NoFileTells};
 
 /// A sound image of whole blocks stands for its own files.
@@ -211,9 +211,14 @@ pub fn set_answers()
     ensures { SetAnswers }
 {}
 
-/// A file that is at rest gets no length behind its end.
+/// What an extension answers that adds more than one operation moves, or that no file has room for.
 pub fn set_refuses()
     ensures { SetRefuses }
+{}
+
+/// The files after an extension have the zeroes that it wrote.
+pub fn addition_answers()
+    ensures { AdditionAnswers }
 {}
 
 /// In the end it writes its copy back, and the number is at rest.

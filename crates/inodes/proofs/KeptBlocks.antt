@@ -122,7 +122,7 @@ module _ (cur : Image) (t : TableState) (ts : List TaskState) (are : AreLooking 
             omega (arith, twice, few, (ap (λ (o : Option ℕ). count_of root (names_left cur m.machine.inode (listed o ++ m.machine.given_up ∷ []))) upper))
 
   held_in : (p k : ℕ) (m : WriteState) → (task ts p).stage ≡ Stage.Writing k m → IsTrue (is_number t.inode_count m.number) →
-      IsHeldIn are.files.0 cur (claims_of ts) m.number (grows (growth_of m (bytes_by (task ts p).op)))
+      IsHeldIn are.files.0 cur (claims_of ts) m.number (grows (growth_of m (task ts p).op))
   held_in p k m at number = record { fits = are.files.1; number = named m.number number; holds = own_growth cur t ts are p k m at }
 
   write_own : (p k b : ℕ) (m : WriteState) → (task ts p).stage ≡ Stage.Writing k m → IsTrue (is_number t.inode_count m.number) → 1 ≤ count_of b (addresses_in (pointers_in cur m.inode)) → IsOwn p b
@@ -132,7 +132,7 @@ module _ (cur : Image) (t : TableState) (ts : List TaskState) (are : AreLooking 
         entry = k;
         locked = write_locks cur t ts are p k m at;
         is = named m.number number;
-        owned = omega (arith, (named_mine are.files.0 cur (claims_of ts) m.number (growth_of m (bytes_by (task ts p).op)) (held_in p k m at number) b), has);
+        owned = omega (arith, (named_mine are.files.0 cur (claims_of ts) m.number (growth_of m (task ts p).op) (held_in p k m at number) b), has);
       }
 
   -- which block it is that was got
@@ -173,7 +173,7 @@ module _ (cur : Image) (t : TableState) (ts : List TaskState) (are : AreLooking 
     way_kept i b (MapAt.Entry n None) is has waits on = absurd (cc has)
     way_kept i b (MapAt.Entry n (Some j)) is has waits on = absurd (cc waits)
     way_kept i b (MapAt.Behind n j s) is has waits on =
-        lies_named are.files.0 cur (claims_of ts) m.number (growth_of m (bytes_by (task ts p).op)) (held_in p k m at work.number) m.extent.form (ap (λ (e : Extent). e.form) work.extent) (next_block m) n
+        lies_named are.files.0 cur (claims_of ts) m.number (growth_of m (task ts p).op) (held_in p k m at work.number) m.extent.form (ap (λ (e : Extent). e.form) work.extent) (next_block m) n
         (subst (λ (c : Branch). LiesOnWay cur m.inode c n) is on.0.0)
     way_kept i b (MapAt.Setting n j found) is has waits on = absurd (cc waits)
 
@@ -268,7 +268,7 @@ module _ (cur : Image) (t : TableState) (ts : List TaskState) (are : AreLooking 
   -- the writing of a file's bytes
   taken_own : (p k b : ℕ) (m : WriteState) → (task ts p).stage ≡ Stage.Writing k m → IsTrue (is_number t.inode_count m.number) → 1 ≤ count_of (node_of_write m.at) (addresses_in (pointers_in cur m.inode)) → taken_by m.at ≡ Some b → IsTaken p b
   taken_own p k b m at number has taken =
-      let g = growth_of m (bytes_by (task ts p).op) in
+      let g = growth_of m (task ts p).op in
       let owns = taken_owned are.files.0 cur (claims_of ts) m.number b g (held_in p k m at number) taken in
       let none : count_of b (addresses_in (pointers_in cur m.inode)) ≡ 0 = owns.1 in
       record {

@@ -186,7 +186,7 @@ module _ (old new : Image) (t : TableState) (ts : List TaskState) (i : ℕ) (are
   -- a task that writes holds what it held, and its copy leads on as it did
   module _ (p k : ℕ) (m : WriteState) (free : (k : ℕ) → grip_of (task ts p) ≡ Some (locked_grip k i) → ⊥) (at : (task ts p).stage ≡ Stage.Writing k m) (writes : IsWriting old t.inode_count (task ts p) m) where
     abbrev g : Growth
-    g = growth_of m (bytes_by (task ts p).op)
+    g = growth_of m (task ts p).op
 
     held : IsHeldIn are.files.0 old (claims_of ts) m.number (grows g)
     held = record {
@@ -259,11 +259,11 @@ module _ (old new : Image) (t : TableState) (ts : List TaskState) (i : ℕ) (are
         keeps = far.1;
       }
   stands_still p (Stage.Writing k m) free at stands = record {
-    bytes = stands.bytes;
     op = stands.op;
+    is = stands.is;
+    writes = stands.writes;
     number = stands.number;
     few = stands.few;
-    all = stands.all;
     done = stands.done;
     fits = stands.fits;
     extent = stands.extent ∙ ap (extent_of (form_of old) t.inode_count) (sym keeps.size) ∙ ap (λ (f : Form). extent_of f t.inode_count (length new)) (sym form_still);

@@ -3,6 +3,9 @@ use Rattle.std.proofs.Common.{◌≡◌, ◌≢◌, ◌<◌, ⊎_elim, inl, inr,
 use Rattle.std.proofs.lemmas.List.{length-set}
 use Rattle.std.specs.Prelude.{IsTrue, IsSome}
 use Rattle.inodes.specs.Common.{Agrees, apart, AreLooking, asked_by, between, block_at, Claim, claim_by, Claims, claims_of, current_of, Dinode, DiskFault, entry_at, false≢true, file_in, Files, FilesThen, FitsHeld, FitsThen, form_of, GetsFor, Ghosts, Grip, grip, grip_of, grips_of, groups_noted, groups_same, growing_of, growth_keeps, grows, HasLock, HasSlot, held_alike, HoldsForSetting, Image, inode_block, inode_count_of, inode_of-with_inode, inode_of-with_inode_other, is_number, IsApart, IsClaimedNow, IsCopy, IsDinode, IsGrowing, IsHeldIn, IsSetting, IsPlaced, IsStore, KeepsTable, kept_by_write, length-current, SetAttribute, set_rests, locked_grip, LogsAtMost, LogsBlock, Marks, most_logged, ne_eqb, no_task, noted, Op, Progress, progress_of_setting, Reads, renewed, SameGroups, Stage, stage_of_setting, Stands, stays_got, stays_noted, stays_same, StaysForOthers, Steps, StoreState, table_of_setting, task, TaskProgress, TaskState, unwritten, Updates, UpdateState, used_by, uses_left, VolumeState, Why, with_inode, with_inode_bytes, WritesBlock}
+use Rattle.model.specs.declared.types.image.Form.{Form}
+use Rattle.model.specs.declared.types.operations.Attribute.{Attribute}
+use Rattle.model.specs.declared.types.operations.Attribute.TheVariants.{Links, Size}
 use Rattle.wal.specs.Machine.{HasRoom}
 use Rattle.inodes.specs.Iupdate.{MayUpdate}
 use Rattle.inodes.specs.Lemmas.Faults.{where_none}
@@ -20,6 +23,11 @@ use Rattle.inodes.proofs.Standing.{StandsAt}
 use Rattle.inodes.proofs.TruncFiles.{same_claims, with_claim, with_claim_is}
 use Rattle.inodes.proofs.TruncSlots.{gains, Gains, held_for, never_inode, never_over, reads_for, sleeps, Slots, slots_put, slots_used}
 use Rattle.inodes.proofs.Truncating.{has_inode}
+
+-- it may log a block
+some_logged : (form : Form) (i : ℕ) (a : Attribute) → 0 < most_logged form (SetAttribute i a)
+some_logged form i (Links n) = omega arith
+some_logged form i (Size n) = omega arith
 
 -- in a store whose process p does so
 module _ {D N : Type 0} {disk : Ghosts D N} {s : StoreState D} {p k : ℕ} {d : Dinode} {u : UpdateState} (h : StandsAt disk s p (Stage.Setting k d u)) where
@@ -120,7 +128,7 @@ module _ {D N : Type 0} {disk : Ghosts D N} {s : StoreState D} {p k : ℕ} {d : 
   logs = omega (arith, h.is.few, h.joint.log.pids, h.inside)
 
   logs_block : (b : ℕ) → LogsBlock (most_logged s.table.form its) s.volume.log p (noted s.volume.log p b)
-  logs_block b = record { added = 0; used = holds.used; few = omega arith; block = b; is = refl }
+  logs_block b = record { added = 0; used = holds.used; few = some_logged s.table.form u.number work.attribute; block = b; is = refl }
 
   no_claim : (j : ℕ) → j ≢ u.number → claim_by op here j ≡ None
   no_claim j other = rw (ne_eqb u.number j (λ same. other (sym same))) refl

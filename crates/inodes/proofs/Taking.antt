@@ -6,7 +6,7 @@ use Rattle.inodes.specs.Store.{FitsFiles}
 use Rattle.inodes.specs.Lemmas.Faults.{where_none, if_none}
 use Rattle.inodes.specs.Lemmas.Grips.{has_place_for_each}
 use Rattle.inodes.specs.Lemmas.Holding.{claim_stays}
-use Rattle.inodes.specs.Lemmas.Looks.{look_takes}
+use Rattle.inodes.specs.Lemmas.Looks.{length-zeroes, look_takes}
 use Rattle.inodes.proofs.Standing.{StandsAt}
 use Rattle.inodes.proofs.Agreeing.{agrees_now}
 use Rattle.inodes.proofs.WriteLogged.{logged_set}
@@ -33,7 +33,7 @@ few_bytes n (Read i off count) can = omega arith
 few_bytes n (Trunc i) can = omega arith
 few_bytes n (Remove i) can = omega arith
 few_bytes n (Stat i) can = omega arith
-few_bytes n (SetAttribute i a) can = omega arith
+few_bytes n (SetAttribute i a) can = omega (arith, length-zeroes)
 
 -- and it needs nothing open in the log
 look_open : (l : LogState) (p n : ℕ) (op : Op) → CanLook n op → IsOpenFor l p (Some op)

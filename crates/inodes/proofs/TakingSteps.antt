@@ -303,7 +303,7 @@ module _ {D N : Type 0} {disk : Ghosts D N} {s : StoreState D} {p : ℕ} {op : O
         about = m.number;
         stepped = stepped_looked disk s p m.number op (TaskProgress.Turned r) (store_then w ts tab) u h.is h.well h.inside looked
             (files_at_turn h is_op t.alone (store_then w ts tab) u k tasks t.current
-            (λ none files fits. files_same disk s p m.number op (TaskProgress.Turned r) (store_then w ts tab) u h.is h.well h.inside looked (none ∙ holds_nothing m.number) files fits) used t.is_used t.is_free there)
+            (λ none files fits. files_same disk s p m.number op (TaskProgress.Turned r) (store_then w ts tab) u h.is h.well h.inside looked (none ∙ holds_nothing m.number) files fits) used t.is_used t.is_free is_op there)
             (makes_never (Progress.Over used));
         shown = looked.shown;
         waits = no_wait (Progress.Over used) (store_then w ts tab) refl;

@@ -71,7 +71,7 @@ module _ {D N : Type 0} {disk : Ghosts D N} {s : StoreState D} {p k : ℕ} {m : 
   come_at a at = subst (HasComeTo (of.cur h) m) at (of.work h).come
 
   pub few_bytes : m.count ≤ 3072
-  few_bytes = let all = (of.work h).all in let few = (of.work h).few in omega (arith, all, few)
+  few_bytes = (of.work h).few
 
   -- a data block is not block 0
   pub some_block : (b : ℕ) → LiesInData (of.cur h) b → b ≢ 0
@@ -132,7 +132,7 @@ module _ {D N : Type 0} {disk : Ghosts D N} {s : StoreState D} {p k : ℕ} {m : 
         record { homes = one.now; used = one.used; few = omega (arith, few, one.few, (ap (λ o. counted s.volume.log (at_hand o)) at), blocks, more, less) })
 
   -- what it holds stays
-  pub passes_on : (n : WriteState) → growth_of n (of.bytes h) ≡ (of.grown h) → (new : Claims) → IsClaimedNow (of.claims h) m.number (Some (grows (growth_of n (of.bytes h)))) new → (files : Files) → FitsHeld files (of.cur h) (of.claims h) → FitsHeld files (of.cur h) new
+  pub passes_on : (n : WriteState) → growth_of n (of.op h) ≡ (of.grown h) → (new : Claims) → IsClaimedNow (of.claims h) m.number (Some (grows (growth_of n (of.op h)))) new → (files : Files) → FitsHeld files (of.cur h) (of.claims h) → FitsHeld files (of.cur h) new
   passes_on n same new claimed files fits = fits_still h new (subst (λ (g : Growth). IsClaimedNow (of.claims h) m.number (Some (grows g)) new) same claimed) files fits
 
   pub taken_is : (a : WriteAt) → m.at ≡ a → (of.grown h) ≡ record (of.grown h) { taken = taken_by a }

@@ -81,8 +81,8 @@ module _ {D N : Type 0} {disk : Ghosts D N} {s : StoreState D} {p k : ℕ} {m : 
         abbrev gone_on : ℕ → WriteState
         gone_on a = cond (eqb b.depth 0) (direct a) (indirect a)
 
-        placed_event : (a : ℕ) (o : WriteState) → growth_of o (of.bytes h) ≡ record (of.grown h) { copy = named a; taken = None } → (of.grown h).taken ≡ Some a → (files : Files) → FitsHeld files (of.cur h) (of.claims h) → (new : Claims)
-            → IsClaimedNow (of.claims h) m.number (Some (grows (growth_of o (of.bytes h)))) new → FitsThen files (of.cur h) (of.claims h) m.number (zeroed (of.cur h) a) new
+        placed_event : (a : ℕ) (o : WriteState) → growth_of o (of.op h) ≡ record (of.grown h) { copy = named a; taken = None } → (of.grown h).taken ≡ Some a → (files : Files) → FitsHeld files (of.cur h) (of.claims h) → (new : Claims)
+            → IsClaimedNow (of.claims h) m.number (Some (grows (growth_of o (of.op h)))) new → FitsThen files (of.cur h) (of.claims h) m.number (zeroed (of.cur h) a) new
         placed_event a o same taken files fits new claimed =
             zeroes_named files (of.cur h) (of.claims h) new m.number a (of.grown h) t b.index (of.held_in h files fits) taken
             (let here = low in let long = all in omega (arith, here, long)) none_there_yet (subst (λ (g : Growth). IsClaimedNow (of.claims h) m.number (Some (grows g)) new) same claimed)
@@ -173,7 +173,7 @@ module _ {D N : Type 0} {disk : Ghosts D N} {s : StoreState D} {p k : ℕ} {m : 
         }
           where
             by_event : (e : Bool) (a : ℕ) → (of.grown h).taken ≡ Some a → (files : Files) → FitsHeld files (of.cur h) (of.claims h) → (new : Claims)
-                → IsClaimedNow (of.claims h) m.number (Some (grows (growth_of (cond e (direct a) (indirect a)) (of.bytes h)))) new → FitsThen files (of.cur h) (of.claims h) m.number (zeroed (of.cur h) a) new
+                → IsClaimedNow (of.claims h) m.number (Some (grows (growth_of (cond e (direct a) (indirect a)) (of.op h)))) new → FitsThen files (of.cur h) (of.claims h) m.number (zeroed (of.cur h) a) new
             by_event true a taken = placed_event a (direct a) refl taken
             by_event false a taken = placed_event a (indirect a) refl taken
 
@@ -214,10 +214,10 @@ module _ {D N : Type 0} {disk : Ghosts D N} {s : StoreState D} {p k : ℕ} {m : 
         setting o = record m { at = at_way way (MapAt.Setting c i o) }
 
         behind_event : (a : ℕ) → (of.grown h).taken ≡ Some a → (files : Files) → FitsHeld files (of.cur h) (of.claims h) → (new : Claims)
-            → IsClaimedNow (of.claims h) m.number (Some (grows (growth_of (setting (Some a)) (of.bytes h)))) new → FitsThen files (of.cur h) (of.claims h) m.number (zeroed (of.cur h) a) new
+            → IsClaimedNow (of.claims h) m.number (Some (grows (growth_of (setting (Some a)) (of.op h)))) new → FitsThen files (of.cur h) (of.claims h) m.number (zeroed (of.cur h) a) new
         behind_event a taken files fits new claimed =
             let held = of.held_in h files fits in
-            let same : growth_of (setting (Some a)) (of.bytes h) ≡ of.grown h = ap (λ (o : Option ℕ). record (of.grown h) { taken = o }) (sym taken) in
+            let same : growth_of (setting (Some a)) (of.op h) ≡ of.grown h = ap (λ (o : Option ℕ). record (of.grown h) { taken = o }) (sym taken) in
             then_alike files (of.cur h) (zeroed (of.cur h) a) (of.claims h) new m.number
             (same_claims (of.claims h) new m.number (Some (grows (of.grown h))) held.holds (subst (λ (g : Growth). IsClaimedNow (of.claims h) m.number (Some (grows g)) new) same claimed))
             (taken_zeroed files (of.cur h) (of.claims h) m.number a (of.grown h) held taken)

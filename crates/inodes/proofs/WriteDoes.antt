@@ -33,13 +33,10 @@ module _ {D N : Type 0} {disk : Ghosts D N} {s : StoreState D} {p k : ℕ} {m : 
         come : HasComeTo (of.cur h) m (WriteAt.Block b (Some i))
         come = on.come_at h (WriteAt.Block b (Some i)) at
 
-        all : length (of.bytes h) ≡ m.count
-        all = ap length (of.bytes_are h) ∙ (of.work h).all
-
         writes_piece : WritesPiece (of.cur h) m (of.bytes h) b
         writes_piece = record {
           left = come.0;
-          all = all;
+          all = of.enough h;
           fits = subst (λ (f : Form). m.offset + m.count ≤ greatest_size f) (of.form h) (of.work h).fits;
           block = come.1;
           there = come.2;
@@ -52,9 +49,9 @@ module _ {D N : Type 0} {disk : Ghosts D N} {s : StoreState D} {p k : ℕ} {m : 
         fewer : m.count - (m.done + piece m) ≢ 0 → blocks_behind later + 1 ≤ blocks_behind m
         fewer some = omega (arith, some)
 
-        piece_event : (files : Files) → FitsHeld files (of.cur h) (of.claims h) → (new : Claims) → IsClaimedNow (of.claims h) m.number (Some (grows (growth_of later (of.bytes h)))) new
+        piece_event : (files : Files) → FitsHeld files (of.cur h) (of.claims h) → (new : Claims) → IsClaimedNow (of.claims h) m.number (Some (grows (growth_of later (of.op h)))) new
             → FitsThen files (of.cur h) (of.claims h) m.number (with_written (of.cur h) m (of.bytes h) b) new
-        piece_event files fits new claimed = piece_written files (of.cur h) (of.claims h) new m.number b m (of.bytes h) writes_piece (ap taken_by at) fresh.taken (of.held_in h files fits) claimed
+        piece_event files fits new claimed = piece_written files (of.cur h) (of.claims h) new m.number b m (of.op h) writes_piece (ap taken_by at) fresh.taken (of.held_in h files fits) claimed
 
         here : LiesInData (of.cur h) b
         here = subst (LiesInData (of.cur h)) come.1 (of.reached_marked h (next_block m) (λ none. come.2 (sym come.1 ∙ none))).0

@@ -2,7 +2,11 @@
 use Rattle.std.proofs.Common.{◌⊎◌, ⊎_elim, get_or-set_same, ◌≡◌, ℕ, List, length, refl, sym, ◌∙◌, ap, subst, arith, Option, Some, None, set, inr}
 use Rattle.std.proofs.lemmas.List.{length-set}
 use Rattle.inodes.specs.Common.{address_in, after, asked_by, block_at, block_of_write, bytes_by, bytes_of, Claims, current_of, Dinode, File, file_in, Files, files_grown, FilesThen, FitsHeld, FitsThen, form_of, Get, Ghosts, greatest_size, grips_of, groups_noted, growing_of, growth_keeps, growth_rests, HasComeTo, Image, inode_block, inode_of-with_inode, inode_of-with_inode_other, IsClaimedNow, IsCopy, IsDinode, IsPlaced, IsStore, KeepsTable, kept_by_write, locked_grip, LogState, MapAt, MapsOn, MapState, MapSteps, Marks, named_by, next_block, no_task, node_of_write, one_more, Op, stage_of_writing, Progress, progress_of, progress_of_write, renewed, SameGroups, some_address, Stage, stays_noted, StaysForOthers, Steps, StoreState, table_of_writing, taken_by, task, TaskProgress, TaskState, Updates, UpdateState, used_by_write, uses_left, VolumeState, with_inode, with_inode_bytes, Write, WriteAt, writes_left, writes_left_at, WritesBlock, WriteState, WriteSteps, Wrote, LogsAtMost, most_logged}
+use Rattle.in_flight.specs.HeldLaws.{IsHeldIn}
+use Rattle.in_flight.specs.Held.{grows}
+use Rattle.inodes.specs.Growing.{growth_of}
 use Rattle.inodes.specs.Lemmas.Grips.{kept_by_renew}
+use Rattle.inodes.specs.Lemmas.Looks.{can_write}
 use Rattle.inodes.proofs.Standing.{StandsAt}
 use Rattle.inodes.proofs.AtWork.{steps_worked, store_then, store_worked}
 use Rattle.inodes.proofs.Getting.{reads_none}
@@ -86,13 +90,13 @@ module _ {D N : Type 0} {disk : Ghosts D N} {s : StoreState D} {p k : ℕ} {m : 
       files_then new claimed files fits =
           let held = of.held_in h files fits in
           let growing = growing_of files (of.cur h) (of.claims h) m.number (of.grown h) held in
-          let all : length (of.bytes h) ≡ m.count = ap length (of.bytes_are h) ∙ (of.work h).all in
-          let done = (of.work h).done in
+          let work = of.work h in
+          let fits_all = work.fits in
           let one : greatest_size (form_of (of.cur h)) ≡ greatest_size m.extent.form = ap greatest_size (sym (of.form h)) in (
             files_grown files m.number growing.old (of.grown h),
-            subst (λ (content : List ℕ). after (form_of (of.cur h)) files (Write m.number m.offset content) (Wrote m.done) ≡ Some (files_grown files m.number growing.old (of.grown h))) (of.bytes_are h)
-                (answers_written files (of.cur h) (of.claims h) m.number m (of.bytes h) growing.old growing.was held (omega (arith, done, all)) (omega (arith, (of.work h).few, all, (of.work h).all)) (omega (arith, (of.work h).fits, all, one))
-                (subst (λ (c : ℕ). (m.done ≡ c) ⊎ (address_in (of.cur h) m.inode (next_block m) ≡ 0)) (sym all) come.1)),
+            subst (λ (o : Option Op). after (form_of (of.cur h)) files (its h) (Wrote m.done) ≡ Some (files_grown files m.number growing.old (growth_of m o))) (sym work.is)
+                (answers_written files (of.cur h) (of.claims h) m.number m (its h) growing.old work.writes refl growing.was
+                (subst (λ (o : Option Op). IsHeldIn files (of.cur h) (of.claims h) m.number (grows (growth_of m o))) work.is held) work.done work.few (omega (arith, fits_all, one)) come.1),
             subst (λ (x : Image). FitsHeld (files_grown files m.number growing.old (of.grown h)) x new) (sym shown) (rests files fits growing.old growing.was new claimed).fits,
           )
 
@@ -120,13 +124,13 @@ module _ {D N : Type 0} {disk : Ghosts D N} {s : StoreState D} {p k : ℕ} {m : 
         };
         files = λ new claimed files fits. files_then new claimed files fits;
         apart_then = λ j other. refl;
-        grip = ap (λ (j : ℕ). Some (locked_grip k j)) (ap asked_by (of.work h).op);
+        grip = ap (λ (j : ℕ). Some (locked_grip k j)) (of.asks h);
         stands = λ fine. record {
           others = subst (λ (l : LogState). StaysForOthers s.volume.buffers w.buffers s.volume.log l p) (sym writes.log)
               (stays_noted s.volume.buffers w.buffers s.volume.log p i (inode_block u.number) writes.locks);
           locks = λ b j lock. ⊎_elim (λ (none : None ≡ Some j). none) (λ (none : None ≡ Some j). none) (free_now.locks b j lock);
           stands = tt;
-          looks = record { op = its h; is = (of.work h).op; can = ((of.work h).number, (of.work h).few) };
+          looks = record { op = its h; is = (of.work h).is; can = can_write s.table.inode_count (its h) m (of.work h).writes (of.work h).number (of.work h).few };
           logged = tt;
         };
         late = refl;
@@ -166,7 +170,7 @@ module _ {D N : Type 0} {disk : Ghosts D N} {s : StoreState D} {p k : ℕ} {m : 
       same_bytes = sym (ap bytes_by is_op)
 
       same_op : its h ≡ op
-      same_op = let both : Some (its h) ≡ Some op = sym (of.work h).op ∙ is_op in cc both
+      same_op = let both : Some (its h) ≡ Some op = sym (of.work h).is ∙ is_op in cc both
 
       steps_now : WriteSteps disk m.at s.volume p m (of.bytes h) q n w
       steps_now = subst (λ (content : List ℕ). WriteSteps disk m.at s.volume p m content q n w) same_bytes writes
@@ -191,7 +195,7 @@ module _ {D N : Type 0} {disk : Ghosts D N} {s : StoreState D} {p k : ℕ} {m : 
           (record {
             answer = q;
             now = n;
-            writes = subst (λ (content : List ℕ). WriteSteps disk m.at s.volume p m content q n w) (of.bytes_are h) steps_now;
+            writes = subst (λ (content : List ℕ). WriteSteps disk m.at s.volume p m content q n w) (ap bytes_by (of.work h).is) steps_now;
             gives = refl;
             next = ap (λ (o : TaskState). o.stage) now_is;
             table = refl;

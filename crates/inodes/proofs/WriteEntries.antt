@@ -186,8 +186,8 @@ module _ {D N : Type 0} {disk : Ghosts D N} {s : StoreState D} {p k : ℕ} {m : 
           lies_then : LiesOnWay y m.inode way.branch c
           lies_then = lies_behind (of.cur h) m.inode way.branch c on_way y (entries_stay way.branch.depth (slice_index m.inode.addrs way.branch.index))
 
-          set_event : (n1 : WriteState) → growth_of n1 (of.bytes h) ≡ record (of.grown h) { taken = None } → (files : Files) → FitsHeld files (of.cur h) (of.claims h) → (new : Claims)
-              → IsClaimedNow (of.claims h) m.number (Some (grows (growth_of n1 (of.bytes h)))) new → FitsThen files (of.cur h) (of.claims h) m.number y new
+          set_event : (n1 : WriteState) → growth_of n1 (of.op h) ≡ record (of.grown h) { taken = None } → (files : Files) → FitsHeld files (of.cur h) (of.claims h) → (new : Claims)
+              → IsClaimedNow (of.claims h) m.number (Some (grows (growth_of n1 (of.op h)))) new → FitsThen files (of.cur h) (of.claims h) m.number y new
           set_event n1 same files fits new claimed =
               (entry_placed files (of.cur h) (of.claims h) new m.number way.branch.index c.block (entry_under c) a c.level on_way.before (of.grown h) (of.held_in h files fits) taken leads (λ deep. fresh)
               (subst (λ (g : Growth). IsClaimedNow (of.claims h) m.number (Some (grows g)) new) same claimed)).0
@@ -261,7 +261,7 @@ module _ {D N : Type 0} {disk : Ghosts D N} {s : StoreState D} {p k : ℕ} {m : 
           then_by false deep hand mine log slots = down_then deep hand mine log slots
 
           event_by : (e : Bool) → (files : Files) → FitsHeld files (of.cur h) (of.claims h) → (new : Claims)
-              → IsClaimedNow (of.claims h) m.number (Some (grows (growth_of (cond e (found m a) (down m way (below a))) (of.bytes h)))) new → FitsThen files (of.cur h) (of.claims h) m.number y new
+              → IsClaimedNow (of.claims h) m.number (Some (grows (growth_of (cond e (found m a) (down m way (below a))) (of.op h)))) new → FitsThen files (of.cur h) (of.claims h) m.number y new
           event_by true = set_event (found m a) refl
           event_by false = set_event (down m way (below a)) refl
 

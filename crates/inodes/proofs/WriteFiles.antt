@@ -1,6 +1,16 @@
 -- What the steps of a write make of its claim, by the laws over images in which tasks write files.
 use Rattle.std.proofs.Common.{zero-add, ◌≡◌, ◌≢◌, ℕ, ◌+◌, ◌*◌, ◌%◌, ◌<◌, ◌≤◌, List, ◌++◌, length, take, drop, max, Option, Some, None, refl, sym, ap, ap₂, subst, ◌∙◌, ⊎_elim, arith, IsTrue, slice_index, ◌⊎◌, [], inl, inr}
 use Rattle.inodes.specs.Common.{address_in, address_placed, after, AllocState, block_at, block_taken, cases_lt, Claims, File, file_in, Files, files_grown, FitsThen, form_of, get_or-set_same, greatest_size, growing_of, grows, Growth, growth_answers, growth_of, has_bit, Image, inode_count_of, is_number, IsClaimedNow, IsHeldIn, IsLowestClear, length-drop, length-take-le, lowest_clear_is_lowest, lowest_in, next_block, next_byte, part_in_two, part_of, piece, piece_of, placing, reaching, super_of, taken_by, taken_lies, taken_zeroed, with_piece, with_taken, with_written, Write, WriteState, Wrote, zero_block, zeroed}
+use Rattle.std.proofs.lemmas.List.{length-replicate, take-replicate}
+use Rattle.std.proofs.Common.{replicate, ◌-◌}
+use Rattle.model.specs.declared.types.operations.Attribute.TheVariants.{Links, Size}
+use Rattle.model.specs.declared.types.operations.Op.{Op}
+use Rattle.model.specs.declared.types.operations.Op.TheVariants.{Create, Read, Trunc, Remove, Stat, SetAttribute}
+use Rattle.in_flight.specs.GrowthLaws.{HasWritten}
+use Rattle.in_flight.specs.Lemmas.Attributes.{addition_answers}
+use Rattle.inodes.specs.Growing.{bytes_by, is_addition, zeroes}
+use Rattle.inodes.specs.Writing.{Writes}
+use Rattle.inodes.specs.Lemmas.Looks.{enough_bytes}
 use Rattle.in_flight.specs.Held.{taking}
 use Rattle.in_flight.specs.Lemmas.BytesWritten.{bytes_written}
 use Rattle.in_flight.specs.GrowthLaws.{WritesNext as FillsNext}
@@ -48,12 +58,15 @@ module _ (files : Files) (x : Image) (claims new : Claims) (i b : ℕ) (g : Grow
 -- the writing may go on with the next piece
 pub record WritesPiece (x : Image) (m : WriteState) (bytes : List ℕ) (b : ℕ) : Type 0 where
   pub left : m.done < m.count
-  pub all : length bytes ≡ m.count
+  pub all : m.count ≤ length bytes
   pub fits : m.offset + m.count ≤ greatest_size (form_of x)
   pub block : address_in x m.inode (next_block m) ≡ b
   pub there : b ≢ 0
 
-module _ (files : Files) (x : Image) (claims new : Claims) (i b : ℕ) (m : WriteState) (bytes : List ℕ) (w : WritesPiece x m bytes b) where
+module _ (files : Files) (x : Image) (claims new : Claims) (i b : ℕ) (m : WriteState) (op : Option Op) (w : WritesPiece x m (bytes_by op) b) where
+  abbrev bytes : List ℕ
+  bytes = bytes_by op
+
   long : length (take m.done bytes) ≡ m.done
   long = let left = w.left in let all = w.all in length-take-le m.done bytes (omega (arith, left, all))
 
@@ -61,7 +74,7 @@ module _ (files : Files) (x : Image) (claims new : Claims) (i b : ℕ) (m : Writ
   whole =
       length-take-le (piece m) (drop m.done bytes) (omega (arith, w.left, w.all, length-drop m.done bytes))
 
-  writes_next : (g : Growth) → g ≡ growth_of m bytes → FillsNext x g (next_block m) (next_byte m % 1024) b (piece_of m bytes)
+  writes_next : (g : Growth) → g ≡ growth_of m op → FillsNext x g (next_block m) (next_byte m % 1024) b (piece_of m bytes)
   writes_next g is = subst (λ h. FillsNext x h (next_block m) (next_byte m % 1024) b (piece_of m bytes)) (sym is)
       (let left = w.left in let fits = w.fits in let count = whole in let done = long in
       record {
@@ -78,49 +91,81 @@ module _ (files : Files) (x : Image) (claims new : Claims) (i b : ℕ) (m : Writ
   later_on = with_piece m
 
   grown : (taken_by m.at ≡ None) → taken_by later_on.at ≡ None →
-      growth_of later_on bytes
-      ≡ reaching (growth_of m bytes) (max m.inode.size (next_block m * 1024 + next_byte m % 1024 + length (piece_of m bytes))) (piece_of m bytes)
+      growth_of later_on op
+      ≡ reaching (growth_of m op) (max m.inode.size (next_block m * 1024 + next_byte m % 1024 + length (piece_of m bytes))) (piece_of m bytes)
   grown none later =
-      ap₂ (λ (o : Option ℕ) (l : List ℕ). record { copy = later_on.inode; taken = o; offset = m.offset; written = l }) (later ∙ sym none) (part_in_two bytes 0 m.done (piece m) ∙ ap (λ (k : ℕ). take m.done bytes ++ part_of bytes k (piece m)) (zero-add m.done))
-      ∙ ap (λ (n : ℕ). record { copy = record m.inode { size = max m.inode.size n }; taken = taken_by m.at; offset = m.offset; written = take m.done bytes ++ piece_of m bytes }) (omega (arith, whole))
+      ap₂ (λ (o : Option ℕ) (l : List ℕ). record { copy = later_on.inode; taken = o; offset = m.offset; at_end = is_addition op; written = l }) (later ∙ sym none) (part_in_two bytes 0 m.done (piece m) ∙ ap (λ (k : ℕ). take m.done bytes ++ part_of bytes k (piece m)) (zero-add m.done))
+      ∙ ap (λ (n : ℕ). record { copy = record m.inode { size = max m.inode.size n }; taken = taken_by m.at; offset = m.offset; at_end = is_addition op; written = take m.done bytes ++ piece_of m bytes }) (omega (arith, whole))
 
-  pub piece_written : taken_by m.at ≡ None → taken_by later_on.at ≡ None → IsHeldIn files x claims i (grows (growth_of m bytes)) →
-      IsClaimedNow claims i (Some (grows (growth_of later_on bytes))) new → FitsThen files x claims i (with_written x m bytes b) new
+  pub piece_written : taken_by m.at ≡ None → taken_by later_on.at ≡ None → IsHeldIn files x claims i (grows (growth_of m op)) →
+      IsClaimedNow claims i (Some (grows (growth_of later_on op))) new → FitsThen files x claims i (with_written x m bytes b) new
   piece_written none later held now =
-      bytes_written files x claims new i (next_block m) (next_byte m % 1024) b (piece_of m bytes) (growth_of m bytes) held
-      (writes_next (growth_of m bytes) refl)
+      bytes_written files x claims new i (next_block m) (next_byte m % 1024) b (piece_of m bytes) (growth_of m op) held
+      (writes_next (growth_of m op) refl)
       (subst (λ h. IsClaimedNow claims i (Some (grows h)) new) (grown none later) now)
 
 -- ---- the end
 
+-- the first of the zeroes are zeroes
+first_zeroes : (k n : ℕ) → k ≤ 3072 → k ≤ n → take k zeroes ≡ take k (replicate n 0)
+unfolding zeroes
+first_zeroes k n few inside = take-replicate k 3072 0 few ∙ sym (take-replicate k n 0 inside)
+
 -- where no block was left, what was written ends where a block begins
-module _ (files : Files) (x : Image) (claims : Claims) (i : ℕ) (m : WriteState) (bytes : List ℕ) where
-  pub ends_evenly : (old : File) → file_in files i ≡ Some old → IsHeldIn files x claims i (grows (growth_of m bytes)) → m.done ≤ length bytes →
+module _ (files : Files) (x : Image) (claims : Claims) (i : ℕ) (m : WriteState) (op : Option Op) where
+  abbrev all : List ℕ
+  all = bytes_by op
+
+  pub ends_evenly : (old : File) → file_in files i ≡ Some old → IsHeldIn files x claims i (grows (growth_of m op)) → m.done ≤ length all →
       address_in x m.inode (next_block m) ≡ 0 → next_byte m % 1024 ≡ 0
   ends_evenly old is held few none =
-      let growing = growing_of files x claims i (growth_of m bytes) held in
-      let size = (growth_has_blocks files x claims i (growth_of m bytes) old held is).size in
+      let growing = growing_of files x claims i (growth_of m op) held in
+      let size = (growth_has_blocks files x claims i (growth_of m op) old held is).size in
       let past : m.inode.size ≤ next_block m * 1024 = ⊎_elim
       (λ (need : next_block m * 1024 < m.inode.size). absurd (growing.fit.whole (next_block m) need none))
       (λ (le : m.inode.size ≤ next_block m * 1024). le)
       (cases_lt (next_block m * 1024) m.inode.size) in
-      omega (arith, size, (length-take-le m.done bytes few), past)
+      omega (arith, size, (length-take-le m.done all few), past)
 
-  pub answers_written : (old : File) → file_in files i ≡ Some old → IsHeldIn files x claims i (grows (growth_of m bytes)) →
-      m.done ≤ length bytes → length bytes ≤ 3072 → m.offset + length bytes ≤ greatest_size (form_of x) →
-      (m.done ≡ length bytes) ⊎ (address_in x m.inode (next_block m) ≡ 0) →
-      after (form_of x) files (Write i m.offset bytes) (Wrote m.done) ≡ Some (files_grown files i old (growth_of m bytes))
-  answers_written old is held few short fits end =
-      growth_answers files x claims i (growth_of m bytes) old m.offset m.done bytes held
-      (record {
-        offset = refl;
-        written = refl;
-        most = few;
-        few = short;
-        fits = fits;
-        ends = ⊎_elim
-            (λ (all : m.done ≡ length bytes). inl all)
-            (λ (none : address_in x m.inode (next_block m) ≡ 0). inr (ends_evenly old is held few none, none))
-            end;
-      })
-      is
+  -- what lies behind the file's end, or over its bytes, is what the operation asks for
+  written_so : (old : File) (bytes : List ℕ) → file_in files i ≡ Some old → IsHeldIn files x claims i (grows (growth_of m op)) →
+      length bytes ≡ m.count → take m.done all ≡ take m.done bytes → m.done ≤ m.count → m.count ≤ length all → m.count ≤ 3072 → m.offset + m.count ≤ greatest_size (form_of x) →
+      (m.done ≡ m.count) ⊎ (address_in x m.inode (next_block m) ≡ 0) → HasWritten x (growth_of m op) m.offset bytes m.done
+  written_so old bytes is held count same done enough few fits end = record {
+    offset = refl;
+    written = same;
+    most = omega (arith, done, count);
+    few = omega (arith, few, count);
+    fits = omega (arith, fits, count);
+    ends = ⊎_elim
+        (λ (whole : m.done ≡ m.count). inl (whole ∙ sym count))
+        (λ (none : address_in x m.inode (next_block m) ≡ 0). inr (ends_evenly old is held (omega (arith, done, enough)) none, none))
+        end;
+  }
+
+-- these are the files after the operation that wrote so
+module _ (files : Files) (x : Image) (claims : Claims) (i : ℕ) (m : WriteState) where
+  pub answers_written : (op : Op) (old : File) → Writes op m → i ≡ m.number → file_in files i ≡ Some old → IsHeldIn files x claims i (grows (growth_of m (Some op))) →
+      m.done ≤ m.count → m.count ≤ 3072 → m.offset + m.count ≤ greatest_size (form_of x) →
+      (m.done ≡ m.count) ⊎ (address_in x m.inode (next_block m) ≡ 0) →
+      after (form_of x) files op (Wrote m.done) ≡ Some (files_grown files i old (growth_of m (Some op)))
+  answers_written (Create kind) old w at is held done few fits end = absurd w
+  answers_written (Write j off bytes) old w at is held done few fits end =
+      subst (λ (k : ℕ). after (form_of x) files (Write k off bytes) (Wrote m.done) ≡ Some (files_grown files i old (growth_of m (Some (Write j off bytes))))) (at ∙ sym w.0)
+      (subst (λ (o : ℕ). after (form_of x) files (Write i o bytes) (Wrote m.done) ≡ Some (files_grown files i old (growth_of m (Some (Write j off bytes))))) (sym w.1)
+      (growth_answers files x claims i (growth_of m (Some (Write j off bytes))) old m.offset m.done bytes held
+      (written_so files x claims i m (Some (Write j off bytes)) old bytes is held w.2 refl done (omega (arith, w.2)) few fits end) is))
+  answers_written (Read j off n) old w at is held done few fits end = absurd w
+  answers_written (Trunc j) old w at is held done few fits end = absurd w
+  answers_written (Remove j) old w at is held done few fits end = absurd w
+  answers_written (Stat j) old w at is held done few fits end = absurd w
+  answers_written (SetAttribute j (Links n)) old w at is held done few fits end = absurd w.1
+  answers_written (SetAttribute j (Size n)) old w at is held done few fits end =
+      let op : Option Op = Some (SetAttribute j (Size n)) in
+      let some = w.1.0 in
+      let whole = w.1.1 in
+      let count : length (replicate (n - m.offset) 0) ≡ m.count = length-replicate (n - m.offset) 0 ∙ omega (arith, some, whole) in
+      let zero : take m.done zeroes ≡ take m.done (replicate (n - m.offset) 0) = first_zeroes m.done (n - m.offset) (omega (arith, done, few)) (omega (arith, done, some, whole)) in
+      subst (λ (k : ℕ). after (form_of x) files (SetAttribute k (Size n)) (Wrote m.done) ≡ Some (files_grown files i old (growth_of m op))) (at ∙ sym w.0)
+      (addition_answers files x claims i (growth_of m op) old n m.done held refl some
+      (written_so files x claims i m op old (replicate (n - m.offset) 0) is held count zero done (enough_bytes (SetAttribute j (Size n)) m w few) few fits end) is)

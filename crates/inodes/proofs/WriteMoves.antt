@@ -5,6 +5,7 @@ use Rattle.std.proofs.lemmas.List.{length-set}
 use Rattle.inodes.specs.Common.{apart, asked_by, between, block_of_write, Claim, claim_by, Claims, current_of, DiskFault, Extent, extent_of, false≢true, Files, FitsHeld, FitsThen, Form, form_of, form_same, GetsFor, GetsLock, Ghosts, greatest_size, Grip, grips_of, groups_noted, groups_same, grows, growth_of, HasComeTo, HasLock, HasLoggedWrite, held_alike, HoldsForWriting, Image, inode_elsewhere, is_number, IsClaimedNow, IsHeldByAnother, IsWriting, KeepsTable, KeepsUsedInodes, kept_by_write, locked_grip, LogState, Marks, ne_eqb, node_of_write, Op, stage_of_writing, Progress, progress_of_write, Reads, Releases, SameGroups, Stage, stays_got, stays_left, stays_noted, stays_same, StaysForOthers, StoreState, super_of, table_of_writing, task, TaskProgress, TaskState, used_by_write, VolumeState, Why, Write, writes_left, WritesBlock, WriteState, LogsAtMost, most_logged, LogsBlock, most_beside, noted}
 use Rattle.inodes.specs.Lemmas.Grips.{kept_by_image}
 use Rattle.inodes.specs.Lemmas.Holding.{own_grows}
+use Rattle.inodes.specs.Lemmas.Looks.{write_logs, writes_still}
 use Rattle.inodes.proofs.Standing.{StandsAt}
 use Rattle.inodes.proofs.AtWork.{Does, Works, store_then}
 use Rattle.inodes.proofs.Frames.{marks_same}
@@ -29,7 +30,7 @@ module _ {D N : Type 0} {disk : Ghosts D N} {s : StoreState D} {p k : ℕ} {m : 
 
   -- the operation
   abbrev pub its : Op
-  its = Write m.number m.offset (of.work h).bytes
+  its = (of.work h).op
 
   pub logs : p < length s.volume.log.used
   logs =
@@ -41,7 +42,8 @@ module _ {D N : Type 0} {disk : Ghosts D N} {s : StoreState D} {p k : ℕ} {m : 
       let on = of.logged h in
       let few = logs_few (of.cur h) s.table.inode_count (task s.tasks p) m s.volume.log p on.homes (of.work h) (logged_of (of.cur h) s.volume.log p m on) on.used in
       let same = ap most_beside (of.form h ∙ sym h.is.form) in
-      record { added = on.homes; used = on.used; few = omega (arith, few, same); block = b; is = refl }
+      let most = write_logs s.table.form its m (of.work h).writes in
+      record { added = on.homes; used = on.used; few = omega (arith, few, same, most); block = b; is = refl }
 
   no_claim : (j : ℕ) → j ≢ m.number → claim_by op here j ≡ None
   no_claim j other = rw (ne_eqb m.number j (λ same. other (sym same))) refl
@@ -94,7 +96,7 @@ module _ {D N : Type 0} {disk : Ghosts D N} {s : StoreState D} {p k : ℕ} {m : 
       pub done : n.done ≤ m.count
       pub come : HasComeTo y n n.at
       pub less : writes_left n < writes_left m
-      pub passes : (new : Claims) → IsClaimedNow (of.claims h) m.number (Some (grows (growth_of n (of.bytes h)))) new → (files : Files) → FitsHeld files (of.cur h) (of.claims h) → FitsHeld files y new
+      pub passes : (new : Claims) → IsClaimedNow (of.claims h) m.number (Some (grows (growth_of n (of.op h)))) new → (files : Files) → FitsHeld files (of.cur h) (of.claims h) → FitsHeld files y new
 
     -- what becomes of image, log and table
     pub record Shows (y : Image) : Type 0 where
@@ -112,8 +114,8 @@ module _ {D N : Type 0} {disk : Ghosts D N} {s : StoreState D} {p k : ℕ} {m : 
       number : n.number ≡ m.number
       number = ap (λ (o : WriteState). o.number) on.same
 
-      claim_now : claim_by op (Stage.Writing k n) m.number ≡ Some (grows (growth_of n (of.bytes h)))
-      claim_now = subst (λ (i : ℕ). claim_by op (Stage.Writing k n) i ≡ Some (grows (growth_of n (of.bytes h)))) number (own_grows op k n)
+      claim_now : claim_by op (Stage.Writing k n) m.number ≡ Some (grows (growth_of n (of.op h)))
+      claim_now = subst (λ (i : ℕ). claim_by op (Stage.Writing k n) i ≡ Some (grows (growth_of n (of.op h)))) number (own_grows op k n)
 
       writing_now : IsWriting now s.table.inode_count (record (task s.tasks p) { stage = Stage.Writing k n }) n
       writing_now =
@@ -123,11 +125,11 @@ module _ {D N : Type 0} {disk : Ghosts D N} {s : StoreState D} {p k : ℕ} {m : 
           let done = on.done in
           let fits = (of.work h).fits in
           record {
-            bytes = (of.work h).bytes;
-            op = (of.work h).op ∙ ap (λ (i : ℕ). Some (Write i m.offset (of.work h).bytes)) (sym number) ∙ ap (λ (off : ℕ). Some (Write n.number off (of.work h).bytes)) (sym offset);
+            op = its;
+            is = (of.work h).is;
+            writes = writes_still its m n number offset count (of.work h).writes;
             number = subst (λ (i : ℕ). IsTrue (is_number s.table.inode_count i)) (sym number) (of.work h).number;
-            few = (of.work h).few;
-            all = (of.work h).all ∙ sym count;
+            few = let few = (of.work h).few in omega (arith, few, count);
             done = omega (arith, done, count);
             fits = subst (λ (e : Extent). n.offset + n.count ≤ greatest_size e.form) (sym extent) (omega (arith, fits, offset, count));
             extent = extent ∙ (of.work h).extent ∙ ap (extent_of (form_of (of.cur h)) s.table.inode_count) (sym (ap length shows.shown ∙ shows.size))
@@ -150,7 +152,7 @@ module _ {D N : Type 0} {disk : Ghosts D N} {s : StoreState D} {p k : ℕ} {m : 
         files = λ new claimed files fits. subst (λ (x : Image). FitsHeld files x new) (sym shows.shown)
             (on.passes new (subst (λ (c : Option Claim). IsClaimedNow (of.claims h) m.number c new) claim_now claimed) files fits);
         apart_then = λ j other. rw (ne_eqb n.number j (λ same. other (sym same ∙ number))) refl;
-        grip = ap (λ (i : ℕ). Some (locked_grip k i)) (ap asked_by (of.work h).op);
+        grip = ap (λ (i : ℕ). Some (locked_grip k i)) (of.asks h);
         stands = λ fine. record {
           others = shows.others;
           locks = λ b i lock. on.slots_now.locks b i lock;
@@ -185,7 +187,7 @@ module _ {D N : Type 0} {disk : Ghosts D N} {s : StoreState D} {p k : ℕ} {m : 
         files = λ new claimed files fits. subst (λ (v : VolumeState D). FitsHeld files (current_of disk.image v) new) (sym same)
             (fits_still new (subst (λ (c : Option Claim). IsClaimedNow (of.claims h) m.number c new) own_claim claimed) files fits);
         apart_then = no_claim;
-        grip = ap (λ (i : ℕ). Some (locked_grip k i)) (ap asked_by (of.work h).op);
+        grip = ap (λ (i : ℕ). Some (locked_grip k i)) (of.asks h);
         stands = λ fine. record {
           others = subst (λ (v : VolumeState D). StaysForOthers s.volume.buffers v.buffers s.volume.log v.log p) (sym same) (stays_same s.volume.buffers s.volume.log p);
           locks = λ b i lock. (of.slots h).locks b i (subst (λ (v : VolumeState D). HasLock v.buffers p b i) same lock);
@@ -217,7 +219,7 @@ module _ {D N : Type 0} {disk : Ghosts D N} {s : StoreState D} {p k : ℕ} {m : 
         files = λ new claimed files fits. subst (λ (x : Image). FitsHeld files x new) (sym shown)
             (fits_still new (subst (λ (c : Option Claim). IsClaimedNow (of.claims h) m.number c new) own_claim claimed) files fits);
         apart_then = no_claim;
-        grip = ap (λ (i : ℕ). Some (locked_grip k i)) (ap asked_by (of.work h).op);
+        grip = ap (λ (i : ℕ). Some (locked_grip k i)) (of.asks h);
         stands = λ fine. absurd (cc fine);
         late = refl;
         asleep = λ other waits. absurd (cc waits);
@@ -274,12 +276,12 @@ module _ {D N : Type 0} {disk : Ghosts D N} {s : StoreState D} {p k : ℕ} {m : 
           inode_elsewhere (of.cur h) a b content (λ same. omega (arith, same, before, behind))
 
       pub does_put : GoesOn y
-          → ((files : Files) → FitsHeld files (of.cur h) (of.claims h) → (new : Claims) → IsClaimedNow (of.claims h) m.number (Some (grows (growth_of n (of.bytes h)))) new → FitsThen files (of.cur h) (of.claims h) m.number y new)
+          → ((files : Files) → FitsHeld files (of.cur h) (of.claims h) → (new : Claims) → IsClaimedNow (of.claims h) m.number (Some (grows (growth_of n (of.op h)))) new → FitsThen files (of.cur h) (of.claims h) m.number y new)
           → DoesSo Progress.Moved
       does_put on event =
           let files = (of.looking h).files in
-          let then : FitsThen files.0 (of.cur h) (of.claims h) m.number y (with_claim (of.claims h) m.number (Some (grows (growth_of n (of.bytes h))))) =
-          event files.0 files.1 (with_claim (of.claims h) m.number (Some (grows (growth_of n (of.bytes h))))) (with_claim_is (of.claims h) m.number (Some (grows (growth_of n (of.bytes h))))) in
+          let then : FitsThen files.0 (of.cur h) (of.claims h) m.number y (with_claim (of.claims h) m.number (Some (grows (growth_of n (of.op h))))) =
+          event files.0 files.1 (with_claim (of.claims h) m.number (Some (grows (growth_of n (of.op h))))) (with_claim_is (of.claims h) m.number (Some (grows (growth_of n (of.op h))))) in
           does_moved y on (record {
             shown = writes.current;
             size = length-set (of.cur h) b content;

@@ -65,7 +65,7 @@ module _ {D N : Type 0} {disk : Ghosts D N} {s : StoreState D} {p k : ℕ} {m : 
 
   goes_to : (v : AllocState) (w : VolumeState D) (ts : List TaskState) (y : Image) → TakesIn m.extent v → alloc_left v.at < alloc_left t.at
       → Slots w.buffers p own taking_at.kept (block_of_alloc v v.at) (slot_of_alloc v.at) → LogsOn y w.log p (to v) → IsOnWay y m.inode m.extent way.branch (here v)
-      → ((new : Claims) → IsClaimedNow (of.claims h) m.number (Some (grows (growth_of (to v) (of.bytes h)))) new → (files : Files) → FitsHeld files (of.cur h) (of.claims h) → FitsHeld files y new)
+      → ((new : Claims) → IsClaimedNow (of.claims h) m.number (Some (grows (growth_of (to v) (of.op h)))) new → (files : Files) → FitsHeld files (of.cur h) (of.claims h) → FitsHeld files y new)
       → GoesOn h (to v) w ts y
   goes_to v w ts y takes less slots logged on passes = record {
     same = refl;
@@ -79,7 +79,7 @@ module _ {D N : Type 0} {disk : Ghosts D N} {s : StoreState D} {p k : ℕ} {m : 
   }
 
   -- what it holds is what is got on the way
-  growth_to : (v : AllocState) → growth_of (to v) (of.bytes h) ≡ record (of.grown h) { taken = taken_at v.at }
+  growth_to : (v : AllocState) → growth_of (to v) (of.op h) ≡ record (of.grown h) { taken = taken_at v.at }
   growth_to v = ap (λ (o : Option ℕ). record (of.grown h) { taken = o }) (taking_at.has v).taken
 
   growth_is : (of.grown h).taken ≡ taken_at t.at
@@ -104,7 +104,7 @@ module _ {D N : Type 0} {disk : Ghosts D N} {s : StoreState D} {p k : ℕ} {m : 
     pub record Ends (n0 : WriteState) (n1 : ℕ → WriteState) : Type 0 where
       pub none : (of.grown h).taken ≡ None → w.log ≡ s.volume.log → Slots w.buffers p own taking_at.kept 0 None → GoesOn h n0 w ts (of.cur h)
       pub event : (b : ℕ) → (of.grown h).taken ≡ Some b → (files : Files) → FitsHeld files (of.cur h) (of.claims h) → (new : Claims)
-          → IsClaimedNow (of.claims h) m.number (Some (grows (growth_of (n1 b) (of.bytes h)))) new → FitsThen files (of.cur h) (of.claims h) m.number (zeroed (of.cur h) b) new
+          → IsClaimedNow (of.claims h) m.number (Some (grows (growth_of (n1 b) (of.op h)))) new → FitsThen files (of.cur h) (of.claims h) m.number (zeroed (of.cur h) b) new
       pub some : (b : ℕ) → (of.grown h).taken ≡ Some b → w.log ≡ noted s.volume.log p b → Slots w.buffers p own taking_at.kept 0 None
           → GoesOn h (n1 b) w ts (zeroed (of.cur h) b)
 
@@ -163,7 +163,7 @@ module _ {D N : Type 0} {disk : Ghosts D N} {s : StoreState D} {p k : ℕ} {m : 
           let long : t.size ≡ length (of.cur h) = inside_extent.size ∙ of.size h in
           let low = (subst (IsLowestClear (block_at (of.cur h) t.bitmap) t.size) lowest (lowest_clear_is_lowest (block_at (of.cur h) t.bitmap) t.size)).0 in
           let event : (files : Files) → FitsHeld files (of.cur h) (of.claims h) → (new : Claims)
-          → IsClaimedNow (of.claims h) m.number (Some (grows (growth_of (to v) (of.bytes h)))) new → FitsThen files (of.cur h) (of.claims h) m.number (with_taken (of.cur h) t.bitmap b) new =
+          → IsClaimedNow (of.claims h) m.number (Some (grows (growth_of (to v) (of.op h)))) new → FitsThen files (of.cur h) (of.claims h) m.number (with_taken (of.cur h) t.bitmap b) new =
           λ files fits new claimed. takes_lowest files (of.cur h) (of.claims h) new m.number b (of.grown h) t (of.held_in h files fits) free map_is long lowest
           (subst (λ (g : Growth). IsClaimedNow (of.claims h) m.number (Some (grows g)) new) (growth_to v) claimed) in
           let y : Image = with_taken (of.cur h) t.bitmap b in

@@ -1,11 +1,11 @@
 -- What is true of a process that writes a file's bytes: what it holds, and that it may make its next step.
-use Rattle.std.proofs.Common.{◌≡◌, ◌≢◌, ℕ, ◌<◌, ◌≤◌, List, length, refl, sym, ◌∙◌, ap, subst, arith, Some}
+use Rattle.std.proofs.Common.{◌≡◌, ◌≢◌, ℕ, ◌<◌, ◌≤◌, List, length, refl, sym, ◌∙◌, ap, subst, arith, Some, Option}
 use Rattle.std.specs.Prelude.{IsTrue, slice_index, IsSome}
-use Rattle.inodes.specs.Common.{address_in, addresses_in, Agrees, AllocAt, AllocState, apart, AreLooking, at_hand, between, bitmap_block, block_at, block_limit, block_of_alloc, block_of_write, block_on_way, blocks_left, Branch, branch_of, branch_shallow, bytes_by, Claims, claims_of, copy_marked, count_of, counted, current_of, data_apart, data_marked, depth_of, depths, entry_at, Extent, facts_of, File, file_in, Files, FitsHeld, Form, form_of, Ghosts, grip, grip_of, grips_of, growing_of, grows, Growth, growth_of, hand_on_way, HasComeTo, HasLoggedWrite, HasSlot, HoldsForWriting, HoldsWhereGot, Image, inode_block, inode_count_of, is_branch, is_number, IsApart, IsGrowing, IsHeldIn, IsMapped, IsMarkedData, IsNode, IsOnWay, IsWriting, kept_by_write, kept_on_way, led_to, length-current, lies_short, LiesInData, LiesOnWay, locked_grip, LoggedAt, LogState, MapAt, mapped, MapState, MayAlloc, MayAllocAt, MayMapAt, MayWrite, MayWriteAt, next_block, Node, node_of_write, node_on_way, pointers_in, SameInside, slot_of_alloc, Stage, Stands, StoreState, super_of, taken_apart, taken_at, taken_by, taken_marked, taken_on_way, TakesIn, task, used_by, used_by_write, used_on_way, WriteAt, WriteState}
+use Rattle.inodes.specs.Common.{address_in, addresses_in, Agrees, AllocAt, AllocState, apart, AreLooking, at_hand, between, bitmap_block, block_at, block_limit, block_of_alloc, block_of_write, block_on_way, blocks_left, Branch, branch_of, branch_shallow, bytes_by, Claims, claims_of, copy_marked, count_of, counted, current_of, data_apart, data_marked, depth_of, depths, entry_at, Extent, facts_of, File, file_in, Files, FitsHeld, Form, form_of, Ghosts, grip, grip_of, grips_of, growing_of, grows, Growth, growth_of, hand_on_way, HasComeTo, HasLoggedWrite, HasSlot, HoldsForWriting, HoldsWhereGot, Image, inode_block, inode_count_of, is_branch, is_number, IsApart, IsGrowing, IsHeldIn, IsMapped, IsMarkedData, IsNode, IsOnWay, IsWriting, kept_by_write, kept_on_way, led_to, length-current, lies_short, LiesInData, LiesOnWay, locked_grip, LoggedAt, LogState, MapAt, mapped, MapState, MayAlloc, MayAllocAt, MayMapAt, MayWrite, MayWriteAt, next_block, Node, node_of_write, node_on_way, pointers_in, SameInside, slot_of_alloc, Stage, Stands, StoreState, super_of, taken_apart, taken_at, taken_by, taken_marked, taken_on_way, TakesIn, task, used_by, used_by_write, used_on_way, WriteAt, WriteState, asked_by, Op}
 use Rattle.wal.specs.Machine.{HasRoom}
 use Rattle.inodes.specs.WriteRuns.{LogsFew}
 use Rattle.inodes.specs.Lemmas.Faults.{where_none}
-use Rattle.inodes.specs.Lemmas.Looks.{write_locks, writing_is}
+use Rattle.inodes.specs.Lemmas.Looks.{enough_bytes, write_asks, write_locks, writing_is}
 use Rattle.inodes.proofs.Standing.{StandsAt}
 use Rattle.inodes.proofs.Gripping.{grip_is}
 use Rattle.inodes.proofs.Searching.{where_got}
@@ -39,11 +39,14 @@ module _ {D N : Type 0} {disk : Ghosts D N} {s : StoreState D} {p k : ℕ} {m : 
   abbrev pub own : ℕ
   own = node_of_write m.at
 
+  abbrev pub op : Option Op
+  op = (task s.tasks p).op
+
   abbrev pub bytes : List ℕ
-  bytes = bytes_by (task s.tasks p).op
+  bytes = bytes_by op
 
   abbrev pub grown : Growth
-  grown = growth_of m bytes
+  grown = growth_of m op
 
   pub agrees : Agrees s.volume.buffers s.volume.log s.table.inode_count s.tasks
   agrees = where_none s.volume.fault h.well h.is.agrees
@@ -54,8 +57,11 @@ module _ {D N : Type 0} {disk : Ghosts D N} {s : StoreState D} {p k : ℕ} {m : 
   pub work : IsWriting cur s.table.inode_count (task s.tasks p) m
   work = writing_is cur s.table s.tasks looking p k m h.stood
 
-  pub bytes_are : bytes ≡ work.bytes
-  bytes_are = ap bytes_by work.op
+  pub enough : m.count ≤ length bytes
+  enough = subst (λ (o : Option Op). m.count ≤ length (bytes_by o)) (sym work.is) (enough_bytes work.op m work.writes work.few)
+
+  pub asks : asked_by (task s.tasks p).op ≡ m.number
+  asks = write_asks work.op m work.is work.writes
 
   pub gripped : grip_of (task s.tasks p) ≡ Some (locked_grip k m.number)
   gripped = write_locks cur s.table s.tasks looking p k m h.stood

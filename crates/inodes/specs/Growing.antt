@@ -1,10 +1,11 @@
 -- What the writing of a file's bytes holds of its number, and how far it has come.
-use Rattle.std.specs.Prelude.{◌≡◌, ◌≢◌, ◌⊎◌, ◌<◌, ℕ, ◌/◌, List, [], take, slice_index, Option, Some, None}
+use Rattle.std.specs.Prelude.{◌≡◌, ◌≢◌, ◌⊎◌, ◌<◌, ℕ, ◌/◌, Bool, true, false, List, [], replicate, take, slice_index, Option, Some, None}
 use Rattle.blocks.specs.Disk.{Image, block_at}
 use Rattle.blocks.specs.Block.{block_size, zero_block}
 use Rattle.model.specs.declared.types.image.Dinode.{Dinode}
 use Rattle.model.specs.declared.types.operations.Op.{Op}
 use Rattle.model.specs.declared.types.operations.Op.TheVariants.{Create, Write, Read, Trunc, Remove, Stat, SetAttribute}
+use Rattle.model.specs.Operations.{transfer_limit}
 use Rattle.model.specs.Places.{address_in}
 use Rattle.in_flight.specs.Held.{Growth}
 use Rattle.blockmap.specs.Balloc.{AllocState}
@@ -18,6 +19,10 @@ use Rattle.inodes.specs.Writei.{WriteState, next_byte}
 use Rattle.inodes.specs.declared.writei.Extent.{Extent}
 use Rattle.inodes.specs.declared.writei.WriteAt.{WriteAt}
 
+-- the zeroes of which a longer length adds the first ones. No tactic opens them: they are many
+unfoldable pub zeroes : List ℕ
+zeroes = replicate transfer_limit 0
+
 -- the bytes that an operation writes; those of any other are none
 abbrev pub bytes_of : Op → List ℕ
 bytes_of (Create kind) = []
@@ -26,7 +31,7 @@ bytes_of (Read i off n) = []
 bytes_of (Trunc i) = []
 bytes_of (Remove i) = []
 bytes_of (Stat i) = []
-bytes_of (SetAttribute i a) = []
+bytes_of (SetAttribute i a) = zeroes
 
 abbrev pub bytes_by : Option Op → List ℕ
 bytes_by None = []
@@ -50,13 +55,25 @@ taken_by (WriteAt.Mapping way) = taken_on_way way.at
 taken_by (WriteAt.Block b slot) = None
 taken_by (WriteAt.Updating u) = None
 
--- the claim of a task that writes these bytes
-abbrev pub growth_of : WriteState → List ℕ → Growth
-growth_of m bytes = record {
+-- a longer length adds its bytes where the file ends
+abbrev pub is_addition : Option Op → Bool
+is_addition None = false
+is_addition (Some (Create kind)) = false
+is_addition (Some (Write i off bytes)) = false
+is_addition (Some (Read i off n)) = false
+is_addition (Some (Trunc i)) = false
+is_addition (Some (Remove i)) = false
+is_addition (Some (Stat i)) = false
+is_addition (Some (SetAttribute i a)) = true
+
+-- the claim of a task that writes the bytes of this operation
+abbrev pub growth_of : WriteState → Option Op → Growth
+growth_of m op = record {
   copy = m.inode;
   taken = taken_by m.at;
   offset = m.offset;
-  written = take m.done bytes;
+  at_end = is_addition op;
+  written = take m.done (bytes_by op);
 }
 
 -- ---- how far it has come

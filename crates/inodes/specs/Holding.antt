@@ -18,7 +18,7 @@ use Rattle.inodes.specs.declared.freeing.Got.{Got}
 use Rattle.inodes.specs.declared.freeing.Freeing.{Freeing}
 use Rattle.inodes.specs.declared.itrunc.TruncAt.{TruncAt}
 use Rattle.inodes.specs.declared.tasks.Stage.{Stage}
-use Rattle.inodes.specs.Growing.{bytes_by, growth_of}
+use Rattle.inodes.specs.Growing.{growth_of}
 use Rattle.inodes.specs.declared.itrunc.Itrunc.{Itrunc}
 use Rattle.inodes.specs.Iupdate.{UpdateState}
 use Rattle.inodes.specs.Table.{or_else}
@@ -46,7 +46,7 @@ claim_by op (Stage.Delivering k) i = None
 claim_by op (Stage.Truncating k m) i =
     if m.machine.number == i then Some (frees (held_of m.machine)) else None
 claim_by op (Stage.Writing k m) i =
-    if m.number == i then Some (grows (growth_of m (bytes_by op))) else None
+    if m.number == i then Some (grows (growth_of m op)) else None
 claim_by op (Stage.Setting k d u) i =
     if u.number == i then Some (grows (unwritten d)) else None
 claim_by op (Stage.Leaving k) i = None

@@ -4,6 +4,7 @@ use Rattle.std.specs.Prelude.{◌≡◌, ◌⊎◌, ◌<◌, ◌≤◌, ◌^◌,
 use Rattle.blocks.specs.Disk.{Image}
 use Rattle.blocks.specs.Block.{block_size}
 use Rattle.model.specs.declared.types.image.Dinode.{Dinode}
+use Rattle.model.specs.declared.types.operations.Attribute.TheVariants.{Links, Size}
 use Rattle.model.specs.declared.types.operations.Op.{Op}
 use Rattle.model.specs.declared.types.operations.Op.TheVariants.{Create, Write, Read, Trunc, Remove, Stat, SetAttribute}
 use Rattle.model.specs.Files.{Files, bytes_in}
@@ -84,13 +85,23 @@ pub record IsRead (n : ℕ) (t : TaskState) : Type 0 where
   pub gathered : GatheredBytes
   pub has : t.gathered ≡ Some gathered
 
--- the task is that of a write, of no more bytes than there may be at once
+-- an operation that writes bytes: a write, or a longer length
+abbrev pub IsWriteOp : Op → Type 0
+IsWriteOp (Create kind) = ⊥
+IsWriteOp (Write i off bytes) = Unit {0}
+IsWriteOp (Read i off n) = ⊥
+IsWriteOp (Trunc i) = ⊥
+IsWriteOp (Remove i) = ⊥
+IsWriteOp (Stat i) = ⊥
+IsWriteOp (SetAttribute i (Links n)) = ⊥
+IsWriteOp (SetAttribute i (Size n)) = Unit {0}
+
+-- the task is that of a write, of no more bytes than there may be at once, or that of a length
 pub record IsWrite (n : ℕ) (t : TaskState) : Type 0 where
-  pub number : ℕ
-  pub offset : ℕ
-  pub bytes : List ℕ
-  pub is : t.op ≡ Some (Write number offset bytes)
-  pub may : IsTrue (is_number n number) × (length bytes ≤ transfer_limit)
+  pub op : Op
+  pub is : t.op ≡ Some op
+  pub writes : IsWriteOp op
+  pub may : CanTake n op
 
 -- a task whose reply is to come behind its turn
 abbrev pub IsLate : ℕ → TaskState → Type 0

@@ -1,5 +1,5 @@
 -- Where an operation goes that has taken its inode.
-use Rattle.std.specs.Prelude.{◌≡◌, ◌≤◌, ℕ, ◌+◌, nat_lt, if◌then◌else◌, length, Option, Some, None, IfSome, Bool, true, false}
+use Rattle.std.specs.Prelude.{◌≡◌, ◌≤◌, ℕ, ◌+◌, ◌-◌, nat_lt, if◌then◌else◌, length, Option, Some, None, IfSome, Bool, true, false}
 use Rattle.model.specs.Layout.{greatest_size}
 use Rattle.model.specs.declared.types.image.Form.{Form}
 use Rattle.model.specs.declared.types.image.Dinode.{Dinode}
@@ -9,6 +9,7 @@ use Rattle.model.specs.declared.types.operations.Op.{Op}
 use Rattle.model.specs.declared.types.operations.Op.TheVariants.{Create, Write, Read, Trunc, Remove, Stat, SetAttribute}
 use Rattle.model.specs.declared.types.operations.Reply.{Reply}
 use Rattle.model.specs.declared.types.operations.Reply.TheVariants.{Done, StatOf, NoFile, BadOffset, TooBig}
+use Rattle.model.specs.Operations.{extension_refusal}
 use Rattle.in_flight.specs.AttributeLaws.{with_value}
 use Rattle.inodes.specs.declared.tasks.Stage.{Stage}
 use Rattle.inodes.specs.declared.writei.Extent.{Extent}
@@ -31,14 +32,11 @@ write_refusal form d off n =
     else if nat_lt (greatest_size form) (off + n) then Some TooBig
     else None
 
--- the refusal of a length behind the file's end
-abbrev pub attribute_refusal : Dinode → Attribute → Option Reply
-attribute_refusal d (Links n) = None
-attribute_refusal d (Size n) = if nat_lt d.size n then Some BadOffset else None
-
-abbrev pub or_done : Option Reply → Reply
-or_done None = Done
-or_done (Some refusal) = refusal
+-- the reply of an attribute at its turn: that of a longer length comes later, where it is not refused
+abbrev pub reply_of_attribute : Form → Dinode → Attribute → Option Reply
+reply_of_attribute form d (Links n) = Some Done
+reply_of_attribute form d (Size n) =
+    if nat_lt d.size n then extension_refusal form d.size n else Some Done
 
 -- the reply of an operation that has taken a used inode of an image of that form; a reading's comes
 -- later, and that of a write that is not refused
@@ -49,7 +47,7 @@ reply_of_look form d (Read i off n) = None
 reply_of_look form d (Trunc i) = Some Done
 reply_of_look form d (Remove i) = Some Done
 reply_of_look form d (Stat i) = Some (StatOf d.kind d.nlink d.size)
-reply_of_look form d (SetAttribute i a) = Some (or_done (attribute_refusal d a))
+reply_of_look form d (SetAttribute i a) = reply_of_attribute form d a
 
 -- and of one that has taken its inode, which is none where it is free
 abbrev pub reply_when_taken : Form → Option Dinode → Op → Option Reply
@@ -70,13 +68,17 @@ abbrev pub stage_of_write : ℕ → ℕ → Dinode → ℕ → ℕ → Extent �
 stage_of_write k i d off n e =
     stage_by_refusal k (first_write i d off n e) (write_refusal e.form d off n)
 
--- an attribute is refused, or the inode with it is written back
-abbrev pub stage_by_attribute : ℕ → ℕ → Dinode → Option Reply → Stage
-stage_by_attribute k i d None = Stage.Setting k d (first_update i)
-stage_by_attribute k i d (Some refusal) = Stage.Leaving k
+-- zeroes are written behind the file's end up to that length, or it is refused
+abbrev pub stage_of_addition : ℕ → ℕ → Dinode → ℕ → Extent → Stage
+stage_of_addition k i d n e =
+    stage_by_refusal k (first_write i d d.size (n - d.size) e) (extension_refusal e.form d.size n)
 
-abbrev pub stage_of_attribute : ℕ → ℕ → Dinode → Attribute → Stage
-stage_of_attribute k i d a = stage_by_attribute k i (with_value d a) (attribute_refusal d a)
+-- an inode with an attribute set is written back, or its file gets longer
+abbrev pub stage_of_attribute : ℕ → ℕ → Dinode → Attribute → Extent → Stage
+stage_of_attribute k i d (Links n) e = Stage.Setting k (with_value d (Links n)) (first_update i)
+stage_of_attribute k i d (Size n) e =
+    if nat_lt d.size n then stage_of_addition k i d n e
+    else Stage.Setting k (with_value d (Size n)) (first_update i)
 
 -- it is answered, or reads, or frees the blocks of its file, or writes into it, over an image that
 -- takes its blocks there, or sets an attribute
@@ -89,7 +91,7 @@ stage_of_look e d k (Trunc i) =
 stage_of_look e d k (Remove i) =
     Stage.Truncating k (first_freeing (first_trunc i d e.form true e.bitmap))
 stage_of_look e d k (Stat i) = Stage.Leaving k
-stage_of_look e d k (SetAttribute i a) = stage_of_attribute k i d a
+stage_of_look e d k (SetAttribute i a) = stage_of_attribute k i d a e
 
 -- where it goes, with the inode at that place of the table
 abbrev pub stage_when_taken : Extent → Option Dinode → ℕ → Op → Stage

@@ -1,10 +1,12 @@
 -- The tasks that write a file's bytes, behind their turn: how far each has come, what it has got
 -- and logged, and how much is left.
-use Rattle.std.specs.Prelude.{◌≡◌, ◌≤◌, ℕ, ◌+◌, ◌-◌, ◌*◌, ◌/◌, ◌==◌, if◌then◌else◌, IsTrue, List, [], ◌∷◌, ◌++◌, length, Option, Some, None}
+use Rattle.std.specs.Prelude.{◌≡◌, ◌<◌, ◌≤◌, ℕ, ◌+◌, ◌-◌, ◌*◌, ◌/◌, ◌==◌, if◌then◌else◌, IsTrue, List, [], ◌∷◌, ◌++◌, length, Option, Some, None}
 use Rattle.blocks.specs.Disk.{Image}
 use Rattle.blocks.specs.Block.{block_size}
 use Rattle.model.specs.declared.types.image.Form.{Form}
 use Rattle.model.specs.declared.types.image.Form.TheVariants.{One, Two}
+use Rattle.model.specs.declared.types.operations.Attribute.{Attribute}
+use Rattle.model.specs.declared.types.operations.Attribute.TheVariants.{Links, Size}
 use Rattle.model.specs.declared.types.operations.Op.{Op}
 use Rattle.model.specs.declared.types.operations.Op.TheVariants.{Create, Write, Read, Trunc, Remove, Stat, SetAttribute}
 use Rattle.model.specs.Journal.{is_number}
@@ -28,13 +30,28 @@ use Rattle.inodes.specs.Writei.{WriteState, piece}
 abbrev pub extent_of : Form → ℕ → ℕ → Extent
 extent_of form n size = record { form = form; bitmap = bitmap_block n; size = size }
 
+-- the attribute of a file that a writing adds: a length behind the place where it begins
+abbrev pub Lengthens : Attribute → WriteState → Type 0
+Lengthens (Links n) m = ⊥
+Lengthens (Size n) m = (m.offset < n) × (n ≡ m.offset + m.count)
+
+-- what an operation writes, which is a write or a longer length
+abbrev pub Writes : Op → WriteState → Type 0
+Writes (Create kind) m = ⊥
+Writes (Write i off bytes) m = (i ≡ m.number) × (off ≡ m.offset) × (length bytes ≡ m.count)
+Writes (Read i off n) m = ⊥
+Writes (Trunc i) m = ⊥
+Writes (Remove i) m = ⊥
+Writes (Stat i) m = ⊥
+Writes (SetAttribute i a) m = (i ≡ m.number) × Lengthens a m
+
 -- a task writes a file's bytes
 pub record IsWriting (cur : Image) (n : ℕ) (t : TaskState) (m : WriteState) : Type 0 where
-  pub bytes : List ℕ
-  pub op : t.op ≡ Some (Write m.number m.offset bytes)
+  pub op : Op
+  pub is : t.op ≡ Some op
+  pub writes : Writes op m
   pub number : IsTrue (is_number n m.number)
-  pub few : length bytes ≤ transfer_limit
-  pub all : length bytes ≡ m.count
+  pub few : m.count ≤ transfer_limit
   pub done : m.done ≤ m.count
   pub fits : m.offset + m.count ≤ greatest_size m.extent.form
   pub extent : m.extent ≡ extent_of (form_of cur) n (length cur)
@@ -179,7 +196,8 @@ most_logged form (Read i off n) = 0
 most_logged form (Trunc i) = 2
 most_logged form (Remove i) = 2
 most_logged form (Stat i) = 0
-most_logged form (SetAttribute i a) = 1
+most_logged form (SetAttribute i (Links n)) = 1
+most_logged form (SetAttribute i (Size n)) = 5 + most_beside form
 
 -- the block that was taken and that no block of addresses names yet, or the data block at hand; 0
 -- for none

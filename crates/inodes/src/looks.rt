@@ -2,7 +2,7 @@
 ghost use Rattle.std.specs.Prelude.{◌≡◌, ◌<◌, ◌≤◌, length, Some, None, if◌then◌else◌};
 ghost use Rattle.model.specs.Format.{most_inodes};
 ghost use Rattle.model.specs.declared.types.operations.Op.{Op};
-ghost use Rattle.model.specs.Operations.{transfer_limit};
+ghost use Rattle.model.specs.Operations.{extension_refusal, transfer_limit};
 ghost use Rattle.in_flight.specs.AttributeLaws.{with_value};
 ghost use Rattle.inodes.specs.Looks.{CanLook, HasRoom};
 ghost use Rattle.inodes.specs.Stages.{asked};
@@ -12,7 +12,7 @@ ghost use Rattle.inodes.specs.Store.{KeepsFiles, with_look};
 ghost use Rattle.inodes.specs.Steps.{Steps};
 ghost use Rattle.inodes.specs.Table.{copy_at};
 ghost use Rattle.inodes.specs.Tasks.{task};
-ghost use Rattle.inodes.specs.Turning.{IsReadable, attribute_refusal, stage_of_attribute, stage_of_read, stage_of_write, stage_when_taken, reply_when_taken, write_refusal};
+ghost use Rattle.inodes.specs.Turning.{IsReadable, reply_of_attribute, stage_of_addition, stage_of_attribute, stage_of_read, stage_of_write, stage_when_taken, reply_when_taken, write_refusal};
 ghost use Rattle.inodes.specs.declared.tasks.Stage.TheVariants as stands_at;
 
 use crate::store::over;
@@ -20,7 +20,7 @@ use crate::{Extent, Freeing, Ilock, Inodes, Itrunc, Iupdate, Readi, Stage, Store
 use blocks::Disk;
 use layout::{bitmap_block, greatest_size};
 use model::gathered::Gathered;
-use model::types::{Attribute, Dinode, Form, Op, Reply, TaskProgress};
+use model::types::{Attribute, Dinode, Form, Op, Reply, TRANSFER_LIMIT, TaskProgress};
 use std::snapshot::Snapshot;
 
 impl<D: Disk> Store<D> {
@@ -233,10 +233,7 @@ fn reply_when_taken(form: Form, inode: &Option<Dinode>, op: &Op) -> Option<Reply
     match op {
         Op::Stat(_) => Some(Reply::StatOf(inode.kind, inode.nlink, inode.size)),
         Op::Trunc(_) | Op::Remove(_) => Some(Reply::Done),
-        Op::SetAttribute(_, attribute) => Some(match attribute_refusal(inode, *attribute) {
-            Some(refusal) => refusal,
-            None => Reply::Done,
-        }),
+        Op::SetAttribute(_, attribute) => reply_of_attribute(form, inode, *attribute),
         Op::Write(_, offset, bytes) => write_refusal(form, inode, *offset, bytes.len()),
         Op::Create(_) | Op::Read(..) => None,
     }
@@ -257,14 +254,29 @@ fn write_refusal(form: Form, inode: &Dinode, offset: u32, count: usize) -> Optio
     None
 }
 
-// The refusal of a length behind the file's end.
-fn attribute_refusal(inode: &Dinode, attribute: Attribute) -> Option<Reply>
-    ensures { result ≡ attribute_refusal inode.now attribute }
+// The reply of an attribute at its turn; None where the file gets longer.
+fn reply_of_attribute(form: Form, inode: &Dinode, attribute: Attribute) -> Option<Reply>
+    ensures { result ≡ reply_of_attribute form inode.now attribute }
 {
     match attribute {
-        Attribute::Size(size) if size > inode.size => Some(Reply::BadOffset),
-        Attribute::Size(_) | Attribute::Links(_) => None,
+        Attribute::Size(size) if size > inode.size => extension_refusal(form, inode.size, size),
+        Attribute::Size(_) | Attribute::Links(_) => Some(Reply::Done),
     }
+}
+
+// The refusal of a longer length, which adds more than one operation moves, or that no file of an
+// image of that form has room for.
+fn extension_refusal(form: Form, old: u32, size: u32) -> Option<Reply>
+    requires { old < size }
+    ensures { result ≡ extension_refusal form old size }
+{
+    if size - old > TRANSFER_LIMIT {
+        return Some(Reply::TooLong);
+    }
+    if size > greatest_size(form) {
+        return Some(Reply::TooBig);
+    }
+    None
 }
 
 // The inode with an attribute set; it keeps its addresses.
@@ -277,18 +289,17 @@ fn with_value(inode: &Dinode, attribute: Attribute) -> Dinode
     }
 }
 
+// The zeroes of which a longer length adds the first ones.
+static ZEROES: [u8; TRANSFER_LIMIT as usize] = [0; TRANSFER_LIMIT as usize];
+
 // The bytes that an operation writes; those of any other are none.
 fn bytes_of(op: &Op) -> &[u8]
     ensures { result.now ≡ bytes_of op.now }
 {
     match op {
         Op::Write(_, _, bytes) => bytes.as_slice(),
-        Op::Create(_)
-        | Op::Read(..)
-        | Op::Trunc(_)
-        | Op::Remove(_)
-        | Op::Stat(_)
-        | Op::SetAttribute(..) => &[],
+        Op::SetAttribute(..) => &ZEROES,
+        Op::Create(_) | Op::Read(..) | Op::Trunc(_) | Op::Remove(_) | Op::Stat(_) => &[],
     }
 }
 
@@ -332,7 +343,7 @@ fn stage_when_taken(inode: &Option<Dinode>, place: usize, op: &Op, extent: Exten
             stage_of_write(place, *number, inode, *offset, bytes.len(), extent)
         }
         Op::SetAttribute(number, attribute) => {
-            stage_of_attribute(place, *number, inode, *attribute)
+            stage_of_attribute(place, *number, inode, *attribute, extent)
         }
         Op::Create(_) | Op::Stat(_) => Stage::Leaving { place },
     }
@@ -358,18 +369,40 @@ fn stage_of_write(
     Stage::Writing { place, writing }
 }
 
-// An attribute is refused, or its inode written back.
-fn stage_of_attribute(place: usize, number: u32, inode: &Dinode, attribute: Attribute) -> Stage
-    ensures { result ≡ stage_of_attribute place number inode.now attribute }
+// An inode with an attribute set is written back, or its file gets longer.
+fn stage_of_attribute(
+    place: usize,
+    number: u32,
+    inode: &Dinode,
+    attribute: Attribute,
+    extent: Extent,
+) -> Stage
+    requires addrs { length inode.now.addrs ≡ 13 }
+    ensures { result ≡ stage_of_attribute place number inode.now attribute extent }
 {
-    if attribute_refusal(inode, attribute).is_some() {
+    match attribute {
+        Attribute::Size(size) if size > inode.size => {
+            stage_of_addition(place, number, inode, size, extent)
+        }
+        Attribute::Size(_) | Attribute::Links(_) => Stage::Setting {
+            place,
+            inode: with_value(inode, attribute),
+            update: Iupdate::new(number),
+        },
+    }
+}
+
+// Zeroes are written behind the file's end up to that length, or it is refused.
+fn stage_of_addition(place: usize, number: u32, inode: &Dinode, size: u32, extent: Extent) -> Stage
+    requires addrs { length inode.now.addrs ≡ 13 }
+    requires more { inode.now.size < size }
+    ensures { result ≡ stage_of_addition place number inode.now size extent }
+{
+    if extension_refusal(extent.form, inode.size, size).is_some() {
         return Stage::Leaving { place };
     }
-    Stage::Setting {
-        place,
-        inode: with_value(inode, attribute),
-        update: Iupdate::new(number),
-    }
+    let writing = Writei::new(number, inode, inode.size, size - inode.size, extent);
+    Stage::Writing { place, writing }
 }
 
 // A reading begins with its bytes, or has all of them.

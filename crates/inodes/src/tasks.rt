@@ -1,5 +1,5 @@
 // What the processes' operations do next.
-ghost use Rattle.std.specs.Prelude.{◌≡◌, ◌<◌, length, replicate, slice_set, Some, None, IsSome, IfSome, IfOk};
+ghost use Rattle.std.specs.Prelude.{◌≡◌, ◌≤◌, ◌<◌, length, replicate, slice_set, Some, None, IsSome, IfSome, IfOk};
 ghost use Rattle.wal.specs.Machine.{HasRoom, used_by};
 ghost use Rattle.inodes.specs.declared.tasks.Stage.TheVariants as stage;
 ghost use Rattle.inodes.specs.Freeing.{MayFree};
@@ -230,7 +230,7 @@ impl Tasks {
         requires fault { volume.old.fault ≡ None }
         requires pid { pid < 32 }
         requires room { HasRoom (used_by volume.old.log pid) }
-        requires all { length bytes.now ≡ _was.value.count }
+        requires all { _was.value.count ≤ length bytes.now }
         requires ready { MayWrite D.image volume.old pid _was.value }
         ensures { WritesInPlace D.Disk volume.old self.old pid _place _was.value bytes.now result
             self.new volume.new }

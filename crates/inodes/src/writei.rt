@@ -137,7 +137,7 @@ impl Writei {
         requires fault { volume.old.fault ≡ None }
         requires pid { pid < 32 }
         requires room { HasRoom (used_by volume.old.log pid) }
-        requires all { length bytes.now ≡ self.old.count }
+        requires all { self.old.count ≤ length bytes.now }
         requires ready { MayWrite D.image volume.old pid self.old }
         ensures { WriteSteps D.Disk self.old.at volume.old pid self.old bytes.now result
             self.new volume.new }
@@ -214,7 +214,7 @@ impl Writei {
         requires fault { volume.old.fault ≡ None }
         requires pid { pid < 32 }
         requires room { HasRoom (used_by volume.old.log pid) }
-        requires all { length bytes.now ≡ self.old.count }
+        requires all { self.old.count ≤ length bytes.now }
         requires ready { MayWrite D.image volume.old pid self.old }
         requires at { self.old.at ≡ write_at.Block block (Some slot) }
         ensures { WritesNext D.Disk volume.old pid self.old block slot bytes.now result

@@ -2,6 +2,9 @@
 use Rattle.std.proofs.Common.{◌≡◌, ⊎_elim, inl, inr, ℕ, Bool, true, false, cond, List, length, ◌∙◌, sym, refl, ap, subst, arith, Option, Some, None}
 use Rattle.std.specs.Option.{option_map}
 use Rattle.std.specs.Prelude.{IfNone, IsSome, IsTrue}
+use Rattle.model.specs.declared.types.operations.Attribute.TheVariants.{Links, Size}
+use Rattle.inodes.specs.Looks.{IsWriteOp}
+use Rattle.inodes.specs.Lemmas.Looks.{write_number}
 use Rattle.kernel.specs.Common.{Agrees, AreLooking, asked, asked_by, Buffers, CanLook, CanTake, cleared, Create, current_of, false≢true, Files, files_of, Held, held_at, held_by, Image, is_late, is_number, is_over, is_unturned, IsLate, IsLogAt, IsSound, IsStore, IsValidView, IsWrite, Joint, late_apart, late_is, late_number, le-ltb, SetAttribute, LogState, look_takes, LooksAt, number_of, Op, open_of, owes_reply, Read, Remove, Stage, Stands, Stat, StoreState, task, TaskState, Trunc, used_by, view_of, where_none, Write}
 use Rattle.in_flight.specs.Lemmas.AtRest.{fits_at_rest}
 use Rattle.in_flight.specs.Lemmas.OutsideLog.{sound_cleared}
@@ -63,14 +66,24 @@ pub record LateOp (n : ℕ) (op : Op) : Type 0 where
   pub named : IsTrue (is_number n (asked op))
   pub number : number_of op ≡ asked op
 
+write_late : (op : Op) → IsWriteOp op → is_late op ≡ true
+write_late (Create kind) w = absurd w
+write_late (Write i off bytes) w = refl
+write_late (Read i off count) w = absurd w
+write_late (Trunc i) w = absurd w
+write_late (Remove i) w = absurd w
+write_late (Stat i) w = absurd w
+write_late (SetAttribute i (Links c)) w = absurd w
+write_late (SetAttribute i (Size c)) w = refl
+
 -- such is that of a task whose reply is to come
 pub late_op : (n : ℕ) (t : TaskState) (op : Op) → t.op ≡ Some op → IsLate n t → LateOp n op
 late_op n t op same (inl r) =
     let is : Read r.number r.offset r.count ≡ op = (let both = sym r.is ∙ same in cc both) in
     subst (LateOp n) is (record { late = refl; named = r.may.0; number = look_number n (Read r.number r.offset r.count) r.may })
 late_op n t op same (inr w) =
-    let is : Write w.number w.offset w.bytes ≡ op = (let both = sym w.is ∙ same in cc both) in
-    subst (LateOp n) is (record { late = refl; named = w.may.0; number = take_number n (Write w.number w.offset w.bytes) w.may })
+    let is : w.op ≡ op = (let both : Some w.op ≡ Some op = sym w.is ∙ same in cc both) in
+    subst (LateOp n) is (record { late = write_late w.op w.writes; named = write_number n w.op w.writes w.may; number = take_number n w.op w.may })
 
 -- the reply of process q is to come, and it holds the number that it asks for; only a write writes
 pub record HoldsLate (n : ℕ) (ts : List TaskState) (q : ℕ) (h : Held) : Type 0 where
@@ -95,19 +108,25 @@ held_late cur t ts are q h held = by_place (owes_reply (task ts q).stage) refl
       number = numbered (Read r.number r.offset r.count) is r.is (inl r);
       writes = λ writes. absurd (false≢true (ap (λ (g : Held). g.writes) (shown (Read r.number r.offset r.count) is r.is) ∙ writes));
     }
-    by_late is (inr w) = record { late = is; number = numbered (Write w.number w.offset w.bytes) is w.is (inr w); writes = λ writes. w }
+    by_late is (inr w) = record { late = is; number = numbered w.op is w.is (inr w); writes = λ writes. w }
 
     by_place : (b : Bool) → owes_reply (task ts q).stage ≡ b → HoldsLate t.inode_count ts q h
     by_place false is = let no = sym (unread_holds (task ts q) is) ∙ held in absurd (cc no)
     by_place true is = by_late is (late_is cur t ts are q is)
+
+-- a reading isn't a write
+never_writes : (u : TaskState) (n i off count : ℕ) → u.op ≡ Some (Read i off count) → IsWrite n u → ⊥
+never_writes u n i off count reads w =
+    let same : w.op ≡ Read i off count = (let both : Some w.op ≡ Some (Read i off count) = sym w.is ∙ reads in cc both) in
+    subst IsWriteOp same w.writes
 
 -- a write whose reply is to come is open in the log
 write_logged : (cur : Image) (t : Rattle.inodes.specs.Table.TableState) (c : Buffers) (l : LogState) (q : ℕ) (u : TaskState) (a : Stage) → LooksAt cur t u a → Stands c l t.inode_count q u.op a → owes_reply a ≡ true → IsWrite t.inode_count u → IsSome (used_by l q)
 write_logged cur t c l q u Stage.Nowhere looks stands late w = absurd (false≢true late)
 write_logged cur t c l q u (Stage.Creating m) looks stands late w = absurd (false≢true late)
 write_logged cur t c l q u (Stage.Taking m) looks stands late w = absurd (false≢true late)
-write_logged cur t c l q u (Stage.Reading k m) looks stands late w = let no = sym looks.op.is ∙ w.is in absurd (cc no)
-write_logged cur t c l q u (Stage.Delivering k) looks stands late w = let no = sym looks.op.is ∙ w.is in absurd (cc no)
+write_logged cur t c l q u (Stage.Reading k m) looks stands late w = absurd (never_writes u t.inode_count looks.op.number looks.op.offset looks.op.count looks.op.is w)
+write_logged cur t c l q u (Stage.Delivering k) looks stands late w = absurd (never_writes u t.inode_count looks.op.number looks.op.offset looks.op.count looks.op.is w)
 write_logged cur t c l q u (Stage.Truncating k m) looks stands late w = absurd (false≢true late)
 write_logged cur t c l q u (Stage.Writing k m) looks stands late w = subst IsSome (sym stands.logged.used) refl
 write_logged cur t c l q u (Stage.Setting k d v) looks stands late w = absurd (false≢true late)

@@ -2,7 +2,9 @@
 use Rattle.std.proofs.Common.{◌≡◌, ◌≢◌, ℕ, ◌<◌, ◌≤◌, Bool, true, false, cond, List, [], ◌∷◌, ◌++◌, length, set, length-set, ltb, refl, sym, ◌∙◌, ap, subst, inl, inr, Option, Some, None}
 use Rattle.wal.specs.Floats.{Survives as SurvivesAt}
 use Rattle.std.specs.Prelude.{IsTrue, is_none}
-use Rattle.kernel.specs.Common.{alone_stepped, answered, AreLooking, ArePaired, asked, at_phase, ats_of, Block, Bytes, CanBegin, changing_in_group, counted_same, counted_turned, Create, current_of, decided, DecisionEnds, DeviceFault, DiskFault, ends_of, Entry, entry_in, entry_inside, entry_new, entry_of, entry_index, entry_same, entry_set, false≢true, fault_of_task, faults_after, form_of, Ghosts, GoesOn, GoesOnTurned, group_tells, HasEntry, HasFacts, idle, Image, in_reads, inode_count_of, is_busy_at, is_changing, is_committing_at, is_making, is_number, is_over, is_unturned, IsBehind, IsCounted, IsEntry, IsItsRoom, IsLate, IsRight, IsStore, IsValidView, JournalGoes, known_keeps, late_is, le-leb, le-ltb, SetAttribute, number_of, Op, others_back, others_stay, over, over_at, owes_reply, passes_busy, Phase, phase_behind, Process, process, Read, Remove, Reply, set-get_or, Stage, StandsAt, Stat, StepEnds, Steps, StoreState, Takes, task, task_journal, task_next, TaskProgress, TaskStands, there_now, told, told_at, transfer_limit, Trunc, turned, turned_from, TurnEnds, View, view_of, where_none, World, Write, Wrote}
+use Rattle.model.specs.declared.types.operations.Attribute.TheVariants.{Links, Size}
+use Rattle.inodes.specs.Looks.{IsWriteOp}
+use Rattle.kernel.specs.Common.{alone_stepped, answered, AreLooking, ArePaired, asked, at_phase, ats_of, Block, Bytes, CanBegin, CanTake, changing_in_group, counted_same, counted_turned, Create, current_of, decided, DecisionEnds, DeviceFault, DiskFault, ends_of, Entry, entry_in, entry_inside, entry_new, entry_of, entry_index, entry_same, entry_set, false≢true, fault_of_task, faults_after, form_of, Ghosts, GoesOn, GoesOnTurned, group_tells, HasEntry, HasFacts, idle, Image, in_reads, inode_count_of, is_busy_at, is_changing, is_committing_at, is_making, is_number, is_over, is_unturned, IsBehind, IsCounted, IsEntry, IsItsRoom, IsLate, IsRight, IsStore, IsValidView, JournalGoes, known_keeps, late_is, le-leb, le-ltb, SetAttribute, number_of, Op, others_back, others_stay, over, over_at, owes_reply, passes_busy, Phase, phase_behind, Process, process, Read, Remove, Reply, set-get_or, Stage, StandsAt, Stat, StepEnds, Steps, StoreState, Takes, task, task_journal, task_next, TaskProgress, TaskStands, there_now, told, told_at, transfer_limit, Trunc, turned, turned_from, TurnEnds, View, view_of, where_none, World, Write, Wrote}
 use Rattle.history.specs.Next.{TaskNext}
 use Rattle.kernel.proofs.TaskSteps.{form_untouched, moves_of, turns_of, opens_of, takes_of, reads_rest, leaves_of, free_then}
 use Rattle.kernel.proofs.Valid.{HasAgreed, valid_joint, over_unread, take_number, unturned_unread}
@@ -25,6 +27,17 @@ reading_more (Stage.Leaving k) is = absurd (false≢true is)
 -- a write of a number that operations may name changes files
 write_changes : (n i off : ℕ) (bytes : List ℕ) → IsTrue (is_number n i) → length bytes ≤ transfer_limit → is_changing n (Write i off bytes) ≡ true
 write_changes n i off bytes named few = rw (le-leb (length bytes) 3072 few, named) refl
+
+-- and so does any operation that writes bytes
+writer_changes : (n : ℕ) (op : Op) → IsWriteOp op → CanTake n op → is_changing n op ≡ true
+writer_changes n (Create kind) w can = absurd w
+writer_changes n (Write i off bytes) w can = write_changes n i off bytes can.0 can.1
+writer_changes n (Read i off m) w can = absurd w
+writer_changes n (Trunc i) w can = absurd w
+writer_changes n (Remove i) w can = absurd w
+writer_changes n (Stat i) w can = absurd w
+writer_changes n (SetAttribute i (Links c)) w can = absurd w
+writer_changes n (SetAttribute i (Size c)) w can = can.0
 
 -- what may begin changes files, and what looks changes none
 changes : (n : ℕ) (op : Op) → CanBegin n op → (is_changing n op ≡ true) × (number_of op ≡ asked op)
@@ -249,17 +262,19 @@ module _ {D N : Type 0} (disk : Ghosts D N) (opening : D) (s : StoreState D) (w 
     reads_alone : (i off m : ℕ) → op ≡ Read i off m → 0 < group → ⊥
     reads_alone i off m is later = false≢true (sym (ap (is_changing n) (sym same_op ∙ is)) ∙ grouped later)
 
-    writes_grouped : (i off : ℕ) (bytes : List ℕ) → op ≡ Write i off bytes → IsLate s.table.inode_count (task s.tasks p) → group ≡ 0 → ⊥
-    writes_grouped i off bytes is (inl read) none = let no = sym read.is ∙ mine ∙ ap (λ (o : Op). Some o) is in cc no
-    writes_grouped i off bytes is (inr write) none =
-        let named = subst (λ (m : ℕ). IsTrue (is_number m write.number)) right.numbers write.may.0 in
-        let same : own.op ≡ Write write.number write.offset write.bytes = (let both = sym its.same ∙ write.is in cc both) in
-        false≢true (sym (ungrouped none) ∙ ap (is_changing n) same ∙ (write_changes n write.number write.offset write.bytes named write.may.1))
+    writes_grouped : IsWriteOp op → IsLate s.table.inode_count (task s.tasks p) → group ≡ 0 → ⊥
+    writes_grouped is (inl read) none =
+        let same : op ≡ Read read.number read.offset read.count = (let both : Some op ≡ Some (Read read.number read.offset read.count) = sym mine ∙ read.is in cc both) in
+        subst IsWriteOp same is
+    writes_grouped is (inr write) none =
+        let may = subst (λ (m : ℕ). CanTake m write.op) right.numbers write.may in
+        let same : own.op ≡ write.op = (let both : Some own.op ≡ Some write.op = sym its.same ∙ write.is in cc both) in
+        false≢true (sym (ungrouped none) ∙ ap (is_changing n) same ∙ writer_changes n write.op write.writes may)
 
     -- so who is in none is over with its reply, and has its bytes
     read_over : group ≡ 0 → (reply : Reply) → owes_reply (task s.tasks p).stage ≡ true → DecisionEnds op reply next → (is_over next ≡ true) × ((bytes : List ℕ) × (reply ≡ Bytes bytes))
     read_over none reply owes (inl read) = (read.1, read.2)
-    read_over none reply owes (inr write) = absurd (writes_grouped write.0.0 write.0.1 write.0.2 write.0.3 (late_here owes) none)
+    read_over none reply owes (inr write) = absurd (writes_grouped write.0 (late_here owes) none)
 
     -- and who is in one goes on with it
     write_on : 0 < group → (reply : Reply) → DecisionEnds op reply next → GoesOnTurned next × ((count : ℕ) × (reply ≡ Wrote count))

@@ -1,5 +1,5 @@
 -- What an operation with its reply does to the files.
-use Rattle.std.specs.Prelude.{ℕ, ◌+◌, ◌%◌, ◌==◌, ◌&&◌, ◌||◌, nat_lt, nat_le, if◌then◌else◌, Bool, true, false, List, [], take, drop, length, is_none, Option, Some, None, slice_set}
+use Rattle.std.specs.Prelude.{ℕ, ◌+◌, ◌-◌, ◌%◌, ◌==◌, ◌&&◌, ◌||◌, nat_lt, nat_le, if◌then◌else◌, Bool, true, false, List, [], ◌++◌, take, drop, length, replicate, is_none, Option, Some, None, slice_set}
 use Rattle.std.specs.Str.{bytes_eq}
 use Rattle.blocks.specs.Block.{overwritten}
 use Rattle.blocks.specs.Block.{block_size}
@@ -33,11 +33,18 @@ abbrev pub no_file_refusal : Option File → Option Reply
 no_file_refusal None = Some NoFile
 no_file_refusal (Some file) = None
 
--- a file gets no length behind its end
-abbrev pub attribute_refusal : Option File → Attribute → Option Reply
-attribute_refusal None attribute = Some NoFile
-attribute_refusal (Some file) (Links n) = None
-attribute_refusal (Some file) (Size n) = if nat_lt (length file.bytes) n then Some BadOffset else None
+-- an extension of a file to n bytes is refused, which adds more than one operation moves, or that no
+-- file has room for
+abbrev pub extension_refusal : Form → ℕ → ℕ → Option Reply
+extension_refusal form old n =
+    if nat_lt (old + transfer_limit) n then Some TooLong
+    else if nat_lt (greatest_size form) n then Some TooBig else None
+
+abbrev pub attribute_refusal : Form → Option File → Attribute → Option Reply
+attribute_refusal form None attribute = Some NoFile
+attribute_refusal form (Some file) (Links n) = None
+attribute_refusal form (Some file) (Size n) =
+    if nat_lt (length file.bytes) n then extension_refusal form (length file.bytes) n else None
 
 -- the first refusal that an operation on these files has
 abbrev pub refusal_of : Form → Files → Op → Option Reply
@@ -50,7 +57,8 @@ refusal_of form files (Read i off n) =
 refusal_of form files (Trunc i) = no_file_refusal (file_in files i)
 refusal_of form files (Remove i) = no_file_refusal (file_in files i)
 refusal_of form files (Stat i) = no_file_refusal (file_in files i)
-refusal_of form files (SetAttribute i attribute) = attribute_refusal (file_in files i) attribute
+refusal_of form files (SetAttribute i attribute) =
+    attribute_refusal form (file_in files i) attribute
 
 -- a value where the test holds
 abbrev pub where_true : {A : Type 0} → Bool → A → Option A
@@ -71,6 +79,16 @@ with_bytes file bytes = Some (record file { bytes = bytes })
 abbrev pub with_links : File → ℕ → Option File
 with_links file n = Some (record file { links = n })
 
+-- an attribute that a file of so many bytes gets at its turn: its links, or a length within it
+abbrev pub is_within : ℕ → Attribute → Bool
+is_within old (Links n) = true
+is_within old (Size n) = nat_le n old
+
+-- a longer length may have added k zeroes: all, or as many as end at a whole block
+abbrev pub may_have_added : ℕ → Attribute → ℕ → Bool
+may_have_added old (Links n) k = false
+may_have_added old (Size n) k = nat_lt old n && may_have_written old old (n - old) k
+
 -- the file with an attribute set: its links, or the bytes up to a length
 abbrev pub with_attribute : File → Attribute → File
 with_attribute file (Links n) = record file { links = n }
@@ -88,7 +106,11 @@ after_on files i file (Remove j) Done = Some (slice_set files i None)
 after_on files i file (Stat j) (StatOf kind links size) =
     where_true ((kind == file.kind) && ((links == file.links) && (size == length file.bytes))) files
 after_on files i file (SetAttribute j attribute) Done =
-    Some (slice_set files i (Some (with_attribute file attribute)))
+    where_true (is_within (length file.bytes) attribute)
+    (slice_set files i (Some (with_attribute file attribute)))
+after_on files i file (SetAttribute j attribute) (Wrote k) =
+    where_true (may_have_added (length file.bytes) attribute k)
+    (slice_set files i (with_bytes file (file.bytes ++ replicate k 0)))
 after_on files i file op reply = None
 
 -- the same for the file of a number, where there is one

@@ -9,7 +9,7 @@ use Rattle.directories.specs.declared.entries.EntryWrite.{EntryWrite}
 use Rattle.blocks.specs.declared.disk.Disk.{Ghosts}
 use Rattle.calls.specs.Stepping.{Plain}
 use Rattle.directories.specs.Counts.{AreCounted, StaysCounted}
-use Rattle.names.specs.Inside.{files_seen, form_seen}
+use Rattle.names.specs.Inside.{files_seen, form_seen, FallsShort}
 use Rattle.names.specs.Making.{is_entered, HasCreatedNew, HasEntered, HasParentCount, IsNewFile, Settles, Uncreates}
 use Rattle.directories.specs.declared.refusal.Refusal.{Refusal}
 use Rattle.directories.specs.Walks.{IsDirectoryFound}
@@ -21,9 +21,11 @@ use Rattle.model.specs.declared.types.image.File.{File}
 use Rattle.directories.specs.TreeLaws.{IsNew}
 use Rattle.directories.specs.Lemmas.Adding.{adding_keeps}
 use Rattle.directories.specs.Lemmas.CountedChanges.{counted_added, counted_directory_added}
+use Rattle.directories.specs.Lemmas.EntryBytes.{length-entry_bytes}
 use Rattle.directories.specs.Lemmas.EntrySteps.{link_needs}
 use Rattle.directories.specs.Lemmas.NewDirectory.{files_are_new}
 use Rattle.directories.specs.Lemmas.Sizes.{size_small}
+use Rattle.names.proofs.Blocked.{entry_short}
 use Rattle.names.proofs.Relinking.{adds_relinked, entered_links, relinked_links}
 use Rattle.directories.specs.Lemmas.TreeBy.{directory_is_file}
 use Rattle.directories.specs.Lemmas.TreeMeaning.{directories_are_tidy}
@@ -57,17 +59,19 @@ module _ (form : Form) (files made new : Files) (from number : ℕ) (name : List
       let both : false ≡ true = sym fails ∙ told ∙ ap is_entered done.0 in absurd (cc both))
       (λ (none : (reply ≡ Wrote 0) × (new ≡ made)). none.1) either
 
+  pub entered_short : whole ≡ false → reply ≡ Wrote 0
+  entered_short fails =
+      ⊎_elim (λ (done : (reply ≡ Wrote 16) × AddsName files new from name number file).
+      let both : false ≡ true = sym fails ∙ told ∙ ap is_entered done.0 in absurd (cc both))
+      (λ (none : (reply ≡ Wrote 0) × (new ≡ made)). none.0) either
+
   pub entered_needs : whole ≡ false → NeedsBlock (directory_in files from)
   entered_needs fails =
       let stays : file_in made from ≡ file_in files from = unnamed.rest from (apart_from files number from unnamed.free is) in
-      let none : reply ≡ Wrote 0 =
-      ⊎_elim (λ (done : (reply ≡ Wrote 16) × AddsName files new from name number file).
-      let both : false ≡ true = sym fails ∙ told ∙ ap is_entered done.0 in absurd (cc both))
-      (λ (nothing : (reply ≡ Wrote 0) × (new ≡ made)). nothing.0) either in
       subst (λ (o : Option File). NeedsBlock (bytes_of o)) stays
       (link_needs form made new from number name write reply sized (ap kind_of stays ∙ is)
       (subst (λ (o : Option File). Links (bytes_of o) name number write) (sym stays) links)
-      (subst (λ (o : Option File). MayHold (bytes_of o) write.place) (sym stays) room) h none)
+      (subst (λ (o : Option File). MayHold (bytes_of o) write.place) (sym stays) room) h (entered_short fails))
 
 -- the bytes that were found are the directory's
 pub found_bytes : (files : Files) (from : ℕ) (found : Option (List ℕ)) (bytes : List ℕ) → found ≡ Some bytes → IsDirectoryFound files from found →
@@ -188,3 +192,10 @@ module _ {D N : Type 0} (disk : Ghosts D N) (k a b d : Plain D) (from number : �
     inr (entered_needs (form_seen disk.image b) fs (files_seen disk.image b) (files_seen disk.image d) from number name file write entered.reply whole tree
         there.0 fresh made_unnamed named named_room entered.sized entered.answers entered.told fails),
   )
+
+  -- no block was free for it
+  pub made_short : whole ≡ false → FallsShort disk.image b d
+  made_short fails =
+      entry_short disk b d from write whole entered (ap length named.entry ∙ length-entry_bytes number name named.stored)
+      (entered_short (form_seen disk.image b) fs (files_seen disk.image b) (files_seen disk.image d) from number name file write entered.reply whole tree
+      there.0 fresh made_unnamed named named_room entered.sized entered.answers entered.told fails)

@@ -13,7 +13,8 @@ use Rattle.model.specs.declared.types.operations.Reply.{Reply}
 use Rattle.calls.specs.Calls.{call_count, faults_on, image_on}
 use Rattle.calls.specs.Files.{IsFull}
 use Rattle.calls.specs.Lemmas.Both.{keeps_nothing}
-use Rattle.calls.specs.Stepping.{Plain}
+use Rattle.calls.specs.Lemmas.Reaching.{reached_then}
+use Rattle.calls.specs.Stepping.{IsReached, Plain}
 use Rattle.calls.specs.Transactions.{Adds, Begins, Commits, HasFiles, IsInside, IsUnbegun, IsUncalled, IsUncommitted, KeepsEither, KeepsFiles, Rests, image_seen, labels_made}
 use Rattle.names.specs.Ready.{EndsOn, HasBegun, HasCommitted}
 use Rattle.directories.specs.Trees.{IsTree}
@@ -24,7 +25,7 @@ use Rattle.names.specs.declared.refusal.TreeFault.{TreeFault}
 use Rattle.names.specs.declared.refusal.TreeFault.TheVariants.{Path, Refused, Call, NoSpace, NoCall}
 use Rattle.directories.specs.Lemmas.Sizes.{after_sized, sound_sized}
 use Rattle.directories.specs.Sizes.{AreSized}
-use Rattle.names.specs.Inside.{files_seen, form_seen, Answers, Ends, EndsOr, Fills, Goes, HasCause, IsBroken, IsBrokenOr, IsCrowded, IsSpent, IsUnderWay, Never, Proceeds, StaysOn}
+use Rattle.names.specs.Inside.{files_seen, form_seen, Answers, Ends, EndsOr, Fills, Goes, HasCause, IsBroken, IsBrokenOr, IsCrowded, IsSpent, IsUnderWay, Never, Proceeds, ProceedsOr, StaysOn}
 use Rattle.directories.specs.Counts.{AreCounted}
 
 module _ {D N : Type 0} (disk : Ghosts D N) where
@@ -42,8 +43,8 @@ module _ {D N : Type 0} (disk : Ghosts D N) where
 
   -- a call goes on
   pub call_goes : (op : Op) (k m : Plain D) (reply : Reply) (left less : ℕ) → less + 1 ≡ left → IsUnderWay disk k left → IsInside disk.fault_count m →
-      m.opening ≡ k.opening → Adds disk.image op k m reply → Goes disk k m less
-  call_goes op k m reply left less one way inside opening adds =
+      m.opening ≡ k.opening → Adds disk.image op k m reply → IsReached disk k m → Goes disk k m less
+  call_goes op k m reply left less one way inside opening adds reached =
       let made = adds.files (files_seen disk.image k) way.files in
       let answered = call_answers op k m reply left way adds in
       let same_form : form_seen disk.image k ≡ form_seen disk.image m = ap (λ (o : D). form_of (disk.image o)) (sym opening) in
@@ -59,6 +60,7 @@ module _ {D N : Type 0} (disk : Ghosts D N) where
         same = adds.same;
         opening = opening;
         later = omega (arith, adds.one_more);
+        reached = λ o so_far. reached_then disk o k m so_far reached;
       }
 
   pub call_cause : (op : Op) (k m : Plain D) (reply : Reply) (left : ℕ) → IsUnderWay disk k left → Adds disk.image op k m reply → HasCause disk.image op k m reply
@@ -92,7 +94,13 @@ module _ {D N : Type 0} (disk : Ghosts D N) where
   stays_on k a m left goes first then_on = record { on = λ o same so_far. then_on.on o (goes.same ∙ same) (first.on o same so_far) }
 
   pub goes_on : (k a m : Plain D) (left less : ℕ) → Goes disk k a left → Goes disk a m less → Goes disk k m less
-  goes_on k a m left less first then_on = record { way = then_on.way; same = then_on.same ∙ first.same; opening = then_on.opening ∙ first.opening; later = omega (arith, first.later, then_on.later) }
+  goes_on k a m left less first then_on = record {
+    way = then_on.way;
+    same = then_on.same ∙ first.same;
+    opening = then_on.opening ∙ first.opening;
+    later = omega (arith, first.later, then_on.later);
+    reached = λ o so_far. then_on.reached o (first.reached o so_far);
+  }
 
   -- why a later call ended the transaction
   pub same_faults : (k a : Plain D) (left less : ℕ) → IsUnderWay disk k left → Goes disk k a less → faults_on disk.fault_count a ≡ faults_on disk.fault_count k
@@ -120,13 +128,17 @@ module _ {D N : Type 0} (disk : Ghosts D N) where
   ends_on k a m left less none cause way goes ends = ends_or Never k a m left less none cause way goes ends
 
   -- what a later call made of it
-  pub proceeds_on : {T : Type 0} (k a m : Plain D) (r : Result T TreeFault) (left less rest : ℕ) → IsUnderWay disk k left → Goes disk k a less →
-      StaysOn disk k a → Proceeds disk r a m rest → Proceeds disk r k m rest
-  proceeds_on k a m r left less rest way goes stays then_on = record {
+  pub proceeds_or : {T : Type 0} (hinders : TreeFault → Type 0) (k a m : Plain D) (r : Result T TreeFault) (left less rest : ℕ) → IsUnderWay disk k left → Goes disk k a less →
+      StaysOn disk k a → ProceedsOr hinders disk r a m rest → ProceedsOr hinders disk r k m rest
+  proceeds_or hinders k a m r left less rest way goes stays then_on = record {
     on = on_ok_weaker r (λ (on : Goes disk a m rest). goes_on k a m less rest goes on) then_on.on;
     stays = stays_on k a m less goes stays then_on.stays;
-    ends = IfErr-weaker r (Ends disk a m rest) (Ends disk k m rest) (λ cause ends. ends_on k a m left less rest cause way goes ends) then_on.ends;
+    ends = IfErr-weaker r (EndsOr hinders disk a m rest) (EndsOr hinders disk k m rest) (λ cause ends. ends_or hinders k a m left less rest cause way goes ends) then_on.ends;
   }
+
+  pub proceeds_on : {T : Type 0} (k a m : Plain D) (r : Result T TreeFault) (left less rest : ℕ) → IsUnderWay disk k left → Goes disk k a less →
+      StaysOn disk k a → Proceeds disk r a m rest → Proceeds disk r k m rest
+  proceeds_on k a m r left less rest way goes stays then_on = proceeds_or Never k a m r left less rest way goes stays then_on
 
   -- where the disk may be filled, it need not be
   pub broken_in : (hinders : TreeFault → Type 0) (k m : Plain D) (cause : TreeFault) → IsBroken disk k m cause → IsBrokenOr hinders disk k m cause
@@ -161,8 +173,8 @@ module _ {D N : Type 0} (disk : Ghosts D N) where
   -- ---- the beginning and the end
 
   pub begin_goes : (k m : Plain D) (left : ℕ) → call_count k + left ≤ 2 ^ 63 → 2 ^ 62 ≤ call_count k + left → IsInside disk.fault_count m → m.opening ≡ k.opening → Begins disk.image k m →
-      HasBegun disk k m left
-  begin_goes k m left few many inside opening begins =
+      IsReached disk k m → HasBegun disk k m left
+  begin_goes k m left few many inside opening begins reached =
       let count : call_count m ≡ call_count k = ap (λ (es : List Entry). length es) begins.list in
       record {
         goes = record {
@@ -178,6 +190,7 @@ module _ {D N : Type 0} (disk : Ghosts D N) where
           same = begins.same;
           opening = opening;
           later = omega (arith, count);
+          reached = λ o so_far. reached_then disk o k m so_far reached;
         };
         files = seen m (files_of (image_on disk.image k)) begins.files;
         size = ap (λ (y : Image). length y) begins.same ∙ begins.size ∙ ap (λ (o : D). length (disk.image o)) (sym opening);
@@ -194,14 +207,15 @@ module _ {D N : Type 0} (disk : Ghosts D N) where
   commit_broken k m fault.NoRoom why = absurd why
 
   pub commit_ends : (k m : Plain D) (left less : ℕ) → less + 1 ≡ left → IsUnderWay disk k left → IsTree (files_seen disk.image k) → AreCounted (files_seen disk.image k) → Rests disk.fault_count m →
-      Commits disk.image k m → HasCommitted disk k m less
-  commit_ends k m left less one way tree counted rests commits =
+      Commits disk.image k m → IsReached disk k m → HasCommitted disk k m less
+  commit_ends k m left less one way tree counted rests commits reached =
       let same : files_of (image_on disk.image m) ≡ files_seen disk.image k = commits.files (files_seen disk.image k) way.files in
       record {
         ready = record { rests = rests; few = omega (arith, commits.one_more, way.few); many = omega (arith, commits.one_more, one, way.many); sound = commits.sound; tree = subst (λ (f : Files). IsTree f) (sym same) tree; counted = subst (λ (f : Files). AreCounted f) (sym same) counted };
         files = same;
         size = commits.size;
         marks = commits.marks;
+        reached = λ o so_far. reached_then disk o k m so_far reached;
       }
 
   pub wider : (a b : D) (P Q : Image → Type 0) → ((z : Image) → P z → Q z) → LeavesOnly disk.moment disk.leaves a b P → LeavesOnly disk.moment disk.leaves a b Q

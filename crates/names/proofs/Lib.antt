@@ -3,6 +3,7 @@ pub mod Cuts
 pub mod Relinking
 pub mod Staying
 pub mod Going
+pub mod Blocked
 pub mod FileLooks
 pub mod SeenLooks
 pub mod ReadBehind

@@ -1,5 +1,5 @@
 -- A file of a tree gets a name in another directory, by the answers of its calls.
-use Rattle.std.proofs.Common.{◌≡◌, ◌≢◌, ℕ, ◌*◌, ◌<◌, Bool, true, false, List, Option, Some, None, Result, Ok, Err, sym, ap, subst, ◌∙◌, inl, inr, ⊎_elim, ◌+◌, [], refl}
+use Rattle.std.proofs.Common.{◌≡◌, ◌≢◌, ℕ, ◌*◌, ◌<◌, Bool, true, false, List, length, Option, Some, None, Result, Ok, Err, sym, ap, subst, ◌∙◌, inl, inr, ⊎_elim, ◌+◌, [], refl}
 use Rattle.blocks.specs.declared.disk.Disk.{Ghosts}
 use Rattle.model.specs.declared.types.operations.Reply.{Reply}
 use Rattle.model.specs.declared.types.operations.Reply.TheVariants.{Wrote}
@@ -15,7 +15,7 @@ use Rattle.directories.specs.declared.refusal.Refusal.{Refusal}
 use Rattle.directories.specs.declared.refusal.Refusal.TheVariants.{IsInside, TooManyLinks}
 use Rattle.directories.specs.Counts.{AreCounted, HasLinks, HasMostLinks, StaysCounted}
 use Rattle.directories.specs.Entries.{lookup}
-use Rattle.names.specs.Inside.{files_seen, form_seen}
+use Rattle.names.specs.Inside.{files_seen, form_seen, FallsShort}
 use Rattle.names.specs.Making.{is_entered, HasEntered}
 use Rattle.names.specs.Renaming.{IsPlan, IsRise, IsUnrenamed, IsUp, Renames, Rises}
 use Rattle.directories.specs.Sizes.{AreSized}
@@ -24,7 +24,9 @@ use Rattle.directories.specs.Trees.{directory_in, number_of, self_name, IsDirect
 use Rattle.directories.specs.Walks.{IsDirectoryFound}
 use Rattle.directories.specs.Writes.{operation_of, Links, MayHold, NeedsBlock, Unlinks, Repoints}
 use Rattle.directories.specs.Lemmas.CountedChanges.{counted_directory_moved, counted_moved}
+use Rattle.names.proofs.Blocked.{entry_short}
 use Rattle.names.proofs.Entering.{down_absent, found_bytes}
+use Rattle.directories.specs.Lemmas.EntryBytes.{length-entry_bytes}
 use Rattle.directories.specs.Lemmas.EntrySteps.{link_leads_there, link_needs}
 use Rattle.directories.specs.Lemmas.MovingDirectory.{moving_directory_keeps}
 use Rattle.names.proofs.Named.{directory_counts}
@@ -123,6 +125,19 @@ module _ {D N : Type 0} (disk : Ghosts D N) (k a b : Plain D) (from to : ℕ) (o
   sized : AreSized (form_seen disk.image a) all
   sized = subst (λ (f : Files). AreSized (form_seen disk.image a) f) planned linked.sized
 
+  linked_none : whole ≡ false → linked.reply ≡ Wrote 0
+  linked_none fails =
+      ⊎_elim (λ (done : (linked.reply ≡ Wrote 16) × LeadsTo all (files_seen disk.image b) to name (Some plan.file)).
+      let both : false ≡ true = sym fails ∙ linked.told ∙ ap is_entered done.0 in absurd (cc both))
+      (λ (none : (linked.reply ≡ Wrote 0) × (files_seen disk.image b ≡ all)). none.0)
+      (link_leads_there (form_seen disk.image a) all (files_seen disk.image b) to plan.file name plan.link linked.reply sized is.target
+      (directories_are_tidy all to tree is.target).0 is.links is.link_room linking)
+
+  -- no block was free for it
+  pub unlinked_short : whole ≡ false → FallsShort disk.image a b
+  unlinked_short fails =
+      entry_short disk a b to plan.link whole linked (ap length is.links.entry ∙ length-entry_bytes plan.file name is.links.stored) (linked_none fails)
+
   -- nothing of it was written
   pub unlinked_same : whole ≡ false → files_seen disk.image b ≡ all
   unlinked_same fails =
@@ -138,11 +153,7 @@ module _ {D N : Type 0} (disk : Ghosts D N) (k a b : Plain D) (from to : ℕ) (o
     is.target,
     is.links.absent,
     link_needs (form_seen disk.image a) all (files_seen disk.image b) to plan.file name plan.link linked.reply sized is.target is.links is.link_room linking
-        (⊎_elim (λ (done : (linked.reply ≡ Wrote 16) × LeadsTo all (files_seen disk.image b) to name (Some plan.file)).
-        let both : false ≡ true = sym fails ∙ linked.told ∙ ap is_entered done.0 in absurd (cc both))
-        (λ (none : (linked.reply ≡ Wrote 0) × (files_seen disk.image b ≡ all)). none.0)
-        (link_leads_there (form_seen disk.image a) all (files_seen disk.image b) to plan.file name plan.link linked.reply sized is.target
-        (directories_are_tidy all to tree is.target).0 is.links is.link_room linking)),
+        (linked_none fails),
   )
 
   -- c freed the old one

@@ -1,5 +1,5 @@
 -- A file gets another name, by the answers of its calls.
-use Rattle.std.proofs.Common.{◌≡◌, ◌≢◌, ◌⊎◌, inr, ℕ, ◌+◌, Bool, true, false, List, [], ◌∷◌, ◌++◌, Option, Some, None, Result, Ok, Err, sym, ap, subst, ◌∙◌, ⊎_elim}
+use Rattle.std.proofs.Common.{◌≡◌, ◌≢◌, ◌⊎◌, inr, ℕ, ◌+◌, Bool, true, false, List, [], ◌∷◌, ◌++◌, length, Option, Some, None, Result, Ok, Err, sym, ap, subst, ◌∙◌, ⊎_elim}
 use Rattle.std.specs.Prelude.{IfOk}
 use Rattle.std.proofs.lemmas.Result.{IfOk-weaker}
 use Rattle.blocks.specs.declared.disk.Disk.{Ghosts}
@@ -10,7 +10,7 @@ use Rattle.model.specs.Operations.{after, with_links}
 use Rattle.calls.specs.Stepping.{Plain}
 use Rattle.directories.specs.declared.entries.EntryWrite.{EntryWrite}
 use Rattle.directories.specs.Counts.{StaysCounted}
-use Rattle.names.specs.Inside.{files_seen, form_seen}
+use Rattle.names.specs.Inside.{files_seen, form_seen, FallsShort}
 use Rattle.directories.specs.declared.refusal.Refusal.{Refusal}
 use Rattle.names.specs.declared.refusal.TreeFault.{TreeFault}
 use Rattle.names.specs.Linking.{IsNotLinkedAt, IsNotLinkedIn, LeadToBoth, LinksAt, LinksIn}
@@ -23,7 +23,9 @@ use Rattle.directories.specs.Sizes.{AreSized}
 use Rattle.directories.specs.Writes.{operation_of, Links, MayHold, NeedsBlock}
 use Rattle.directories.specs.Lemmas.Answered.{some_by}
 use Rattle.directories.specs.Lemmas.CountedChanges.{counted_linked}
+use Rattle.names.proofs.Blocked.{entry_short}
 use Rattle.names.proofs.Entering.{down_absent, found_bytes}
+use Rattle.directories.specs.Lemmas.EntryBytes.{length-entry_bytes}
 use Rattle.directories.specs.Lemmas.EntrySteps.{link_leads_there, link_needs}
 use Rattle.directories.specs.Lemmas.Linked.{linked_tree}
 use Rattle.names.proofs.Relinking.{changed_relinked, entered_links, relinked_numbers}
@@ -64,6 +66,17 @@ module _ {D N : Type 0} (disk : Ghosts D N) (k a b : Plain D) (to number short :
       let both : false ≡ true = sym fails ∙ entered.told ∙ ap is_entered done.0 in absurd (cc both))
       (λ (none : (entered.reply ≡ Wrote 0) × (files_seen disk.image b ≡ fs)). none.1) either
 
+  answered_none : whole ≡ false → entered.reply ≡ Wrote 0
+  answered_none fails =
+      ⊎_elim (λ (done : (entered.reply ≡ Wrote 16) × LeadsTo fs (files_seen disk.image b) to name (Some number)).
+      let both : false ≡ true = sym fails ∙ entered.told ∙ ap is_entered done.0 in absurd (cc both))
+      (λ (none : (entered.reply ≡ Wrote 0) × (files_seen disk.image b ≡ fs)). none.0) either
+
+  -- no block was free for it
+  pub named_short : whole ≡ false → FallsShort disk.image a b
+  named_short fails =
+      entry_short disk a b to write whole entered (ap length linking.entry ∙ length-entry_bytes number name linking.stored) (answered_none fails)
+
   -- the entry would have begun another block
   pub named_needs : whole ≡ false → IsDirectory fs to × (number_of fs to name ≡ None) × NeedsBlock (directory_in fs to)
   named_needs fails = (
@@ -71,9 +84,7 @@ module _ {D N : Type 0} (disk : Ghosts D N) (k a b : Plain D) (to number short :
     linking.absent,
     link_needs (form_seen disk.image a) fs (files_seen disk.image b) to number name write entered.reply sized there.0 linking may_hold
         (subst (λ (f : Files). after (form_seen disk.image a) f (operation_of to write) entered.reply ≡ Some (files_seen disk.image b)) looked entered.answers)
-        (⊎_elim (λ (done : (entered.reply ≡ Wrote 16) × LeadsTo fs (files_seen disk.image b) to name (Some number)).
-        let both : false ≡ true = sym fails ∙ entered.told ∙ ap is_entered done.0 in absurd (cc both))
-        (λ (none : (entered.reply ≡ Wrote 0) × (files_seen disk.image b ≡ fs)). none.0) either),
+        (answered_none fails),
   )
 
   -- the entry was written, of a file that is no directory

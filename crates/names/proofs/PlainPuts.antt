@@ -24,13 +24,14 @@ use Rattle.directories.specs.declared.refusal.Refusal.{Refusal}
 use Rattle.directories.specs.declared.refusal.Refusal.TheVariants.{NotFound, NotADirectory, IsRoot, Exists, Full, NoNumber, NoBlock, IsADirectory, NotEmpty, IsInside, NotDown, TooManyLinks}
 use Rattle.names.specs.Contents.{HasOnly, IsNoPlain}
 use Rattle.directories.specs.Counts.{StaysCounted}
-use Rattle.names.specs.Inside.{files_seen, form_seen, Answers}
+use Rattle.names.specs.Inside.{files_seen, form_seen, Answers, AnswersFull, FallsShort}
 use Rattle.names.specs.Making.{HasCreated, HasCreatedNew, IsUnmadeOr, Uncreates}
 use Rattle.names.specs.Putting.{file_of, told, IsUnputIn, PutsIn}
 use Rattle.names.specs.Ready.{Happens}
 use Rattle.directories.specs.TreeChanges.{empty_file, AddsName, IsUnnamed}
 use Rattle.directories.specs.Trees.{kind_of, number_of, IsDirectory, IsFile, IsTree}
-use Rattle.names.specs.Writing.{reply_of, written, HasWritten, Outcome, WritesAs}
+use Rattle.names.specs.declared.writing.Unwritten.{Unwritten}
+use Rattle.names.specs.Writing.{is_whole, reply_of, written, HasWritten, Outcome, WritesAs}
 use Rattle.directories.specs.Lemmas.Answered.{done_where, some_by, write_allowed, wrote_on}
 use Rattle.directories.specs.Lemmas.FileMaps.{set_there, unnamed_by}
 use Rattle.directories.specs.Lemmas.Keeping.{at_cases, trunc_on, write_on}
@@ -175,6 +176,12 @@ module _ (form : Form) (files made new : Files) (i : ℕ) (bytes : List ℕ) (re
 
 -- ---- in a transaction
 
+-- a write that was whole
+whole_is : (told : Option Outcome) → is_whole told ≡ true → (one : Unit {0}) × (told ≡ Some (Ok one))
+whole_is None whole = absurd (cc whole)
+whole_is (Some (Ok one)) whole = (one, refl)
+whole_is (Some (Err cause)) whole = absurd (cc whole)
+
 module _ {D N : Type 0} (disk : Ghosts D N) where
   pub empties_plain : (k a b : Plain D) (i : ℕ) (reply : Reply) → files_seen disk.image a ≡ files_seen disk.image k → Answers disk.image (Trunc i) a b reply →
       IsFile (files_seen disk.image k) i → (IsDirectory (files_seen disk.image k) i → ⊥) → HasOnly i [] (files_seen disk.image k) (files_seen disk.image b)
@@ -231,6 +238,21 @@ module _ {D N : Type 0} (disk : Ghosts D N) where
       let few = short (form_seen disk.image a) (files_seen disk.image a) (files_seen disk.image b) i off bytes file.0 file.1 has.reply has.answers (sym none ∙ has.is) in
       has.short i off few.count bytes refl few.is few.fewer
 
+  pub write_short : (a b : Plain D) (i off : ℕ) (bytes : List ℕ) (told : Option Outcome) → HasWritten disk.image i off bytes a b told → told ≡ None →
+      IsFile (files_seen disk.image a) i → FallsShort disk.image a b
+  write_short a b i off bytes told has none there =
+      let file = some_by (file_in (files_seen disk.image a) i) there in
+      let few = short (form_seen disk.image a) (files_seen disk.image a) (files_seen disk.image b) i off bytes file.0 file.1 has.reply has.answers (sym none ∙ has.is) in
+      record {
+        number = i;
+        offset = off;
+        count = few.count;
+        bytes = bytes;
+        fewer = few.fewer;
+        answers = subst (λ (r : Reply). Answers disk.image (Write i off bytes) a b r) few.is has.answers;
+        full = has.short i off few.count bytes refl few.is few.fewer;
+      }
+
   -- a file was made, and bytes written into it
   module _ (k a b : Plain D) (number j parent : ℕ) (bytes : List ℕ) (made : Option ℕ) (told : Option Outcome) (made_is : made ≡ Some number) (same : j ≡ number)
       (created : HasCreated 2 (files_seen disk.image k) (files_seen disk.image a) made) (has : HasWritten disk.image j 0 bytes a b told) where
@@ -240,14 +262,34 @@ module _ {D N : Type 0} (disk : Ghosts D N) where
     writing : HasWritten disk.image number 0 bytes a b told
     writing = subst (λ (n : ℕ). HasWritten disk.image n 0 bytes a b told) same has
 
-    pub new_made : (one : Unit {0}) → told ≡ Some (Ok one) →
+    pub new_made : is_whole told ≡ true →
         HasCreatedNew ⊤ (λ number parent. file_of bytes) parent (files_seen disk.image k) (files_seen disk.image b) (Ok number)
-    new_made one is = (
-      filled_new (form_seen disk.image a) (files_seen disk.image k) (files_seen disk.image a) (files_seen disk.image b) number bytes writing.reply some.0 writing.answers
-          one (sym is ∙ writing.is),
-      (λ e. absurd (omega (arith, e))),
-      some.1,
-    )
+    new_made whole =
+        let all = whole_is told whole in (
+          filled_new (form_seen disk.image a) (files_seen disk.image k) (files_seen disk.image a) (files_seen disk.image b) number bytes writing.reply some.0 writing.answers
+              all.0 (sym all.1 ∙ writing.is),
+          (λ e. absurd (omega (arith, e))),
+          some.1,
+        )
+
+    -- where few bytes were not all written, no block was free
+    pub new_short : length bytes ≤ 3072 → is_whole told ≡ false → FallsShort disk.image a b
+    new_short few short_of = write_short a b number 0 bytes told writing (nothing_told told refl) there
+      where
+        unnamed : IsUnnamed (files_seen disk.image k) (files_seen disk.image a) number (empty_file 2)
+        unnamed = some.0
+
+        there : IsFile (files_seen disk.image a) number
+        there none = let both = sym none ∙ unnamed.there in absurd (cc both)
+
+        nothing_told : (t : Option Outcome) → told ≡ t → told ≡ None
+        nothing_told None is = is
+        nothing_told (Some (Ok one)) is = let both : true ≡ false = sym (ap is_whole is) ∙ short_of in absurd (cc both)
+        nothing_told (Some (Err cause)) is =
+            let writes = told_writes (form_seen disk.image a) (files_seen disk.image a) (files_seen disk.image b) number 0 bytes (empty_file 2) unnamed.there writing.reply
+            (Err cause) writing.answers (sym is ∙ writing.is) in
+            let allowed = write_allowed (form_seen disk.image a) (files_seen disk.image a) number (empty_file 2) 0 bytes unnamed.there (omega arith) (omega arith) in
+            let both : None ≡ Some (reply_of cause) = sym allowed ∙ writes.1 in absurd (cc both)
 
     -- and it was removed again
     pub new_undone : (u : Plain D) (i : ℕ) → i ≡ number → Uncreates i (files_seen disk.image b) (files_seen disk.image u) →
@@ -284,3 +326,9 @@ pub emptied_only : (files new : Files) (j number : ℕ) (r : Result (Unit {0}) R
     Happens (λ done. HasOnly j []) (IsNoPlain j) files new r → HasOnly number [] files new
 emptied_only files new j number r one same is happens =
     subst (λ (n : ℕ). HasOnly n [] files new) same (subst (λ (s : Result (Unit {0}) Refusal). Happens (λ done. HasOnly j []) (IsNoPlain j) files new s) is happens)
+
+-- where a put tells NoBlock, so did what it did
+pub told_full : {D N : Type 0} (disk : Ghosts D N) (k m : Plain D) (made : Result ℕ Refusal) (r : Result (Result ℕ Unwritten) Refusal) → r ≡ told made → AnswersFull disk k m made →
+    AnswersFull disk k m r
+told_full disk k m (Ok number) r same full = subst (λ (t : Result (Result ℕ Unwritten) Refusal). AnswersFull disk k m t) (sym same) tt
+told_full disk k m (Err cause) r same full = subst (λ (t : Result (Result ℕ Unwritten) Refusal). AnswersFull disk k m t) (sym same) full

@@ -4,7 +4,7 @@ use Rattle.std.proofs.Math.Seq.{take-add}
 use Rattle.std.proofs.lemmas.List.{take_all}
 use Rattle.blocks.specs.declared.disk.Disk.{Ghosts}
 use Rattle.calls.specs.Calls.{call_count, image_on}
-use Rattle.calls.specs.Stepping.{Plain}
+use Rattle.calls.specs.Stepping.{IsReached, Plain}
 use Rattle.model.specs.Operations.{part_of}
 use Rattle.names.specs.Inside.{files_seen, IsUnderWay, StaysOn}
 
@@ -15,6 +15,7 @@ pub record HasRead {D N : Type 0} (disk : Ghosts D N) (k m : Plain D) (left : �
   pub opening : m.opening ≡ k.opening
   pub files : files_seen disk.image m ≡ files_seen disk.image k
   pub stays : StaysOn disk k m
+  pub reached : (o : Plain D) → IsReached disk o k → IsReached disk o m
   pub later : call_count k ≤ call_count m
   pub bytes_are : bytes ≡ take (count * 3072) whole
 

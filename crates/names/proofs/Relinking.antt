@@ -22,7 +22,7 @@ use Rattle.directories.specs.TreeChanges.{AddsName, ChangesName, DropsName, Move
 use Rattle.directories.specs.Trees.{bytes_of, directory_in, kind_of, links_of, number_of, IsFile, IsTidy}
 use Rattle.directories.specs.Lemmas.Answered.{done_where, some_by}
 use Rattle.directories.specs.Lemmas.FileMaps.{set_others, set_there}
-use Rattle.directories.specs.Lemmas.Keeping.{at_cases, set_on, remove_on, trunc_on, write_on}
+use Rattle.directories.specs.Lemmas.Keeping.{at_cases, links_on, remove_on, size_on, trunc_on, write_on}
 
 -- ---- a count changed
 
@@ -30,9 +30,9 @@ pub relinks_by : (form : Form) (files new : Files) (i n : ℕ) (reply : Reply) �
     Relinks files new i n
 relinks_by form files new i n reply there h =
     let has = some_by (file_in files i) there in
-    let done = done_where form files new (Op.SetAttribute i (Attribute.Links n)) reply (ap (λ (o : Option File). attribute_refusal o (Attribute.Links n)) has.1) h in
+    let done = done_where form files new (Op.SetAttribute i (Attribute.Links n)) reply (ap (λ (o : Option File). attribute_refusal form o (Attribute.Links n)) has.1) h in
     let on = at_cases files new i (file_in files i) (Op.SetAttribute i (Attribute.Links n)) reply done in
-    let e : new ≡ set files i (with_links on.0 n) = set_on files new i on.0 i (Attribute.Links n) reply on.2 in
+    let e : new ≡ set files i (with_links on.0 n) = links_on files new i on.0 i n reply on.2 in
     record {
       file = on.0;
       was = on.1;
@@ -155,7 +155,8 @@ cuts_links form files new i n reply h j =
     ⊎_elim (λ (same : new ≡ files). same_links files new same j)
     (λ (done : (refusal_of form files (Op.SetAttribute i (Attribute.Size n)) ≡ None) × (after_done files (Op.SetAttribute i (Attribute.Size n)) reply ≡ Some new)).
     let on = at_cases files new i (file_in files i) (Op.SetAttribute i (Attribute.Size n)) reply done.1 in
-    set_links files new i on.0 (take n on.0.bytes) on.1 (set_on files new i on.0 i (Attribute.Size n) reply on.2) j)
+    let sized = size_on files new i on.0 i n reply on.2 in
+    set_links files new i on.0 sized.0 on.1 sized.1 j)
     (after_cases form files new (Op.SetAttribute i (Attribute.Size n)) reply h)
 
 -- another file was removed

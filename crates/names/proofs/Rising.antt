@@ -2,7 +2,7 @@
 use Rattle.std.proofs.Common.{◌≡◌, ◌≢◌, ◌↔◌, ℕ, ◌+◌, ◌≤◌, List, [], Some, Ok, Result, sym, ap, subst, ◌∙◌}
 use Rattle.blocks.specs.declared.disk.Disk.{Ghosts}
 use Rattle.calls.specs.Calls.{call_count, image_on}
-use Rattle.calls.specs.Stepping.{Plain}
+use Rattle.calls.specs.Stepping.{IsReached, Plain}
 use Rattle.model.specs.Files.{Files}
 use Rattle.directories.specs.declared.refusal.Refusal.{Refusal}
 use Rattle.names.specs.Inside.{files_seen, IsUnderWay, StaysOn}
@@ -50,6 +50,7 @@ pub record HasRisen {D N : Type 0} (disk : Ghosts D N) (k m : Plain D) (left ste
   pub opening : m.opening ≡ k.opening
   pub files : files_seen disk.image m ≡ files_seen disk.image k
   pub stays : StaysOn disk k m
+  pub reached : (o : Plain D) → IsReached disk o k → IsReached disk o m
   pub is : IsDirectory (files_seen disk.image k) at
   pub answered : call_count k + steps ≤ call_count m
   pub decides : IsOutside (files_seen disk.image k) number from ↔ IsOutside (files_seen disk.image k) number at

@@ -8,7 +8,7 @@ use Rattle.model.specs.declared.types.operations.Reply.{Reply}
 use Rattle.model.specs.declared.types.operations.Reply.TheVariants.{Bytes, StatOf}
 use Rattle.model.specs.Files.{Files, file_in}
 use Rattle.model.specs.Operations.{part_of}
-use Rattle.calls.specs.Stepping.{Plain}
+use Rattle.calls.specs.Stepping.{IsReached, Plain}
 use Rattle.calls.specs.Calls.{call_count, image_on}
 use Rattle.directories.specs.Walks.{and_on, stepped, walked}
 use Rattle.directories.specs.declared.refusal.Refusal.{Refusal}
@@ -71,5 +71,6 @@ pub record HasWalked {D N : Type 0} (disk : Ghosts D N) (k m : Plain D) (old lef
   pub opening : m.opening ≡ k.opening
   pub files : files_seen disk.image m ≡ files_seen disk.image k
   pub stays : StaysOn disk k m
+  pub reached : (o : Plain D) → IsReached disk o k → IsReached disk o m
   pub later : call_count k ≤ call_count m
   pub on : walked (files_seen disk.image k) 1 names ≡ walked (files_seen disk.image k) number behind

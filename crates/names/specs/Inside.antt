@@ -1,5 +1,5 @@
 -- Calls of a transaction, and the files that it sees.
-use Rattle.std.specs.Prelude.{◌≡◌, ◌⊎◌, ⊤, ℕ, ◌+◌, ◌^◌, ◌<◌, ◌≤◌, [], length, Some, unwrap_or, Result, Ok, OnOk, IfErr}
+use Rattle.std.specs.Prelude.{◌≡◌, ◌⊎◌, ⊤, ℕ, ◌+◌, ◌^◌, ◌<◌, ◌≤◌, List, [], length, Some, unwrap_or, Result, Ok, OnOk, IfErr}
 use Rattle.blocks.specs.Disk.{Image, LeavesOnly}
 use Rattle.blocks.specs.declared.disk.Disk.{Ghosts}
 use Rattle.model.specs.Files.{Files, files_of}
@@ -8,14 +8,17 @@ use Rattle.model.specs.Layout.{form_of}
 use Rattle.model.specs.Operations.{after}
 use Rattle.model.specs.declared.types.image.Form.{Form}
 use Rattle.model.specs.declared.types.operations.Op.{Op}
+use Rattle.model.specs.declared.types.operations.Op.TheVariants.{Write}
 use Rattle.model.specs.declared.types.operations.Reply.{Reply}
+use Rattle.model.specs.declared.types.operations.Reply.TheVariants.{Wrote}
 use Rattle.calls.specs.Calls.{HasFailed, MakesLowestOf, MakesNoneOf, ShortIsFull, call_count, faults_on, image_on}
 use Rattle.calls.specs.Files.{IsFull}
-use Rattle.calls.specs.Stepping.{Plain}
+use Rattle.calls.specs.Stepping.{IsReached, Plain}
 use Rattle.calls.specs.Transactions.{HasFiles, IsInside, KeepsFiles, image_seen}
 use Rattle.calls.specs.declared.transactions.fault.TransactionFault.TheVariants as fault
 use Rattle.directories.specs.Sizes.{AreSized}
 use Rattle.directories.specs.declared.refusal.Refusal.{Refusal}
+use Rattle.directories.specs.declared.refusal.Refusal.TheVariants.{NoBlock}
 use Rattle.names.specs.declared.refusal.TreeFault.{TreeFault}
 use Rattle.names.specs.declared.refusal.TreeFault.TheVariants.{Path, Refused, Call, NoSpace, NoCall}
 
@@ -36,12 +39,13 @@ pub record IsUnderWay {D N : Type 0} (disk : Ghosts D N) (k : Plain D) (left : �
   pub files : HasFiles disk.image k (files_seen disk.image k)
   pub sized : AreSized (form_seen disk.image k) (files_seen disk.image k)
 
--- The transaction of k goes on in m: nothing was written.
+-- The transaction of k goes on in m: nothing was written. What came to k came to m.
 pub record Goes {D N : Type 0} (disk : Ghosts D N) (k m : Plain D) (left : ℕ) : Type 0 where
   pub way : IsUnderWay disk m left
   pub same : image_on disk.image m ≡ image_on disk.image k
   pub opening : m.opening ≡ k.opening
   pub later : call_count k ≤ call_count m
+  pub reached : (o : Plain D) → IsReached disk o k → IsReached disk o m
 
 -- and it sees the same files in m
 abbrev pub SeesSame : {D : Type 0} → (D → Image) → Plain D → Plain D → Type 0
@@ -60,6 +64,43 @@ pub record HasCause {D : Type 0} (image : D → Image) (op : Op) (k m : Plain D)
   pub none : MakesNoneOf (files_seen image k) op reply
   pub short : ShortIsFull (image_seen image m) op reply
   pub answered : call_count m ≡ call_count k + 1
+
+-- From kernel k to m a write took fewer bytes than it was given, and no block is free of those that
+-- the transaction sees then.
+pub record FallsShort {D : Type 0} (image : D → Image) (k m : Plain D) : Type 0 where
+  pub number : ℕ
+  pub offset : ℕ
+  pub count : ℕ
+  pub bytes : List ℕ
+  pub fewer : count < length bytes
+  pub answers : Answers image (Write number offset bytes) k m (Wrote count)
+  pub full : IsFull (image_seen image m)
+
+-- Kernel k came to m, and in the transaction that is under way between them a write fell short. Nothing
+-- of the transaction was on the disk then.
+pub record WasFull {D N : Type 0} (disk : Ghosts D N) (k m : Plain D) : Type 0 where
+  pub before : Plain D
+  pub left : ℕ
+  pub goes : Goes disk k before left
+  pub behind : Plain D
+  pub less : ℕ
+  pub writes : Goes disk before behind less
+  pub short : FallsShort disk.image before behind
+  pub reached : IsReached disk behind m
+
+-- where a refusal is that no block is free, this is so
+abbrev pub IfNoBlock : Refusal → Type 0 → Type 0
+IfNoBlock NoBlock full = full
+IfNoBlock cause full = ⊤
+
+-- a change in a transaction tells NoBlock only where a write fell short
+abbrev pub AnswersFull : {D N T : Type 0} → Ghosts D N → Plain D → Plain D → Result T Refusal → Type 0
+AnswersFull disk k m answer = IfErr answer (λ cause. IfNoBlock cause (WasFull disk k m))
+
+-- and so does a call
+abbrev pub TellsFull : {D N : Type 0} → Ghosts D N → Plain D → Plain D → TreeFault → Type 0
+TellsFull disk k m (Refused cause) = IfNoBlock cause (WasFull disk k m)
+TellsFull disk k m cause = ⊤
 
 -- From kernel k to m a stop leaves the files on the disk as they were, and m is over the same disk, as
 -- it was opened.

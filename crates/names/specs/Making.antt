@@ -6,7 +6,9 @@ use Rattle.model.specs.declared.types.operations.Op.TheVariants.{Write}
 use Rattle.model.specs.declared.types.operations.Reply.{Reply}
 use Rattle.model.specs.declared.types.operations.Reply.TheVariants.{Wrote}
 use Rattle.model.specs.Files.{Files, file_in}
+use Rattle.calls.specs.Calls.{ShortIsFull}
 use Rattle.calls.specs.Stepping.{Plain}
+use Rattle.calls.specs.Transactions.{image_seen}
 use Rattle.directories.specs.declared.entries.EntryWrite.{EntryWrite}
 use Rattle.directories.specs.declared.entries.LinkFault.{LinkFault}
 use Rattle.directories.specs.declared.entries.LinkFault.TheVariants as link_fault
@@ -63,6 +65,8 @@ pub record HasEntered {D : Type 0} (image : D → Image) (from : ℕ) (write : E
   pub answers : Answers image (operation_of from write) k m reply
   pub told : whole ≡ is_entered reply
   pub sized : AreSized (form_seen image k) (files_seen image k)
+  -- a short one leaves no block free
+  pub short : ShortIsFull (image_seen image m) (operation_of from write) reply
 
 -- what a new file is, where it is a directory, and where it is none
 abbrev pub IsNewFile : Bool → File → ℕ → ℕ → Type 0
@@ -132,6 +136,8 @@ pub record HasFilledFor {D : Type 0} (image : D → Image) (number parent : ℕ)
   pub reply : Reply
   pub answers : Answers image (Write number 0 (new_directory number parent)) k m reply
   pub told : whole ≡ is_filled reply
+  -- a short one leaves no block free
+  pub short : ShortIsFull (image_seen image m) (Write number 0 (new_directory number parent)) reply
 
 -- a directory was made under a name of a directory
 abbrev pub MakesDirectoryIn : ℕ → List ℕ → ℕ → Files → Files → Type 0

@@ -99,11 +99,6 @@ pub record WritesSome {D N : Type 0} (disk : Ghosts D N) (number offset : ℕ) (
       (files_of (image_on disk.image k)) (files_of (image_on disk.image m))
   pub full : IsPart bytes done → IsFull (image_on disk.image m)
 
--- an operation was done
-abbrev pub is_done : Reply → Bool
-is_done Done = true
-is_done reply = false
-
 -- the file has its first bytes alone, or it has fewer than these, and no file changes
 abbrev pub CutsAs : ℕ → ℕ → File → Bool → Files → Files → Type 0
 CutsAs number size file true files new = (size ≤ length file.bytes)

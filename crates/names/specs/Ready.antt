@@ -1,5 +1,5 @@
 -- A tree of directories on a kernel's disk, and what a transaction makes of it.
-use Rattle.std.specs.Prelude.{◌≡◌, ◌≢◌, ◌⊎◌, ⊤, ℕ, ◌+◌, ◌^◌, ◌<◌, ◌≤◌, ◌==◌, Bool, false, IsTrue, List, length, Option, Some, None, Result, Ok, Err}
+use Rattle.std.specs.Prelude.{◌≡◌, ◌≢◌, ◌⊎◌, ⊤, ℕ, ◌+◌, ◌^◌, ◌<◌, ◌≤◌, ◌==◌, Bool, false, IfErr, IsTrue, List, length, Option, Some, None, Result, Ok, Err}
 use Rattle.blocks.specs.Disk.{Image, LeavesOnly}
 use Rattle.blocks.specs.declared.disk.Disk.{Ghosts}
 use Rattle.model.specs.Files.{Files, file_in, files_of}
@@ -11,14 +11,14 @@ use Rattle.model.specs.Log.{is_lawful_log, recovered}
 use Rattle.model.specs.Soundness.{IsSound}
 use Rattle.calls.specs.Calls.{ShortIsFull, call_count, image_on}
 use Rattle.calls.specs.Files.{IsFull}
-use Rattle.calls.specs.Stepping.{Plain}
+use Rattle.calls.specs.Stepping.{IsReached, Plain}
 use Rattle.calls.specs.Transactions.{KeepsEither, Rests, image_seen, labels_made}
 use Rattle.directories.specs.declared.refusal.Refusal.{Refusal}
 use Rattle.directories.specs.declared.refusal.Refusal.TheVariants.{NoNumber, NoBlock}
 use Rattle.names.specs.declared.refusal.TreeFault.{TreeFault}
 use Rattle.names.specs.declared.refusal.TreeFault.TheVariants.{Path, Refused, Call, NoSpace, NoCall}
 use Rattle.directories.specs.Counts.{AreCounted, StaysCounted}
-use Rattle.names.specs.Inside.{files_seen, Answers, Fills, Goes, IsBroken, IsBrokenOr, IsSame, LeavesFiles, Never}
+use Rattle.names.specs.Inside.{files_seen, Answers, Fills, Goes, IsBroken, IsBrokenOr, IsSame, LeavesFiles, Never, TellsFull}
 use Rattle.directories.specs.Paths.{IsPathCause}
 use Rattle.directories.specs.Trees.{new_directory, root, IsFile, IsTree}
 use Rattle.directories.specs.TreeChanges.{directory_file}
@@ -123,6 +123,7 @@ pub record HasCommitted {D N : Type 0} (disk : Ghosts D N) (k m : Plain D) (left
   pub files : files_of (image_on disk.image m) ≡ files_seen disk.image k
   pub size : length (image_on disk.image m) ≡ length (disk.image k.opening)
   pub marks : (b : ℕ) → is_marked (image_on disk.image m) b ≡ is_marked (image_seen disk.image k) b
+  pub reached : (o : Plain D) → IsReached disk o k → IsReached disk o m
 
 -- From kernel k to m a stop leaves the files on the disk as they were or those that the transaction
 -- of b sees, and m is over the same disk, as it was opened.
@@ -149,6 +150,13 @@ Happens change why files new (Err cause) = (new ≡ files) × why files cause
 abbrev pub answer_of : {T : Type 0} → Result T Refusal → Result T TreeFault
 answer_of (Ok made) = Ok made
 answer_of (Err cause) = Err (Refused cause)
+
+-- What the answer of a call tells of the blocks of the disk: none is free where a change answers so, and
+-- NoBlock is told only where a write fell short, if that is said of the change.
+pub record TellsBlocks {D N T : Type 0} (disk : Ghosts D N) (fills : T → Type 0) (tells : Type 0)
+    (k m : Plain D) (result : Result T TreeFault) : Type 0 where
+  pub full : (made : T) → result ≡ Ok made → fills made → IsFull (image_on disk.image m)
+  pub no_block : tells → IfErr result (TellsFull disk k m)
 
 -- The files that a transaction sees in m are a tree that came of those that it saw in k.
 abbrev pub TreeStays : {D : Type 0} → (D → Image) → Plain D → Plain D → Type 0

@@ -1,5 +1,5 @@
 -- Bytes written into a file of a tree that is no directory.
-use Rattle.std.specs.Prelude.{◌≡◌, ℕ, ◌==◌, List, length, slice_set, Option, Some, None, Result, Ok, Err}
+use Rattle.std.specs.Prelude.{◌≡◌, ℕ, ◌==◌, Bool, true, false, List, length, slice_set, Option, Some, None, Result, Ok, Err}
 use Rattle.blocks.specs.Block.{overwritten}
 use Rattle.blocks.specs.Disk.{Image}
 use Rattle.model.specs.declared.types.image.File.{File}
@@ -22,6 +22,11 @@ use Rattle.directories.specs.Walks.{walked}
 -- what became of a write: all bytes were written, or none for a cause
 abbrev pub Outcome : Type 0
 Outcome = Result (Unit {0}) Unwritten
+
+-- all bytes were written
+abbrev pub is_whole : Option Outcome → Bool
+is_whole (Some (Ok one)) = true
+is_whole outcome = false
 
 -- the reply that tells a cause
 abbrev pub reply_of : Unwritten → Reply

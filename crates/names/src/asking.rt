@@ -48,6 +48,8 @@ impl Change for FindFile {
 
     ghost fills = { λ find made. ⊥ };
 
+    ghost tells_full = { λ find. ⊥ };
+
     fn apply<D: Disk>(&self, tree: &mut Tree<D>, _alloc: Global, names: &[Name]) -> Asked<u32> {
         tree.walk(names)
     }
@@ -67,6 +69,8 @@ impl Change for LookAtFile {
     ghost hinders = { λ look files. Never };
 
     ghost fills = { λ look made. ⊥ };
+
+    ghost tells_full = { λ look. ⊥ };
 
     fn apply<D: Disk>(&self, tree: &mut Tree<D>, _alloc: Global, names: &[Name]) -> Asked<Found> {
         match tree.walk(names)? {
@@ -93,6 +97,8 @@ impl Change for ListDirectory {
     ghost hinders = { λ list files. Never };
 
     ghost fills = { λ list made. ⊥ };
+
+    ghost tells_full = { λ list. ⊥ };
 
     fn apply<D: Disk>(&self, tree: &mut Tree<D>, _alloc: Global, names: &[Name]) -> Asked<Content> {
         match tree.walk(names)? {
@@ -159,7 +165,7 @@ impl<D: Disk> Tree<D> {
     }
 
     // What the file of a number is.
-    fn found(&mut self, number: u32) -> Result<Found, TreeFault>
+    pub(crate) fn found(&mut self, number: u32) -> Result<Found, TreeFault>
         requires way { IsUnderWay D.Disk self.old.kernel self.old.calls_left }
         requires there { IsFile (files_seen D.image self.old.kernel) number }
         ensures goes { Proceeds D.Disk result self.old.kernel self.new.kernel self.new.calls_left }

@@ -1,16 +1,15 @@
 // What the calls of a tree do at a path, each in a transaction of its own.
-ghost use Rattle.std.specs.Prelude.{◌≡◌, ◌<◌, ℕ, List, IfErr, IfOk, Ok, OnOk};
+ghost use Rattle.std.specs.Prelude.{◌≡◌, ◌<◌, ℕ, List, IfErr, IfOk, OnOk};
 ghost use Rattle.calls.specs.Calls.{image_on};
-ghost use Rattle.calls.specs.Files.{IsFull};
 ghost use Rattle.calls.specs.Stopped.{StaysOver};
 ghost use Rattle.model.specs.Files.{Files, files_of};
 ghost use Rattle.model.specs.declared.types.image.Form.{Form};
 ghost use Rattle.directories.specs.Counts.{AreCounted};
 ghost use Rattle.directories.specs.declared.refusal.Refusal.{Refusal};
 ghost use Rattle.names.specs.declared.refusal.TreeFault.{TreeFault as SomeTreeFault};
-ghost use Rattle.names.specs.Inside.{files_seen, form_seen, FillsUp, IsUnderWay, ProceedsOr};
+ghost use Rattle.names.specs.Inside.{files_seen, form_seen, AnswersFull, FillsUp, IsUnderWay, ProceedsOr, TellsFull};
 ghost use Rattle.directories.specs.Paths.{names_of};
-ghost use Rattle.names.specs.Ready.{answer_of, Happens, HasNoCall, HasNoCallAt, IsReady, IsReadyBehind, IsUnansweredOr, IsUndoneOr, LeavesTree, MayGoOn, TreeStays};
+ghost use Rattle.names.specs.Ready.{answer_of, Happens, HasNoCall, HasNoCallAt, IsReady, IsReadyBehind, IsUnansweredOr, IsUndoneOr, LeavesTree, MayGoOn, TellsBlocks, TreeStays};
 ghost use Rattle.directories.specs.Trees.{IsTree};
 ghost use Rattle.directories.specs.Walks.{AtLast, IsUndoneIn};
 
@@ -37,6 +36,9 @@ pub(crate) trait Change {
     // Where it answers so, no block is free.
     ghost fills: { Self → Self.Made → Type 0 };
 
+    // Where this is so, it tells NoBlock only for want of a block.
+    ghost tells_full: { Self → Type 0 };
+
     // Makes it in the transaction under way.
     fn apply<D: Disk>(&self, tree: &mut Tree<D>, alloc: Global, names: &[Name]) -> Asked<Self::Made>
         requires way { IsUnderWay D.Disk tree.old.kernel tree.old.calls_left }
@@ -49,7 +51,9 @@ pub(crate) trait Change {
             (makes self.now (form_seen D.image tree.old.kernel) names.now)
             (refuses self.now names.now)
             (files_seen D.image tree.old.kernel) (files_seen D.image tree.new.kernel)) }
-        ensures full { IfOk result (FillsUp D.image (fills self.now) tree.new.kernel) };
+        ensures full { IfOk result (FillsUp D.image (fills self.now) tree.new.kernel) }
+        ensures no_block { tells_full self.now → IfOk result (AnswersFull D.Disk
+            tree.old.kernel tree.new.kernel) };
 }
 
 // A change at a name of a directory.
@@ -65,6 +69,9 @@ pub(crate) trait ChangeIn {
 
     // What else may hinder it.
     ghost hinders: { Self → SomeTreeFault → Type 0 };
+
+    // Where this is so, it tells NoBlock only for want of a block.
+    ghost tells_full: { Self → Type 0 };
 
     // Makes it in the transaction under way.
     fn apply_in<D: Disk>(
@@ -82,7 +89,9 @@ pub(crate) trait ChangeIn {
         ensures tree { OnOk result (TreeStays D.image tree.old.kernel tree.new.kernel) }
         ensures made { IfOk result (Happens (makes self.now from name.now)
             (λ files. refuses self.now files from name.now)
-            (files_seen D.image tree.old.kernel) (files_seen D.image tree.new.kernel)) };
+            (files_seen D.image tree.old.kernel) (files_seen D.image tree.new.kernel)) }
+        ensures no_block { tells_full self.now → IfOk result (AnswersFull D.Disk
+            tree.old.kernel tree.new.kernel) };
 }
 
 // A change at the last of the names, in the directory that the others lead to.
@@ -101,6 +110,8 @@ impl<C: ChangeIn> Change for Last<C> {
     ghost hinders = { λ last files. C.hinders last.change };
 
     ghost fills = { λ last made. ⊥ };
+
+    ghost tells_full = { λ last. C.tells_full last.change };
 
     fn apply<D: Disk>(&self, tree: &mut Tree<D>, alloc: Global, names: &[Name]) -> Asked<C::Made> {
         if names.is_empty() {
@@ -138,6 +149,8 @@ impl<D: Disk> Tree<D> {
             (C.makes change.now (form_seen D.image self.old.kernel) (names_of path.now))
             self.old.kernel self.new.kernel }
         ensures stays { StaysOver D.Disk self.old.kernel self.new.kernel }
+        ensures no_block { C.tells_full change.now → IfErr result (TellsFull D.Disk
+            self.old.kernel self.new.kernel) }
     {
         match names_of(alloc, path) {
             Ok(names) => self.changed_at(alloc, names.as_slice(), change),
@@ -171,8 +184,8 @@ impl<D: Disk> Tree<D> {
             (C.makes change.now (form_seen D.image self.old.kernel) names.now)
             self.old.kernel self.new.kernel }
         ensures stays { StaysOver D.Disk self.old.kernel self.new.kernel }
-        ensures full { (made : C.Made) → result ≡ Ok made → C.fills change.now made →
-            IsFull (image_on D.image self.new.kernel) }
+        ensures blocks { TellsBlocks D.Disk (C.fills change.now) (C.tells_full change.now)
+            self.old.kernel self.new.kernel result }
     {
         if self.calls_left == 0 {
             return Err(TreeFault::NoCall);

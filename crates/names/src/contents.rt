@@ -36,6 +36,8 @@ impl Change for ReadFile {
 
     ghost fills = { λ read made. ⊥ };
 
+    ghost tells_full = { λ read. ⊥ };
+
     fn apply<D: Disk>(&self, tree: &mut Tree<D>, _alloc: Global, names: &[Name]) -> Asked<Content> {
         match tree.walk(names)? {
             Ok(number) => tree.read_of(number, self.offset, self.count),
@@ -58,6 +60,8 @@ impl Change for EmptyFile {
     ghost hinders = { λ empty files. Never };
 
     ghost fills = { λ empty made. ⊥ };
+
+    ghost tells_full = { λ empty. ⊥ };
 
     fn apply<D: Disk>(&self, tree: &mut Tree<D>, _alloc: Global, names: &[Name]) -> Asked<()> {
         match tree.walk(names)? {

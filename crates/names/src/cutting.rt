@@ -5,7 +5,7 @@ ghost use Rattle.calls.specs.Stopped.{StaysOver};
 ghost use Rattle.model.specs.Files.{files_of};
 ghost use Rattle.names.specs.Contents.{IsNoPlain};
 ghost use Rattle.names.specs.Inside.{files_seen, IsUnderWay, Proceeds, Never};
-ghost use Rattle.names.specs.Numbered.{CutsAt, IsNoFileOrDirectory, is_done};
+ghost use Rattle.names.specs.Numbered.{CutsAt, IsNoFileOrDirectory};
 ghost use Rattle.names.specs.Ready.{Happens, HasNoCall, IsReady, IsReadyBehind, IsUnanswered, LeavesTree, MayGoOn, TreeStays};
 ghost use Rattle.directories.specs.Trees.{IsFile, IsTree};
 
@@ -13,8 +13,8 @@ use crate::changing::Change;
 use crate::refusal::{Asked, TreeFault};
 use crate::tree::Tree;
 use blocks::Disk;
-use directories::{Name, Refusal};
-use model::types::{Attribute, Op, Reply};
+use directories::{DIRECTORY_KIND, Name, Refusal};
+use model::types::{Attribute, Op};
 use std::alloc::Global;
 
 // Cuts the file of a number to a length.
@@ -34,6 +34,8 @@ impl Change for CutAt {
     ghost hinders = { λ cut files. Never };
 
     ghost fills = { λ cut made. ⊥ };
+
+    ghost tells_full = { λ cut. ⊥ };
 
     fn apply<D: Disk>(&self, tree: &mut Tree<D>, _alloc: Global, _names: &[Name]) -> Asked<bool> {
         match tree.seen(self.number)? {
@@ -80,17 +82,14 @@ impl<D: Disk> Tree<D> {
         ensures cut { IfOk result (Happens (CutsAt number size) (IsNoPlain number)
             (files_seen D.image self.old.kernel) (files_seen D.image self.new.kernel)) }
     {
-        if self.is_directory(number)? {
+        let found = self.found(number)?;
+        if found.kind == DIRECTORY_KIND {
             return Ok(Err(Refusal::IsADirectory));
         }
-        let reply = self.called(Op::SetAttribute(number, Attribute::Size(size)))?;
-        Ok(Ok(is_done(&reply)))
+        if size > found.size {
+            return Ok(Ok(false));
+        }
+        self.called(Op::SetAttribute(number, Attribute::Size(size)))?;
+        Ok(Ok(true))
     }
-}
-
-// Whether an operation was done.
-fn is_done(reply: &Reply) -> bool
-    ensures { result ≡ is_done reply.now }
-{
-    matches!(reply, Reply::Done)
 }

@@ -3,7 +3,7 @@ ghost use Rattle.std.specs.Prelude.{◌≡◌, ⊤, ◌<◌, IfErr, IfOk};
 ghost use Rattle.calls.specs.Calls.{image_on};
 ghost use Rattle.calls.specs.Stopped.{StaysOver};
 ghost use Rattle.model.specs.Files.{files_of};
-ghost use Rattle.names.specs.Inside.{IsUnderWay, Proceeds};
+ghost use Rattle.names.specs.Inside.{IsUnderWay, Proceeds, TellsFull};
 ghost use Rattle.names.specs.Making.{HasFilledFor, IsUnmadeDirectoryIn, MakesDirectoryAt};
 ghost use Rattle.directories.specs.Paths.{names_of};
 ghost use Rattle.names.specs.Ready.{HasNoCallAt, IsReady, IsReadyBehind, IsUndone, LeavesTree, MayGoOn};
@@ -34,6 +34,8 @@ impl New for NewDirectory {
     ghost counts = { λ new. ⊤ };
 
     ghost blocks = { λ new. ⊤ };
+
+    ghost tells_full = { λ new. ⊤ };
 
     fn is_directory(&self) -> bool {
         true
@@ -77,6 +79,7 @@ impl<D: Disk> Tree<D> {
         ensures leaves { 0 < self.old.calls_left → LeavesTree D.Disk
             (MakesDirectoryAt (names_of path.now)) self.old.kernel self.new.kernel }
         ensures stays { StaysOver D.Disk self.old.kernel self.new.kernel }
+        ensures no_block { IfErr result (TellsFull D.Disk self.old.kernel self.new.kernel) }
     {
         self.changed(
             alloc,

@@ -1,10 +1,10 @@
 // How many names lead to a file, as its count of links says, and another name for a file.
-ghost use Rattle.std.specs.Prelude.{◌≡◌, ◌+◌, ◌<◌, ◌≤◌, ◌^◌, IfErr, IfOk, OnOk};
+ghost use Rattle.std.specs.Prelude.{⊤, ◌≡◌, ◌+◌, ◌<◌, ◌≤◌, ◌^◌, IfErr, IfOk, OnOk};
 ghost use Rattle.calls.specs.Calls.{image_on};
 ghost use Rattle.calls.specs.Stopped.{StaysOver};
 ghost use Rattle.model.specs.Files.{file_in, files_of};
 ghost use Rattle.directories.specs.Counts.{AreCounted};
-ghost use Rattle.names.specs.Inside.{files_seen, IsUnderWay, Proceeds, SeesSame, Never};
+ghost use Rattle.names.specs.Inside.{files_seen, AnswersFull, IsUnderWay, Proceeds, SeesSame, Never, TellsFull};
 ghost use Rattle.names.specs.Linking.{HasMore, IsNotLinkedAs, IsNotLinkedAt, IsNotLinkedIn, LinksAt, LinksIn};
 ghost use Rattle.directories.specs.Paths.{names_of};
 ghost use Rattle.names.specs.Ready.{Happens, HasNoCall, IsReady, IsReadyBehind, IsUnanswered, LeavesTree, MayGoOn, TreeStays};
@@ -40,6 +40,8 @@ impl<'a> Change for LinkFile<'a> {
     ghost hinders = { λ link files. Never };
 
     ghost fills = { λ link made. ⊥ };
+
+    ghost tells_full = { λ link. ⊤ };
 
     fn apply<D: Disk>(&self, tree: &mut Tree<D>, alloc: Global, names: &[Name]) -> Asked<()> {
         if self.into.is_empty() {
@@ -77,6 +79,8 @@ impl<'a> Change for LinkIn<'a> {
 
     ghost fills = { λ link made. ⊥ };
 
+    ghost tells_full = { λ link. ⊤ };
+
     fn apply<D: Disk>(&self, tree: &mut Tree<D>, alloc: Global, _names: &[Name]) -> Asked<()> {
         match tree.seen(self.number)? {
             Ok(_found) => tree.linked(alloc, self.number, self.to, self.name),
@@ -111,6 +115,7 @@ impl<D: Disk> Tree<D> {
         ensures leaves { 0 < self.old.calls_left → LeavesTree D.Disk
             (LinksAt (names_of path.now) (names_of into.now)) self.old.kernel self.new.kernel }
         ensures stays { StaysOver D.Disk self.old.kernel self.new.kernel }
+        ensures no_block { IfErr result (TellsFull D.Disk self.old.kernel self.new.kernel) }
     {
         match names_of(alloc, into) {
             Ok(names) => {
@@ -154,6 +159,7 @@ impl<D: Disk> Tree<D> {
         ensures leaves { 0 < self.old.calls_left → LeavesTree D.Disk (LinksIn number to name.now)
             self.old.kernel self.new.kernel }
         ensures stays { StaysOver D.Disk self.old.kernel self.new.kernel }
+        ensures no_block { IfErr result (TellsFull D.Disk self.old.kernel self.new.kernel) }
     {
         self.changed_at(alloc, &[], &LinkIn { number, to, name })
     }
@@ -212,6 +218,7 @@ impl<D: Disk> Tree<D> {
         ensures linked { IfOk result (Happens (LinksIn number to name.now)
             (λ files. IsNotLinkedIn files number to name.now)
             (files_seen D.image self.old.kernel) (files_seen D.image self.new.kernel)) }
+        ensures no_block { IfOk result (AnswersFull D.Disk self.old.kernel self.new.kernel) }
     {
         if self.is_directory(number)? {
             return Ok(Err(Refusal::IsADirectory));

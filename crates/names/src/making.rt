@@ -1,14 +1,14 @@
 // Files made in a tree.
-ghost use Rattle.std.specs.Prelude.{true, ◌≡◌, ℕ, ◌*◌, ◌^◌, ◌<◌, IfErr, IfOk, IsTrue, OnOk};
+ghost use Rattle.std.specs.Prelude.{⊤, true, ◌≡◌, ℕ, ◌*◌, ◌^◌, ◌<◌, IfErr, IfOk, IsTrue, OnOk};
 ghost use Rattle.calls.specs.Calls.{image_on};
 ghost use Rattle.calls.specs.Stopped.{StaysOver};
 ghost use Rattle.model.specs.Files.{files_of};
 ghost use Rattle.model.specs.Operations.{is_kind};
 ghost use Rattle.directories.specs.Entries.{entry_size};
 ghost use Rattle.model.specs.declared.types.image.File.{File};
-ghost use Rattle.names.specs.Inside.{files_seen, IsUnderWay, Proceeds, SeesSame, Never};
+ghost use Rattle.names.specs.Inside.{files_seen, AnswersFull, IsUnderWay, Proceeds, SeesSame, Never, TellsFull};
 ghost use Rattle.directories.specs.Trees.{IsFile};
-ghost use Rattle.names.specs.Making.{file_kind, HasCreated, HasCreatedNew, HasEntered, HasParentCount, IsNewFile, IsUnmadeIn, IsUnmadeOr, MakesAt, Settles, Uncreates, unlinked};
+ghost use Rattle.names.specs.Making.{file_kind, HasCreated, HasCreatedNew, HasEntered, HasParentCount, IsNewFile, IsUnmadeIn, IsUnmadeOr, MakesAt, Settles, Uncreates, is_entered, unlinked};
 ghost use Rattle.directories.specs.Paths.{names_of};
 ghost use Rattle.names.specs.Ready.{HasNoCallAt, IsReady, IsReadyBehind, IsUndone, LeavesTree, MayGoOn};
 ghost use Rattle.directories.specs.TreeChanges.{empty_file, AddsName};
@@ -37,6 +37,9 @@ pub(crate) trait New {
     // That it needs blocks of its own.
     ghost blocks: { Self → Type 0 };
 
+    // Where this is so, it tells NoBlock only for want of a block.
+    ghost tells_full: { Self → Type 0 };
+
     // Whether it is a directory, whose name for its parent counts there.
     fn is_directory(&self) -> bool
         ensures new { (number parent : ℕ)
@@ -49,7 +52,9 @@ pub(crate) trait New {
         requires used { 0 < parent }
         ensures goes { Proceeds D.Disk result tree.old.kernel tree.new.kernel tree.new.calls_left }
         ensures made { IfOk result (HasCreatedNew (blocks self.now) (file self.now) parent
-            (files_seen D.image tree.old.kernel) (files_seen D.image tree.new.kernel)) };
+            (files_seen D.image tree.old.kernel) (files_seen D.image tree.new.kernel)) }
+        ensures no_block { tells_full self.now → IfOk result (AnswersFull D.Disk
+            tree.old.kernel tree.new.kernel) };
 }
 
 // An empty file that is no directory.
@@ -62,6 +67,8 @@ impl New for NewFile {
     ghost counts = { λ new. ⊥ };
 
     ghost blocks = { λ new. ⊥ };
+
+    ghost tells_full = { λ new. ⊤ };
 
     fn is_directory(&self) -> bool {
         false
@@ -90,6 +97,8 @@ impl<N: New> ChangeIn for Make<N> {
     ghost refuses = { λ make. IsUnmadeOr (N.counts make.kind) (N.blocks make.kind) };
 
     ghost hinders = { λ make. Never };
+
+    ghost tells_full = { λ make. N.tells_full make.kind };
 
     fn apply_in<D: Disk>(
         &self,
@@ -156,6 +165,7 @@ impl<D: Disk> Tree<D> {
         ensures leaves { 0 < self.old.calls_left → LeavesTree D.Disk (MakesAt (names_of path.now))
             self.old.kernel self.new.kernel }
         ensures stays { StaysOver D.Disk self.old.kernel self.new.kernel }
+        ensures no_block { IfErr result (TellsFull D.Disk self.old.kernel self.new.kernel) }
     {
         self.changed(
             alloc,
@@ -247,11 +257,16 @@ impl<D: Disk> Tree<D> {
             self.calls_left = 0;
             return Err(TreeFault::Call(TransactionFault::NoMemory));
         };
-        match self.called(op)? {
-            Reply::Wrote(count) => Ok(count as usize == ENTRY_SIZE),
-            _ => Ok(false),
-        }
+        let reply = self.called(op)?;
+        Ok(is_entered(&reply))
     }
+}
+
+// Whether an entry was written.
+fn is_entered(reply: &Reply) -> bool
+    ensures { result ≡ is_entered reply.now }
+{
+    matches!(reply, Reply::Wrote(count) if *count as usize == ENTRY_SIZE)
 }
 
 // The refusal of a link.

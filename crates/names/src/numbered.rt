@@ -37,6 +37,8 @@ impl Change for LookAt {
 
     ghost fills = { λ look made. ⊥ };
 
+    ghost tells_full = { λ look. ⊥ };
+
     fn apply<D: Disk>(&self, tree: &mut Tree<D>, _alloc: Global, _names: &[Name]) -> Asked<Found> {
         tree.seen(self.number)
     }
@@ -59,6 +61,8 @@ impl<'a> Change for LookIn<'a> {
     ghost hinders = { λ look files. Never };
 
     ghost fills = { λ look made. ⊥ };
+
+    ghost tells_full = { λ look. ⊥ };
 
     fn apply<D: Disk>(&self, tree: &mut Tree<D>, _alloc: Global, _names: &[Name]) -> Asked<Found> {
         match tree.step(self.from, self.name)? {
@@ -84,6 +88,8 @@ impl Change for ListAt {
     ghost hinders = { λ list files. Never };
 
     ghost fills = { λ list made. ⊥ };
+
+    ghost tells_full = { λ list. ⊥ };
 
     fn apply<D: Disk>(
         &self,
@@ -116,6 +122,8 @@ impl Change for ReadAt {
     ghost hinders = { λ read files. Never };
 
     ghost fills = { λ read made. ⊥ };
+
+    ghost tells_full = { λ read. ⊥ };
 
     fn apply<D: Disk>(
         &self,

@@ -4,7 +4,7 @@ ghost use Rattle.calls.specs.Calls.{image_on};
 ghost use Rattle.calls.specs.Stopped.{StaysOver};
 ghost use Rattle.model.specs.Files.{files_of};
 ghost use Rattle.names.specs.Contents.{IsNoPlain};
-ghost use Rattle.names.specs.Inside.{files_seen, form_seen, FillsUp, IsUnderWay, Proceeds, Never};
+ghost use Rattle.names.specs.Inside.{files_seen, form_seen, FillsUp, IsUnderWay, Proceeds, Never, TellsFull};
 ghost use Rattle.names.specs.Making.{IsUnmadeDirectoryIn, IsUnmadeIn, MakesDirectoryIn, MakesIn};
 ghost use Rattle.names.specs.Numbered.{EmptiesAt, IsNoFileOrDirectory, IsPart, WritesSome, WritesSomeOf, some_told};
 ghost use Rattle.names.specs.Ready.{Happens, HasNoCall, IsReady, IsReadyBehind, IsUnanswered, LeavesTree, MayGoOn, TreeStays};
@@ -46,6 +46,8 @@ impl<'a, C: ChangeIn> Change for At<'a, C> {
 
     ghost fills = { λ at made. ⊥ };
 
+    ghost tells_full = { λ at. C.tells_full at.change };
+
     fn apply<D: Disk>(&self, tree: &mut Tree<D>, alloc: Global, _names: &[Name]) -> Asked<C::Made> {
         self.change.apply_in(tree, alloc, self.from, self.name)
     }
@@ -67,6 +69,8 @@ impl Change for EmptyAt {
     ghost hinders = { λ empty files. Never };
 
     ghost fills = { λ empty made. ⊥ };
+
+    ghost tells_full = { λ empty. ⊥ };
 
     fn apply<D: Disk>(&self, tree: &mut Tree<D>, _alloc: Global, _names: &[Name]) -> Asked<()> {
         match tree.seen(self.number)? {
@@ -94,6 +98,8 @@ impl<'a> Change for WriteAt<'a> {
     ghost hinders = { λ write files. Never };
 
     ghost fills = { λ write. IsPart write.bytes.now };
+
+    ghost tells_full = { λ write. ⊥ };
 
     fn apply<D: Disk>(
         &self,
@@ -193,6 +199,7 @@ impl<D: Disk> Tree<D> {
         ensures leaves { 0 < self.old.calls_left → LeavesTree D.Disk (MakesIn from name.now)
             self.old.kernel self.new.kernel }
         ensures stays { StaysOver D.Disk self.old.kernel self.new.kernel }
+        ensures no_block { IfErr result (TellsFull D.Disk self.old.kernel self.new.kernel) }
     {
         let change = Make { kind: NewFile };
         self.changed_at(alloc, &[], &At { from, name, change })
@@ -222,6 +229,7 @@ impl<D: Disk> Tree<D> {
         ensures leaves { 0 < self.old.calls_left → LeavesTree D.Disk
             (MakesDirectoryIn from name.now) self.old.kernel self.new.kernel }
         ensures stays { StaysOver D.Disk self.old.kernel self.new.kernel }
+        ensures no_block { IfErr result (TellsFull D.Disk self.old.kernel self.new.kernel) }
     {
         let change = Make { kind: NewDirectory };
         self.changed_at(alloc, &[], &At { from, name, change })

@@ -1,7 +1,7 @@
 // Files of a tree that get a name in another directory.
 ghost use Rattle.std.specs.Prelude.{◌≡◌, ◌≢◌, ◌↔◌, IfErr, IfOk, IsTrue, OnOk};
 ghost use Rattle.directories.specs.Counts.{AreCounted, HasLinks};
-ghost use Rattle.names.specs.Inside.{files_seen, IsUnderWay, Proceeds, SeesSame};
+ghost use Rattle.names.specs.Inside.{files_seen, AnswersFull, IsUnderWay, Proceeds, SeesSame};
 ghost use Rattle.names.specs.Ready.{Happens, TreeStays};
 ghost use Rattle.names.specs.Renaming.{IsPlanned, IsUnrenamed, Renames, Rises};
 ghost use Rattle.directories.specs.Trees.{root, IsDirectory, IsOutside, IsTree};
@@ -53,6 +53,7 @@ impl<D: Disk> Tree<D> {
         ensures moved { IfOk result (Happens (Renames from old.now to name.now)
             (λ files. IsUnrenamed files from old.now to name.now)
             (files_seen D.image self.old.kernel) (files_seen D.image self.new.kernel)) }
+        ensures no_block { IfOk result (AnswersFull D.Disk self.old.kernel self.new.kernel) }
     {
         let plan = match self.planned(from, old, to, name)? {
             Ok(plan) => plan,
@@ -81,6 +82,7 @@ impl<D: Disk> Tree<D> {
         ensures same { OnOk result (SeesSame D.image self.old.kernel self.new.kernel) }
         ensures planned { IfOk result
             (IsPlanned (files_seen D.image self.old.kernel) from old.now to name.now) }
+        ensures no_block { IfOk result (AnswersFull D.Disk self.old.kernel self.new.kernel) }
     {
         let Some(bytes) = self.directory(from)? else {
             return Ok(Err(Refusal::NotADirectory));

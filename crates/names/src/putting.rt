@@ -5,12 +5,13 @@ ghost use Rattle.calls.specs.Stopped.{StaysOver};
 ghost use Rattle.model.specs.Files.{files_of};
 ghost use Rattle.model.specs.Operations.{transfer_limit};
 ghost use Rattle.names.specs.Contents.{IsNoPlain};
-ghost use Rattle.names.specs.Inside.{files_seen, IsUnderWay, ProceedsOr, Fills};
+ghost use Rattle.names.specs.Inside.{files_seen, IsUnderWay, ProceedsOr, Fills, TellsFull};
 ghost use Rattle.directories.specs.Paths.{names_of};
 ghost use Rattle.names.specs.Putting.{file_of, told, IsUnputIn, PutsAt, PutsIn, Refills};
 ghost use Rattle.names.specs.Ready.{Happens, HasNoCallAt, IsReady, IsReadyBehind, IsUnwritten, LeavesTree, MayGoOn, TreeStays};
 ghost use Rattle.directories.specs.Trees.{IsFile, IsTree};
 ghost use Rattle.directories.specs.Walks.{IsUndoneIn};
+ghost use Rattle.names.specs.Writing.{is_whole};
 
 use crate::changing::{ChangeIn, Last};
 use crate::making::{FILE_KIND, Make, New};
@@ -35,6 +36,8 @@ impl<'a> New for NewBytes<'a> {
 
     ghost blocks = { λ new. ⊤ };
 
+    ghost tells_full = { λ new. length new.bytes.now ≤ transfer_limit };
+
     fn is_directory(&self) -> bool {
         false
     }
@@ -43,14 +46,20 @@ impl<'a> New for NewBytes<'a> {
         let Some(number) = tree.created(FILE_KIND)? else {
             return Ok(Err(Refusal::NoNumber));
         };
-        match tree.write_called(alloc, u32::from(number), 0, self.bytes)? {
-            Some(Ok(())) => Ok(Ok(number)),
-            _ => {
-                tree.uncreated(u32::from(number))?;
-                Ok(Err(Refusal::NoBlock))
-            }
+        let written = tree.write_called(alloc, u32::from(number), 0, self.bytes)?;
+        if is_whole(&written) {
+            return Ok(Ok(number));
         }
+        tree.uncreated(u32::from(number))?;
+        Ok(Err(Refusal::NoBlock))
     }
+}
+
+// Whether all bytes of a write were written.
+fn is_whole(written: &Option<Result<(), Unwritten>>) -> bool
+    ensures { result ≡ is_whole written.now }
+{
+    matches!(written, Some(Ok(())))
 }
 
 // Puts bytes into a file of a directory, which is made where its name is new.
@@ -67,6 +76,8 @@ impl<'a> ChangeIn for PutFile<'a> {
     ghost refuses = { λ put. IsUnputIn };
 
     ghost hinders = { λ put. Fills };
+
+    ghost tells_full = { λ put. ⊤ };
 
     fn apply_in<D: Disk>(
         &self,
@@ -126,6 +137,7 @@ impl<D: Disk> Tree<D> {
         ensures leaves { 0 < self.old.calls_left → LeavesTree D.Disk
             (PutsAt bytes.now (names_of path.now)) self.old.kernel self.new.kernel }
         ensures stays { StaysOver D.Disk self.old.kernel self.new.kernel }
+        ensures no_block { IfErr result (TellsFull D.Disk self.old.kernel self.new.kernel) }
     {
         let put = Last {
             change: PutFile { bytes },

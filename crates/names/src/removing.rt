@@ -32,6 +32,8 @@ impl ChangeIn for RemoveFile {
 
     ghost hinders = { λ remove. Never };
 
+    ghost tells_full = { λ remove. ⊥ };
+
     fn apply_in<D: Disk>(
         &self,
         tree: &mut Tree<D>,

@@ -1,10 +1,10 @@
 // Files of a tree that get other names.
-ghost use Rattle.std.specs.Prelude.{◌≡◌, ◌≢◌, ◌<◌, IfErr, IfOk, OnOk};
+ghost use Rattle.std.specs.Prelude.{⊤, ◌≡◌, ◌≢◌, ◌<◌, IfErr, IfOk, OnOk};
 ghost use Rattle.calls.specs.Calls.{image_on};
 ghost use Rattle.calls.specs.Stopped.{StaysOver};
 ghost use Rattle.model.specs.Files.{files_of};
 ghost use Rattle.directories.specs.Counts.{AreCounted};
-ghost use Rattle.names.specs.Inside.{files_seen, IsUnderWay, Proceeds, Never};
+ghost use Rattle.names.specs.Inside.{files_seen, IsUnderWay, Proceeds, Never, TellsFull};
 ghost use Rattle.directories.specs.Paths.{names_of};
 ghost use Rattle.names.specs.Ready.{Happens, IsReady, IsReadyBehind, LeavesTree, MayGoOn, TreeStays};
 ghost use Rattle.names.specs.Renaming.{HasNoCallAtBoth, IsUndoneAt, IsUndoneAtBoth, IsUnrenamed, Renames, RenamesAt};
@@ -33,6 +33,8 @@ impl<'a> Change for RenameFile<'a> {
     ghost hinders = { λ rename files. Never };
 
     ghost fills = { λ rename made. ⊥ };
+
+    ghost tells_full = { λ rename. ⊤ };
 
     fn apply<D: Disk>(&self, tree: &mut Tree<D>, alloc: Global, names: &[Name]) -> Asked<()> {
         if names.is_empty() {
@@ -86,6 +88,7 @@ impl<D: Disk> Tree<D> {
         ensures leaves { 0 < self.old.calls_left → LeavesTree D.Disk
             (RenamesAt (names_of path.now) (names_of into.now)) self.old.kernel self.new.kernel }
         ensures stays { StaysOver D.Disk self.old.kernel self.new.kernel }
+        ensures no_block { IfErr result (TellsFull D.Disk self.old.kernel self.new.kernel) }
     {
         match names_of(alloc, into) {
             Ok(names) => {

@@ -1,10 +1,10 @@
 // Files of a tree that get other names in directories of given numbers, also such as another file has.
-ghost use Rattle.std.specs.Prelude.{◌≡◌, ◌<◌, IfErr, IfOk, OnOk};
+ghost use Rattle.std.specs.Prelude.{⊤, ◌≡◌, ◌<◌, IfErr, IfOk, OnOk};
 ghost use Rattle.calls.specs.Calls.{image_on};
 ghost use Rattle.calls.specs.Stopped.{StaysOver};
 ghost use Rattle.model.specs.Files.{files_of};
 ghost use Rattle.directories.specs.Counts.{AreCounted};
-ghost use Rattle.names.specs.Inside.{files_seen, IsUnderWay, Proceeds, SeesSame, Never};
+ghost use Rattle.names.specs.Inside.{files_seen, AnswersFull, IsUnderWay, Proceeds, SeesSame, Never, TellsFull};
 ghost use Rattle.names.specs.Replacing.{Clears, HindersHalf, IsReplaceable, IsUncleared, IsUnreplaced, Replaces};
 ghost use Rattle.names.specs.Ready.{Happens, HasNoCall, IsReady, IsReadyBehind, IsUnanswered, IsUnansweredOr, LeavesTree, MayGoOn, TreeStays};
 ghost use Rattle.names.specs.Renaming.{IsUnrenamed, Renames};
@@ -39,6 +39,8 @@ impl<'a> Change for RenameIn<'a> {
 
     ghost fills = { λ rename made. ⊥ };
 
+    ghost tells_full = { λ rename. ⊤ };
+
     fn apply<D: Disk>(&self, tree: &mut Tree<D>, alloc: Global, _names: &[Name]) -> Asked<()> {
         tree.renamed_in(alloc, self.from, self.old, self.to, self.name)
     }
@@ -66,6 +68,8 @@ impl<'a> Change for Replace<'a> {
     ghost hinders = { λ r. HindersHalf r.from r.old.now r.to r.name.now r.aside.now r.keeps };
 
     ghost fills = { λ r made. ⊥ };
+
+    ghost tells_full = { λ r. ⊤ };
 
     fn apply<D: Disk>(&self, tree: &mut Tree<D>, alloc: Global, _names: &[Name]) -> Asked<()> {
         match tree.replaceable(self.from, self.old, self.to, self.name)? {
@@ -106,6 +110,7 @@ impl<D: Disk> Tree<D> {
         ensures renamed { IfOk result (Happens (Renames from old.now to name.now)
             (λ files. IsUnrenamed files from old.now to name.now)
             (files_seen D.image self.old.kernel) (files_seen D.image self.new.kernel)) }
+        ensures no_block { IfOk result (AnswersFull D.Disk self.old.kernel self.new.kernel) }
     {
         if from == to {
             self.renamed(alloc, from, old, name)
@@ -166,6 +171,7 @@ impl<D: Disk> Tree<D> {
         ensures cleared { IfOk result (Happens (Clears to name.now aside.now keeps)
             (IsUncleared to name.now aside.now keeps)
             (files_seen D.image self.old.kernel) (files_seen D.image self.new.kernel)) }
+        ensures no_block { IfOk result (AnswersFull D.Disk self.old.kernel self.new.kernel) }
     {
         if keeps {
             self.renamed_in(alloc, to, name, DIRECTORY, aside)
@@ -205,6 +211,7 @@ impl<D: Disk> Tree<D> {
         ensures leaves { 0 < self.old.calls_left → LeavesTree D.Disk
             (Renames from old.now to name.now) self.old.kernel self.new.kernel }
         ensures stays { StaysOver D.Disk self.old.kernel self.new.kernel }
+        ensures no_block { IfErr result (TellsFull D.Disk self.old.kernel self.new.kernel) }
     {
         let rename = RenameIn {
             from,
@@ -252,6 +259,7 @@ impl<D: Disk> Tree<D> {
         ensures leaves { 0 < self.old.calls_left → LeavesTree D.Disk
             (Replaces from old.now to name.now aside.now keeps) self.old.kernel self.new.kernel }
         ensures stays { StaysOver D.Disk self.old.kernel self.new.kernel }
+        ensures no_block { IfErr result (TellsFull D.Disk self.old.kernel self.new.kernel) }
     {
         let replace = Replace {
             from,

@@ -30,6 +30,8 @@ impl ChangeIn for RemoveDirectory {
 
     ghost hinders = { λ remove. Never };
 
+    ghost tells_full = { λ remove. ⊥ };
+
     fn apply_in<D: Disk>(
         &self,
         tree: &mut Tree<D>,

@@ -54,6 +54,8 @@ impl<'a> Change for WriteFile<'a> {
 
     ghost fills = { λ write made. ⊥ };
 
+    ghost tells_full = { λ write. ⊥ };
+
     fn apply<D: Disk>(
         &self,
         tree: &mut Tree<D>,

@@ -1,10 +1,10 @@
 // What an operation with its reply does to the files.
-ghost use Rattle.std.specs.Prelude.{◌≡◌, ◌≤◌, ◌<◌, ◌&&◌, nat_lt, is_none, IsSome, length, take, drop, IfOk, OnErr};
+ghost use Rattle.std.specs.Prelude.{◌≡◌, ◌≤◌, ◌<◌, ◌&&◌, nat_lt, is_none, IsSome, length, take, drop, replicate, ◌++◌, IfOk, OnErr};
 ghost use Rattle.std.specs.Bool.{OnFalse};
 ghost use Rattle.std.specs.Option.{option_copied};
 ghost use Rattle.blocks.specs.Block.{overwritten};
 ghost use Rattle.model.specs.Files.{file_in};
-ghost use Rattle.model.specs.Operations.{transfer_limit, is_kind, write_refusal, attribute_refusal, no_file_refusal, refusal_of, where_true, part_of, may_have_written, after_create, after_at, after_done, is_refusal, after};
+ghost use Rattle.model.specs.Operations.{transfer_limit, is_kind, write_refusal, attribute_refusal, extension_refusal, no_file_refusal, refusal_of, where_true, part_of, may_have_written, after_create, after_at, after_done, is_refusal, after};
 
 use crate::files::Files;
 use blocks::{BLOCK_SIZE, NoMemory};
@@ -59,15 +59,32 @@ fn no_file_refusal(file: Option<&File>) -> Option<Reply>
     }
 }
 
-/// Why a file doesn't get an attribute: there is none, or the length lies behind its end.
-fn attribute_refusal(file: Option<&File>, attribute: Attribute) -> Option<Reply>
-    ensures { result ≡ attribute_refusal (option_copied file.entry) attribute }
+/// Why a file of `old` bytes doesn't get longer: more would be added than one operation moves, or no
+/// file of that form has room for them.
+fn extension_refusal(form: Form, old: usize, size: u32) -> Option<Reply>
+    requires { old < size }
+    ensures { result ≡ extension_refusal form old size }
+{
+    if size as usize - old > TRANSFER_LIMIT as usize {
+        return Some(Reply::TooLong);
+    }
+    if size > greatest_size(form) {
+        return Some(Reply::TooBig);
+    }
+    None
+}
+
+/// Why a file doesn't get an attribute: there is none, or it can't get that much longer.
+fn attribute_refusal(form: Form, file: Option<&File>, attribute: Attribute) -> Option<Reply>
+    ensures { result ≡ attribute_refusal form (option_copied file.entry) attribute }
 {
     let Some(file) = file else {
         return Some(Reply::NoFile);
     };
     match attribute {
-        Attribute::Size(size) if size as usize > file.bytes.len() => Some(Reply::BadOffset),
+        Attribute::Size(size) if size as usize > file.bytes.len() => {
+            extension_refusal(form, file.bytes.len(), size)
+        }
         Attribute::Size(_) | Attribute::Links(_) => None,
     }
 }
@@ -85,7 +102,7 @@ pub fn refusal_of(form: Form, files: &[Option<File>], op: &Op) -> Option<Reply>
         Op::Read(i, _, _) | Op::Trunc(i) | Op::Remove(i) | Op::Stat(i) => {
             no_file_refusal(file_in(files, *i))
         }
-        Op::SetAttribute(i, attribute) => attribute_refusal(file_in(files, *i), *attribute),
+        Op::SetAttribute(i, attribute) => attribute_refusal(form, file_in(files, *i), *attribute),
     }
 }
 
@@ -283,8 +300,24 @@ fn apply_links(files: &mut Files, i: u32, links: u16, reply: &Reply) -> bool
     true
 }
 
-/// Cuts a file to its first `size` bytes, where the operation can answer so. The files stay where it
-/// can't, and where memory is refused.
+/// The bytes of a file that is cut to the first `size` of them, which are no more than it has.
+fn cut_to(alloc: Global, old: &Content, size: u32) -> Result<Content, NoMemory>
+    ensures { IfOk result (λ bytes. bytes ≡ take size old.now) }
+{
+    Content::copy_of(alloc, part_of(old.as_slice(), 0, size))
+}
+
+/// The bytes of a file with that many zeroes behind them.
+fn extended_by(alloc: Global, old: &Content, count: u32) -> Result<Content, NoMemory>
+    ensures { IfOk result (λ bytes. bytes ≡ old.now ++ replicate count 0) }
+{
+    let mut bytes = Vec::from_slice(alloc, old.as_slice())?;
+    bytes.resize(old.len() + count as usize, 0)?;
+    Ok(Content::new(bytes))
+}
+
+/// Sets a file's length, where the operation can answer so. The files stay where it can't, and where
+/// memory is refused.
 fn apply_size(
     alloc: Global,
     files: &mut Files,
@@ -300,11 +333,17 @@ fn apply_size(
     let Some(file) = file_in(files.as_slice(), i) else {
         return Ok(false);
     };
-    if !matches!(reply, Reply::Done) {
-        return Ok(false);
-    }
+    let old = file.bytes.len();
+    let is_longer = size as usize > old;
     let (kind, links) = (file.kind, file.links);
-    let bytes = Content::copy_of(alloc, part_of(file.bytes.as_slice(), 0, size))?;
+    let bytes = match reply {
+        Reply::Done if !is_longer => cut_to(alloc, &file.bytes, size)?,
+        Reply::Wrote(k)
+            if is_longer && may_have_written(old, old as u32, size as usize - old, *k) => {
+            extended_by(alloc, &file.bytes, *k)?
+        }
+        _ => return Ok(false),
+    };
     files[i as usize] = Some(File { kind, links, bytes });
     Ok(true)
 }

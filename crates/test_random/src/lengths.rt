@@ -45,6 +45,10 @@ impl Lengths {
             (Op::SetAttribute(number, Attribute::Size(size)), Reply::Done) => {
                 self.lengths[(*number % 8) as usize] = *size;
             }
+            (Op::SetAttribute(number, Attribute::Size(_)), Reply::Wrote(count)) => {
+                let length = &mut self.lengths[(*number % 8) as usize];
+                *length = length.saturating_add(*count);
+            }
             _ => {}
         }
     }

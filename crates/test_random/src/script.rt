@@ -136,7 +136,8 @@ impl Script {
             79..=81 => Ok(Op::Trunc(number)),
             82..=84 => Ok(Op::Remove(number)),
             93..=94 => Ok(Op::SetAttribute(number, Attribute::Links(self.links()))),
-            95..=96 => Ok(Op::SetAttribute(number, Attribute::Size(offset))),
+            95 => Ok(Op::SetAttribute(number, Attribute::Size(offset))),
+            96 => Ok(Op::SetAttribute(number, Attribute::Size(offset.saturating_add(count)))),
             _ => Ok(Op::Stat(number)),
         }
     }

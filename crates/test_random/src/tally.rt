@@ -17,13 +17,14 @@ pub enum Row {
     Truncations,
     Removals,
     LinkCounts,
-    Cuts,
+    Lengths,
     Questions,
     Made,
     NoInode,
     WroteAll,
     WroteFewer,
     WroteFar,
+    WroteZeroes,
     Bytes,
     Done,
     StatOf,
@@ -60,7 +61,7 @@ pub enum Row {
 }
 
 // What a table says of each, in their order.
-const TEXTS: [&str; 48] = [
+const TEXTS: [&str; 49] = [
     "scripts",
     "processes",
     "creations",
@@ -69,13 +70,14 @@ const TEXTS: [&str; 48] = [
     "truncations",
     "removals",
     "counts of links",
-    "cuts",
+    "lengths set",
     "questions",
     "answered made",
     "answered noinode",
     "answered wrote, all bytes",
     "answered wrote, fewer",
     "of these, behind 12 KiB",
+    "answered wrote, zeroes",
     "answered bytes",
     "answered done",
     "answered stat",
@@ -136,13 +138,13 @@ pub const LOST: [(Row, Row); 3] = [
 /// A count for each row.
 #[derive(Drop)]
 pub struct Tally {
-    counts: [u64; 48],
+    counts: [u64; 49],
 }
 
 impl Tally {
     /// Nothing was counted.
     pub fn new() -> Tally {
-        Tally { counts: [0; 48] }
+        Tally { counts: [0; 49] }
     }
 
     /// Counts so many more.
@@ -174,7 +176,7 @@ impl Tally {
         for entry in entries {
             self.add(kind(&entry.op), 1);
             if let Some(reply) = &entry.reply {
-                let row = answer(&entry.op, reply);
+                let row = answer(&entry.op, reply, &lengths);
                 is_full = is_full || matches!(row, Row::WroteFewer);
                 self.add(row, 1);
                 self.add(Row::WroteFar, is_far(&entry.op, reply) as u64);
@@ -230,18 +232,15 @@ fn kind(op: &Op) -> Row {
         Op::Remove(_) => Row::Removals,
         Op::Stat(_) => Row::Questions,
         Op::SetAttribute(_, Attribute::Links(_)) => Row::LinkCounts,
-        Op::SetAttribute(_, Attribute::Size(_)) => Row::Cuts,
+        Op::SetAttribute(_, Attribute::Size(_)) => Row::Lengths,
     }
 }
 
-fn answer(op: &Op, reply: &Reply) -> Row {
+fn answer(op: &Op, reply: &Reply, lengths: &Lengths) -> Row {
     match reply {
         Reply::Made(_) => Row::Made,
         Reply::NoInode => Row::NoInode,
-        Reply::Wrote(written) => match op {
-            Op::Write(_, _, bytes) if bytes.len() == *written as usize => Row::WroteAll,
-            _ => Row::WroteFewer,
-        },
+        Reply::Wrote(written) => wrote(op, *written, lengths),
         Reply::Bytes(_) => Row::Bytes,
         Reply::Done => Row::Done,
         Reply::StatOf(..) => Row::StatOf,
@@ -250,6 +249,16 @@ fn answer(op: &Op, reply: &Reply) -> Row {
         Reply::TooBig => Row::TooBig,
         Reply::TooLong => Row::TooLong,
         Reply::BadType => Row::BadType,
+    }
+}
+
+// What a write came to, or a length behind a file's end, where the files had these lengths.
+fn wrote(op: &Op, written: u32, lengths: &Lengths) -> Row {
+    match op {
+        Op::Write(_, _, bytes) if bytes.len() == written as usize => Row::WroteAll,
+        Op::SetAttribute(number, Attribute::Size(size))
+            if size.saturating_sub(lengths.of(*number)) == written => { Row::WroteZeroes }
+        _ => Row::WroteFewer,
     }
 }
 

@@ -192,7 +192,8 @@ pub enum Op<'a> {
         inum: u32,
         count: u16,
     },
-    /// Cuts the file to its first `len` bytes; one that has fewer is refused by `BadOffset`.
+    /// Cuts the file to its first `len` bytes, or adds zeroes up to `len`, at most 3,072 of them: then
+    /// the reply is `Wrote`, as a write's.
     Resize {
         inum: u32,
         len: u32,
@@ -204,7 +205,7 @@ pub enum Op<'a> {
 pub enum Reply {
     /// The new file's number.
     Made(u32),
-    /// How many bytes were written.
+    /// How many bytes were written, or zeroes added.
     Wrote(u32),
     Bytes(Vec<u8>),
     Done,

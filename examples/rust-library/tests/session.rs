@@ -137,7 +137,7 @@ fn links_are_kept() {
 }
 
 #[test]
-fn a_file_is_cut() {
+fn a_file_is_cut_and_gets_zeroes() {
     let mut host = new_host(1, 0);
     host.call(0, CREATE).expect("an answer");
     let write = Op::Write {
@@ -146,16 +146,22 @@ fn a_file_is_cut() {
         bytes: b"hello",
     };
     host.call(0, write).expect("an answer");
-    let longer = Op::Resize { inum: 1, len: 6 };
-    assert_eq!(host.call(0, longer).expect("one").reply, Reply::BadOffset);
-    let shorter = Op::Resize { inum: 1, len: 2 };
-    assert_eq!(host.call(0, shorter).expect("one").reply, Reply::Done);
+    let lengths = [
+        (7, Reply::Wrote(2)),
+        (7 + 3072 + 1, Reply::TooLong),
+        (2, Reply::Done),
+        (4, Reply::Wrote(2)),
+    ];
+    for (len, told) in lengths {
+        let resize = Op::Resize { inum: 1, len };
+        assert_eq!(host.call(0, resize).expect("one").reply, told);
+    }
     let read = Op::Read {
         inum: 1,
         offset: 0,
         len: 9,
     };
-    let told = Reply::Bytes(b"he".to_vec());
+    let told = Reply::Bytes(b"he\0\0".to_vec());
     assert_eq!(host.call(0, read).expect("an answer").reply, told);
 }
 

@@ -1,6 +1,6 @@
 -- What an answered operation makes of the files, reply by reply.
 use Rattle.std.proofs.Common.{◌≡◌, ◌≢◌, ℕ, ◌+◌, ◌≤◌, ◌⊎◌, Bool, true, false, cond, ltb, leb, List, [], ◌++◌, length, take, drop, set, Option, Some, None, refl, ap, subst, ◌∙◌, inl, inr, arith}
-use Rattle.std.proofs.lemmas.Bool.{le-ltb, leb-true, and_parts}
+use Rattle.std.proofs.lemmas.Bool.{le-ltb, leb-true, ltb-true, and_parts}
 use Rattle.std.proofs.lemmas.List.{take_all, append-nil}
 use Rattle.std.proofs.Math.ListN.{drop_of_length-le}
 use Rattle.blocks.specs.Block.{overwritten}
@@ -14,7 +14,7 @@ use Rattle.model.specs.declared.types.operations.Reply.{Reply}
 use Rattle.model.specs.declared.types.operations.Reply.TheVariants.{Made, NoInode, Wrote, Done, BadOffset, TooBig, TooLong, BadType}
 use Rattle.model.specs.Files.{Files, file_in}
 use Rattle.model.specs.Layout.{greatest_size}
-use Rattle.model.specs.Operations.{after, after_refusal, after_done, after_at, after_on, attribute_refusal, write_refusal, no_file_refusal, is_kind, transfer_limit, may_have_written, with_attribute, with_bytes}
+use Rattle.model.specs.Operations.{after, after_refusal, after_done, after_at, after_on, attribute_refusal, extension_refusal, is_within, may_have_added, write_refusal, no_file_refusal, is_kind, transfer_limit, may_have_written, with_attribute, with_bytes}
 use Rattle.model.specs.Lemmas.Runs.{where_true_some}
 use Rattle.calls.specs.Lemmas.Creations.{HasMade, done_makes}
 use Rattle.calls.specs.Files.{without_bytes, with_value, with_more, emptied, files_set, appended, CanSet, MayAppend}
@@ -75,23 +75,30 @@ unfolding after
 after_emptying form files i reply new there h =
     emptied_at files i (file_in files i) reply new (allowed files (file_in files i) (Trunc i) reply new there h)
 
-set_on : (files : Files) (i : ℕ) (a : Attribute) (file : File) (reply : Reply) (new : Files) →
-    after_on files i file (SetAttribute i a) reply ≡ Some new → (reply ≡ Done) × (new ≡ set files i (Some (with_attribute file a)))
-set_on files i a file Done new h = (refl, cc h)
-set_on files i a file reply new h = absurd (cc h)
+-- no zeroes are added to a file that gets no longer
+none_added : (k : ℕ) (a : Attribute) (file : File) → CanSet (Some file) a → may_have_added (length file.bytes) a k ≡ true → ⊥
+none_added k (Links n) file can may = absurd (cc may)
+none_added k (Size n) file can may =
+    let longer = ltb-true (length file.bytes) n (and_parts (ltb (length file.bytes) n) _ may).0 in omega (arith, longer, can)
 
-set_at : (files : Files) (i : ℕ) (a : Attribute) (o : Option File) (reply : Reply) (new : Files) →
+set_on : (files : Files) (i : ℕ) (a : Attribute) (file : File) (reply : Reply) (new : Files) → CanSet (Some file) a →
+    after_on files i file (SetAttribute i a) reply ≡ Some new → (reply ≡ Done) × (new ≡ set files i (Some (with_attribute file a)))
+set_on files i a file Done new can h = (refl, (where_true_some (is_within (length file.bytes) a) _ new h).1)
+set_on files i a file (Wrote k) new can h = absurd (none_added k a file can (where_true_some (may_have_added (length file.bytes) a k) _ new h).0)
+set_on files i a file reply new can h = absurd (cc h)
+
+set_at : (files : Files) (i : ℕ) (a : Attribute) (o : Option File) (reply : Reply) (new : Files) → CanSet o a →
     after_at files i o (SetAttribute i a) reply ≡ Some new → (reply ≡ Done) × (new ≡ set files i (with_value o a))
-set_at files i a None reply new h = absurd (cc h)
-set_at files i a (Some file) reply new h = set_on files i a file reply new h
+set_at files i a None reply new can h = absurd can
+set_at files i a (Some file) reply new can h = set_on files i a file reply new can h
 
 -- a value that can be set isn't refused
-not_refused : (files : Files) (i : ℕ) (o : Option File) (a : Attribute) (reply : Reply) (new : Files) → CanSet o a →
-    after_refusal (attribute_refusal o a) files (SetAttribute i a) reply ≡ Some new → after_done files (SetAttribute i a) reply ≡ Some new
-not_refused files i None a reply new can h = absurd can
-not_refused files i (Some file) (Links n) reply new can h = h
-not_refused files i (Some file) (Size n) reply new can h =
-    subst (λ (b : Bool). after_refusal (cond b (Some BadOffset) None) files (SetAttribute i (Size n)) reply ≡ Some new)
+not_refused : (form : Form) (files : Files) (i : ℕ) (o : Option File) (a : Attribute) (reply : Reply) (new : Files) → CanSet o a →
+    after_refusal (attribute_refusal form o a) files (SetAttribute i a) reply ≡ Some new → after_done files (SetAttribute i a) reply ≡ Some new
+not_refused form files i None a reply new can h = absurd can
+not_refused form files i (Some file) (Links n) reply new can h = h
+not_refused form files i (Some file) (Size n) reply new can h =
+    subst (λ (b : Bool). after_refusal (cond b (extension_refusal form (length file.bytes) n) None) files (SetAttribute i (Size n)) reply ≡ Some new)
     (le-ltb (length file.bytes) n can) h
 
 -- links can be set of any file
@@ -103,7 +110,7 @@ pub after_setting : (form : Form) (files : Files) (i : ℕ) (a : Attribute) (rep
     after form files (SetAttribute i a) reply ≡ Some new → (reply ≡ Done) × (new ≡ files_set files i a)
 unfolding after
 after_setting form files i a reply new can h =
-    set_at files i a (file_in files i) reply new (not_refused files i (file_in files i) a reply new can h)
+    set_at files i a (file_in files i) reply new can (not_refused form files i (file_in files i) a reply new can h)
 
 -- ---- a write at a file's end
 

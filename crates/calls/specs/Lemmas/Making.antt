@@ -32,7 +32,8 @@ on_adds files new i file (Read j off n) (Bytes bytes) held h = none_added files 
 on_adds files new i file (Trunc j) Done held h = set_adds_none files new i _ held (where_true_some true _ new h).1
 on_adds files new i file (Remove j) Done held h = set_adds_none files new i _ held (where_true_some true _ new h).1
 on_adds files new i file (Stat j) (StatOf kind links size) held h = none_added files new (where_true_some _ files new h).1
-on_adds files new i file (SetAttribute j a) Done held h = set_adds_none files new i _ held (where_true_some true _ new h).1
+on_adds files new i file (SetAttribute j a) Done held h = set_adds_none files new i _ held (where_true_some _ _ new h).1
+on_adds files new i file (SetAttribute j a) (Wrote k) held h = set_adds_none files new i _ held (where_true_some _ _ new h).1
 on_adds files new i file op reply held h = absurd (cc h)
 
 at_adds : (files new : Files) (i : ℕ) (o : Option File) (op : Op) (reply : Reply) → file_in files i ≡ o → after_at files i o op reply ≡ Some new → AddsNone files new

@@ -1,6 +1,7 @@
 -- Two calls of a transaction always have room; and why they are not made.
 use Rattle.std.proofs.Common.{◌≤◌, arith}
 use Rattle.blocks.specs.declared.disk.Disk.{Ghosts}
+use Rattle.model.specs.declared.types.operations.Attribute.TheVariants.{Links, Size}
 use Rattle.model.specs.declared.types.image.Form.{Form}
 use Rattle.model.specs.declared.types.image.Form.TheVariants.{One, Two}
 use Rattle.model.specs.declared.types.operations.Op.{Op}
@@ -22,7 +23,8 @@ logs_nine form (Read i off n) = omega arith
 logs_nine form (Trunc i) = omega arith
 logs_nine form (Remove i) = omega arith
 logs_nine form (Stat i) = omega arith
-logs_nine form (SetAttribute i a) = omega arith
+logs_nine form (SetAttribute i (Links n)) = omega arith
+logs_nine form (SetAttribute i (Size n)) = let few = beside_few form in omega (arith, few)
 
 module _ {D N : Type 0} (disk : Ghosts D N) (k a : Plain D) (begins : Begins disk.image k a) where
   -- the first call of a transaction

@@ -1,8 +1,8 @@
 -- A name that was linked stays, whatever later operations are kept that spare its entry.
-use Rattle.std.proofs.Common.{◌≡◌, ◌≢◌, ◌⊎◌, ℕ, ◌+◌, ◌*◌, ◌<◌, ◌≤◌, Bool, true, false, cond, ◌&&◌, ltb, List, [], ◌∷◌, ◌++◌, length, take, get_or, set, Option, Some, None, refl, sym, ap, subst, ◌∙◌, ⊎_elim, arith}
+use Rattle.std.proofs.Common.{replicate, leb, inl, inr, ◌-◌, ◌≡◌, ◌≢◌, ◌⊎◌, ℕ, ◌+◌, ◌*◌, ◌<◌, ◌≤◌, Bool, true, false, cond, ◌&&◌, ltb, List, [], ◌∷◌, ◌++◌, length, take, get_or, set, Option, Some, None, refl, sym, ap, subst, ◌∙◌, ⊎_elim, arith}
 use Rattle.std.specs.Prelude.{is_none}
-use Rattle.std.proofs.lemmas.Bool.{ltb-false, and_parts, both_ways}
-use Rattle.std.proofs.lemmas.List.{get_or-set_same, get_or-set_other, take_all}
+use Rattle.std.proofs.lemmas.Bool.{leb-true, ltb-false, ltb-true, and_parts, both_ways}
+use Rattle.std.proofs.lemmas.List.{get_or-set_same, get_or-set_other, length-append, length-replicate, length-take, take_all}
 use Rattle.blocks.specs.Block.{overwritten}
 use Rattle.model.specs.declared.types.image.File.{File}
 use Rattle.model.specs.declared.types.image.Form.{Form}
@@ -19,7 +19,7 @@ use Rattle.model.specs.Lemmas.Runs.{where_true_some, and_then_some, replays_in_p
 use Rattle.model.specs.Lemmas.Replies.{after_cases, wrote_done}
 use Rattle.model.specs.Lemmas.FileNumbers.{below_file}
 use Rattle.model.specs.Log.{recovered}
-use Rattle.model.specs.Operations.{after, after_done, after_create, after_at, after_on, refusal_of, write_refusal, may_have_written, with_attribute, with_bytes}
+use Rattle.model.specs.Operations.{after, after_done, after_create, after_at, after_on, refusal_of, write_refusal, may_have_written, with_bytes}
 use Rattle.directories.specs.declared.entries.EntryWrite.{EntryWrite}
 use Rattle.directories.specs.Entries.{entries_of, number_in, is_for}
 use Rattle.directories.specs.Writes.{written, Links}
@@ -67,10 +67,31 @@ pub stat_on : (files new : Files) (i : ℕ) (file : File) (j : ℕ) (reply : Rep
 stat_on files new i file j (StatOf kind links size) h = (where_true_some _ files new h).1
 stat_on files new i file j reply h = absurd (cc h)
 
-pub set_on : (files new : Files) (i : ℕ) (file : File) (j : ℕ) (a : Attribute) (reply : Reply) → after_on files i file (Op.SetAttribute j a) reply ≡ Some new →
-    new ≡ set files i (Some (with_attribute file a))
-set_on files new i file j a Done h = (where_true_some true (set files i (Some (with_attribute file a))) new h).1
-set_on files new i file j a reply h = absurd (cc h)
+pub links_on : (files new : Files) (i : ℕ) (file : File) (j n : ℕ) (reply : Reply) → after_on files i file (Op.SetAttribute j (Attribute.Links n)) reply ≡ Some new →
+    new ≡ set files i (Some (record file { links = n }))
+links_on files new i file j n Done h = (where_true_some true (set files i (Some (record file { links = n }))) new h).1
+links_on files new i file j n (Wrote k) h = absurd (cc h)
+links_on files new i file j n reply h = absurd (cc h)
+
+-- a file that was set to n bytes: it has no more of them, or it got longer
+pub record IsSized (file : File) (n : ℕ) (bytes : List ℕ) : Type 0 where
+  pub size : (length bytes ≤ length file.bytes) ⊎ ((length file.bytes < n) × (length bytes ≤ n))
+
+pub size_on : (files new : Files) (i : ℕ) (file : File) (j n : ℕ) (reply : Reply) → after_on files i file (Op.SetAttribute j (Attribute.Size n)) reply ≡ Some new →
+    (bytes : List ℕ) × (new ≡ set files i (with_bytes file bytes)) × IsSized file n bytes
+size_on files new i file j n Done h =
+    let done = where_true_some (leb n (length file.bytes)) (set files i (with_bytes file (take n file.bytes))) new h in
+    (take n file.bytes, done.1, record { size = inl (omega (arith, (length-take n file.bytes))) })
+size_on files new i file j n (Wrote k) h =
+    let done = where_true_some (ltb (length file.bytes) n && may_have_written (length file.bytes) (length file.bytes) (n - length file.bytes) k) (set files i (with_bytes file (file.bytes ++ replicate k 0))) new h in
+    let both = and_parts (ltb (length file.bytes) n) (may_have_written (length file.bytes) (length file.bytes) (n - length file.bytes) k) done.0 in
+    let longer : length file.bytes < n = ltb-true (length file.bytes) n both.0 in
+    let few : k ≤ n - length file.bytes = leb-true k (n - length file.bytes) (and_parts (leb k (n - length file.bytes)) _ both.1).0 in (
+      file.bytes ++ replicate k 0,
+      done.1,
+      record { size = inr (longer, omega (arith, longer, few, (length-append file.bytes (replicate k 0)), (length-replicate {A = ℕ} k 0))) },
+    )
+size_on files new i file j n reply h = absurd (cc h)
 
 -- ---- operations elsewhere leave the directory
 
@@ -107,9 +128,12 @@ done_elsewhere files new d (Remove i) reply is apart h =
 done_elsewhere files new d (Stat i) reply is apart h =
     let on = at_cases files new i (file_in files i) (Stat i) reply h in
     ap (λ (l : Files). file_in l 1) (stat_on files new i on.0 i reply on.2)
-done_elsewhere files new d (Op.SetAttribute i a) reply is apart h =
-    let on = at_cases files new i (file_in files i) (Op.SetAttribute i a) reply h in
-    elsewhere files new i _ apart (set_on files new i on.0 i a reply on.2)
+done_elsewhere files new d (Op.SetAttribute i (Attribute.Links n)) reply is apart h =
+    let on = at_cases files new i (file_in files i) (Op.SetAttribute i (Attribute.Links n)) reply h in
+    elsewhere files new i _ apart (links_on files new i on.0 i n reply on.2)
+done_elsewhere files new d (Op.SetAttribute i (Attribute.Size n)) reply is apart h =
+    let on = at_cases files new i (file_in files i) (Op.SetAttribute i (Attribute.Size n)) reply h in
+    elsewhere files new i _ apart (size_on files new i on.0 i n reply on.2).1
 
 -- ---- writes of entries
 

@@ -15,7 +15,7 @@ use Rattle.directories.specs.Trees.{kind_of, IsDirectory, IsFile}
 use Rattle.directories.specs.TreeChanges.{KeepsNames}
 use Rattle.directories.specs.TreeLaws.{IsPlain, PlainKeeps}
 use Rattle.directories.specs.Lemmas.FileMaps.{set_others, set_there}
-use Rattle.directories.specs.Lemmas.Keeping.{at_cases, read_on, set_on, stat_on, trunc_on, write_on}
+use Rattle.directories.specs.Lemmas.Keeping.{at_cases, links_on, read_on, size_on, stat_on, trunc_on, write_on}
 use Rattle.directories.specs.Lemmas.Unnamed.{some_ne_none}
 
 same_files : (files new : Files) → new ≡ files → KeepsNames files new
@@ -64,10 +64,11 @@ done_keeps files new (Stat i) reply plain h =
     let on = at_cases files new i (file_in files i) (Stat i) reply h in same_files files new (stat_on files new i on.0 i reply on.2)
 done_keeps files new (Op.SetAttribute i (Attribute.Links n)) reply plain h =
     let on = at_cases files new i (file_in files i) (Op.SetAttribute i (Attribute.Links n)) reply h in
-    one_file files new i on.0 (record on.0 { links = n }) on.1 plain refl (set_on files new i on.0 i (Attribute.Links n) reply on.2)
+    one_file files new i on.0 (record on.0 { links = n }) on.1 plain refl (links_on files new i on.0 i n reply on.2)
 done_keeps files new (Op.SetAttribute i (Attribute.Size n)) reply plain h =
     let on = at_cases files new i (file_in files i) (Op.SetAttribute i (Attribute.Size n)) reply h in
-    one_file files new i on.0 (record on.0 { bytes = take n on.0.bytes }) on.1 plain refl (set_on files new i on.0 i (Attribute.Size n) reply on.2)
+    let made = size_on files new i on.0 i n reply on.2 in
+    one_file files new i on.0 (record on.0 { bytes = made.0 }) on.1 plain refl made.1
 
 pub plain_keeps : PlainKeeps
 plain_keeps form files new op reply plain h =

@@ -1,7 +1,7 @@
 -- No operation makes a file larger than its image may have it.
-use Rattle.std.proofs.Common.{◌≡◌, ◌≢◌, ℕ, ◌+◌, ◌-◌, ◌*◌, ◌%◌, ◌<◌, ◌≤◌, cond, ◌&&◌, ◌||◌, eqb, ltb, leb, List, [], ◌++◌, length, take, drop, set, Option, Some, None, sym, ap, subst, ◌∙◌, ⊎_elim, arith}
+use Rattle.std.proofs.Common.{◌≡◌, ◌≢◌, ℕ, ◌+◌, ◌-◌, ◌*◌, ◌%◌, ◌<◌, ◌≤◌, cond, ◌&&◌, ◌||◌, eqb, ltb, leb, Bool, true, false, List, [], ◌++◌, length, take, drop, set, Option, Some, None, refl, sym, ap, subst, ◌∙◌, ⊎_elim, arith}
 use Rattle.std.specs.Prelude.{is_none}
-use Rattle.std.proofs.lemmas.Bool.{and_parts, cases_eq, cases_lt, eq-eqb, leb-true, ltb-false, ne_eqb}
+use Rattle.std.proofs.lemmas.Bool.{and_parts, cases_eq, cases_lt, eq-eqb, leb-true, lt-ltb, ltb-false, ne_eqb}
 use Rattle.std.proofs.lemmas.List.{get_or-set_other, get_or-set_same, get_or_past, length-append, length-drop, length-set, length-take, length-take-le}
 use Rattle.blocks.specs.Block.{overwritten}
 use Rattle.blocks.specs.Disk.{Image}
@@ -20,11 +20,11 @@ use Rattle.model.specs.Lemmas.Counts.{All-range_at}
 use Rattle.model.specs.Lemmas.FileNumbers.{file_in-files_of, file_in-files_of_past}
 use Rattle.model.specs.Lemmas.Replies.{after_cases}
 use Rattle.model.specs.Lemmas.Runs.{where_true_some}
-use Rattle.model.specs.Operations.{after, after_create, after_done, refusal_of, write_refusal, with_bytes}
+use Rattle.model.specs.Operations.{after, after_create, after_done, attribute_refusal, extension_refusal, refusal_of, transfer_limit, write_refusal, with_bytes}
 use Rattle.model.specs.Soundness.{IsLawfulInode, IsSound}
 use Rattle.directories.specs.Sizes.{AreSized}
 use Rattle.directories.specs.Trees.{bytes_of}
-use Rattle.directories.specs.Lemmas.Keeping.{at_cases, not_refused, read_on, remove_on, set_on, stat_on, trunc_on, write_on}
+use Rattle.directories.specs.Lemmas.Keeping.{at_cases, links_on, not_refused, read_on, remove_on, size_on, stat_on, trunc_on, write_on}
 
 -- ---- what any form has room for
 
@@ -100,6 +100,16 @@ write_long old off k most bytes begins few fits small =
 bytes_at : (form : Form) (files : Files) (i : ℕ) (d : File) → AreSized form files → file_in files i ≡ Some d → length d.bytes ≤ greatest_size form
 bytes_at form files i d sized is = subst (λ (o : Option File). length (bytes_of o) ≤ greatest_size form) is (sized i)
 
+-- an extension that is not refused keeps to the greatest size
+extension_fits : (form : Form) (d : File) (n : ℕ) → length d.bytes < n → attribute_refusal form (Some d) (Attribute.Size n) ≡ None → n ≤ greatest_size form
+extension_fits form d n longer allowed =
+    by_size (ltb (length d.bytes + transfer_limit) n) (ltb (greatest_size form) n) refl (subst (λ (b : Bool). cond b (extension_refusal form (length d.bytes) n) None ≡ None) (lt-ltb (length d.bytes) n longer) allowed)
+  where
+    by_size : (a b : Bool) → ltb (greatest_size form) n ≡ b → cond a (Some TooLong) (cond b (Some TooBig) None) ≡ None → n ≤ greatest_size form
+    by_size true b is none = absurd (cc none)
+    by_size false true is none = absurd (cc none)
+    by_size false false is none = ltb-false (greatest_size form) n is
+
 done_sized : (form : Form) (files new : Files) (op : Op) (reply : Reply) → AreSized form files → refusal_of form files op ≡ None →
     after_done files op reply ≡ Some new → AreSized form new
 done_sized form files new (Create kind) reply sized allowed h = create_sized form files new kind reply sized h
@@ -127,11 +137,19 @@ done_sized form files new (Stat i) reply sized allowed h =
     same_sized form files new sized (stat_on files new i on.0 i reply on.2)
 done_sized form files new (Op.SetAttribute i (Attribute.Links n)) reply sized allowed h =
     let on = at_cases files new i (file_in files i) (Op.SetAttribute i (Attribute.Links n)) reply h in
-    put_sized form files new i _ sized (bytes_at form files i on.0 sized on.1) (set_on files new i on.0 i (Attribute.Links n) reply on.2)
+    put_sized form files new i _ sized (bytes_at form files i on.0 sized on.1) (links_on files new i on.0 i n reply on.2)
 done_sized form files new (Op.SetAttribute i (Attribute.Size n)) reply sized allowed h =
     let on = at_cases files new i (file_in files i) (Op.SetAttribute i (Attribute.Size n)) reply h in
     let most = bytes_at form files i on.0 sized on.1 in
-    put_sized form files new i _ sized (omega (arith, most, (length-take n on.0.bytes))) (set_on files new i on.0 i (Attribute.Size n) reply on.2)
+    let made = size_on files new i on.0 i n reply on.2 in
+    put_sized form files new i _ sized
+    (⊎_elim
+    (λ (less : length made.0 ≤ length on.0.bytes). omega (arith, most, less))
+    (λ (more : (length on.0.bytes < n) × (length made.0 ≤ n)).
+    let fits = extension_fits form on.0 n more.0 (subst (λ (o : Option File). attribute_refusal form o (Attribute.Size n) ≡ None) on.1 allowed) in
+    omega (arith, more.1, fits))
+    made.2.size)
+    made.1
 
 pub after_sized : (form : Form) (files new : Files) (op : Op) (reply : Reply) → AreSized form files → after form files op reply ≡ Some new → AreSized form new
 after_sized form files new op reply sized h =

@@ -1,8 +1,9 @@
 -- A reply that is decided after later entries got theirs.
-use Rattle.std.proofs.Common.{◌≡◌, ◌≢◌, ℕ, ◌<◌, Bool, true, false, not, cond, ◌&&◌, ◌||◌, eqb, ltb, List, [], ◌∷◌, length, set, take, Option, Some, None, refl, sym, ap, ◌∙◌}
+use Rattle.std.proofs.Common.{◌≡◌, ◌≢◌, ℕ, ◌<◌, Bool, true, false, not, cond, ◌&&◌, ◌||◌, eqb, ltb, List, [], ◌∷◌, ◌++◌, replicate, length, set, take, Option, Some, None, refl, sym, ap, ◌∙◌}
 use Rattle.std.specs.Prelude.{is_none}
 use Rattle.history.specs.Common.{after_answer, after_at, after_create, after_done, after_on, after_refusal, all_apart, and_then, attribute_refusal, BadType, both_of, Bytes, Create, Done, Entry, eqb-false, File, file_in, Files, Form, get_or-set_other, get_or-set_same, is_kind, is_late, is_making, is_refusal, length-set, SetAttribute, Made, no_file_refusal, NoInode, not-true, number_of, Op, or_parts, Read, Remove, replay, Reply, set-get_or, set_comm, Stat, StatOf, TooLong, touches, Trunc, where_true, where_true_some, with_attribute, with_bytes, Write, write_refusal, Wrote}
 use Rattle.blocks.specs.Block.{overwritten}
+use Rattle.model.specs.declared.types.operations.Attribute.TheVariants.{Links, Size}
 use Rattle.model.specs.Operations.{after}
 
 -- the files with another file at a number, where there are files
@@ -32,7 +33,8 @@ module _ (files : Files) (i : ℕ) (x : Option File) where
   on_put j file (Trunc k) Done ne = λ t. Some (set_comm files i j x (with_bytes file []) (λ e. ne (sym e)) t)
   on_put j file (Remove k) Done ne = λ t. Some (set_comm files i j x None (λ e. ne (sym e)) t)
   on_put j file (Stat k) (StatOf kind links size) ne = where_put _
-  on_put j file (SetAttribute k attribute) Done ne = λ t. Some (set_comm files i j x (Some (with_attribute file attribute)) (λ e. ne (sym e)) t)
+  on_put j file (SetAttribute k attribute) Done ne = where_set _ j _ ne
+  on_put j file (SetAttribute k attribute) (Wrote m) ne = where_set _ j _ ne
   on_put j file op reply ne = refl
 
   at_put : (j : ℕ) (o : Option File) (op : Op) (reply : Reply) → j ≢ i → after_at (set files i x) j o op reply ≡ put i x (after_at files j o op reply)
@@ -68,7 +70,7 @@ module _ (files : Files) (i : ℕ) (x : Option File) where
   after_put form (Trunc j) reply h = let ne = eqb-false j i (or_parts _ _ h).0 in by_file j (Trunc j) reply ne no_file_refusal (done_put j (Trunc j) reply ne)
   after_put form (Remove j) reply h = let ne = eqb-false j i (or_parts _ _ h).0 in by_file j (Remove j) reply ne no_file_refusal (done_put j (Remove j) reply ne)
   after_put form (Stat j) reply h = let ne = eqb-false j i (or_parts _ _ h).0 in by_file j (Stat j) reply ne no_file_refusal (done_put j (Stat j) reply ne)
-  after_put form (SetAttribute j attribute) reply h = let ne = eqb-false j i (or_parts _ _ h).0 in by_file j (SetAttribute j attribute) reply ne (λ o. attribute_refusal o attribute) (done_put j (SetAttribute j attribute) reply ne)
+  after_put form (SetAttribute j attribute) reply h = let ne = eqb-false j i (or_parts _ _ h).0 in by_file j (SetAttribute j attribute) reply ne (λ o. attribute_refusal form o attribute) (done_put j (SetAttribute j attribute) reply ne)
 
 same : (f : Files) (i : ℕ) (file : File) → file_in f i ≡ Some file → f ≡ set f i (Some file)
 same f i file h = sym (ap (set f i) (sym h) ∙ set-get_or f i None)
@@ -84,7 +86,10 @@ module _ (m f : Files) where
   on_alike i file (Remove k) Done new hm hf h = (None, cc h, refl)
   on_alike i file (Stat k) (StatOf kind links size) new hm hf h =
       let w = where_true_some _ _ new h in (Some file, w.1 ∙ same m i file hm, rw w.0 (ap (λ (g : Files). Some g) (same f i file hf)))
-  on_alike i file (SetAttribute k attribute) Done new hm hf h = (Some (with_attribute file attribute), cc h, refl)
+  on_alike i file (SetAttribute k attribute) Done new hm hf h =
+      let w = where_true_some _ _ new h in (Some (with_attribute file attribute), w.1, rw w.0 refl)
+  on_alike i file (SetAttribute k attribute) (Wrote n) new hm hf h =
+      let w = where_true_some _ _ new h in (with_bytes file (file.bytes ++ replicate n 0), w.1, rw w.0 refl)
   on_alike i file op reply new hm hf h = absurd (cc h)
 
   at_alike : (i : ℕ) (o : Option File) (op : Op) (reply : Reply) (new : Files) → file_in m i ≡ o → file_in f i ≡ o → after_at m i o op reply ≡ Some new → (x : Option File) × (new ≡ set m i x) × (after_at f i o op reply ≡ Some (set f i x))
@@ -115,7 +120,10 @@ module _ (m f : Files) where
   after_alike form (Trunc i) reply new late e h = absurd (cc late)
   after_alike form (Remove i) reply new late e h = absurd (cc late)
   after_alike form (Stat i) reply new late e h = absurd (cc late)
-  after_alike form (SetAttribute i attribute) reply new late e h = absurd (cc late)
+  after_alike form (SetAttribute i (Links n)) reply new late e h = absurd (cc late)
+  after_alike form (SetAttribute i (Size n)) reply new late e h =
+      let w = refused_alike i (attribute_refusal form (file_in m i) (Size n)) (SetAttribute i (Size n)) reply new e refl refl h in
+      (w.0, w.1, ap (λ (o : Option File). after_refusal (attribute_refusal form o (Size n)) f (SetAttribute i (Size n)) reply) e ∙ w.2)
   after_alike form (Write i off bytes) reply new late e h = length_alike (ltb 3072 (length bytes)) i (Write i off bytes) reply new (λ o. write_refusal form o off (length bytes)) e refl refl h
   after_alike form (Read i off n) reply new late e h = length_alike (ltb 3072 n) i (Read i off n) reply new (λ o. no_file_refusal o) e refl refl h
 

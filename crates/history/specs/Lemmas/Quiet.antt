@@ -2,6 +2,7 @@
 use Rattle.std.proofs.Common.{◌≡◌, ℕ, Bool, true, false, not, cond, ◌&&◌, leb, List, [], ◌∷◌, length, Option, Some, None, refl, sym, ap, subst, ◌∙◌}
 use Rattle.std.specs.Prelude.{is_some}
 use Rattle.std.specs.List.{list_all}
+use Rattle.model.specs.declared.types.operations.Attribute.TheVariants.{Links, Size}
 use Rattle.history.specs.Common.{after_answer, after_at, after_refusal, and_then, and_then_some, answered, AreOpen, AreUpTo, at_once_is_not_changing, at_once_is_refused, both_of, Bytes, Create, Entry, File, file_in, Files, Follows, Form, Held, held_by, is_at_once, is_changing, is_late, is_write_op, is_writing, IsOpen, kept, SetAttribute, Op, Read, refusal_of, refusals_first, Remove, replay, Reply, Stat, StatOf, Trunc, where_true_some, Write, zero_stays}
 use Rattle.model.specs.Operations.{after}
 use Rattle.history.specs.Lemmas.Opens.{first_open}
@@ -23,7 +24,8 @@ kept_answered n m c holds (d ∷ es) are none = by_reply d.reply refl (kept_answ
     not_write (Trunc i) late w = absurd (cc late)
     not_write (Remove i) late w = absurd (cc late)
     not_write (Stat i) late w = absurd (cc late)
-    not_write (SetAttribute i attribute) late w = absurd (cc late)
+    not_write (SetAttribute i (Links v)) late w = absurd (cc late)
+    not_write (SetAttribute i (Size v)) late w = absurd (cc w)
 
     by_reply : (o : Option Reply) → d.reply ≡ o → kept n (answered es) c ≡ kept n es c → kept n (cond (is_some o) (d ∷ answered es) (answered es)) c ≡ kept n (d ∷ es) c
     by_reply (Some r) is rest = ap (λ (l : List Entry). cond (is_changing n d.op && leb d.group c) (d ∷ l) l) rest

@@ -1,20 +1,23 @@
 -- An attribute of a file is set: the turn, what is answered, and the end.
-use Rattle.std.proofs.Common.{◌≡◌, ◌≢◌, ℕ, ◌*◌, ◌/◌, ◌%◌, ◌<◌, ◌≤◌, ◌^◌, set, get_or, take, length, Option, Some, None, refl, sym, ap, subst, ◌∙◌, arith, length-set, get_or-set_same, get_or-set_other, get_or-take}
-use Rattle.std.proofs.lemmas.List.{set-get_or}
-use Rattle.in_flight.specs.Common.{addresses_in, block_at, Claim, Claims, count_of, data_at, Dinode, ext_get_or, file_in, Files, FitsHeld, FitsThen, form_of, grows, Image, IsFine, IsFit, IsFullAt, IsGrowing, le-ltb, length-take-le, lt-ltb, names_claimed, with_inode}
+use Rattle.std.proofs.Common.{replicate, ap₂, ◌≡◌, ◌≢◌, ℕ, ◌*◌, ◌/◌, ◌%◌, ◌<◌, ◌≤◌, ◌^◌, set, get_or, take, length, Option, Some, None, refl, sym, ap, subst, ◌∙◌, arith, length-set, get_or-set_same, get_or-set_other, get_or-take, ◌+◌, List, ◌++◌, append-nil, ◌-◌, take_all, true}
+use Rattle.std.proofs.lemmas.List.{length-replicate, take-replicate, set-get_or, drop_all}
+use Rattle.in_flight.specs.Common.{addresses_in, block_at, Claim, Claims, count_of, data_at, Dinode, ext_get_or, file_in, Files, FitsHeld, FitsThen, form_of, grows, Image, IsFine, IsFit, IsFullAt, IsGrowing, le-ltb, length-take-le, lt-ltb, names_claimed, with_inode, le-leb, Form, transfer_limit, overwritten, greatest_size, may_have_written}
 use Rattle.model.specs.declared.types.image.File.{File}
 use Rattle.model.specs.declared.types.operations.Attribute.{Attribute}
 use Rattle.model.specs.declared.types.operations.Attribute.TheVariants.{Links, Size}
+use Rattle.model.specs.declared.types.operations.Op.TheVariants.{SetAttribute}
+use Rattle.model.specs.declared.types.operations.Reply.TheVariants.{Wrote}
 use Rattle.model.specs.Files.{bytes_in}
 use Rattle.model.specs.Layout.{inode_of}
 use Rattle.model.specs.Lemmas.Bytes.{byte_at, length-bytes_in}
-use Rattle.model.specs.Operations.{after, with_attribute}
+use Rattle.model.specs.Operations.{after, with_attribute, with_bytes}
 use Rattle.model.specs.Places.{address_in, pointers_in}
-use Rattle.in_flight.specs.AttributeLaws.{file_said, files_set, IsAllowed, SetAnswers, SetRefuses, SetRests, TurnSets, unwritten, with_value}
+use Rattle.in_flight.specs.AttributeLaws.{file_said, files_set, IsAllowed, SetAnswers, SetRefuses, SetRests, TurnSets, unwritten, with_value, AdditionAnswers}
 use Rattle.in_flight.specs.GrowthLaws.{files_grown}
 use Rattle.in_flight.specs.Looks.{IsUsed}
 use Rattle.in_flight.specs.Lemmas.BlocksTaken.{overwritten_none}
-use Rattle.in_flight.specs.Lemmas.GrowthEnds.{growth_rests}
+use Rattle.in_flight.specs.Lemmas.GrowthBlocks.{same_file_there}
+use Rattle.in_flight.specs.Lemmas.GrowthEnds.{growth_rests, has_written_so_many}
 use Rattle.in_flight.specs.Lemmas.HeldFrames.{growing_of, whole_names}
 use Rattle.in_flight.specs.Lemmas.HeldLooks.{resting, resting_tells}
 use Rattle.in_flight.specs.Lemmas.Looks.{between, full_blocks}
@@ -101,6 +104,7 @@ growing_set m x claims i (Links n) f used none few file was =
       kind = refl;
       links = refl;
       reaches = omega arith;
+      ends = λ no. absurd (cc no);
       bytes = bytes_counted x d n ∙ sym (overwritten_none (bytes_in x d) 0 (omega arith));
     }
 growing_set m x claims i (Size n) f used none few file was =
@@ -114,6 +118,7 @@ growing_set m x claims i (Size n) f used none few file was =
       kind = refl;
       links = refl;
       reaches = omega arith;
+      ends = λ no. absurd (cc no);
       bytes = bytes_cut x d n few (full_blocks m x i (resting m x claims i f used none) used)
           ∙ sym (overwritten_none (take n (bytes_in x d)) 0 (omega arith));
     }
@@ -146,13 +151,56 @@ set_answers m x claims i (Links n) f used none allowed =
     rw (file, file) refl
 set_answers m x claims i (Size n) f used none allowed =
     let its = (resting_tells m x claims i f used none).its in
-    rw (its.file, le-ltb (length (bytes_in x (inode_of x i))) n (omega (arith, allowed, its.length)), its.file) refl
+    let within : n ≤ length (bytes_in x (inode_of x i)) = omega (arith, allowed, its.length) in
+    rw (its.file, le-ltb (length (bytes_in x (inode_of x i))) n within, its.file, le-leb n (length (bytes_in x (inode_of x i))) within) refl
 
 pub set_refuses : SetRefuses
 unfolding after
 set_refuses m x claims i n f used none less =
     let its = (resting_tells m x claims i f used none).its in
-    rw (its.file, lt-ltb (length (bytes_in x (inode_of x i))) n (omega (arith, less, its.length))) refl
+    let old = length (bytes_in x (inode_of x i)) in
+    let longer = lt-ltb old n (omega (arith, less, its.length)) in (
+      (λ many. rw (its.file, longer, lt-ltb (old + transfer_limit) n (omega (arith, many, its.length))) refl),
+      (λ few big.
+          rw (its.file, longer, le-ltb (old + transfer_limit) n (omega (arith, few, its.length)), lt-ltb (greatest_size (form_of x)) n big) refl),
+    )
+
+-- ---- zeroes are added
+
+-- bytes that begin where the old ones end stand behind them
+overwritten_at_end : (old new : List ℕ) → overwritten old (length old) new ≡ old ++ new
+overwritten_at_end old new =
+    ap (λ (l : List ℕ). (take (length old) old ++ new) ++ l) (drop_all (length old + length new) old (omega arith))
+    ∙ append-nil (take (length old) old ++ new) ∙ ap (λ (l : List ℕ). l ++ new) (take_all (length old) old (omega arith))
+
+-- an extension that is not refused answers how many zeroes it added
+added_answers : (form : Form) (m : Files) (i n k : ℕ) (old : File) → file_in m i ≡ Some old → length old.bytes < n →
+    n ≤ length old.bytes + transfer_limit → n ≤ greatest_size form → may_have_written (length old.bytes) (length old.bytes) (n - length old.bytes) k ≡ true →
+    after form m (SetAttribute i (Size n)) (Wrote k) ≡ Some (set m i (with_bytes old (old.bytes ++ replicate k 0)))
+unfolding after
+added_answers form m i n k old is longer few fits may =
+    let long = lt-ltb (length old.bytes) n longer in
+    rw (is, long, le-ltb (length old.bytes + transfer_limit) n few, le-ltb (greatest_size form) n fits, is, long, may) refl
+
+pub addition_answers : AdditionAnswers
+addition_answers m x claims i g old n k h ends longer w is =
+    let growing = growing_of m x claims i g h in
+    let same = same_file_there growing.old old (sym growing.was ∙ is) in
+    let long = ap (λ (f : File). length f.bytes) same in
+    let off : g.offset ≡ length old.bytes = (let reaches = growing.reaches in let past = growing.ends ends in omega (arith, reaches, past, long)) in
+    let count : length (replicate (n - g.offset) 0) ≡ n - g.offset = length-replicate (n - g.offset) 0 in
+    let few = w.few in
+    let fits = w.fits in
+    let most = w.most in
+    let may : may_have_written (length old.bytes) (length old.bytes) (n - length old.bytes) k ≡ true =
+    subst (λ (o : ℕ). may_have_written (length old.bytes) o (n - o) k ≡ true) off
+    (subst (λ (c : ℕ). may_have_written (length old.bytes) g.offset c k ≡ true) count
+    (has_written_so_many m x claims i g old g.offset k (replicate (n - g.offset) 0) h w is)) in
+    let bytes : overwritten old.bytes g.offset g.written ≡ old.bytes ++ replicate k 0 =
+    ap₂ (overwritten old.bytes) off (w.written ∙ take-replicate k (n - g.offset) 0 (omega (arith, most, count)))
+    ∙ overwritten_at_end old.bytes (replicate k 0) in
+    added_answers (form_of x) m i n k old is (omega (arith, longer, off)) (omega (arith, few, count, off)) (omega (arith, fits, count, longer)) may
+    ∙ ap (λ (l : List ℕ). Some (set m i (with_bytes old l))) (sym bytes)
 
 -- ---- the end
 

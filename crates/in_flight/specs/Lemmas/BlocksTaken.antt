@@ -23,7 +23,7 @@ overwritten_none old at inside =
     ∙ ap (λ k. take at old ++ drop k old) same ∙ take-append-drop at old
 
 pub turn_grows : TurnGrows
-turn_grows m x claims new i off f used none inside now =
+turn_grows m x claims new i off at_end f used none inside ends now =
     let d = inode_of x i in
     let its = (resting_tells m x claims i f used none).its in
     let reaches : off ≤ length (bytes_in x d) = omega (arith, its.length, inside) in
@@ -37,6 +37,7 @@ turn_grows m x claims new i off f used none inside now =
       kind = refl;
       links = refl;
       reaches = reaches;
+      ends = λ is. let past = ends is in omega (arith, its.length, past);
       bytes = sym (overwritten_none (bytes_in x d) off reaches);
     })
 

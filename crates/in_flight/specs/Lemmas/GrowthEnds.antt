@@ -1,8 +1,9 @@
 -- A task that writes is done: its copy is written back, and its reply stands.
 use Rattle.std.proofs.Common.{◌≡◌, ℕ, ◌+◌, ◌*◌, ◌/◌, ◌%◌, ◌<◌, ◌≤◌, true, List, length, set, take, Some, None, refl, sym, ap, ◌∙◌, ⊎_elim, arith, ap₂, eqb, length-set}
-use Rattle.in_flight.specs.Common.{cases_lt, count_of, eq-eqb, File, file_in, file_used, Files, Form, form_of, get_or-set_other, get_or-set_same, greatest_size, GrowthAnswers, GrowthRests, le-leb, le-ltb, length-take-le, listed, lt-ltb, may_have_written, or_right, overwritten, RestingRefuses, transfer_limit, with_bytes, Write, Wrote}
+use Rattle.in_flight.specs.Common.{cases_lt, count_of, eq-eqb, File, file_in, file_used, Files, Form, form_of, get_or-set_other, get_or-set_same, greatest_size, GrowthAnswers, GrowthRests, le-leb, le-ltb, length-take-le, listed, lt-ltb, may_have_written, or_right, overwritten, RestingRefuses, transfer_limit, with_bytes, Write, Wrote, Image, Claims, Growth, IsHeldIn, grows}
 use Rattle.model.specs.Files.{bytes_in}
 use Rattle.model.specs.Places.{address_in}
+use Rattle.in_flight.specs.GrowthLaws.{HasWritten}
 use Rattle.in_flight.specs.Lemmas.GrowthBlocks.{copy_size, same_file_there}
 use Rattle.model.specs.Layout.{inode_of}
 use Rattle.in_flight.specs.Lemmas.HeldFrames.{growing_of}
@@ -69,17 +70,18 @@ may_be_short : (old off n k : ℕ) → k ≤ n → (off + k) % 1024 ≡ 0 → ol
 may_be_short old off n k few even past =
     rw (le-leb k n few, eq-eqb ((off + k) % 1024) 0 even, le-leb old (off + k) past) (or_right (eqb k n) true refl)
 
-pub growth_answers : GrowthAnswers
-growth_answers m x claims i g old off k bytes h w is =
+-- so many may it have written
+pub has_written_so_many : (m : Files) (x : Image) (claims : Claims) (i : ℕ) (g : Growth) (old : File) (off k : ℕ) (bytes : List ℕ) →
+    IsHeldIn m x claims i (grows g) → HasWritten x g off bytes k → file_in m i ≡ Some old →
+    may_have_written (length old.bytes) off (length bytes) k ≡ true
+has_written_so_many m x claims i g old off k bytes h w is =
     let growing = growing_of m x claims i g h in
     let same = same_file_there growing.old old (sym growing.was ∙ is) in
     let long = ap (λ (f : File). length f.bytes) same in
     let size = copy_size m x claims i g h in
-    let reaches : off ≤ length old.bytes = let was = growing.reaches in let at = w.offset in omega (arith, was, at, long) in
     let most = w.most in
     let count : length g.written ≡ k = ap length w.written ∙ length-take-le k bytes most in
     let at = w.offset in
-    let may : may_have_written (length old.bytes) off (length bytes) k ≡ true =
     ⊎_elim
     (λ (all : k ≡ length bytes). may_be_all (length old.bytes) off (length bytes) k all)
     (λ (short : ((off + k) % 1024 ≡ 0) × (address_in x g.copy ((off + k) / 1024) ≡ 0)).
@@ -90,7 +92,15 @@ growth_answers m x claims i g old off k bytes h w is =
     (λ (le : g.copy.size ≤ (off + k) / 1024 * 1024). omega (arith, le, even))
     (cases_lt ((off + k) / 1024 * 1024) g.copy.size) in
     may_be_short (length old.bytes) off (length bytes) k most even (omega (arith, past, size, long)))
-    w.ends in
+    w.ends
+
+pub growth_answers : GrowthAnswers
+growth_answers m x claims i g old off k bytes h w is =
+    let growing = growing_of m x claims i g h in
+    let same = same_file_there growing.old old (sym growing.was ∙ is) in
+    let long = ap (λ (f : File). length f.bytes) same in
+    let reaches : off ≤ length old.bytes = let was = growing.reaches in let at = w.offset in omega (arith, was, at, long) in
+    let may = has_written_so_many m x claims i g old off k bytes h w is in
     written_answers (form_of x) m i off k bytes old is w.few reaches w.fits may
     ∙ ap₂ (λ (n : ℕ) (l : List ℕ). Some (set m i (with_bytes old (overwritten old.bytes n l)))) (sym w.offset) (sym w.written)
 

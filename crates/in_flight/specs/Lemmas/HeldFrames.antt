@@ -98,6 +98,7 @@ grown_same test x y i g file h same there held =
       kind = held.kind;
       links = held.links;
       reaches = held.reaches;
+      ends = held.ends;
       bytes = bytes_agree test x y g.copy agrees held.fit.used ∙ held.bytes;
     }
 

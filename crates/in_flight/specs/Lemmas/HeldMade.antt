@@ -1,5 +1,5 @@
 -- There are images in which a task holds a file.
-use Rattle.std.proofs.Common.{◌≡◌, ◌≢◌, ◌<◌, true, cond, eqb, replicate, set, is_some, [], Some, None, inl, refl, sym, ap, ◌∙◌, ⊎_elim, arith}
+use Rattle.std.proofs.Common.{◌≡◌, ◌≢◌, ◌<◌, true, false, cond, eqb, replicate, set, is_some, [], Some, None, inl, refl, sym, ap, ◌∙◌, ⊎_elim, arith}
 use Rattle.in_flight.specs.Common.{cases_eq, Claims, Dinode, false≢true, file_at, Files, Fits, FitsHeld, frees, grows, Image, inode_block, inode_count_of, is_number, length-set, lt-ltb, made_image, ne_eqb, new_inode, One, with_inode}
 use Rattle.model.specs.Layout.{inode_of}
 use Rattle.in_flight.specs.Claims.{with_new_file}
@@ -19,7 +19,7 @@ remover d i = cond (eqb i 1) (Some (frees (record { copy = d; cursor = []; last_
 
 -- who writes into it
 abbrev writer : Dinode → Claims
-writer d i = cond (eqb i 1) (Some (grows (record { copy = d; taken = None; offset = 0; written = [] }))) None
+writer d i = cond (eqb i 1) (Some (grows (record { copy = d; taken = None; offset = 0; at_end = false; written = [] }))) None
 
 -- an image that stands for files, with number 1 free
 module _ (m : Files) (x : Image) (f : Fits m x) (none : file_at x 1 ≡ None) (some : 1 < inode_count_of x) where
@@ -63,8 +63,8 @@ module _ (m : Files) (x : Image) (f : Fits m x) (none : file_at x 1 ≡ None) (s
   -- and one who writes into it from its start on
   pub written_into : FitsHeld (with_new_file m 1 2) y (writer (inode_of y 1))
   written_into =
-      (turn_grows (with_new_file m 1 2) y nobody (writer (inode_of y 1)) 1 0 made
-      (lt-ltb 1 (inode_count_of y) numbers, λ z. omega (arith, ap (λ (d : Dinode). d.kind) own, z)) refl (omega arith)
+      (turn_grows (with_new_file m 1 2) y nobody (writer (inode_of y 1)) 1 0 false made
+      (lt-ltb 1 (inode_count_of y) numbers, λ z. omega (arith, ap (λ (d : Dinode). d.kind) own, z)) refl (omega arith) (λ no. absurd (cc no))
       (record { own = refl; others = λ j ne. rw (ne_eqb j 1 ne) refl })).fits
 
 -- so it is in one of 400 blocks with 32 numbers

@@ -30,6 +30,7 @@ growing_as x y i g d t written file h fit same_kind labels kind links bytes = re
   kind = kind ∙ h.kind;
   links = links ∙ h.links;
   reaches = h.reaches;
+  ends = h.ends;
   bytes = bytes;
 }
 

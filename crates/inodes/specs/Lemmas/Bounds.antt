@@ -110,7 +110,7 @@ few_steps cur table t (Stage.Delivering k) few looks blocks = omega arith
 few_steps cur table t (Stage.Truncating k m) few looks blocks =
     omega (arith, (few_frees cur m (blocks k m refl)))
 few_steps cur table t (Stage.Writing k m) few looks blocks =
-    omega (arith, (few_writes cur m m.at (omega (arith, looks.all, looks.few)) looks.fits looks.come), (writes_most m.extent.form 4), (most_elsewhere (form_of cur)))
+    omega (arith, (few_writes cur m m.at looks.few looks.fits looks.come), (writes_most m.extent.form 4), (most_elsewhere (form_of cur)))
 few_steps cur table t (Stage.Setting k d u) few looks blocks = let most = few_uses u.slot in omega (arith, most)
 few_steps cur table t (Stage.Leaving k) few looks blocks = omega arith
 

@@ -36,7 +36,7 @@ holding_is op (Stage.Delivering k) i h claimed = absurd (cc claimed)
 holding_is op (Stage.Truncating k m) i h claimed =
     (k, inl (m, refl, claims_own m.machine.number i (frees (held_of m.machine)) h claimed))
 holding_is op (Stage.Writing k m) i h claimed =
-    (k, inr (inl (m, refl, claims_own m.number i (grows (growth_of m (bytes_by op))) h claimed)))
+    (k, inr (inl (m, refl, claims_own m.number i (grows (growth_of m op)) h claimed)))
 holding_is op (Stage.Setting k d u) i h claimed =
     (k, inr (inr (d, u, refl, claims_own u.number i (grows (unwritten d)) h claimed)))
 holding_is op (Stage.Leaving k) i h claimed = absurd (cc claimed)
@@ -48,7 +48,7 @@ own_holds k m = rw (eq-eqb m.machine.number m.machine.number refl) refl
 
 -- and so does the writing of its bytes
 pub own_grows : (op : Option Op) (k : ℕ) (m : WriteState) →
-    claim_by op (Stage.Writing k m) m.number ≡ Some (grows (growth_of m (bytes_by op)))
+    claim_by op (Stage.Writing k m) m.number ≡ Some (grows (growth_of m op))
 own_grows op k m = rw (eq-eqb m.number m.number refl) refl
 
 -- and the writing back of its inode

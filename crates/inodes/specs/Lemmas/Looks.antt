@@ -1,9 +1,14 @@
 -- The number that a look at an inode block finds; and what is true of the readings of files that
 -- are under way.
-use Rattle.std.proofs.Common.{◌≡◌, ◌≢◌, ℕ, zero, suc, ◌+◌, ◌-◌, ◌*◌, ◌<◌, ◌≤◌, Bool, true, false, cond, eqb, List, Option, Some, None, refl, sym, ◌∙◌, ap, subst, ⊎_elim, arith, inl, inr}
+use Rattle.std.proofs.lemmas.List.{length-replicate}
+use Rattle.model.specs.declared.types.operations.Attribute.TheVariants.{Links, Size}
+use Rattle.inodes.specs.Growing.{bytes_of, zeroes}
+use Rattle.inodes.specs.Looks.{IsWriteOp}
+use Rattle.inodes.specs.Writing.{Writes, most_beside, most_logged}
+use Rattle.std.proofs.Common.{◌≡◌, ◌≢◌, ℕ, zero, suc, ◌+◌, ◌-◌, ◌*◌, ◌<◌, ◌≤◌, Bool, true, false, cond, eqb, List, Option, Some, None, refl, sym, ◌∙◌, ap, subst, ⊎_elim, arith, inl, inr, length, replicate}
 use Rattle.std.specs.List.{find, range_with_len}
 use Rattle.std.specs.Prelude.{IsTrue, [], ◌∷◌}
-use Rattle.inodes.specs.Common.{AreLooking, asked, asked_by, block_at, both_of, both_ways, CanLook, CanTake, cases_eq, copy_at, Create, Dinode, eqb-true, Freeing, grip, grip_by, grip_of, grips_of, HoldsInode, Image, inode_block, inode_bytes_in, inode_in, is_free_in, is_number, is_over, is_unturned, IsLate, IsRead, IsTruncating, IsWrite, IsWriting, Itrunc, locked_grip, LooksAt, lowest_free, Op, owes_reply, Read, Remove, Stage, Stat, TableState, task, TaskState, Trunc, trunc_op, Write, WriteState, SetAttribute}
+use Rattle.inodes.specs.Common.{AreLooking, asked, asked_by, block_at, both_of, both_ways, CanLook, CanTake, cases_eq, copy_at, Create, Dinode, eqb-true, Freeing, grip, grip_by, grip_of, grips_of, HoldsInode, Image, inode_block, inode_bytes_in, inode_in, is_free_in, is_number, is_over, is_unturned, IsLate, IsRead, IsTruncating, IsWrite, IsWriting, Itrunc, locked_grip, LooksAt, lowest_free, Op, owes_reply, Read, Remove, Stage, Stat, TableState, task, TaskState, Trunc, trunc_op, Write, WriteState, SetAttribute, Form}
 use Rattle.model.specs.Layout.{inode_of}
 use Rattle.inodes.specs.Holding.{IsSetting}
 use Rattle.inodes.specs.Iupdate.{UpdateState}
@@ -126,6 +131,95 @@ asked_to_free m = by_end m.removes
     by_end true = refl
     by_end false = refl
 
+-- ---- what a writing writes
+
+writes_number : (op : Op) (m : WriteState) → Writes op m → asked op ≡ m.number
+writes_number (Create kind) m w = absurd w
+writes_number (Write i off bytes) m w = w.0
+writes_number (Read i off n) m w = absurd w
+writes_number (Trunc i) m w = absurd w
+writes_number (Remove i) m w = absurd w
+writes_number (Stat i) m w = absurd w
+writes_number (SetAttribute i a) m w = w.0
+
+-- its number is the one that the task asks for
+pub write_asks : {o : Option Op} (op : Op) (m : WriteState) → o ≡ Some op → Writes op m → asked_by o ≡ m.number
+write_asks op m is w = ap asked_by is ∙ writes_number op m w
+
+pub is_write_op : (op : Op) (m : WriteState) → Writes op m → IsWriteOp op
+is_write_op (Create kind) m w = absurd w
+is_write_op (Write i off bytes) m w = tt
+is_write_op (Read i off n) m w = absurd w
+is_write_op (Trunc i) m w = absurd w
+is_write_op (Remove i) m w = absurd w
+is_write_op (Stat i) m w = absurd w
+is_write_op (SetAttribute i (Links n)) m w = absurd w.1
+is_write_op (SetAttribute i (Size n)) m w = tt
+
+pub can_write : (n : ℕ) (op : Op) (m : WriteState) → Writes op m → IsTrue (is_number n m.number) → m.count ≤ 3072 → CanTake n op
+can_write n (Create kind) m w number few = absurd w
+can_write n (Write i off bytes) m w number few =
+    (subst (λ (j : ℕ). IsTrue (is_number n j)) (sym w.0) number, omega (arith, few, w.2))
+can_write n (Read i off count) m w number few = absurd w
+can_write n (Trunc i) m w number few = absurd w
+can_write n (Remove i) m w number few = absurd w
+can_write n (Stat i) m w number few = absurd w
+can_write n (SetAttribute i (Links c)) m w number few = absurd w.1
+can_write n (SetAttribute i (Size c)) m w number few =
+    (subst (λ (j : ℕ). IsTrue (is_number n j)) (sym w.0) number, tt)
+
+pub write_number : (n : ℕ) (op : Op) → IsWriteOp op → CanTake n op → IsTrue (is_number n (asked op))
+write_number n (Create kind) w can = absurd w
+write_number n (Write i off bytes) w can = can.0
+write_number n (Read i off count) w can = absurd w
+write_number n (Trunc i) w can = absurd w
+write_number n (Remove i) w can = absurd w
+write_number n (Stat i) w can = absurd w
+write_number n (SetAttribute i (Links c)) w can = absurd w
+write_number n (SetAttribute i (Size c)) w can = can.0
+
+-- the zeroes, and how many they are
+pub zeroes_are : replicate 3072 0 ≡ zeroes
+unfolding zeroes
+zeroes_are = refl
+
+pub length-zeroes : length zeroes ≡ 3072
+length-zeroes = sym (ap length zeroes_are) ∙ length-replicate {A = ℕ} 3072 0
+
+-- it has bytes for all of it
+pub enough_bytes : (op : Op) (m : WriteState) → Writes op m → m.count ≤ 3072 → m.count ≤ length (bytes_of op)
+enough_bytes (Create kind) m w few = absurd w
+enough_bytes (Write i off bytes) m w few = omega (arith, w.2)
+enough_bytes (Read i off count) m w few = absurd w
+enough_bytes (Trunc i) m w few = absurd w
+enough_bytes (Remove i) m w few = absurd w
+enough_bytes (Stat i) m w few = absurd w
+enough_bytes (SetAttribute i a) m w few = omega (arith, few, length-zeroes)
+
+-- and writes the same as it goes on
+pub writes_still : (op : Op) (m n : WriteState) → n.number ≡ m.number → n.offset ≡ m.offset → n.count ≡ m.count → Writes op m → Writes op n
+writes_still (Create kind) m n number offset count w = absurd w
+writes_still (Write i off bytes) m n number offset count w =
+    (w.0 ∙ sym number, w.1 ∙ sym offset, w.2 ∙ sym count)
+writes_still (Read i off c) m n number offset count w = absurd w
+writes_still (Trunc i) m n number offset count w = absurd w
+writes_still (Remove i) m n number offset count w = absurd w
+writes_still (Stat i) m n number offset count w = absurd w
+writes_still (SetAttribute i (Links c)) m n number offset count w = absurd w.1
+writes_still (SetAttribute i (Size c)) m n number offset count w =
+    (w.0 ∙ sym number, (omega (arith, w.1.0, offset), omega (arith, w.1.1, offset, count)))
+
+-- it logs as much as a write may
+pub write_logs : (form : Form) (op : Op) (m : WriteState) → Writes op m → most_logged form op ≡ 5 + most_beside form
+write_logs form (Create kind) m w = absurd w
+write_logs form (Write i off bytes) m w = refl
+write_logs form (Read i off n) m w = absurd w
+write_logs form (Trunc i) m w = absurd w
+write_logs form (Remove i) m w = absurd w
+write_logs form (Stat i) m w = absurd w
+write_logs form (SetAttribute i (Links c)) m w = absurd w.1
+write_logs form (SetAttribute i (Size c)) m w = refl
+
 module _ (cur : Image) (t : TableState) (ts : List TaskState) (are : AreLooking cur t ts) where
   -- its operation is a reading or a write
   pub late_is : (p : ℕ) → owes_reply (task ts p).stage ≡ true → IsLate t.inode_count (task ts p)
@@ -140,11 +234,10 @@ module _ (cur : Image) (t : TableState) (ts : List TaskState) (are : AreLooking 
       by_place (Stage.Delivering k) stands is = inl stands.op
       by_place (Stage.Truncating k m) stands unlike = absurd (cc unlike)
       by_place (Stage.Writing k m) stands is = inr (record {
-        number = m.number;
-        offset = m.offset;
-        bytes = stands.bytes;
-        is = stands.op;
-        may = (stands.number, stands.few);
+        op = stands.op;
+        is = stands.is;
+        writes = is_write_op stands.op m stands.writes;
+        may = can_write t.inode_count stands.op m stands.writes stands.number stands.few;
       })
       by_place (Stage.Setting k d u) stands unlike = absurd (cc unlike)
       by_place (Stage.Leaving k) stands unlike = absurd (cc unlike)
@@ -157,7 +250,8 @@ module _ (cur : Image) (t : TableState) (ts : List TaskState) (are : AreLooking 
       (λ (read : IsRead t.inode_count (task ts p)).
       subst (λ (i : ℕ). IsTrue (is_number t.inode_count i)) (sym (ap asked_by read.is)) read.may.0)
       (λ (write : IsWrite t.inode_count (task ts p)).
-      subst (λ (i : ℕ). IsTrue (is_number t.inode_count i)) (sym (ap asked_by write.is)) write.may.0)
+      subst (λ (i : ℕ). IsTrue (is_number t.inode_count i)) (sym (ap asked_by write.is))
+      (write_number t.inode_count write.op write.writes write.may))
       (late_is p is)
 
   -- the place of its locked inode in the table
@@ -241,7 +335,7 @@ module _ (cur : Image) (t : TableState) (ts : List TaskState) (are : AreLooking 
       grip_of (task ts p) ≡ Some (locked_grip k m.number)
   write_locks p k m at =
       ap (λ (a : Stage). grip_by a (asked_by (task ts p).op)) at
-      ∙ ap (λ (o : Option Op). Some (locked_grip k (asked_by o))) (writing_is p k m at).op
+      ∙ ap (λ (i : ℕ). Some (locked_grip k i)) (write_asks (writing_is p k m at).op m (writing_is p k m at).is (writing_is p k m at).writes)
 
   -- ---- the writing back of an inode with an attribute set
 

@@ -1,11 +1,17 @@
 -- How the steps of any task end.
-use Rattle.std.proofs.Common.{◌≡◌, ◌≢◌, ◌⊎◌, ⊎_elim, inl, inr, ℕ, Bool, true, false, cond, eqb, List, refl, sym, ◌∙◌, ap, subst, Option, Some, None, length}
+use Rattle.std.proofs.Common.{◌≡◌, ◌≢◌, ◌⊎◌, ⊎_elim, inl, inr, ℕ, Bool, true, false, cond, eqb, ltb, ◌-◌, List, refl, sym, ◌∙◌, ap, subst, Option, Some, None, length}
 use Rattle.model.specs.Layout.{inode_of}
 use Rattle.std.specs.Prelude.{IsSome}
 use Rattle.inodes.specs.Common.{address_at, after_address, after_behind, AllocAt, Allocs, AllocState, behind_at, block_at_stage, block_next, block_of, block_of_alloc, block_of_write, block_on_way, Branch, Bytes, bytes_of, CanBegin, CanTake, come_to, copy_at, Create, current_of, Dinode, DiskFault, EntryState, Extent, extent_of, false≢true, FindsEntry, first_read, first_write, Freeing, FreesOn, gets_fails, Ghosts, Goes, GoesFrom, Got, holder_at, inode_block, is_over, is_unturned, LockAt, Locks, LockState, LockSteps, LooksAt, LooksUp, lowest_in, MapAt, MapState, MapSteps, named_by, naming, now_of, one_more, Op, owes_reply, place_of, stage_of_lock, stage_of_reading, stage_of_trunc, stage_of_writing, Progress, progress_of_lock, progress_of_read, progress_of_trunc, progress_of_write, Read, ReadState, Remove, Reply, seen, Shown, shown_of, some_address, Stage, Stands, Stat, StoreState, TableState, TakesLowest, TakesOne, Target, task, TaskProgress, Trunc, Updates, UpdateState, used_by, VolumeState, Works, Write, WriteAt, WriteState, WriteSteps, Wrote, SetAttribute, progress_of_setting, stage_of_setting}
 use Rattle.in_flight.specs.AttributeLaws.{with_value}
 use Rattle.inodes.specs.Lemmas.Freeing.{IsDone, use_done}
-use Rattle.inodes.specs.Turning.{attribute_refusal, write_refusal, if_used, reply_when_taken, stage_when_taken, stage_of_read, stage_by_attribute, stage_by_refusal}
+use Rattle.inodes.specs.Turning.{stage_of_addition, write_refusal, if_used, reply_when_taken, stage_when_taken, stage_of_read, stage_by_refusal}
+use Rattle.inodes.specs.Iupdate.{first_update}
+use Rattle.inodes.specs.Looks.{IsWriteOp}
+use Rattle.inodes.specs.Lemmas.Looks.{is_write_op}
+use Rattle.model.specs.Operations.{extension_refusal}
+use Rattle.model.specs.declared.types.operations.Attribute.TheVariants.{Links, Size}
+use Rattle.model.specs.declared.types.operations.Reply.TheVariants.{Done}
 
 -- the task goes on, and has had its turn or not as before
 pub record GoesOn (a next : Stage) : Type 0 where
@@ -19,12 +25,9 @@ pub record GoesOnTurned (next : Stage) : Type 0 where
   pub turned : is_unturned next ≡ false
   pub unread : owes_reply next ≡ false
 
--- the operation is a reading, or a write
+-- the operation is a reading
 abbrev pub IsReadOp : Op → Type 0
 IsReadOp op = (i : ℕ) × (off : ℕ) × (count : ℕ) × (op ≡ Read i off count)
-
-abbrev pub IsWriteOp : Op → Type 0
-IsWriteOp op = (i : ℕ) × (off : ℕ) × (bytes : List ℕ) × (op ≡ Write i off bytes)
 
 -- With its turn a creation is over; an operation that takes an inode has its reply and goes on, or
 -- it is a reading or a write, whose reply comes later.
@@ -71,7 +74,7 @@ takes_turn n e (Some d) k (Write i off bytes) can =
   where
     by_refusal : (o : Option Reply) →
         TurnEnds n (Write i off bytes) o (stage_by_refusal k (first_write i d off (length bytes) e) o)
-    by_refusal None = (can, inr (i, off, bytes, refl), refl)
+    by_refusal None = (can, inr tt, refl)
     by_refusal (Some reply) =
         inr (can, record { unfinished = refl; turned = refl; unread = refl })
 takes_turn n e (Some d) k (Read i off count) can =
@@ -86,12 +89,20 @@ takes_turn n e (Some d) k (Remove i) can =
     inr (can, record { unfinished = refl; turned = refl; unread = refl })
 takes_turn n e (Some d) k (Stat i) can =
     inr (can, record { unfinished = refl; turned = refl; unread = refl })
-takes_turn n e (Some d) k (SetAttribute i a) can = inr (can, by_refusal (attribute_refusal d a))
+takes_turn n e (Some d) k (SetAttribute i (Links c)) can =
+    inr (can, record { unfinished = refl; turned = refl; unread = refl })
+takes_turn n e (Some d) k (SetAttribute i (Size c)) can = by_length (ltb d.size c)
   where
     by_refusal : (o : Option Reply) →
-        GoesOnTurned (stage_by_attribute k i (with_value d a) o)
-    by_refusal None = record { unfinished = refl; turned = refl; unread = refl }
-    by_refusal (Some reply) = record { unfinished = refl; turned = refl; unread = refl }
+        TurnEnds n (SetAttribute i (Size c)) o (stage_by_refusal k (first_write i d d.size (c - d.size) e) o)
+    by_refusal None = (can, inr tt, refl)
+    by_refusal (Some reply) =
+        inr (can, record { unfinished = refl; turned = refl; unread = refl })
+
+    by_length : (b : Bool) → TurnEnds n (SetAttribute i (Size c)) (cond b (extension_refusal e.form d.size c) (Some Done))
+        (cond b (stage_of_addition k i d c e) (Stage.Setting k (with_value d (Size c)) (first_update i)))
+    by_length true = by_refusal (extension_refusal e.form d.size c)
+    by_length false = inr (can, record { unfinished = refl; turned = refl; unread = refl })
 
 module _ {D N : Type 0} (disk : Ghosts D N) (s : StoreState D) (p : ℕ) (op : Op) (r : TaskProgress) (t : StoreState D) where
   abbrev n : ℕ
@@ -187,7 +198,7 @@ module _ {D N : Type 0} (disk : Ghosts D N) (s : StoreState D) (p : ℕ) (op : O
       by_answer (Progress.Over out) is to = ends_with (Stage.Writing k m) (TaskProgress.Decided (Wrote m.done)) is (
         refl,
         inr (
-          (m.number, m.offset, looks.bytes, let both : Some op ≡ Some (Write m.number m.offset looks.bytes) = sym same ∙ looks.op in cc both),
+          subst IsWriteOp (let both : Some looks.op ≡ Some op = sym looks.is ∙ same in cc both) (is_write_op looks.op m looks.writes),
           subst GoesOnTurned (sym to) (record { unfinished = refl; turned = refl; unread = refl }),
           (m.done, refl),
         ),

@@ -2,7 +2,7 @@
 use Rattle.std.proofs.Common.{◌≡◌, ◌≢◌, ℕ, List, refl, sym, ◌∙◌, ap, subst, Option, Some, None, ⊎_elim, true}
 use Rattle.inodes.specs.Lemmas.Grips.{locks_exclude}
 use Rattle.inodes.specs.Lemmas.Holding.{HoldsAlone, claim_of_one, holding_is, own_holds, own_grows, own_setting}
-use Rattle.inodes.specs.Lemmas.Looks.{trunc_locks, write_locks, set_locks, copy_is, grip_of_task}
+use Rattle.inodes.specs.Lemmas.Looks.{trunc_locks, write_asks, write_locks, set_locks, copy_is, grip_of_task}
 use Rattle.model.specs.Layout.{inode_of}
 use Rattle.std.specs.Prelude.{IsTrue}
 use Rattle.in_flight.specs.AttributeLaws.{unwritten}
@@ -62,7 +62,7 @@ module _ (cur : Image) (t : TableState) (ts : List TaskState) (are : AreLooking 
   own_claim p k m at = claim_of_locked p k m.machine.number (trunc_locks cur t ts are p k m at) ∙ ap (λ (a : Stage). claim_by (task ts p).op a m.machine.number) at ∙ own_holds k m
 
   -- and so is what a write made of them
-  pub own_growth : (p k : ℕ) (m : WriteState) → (task ts p).stage ≡ Stage.Writing k m → claims_of ts m.number ≡ Some (grows (growth_of m (bytes_by (task ts p).op)))
+  pub own_growth : (p k : ℕ) (m : WriteState) → (task ts p).stage ≡ Stage.Writing k m → claims_of ts m.number ≡ Some (grows (growth_of m (task ts p).op))
   own_growth p k m at = claim_of_locked p k m.number (write_locks cur t ts are p k m at) ∙ ap (λ (a : Stage). claim_by (task ts p).op a m.number) at ∙ own_grows (task ts p).op k m
 
   -- and so is an inode that is written back with an attribute set
@@ -81,8 +81,8 @@ module _ (cur : Image) (t : TableState) (ts : List TaskState) (are : AreLooking 
       writes : (k : ℕ) (m : WriteState) → (task ts p).stage ≡ Stage.Writing k m → IsWriting cur t.inode_count (task ts p) m → (inode_of cur (asked_by (task ts p).op)).kind ≢ 0
       writes k m at work =
           let names : IsTrue (is_number (inode_count_of cur) m.number) = subst (λ (n : ℕ). IsTrue (is_number n m.number)) numbers work.number in
-          let growing = growing_of are.files.0 cur (claims_of ts) m.number (growth_of m (bytes_by (task ts p).op)) (record { fits = are.files.1; number = names; holds = own_growth p k m at }) in
-          subst (λ (j : ℕ). (inode_of cur j).kind ≢ 0) (sym (ap asked_by work.op)) (λ free. growing.fit.used (sym growing.same_kind ∙ free))
+          let growing = growing_of are.files.0 cur (claims_of ts) m.number (growth_of m (task ts p).op) (record { fits = are.files.1; number = names; holds = own_growth p k m at }) in
+          subst (λ (j : ℕ). (inode_of cur j).kind ≢ 0) (sym (write_asks work.op m work.is work.writes)) (λ free. growing.fit.used (sym growing.same_kind ∙ free))
 
       by_place : (a : Stage) → (task ts p).stage ≡ a → LooksAt cur t (task ts p) a → grip (grips_of ts) p ≡ grip_by a (asked_by (task ts p).op) → owes_reply a ≡ true → (inode_of cur (asked_by (task ts p).op)).kind ≢ 0
       by_place Stage.Nowhere at stands has unlike = absurd (cc unlike)

@@ -1,5 +1,5 @@
 -- Runs in parts, what operations keep, and what a creation makes of files.
-use Rattle.std.proofs.Common.{◌≡◌, ℕ, Bool, true, false, cond, not, ◌&&◌, ◌||◌, ltb, leb, ◌<◌, List, [], ◌∷◌, length, set, Option, Some, None, refl, sym, ap, subst, ◌∙◌, inl, inr, ⊎_elim, ◌⊎◌, arith, ◌≢◌, ◌++◌}
+use Rattle.std.proofs.Common.{◌≡◌, ℕ, Bool, true, false, cond, not, ◌&&◌, ◌||◌, ltb, leb, ◌<◌, List, [], ◌∷◌, length, set, Option, Some, None, refl, sym, ap, subst, ◌∙◌, inl, inr, ⊎_elim, ◌⊎◌, arith, ◌≢◌, ◌++◌, ◌+◌}
 use Rattle.std.specs.Prelude.{IsSome, is_none}
 use Rattle.model.specs.Common.{and_cases, and_parts, AtOnceIsNotChanging, AtOnceIsRefused, BadOffset, Bytes, cases_lt, CountStays, Done, File, file_in, Files, Form, get_or-set_other, get_or_past, greatest_size, is_still, le-leb, le-ltb, length-set, lt-leb, lt-ltb, ltb-false, ltb-true, Made, NoFile, NoInode, not-true, Op, RefusalsFirst, RefusalsKeep, ReplaysInParts, Reply, StatOf, TooBig, TooLong, Wrote}
 use Rattle.model.specs.declared.types.operations.Entry.{Entry}
@@ -7,7 +7,7 @@ use Rattle.model.specs.declared.types.operations.Attribute.{Attribute}
 use Rattle.model.specs.declared.types.operations.Attribute.TheVariants.{Links, Size}
 use Rattle.model.specs.declared.types.operations.Op.TheVariants.{Create, Write, Read, Trunc, Remove, Stat, SetAttribute}
 use Rattle.model.specs.declared.types.operations.Reply.TheVariants.{BadType}
-use Rattle.model.specs.Operations.{after, after_refusal, after_done, after_create, after_at, after_on, refusal_of, write_refusal, attribute_refusal, no_file_refusal, is_refusal, where_true, is_kind, transfer_limit}
+use Rattle.model.specs.Operations.{after, after_refusal, after_done, after_create, after_at, after_on, refusal_of, write_refusal, attribute_refusal, extension_refusal, no_file_refusal, is_refusal, where_true, is_kind, transfer_limit}
 use Rattle.model.specs.Journal.{replay, and_then, after_answer, is_number}
 
 and_then-and_then : {A B C : Type 0} (o : Option A) (f : A → Option B) (g : B → Option C) →
@@ -69,7 +69,10 @@ on_changes files new i file (Read j off n) (Bytes bytes) e h = changes_none file
 on_changes files new i file (Trunc j) Done e h = changes_place files new Done i _ (where_true_some true _ new h).1 refl (not_this files i file e)
 on_changes files new i file (Remove j) Done e h = changes_place files new Done i _ (where_true_some true _ new h).1 refl (not_this files i file e)
 on_changes files new i file (Stat j) (StatOf kind links size) e h = changes_none files new (StatOf kind links size) (where_true_some _ files new h).1
-on_changes files new i file (SetAttribute j attribute) Done e h = changes_place files new Done i _ (where_true_some true _ new h).1 refl (not_this files i file e)
+on_changes files new i file (SetAttribute j attribute) Done e h =
+    changes_place files new Done i _ (where_true_some _ _ new h).1 refl (not_this files i file e)
+on_changes files new i file (SetAttribute j attribute) (Wrote k) e h =
+    changes_place files new (Wrote k) i _ (where_true_some _ _ new h).1 refl (not_this files i file e)
 on_changes files new i file op reply e h = absurd (cc h)
 
 at_changes : (files new : Files) (i : ℕ) (o : Option File) (op : Op) (reply : Reply) → file_in files i ≡ o →
@@ -169,12 +172,22 @@ refused_write form (Some file) off n refusal h =
     refused_first (ltb (length file.bytes) off) BadOffset refusal _ refl
     (λ later. refused_first (ltb (greatest_size form) _) TooBig refusal None refl (λ none. absurd (cc none)) later) h
 
-refused_attribute : (o : Option File) (attribute : Attribute) (refusal : Reply) → attribute_refusal o attribute ≡ Some refusal →
+refused_extension : (form : Form) (old n : ℕ) (refusal : Reply) → extension_refusal form old n ≡ Some refusal → is_refusal refusal refusal ≡ true
+refused_extension form old n refusal h =
+    refused_first (ltb (old + transfer_limit) n) TooLong refusal _ refl
+    (λ later. refused_first (ltb (greatest_size form) n) TooBig refusal None refl (λ none. absurd (cc none)) later) h
+
+refused_longer : (b : Bool) (form : Form) (old n : ℕ) (refusal : Reply) → cond b (extension_refusal form old n) None ≡ Some refusal →
     is_refusal refusal refusal ≡ true
-refused_attribute None attribute refusal h = let e : NoFile ≡ refusal = cc h in subst (λ (r : Reply). is_refusal r r ≡ true) e refl
-refused_attribute (Some file) (Links n) refusal h = absurd (cc h)
-refused_attribute (Some file) (Size n) refusal h =
-    refused_first (ltb (length file.bytes) n) BadOffset refusal None refl (λ none. absurd (cc none)) h
+refused_longer true form old n refusal h = refused_extension form old n refusal h
+refused_longer false form old n refusal h = absurd (cc h)
+
+refused_attribute : (form : Form) (o : Option File) (attribute : Attribute) (refusal : Reply) → attribute_refusal form o attribute ≡ Some refusal →
+    is_refusal refusal refusal ≡ true
+refused_attribute form None attribute refusal h = let e : NoFile ≡ refusal = cc h in subst (λ (r : Reply). is_refusal r r ≡ true) e refl
+refused_attribute form (Some file) (Links n) refusal h = absurd (cc h)
+refused_attribute form (Some file) (Size n) refusal h =
+    refused_longer (ltb (length file.bytes) n) form (length file.bytes) n refusal h
 
 -- what an operation is refused by is a refusal
 refused_itself : (form : Form) (files : Files) (op : Op) (refusal : Reply) → refusal_of form files op ≡ Some refusal → is_refusal refusal refusal ≡ true
@@ -186,7 +199,7 @@ refused_itself form files (Read i off n) refusal h =
 refused_itself form files (Trunc i) refusal h = refused_file (file_in files i) refusal h
 refused_itself form files (Remove i) refusal h = refused_file (file_in files i) refusal h
 refused_itself form files (Stat i) refusal h = refused_file (file_in files i) refusal h
-refused_itself form files (SetAttribute i attribute) refusal h = refused_attribute (file_in files i) attribute refusal h
+refused_itself form files (SetAttribute i attribute) refusal h = refused_attribute form (file_in files i) attribute refusal h
 
 pub refusals_first : RefusalsFirst
 unfolding after

@@ -29,7 +29,9 @@ pub enum Op {
 pub enum Attribute {
     /// So many links. Its bytes stay.
     Links(u16),
-    /// Its first so many bytes. Blocks behind them stay its own until it is truncated or removed.
+    /// Its first so many bytes, or zeroes behind its end up to that length, at most
+    /// `TRANSFER_LIMIT` of them. Blocks behind a shorter length stay its own until it is truncated
+    /// or removed.
     Size(u32),
 }
 
@@ -40,7 +42,8 @@ pub enum Reply {
     Made(u32),
     /// Each number was seen taken.
     NoInode,
-    /// So many bytes were written; fewer than asked where no block was free.
+    /// So many bytes were written, or added to a file that was to be longer; fewer than asked where
+    /// no block was free.
     Wrote(u32),
     /// The bytes read, cut at the file's end.
     Bytes(Content),
@@ -50,9 +53,9 @@ pub enum Reply {
     StatOf(u16, u16, u32),
     /// There is no file of that number.
     NoFile,
-    /// The offset, or the length asked for, lies behind the file's end.
+    /// The offset lies behind the file's end.
     BadOffset,
-    /// The write would end behind the greatest size.
+    /// The file would end behind the greatest size.
     TooBig,
     /// More bytes at once than `TRANSFER_LIMIT`.
     TooLong,

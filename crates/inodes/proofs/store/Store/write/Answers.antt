@@ -1,4 +1,4 @@
-use Rattle.std.proofs.Common.{rules, ◌≡◌, ℕ, length, sym, ◌∙◌, ap, subst, List, Some, None, refl, set, get_or-set_same}
+use Rattle.std.proofs.Common.{rules, ◌≡◌, ◌≤◌, ℕ, length, sym, ◌∙◌, ap, subst, List, Some, None, refl, set, get_or-set_same}
 use Rattle.std.specs.Prelude.{IfSome}
 use Rattle.inodes.specs.Common.{bytes_by, bytes_of, Dinode, IsStore, no_task, Progress, renewed, Stage, Steps, task, TaskProgress, TaskState, WriteSteps, Wrote}
 use Rattle.inodes.specs.Lemmas.Faults.{where_none}
@@ -7,7 +7,7 @@ use Rattle.inodes.proofs.GoingOn.{came, leaves, stands, told}
 use Rattle.inodes.proofs.Standing.{StandsAt, steps_as}
 use Rattle.inodes.proofs.Staying.{left_after, writes}
 use Rattle.inodes.proofs.WriteEnds.{copy_same, store_wrote, steps_wrote}
-use Rattle.inodes.proofs.Writing.{bytes_are, in_table, inode_there, may, room, work}
+use Rattle.inodes.proofs.Writing.{enough, in_table, inode_there, may, room}
 use Rattle.inodes.proofs.store.Store.write.Given.{Over}
 use Rattle.inodes.proofs.store.Store.write.Goals.{After-known, After-go, In-Err}
 use Rattle.inodes.proofs.store.Store.write.Goals as goal
@@ -24,7 +24,7 @@ write_on-progress-requires-clause-room g c = room (head g (goal.at.write_on-prog
 pub write_on-progress-requires-clause-all : goal.write_on-progress-requires-clause-all
 write_on-progress-requires-clause-all g c =
     let h = head g (goal.at.write_on-progress-requires-clause-all g c).After-known in
-    ap length (c.bytes_of.ensures ∙ sym (ap bytes_by h.1) ∙ bytes_are h.0) ∙ (work h.0).all
+    subst (λ (l : List ℕ). c.args.writing.value.count ≤ length l) (ap bytes_by h.1 ∙ sym c.bytes_of.ensures) (enough h.0)
 
 pub write_on-progress-requires-clause-ready : goal.write_on-progress-requires-clause-ready
 write_on-progress-requires-clause-ready g c = may (head g (goal.at.write_on-progress-requires-clause-ready g c).After-known).0

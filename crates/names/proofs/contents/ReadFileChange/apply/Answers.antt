@@ -6,6 +6,7 @@ use Rattle.directories.specs.Walks.{walked}
 use Rattle.directories.specs.Lemmas.PathLaws.{walk_told}
 use Rattle.names.proofs.PlainFiles.{happens_plain}
 use Rattle.names.proofs.Staying.{stays_same}
+use Rattle.names.proofs.Going.{proceeds_on}
 use Rattle.names.proofs.contents.ReadFileChange.apply.Goals as goal
 
 pub read_of-requires-clause-there : goal.read_of-requires-clause-there
@@ -27,3 +28,8 @@ returns-in-Ok-clause-tree g c =
     stays_same (files_seen g.D.Disk.image c.args.tree.now.kernel) (files_seen g.D.Disk.image c.read_of.new.self.kernel) (same ∙ c.in_ok-number.ensures.same)
     c.requires.tree)
     c.read_of.ensures.same
+
+pub returns-in-Ok-clause-goes : goal.returns-in-Ok-clause-goes
+returns-in-Ok-clause-goes g c =
+    proceeds_on g.D.Disk c.args.tree.now.kernel c.walk.new.self.kernel c.read_of.new.self.kernel c.read_of.result c.args.tree.now.calls_left c.walk.new.self.calls_left
+    c.read_of.new.self.calls_left c.requires.way c.in_ok-number.ensures.goes.on c.walk.ensures.goes.stays c.read_of.ensures.goes

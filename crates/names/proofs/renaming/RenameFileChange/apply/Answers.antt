@@ -1,8 +1,10 @@
-use Rattle.std.proofs.Common.{◌≡◌, ◌∙◌, ◌-◌, ◌+◌, ℕ, List, [], ◌∷◌, ◌++◌, length, take, get_or, Ok, Err, sym, ap, subst, inl, inr, rules, arith}
+use Rattle.std.proofs.Common.{◌≡◌, ◌∙◌, ◌-◌, ◌+◌, ℕ, List, [], ◌∷◌, ◌++◌, length, take, get_or, Ok, Err, refl, sym, ap, subst, inl, inr, rules, arith}
 use Rattle.std.proofs.lemmas.Grind.{common_steps}
 use Rattle.model.specs.Files.{Files}
 use Rattle.names.specs.Inside.{files_seen}
 use Rattle.directories.specs.Walks.{walked}
+use Rattle.names.specs.Renaming.{IsUnrenamed, Renames}
+use Rattle.names.proofs.Blocked.{answers_err, answers_not, answers_on, led_no}
 use Rattle.names.proofs.Going.{goes_on, proceeds_on, stays_on}
 use Rattle.names.proofs.Leading.{split_last, unled_by}
 use Rattle.names.proofs.Renamed.{renamed_at}
@@ -81,3 +83,37 @@ returns-else-from-to-clause-goes g c =
     (goes_on g.D.Disk k a b c.walk.new.self.calls_left c.walk-2.new.self.calls_left c.in_ok-from.ensures.goes.on c.in_ok-to.ensures.goes.on)
     (stays_on g.D.Disk k a b c.walk.new.self.calls_left c.in_ok-from.ensures.goes.on c.walk.ensures.goes.stays c.walk-2.ensures.goes.stays)
     c.moved.ensures.goes
+
+pub returns-in-Err-clause-no_block : goal.returns-in-Err-clause-no_block
+returns-in-Err-clause-no_block g c = λ tells.
+    answers_err g.D.Disk c.args.tree.now.kernel c.walk.new.self.kernel c.in-Err.refusal
+    (led_no (files_seen g.D.Disk.image c.args.tree.now.kernel) (take (length c.args.names.now - 1) c.args.names.now) c.in-Err.refusal (sym c.in_ok-from.ensures.led ∙ c.in-Err.is))
+
+pub returns-in-Err-2-clause-no_block : goal.returns-in-Err-2-clause-no_block
+returns-in-Err-2-clause-no_block g c = λ tells.
+    answers_err g.D.Disk c.args.tree.now.kernel c.walk-2.new.self.kernel c.in-Err-2.refusal
+    (led_no (files_seen g.D.Disk.image c.walk.new.self.kernel) (take (length c.args.self.now.into.now - 1) c.args.self.now.into.now) c.in-Err-2.refusal (sym c.in_ok-to.ensures.led ∙ c.in-Err-2.is))
+
+pub returns-then-from-to-clause-goes : goal.returns-then-from-to-clause-goes
+returns-then-from-to-clause-goes g c =
+    let k = c.args.tree.now.kernel in
+    let a = c.walk.new.self.kernel in
+    let b = c.walk-2.new.self.kernel in
+    proceeds_on g.D.Disk k b c.renamed.new.self.kernel c.renamed.result c.args.tree.now.calls_left c.walk-2.new.self.calls_left c.renamed.new.self.calls_left c.requires.way
+    (goes_on g.D.Disk k a b c.walk.new.self.calls_left c.walk-2.new.self.calls_left c.in_ok-from.ensures.goes.on c.in_ok-to.ensures.goes.on)
+    (stays_on g.D.Disk k a b c.walk.new.self.calls_left c.in_ok-from.ensures.goes.on c.walk.ensures.goes.stays c.walk-2.ensures.goes.stays)
+    c.renamed.ensures.goes
+
+pub returns-then-from-to-clause-no_block : goal.returns-then-from-to-clause-no_block
+returns-then-from-to-clause-no_block g c = λ tells.
+    let into = c.args.self.now.into.now in
+    let old = c.index-names-last.result in
+    let name = get_or into (length into - 1) c.index-self-end.result in
+    answers_not g.D.Disk (Renames c.in-Ok.from old c.in-Ok.from name) (λ files. IsUnrenamed files c.in-Ok.from old c.in-Ok.from name) (files_seen g.D.Disk.image c.walk-2.new.self.kernel)
+    (files_seen g.D.Disk.image c.renamed.new.self.kernel) c.args.tree.now.kernel c.renamed.new.self.kernel c.renamed.result (λ why. why.0 refl) c.renamed.ensures.renamed
+
+pub returns-else-from-to-clause-no_block : goal.returns-else-from-to-clause-no_block
+returns-else-from-to-clause-no_block g c = λ tells.
+    answers_on g.D.Disk c.args.tree.now.kernel c.walk-2.new.self.kernel c.moved.new.self.kernel c.walk-2.new.self.calls_left c.moved.result
+    (goes_on g.D.Disk c.args.tree.now.kernel c.walk.new.self.kernel c.walk-2.new.self.kernel c.walk.new.self.calls_left c.walk-2.new.self.calls_left c.in_ok-from.ensures.goes.on c.in_ok-to.ensures.goes.on)
+    c.moved.ensures.no_block

@@ -4,9 +4,10 @@ use Rattle.model.specs.Files.{Files}
 use Rattle.directories.specs.declared.refusal.Refusal.{Refusal}
 use Rattle.directories.specs.Counts.{AreCounted}
 use Rattle.names.specs.Inside.{files_seen}
-use Rattle.names.specs.Replacing.{Clears, IsReplaceable, IsUncleared}
+use Rattle.names.specs.Replacing.{Clears, IsReplaceable, IsUncleared, IsUnpaired}
 use Rattle.names.specs.Ready.{Happens}
 use Rattle.names.specs.Renaming.{IsUnrenamed, Renames}
+use Rattle.names.proofs.Blocked.{answers_err, refused_on, unpaired_no}
 use Rattle.names.proofs.Going.{goes_on, same_faults, stays_on}
 use Rattle.names.proofs.Staying.{stays_from, stays_on as stays_counted}
 use Rattle.names.proofs.replacing.ReplaceChange.apply.Goals as goal
@@ -97,3 +98,16 @@ returns-in_default-2-clause-goes g c =
         );
       };
     }
+
+pub returns-in-Err-clause-no_block : goal.returns-in-Err-clause-no_block
+returns-in-Err-clause-no_block g c = λ tells.
+    let self = c.args.self.now in
+    let files : Files = files_seen g.D.Disk.image c.args.tree.now.kernel in
+    let why = subst (λ (r : Result Bool Refusal). IsReplaceable self.from self.old.now self.to self.name.now files r) c.in-Err.is c.in_ok-refusal.ensures.told in
+    answers_err g.D.Disk c.args.tree.now.kernel c.replaceable.new.self.kernel c.in-Err.refusal
+    (λ is. unpaired_no self.from self.old.now self.to self.name.now files (subst (λ (cause : Refusal). IsUnpaired self.from self.old.now self.to self.name.now files cause) is why))
+
+pub returns-in-Err-2-clause-no_block : goal.returns-in-Err-2-clause-no_block
+returns-in-Err-2-clause-no_block g c = λ tells.
+    refused_on g.D.Disk c.args.tree.now.kernel c.replaceable.new.self.kernel c.cleared.new.self.kernel c.replaceable.new.self.calls_left c.in_ok-refusal-in-Ok-false.field-0 c.in-Err-2.refusal
+    c.in_ok-refusal.ensures.goes.on c.in-Err-2.is c.in_ok-refusal-in-Ok-false.ensures.no_block

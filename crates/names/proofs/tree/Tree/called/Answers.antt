@@ -15,7 +15,7 @@ returns-in-Ok-clause-goes g c =
     let less : (c.args.self.now.calls_left - 1) + 1 ≡ c.args.self.now.calls_left = omega arith in
     record {
       on = call_goes g.D.Disk c.args.op c.args.self.now.kernel c.call.new.kernel c.in-Ok.reply c.args.self.now.calls_left (c.args.self.now.calls_left - 1)
-          less c.requires c.in-Ok.ensures.inside c.call.ensures.opening c.in-Ok.ensures.adds;
+          less c.requires c.in-Ok.ensures.inside c.call.ensures.opening c.in-Ok.ensures.adds c.call.ensures.reached;
       stays = leaves_on g.D.Disk c.args.self.now.kernel c.call.new.kernel c.call.ensures.opening c.call.ensures.name c.call.ensures.leaves;
       ends = tt;
     }

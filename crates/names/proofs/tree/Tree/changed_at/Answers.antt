@@ -4,9 +4,11 @@ use Rattle.model.specs.Files.{Files}
 use Rattle.model.specs.Layout.{form_of}
 use Rattle.model.specs.declared.types.image.Form.{Form}
 use Rattle.names.specs.declared.refusal.TreeFault.{TreeFault}
-use Rattle.names.specs.Inside.{files_seen, form_seen, Never}
+use Rattle.names.specs.Inside.{files_seen, form_seen, Never, TellsFull}
+use Rattle.std.specs.Prelude.{IfErr}
 use Rattle.directories.specs.Counts.{AreCounted}
 use Rattle.names.specs.Ready.{Happens, IsReadyBehind, LeavesTree}
+use Rattle.names.proofs.Blocked.{blocks_err, tells_by}
 use Rattle.names.proofs.Behind.{ends_behind, ready_behind}
 use Rattle.names.proofs.Transacting.{full_by, made_of, unchanged_leaves, whole_by, whole_leaves}
 use Rattle.names.proofs.tree.Tree.changed_at.Given.{Over}
@@ -40,11 +42,17 @@ returns-in_err-committed-clause-leaves g c = λ some. whole g (goal.at.returns-i
 pub returns-clause-leaves : goal.returns-clause-leaves
 returns-clause-leaves g c = λ some. whole g (goal.at.returns-clause-leaves g c).After-committed some
 
-pub returns-clause-full : goal.returns-clause-full
-returns-clause-full g c = λ made is fills.
-    full_by g.D.Disk c.args.self.now.kernel c.begun.new.self.kernel c.apply.new.tree.kernel c.committed.new.self.kernel c.begun.new.self.calls_left c.apply.new.tree.calls_left
-    c.committed.new.self.calls_left c.in_ok-begun.ensures.begins c.in_ok-made.ensures.goes.on c.in_ok-committed.ensures.commits
-    (c.in_ok-made.ensures.full made (made_of c.in_ok-made.made made (sym c.answer_of.ensures ∙ is)) fills)
+pub returns-clause-blocks : goal.returns-clause-blocks
+returns-clause-blocks g c = record {
+  full = λ made is fills.
+      full_by g.D.Disk c.args.self.now.kernel c.begun.new.self.kernel c.apply.new.tree.kernel c.committed.new.self.kernel c.begun.new.self.calls_left c.apply.new.tree.calls_left
+      c.committed.new.self.calls_left c.in_ok-begun.ensures.begins c.in_ok-made.ensures.goes.on c.in_ok-committed.ensures.commits
+      (c.in_ok-made.ensures.full made (made_of c.in_ok-made.made made (sym c.answer_of.ensures ∙ is)) fills);
+  no_block = λ tells.
+      subst (λ r. IfErr r (TellsFull g.D.Disk c.args.self.now.kernel c.committed.new.self.kernel)) (sym c.answer_of.ensures)
+      (tells_by g.D.Disk c.args.self.now.kernel c.begun.new.self.kernel c.apply.new.tree.kernel c.committed.new.self.kernel c.begun.new.self.calls_left c.in_ok-made.made
+      c.in_ok-begun.ensures.begins.goes c.in_ok-committed.ensures.commits.reached (c.in_ok-made.ensures.no_block tells));
+}
 
 pub apply-requires-clause-counted : goal.apply-requires-clause-counted
 apply-requires-clause-counted g c =
@@ -78,3 +86,18 @@ pub returns-clause-done : goal.returns-clause-done
 returns-clause-done g c =
     subst (λ r. IsReadyBehind g.D.Disk c.committed.new.self.kernel c.committed.new.self.calls_left r) (sym c.answer_of.ensures)
     (ready_behind g.D.Disk c.committed.new.self.kernel c.committed.new.self.calls_left c.in_ok-made.made c.in_ok-committed.ensures.commits.ready)
+
+pub returns-in_err-begun-clause-blocks : goal.returns-in_err-begun-clause-blocks
+returns-in_err-begun-clause-blocks g c =
+    let p = err_from_is_err_and c.from_residual.result c.from_residual.ensures.1 in
+    blocks_err g.D.Disk _ _ Never _ _ c.args.self.now.kernel c.begun.new.self.kernel _ c.in_err-begun.field-0.0 c.in_err-begun.ensures.ends _ (p.1 ∙ ap (λ (e : TreeFault). Err e) p.2)
+
+pub returns-in_err-made-clause-blocks : goal.returns-in_err-made-clause-blocks
+returns-in_err-made-clause-blocks g c =
+    let p = err_from_is_err_and c.from_residual-in_err-made.result c.from_residual-in_err-made.ensures.1 in
+    blocks_err g.D.Disk _ _ _ _ _ c.args.self.now.kernel c.apply.new.tree.kernel _ c.in_err-made.field-0.0 c.in_err-made.ensures.goes.ends _ (p.1 ∙ ap (λ (e : TreeFault). Err e) p.2)
+
+pub returns-in_err-committed-clause-blocks : goal.returns-in_err-committed-clause-blocks
+returns-in_err-committed-clause-blocks g c =
+    let p = err_from_is_err_and c.from_residual-in_err-committed.result c.from_residual-in_err-committed.ensures.1 in
+    blocks_err g.D.Disk _ _ Never _ _ c.args.self.now.kernel c.committed.new.self.kernel _ c.in_err-committed.field-0.0 c.in_err-committed.ensures.ends _ (p.1 ∙ ap (λ (e : TreeFault). Err e) p.2)

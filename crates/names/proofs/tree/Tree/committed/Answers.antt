@@ -14,7 +14,7 @@ returns-in-Ok-clause-commits g c =
     let some = c.if-self-eq0.false in
     let less : (c.args.self.now.calls_left - 1) + 1 ≡ c.args.self.now.calls_left = omega arith in
     commit_ends g.D.Disk c.args.self.now.kernel c.commit.new.kernel c.args.self.now.calls_left (c.args.self.now.calls_left - 1) less c.requires.way c.requires.tree c.requires.counted
-    c.in-Ok.ensures.rests c.in-Ok.ensures.commits
+    c.in-Ok.ensures.rests c.in-Ok.ensures.commits c.commit.ensures.reached
 
 pub returns-in-Ok-clause-leaves : goal.returns-in-Ok-clause-leaves
 returns-in-Ok-clause-leaves g c =

@@ -41,6 +41,7 @@ loop-step-preserved g c =
       stays = record {
         on = λ o same so_far. c.step.ensures.goes.stays.on o (c.loop-step.invariant.same ∙ same) (c.loop-step.invariant.stays.on o same so_far);
       };
+      reached = λ o so_far. c.in_ok-parent.ensures.goes.on.reached o (c.loop-step.invariant.reached o so_far);
       is = parent_there (files_seen g.D.Disk.image c.args.self.now.kernel) c.args.number c.loop-step.at c.in-Ok.parent c.in_ok-parent.field-0 c.requires.tree
           c.loop-step.invariant.is c.if-at-eq-DIRECTORY.false leads c.in-Ok.is;
       decides = (λ outside. decide.0 (c.loop-step.invariant.decides.0 outside), λ outside. c.loop-step.invariant.decides.1 (decide.1 outside));
@@ -56,6 +57,6 @@ returns-clause-goes g c =
       on = tt;
       stays = before.stays;
       ends = ends_on g.D.Disk c.args.self.now.kernel c.loop-step.self.kernel c.loop-step.self.kernel c.args.self.now.calls_left c.loop-step.self.calls_left 0 NoCall
-          c.requires.way (record { way = before.way; same = before.same; opening = before.opening; later = omega (arith, before.answered) })
+          c.requires.way (record { way = before.way; same = before.same; opening = before.opening; later = omega (arith, before.answered); reached = before.reached })
           (record { none = refl; broken = (record { image = refl; faults = refl }, inr spent) });
     }

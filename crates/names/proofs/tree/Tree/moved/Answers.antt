@@ -3,12 +3,13 @@ use Rattle.names.specs.declared.planning.Plan.{Plan}
 use Rattle.directories.specs.declared.refusal.Refusal.{Refusal}
 use Rattle.directories.specs.Counts.{StaysCounted}
 use Rattle.names.specs.Inside.{files_seen, Proceeds}
+use Rattle.names.proofs.Blocked.{answered_err, was_short}
 use Rattle.names.proofs.Going.{ends_on, goes_on, stays_on}
 use Rattle.names.specs.Renaming.{IsPlan, IsPlanned, Renames}
 use Rattle.directories.specs.Trees.{directory_in, number_of, IsDirectory}
 use Rattle.directories.specs.Writes.{NeedsBlock}
 use Rattle.std.specs.Prelude.{None}
-use Rattle.names.proofs.Moved.{moved_directory, moved_file, source_there, target_there, unlinked_needs, unlinked_same}
+use Rattle.names.proofs.Moved.{moved_directory, moved_file, source_there, target_there, unlinked_needs, unlinked_same, unlinked_short}
 use Rattle.names.proofs.Staying.{stays_same}
 use Rattle.names.proofs.tree.Tree.moved.Given.{Over}
 use Rattle.names.proofs.tree.Tree.moved.Goals as goal
@@ -128,3 +129,38 @@ returns-in_err-_turned-clause-goes g c =
       ends = ends_on d k t m c.args.self.now.calls_left c.relinked-2.new.self.calls_left c.entered-3.new.self.calls_left c.in_err-_turned.field-0.0
           c.requires.way four c.in_err-_turned.ensures.goes.ends;
     })
+
+pub returns-clause-goes : goal.returns-clause-goes
+returns-clause-goes g c =
+    let d = g.D.Disk in
+    let k = c.args.self.now.kernel in
+    let a = c.planned.new.self.kernel in
+    let b = c.entered.new.self.kernel in
+    let e = c.entered-2.new.self.kernel in
+    let r = c.relinked.new.self.kernel in
+    let t = c.relinked-2.new.self.kernel in
+    let m = c.entered-3.new.self.kernel in
+    let one = goes_on d k a b c.planned.new.self.calls_left c.entered.new.self.calls_left c.in_ok-plan.ensures.goes.on c.in_ok-entered.ensures.goes.on in
+    let two = goes_on d k b e c.entered.new.self.calls_left c.entered-2.new.self.calls_left one c.in_ok-_freed.ensures.goes.on in
+    let three = goes_on d k e r c.entered-2.new.self.calls_left c.relinked.new.self.calls_left two c.in_ok-relinked.ensures.goes.on in
+    let four = goes_on d k r t c.relinked.new.self.calls_left c.relinked-2.new.self.calls_left three c.in_ok-relinked-2.ensures.goes.on in
+    let first = stays_on d k a b c.planned.new.self.calls_left c.in_ok-plan.ensures.goes.on c.planned.ensures.goes.stays c.entered.ensures.goes.stays in
+    let second = stays_on d k b e c.entered.new.self.calls_left one first c.entered-2.ensures.goes.stays in
+    let third = stays_on d k e r c.entered-2.new.self.calls_left two second c.relinked.ensures.goes.stays in
+    let fourth = stays_on d k r t c.relinked.new.self.calls_left three third c.relinked-2.ensures.goes.stays in
+    record {
+      on = goes_on d k t m c.relinked-2.new.self.calls_left c.entered-3.new.self.calls_left four c.in_ok-_turned.ensures.goes.on;
+      stays = stays_on d k t m c.relinked-2.new.self.calls_left four fourth c.entered-3.ensures.goes.stays;
+      ends = tt;
+    }
+
+pub returns-in-Err-clause-no_block : goal.returns-in-Err-clause-no_block
+returns-in-Err-clause-no_block g c =
+    answered_err g.D.Disk c.args.self.now.kernel c.planned.new.self.kernel c.in_ok-plan.field-0 c.in-Err.refusal c.in-Err.is c.in_ok-plan.ensures.no_block
+
+pub returns-then-not-branch-clause-no_block : goal.returns-then-not-branch-clause-no_block
+returns-then-not-branch-clause-no_block g c =
+    was_short g.D.Disk c.args.self.now.kernel c.planned.new.self.kernel c.entered.new.self.kernel c.planned.new.self.calls_left c.entered.new.self.calls_left c.in_ok-plan.ensures.goes.on
+    c.in_ok-entered.ensures.goes.on
+    (unlinked_short g.D.Disk c.args.self.now.kernel c.planned.new.self.kernel c.entered.new.self.kernel c.args.from c.args.to c.args.old.now c.args.name.now c.in-Ok.plan
+    c.in_ok-entered.field-0 c.requires.tree c.requires.apart c.in_ok-plan.ensures.same (plan_of g c) c.in_ok-entered.ensures.entered c.if-not-branch.true)

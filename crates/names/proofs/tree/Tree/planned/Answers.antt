@@ -1,7 +1,8 @@
-use Rattle.std.proofs.Common.{◌≡◌, Err, subst, sym, rules}
+use Rattle.std.proofs.Common.{◌≡◌, ◌∙◌, Err, refl, subst, sym, rules}
 use Rattle.model.specs.Files.{Files}
 use Rattle.names.specs.Inside.{files_seen, form_seen, Goes, Proceeds, StaysOn}
 use Rattle.directories.specs.Trees.{directory_in, IsDirectory, IsDown}
+use Rattle.names.proofs.Blocked.{answers_err, rises_no, unlinked_no}
 use Rattle.names.proofs.Entering.{found_fits}
 use Rattle.names.proofs.Going.{ends_on, goes_on, stays_on}
 use Rattle.names.proofs.Moved.{not_root, own_directory, own_is, own_there, plan_inside, plan_is, source_counts, target_in}
@@ -126,3 +127,12 @@ returns-clause-planned g c =
     c.as_slice-3.result.now c.in_ok-bytes.field-0 c.in_ok-bytes-2.field-0 c.requires.tree c.requires.apart (down g a) c.in_ok-bytes.ensures.same c.in_ok-bytes-2.ensures.same
     c.in_ok-bytes.ensures.found c.in-Some.is c.as_slice.ensures c.as_slice-2.ensures (sym c.in-Some-lookup.ensures) c.from-file.ensures (own g a) (target g a) c.as_slice-3.ensures
     c.in_ok-rise.field-0 c.in_ok-rise.ensures.rises c.in-Err-2.refusal c.in-Err-2.is
+
+pub returns-in-Err-clause-no_block : goal.returns-in-Err-clause-no_block
+returns-in-Err-clause-no_block g c =
+    answers_err g.D.Disk c.args.self.now.kernel c.directory-2.new.self.kernel c.unlinked.result (λ is. unlinked_no c.in-Err.fault (sym c.unlinked.ensures ∙ is))
+
+pub returns-clause-no_block : goal.returns-clause-no_block
+returns-clause-no_block g c =
+    answers_err g.D.Disk c.args.self.now.kernel c.rise.new.self.kernel c.in-Err-2.refusal
+    (rises_no (files_seen g.D.Disk.image c.directory-2.new.self.kernel) c.from-file.result c.args.from c.in-Some-lookup-2.own c.in_ok-rise.field-0 c.in-Err-2.refusal c.in-Err-2.is c.in_ok-rise.ensures.rises)

@@ -13,9 +13,9 @@ returns-in-Err-clause-goes g c =
     let walked = c.loop-name.invariant in
     record {
       on = goes_on d k a m c.loop-name.self.calls_left c.step.new.self.calls_left
-          (record { way = walked.way; same = walked.same; opening = walked.opening; later = walked.later }) c.in_ok-next.ensures.goes.on;
+          (record { way = walked.way; same = walked.same; opening = walked.opening; later = walked.later; reached = walked.reached }) c.in_ok-next.ensures.goes.on;
       stays = stays_on d k a m c.loop-name.self.calls_left
-          (record { way = walked.way; same = walked.same; opening = walked.opening; later = walked.later }) walked.stays c.step.ensures.goes.stays;
+          (record { way = walked.way; same = walked.same; opening = walked.opening; later = walked.later; reached = walked.reached }) walked.stays c.step.ensures.goes.stays;
       ends = tt;
     }
 
@@ -29,6 +29,7 @@ loop-name-preserved g c =
       files = c.in_ok-next.ensures.same ∙ walked.files;
       stays = record { on = λ o same so_far. c.step.ensures.goes.stays.on o (walked.same ∙ same) (walked.stays.on o same so_far) };
       later = omega (arith, walked.later, c.in_ok-next.ensures.goes.on.later);
+      reached = λ o so_far. c.in_ok-next.ensures.goes.on.reached o (walked.reached o so_far);
       on = walked_on (files_seen g.D.Disk.image c.loop-name.self.kernel) (files_seen g.D.Disk.image c.args.self.now.kernel) c.loop-name.number c.in-Ok.next
           c.loop-name.name-index c.args.names.now c.name-item.result c.in_ok-next.field-0 c.loop-name-test.true c.name-item.is c.in_ok-next.ensures.led c.in-Ok.is
           walked.files walked.on;
@@ -37,4 +38,4 @@ loop-name-preserved g c =
 pub returns-clause-goes : goal.returns-clause-goes
 returns-clause-goes g c =
     let walked = c.loop-name.invariant in
-    record { on = record { way = walked.way; same = walked.same; opening = walked.opening; later = walked.later }; stays = walked.stays; ends = tt }
+    record { on = record { way = walked.way; same = walked.same; opening = walked.opening; later = walked.later; reached = walked.reached }; stays = walked.stays; ends = tt }

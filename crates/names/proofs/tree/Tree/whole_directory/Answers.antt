@@ -15,6 +15,7 @@ loop-piece-init g c = record {
   files = refl;
   stays = stays_here g.D.Disk c.args.self.now.kernel;
   later = omega arith;
+  reached = λ o so_far. so_far;
   bytes_are = c.new-bytes.ensures.items;
 }
 
@@ -36,6 +37,7 @@ loop-piece-preserved g c =
       files = c.in_ok-read_behind.ensures.same ∙ before.files;
       stays = record { on = λ o same so_far. c.read_behind.ensures.goes.stays.on o (before.same ∙ same) (before.stays.on o same so_far) };
       later = omega (arith, before.later, c.in_ok-read_behind.ensures.goes.on.later);
+      reached = λ o so_far. c.in_ok-read_behind.ensures.goes.on.reached o (before.reached o so_far);
       bytes_are = one_more whole c.loop-piece.bytes.items c.read_behind.new.bytes.items c.loop-piece.piece before.bytes_are more;
     }
 
@@ -49,4 +51,4 @@ returns-clause-bytes g c =
 pub returns-clause-goes : goal.returns-clause-goes
 returns-clause-goes g c =
     let read = c.loop-piece.invariant in
-    record { on = record { way = read.way; same = read.same; opening = read.opening; later = read.later }; stays = read.stays; ends = tt }
+    record { on = record { way = read.way; same = read.same; opening = read.opening; later = read.later; reached = read.reached }; stays = read.stays; ends = tt }

@@ -4,13 +4,14 @@ use Rattle.model.specs.Layout.{form_of}
 use Rattle.model.specs.declared.types.image.Form.{Form}
 use Rattle.model.specs.Files.{Files}
 use Rattle.names.specs.Contents.{IsNoPlain}
-use Rattle.names.specs.Inside.{files_seen, form_seen}
+use Rattle.names.specs.Inside.{files_seen, form_seen, Fills}
 use Rattle.names.specs.Ready.{Happens}
 use Rattle.names.specs.Writing.{Writes, WritesOf}
 use Rattle.directories.specs.Trees.{IsTree}
 use Rattle.directories.specs.Walks.{walked}
 use Rattle.directories.specs.Lemmas.PathLaws.{walk_told}
 use Rattle.names.proofs.PlainFiles.{happens_plain}
+use Rattle.names.proofs.Going.{proceeds_or}
 use Rattle.names.proofs.writing.WriteFileChange.apply.Goals as goal
 
 pub write_of-requires-clause-there : goal.write_of-requires-clause-there
@@ -32,3 +33,8 @@ returns-in-Ok-clause-made g c =
 
 pub write_of-requires-clause-tree : goal.write_of-requires-clause-tree
 write_of-requires-clause-tree g c = subst (λ (f : Files). IsTree f) (sym c.in_ok-number.ensures.same) c.requires.tree
+
+pub returns-in-Ok-clause-goes : goal.returns-in-Ok-clause-goes
+returns-in-Ok-clause-goes g c =
+    proceeds_or g.D.Disk Fills c.args.tree.now.kernel c.walk.new.self.kernel c.write_of.new.self.kernel c.write_of.result c.args.tree.now.calls_left c.walk.new.self.calls_left
+    c.write_of.new.self.calls_left c.requires.way c.in_ok-number.ensures.goes.on c.walk.ensures.goes.stays c.write_of.ensures.goes
